@@ -1,0 +1,56 @@
+//! What holds of every schedule of a script's actors, each law as a function that does nothing.
+ghost use Rattle.std.specs.Prelude.{ℕ, List};
+ghost use Rattle.co_object.specs.Lists.{IsWellFormed};
+ghost use Rattle.co_program.specs.declared.Script.{Script};
+ghost use Rattle.co_core.specs.World.{lists_of};
+ghost use Rattle.co_core.specs.Laws.{AreOfLists, BeginsUnderLock, EachFinishedActorFollows, HaveReplies, HistoriesAreLegal, IsSchedule, NoRemoveIsMissing, NoScheduleIsStuck, WalksAgree, WalksEnd, reached};
+
+/// The positions of each place are 0, 1, 2, .., each once, and rise in each actor's list.
+pub fn well_formed()
+    ensures { (s : Script) (schedule : List ℕ) → IsSchedule s schedule → IsWellFormed (lists_of s (reached s schedule)) }
+{}
+
+/// The histories that the lists of notes show are those of the world.
+pub fn lists_show_histories()
+    ensures { (s : Script) (schedule : List ℕ) → IsSchedule s schedule → AreOfLists s (reached s schedule) }
+{}
+
+/// Each entry is possible where it stands, and its reply is that of the plain object.
+pub fn replies_are_the_objects()
+    ensures { (s : Script) (schedule : List ℕ) → HaveReplies s (reached s schedule) }
+{}
+
+/// An actor that begins a service holds the callout's lock.
+pub fn begins_under_lock()
+    ensures { (s : Script) (schedule : List ℕ) → BeginsUnderLock s (reached s schedule) }
+{}
+
+/// An actor that has finished has notes that follow its program.
+pub fn finished_follow()
+    ensures { EachFinishedActorFollows }
+{}
+
+/// Each callout's history and each CPU's journal is legal.
+pub fn histories_are_legal()
+    ensures { HistoriesAreLegal }
+{}
+
+/// A call that takes an arming out of a queue finds it there.
+pub fn no_remove_is_missing()
+    ensures { NoRemoveIsMissing }
+{}
+
+/// While an actor is unfinished, some unfinished actor can step.
+pub fn never_stuck()
+    ensures { NoScheduleIsStuck }
+{}
+
+/// A script's walk has one result.
+pub fn walks_agree()
+    ensures { WalksAgree }
+{}
+
+/// Round robin comes to an end wherever something falls with every step.
+pub fn walks_end()
+    ensures { WalksEnd }
+{}

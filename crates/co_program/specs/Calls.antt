@@ -1,0 +1,46 @@
+-- The call that an act asks for.
+use Rattle.std.specs.Prelude.{ℕ, Option, Some, None}
+use Rattle.co_sbt.specs.Time.{sat_add, from_ticks}
+use Rattle.co_object.specs.declared.PlainOp.{PlainOp}
+use Rattle.co_object.specs.declared.PlainOp.TheVariants as op
+use Rattle.co_program.specs.declared.act.Act.{Act}
+use Rattle.co_program.specs.declared.act.Act.TheVariants.{Now, Lock, ReadLock, Unlock, Reset, Ticks, Schedule, Stop, Drain, AsyncDrain, Active, Pending, Deactivate, Init, Retire, Tick}
+use Rattle.co_program.specs.declared.act.Who.{Who}
+use Rattle.co_program.specs.declared.act.Who.TheVariants.{Timer, Me}
+use Rattle.co_program.specs.declared.act.When.{When}
+use Rattle.co_program.specs.declared.act.When.TheVariants.{After, At}
+use Rattle.co_program.specs.declared.act.Scene.{Scene}
+use Rattle.co_program.specs.declared.act.Where.{Where}
+use Rattle.co_program.specs.declared.act.Where.TheVariants.{Home, Cpu, Here}
+
+abbrev pub callout_of : Scene → Who → ℕ
+callout_of at (Timer i) = i
+callout_of at Me = at.me
+
+abbrev pub due_of : Scene → When → ℕ
+due_of at (After span) = sat_add at.time span
+due_of at (At time) = time
+
+abbrev pub cpu_named : Scene → Where → Option ℕ
+cpu_named at Home = None
+cpu_named at (Cpu cpu) = Some cpu
+cpu_named at Here = Some at.here
+
+-- the callout and the operation of a call; None for an act that is no call, and for a drain
+abbrev pub plain_op : Act → ℕ → Scene → Option (ℕ × PlainOp)
+plain_op (Reset who when func arg cpu prec) hz at = Some (callout_of at who, op.Reset (due_of at when) prec func arg (cpu_named at cpu))
+plain_op (Ticks who ticks func arg cpu) hz at = Some (callout_of at who, op.Reset (sat_add at.time (from_ticks ticks hz)) 0 func arg (cpu_named at cpu))
+plain_op (Schedule who when cpu prec) hz at = Some (callout_of at who, op.Schedule (due_of at when) prec (cpu_named at cpu))
+plain_op (Stop who) hz at = Some (callout_of at who, op.Stop)
+plain_op (AsyncDrain who func) hz at = Some (callout_of at who, op.AsyncDrain func)
+plain_op (Active who) hz at = Some (callout_of at who, op.Active)
+plain_op (Pending who) hz at = Some (callout_of at who, op.Pending)
+plain_op (Deactivate who) hz at = Some (callout_of at who, op.Deactivate)
+plain_op (Init who) hz at = Some (callout_of at who, op.Init)
+plain_op (Retire who) hz at = Some (callout_of at who, op.Retire)
+plain_op (Now time) hz at = None
+plain_op (Lock id) hz at = None
+plain_op (ReadLock id) hz at = None
+plain_op Unlock hz at = None
+plain_op (Drain i) hz at = None
+plain_op (Tick time) hz at = None

@@ -1,0 +1,37 @@
+-- The stages of an act.
+use Rattle.std.specs.Prelude.{ℕ, Bool, List, Option}
+use Rattle.co_object.specs.declared.Next.{Next}
+use Rattle.co_program.specs.declared.act.Act.{Act}
+
+-- a service in an act: of callout i, for its arming n, at the time of the last scan
+pub record Service : Type 0 where
+  pub act : ℕ
+  pub i : ℕ
+  pub n : ℕ
+  pub at : ℕ
+
+pub data Stage : Type 0 where
+  -- between two acts
+  Ready : Stage
+  -- in a drain, which waits for the end of the service of arming n
+  Waiting : (n : ℕ) (took : Bool) → Stage
+  -- in a tick or a soft act, about to take the next callout from the queue
+  Popping : (act : ℕ) → Stage
+  -- in a service, about to pick the arming
+  Picking : (v : Service) → Stage
+  -- about to take the callout's lock
+  Locking : (v : Service) → Stage
+  -- under the lock, about to begin
+  Beginning : (v : Service) → Stage
+  -- about to release the lock, before the acts of a function that returns unlocked
+  Unlocking : (v : Service) (acts : List Act) → Stage
+  -- in the callout's function, of which these acts are left
+  Firing : (v : Service) (acts : List Act) → Stage
+  -- about to release the lock, after the function
+  Releasing : (v : Service) → Stage
+  -- about to end the service
+  Ending : (v : Service) → Stage
+  -- about to free the queue of it
+  Freeing : (v : Service) (drain : Option ℕ) (next : Option Next) → Stage
+  -- in the function of an asynchronous drain, of which these acts are left
+  Drained : (v : Service) (acts : List Act) → Stage
