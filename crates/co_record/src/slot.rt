@@ -3,7 +3,6 @@ ghost use Rattle.std.specs.Prelude.{◌≡◌};
 ghost use Rattle.co_record.specs.Fresh.{vacant};
 ghost use Rattle.co_record.specs.Standing.{served, holds};
 
-use crate::record::zero;
 use co_sbt::Sbt;
 
 /// The arming in service.
