@@ -30,7 +30,7 @@ use Rattle.co_core.specs.Walk.{HasFinished}
 use Rattle.co_core.specs.Laws.{NeverStuck}
 use Rattle.co_core.proofs.Lists.{at_choice}
 use Rattle.co_core.proofs.Invariant.{HoldFits, HasActs, IsTaskOf, AreSoft, service_of, cpu_of_run, under_way}
-use Rattle.co_core.specs.Scripts.{is_call}
+use Rattle.co_program.specs.Scripts.{is_call}
 use Rattle.co_core.proofs.Sound.{IsSteady}
 use Rattle.co_core.proofs.Roles.{cpu_number, role_interrupt, counted}
 use Rattle.co_program.specs.Actors.{softs, client_count}

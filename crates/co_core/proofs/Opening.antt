@@ -9,7 +9,7 @@ use Rattle.co_program.specs.declared.Act.{Act}
 use Rattle.co_program.specs.declared.Act.TheVariants.{Tick}
 use Rattle.co_program.specs.Actors.{Task, Does, Soft, Role, Client, Cpu, Interrupt, role_of, acts_at, softs, program_of}
 use Rattle.co_program.specs.Stages.{Ready}
-use Rattle.co_core.specs.Scripts.{IsScript, is_tick}
+use Rattle.co_program.specs.Scripts.{IsScript, is_tick}
 use Rattle.co_core.specs.World.{open_world}
 use Rattle.co_core.specs.Laws.{reached, IsSchedule}
 use Rattle.co_core.proofs.Invariant.{Holds, HoldFits, IsTaskOf, AreSoft, serving_of}

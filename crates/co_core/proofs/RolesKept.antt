@@ -29,7 +29,7 @@ use Rattle.co_program.specs.Stages.{Service, Stage, Ready, Waiting, Popping, Pic
 use Rattle.co_program.specs.Cursor.{Parcel, Cursor}
 use Rattle.co_program.specs.Action.{Action, Nothing, Silent, Take, Asks, Asked, Callout, Queue, Itself, spec_at, firing, draining, pop_of, free_of}
 use Rattle.co_program.specs.Advance.{tail_of, act_over, called, advance_callout, drain_acts, picked, begun, ended, got, popped, freed, advance_queue}
-use Rattle.co_core.specs.Scripts.{IsScript, is_call}
+use Rattle.co_program.specs.Scripts.{IsScript, is_call}
 use Rattle.co_core.specs.Step.{are_direct}
 use Rattle.co_core.proofs.Lists.{at_choice}
 use Rattle.co_core.proofs.Invariant.{ClientHold, ServerHold, HoldFits, HasActs, IsTaskOf, BeginsDrain, IsDraining, LaneFits, AreSoft, FitsRole, serves_direct, hold_within}

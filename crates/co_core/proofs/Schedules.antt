@@ -11,7 +11,7 @@ use Rattle.co_object.specs.Journal as journal
 use Rattle.co_object.specs.Machine.{IsLegalFrom}
 use Rattle.co_program.specs.declared.Script.{Script}
 use Rattle.co_program.specs.Action.{spec_at}
-use Rattle.co_core.specs.Scripts.{IsScript}
+use Rattle.co_program.specs.Scripts.{IsScript}
 use Rattle.co_core.specs.Step.{are_direct}
 use Rattle.co_core.specs.Laws.{reached, actors_of, IsSchedule, HistoriesAreLegal, NoRemoveIsMissing, EachFinishedActorFollows, NoScheduleIsStuck}
 use Rattle.co_core.proofs.Owned.{IsOwned, IsOwn, IsOwnOf}

@@ -24,7 +24,7 @@ use Rattle.co_program.specs.Stages.{Service, Stage, Ready, Waiting, Popping, Pic
 use Rattle.co_program.specs.Cursor.{Parcel, Cursor}
 use Rattle.co_program.specs.Action.{Action, Nothing, Silent, Take, Asks, Asked, Callout, Queue, Itself, action_for, action_with, spec_at}
 use Rattle.co_program.specs.Advance.{act_over, called, advance_callout, due_of_call}
-use Rattle.co_core.specs.Scripts.{IsScript}
+use Rattle.co_program.specs.Scripts.{IsScript}
 use Rattle.co_core.specs.World.{World, with_cursor}
 use Rattle.co_core.specs.Step.{notes_down, enters, note_of, note_of_own, callout_answers, own_note}
 use Rattle.co_core.proofs.Invariant.{Holds, IsListed, IsCarried, IsServing, IsLane, FitsRole, states_of, queues_of, places_of, scans_of, carries, in_hand, in_stage, serving_of, has_popped, under_way, service_of}

@@ -10,7 +10,7 @@ use Rattle.co_core.specs.World.{World, all_actors, open_world, lists_of}
 use Rattle.co_core.specs.Blocked.{blocked, waits_for}
 use Rattle.co_core.specs.Step.{step, stepped}
 use Rattle.co_core.specs.Walk.{run, round, rounds, HasFinished, AllFinished, IsWalk}
-use Rattle.co_core.specs.Scripts.{IsScript}
+use Rattle.co_program.specs.Scripts.{IsScript}
 use Rattle.co_core.specs.declared.turn.Why.{Why}
 use Rattle.co_core.specs.Laws.{Falls, NeverStuck, IsSchedule, reached, WalksAgree, WalksEnd}
 use Rattle.co_core.proofs.Lists.{at_choice}

@@ -22,7 +22,7 @@ use Rattle.co_core.specs.Blocked.{blocked}
 use Rattle.co_core.specs.Step.{step, are_direct}
 use Rattle.co_core.specs.Walk.{run, HasFinished, IsWalk}
 use Rattle.co_object.specs.declared.Note.{Note}
-use Rattle.co_core.specs.Scripts.{IsScript}
+use Rattle.co_program.specs.Scripts.{IsScript}
 
 -- the world after a schedule
 abbrev pub reached : Script → List ℕ → World

@@ -5,3 +5,4 @@ pub mod Cursor
 pub mod Action
 pub mod Advance
 pub mod Follows
+pub mod Scripts

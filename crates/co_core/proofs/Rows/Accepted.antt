@@ -3,7 +3,7 @@ use Rattle.std.proofs.Common.{◌≡◌, ℕ, zero, suc, true, false, List, [], 
 use Rattle.std.specs.List.{AllByRecursion}
 use Rattle.co_program.specs.declared.Act.{Act}
 use Rattle.co_program.specs.Actors.{acts_at}
-use Rattle.co_core.specs.Scripts.{IsScript, is_tick, is_call}
+use Rattle.co_program.specs.Scripts.{IsScript, is_tick, is_call}
 use Rattle.co_core.proofs.Rows.OneFiring as one_firing
 use Rattle.co_core.proofs.Rows.BothLanes as both_lanes
 
