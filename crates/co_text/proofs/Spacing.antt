@@ -24,7 +24,7 @@ pub more-step : (old self p t : List ℕ) (ts : List Token) (i : ℕ) (d : Token
 more-step old self p t ts i d e f g inside =
     let w : List ℕ = token_word (get_or ts i d) in
     let words : spaced (token_words (take (i + 1) ts)) ≡ spaced (token_words (take i ts)) ++ 32 ∷ w =
-      ap (λ us. spaced (token_words us)) (one-more i ts d inside) ∙ (ap spaced (words-append (take i ts) (get_or ts i d ∷ [])) ∙ (spaced-append (token_words (take i ts)) (w ∷ []) ∙ ap (λ u. spaced (token_words (take i ts)) ++ u) (single w))) in
+    ap (λ us. spaced (token_words us)) (one-more i ts d inside) ∙ (ap spaced (words-append (take i ts) (get_or ts i d ∷ [])) ∙ (spaced-append (token_words (take i ts)) (w ∷ []) ∙ ap (λ u. spaced (token_words (take i ts)) ++ u) (single w))) in
     rw (g, f, e, words) (pieces old (spaced (token_words (take i ts))) w)
   where
     pieces : (a b c : List ℕ) → ((a ++ b) ++ 32 ∷ []) ++ c ≡ a ++ (b ++ 32 ∷ c)
