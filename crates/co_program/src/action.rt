@@ -2,7 +2,8 @@
 ghost use Rattle.std.specs.Prelude.{◌≡◌, ℕ, ◌<◌, ◌≤◌, ◌-◌, ◌+◌, ◌^◌, [], drop, if◌then◌else◌, is_some, slice_get};
 ghost use Rattle.co_lock.specs.Service.{hold_of};
 ghost use Rattle.co_program.specs.declared.script.Script.{Script};
-ghost use Rattle.co_program.specs.Actors.{Role, program_of};
+ghost use Rattle.co_program.specs.declared.role.Role.{Role};
+ghost use Rattle.co_program.specs.Actors.{program_of};
 ghost use Rattle.co_program.specs.Action.{Silent, Asks, action_for, action_in, asks_call, asks_drain, asks_within, begins, draining, drained_of, firing, free_of, locks, over, pop_of, scans_first, scans_of, spec_at, takes};
 ghost use Rattle.co_program.specs.Advance.{tail_of};
 ghost use Rattle.co_program.specs.Indexed.{ActionCounts, Counts, action_as, action_of, acts_left, cursor_as, cursor_of, past, stage_of};

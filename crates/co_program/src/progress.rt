@@ -1,7 +1,8 @@
 //! How an actor's place in its program goes on after a note.
 ghost use Rattle.std.specs.Prelude.{◌≡◌, ℕ, ◌<◌, ◌-◌, ◌^◌, if◌then◌else◌};
 ghost use Rattle.co_program.specs.declared.script.Script.{Script};
-ghost use Rattle.co_program.specs.Actors.{Role, acts_at};
+ghost use Rattle.co_program.specs.declared.role.Role.{Role};
+ghost use Rattle.co_program.specs.Actors.{acts_at};
 ghost use Rattle.co_program.specs.Action.{draining, firing, spec_at};
 ghost use Rattle.co_program.specs.Advance.{act_over, advance, advance_callout, advance_queue, begun, called, drain_acts, due_of_call, ended, freed, got, parcel_of, picked, popped, tail_of};
 ghost use Rattle.co_program.specs.Indexed.{Counts, acts_left, cursor_as, cursor_of, stage_of};
