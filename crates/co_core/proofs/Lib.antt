@@ -35,6 +35,9 @@ pub mod NeverStuck
 pub mod Schedules
 pub mod Walks
 pub mod Possible
+pub mod Sums
+pub mod ActorFalls
+pub mod QueueFalls
 pub mod ListsShow
 pub mod Replies
 pub mod WellFormed

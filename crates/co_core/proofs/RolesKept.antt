@@ -252,7 +252,7 @@ module _ (s : Script) (ok : IsScript s) (role : Role) (left : List Task) (number
   at stage = place left number now held stage removed parcel
 
   pub fits_silent : (stage : Stage) (to : Cursor) → IsAction s role (at stage) stage (Silent to) → FitsRole s role left held stage → Fits s role to
-  fits_silent stage to (drops is) fits = record { tasks = tt; soft = subst (AreSoft s role) is fits.soft; hold = none_ready s role; acts = tt; draining = tt; lane = tt }
+  fits_silent stage to (drops is some) fits = record { tasks = tt; soft = subst (AreSoft s role) is fits.soft; hold = none_ready s role; acts = tt; draining = tt; lane = tt }
   fits_silent stage to (passes task more time to_hold is own) fits =
       let client : (c : ℕ) × (role ≡ Client c) = clients_act s role task own (first_task (IsTaskOf s role) left more task is fits.tasks) in
       subst (λ (xs : List Task). FitsRole s role xs to_hold Ready) (tail_is left more task is) (fits_ready s role left held to_hold stage (client_ready s role to_hold client.0 client.1) fits)

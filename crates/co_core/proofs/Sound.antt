@@ -119,7 +119,7 @@ use Rattle.co_core.proofs.HoldsKept.{over_parcel}
 use Rattle.co_core.proofs.Sections.{rest_good}
 
 silent_between : (s : Script) (role : Role) (c : Cursor) (stage : Stage) (to : Cursor) → IsAction s role c stage (Silent to) → IsBetween to.stage
-silent_between s role c stage to (drops is) = tt
+silent_between s role c stage to (drops is some) = tt
 silent_between s role c stage to (passes task left now held is own) = tt
 silent_between s role c stage to (unlocks v acts) = firing_between v None acts
 silent_between s role c stage to (releases v) = tt
