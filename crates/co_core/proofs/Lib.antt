@@ -38,6 +38,10 @@ pub mod Possible
 pub mod Sums
 pub mod ActorFalls
 pub mod QueueFalls
+pub mod DueSteps
+pub mod Names
+pub mod Named
+pub mod Crowds
 pub mod ListsShow
 pub mod Replies
 pub mod WellFormed
