@@ -97,6 +97,20 @@ module _ (s : Script) (states after : ℕ → State) (more : ℕ) (eased : (i n 
   pub actor_eased : (c : Cursor) → actor_left s after c ≤ actor_left s states c + more
   actor_eased c = let h = acts_eased c.left c.stage in omega arith
 
+-- the most that an operation gives an actor, and all of them: a Pick may give each drain one more try
+abbrev pub given : Op → ℕ
+given (Serve (Pick n cpu time)) = 1
+given op = 0
+
+abbrev pub spread : Script → Op → ℕ
+spread s (Serve (Pick n cpu time)) = actor_count s
+spread s op = 0
+
+-- no service has the arming that a drain's last Wait named
+abbrev pub HasWaited : State → Stage → Type 0
+HasWaited state (Waiting n took) = is_service_of n (serviced state.run) ≡ false
+HasWaited state stage = ⊤
+
 -- ---- where a call leaves an actor
 
 -- the act is over, or the drain waits, or the callout is on its way
@@ -187,11 +201,6 @@ module _ (s : Script) (role : Role) (left : List Task) (number now : ℕ) (held 
     waited false = again
   drain_leaves n took listed op reply t is (arms x code arming u armed due on) now_is free = cc
 
-  -- a drain that waits for the arming of its last Wait makes no try
-  abbrev pub HasWaited : State → Stage → Type 0
-  HasWaited state (Waiting n took) = is_service_of n (serviced state.run) ≡ false
-  HasWaited state stage = ⊤
-
   pub call_leaves : (stage : Stage) (act i : ℕ) (op : CallOp) (listed : Bool) (reply : Reply) (t : State) → IsAction s role (at stage) stage (Asks act (Callout i (Call op))) → Did (spec_at s i) (states i) (Call op) reply t → after i ≡ t →
       HasWaited (states i) stage → Leaves stage (advance_callout s (at stage) i listed (Call op) reply stage) 1
   call_leaves stage act i op listed reply t (asks task more j x is own) did now_is free = call_by stage (over_ready task more is) (wait_ready task more is) i listed (Call op) reply
@@ -200,13 +209,9 @@ module _ (s : Script) (role : Role) (left : List Task) (number now : ℕ) (held 
   call_leaves stage act i op listed reply t (fires v x acts j p) did now_is free = call_by stage (over_firing v x acts) (wait_firing v x acts) i listed (Call op) reply
   call_leaves stage act i op listed reply t (serves v x acts j p) did now_is free = call_by stage (over_drained v x acts) (wait_drained v x acts) i listed (Call op) reply
 
-  -- a turn of a service; a Pick may give each actor one more try
-  abbrev pub spread : Op → ℕ
-  spread (Serve (Pick n cpu time)) = actor_count s
-  spread op = 0
-
+  -- a turn of a service
   pub run_leaves : (stage : Stage) (act i : ℕ) (op : Op) (listed : Bool) (state t : State) (reply : Reply) (run : RunOp) → op ≡ Serve run → IsAction s role (at stage) stage (Asks act (Callout i op)) → Did (spec_at s i) state op reply t →
-      Leaves stage (advance_callout s (at stage) i listed op reply stage) (spread op + 1)
+      Leaves stage (advance_callout s (at stage) i listed op reply stage) (spread s op + 1)
   run_leaves stage act i op listed state t reply run is (picks v) (holds n cpu time a u idle is_n is_cpu lock gone runs) = omega arith
   run_leaves stage act i op listed state t reply run is (picks v) (goes n cpu time func arg u idle lock gone runs) = omega (arith, firing_left s after left v held (acts_at s.funcs func), longest_at s.funcs func)
   run_leaves stage act i op listed state t reply run is (opens v) (deed.begins n cpu func arg u same taken runs) = begun_at (spec_at s v.i).returns_unlocked where

@@ -42,6 +42,9 @@ pub mod DueSteps
 pub mod Names
 pub mod Named
 pub mod Crowds
+pub mod AnswerFalls
+pub mod SectionFalls
+pub mod StepFalls
 pub mod ListsShow
 pub mod Replies
 pub mod WellFormed

@@ -115,9 +115,9 @@ module _ (s : Script) (role : Role) (left : List Task) (number now : ℕ) (held 
       omega (arith, before, round_pick s v, begun)
   got_leaves m direct q reply t n act stage empty begun = omega (arith, begun)
 
-  pub queue_leaves : (m : ℕ) (direct : List Bool) (q t : TimerQueue) (stage : Stage) (act cpu : ℕ) (op : QOp) (reply : QReply) → IsAction s role (at stage) stage (Asks act (Queue cpu op)) → QChange m direct q op reply t → crowd t ≤ length s.timers →
+  pub queue_leaves : (m : ℕ) (direct : List Bool) (q t : TimerQueue) (stage : Stage) (act cpu : ℕ) (op : QOp) (reply : QReply) → IsAction s role (at stage) stage (Asks act (Queue cpu op)) → QChange m direct q op reply t → (is_scan op ≡ true → crowd t ≤ length s.timers) →
       Leave q t stage (advance_queue s (at stage) cpu op reply)
-  queue_leaves m direct q t stage act cpu op reply (scans time more is) did few = omega (arith, many_left s (crowd t) few, one_tail s left more (Does (Tick time)) is)
+  queue_leaves m direct q t stage act cpu op reply (scans time more is) did few = omega (arith, many_left s (crowd t) (few refl), one_tail s left more (Does (Tick time)) is)
   queue_leaves m direct q t stage act cpu op reply (starts j more is) did few =
       let goes = pop_goes s role (at Ready) cpu reply in
       subst (Leave q t Ready) (sym goes.1) (got_leaves m direct q reply t (number + 1) number Ready (has_popped m direct q op reply t did goes.0) (omega (arith, one_tail s left more (Soft j) is, three_left s)))
