@@ -45,6 +45,7 @@ pub mod Crowds
 pub mod AnswerFalls
 pub mod SectionFalls
 pub mod StepFalls
+pub mod Bounds
 pub mod ListsShow
 pub mod Replies
 pub mod WellFormed

@@ -1,5 +1,6 @@
 -- Sums over the numbers of a range, and what one of the terms changes of them.
-use Rattle.std.proofs.Common.{◌≡◌, ℕ, zero, suc, ◌+◌, ◌≤◌, ◌<◌, ◌⊎◌, inl, inr, List, [], ◌∷◌, refl, ap, sym, arith}
+use Rattle.std.proofs.Common.{◌≡◌, ℕ, zero, suc, ◌+◌, ◌*◌, ◌≤◌, ◌<◌, ◌⊎◌, inl, inr, List, [], ◌∷◌, refl, ap, sym, arith}
+use Rattle.std.proofs.Math.Nat.{suc-mul}
 use Rattle.std.specs.List.{range_with_len, sum_by}
 use Rattle.std.proofs.lemmas.List.Sums.{sum_by-cons}
 use Rattle.co_core.proofs.Moves.{decide}
@@ -41,3 +42,7 @@ module _ (f g e : ℕ → ℕ) where
 pub total_of_both : (f g : ℕ → ℕ) (k n : ℕ) → total (λ b. f b + g b) k n ≡ total f k n + total g k n
 total_of_both f g k zero = refl
 total_of_both f g k (suc n) = omega (arith, total_more (λ b. f b + g b) k n, total_more f k n, total_more g k n, total_of_both f g (k + 1) n)
+
+pub total_most : (f : ℕ → ℕ) (most : ℕ) → ((b : ℕ) → f b ≤ most) → (k n : ℕ) → total f k n ≤ n * most
+total_most f most each k zero = omega arith
+total_most f most each k (suc n) = omega (arith, total_more f k n, each k, total_most f most each (k + 1) n, suc-mul n most)

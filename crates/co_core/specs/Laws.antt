@@ -1,5 +1,5 @@
 -- What holds of every schedule of a script's actors.
-use Rattle.std.specs.Prelude.{◌≡◌, ℕ, ◌<◌, ◌⊎◌, List, length, Some, None}
+use Rattle.std.specs.Prelude.{◌≡◌, ℕ, ◌^◌, ◌<◌, ◌⊎◌, List, length, Some, None}
 use Rattle.std.specs.List.{AllByRecursion}
 use Rattle.co_object.specs.declared.Op.TheVariants.{Run}
 use Rattle.co_object.specs.declared.RunOp.TheVariants.{Begin}
@@ -115,6 +115,10 @@ abbrev pub RoundsFall : Type 0
 RoundsFall =
     (s : Script) → IsScript s → (schedule : List ℕ) → IsSchedule s schedule →
     AllFinished s (reached s schedule) ⊎ (measure s (round s (reached s schedule)) < measure s (reached s schedule))
+
+-- and it begins below 2 ^ 64
+abbrev pub OpeningFits : Type 0
+OpeningFits = (s : Script) → IsScript s → measure s (open_world s) < 2 ^ 64
 
 -- a script's walk has one result
 abbrev pub WalksAgree : Type 0

@@ -3,7 +3,7 @@ ghost use Rattle.std.specs.Prelude.{ℕ, List};
 ghost use Rattle.co_object.specs.Lists.{IsWellFormed};
 ghost use Rattle.co_program.specs.declared.Script.{Script};
 ghost use Rattle.co_core.specs.World.{lists_of};
-ghost use Rattle.co_core.specs.Laws.{AreOfLists, BeginsUnderLock, EachFinishedActorFollows, EveryStepFalls, HaveReplies, HistoriesAreLegal, IdleStepsStay, IsSchedule, NoRemoveIsMissing, NoScheduleIsStuck, RoundsFall, WalksAgree, WalksEnd, reached};
+ghost use Rattle.co_core.specs.Laws.{AreOfLists, BeginsUnderLock, EachFinishedActorFollows, EveryStepFalls, HaveReplies, HistoriesAreLegal, IdleStepsStay, IsSchedule, NoRemoveIsMissing, NoScheduleIsStuck, OpeningFits, RoundsFall, WalksAgree, WalksEnd, reached};
 
 /// The positions of each place are 0, 1, 2, .., each once, and rise in each actor's list.
 pub fn well_formed()
@@ -68,4 +68,9 @@ pub fn idle_steps_stay()
 /// What is left to do falls with every round until all actors have finished.
 pub fn rounds_fall()
     ensures { RoundsFall }
+{}
+
+/// What is left to do at the opening fits 64 bits.
+pub fn opening_fits()
+    ensures { OpeningFits }
 {}
