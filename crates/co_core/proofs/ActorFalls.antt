@@ -30,7 +30,7 @@ use Rattle.co_program.specs.Cursor.{Parcel, Cursor}
 use Rattle.co_program.specs.Action.{Action, Silent, Take, Asks, Callout, Queue, Itself, drained_of, firing, draining, spec_at}
 use Rattle.co_program.specs.Advance.{tail_of, act_over, called, due_of_call, advance_callout, advance_queue, drain_acts}
 use Rattle.co_core.specs.Blocked.{is_service_of}
-use Rattle.co_core.specs.Measure.{longest, steps_of, most_steps, round, round_left, act_left, tries, acts_left, one_for, actor_left}
+use Rattle.co_core.specs.Measure.{longest, steps_of, most_steps, whole_round, round_left, whole_act, tries, acts_left, one_for, actor_left}
 use Rattle.co_core.proofs.Lists.{cond_kept, at_choice}
 use Rattle.co_core.proofs.Actions.{IsAction, drops, passes, grabs, tells, asks, drains, scans, starts, waits, waits_told, pops, picks, enters, opens, unlocks, fires, fires_told, releases, ends, frees, serves, serves_told}
 use Rattle.co_core.proofs.Deeds.{Did, keeps, clears, arms, holds, goes, skips}
@@ -39,20 +39,20 @@ use Rattle.co_core.proofs.RolesKept.{place, plain_called}
 
 -- ---- numbers
 
-pub three_left : (s : Script) → 3 ≤ act_left s
-unfolding act_left
+pub three_left : (s : Script) → 3 ≤ whole_act s
+unfolding whole_act
 three_left s = omega arith
 
 -- a callout that has come due has a step more than its Pick
-pub round_pick : (s : Script) (v : Service) → round s ≡ round_left s (Picking v) + 1
-unfolding round
+pub round_pick : (s : Script) (v : Service) → whole_round s ≡ round_left s (Picking v) + 1
+unfolding whole_round
 round_pick s v = omega arith
 
-one_act : (s : Script) (left more : List Task) (task : Task) → left ≡ task ∷ more → act_left s * length left ≡ act_left s * length more + act_left s
-one_act s left more task is = ap (λ (xs : List Task). act_left s * length xs) is ∙ mul-suc (act_left s) (length more)
+one_act : (s : Script) (left more : List Task) (task : Task) → left ≡ task ∷ more → whole_act s * length left ≡ whole_act s * length more + whole_act s
+one_act s left more task is = ap (λ (xs : List Task). whole_act s * length xs) is ∙ mul-suc (whole_act s) (length more)
 
-pub one_tail : (s : Script) (left more : List Task) (task : Task) → left ≡ task ∷ more → act_left s * length left ≡ act_left s * length (tail_of left) + act_left s
-one_tail s left more task is = one_act s left more task is ∙ sym (ap (λ (xs : List Task). act_left s * length (tail_of xs) + act_left s) is)
+pub one_tail : (s : Script) (left more : List Task) (task : Task) → left ≡ task ∷ more → whole_act s * length left ≡ whole_act s * length (tail_of left) + whole_act s
+one_tail s left more task is = one_act s left more task is ∙ sym (ap (λ (xs : List Task). whole_act s * length (tail_of xs) + whole_act s) is)
 
 pub at_most_one : {T : Type 0} (o : Option T) → one_for o ≤ 1
 at_most_one None = omega arith
@@ -78,12 +78,12 @@ longest_drain s None = omega arith
 longest_drain s (Some func) = longest_at s.funcs func
 
 module _ (s : Script) (states : ℕ → State) (left : List Task) where
-  firing_left : (v : Service) (held : Option Held) (acts : List Act) → acts_left s states left (firing v held acts) ≤ act_left s * length (tail_of left) + 1 + (steps_of acts + most_steps s + 4)
+  firing_left : (v : Service) (held : Option Held) (acts : List Act) → acts_left s states left (firing v held acts) ≤ whole_act s * length (tail_of left) + 1 + (steps_of acts + most_steps s + 4)
   firing_left v held (act ∷ acts) = omega arith
   firing_left v None [] = omega arith
   firing_left v (Some x) [] = omega arith
 
-  pub draining_left : (v : Service) (acts : List Act) → acts_left s states left (draining v acts) ≤ act_left s * length (tail_of left) + 1 + steps_of acts
+  pub draining_left : (v : Service) (acts : List Act) → acts_left s states left (draining v acts) ≤ whole_act s * length (tail_of left) + 1 + steps_of acts
   draining_left v [] = omega arith
   draining_left v (act ∷ acts) = omega arith
 

@@ -8,7 +8,7 @@ use Rattle.co_program.specs.declared.Act.{Act}
 use Rattle.co_program.specs.Actors.{Task, Does, Role, Client, Cpu, Interrupt, softs, acts_at, program_of, role_of, client_count, actor_count}
 use Rattle.co_program.specs.Scripts.{IsScript}
 use Rattle.co_core.specs.World.{open_world}
-use Rattle.co_core.specs.Measure.{longest, most_steps, round, act_left, actor_left, measure}
+use Rattle.co_core.specs.Measure.{longest, most_steps, whole_round, whole_act, actor_left, measure}
 use Rattle.co_core.specs.Laws.{OpeningFits}
 use Rattle.co_core.proofs.Lists.{cond_kept}
 use Rattle.co_core.proofs.Invariant.{states_of, places_of}
@@ -35,22 +35,22 @@ module _ (s : Script) (ok : IsScript s) where
       cond_kept (λ (left : List Task). length left ≤ 65536) (s.version == 2) (softs 0 (length (acts_at s.ticks x))) (map Does (acts_at s.ticks x))
       (let h = ok.short_ticks x in omega (arith, length_softs 0 (length (acts_at s.ticks x)))) (short_ticks x)
 
-  short_round : round s ≤ 16442
-  unfolding round
+  short_round : whole_round s ≤ 16442
+  unfolding whole_round
   short_round = let most = longest_most 4096 s.funcs ok.short_funcs in let few = few_actors in omega arith
 
-  short_act : act_left s ≤ 16836611
-  unfolding act_left
-  short_act = let h : length s.timers * round s ≤ 1024 * 16442 = mul-le-mul ok.timers.1 short_round in omega arith
+  short_act : whole_act s ≤ 16836611
+  unfolding whole_act
+  short_act = let h : length s.timers * whole_round s ≤ 1024 * 16442 = mul-le-mul ok.timers.1 short_round in omega arith
 
   short_actor : (a : ℕ) → actor_left s (states_of (open_world s)) (places_of (open_world s) a) ≤ 16836611 * 65536
-  short_actor a = let h : act_left s * length (program_of s (role_of s a)) ≤ 16836611 * 65536 = mul-le-mul short_act (short_program (role_of s a)) in omega arith
+  short_actor a = let h : whole_act s * length (program_of s (role_of s a)) ≤ 16836611 * 65536 = mul-le-mul short_act (short_program (role_of s a)) in omega arith
 
   pub opening_fits_at : measure s (open_world s) < 2 ^ 64
   opening_fits_at =
       let most : ℕ = 16836611 * 65536 in
       let actors : all_actors_left s (open_world s) ≤ actor_count s * most = total_most (λ a. actor_left s (states_of (open_world s)) (places_of (open_world s) a)) most short_actor 0 (actor_count s) in
-      let queues : all_queues_left s (open_world s) ≤ s.cpus * 0 = total_most (λ x. round s * 0) 0 (λ x. omega arith) 0 s.cpus in
+      let queues : all_queues_left s (open_world s) ≤ s.cpus * 0 = total_most (λ x. whole_round s * 0) 0 (λ x. omega arith) 0 s.cpus in
       let all : actor_count s * most ≤ 48 * most = mul-le-mul_right most few_actors in
       omega (arith, measured s (open_world s), actors, queues, all)
 

@@ -196,19 +196,15 @@ module _ (s : Script) (ok : IsScript s) (role : Role) (c : Cursor) (names : Plac
 
 -- ---- where a note leads
 
-tasks_tail : (s : Script) (left : List Task) → TasksName s left → TasksName s (tail_of left)
-tasks_tail s [] h = tt
-tasks_tail s (task ∷ left) h = h.1
-
-acts_tail : (s : Script) (acts : List Act) → ActsName s acts → ActsName s (tail_of acts)
-acts_tail s [] h = tt
-acts_tail s (act ∷ acts) h = h.1
+all_tail : {X : Type 0} (P : X → Type 0) (xs : List X) → AllByRecursion P xs → AllByRecursion P (tail_of xs)
+all_tail P [] h = tt
+all_tail P (x ∷ xs) h = h.1
 
 module _ (s : Script) (ok : IsScript s) where
   pub after_act : (c : Cursor) → PlaceNames s c → (stage : Stage) → StageNames s stage → PlaceNames s (act_over c stage)
-  after_act c names (Firing v acts) h = record { left = names.left; stage = firing_names s v c.hold (tail_of acts) h.0 (acts_tail s acts h.1); parcel = names.parcel }
-  after_act c names (Drained v acts) h = record { left = names.left; stage = draining_names s v (tail_of acts) h.0 (acts_tail s acts h.1); parcel = names.parcel }
-  after_act c names stage h = record { left = tasks_tail s c.left names.left; stage = tt; parcel = names.parcel }
+  after_act c names (Firing v acts) h = record { left = names.left; stage = firing_names s v c.hold (tail_of acts) h.0 (all_tail (λ act. names_exist s act ≡ true) acts h.1); parcel = names.parcel }
+  after_act c names (Drained v acts) h = record { left = names.left; stage = draining_names s v (tail_of acts) h.0 (all_tail (λ act. names_exist s act ≡ true) acts h.1); parcel = names.parcel }
+  after_act c names stage h = record { left = all_tail (TaskNames s) c.left names.left; stage = tt; parcel = names.parcel }
 
   after_called : (c : Cursor) → PlaceNames s c → (i : ℕ) → Exists s i → (listed : Bool) (op : Op) (reply : Reply) → PlaceNames s (called c i listed op reply)
   after_called c names i exists listed op reply =
@@ -247,7 +243,7 @@ module _ (s : Script) (ok : IsScript s) where
 
   after_got : (c : Cursor) → PlaceNames s c → (act : ℕ) (reply : QReply) → ReplyNames reply → PlaceNames s (got c act reply)
   after_got c names act (Got i n time) h = at_stage c names (Picking (record { act = act; i = i; n = n; at = time })) h
-  after_got c names act reply h = record { left = tasks_tail s c.left names.left; stage = tt; parcel = names.parcel }
+  after_got c names act reply h = record { left = all_tail (TaskNames s) c.left names.left; stage = tt; parcel = names.parcel }
 
   after_pop : (c : Cursor) → PlaceNames s c → (reply : QReply) → ReplyNames reply → (stage : Stage) → PlaceNames s (popped c reply stage)
   after_pop c names reply h (Popping act) = after_got c names act reply h

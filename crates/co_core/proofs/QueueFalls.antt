@@ -20,9 +20,9 @@ use Rattle.co_program.specs.Stages.{Service, Stage, Ready, Waiting, Popping, Pic
 use Rattle.co_program.specs.Cursor.{Parcel, Cursor}
 use Rattle.co_program.specs.Action.{Action, Asks, Queue, pop_of, free_of}
 use Rattle.co_program.specs.Advance.{tail_of, advance_queue, popped, got, freed, drain_acts, parcel_of}
-use Rattle.co_core.specs.Measure.{round, round_left, act_left, acts_left, one_for, actor_left, queue_left}
+use Rattle.co_core.specs.Measure.{whole_round, round_left, whole_act, acts_left, one_for, actor_left, queue_left}
 use Rattle.co_core.proofs.Actions.{IsAction, scans, starts, pops, frees}
-use Rattle.co_core.proofs.RolesKept.{place}
+use Rattle.co_core.proofs.RolesKept.{place, pop_goes, free_goes}
 use Rattle.co_core.proofs.ActorFalls.{three_left, round_pick, one_tail, at_most_one, draining_left, longest_drain}
 
 -- ---- the callouts that have come due
@@ -78,27 +78,24 @@ module _ (m : ℕ) (direct : List Bool) where
   has_popped q op r t change.frees_direct h = cc
 
 -- a scan may bring each callout to service
-many_left : (s : Script) (n : ℕ) → n ≤ length s.timers → round s * n + 3 ≤ act_left s
-unfolding act_left
-many_left s n few = omega (arith, mul-le-mul_left (round s) few, mul_comm (length s.timers) (round s))
+many_left : (s : Script) (n : ℕ) → n ≤ length s.timers → whole_round s * n + 3 ≤ whole_act s
+unfolding whole_act
+many_left s n few = omega (arith, mul-le-mul_left (whole_round s) few, mul_comm (length s.timers) (whole_round s))
 
 pub queue_falls : (s : Script) (q t : TimerQueue) → crowd t ≤ crowd q → queue_left s t ≤ queue_left s q
-queue_falls s q t few = mul-le-mul_left (round s) few
+queue_falls s q t few = mul-le-mul_left (whole_round s) few
 
 -- ---- an operation, and where it leaves its actor
 
-pop_goes : (s : Script) (role : Role) (c : Cursor) (cpu : ℕ) (reply : QReply) → (is_pop (pop_of role) ≡ true) × (advance_queue s c cpu (pop_of role) reply ≡ popped c reply c.stage)
-pop_goes s (Client k) c cpu reply = (refl, refl)
-pop_goes s (Cpu x) c cpu reply = (refl, refl)
-pop_goes s (Interrupt x) c cpu reply = (refl, refl)
+pop_pops : (role : Role) → is_pop (pop_of role) ≡ true
+pop_pops (Client k) = refl
+pop_pops (Cpu x) = refl
+pop_pops (Interrupt x) = refl
 
-free_goes : (s : Script) (role : Role) (c : Cursor) (cpu : ℕ) (reply : QReply) → (is_scan (free_of role) ≡ false) × (advance_queue s c cpu (free_of role) reply ≡ freed s c c.stage)
-free_goes s (Client k) c cpu reply = (refl, refl)
-free_goes s (Cpu x) c cpu reply = (refl, refl)
-free_goes s (Interrupt x) c cpu reply = (refl, refl)
-
-at_most_parcel : (v : Service) (next : Option Next) → one_for (parcel_of v next) ≤ 1
-at_most_parcel v next = at_most_one (parcel_of v next)
+pub free_scans_none : (role : Role) → is_scan (free_of role) ≡ false
+free_scans_none (Client k) = refl
+free_scans_none (Cpu x) = refl
+free_scans_none (Interrupt x) = refl
 
 module _ (s : Script) (role : Role) (left : List Task) (number now : ℕ) (held : Option Held) (removed : Option ℕ) (parcel : Option Parcel) (states : ℕ → State) where
   abbrev at : Stage → Cursor
@@ -108,10 +105,10 @@ module _ (s : Script) (role : Role) (left : List Task) (number now : ℕ) (held 
   abbrev Leave : TimerQueue → TimerQueue → Stage → Cursor → Type 0
   Leave q t stage to = actor_left s states to + queue_left s t + 1 ≤ actor_left s states (at stage) + queue_left s q
 
-  got_leaves : (m : ℕ) (direct : List Bool) (q : TimerQueue) (reply : QReply) (t : TimerQueue) (n act : ℕ) (stage : Stage) → HasPopped m direct q reply t → act_left s * length (tail_of left) + 1 ≤ acts_left s states left stage → Leave q t stage (got (place left n now held stage removed parcel) act reply)
+  got_leaves : (m : ℕ) (direct : List Bool) (q : TimerQueue) (reply : QReply) (t : TimerQueue) (n act : ℕ) (stage : Stage) → HasPopped m direct q reply t → whole_act s * length (tail_of left) + 1 ≤ acts_left s states left stage → Leave q t stage (got (place left n now held stage removed parcel) act reply)
   got_leaves m direct q reply t n act stage (one i k time u fewer) begun =
       let v : Service = record { act = act; i = i; n = k; at = time } in
-      let before : round s * crowd q ≡ round s * crowd u + round s = ap (λ (x : ℕ). round s * x) fewer ∙ mul-suc (round s) (crowd u) in
+      let before : whole_round s * crowd q ≡ whole_round s * crowd u + whole_round s = ap (λ (x : ℕ). whole_round s * x) fewer ∙ mul-suc (whole_round s) (crowd u) in
       omega (arith, before, round_pick s v, begun)
   got_leaves m direct q reply t n act stage empty begun = omega (arith, begun)
 
@@ -119,12 +116,9 @@ module _ (s : Script) (role : Role) (left : List Task) (number now : ℕ) (held 
       Leave q t stage (advance_queue s (at stage) cpu op reply)
   queue_leaves m direct q t stage act cpu op reply (scans time more is) did few = omega (arith, many_left s (crowd t) (few refl), one_tail s left more (Does (Tick time)) is)
   queue_leaves m direct q t stage act cpu op reply (starts j more is) did few =
-      let goes = pop_goes s role (at Ready) cpu reply in
-      subst (Leave q t Ready) (sym goes.1) (got_leaves m direct q reply t (number + 1) number Ready (has_popped m direct q op reply t did goes.0) (omega (arith, one_tail s left more (Soft j) is, three_left s)))
+      subst (Leave q t Ready) (sym (pop_goes s role (at Ready) cpu reply)) (got_leaves m direct q reply t (number + 1) number Ready (has_popped m direct q op reply t did (pop_pops role)) (omega (arith, one_tail s left more (Soft j) is, three_left s)))
   queue_leaves m direct q t stage act cpu op reply (pops act') did few =
-      let goes = pop_goes s role (at (Popping act')) cpu reply in
-      subst (Leave q t (Popping act')) (sym goes.1) (got_leaves m direct q reply t number act' (Popping act') (has_popped m direct q op reply t did goes.0) (omega arith))
+      subst (Leave q t (Popping act')) (sym (pop_goes s role (at (Popping act')) cpu reply)) (got_leaves m direct q reply t number act' (Popping act') (has_popped m direct q op reply t did (pop_pops role)) (omega arith))
   queue_leaves m direct q t stage act cpu op reply (frees v drain next) did few =
-      let goes = free_goes s role (at (Freeing v drain next)) cpu reply in
-      subst (Leave q t (Freeing v drain next)) (sym goes.1)
-      (omega (arith, draining_left s states left v (drain_acts s drain), longest_drain s drain, at_most_parcel v next, queue_falls s q t (crowd_falls m direct q op reply t did goes.0)))
+      subst (Leave q t (Freeing v drain next)) (sym (free_goes s role (at (Freeing v drain next)) cpu reply))
+      (omega (arith, draining_left s states left v (drain_acts s drain), longest_drain s drain, at_most_one (parcel_of v next), queue_falls s q t (crowd_falls m direct q op reply t did (free_scans_none role))))

@@ -50,7 +50,7 @@ use Rattle.co_core.proofs.Names.{Exists}
 use Rattle.co_core.proofs.Named.{IsNamed}
 use Rattle.co_core.proofs.Crowds.{few_due}
 use Rattle.co_core.proofs.ActorFalls.{HasWaited}
-use Rattle.co_core.proofs.QueueFalls.{crowd, is_scan}
+use Rattle.co_core.proofs.QueueFalls.{crowd, is_scan, free_scans_none}
 use Rattle.co_core.proofs.AnswerFalls.{silent_falls, take_falls, own_falls, call_falls, run_falls, remove_stays, queue_answer_falls}
 
 -- every actor has a CPU of the script
@@ -88,18 +88,13 @@ module _ (s : Script) (ok : IsScript s) (w : World) (a : ℕ) (may : a < actor_c
   by_action : (action : Action) → action_for s a c ≡ action → Stays (makes_action s w a action) → Stays (makes_action s w a (action_for s a c))
   by_action action is stays = subst (λ (d : Action). Stays (makes_action s w a d)) (sym is) stays
 
-  no_scan : (r : Role) → is_scan (free_of r) ≡ false
-  no_scan (Client k) = refl
-  no_scan (Cpu x) = refl
-  no_scan (Interrupt x) = refl
-
   within : (stage : Stage) → c.stage ≡ stage → c.parcel ≡ None → is_within stage ≡ true → Stays (makes_action s w a (action_for s a c))
   within (Picking v) e empty h =
       let is : action_for s a c ≡ Asks v.act (Callout v.i (Serve (Pick v.n (cpu_of s role) v.at))) = ap (action_with s role c) empty ∙ ap (action_in s role c) e in
       by_action (Asks v.act (Callout v.i (Serve (Pick v.n (cpu_of s role) v.at)))) is (run_stays v.act v.i (Pick v.n (cpu_of s role) v.at) is)
   within (Freeing v drain next) e empty h =
       let is : action_for s a c ≡ Asks v.act (Queue (cpu_of s role) (free_of role)) = ap (action_with s role c) empty ∙ ap (action_in s role c) e in
-      by_action (Asks v.act (Queue (cpu_of s role) (free_of role))) is (queue_stays v.act (cpu_of s role) (free_of role) is (no_scan role))
+      by_action (Asks v.act (Queue (cpu_of s role) (free_of role))) is (queue_stays v.act (cpu_of s role) (free_of role) is (free_scans_none role))
   within stage e empty h = cc
 
   or_false : (x : Bool) → (x || false) ≡ true → x ≡ true
