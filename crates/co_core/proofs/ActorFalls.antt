@@ -1,38 +1,32 @@
 -- What each step leaves its actor to do, and what it may give the others.
-use Rattle.std.proofs.Common.{◌≡◌, ℕ, zero, suc, ◌+◌, ◌*◌, ◌≤◌, ◌<◌, max, Bool, true, false, cond, List, [], ◌∷◌, length, refl, sym, ap, subst, ◌∙◌, arith, eq-eqb, Option, Some, None}
+use Rattle.std.proofs.Common.{◌≡◌, ℕ, zero, suc, ◌+◌, ◌*◌, ◌≤◌, Bool, true, false, cond, List, [], ◌∷◌, length, refl, sym, ap, subst, ◌∙◌, arith, eq-eqb, Option, Some, None}
 use Rattle.std.specs.Prelude.{⊤, is_some, ◌==◌}
 use Rattle.std.proofs.Math.Nat.{mul-suc}
 use Rattle.co_object.specs.declared.State.{State}
-use Rattle.co_object.specs.declared.Run.{Run}
-use Rattle.co_object.specs.declared.Run.TheVariants as run
-use Rattle.co_object.specs.declared.Next.{Next}
 use Rattle.co_object.specs.declared.Reply.{Reply}
 use Rattle.co_object.specs.declared.Reply.TheVariants.{Armed, Wait}
 use Rattle.co_object.specs.declared.Op.{Op}
 use Rattle.co_object.specs.declared.Op.TheVariants.{Call, Run as Serve}
 use Rattle.co_object.specs.declared.CallOp.{CallOp}
-use Rattle.co_object.specs.declared.CallOp.TheVariants.{Plain, DrainTry}
+use Rattle.co_object.specs.declared.CallOp.TheVariants.{DrainTry}
 use Rattle.co_object.specs.declared.RunOp.{RunOp}
 use Rattle.co_object.specs.declared.RunOp.TheVariants.{Pick}
 use Rattle.co_object.specs.declared.OwnKind.{OwnKind}
-use Rattle.co_object.specs.declared.QOp.{QOp}
-use Rattle.co_object.specs.declared.QReply.{QReply}
-use Rattle.co_object.specs.declared.QReply.TheVariants.{Got}
 use Rattle.co_object.specs.Drain.{serviced}
 use Rattle.co_object.specs.Stand.{off}
 use Rattle.co_lock.specs.declared.held.Held.{Held}
 use Rattle.co_program.specs.declared.Script.{Script}
 use Rattle.co_program.specs.declared.Act.{Act}
 use Rattle.co_program.specs.declared.Act.TheVariants.{Drain}
-use Rattle.co_program.specs.Actors.{Task, Does, Soft, Role, Client, Cpu, Interrupt, actor_count, acts_at}
-use Rattle.co_program.specs.Stages.{Service, Stage, Ready, Waiting, Popping, Picking, Locking, Beginning, Unlocking, Firing, Releasing, Ending, Freeing, Drained}
+use Rattle.co_program.specs.Actors.{Task, Does, Role, actor_count, acts_at}
+use Rattle.co_program.specs.Stages.{Service, Stage, Ready, Waiting, Picking, Unlocking, Firing, Drained}
 use Rattle.co_program.specs.Cursor.{Parcel, Cursor}
-use Rattle.co_program.specs.Action.{Action, Silent, Take, Asks, Callout, Queue, Itself, drained_of, firing, draining, spec_at}
-use Rattle.co_program.specs.Advance.{tail_of, act_over, called, due_of_call, advance_callout, advance_queue, drain_acts}
+use Rattle.co_program.specs.Action.{Silent, Take, Asks, Callout, Itself, drained_of, firing, draining, spec_at}
+use Rattle.co_program.specs.Advance.{tail_of, act_over, called, due_of_call, advance_callout, drain_acts}
 use Rattle.co_core.specs.Blocked.{is_service_of}
 use Rattle.co_core.specs.Measure.{longest, steps_of, most_steps, whole_round, round_left, whole_act, tries, acts_left, one_for, actor_left}
-use Rattle.co_core.proofs.Lists.{cond_kept, at_choice}
-use Rattle.co_core.proofs.Actions.{IsAction, drops, passes, grabs, tells, asks, drains, scans, starts, waits, waits_told, pops, picks, enters, opens, unlocks, fires, fires_told, releases, ends, frees, serves, serves_told}
+use Rattle.co_core.proofs.Lists.{cond_kept}
+use Rattle.co_core.proofs.Actions.{IsAction, drops, passes, grabs, tells, asks, drains, waits, waits_told, picks, enters, opens, unlocks, fires, fires_told, releases, ends, serves, serves_told}
 use Rattle.co_core.proofs.Deeds.{Did, keeps, clears, arms, holds, goes, skips}
 use Rattle.co_core.proofs.Deeds as deed
 use Rattle.co_core.proofs.RolesKept.{place, plain_called}

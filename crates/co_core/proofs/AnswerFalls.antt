@@ -1,6 +1,6 @@
 -- The measure falls with every answer and with every step without a note.
-use Rattle.std.proofs.Common.{◌≡◌, ℕ, suc, ◌+◌, ◌≤◌, ◌<◌, ◌⊎◌, inl, inr, Bool, true, false, List, [], ◌∷◌, ◌++◌, length, refl, sym, ap, subst, ◌∙◌, arith, eq-eqb, Option, Some, None}
-use Rattle.std.specs.Prelude.{⊤, is_some, ◌==◌}
+use Rattle.std.proofs.Common.{◌≡◌, ℕ, ◌+◌, ◌≤◌, ◌<◌, true, false, length, refl, sym, ap, subst, ◌∙◌, arith, Option, Some, None}
+use Rattle.std.specs.Prelude.{is_some}
 use Rattle.co_object.specs.declared.Spec.{Spec}
 use Rattle.co_object.specs.declared.State.{State}
 use Rattle.co_object.specs.declared.Run.{Run}
@@ -25,17 +25,15 @@ use Rattle.co_object.specs.Journal as journal
 use Rattle.co_object.proofs.QueueChanges.{QChange}
 use Rattle.co_lock.specs.declared.held.Held.{Held}
 use Rattle.co_program.specs.declared.Script.{Script}
-use Rattle.co_program.specs.Actors.{Role, Client, Cpu, Interrupt, role_of, cpu_of, client_count, actor_count}
-use Rattle.co_program.specs.Stages.{Stage, Waiting}
+use Rattle.co_program.specs.Actors.{Role, role_of, cpu_of, actor_count}
+use Rattle.co_program.specs.Stages.{Stage}
 use Rattle.co_program.specs.Cursor.{Parcel, Cursor}
-use Rattle.co_program.specs.Action.{Action, Silent, Take, Asks, Asked, Callout, Queue, Itself, action_for, spec_at}
+use Rattle.co_program.specs.Action.{Silent, Take, Asks, Callout, Queue, Itself, action_for, spec_at}
 use Rattle.co_program.specs.Advance.{act_over, advance_callout, advance_queue}
-use Rattle.co_program.specs.Scripts.{IsScript}
 use Rattle.co_core.specs.World.{World, with_cursor}
 use Rattle.co_core.specs.Step.{enters, note_of, callout_answers, enters_journal, note_of_cpu, queue_answers, note_of_own, own_note, are_direct, answered}
 use Rattle.co_core.specs.Measure.{tries, actor_left, queue_left, one_for, measure}
 use Rattle.co_core.proofs.Invariant.{IsTaken, states_of, queues_of, places_of}
-use Rattle.co_core.proofs.Lists.{cond_kept}
 use Rattle.co_core.proofs.Moves.{IsAt, at_all, place_at, note_at, queue_at, state_at, states_landed}
 use Rattle.co_core.proofs.Actions.{IsAction, IsActionWith, inserts, goes_by, scans, starts, pops, frees}
 use Rattle.co_core.proofs.Deeds.{Did, keeps, clears, arms, holds, goes, skips, did, did_call}

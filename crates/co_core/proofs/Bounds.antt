@@ -1,5 +1,5 @@
 -- What is left to do at the opening fits a counter of 64 bits.
-use Rattle.std.proofs.Common.{◌≡◌, ℕ, zero, suc, ◌+◌, ◌*◌, ◌^◌, ◌≤◌, ◌<◌, max, Bool, true, false, cond, List, [], ◌∷◌, length, map, refl, arith, lit<}
+use Rattle.std.proofs.Common.{ℕ, suc, ◌+◌, ◌*◌, ◌^◌, ◌≤◌, ◌<◌, List, [], ◌∷◌, length, map, arith}
 use Rattle.std.specs.Prelude.{◌==◌}
 use Rattle.std.proofs.Math.Nat.{mul-le-mul, mul-le-mul_right}
 use Rattle.std.proofs.lemmas.List.{length-map}
@@ -8,12 +8,12 @@ use Rattle.co_program.specs.declared.Act.{Act}
 use Rattle.co_program.specs.Actors.{Task, Does, Role, Client, Cpu, Interrupt, softs, acts_at, program_of, role_of, client_count, actor_count}
 use Rattle.co_program.specs.Scripts.{IsScript}
 use Rattle.co_core.specs.World.{open_world}
-use Rattle.co_core.specs.Measure.{longest, most_steps, whole_round, whole_act, actor_left, measure}
+use Rattle.co_core.specs.Measure.{longest, whole_round, whole_act, actor_left, measure}
 use Rattle.co_core.specs.Laws.{OpeningFits}
 use Rattle.co_core.proofs.Lists.{cond_kept}
 use Rattle.co_core.proofs.Invariant.{states_of, places_of}
 use Rattle.co_core.proofs.Opening.{length_softs}
-use Rattle.co_core.proofs.Sums.{total, total_most}
+use Rattle.co_core.proofs.Sums.{total_most}
 use Rattle.co_core.proofs.AnswerFalls.{all_actors_left, all_queues_left, measured}
 
 longest_most : (most : ℕ) (lists : List (List Act)) → ((i : ℕ) → length (acts_at lists i) ≤ most) → longest lists ≤ most

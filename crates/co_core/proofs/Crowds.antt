@@ -1,5 +1,5 @@
 -- No more callouts have come due in a queue than the script has: each stands there once.
-use Rattle.std.proofs.Common.{◌≡◌, ℕ, suc, ◌+◌, ◌≤◌, ◌<◌, cond, Bool, List, [], ◌∷◌, length, refl, ap, arith, eq-eqb}
+use Rattle.std.proofs.Common.{◌≡◌, ℕ, ◌+◌, ◌≤◌, ◌<◌, cond, Bool, List, [], ◌∷◌, length, refl, ap, arith, eq-eqb}
 use Rattle.std.specs.Prelude.{◌==◌}
 use Rattle.co_object.specs.Queue.{Queue as TimerQueue, Due}
 use Rattle.co_object.proofs.Each.{Each}

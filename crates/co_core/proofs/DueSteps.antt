@@ -1,5 +1,5 @@
 -- What each answer that is due and each step without a note keeps of the world holds after every schedule.
-use Rattle.std.proofs.Common.{◌≡◌, ℕ, List, [], ◌∷◌, ◌++◌, false, refl, ap, ◌∙◌, Option, Some, None}
+use Rattle.std.proofs.Common.{◌≡◌, ℕ, List, [], ◌∷◌, false, refl, ap, ◌∙◌, Option, Some, None}
 use Rattle.std.specs.Prelude.{is_some}
 use Rattle.co_object.specs.declared.CallOp.{CallOp}
 use Rattle.co_object.specs.declared.Op.TheVariants.{Call, Run}
@@ -16,7 +16,7 @@ use Rattle.co_program.specs.Cursor.{Cursor}
 use Rattle.co_program.specs.Action.{Action, Nothing, Silent, Take, Asks, Asked, Callout, Queue, Itself, action_for}
 use Rattle.co_core.specs.World.{World, with_cursor}
 use Rattle.co_core.specs.Blocked.{blocked}
-use Rattle.co_core.specs.Step.{enters_journal, note_of_cpu, answered, removed_from, removed_first, asked_whole, makes_action, goes_on, is_in_section, stepped, step}
+use Rattle.co_core.specs.Step.{enters_journal, note_of_cpu, answered, removed_from, asked_whole, makes_action, goes_on, is_in_section, stepped, step}
 use Rattle.co_core.specs.Walk.{run}
 use Rattle.co_core.proofs.Invariant.{places_of, queues_of}
 use Rattle.co_core.proofs.Lists.{cond_kept}

@@ -1,11 +1,10 @@
 -- Every schedule leaves a world whose queues and actors name callouts of the script alone.
-use Rattle.std.proofs.Common.{◌≡◌, ℕ, zero, suc, ◌≤◌, ◌<◌, ◌⊎◌, inl, inr, Bool, true, false, List, [], ◌∷◌, ◌++◌, map, length, refl, sym, subst, ◌∙◌, arith, eq-eqb, eqb-true, Option, Some, None}
-use Rattle.std.specs.Prelude.{⊤, is_some, ◌==◌}
+use Rattle.std.proofs.Common.{◌≡◌, ℕ, zero, suc, true, false, List, [], ◌∷◌, map, length, refl, subst, Option, Some, None}
+use Rattle.std.specs.Prelude.{is_some, ◌==◌}
 use Rattle.std.specs.List.{AllByRecursion}
 use Rattle.co_object.specs.declared.State.{State}
 use Rattle.co_object.specs.declared.Reply.{Reply}
 use Rattle.co_object.specs.declared.Op.{Op}
-use Rattle.co_object.specs.declared.OwnKind.{OwnKind}
 use Rattle.co_object.specs.declared.QOp.{QOp}
 use Rattle.co_object.specs.declared.QOp.TheVariants.{Insert, Remove}
 use Rattle.co_object.specs.declared.QReply.{QReply}
@@ -21,8 +20,8 @@ use Rattle.co_lock.specs.declared.held.Held.{Held}
 use Rattle.co_program.specs.declared.Script.{Script}
 use Rattle.co_program.specs.declared.Act.{Act}
 use Rattle.co_program.specs.declared.Act.TheVariants.{Tick}
-use Rattle.co_program.specs.Actors.{Task, Does, Soft, Role, Client, Cpu, Interrupt, softs, role_of, acts_at, program_of}
-use Rattle.co_program.specs.Cursor.{Cursor, start_of}
+use Rattle.co_program.specs.Actors.{Does, Role, Client, Cpu, Interrupt, softs, role_of, acts_at, program_of}
+use Rattle.co_program.specs.Cursor.{Cursor}
 use Rattle.co_program.specs.Action.{Action, Silent, Take, Asks, Asked, Callout, Queue, Itself, action_for, spec_at}
 use Rattle.co_program.specs.Advance.{act_over, advance_callout, advance_queue}
 use Rattle.co_program.specs.Scripts.{IsScript, is_tick, names_exist}

@@ -1,12 +1,11 @@
 -- After every schedule, whatever stands in a queue, is on its way or is in service is a callout of the script.
-use Rattle.std.proofs.Common.{◌≡◌, ℕ, zero, suc, ◌+◌, ◌≤◌, ◌<◌, Bool, true, false, List, [], ◌∷◌, ◌++◌, map, refl, sym, subst, ◌∙◌, arith, ltb-true, Option, Some, None}
-use Rattle.std.specs.Prelude.{⊤, is_some, ◌&&◌, nat_lt, length}
+use Rattle.std.proofs.Common.{◌≡◌, ℕ, ◌+◌, ◌<◌, Bool, true, false, List, [], ◌∷◌, sym, subst, arith, ltb-true, Option, Some, None}
+use Rattle.std.specs.Prelude.{⊤, is_some, length}
 use Rattle.std.specs.List.{AllByRecursion}
-use Rattle.co_object.specs.declared.State.{State}
 use Rattle.co_object.specs.declared.Next.{Next}
 use Rattle.co_object.specs.declared.PlainOp.{PlainOp}
 use Rattle.co_object.specs.declared.Op.{Op}
-use Rattle.co_object.specs.declared.Op.TheVariants.{Call, Run}
+use Rattle.co_object.specs.declared.Op.TheVariants.{Call}
 use Rattle.co_object.specs.declared.CallOp.TheVariants.{Plain, DrainTry}
 use Rattle.co_object.specs.declared.OwnKind.TheVariants.{NotHeld, HoldsLock, Holding, NotHolding}
 use Rattle.co_object.specs.declared.Reply.{Reply}
@@ -29,10 +28,10 @@ use Rattle.co_program.specs.Calls.{callout_of, plain_op}
 use Rattle.co_program.specs.Actors.{Task, Does, Soft, Role, Client, Cpu, Interrupt, cpu_of, acts_at}
 use Rattle.co_program.specs.Stages.{Service, Stage, Ready, Waiting, Popping, Picking, Locking, Beginning, Unlocking, Firing, Releasing, Ending, Freeing, Drained}
 use Rattle.co_program.specs.Cursor.{Parcel, Cursor}
-use Rattle.co_program.specs.Action.{Action, Nothing, Silent, Take, Asks, Asked, Callout, Queue, Itself, spec_at, asks_covered, asks_within, over, takes, asks_drain, begins, drained_of, locks, firing, draining, pop_of, free_of, action_in, action_with}
+use Rattle.co_program.specs.Action.{Action, Nothing, Silent, Take, Asks, Callout, Queue, Itself, spec_at, asks_covered, asks_within, over, takes, asks_drain, begins, drained_of, locks, firing, draining, pop_of, free_of, action_in, action_with}
 use Rattle.co_program.specs.Advance.{tail_of, act_over, called, advance_callout, advance_queue, picked, begun, ended, got, popped, freed, drain_acts, parcel_of}
-use Rattle.co_program.specs.Scripts.{IsScript, is_tick, who_exists, cpu_exists, names_exist}
-use Rattle.co_core.proofs.Lists.{at_choice, cond_kept}
+use Rattle.co_program.specs.Scripts.{IsScript, who_exists, cpu_exists, names_exist}
+use Rattle.co_core.proofs.Lists.{cond_kept}
 use Rattle.co_core.proofs.ActorFalls.{called_kept}
 
 -- ---- what an actor's place names

@@ -1,14 +1,13 @@
 -- What an operation on a queue leaves to do, of the queue and of the actor that makes it.
-use Rattle.std.proofs.Common.{◌≡◌, ℕ, suc, ◌+◌, ◌*◌, ◌≤◌, Bool, true, false, cond, List, [], ◌∷◌, ◌++◌, length, refl, sym, ap, subst, ◌∙◌, arith, not, Option, Some, None}
-use Rattle.std.specs.Prelude.{⊤, ◌==◌}
+use Rattle.std.proofs.Common.{◌≡◌, ℕ, suc, ◌+◌, ◌*◌, ◌≤◌, Bool, true, false, cond, List, [], ◌∷◌, length, refl, sym, ap, subst, ◌∙◌, arith, not, Option}
+use Rattle.std.specs.Prelude.{◌==◌}
 use Rattle.std.specs.List.{filter}
 use Rattle.std.proofs.Math.Nat.{mul-suc, mul-le-mul_left, mul_comm}
 use Rattle.co_object.specs.declared.State.{State}
 use Rattle.co_object.specs.declared.QOp.{QOp}
-use Rattle.co_object.specs.declared.QOp.TheVariants.{Insert, Remove, Scan, Pop, Free, PopDirect, FreeDirect}
+use Rattle.co_object.specs.declared.QOp.TheVariants.{Scan, Pop, PopDirect}
 use Rattle.co_object.specs.declared.QReply.{QReply}
 use Rattle.co_object.specs.declared.QReply.TheVariants.{Got, Empty}
-use Rattle.co_object.specs.declared.Next.{Next}
 use Rattle.co_object.specs.Queue.{Queue as TimerQueue, Due}
 use Rattle.co_object.proofs.QueueChanges.{QChange}
 use Rattle.co_object.proofs.QueueChanges as change
@@ -16,11 +15,11 @@ use Rattle.co_lock.specs.declared.held.Held.{Held}
 use Rattle.co_program.specs.declared.Script.{Script}
 use Rattle.co_program.specs.declared.Act.TheVariants.{Tick}
 use Rattle.co_program.specs.Actors.{Task, Does, Soft, Role, Client, Cpu, Interrupt}
-use Rattle.co_program.specs.Stages.{Service, Stage, Ready, Waiting, Popping, Picking, Freeing}
+use Rattle.co_program.specs.Stages.{Service, Stage, Ready, Popping, Freeing}
 use Rattle.co_program.specs.Cursor.{Parcel, Cursor}
-use Rattle.co_program.specs.Action.{Action, Asks, Queue, pop_of, free_of}
-use Rattle.co_program.specs.Advance.{tail_of, advance_queue, popped, got, freed, drain_acts, parcel_of}
-use Rattle.co_core.specs.Measure.{whole_round, round_left, whole_act, acts_left, one_for, actor_left, queue_left}
+use Rattle.co_program.specs.Action.{Asks, Queue, pop_of, free_of}
+use Rattle.co_program.specs.Advance.{tail_of, advance_queue, got, drain_acts, parcel_of}
+use Rattle.co_core.specs.Measure.{whole_round, whole_act, acts_left, actor_left, queue_left}
 use Rattle.co_core.proofs.Actions.{IsAction, scans, starts, pops, frees}
 use Rattle.co_core.proofs.RolesKept.{place, pop_goes, free_goes}
 use Rattle.co_core.proofs.ActorFalls.{three_left, round_pick, one_tail, at_most_one, draining_left, longest_drain}

@@ -1,17 +1,13 @@
 -- Every step that is made falls: what is due is possible, and the rest of its section adds nothing.
-use Rattle.std.proofs.Common.{◌≡◌, ℕ, ◌+◌, ◌%◌, ◌≤◌, ◌<◌, ◌⊎◌, inl, inr, Bool, true, false, cond, List, [], ◌∷◌, length, refl, sym, ap, subst, ◌∙◌, arith, Option, Some, None}
-use Rattle.std.specs.Prelude.{⊤, is_some, ◌||◌}
+use Rattle.std.proofs.Common.{◌≡◌, ℕ, ◌≤◌, ◌<◌, Bool, true, false, cond, length, refl, sym, ap, subst, ◌∙◌, arith, Option, Some, None}
+use Rattle.std.specs.Prelude.{is_some}
 use Rattle.co_object.specs.declared.State.{State}
 use Rattle.co_object.specs.declared.Reply.{Reply}
-use Rattle.co_object.specs.declared.Op.{Op}
 use Rattle.co_object.specs.declared.Op.TheVariants.{Call, Run as Serve}
 use Rattle.co_object.specs.declared.CallOp.{CallOp}
 use Rattle.co_object.specs.declared.RunOp.{RunOp}
-use Rattle.co_object.specs.declared.RunOp.TheVariants.{Pick}
-use Rattle.co_object.specs.declared.OwnKind.{OwnKind}
-use Rattle.co_object.specs.declared.Next.{Next}
 use Rattle.co_object.specs.declared.QOp.{QOp}
-use Rattle.co_object.specs.declared.QOp.TheVariants.{Insert, Remove}
+use Rattle.co_object.specs.declared.QOp.TheVariants.{Remove}
 use Rattle.co_object.specs.declared.QReply.{QReply}
 use Rattle.co_object.specs.declared.QEntry.{QEntry}
 use Rattle.co_object.specs.Group.{off_of}
@@ -19,28 +15,24 @@ use Rattle.co_object.specs.Queue.{Queue as TimerQueue}
 use Rattle.co_object.specs.Callout.{call, step as callout_step}
 use Rattle.co_object.specs.Journal as journal
 use Rattle.co_object.proofs.QueueChanges.{QChange}
-use Rattle.co_lock.specs.declared.held.Held.{Held}
 use Rattle.co_program.specs.declared.Script.{Script}
-use Rattle.co_program.specs.Actors.{Task, Does, Soft, Role, Client, Cpu, Interrupt, role_of, cpu_of, actor_count}
-use Rattle.co_program.specs.Stages.{Service, Stage, Ready, Waiting, Popping, Picking, Locking, Beginning, Unlocking, Firing, Releasing, Ending, Freeing, Drained}
+use Rattle.co_program.specs.Actors.{Soft, Role, role_of, cpu_of, actor_count}
+use Rattle.co_program.specs.Stages.{Stage, Waiting, Popping}
 use Rattle.co_program.specs.Cursor.{Parcel, Cursor}
-use Rattle.co_program.specs.Action.{Action, Nothing, Silent, Take, Asks, Asked, Callout, Queue, Itself, action_for, action_with, action_in, spec_at, pop_of, free_of}
+use Rattle.co_program.specs.Action.{Action, Nothing, Silent, Take, Asks, Asked, Callout, Queue, Itself, action_for, spec_at}
 use Rattle.co_program.specs.Scripts.{IsScript}
 use Rattle.co_core.specs.declared.turn.Why.{Why}
 use Rattle.co_core.specs.declared.turn.Why.TheVariants.{Moving, Serviced}
-use Rattle.co_core.specs.World.{World, with_cursor}
+use Rattle.co_core.specs.World.{World}
 use Rattle.co_core.specs.Blocked.{blocked, waits_for, is_moving, is_waiting}
-use Rattle.co_core.specs.Step.{callout_answers, queue_answers, enters_journal, note_of_cpu, are_direct, answered, removed_from, asked_whole, is_within, is_in_section, lands_here, makes_action, goes_on, stepped, step}
+use Rattle.co_core.specs.Step.{callout_answers, queue_answers, enters_journal, note_of_cpu, are_direct, answered, removed_from, asked_whole, stepped, step}
 use Rattle.co_core.specs.Walk.{HasFinished}
 use Rattle.co_core.specs.Measure.{measure}
-use Rattle.co_core.proofs.Invariant.{RunFits, HoldFits, IsTaskOf, EntriesFit, IsBetween, states_of, queues_of, places_of, carries, in_hand, serving_of, has_popped}
-use Rattle.co_core.proofs.Lists.{at_choice}
+use Rattle.co_core.proofs.Invariant.{RunFits, HoldFits, IsTaskOf, IsBetween, states_of, queues_of, places_of, carries, in_hand, serving_of, has_popped}
 use Rattle.co_core.proofs.Moves.{note_at}
 use Rattle.co_core.proofs.Actions.{IsAction, IsActionWith, inserts, goes_by, scans, starts, pops, picks, opens, ends, frees}
-use Rattle.co_core.proofs.Actions as due
 use Rattle.co_core.proofs.HoldsKept.{view_of, callout_view}
 use Rattle.co_core.proofs.RolesKept.{IsServer, is_server, servers_task, first_task}
-use Rattle.co_core.proofs.Roles.{cpu_number, interrupt_version}
 use Rattle.co_core.proofs.Passages.{changed}
 use Rattle.co_core.proofs.QueuesKept.{lane_kept, entries_change}
 use Rattle.co_core.proofs.Possible.{insert_possible, pop_possible, begin_possible, end_possible}

@@ -1,20 +1,18 @@
 -- Walks: one result, and an end, since every step falls.
-use Rattle.std.proofs.Common.{◌≡◌, ℕ, zero, suc, ◌+◌, ◌≤◌, ◌<◌, ◌⊎◌, inl, inr, Bool, true, false, cond, List, [], ◌∷◌, ◌++◌, refl, sym, ap, subst, ◌∙◌, arith, Option, Some, None}
-use Rattle.std.specs.Prelude.{⊤, is_some}
+use Rattle.std.proofs.Common.{◌≡◌, ℕ, zero, suc, ◌+◌, ◌≤◌, ◌<◌, ◌⊎◌, inl, inr, cond, List, [], ◌∷◌, ◌++◌, refl, sym, ap, subst, ◌∙◌, arith, Option, Some, None}
+use Rattle.std.specs.Prelude.{is_some}
 use Rattle.std.specs.List.{AllByRecursion, range_with_len}
-use Rattle.co_object.specs.declared.Note.{Note}
 use Rattle.co_program.specs.declared.Script.{Script}
 use Rattle.co_program.specs.Actors.{actor_count}
 use Rattle.co_program.specs.Action.{Action, Nothing, Silent, Take, Asks, action_for}
 use Rattle.co_core.specs.World.{World, all_actors, open_world, lists_of}
 use Rattle.co_core.specs.Blocked.{blocked, waits_for}
 use Rattle.co_core.specs.Step.{step, stepped}
-use Rattle.co_core.specs.Walk.{run, round, rounds, HasFinished, AllFinished, IsWalk}
+use Rattle.co_core.specs.Walk.{run, round, rounds, HasFinished, AllFinished}
 use Rattle.co_program.specs.Scripts.{IsScript}
 use Rattle.co_core.specs.declared.turn.Why.{Why}
 use Rattle.co_core.specs.Measure.{measure}
 use Rattle.co_core.specs.Laws.{Falls, IsIdle, NeverStuck, IsSchedule, reached, EveryStepFalls, IdleStepsStay, RoundsFall, WalksAgree, WalksEnd}
-use Rattle.co_core.proofs.Lists.{at_choice}
 use Rattle.co_core.proofs.Moves.{decide}
 use Rattle.co_core.proofs.Answers.{above}
 use Rattle.co_core.proofs.Schedules.{never_stuck_all}
