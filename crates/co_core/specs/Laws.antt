@@ -102,21 +102,21 @@ EachFinishedActorFollows = (s : Script) → IsScript s → (schedule : List ℕ)
 abbrev pub NoScheduleIsStuck : Type 0
 NoScheduleIsStuck = (s : Script) → IsScript s → (schedule : List ℕ) → IsSchedule s schedule → NeverStuck s (reached s schedule)
 
--- every step falls but those of actors that have finished or are blocked
+-- what is left to do falls with every step but those of actors that have finished or are blocked
 abbrev pub EveryStepFalls : Type 0
 EveryStepFalls = (s : Script) → IsScript s → (schedule : List ℕ) → IsSchedule s schedule → Falls s (reached s schedule)
 
--- and those change nothing
+-- a step of an actor that has finished or is blocked changes nothing
 abbrev pub IdleStepsStay : Type 0
 IdleStepsStay = (s : Script) (w : World) (a : ℕ) → IsIdle s w a → step s w a ≡ w
 
--- so a round falls until all have finished
+-- what is left to do falls with every round until all have finished
 abbrev pub RoundsFall : Type 0
 RoundsFall =
     (s : Script) → IsScript s → (schedule : List ℕ) → IsSchedule s schedule →
     AllFinished s (reached s schedule) ⊎ (measure s (round s (reached s schedule)) < measure s (reached s schedule))
 
--- and it begins below 2 ^ 64
+-- what is left to do at the opening is below 2 ^ 64
 abbrev pub OpeningFits : Type 0
 OpeningFits = (s : Script) → IsScript s → measure s (open_world s) < 2 ^ 64
 
