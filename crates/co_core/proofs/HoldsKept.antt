@@ -69,7 +69,7 @@ callout_view s a c act i op is =
 -- ---- a step that changes no queue
 
 pub same_run : (r t : Run) → r ≡ t → GoesOn r t
-same_run r t is = subst (GoesOn r) is (record { idle = refl; free = λ cpu. refl; cpu = refl; taken = λ n cpu h. h; running = λ n cpu h. h; over = λ n cpu h. h })
+same_run r t is = subst (GoesOn r) is (record { idle = refl; number = refl; free = λ cpu. refl; cpu = refl; taken = λ n cpu h. h; running = λ n cpu h. h; over = λ n cpu h. h })
 
 module _ (s : Script) (w : World) (out : Option ℕ) (holds : Holds s w out) (w' : World) (out' : Option ℕ) (a : ℕ) (to : Cursor) (at : IsAt (places_of w) a to (places_of w'))
     (queues : (x : ℕ) → queues_of w' x ≡ queues_of w x) (scans : (x : ℕ) → scans_of w' x ≡ scans_of w x)

@@ -20,7 +20,7 @@ use Rattle.co_core.proofs.Invariant.{Holds, HoldFits, IsTaskOf, AreSoft, serving
 use Rattle.co_core.proofs.Owned.{owned_open}
 use Rattle.co_core.proofs.Sound.{IsSteady, run_steady}
 
-length_softs : (j n : ℕ) → length (softs j n) ≡ n
+pub length_softs : (j n : ℕ) → length (softs j n) ≡ n
 length_softs j zero = refl
 length_softs j (suc n) = ap suc (length_softs (suc j) n)
 

@@ -160,7 +160,7 @@ module _ (s : Script) (states : ℕ → State) (places : ℕ → Cursor) (servin
       served = λ j cpu is. served_at j cpu (decide j i) is;
     } where
       same_state : (j : ℕ) → (j ≡ i → ⊥) → GoesOn (states j).run (after j).run
-      same_state j other = subst (λ (x : State). GoesOn (states j).run x.run) (sym (here.else j other)) (record { idle = refl; free = λ cpu. refl; cpu = refl; taken = λ n cpu h. h; running = λ n cpu h. h; over = λ n cpu h. h })
+      same_state j other = subst (λ (x : State). GoesOn (states j).run x.run) (sym (here.else j other)) (record { idle = refl; number = refl; free = λ cpu. refl; cpu = refl; taken = λ n cpu h. h; running = λ n cpu h. h; over = λ n cpu h. h })
 
       At : ℕ → ℕ → ℕ → Type 0
       At j cpu b = (v : Service) × (service_of (places' b).stage ≡ Some v) × (v.i ≡ j) × (b < actor_count s)

@@ -89,7 +89,7 @@ module _ (s : Script) (role : Role) (left : List Task) (number now : ℕ) (held 
   ready_next c left' client = at_rest role left left' Ready Ready refl refl refl refl (λ states cpu. tt) (λ x is. no_interrupt role c x client is) (λ cpu. (refl, refl))
 
   pub turn_silent : (stage : Stage) (to : Cursor) → IsAction s role (at stage) stage (Silent to) → FitsRole s role left held stage → SameTurn role left stage to.left to.stage × (to.parcel ≡ parcel)
-  turn_silent stage to (drops is) fits = (at_rest role left [] Ready Ready refl refl refl refl (λ states cpu. tt) (λ x e. (sym (ap length is), refl)) (λ cpu. (refl, refl)), refl)
+  turn_silent stage to (drops is some) fits = (at_rest role left [] Ready Ready refl refl refl refl (λ states cpu. tt) (λ x e. (sym (ap length is), refl)) (λ cpu. (refl, refl)), refl)
   turn_silent stage to (passes task more time hold is own) fits = let client = client_of stage task more is own fits in (ready_next client.0 more client.1, refl)
   turn_silent stage to (unlocks v acts) fits = (same_running role left (Unlocking v acts) (firing v None acts) v refl refl (λ states cpu h. h) refl (λ cpu. refl) (firing_runs v None acts), refl)
   turn_silent stage to (releases v) fits = (record { service = refl; popped = refl; runs = λ states cpu h. h; ticks = λ x is. (refl, refl); hands = λ cpu. (refl, refl) }, refl)
