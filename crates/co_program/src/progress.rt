@@ -5,6 +5,7 @@ ghost use Rattle.co_program.specs.declared.role.Role.{Role};
 ghost use Rattle.co_program.specs.Actors.{acts_at};
 ghost use Rattle.co_program.specs.Action.{draining, firing, spec_at};
 ghost use Rattle.co_program.specs.Advance.{act_over, advance, advance_callout, advance_queue, begun, called, drain_acts, due_of_call, ended, freed, got, parcel_of, picked, popped, tail_of};
+ghost use Rattle.co_program.specs.Existing.{EntryExists, IsIn};
 ghost use Rattle.co_program.specs.Indexed.{Counts, acts_left, cursor_as, cursor_of, stage_of};
 ghost use Rattle.co_program.specs.Stages.{Unlocking};
 ghost use Rattle.co_program.specs.Scripts.{IsScript};
@@ -29,6 +30,7 @@ pub fn advance(
     requires room { cursor.now.act < 2 ^ 64 - 1 }
     ensures cursor { (actor : ℕ) → cursor_of script.now actor result ≡ advance script.now (cursor_of script.now actor cursor.now) listed place entry.now }
     ensures counted { Counts cursor.now result 1 }
+    ensures existing { (actor : ℕ) → IsIn script.now (cursor_of script.now actor cursor.now) → EntryExists script.now place entry.now → IsIn script.now (cursor_of script.now actor result) }
 {
     match (place, entry) {
         (Place::Timer(i), AnyEntry::Timer(e)) => {
