@@ -44,7 +44,7 @@ pub fn advance(
 // ---- after a call, or in its place a note of the actor's own
 
 /// The cursor after an entry of callout `i`.
-pub fn advance_callout(
+fn advance_callout(
     script: &Script,
     cursor: &Cursor,
     i: u32,
@@ -96,7 +96,7 @@ fn called(script: &Script, cursor: &Cursor, i: u32, listed: bool, op: &Op, reply
 }
 
 /// The cursor when the act is over: after a call, or in its place a note of the actor's own.
-pub fn act_over(script: &Script, cursor: &Cursor) -> Cursor
+fn act_over(script: &Script, cursor: &Cursor) -> Cursor
     requires script { IsScript script.now }
     requires room { cursor.now.act < 2 ^ 64 - 1 }
     ensures cursor { (role : Role) → cursor_as script.now role result ≡ (let c = cursor_as script.now role cursor.now in act_over c c.stage) }
@@ -199,7 +199,7 @@ fn ended(cursor: &Cursor, v: &Service, reply: &Reply) -> Cursor
 // ---- from a queue
 
 /// The cursor after an entry of a CPU's journal.
-pub fn advance_queue(script: &Script, cursor: &Cursor, cpu: u32, op: &QOp, reply: &QReply) -> Cursor
+fn advance_queue(script: &Script, cursor: &Cursor, cpu: u32, op: &QOp, reply: &QReply) -> Cursor
     requires script { IsScript script.now }
     requires room { cursor.now.act < 2 ^ 64 - 1 }
     ensures cursor { (role : Role) → cursor_as script.now role result ≡ advance_queue script.now (cursor_as script.now role cursor.now) cpu op.now reply.now }
