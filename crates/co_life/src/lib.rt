@@ -4,6 +4,8 @@
 mod life;
 mod rule;
 mod story;
+#[cfg(test)]
+mod tests;
 mod view;
 
 pub use life::{Closed, Keeper, Life, Pass};

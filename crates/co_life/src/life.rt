@@ -188,17 +188,17 @@ impl<S: Story> Life<S> {
         ensures extends { Extends S.actor pass.actor pass.seen entry result.0.seen }
         ensures actors { All (λ e. S.actor e < keeper.new.actors) keeper.new.history }
     {
-        let length = self.let_in(&mut keeper.seat, pass);
+        let found = self.let_in(&mut keeper.seat, pass);
         let shared = &self.table.shared;
         shared.compare_exchange_with::<Append>(
             &mut keeper.seat,
             0,
-            length,
-            length.saturating_add(1),
+            found,
+            found.saturating_add(1),
             &entry,
         );
         let seat = shared.split_seat::<Leave>(&mut keeper.seat);
-        (Pass { seat }, length)
+        (Pass { seat }, found)
     }
 
     /// Ends the history, which is then the keeper's for ever. It takes no memory.

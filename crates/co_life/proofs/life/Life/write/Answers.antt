@@ -11,7 +11,7 @@ use Rattle.co_life.proofs.life.Life.write.Goals as goal
 
 pub compare_exchange_with-requires : goal.compare_exchange_with-requires
 compare_exchange_with-requires g c =
-    let l = c.let_in-length.ensures in
+    let l = c.let_in-found.ensures in
     let k = l.learns in
     let e = c.args.entry in (
       l.seat.0 ∙ sym c.self.view_is,
@@ -22,7 +22,7 @@ compare_exchange_with-requires g c =
 
 pub split_seat-seat-requires : goal.split_seat-seat-requires
 split_seat-seat-requires g c =
-    let l = c.let_in-length.ensures in
+    let l = c.let_in-found.ensures in
     let x = c.compare_exchange_with.ensures in (
       x.0 ∙ (l.seat.0 ∙ sym c.self.view_is),
       omega (arith, c.self.invariant.0),
@@ -31,7 +31,7 @@ split_seat-seat-requires g c =
 
 pub returns-clause-extends : goal.returns-clause-extends
 returns-clause-extends g c =
-    let l = c.let_in-length.ensures in
+    let l = c.let_in-found.ensures in
     let k = l.learns in
     let x = c.compare_exchange_with.ensures in
     let e = c.args.entry in
@@ -40,7 +40,7 @@ returns-clause-extends g c =
 
 pub returns-clause-actors : goal.returns-clause-actors
 returns-clause-actors g c =
-    let l = c.let_in-length.ensures in
+    let l = c.let_in-found.ensures in
     let k = l.learns in
     let x = c.compare_exchange_with.ensures in
     let e = c.args.entry in
