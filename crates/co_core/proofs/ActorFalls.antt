@@ -18,10 +18,14 @@ use Rattle.co_lock.specs.declared.held.Held.{Held}
 use Rattle.co_program.specs.declared.Script.{Script}
 use Rattle.co_program.specs.declared.Act.{Act}
 use Rattle.co_program.specs.declared.Act.TheVariants.{Drain}
-use Rattle.co_program.specs.Actors.{Task, Does, Role, actor_count, acts_at}
-use Rattle.co_program.specs.Stages.{Service, Stage, Ready, Waiting, Picking, Unlocking, Firing, Drained}
-use Rattle.co_program.specs.Cursor.{Parcel, Cursor}
-use Rattle.co_program.specs.Action.{Silent, Take, Asks, Callout, Itself, drained_of, firing, draining, spec_at}
+use Rattle.co_program.specs.Actors.{Task, Does, actor_count, acts_at}
+use Rattle.co_program.specs.declared.Role.{Role}
+use Rattle.co_program.specs.Stages.{Stage, Ready, Waiting, Picking, Unlocking, Firing, Drained}
+use Rattle.co_program.specs.declared.Service.{Service}
+use Rattle.co_program.specs.Cursor.{Cursor}
+use Rattle.co_program.specs.declared.Parcel.{Parcel}
+use Rattle.co_program.specs.Action.{Silent, Take, Asks, drained_of, firing, draining, spec_at}
+use Rattle.co_program.specs.declared.Asked.TheVariants.{Callout, Itself}
 use Rattle.co_program.specs.Advance.{tail_of, act_over, called, due_of_call, advance_callout, drain_acts}
 use Rattle.co_core.specs.Blocked.{is_service_of}
 use Rattle.co_core.specs.Measure.{longest, steps_of, most_steps, whole_round, round_left, whole_act, tries, acts_left, one_for, actor_left}

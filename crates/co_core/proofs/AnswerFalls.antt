@@ -25,10 +25,13 @@ use Rattle.co_object.specs.Journal as journal
 use Rattle.co_object.proofs.QueueChanges.{QChange}
 use Rattle.co_lock.specs.declared.held.Held.{Held}
 use Rattle.co_program.specs.declared.Script.{Script}
-use Rattle.co_program.specs.Actors.{Role, role_of, cpu_of, actor_count}
+use Rattle.co_program.specs.Actors.{role_of, cpu_of, actor_count}
+use Rattle.co_program.specs.declared.Role.{Role}
 use Rattle.co_program.specs.Stages.{Stage}
-use Rattle.co_program.specs.Cursor.{Parcel, Cursor}
-use Rattle.co_program.specs.Action.{Silent, Take, Asks, Callout, Queue, Itself, action_for, spec_at}
+use Rattle.co_program.specs.Cursor.{Cursor}
+use Rattle.co_program.specs.declared.Parcel.{Parcel}
+use Rattle.co_program.specs.Action.{Silent, Take, Asks, action_for, spec_at}
+use Rattle.co_program.specs.declared.Asked.TheVariants.{Callout, Queue, Itself}
 use Rattle.co_program.specs.Advance.{act_over, advance_callout, advance_queue}
 use Rattle.co_core.specs.World.{World, with_cursor}
 use Rattle.co_core.specs.Step.{enters, note_of, callout_answers, enters_journal, note_of_cpu, queue_answers, note_of_own, own_note, are_direct, answered}

@@ -20,9 +20,13 @@ use Rattle.co_lock.specs.declared.held.Held.{Held}
 use Rattle.co_program.specs.declared.Script.{Script}
 use Rattle.co_program.specs.declared.Act.{Act}
 use Rattle.co_program.specs.declared.Act.TheVariants.{Tick}
-use Rattle.co_program.specs.Actors.{Does, Role, Client, Cpu, Interrupt, softs, role_of, acts_at, program_of}
+use Rattle.co_program.specs.Actors.{Does, softs, role_of, acts_at, program_of}
+use Rattle.co_program.specs.declared.Role.{Role}
+use Rattle.co_program.specs.declared.Role.TheVariants.{Client, Cpu, Interrupt}
 use Rattle.co_program.specs.Cursor.{Cursor}
-use Rattle.co_program.specs.Action.{Action, Silent, Take, Asks, Asked, Callout, Queue, Itself, action_for, spec_at}
+use Rattle.co_program.specs.Action.{Action, Silent, Take, Asks, action_for, spec_at}
+use Rattle.co_program.specs.declared.Asked.{Asked}
+use Rattle.co_program.specs.declared.Asked.TheVariants.{Callout, Queue, Itself}
 use Rattle.co_program.specs.Advance.{act_over, advance_callout, advance_queue}
 use Rattle.co_program.specs.Scripts.{IsScript, is_tick, names_exist}
 use Rattle.co_core.specs.World.{World, open_world, with_cursor}

@@ -25,10 +25,15 @@ use Rattle.co_program.specs.declared.Scene.{Scene}
 use Rattle.co_program.specs.declared.Who.{Who}
 use Rattle.co_program.specs.declared.Who.TheVariants.{Timer, Me}
 use Rattle.co_program.specs.Calls.{callout_of, plain_op}
-use Rattle.co_program.specs.Actors.{Task, Does, Soft, Role, Client, Cpu, Interrupt, cpu_of, acts_at}
-use Rattle.co_program.specs.Stages.{Service, Stage, Ready, Waiting, Popping, Picking, Locking, Beginning, Unlocking, Firing, Releasing, Ending, Freeing, Drained}
-use Rattle.co_program.specs.Cursor.{Parcel, Cursor}
-use Rattle.co_program.specs.Action.{Action, Nothing, Silent, Take, Asks, Callout, Queue, Itself, spec_at, asks_covered, asks_within, over, takes, asks_drain, begins, drained_of, locks, firing, draining, pop_of, free_of, action_in, action_with}
+use Rattle.co_program.specs.Actors.{Task, Does, Soft, cpu_of, acts_at}
+use Rattle.co_program.specs.declared.Role.{Role}
+use Rattle.co_program.specs.declared.Role.TheVariants.{Client, Cpu, Interrupt}
+use Rattle.co_program.specs.Stages.{Stage, Ready, Waiting, Popping, Picking, Locking, Beginning, Unlocking, Firing, Releasing, Ending, Freeing, Drained}
+use Rattle.co_program.specs.declared.Service.{Service}
+use Rattle.co_program.specs.Cursor.{Cursor}
+use Rattle.co_program.specs.declared.Parcel.{Parcel}
+use Rattle.co_program.specs.Action.{Action, Nothing, Silent, Take, Asks, spec_at, asks_covered, asks_within, over, takes, asks_drain, begins, drained_of, locks, firing, draining, pop_of, free_of, action_in, action_with}
+use Rattle.co_program.specs.declared.Asked.TheVariants.{Callout, Queue, Itself}
 use Rattle.co_program.specs.Advance.{tail_of, act_over, called, advance_callout, advance_queue, picked, begun, ended, got, popped, freed, drain_acts, parcel_of}
 use Rattle.co_program.specs.Scripts.{IsScript, who_exists, cpu_exists, names_exist}
 use Rattle.co_core.proofs.Lists.{cond_kept}

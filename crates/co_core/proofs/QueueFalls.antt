@@ -14,10 +14,15 @@ use Rattle.co_object.proofs.QueueChanges as change
 use Rattle.co_lock.specs.declared.held.Held.{Held}
 use Rattle.co_program.specs.declared.Script.{Script}
 use Rattle.co_program.specs.declared.Act.TheVariants.{Tick}
-use Rattle.co_program.specs.Actors.{Task, Does, Soft, Role, Client, Cpu, Interrupt}
-use Rattle.co_program.specs.Stages.{Service, Stage, Ready, Popping, Freeing}
-use Rattle.co_program.specs.Cursor.{Parcel, Cursor}
-use Rattle.co_program.specs.Action.{Asks, Queue, pop_of, free_of}
+use Rattle.co_program.specs.Actors.{Task, Does, Soft}
+use Rattle.co_program.specs.declared.Role.{Role}
+use Rattle.co_program.specs.declared.Role.TheVariants.{Client, Cpu, Interrupt}
+use Rattle.co_program.specs.Stages.{Stage, Ready, Popping, Freeing}
+use Rattle.co_program.specs.declared.Service.{Service}
+use Rattle.co_program.specs.Cursor.{Cursor}
+use Rattle.co_program.specs.declared.Parcel.{Parcel}
+use Rattle.co_program.specs.Action.{Asks, pop_of, free_of}
+use Rattle.co_program.specs.declared.Asked.TheVariants.{Queue}
 use Rattle.co_program.specs.Advance.{tail_of, advance_queue, got, drain_acts, parcel_of}
 use Rattle.co_core.specs.Measure.{whole_round, whole_act, acts_left, actor_left, queue_left}
 use Rattle.co_core.proofs.Actions.{IsAction, scans, starts, pops, frees}

@@ -13,10 +13,14 @@ use Rattle.co_object.specs.Queue.{Queue as TimerQueue}
 use Rattle.co_object.specs.Callout.{step as callout_step}
 use Rattle.co_object.specs.Journal as journal
 use Rattle.co_program.specs.declared.Script.{Script}
-use Rattle.co_program.specs.Actors.{Role, Client, Cpu, Interrupt, role_of, cpu_of, actor_count}
+use Rattle.co_program.specs.Actors.{role_of, cpu_of, actor_count}
+use Rattle.co_program.specs.declared.Role.{Role}
+use Rattle.co_program.specs.declared.Role.TheVariants.{Client, Cpu, Interrupt}
 use Rattle.co_program.specs.Stages.{Stage, Picking, Freeing}
-use Rattle.co_program.specs.Cursor.{Parcel, Cursor}
-use Rattle.co_program.specs.Action.{Action, Asks, Callout, Queue, action_for, action_with, action_in, spec_at, free_of}
+use Rattle.co_program.specs.Cursor.{Cursor}
+use Rattle.co_program.specs.declared.Parcel.{Parcel}
+use Rattle.co_program.specs.Action.{Action, Asks, action_for, action_with, action_in, spec_at, free_of}
+use Rattle.co_program.specs.declared.Asked.TheVariants.{Callout, Queue}
 use Rattle.co_program.specs.Scripts.{IsScript}
 use Rattle.co_core.specs.World.{World}
 use Rattle.co_core.specs.Step.{callout_answers, queue_answers, are_direct, answered, is_within, is_in_section, lands_here, makes_action, goes_on}

@@ -16,10 +16,14 @@ use Rattle.co_object.specs.Callout.{call, step as callout_step}
 use Rattle.co_object.specs.Journal as journal
 use Rattle.co_object.proofs.QueueChanges.{QChange}
 use Rattle.co_program.specs.declared.Script.{Script}
-use Rattle.co_program.specs.Actors.{Soft, Role, role_of, cpu_of, actor_count}
+use Rattle.co_program.specs.Actors.{Soft, role_of, cpu_of, actor_count}
+use Rattle.co_program.specs.declared.Role.{Role}
 use Rattle.co_program.specs.Stages.{Stage, Waiting, Popping}
-use Rattle.co_program.specs.Cursor.{Parcel, Cursor}
-use Rattle.co_program.specs.Action.{Action, Nothing, Silent, Take, Asks, Asked, Callout, Queue, Itself, action_for, spec_at}
+use Rattle.co_program.specs.Cursor.{Cursor}
+use Rattle.co_program.specs.declared.Parcel.{Parcel}
+use Rattle.co_program.specs.Action.{Action, Nothing, Silent, Take, Asks, action_for, spec_at}
+use Rattle.co_program.specs.declared.Asked.{Asked}
+use Rattle.co_program.specs.declared.Asked.TheVariants.{Callout, Queue, Itself}
 use Rattle.co_program.specs.Scripts.{IsScript}
 use Rattle.co_core.specs.declared.turn.Why.{Why}
 use Rattle.co_core.specs.declared.turn.Why.TheVariants.{Moving, Serviced}
