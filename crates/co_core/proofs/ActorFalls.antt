@@ -18,7 +18,9 @@ use Rattle.co_lock.specs.declared.held.Held.{Held}
 use Rattle.co_program.specs.declared.Script.{Script}
 use Rattle.co_program.specs.declared.Act.{Act}
 use Rattle.co_program.specs.declared.Act.TheVariants.{Drain}
-use Rattle.co_program.specs.Actors.{Task, Does, actor_count, acts_at}
+use Rattle.co_program.specs.Actors.{actor_count, acts_at}
+use Rattle.co_program.specs.declared.Task.{Task}
+use Rattle.co_program.specs.declared.Task.TheVariants.{Does}
 use Rattle.co_program.specs.declared.Role.{Role}
 use Rattle.co_program.specs.Stages.{Stage, Ready, Waiting, Picking, Unlocking, Firing, Drained}
 use Rattle.co_program.specs.declared.Service.{Service}

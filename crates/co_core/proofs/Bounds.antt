@@ -5,7 +5,9 @@ use Rattle.std.proofs.Math.Nat.{mul-le-mul, mul-le-mul_right}
 use Rattle.std.proofs.lemmas.List.{length-map}
 use Rattle.co_program.specs.declared.Script.{Script}
 use Rattle.co_program.specs.declared.Act.{Act}
-use Rattle.co_program.specs.Actors.{Task, Does, softs, acts_at, program_of, role_of, client_count, actor_count}
+use Rattle.co_program.specs.Actors.{softs, acts_at, program_of, role_of, client_count, actor_count}
+use Rattle.co_program.specs.declared.Task.{Task}
+use Rattle.co_program.specs.declared.Task.TheVariants.{Does}
 use Rattle.co_program.specs.declared.Role.{Role}
 use Rattle.co_program.specs.declared.Role.TheVariants.{Client, Cpu, Interrupt}
 use Rattle.co_program.specs.Scripts.{IsScript}

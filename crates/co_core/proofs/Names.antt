@@ -25,7 +25,9 @@ use Rattle.co_program.specs.declared.Scene.{Scene}
 use Rattle.co_program.specs.declared.Who.{Who}
 use Rattle.co_program.specs.declared.Who.TheVariants.{Timer, Me}
 use Rattle.co_program.specs.Calls.{callout_of, plain_op}
-use Rattle.co_program.specs.Actors.{Task, Does, Soft, cpu_of, acts_at}
+use Rattle.co_program.specs.Actors.{cpu_of, acts_at}
+use Rattle.co_program.specs.declared.Task.{Task}
+use Rattle.co_program.specs.declared.Task.TheVariants.{Does, Soft}
 use Rattle.co_program.specs.declared.Role.{Role}
 use Rattle.co_program.specs.declared.Role.TheVariants.{Client, Cpu, Interrupt}
 use Rattle.co_program.specs.Stages.{Stage, Ready, Waiting, Popping, Picking, Locking, Beginning, Unlocking, Firing, Releasing, Ending, Freeing, Drained}

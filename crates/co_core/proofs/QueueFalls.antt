@@ -14,7 +14,8 @@ use Rattle.co_object.proofs.QueueChanges as change
 use Rattle.co_lock.specs.declared.held.Held.{Held}
 use Rattle.co_program.specs.declared.Script.{Script}
 use Rattle.co_program.specs.declared.Act.TheVariants.{Tick}
-use Rattle.co_program.specs.Actors.{Task, Does, Soft}
+use Rattle.co_program.specs.declared.Task.{Task}
+use Rattle.co_program.specs.declared.Task.TheVariants.{Does, Soft}
 use Rattle.co_program.specs.declared.Role.{Role}
 use Rattle.co_program.specs.declared.Role.TheVariants.{Client, Cpu, Interrupt}
 use Rattle.co_program.specs.Stages.{Stage, Ready, Popping, Freeing}

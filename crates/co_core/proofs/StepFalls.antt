@@ -16,7 +16,8 @@ use Rattle.co_object.specs.Callout.{call, step as callout_step}
 use Rattle.co_object.specs.Journal as journal
 use Rattle.co_object.proofs.QueueChanges.{QChange}
 use Rattle.co_program.specs.declared.Script.{Script}
-use Rattle.co_program.specs.Actors.{Soft, role_of, cpu_of, actor_count}
+use Rattle.co_program.specs.Actors.{role_of, cpu_of, actor_count}
+use Rattle.co_program.specs.declared.Task.TheVariants.{Soft}
 use Rattle.co_program.specs.declared.Role.{Role}
 use Rattle.co_program.specs.Stages.{Stage, Waiting, Popping}
 use Rattle.co_program.specs.Cursor.{Cursor}

@@ -7,7 +7,8 @@ use Rattle.co_object.specs.Drain.{serviced}
 use Rattle.co_object.specs.Queue.{Queue}
 use Rattle.co_program.specs.declared.Act.{Act}
 use Rattle.co_program.specs.declared.Script.{Script}
-use Rattle.co_program.specs.Actors.{Task, actor_count}
+use Rattle.co_program.specs.Actors.{actor_count}
+use Rattle.co_program.specs.declared.Task.{Task}
 use Rattle.co_program.specs.Stages.{Stage, Ready, Waiting, Picking, Locking, Beginning, Unlocking, Firing, Releasing, Ending, Freeing, Drained}
 use Rattle.co_program.specs.Cursor.{Cursor}
 use Rattle.co_program.specs.Action.{drained_of}
