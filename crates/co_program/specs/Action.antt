@@ -22,13 +22,8 @@ use Rattle.co_program.specs.declared.act.Scene.{Scene}
 use Rattle.co_program.specs.Calls.{plain_op}
 use Rattle.co_program.specs.Stages.{Service, Stage, Ready, Waiting, Popping, Picking, Locking, Beginning, Unlocking, Firing, Releasing, Ending, Freeing, Drained}
 use Rattle.co_program.specs.Cursor.{Parcel, Cursor}
-
--- whom an actor asks, and what
-pub data Asked : Type 0 where
-  Callout : (i : ℕ) (op : Op) → Asked
-  Queue : (cpu : ℕ) (op : QOp) → Asked
-  -- a note of the actor's own, which asks nobody
-  Itself : (kind : OwnKind) → Asked
+pub use Rattle.co_program.specs.declared.action.Asked.{Asked}
+pub use Rattle.co_program.specs.declared.action.Asked.TheVariants.{Callout, Queue, Itself}
 
 pub data Action : Type 0 where
   -- the program has ended

@@ -6,3 +6,4 @@ pub mod Action
 pub mod Advance
 pub mod Follows
 pub mod Scripts
+pub mod Indexed
