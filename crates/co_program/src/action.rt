@@ -1,11 +1,11 @@
 //! What an actor does next.
-ghost use Rattle.std.specs.Prelude.{◌≡◌, ℕ, ◌<◌, ◌-◌, ◌+◌, ◌^◌, [], drop, if◌then◌else◌, is_some, slice_get};
+ghost use Rattle.std.specs.Prelude.{◌≡◌, ℕ, ◌<◌, ◌≤◌, ◌-◌, ◌+◌, ◌^◌, [], drop, if◌then◌else◌, is_some, slice_get};
 ghost use Rattle.co_lock.specs.Service.{hold_of};
 ghost use Rattle.co_program.specs.declared.script.Script.{Script};
 ghost use Rattle.co_program.specs.Actors.{Role, program_of};
 ghost use Rattle.co_program.specs.Action.{Silent, Asks, action_for, action_in, asks_call, asks_drain, asks_within, begins, draining, drained_of, firing, free_of, locks, over, pop_of, scans_first, scans_of, spec_at, takes};
 ghost use Rattle.co_program.specs.Advance.{tail_of};
-ghost use Rattle.co_program.specs.Indexed.{ActionCounts, action_as, action_of, acts_left, cursor_as, cursor_of, past, stage_of};
+ghost use Rattle.co_program.specs.Indexed.{ActionCounts, Counts, action_as, action_of, acts_left, cursor_as, cursor_of, past, stage_of};
 ghost use Rattle.co_program.specs.Scripts.{IsScript};
 
 use crate::act::{Act, Scene};
@@ -213,7 +213,8 @@ fn unlocks(cursor: &Cursor) -> Action
 /// The cursor after the act under way, with this hold.
 pub(crate) fn after(cursor: &Cursor, hold: Option<Held>) -> Cursor
     requires { cursor.now.act < 2 ^ 64 - 1 }
-    ensures { result ≡ record cursor.now { task = past cursor.now.task; act = cursor.now.act + 1; hold = hold; stage = Stage.Ready } }
+    ensures cursor { result ≡ record cursor.now { task = past cursor.now.task; act = cursor.now.act + 1; hold = hold; stage = Stage.Ready } }
+    ensures counted { Counts cursor.now result 1 }
 {
     Cursor {
         task: past(cursor.task),
@@ -226,7 +227,8 @@ pub(crate) fn after(cursor: &Cursor, hold: Option<Held>) -> Cursor
 
 /// One more act is over. No list of acts is as long as the largest number, so that past an end it stays there.
 pub(crate) fn past(over: u32) -> u32
-    ensures { result ≡ past over }
+    ensures value { result ≡ past over }
+    ensures no_less { over ≤ result }
 {
     over.saturating_add(1)
 }
