@@ -38,3 +38,7 @@ pub mod Possible
 pub mod ListsShow
 pub mod Replies
 pub mod WellFormed
+pub mod Tables
+pub mod Ways
+pub mod Moving
+pub mod Storing
