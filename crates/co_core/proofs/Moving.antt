@@ -4,7 +4,7 @@ use Rattle.std.specs.Prelude.{◌==◌, ◌||◌}
 use Rattle.std.specs.List.{list_any, range_with_len}
 use Rattle.co_program.specs.declared.script.Script.{Script}
 use Rattle.co_program.specs.Actors.{actor_count}
-use Rattle.co_program.specs.Cursor.{Parcel}
+use Rattle.co_program.specs.declared.cursor.Parcel.{Parcel}
 use Rattle.co_core.specs.World.{World}
 use Rattle.co_core.specs.Blocked.{is_moving, moves}
 use Rattle.co_core.proofs.Moves.{decide}

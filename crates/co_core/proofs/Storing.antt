@@ -8,7 +8,8 @@ use Rattle.co_object.specs.declared.Arming.{Arming}
 use Rattle.co_object.specs.Queue.{Queue as TimerQueue}
 use Rattle.co_program.specs.declared.script.Script.{Script}
 use Rattle.co_program.specs.Actors.{actor_count}
-use Rattle.co_program.specs.Cursor.{Parcel, Cursor}
+use Rattle.co_program.specs.declared.cursor.Parcel.{Parcel}
+use Rattle.co_program.specs.Cursor.{Cursor}
 use Rattle.co_program.specs.Action.{spec_at}
 use Rattle.co_wheel.specs.Cpu.{Cpu as WheelOf}
 use Rattle.co_wheel.specs.Parcel.{Parcel as Travelling}

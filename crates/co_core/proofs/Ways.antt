@@ -17,8 +17,11 @@ use Rattle.co_object.specs.Stand.{off}
 use Rattle.co_object.specs.Journal as journal
 use Rattle.co_program.specs.declared.script.Script.{Script}
 use Rattle.co_program.specs.Stages.{Stage}
-use Rattle.co_program.specs.Cursor.{Parcel, Cursor}
-use Rattle.co_program.specs.Action.{Action, Nothing, Silent, Take, Asks, Asked, Callout, Queue, Itself, action_for, action_with}
+use Rattle.co_program.specs.declared.cursor.Parcel.{Parcel}
+use Rattle.co_program.specs.Cursor.{Cursor}
+use Rattle.co_program.specs.declared.action.Asked.{Asked}
+use Rattle.co_program.specs.declared.action.Asked.TheVariants.{Callout, Queue, Itself}
+use Rattle.co_program.specs.Action.{Action, Nothing, Silent, Take, Asks, action_for, action_with}
 use Rattle.co_program.specs.Advance.{advance}
 use Rattle.co_core.specs.World.{World, Timer, with_cursor, updated}
 use Rattle.co_core.specs.Blocked.{blocked, waits_for}

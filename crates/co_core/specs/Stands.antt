@@ -7,9 +7,12 @@ use Rattle.co_object.specs.declared.state.Arming.{Arming}
 use Rattle.co_object.specs.Stand.{is_idle, is_free_at, off}
 use Rattle.co_object.specs.Queue.{Queue, Due}
 use Rattle.co_program.specs.declared.script.Script.{Script}
-use Rattle.co_program.specs.Actors.{Role, Client, Cpu, Interrupt, actor_count, role_of, cpu_of}
-use Rattle.co_program.specs.Stages.{Service, Stage, Ready, Waiting, Popping, Picking, Locking, Beginning, Unlocking, Firing, Releasing, Ending, Freeing, Drained}
-use Rattle.co_program.specs.Cursor.{Parcel}
+use Rattle.co_program.specs.declared.role.Role.{Role}
+use Rattle.co_program.specs.declared.role.Role.TheVariants.{Client, Cpu, Interrupt}
+use Rattle.co_program.specs.Actors.{actor_count, role_of, cpu_of}
+use Rattle.co_program.specs.declared.cursor.Service.{Service}
+use Rattle.co_program.specs.Stages.{Stage, Ready, Waiting, Popping, Picking, Locking, Beginning, Unlocking, Firing, Releasing, Ending, Freeing, Drained}
+use Rattle.co_program.specs.declared.cursor.Parcel.{Parcel}
 use Rattle.co_program.specs.Action.{spec_at}
 use Rattle.co_wheel.specs.Cpu.{Cpu as WheelOf}
 use Rattle.co_wheel.specs.Parcel.{Parcel as Travelling}
