@@ -42,3 +42,5 @@ pub mod Tables
 pub mod Ways
 pub mod Moving
 pub mod Storing
+pub mod Listing
+pub mod Noting
