@@ -44,3 +44,4 @@ pub mod Moving
 pub mod Storing
 pub mod Listing
 pub mod Noting
+pub mod Writing

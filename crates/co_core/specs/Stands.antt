@@ -6,6 +6,8 @@ use Rattle.co_object.specs.declared.alone.Alone.{Alone}
 use Rattle.co_object.specs.declared.state.Arming.{Arming}
 use Rattle.co_object.specs.Stand.{is_idle, is_free_at, off}
 use Rattle.co_object.specs.Queue.{Queue, Due}
+use Rattle.co_object.specs.Lists.{notes_of}
+use Rattle.co_object.specs.declared.note.Place.TheVariants.{Actor}
 use Rattle.co_program.specs.declared.script.Script.{Script}
 use Rattle.co_program.specs.declared.role.Role.{Role}
 use Rattle.co_program.specs.declared.role.Role.TheVariants.{Client, Cpu, Interrupt}
@@ -14,15 +16,39 @@ use Rattle.co_program.specs.declared.cursor.Service.{Service}
 use Rattle.co_program.specs.Stages.{Stage, Ready, Waiting, Popping, Picking, Locking, Beginning, Unlocking, Firing, Releasing, Ending, Freeing, Drained}
 use Rattle.co_program.specs.declared.cursor.Parcel.{Parcel}
 use Rattle.co_program.specs.Action.{spec_at}
+use Rattle.co_program.specs.Follows.{scan_count}
+use Rattle.co_program.specs.Indexed.{IsCounted, cursor_of}
 use Rattle.co_wheel.specs.Cpu.{Cpu as WheelOf}
 use Rattle.co_wheel.specs.Parcel.{Parcel as Travelling}
 use Rattle.co_wheel.specs.Turns.{Shows}
-use Rattle.co_core.specs.World.{World}
+use Rattle.co_core.specs.World.{World, lists_of}
 use Rattle.co_core.specs.Blocked.{is_moving}
 use Rattle.co_core.specs.Step.{are_direct}
 use Rattle.co_core.specs.Laws.{IsSchedule, reached}
 use Rattle.co_core.specs.Stored.{Stored, bag_at, wheel_at}
 use Rattle.co_core.specs.Table.{table}
+use Rattle.co_core.specs.Written.{Written, place_at}
+
+-- ---- what has been written
+
+-- the books have each actor's place and notes, and how long each history is
+pub record IsWritten (s : Script) (x : Written) (w : World) : Type 0 where
+  pub places_long : length x.places ≡ actor_count s
+  pub each_place : (a : ℕ) → a < actor_count s → cursor_of s a (place_at x a) ≡ (w.actors a).cursor
+  pub each_list : x.lists ≡ lists_of s w
+  pub each_history : x.histories ≡ table (length s.timers) (λ i. length (w.timers i).history)
+  pub each_journal : x.journals ≡ table s.cpus (λ cpu. length (w.cpus cpu).journal)
+  pub each_scan : x.scans ≡ table s.cpus (λ cpu. scan_count (w.cpus cpu).journal)
+  pub each_own : x.own ≡ table (actor_count s) (λ a. length (notes_of (Actor a) (w.actors a).notes))
+  -- each act that has begun is over in its program or has made a note, and each entry is a note
+  pub counted : (a : ℕ) → a < actor_count s → IsCounted (place_at x a) x.made
+  pub few_entries : (i : ℕ) → length (w.timers i).history ≤ x.made
+  pub few_turns : (cpu : ℕ) → length (w.cpus cpu).journal ≤ x.made
+  pub few_own : (a : ℕ) → length (notes_of (Actor a) (w.actors a).notes) ≤ x.made
+
+-- an actor may write: the books are those of some world
+abbrev pub MayWrite : Script → Written → ℕ → Type 0
+MayWrite s x a = (w : World) × IsWritten s x w × (a < actor_count s)
 
 -- ---- where each record is
 
@@ -133,3 +159,10 @@ pub record IsReached (s : Script) (w : World) : Type 0 where
   pub schedule : List ℕ
   pub may : IsSchedule s schedule
   pub world : w ≡ reached s schedule
+
+-- the books and the depot show a world that some schedule reaches
+pub record StandsFor (s : Script) (books : Written) (depot : Stored) (w : World) : Type 0 where
+  pub written : IsWritten s books w
+  pub stored : IsStored s depot w
+  pub placed : IsPlaced s w
+  pub reached : IsReached s w

@@ -3,9 +3,14 @@ ghost use Rattle.std.specs.Prelude.{◌≡◌, ℕ, ◌+◌, ◌<◌, ◌≤◌,
 ghost use Rattle.co_program.specs.declared.script.Script.{Script as ScriptOf};
 ghost use Rattle.co_program.specs.Scripts.{IsScript};
 ghost use Rattle.co_program.specs.Indexed.{IsCounted};
+ghost use Rattle.co_object.specs.declared.state.State.{State};
+ghost use Rattle.co_object.specs.Stand.{off};
+ghost use Rattle.co_core.specs.World.{World as PlainWorld};
+ghost use Rattle.co_core.specs.Stands.{IsWritten, MayWrite};
+ghost use Rattle.co_core.specs.Step.{callout_answers};
 ghost use Rattle.co_core.specs.Written.{IsNoted, list_at, place_at, with_list, with_place};
 
-use co_object::{AnyEntry, CallOp, Entry, Lists, Note, Op, PlainOp, QEntry, QOp, QReply, Reply, RunOp};
+use co_object::{AnyEntry, CallOp, Entry, Lists, Note, Op, Place, PlainOp, QEntry, QOp, QReply, Reply, RunOp};
 use co_program::{Cursor, Script, advance};
 use co_sbt::{NoMemory, Room, Seq};
 use std::alloc::Global;
@@ -117,6 +122,45 @@ impl Books {
         self.places[hand.actor as usize] = to;
         self.made += 1;
         hand.push(note);
+    }
+
+    /// An entry in a callout's history. `listed` is whether the callout stands in a queue after it.
+    pub(crate) fn write_callout(
+        &mut self,
+        script: &Script,
+        hand: &mut Hand,
+        act: u64,
+        i: u32,
+        op: Op,
+        reply: Reply,
+        listed: bool,
+    )
+        requires script { IsScript script.now }
+        requires written { MayWrite script.now (with_list self.old hand.old.actor hand.old.notes.items) hand.old.actor }
+        requires known { i < length script.now.timers }
+        requires few { self.old.made < 2 ^ 63 + 3 }
+        requires room { 0 < hand.old.notes.spare }
+        ensures written { (w : PlainWorld) (state : State) → IsWritten script.now (with_list self.old hand.old.actor hand.old.notes.items) w → listed ≡ is_some (off state) →
+            IsWritten script.now (with_list self.new hand.old.actor hand.new.notes.items) (callout_answers script.now w hand.old.actor act i op (Some (state, reply))) }
+        ensures actor { hand.new.actor ≡ hand.old.actor }
+        ensures spare { hand.old.notes.spare ≤ hand.new.notes.spare + 1 }
+        ensures count { length hand.new.notes.items ≡ length hand.old.notes.items + 1 }
+        ensures made { self.new.made ≡ self.old.made + 1 }
+    {
+        let pos = self.histories[i as usize];
+        self.histories[i as usize] = pos + 1;
+        let entry = Entry {
+            actor: hand.actor,
+            act,
+            op,
+            reply,
+        };
+        let note = Note {
+            place: Place::Timer(i),
+            pos,
+            entry: AnyEntry::Timer(entry),
+        };
+        self.write(script, hand, listed, &note);
     }
 }
 
