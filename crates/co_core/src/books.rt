@@ -5,12 +5,14 @@ ghost use Rattle.co_program.specs.Scripts.{IsScript};
 ghost use Rattle.co_program.specs.Indexed.{IsCounted};
 ghost use Rattle.co_object.specs.declared.state.State.{State};
 ghost use Rattle.co_object.specs.Stand.{off};
+ghost use Rattle.co_object.specs.Queue.{Queue as TimerQueue};
+ghost use Rattle.co_program.specs.Follows.{one_scan};
 ghost use Rattle.co_core.specs.World.{World as PlainWorld};
 ghost use Rattle.co_core.specs.Stands.{IsWritten, MayWrite};
-ghost use Rattle.co_core.specs.Step.{callout_answers};
+ghost use Rattle.co_core.specs.Step.{callout_answers, own_note, queue_answers};
 ghost use Rattle.co_core.specs.Written.{IsNoted, list_at, place_at, with_list, with_place};
 
-use co_object::{AnyEntry, CallOp, Entry, Lists, Note, Op, Place, PlainOp, QEntry, QOp, QReply, Reply, RunOp};
+use co_object::{AnyEntry, CallOp, Entry, Lists, Note, Op, OwnEntry, OwnKind, Place, PlainOp, QEntry, QOp, QReply, Reply, RunOp};
 use co_program::{Cursor, Script, advance};
 use co_sbt::{NoMemory, Room, Seq};
 use std::alloc::Global;
@@ -161,6 +163,79 @@ impl Books {
             entry: AnyEntry::Timer(entry),
         };
         self.write(script, hand, listed, &note);
+    }
+
+    /// An entry in a CPU's journal.
+    pub(crate) fn write_queue(
+        &mut self,
+        script: &Script,
+        hand: &mut Hand,
+        act: u64,
+        cpu: u32,
+        op: QOp,
+        reply: QReply,
+    )
+        requires script { IsScript script.now }
+        requires written { MayWrite script.now (with_list self.old hand.old.actor hand.old.notes.items) hand.old.actor }
+        requires known { cpu < script.now.cpus }
+        requires few { self.old.made < 2 ^ 63 + 3 }
+        requires room { 0 < hand.old.notes.spare }
+        ensures written { (w : PlainWorld) (queue : TimerQueue) → IsWritten script.now (with_list self.old hand.old.actor hand.old.notes.items) w →
+            IsWritten script.now (with_list self.new hand.old.actor hand.new.notes.items) (queue_answers script.now w hand.old.actor act cpu op (Some (queue, reply))) }
+        ensures actor { hand.new.actor ≡ hand.old.actor }
+        ensures spare { hand.old.notes.spare ≤ hand.new.notes.spare + 1 }
+        ensures count { length hand.new.notes.items ≡ length hand.old.notes.items + 1 }
+        ensures made { self.new.made ≡ self.old.made + 1 }
+    {
+        let pos = self.journals[cpu as usize];
+        self.journals[cpu as usize] = pos + 1;
+        let scans = self.scans[cpu as usize];
+        self.scans[cpu as usize] = scans + one_scan(&op);
+        let entry = QEntry {
+            actor: hand.actor,
+            act,
+            op,
+            reply,
+        };
+        let note = Note {
+            place: Place::Cpu(cpu),
+            pos,
+            entry: AnyEntry::Cpu(entry),
+        };
+        self.write(script, hand, false, &note);
+    }
+
+    /// An entry of the actor's own: an act that came to no callout.
+    pub(crate) fn write_own(&mut self, script: &Script, hand: &mut Hand, act: u64, kind: OwnKind)
+        requires script { IsScript script.now }
+        requires written { MayWrite script.now (with_list self.old hand.old.actor hand.old.notes.items) hand.old.actor }
+        requires few { self.old.made < 2 ^ 63 + 3 }
+        requires room { 0 < hand.old.notes.spare }
+        ensures written { (w : PlainWorld) → IsWritten script.now (with_list self.old hand.old.actor hand.old.notes.items) w →
+            IsWritten script.now (with_list self.new hand.old.actor hand.new.notes.items) (own_note script.now w hand.old.actor act kind) }
+        ensures actor { hand.new.actor ≡ hand.old.actor }
+        ensures count { length hand.new.notes.items ≡ length hand.old.notes.items + 1 }
+    {
+        let actor = hand.actor;
+        let pos = self.own[actor as usize];
+        self.own[actor as usize] = pos + 1;
+        let entry = OwnEntry { actor, act, kind };
+        let note = Note {
+            place: Place::Actor(actor),
+            pos,
+            entry: AnyEntry::Own(entry),
+        };
+        self.write(script, hand, false, &note);
+    }
+}
+
+fn one_scan(op: &QOp) -> u64
+    ensures scans { result ≡ one_scan op.now }
+    ensures few { result ≤ 1 }
+{
+    match op {
+        QOp::Scan { .. } => 1,
+        _ => 0,
     }
 }
 
