@@ -45,3 +45,4 @@ pub mod Storing
 pub mod Listing
 pub mod Noting
 pub mod Writing
+pub mod Placing
