@@ -49,3 +49,11 @@ pub mod Bounds
 pub mod ListsShow
 pub mod Replies
 pub mod WellFormed
+pub mod Tables
+pub mod Ways
+pub mod Moving
+pub mod Storing
+pub mod Listing
+pub mod Noting
+pub mod Writing
+pub mod Placing

@@ -1,6 +1,9 @@
 -- The scripts of two worked rows are such as the laws speak of.
 use Rattle.std.proofs.Common.{◌≡◌, ◌≤◌, ℕ, zero, suc, true, false, List, [], ◌∷◌, length, inl, inr, refl, arith, lit≤, lit<}
 use Rattle.std.specs.List.{AllByRecursion}
+use Rattle.std.specs.Prelude.{slice_index_or}
+use Rattle.co_object.specs.declared.Spec.{Spec}
+use Rattle.co_object.specs.declared.LockUse.TheVariants.{Free}
 use Rattle.co_program.specs.declared.Act.{Act}
 use Rattle.co_program.specs.Actors.{acts_at}
 use Rattle.co_program.specs.Scripts.{IsScript, is_tick, is_call, names_exist}
@@ -19,12 +22,21 @@ all_at P lists h = list_at (AllByRecursion P) lists tt h
 pub short_at : (most : ℕ) (lists : List (List Act)) → AllByRecursion (λ acts. length acts ≤ most) lists → (i : ℕ) → length (acts_at lists i) ≤ most
 short_at most lists h = list_at (λ acts. length acts ≤ most) lists (omega arith) h
 
+-- the same of the spec of any callout
+pub spec_of : (timers : List Spec) → AllByRecursion (λ (x : Spec). x.direct ≡ true → x.lock ≡ Free) timers → (i : ℕ) →
+    (slice_index_or timers i (record { lock = Free; returns_unlocked = false; direct = false })).direct ≡ true →
+    (slice_index_or timers i (record { lock = Free; returns_unlocked = false; direct = false })).lock ≡ Free
+spec_of [] h i = λ _. refl
+spec_of (x ∷ timers) h zero = h.0
+spec_of (x ∷ timers) h (suc i) = spec_of timers h.1 i
+
 pub one_firing_accepted : IsScript one_firing.script
 one_firing_accepted = record {
+  direct = spec_of one_firing.script.timers (λ _. refl, tt);
   version = inl refl;
   hz = (lit≤ tt, lit≤ tt);
   cpus = (lit≤ tt, lit≤ tt);
-  buckets = (lit≤ tt, lit≤ tt);
+  buckets = (lit≤ tt, lit≤ tt, (8, refl));
   timers = (lit≤ tt, lit≤ tt);
   few_clients = lit≤ tt;
   ticks = all_at (λ act. is_tick act ≡ true) one_firing.script.ticks ((refl, tt), tt);
@@ -40,10 +52,11 @@ one_firing_accepted = record {
 
 pub both_lanes_accepted : IsScript both_lanes.script
 both_lanes_accepted = record {
+  direct = spec_of both_lanes.script.timers (λ _. refl, (λ _. refl, tt));
   version = inr refl;
   hz = (lit≤ tt, lit≤ tt);
   cpus = (lit≤ tt, lit≤ tt);
-  buckets = (lit≤ tt, lit≤ tt);
+  buckets = (lit≤ tt, lit≤ tt, (8, refl));
   timers = (lit≤ tt, lit≤ tt);
   few_clients = lit≤ tt;
   ticks = all_at (λ act. is_tick act ≡ true) both_lanes.script.ticks ((refl, tt), tt);
