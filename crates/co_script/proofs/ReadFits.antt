@@ -367,7 +367,7 @@ lines-fine k d (l ∷ ls) e h read =
 
 -- ---- the end of the text
 
-timers-closed : (stage : Kind) (s : Script) (acts : List Act) → (with_section stage s acts).timers ≡ s.timers
+pub timers-closed : (stage : Kind) (s : Script) (acts : List Act) → (with_section stage s acts).timers ≡ s.timers
 timers-closed kind.Callout s acts = refl
 timers-closed kind.Hz s acts = refl
 timers-closed kind.Cpus s acts = refl
