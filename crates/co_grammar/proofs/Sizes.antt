@@ -1,7 +1,6 @@
 -- No line of an act or of the frame has more than 150 bytes.
-use Rattle.std.proofs.Common.{◌≡◌, ℕ, zero, suc, ◌+◌, ◌<◌, ◌≤◌, Bool, true, false, List, [], ◌∷◌, ◌++◌, length, arith, decimal}
+use Rattle.std.proofs.Common.{ℕ, zero, suc, ◌+◌, ◌≤◌, Bool, true, false, List, [], ◌∷◌, ◌++◌, length, arith, decimal}
 use Rattle.std.specs.Prelude.{codes}
-use Rattle.std.specs.Fmt.{signed_decimal}
 use Rattle.co_text.specs.Lines.{line_text}
 use Rattle.co_text.specs.Values.{Word}
 use Rattle.co_text.proofs.Sizes.{weight, line-weight, number-short, time-short, signed-short}

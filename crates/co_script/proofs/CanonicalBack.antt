@@ -1,7 +1,7 @@
 -- The canonical text of a script that fits is read as this script: its lines lead, part by part, to a draft that is the
 -- whole script, and there are few enough bytes.
-use Rattle.std.proofs.Common.{◌≡◌, ℕ, zero, suc, ◌+◌, ◌*◌, ◌<◌, ◌≤◌, Bool, true, ◌&&◌, List, [], ◌∷◌, ◌++◌, length, map, refl, ap, sym, ◌∙◌, arith, inl, inr, append-nil, length-append}
-use Rattle.std.specs.Prelude.{Some, None, Ok, ◌⊎◌, codes, nat_le, nat_lt, sum_by}
+use Rattle.std.proofs.Common.{◌≡◌, ℕ, zero, suc, ◌+◌, ◌*◌, ◌<◌, ◌≤◌, true, List, [], ◌∷◌, ◌++◌, length, map, refl, ap, sym, ◌∙◌, arith, inl, inr, append-nil, length-append}
+use Rattle.std.specs.Prelude.{Some, Ok, ◌⊎◌, codes, nat_le, sum_by}
 use Rattle.std.proofs.lemmas.Bool.{and_parts, lt-ltb, leb-true, le-leb}
 use Rattle.std.proofs.lemmas.List.Sums.{sum_by-cons}
 use Rattle.co_text.specs.Fallible.{◌>>=◌, ◌>>◌, unless, at_line}
@@ -21,12 +21,13 @@ use Rattle.co_grammar.proofs.Sizes.{numbered-short}
 use Rattle.co_script.specs.Drafts.{Draft, opening, closed, padded, padded_script, finished}
 use Rattle.co_script.specs.Reading.{lines_read, text_end, lines_script, script_of}
 use Rattle.co_script.specs.Canonical.{each_from, section_lines, runs, run_words, canonical_lines, canonical}
-use Rattle.co_script.specs.Fits.{fits, total_acts}
+use Rattle.co_script.specs.Fits.{fits}
 use Rattle.co_script.proofs.Pads.{padded-whole}
+use Rattle.co_script.proofs.DraftsFit.{acts_in}
 use Rattle.co_script.proofs.ReadFits.{timers-closed}
 use Rattle.co_script.proofs.LinesFold.{version-read}
 use Rattle.co_script.proofs.Leads.{Leads, and-then, at-most}
-use Rattle.co_script.proofs.PartsBack.{Fitting, fitting, After, headed, locked, timed, with_funcs, with_clients, with_ticks, head_behind, section_size, acts_in, letters, head-leads, locks-lead, timers-lead, funcs-lead, clients-lead, ticks-lead}
+use Rattle.co_script.proofs.PartsBack.{Fitting, fitting, After, headed, locked, timed, with_funcs, with_clients, with_ticks, head_behind, section_size, letters, head-leads, locks-lead, timers-lead, funcs-lead, clients-lead, ticks-lead}
 use Rattle.co_script.proofs.TurnsBack.{runs-few, runs-back, are-runs, steps_in, turns-lead}
 
 -- ---- how long the parts are
@@ -87,7 +88,7 @@ module _ (s : Script) (f : Fitting s) where
       let timers_most : ℕ = sum_by (λ (x : Spec). 150) s.timers + funcs_most in
       let locks_most : ℕ = sum_by (λ (k : LockKind). 150) s.locks + timers_most in
       at-most (opening s.version) (behind_first s) (600 + locks_most) most Whole
-          (omega (arith, runs-size, sections-size s.ticks, sections-size s.clients, sections-size s.funcs, each-150 s.timers, each-150 s.locks, f.total, f.small.locks, f.small.timers, f.small.funcs_fit, f.small.cpus, f.clients_few, f.ticks_all))
+      (omega (arith, runs-size, sections-size s.ticks, sections-size s.clients, sections-size s.funcs, each-150 s.timers, each-150 s.locks, f.total, f.small.locks, f.small.timers, f.small.funcs_fit, f.small.cpus, f.clients_few, f.ticks_all))
       (and-then (opening s.version) (head_behind s) (lock_lines s) 600 locks_most (After (headed s) funcs_of 0 4) Whole (head-leads s f)
       (λ d1 h1. and-then d1 (each_from lock_line 0 s.locks) (timer_lines s) (sum_by (λ (k : LockKind). 150) s.locks) timers_most (After (locked s s.locks) funcs_of 0 5) Whole (locks-lead s f d1 h1)
       (λ d2 h2. and-then d2 (each_from timer_line 0 s.timers) (func_lines s) (sum_by (λ (x : Spec). 150) s.timers) funcs_most (After (timed s s.timers) funcs_of 0 6) Whole (timers-lead s f d2 h2)
@@ -104,9 +105,9 @@ module _ (s : Script) (f : Fitting s) where
       let all : length (closed d).timers ≡ length s.timers = ap (λ (t : Script). length t.timers) w.script_is in
       let some : 0 < length d.script.timers = omega (arith, kept, all, f.timers_some) in
       let full : finished d ≡ s =
-          ap (λ t. padded_script d.funcs t) w.script_is
-          ∙ (ap (λ l. record s { funcs = l; ticks = padded s.cpus s.ticks }) (padded-whole d.funcs s.funcs (omega (arith, w.funcs_are)))
-          ∙ ap (λ l. record s { ticks = l }) (padded-whole s.cpus s.ticks (omega (arith, f.ticks_all)))) in
+      ap (λ t. padded_script d.funcs t) w.script_is
+      ∙ (ap (λ l. record s { funcs = l; ticks = padded s.cpus s.ticks }) (padded-whole d.funcs s.funcs (omega (arith, w.funcs_are)))
+      ∙ ap (λ l. record s { ticks = l }) (padded-whole s.cpus s.ticks (omega (arith, f.ticks_all)))) in
       ap (λ b. unless b cause.Timer >> Ok (finished d)) (lt-ltb 0 (length d.script.timers) some) ∙ ap (λ t. Ok t) full
 
   -- ---- the whole text
@@ -126,8 +127,8 @@ module _ (s : Script) (f : Fitting s) where
       let words : AreWords (numbered (codes "callout") s.version) = (letters (codes "callout") (omega arith) refl, (decimal-word s.version short, tt)) in
       let rest = behind-leads.read 2 [] in
       ap (λ r. r >>= λ d. at_line 0 (text_end d))
-          (version-read s.version (map whole_line (behind_first s)) (known s.version low high) words
-          ∙ (ap (λ ls. lines_read 2 (Some (opening s.version)) ls) (sym (append-nil (map whole_line (behind_first s)))) ∙ rest.1))
+      (version-read s.version (map whole_line (behind_first s)) (known s.version low high) words
+      ∙ (ap (λ ls. lines_read 2 (Some (opening s.version)) ls) (sym (append-nil (map whole_line (behind_first s)))) ∙ rest.1))
       ∙ ap (λ r. at_line 0 r) (ends behind-leads.draft behind-leads.holds)
 
   text-read : script_of (text (numbered (codes "callout") s.version ∷ behind_first s)) ≡ Ok s

@@ -2,7 +2,7 @@
 -- of their words is one, and their text is at most so long. Such lines are put together, one line, one list and one
 -- numbered list at a time.
 use Rattle.std.proofs.Common.{◌≡◌, ℕ, ◌+◌, ◌≤◌, List, [], ◌∷◌, ◌++◌, length, map, refl, ap, sym, subst, ◌∙◌, arith, append_assoc, append-nil, length-append}
-use Rattle.std.specs.Prelude.{Option, Some, Ok, sum_by}
+use Rattle.std.specs.Prelude.{Some, Ok, sum_by}
 use Rattle.std.proofs.lemmas.List.Sums.{sum_by-cons}
 use Rattle.co_text.specs.Lines.{Line, line_text, text}
 use Rattle.co_text.specs.Values.{Word}
@@ -47,12 +47,13 @@ and-then d xs ys m n P Q l next =
       words = both-lines xs ys l.words r.words;
       short = omega (arith, ap length (text_append xs ys), length-append (text xs) (text ys), l.short, r.short);
       read = λ k more.
-        let first = l.read k (map whole_line ys ++ more) in
-        let second = r.read first.0 more in
-        (second.0,
+          let first = l.read k (map whole_line ys ++ more) in
+          let second = r.read first.0 more in (
+            second.0,
             ap (λ ls. lines_read k (Some d) (ls ++ more)) (map-append xs ys)
-            ∙ (ap (λ ls. lines_read k (Some d) ls) (append_assoc (map whole_line xs) (map whole_line ys) more)
-            ∙ (first.1 ∙ second.1)));
+                ∙ (ap (λ ls. lines_read k (Some d) ls) (append_assoc (map whole_line xs) (map whole_line ys) more)
+                ∙ (first.1 ∙ second.1)),
+          );
     }
 
 -- a larger bound, and less that holds
@@ -72,8 +73,8 @@ module _ {X : Type 0} (lines : ℕ → X → List (List Word)) (most : X → ℕ
       let sum : most x + sum_by most rest ≤ sum_by most (x ∷ rest) = omega (arith, sum_by-cons most x rest) in
       at-most d (lines (length done) x ++ each_from lines (length done + 1) rest) (most x + sum_by most rest) (sum_by most (x ∷ rest)) (At whole) sum
       (and-then d (lines (length done) x) (each_from lines (length done + 1) rest) (most x) (sum_by most rest) (At (done ++ x ∷ [])) (At whole)
-          (step done x rest d is at)
-          (λ e at'. subst (λ n. Leads e (each_from lines n rest) (sum_by most rest) (At whole)) count (each-leads (done ++ x ∷ []) rest e (append_assoc done (x ∷ []) rest ∙ is) at')))
+      (step done x rest d is at)
+      (λ e at'. subst (λ n. Leads e (each_from lines n rest) (sum_by most rest) (At whole)) count (each-leads (done ++ x ∷ []) rest e (append_assoc done (x ∷ []) rest ∙ is) at')))
 
   pub all-lead : (d : Draft) → At [] d → Leads d (each_from lines 0 whole) (sum_by most whole) (At whole)
   all-lead d at = each-leads [] whole d refl at

@@ -1,11 +1,10 @@
 -- A section that fits is read again: its line, and then each of its acts behind those before it.
 use Rattle.std.proofs.Common.{◌≡◌, ℕ, suc, ◌+◌, ◌*◌, ◌^◌, ◌<◌, ◌≤◌, Bool, true, false, not, ◌&&◌, ◌||◌, List, [], ◌∷◌, ◌++◌, length, map, refl, ap, sym, subst, ◌∙◌, arith, ℤ, pos, negsuc, decimal, append_assoc, append-nil, length-append}
-use Rattle.std.specs.Prelude.{Option, Some, Ok, nat_lt, nat_le}
+use Rattle.std.specs.Prelude.{Some, Ok, nat_lt, nat_le}
 use Rattle.std.specs.List.{list_all}
 use Rattle.std.proofs.lemmas.Bool.{and_parts, and_from, ltb-true, lt-ltb, leb-true}
-use Rattle.co_text.specs.Lines.{line_text}
 use Rattle.co_text.specs.Values.{Word}
-use Rattle.co_text.proofs.LinesBack.{IsWord, whole_line}
+use Rattle.co_text.proofs.LinesBack.{IsWord}
 use Rattle.co_text.proofs.ValuesBack.{IsI32, decimal-word}
 use Rattle.co_program.specs.declared.Script.{Script}
 use Rattle.co_program.specs.declared.Act.{Act}
@@ -27,7 +26,7 @@ use Rattle.co_grammar.specs.Spelling.{numbered, act_words}
 use Rattle.co_grammar.proofs.ActsBack.{IsShort, WhoStands, MomentStands, WhereStands, ActStands, act-words}
 use Rattle.co_grammar.proofs.Sizes.{act-short, numbered-short}
 use Rattle.co_script.specs.Drafts.{Draft, closed, with_section, time_after}
-use Rattle.co_script.specs.Refusals.{draft_with, most_acts, has_room_for_act}
+use Rattle.co_script.specs.Refusals.{draft_with, most_acts}
 use Rattle.co_script.specs.Reading.{opener_of, may_stand}
 use Rattle.co_script.specs.Canonical.{section_lines}
 use Rattle.co_script.specs.Fits.{is_of_version, names_me, act_names_me, is_time, is_moment, has_times, rises_after, act_stands, section_fits}
@@ -146,7 +145,7 @@ module _ (s : Script) (small : IsSmall s (length s.funcs)) where
       let long : length (d.acts ++ a ∷ []) ≡ length d.acts + 1 = simp length-append in
       let more : (d.count + 1) + length acts ≡ d.count + suc (length acts) = omega arith in
       let rest = acts-lead (with_act d a) acts P (record { section = o.section; version = o.version; funcs = o.funcs; named = o.named }) (omega (arith, few, long)) (omega (arith, room)) st.1 ri.1
-          (λ clock. subst (λ n. P (record d { acts = (d.acts ++ a ∷ []) ++ acts; clock = clock; count = n })) (sym more) (subst (λ l. P (record d { acts = l; clock = clock; count = d.count + suc (length acts) })) (sym (append_assoc d.acts (a ∷ []) acts)) (then' clock))) in
+      (λ clock. subst (λ n. P (record d { acts = (d.acts ++ a ∷ []) ++ acts; clock = clock; count = n })) (sym more) (subst (λ l. P (record d { acts = l; clock = clock; count = d.count + suc (length acts) })) (sym (append_assoc d.acts (a ∷ []) acts)) (then' clock))) in
       at-most d (act_words a ∷ map act_words acts) (150 + 150 * length acts) (150 * suc (length acts)) P (omega arith)
       (one-more d (with_act d a) (act_words a) (map act_words acts) 150 (150 * length acts) P (act-words (is_func d.stage) a may.stands) (act-short (is_func d.stage) a may.stands) (act-read d a may) rest)
 
@@ -185,6 +184,6 @@ module _ (s : Script) (small : IsSmall s (length s.funcs)) where
       let few : length acts ≤ most_acts (is_func k) = leb-true (length acts) (most_acts (is_func k)) f.0 in
       at-most d (section_lines w n acts) (150 + 150 * length acts) (150 * (1 + length acts)) (IsBehind d k opened acts) (omega arith)
       (one-more d e (numbered w n) (map act_words acts) 150 (150 * length acts) (IsBehind d k opened acts) (o.word, (decimal-word n o.short, tt)) (numbered-short w n o.few o.short)
-          (frame-read d before k w (decimal n ∷ []) state o.before_is (o.word, (decimal-word n o.short, tt)) o.opens o.stands o.form o.passes ∙ ap (λ x. Ok (Some x)) o.adds)
-          (acts-lead e acts (IsBehind d k opened acts) (record { section = o.section; version = o.version; funcs = o.funcs; named = o.named }) (omega (arith, few)) room g.0 g.1
-              (λ clock. record { script = refl; funcs = refl; count = refl; stage = refl })))
+      (frame-read d before k w (decimal n ∷ []) state o.before_is (o.word, (decimal-word n o.short, tt)) o.opens o.stands o.form o.passes ∙ ap (λ x. Ok (Some x)) o.adds)
+      (acts-lead e acts (IsBehind d k opened acts) (record { section = o.section; version = o.version; funcs = o.funcs; named = o.named }) (omega (arith, few)) room g.0 g.1
+      (λ clock. record { script = refl; funcs = refl; count = refl; stage = refl })))

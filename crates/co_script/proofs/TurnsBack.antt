@@ -1,9 +1,9 @@
 -- The turns of a canonical text, each run read again: the runs are the turns, each names its actor, and its line adds
 -- its steps.
-use Rattle.std.proofs.Common.{◌≡◌, ℕ, zero, suc, ◌+◌, ◌-◌, ◌*◌, ◌^◌, ◌<◌, ◌≤◌, Bool, true, false, cond, not, ◌&&◌, ◌||◌, List, [], ◌∷◌, ◌++◌, length, map, refl, ap, sym, subst, ◌∙◌, arith, decimal, append_assoc, append-nil, length-append}
+use Rattle.std.proofs.Common.{◌≡◌, ℕ, suc, ◌+◌, ◌-◌, ◌*◌, ◌<◌, ◌≤◌, Bool, true, false, cond, ◌&&◌, List, [], ◌∷◌, ◌++◌, length, map, refl, ap, sym, subst, ◌∙◌, arith, decimal, append_assoc, append-nil, length-append}
 use Rattle.std.specs.Prelude.{Option, Some, None, Ok, ◌==◌, if◌then◌else◌, codes, nat_lt, nat_le, replicate, flat_map, sum_by, is_some}
 use Rattle.std.specs.List.{list_all, AllByRecursion}
-use Rattle.std.proofs.lemmas.Bool.{and_parts, and_from, lt-ltb, leb-true, le-leb, ltb-true, ltb-false, eqb-true}
+use Rattle.std.proofs.lemmas.Bool.{and_parts, and_from, lt-ltb, le-leb, ltb-true, ltb-false, eqb-true}
 use Rattle.std.proofs.lemmas.Fmt.{length-decimal-le}
 use Rattle.std.proofs.lemmas.List.{length-replicate}
 use Rattle.std.proofs.lemmas.List.Folds.{list_all-append}
@@ -11,21 +11,20 @@ use Rattle.co_text.specs.Lines.{line_text}
 use Rattle.co_text.specs.Values.{Word}
 use Rattle.co_text.proofs.LinesBack.{IsWord, AreWords, is_ink}
 use Rattle.co_text.proofs.ValuesBack.{decimal-word}
-use Rattle.co_text.proofs.Sizes.{weight, line-weight}
+use Rattle.co_text.proofs.Sizes.{line-weight}
 use Rattle.co_program.specs.declared.Script.{Script}
 use Rattle.co_program.specs.declared.Role.{Role}
 use Rattle.co_program.specs.declared.Role.TheVariants.{Client, Cpu, Interrupt}
 use Rattle.co_program.specs.Actors.{role_of, actor_count}
-use Rattle.co_grammar.specs.declared.Kind.{Kind}
 use Rattle.co_grammar.specs.declared.Kind.TheVariants as kind
 use Rattle.co_grammar.specs.Statements as states
-use Rattle.co_grammar.specs.Turns.{Turn, turn, role, is_star}
+use Rattle.co_grammar.specs.Turns.{Turn, turn}
 use Rattle.co_grammar.specs.Checks.{is_within}
-use Rattle.co_grammar.specs.Spelling.{role_word, actor_word}
+use Rattle.co_grammar.specs.Spelling.{role_word}
 use Rattle.co_grammar.proofs.ActsBack.{IsShort}
 use Rattle.co_grammar.proofs.FrameBack.{turn-back, client-back, cpu-back, interrupt-back, turns-line}
 use Rattle.co_script.specs.Drafts.{Draft}
-use Rattle.co_script.specs.Refusals.{actor_number, below, turn_fits, times_of, number_or_0, steps_of, draft_with}
+use Rattle.co_script.specs.Refusals.{actor_number, below, times_of, number_or_0, steps_of, draft_with}
 use Rattle.co_script.specs.Canonical.{Run, runs, run_before, begins_with, run_words}
 use Rattle.co_script.proofs.LinesFold.{frame-read, opens-anywhere, no-verb}
 use Rattle.co_script.proofs.Leads.{Leads, no-lines, one-more, at-most}
@@ -177,25 +176,25 @@ module _ (s : Script) (f : Fitting s) where
       let room_behind : length (done ++ steps) + length (steps_in rs) ≤ 1000000 = omega (arith, length-append done steps, length-replicate r.length r.actor, room, long) in
       at-most d (run_words s r ∷ map (run_words s) rs) (20 + 20 * length rs) (20 * suc (length rs)) P (omega arith)
       (one-more d e (run_words s r) (map (run_words s) rs) 20 (20 * length rs) P words (run-short (role_word x) r.length named.short few)
-          (frame-read d t kind.Turns (codes "turns") ((role_word x ++ 42 ∷ decimal r.length) ∷ []) (states.Turns (say ∷ [])) at.script_is words
-              (opens-anywhere d kind.Turns (codes "turns") (no-verb d.script.version (codes "turns") refl refl refl) refl)
-              (may-stand d.stage kind.Turns at.stage refl)
-              (turns-line d.script.version (role_word x ++ 42 ∷ decimal r.length) say (subst (λ v. turn v (role_word x ++ 42 ∷ decimal r.length) ≡ Ok say) version (named.read r.length short)))
-              (record {
-                numbers = and_from (is_some (actor_number t x) && is_within 1 1000000 r.length) true
-                    (and_from (is_some (actor_number t x)) (is_within 1 1000000 r.length) (ap (λ (o : Option ℕ). is_some o) (named.number done)) (and_from (nat_le 1 r.length) (nat_le r.length 1000000) (le-leb 1 r.length all.0.some) (le-leb r.length 1000000 few)))
-                    refl;
-                kinds = refl;
-                times = refl;
-                room = le-leb (length done + sum_by times_of (say ∷ [])) 1000000 (omega (arith, room, long));
-              }))
-          (subst (λ l. Leads e (map (run_words s) rs) (20 * length rs) (After (with_turns s l) (length s.funcs) count 10)) (append_assoc done steps (steps_in rs))
-              (runs-lead rs (done ++ steps) count e all.1 room_behind here)))
+      (frame-read d t kind.Turns (codes "turns") ((role_word x ++ 42 ∷ decimal r.length) ∷ []) (states.Turns (say ∷ [])) at.script_is words
+      (opens-anywhere d kind.Turns (codes "turns") (no-verb d.script.version (codes "turns") refl refl refl) refl)
+      (may-stand d.stage kind.Turns at.stage refl)
+      (turns-line d.script.version (role_word x ++ 42 ∷ decimal r.length) say (subst (λ v. turn v (role_word x ++ 42 ∷ decimal r.length) ≡ Ok say) version (named.read r.length short)))
+      (record {
+        numbers = and_from (is_some (actor_number t x) && is_within 1 1000000 r.length) true
+            (and_from (is_some (actor_number t x)) (is_within 1 1000000 r.length) (ap (λ (o : Option ℕ). is_some o) (named.number done)) (and_from (nat_le 1 r.length) (nat_le r.length 1000000) (le-leb 1 r.length all.0.some) (le-leb r.length 1000000 few)))
+            refl;
+        kinds = refl;
+        times = refl;
+        room = le-leb (length done + sum_by times_of (say ∷ [])) 1000000 (omega (arith, room, long));
+      }))
+      (subst (λ l. Leads e (map (run_words s) rs) (20 * length rs) (After (with_turns s l) (length s.funcs) count 10)) (append_assoc done steps (steps_in rs))
+      (runs-lead rs (done ++ steps) count e all.1 room_behind here)))
 
   pub turns-lead : (count : ℕ) (d : Draft) → After (with_turns s []) (length s.funcs) count 9 d → Leads d (map (run_words s) (runs s.turns)) (20 * length (runs s.turns)) (After s (length s.funcs) count 10)
   turns-lead count d at =
       let back : steps_in (runs s.turns) ≡ s.turns = runs-back s.turns in
       subst (λ l. Leads d (map (run_words s) (runs s.turns)) (20 * length (runs s.turns)) (After (with_turns s l) (length s.funcs) count 10)) back
       (runs-lead (runs s.turns) [] count d (are-runs (actor_count s) s.turns f.turns)
-          (let all : length (steps_in (runs s.turns)) ≡ length s.turns = ap (λ (l : List ℕ). length l) back in omega (arith, all, f.turns_few))
-          (record { script_is = at.script_is; funcs_are = at.funcs_are; count_is = at.count_is; stage = omega (arith, at.stage) }))
+      (let all : length (steps_in (runs s.turns)) ≡ length s.turns = ap (λ (l : List ℕ). length l) back in omega (arith, all, f.turns_few))
+      (record { script_is = at.script_is; funcs_are = at.funcs_are; count_is = at.count_is; stage = omega (arith, at.stage) }))

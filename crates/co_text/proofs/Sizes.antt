@@ -4,7 +4,6 @@ use Rattle.std.specs.Fmt.{signed_decimal}
 use Rattle.std.proofs.lemmas.Fmt.{length-decimal-le}
 use Rattle.co_text.specs.Lines.{spaced, line_text}
 use Rattle.co_text.specs.Values.{Word}
-use Rattle.co_text.specs.Written.{units_word, func_word, argument_word}
 use Rattle.co_text.proofs.ValuesBack.{IsI32}
 
 -- the bytes of words, each with a byte behind it, and of a line feed
