@@ -500,11 +500,11 @@ lock-line-fine funcs count stage s n k h order numbers =
 pub timer-line-fine : (funcs count : ℕ) (stage : Kind) (s : Script) (n : ℕ) (x : Spec) → Firm funcs count stage s → rank stage ≤ 6 → is_next_of 1024 (length s.timers) n ≡ true → spec_exists s x.lock ≡ true → spec_kind_fits s x.lock ≡ true → IsSpecFormed s.version x → Fine (record { script = record s { timers = s.timers ++ x ∷ [] }; stage = kind.Timer; funcs = funcs; acts = []; clock = 0; count = count })
 timer-line-fine funcs count stage s n x h order next exists kinds formed =
     let fits_here : spec_fits (locked_by s) x ≡ true =
-        both-true (spec_exists (locked_by s) x.lock) (spec_kind_fits (locked_by s) x.lock && (not (is_free x.lock && x.returns_unlocked) && (not x.direct || (is_free x.lock && (s.version == 2)))))
-            (sym (exists-locked s x.lock) ∙ exists)
-            (both-true (spec_kind_fits (locked_by s) x.lock) (not (is_free x.lock && x.returns_unlocked) && (not x.direct || (is_free x.lock && (s.version == 2))))
-                (sym (use-locked s x.lock) ∙ kinds)
-                (both-true (not (is_free x.lock && x.returns_unlocked)) (not x.direct || (is_free x.lock && (s.version == 2))) formed.unlocked formed.direct)) in
+    both-true (spec_exists (locked_by s) x.lock) (spec_kind_fits (locked_by s) x.lock && (not (is_free x.lock && x.returns_unlocked) && (not x.direct || (is_free x.lock && (s.version == 2)))))
+    (sym (exists-locked s x.lock) ∙ exists)
+    (both-true (spec_kind_fits (locked_by s) x.lock) (not (is_free x.lock && x.returns_unlocked) && (not x.direct || (is_free x.lock && (s.version == 2))))
+    (sym (use-locked s x.lock) ∙ kinds)
+    (both-true (not (is_free x.lock && x.returns_unlocked)) (not x.direct || (is_free x.lock && (s.version == 2))) formed.unlocked formed.direct)) in
     let fit : Firm (funcs) count kind.Timer (record s { timers = s.timers ++ x ∷ [] }) = record {
       version = h.version;
       hz = h.hz;
@@ -632,6 +632,7 @@ numbered s (Client n) formed h = lt-ltb (number_or_0 (below (length s.clients) 0
   count : (b : Bool) → length s.clients + s.cpus ≤ cond b (length s.clients + 2 * s.cpus) (length s.clients + s.cpus)
   count true = omega arith
   count false = omega arith
+
   go : (b : Bool) → nat_lt n (length s.clients) ≡ b → is_some (cond b (Some (0 + n)) None) ≡ true → number_or_0 (cond b (Some (0 + n)) None) < actor_count s
   go true is h = let less : n < length s.clients = ltb-true n (length s.clients) is in let all : length s.clients + s.cpus ≤ actor_count s = count (s.version == 2) in omega (arith, less, all)
   go false is h = cc
@@ -639,6 +640,7 @@ numbered s (Cpu n) formed h = lt-ltb (number_or_0 (below s.cpus (length s.client
   count : (b : Bool) → length s.clients + s.cpus ≤ cond b (length s.clients + 2 * s.cpus) (length s.clients + s.cpus)
   count true = omega arith
   count false = omega arith
+
   go : (b : Bool) → nat_lt n s.cpus ≡ b → is_some (cond b (Some (length s.clients + n)) None) ≡ true → number_or_0 (cond b (Some (length s.clients + n)) None) < actor_count s
   go true is h = let less : n < s.cpus = ltb-true n s.cpus is in let all : length s.clients + s.cpus ≤ actor_count s = count (s.version == 2) in omega (arith, less, all)
   go false is h = cc
@@ -646,6 +648,7 @@ numbered s (Interrupt n) formed h = lt-ltb (number_or_0 (below s.cpus (length s.
   count : (b : Bool) → b ≡ true → length s.clients + 2 * s.cpus ≤ cond b (length s.clients + 2 * s.cpus) (length s.clients + s.cpus)
   count true is = omega arith
   count false is = cc
+
   go : (b : Bool) → nat_lt n s.cpus ≡ b → is_some (cond b (Some (length s.clients + s.cpus + n)) None) ≡ true → number_or_0 (cond b (Some (length s.clients + s.cpus + n)) None) < actor_count s
   go true is h = let less : n < s.cpus = ltb-true n s.cpus is in let all : length s.clients + 2 * s.cpus ≤ actor_count s = count (s.version == 2) formed in omega (arith, less, all)
   go false is h = cc
@@ -657,8 +660,8 @@ steps-pass s (t ∷ ts) formed h =
     let here = both_true (is_some (actor_number s t.who)) (is_within 1 1000000 t.times) both.0 in
     let roles = both_true (is_role_of s.version t.who) (list_all (λ (t : Turn). is_role_of s.version t.who) ts) formed in
     more-pass (λ a. nat_lt a (actor_count s)) (steps_of s t) (flat_map (steps_of s) ts)
-        (copies-pass (λ a. nat_lt a (actor_count s)) t.times (number_or_0 (actor_number s t.who)) (numbered s t.who roles.0 here.0))
-        (steps-pass s ts roles.1 both.1)
+    (copies-pass (λ a. nat_lt a (actor_count s)) t.times (number_or_0 (actor_number s t.who)) (numbered s t.who roles.0 here.0))
+    (steps-pass s ts roles.1 both.1)
 
 steps-long : (s : Script) (ts : List Turn) → length (flat_map (steps_of s) ts) ≡ sum_by times_of ts
 steps-long s [] = refl
@@ -696,4 +699,3 @@ turns-line-fine funcs count stage s ts h formed fit_here room =
       no_turns = λ early. let never : ⊥ = omega (arith, early) in absurd never;
     } in
     opened (funcs) count kind.Turns (record s { turns = s.turns ++ flat_map (steps_of s) ts }) fit (omega (arith, fit.funcs_room)) (omega (arith, fit.clients_most)) (omega (arith, fit.ticks_room))
-

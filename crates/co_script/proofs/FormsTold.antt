@@ -114,10 +114,12 @@ seconds-below text t h = at_whole (take_while is_ascii_digit text) (drop (length
       let below = fraction-below rest u is in
       let value : t ≡ spelled whole * 2 ^ 32 + u = cc in
       omega (arith, below, small, value)
+
   at_test : (whole rest : List ℕ) (a b : Bool) → nat_lt (spelled whole) (2 ^ 31) ≡ b → (if a && b then option_map (λ u. spelled whole * 2 ^ 32 + u) (fraction rest) else None) ≡ Some t → t < 2 ^ 63
   at_test whole rest false b is k = cc
   at_test whole rest true false is k = cc
   at_test whole rest true true is k = sum_of whole (fraction rest) rest refl (ltb-true (spelled whole) (2 ^ 31) is) k
+
   at_whole : (whole rest : List ℕ) → seconds_and whole rest ≡ Some t → t < 2 ^ 63
   at_whole whole rest k = at_test whole rest (are_digits 1 10 whole) (nat_lt (spelled whole) (2 ^ 31)) refl k
 
@@ -137,9 +139,9 @@ pub time-ok : (w : Word) (t : ℕ) → time w ≡ Ok t → is_time t ≡ true
 time-ok [] t h = cc
 time-ok (c ∷ w) t h =
     cond-ok (is_time t ≡ true) (c == 117) (units w) (some_or (seconds (c ∷ w)) Form) t
-        (λ _ k. let b = bind-ok (digits 19 w) small t k in small-ok b.0 t b.2)
-        (λ k. lt-ltb t (2 ^ 63) (seconds-below (c ∷ w) t (some_or-ok (seconds (c ∷ w)) Form t k)))
-        h
+    (λ _ k. let b = bind-ok (digits 19 w) small t k in small-ok b.0 t b.2)
+    (λ k. lt-ltb t (2 ^ 63) (seconds-below (c ∷ w) t (some_or-ok (seconds (c ∷ w)) Form t k)))
+    h
 
 -- ---- operands
 
@@ -147,12 +149,12 @@ moment-ok : (w : Word) (m : When) → moment w ≡ Ok m → is_moment m ≡ true
 moment-ok [] m h = cc
 moment-ok (c ∷ w) m h =
     cond-ok (is_moment m ≡ true) (c == 43) (time w >>= λ t. Ok (when.After t)) (if c == 61 then (time w >>= λ t. Ok (when.At t)) else Err Form) m
-        (λ _ k. let b = bind-ok (time w) (λ t. Ok (when.After t)) m k in let same : when.After b.0 ≡ m = cc in subst (λ v. is_moment v ≡ true) same (time-ok w b.0 b.1))
-        (λ k. cond-ok (is_moment m ≡ true) (c == 61) (time w >>= λ t. Ok (when.At t)) (Err Form) m
-            (λ _ l. let b = bind-ok (time w) (λ t. Ok (when.At t)) m l in let same : when.At b.0 ≡ m = cc in subst (λ v. is_moment v ≡ true) same (time-ok w b.0 b.1))
-            (λ l. cc)
-            k)
-        h
+    (λ _ k. let b = bind-ok (time w) (λ t. Ok (when.After t)) m k in let same : when.After b.0 ≡ m = cc in subst (λ v. is_moment v ≡ true) same (time-ok w b.0 b.1))
+    (λ k. cond-ok (is_moment m ≡ true) (c == 61) (time w >>= λ t. Ok (when.At t)) (Err Form) m
+    (λ _ l. let b = bind-ok (time w) (λ t. Ok (when.At t)) m l in let same : when.At b.0 ≡ m = cc in subst (λ v. is_moment v ≡ true) same (time-ok w b.0 b.1))
+    (λ l. cc)
+    k)
+    h
 
 -- `me` is read in a function alone
 who-ok : (serviced : Bool) (w : Word) (x : Who) → who serviced w ≡ Ok x → (serviced || not (names_me x)) ≡ true
@@ -169,9 +171,9 @@ precision-ok : (ws : List Word) (p : ℕ × List Word) → optional_precision ws
 precision-ok ws p h =
     let b = bind-ok (option (codes "pr") ws) (λ stands. if stands.0 then next time stands.1 else Ok (0, stands.1)) p h in
     cond-ok (is_time p.0 ≡ true) b.0.0 (next time b.0.1) (Ok (0, b.0.1)) p
-        (λ _ k. let w = next-ok time b.0.1 p k in time-ok w.0 p.0 w.1)
-        (λ k. let same : p.0 ≡ 0 = cc in rw same refl)
-        b.2
+    (λ _ k. let w = next-ok time b.0.1 p k in time-ok w.0 p.0 w.1)
+    (λ k. let same : p.0 ≡ 0 = cc in rw same refl)
+    b.2
 
 -- ---- acts
 
@@ -348,32 +350,34 @@ spec-ok : (version : ℕ) (ws : List Word) (x : Spec × List Word) → spec vers
 spec-ok version [] x h = cc
 spec-ok version (w ∷ ws) x h =
     cond-ok (IsSpecFormed version x.0) (is_word w (codes "mpsafe")) (free_spec version ws) (if is_word w (codes "mtx") then mtx_spec ws else (if is_word w (codes "rw") then rw_spec ws else Err Form)) x
-        (λ _ k. free (version == 2) (is_next (codes "direct") ws) refl k)
-        (λ k. cond-ok (IsSpecFormed version x.0) (is_word w (codes "mtx")) (mtx_spec ws) (if is_word w (codes "rw") then rw_spec ws else Err Form) x
-            (λ _ l. let n = bind-ok (next number ws) (λ l. locked_spec (Mtx l.0) l.1) x l in locked-ok version (Mtx n.0.0) n.0.1 x refl n.2)
-            (λ l. cond-ok (IsSpecFormed version x.0) (is_word w (codes "rw")) (rw_spec ws) (Err Form) x (λ _ m. read m) (λ m. cc) l)
-            k)
-        h where
-  free : (a b : Bool) → (version == 2) ≡ a
-      → cond {A = Read Spec} (a && b) (Ok (record { lock = Free; returns_unlocked = false; direct = true }, after_next ws)) (Ok (record { lock = Free; returns_unlocked = false; direct = false }, ws)) ≡ Ok x
-      → IsSpecFormed version x.0
-  free true true is k =
-      let same : x.0 ≡ record { lock = Free; returns_unlocked = false; direct = true } = cc in
-      rw same (record { unlocked = refl; direct = is })
-  free true false is k =
-      let same : x.0 ≡ record { lock = Free; returns_unlocked = false; direct = false } = cc in
-      rw same (record { unlocked = refl; direct = refl })
-  free false b is k =
-      let same : x.0 ≡ record { lock = Free; returns_unlocked = false; direct = false } = cc in
-      rw same (record { unlocked = refl; direct = refl })
-  locks_of : (b : Bool) (l : ℕ) → is_free (if b then RwShared l else Rw l) ≡ false
-  locks_of true l = refl
-  locks_of false l = refl
-  read : rw_spec ws ≡ Ok x → IsSpecFormed version x.0
-  read m =
-      let n = bind-ok (next number ws) (λ l. option (codes "shared") l.1 >>= λ shared. locked_spec (if shared.0 then RwShared l.0 else Rw l.0) shared.1) x m in
-      let s = bind-ok (option (codes "shared") n.0.1) (λ shared. locked_spec (if shared.0 then RwShared n.0.0 else Rw n.0.0) shared.1) x n.2 in
-      locked-ok version (if s.0.0 then RwShared n.0.0 else Rw n.0.0) s.0.1 x (locks_of s.0.0 n.0.0) s.2
+    (λ _ k. free (version == 2) (is_next (codes "direct") ws) refl k)
+    (λ k. cond-ok (IsSpecFormed version x.0) (is_word w (codes "mtx")) (mtx_spec ws) (if is_word w (codes "rw") then rw_spec ws else Err Form) x
+    (λ _ l. let n = bind-ok (next number ws) (λ l. locked_spec (Mtx l.0) l.1) x l in locked-ok version (Mtx n.0.0) n.0.1 x refl n.2)
+    (λ l. cond-ok (IsSpecFormed version x.0) (is_word w (codes "rw")) (rw_spec ws) (Err Form) x (λ _ m. read m) (λ m. cc) l)
+    k)
+    h where
+      free : (a b : Bool) → (version == 2) ≡ a
+          → cond {A = Read Spec} (a && b) (Ok (record { lock = Free; returns_unlocked = false; direct = true }, after_next ws)) (Ok (record { lock = Free; returns_unlocked = false; direct = false }, ws)) ≡ Ok x
+          → IsSpecFormed version x.0
+      free true true is k =
+          let same : x.0 ≡ record { lock = Free; returns_unlocked = false; direct = true } = cc in
+          rw same (record { unlocked = refl; direct = is })
+      free true false is k =
+          let same : x.0 ≡ record { lock = Free; returns_unlocked = false; direct = false } = cc in
+          rw same (record { unlocked = refl; direct = refl })
+      free false b is k =
+          let same : x.0 ≡ record { lock = Free; returns_unlocked = false; direct = false } = cc in
+          rw same (record { unlocked = refl; direct = refl })
+
+      locks_of : (b : Bool) (l : ℕ) → is_free (if b then RwShared l else Rw l) ≡ false
+      locks_of true l = refl
+      locks_of false l = refl
+
+      read : rw_spec ws ≡ Ok x → IsSpecFormed version x.0
+      read m =
+          let n = bind-ok (next number ws) (λ l. option (codes "shared") l.1 >>= λ shared. locked_spec (if shared.0 then RwShared l.0 else Rw l.0) shared.1) x m in
+          let s = bind-ok (option (codes "shared") n.0.1) (λ shared. locked_spec (if shared.0 then RwShared n.0.0 else Rw n.0.0) shared.1) x n.2 in
+          locked-ok version (if s.0.0 then RwShared n.0.0 else Rw n.0.0) s.0.1 x (locks_of s.0.0 n.0.0) s.2
 
 -- ---- turns
 
@@ -387,18 +391,18 @@ role-ok : (version : ℕ) (w : Word) (r : Role) → role version w ≡ Ok r → 
 role-ok version [] r h = cc
 role-ok version (c ∷ w) r h =
     cond-ok (is_role_of version r ≡ true) (c == 99) (number w >>= λ n. Ok (Client n)) (if c == 112 then (number w >>= λ n. Ok (Cpu n)) else (if (c == 104) && (version == 2) then (number w >>= λ n. Ok (Interrupt n)) else Err Form)) r
-        (λ _ k. let n = bind-ok (number w) (λ n. Ok (Client n)) r k in let same : Client n.0 ≡ r = cc in subst (λ v. is_role_of version v ≡ true) same refl)
-        (λ k. cond-ok (is_role_of version r ≡ true) (c == 112) (number w >>= λ n. Ok (Cpu n)) (if (c == 104) && (version == 2) then (number w >>= λ n. Ok (Interrupt n)) else Err Form) r
-            (λ _ l. let n = bind-ok (number w) (λ n. Ok (Cpu n)) r l in let same : Cpu n.0 ≡ r = cc in subst (λ v. is_role_of version v ≡ true) same refl)
-            (λ l. cond-ok (is_role_of version r ≡ true) ((c == 104) && (version == 2)) (number w >>= λ n. Ok (Interrupt n)) (Err Form) r
-                (λ is m.
-                    let n = bind-ok (number w) (λ n. Ok (Interrupt n)) r m in
-                    let same : Interrupt n.0 ≡ r = cc in
-                    subst (λ v. is_role_of version v ≡ true) same ((both_true (c == 104) (version == 2) is).1))
-                (λ m. cc)
-                l)
-            k)
-        h
+    (λ _ k. let n = bind-ok (number w) (λ n. Ok (Client n)) r k in let same : Client n.0 ≡ r = cc in subst (λ v. is_role_of version v ≡ true) same refl)
+    (λ k. cond-ok (is_role_of version r ≡ true) (c == 112) (number w >>= λ n. Ok (Cpu n)) (if (c == 104) && (version == 2) then (number w >>= λ n. Ok (Interrupt n)) else Err Form) r
+    (λ _ l. let n = bind-ok (number w) (λ n. Ok (Cpu n)) r l in let same : Cpu n.0 ≡ r = cc in subst (λ v. is_role_of version v ≡ true) same refl)
+    (λ l. cond-ok (is_role_of version r ≡ true) ((c == 104) && (version == 2)) (number w >>= λ n. Ok (Interrupt n)) (Err Form) r
+    (λ is m.
+    let n = bind-ok (number w) (λ n. Ok (Interrupt n)) r m in
+    let same : Interrupt n.0 ≡ r = cc in
+    subst (λ v. is_role_of version v ≡ true) same ((both_true (c == 104) (version == 2) is).1))
+    (λ m. cc)
+    l)
+    k)
+    h
 
 turn-ok : (version : ℕ) (w : Word) (t : Turn) → turn version w ≡ Ok t → is_role_of version t.who ≡ true
 turn-ok version w t h =
@@ -414,7 +418,7 @@ turns-ok version (w ∷ ws) ts h =
     let us = bind-ok (all_turns version ws) (λ us. Ok (t.0 ∷ us)) ts t.2 in
     let same : (t.0 ∷ us.0) ≡ ts = cc in
     subst (λ (vs : List Turn). list_all (λ v. is_role_of version v.who) vs ≡ true) same
-        (both-true (is_role_of version t.0.who) (list_all (λ v. is_role_of version v.who) us.0) (turn-ok version w t.0 t.1) (turns-ok version ws us.0 us.1))
+    (both-true (is_role_of version t.0.who) (list_all (λ v. is_role_of version v.who) us.0) (turn-ok version w t.0 t.1) (turns-ok version ws us.0 us.1))
 
 -- ---- lines of the frame
 

@@ -202,7 +202,7 @@ frame-fine d k ws e h order read =
     let say = bind-ok (frame_form d.script.version k ws) (draft_after d (closed d)) e read in
     let p = passes-ok d (closed d) say.0 e say.2 in
     let stated : IsStated (closed d).version k say.0 =
-        subst (λ v. IsStated v k say.0) (sym (version-closed d.stage d.script d.acts)) (frame-ok d.script.version k ws say.0 say.1) in
+    subst (λ v. IsStated v k say.0) (sym (version-closed d.stage d.script d.acts)) (frame-ok d.script.version k ws say.0 say.1) in
     subst (λ x. Fine x) p.1 (framed d (closed d) k say.0 (close d h) order stated p.0)
 
 -- ---- an act
@@ -250,45 +250,63 @@ act-fine d v ws e h version order read =
     let p = passes-ok d d.script (states.Does a.0) e a.2 in
     let formed = act-ok (is_func d.stage) v ws a.0 a.1 in
     subst (λ x. Fine x) p.1 (one-more d a.0 h (subst (λ u. is_of_version d.script.version u ≡ true) (sym formed.verb) version) (subst (λ u. may_act d.stage u ≡ true) (sym formed.verb) order) formed.me formed.times p.0) where
-  one-more : (d : Draft) (a : Act) → Fine d → is_of_version d.script.version (verb_of_act a) ≡ true → may_act d.stage (verb_of_act a) ≡ true
-      → (is_func d.stage || not (act_names_me a)) ≡ true → has_times a ≡ true → Passes d d.script (states.Does a) → Fine (draft_with d d.script (states.Does a))
-  one-more d a h version order me times p =
-      let s = named_by d.script in
-      let room = both_true (nat_lt (length d.acts) (most_acts (is_func d.stage))) (nat_lt d.count 262144) p.room in
-      let parts = both_true (nat_le (length d.acts) (most_acts (is_func d.stage))) (list_all (stands d.funcs s d.stage) d.acts && rises_after 0 d.acts) h.acts in
-      let inner = both_true (list_all (stands d.funcs s d.stage) d.acts) (rises_after 0 d.acts) parts.1 in
-      let long : length (d.acts ++ a ∷ []) ≡ length d.acts + 1 = length-append d.acts (a ∷ []) in
-      let below : length d.acts < most_acts (is_func d.stage) = ltb-true (length d.acts) (most_acts (is_func d.stage)) room.0 in
-      let few : d.count < 262144 = ltb-true d.count 262144 room.1 in
-      let fits_here : act_fits d.funcs s a ≡ true = sym (fits-named d.funcs d.script a) ∙ p.numbers in
-      let kinds_here : act_kind_fits s a ≡ true = sym (kind-named d.script a) ∙ p.kinds in
-      let here : stands d.funcs s d.stage a ≡ true =
+      one-more : (d : Draft) (a : Act) → Fine d → is_of_version d.script.version (verb_of_act a) ≡ true → may_act d.stage (verb_of_act a) ≡ true
+          → (is_func d.stage || not (act_names_me a)) ≡ true → has_times a ≡ true → Passes d d.script (states.Does a) → Fine (draft_with d d.script (states.Does a))
+      one-more d a h version order me times p =
+          let s = named_by d.script in
+          let room = both_true (nat_lt (length d.acts) (most_acts (is_func d.stage))) (nat_lt d.count 262144) p.room in
+          let parts = both_true (nat_le (length d.acts) (most_acts (is_func d.stage))) (list_all (stands d.funcs s d.stage) d.acts && rises_after 0 d.acts) h.acts in
+          let inner = both_true (list_all (stands d.funcs s d.stage) d.acts) (rises_after 0 d.acts) parts.1 in
+          let long : length (d.acts ++ a ∷ []) ≡ length d.acts + 1 = length-append d.acts (a ∷ []) in
+          let below : length d.acts < most_acts (is_func d.stage) = ltb-true (length d.acts) (most_acts (is_func d.stage)) room.0 in
+          let few : d.count < 262144 = ltb-true d.count 262144 room.1 in
+          let fits_here : act_fits d.funcs s a ≡ true = sym (fits-named d.funcs d.script a) ∙ p.numbers in
+          let kinds_here : act_kind_fits s a ≡ true = sym (kind-named d.script a) ∙ p.kinds in
+          let here : stands d.funcs s d.stage a ≡ true =
           both-true (may_act d.stage (verb_of_act a)) (is_of_version s.version (verb_of_act a) && ((is_func d.stage || not (act_names_me a)) && (has_times a && (act_fits d.funcs s a && act_kind_fits s a)))) order
           (both-true (is_of_version s.version (verb_of_act a)) ((is_func d.stage || not (act_names_me a)) && (has_times a && (act_fits d.funcs s a && act_kind_fits s a))) version
           (both-true (is_func d.stage || not (act_names_me a)) (has_times a && (act_fits d.funcs s a && act_kind_fits s a)) me
           (both-true (has_times a) (act_fits d.funcs s a && act_kind_fits s a) times
           (both-true (act_fits d.funcs s a) (act_kind_fits s a) fits_here kinds_here)))) in
-      let rising : act_rises (clock_after 0 d.acts) a ≡ true = subst (λ t. act_rises t a ≡ true) h.clock p.times in
-      let f = h.firm in
-      record {
-        firm = record {
-          version = f.version; hz = f.hz; cpus = f.cpus; buckets = f.buckets; funcs_most = f.funcs_most; locks_most = f.locks_most; timers_most = f.timers_most;
-          clients_most = f.clients_most; funcs_room = f.funcs_room; ticks_room = f.ticks_room; specs = f.specs; funcs_fit = f.funcs_fit; clients_fit = f.clients_fit; ticks_fit = f.ticks_fit;
-          total = omega (arith, f.total);
-          count_most = omega (arith, few);
-          turns_most = f.turns_most; turns_fit = f.turns_fit; no_timers = f.no_timers; no_funcs = f.no_funcs; no_clients = f.no_clients; no_ticks = f.no_ticks; no_turns = f.no_turns;
-        };
-        funcs_room = h.funcs_room;
-        clients_room = h.clients_room;
-        ticks_room = h.ticks_room;
-        acts = both-true (nat_le (length (d.acts ++ a ∷ [])) (most_acts (is_func d.stage))) (list_all (stands d.funcs s d.stage) (d.acts ++ a ∷ []) && rises_after 0 (d.acts ++ a ∷ []))
-            (le-leb (length (d.acts ++ a ∷ [])) (most_acts (is_func d.stage)) (omega (arith, long, below)))
-            (both-true (list_all (stands d.funcs s d.stage) (d.acts ++ a ∷ [])) (rises_after 0 (d.acts ++ a ∷ []))
+          let rising : act_rises (clock_after 0 d.acts) a ≡ true = subst (λ t. act_rises t a ≡ true) h.clock p.times in
+          let f = h.firm in
+          record {
+            firm = record {
+              version = f.version;
+              hz = f.hz;
+              cpus = f.cpus;
+              buckets = f.buckets;
+              funcs_most = f.funcs_most;
+              locks_most = f.locks_most;
+              timers_most = f.timers_most;
+              clients_most = f.clients_most;
+              funcs_room = f.funcs_room;
+              ticks_room = f.ticks_room;
+              specs = f.specs;
+              funcs_fit = f.funcs_fit;
+              clients_fit = f.clients_fit;
+              ticks_fit = f.ticks_fit;
+              total = omega (arith, f.total);
+              count_most = omega (arith, few);
+              turns_most = f.turns_most;
+              turns_fit = f.turns_fit;
+              no_timers = f.no_timers;
+              no_funcs = f.no_funcs;
+              no_clients = f.no_clients;
+              no_ticks = f.no_ticks;
+              no_turns = f.no_turns;
+            };
+            funcs_room = h.funcs_room;
+            clients_room = h.clients_room;
+            ticks_room = h.ticks_room;
+            acts = both-true (nat_le (length (d.acts ++ a ∷ [])) (most_acts (is_func d.stage))) (list_all (stands d.funcs s d.stage) (d.acts ++ a ∷ []) && rises_after 0 (d.acts ++ a ∷ []))
+                (le-leb (length (d.acts ++ a ∷ [])) (most_acts (is_func d.stage)) (omega (arith, long, below)))
+                (both-true (list_all (stands d.funcs s d.stage) (d.acts ++ a ∷ [])) (rises_after 0 (d.acts ++ a ∷ []))
                 (more-pass (stands d.funcs s d.stage) d.acts (a ∷ []) inner.0 (one-passes (stands d.funcs s d.stage) a here))
                 (rises-more 0 d.acts a inner.1 rising));
-        clock = ap (λ t. time_after t a) h.clock ∙ sym (clock-more 0 d.acts a);
-        total = omega (arith, h.total, long);
-      }
+            clock = ap (λ t. time_after t a) h.clock ∙ sym (clock-more 0 d.acts a);
+            total = omega (arith, h.total, long);
+          }
 
 -- ---- lines
 
@@ -297,18 +315,37 @@ line-fine d w ws e h read =
     let o = bind-ok (opener_of d w) (λ opener. unless (may_stand d.stage opener) cause.Order >>= λ _. opened_line d opener ws) e read in
     let u = bind-ok (unless (may_stand d.stage o.0) cause.Order) (λ _. opened_line d o.0 ws) e o.2 in
     go o.0 o.1 (unless-ok (may_stand d.stage o.0) cause.Order u.0 u.1) u.2 where
-  go : (o : Opener) → opener_of d w ≡ Ok o → may_stand d.stage o ≡ true → opened_line d o ws ≡ Ok e → Fine e
-  go (Frame k) is order read = frame-fine d k ws e h order read
-  go (Does v) is order read =
-      act-fine d v ws e h (of-version d.script.version w v (opener-verb (is_section d.stage) (kind_of w) (verb_of d.script.version w) v is)) order read
+      go : (o : Opener) → opener_of d w ≡ Ok o → may_stand d.stage o ≡ true → opened_line d o ws ≡ Ok e → Fine e
+      go (Frame k) is order read = frame-fine d k ws e h order read
+      go (Does v) is order read =
+          act-fine d v ws e h (of-version d.script.version w v (opener-verb (is_section d.stage) (kind_of w) (verb_of d.script.version w) v is)) order read
 
 opening-fine : (v : ℕ) → is_within 1 2 v ≡ true → Fine (opening v)
 opening-fine v known = record {
   firm = record {
-    version = known; hz = refl; cpus = refl; buckets = refl; funcs_most = omega arith; locks_most = omega arith; timers_most = omega arith;
-    clients_most = omega arith; funcs_room = omega arith; ticks_room = omega arith; specs = refl; funcs_fit = refl; clients_fit = refl; ticks_fit = refl;
-    total = omega arith; count_most = omega arith; turns_most = omega arith; turns_fit = refl;
-    no_timers = λ _. refl; no_funcs = λ _. refl; no_clients = λ _. refl; no_ticks = λ _. refl; no_turns = λ _. refl;
+    version = known;
+    hz = refl;
+    cpus = refl;
+    buckets = refl;
+    funcs_most = omega arith;
+    locks_most = omega arith;
+    timers_most = omega arith;
+    clients_most = omega arith;
+    funcs_room = omega arith;
+    ticks_room = omega arith;
+    specs = refl;
+    funcs_fit = refl;
+    clients_fit = refl;
+    ticks_fit = refl;
+    total = omega arith;
+    count_most = omega arith;
+    turns_most = omega arith;
+    turns_fit = refl;
+    no_timers = λ _. refl;
+    no_funcs = λ _. refl;
+    no_clients = λ _. refl;
+    no_ticks = λ _. refl;
+    no_turns = λ _. refl;
   };
   funcs_room = omega arith;
   clients_room = omega arith;
@@ -334,9 +371,9 @@ version-fine ws d h =
     let v = bind-ok (some_or (version_of ws) cause.Version) (λ v. Ok (opening v)) d h in
     let same : opening v.0 ≡ d = cc in
     subst (λ x. Fine x) same (opening-fine v.0 (version-known ws v.0 (some (version_of ws) v.1))) where
-  some : (o : Option ℕ) {x : ℕ} → some_or o cause.Version ≡ Ok x → o ≡ Some x
-  some None h = cc
-  some (Some y) h = cc
+      some : (o : Option ℕ) {x : ℕ} → some_or o cause.Version ≡ Ok x → o ≡ Some x
+      some None h = cc
+      some (Some y) h = cc
 
 -- before the first line with words there is no draft
 abbrev IsFine : Option Draft → Type 0
@@ -415,39 +452,39 @@ firm-fits funcs count stage s h some =
     let func_acts : acts_in (padded funcs s.funcs) ≡ acts_in s.funcs = padded-acts funcs s.funcs in
     let tick_acts : acts_in (padded s.cpus s.ticks) ≡ acts_in s.ticks = padded-acts s.cpus s.ticks in
     let head = both-true (is_within 1 2 s.version) (is_within 1 1000000 s.hz && (is_within 1 16 s.cpus && is_wheel_size s.buckets)) h.version
-        (both-true (is_within 1 1000000 s.hz) (is_within 1 16 s.cpus && is_wheel_size s.buckets) h.hz (both-true (is_within 1 16 s.cpus) (is_wheel_size s.buckets) h.cpus h.buckets)) in
+    (both-true (is_within 1 1000000 s.hz) (is_within 1 16 s.cpus && is_wheel_size s.buckets) h.hz (both-true (is_within 1 16 s.cpus) (is_wheel_size s.buckets) h.cpus h.buckets)) in
     let counts : (nat_le (length (padded funcs s.funcs)) 1024 && (nat_le (length s.locks) 256 && (is_within 1 1024 (length s.timers) && (nat_le (length s.clients) 16 && (length (padded s.cpus s.ticks) == s.cpus))))) ≡ true =
-        both-true (nat_le (length (padded funcs s.funcs)) 1024) (nat_le (length s.locks) 256 && (is_within 1 1024 (length s.timers) && (nat_le (length s.clients) 16 && (length (padded s.cpus s.ticks) == s.cpus))))
-            (le-leb (length (padded funcs s.funcs)) 1024 (omega (arith, all_funcs, h.funcs_most)))
-        (both-true (nat_le (length s.locks) 256) (is_within 1 1024 (length s.timers) && (nat_le (length s.clients) 16 && (length (padded s.cpus s.ticks) == s.cpus)))
-            (le-leb (length s.locks) 256 h.locks_most)
-        (both-true (is_within 1 1024 (length s.timers)) (nat_le (length s.clients) 16 && (length (padded s.cpus s.ticks) == s.cpus))
-            (both-true (nat_le 1 (length s.timers)) (nat_le (length s.timers) 1024) (le-leb 1 (length s.timers) (omega (arith, some))) (le-leb (length s.timers) 1024 h.timers_most))
-        (both-true (nat_le (length s.clients) 16) (length (padded s.cpus s.ticks) == s.cpus)
-            (le-leb (length s.clients) 16 h.clients_most)
-            (eq-eqb (length (padded s.cpus s.ticks)) s.cpus all_ticks)))) in
+    both-true (nat_le (length (padded funcs s.funcs)) 1024) (nat_le (length s.locks) 256 && (is_within 1 1024 (length s.timers) && (nat_le (length s.clients) 16 && (length (padded s.cpus s.ticks) == s.cpus))))
+    (le-leb (length (padded funcs s.funcs)) 1024 (omega (arith, all_funcs, h.funcs_most)))
+    (both-true (nat_le (length s.locks) 256) (is_within 1 1024 (length s.timers) && (nat_le (length s.clients) 16 && (length (padded s.cpus s.ticks) == s.cpus)))
+    (le-leb (length s.locks) 256 h.locks_most)
+    (both-true (is_within 1 1024 (length s.timers)) (nat_le (length s.clients) 16 && (length (padded s.cpus s.ticks) == s.cpus))
+    (both-true (nat_le 1 (length s.timers)) (nat_le (length s.timers) 1024) (le-leb 1 (length s.timers) (omega (arith, some))) (le-leb (length s.timers) 1024 h.timers_most))
+    (both-true (nat_le (length s.clients) 16) (length (padded s.cpus s.ticks) == s.cpus)
+    (le-leb (length s.clients) 16 h.clients_most)
+    (eq-eqb (length (padded s.cpus s.ticks)) s.cpus all_ticks)))) in
     let specs : list_all (spec_fits t) s.timers ≡ true = sym (all-alike (spec_fits (locked_by t)) (spec_fits t) (spec-alike t) s.timers) ∙ h.specs in
     let funcs_fit : list_all (section funcs t kind.Func) (padded funcs s.funcs) ≡ true = padded-fit funcs t kind.Func funcs s.funcs h.funcs_fit in
     let clients_fit : list_all (section funcs t kind.Client) s.clients ≡ true = sym (all-alike (section funcs (named_by t) kind.Client) (section funcs t kind.Client) (section-alike funcs t kind.Client) s.clients) ∙ h.clients_fit in
     let ticks_fit : list_all (section funcs t kind.Cpu) (padded s.cpus s.ticks) ≡ true = padded-fit funcs t kind.Cpu s.cpus s.ticks h.ticks_fit in
     let parts : (list_all (spec_fits t) s.timers && (list_all (section_fits t kind.Func) (padded funcs s.funcs) && (list_all (section_fits t kind.Client) s.clients && list_all (section_fits t kind.Cpu) (padded s.cpus s.ticks)))) ≡ true =
-        both-true (list_all (spec_fits t) s.timers) (list_all (section_fits t kind.Func) (padded funcs s.funcs) && (list_all (section_fits t kind.Client) s.clients && list_all (section_fits t kind.Cpu) (padded s.cpus s.ticks))) specs
-        (both-true (list_all (section_fits t kind.Func) (padded funcs s.funcs)) (list_all (section_fits t kind.Client) s.clients && list_all (section_fits t kind.Cpu) (padded s.cpus s.ticks))
-            (subst (λ n. list_all (section n t kind.Func) (padded funcs s.funcs) ≡ true) (sym all_funcs) funcs_fit)
-        (both-true (list_all (section_fits t kind.Client) s.clients) (list_all (section_fits t kind.Cpu) (padded s.cpus s.ticks))
-            (subst (λ n. list_all (section n t kind.Client) s.clients ≡ true) (sym all_funcs) clients_fit)
-            (subst (λ n. list_all (section n t kind.Cpu) (padded s.cpus s.ticks) ≡ true) (sym all_funcs) ticks_fit))) in
+    both-true (list_all (spec_fits t) s.timers) (list_all (section_fits t kind.Func) (padded funcs s.funcs) && (list_all (section_fits t kind.Client) s.clients && list_all (section_fits t kind.Cpu) (padded s.cpus s.ticks))) specs
+    (both-true (list_all (section_fits t kind.Func) (padded funcs s.funcs)) (list_all (section_fits t kind.Client) s.clients && list_all (section_fits t kind.Cpu) (padded s.cpus s.ticks))
+    (subst (λ n. list_all (section n t kind.Func) (padded funcs s.funcs) ≡ true) (sym all_funcs) funcs_fit)
+    (both-true (list_all (section_fits t kind.Client) s.clients) (list_all (section_fits t kind.Cpu) (padded s.cpus s.ticks))
+    (subst (λ n. list_all (section n t kind.Client) s.clients ≡ true) (sym all_funcs) clients_fit)
+    (subst (λ n. list_all (section n t kind.Cpu) (padded s.cpus s.ticks) ≡ true) (sym all_funcs) ticks_fit))) in
     let total : nat_le (total_acts t) 262144 ≡ true = le-leb (total_acts t) 262144 (omega (arith, func_acts, tick_acts, h.total, h.count_most)) in
     let turns : (nat_le (length s.turns) 1000000 && list_all (λ a. nat_lt a (actor_count t)) s.turns) ≡ true = both-true (nat_le (length s.turns) 1000000) (list_all (λ a. nat_lt a (actor_count t)) s.turns) (le-leb (length s.turns) 1000000 h.turns_most) h.turns_fit in
     both-true (is_within 1 2 s.version && (is_within 1 1000000 s.hz && (is_within 1 16 s.cpus && is_wheel_size s.buckets)))
-        ((nat_le (length (padded funcs s.funcs)) 1024 && (nat_le (length s.locks) 256 && (is_within 1 1024 (length s.timers) && (nat_le (length s.clients) 16 && (length (padded s.cpus s.ticks) == s.cpus))))) && ((list_all (spec_fits t) s.timers && (list_all (section_fits t kind.Func) (padded funcs s.funcs) && (list_all (section_fits t kind.Client) s.clients && list_all (section_fits t kind.Cpu) (padded s.cpus s.ticks)))) && (nat_le (total_acts t) 262144 && (nat_le (length s.turns) 1000000 && list_all (λ a. nat_lt a (actor_count t)) s.turns))))
-        head
+    ((nat_le (length (padded funcs s.funcs)) 1024 && (nat_le (length s.locks) 256 && (is_within 1 1024 (length s.timers) && (nat_le (length s.clients) 16 && (length (padded s.cpus s.ticks) == s.cpus))))) && ((list_all (spec_fits t) s.timers && (list_all (section_fits t kind.Func) (padded funcs s.funcs) && (list_all (section_fits t kind.Client) s.clients && list_all (section_fits t kind.Cpu) (padded s.cpus s.ticks)))) && (nat_le (total_acts t) 262144 && (nat_le (length s.turns) 1000000 && list_all (λ a. nat_lt a (actor_count t)) s.turns))))
+    head
     (both-true (nat_le (length (padded funcs s.funcs)) 1024 && (nat_le (length s.locks) 256 && (is_within 1 1024 (length s.timers) && (nat_le (length s.clients) 16 && (length (padded s.cpus s.ticks) == s.cpus)))))
-        ((list_all (spec_fits t) s.timers && (list_all (section_fits t kind.Func) (padded funcs s.funcs) && (list_all (section_fits t kind.Client) s.clients && list_all (section_fits t kind.Cpu) (padded s.cpus s.ticks)))) && (nat_le (total_acts t) 262144 && (nat_le (length s.turns) 1000000 && list_all (λ a. nat_lt a (actor_count t)) s.turns)))
-        counts
+    ((list_all (spec_fits t) s.timers && (list_all (section_fits t kind.Func) (padded funcs s.funcs) && (list_all (section_fits t kind.Client) s.clients && list_all (section_fits t kind.Cpu) (padded s.cpus s.ticks)))) && (nat_le (total_acts t) 262144 && (nat_le (length s.turns) 1000000 && list_all (λ a. nat_lt a (actor_count t)) s.turns)))
+    counts
     (both-true (list_all (spec_fits t) s.timers && (list_all (section_fits t kind.Func) (padded funcs s.funcs) && (list_all (section_fits t kind.Client) s.clients && list_all (section_fits t kind.Cpu) (padded s.cpus s.ticks))))
-        (nat_le (total_acts t) 262144 && (nat_le (length s.turns) 1000000 && list_all (λ a. nat_lt a (actor_count t)) s.turns))
-        parts
+    (nat_le (total_acts t) 262144 && (nat_le (length s.turns) 1000000 && list_all (λ a. nat_lt a (actor_count t)) s.turns))
+    parts
     (both-true (nat_le (total_acts t) 262144) (nat_le (length s.turns) 1000000 && list_all (λ a. nat_lt a (actor_count t)) s.turns) total turns)))
 
 end-fits : (d : Option Draft) (s : Script) → IsFine d → text_end d ≡ Ok s → fits s ≡ true

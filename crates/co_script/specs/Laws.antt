@@ -1,6 +1,7 @@
--- What a script and its texts keep.
-use Rattle.std.specs.Prelude.{◌≡◌, ◌↔◌, true, Ok}
+-- What scripts and their texts keep.
+use Rattle.std.specs.Prelude.{◌≡◌, ◌↔◌, ℕ, true, List, Ok}
 use Rattle.co_program.specs.declared.Script.{Script}
+use Rattle.co_program.specs.Scripts.{IsScript}
 use Rattle.co_script.specs.Reading.{script_of}
 use Rattle.co_script.specs.Canonical.{canonical}
 use Rattle.co_script.specs.Fits.{fits, IsReadable}
@@ -10,3 +11,9 @@ CanonicalTextReadsBack = (s : Script) → fits s ≡ true → script_of (canonic
 
 abbrev pub FitsExactly : Type 0
 FitsExactly = (s : Script) → (fits s ≡ true) ↔ IsReadable s
+
+abbrev pub ReadScriptsFit : Type 0
+ReadScriptsFit = (bytes : List ℕ) (s : Script) → script_of bytes ≡ Ok s → fits s ≡ true
+
+abbrev pub FittingScriptsAreAccepted : Type 0
+FittingScriptsAreAccepted = (s : Script) → fits s ≡ true → IsScript s
