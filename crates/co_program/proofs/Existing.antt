@@ -59,10 +59,10 @@ choice P false x y of_x of_y = of_y refl
 pub cpu_in : (s : Script) → IsScript s → (a : ℕ) → a < actor_count s → IsCpu s (cpu_of s (role_of s a))
 cpu_in s is a below =
     choice (λ role. IsCpu s (cpu_of s role)) (nat_lt a (client_count s)) (Client a) _
-      (λ client. mod-lt a is.cpus.0)
-      (λ no_client. choice (λ role. IsCpu s (cpu_of s role)) (nat_lt a (client_count s + s.cpus)) (Cpu (a - client_count s)) (Interrupt (a - client_count s - s.cpus))
-        (λ cpu. let h = ltb-true a (client_count s + s.cpus) cpu in let g = ltb-false a (client_count s) no_client in omega arith)
-        (λ no_cpu. let h = ltb-false a (client_count s + s.cpus) no_cpu in let g = at_most_two s a below in omega arith))
+    (λ client. mod-lt a is.cpus.0)
+    (λ no_client. choice (λ role. IsCpu s (cpu_of s role)) (nat_lt a (client_count s + s.cpus)) (Cpu (a - client_count s)) (Interrupt (a - client_count s - s.cpus))
+    (λ cpu. let h = ltb-true a (client_count s + s.cpus) cpu in let g = ltb-false a (client_count s) no_client in omega arith)
+    (λ no_cpu. let h = ltb-false a (client_count s + s.cpus) no_cpu in let g = at_most_two s a below in omega arith))
   where
     at_most_two : (s : Script) (a : ℕ) → a < actor_count s → a < client_count s + 2 * s.cpus
     at_most_two s a = choice (λ (n : ℕ). a < n → a < client_count s + 2 * s.cpus) (s.version == 2) (client_count s + 2 * s.cpus) (client_count s + s.cpus) (λ _ h. h) (λ _ h. omega arith)
@@ -103,8 +103,8 @@ program_in : (s : Script) → IsScript s → (role : Role) → AllByRecursion (T
 program_in s is (Client c) = does_in s (acts_at s.clients c) (is.clients_name c)
 program_in s is (Cpu x) =
     choice (AllByRecursion (TaskExists s)) (s.version == 2) (softs 0 (length (acts_at s.ticks x))) (map Does (acts_at s.ticks x))
-      (λ _. softs_in s 0 (length (acts_at s.ticks x)))
-      (λ _. does_in s (acts_at s.ticks x) (ticks_in s (acts_at s.ticks x) (is.ticks x)))
+    (λ _. softs_in s 0 (length (acts_at s.ticks x)))
+    (λ _. does_in s (acts_at s.ticks x) (ticks_in s (acts_at s.ticks x) (is.ticks x)))
 program_in s is (Interrupt x) = does_in s (acts_at s.ticks x) (ticks_in s (acts_at s.ticks x) (is.ticks x))
 
 pub start_in : (s : Script) → IsScript s → (a : ℕ) → IsIn s (start_of s a)
