@@ -1,6 +1,6 @@
 -- What is left of a list of acts once some are over: its first act, and its rest.
 -- The inductions are over the list and the number together; that a program is short makes `past` exact.
-use Rattle.std.proofs.Common.{◌≡◌, ℕ, zero, suc, ◌+◌, ◌-◌, ◌^◌, ◌<◌, ◌≤◌, ◌==◌, min, Bool, true, false, cond, List, [], ◌∷◌, map, length, drop, Option, Some, None, slice_get, refl, sym, ap, subst, ◌∙◌, add-one, add-zero, arith, ◌⊎◌, inl, inr}
+use Rattle.std.proofs.Common.{◌≡◌, ℕ, zero, suc, ◌+◌, ◌<◌, ◌≤◌, ◌==◌, Bool, true, false, cond, List, [], ◌∷◌, map, length, drop, Option, Some, None, slice_get, refl, sym, ap, ◌∙◌, add-one, arith, inl, inr}
 use Rattle.std.proofs.Math.Nat.{min-eq_left}
 use Rattle.std.specs.Option.{option_map}
 use Rattle.std.proofs.lemmas.Bool.{cases_lt, ne_eqb}

@@ -1,4 +1,4 @@
-use Rattle.std.proofs.Common.{◌∙◌, sym, ap, drop}
+use Rattle.std.proofs.Common.{◌∙◌, sym, drop}
 use Rattle.co_program.proofs.Remaining.{drop_some}
 use Rattle.co_program.proofs.Others.{begins_call}
 use Rattle.co_program.specs.declared.program.Task.TheVariants.{Does}
