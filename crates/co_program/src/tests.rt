@@ -40,9 +40,10 @@ fn one_firing(alloc: Global) -> Result<Script, NoMemory>
         returns_unlocked: false,
         direct: false,
     };
+    let time = due();
     let reset = Act::Reset {
         who: Who::Timer(0),
-        when: When::At(due()),
+        when: When::At(time),
         func: 0,
         arg: 7,
         cpu: Where::Home,
@@ -52,7 +53,7 @@ fn one_firing(alloc: Global) -> Result<Script, NoMemory>
     let funcs = one(alloc, Seq::new(alloc))?;
     let acts = one(alloc, reset)?;
     let clients = one(alloc, acts)?;
-    let tick = one(alloc, Act::Tick(due()))?;
+    let tick = one(alloc, Act::Tick(time))?;
     let ticks = one(alloc, tick)?;
     Ok(Script {
         version: 1,
