@@ -1,5 +1,5 @@
 -- The numbers of a range, and a list of equal numbers.
-use Rattle.std.proofs.Common.{◌≡◌, ℕ, zero, suc, ◌+◌, ◌<◌, List, [], ◌∷◌, ◌++◌, ap, refl, subst, ◌∙◌, arith, length, get_or, replicate}
+use Rattle.std.proofs.Common.{◌≡◌, ℕ, zero, suc, ◌+◌, ◌<◌, [], ◌∷◌, ◌++◌, ap, refl, subst, ◌∙◌, arith, length, get_or, replicate}
 use Rattle.std.specs.List.{range_with_len}
 
 pub range-more : (a n : ℕ) → range_with_len a (n + 1) ≡ range_with_len a n ++ (a + n) ∷ []

@@ -1,5 +1,5 @@
 -- What comes after the head is the first of its list.
-use Rattle.std.proofs.Common.{◌≡◌, ◌∙◌, ◌+◌, ℕ, cond, get_or, ap, arith, nat_lt}
+use Rattle.std.proofs.Common.{◌∙◌, ◌+◌, ℕ, cond, ap, arith, nat_lt}
 use Rattle.std.specs.declared.option.Option.TheVariants.{Some, None}
 use Rattle.std.proofs.lemmas.List.{get_or_read}
 use Rattle.co_bucket.proofs.Linked.{callout-first}

@@ -1,5 +1,5 @@
 -- Each head is alone in its ring.
-use Rattle.std.proofs.Common.{◌≡◌, ℕ, refl, arith, replicate, rules}
+use Rattle.std.proofs.Common.{◌≡◌, refl, replicate, rules}
 use Rattle.co_bucket.proofs.Linked.{made-empty}
 use Rattle.co_bucket.proofs.rings.Rings.new.Goals as goal
 

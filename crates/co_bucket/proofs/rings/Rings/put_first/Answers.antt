@@ -1,5 +1,5 @@
 -- The callout goes in between the head and the first of its list.
-use Rattle.std.proofs.Common.{◌≡◌, ◌+◌, ◌<◌, ℕ, get_or, set, refl, arith, subst, sym}
+use Rattle.std.proofs.Common.{◌+◌, ℕ, set, refl, arith, subst, sym}
 use Rattle.std.proofs.lemmas.List.{get_or_read}
 use Rattle.co_bucket.specs.Rings.{IsRings}
 use Rattle.co_bucket.proofs.Linked.{become, first-node, free-of, lists-first, put-first}

@@ -1,5 +1,5 @@
 -- The neighbours of a callout are numbers of the rings, and its list closes behind it.
-use Rattle.std.proofs.Common.{◌≡◌, ◌+◌, ◌<◌, ℕ, get_or, set, refl, arith, subst, sym}
+use Rattle.std.proofs.Common.{ℕ, get_or, set, refl, arith, subst, sym}
 use Rattle.std.proofs.lemmas.List.{get_or_read}
 use Rattle.co_bucket.specs.Rings.{IsRings, list_of, without}
 use Rattle.co_bucket.proofs.Linked.{become, listed-parts, next-node, prev-node, taken-out}
