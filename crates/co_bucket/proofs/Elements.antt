@@ -1,4 +1,4 @@
--- What holds of each element of a list, as contracts say it and by recursion.
+-- What holds of each element of a list, as contracts say it and by recursion, which proofs use.
 use Rattle.std.proofs.Common.{List, [], ◌∷◌}
 use Rattle.std.specs.List.{All}
 use Rattle.std.proofs.lemmas.List.Elements.{All-nil, All-cons, All-head, All-tail}

@@ -1,4 +1,4 @@
--- The numbers of a range, and a list of equal numbers.
+-- The numbers of a range, and a list of equal numbers, by recursion.
 use Rattle.std.proofs.Common.{◌≡◌, ℕ, zero, suc, ◌+◌, ◌<◌, [], ◌∷◌, ◌++◌, ap, refl, subst, ◌∙◌, arith, length, get_or, replicate}
 use Rattle.std.specs.List.{range_with_len}
 

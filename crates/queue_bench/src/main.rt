@@ -7,7 +7,7 @@
 ghost use Rattle.std.specs.Prelude.{◌≡◌, ◌≤◌, ◌<◌, IfSome};
 ghost use Rattle.co_queue.specs.Timers.{IsWheel};
 
-use anyhow::{Context, ensure};
+use anyhow::{Context, bail, ensure};
 use co_bucket::WheelQueue;
 use co_queue::{ListQueue, Looks, TimerQueue};
 use co_sbt::Sbt;
@@ -120,6 +120,7 @@ fn buckets_of(word: &str) -> Option<u32>
     }
 }
 
+/// One line of counts.
 fn print(rt: &impl Print, name: &str, counts: &Counts) -> anyhow::Result<()> {
     println!(rt;
         "{name}: {} replaced, {} stopped, {} fired, {} scans, {} looks",
@@ -128,6 +129,7 @@ fn print(rt: &impl Print, name: &str, counts: &Counts) -> anyhow::Result<()> {
     Ok(())
 }
 
+/// Runs a new queue of this name, and prints what came of it.
 fn run_one(
     rt: &impl Print,
     alloc: Global,
@@ -141,12 +143,16 @@ fn run_one(
 {
     let size = work.callouts;
     let direct = vec![in alloc; false; size as usize]?;
-    let counts = if name == "list" {
-        let queue = ListQueue::new(alloc, size, buckets, &direct).ok();
-        run(&mut queue.context("no memory")?, work)
-    } else {
-        let queue = WheelQueue::new(alloc, size, buckets, &direct).ok();
-        run(&mut queue.context("no memory")?, work)
+    let counts = match name {
+        "list" => {
+            let queue = ListQueue::new(alloc, size, buckets, &direct).ok();
+            run(&mut queue.context("no memory")?, work)
+        }
+        "wheel" => {
+            let queue = WheelQueue::new(alloc, size, buckets, &direct).ok();
+            run(&mut queue.context("no memory")?, work)
+        }
+        _ => bail!("QUEUE is list or wheel"),
     };
     print(rt, name, &counts)
 }
@@ -164,7 +170,7 @@ fn main(rt: HostRuntime) -> anyhow::Result<()> {
         return run_one(&rt, rt.alloc(), "wheel", 256, &work);
     };
     let callouts = words.next().context("CALLOUTS")?.parse::<u32>()?;
-    ensure!(callouts >= 1 && callouts <= 1024, "1 to 1024 callouts");
+    ensure!(callouts >= 1 && callouts <= 1024, "CALLOUTS is 1 to 1024");
     let buckets = buckets_of(&words.next().context("BUCKETS")?).context("BUCKETS")?;
     let armings = words.next().context("ARMINGS")?.parse::<u64>()?;
     let step = words.next().context("STEP")?.parse::<u64>()?;

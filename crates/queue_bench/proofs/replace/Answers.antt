@@ -1,5 +1,5 @@
 -- What was removed stands there no more.
-use Rattle.std.proofs.Common.{◌≡◌, ◌∙◌, ◌<◌, ℕ, arith}
+use Rattle.std.proofs.Common.{◌∙◌, arith}
 use Rattle.co_queue.proofs.Gone.{gone}
 use Rattle.queue_bench.proofs.replace.Goals as goal
 

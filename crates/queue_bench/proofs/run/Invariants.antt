@@ -1,3 +1,4 @@
+-- The queue keeps its size.
 use Rattle.std.proofs.Common.{◌≡◌}
 use Rattle.queue_bench.proofs.run.Given as goal
 

@@ -1,3 +1,4 @@
+-- The queue keeps its size.
 use Rattle.std.proofs.Common.{◌≡◌}
 use Rattle.co_bucket.proofs.tests.arm.Given as goal
 
