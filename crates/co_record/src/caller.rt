@@ -4,7 +4,7 @@ ghost use Rattle.co_object.specs.Callout.{call, live_call, retired_call};
 ghost use Rattle.co_object.specs.Query.{answer};
 ghost use Rattle.co_record.specs.Paired.{IsPaired};
 ghost use Rattle.co_record.specs.Same.{SameService};
-ghost use Rattle.co_record.specs.Standing.{state_of, holds};
+ghost use Rattle.co_record.specs.Standing.{state_of};
 
 use crate::arm::{reset, schedule};
 use crate::drain::{async_drain, drain_try, stop};

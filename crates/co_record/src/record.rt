@@ -196,7 +196,8 @@ impl Record {
     /// Nothing is armed any more.
     pub(crate) fn disarm(&mut self, slot: &Slot)
         requires paired { IsPaired self.old slot.now }
-        ensures outcome { state_of self.new slot.now ≡ record (state_of self.old slot.now) { armed = None; active = false } }
+        ensures outcome { state_of self.new slot.now
+            ≡ record (state_of self.old slot.now) { armed = None; active = false } }
         ensures callout { SameCallout self.old slot.now self.new slot.now }
     {
         self.settle(slot);

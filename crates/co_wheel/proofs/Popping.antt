@@ -22,10 +22,11 @@ use Rattle.co_queue.specs.Timers.{Timers}
 use Rattle.co_queue.specs.StandsFor.{StandsFor, Answers, IsAtRest}
 use Rattle.co_queue.proofs.Order.{unlike}
 use Rattle.co_wheel.specs.Agreed.{Came, waits, came, entries, HasCome, IsListedAs, AgreesWith, IsOfItsLane, IsKeptBut, IsWheel}
-use Rattle.co_wheel.specs.Callouts.{Callouts, callout, with_callout, in_service, with_service, direct_of, is_direct_at, is_here, arming_of_callout, arming_number, due_at, off_of_callout, IsDueAt}
+use Rattle.co_wheel.specs.Callouts.{Callouts, callout, with_callout, in_service, with_service, is_direct_at, is_here, arming_number, due_at, IsDueAt}
 use Rattle.co_wheel.specs.Cpu.{cpu_of}
 use Rattle.co_wheel.specs.Service.{moved_on, pick_at, pick_it, pick_outcome}
 use Rattle.co_wheel.specs.Turns.{Shows, Turns, pop_of}
+use Rattle.co_wheel.proofs.Parts.{direct_of, arming_of_callout, off_of_callout}
 use Rattle.co_wheel.proofs.Calling.{unarmed-off}
 use Rattle.co_wheel.proofs.Entries.{none-all}
 use Rattle.co_wheel.proofs.Keeping.{there-within}
