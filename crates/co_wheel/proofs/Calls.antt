@@ -1,4 +1,4 @@
--- What a call does to where a callout's arming stands.
+-- What a call does to where a callout's arming stands: it stays, it goes, or a new one comes. By the operation's cases.
 use Rattle.std.proofs.Common.{◌≡◌, ℕ, Bool, true, false, cond, not, ◌&&◌, ◌||◌, ◌==◌, ◌+◌, ℤ, refl, ap}
 use Rattle.std.specs.Prelude.{is_some}
 use Rattle.std.specs.declared.option.Option.{Option}
