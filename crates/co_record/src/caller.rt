@@ -4,7 +4,7 @@ ghost use Rattle.co_object.specs.Callout.{call, live_call, retired_call};
 ghost use Rattle.co_object.specs.Query.{answer};
 ghost use Rattle.co_record.specs.Paired.{IsPaired};
 ghost use Rattle.co_record.specs.Same.{SameService};
-ghost use Rattle.co_record.specs.Standing.{state_of, holds};
+ghost use Rattle.co_record.specs.Standing.{state_of};
 
 use crate::arm::{reset, schedule};
 use crate::drain::{async_drain, drain_try, stop};
@@ -21,10 +21,10 @@ fn answer(yes: bool) -> Reply
 
 /// A caller's operation on a callout: the reply is the one that the callout alone gives.
 ///
-/// The slot is that of the CPU at which the record stands, and either has the callout in service or no slot has. The codes
-/// of stop, reset and schedule for a callout that no service has, and of a stop of a running function, are those of
-/// callout(9) in FreeBSD 12. Every other reply is our own decision: `NoHandler`, `Worn`, `NotArmed`, the two moments
-/// of a drain, all of an asynchronous drain, init and retire.
+/// The record stands at the slot's CPU, and no other slot has it in service. callout(9) of FreeBSD 12 gives the queries,
+/// the rule that a call which is cancelled under its lock is not made, the codes of a stop, reset or schedule of a
+/// callout that is not being serviced, and that of a stop of a running function that is not armed again. Every other
+/// reply is our own decision.
 pub fn call(rec: &mut Record, slot: &mut Slot, op: &CallOp) -> Reply
     requires paired { IsPaired rec.old slot.old }
     ensures outcome { (state_of rec.new slot.new, result) ≡ call (state_of rec.old slot.old) op.now }

@@ -3,7 +3,7 @@ ghost use Rattle.std.specs.Prelude.{◌≡◌, false};
 ghost use Rattle.co_object.specs.Lifetime.{retire, init};
 ghost use Rattle.co_record.specs.Paired.{IsPaired};
 ghost use Rattle.co_record.specs.Same.{SameCallout};
-ghost use Rattle.co_record.specs.Standing.{state_of, holds};
+ghost use Rattle.co_record.specs.Standing.{state_of};
 
 use crate::{Record, Slot};
 use co_object::Reply;

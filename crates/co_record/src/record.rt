@@ -68,13 +68,6 @@ impl Record {
         self.i
     }
 
-    /// The lock and the lane with which the callout was made.
-    pub fn spec(&self) -> Spec
-        ensures { result ≡ self.now.spec }
-    {
-        self.spec
-    }
-
     /// Whether the interrupt services it, and not the CPU's own actor.
     pub fn is_direct(&self) -> bool
         ensures { result ≡ self.now.spec.direct }
@@ -139,7 +132,7 @@ impl Record {
     }
 
     /// The CPU in whose queue it stands, or None where it stands in none.
-    pub fn off(&self, slot: &Slot) -> Option<u32>
+    pub(crate) fn off(&self, slot: &Slot) -> Option<u32>
         requires { IsPaired self.now slot.now }
         ensures { result ≡ off (state_of self.now slot.now) }
     {
@@ -196,7 +189,8 @@ impl Record {
     /// Nothing is armed any more.
     pub(crate) fn disarm(&mut self, slot: &Slot)
         requires paired { IsPaired self.old slot.now }
-        ensures outcome { state_of self.new slot.now ≡ record (state_of self.old slot.now) { armed = None; active = false } }
+        ensures outcome { state_of self.new slot.now
+            ≡ record (state_of self.old slot.now) { armed = None; active = false } }
         ensures callout { SameCallout self.old slot.now self.new slot.now }
     {
         self.settle(slot);

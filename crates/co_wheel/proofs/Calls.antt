@@ -1,6 +1,6 @@
--- What a call does to where a callout's arming stands.
+-- What a call does to where a callout's arming stands: it stays, it goes, or a new one comes. By the operation's cases.
 use Rattle.std.proofs.Common.{◌≡◌, ℕ, Bool, true, false, cond, not, ◌&&◌, ◌||◌, ◌==◌, ◌+◌, ℤ, refl, ap}
-use Rattle.std.specs.Prelude.{is_some}
+use Rattle.std.specs.Prelude.{is_some, unwrap_or}
 use Rattle.std.specs.declared.option.Option.{Option}
 use Rattle.std.specs.declared.option.Option.TheVariants.{Some, None}
 use Rattle.co_object.specs.declared.state.Arming.{Arming}
@@ -20,7 +20,7 @@ use Rattle.co_object.specs.Query.{answer}
 use Rattle.co_object.specs.Callout.{call, live_call, retired_call}
 use Rattle.co_object.specs.Entries.{is_armed}
 use Rattle.co_object.specs.Group.{off_of}
-use Rattle.co_object.specs.Stand.{Stand, stand_of, listed_cpu, is_free_at, off, is_idle}
+use Rattle.co_object.specs.Stand.{Stand, stand_of, listed_cpu, is_free_at, off, is_idle, Deferred, Listed}
 use Rattle.co_object.proofs.Changes.{either_way}
 
 -- nothing of the queue changes, or the arming is taken away, or a new one stands in its place
@@ -40,14 +40,14 @@ free-cancel (Running n at) cpu = refl
 
 off-cancel : (o : Option Arming) (r : Run) → listed_cpu (stand_of o (cancel r)) ≡ listed_cpu (stand_of o r)
 off-cancel None r = refl
-off-cancel (Some a) r = ap (λ b. listed_cpu (cond b (Rattle.co_object.specs.Stand.Listed a.cpu) (Rattle.co_object.specs.Stand.Deferred a.cpu))) (free-cancel r a.cpu)
+off-cancel (Some a) r = ap (λ b. listed_cpu (cond b (Listed a.cpu) (Deferred a.cpu))) (free-cancel r a.cpu)
 
 shift-reset : (s : State) (due prec func arg : ℕ) (cpu : Option ℕ) → By s (reset s due prec func arg cpu)
 shift-reset s due prec func arg cpu =
     either_way (By s) (s.made == made_max) (s, Worn) _ (λ _. stays s Worn refl refl refl refl) (λ _.
-    either_way (By s) (is_draining s && not (is_idle s.run)) (refuse s) (arm s due prec func arg (Rattle.std.specs.Prelude.unwrap_or cpu s.home))
+    either_way (By s) (is_draining s && not (is_idle s.run)) (refuse s) (arm s due prec func arg (unwrap_or cpu s.home))
     (λ _. stays _ _ refl refl refl (off-cancel s.armed s.run))
-    (λ _. comes _ (record { n = s.made; due = due; prec = prec; func = func; arg = arg; cpu = Rattle.std.specs.Prelude.unwrap_or cpu s.home }) _ refl refl))
+    (λ _. comes _ (record { n = s.made; due = due; prec = prec; func = func; arg = arg; cpu = unwrap_or cpu s.home }) _ refl refl))
 
 shift-schedule : (s : State) (o : Option (ℕ × ℕ)) (due prec : ℕ) (cpu : Option ℕ) → By s (reset_to_last s o due prec cpu)
 shift-schedule s None due prec cpu = stays s NoHandler refl refl refl refl

@@ -13,24 +13,27 @@ use Rattle.co_object.specs.declared.state.State.{State}
 use Rattle.co_object.specs.declared.reply.Reply.{Reply}
 use Rattle.co_object.specs.declared.queue.QReply.{QReply}
 use Rattle.co_object.specs.declared.queue.QReply.TheVariants.{Got, Empty}
-use Rattle.co_object.specs.Serve.{pick, pick_armed, taken, has_lock, is_due}
+use Rattle.co_object.specs.Serve.{pick, pick_armed, taken, has_lock, is_due, go}
 use Rattle.co_object.specs.Stand.{off, is_idle}
 use Rattle.co_object.specs.Queue.{Waiting, Due, Queue}
-use Rattle.co_object.specs.Journal.{step, queue_of, reply_of, pop_unless, pop_direct_unless}
+use Rattle.co_object.specs.Journal.{step, queue_of, reply_of, pop_unless, pop_direct_unless, pop_first, pop_urgent}
 use Rattle.co_object.proofs.Numbers.{same_itself}
 use Rattle.co_queue.specs.Timers.{Timers}
 use Rattle.co_queue.specs.StandsFor.{StandsFor, Answers, IsAtRest}
 use Rattle.co_queue.proofs.Order.{unlike}
 use Rattle.co_wheel.specs.Agreed.{Came, waits, came, entries, HasCome, IsListedAs, AgreesWith, IsOfItsLane, IsKeptBut, IsWheel}
-use Rattle.co_wheel.specs.Callouts.{Callouts, callout, with_callout, in_service, with_service, direct_of, is_direct_at, is_here, arming_of_callout, arming_number, due_at, off_of_callout, IsDueAt}
+use Rattle.co_wheel.specs.Callouts.{Callouts, callout, with_callout, in_service, with_service, is_direct_at, is_here, arming_number, due_at, IsDueAt}
 use Rattle.co_wheel.specs.Cpu.{cpu_of}
 use Rattle.co_wheel.specs.Service.{moved_on, pick_at, pick_it, pick_outcome}
 use Rattle.co_wheel.specs.Turns.{Shows, Turns, pop_of}
+use Rattle.co_wheel.proofs.Parts.{direct_of, arming_of_callout, off_of_callout}
 use Rattle.co_wheel.proofs.Calling.{unarmed-off}
 use Rattle.co_wheel.proofs.Entries.{none-all}
 use Rattle.co_wheel.proofs.Keeping.{there-within}
 use Rattle.co_wheel.proofs.Scanning.{two}
 use Rattle.co_wheel.proofs.Settling.{but-with, closed, some-same}
+use Rattle.co_object.specs.declared.reply.Reply.TheVariants.{Hold}
+use Rattle.co_object.specs.declared.state.Run.TheVariants.{Picked}
 
 -- what has come due for the CPU, or for its interrupt
 abbrev lane_due : Bool → Queue → List Due
@@ -49,11 +52,11 @@ pop_lane direct q (d ∷ ds) = (took direct q d ds, Got d.i d.n q.last)
 
 pop-is : (m : ℕ) (lanes : List Bool) (q : Queue) (direct : Bool) → service_of direct q ≡ None → step m lanes q (pop_of direct) ≡ Some (pop_lane direct q (lane_due direct q))
 pop-is m lanes q true rests = ap (pop_direct_unless q) rests ∙ by_list q.urgent where
-  by_list : (ds : List Due) → Some (Rattle.co_object.specs.Journal.pop_urgent q ds) ≡ Some (pop_lane true q ds)
+  by_list : (ds : List Due) → Some (pop_urgent q ds) ≡ Some (pop_lane true q ds)
   by_list [] = refl
   by_list (d ∷ ds) = refl
 pop-is m lanes q false rests = ap (pop_unless q) rests ∙ by_list q.expired where
-  by_list : (ds : List Due) → Some (Rattle.co_object.specs.Journal.pop_first q ds) ≡ Some (pop_lane false q ds)
+  by_list : (ds : List Due) → Some (pop_first q ds) ≡ Some (pop_lane false q ds)
   by_list [] = refl
   by_list (d ∷ ds) = refl
 
@@ -121,8 +124,8 @@ come-here direct c i n last h = by_callout (callout c i) refl h where
 picked-unarmed : (spec : Spec) (s : State) (n cpu at : ℕ) (o : State × Reply) → pick spec s n cpu at ≡ Some o → o.0.armed ≡ None
 picked-unarmed spec s n cpu at o h = by_arming s.armed h where
   by_lock : (a : Arming) (b : Bool) → taken spec s a ≡ o → has_lock spec.lock ≡ b → o.0.armed ≡ None
-  by_lock a true e is = sym (ap (λ x. x.0.armed) e) ∙ ap (λ b. (cond b (record s { armed = None; run = Rattle.co_object.specs.declared.state.Run.TheVariants.Picked a }, Rattle.co_object.specs.declared.reply.Reply.TheVariants.Hold) (Rattle.co_object.specs.Serve.go (record s { armed = None }) a)).0.armed) is
-  by_lock a false e is = sym (ap (λ x. x.0.armed) e) ∙ ap (λ b. (cond b (record s { armed = None; run = Rattle.co_object.specs.declared.state.Run.TheVariants.Picked a }, Rattle.co_object.specs.declared.reply.Reply.TheVariants.Hold) (Rattle.co_object.specs.Serve.go (record s { armed = None }) a)).0.armed) is
+  by_lock a true e is = sym (ap (λ x. x.0.armed) e) ∙ ap (λ b. (cond b (record s { armed = None; run = Picked a }, Hold) (go (record s { armed = None }) a)).0.armed) is
+  by_lock a false e is = sym (ap (λ x. x.0.armed) e) ∙ ap (λ b. (cond b (record s { armed = None; run = Picked a }, Hold) (go (record s { armed = None }) a)).0.armed) is
 
   by_test : (a : Arming) (b : Bool) → cond b (Some (taken spec s a)) None ≡ Some o → o.0.armed ≡ None
   by_test a true h = by_lock a (has_lock spec.lock) (some-same (taken spec s a) o h) refl
