@@ -15,7 +15,9 @@ use Rattle.co_program.specs.declared.When.{When}
 use Rattle.co_program.specs.declared.When.TheVariants as when
 use Rattle.co_program.specs.declared.Where.{Where}
 use Rattle.co_program.specs.declared.Where.TheVariants as cpu
-use Rattle.co_program.specs.Actors.{Role, Client, Cpu, Interrupt, role_of}
+use Rattle.co_program.specs.Actors.{role_of}
+use Rattle.co_program.specs.declared.Role.{Role}
+use Rattle.co_program.specs.declared.Role.TheVariants.{Client, Cpu, Interrupt}
 use Rattle.co_text.specs.Values.{Word}
 use Rattle.co_text.specs.Written.{units_word, func_word, argument_word}
 

@@ -1,7 +1,8 @@
 -- The words that name actors and turns.
 use Rattle.std.specs.Prelude.{ℕ, Bool, ◌&&◌, [], ◌∷◌, length, drop, Result, Ok, Err, ◌==◌, if◌then◌else◌}
 use Rattle.std.specs.List.{before_first}
-use Rattle.co_program.specs.Actors.{Role, Client, Cpu, Interrupt}
+use Rattle.co_program.specs.declared.Role.{Role}
+use Rattle.co_program.specs.declared.Role.TheVariants.{Client, Cpu, Interrupt}
 use Rattle.co_text.specs.Fallible.{◌>>=◌}
 use Rattle.co_text.specs.Values.{Word, number}
 use Rattle.co_text.specs.declared.Cause.{Cause}

@@ -21,7 +21,8 @@ use Rattle.co_grammar.specs.declared.raw.RawSpec.{RawSpec}
 use Rattle.co_object.specs.declared.Spec.{Spec}
 use Rattle.co_object.specs.declared.LockUse.{LockUse}
 use Rattle.co_object.specs.declared.LockUse.TheVariants.{Free, Mtx, Rw, RwShared}
-use Rattle.co_program.specs.Actors.{Role, Client, Cpu, Interrupt}
+use Rattle.co_program.specs.declared.Role.{Role}
+use Rattle.co_program.specs.declared.Role.TheVariants.{Client, Cpu, Interrupt}
 use Rattle.co_grammar.specs.Turns.{Turn}
 
 abbrev pub who_view : RawWho → Who

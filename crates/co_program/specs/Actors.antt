@@ -2,12 +2,10 @@
 use Rattle.std.specs.Prelude.{ℕ, zero, suc, ◌+◌, ◌-◌, ◌*◌, ◌%◌, ◌==◌, nat_lt, if◌then◌else◌, List, [], ◌∷◌, map, length, slice_index_or}
 use Rattle.co_program.specs.declared.act.Act.{Act}
 use Rattle.co_program.specs.declared.script.Script.{Script}
-
--- who an actor is
-pub data Role : Type 0 where
-  Client : (client : ℕ) → Role
-  Cpu : (cpu : ℕ) → Role
-  Interrupt : (cpu : ℕ) → Role
+use Rattle.co_program.specs.declared.role.Role.{Role}
+use Rattle.co_program.specs.declared.role.Role.TheVariants.{Client, Cpu, Interrupt}
+use Rattle.co_program.specs.declared.program.Task.{Task}
+use Rattle.co_program.specs.declared.program.Task.TheVariants.{Does, Soft}
 
 abbrev pub client_count : Script → ℕ
 client_count s = length s.clients
@@ -20,11 +18,6 @@ role_of s a =
     if nat_lt a (client_count s) then Client a
     else if nat_lt a (client_count s + s.cpus) then Cpu (a - client_count s)
     else Interrupt (a - client_count s - s.cpus)
-
--- one act of a program: an act of the script, or a CPU's j-th soft act, which runs what j + 1 ticks of its interrupt have expired
-pub data Task : Type 0 where
-  Does : (act : Act) → Task
-  Soft : (j : ℕ) → Task
 
 -- n soft acts, from the j-th on
 abbrev pub softs : ℕ → ℕ → List Task

@@ -2,16 +2,10 @@
 use Rattle.std.specs.Prelude.{ℕ, List, Option, None}
 use Rattle.co_lock.specs.declared.Held.{Held}
 use Rattle.co_program.specs.declared.script.Script.{Script}
-use Rattle.co_program.specs.Actors.{Task, program_of, role_of}
+use Rattle.co_program.specs.declared.program.Task.{Task}
+use Rattle.co_program.specs.Actors.{program_of, role_of}
 use Rattle.co_program.specs.Stages.{Stage, Ready}
-
--- an Insert that is still to come: callout i, with its arming n, is on its way into a CPU's queue
-pub record Parcel : Type 0 where
-  pub act : ℕ
-  pub i : ℕ
-  pub n : ℕ
-  pub due : ℕ
-  pub cpu : ℕ
+use Rattle.co_program.specs.declared.cursor.Parcel.{Parcel}
 
 pub record Cursor : Type 0 where
   -- the acts that are not over; the first may be under way

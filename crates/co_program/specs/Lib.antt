@@ -6,3 +6,5 @@ pub mod Action
 pub mod Advance
 pub mod Follows
 pub mod Scripts
+pub mod Indexed
+pub mod Existing

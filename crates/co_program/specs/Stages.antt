@@ -2,13 +2,7 @@
 use Rattle.std.specs.Prelude.{ℕ, Bool, List, Option}
 use Rattle.co_object.specs.declared.Next.{Next}
 use Rattle.co_program.specs.declared.act.Act.{Act}
-
--- a service in an act: of callout i, for its arming n, at the time of the last scan
-pub record Service : Type 0 where
-  pub act : ℕ
-  pub i : ℕ
-  pub n : ℕ
-  pub at : ℕ
+use Rattle.co_program.specs.declared.cursor.Service.{Service}
 
 pub data Stage : Type 0 where
   -- between two acts

@@ -7,7 +7,7 @@ use co_object::PlainOp;
 use co_sbt::Sbt;
 
 /// The callout and the operation of a call; None for an act that is no call, and for a drain.
-pub fn plain_op(act: &Act, hz: u32, scene: &Scene) -> Option<(u32, PlainOp)>
+pub fn call_of(act: &Act, hz: u32, scene: &Scene) -> Option<(u32, PlainOp)>
     requires low { 1 ≤ hz }
     requires high { hz ≤ 1000000 }
     ensures { result ≡ plain_op act.now hz scene.now }

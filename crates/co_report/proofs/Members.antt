@@ -2,7 +2,7 @@
 use Rattle.std.proofs.Common.{◌≡◌, ℕ, ◌+◌, ◌≤◌, Bool, true, false, cond, ◌⊎◌, inl, inr, List, [], ◌∷◌, ◌++◌, refl, ap, ◌∙◌, arith}
 use Rattle.std.specs.Prelude.{Some}
 use Rattle.std.specs.List.{filter, find}
-use Rattle.co_object.proofs.Tally.{tally}
+use Rattle.co_object.proofs.Passing.{passing}
 
 module _ {X : Type 0} where
   abbrev pub Has : X → List X → Type 0
@@ -28,21 +28,21 @@ module _ {X : Type 0} where
       behind true rest = inr rest
       behind false rest = rest
 
-  pub has-tally : (p : X → Bool) (x : X) (xs : List X) → p x ≡ true → Has x xs → 1 ≤ tally p xs
-  has-tally p x [] passes h = absurd h
-  has-tally p x (y ∷ ys) passes h = elim h [ inl e ↦ first e | inr rest ↦ (let more = has-tally p x ys passes rest in omega (arith, more)) ]
+  pub has-passing : (p : X → Bool) (x : X) (xs : List X) → p x ≡ true → Has x xs → 1 ≤ passing p xs
+  has-passing p x [] passes h = absurd h
+  has-passing p x (y ∷ ys) passes h = elim h [ inl e ↦ first e | inr rest ↦ (let more = has-passing p x ys passes rest in omega (arith, more)) ]
     where
-      first : y ≡ x → 1 ≤ cond (p y) 1 0 + tally p ys
+      first : y ≡ x → 1 ≤ cond (p y) 1 0 + passing p ys
       first e = let b : p y ≡ true = ap p e ∙ passes in rw b (omega arith)
 
-  pub find-has : (p : X → Bool) (x : X) (xs : List X) → tally p xs ≡ 1 → p x ≡ true → Has x xs → find p xs ≡ Some x
+  pub find-has : (p : X → Bool) (x : X) (xs : List X) → passing p xs ≡ 1 → p x ≡ true → Has x xs → find p xs ≡ Some x
   find-has p x [] one passes h = absurd h
   find-has p x (y ∷ ys) one passes h = at_test (p y) refl h (λ one rest. find-has p x ys one passes rest) where
-    at_test : (b : Bool) → p y ≡ b → Has x (y ∷ ys) → (tally p ys ≡ 1 → Has x ys → find p ys ≡ Some x) → cond (p y) (Some y) (find p ys) ≡ Some x
+    at_test : (b : Bool) → p y ≡ b → Has x (y ∷ ys) → (passing p ys ≡ 1 → Has x ys → find p ys ≡ Some x) → cond (p y) (Some y) (find p ys) ≡ Some x
     at_test true is h behind = rw is (ap Some (elim h [
       | inl e ↦ e
       | inr rest ↦ (
-          let more = has-tally p x ys passes rest in
+          let more = has-passing p x ys passes rest in
           let first : cond {A = ℕ} (p y) 1 0 ≡ 1 = ap (λ (b : Bool). cond {A = ℕ} b 1 0) is in
           absurd (omega (arith, one, first, more)))
     ]))
@@ -50,6 +50,6 @@ module _ {X : Type 0} where
       | inl e ↦ (let b : p y ≡ true = ap p e ∙ passes in cc)
       | inr rest ↦ (
           let none : cond {A = ℕ} (p y) 1 0 ≡ 0 = ap (λ (b : Bool). cond {A = ℕ} b 1 0) is in
-          let others : tally p ys ≡ 1 = omega (arith, one, none) in
+          let others : passing p ys ≡ 1 = omega (arith, one, none) in
           behind others rest)
     ])

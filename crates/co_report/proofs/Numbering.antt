@@ -5,7 +5,7 @@ use Rattle.std.specs.List.{filter}
 use Rattle.co_object.specs.declared.Note.{Note}
 use Rattle.co_object.specs.declared.Place.{Place}
 use Rattle.co_object.specs.Lists.{same_place, notes_of, all_notes_of}
-use Rattle.co_object.proofs.Tally.{tally, tally-append}
+use Rattle.co_object.proofs.Passing.{passing, passing-append}
 use Rattle.co_report.specs.Histories.{Numbered, numbered_from, numbered_of, all_numbered_of}
 use Rattle.co_report.specs.Origins.{note_at}
 use Rattle.co_report.proofs.Members.{Has, has-left, has-right, has-filter}
@@ -78,29 +78,29 @@ record FoundIn (p : Place) (test : Note → Bool) (notes : List Note) : Type 0 w
   here : same_place note.place p ≡ true
   passes : test note ≡ true
 
-found-in : (p : Place) (test : Note → Bool) (notes : List Note) → 1 ≤ tally test (notes_of p notes) → FoundIn p test notes
+found-in : (p : Place) (test : Note → Bool) (notes : List Note) → 1 ≤ passing test (notes_of p notes) → FoundIn p test notes
 found-in p test [] some = absurd (omega (arith, some))
 found-in p test (n ∷ ns) some = at_place (same_place n.place p) refl some (λ more. found-in p test ns more) where
   behind : FoundIn p test ns → FoundIn p test (n ∷ ns)
   behind f = record { number = suc f.number; note = f.note; at = f.at; here = f.here; passes = f.passes }
 
-  at_test : (b : Bool) → same_place n.place p ≡ true → test n ≡ b → 1 ≤ cond b 1 0 + tally test (notes_of p ns) → (1 ≤ tally test (notes_of p ns) → FoundIn p test ns) → FoundIn p test (n ∷ ns)
+  at_test : (b : Bool) → same_place n.place p ≡ true → test n ≡ b → 1 ≤ cond b 1 0 + passing test (notes_of p ns) → (1 ≤ passing test (notes_of p ns) → FoundIn p test ns) → FoundIn p test (n ∷ ns)
   at_test true here is some rest = record { number = 0; note = n; at = refl; here = here; passes = is }
   at_test false here is some rest = behind (rest (omega (arith, some)))
 
-  at_place : (b : Bool) → same_place n.place p ≡ b → 1 ≤ tally test (cond b (n ∷ notes_of p ns) (notes_of p ns)) → (1 ≤ tally test (notes_of p ns) → FoundIn p test ns) → FoundIn p test (n ∷ ns)
+  at_place : (b : Bool) → same_place n.place p ≡ b → 1 ≤ passing test (cond b (n ∷ notes_of p ns) (notes_of p ns)) → (1 ≤ passing test (notes_of p ns) → FoundIn p test ns) → FoundIn p test (n ∷ ns)
   at_place true here some rest = at_test (test n) here refl some rest
   at_place false here some rest = behind (rest some)
 
-pub found : (p : Place) (test : Note → Bool) (lists : List (List Note)) → 1 ≤ tally test (all_notes_of p lists) → Found p test lists
+pub found : (p : Place) (test : Note → Bool) (lists : List (List Note)) → 1 ≤ passing test (all_notes_of p lists) → Found p test lists
 found p test [] some = absurd (omega (arith, some))
-found p test (notes ∷ lists) some = by_count (tally test (notes_of p notes)) refl (λ more. found p test lists more) where
+found p test (notes ∷ lists) some = by_count (passing test (notes_of p notes)) refl (λ more. found p test lists more) where
   behind : Found p test lists → Found p test (notes ∷ lists)
   behind f = record { actor = suc f.actor; number = f.number; note = f.note; at = f.at; here = f.here; passes = f.passes }
 
   here_in : FoundIn p test notes → Found p test (notes ∷ lists)
   here_in f = record { actor = 0; number = f.number; note = f.note; at = f.at; here = f.here; passes = f.passes }
 
-  by_count : (k : ℕ) → tally test (notes_of p notes) ≡ k → (1 ≤ tally test (all_notes_of p lists) → Found p test lists) → Found p test (notes ∷ lists)
-  by_count zero none rest = behind (rest (omega (arith, some, none, tally-append test (notes_of p notes) (all_notes_of p lists))))
+  by_count : (k : ℕ) → passing test (notes_of p notes) ≡ k → (1 ≤ passing test (all_notes_of p lists) → Found p test lists) → Found p test (notes ∷ lists)
+  by_count zero none rest = behind (rest (omega (arith, some, none, passing-append test (notes_of p notes) (all_notes_of p lists))))
   by_count (suc k) one rest = here_in (found-in p test notes (omega (arith, one)))

@@ -7,7 +7,7 @@ use Rattle.co_object.specs.declared.Note.{Note}
 use Rattle.co_object.specs.declared.Place.{Place}
 use Rattle.co_object.specs.Lists.{same_place, all_notes_of, IsWellFormed}
 use Rattle.co_object.proofs.Numbers.{same_number, same_itself}
-use Rattle.co_object.proofs.Tally.{tally, count-tally}
+use Rattle.co_object.proofs.Passing.{passing, count-passing}
 use Rattle.co_program.specs.declared.Script.{Script}
 use Rattle.co_report.specs.declared.origin.Origin.{Origin}
 use Rattle.co_report.specs.Histories.{Numbered, Shown, shown, shown_at, shown_history, all_numbered_of}
@@ -18,7 +18,7 @@ use Rattle.co_report.proofs.Members.{find-has}
 use Rattle.co_report.proofs.Numbering.{note_of, numbered, all-notes-of, has-note, Found, found}
 use Rattle.co_report.proofs.Places.{index_below, same_index}
 use Rattle.co_report.proofs.Starts.{length-starts, next-start, starts-upto, same-run}
-use Rattle.co_report.proofs.Counted.{note-place, note-actor, count-of, is_at, tally-numbered}
+use Rattle.co_report.proofs.Counted.{note-place, note-actor, count-of, is_at, passing-numbered}
 use Rattle.co_report.proofs.Room.{pos-in-run}
 use Rattle.co_report.proofs.Written.{nowhere}
 
@@ -70,7 +70,7 @@ module _ (s : Script) (lists : List (List Note)) (counts : List ℕ) (origins : 
   -- the position of a place has a note
   is-taken : (p : Place) (pos : ℕ) → place_exists s p ≡ true → pos < length (all_notes_of p lists) → IsSome (note_behind lists origins (start_of (place_index s p) + pos))
   is-taken p pos hp below =
-      let some : 1 ≤ tally (is_at pos) (all_notes_of p lists) = omega (arith, formed.once p pos below, count-tally (is_at pos) (all_notes_of p lists)) in
+      let some : 1 ≤ passing (is_at pos) (all_notes_of p lists) = omega (arith, formed.once p pos below, count-passing (is_at pos) (all_notes_of p lists)) in
       let f : Found p (is_at pos) lists = found p (is_at pos) lists some in
       let hq : place_exists s f.note.place ≡ true = note-place s lists f.actor f.number f.note exist f.at in
       let there : location s (starts_from 0 counts) f.note ≡ start_of (place_index s p) + pos =
@@ -91,7 +91,7 @@ module _ (s : Script) (lists : List (List Note)) (counts : List ℕ) (origins : 
       let index : place_index s m.place ≡ place_index s p =
       same-run 0 counts (place_index s m.place) (place_index s p) m.pos pos (omega (arith, are.places, index_below s m.place hm)) (omega (arith, are.places, index_below s p hp)) in_m in_p run in
       let same : m.pos ≡ pos = omega (arith, run, ap start_of index) in
-      let one : tally (λ (x : Numbered). is_at pos x.note) (all_numbered_of p lists) ≡ 1 = tally-numbered p pos lists ∙ formed.once p pos below in
+      let one : passing (λ (x : Numbered). is_at pos x.note) (all_numbered_of p lists) ≡ 1 = passing-numbered p pos lists ∙ formed.once p pos below in
       let this : find (λ (x : Numbered). is_at pos x.note) (all_numbered_of p lists) ≡ Some (numbered o.number m) =
       find-has (λ (x : Numbered). is_at pos x.note) (numbered o.number m) (all_numbered_of p lists) one (same_itself m.pos pos same)
       (has-note p lists o.actor o.number m at (place-of m.place p hm hp index)) in record {

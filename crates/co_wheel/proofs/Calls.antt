@@ -1,9 +1,8 @@
 -- What a call does to where a callout's arming stands.
-use Rattle.std.proofs.Common.{◌≡◌, ℕ, Bool, true, false, cond, not, ◌&&◌, ◌||◌, ◌==◌, ◌+◌, ℤ, refl, ap, sym, subst, ◌∙◌}
+use Rattle.std.proofs.Common.{◌≡◌, ℕ, Bool, true, false, cond, not, ◌&&◌, ◌||◌, ◌==◌, ◌+◌, ℤ, refl, ap}
 use Rattle.std.specs.Prelude.{is_some}
 use Rattle.std.specs.declared.option.Option.{Option}
 use Rattle.std.specs.declared.option.Option.TheVariants.{Some, None}
-use Rattle.co_object.specs.declared.spec.Spec.{Spec}
 use Rattle.co_object.specs.declared.state.Arming.{Arming}
 use Rattle.co_object.specs.declared.state.Run.{Run}
 use Rattle.co_object.specs.declared.state.Run.TheVariants.{Idle, Picked, Cancelled, Running}
@@ -13,12 +12,11 @@ use Rattle.co_object.specs.declared.op.PlainOp.TheVariants.{Reset, Schedule, Sto
 use Rattle.co_object.specs.declared.op.CallOp.{CallOp}
 use Rattle.co_object.specs.declared.op.CallOp.TheVariants.{Plain, DrainTry}
 use Rattle.co_object.specs.declared.reply.Reply.{Reply}
-use Rattle.co_object.specs.declared.reply.Reply.TheVariants.{Armed, NoHandler, Worn, NotArmed, Stopped, Wait, Drained, Live, Retired, Busy, Done, InUse}
-use Rattle.co_object.specs.Arm.{cancel, arm, refuse, reset, reset_to_last, made_max, is_draining, code_of, is_picked}
+use Rattle.co_object.specs.declared.reply.Reply.TheVariants.{Armed, NoHandler, Worn, Live, Retired, Busy, Done, InUse}
+use Rattle.co_object.specs.Arm.{cancel, arm, refuse, reset, reset_to_last, made_max, is_draining}
 use Rattle.co_object.specs.Stop.{stop}
-use Rattle.co_object.specs.Drain.{drain_try, drain_at, drain_later, async_drain, serviced}
-use Rattle.co_object.specs.Query.{answer, is_active, is_pending, deactivate}
-use Rattle.co_object.specs.Lifetime.{retire, init}
+use Rattle.co_object.specs.Drain.{drain_at, drain_later, serviced}
+use Rattle.co_object.specs.Query.{answer}
 use Rattle.co_object.specs.Callout.{call, live_call, retired_call}
 use Rattle.co_object.specs.Entries.{is_armed}
 use Rattle.co_object.specs.Group.{off_of}

@@ -1,0 +1,80 @@
+-- A cursor as the code keeps it: what is left is told by how much of it is over.
+use Rattle.std.specs.Prelude.{ℕ, ◌+◌, ◌-◌, ◌^◌, ◌≤◌, min, List, drop}
+use Rattle.co_program.specs.declared.act.Act.{Act}
+use Rattle.co_program.specs.declared.script.Script.{Script}
+use Rattle.co_program.specs.declared.cursor.ActsLeft.{ActsLeft}
+use Rattle.co_program.specs.declared.cursor.Stage.{Stage as StageAt}
+use Rattle.co_program.specs.declared.cursor.Stage.TheVariants as at
+use Rattle.co_program.specs.declared.cursor.Cursor.{Cursor as CursorAt}
+use Rattle.co_program.specs.declared.action.Action.{Action as ActionAt}
+use Rattle.co_program.specs.declared.action.Action.TheVariants as action
+use Rattle.co_program.specs.declared.role.Role.{Role}
+use Rattle.co_program.specs.Actors.{role_of, acts_at, program_of}
+use Rattle.co_program.specs.Stages.{Stage, Ready, Waiting, Popping, Picking, Locking, Beginning, Unlocking, Firing, Releasing, Ending, Freeing, Drained}
+use Rattle.co_program.specs.Cursor.{Cursor}
+use Rattle.co_program.specs.Action.{Action, Nothing, Silent, Take, Asks}
+
+-- the acts of a function that are left
+abbrev pub acts_left : Script → ActsLeft → List Act
+acts_left s left = drop left.done (acts_at s.funcs left.func)
+
+abbrev pub stage_of : Script → StageAt → Stage
+stage_of s at.Ready = Ready
+stage_of s (at.Waiting n took) = Waiting n took
+stage_of s (at.Popping act) = Popping act
+stage_of s (at.Picking v) = Picking v
+stage_of s (at.Locking v) = Locking v
+stage_of s (at.Beginning v) = Beginning v
+stage_of s (at.Unlocking v left) = Unlocking v (acts_left s left)
+stage_of s (at.Firing v left) = Firing v (acts_left s left)
+stage_of s (at.Releasing v) = Releasing v
+stage_of s (at.Ending v) = Ending v
+stage_of s (at.Freeing v drain next) = Freeing v drain next
+stage_of s (at.Drained v left) = Drained v (acts_left s left)
+
+-- the place that a role is at
+abbrev pub cursor_as : Script → Role → CursorAt → Cursor
+cursor_as s role c =
+    record {
+      left = drop c.task (program_of s role);
+      act = c.act;
+      now = c.time;
+      hold = c.hold;
+      stage = stage_of s c.stage;
+      removed = c.removed;
+      parcel = c.parcel;
+    }
+
+abbrev pub action_as : Script → Role → ActionAt → Action
+action_as s role action.Nothing = Nothing
+action_as s role (action.Silent to) = Silent (cursor_as s role to)
+action_as s role (action.Take held to) = Take held (cursor_as s role to)
+action_as s role (action.Asks act asked) = Asks act asked
+
+-- the same of an actor
+abbrev pub cursor_of : Script → ℕ → CursorAt → Cursor
+cursor_of s actor c = cursor_as s (role_of s actor) c
+
+abbrev pub action_of : Script → ℕ → ActionAt → Action
+action_of s actor a = action_as s (role_of s actor) a
+
+-- one more is over; past an end it stays there, since no list of acts is as long as the largest number
+abbrev pub past : ℕ → ℕ
+past over = min (over + 1) (2 ^ 32 - 1)
+
+-- ---- the number of the next act
+
+-- of the acts that have begun each is over in the program, or has made one of so many notes
+abbrev pub IsCounted : CursorAt → ℕ → Type 0
+IsCounted c notes = c.act ≤ c.task + notes
+
+-- so it is of the acts that begin between two places, with so many notes made between them
+abbrev pub Counts : (from to : CursorAt) → ℕ → Type 0
+Counts from to notes = to.act + from.task ≤ from.act + to.task + notes
+
+-- and between a place and the one to which a step without a note leads
+abbrev pub ActionCounts : CursorAt → ActionAt → Type 0
+ActionCounts c action.Nothing = Unit {0}
+ActionCounts c (action.Silent to) = Counts c to 0
+ActionCounts c (action.Take held to) = Counts c to 0
+ActionCounts c (action.Asks act asked) = Unit {0}
