@@ -46,3 +46,4 @@ pub mod Listing
 pub mod Noting
 pub mod Writing
 pub mod Placing
+pub mod Slots
