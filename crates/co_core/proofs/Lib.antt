@@ -47,3 +47,4 @@ pub mod Noting
 pub mod Writing
 pub mod Placing
 pub mod Slots
+pub mod Quietly
