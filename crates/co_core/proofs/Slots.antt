@@ -20,6 +20,7 @@ use Rattle.co_program.specs.Stages.{Stage, Ready, Waiting, Popping, Picking, Loc
 use Rattle.co_program.specs.Cursor.{Cursor}
 use Rattle.co_program.specs.Action.{Action, Silent, Take, Asks, firing, draining}
 use Rattle.co_program.specs.Advance.{act_over, called, tail_of}
+use Rattle.co_core.specs.Step.{is_within}
 use Rattle.co_core.specs.Stands.{in_slot, callout_in, entry_of}
 use Rattle.co_core.proofs.Actions.{IsAction, drops, passes, grabs, tells, asks, drains, waits, waits_told, enters, unlocks, fires, fires_told, releases, serves, serves_told}
 use Rattle.co_core.proofs.Deeds.{Did, is_plain}
@@ -77,6 +78,28 @@ over_kept c (Releasing v) h = cc
 over_kept c (Ending v) h = cc
 over_kept c (Freeing v drain next) h = cc
 
+-- no section is half made after it
+pub over_within : (c : Cursor) (stage : Stage) → is_acting stage ≡ true → is_within (act_over c stage).stage ≡ false
+over_within c Ready h = refl
+over_within c (Waiting n took) h = refl
+over_within c (Firing v acts) h = go c.hold (tail_of acts) where
+  go : (hold : Option Held) (acts : List Act) → is_within (firing v hold acts) ≡ false
+  go hold (act ∷ acts) = refl
+  go None [] = refl
+  go (Some held) [] = refl
+over_within c (Drained v acts) h = go (tail_of acts) where
+  go : (acts : List Act) → is_within (draining v acts) ≡ false
+  go [] = refl
+  go (act ∷ acts) = refl
+over_within c (Popping act) h = cc
+over_within c (Picking v) h = cc
+over_within c (Locking v) h = cc
+over_within c (Beginning v) h = cc
+over_within c (Unlocking v acts) h = cc
+over_within c (Releasing v) h = cc
+over_within c (Ending v) h = cc
+over_within c (Freeing v drain next) h = cc
+
 pub over_parcel : (c : Cursor) (stage : Stage) → (act_over c stage).parcel ≡ c.parcel
 over_parcel c (Firing v acts) = refl
 over_parcel c (Drained v acts) = refl
@@ -92,7 +115,7 @@ over_parcel c (Ending v) = refl
 over_parcel c (Freeing v drain next) = refl
 
 -- the stage in which a note of the actor's own is made, and a call
-own_acting : (s : Script) (role : Role) (c : Cursor) (stage : Stage) (act : ℕ) (kind : OwnKind) → IsAction s role c stage (Asks act (Itself kind)) → is_acting stage ≡ true
+pub own_acting : (s : Script) (role : Role) (c : Cursor) (stage : Stage) (act : ℕ) (kind : OwnKind) → IsAction s role c stage (Asks act (Itself kind)) → is_acting stage ≡ true
 own_acting s role c stage act kind (tells task left k is own) = refl
 own_acting s role c stage act kind (waits_told n took k some) = refl
 own_acting s role c stage act kind (fires_told v x acts k) = refl

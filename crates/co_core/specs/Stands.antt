@@ -1,5 +1,5 @@
 -- What the world in code stands for: a plain world that some schedule reaches.
-use Rattle.std.specs.Prelude.{◌≡◌, ℕ, ◌≤◌, ◌<◌, ◌==◌, ◌&&◌, not, Bool, true, false, List, length, get_or, if◌then◌else◌}
+use Rattle.std.specs.Prelude.{◌≡◌, ℕ, ◌^◌, ◌≤◌, ◌<◌, ◌==◌, ◌&&◌, not, Bool, true, false, List, length, get_or, if◌then◌else◌}
 use Rattle.std.specs.declared.option.Option.{Option}
 use Rattle.std.specs.declared.option.Option.TheVariants.{Some, None}
 use Rattle.co_object.specs.declared.alone.Alone.{Alone}
@@ -180,3 +180,11 @@ pub record IsDue (s : Script) (w : World) (a : ℕ) (action : Action) : Type 0 w
   pub may : a < actor_count s
   pub due : action_for s a (w.actors a).cursor ≡ action
   pub free : blocked s w a ≡ None
+
+-- the actor in hand may do this now, with room for a section's notes
+pub record MayAct (s : Script) (e : Engine) (hand : Hand) (action : Action) : Type 0 where
+  pub world : World
+  pub held : HeldBy s e hand world
+  pub due : IsDue s world hand.actor action
+  pub few : e.books.made < 2 ^ 63
+  pub room : 3 ≤ hand.notes.spare
