@@ -48,3 +48,4 @@ pub mod Writing
 pub mod Placing
 pub mod Slots
 pub mod Quietly
+pub mod Naming
