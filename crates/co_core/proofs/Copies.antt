@@ -1,6 +1,7 @@
 -- Lists of equal elements, and tables of equal values.
 use Rattle.std.proofs.Common.{◌≡◌, ℕ, zero, suc, ◌+◌, ◌<◌, List, [], ◌∷◌, ◌++◌, length, replicate, get_or, map, refl, ap, sym, ◌∙◌, arith, add-one}
 use Rattle.std.specs.List.{range_with_len}
+use Rattle.std.proofs.lemmas.List.FromFn.{map-range_with_len_more}
 use Rattle.co_core.specs.Table.{table}
 
 pub replicate-more : {X : Type 0} (n : ℕ) (x : X) → replicate n x ++ x ∷ [] ≡ replicate (n + 1) x
@@ -14,3 +15,7 @@ range-same a (suc n) x = ap (λ xs. x ∷ xs) (range-same (a + 1) n x)
 
 pub table-same : {X : Type 0} (n : ℕ) (x : X) → table n (λ _. x) ≡ replicate n x
 table-same n x = range-same 0 n x
+
+-- a table with one more value
+pub table-more : {X : Type 0} (n : ℕ) (f : ℕ → X) → table n f ++ f n ∷ [] ≡ table (n + 1) f
+table-more n f = sym (map-range_with_len_more f 0 n n (omega arith))

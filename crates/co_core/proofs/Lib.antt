@@ -51,3 +51,4 @@ pub mod Quietly
 pub mod Naming
 pub mod Copies
 pub mod Booting
+pub mod Filling

@@ -9,6 +9,8 @@ ghost use Rattle.co_wheel.specs.Parcel.{Parcel as Travelling};
 ghost use Rattle.co_wheel.specs.Service.{begin_here, end_here};
 ghost use Rattle.co_core.specs.Stored.{IsBegun, IsCalled, IsEnded, IsLanded, IsNext, IsScanned, MayLand, bag_at, is_entry, services, stand_at, wheel_at, with_bag, with_stand, with_wheel};
 
+mod boot;
+
 use co_object::{CallOp, Reply};
 use co_queue::{ListQueue, Looks};
 use co_sbt::Sbt;
