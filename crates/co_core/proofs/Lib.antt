@@ -49,3 +49,5 @@ pub mod Placing
 pub mod Slots
 pub mod Quietly
 pub mod Naming
+pub mod Homes
+pub mod Relisted
