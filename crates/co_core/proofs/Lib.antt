@@ -51,3 +51,4 @@ pub mod Quietly
 pub mod Naming
 pub mod Homes
 pub mod Relisted
+pub mod CallEnds
