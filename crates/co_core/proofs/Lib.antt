@@ -52,3 +52,4 @@ pub mod Naming
 pub mod Homes
 pub mod Relisted
 pub mod CallEnds
+pub mod CallSection
