@@ -33,13 +33,13 @@ use Rattle.co_program.specs.Stages.{Stage}
 use Rattle.co_program.specs.Stages as stages
 use Rattle.co_program.specs.Cursor.{Cursor}
 use Rattle.co_program.specs.Action.{Action, Asks, action_for, action_with, spec_at}
-use Rattle.co_program.specs.Advance.{called, advance_callout, advance, act_over}
+use Rattle.co_program.specs.Advance.{called, advance_callout, advance, act_over, due_of_call}
 use Rattle.co_program.specs.Scripts.{IsScript}
 use Rattle.co_wheel.specs.Call.{is_away, call_at, call_it}
 use Rattle.co_wheel.specs.Callouts.{Callouts, callout, is_here, with_callout, is_listed_of, is_at}
 use Rattle.co_wheel.specs.Cpu.{Cpu as WheelOf}
-use Rattle.co_wheel.specs.Parcel.{Parcel as Travelling, parcel}
-use Rattle.co_wheel.specs.Turns.{Shows, Takes, Turn, Turns, removal, insertion}
+use Rattle.co_wheel.specs.Parcel.{Parcel as Travelling, parcel, parcel_to}
+use Rattle.co_wheel.specs.Turns.{Shows, Takes, Turn, Turns, removal, insertion, insertion_of}
 use Rattle.co_core.specs.World.{World}
 use Rattle.co_core.specs.Blocked.{is_moving, moves}
 use Rattle.co_core.specs.Step.{are_direct, answered, removed_from, asked_whole, callout_answers, queue_answers, goes_on, is_in_section, is_within, lands_here, step}
@@ -414,3 +414,161 @@ module _ (s : Script) (ok : IsScript s) (x : Stored) (w : World) (stored : IsSto
           both = finish w2 removed.0 d2 goes2 removed.2.slots kept (here ∙ ap (λ (o : Option Parcel). with_callout before.callouts i (after_of s i t' o)) (sym none)) shows
               (λ p e. (let clash : None ≡ Some p = sym none ∙ e in cc)) (subst (λ (o : Option Parcel). IsBag s w2 o out) (sym none) no_out)
               (right_with d2.parcel (λ y m e. listing y e) (λ p e. (let clash : None ≡ Some p = sym none ∙ e in cc)) (λ p e. (let clash : None ≡ Some p = sym none ∙ e in cc)))
+
+    unequal : (m n : ℕ) → (m ≡ n → ⊥) → (m == n) ≡ false
+    unequal m n apart = go (m == n) refl where
+      go : (b : Bool) → (m == n) ≡ b → b ≡ false
+      go true is = absurd (apart (eqb-true m n is))
+      go false is = refl
+
+    -- the callout leaves for the CPU at which it is armed
+    leaves_done : (arming : Arming) → t'.armed ≡ Some arming → (arming.cpu ≡ cpu → ⊥) → arming.due ≡ due_of_call (Call op) → off t' ≡ Some arming.cpu → is_idle t'.run ≡ true → is_away cpu r' t' ≡ true → d2.parcel ≡ Some (parcel_for c0 i op arming) →
+        IsDue s w a (Asks act (Callout i (Call op))) → IsDone
+    leaves_done arming armed apart due_is at_cpu idle away carried due' =
+        record {
+          stored_so = subst (IsStored s x') (sym is) both.0;
+          placed_so = subst (IsPlaced s) (sym is) both.1;
+          tail = ends_there no_time is;
+          listing = λ yes'. (let e : listed ≡ true = wheeled.is_listed ∙ ap (λ (o : Option ℕ). is_some o || is_some out) no_time ∙ ap is_some out_some in e ∙ sym (ap is_some at_cpu));
+        } where
+          p : Parcel
+          p = parcel_for c0 i op arming
+
+          here : after.callouts ≡ with_callout before.callouts i None
+          here = answer.callouts_are ∙ ap (λ (b : Bool). with_callout before.callouts i (cond b None (Some (with_state s i t')))) away
+
+          out_some : out ≡ Some (record { i = i; callout = with_state s i t'; arming = arming })
+          out_some = answer.out_is ∙ ap (λ (b : Bool). cond b (parcel i (with_state s i t')) None) away ∙ ap (parcel_to i (with_state s i t')) armed
+
+          no_time : at ≡ None
+          no_time = none_of at (lists_at None here ∙ and_false (is_armed r')) where
+            and_false : (b : Bool) → (b && false) ≡ false
+            and_false true = refl
+            and_false false = refl
+
+          no_landing : lands_here w2 (Some p) ≡ false
+          no_landing = ap (λ (y : ℕ). y == arming.cpu) goes2.stands.here ∙ unequal cpu arming.cpu (λ e. apart (sym e))
+
+          is : step s w a ≡ w2
+          is = quiet_end (Some p) carried no_landing due'
+
+          shows : Shows after removed.0
+          shows = subst (λ (o : Option ℕ). Takes s.buckets (are_direct s) (insertion i (callout after.callouts i) o) removed.0 (Shows after)) no_time removed.2.rest
+
+          travels : State → Option Travelling
+          travels z = Some (record { i = i; callout = with_state s i z; arming = arming })
+
+          packed : IsPacked s w2 p out
+          packed = record {
+            arming = arming;
+            packed = out_some ∙ ap travels (sym goes2.states.here);
+            armed = ap (λ (z : State). z.armed) goes2.states.here ∙ armed;
+            number = refl;
+            due = due_is;
+            cpu = refl;
+          }
+
+          of_parcel : (q : Parcel) → d2.parcel ≡ Some q → p ≡ q
+          of_parcel q e = some_is p q (sym carried ∙ e)
+
+          both : IsStored s x' w2 × IsPlaced s w2
+          both = finish w2 removed.0 d2 goes2 removed.2.slots kept
+              (here ∙ ap (λ (b : Bool). with_callout before.callouts i (cond b None (Some (with_state s i t')))) (sym (moves_it i d2.parcel p carried refl))) shows
+              (λ q e. ap (λ (y : Parcel). y.i) (sym (of_parcel q e))) (subst (λ (o : Option Parcel). IsBag s w2 o out) (sym carried) packed)
+              (right_with d2.parcel (λ y m e. (let clash : true ≡ false = sym (moves_it i d2.parcel p carried refl) ∙ m in cc)) (λ q e. idle) (λ q e. subst (λ (y : Parcel). y.cpu < s.cpus) (of_parcel q e) (fit.target arming armed)))
+
+    -- the arming enters the queue where the callout stands
+    module _ (arming : Arming) (armed : t'.armed ≡ Some arming) (same_cpu : arming.cpu ≡ cpu) (due_is : arming.due ≡ due_of_call (Call op)) (at_cpu : off t' ≡ Some cpu) (accepted : is_armed r' ≡ true) (away : is_away cpu r' t' ≡ false)
+        (carried : d2.parcel ≡ Some (parcel_for c0 i op arming)) (due' : IsDue s w a (Asks act (Callout i (Call op)))) where
+      abbrev p : Parcel
+      p = parcel_for c0 i op arming
+
+      here : after.callouts ≡ with_callout before.callouts i (Some (with_state s i t'))
+      here = answer.callouts_are ∙ ap (λ (b : Bool). with_callout before.callouts i (cond b None (Some (with_state s i t')))) away
+
+      no_out : out ≡ None
+      no_out = answer.out_is ∙ ap (λ (b : Bool). cond b (parcel i (with_state s i t')) None) away
+
+      lists : (is_armed r' && is_listed_of cpu (Some (with_state s i t'))) ≡ true
+      lists = ap (λ (b : Bool). b && is_listed_of cpu (Some (with_state s i t'))) accepted ∙ ap (λ (o : Option ℕ). is_at o cpu) at_cpu ∙ eq-eqb cpu cpu refl
+
+      landing : lands_here w2 (Some p) ≡ true
+      landing = ap (λ (y : ℕ). y == arming.cpu) goes2.stands.here ∙ eq-eqb cpu arming.cpu (sym same_cpu)
+
+      or_true : (b : Bool) → (b || true) ≡ true
+      or_true true = refl
+      or_true false = refl
+
+      in_section : is_in_section w2 (places_of w2 a) ≡ true
+      in_section = ap (is_in_section w2) goes2.places.here ∙ ap (λ (o : Option Parcel). is_within d2.stage || lands_here w2 o) carried ∙ ap (λ (b : Bool). is_within d2.stage || b) landing ∙ or_true (is_within d2.stage)
+
+      next : action_for s a (places_of w2 a) ≡ Asks p.act (Queue p.cpu (Insert p.i p.n p.due))
+      next = ap (action_for s a) goes2.places.here ∙ ap (action_with s (role_of s a) d2) carried
+
+      module _ (time : ℕ) (timed : at ≡ Some time) where
+        turned : inserted ≡ (Insert i arming.n arming.due, At time) ∷ []
+        turned =
+            ap (insertion i (callout after.callouts i)) timed ∙ ap (λ (o : Option Alone). insertion i o (Some time)) (left_at (Some (with_state s i t')) here)
+            ∙ ap (λ (o : Option Arming). insertion_of i o time) armed
+
+        rest : Takes s.buckets (are_direct s) ((Insert i arming.n arming.due, At time) ∷ []) removed.0 (Shows after)
+        rest = subst (λ (turns : List Turn). Takes s.buckets (are_direct s) turns removed.0 (Shows after)) turned removed.2.rest
+
+        abbrev q2 : TimerQueue
+        q2 = journal.queue_of (journal.step s.buckets (are_direct s) removed.0 (Insert i arming.n arming.due)) removed.0
+
+        answers : journal.step s.buckets (are_direct s) removed.0 (Insert i arming.n arming.due) ≡ Some (q2, At time)
+        answers = answered_so (journal.step s.buckets (are_direct s) removed.0 (Insert i arming.n arming.due)) removed.0 (At time) rest.0
+
+        abbrev w3 : World
+        w3 = queue_answers s w2 a p.act p.cpu (Insert p.i p.n p.due) (Some (q2, At time))
+
+        asked : journal.step s.buckets (are_direct s) (queues_of w2 p.cpu) (Insert p.i p.n p.due) ≡ Some (q2, At time)
+        asked =
+            ap (λ (y : ℕ). journal.step s.buckets (are_direct s) (queues_of w2 y) (Insert p.i p.n p.due)) same_cpu
+            ∙ ap (λ (q : TimerQueue). journal.step s.buckets (are_direct s) q (Insert p.i p.n p.due)) goes2.queues.here
+            ∙ ap (λ (y : ℕ). journal.step s.buckets (are_direct s) removed.0 (Insert i arming.n y)) (sym due_is) ∙ answers
+
+        is : step s w a ≡ w3
+        is =
+            stepped_so due' ∙ goes_further s w2 a p.act (Queue p.cpu (Insert p.i p.n p.due)) in_section next
+            ∙ ap (queue_answers s w2 a p.act p.cpu (Insert p.i p.n p.due)) asked
+
+        abbrev d3 : Cursor
+        d3 = record d2 { parcel = None }
+
+        goes3 : Goes w w3 i cpu a t' cpu q2 d3
+        goes3 =
+            subst (λ (z : State). Goes w w3 i cpu a z cpu q2 d3) goes2.states.here
+            (goes_on_from w w2 w3 i cpu a t' (states_of w2 i) cpu cpu removed.0 q2 d2 d3 goes2
+            (goes_as w2 w3 i cpu a (states_of w2 i) cpu cpu q2 q2 (record (places_of w2 a) { parcel = None }) d3 refl refl (ap (λ (d : Cursor). emptied d) goes2.places.here)
+            (subst (λ (k : ℕ). Goes w2 w3 i k a (states_of w2 i) k q2 (record (places_of w2 a) { parcel = None })) same_cpu (goes_insert s w2 i p.cpu a p.act p.n p.due (q2, At time))))) where
+              emptied : Cursor → Cursor
+              emptied d = record d { parcel = None }
+
+        both : IsStored s x' w3 × IsPlaced s w3
+        both = finish w3 q2 d3 goes3 (λ ro. quiet_slots s.buckets (are_direct s) removed.0 (Insert i arming.n arming.due) (q2, At time) answers (λ e. cc) (λ e. cc) (λ e. cc) (λ e. cc) ro ∙ removed.2.slots ro)
+            (record { slot = kept.slot; callout = kept.callout }) here rest.1 (λ q e. cc) no_out
+            (right_with None (λ y m e. some_is cpu y (sym at_cpu ∙ e)) (λ q e. cc) (λ q e. cc))
+
+        done : IsDone
+        done = record {
+          stored_so = subst (IsStored s x') (sym is) both.0;
+          placed_so = subst (IsPlaced s) (sym is) both.1;
+          tail = one_more time q2 p timed (ap (λ (d : Cursor). d.parcel) goes2.places.here ∙ carried) (subst (λ (y : ℕ). y < s.cpus) (sym same_cpu) on) is;
+          listing = λ yes'. (let e : listed ≡ true = wheeled.is_listed ∙ ap (λ (o : Option ℕ). is_some o || is_some out) timed in e ∙ sym (ap is_some at_cpu));
+        }
+
+      lands_by : (o : Option ℕ) → is_some at ≡ true → at ≡ o → IsDone
+      lands_by None some none = let clash : false ≡ true = sym (ap is_some none) ∙ some in cc
+      lands_by (Some time) some timed = done time timed
+
+      lands_done : IsDone
+      lands_done = lands_by at (lists_at (Some (with_state s i t')) here ∙ lists) refl
+
+    pub call_done : IsDue s w a (Asks act (Callout i (Call op))) → IsDone
+    call_done due' = go end where
+      go : Ends c0 i cpu op t' r' → IsDone
+      go (stays none away unlisted listing) = stays_done none away unlisted listing due'
+      go (lands arming armed same_cpu due_is at_cpu accepted away carried) = lands_done arming armed same_cpu due_is at_cpu accepted away carried due'
+      go (leaves arming armed apart due_is at_cpu idle accepted away carried) = leaves_done arming armed apart due_is at_cpu idle away carried due'
