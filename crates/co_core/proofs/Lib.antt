@@ -52,3 +52,7 @@ pub mod Naming
 pub mod Copies
 pub mod Booting
 pub mod Filling
+pub mod Homes
+pub mod Relisted
+pub mod CallEnds
+pub mod CallSection

@@ -157,3 +157,11 @@ module _ (s : Script) (role : Role) (c d : Cursor) (act i : ℕ) where
   call_kept op listed spec state t reply view (deed.waits took took' n u armed run served) =
       subst (StageKept d.stage) (sym (wait_stage d i listed (Call op) n took' (off state))) (rests d.stage (Waiting n took') (rests_in s role c d.stage act i took view) refl refl)
   call_kept op listed spec state t reply view (deed.arms p code arming u armed due run) = subst (StageKept d.stage) (sym (armed_stage d i listed (Call op) code arming.n arming.cpu (off state))) (over op view)
+
+  -- no section is half made after a call's entry
+  pub call_within : (op : CallOp) (listed : Bool) (spec : Spec) (state t : State) (reply : Reply) → View op → Did spec state (Call op) reply t → is_within (called d i listed (Call op) reply).stage ≡ false
+  call_within op listed spec state t reply view (deed.keeps o r u armed run plain none) = ap (λ (x : Cursor). is_within x.stage) (plain_called d i listed (Call op) reply plain) ∙ over_within d d.stage (call_acting s role c d.stage act i op view)
+  call_within op listed spec state t reply view (deed.clears o r u armed run plain gone) = ap (λ (x : Cursor). is_within x.stage) (plain_called d i listed (Call op) reply plain) ∙ over_within d d.stage (call_acting s role c d.stage act i op view)
+  call_within op listed spec state t reply view (deed.waits took took' n u armed run served) = ap is_within (wait_stage d i listed (Call op) n took' (off state))
+  call_within op listed spec state t reply view (deed.arms p code arming u armed due run) =
+      ap is_within (armed_stage d i listed (Call op) code arming.n arming.cpu (off state)) ∙ over_within d d.stage (call_acting s role c d.stage act i op view)

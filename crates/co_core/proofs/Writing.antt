@@ -17,6 +17,7 @@ use Rattle.co_object.specs.declared.Place.{Place}
 use Rattle.co_object.specs.declared.Place.TheVariants as place
 use Rattle.co_object.specs.declared.AnyEntry.TheVariants as entry
 use Rattle.co_object.specs.Stand.{off}
+use Rattle.co_object.specs.Entries.{is_armed}
 use Rattle.co_object.specs.Lists.{notes_of, same_place}
 use Rattle.co_object.specs.Queue.{Queue as TimerQueue}
 use Rattle.co_program.specs.declared.script.Script.{Script}
@@ -34,6 +35,7 @@ use Rattle.co_core.specs.Stands.{IsWritten}
 use Rattle.co_core.proofs.Lists.{at_updated}
 use Rattle.co_core.proofs.Moves.{IsAt, decide, at_all, at_read, at_updated_is, note_at, place_at as place_at_is}
 use Rattle.co_core.proofs.Invariant.{places_of}
+use Rattle.co_core.proofs.Relisted.{relisted}
 use Rattle.co_core.proofs.Tables.{put, read, same, long}
 
 abbrev pub notes_by : World → ℕ → List Note
@@ -158,7 +160,7 @@ abbrev pub callout_note : (a act i pos : ℕ) → Op → Reply → Note
 callout_note a act i pos op reply = record { place = place.Timer i; pos = pos; entry = entry.Timer (record { actor = a; act = act; op = op; reply = reply }) }
 
 pub written_callout : (s : Script) (x x2 : Written) (w : World) (a act i pos : ℕ) (op : Op) (o : State × Reply) (listed : Bool) →
-    IsWritten s x w → a < actor_count s → i < length s.timers → listed ≡ is_some (off o.0) → pos ≡ get_or x.histories i 0 →
+    IsWritten s x w → a < actor_count s → i < length s.timers → (is_armed o.1 ≡ true → listed ≡ is_some (off o.0)) → pos ≡ get_or x.histories i 0 →
     IsNoted s a listed (callout_note a act i pos op o.1) (record x { histories = set x.histories i (pos + 1) }) x2 →
     IsWritten s x2 (callout_answers s w a act i op (Some o))
 written_callout s x x2 w a act i pos op o listed written may known is at noted =
@@ -182,8 +184,11 @@ written_callout s x x2 w a act i pos op o listed written may known is at noted =
 
       noted' : IsNoted s a (is_some (off o.0)) (note_of w i made) (record x { histories = set x.histories i (pos + 1) }) x2
       noted' =
-          subst (λ (b : Bool). IsNoted s a b (note_of w i made) (record x { histories = set x.histories i (pos + 1) }) x2) is
-          (subst (λ (p : ℕ). IsNoted s a listed (callout_note a act i p op o.1) (record x { histories = set x.histories i (pos + 1) }) x2) number noted)
+          let here = subst (λ (p : ℕ). IsNoted s a listed (callout_note a act i p op o.1) (record x { histories = set x.histories i (pos + 1) }) x2) number noted in
+          record { to = here.to; place = here.place ∙ listing (cursor_of s a (place_at x a)) (is_armed o.1) refl; counts = here.counts; noted = here.noted } where
+            listing : (c : Cursor) (b : Bool) → is_armed o.1 ≡ b → advance s c listed (place.Timer i) (entry.Timer made) ≡ advance s c (is_some (off o.0)) (place.Timer i) (entry.Timer made)
+            listing c true h = ap (λ (l : Bool). advance s c l (place.Timer i) (entry.Timer made)) (is h)
+            listing c false h = relisted s (record c { removed = None }) i listed (is_some (off o.0)) op o.1 c.stage h
 
       noted_at : IsAt (notes_by w) a (notes_by w a ++ note_of w i made ∷ []) (notes_by w')
       noted_at = notes_at s v a (is_some (off o.0)) (note_of w i made)
