@@ -10,13 +10,13 @@ use Rattle.co_object.specs.declared.QReply.{QReply}
 use Rattle.co_object.specs.Stand.{off, is_free_at, stand_of, listed_cpu, Listed, Deferred}
 use Rattle.co_object.specs.Queue.{Waiting, Due, Queue as TimerQueue}
 use Rattle.co_object.proofs.Each.{Each}
-use Rattle.co_object.proofs.Tally.{tally, one_if}
+use Rattle.co_object.proofs.Passing.{passing, one_if}
 use Rattle.co_object.proofs.PassageOnce.{stands, balanced}
 use Rattle.co_object.proofs.QueueChanges.{QChange}
 use Rattle.co_object.specs.Laws.Passage as passage
 use Rattle.co_program.specs.declared.Script.{Script}
 use Rattle.co_program.specs.Actors.{actor_count}
-use Rattle.co_program.specs.declared.cursor.Parcel.{Parcel}
+use Rattle.co_program.specs.declared.Parcel.{Parcel}
 use Rattle.co_program.specs.Cursor.{Cursor}
 use Rattle.co_core.specs.Step.{are_direct}
 use Rattle.co_core.proofs.Invariant.{IsListed, EntriesFit, IsCarried, IsLane, carries}
@@ -42,10 +42,10 @@ listed_arming state arming cpu armed is = go (is_free_at state.run arming.cpu) r
   go false free h = cc
 
 -- an entry of a callout that stands in a list
-each_found : {X : Type 0} (key : X → ℕ) (P : X → Type 0) (i : ℕ) (xs : List X) → Each P xs → 1 ≤ tally (λ x. key x == i) xs → (x : X) × (key x ≡ i) × P x
+each_found : {X : Type 0} (key : X → ℕ) (P : X → Type 0) (i : ℕ) (xs : List X) → Each P xs → 1 ≤ passing (λ x. key x == i) xs → (x : X) × (key x ≡ i) × P x
 each_found key P i [] h stands = absurd (omega arith)
 each_found key P i (x ∷ xs) h stands = go (key x == i) refl (λ rest. each_found key P i xs h.1 rest) where
-  go : (b : Bool) → (key x == i) ≡ b → (1 ≤ tally (λ x. key x == i) xs → (x : _) × (key x ≡ i) × P x) → (x : _) × (key x ≡ i) × P x
+  go : (b : Bool) → (key x == i) ≡ b → (1 ≤ passing (λ x. key x == i) xs → (x : _) × (key x ≡ i) × P x) → (x : _) × (key x ≡ i) × P x
   go true is rest = (x, eqb-true (key x) i is, h.0)
   go false is rest = rest (let zero_here : one_if (λ x'. key x' == i) x ≡ 0 = ap (λ (b : Bool). cond b 1 0) is in omega arith)
 
@@ -54,8 +54,8 @@ one_of x y z h = grind arith
 
 -- an entry of a callout that stands in a queue
 pub entry_found : (P : ℕ → ℕ → ℕ → Type 0) (i : ℕ) (q : TimerQueue) → EntriesFit P q → 1 ≤ stands i q → (n : ℕ) × (t : ℕ) × P i n t
-entry_found P i q fit h = go (one_of (tally (λ (w : Waiting). w.i == i) q.content) (tally (λ (d : Due). d.i == i) q.expired) (tally (λ (d : Due). d.i == i) q.urgent) h) where
-  go : (1 ≤ tally (λ (w : Waiting). w.i == i) q.content) ⊎ ((1 ≤ tally (λ (d : Due). d.i == i) q.expired) ⊎ (1 ≤ tally (λ (d : Due). d.i == i) q.urgent)) → (n : ℕ) × (t : ℕ) × P i n t
+entry_found P i q fit h = go (one_of (passing (λ (w : Waiting). w.i == i) q.content) (passing (λ (d : Due). d.i == i) q.expired) (passing (λ (d : Due). d.i == i) q.urgent) h) where
+  go : (1 ≤ passing (λ (w : Waiting). w.i == i) q.content) ⊎ ((1 ≤ passing (λ (d : Due). d.i == i) q.expired) ⊎ (1 ≤ passing (λ (d : Due). d.i == i) q.urgent)) → (n : ℕ) × (t : ℕ) × P i n t
   go (inl k) = let found = each_found (λ (w : Waiting). w.i) (λ w. P w.i w.n w.t) i q.content fit.content k in (found.0.n, found.0.t, subst (λ (x : ℕ). P x found.0.n found.0.t) found.1 found.2)
   go (inr (inl k)) = let found = each_found (λ (d : Due). d.i) (λ d. P d.i d.n q.last) i q.expired fit.expired k in (found.0.n, q.last, subst (λ (x : ℕ). P x found.0.n q.last) found.1 found.2)
   go (inr (inr k)) = let found = each_found (λ (d : Due). d.i) (λ d. P d.i d.n q.last) i q.urgent fit.urgent k in (found.0.n, q.last, subst (λ (x : ℕ). P x found.0.n q.last) found.1 found.2)

@@ -35,6 +35,17 @@ pub mod NeverStuck
 pub mod Schedules
 pub mod Walks
 pub mod Possible
+pub mod Sums
+pub mod ActorFalls
+pub mod QueueFalls
+pub mod DueSteps
+pub mod Names
+pub mod Named
+pub mod Crowds
+pub mod AnswerFalls
+pub mod SectionFalls
+pub mod StepFalls
+pub mod Bounds
 pub mod ListsShow
 pub mod Replies
 pub mod WellFormed

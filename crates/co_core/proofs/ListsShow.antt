@@ -25,8 +25,8 @@ use Rattle.co_object.specs.Journal.{step as queue_step}
 use Rattle.co_program.specs.declared.Script.{Script}
 use Rattle.co_program.specs.Actors.{actor_count}
 use Rattle.co_program.specs.Cursor.{Cursor}
-use Rattle.co_program.specs.declared.action.Asked.{Asked}
-use Rattle.co_program.specs.declared.action.Asked.TheVariants.{Callout, Queue, Itself}
+use Rattle.co_program.specs.declared.Asked.{Asked}
+use Rattle.co_program.specs.declared.Asked.TheVariants.{Callout, Queue, Itself}
 use Rattle.co_program.specs.Action.{spec_at}
 use Rattle.co_program.specs.Advance.{advance}
 use Rattle.co_core.specs.World.{World, Actor, Timer, Cpu, open_world, lists_of, updated, with_cursor}

@@ -10,12 +10,12 @@ use Rattle.co_object.specs.declared.QReply.TheVariants.{Got}
 use Rattle.co_object.specs.Queue.{Waiting, Due, Queue}
 use Rattle.co_object.specs.Scan.{is_direct, in_order, put_in_order, comes_first, due_by, as_due}
 use Rattle.co_object.proofs.Each.{Each, each-append, each-all, each-filter, each-map}
-use Rattle.co_object.proofs.Tally.{tally, one_if}
+use Rattle.co_object.proofs.Passing.{passing, one_if}
 use Rattle.co_object.proofs.QueueChanges.{QChange, inserts, removes, misses, scans, pops, finds_none, frees, pops_direct, finds_no_direct, frees_direct}
 use Rattle.co_object.proofs.PassageOnce.{stands, balanced}
 use Rattle.co_program.specs.declared.Script.{Script}
-use Rattle.co_program.specs.declared.role.Role.{Role}
-use Rattle.co_program.specs.declared.role.Role.TheVariants.{Client, Cpu, Interrupt}
+use Rattle.co_program.specs.declared.Role.{Role}
+use Rattle.co_program.specs.declared.Role.TheVariants.{Client, Cpu, Interrupt}
 use Rattle.co_program.specs.Action.{pop_of}
 use Rattle.co_core.specs.Step.{are_direct}
 use Rattle.co_core.proofs.Invariant.{IsLane, EntriesFit, serves_direct}
@@ -32,11 +32,11 @@ each_both P R [] h k = tt
 each_both P R (x ∷ xs) h k = ((h.0, k.0), each_both P R xs h.1 k.1)
 
 -- each element counts itself
-each_counted : {X : Type 0} (key : X → ℕ) (xs : List X) → Each (λ x. 1 ≤ tally (λ z. key z == key x) xs) xs
+each_counted : {X : Type 0} (key : X → ℕ) (xs : List X) → Each (λ x. 1 ≤ passing (λ z. key z == key x) xs) xs
 each_counted key [] = tt
 each_counted key (x ∷ xs) = (
   (let one : one_if (λ z. key z == key x) x ≡ 1 = ap (λ (b : Bool). cond b 1 0) (eq-eqb (key x) (key x) refl) in omega arith),
-  each-all (λ y. 1 ≤ tally (λ z. key z == key y) xs) (λ y. 1 ≤ tally (λ z. key z == key y) (x ∷ xs)) (λ y h. omega arith) xs (each_counted key xs),
+  each-all (λ y. 1 ≤ passing (λ z. key z == key y) xs) (λ y. 1 ≤ passing (λ z. key z == key y) (x ∷ xs)) (λ y h. omega arith) xs (each_counted key xs),
 )
 
 each_put : (P : Waiting → Type 0) (m last : ℕ) (x : Waiting) (ys : List Waiting) → P x → Each P ys → Each P (put_in_order m last x ys)
@@ -144,9 +144,9 @@ entries_both P R q h k = record {
 -- each entry's callout stands in the queue
 pub entries_stand : (q : Queue) → EntriesFit (λ i n t. 1 ≤ stands i q) q
 entries_stand q = record {
-  content = each-all (λ (w : Waiting). 1 ≤ tally (λ (z : Waiting). z.i == w.i) q.content) (λ w. 1 ≤ stands w.i q) (λ w h. omega arith) q.content (each_counted (λ (z : Waiting). z.i) q.content);
-  expired = each-all (λ (d : Due). 1 ≤ tally (λ (z : Due). z.i == d.i) q.expired) (λ d. 1 ≤ stands d.i q) (λ d h. omega arith) q.expired (each_counted (λ (z : Due). z.i) q.expired);
-  urgent = each-all (λ (d : Due). 1 ≤ tally (λ (z : Due). z.i == d.i) q.urgent) (λ d. 1 ≤ stands d.i q) (λ d h. omega arith) q.urgent (each_counted (λ (z : Due). z.i) q.urgent);
+  content = each-all (λ (w : Waiting). 1 ≤ passing (λ (z : Waiting). z.i == w.i) q.content) (λ w. 1 ≤ stands w.i q) (λ w h. omega arith) q.content (each_counted (λ (z : Waiting). z.i) q.content);
+  expired = each-all (λ (d : Due). 1 ≤ passing (λ (z : Due). z.i == d.i) q.expired) (λ d. 1 ≤ stands d.i q) (λ d h. omega arith) q.expired (each_counted (λ (z : Due). z.i) q.expired);
+  urgent = each-all (λ (d : Due). 1 ≤ passing (λ (z : Due). z.i == d.i) q.urgent) (λ d. 1 ≤ stands d.i q) (λ d h. omega arith) q.urgent (each_counted (λ (z : Due). z.i) q.urgent);
 }
 
 module _ (P : ℕ → ℕ → ℕ → Type 0) (later : (i n t u : ℕ) → t ≤ u → P i n t → P i n u) (m : ℕ) (direct : List Bool) where

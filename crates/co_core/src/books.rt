@@ -101,7 +101,7 @@ impl Books {
             return Err(NoMemory {});
         }
         let list = self.lists.replace(actor as usize, Seq::new(self.alloc));
-        let mut notes = Room::behind(list);
+        let mut notes = Room::from_seq(list);
         let reserved = notes.reserve(3);
         let hand = Hand { actor, notes };
         match reserved {
@@ -118,7 +118,7 @@ impl Books {
         requires { hand.actor < length self.old.lists }
         ensures { self.new ≡ with_list self.old hand.actor hand.notes.items }
     {
-        self.lists.replace(hand.actor as usize, hand.notes.list());
+        self.lists.replace(hand.actor as usize, hand.notes.into_seq());
     }
 
     /// The actor makes a note, and goes on in its program. `listed` is whether the callout stands in a queue now.

@@ -61,7 +61,7 @@ pub data Change (s : State) : Op → Reply → State → Type 0 where
       Change s (Call (Plain (AsyncDrain func))) (Stopped (pos 0) gone) (record s { armed = None; active = false; adrain = Some func })
   cleared : s.live ≡ true → Change s (Call (Plain Deactivate)) Done (record s { active = false })
   retires : s.live ≡ true → s.armed ≡ None → is_idle s.run ≡ true → Change s (Call (Plain Retire)) Done (record s { live = false })
-  revives : s.live ≡ false → Change s (Call (Plain Init)) Done (init s).0
+  inits : s.live ≡ false → Change s (Call (Plain Init)) Done (init s).0
   drained : (took : Bool) (code : ℤ) (gone : Option ℕ) → is_idle s.run ≡ true → Change s (Call (DrainTry took)) (Drained code gone) (record s { armed = None; active = false })
   waits : (took took' : Bool) (n : ℕ) (gone : Option ℕ) → is_idle s.run ≡ false → Change s (Call (DrainTry took)) (Wait n took' gone) (record s { armed = None; active = false; waiting = true })
   held : (a : Arming) (n cpu at : ℕ) → s.armed ≡ Some a → is_idle s.run ≡ true → (a.n == n) ≡ true → (a.cpu == cpu) ≡ true → Change s (Serve (Pick n cpu at)) Hold (record s { armed = None; run = Picked a })
@@ -156,7 +156,7 @@ change-live s Init live = same _ Live refl refl refl
 change-live s Retire live = change-retire s live
 
 change-retired : (s : State) (op : PlainOp) → s.live ≡ false → By s (Call (Plain op)) (retired_call s op)
-change-retired s Init gone = revives gone
+change-retired s Init gone = inits gone
 change-retired s (Reset due prec func arg cpu) gone = same _ Retired refl refl refl
 change-retired s (Schedule due prec cpu) gone = same _ Retired refl refl refl
 change-retired s Stop gone = same _ Retired refl refl refl

@@ -1,7 +1,7 @@
 //! What a callout alone is between two operations, and how it answers each.
 ghost use Rattle.std.specs.Prelude.{◌≡◌};
 ghost use Rattle.co_object.specs.Callout.{opening, call, live_call, retired_call, serve};
-ghost use Rattle.co_object.specs.History.{state_of, reply_of};
+ghost use Rattle.co_object.specs.History.{outcome};
 ghost use Rattle.co_object.specs.Query.{answer};
 ghost use Rattle.co_object.specs.Stand.{is_idle, off};
 
@@ -13,44 +13,54 @@ mod service;
 use crate::{CallOp, PlainOp, Reply, RunOp, Spec};
 use co_sbt::Sbt;
 
-/// An accepted reset or schedule. `n` counts a callout's armings from 0.
+/// An accepted reset or schedule, whose function is to be called.
 #[derive(Clone, Copy, Debug, PartialEq, Eq)]
 pub struct Arming {
+    /// Its number: the callout's accepted armings are counted from 0.
     pub n: u64,
+    /// The time from which on it may be picked.
     pub due: Sbt,
+    /// The precision that its caller gave, which changes nothing here.
     pub prec: Sbt,
+    /// The function to call, by its number.
     pub func: u32,
+    /// The function's argument.
     pub arg: u64,
+    /// The CPU that is to service it.
     pub cpu: u32,
 }
 
-/// What a service is doing with a callout.
+/// What a CPU's service is doing with a callout.
 #[derive(Clone, Copy, Debug, PartialEq, Eq)]
 pub enum Run {
+    /// No service has it.
     Idle,
-    /// The arming waits for the callout's lock.
+    /// The arming was taken for service and waits for the callout's lock.
     Picked(Arming),
-    /// It was cancelled while it waited.
+    /// Arming `n` was cancelled while it waited on `cpu`. The service has the callout until its end.
     Cancelled { n: u64, cpu: u32 },
-    /// The function of the arming runs.
+    /// The function of arming `n` runs on `cpu`.
     Running { n: u64, cpu: u32 },
 }
 
-/// What a callout alone is between two operations.
+/// What a callout alone is between two operations. That a callout has all of this, and no more, is our own decision.
 #[derive(Clone, Copy, Debug, PartialEq, Eq)]
 pub struct State {
-    /// Not retired.
+    /// It is in use, and not retired.
     pub live: bool,
+    /// The arming that is pending.
     pub armed: Option<Arming>,
+    /// What a service is doing with it.
     pub run: Run,
+    /// It was armed, and neither stopped, drained nor deactivated since: the flag of `callout_active`.
     pub active: bool,
     /// A drain waits for the end of the service.
     pub waiting: bool,
-    /// The function of an asynchronous drain that the end of the service will name.
+    /// The function of an asynchronous drain, which the end of the service will name.
     pub adrain: Option<u32>,
-    /// The function and argument of the last reset.
+    /// The function and argument of the last arming: those of a schedule.
     pub last: Option<(u32, u64)>,
-    /// The CPU of an arming that names none.
+    /// The CPU of the last arming, or 0: that of an arming that names none.
     pub home: u32,
     /// The number of accepted armings.
     pub made: u64,
@@ -135,8 +145,7 @@ impl State {
 
     /// An operation of the service. None where it is not possible.
     pub(crate) fn serve(&mut self, spec: &Spec, op: &RunOp) -> Option<Reply>
-        ensures reply { result ≡ reply_of (serve spec.now self.old op.now) }
-        ensures state { self.new ≡ state_of (serve spec.now self.old op.now) self.old }
+        ensures { (self.new, result) ≡ outcome (serve spec.now self.old op.now) self.old }
     {
         match *op {
             RunOp::Pick { n, cpu, at } => self.pick(spec, n, cpu, at),

@@ -10,8 +10,12 @@ use Rattle.co_program.specs.declared.script.Script.{Script}
 use Rattle.co_program.specs.declared.cursor.ActsLeft.{ActsLeft}
 use Rattle.co_program.specs.declared.cursor.Stage.{Stage as StageAt}
 use Rattle.co_program.specs.declared.cursor.Stage.TheVariants as at
-use Rattle.co_program.specs.Actors.{Role, Task, Does, cpu_of}
-use Rattle.co_program.specs.Stages.{Service, Ready}
+use Rattle.co_program.specs.declared.role.Role.{Role}
+use Rattle.co_program.specs.declared.program.Task.{Task}
+use Rattle.co_program.specs.declared.program.Task.TheVariants.{Does}
+use Rattle.co_program.specs.Actors.{cpu_of}
+use Rattle.co_program.specs.declared.cursor.Service.{Service}
+use Rattle.co_program.specs.Stages.{Ready}
 use Rattle.co_program.specs.Cursor.{Cursor}
 use Rattle.co_program.specs.Action.{asks_call, begins, over}
 use Rattle.co_program.specs.Advance.{act_over, got, tail_of}

@@ -8,7 +8,11 @@ use Rattle.std.proofs.lemmas.Option.{slice_get-map}
 use Rattle.std.proofs.lemmas.List.{length-map}
 use Rattle.co_program.specs.declared.act.Act.{Act}
 use Rattle.co_program.specs.declared.script.Script.{Script}
-use Rattle.co_program.specs.Actors.{Task, Does, Soft, acts_at, Role, Client, Cpu, Interrupt, program_of, softs}
+use Rattle.co_program.specs.declared.program.Task.{Task}
+use Rattle.co_program.specs.declared.program.Task.TheVariants.{Does, Soft}
+use Rattle.co_program.specs.declared.role.Role.{Role}
+use Rattle.co_program.specs.declared.role.Role.TheVariants.{Client, Cpu, Interrupt}
+use Rattle.co_program.specs.Actors.{acts_at, program_of, softs}
 use Rattle.co_program.specs.Advance.{tail_of}
 use Rattle.co_program.specs.Indexed.{past}
 use Rattle.co_program.specs.Scripts.{IsScript}

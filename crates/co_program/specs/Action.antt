@@ -17,13 +17,19 @@ use Rattle.co_lock.specs.Service.{hold_of}
 use Rattle.co_program.specs.declared.act.Act.{Act}
 use Rattle.co_program.specs.declared.act.Act.TheVariants.{Now, Lock, ReadLock, Unlock, Drain, Tick}
 use Rattle.co_program.specs.declared.script.Script.{Script}
-use Rattle.co_program.specs.Actors.{Task, Does, Soft, Role, Client, Cpu, Interrupt, role_of, cpu_of}
+use Rattle.co_program.specs.declared.program.Task.{Task}
+use Rattle.co_program.specs.declared.program.Task.TheVariants.{Does, Soft}
+use Rattle.co_program.specs.declared.role.Role.{Role}
+use Rattle.co_program.specs.declared.role.Role.TheVariants.{Client, Cpu, Interrupt}
+use Rattle.co_program.specs.Actors.{role_of, cpu_of}
 use Rattle.co_program.specs.declared.act.Scene.{Scene}
 use Rattle.co_program.specs.Calls.{plain_op}
-use Rattle.co_program.specs.Stages.{Service, Stage, Ready, Waiting, Popping, Picking, Locking, Beginning, Unlocking, Firing, Releasing, Ending, Freeing, Drained}
-use Rattle.co_program.specs.Cursor.{Parcel, Cursor}
-pub use Rattle.co_program.specs.declared.action.Asked.{Asked}
-pub use Rattle.co_program.specs.declared.action.Asked.TheVariants.{Callout, Queue, Itself}
+use Rattle.co_program.specs.declared.cursor.Service.{Service}
+use Rattle.co_program.specs.Stages.{Stage, Ready, Waiting, Popping, Picking, Locking, Beginning, Unlocking, Firing, Releasing, Ending, Freeing, Drained}
+use Rattle.co_program.specs.declared.cursor.Parcel.{Parcel}
+use Rattle.co_program.specs.Cursor.{Cursor}
+use Rattle.co_program.specs.declared.action.Asked.{Asked}
+use Rattle.co_program.specs.declared.action.Asked.TheVariants.{Callout, Queue, Itself}
 
 pub data Action : Type 0 where
   -- the program has ended

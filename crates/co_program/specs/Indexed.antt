@@ -8,7 +8,8 @@ use Rattle.co_program.specs.declared.cursor.Stage.TheVariants as at
 use Rattle.co_program.specs.declared.cursor.Cursor.{Cursor as CursorAt}
 use Rattle.co_program.specs.declared.action.Action.{Action as ActionAt}
 use Rattle.co_program.specs.declared.action.Action.TheVariants as action
-use Rattle.co_program.specs.Actors.{Role, role_of, acts_at, program_of}
+use Rattle.co_program.specs.declared.role.Role.{Role}
+use Rattle.co_program.specs.Actors.{role_of, acts_at, program_of}
 use Rattle.co_program.specs.Stages.{Stage, Ready, Waiting, Popping, Picking, Locking, Beginning, Unlocking, Firing, Releasing, Ending, Freeing, Drained}
 use Rattle.co_program.specs.Cursor.{Cursor}
 use Rattle.co_program.specs.Action.{Action, Nothing, Silent, Take, Asks}

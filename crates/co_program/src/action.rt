@@ -2,9 +2,11 @@
 ghost use Rattle.std.specs.Prelude.{◌≡◌, ℕ, ◌<◌, ◌≤◌, ◌-◌, ◌+◌, ◌^◌, [], drop, if◌then◌else◌, is_some, slice_get};
 ghost use Rattle.co_lock.specs.Service.{hold_of};
 ghost use Rattle.co_program.specs.declared.script.Script.{Script};
-ghost use Rattle.co_program.specs.Actors.{Role, program_of};
+ghost use Rattle.co_program.specs.declared.role.Role.{Role};
+ghost use Rattle.co_program.specs.Actors.{actor_count, program_of};
 ghost use Rattle.co_program.specs.Action.{Silent, Asks, action_for, action_in, asks_call, asks_drain, asks_within, begins, draining, drained_of, firing, free_of, locks, over, pop_of, scans_first, scans_of, spec_at, takes};
 ghost use Rattle.co_program.specs.Advance.{tail_of};
+ghost use Rattle.co_program.specs.Existing.{ActionExists, IsIn};
 ghost use Rattle.co_program.specs.Indexed.{ActionCounts, Counts, action_as, action_of, acts_left, cursor_as, cursor_of, past, stage_of};
 ghost use Rattle.co_program.specs.Scripts.{IsScript};
 
@@ -46,6 +48,7 @@ pub fn action_for(script: &Script, actor: u32, cursor: &Cursor) -> Action
     requires room { cursor.now.act < 2 ^ 64 - 1 }
     ensures action { action_of script.now actor result ≡ action_for script.now actor (cursor_of script.now actor cursor.now) }
     ensures counted { ActionCounts cursor.now result }
+    ensures existing { actor < actor_count script.now → IsIn script.now (cursor_of script.now actor cursor.now) → ActionExists script.now (action_of script.now actor result) }
 {
     match cursor.parcel {
         Some(parcel) => {

@@ -2,7 +2,9 @@
 ghost use Rattle.std.specs.Prelude.{◌≡◌, ℕ};
 ghost use Rattle.co_program.specs.declared.script.Script.{Script};
 ghost use Rattle.co_program.specs.Cursor.{start_of};
+ghost use Rattle.co_program.specs.Existing.{IsIn};
 ghost use Rattle.co_program.specs.Indexed.{cursor_of};
+ghost use Rattle.co_program.specs.Scripts.{IsScript};
 
 use co_lock::Held;
 use co_object::Next;
@@ -93,7 +95,8 @@ pub struct Cursor {
 impl Cursor {
     /// The place before the first act of any program.
     pub fn start() -> Cursor
-        ensures { (s : Script) (actor : ℕ) → cursor_of s actor result ≡ start_of s actor }
+        ensures cursor { (s : Script) (actor : ℕ) → cursor_of s actor result ≡ start_of s actor }
+        ensures existing { (s : Script) (actor : ℕ) → IsScript s → IsIn s (cursor_of s actor result) }
     {
         Cursor {
             task: 0,

@@ -1,9 +1,11 @@
 //! How an actor's place in its program goes on after a note.
 ghost use Rattle.std.specs.Prelude.{◌≡◌, ℕ, ◌<◌, ◌-◌, ◌^◌, if◌then◌else◌};
 ghost use Rattle.co_program.specs.declared.script.Script.{Script};
-ghost use Rattle.co_program.specs.Actors.{Role, acts_at};
+ghost use Rattle.co_program.specs.declared.role.Role.{Role};
+ghost use Rattle.co_program.specs.Actors.{acts_at};
 ghost use Rattle.co_program.specs.Action.{draining, firing, spec_at};
 ghost use Rattle.co_program.specs.Advance.{act_over, advance, advance_callout, advance_queue, begun, called, drain_acts, due_of_call, ended, freed, got, parcel_of, picked, popped, tail_of};
+ghost use Rattle.co_program.specs.Existing.{EntryExists, IsIn};
 ghost use Rattle.co_program.specs.Indexed.{Counts, acts_left, cursor_as, cursor_of, stage_of};
 ghost use Rattle.co_program.specs.Stages.{Unlocking};
 ghost use Rattle.co_program.specs.Scripts.{IsScript};
@@ -28,6 +30,7 @@ pub fn advance(
     requires room { cursor.now.act < 2 ^ 64 - 1 }
     ensures cursor { (actor : ℕ) → cursor_of script.now actor result ≡ advance script.now (cursor_of script.now actor cursor.now) listed place entry.now }
     ensures counted { Counts cursor.now result 1 }
+    ensures existing { (actor : ℕ) → IsIn script.now (cursor_of script.now actor cursor.now) → EntryExists script.now place entry.now → IsIn script.now (cursor_of script.now actor result) }
 {
     match (place, entry) {
         (Place::Timer(i), AnyEntry::Timer(e)) => {
@@ -41,7 +44,7 @@ pub fn advance(
 // ---- after a call, or in its place a note of the actor's own
 
 /// The cursor after an entry of callout `i`.
-pub fn advance_callout(
+fn advance_callout(
     script: &Script,
     cursor: &Cursor,
     i: u32,
@@ -93,7 +96,7 @@ fn called(script: &Script, cursor: &Cursor, i: u32, listed: bool, op: &Op, reply
 }
 
 /// The cursor when the act is over: after a call, or in its place a note of the actor's own.
-pub fn act_over(script: &Script, cursor: &Cursor) -> Cursor
+fn act_over(script: &Script, cursor: &Cursor) -> Cursor
     requires script { IsScript script.now }
     requires room { cursor.now.act < 2 ^ 64 - 1 }
     ensures cursor { (role : Role) → cursor_as script.now role result ≡ (let c = cursor_as script.now role cursor.now in act_over c c.stage) }
@@ -196,7 +199,7 @@ fn ended(cursor: &Cursor, v: &Service, reply: &Reply) -> Cursor
 // ---- from a queue
 
 /// The cursor after an entry of a CPU's journal.
-pub fn advance_queue(script: &Script, cursor: &Cursor, cpu: u32, op: &QOp, reply: &QReply) -> Cursor
+fn advance_queue(script: &Script, cursor: &Cursor, cpu: u32, op: &QOp, reply: &QReply) -> Cursor
     requires script { IsScript script.now }
     requires room { cursor.now.act < 2 ^ 64 - 1 }
     ensures cursor { (role : Role) → cursor_as script.now role result ≡ advance_queue script.now (cursor_as script.now role cursor.now) cpu op.now reply.now }

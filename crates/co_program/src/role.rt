@@ -1,5 +1,5 @@
 //! The actors of a script: who each of them is, and where it stands.
-ghost use Rattle.std.specs.Prelude.{◌≡◌};
+ghost use Rattle.std.specs.Prelude.{◌≡◌, ◌≤◌};
 ghost use Rattle.co_program.specs.Actors.{actor_count, cpu_of, role_of};
 ghost use Rattle.co_program.specs.Scripts.{IsScript};
 
@@ -47,7 +47,7 @@ pub fn role_of(script: &Script, actor: u32) -> Role
 
 /// The CPU where a role acts: for a client that of its number, all around.
 pub fn cpu_of(script: &Script, role: Role) -> u32
-    requires { IsScript script.now }
+    requires { 1 ≤ script.now.cpus }
     ensures { result ≡ cpu_of script.now role }
 {
     match role {

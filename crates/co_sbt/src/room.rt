@@ -4,8 +4,10 @@ ghost use Rattle.std.specs.Prelude.{◌≡◌, ◌≤◌, ◌<◌, ◌+◌, ◌+
 use crate::seq::{NoMemory, Seq};
 use std::marker::Model;
 
-/// A list with room at its end, into which pushes take no memory. Contracts see the list and how many pushes the room
-/// is good for.
+/// A list with room at its end, into which pushes take no memory.
+///
+/// Contracts see the list and how many pushes the room is good for. It is our own: whoever may not want for memory at a
+/// push makes the room before.
 #[derive(Drop)]
 pub struct Room<T> {
     items: Vec<T>,
@@ -13,16 +15,16 @@ pub struct Room<T> {
 
 impl<T> Model for Room<T> {
     ghost use Rattle.std.specs.Prelude.{◌-◌, vec_len, vec_capacity};
-    ghost use Rattle.co_sbt.specs.Roomy.{Roomy};
+    ghost use Rattle.co_sbt.specs.RoomView.{RoomView};
 
-    ghost Value = { Roomy T };
+    ghost Value = { RoomView T };
 
     ghost view = { λ r. record { items = r.items.items; spare = vec_capacity r.items - vec_len r.items } };
 }
 
 impl<T: Drop> Room<T> {
-    /// The room behind a list.
-    pub fn behind(list: Seq<T>) -> Room<T>
+    /// The list with the room that it has at its end, which may be none. Takes no memory.
+    pub fn from_seq(list: Seq<T>) -> Room<T>
         ensures { result.items ≡ list }
     {
         Room {
@@ -30,7 +32,7 @@ impl<T: Drop> Room<T> {
         }
     }
 
-    /// Makes room for `count` pushes. The list stays; after NoMemory the room does too.
+    /// Makes room for `count` pushes; the list stays. After `NoMemory` the room stays too.
     pub fn reserve(&mut self, count: usize) -> Result<(), NoMemory>
         ensures items { self.new.items ≡ self.old.items }
         ensures ok { OnOk result (count ≤ self.new.spare) }
@@ -42,7 +44,7 @@ impl<T: Drop> Room<T> {
         }
     }
 
-    /// Appends an item, into the room.
+    /// Appends an item, into the room. The caller has made room for it by `reserve`.
     pub fn push(&mut self, item: T)
         requires { 0 < self.old.spare }
         ensures items { self.new.items ≡ self.old.items ++ item ∷ [] }
@@ -54,17 +56,35 @@ impl<T: Drop> Room<T> {
         }
     }
 
-    /// How many items the list has.
+    /// How many items the list has, the room not counted.
     pub fn len(&self) -> usize
         ensures { result ≡ length self.now.items }
     {
         self.items.len()
     }
 
-    /// The list, without its room.
-    pub fn list(self) -> Seq<T>
+    /// The list. It keeps its room, of which contracts then say nothing. Takes no memory.
+    pub fn into_seq(self) -> Seq<T>
         ensures { result ≡ self.items }
     {
         Seq::from_vec(self.items)
+    }
+}
+
+#[cfg(test)]
+mod tests {
+    use super::Room;
+    use crate::Seq;
+
+    #[test]
+    fn takes_pushes_into_its_room(rt: HostRuntime) {
+        let mut numbers = Seq::new(rt.alloc());
+        assert_eq!(rt; numbers.push(3_u64), Ok(()));
+        let mut room = Room::from_seq(numbers);
+        assert_eq!(rt; room.reserve(2), Ok(()));
+        room.push(5);
+        room.push(8);
+        assert_eq!(rt; room.len(), 3);
+        assert_eq!(rt; room.into_seq().as_slice(), [3, 5, 8].as_slice());
     }
 }

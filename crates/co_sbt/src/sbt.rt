@@ -1,10 +1,13 @@
-//! A time in units of 2^-32 second, after the kernel's `sbintime_t`.
+//! Times in units of 2^-32 second, after the kernel's `sbintime_t`.
 ghost use Rattle.std.specs.Prelude.{◌≡◌, ◌≤◌, ◌<◌, ◌^◌, IfSome, IsNone, ◌↔◌};
 ghost use Rattle.co_sbt.specs.Time.{IsTime, sat_add, hash, ticks_of, from_ticks};
 
 use std::marker::Model;
 
-/// A time: a whole number of units from 0 to 2^63 - 1, where 2^32 units are one second.
+/// A time, or a span of time: a whole number of units from 0 to 2^63 - 1, where 2^32 units are one second.
+///
+/// The unit is that of the kernel's `sbintime_t`; that no time is negative is our own decision. Times compare by their
+/// numbers of units.
 #[derive(Clone, Copy, Debug, PartialEq, Eq, PartialOrd, Ord)]
 pub struct Sbt {
     raw: u64,
@@ -24,14 +27,14 @@ impl Model for Sbt {
 }
 
 impl Sbt {
-    /// The time at which all begins.
+    /// The time of no units, at which every clock begins.
     pub fn zero() -> Sbt
         ensures { result ≡ 0 }
     {
         Sbt { raw: 0 }
     }
 
-    /// The time of `raw` units, or None from 2^63 units on.
+    /// The time of `raw` units. None exactly where `raw` is 2^63 or more.
     pub fn new(raw: u64) -> Option<Sbt>
         ensures found { IfSome result (λ t. (t ≡ raw) × IsTime raw) }
         ensures none { IsNone result → 2 ^ 63 ≤ raw }
@@ -43,7 +46,7 @@ impl Sbt {
         }
     }
 
-    /// The number of units.
+    /// The number of units, below 2^63.
     pub fn raw(&self) -> u64
         ensures units { result ≡ self.now }
         ensures bounded { IsTime result }
@@ -51,14 +54,14 @@ impl Sbt {
         self.raw
     }
 
-    /// The number of the time's bucket, of 1/256 second.
+    /// The number of the bucket that the time lies in. A bucket is 2^24 units, 1/256 second, wide (our own decision).
     pub fn hash(self) -> u64
         ensures { result ≡ hash self }
     {
         self.raw / 0x100_0000
     }
 
-    /// The sum, or the last time where the sum is later.
+    /// The sum of both, or the last time, 2^63 - 1 units, where the sum is later (our own decision).
     pub fn sat_add(self, d: Sbt) -> Sbt
         ensures { result ≡ sat_add self d }
     {
@@ -72,7 +75,8 @@ impl Sbt {
         }
     }
 
-    /// The span of a number of ticks, `hz` of which are a second. A number that is not positive counts as 1.
+    /// The span of a number of ticks, of which `hz` are a second, from 1 to 1000000. One tick is 2^32 div `hz` units, rounded
+    /// down. A number that is not positive counts as 1, as callout(9) says of `callout_reset`.
     pub fn from_ticks(ticks: i32, hz: u32) -> Sbt
         requires low { 1 ≤ hz }
         requires high { hz ≤ 1000000 }
@@ -85,10 +89,29 @@ impl Sbt {
     }
 }
 
-/// A number of ticks that is not positive counts as 1.
+/// The number of ticks that counts: 1 where it is not positive.
 fn ticks_of(ticks: i32) -> u64
     ensures value { result ≡ ticks_of ticks }
     ensures bounded { result < 2 ^ 31 }
 {
     if ticks > 0 { ticks as u64 } else { 1 }
+}
+
+#[cfg(test)]
+mod tests {
+    use super::Sbt;
+
+    #[test]
+    fn has_a_last_time(rt: HostRuntime) {
+        assert_eq!(rt; Sbt::new(9223372036854775808), None);
+        let last = Sbt::new(9223372036854775807);
+        assert_eq!(rt; last.map(|time| time.sat_add(time)), last);
+    }
+
+    #[test]
+    fn counts_ticks(rt: HostRuntime) {
+        assert_eq!(rt; Sbt::from_ticks(1, 1000000).raw(), 4294);
+        assert_eq!(rt; Sbt::from_ticks(0, 1000).raw(), 4294967);
+        assert_eq!(rt; Sbt::from_ticks(-5, 1000).raw(), 4294967);
+    }
 }

@@ -1,7 +1,8 @@
 use Rattle.std.proofs.Common.{◌∙◌, sym, ap, drop}
 use Rattle.co_program.proofs.Remaining.{drop_some}
 use Rattle.co_program.proofs.Others.{begins_call}
-use Rattle.co_program.specs.Actors.{Does, program_of}
+use Rattle.co_program.specs.declared.program.Task.TheVariants.{Does}
+use Rattle.co_program.specs.Actors.{program_of}
 use Rattle.co_program.specs.Advance.{tail_of}
 use Rattle.co_program.specs.Indexed.{cursor_as}
 use Rattle.co_program.proofs.action.does.Goals as goal

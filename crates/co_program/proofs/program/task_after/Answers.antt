@@ -1,7 +1,8 @@
 use Rattle.std.proofs.Common.{◌∙◌, sym, ap}
 use Rattle.std.specs.Option.{option_map}
 use Rattle.co_program.proofs.Remaining.{first-drop, first_does, program-soft, program-hard}
-use Rattle.co_program.specs.Actors.{Does, acts_at, softs}
+use Rattle.co_program.specs.declared.program.Task.TheVariants.{Does}
+use Rattle.co_program.specs.Actors.{acts_at, softs}
 use Rattle.co_program.proofs.program.task_after.Goals as goal
 
 pub returns-in-Client : goal.returns-in-Client

@@ -47,21 +47,16 @@ returns-in-Some-clause-kept g c =
     c.pick-reply.new.self c.pick-reply.result c.last-at.result
     (c.pick-reply.ensures ∙ ap (λ d. pick_at d c.args.records.now (record { i = c.in-Some.i; n = c.in-Some.n }) c.last-at.result) lane)
 
-pub returns-in-Some-clause-callouts : goal.returns-in-Some-clause-callouts
-returns-in-Some-clause-callouts g c =
+pub returns-in-Some-clause-section : goal.returns-in-Some-clause-section
+returns-in-Some-clause-section g c =
     let s = g.Q.TimerQueue.state c.args.queue.now in
     let t = g.Q.TimerQueue.state c.pop.new.queue in
     let answers = got c.args.direct s t c.pop.result c.in-Some.i c.in-Some.n c.in-Some.is c.pop.ensures in
     let lane = taken-lane c.args.direct c.args.records.now s t c.in-Some.i c.in-Some.n c.requires.free answers c.requires.kept in
-    sym (c.pick-reply.ensures ∙ ap (λ d. pick_at d c.args.records.now (record { i = c.in-Some.i; n = c.in-Some.n }) c.last-at.result) lane)
-
-pub returns-in-Some-clause-queue : goal.returns-in-Some-clause-queue
-returns-in-Some-clause-queue g c =
-    let s = g.Q.TimerQueue.state c.args.queue.now in
-    let t = g.Q.TimerQueue.state c.pop.new.queue in
-    let answers = got c.args.direct s t c.pop.result c.in-Some.i c.in-Some.n c.in-Some.is c.pop.ensures in
-    let lane = taken-lane c.args.direct c.args.records.now s t c.in-Some.i c.in-Some.n c.requires.free answers c.requires.kept in
-    subst (λ at. Turns (cpu_of c.args.records.now s) ((pop_of c.args.direct, Got c.in-Some.i c.in-Some.n at) ∷ []) (cpu_of c.pick-reply.new.self t)) (sym c.last-at.ensures)
-    (taken-turn c.args.direct c.args.records.now s t c.in-Some.i c.in-Some.n c.requires.free answers c.requires.kept
-    c.pick-reply.new.self c.pick-reply.result c.last-at.result
-    (c.pick-reply.ensures ∙ ap (λ d. pick_at d c.args.records.now (record { i = c.in-Some.i; n = c.in-Some.n }) c.last-at.result) lane))
+    let picked = c.pick-reply.ensures ∙ ap (λ d. pick_at d c.args.records.now (record { i = c.in-Some.i; n = c.in-Some.n }) c.last-at.result) lane in
+    record {
+      callouts = sym picked;
+      queue = subst (λ at. Turns (cpu_of c.args.records.now s) ((pop_of c.args.direct, Got c.in-Some.i c.in-Some.n at) ∷ []) (cpu_of c.pick-reply.new.self t)) (sym c.last-at.ensures)
+          (taken-turn c.args.direct c.args.records.now s t c.in-Some.i c.in-Some.n c.requires.free answers c.requires.kept
+          c.pick-reply.new.self c.pick-reply.result c.last-at.result picked);
+    }

@@ -1,7 +1,0 @@
--- A list with room at its end.
-use Rattle.std.specs.Prelude.{ℕ, List}
-
-pub record Roomy (T : Type 0) : Type 0 where
-  pub items : List T
-  -- how many pushes take no memory
-  pub spare : ℕ
