@@ -94,4 +94,11 @@ impl Books {
             made: 0,
         })
     }
+
+    /// The notes so far.
+    pub(crate) fn into_lists(self) -> Lists
+        ensures { result ≡ self.lists }
+    {
+        self.lists
+    }
 }
