@@ -17,16 +17,16 @@ use Rattle.co_program.specs.declared.Act.{Act}
 use Rattle.co_program.specs.declared.Act.TheVariants.{Now, Lock, ReadLock, Unlock, Reset, Ticks, Schedule, Stop, Drain, AsyncDrain, Active, Pending, Deactivate, Init, Retire, Tick}
 use Rattle.co_program.specs.declared.Scene.{Scene}
 use Rattle.co_program.specs.Calls.{plain_op}
+use Rattle.co_program.specs.Actors.{cpu_of}
 use Rattle.co_program.specs.declared.Task.{Task}
 use Rattle.co_program.specs.declared.Task.TheVariants.{Does, Soft}
 use Rattle.co_program.specs.declared.Role.{Role}
-use Rattle.co_program.specs.Actors.{cpu_of}
-use Rattle.co_program.specs.declared.Service.{Service}
 use Rattle.co_program.specs.Stages.{Stage, Ready, Waiting, Popping, Picking, Locking, Beginning, Unlocking, Firing, Releasing, Ending, Freeing, Drained}
-use Rattle.co_program.specs.declared.Parcel.{Parcel}
+use Rattle.co_program.specs.declared.Service.{Service}
 use Rattle.co_program.specs.Cursor.{Cursor}
-use Rattle.co_program.specs.declared.Asked.TheVariants.{Callout, Queue, Itself}
+use Rattle.co_program.specs.declared.Parcel.{Parcel}
 use Rattle.co_program.specs.Action.{Action, Nothing, Silent, Take, Asks, spec_at, asks_covered, asks_within, over, takes, asks_drain, begins, drained_of, locks, firing, action_in, action_with, pop_of, free_of}
+use Rattle.co_program.specs.declared.Asked.TheVariants.{Callout, Queue, Itself}
 use Rattle.co_core.proofs.Lists.{at_choice}
 
 -- a task that is a client's alone

@@ -19,16 +19,16 @@ use Rattle.co_object.specs.Queue.{Queue as TimerQueue}
 use Rattle.co_object.proofs.PassageOnce.{stands}
 use Rattle.co_lock.specs.declared.held.Held.{Held}
 use Rattle.co_program.specs.declared.Script.{Script}
+use Rattle.co_program.specs.Actors.{role_of, cpu_of, acts_at, actor_count}
 use Rattle.co_program.specs.declared.Role.{Role}
 use Rattle.co_program.specs.declared.Role.TheVariants.{Client, Cpu, Interrupt}
-use Rattle.co_program.specs.Actors.{role_of, cpu_of, acts_at, actor_count}
-use Rattle.co_program.specs.declared.Service.{Service}
 use Rattle.co_program.specs.Stages.{Stage, Ready, Waiting, Popping, Picking, Locking, Beginning, Unlocking, Firing, Releasing, Ending, Freeing, Drained}
-use Rattle.co_program.specs.declared.Parcel.{Parcel}
+use Rattle.co_program.specs.declared.Service.{Service}
 use Rattle.co_program.specs.Cursor.{Cursor}
+use Rattle.co_program.specs.declared.Parcel.{Parcel}
+use Rattle.co_program.specs.Action.{Action, Nothing, Silent, Take, Asks, action_for, action_with, spec_at}
 use Rattle.co_program.specs.declared.Asked.{Asked}
 use Rattle.co_program.specs.declared.Asked.TheVariants.{Callout, Queue, Itself}
-use Rattle.co_program.specs.Action.{Action, Nothing, Silent, Take, Asks, action_for, action_with, spec_at}
 use Rattle.co_program.specs.Advance.{act_over, called, advance_callout, due_of_call}
 use Rattle.co_program.specs.Scripts.{IsScript}
 use Rattle.co_core.specs.World.{World, with_cursor}

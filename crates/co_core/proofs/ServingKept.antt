@@ -9,11 +9,11 @@ use Rattle.co_object.specs.History.{server}
 use Rattle.co_object.specs.Scan.{is_direct}
 use Rattle.co_lock.specs.declared.held.Held.{Held}
 use Rattle.co_program.specs.declared.Script.{Script}
+use Rattle.co_program.specs.Actors.{role_of, cpu_of, actor_count}
 use Rattle.co_program.specs.declared.Task.{Task}
 use Rattle.co_program.specs.declared.Role.{Role}
-use Rattle.co_program.specs.Actors.{role_of, cpu_of, actor_count}
-use Rattle.co_program.specs.declared.Service.{Service}
 use Rattle.co_program.specs.Stages.{Stage, Ready, Waiting, Popping, Picking, Locking, Beginning, Unlocking, Firing, Releasing, Ending, Freeing, Drained}
+use Rattle.co_program.specs.declared.Service.{Service}
 use Rattle.co_program.specs.Cursor.{Cursor}
 use Rattle.co_program.specs.Action.{spec_at}
 use Rattle.co_core.specs.Step.{are_direct}

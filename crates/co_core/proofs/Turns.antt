@@ -16,12 +16,12 @@ use Rattle.co_program.specs.declared.Task.{Task}
 use Rattle.co_program.specs.declared.Task.TheVariants.{Does, Soft}
 use Rattle.co_program.specs.declared.Role.{Role}
 use Rattle.co_program.specs.declared.Role.TheVariants.{Client, Cpu, Interrupt}
-use Rattle.co_program.specs.declared.Service.{Service}
 use Rattle.co_program.specs.Stages.{Stage, Ready, Waiting, Popping, Picking, Locking, Beginning, Unlocking, Firing, Releasing, Ending, Freeing, Drained}
-use Rattle.co_program.specs.declared.Parcel.{Parcel}
+use Rattle.co_program.specs.declared.Service.{Service}
 use Rattle.co_program.specs.Cursor.{Cursor}
-use Rattle.co_program.specs.declared.Asked.TheVariants.{Callout, Itself}
+use Rattle.co_program.specs.declared.Parcel.{Parcel}
 use Rattle.co_program.specs.Action.{Action, Silent, Take, Asks, firing, draining}
+use Rattle.co_program.specs.declared.Asked.TheVariants.{Callout, Itself}
 use Rattle.co_program.specs.Advance.{act_over, tail_of}
 use Rattle.co_core.proofs.Invariant.{RunFits, IsRunning, IsOver, HoldFits, FitsRole, IsTaskOf, HasActs, service_of, has_popped, under_way, in_stage}
 use Rattle.co_core.proofs.Actions.{IsAction, drops, passes, grabs, tells, asks, drains, waits, waits_told, enters, unlocks, fires, fires_told, releases, serves, serves_told, is_clients}

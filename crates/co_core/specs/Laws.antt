@@ -15,8 +15,8 @@ use Rattle.co_lock.specs.declared.Held.{Held}
 use Rattle.co_lock.specs.Service.{hold_of}
 use Rattle.co_program.specs.declared.Script.{Script}
 use Rattle.co_program.specs.Actors.{actor_count, client_count}
-use Rattle.co_program.specs.declared.Asked.TheVariants.{Callout}
 use Rattle.co_program.specs.Action.{Asks, action_for, spec_at}
+use Rattle.co_program.specs.declared.Asked.TheVariants.{Callout}
 use Rattle.co_program.specs.Follows.{Follows, Histories}
 use Rattle.co_core.specs.World.{World, open_world, lists_of, histories_of}
 use Rattle.co_core.specs.Blocked.{blocked}

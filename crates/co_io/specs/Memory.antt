@@ -24,8 +24,3 @@ pub record FaultyStore : Type 0 where
   pub fails : List ℕ
   pub calls : ℕ
   pub faults : ℕ
-
--- the counts of a sink over a writer
-pub record WriterCounts : Type 0 where
-  pub faults : ℕ
-  pub idle : ℕ

@@ -1,12 +1,13 @@
-//! A source over a reader, and a sink over a writer: the edge to the system, which tells no content.
-ghost use Rattle.std.specs.Prelude.{◌≡◌, ℕ, None};
+//! A source over a reader, and a sink over a writer: the edge to the system.
+ghost use Rattle.std.specs.Prelude.{◌≡◌, None};
 
 use crate::sink::Sink;
 use crate::source::{Failed, Source};
 use std::io::{Read, Write};
 use std::marker::Model;
 
-/// A reader as a source. Contracts see the count of its faults, and nothing of what it reads.
+/// A reader as a source, which tells what the reader tells: of a file or a terminal nothing. Each error that the reader
+/// gives is a fault.
 #[derive(Drop)]
 pub struct FileSource<R: Read> {
     reader: R,
@@ -15,26 +16,26 @@ pub struct FileSource<R: Read> {
 }
 
 impl<R: Read> Model for FileSource<R> {
-    ghost use Rattle.std.specs.Prelude.{ℕ};
+    ghost use Rattle.co_io.specs.Files.{OverReader};
 
-    ghost Value = { ℕ };
+    ghost Value = { OverReader R };
 
-    ghost view = { λ s. s.faults };
+    ghost view = { λ s. record { reader = s.reader; faults = s.faults } };
 }
 
 impl<R: Read> FileSource<R> {
     /// The source over this reader, which had no fault yet.
     pub fn new(reader: R) -> FileSource<R>
-        ensures { result ≡ 0 }
+        ensures { result ≡ record { reader = reader; faults = 0 } }
     {
         FileSource { reader, faults: 0 }
     }
 }
 
 impl<R: Read> Source for FileSource<R> {
-    ghost left = { λ _. None };
+    ghost left = { λ source. R.remaining source.reader };
 
-    ghost faults = { λ source. source };
+    ghost faults = { λ source. source.faults };
 
     fn read(&mut self, buf: &mut [u8]) -> Result<usize, Failed> {
         match self.reader.read(buf) {
@@ -47,7 +48,8 @@ impl<R: Read> Source for FileSource<R> {
     }
 }
 
-/// A writer as a sink. Contracts see the counts of its faults and of its idle writes, and nothing of what it holds.
+/// A writer as a sink, which tells what the writer tells: of a file or a terminal nothing. Each error that the writer
+/// gives is a fault. It tells no room.
 #[derive(Drop)]
 pub struct FileSink<W: Write> {
     writer: W,
@@ -58,17 +60,17 @@ pub struct FileSink<W: Write> {
 }
 
 impl<W: Write> Model for FileSink<W> {
-    ghost use Rattle.co_io.specs.Memory.{WriterCounts};
+    ghost use Rattle.co_io.specs.Files.{OverWriter};
 
-    ghost Value = { WriterCounts };
+    ghost Value = { OverWriter W };
 
-    ghost view = { λ s. record { faults = s.faults; idle = s.idle } };
+    ghost view = { λ s. record { writer = s.writer; faults = s.faults; idle = s.idle } };
 }
 
 impl<W: Write> FileSink<W> {
     /// The sink over this writer, which had no fault yet.
     pub fn new(writer: W) -> FileSink<W>
-        ensures { result ≡ record { faults = 0; idle = 0 } }
+        ensures { result ≡ record { writer = writer; faults = 0; idle = 0 } }
     {
         FileSink {
             writer,
@@ -79,7 +81,7 @@ impl<W: Write> FileSink<W> {
 }
 
 impl<W: Write> Sink for FileSink<W> {
-    ghost held = { λ _. None };
+    ghost held = { λ sink. W.contents sink.writer };
 
     ghost room = { λ _. None };
 

@@ -1,4 +1,9 @@
+ghost use Rattle.std.specs.Prelude.{◌≡◌, ◌≤◌, ◌<◌, ◌^◌, ◌++◌, length, IsTrue, IfSome, OnOk};
+ghost use Rattle.std.specs.Io.KnownBytes.{Appends};
+
 use super::*;
+use co_sbt::NoMemory;
+use std::alloc::Global;
 use std::io::{self, ErrorKind, Read, Write};
 use std::test::Fail;
 
@@ -41,15 +46,42 @@ fn a_failed_write_leaves_a_front(rt: HostRuntime) -> Result<(), Fail> {
     Ok(())
 }
 
+// Pours a source of three bytes at most into a sink that has room for it: no fault comes between.
+fn pour(alloc: Global, source: &mut QuietSource, sink: &mut QuietSink) -> Result<(), NoMemory>
+    requires few { length source.old ≤ 3 }
+    requires room { length source.old ≤ sink.old.room }
+    ensures { OnOk result (sink.new.held ≡ sink.old.held ++ source.old) }
+{
+    match read_all(alloc, source, 3) {
+        Ok(input) => match write_all(sink, input.bytes.as_slice()) {
+            Ok(()) => Ok(()),
+            Err(_) => unreachable!(),
+        },
+        Err(ReadEnd::NoMemory) => Err(NoMemory {}),
+        Err(ReadEnd::Fault) => unreachable!(),
+    }
+}
+
+// Copies a source into a sink, where it has no more bytes than the limit.
+fn copy<S: Source, K: Sink>(alloc: Global, limit: usize, source: &mut S, sink: &mut K) -> bool
+    requires { limit < 2 ^ 62 }
+    ensures { IsTrue result → IfSome (S.left source.old) (Appends (K.held sink.old) (K.held sink.new)) }
+{
+    match read_all(alloc, source, limit) {
+        Ok(input) => !input.over && write_all(sink, input.bytes.as_slice()).is_ok(),
+        Err(_) => false,
+    }
+}
+
 #[test]
 fn quiet_ends_take_all(rt: HostRuntime) -> Result<(), Fail> {
     let mut source = QuietSource::new(rt.alloc(), b"abc")?;
-    let mut sink = QuietSink::new(rt.alloc(), 3)?;
-    match read_all(rt.alloc(), &mut source, 3) {
-        Ok(input) => assert_eq!(rt; write_all(&mut sink, input.bytes.as_slice()), Ok(())),
-        Err(_) => assert!(rt; false),
-    }
+    let mut sink = QuietSink::new(rt.alloc(), 6)?;
+    pour(rt.alloc(), &mut source, &mut sink)?;
     assert_eq!(rt; sink.bytes(), b"abc".as_slice());
+    let mut source = MemSource::new(rt.alloc(), b"def", 1, &[])?;
+    assert!(rt; copy(rt.alloc(), 3, &mut source, &mut sink));
+    assert_eq!(rt; sink.bytes(), b"abcdef".as_slice());
     Ok(())
 }
 

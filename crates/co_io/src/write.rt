@@ -2,7 +2,7 @@
 ghost use Rattle.std.specs.Prelude.{◌≡◌, ◌≤◌, length, OnOk, OnErr};
 ghost use Rattle.std.specs.Io.KnownBytes.{Appends};
 ghost use Rattle.co_io.specs.Counts.{Rose};
-ghost use Rattle.co_io.specs.Room.{Fills, IsTooSmallFor};
+ghost use Rattle.co_io.specs.Room.{IsTooSmallFor};
 ghost use Rattle.co_io.specs.Writing.{AppendsFront};
 
 use crate::sink::Sink;

@@ -1,4 +1,5 @@
--- Each step keeps the rule.
+-- Each step keeps the rule: the lemma `moves` says so of any step that moves or changes one pass, and each of the six kinds is shown to be one,
+-- but the start and the making of a pass, which are shown by themselves.
 use Rattle.std.proofs.Common.{◌≡◌, ◌≢◌, ◌⊎◌, ℕ, zero, suc, ◌+◌, ◌<◌, ◌==◌, min, Bool, true, List, [], ◌∷◌, ◌++◌, length, set, Option, Some, None, refl, sym, ap, ◌∙◌, subst, inl, inr, ⊎_elim, arith, length-append}
 use Rattle.std.specs.Prelude.{slice_index, slice_set}
 use Rattle.std.specs.List.{All}
@@ -31,9 +32,6 @@ module _ {A : Type 0} where
   at_inside (x ∷ xs) (suc j) b e = let h = at_inside xs j b e in omega arith
 
 module _ {E : Type 0} (actor : E → ℕ) (legal : List E → Type 0) where
-  V : Type 0
-  V = SeatView E
-
   -- the keeper's view tells which state it is
   pub at_keeper : (s : State E (SeatView E)) (id : ℕ) (h : List E) (n : ℕ) (i : Option (Glance E)) → Kept actor legal s → get_elem? s.views id ≡ some (Keeps h n i) → IsKept actor legal s.words s.views id h n i
   at_keeper s id h n i k at =
@@ -88,9 +86,6 @@ module _ {E : Type 0} (actor : E → ℕ) (legal : List E → Type 0) where
             let vs : x.0 ≡ y.0 = some-injective _ _ (sym x.1 ∙ (ap (get_elem? before) e ∙ y.1)) in
             let ps : Some r ≡ Some s = sym x.2 ∙ (ap pass_in vs ∙ y.2) in
             cc
-
-  abbrev Words : State E (SeatView E) → List ℕ
-  Words s = s.words
 
   one_word : (ws : List ℕ) (w : ℕ) → ws ≡ w ∷ [] → slice_set ws 0 (slice_index ws 0) ≡ w ∷ []
   one_word ws w e = subst (λ (x : List ℕ). slice_set x 0 (slice_index x 0) ≡ w ∷ []) (sym e) refl

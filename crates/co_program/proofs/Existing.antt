@@ -1,14 +1,14 @@
 -- What a place in a program names exists: at the start of each program, after each step and after each note, and in
 -- each thing that is asked. All by cases: an act names what exists since the script does, a service the callout that a
 -- Pop got, and a parcel the CPU of a reply.
-use Rattle.std.proofs.Common.{◌≡◌, ℕ, zero, suc, ◌+◌, ◌-◌, ◌*◌, ◌<◌, ◌≤◌, ◌==◌, ◌&&◌, Bool, true, false, cond, nat_lt, List, [], ◌∷◌, map, length, Option, Some, None, is_some, refl, sym, ap, subst, ◌∙◌, arith}
+use Rattle.std.proofs.Common.{◌≡◌, ℕ, zero, suc, ◌+◌, ◌-◌, ◌*◌, ◌<◌, ◌==◌, Bool, true, false, cond, nat_lt, List, [], ◌∷◌, map, length, Option, Some, None, is_some, refl, subst, arith}
 use Rattle.std.proofs.Math.Nat.{mod-lt}
 use Rattle.std.proofs.lemmas.Bool.{ltb-true, ltb-false}
 use Rattle.std.specs.List.{AllByRecursion}
 use Rattle.co_object.proofs.Changes.{both_true}
 use Rattle.co_object.specs.declared.Next.{Next}
 use Rattle.co_object.specs.declared.Op.{Op}
-use Rattle.co_object.specs.declared.Op.TheVariants.{Call, Run}
+use Rattle.co_object.specs.declared.Op.TheVariants.{Call}
 use Rattle.co_object.specs.declared.CallOp.TheVariants.{Plain}
 use Rattle.co_object.specs.declared.PlainOp.{PlainOp}
 use Rattle.co_object.specs.declared.Reply.{Reply}
@@ -21,7 +21,7 @@ use Rattle.co_object.specs.declared.AnyEntry.{AnyEntry}
 use Rattle.co_object.specs.declared.AnyEntry.TheVariants as entry
 use Rattle.co_object.specs.declared.QOp.{QOp}
 use Rattle.co_object.specs.declared.QOp.TheVariants.{Insert, Remove, Scan, Pop, PopDirect, Free as FreeSlot, FreeDirect}
-use Rattle.co_object.specs.declared.OwnKind.TheVariants.{NotHeld, HoldsLock, Holding, NotHolding}
+use Rattle.co_object.specs.declared.OwnKind.TheVariants.{NotHeld}
 use Rattle.co_lock.specs.declared.Held.{Held}
 use Rattle.co_lock.specs.Covers.{covers}
 use Rattle.co_program.specs.declared.act.Act.{Act}
@@ -38,16 +38,15 @@ use Rattle.co_program.specs.declared.program.Task.{Task}
 use Rattle.co_program.specs.declared.program.Task.TheVariants.{Does, Soft}
 use Rattle.co_program.specs.declared.cursor.Service.{Service}
 use Rattle.co_program.specs.declared.cursor.Parcel.{Parcel}
-use Rattle.co_program.specs.declared.action.Asked.{Asked}
-use Rattle.co_program.specs.declared.action.Asked.TheVariants.{Callout, Queue, Itself}
+use Rattle.co_program.specs.declared.action.Asked.TheVariants.{Callout, Itself}
 use Rattle.co_program.specs.Actors.{client_count, actor_count, acts_at, program_of, role_of, cpu_of, softs}
 use Rattle.co_program.specs.Calls.{plain_op, callout_of, cpu_named}
 use Rattle.co_program.specs.Stages.{Stage, Ready, Waiting, Popping, Picking, Locking, Beginning, Unlocking, Firing, Releasing, Ending, Freeing, Drained}
 use Rattle.co_program.specs.Cursor.{Cursor, start_of}
-use Rattle.co_program.specs.Action.{Action, Nothing, Silent, Take, Asks, spec_at, asks_covered, asks_call, asks_within, over, takes, asks_drain, pop_of, free_of, begins, drained_of, locks, firing, draining, action_in, action_with, action_for}
-use Rattle.co_program.specs.Advance.{tail_of, act_over, due_of_call, called, picked, begun, ended, advance_callout, parcel_of, drain_acts, freed, got, popped, advance_queue, advance}
-use Rattle.co_program.specs.Existing.{IsCallout, IsCpu, ActsExist, TaskExists, NextExists, StageExists, ParcelExists, IsIn, CpuExists, PlainOpExists, QOpExists, AskedExists, ActionExists, ReplyExists, QReplyExists, EntryExists}
-use Rattle.co_program.specs.Scripts.{IsScript, is_tick, is_call, who_exists, cpu_exists, names_exist}
+use Rattle.co_program.specs.Action.{Asks, spec_at, asks_covered, asks_call, asks_within, takes, asks_drain, pop_of, free_of, begins, drained_of, locks, firing, draining, action_in, action_with, action_for}
+use Rattle.co_program.specs.Advance.{tail_of, act_over, called, picked, begun, ended, advance_callout, parcel_of, drain_acts, freed, got, popped, advance_queue, advance}
+use Rattle.co_program.specs.Existing.{IsCallout, IsCpu, ActsExist, TaskExists, NextExists, StageExists, ParcelExists, IsIn, CpuExists, PlainOpExists, QOpExists, ActionExists, ReplyExists, QReplyExists, EntryExists}
+use Rattle.co_program.specs.Scripts.{IsScript, is_tick, who_exists, cpu_exists, names_exist}
 
 -- a choice of two values has a property that each has where it is chosen
 choice : {X : Type 0} (P : X → Type 0) (b : Bool) (x y : X) → (b ≡ true → P x) → (b ≡ false → P y) → P (cond b x y)
@@ -59,10 +58,10 @@ choice P false x y of_x of_y = of_y refl
 pub cpu_in : (s : Script) → IsScript s → (a : ℕ) → a < actor_count s → IsCpu s (cpu_of s (role_of s a))
 cpu_in s is a below =
     choice (λ role. IsCpu s (cpu_of s role)) (nat_lt a (client_count s)) (Client a) _
-      (λ client. mod-lt a is.cpus.0)
-      (λ no_client. choice (λ role. IsCpu s (cpu_of s role)) (nat_lt a (client_count s + s.cpus)) (Cpu (a - client_count s)) (Interrupt (a - client_count s - s.cpus))
-        (λ cpu. let h = ltb-true a (client_count s + s.cpus) cpu in let g = ltb-false a (client_count s) no_client in omega arith)
-        (λ no_cpu. let h = ltb-false a (client_count s + s.cpus) no_cpu in let g = at_most_two s a below in omega arith))
+    (λ client. mod-lt a is.cpus.0)
+    (λ no_client. choice (λ role. IsCpu s (cpu_of s role)) (nat_lt a (client_count s + s.cpus)) (Cpu (a - client_count s)) (Interrupt (a - client_count s - s.cpus))
+    (λ cpu. let h = ltb-true a (client_count s + s.cpus) cpu in let g = ltb-false a (client_count s) no_client in omega arith)
+    (λ no_cpu. let h = ltb-false a (client_count s + s.cpus) no_cpu in let g = at_most_two s a below in omega arith))
   where
     at_most_two : (s : Script) (a : ℕ) → a < actor_count s → a < client_count s + 2 * s.cpus
     at_most_two s a = choice (λ (n : ℕ). a < n → a < client_count s + 2 * s.cpus) (s.version == 2) (client_count s + 2 * s.cpus) (client_count s + s.cpus) (λ _ h. h) (λ _ h. omega arith)
@@ -103,8 +102,8 @@ program_in : (s : Script) → IsScript s → (role : Role) → AllByRecursion (T
 program_in s is (Client c) = does_in s (acts_at s.clients c) (is.clients_name c)
 program_in s is (Cpu x) =
     choice (AllByRecursion (TaskExists s)) (s.version == 2) (softs 0 (length (acts_at s.ticks x))) (map Does (acts_at s.ticks x))
-      (λ _. softs_in s 0 (length (acts_at s.ticks x)))
-      (λ _. does_in s (acts_at s.ticks x) (ticks_in s (acts_at s.ticks x) (is.ticks x)))
+    (λ _. softs_in s 0 (length (acts_at s.ticks x)))
+    (λ _. does_in s (acts_at s.ticks x) (ticks_in s (acts_at s.ticks x) (is.ticks x)))
 program_in s is (Interrupt x) = does_in s (acts_at s.ticks x) (ticks_in s (acts_at s.ticks x) (is.ticks x))
 
 pub start_in : (s : Script) → IsScript s → (a : ℕ) → IsIn s (start_of s a)

@@ -3,7 +3,6 @@
 use Rattle.std.proofs.Common.{◌≡◌, ℕ, List, ◌∷◌, refl}
 use Rattle.co_object.specs.declared.QReply.{QReply}
 use Rattle.co_object.specs.declared.QReply.TheVariants.{At, Off, Missing, Count, Got, Empty, Freed}
-use Rattle.co_sbt.specs.declared.Sbt.{Sbt}
 use Rattle.co_program.specs.declared.act.Act.{Act}
 use Rattle.co_program.specs.declared.act.Act.TheVariants as act
 use Rattle.co_program.specs.declared.script.Script.{Script}

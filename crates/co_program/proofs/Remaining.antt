@@ -1,6 +1,6 @@
 -- What is left of a list of acts once some are over: its first act, and its rest.
 -- The inductions are over the list and the number together; that a program is short makes `past` exact.
-use Rattle.std.proofs.Common.{◌≡◌, ℕ, zero, suc, ◌+◌, ◌-◌, ◌^◌, ◌<◌, ◌≤◌, ◌==◌, min, Bool, true, false, cond, List, [], ◌∷◌, map, length, drop, Option, Some, None, slice_get, refl, sym, ap, subst, ◌∙◌, add-one, add-zero, arith, ◌⊎◌, inl, inr}
+use Rattle.std.proofs.Common.{◌≡◌, ℕ, zero, suc, ◌+◌, ◌<◌, ◌≤◌, ◌==◌, Bool, true, false, cond, List, [], ◌∷◌, map, length, drop, Option, Some, None, slice_get, refl, sym, ap, ◌∙◌, add-one, arith, inl, inr}
 use Rattle.std.proofs.Math.Nat.{min-eq_left}
 use Rattle.std.specs.Option.{option_map}
 use Rattle.std.proofs.lemmas.Bool.{cases_lt, ne_eqb}
@@ -51,11 +51,11 @@ past-high n high = omega arith
 pub drop-past : {X : Type 0} (xs : List X) (n : ℕ) → length xs ≤ 65536 → drop (past n) xs ≡ tail_of (drop n xs)
 drop-past xs n short =
     elim (cases_lt n 65536) [
-      inl low ↦ rw (past-low n low) (rw add-one (sym (tail_of-drop xs n)))
-    | inr high ↦
-        let ended : drop (past n) xs ≡ [] = drop_end xs (past n) (omega (arith, past-high n high)) in
-        let over : drop n xs ≡ [] = drop_end xs n (omega arith) in
-        ended ∙ sym (ap tail_of over)
+      | inl low ↦ rw (past-low n low) (rw add-one (sym (tail_of-drop xs n)))
+      | inr high ↦
+          let ended : drop (past n) xs ≡ [] = drop_end xs (past n) (omega (arith, past-high n high)) in
+          let over : drop n xs ≡ [] = drop_end xs n (omega arith) in
+          ended ∙ sym (ap tail_of over)
     ]
 
 -- a choice of two values, each of which has the property
@@ -81,8 +81,8 @@ pub length-program : (s : Script) → IsScript s → (role : Role) → length (p
 length-program s is (Client c) = rw length-map (is.short_clients c)
 length-program s is (Cpu x) =
     cond_kept (λ (tasks : List Task). length tasks ≤ 65536) (s.version == 2) (softs 0 (length (acts_at s.ticks x))) (map Does (acts_at s.ticks x))
-      (rw length-softs (is.short_ticks x))
-      (rw length-map (is.short_ticks x))
+    (rw length-softs (is.short_ticks x))
+    (rw length-map (is.short_ticks x))
 length-program s is (Interrupt x) = rw length-map (is.short_ticks x)
 
 pub first_does : (acts : List Act) (n : ℕ) → option_map Does (slice_get acts n) ≡ slice_get (drop n (map Does acts)) 0

@@ -4,7 +4,6 @@ use Rattle.std.specs.List.{AllByRecursion}
 use Rattle.co_object.specs.declared.Next.{Next}
 use Rattle.co_object.specs.declared.Op.{Op}
 use Rattle.co_object.specs.declared.Op.TheVariants.{Call, Run}
-use Rattle.co_object.specs.declared.CallOp.{CallOp}
 use Rattle.co_object.specs.declared.CallOp.TheVariants.{Plain, DrainTry}
 use Rattle.co_object.specs.declared.PlainOp.{PlainOp}
 use Rattle.co_object.specs.declared.PlainOp.TheVariants.{Reset, Schedule}

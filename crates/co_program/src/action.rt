@@ -23,7 +23,9 @@ use co_sbt::Sbt;
 /// Whom an actor asks, and what.
 #[derive(Clone, Copy, Debug, PartialEq, Eq)]
 pub enum Asked {
+    /// Callout `i`.
     Callout { i: u32, op: Op },
+    /// The timer queue of a CPU.
     Queue { cpu: u32, op: QOp },
     /// Nobody: a note of the actor's own.
     Itself(OwnKind),
@@ -42,13 +44,15 @@ pub enum Action {
     Asks { act: u64, asked: Asked },
 }
 
-/// What the actor does next.
+/// What the actor does next (our own order). A step without a note raises `act` only as it raises `task`.
 pub fn action_for(script: &Script, actor: u32, cursor: &Cursor) -> Action
     requires script { IsScript script.now }
     requires room { cursor.now.act < 2 ^ 64 - 1 }
-    ensures action { action_of script.now actor result ≡ action_for script.now actor (cursor_of script.now actor cursor.now) }
+    ensures action { let s = script.now in
+        action_of s actor result ≡ action_for s actor (cursor_of s actor cursor.now) }
     ensures counted { ActionCounts cursor.now result }
-    ensures existing { actor < actor_count script.now → IsIn script.now (cursor_of script.now actor cursor.now) → ActionExists script.now (action_of script.now actor result) }
+    ensures existing { let s = script.now in
+        actor < actor_count s → IsIn s (cursor_of s actor cursor.now) → ActionExists s (action_of s actor result) }
 {
     match cursor.parcel {
         Some(parcel) => {
@@ -63,8 +67,8 @@ pub fn action_for(script: &Script, actor: u32, cursor: &Cursor) -> Action
     }
 }
 
-/// The number of Scans that the CPU's journal must have before the actor's next note: the j-th soft act begins after
-/// j + 1, and all else waits for none.
+/// How many Scans the CPU's journal must have before the actor's next note: j + 1 for the j-th soft act, counted from 0,
+/// and none for all else (our own rule).
 pub fn scans_first(script: &Script, actor: u32, cursor: &Cursor) -> u32
     requires { IsScript script.now }
     ensures { result ≡ scans_first (cursor_of script.now actor cursor.now) }
@@ -75,6 +79,7 @@ pub fn scans_first(script: &Script, actor: u32, cursor: &Cursor) -> u32
     }
 }
 
+/// The same, of the act that begins next.
 fn scans_of(script: &Script, role: Role, over: u32) -> u32
     requires { IsScript script.now }
     ensures { result ≡ scans_of (drop over (program_of script.now role)) }
@@ -91,7 +96,8 @@ fn scans_of(script: &Script, role: Role, over: u32) -> u32
 fn action_in(script: &Script, role: Role, cursor: &Cursor) -> Action
     requires script { IsScript script.now }
     requires room { cursor.now.act < 2 ^ 64 - 1 }
-    ensures action { action_as script.now role result ≡ action_in script.now role (cursor_as script.now role cursor.now) (stage_of script.now cursor.now.stage) }
+    ensures action { let s = script.now in let c = cursor_as s role cursor.now in
+        action_as s role result ≡ action_in s role c c.stage }
     ensures counted { ActionCounts cursor.now result }
 {
     let cpu = cpu_of(script, role);
@@ -124,7 +130,8 @@ fn action_in(script: &Script, role: Role, cursor: &Cursor) -> Action
 fn begins(script: &Script, role: Role, cursor: &Cursor) -> Action
     requires script { IsScript script.now }
     requires room { cursor.now.act < 2 ^ 64 - 1 }
-    ensures action { action_as script.now role result ≡ begins script.now role (cursor_as script.now role cursor.now) (drop cursor.now.task (program_of script.now role)) }
+    ensures action { let s = script.now in let c = cursor_as s role cursor.now in
+        action_as s role result ≡ begins s role c c.left }
     ensures counted { ActionCounts cursor.now result }
 {
     match task_after(script, role, cursor.task) {
@@ -139,7 +146,8 @@ fn does(script: &Script, role: Role, cursor: &Cursor, act: &Act) -> Action
     requires script { IsScript script.now }
     requires next { slice_get (drop cursor.now.task (program_of script.now role)) 0 ≡ Some (Task.Does act.now) }
     requires room { cursor.now.act < 2 ^ 64 - 1 }
-    ensures action { action_as script.now role result ≡ begins script.now role (cursor_as script.now role cursor.now) (drop cursor.now.task (program_of script.now role)) }
+    ensures action { let s = script.now in let c = cursor_as s role cursor.now in
+        action_as s role result ≡ begins s role c c.left }
     ensures counted { ActionCounts cursor.now result }
 {
     match *act {
@@ -175,7 +183,8 @@ fn does(script: &Script, role: Role, cursor: &Cursor, act: &Act) -> Action
 /// The actor's time is told.
 fn tells(cursor: &Cursor, time: Sbt) -> Action
     requires { cursor.now.act < 2 ^ 64 - 1 }
-    ensures action { (s : Script) (role : Role) → IsScript s → action_as s role result ≡ (let c = cursor_as s role cursor.now in Silent (record (over c (tail_of c.left) c.hold) { now = time })) }
+    ensures action { (s : Script) (role : Role) → IsScript s → let c = cursor_as s role cursor.now in
+        action_as s role result ≡ Silent (record (over c (tail_of c.left) c.hold) { now = time }) }
     ensures counted { cursor.now.task < 65536 → ActionCounts cursor.now result }
 {
     Action::Silent(Cursor {
@@ -187,7 +196,8 @@ fn tells(cursor: &Cursor, time: Sbt) -> Action
 /// A lock is taken.
 fn takes(cursor: &Cursor, held: Held) -> Action
     requires { cursor.now.act < 2 ^ 64 - 1 }
-    ensures action { (s : Script) (role : Role) → IsScript s → action_as s role result ≡ (let c = cursor_as s role cursor.now in takes c (tail_of c.left) held) }
+    ensures action { (s : Script) (role : Role) → IsScript s → let c = cursor_as s role cursor.now in
+        action_as s role result ≡ takes c (tail_of c.left) held }
     ensures counted { cursor.now.task < 65536 → ActionCounts cursor.now result }
 {
     if cursor.hold.is_some() {
@@ -203,7 +213,9 @@ fn takes(cursor: &Cursor, held: Held) -> Action
 /// The lock is released.
 fn unlocks(cursor: &Cursor) -> Action
     requires { cursor.now.act < 2 ^ 64 - 1 }
-    ensures action { (s : Script) (role : Role) → IsScript s → action_as s role result ≡ (let c = cursor_as s role cursor.now in if is_some c.hold then Silent (over c (tail_of c.left) None) else Asks c.act (Asked.Itself OwnKind.NotHolding)) }
+    ensures action { (s : Script) (role : Role) → IsScript s → let c = cursor_as s role cursor.now in
+        action_as s role result ≡
+        (if is_some c.hold then Silent (over c (tail_of c.left) None) else Asks c.act (Asked.Itself OwnKind.NotHolding)) }
     ensures counted { cursor.now.task < 65536 → ActionCounts cursor.now result }
 {
     if cursor.hold.is_some() {
@@ -216,7 +228,8 @@ fn unlocks(cursor: &Cursor) -> Action
 /// The cursor after the act under way, with this hold.
 pub(crate) fn after(cursor: &Cursor, hold: Option<Held>) -> Cursor
     requires { cursor.now.act < 2 ^ 64 - 1 }
-    ensures cursor { result ≡ record cursor.now { task = past cursor.now.task; act = cursor.now.act + 1; hold = hold; stage = Stage.Ready } }
+    ensures cursor { let c = cursor.now in
+        result ≡ record c { task = past c.task; act = c.act + 1; hold = hold; stage = Stage.Ready } }
     ensures counted { Counts cursor.now result 1 }
 {
     Cursor {
@@ -236,8 +249,10 @@ pub(crate) fn past(over: u32) -> u32
     over.saturating_add(1)
 }
 
+/// A try of a drain, which no caller makes that holds a lock.
 fn asks_drain(cursor: &Cursor, i: u32, took: bool) -> Action
-    ensures action { (s : Script) (role : Role) → action_as s role result ≡ asks_drain (cursor_as s role cursor.now) i took }
+    ensures action { (s : Script) (role : Role) →
+        action_as s role result ≡ asks_drain (cursor_as s role cursor.now) i took }
     ensures counted { ActionCounts cursor.now result }
 {
     if cursor.hold.is_some() {
@@ -259,7 +274,8 @@ fn drained_of(script: &Script, role: Role, over: u32) -> u32
 
 /// After the last act a lock that is still held is released.
 fn ends(cursor: &Cursor) -> Action
-    ensures action { (s : Script) (role : Role) → drop cursor.now.task (program_of s role) ≡ [] → action_as s role result ≡ begins s role (cursor_as s role cursor.now) [] }
+    ensures action { (s : Script) (role : Role) → let c = cursor_as s role cursor.now in
+        c.left ≡ [] → action_as s role result ≡ begins s role c [] }
     ensures counted { ActionCounts cursor.now result }
 {
     if cursor.hold.is_some() {
@@ -271,7 +287,8 @@ fn ends(cursor: &Cursor) -> Action
 
 /// The lock is released, and this stage comes next.
 fn releases(cursor: &Cursor, stage: Stage) -> Action
-    ensures action { (s : Script) (role : Role) → action_as s role result ≡ Silent (record (cursor_as s role cursor.now) { hold = None; stage = stage_of s stage }) }
+    ensures action { (s : Script) (role : Role) → let c = cursor_as s role cursor.now in
+        action_as s role result ≡ Silent (record c { hold = None; stage = stage_of s stage }) }
     ensures counted { ActionCounts cursor.now result }
 {
     Action::Silent(Cursor {
@@ -286,7 +303,8 @@ fn releases(cursor: &Cursor, stage: Stage) -> Action
 /// What a function's act asks, about its service.
 fn asks_within(script: &Script, cpu: u32, cursor: &Cursor, v: &Service, left: ActsLeft) -> Action
     requires { IsScript script.now }
-    ensures action { (role : Role) → action_as script.now role result ≡ asks_within script.now cpu (cursor_as script.now role cursor.now) v.now (acts_left script.now left) }
+    ensures action { (role : Role) → let s = script.now in
+        action_as s role result ≡ asks_within s cpu (cursor_as s role cursor.now) v.now (acts_left s left) }
     ensures counted { ActionCounts cursor.now result }
 {
     match next_of(script, left) {
@@ -305,7 +323,8 @@ fn asks_within(script: &Script, cpu: u32, cursor: &Cursor, v: &Service, left: Ac
 /// What an act asks that is a call. A call that the hold doesn't cover comes to no callout.
 fn asks_call(script: &Script, cursor: &Cursor, act: &Act, scene: &Scene) -> Action
     requires { IsScript script.now }
-    ensures action { (role : Role) → action_as script.now role result ≡ asks_call script.now (cursor_as script.now role cursor.now) act.now scene.now }
+    ensures action { (role : Role) → let s = script.now in
+        action_as s role result ≡ asks_call s (cursor_as s role cursor.now) act.now scene.now }
     ensures counted { ActionCounts cursor.now result }
 {
     match call_of(act, script.hz, scene) {
@@ -339,7 +358,8 @@ pub(crate) fn spec_at(script: &Script, i: u32) -> Spec
 
 /// The callout's lock is taken.
 fn locks(script: &Script, cursor: &Cursor, v: &Service) -> Action
-    ensures action { (role : Role) → action_as script.now role result ≡ locks script.now (cursor_as script.now role cursor.now) v.now (hold_of (spec_at script.now v.now.i).lock) }
+    ensures action { (role : Role) → let s = script.now in
+        action_as s role result ≡ locks s (cursor_as s role cursor.now) v.now (hold_of (spec_at s v.now.i).lock) }
     ensures counted { ActionCounts cursor.now result }
 {
     match hold_of(spec_at(script, v.i).lock) {
@@ -397,6 +417,7 @@ pub(crate) fn draining(script: &Script, v: &Service, left: ActsLeft) -> Stage
     }
 }
 
+/// The Pop of the role's lane: the urgent one is the interrupt's.
 fn pop_of(role: Role) -> QOp
     ensures { result ≡ pop_of role }
 {
@@ -406,6 +427,7 @@ fn pop_of(role: Role) -> QOp
     }
 }
 
+/// The Free of the role's lane.
 fn free_of(role: Role) -> QOp
     ensures { result ≡ free_of role }
 {

@@ -17,8 +17,9 @@ use co_lock::Held;
 use co_object::{AnyEntry, CallOp, Next, Op, Place, PlainOp, QOp, QReply, Reply};
 use co_sbt::Sbt;
 
-/// The cursor after an entry of the actor's own at this place. `listed` is whether the callout stands in a queue after
-/// it.
+/// The cursor once the actor has made this entry at this place. `listed` is whether the callout stands in a queue after
+/// the entry (no matter for the entries of CPUs and of actors). Of the acts that have begun, each is over in the program or
+/// has made a note: so `act` is at most `task` and the number of the actor's notes, which bounds it for every caller.
 pub fn advance(
     script: &Script,
     cursor: &Cursor,
@@ -28,9 +29,11 @@ pub fn advance(
 ) -> Cursor
     requires script { IsScript script.now }
     requires room { cursor.now.act < 2 ^ 64 - 1 }
-    ensures cursor { (actor : ℕ) → cursor_of script.now actor result ≡ advance script.now (cursor_of script.now actor cursor.now) listed place entry.now }
+    ensures cursor { (actor : ℕ) → let s = script.now in
+        cursor_of s actor result ≡ advance s (cursor_of s actor cursor.now) listed place entry.now }
     ensures counted { Counts cursor.now result 1 }
-    ensures existing { (actor : ℕ) → IsIn script.now (cursor_of script.now actor cursor.now) → EntryExists script.now place entry.now → IsIn script.now (cursor_of script.now actor result) }
+    ensures existing { (actor : ℕ) → let s = script.now in
+        IsIn s (cursor_of s actor cursor.now) → EntryExists s place entry.now → IsIn s (cursor_of s actor result) }
 {
     match (place, entry) {
         (Place::Timer(i), AnyEntry::Timer(e)) => {
@@ -54,7 +57,8 @@ fn advance_callout(
 ) -> Cursor
     requires script { IsScript script.now }
     requires room { cursor.now.act < 2 ^ 64 - 1 }
-    ensures cursor { (role : Role) → cursor_as script.now role result ≡ (let c = cursor_as script.now role cursor.now in advance_callout script.now (record c { removed = None }) i listed op.now reply.now c.stage) }
+    ensures cursor { (role : Role) → let s = script.now in let c = cursor_as s role cursor.now in
+        cursor_as s role result ≡ advance_callout s (record c { removed = None }) i listed op.now reply.now c.stage }
     ensures counted { Counts cursor.now result 1 }
 {
     let under_way = Cursor {
@@ -73,7 +77,8 @@ fn advance_callout(
 fn called(script: &Script, cursor: &Cursor, i: u32, listed: bool, op: &Op, reply: &Reply) -> Cursor
     requires script { IsScript script.now }
     requires room { cursor.now.act < 2 ^ 64 - 1 }
-    ensures cursor { (role : Role) → cursor_as script.now role result ≡ called (cursor_as script.now role cursor.now) i listed op.now reply.now }
+    ensures cursor { (role : Role) → let s = script.now in
+        cursor_as s role result ≡ called (cursor_as s role cursor.now) i listed op.now reply.now }
     ensures counted { Counts cursor.now result 1 }
 {
     match *reply {
@@ -99,7 +104,8 @@ fn called(script: &Script, cursor: &Cursor, i: u32, listed: bool, op: &Op, reply
 fn act_over(script: &Script, cursor: &Cursor) -> Cursor
     requires script { IsScript script.now }
     requires room { cursor.now.act < 2 ^ 64 - 1 }
-    ensures cursor { (role : Role) → cursor_as script.now role result ≡ (let c = cursor_as script.now role cursor.now in act_over c c.stage) }
+    ensures cursor { (role : Role) → let s = script.now in let c = cursor_as s role cursor.now in
+        cursor_as s role result ≡ act_over c c.stage }
     ensures counted { Counts cursor.now result 1 }
 {
     match &cursor.stage {
@@ -117,7 +123,7 @@ fn act_over(script: &Script, cursor: &Cursor) -> Cursor
     }
 }
 
-/// What is left of a function when its next act is over.
+/// What is left of a function once its next act is over.
 fn one_less(left: ActsLeft) -> ActsLeft
     ensures { (s : Script) → IsScript s → acts_left s result ≡ tail_of (acts_left s left) }
 {
@@ -127,6 +133,7 @@ fn one_less(left: ActsLeft) -> ActsLeft
     }
 }
 
+/// The time for which a call arms.
 fn due_of_call(op: &Op) -> Sbt
     ensures { result ≡ due_of_call op.now }
 {
@@ -139,8 +146,10 @@ fn due_of_call(op: &Op) -> Sbt
 
 // ---- in a service
 
+/// The cursor after a Pick: the function runs, or waits for the callout's lock.
 fn picked(script: &Script, cursor: &Cursor, v: &Service, reply: &Reply) -> Cursor
-    ensures cursor { (role : Role) → cursor_as script.now role result ≡ picked script.now (cursor_as script.now role cursor.now) v.now reply.now }
+    ensures cursor { (role : Role) → let s = script.now in
+        cursor_as s role result ≡ picked s (cursor_as s role cursor.now) v.now reply.now }
     ensures counted { Counts cursor.now result 1 }
 {
     let stage = match *reply {
@@ -150,8 +159,10 @@ fn picked(script: &Script, cursor: &Cursor, v: &Service, reply: &Reply) -> Curso
     Cursor { stage, ..*cursor }
 }
 
+/// The cursor after a Begin: the function runs, or it was cancelled meanwhile and the lock is released.
 fn begun(script: &Script, cursor: &Cursor, v: &Service, reply: &Reply) -> Cursor
-    ensures cursor { (role : Role) → cursor_as script.now role result ≡ begun script.now (cursor_as script.now role cursor.now) v.now reply.now }
+    ensures cursor { (role : Role) → let s = script.now in
+        cursor_as s role result ≡ begun s (cursor_as s role cursor.now) v.now reply.now }
     ensures counted { Counts cursor.now result 1 }
 {
     let stage = match *reply {
@@ -163,7 +174,8 @@ fn begun(script: &Script, cursor: &Cursor, v: &Service, reply: &Reply) -> Cursor
 
 /// The function begins, under the callout's lock or, where it returns unlocked, once that is released.
 fn runs(script: &Script, v: &Service, hold: Option<Held>, func: u32) -> Stage
-    ensures { stage_of script.now result ≡ (if (spec_at script.now v.now.i).returns_unlocked then Unlocking v.now (acts_at script.now.funcs func) else firing v.now hold (acts_at script.now.funcs func)) }
+    ensures { let s = script.now in let acts = acts_at s.funcs func in
+        stage_of s result ≡ (if (spec_at s v.now.i).returns_unlocked then Unlocking v.now acts else firing v.now hold acts) }
 {
     if spec_at(script, v.i).returns_unlocked {
         Stage::Unlocking(*v, whole(func))
@@ -179,8 +191,10 @@ fn whole(func: u32) -> ActsLeft
     ActsLeft { func, done: 0 }
 }
 
+/// The cursor after an End.
 fn ended(cursor: &Cursor, v: &Service, reply: &Reply) -> Cursor
-    ensures cursor { (s : Script) (role : Role) → cursor_as s role result ≡ ended (cursor_as s role cursor.now) v.now reply.now }
+    ensures cursor { (s : Script) (role : Role) →
+        cursor_as s role result ≡ ended (cursor_as s role cursor.now) v.now reply.now }
     ensures counted { Counts cursor.now result 1 }
 {
     match *reply {
@@ -202,7 +216,8 @@ fn ended(cursor: &Cursor, v: &Service, reply: &Reply) -> Cursor
 fn advance_queue(script: &Script, cursor: &Cursor, cpu: u32, op: &QOp, reply: &QReply) -> Cursor
     requires script { IsScript script.now }
     requires room { cursor.now.act < 2 ^ 64 - 1 }
-    ensures cursor { (role : Role) → cursor_as script.now role result ≡ advance_queue script.now (cursor_as script.now role cursor.now) cpu op.now reply.now }
+    ensures cursor { (role : Role) → let s = script.now in
+        cursor_as s role result ≡ advance_queue s (cursor_as s role cursor.now) cpu op.now reply.now }
     ensures counted { Counts cursor.now result 1 }
 {
     match op {
@@ -227,7 +242,8 @@ fn advance_queue(script: &Script, cursor: &Cursor, cpu: u32, op: &QOp, reply: &Q
 /// The cursor after a Pop, with the first of which a soft act begins.
 fn popped(cursor: &Cursor, reply: &QReply) -> Cursor
     requires { cursor.now.act < 2 ^ 64 - 1 }
-    ensures cursor { (s : Script) (role : Role) → IsScript s → cursor_as s role result ≡ (let c = cursor_as s role cursor.now in popped c reply.now c.stage) }
+    ensures cursor { (s : Script) (role : Role) → IsScript s → let c = cursor_as s role cursor.now in
+        cursor_as s role result ≡ popped c reply.now c.stage }
     ensures counted { Counts cursor.now result 1 }
 {
     match cursor.stage {
@@ -244,7 +260,8 @@ fn popped(cursor: &Cursor, reply: &QReply) -> Cursor
 
 /// What a Pop got; an empty queue ends the act.
 fn got(cursor: &Cursor, act: u64, reply: &QReply) -> Cursor
-    ensures cursor { (s : Script) (role : Role) → IsScript s → cursor_as s role result ≡ got (cursor_as s role cursor.now) act reply.now }
+    ensures cursor { (s : Script) (role : Role) → IsScript s →
+        cursor_as s role result ≡ got (cursor_as s role cursor.now) act reply.now }
     ensures counted { Counts cursor.now result 0 }
 {
     match *reply {
@@ -260,8 +277,10 @@ fn got(cursor: &Cursor, act: u64, reply: &QReply) -> Cursor
     }
 }
 
+/// The cursor after a Free: the callout may go to another CPU.
 fn freed(script: &Script, cursor: &Cursor) -> Cursor
-    ensures cursor { (role : Role) → cursor_as script.now role result ≡ (let c = cursor_as script.now role cursor.now in freed script.now c c.stage) }
+    ensures cursor { (role : Role) → let s = script.now in let c = cursor_as s role cursor.now in
+        cursor_as s role result ≡ freed s c c.stage }
     ensures counted { Counts cursor.now result 1 }
 {
     match &cursor.stage {

@@ -1,6 +1,6 @@
 -- A script that fits is one that the service runs: what the core asks of a script is among what the reader grants.
-use Rattle.std.proofs.Common.{◌≡◌, ℕ, zero, suc, ◌+◌, ◌*◌, ◌^◌, ◌<◌, ◌≤◌, Bool, true, false, cond, not, ◌&&◌, ◌||◌, List, [], ◌∷◌, length, refl, ap, sym, subst, ◌∙◌, arith, inl, inr, lit≤}
-use Rattle.std.specs.Prelude.{Option, Some, None, ◌==◌, if◌then◌else◌, nat_lt, nat_le, slice_index_or, is_some, ◌⊎◌}
+use Rattle.std.proofs.Common.{◌≡◌, ℕ, zero, suc, ◌^◌, ◌<◌, ◌≤◌, Bool, true, false, not, ◌&&◌, ◌||◌, List, [], ◌∷◌, length, refl, ◌∙◌, arith, inl, inr, lit≤}
+use Rattle.std.specs.Prelude.{◌==◌, nat_lt, nat_le, slice_index_or, ◌⊎◌}
 use Rattle.std.specs.List.{list_all, list_any, AllByRecursion}
 use Rattle.std.proofs.lemmas.Bool.{ltb-true, leb-true, eqb-true}
 use Rattle.co_object.specs.declared.Spec.{Spec}
@@ -12,7 +12,6 @@ use Rattle.co_program.specs.declared.Script.{Script}
 use Rattle.co_program.specs.declared.Act.{Act}
 use Rattle.co_program.specs.declared.Act.TheVariants as act
 use Rattle.co_program.specs.Actors.{acts_at, actor_count}
-use Rattle.co_program.specs.Action.{spec_at}
 use Rattle.co_program.specs.Scripts.{IsScript, is_tick, is_call, names_exist, who_exists, cpu_exists}
 use Rattle.co_grammar.specs.declared.Kind.{Kind}
 use Rattle.co_grammar.specs.declared.Kind.TheVariants as kind

@@ -1,21 +1,17 @@
 -- What every draft keeps that lines are read into, so that its script fits once the text has ended: a script without its
 -- open section is firm, the open section fits, and there is room for it. A line of the frame closes the open section and
 -- opens the next; an act is one more of the open section.
-use Rattle.std.proofs.Common.{◌≡◌, ℕ, zero, suc, ◌+◌, ◌-◌, ◌*◌, ◌^◌, ◌<◌, ◌≤◌, Bool, true, false, cond, not, ◌&&◌, ◌||◌, List, [], ◌∷◌, ◌++◌, length, refl, ap, sym, subst, ◌∙◌, arith, length-append, inl, inr}
-use Rattle.std.specs.Prelude.{Option, Some, None, Result, Ok, Err, ◌==◌, if◌then◌else◌, nat_lt, nat_le, replicate, sum_by, flat_map, is_some, slice_get, ◌⊎◌, codes}
+use Rattle.std.proofs.Common.{◌≡◌, ℕ, zero, suc, ◌+◌, ◌-◌, ◌*◌, ◌<◌, ◌≤◌, Bool, true, false, cond, not, ◌&&◌, ◌||◌, List, [], ◌∷◌, ◌++◌, length, refl, ap, sym, ◌∙◌, arith, length-append}
+use Rattle.std.specs.Prelude.{Some, None, ◌==◌, nat_lt, nat_le, replicate, sum_by, flat_map, is_some}
 use Rattle.std.specs.List.{list_all}
 use Rattle.std.proofs.lemmas.Bool.{ltb-true, lt-ltb, leb-true, le-leb, eqb-true}
 use Rattle.std.proofs.lemmas.List.{length-replicate}
 use Rattle.std.proofs.lemmas.List.Folds.{list_all-append}
 use Rattle.std.proofs.lemmas.List.Sums.{sum_by-append, sum_by_push, sum_by-cons}
-use Rattle.std.proofs.lemmas.List.Concat.{length-flat_map}
 use Rattle.co_object.specs.declared.Spec.{Spec}
 use Rattle.co_object.specs.declared.LockUse.{LockUse}
 use Rattle.co_object.specs.declared.LockUse.TheVariants.{Free, Mtx, Rw, RwShared}
 use Rattle.co_object.proofs.Changes.{both_true}
-use Rattle.co_text.specs.Fallible.{◌>>=◌, ◌>>◌, unless}
-use Rattle.co_text.specs.declared.Cause.{Cause}
-use Rattle.co_text.specs.declared.Cause.TheVariants as cause
 use Rattle.co_lock.specs.declared.LockKind.{LockKind}
 use Rattle.co_program.specs.declared.Script.{Script}
 use Rattle.co_program.specs.declared.Act.{Act}
@@ -30,21 +26,15 @@ use Rattle.co_program.specs.Actors.{actor_count}
 use Rattle.co_program.specs.Scripts.{who_exists, cpu_exists}
 use Rattle.co_grammar.specs.declared.Kind.{Kind}
 use Rattle.co_grammar.specs.declared.Kind.TheVariants as kind
-use Rattle.co_grammar.specs.declared.Verb.{Verb}
-use Rattle.co_grammar.specs.declared.Verb.TheVariants as verb
-use Rattle.co_grammar.specs.declared.Opener.{Opener}
-use Rattle.co_grammar.specs.declared.Opener.TheVariants.{Frame, Act as Does}
-use Rattle.co_grammar.specs.Keywords.{rank, is_single, is_section, is_func, may_act, verb_of_act}
+use Rattle.co_grammar.specs.declared.Opener.TheVariants.{Frame}
+use Rattle.co_grammar.specs.Keywords.{rank, is_single, is_func, may_act, verb_of_act}
 use Rattle.co_grammar.specs.Turns.{Turn}
-use Rattle.co_grammar.specs.Statements.{Statement}
-use Rattle.co_grammar.specs.Statements as states
 use Rattle.co_grammar.specs.Checks.{is_within, is_wheel_size, is_next_of, spec_exists, spec_kind_fits, act_fits, act_kind_fits, act_rises}
 use Rattle.co_script.specs.Drafts.{Draft, closed, with_section, padded, time_after, open_clients}
-use Rattle.co_script.specs.Refusals.{below, actor_number, turn_fits, numbers_fit, kinds_fit, times_rise, has_room, most_acts, times_of, has_room_for_act, number_or_0, steps_of, draft_with, draft_after}
+use Rattle.co_script.specs.Refusals.{below, actor_number, turn_fits, most_acts, times_of, number_or_0, steps_of}
 use Rattle.co_script.specs.Reading.{may_stand}
-use Rattle.co_script.specs.Fits.{is_of_version, act_names_me, has_times, rises_after, spec_fits, act_stands, section_fits, is_free}
-use Rattle.co_script.proofs.LinesFold.{Passes}
-use Rattle.co_script.proofs.FormsTold.{IsFormed, IsSpecFormed, IsStated, is_role_of}
+use Rattle.co_script.specs.Fits.{is_of_version, act_names_me, has_times, rises_after, spec_fits, is_free}
+use Rattle.co_script.proofs.FormsTold.{IsSpecFormed, is_role_of}
 
 pub both-true : (a b : Bool) → a ≡ true → b ≡ true → (a && b) ≡ true
 both-true true b h k = k

@@ -1,7 +1,7 @@
 -- What the form of a line tells of what it states: each act that is read is of its verb, names `me` only in a function,
 -- and has times that are times; each spec is one that a callout may have; each turn is of an actor of its version.
 -- Each lemma takes a reading apart into its steps, of which none was refused.
-use Rattle.std.proofs.Common.{◌≡◌, ℕ, zero, suc, ◌+◌, ◌-◌, ◌*◌, ◌/◌, ◌^◌, ◌<◌, ◌≤◌, Bool, true, false, cond, not, ◌&&◌, ◌||◌, List, [], ◌∷◌, length, refl, ap, sym, subst, ◌∙◌, arith, lit<}
+use Rattle.std.proofs.Common.{◌≡◌, ℕ, suc, ◌+◌, ◌-◌, ◌*◌, ◌/◌, ◌^◌, ◌<◌, ◌≤◌, Bool, true, false, cond, not, ◌&&◌, ◌||◌, List, [], ◌∷◌, length, refl, ap, sym, subst, ◌∙◌, arith}
 use Rattle.std.specs.Prelude.{ℤ, Option, Some, None, Result, Ok, Err, ◌==◌, if◌then◌else◌, codes, nat_lt, nat_le, fold, drop}
 use Rattle.std.specs.List.{list_all, take_while, before_first}
 use Rattle.std.specs.Char.{is_ascii_digit}
@@ -14,7 +14,7 @@ use Rattle.co_object.specs.declared.LockUse.{LockUse}
 use Rattle.co_object.specs.declared.LockUse.TheVariants.{Free, Mtx, Rw, RwShared}
 use Rattle.co_object.proofs.Changes.{both_true}
 use Rattle.co_sbt.specs.Seconds.{are_digits, number as spelled, units_of, fraction, seconds_and, seconds}
-use Rattle.co_text.specs.Fallible.{◌>>=◌, ◌>>◌, unless, some_or}
+use Rattle.co_text.specs.Fallible.{◌>>=◌, unless, some_or}
 use Rattle.co_text.specs.Values.{Word, is_word, number, time, units, digits, small, func, argument, signed}
 use Rattle.co_text.specs.Taking.{Read, next, ended, lone, is_next, after_next, option}
 use Rattle.co_text.specs.declared.Cause.{Cause}
@@ -26,7 +26,6 @@ use Rattle.co_program.specs.declared.Who.TheVariants as callout
 use Rattle.co_program.specs.declared.When.{When}
 use Rattle.co_program.specs.declared.When.TheVariants as when
 use Rattle.co_program.specs.declared.Where.{Where}
-use Rattle.co_program.specs.declared.Where.TheVariants as cpu
 use Rattle.co_program.specs.declared.Role.{Role}
 use Rattle.co_program.specs.declared.Role.TheVariants.{Client, Cpu, Interrupt}
 use Rattle.co_grammar.specs.declared.Kind.{Kind}

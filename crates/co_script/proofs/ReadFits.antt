@@ -1,13 +1,13 @@
 -- What is read fits: the script that a text stands for keeps all ranges and limits.
-use Rattle.std.proofs.Common.{◌≡◌, ℕ, zero, suc, ◌+◌, ◌-◌, ◌*◌, ◌^◌, ◌<◌, ◌≤◌, Bool, true, false, cond, not, ◌&&◌, ◌||◌, List, [], ◌∷◌, ◌++◌, length, refl, ap, sym, subst, ◌∙◌, arith, length-append}
-use Rattle.std.specs.Prelude.{Option, Some, None, Result, Ok, Err, ◌==◌, if◌then◌else◌, nat_lt, nat_le, replicate, sum_by, codes}
+use Rattle.std.proofs.Common.{◌≡◌, ℕ, ◌+◌, ◌-◌, ◌<◌, ◌≤◌, Bool, true, false, cond, not, ◌&&◌, ◌||◌, List, [], ◌∷◌, ◌++◌, length, refl, ap, sym, subst, ◌∙◌, arith, length-append}
+use Rattle.std.specs.Prelude.{Option, Some, None, Result, Ok, Err, ◌==◌, nat_lt, nat_le, replicate, sum_by, codes}
 use Rattle.std.specs.List.{list_all}
-use Rattle.std.proofs.lemmas.Bool.{ltb-true, lt-ltb, leb-true, le-leb, eqb-true, eq-eqb}
+use Rattle.std.proofs.lemmas.Bool.{ltb-true, leb-true, le-leb, eq-eqb}
 use Rattle.std.proofs.lemmas.List.{length-replicate}
 use Rattle.std.proofs.lemmas.List.Sums.{sum_by-append}
 use Rattle.co_object.specs.declared.Spec.{Spec}
 use Rattle.co_object.proofs.Changes.{both_true}
-use Rattle.co_text.specs.Fallible.{◌>>=◌, ◌>>◌, unless, some_or, Refusal, at_line}
+use Rattle.co_text.specs.Fallible.{◌>>=◌, unless, some_or, at_line}
 use Rattle.co_text.specs.Lines.{Line, lines_of, content, words}
 use Rattle.co_text.specs.Values.{Word, is_word}
 use Rattle.co_text.specs.declared.Cause.{Cause}
@@ -21,19 +21,19 @@ use Rattle.co_grammar.specs.declared.Verb.{Verb}
 use Rattle.co_grammar.specs.declared.Verb.TheVariants as verb
 use Rattle.co_grammar.specs.declared.Opener.{Opener}
 use Rattle.co_grammar.specs.declared.Opener.TheVariants.{Frame, Act as Does}
-use Rattle.co_grammar.specs.Keywords.{kind_of, verb_of, old_verb_of, rank, is_section, is_func, may_act, verb_of_act}
+use Rattle.co_grammar.specs.Keywords.{kind_of, verb_of, old_verb_of, is_section, is_func, may_act, verb_of_act}
 use Rattle.co_grammar.specs.Statements.{Statement}
 use Rattle.co_grammar.specs.Statements as states
 use Rattle.co_grammar.specs.Forms.{frame_form, act_form}
-use Rattle.co_grammar.specs.Turns.{Turn}
-use Rattle.co_grammar.specs.Checks.{is_within, is_next_of, is_wheel_size, spec_exists, spec_kind_fits, act_fits, act_kind_fits, act_rises}
+use Rattle.co_grammar.specs.Checks.{is_within, is_next_of, is_wheel_size, spec_exists, act_fits, act_kind_fits, act_rises}
 use Rattle.co_script.specs.Drafts.{Draft, opening, closed, with_section, padded, finished, time_after}
-use Rattle.co_script.specs.Refusals.{turn_fits, numbers_fit, kinds_fit, times_rise, has_room, most_acts, times_of, draft_with, draft_after}
+use Rattle.co_script.specs.Refusals.{numbers_fit, kinds_fit, times_rise, has_room, most_acts, times_of, draft_with, draft_after}
 use Rattle.co_script.specs.Reading.{opener_by, opener_of, may_stand, frame_line, act_line, opened_line, line_after, version_of, version_line, line_of_words, line_read, lines_read, text_end, lines_script, script_of}
-use Rattle.co_script.specs.Fits.{fits, is_of_version, act_names_me, has_times, rises_after, spec_fits, act_stands, section_fits, is_free, total_acts}
+use Rattle.co_script.specs.Fits.{fits, is_of_version, act_names_me, has_times, rises_after, spec_fits, section_fits, total_acts}
 use Rattle.co_script.proofs.LinesFold.{Passes}
-use Rattle.co_script.proofs.FormsTold.{bind-ok, unless-ok, cond-ok, IsFormed, IsSpecFormed, IsStated, act-ok, frame-ok}
-use Rattle.co_script.proofs.DraftsFit.{named_by, locked_by, stands, section, fits-named, kind-named, exists-locked, use-locked, empty-section, clock_after, acts_in, Firm, Fine, close, opened, rank-rises, rank-after, both-true, more-pass, one-passes, copies-pass, copies-sum, none-pass, rises-more, clock-more, hz-line, cpus-line, wheel-line, funcs-line, lock-line-fine, timer-line-fine, func-line-fine, client-line-fine, cpu-line-fine, turns-line-fine}
+use Rattle.co_script.proofs.TurnLines.{version-kept}
+use Rattle.co_script.proofs.FormsTold.{bind-ok, unless-ok, IsStated, act-ok, frame-ok}
+use Rattle.co_script.proofs.DraftsFit.{named_by, locked_by, stands, section, fits-named, kind-named, exists-locked, use-locked, empty-section, clock_after, acts_in, Firm, Fine, close, rank-rises, rank-after, both-true, more-pass, one-passes, copies-pass, copies-sum, rises-more, clock-more, hz-line, cpus-line, wheel-line, funcs-line, lock-line-fine, timer-line-fine, func-line-fine, client-line-fine, cpu-line-fine, turns-line-fine}
 
 -- ---- a statement that is not refused passes its tests
 
@@ -183,26 +183,12 @@ framed d s kind.Turns (states.Client n) h order stated p = absurd stated
 framed d s kind.Turns (states.Cpu n) h order stated p = absurd stated
 framed d s kind.Turns (states.Does a) h order stated p = absurd stated
 
--- closing a section leaves the version
-version-closed : (stage : Kind) (s : Script) (acts : List Act) → (with_section stage s acts).version ≡ s.version
-version-closed kind.Callout s acts = refl
-version-closed kind.Hz s acts = refl
-version-closed kind.Cpus s acts = refl
-version-closed kind.Wheel s acts = refl
-version-closed kind.Funcs s acts = refl
-version-closed kind.Lock s acts = refl
-version-closed kind.Timer s acts = refl
-version-closed kind.Func s acts = refl
-version-closed kind.Client s acts = refl
-version-closed kind.Cpu s acts = refl
-version-closed kind.Turns s acts = refl
-
 frame-fine : (d : Draft) (k : Kind) (ws : List Word) (e : Draft) → Fine d → may_stand d.stage (Frame k) ≡ true → frame_line d k ws ≡ Ok e → Fine e
 frame-fine d k ws e h order read =
     let say = bind-ok (frame_form d.script.version k ws) (draft_after d (closed d)) e read in
     let p = passes-ok d (closed d) say.0 e say.2 in
     let stated : IsStated (closed d).version k say.0 =
-    subst (λ v. IsStated v k say.0) (sym (version-closed d.stage d.script d.acts)) (frame-ok d.script.version k ws say.0 say.1) in
+    subst (λ v. IsStated v k say.0) (sym (version-kept d.stage d.script d.acts)) (frame-ok d.script.version k ws say.0 say.1) in
     subst (λ x. Fine x) p.1 (framed d (closed d) k say.0 (close d h) order stated p.0)
 
 -- ---- an act
@@ -404,7 +390,7 @@ lines-fine k d (l ∷ ls) e h read =
 
 -- ---- the end of the text
 
-timers-closed : (stage : Kind) (s : Script) (acts : List Act) → (with_section stage s acts).timers ≡ s.timers
+pub timers-closed : (stage : Kind) (s : Script) (acts : List Act) → (with_section stage s acts).timers ≡ s.timers
 timers-closed kind.Callout s acts = refl
 timers-closed kind.Hz s acts = refl
 timers-closed kind.Cpus s acts = refl

@@ -1,3 +1,4 @@
+-- After want of memory the bytes so far and the last piece are gone.
 use Rattle.std.proofs.Common.{Result, Ok, Err, OnErr}
 use Rattle.std.proofs.KnownBytes.{Consumes-trans}
 use Rattle.co_io.proofs.read.read_all.Goals as goal

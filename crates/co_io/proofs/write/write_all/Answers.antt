@@ -1,3 +1,4 @@
+-- One more write moves the seam between what is written and the rest.
 use Rattle.std.proofs.Common.{◌++◌, arith, take}
 use Rattle.std.proofs.KnownBytes.{Appends-trans}
 use Rattle.co_io.proofs.Turns.{filled_more, moves_seam}

@@ -1,4 +1,4 @@
-use Rattle.std.proofs.Common.{◌∙◌, sym, ap, drop}
+use Rattle.std.proofs.Common.{◌∙◌, sym, drop}
 use Rattle.co_program.proofs.Remaining.{drop_some}
 use Rattle.co_program.proofs.Others.{begins_call}
 use Rattle.co_program.specs.declared.program.Task.TheVariants.{Does}
@@ -12,8 +12,8 @@ returns-in_default-clause-action c =
     let s = c.args.script.now in
     let left = drop c.args.cursor.now.task (program_of s c.args.role) in
     rw (drop_some left (Does c.args.act.now) c.requires.next)
-      (
-        c.asks_call.ensures.action c.args.role
-        ∙ (rw c.cpu_of-in_default.ensures
-          (sym (begins_call s c.args.role (cursor_as s c.args.role c.args.cursor.now) (tail_of left) c.args.act.now c.in_default.not-Now c.in_default.not-Lock c.in_default.not-ReadLock c.in_default.not-Unlock c.in_default.not-Drain c.in_default.not-Tick)))
-      )
+    (
+    c.asks_call.ensures.action c.args.role
+    ∙ (rw c.cpu_of-in_default.ensures
+    (sym (begins_call s c.args.role (cursor_as s c.args.role c.args.cursor.now) (tail_of left) c.args.act.now c.in_default.not-Now c.in_default.not-Lock c.in_default.not-ReadLock c.in_default.not-Unlock c.in_default.not-Drain c.in_default.not-Tick)))
+    )

@@ -12,14 +12,14 @@ returns-in-Timer-Timer-clause-existing c actor inside exists =
     let s = c.args.script.now in
     let note : EntryExists s (place.Timer c.in-Timer-Timer.i) (entry.Timer c.in-Timer-Timer.e) = rw (c.in-Timer-Timer.is-0, c.in-Timer-Timer.is-1) at exists in
     subst (IsIn s) (sym (c.advance_callout.ensures.cursor (role_of s actor)))
-      (advance_exists s c.requires.script (cursor_of s actor c.args.cursor.now) c.args.listed (place.Timer c.in-Timer-Timer.i) (entry.Timer c.in-Timer-Timer.e) inside note)
+    (advance_exists s c.requires.script (cursor_of s actor c.args.cursor.now) c.args.listed (place.Timer c.in-Timer-Timer.i) (entry.Timer c.in-Timer-Timer.e) inside note)
 
 pub returns-in-Cpu-Cpu-clause-existing : goal.returns-in-Cpu-Cpu-clause-existing
 returns-in-Cpu-Cpu-clause-existing c actor inside exists =
     let s = c.args.script.now in
     let note : EntryExists s (place.Cpu c.in-Cpu-Cpu.cpu) (entry.Cpu c.in-Cpu-Cpu.e) = rw (c.in-Cpu-Cpu.is-0, c.in-Cpu-Cpu.is-1) at exists in
     subst (IsIn s) (sym (c.advance_queue.ensures.cursor (role_of s actor)))
-      (advance_exists s c.requires.script (cursor_of s actor c.args.cursor.now) c.args.listed (place.Cpu c.in-Cpu-Cpu.cpu) (entry.Cpu c.in-Cpu-Cpu.e) inside note)
+    (advance_exists s c.requires.script (cursor_of s actor c.args.cursor.now) c.args.listed (place.Cpu c.in-Cpu-Cpu.cpu) (entry.Cpu c.in-Cpu-Cpu.e) inside note)
 
 pub returns-in_default-clause-existing : goal.returns-in_default-clause-existing
 returns-in_default-clause-existing c actor inside exists =

@@ -1,3 +1,4 @@
+-- What was copied and what is left then are what was left.
 use Rattle.std.proofs.Common.{◌≡◌, ◌∙◌, ℕ, List, take, drop, sym, ap, arith}
 use Rattle.std.proofs.lemmas.List.{take_rest, length-take-le}
 use Rattle.co_io.proofs.Turns.{left_after}

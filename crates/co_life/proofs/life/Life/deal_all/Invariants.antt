@@ -1,3 +1,4 @@
+-- Each actor so far has its fresh pass.
 use Rattle.std.proofs.Common.{◌≡◌, []}
 use Rattle.co_life.specs.Views.{AreFresh}
 use Rattle.co_life.proofs.life.Life.deal_all.Given as goal

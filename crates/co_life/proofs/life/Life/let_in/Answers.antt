@@ -1,3 +1,4 @@
+-- The join and the load keep the rule, and the load tells what the rule says of the pass inside.
 use Rattle.std.proofs.Common.{arith, sym, ap, ◌∙◌}
 use mathlib.Core.Option.{none}
 use Rattle.atomic_table.specs.Table.{step}

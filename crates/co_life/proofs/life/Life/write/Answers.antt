@@ -1,3 +1,4 @@
+-- The append and the split keep the rule; what was appended follows what the pass had seen and entries of others.
 use Rattle.std.proofs.Common.{[], ◌∷◌, ◌++◌, List, arith, sym, ap, ◌∙◌, subst}
 use mathlib.Core.Option.{some}
 use Rattle.std.specs.List.{All}
