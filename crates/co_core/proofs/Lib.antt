@@ -53,3 +53,4 @@ pub mod Homes
 pub mod Relisted
 pub mod CallEnds
 pub mod CallSection
+pub mod Calling

@@ -12,7 +12,7 @@ ghost use Rattle.co_core.specs.Written.{place_at};
 
 use crate::books::{Books, Hand};
 use crate::depot::Depot;
-use co_object::OwnKind;
+use co_object::{CallOp, Op, OwnKind};
 use co_program::{Asked, Cursor, Script};
 
 /// What is written, and where the records are.
@@ -44,5 +44,37 @@ impl Engine {
         ensures count { length hand.new.notes.items ≡ length hand.old.notes.items + 1 }
     {
         self.books.write_own(script, hand, act, kind);
+    }
+
+    /// A covered call on a callout that stands still. The answer is how many notes it makes.
+    fn call(
+        &mut self,
+        script: &Script,
+        hand: &mut Hand,
+        act: u64,
+        i: u32,
+        op: &CallOp,
+    ) -> u32
+        requires script { IsScript script.now }
+        requires may { MayAct script.now self.old hand.old (Asks act (Asked.Callout i (Op.Call op.now))) }
+        ensures stands { (w : PlainWorld) → HeldBy script.now self.old hand.old w → IsDue script.now w hand.old.actor (Asks act (Asked.Callout i (Op.Call op.now))) →
+            HeldBy script.now self.new hand.new (step script.now w hand.old.actor) }
+        ensures actor { hand.new.actor ≡ hand.old.actor }
+        ensures count { length hand.new.notes.items ≡ length hand.old.notes.items + result }
+    {
+        let cpu = self.depot.stand(i);
+        let out = self.depot.call(cpu, i, op, hand.actor);
+        let removed = self.books.write_removal(script, hand, act, cpu, i, out.removed);
+        self.books.write_callout(
+            script,
+            hand,
+            act,
+            i,
+            Op::Call(*op),
+            out.reply,
+            out.listed,
+        );
+        let inserted = self.books.write_insertion(script, hand, out.inserted);
+        removed + 1 + inserted
     }
 }
