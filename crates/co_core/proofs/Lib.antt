@@ -54,3 +54,4 @@ pub mod Relisted
 pub mod CallEnds
 pub mod CallSection
 pub mod Calling
+pub mod Steadily
