@@ -55,3 +55,4 @@ pub mod CallEnds
 pub mod CallSection
 pub mod Calling
 pub mod Steadily
+pub mod Landing
