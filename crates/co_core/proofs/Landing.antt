@@ -212,9 +212,9 @@ module _ (s : Script) (ok : IsScript s) (books : Written) (depot : Stored) (w : 
       target = (stands.placed.settled i bound.1).target;
     }
 
-    pub stands_landed : (books' : Written) → IsWritten s books' w' → StandsFor s books' (with_stand (with_bag (with_wheel depot cpu after) a None) travels.i cpu) (step s w a)
+    pub stands_landed : (books' : Written) → ((queue : TimerQueue) → IsWritten s books' (queue_answers s w a p.act cpu (Insert i p.n p.due) (Some (queue, At at)))) → StandsFor s books' (with_stand (with_bag (with_wheel depot cpu after) a None) travels.i cpu) (step s w a)
     stands_landed books' written = record {
-      written = subst (IsWritten s books') (sym is) written;
+      written = subst (IsWritten s books') (sym is) (written q2);
       stored = subst (λ (j : ℕ). IsStored s (with_stand (with_bag (with_wheel depot cpu after) a None) j cpu) (step s w a)) (ap (λ (t : Travelling). t.i) (sym same))
           (subst (IsStored s (with_stand (with_bag (with_wheel depot cpu after) a None) i cpu)) (sym is)
           (stored_after s depot w w' i cpu a st q2 d after None stands.stored due.may bound.2 goes only only' others (λ y other. nowhere y) (ap (λ (x : Callouts). x.cpu) callouts) (ap (λ (x : Callouts). x.here) callouts) landed.queue.buckets landed.queue.direct takes.1 refl));
@@ -223,6 +223,3 @@ module _ (s : Script) (ok : IsScript s) (books : Written) (depot : Stored) (w : 
           (slots (role_of s a) (cpu_of s (role_of s a)) ∙ stands.placed.serves a due.may) (λ j e. stands.placed.known a j due.may e) (λ b other below. slots (role_of s b) (cpu_of s (role_of s b))));
       reached = reached_after s w a due.may stands.reached;
     }
-
-    pub landed_world : IsWritten s books w → (queue : TimerQueue) × (queue_answers s w a p.act cpu (Insert i p.n p.due) (Some (queue, At at)) ≡ w')
-    landed_world written = (q2, refl)

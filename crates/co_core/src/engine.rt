@@ -12,8 +12,8 @@ ghost use Rattle.co_core.specs.Written.{place_at};
 
 use crate::books::{Books, Hand};
 use crate::depot::Depot;
-use co_object::{CallOp, Op, OwnKind};
-use co_program::{Asked, Cursor, Script};
+use co_object::{CallOp, Op, OwnKind, QOp};
+use co_program::{Asked, Cursor, Parcel, Script};
 
 /// What is written, and where the records are.
 #[derive(Drop)]
@@ -76,5 +76,18 @@ impl Engine {
         );
         let inserted = self.books.write_insertion(script, hand, out.inserted);
         removed + 1 + inserted
+    }
+
+    /// A callout that was on its way comes to the CPU at which it is armed: one note.
+    fn land(&mut self, script: &Script, hand: &mut Hand, parcel: &Parcel)
+        requires script { IsScript script.now }
+        requires may { MayAct script.now self.old hand.old (Asks parcel.now.act (Asked.Queue parcel.now.cpu (QOp.Insert parcel.now.i parcel.now.n parcel.now.due))) }
+        ensures stands { (w : PlainWorld) → HeldBy script.now self.old hand.old w → IsDue script.now w hand.old.actor (Asks parcel.now.act (Asked.Queue parcel.now.cpu (QOp.Insert parcel.now.i parcel.now.n parcel.now.due))) →
+            HeldBy script.now self.new hand.new (step script.now w hand.old.actor) }
+        ensures actor { hand.new.actor ≡ hand.old.actor }
+        ensures count { length hand.new.notes.items ≡ length hand.old.notes.items + 1 }
+    {
+        let at = self.depot.land(parcel.cpu, hand.actor);
+        self.books.write_landing(script, hand, parcel, at);
     }
 }
