@@ -56,3 +56,4 @@ pub mod CallSection
 pub mod Calling
 pub mod Steadily
 pub mod Landing
+pub mod Queueing

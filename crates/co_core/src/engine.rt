@@ -12,8 +12,9 @@ ghost use Rattle.co_core.specs.Written.{place_at};
 
 use crate::books::{Books, Hand};
 use crate::depot::Depot;
-use co_object::{CallOp, Op, OwnKind, QOp};
+use co_object::{CallOp, Op, OwnKind, QOp, QReply};
 use co_program::{Asked, Cursor, Parcel, Script};
+use co_sbt::Sbt;
 
 /// What is written, and where the records are.
 #[derive(Drop)]
@@ -89,5 +90,19 @@ impl Engine {
     {
         let at = self.depot.land(parcel.cpu, hand.actor);
         self.books.write_landing(script, hand, parcel, at);
+    }
+
+    /// A tick of a CPU: one note.
+    fn scan(&mut self, script: &Script, hand: &mut Hand, act: u64, cpu: u32, now: Sbt)
+        requires script { IsScript script.now }
+        requires may { MayAct script.now self.old hand.old (Asks act (Asked.Queue cpu (QOp.Scan now))) }
+        ensures stands { (w : PlainWorld) → HeldBy script.now self.old hand.old w → IsDue script.now w hand.old.actor (Asks act (Asked.Queue cpu (QOp.Scan now))) →
+            HeldBy script.now self.new hand.new (step script.now w hand.old.actor) }
+        ensures actor { hand.new.actor ≡ hand.old.actor }
+        ensures count { length hand.new.notes.items ≡ length hand.old.notes.items + 1 }
+    {
+        let count = self.depot.scan(cpu, now);
+        let op = QOp::Scan { now };
+        self.books.write_queue(script, hand, act, cpu, op, QReply::Count(count));
     }
 }
