@@ -57,3 +57,4 @@ pub mod Calling
 pub mod Steadily
 pub mod Landing
 pub mod Queueing
+pub mod Servers
