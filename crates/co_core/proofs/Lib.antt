@@ -68,3 +68,8 @@ pub mod Relisted
 pub mod CallEnds
 pub mod CallSection
 pub mod Rounding
+pub mod Calling
+pub mod Steadily
+pub mod Landing
+pub mod Queueing
+pub mod Servers
