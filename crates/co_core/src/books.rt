@@ -18,6 +18,7 @@ ghost use Rattle.co_core.specs.Step.{callout_answers, own_note, queue_answers};
 ghost use Rattle.co_core.specs.Written.{IsNoted, list_at, place_at, with_list, with_place};
 
 mod boot;
+mod waits;
 
 use co_object::{AnyEntry, CallOp, Entry, Lists, Note, Op, OwnEntry, OwnKind, Place, PlainOp, QEntry, QOp, QReply, Reply, RunOp};
 use co_program::{Cursor, Parcel, Script, advance};
