@@ -58,3 +58,4 @@ pub mod Steadily
 pub mod Landing
 pub mod Queueing
 pub mod Servers
+pub mod Picking
