@@ -59,3 +59,5 @@ pub mod Landing
 pub mod Queueing
 pub mod Servers
 pub mod Picking
+pub mod Underway
+pub mod BeginSection

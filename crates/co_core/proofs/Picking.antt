@@ -67,7 +67,7 @@ use Rattle.co_core.proofs.RolesKept.{IsServer}
 use Rattle.co_core.proofs.Servers.{IsPopping, IsPop, pop_view, pop_slot, pop_none, other_slot}
 use Rattle.co_core.proofs.Slots.{firing_of}
 use Rattle.co_core.proofs.Steadily.{steady_of}
-use Rattle.co_core.proofs.Storing.{with_state, after_of, stored_after}
+use Rattle.co_core.proofs.Storing.{with_state, after_of, stored_after, wheel_alone}
 use Rattle.co_core.proofs.Tables.{read, long}
 use Rattle.co_core.proofs.Ways.{Goes, goes_on_from, goes_callout, goes_queue, moves_none, step_free, goes_further, stands_of}
 
@@ -341,15 +341,8 @@ module _ (s : Script) (ok : IsScript s) (books : Written) (depot : Stored) (w : 
       go true e = absurd (other (sym (eqb-true (stands_of w i) y e) ∙ stand))
       go false e = refl
 
-    no_bag : bag_at depot a ≡ None
-    no_bag = subst (λ (o : Option Parcel). IsBag s w o (bag_at depot a)) popping.empty (stands.stored.each_bag a due.may)
-
     same_depot : ◌≡◌ {A = Stored} (record depot { wheels = set depot.wheels cpu after; stands = set depot.stands i cpu; bags = set depot.bags a None }) (with_wheel depot cpu after)
-    same_depot =
-        ap (λ (l : List ℕ). sited l (set depot.bags a None)) (ap (set depot.stands i) (sym (read depot.stands (length s.timers) (stands_of w) i 0 stands.stored.each_stand pick_known ∙ stand)) ∙ set-get_or depot.stands i 0)
-        ∙ ap (sited depot.stands) (ap (set depot.bags a) (sym no_bag) ∙ set-get_or depot.bags a None) where
-          sited : List ℕ → List (Option Travelling) → Stored
-          sited stands_now bags_now = record depot { wheels = set depot.wheels cpu after; stands = stands_now; bags = bags_now }
+    same_depot = wheel_alone s depot w stands.stored i cpu a pick_known due.may stand popping.empty after
 
     right : IsRight s i cpu t d2.parcel
     right = record {

@@ -141,6 +141,20 @@ impl Engine {
             }
         }
     }
+
+    /// The lock of a service is held: its function runs, or it was cancelled meanwhile. One note.
+    fn begin(&mut self, script: &Script, hand: &mut Hand, act: u64, i: u32, n: u64, cpu: u32)
+        requires script { IsScript script.now }
+        requires may { MayAct script.now self.old hand.old (Asks act (Asked.Callout i (Op.Run (RunOp.Begin n cpu)))) }
+        ensures stands { (w : PlainWorld) → HeldBy script.now self.old hand.old w → IsDue script.now w hand.old.actor (Asks act (Asked.Callout i (Op.Run (RunOp.Begin n cpu)))) →
+            HeldBy script.now self.new hand.new (step script.now w hand.old.actor) }
+        ensures actor { hand.new.actor ≡ hand.old.actor }
+        ensures count { length hand.new.notes.items ≡ length hand.old.notes.items + 1 }
+    {
+        let reply = self.depot.begin(cpu);
+        let begin = Op::Run(RunOp::Begin { n, cpu });
+        self.books.write_callout(script, hand, act, i, begin, reply, false);
+    }
 }
 
 /// The Pop of a CPU, or of its interrupt where `direct`.
