@@ -74,3 +74,6 @@ pub mod Landing
 pub mod Queueing
 pub mod Servers
 pub mod Waiting
+pub mod Picking
+pub mod Underway
+pub mod BeginSection

@@ -1,10 +1,11 @@
 //! One step after another: the books and the depot of a world.
-ghost use Rattle.std.specs.Prelude.{◌≡◌, ℕ, ◌+◌, ◌<◌, length};
+ghost use Rattle.std.specs.Prelude.{◌≡◌, ℕ, ◌+◌, ◌<◌, ◌≤◌, length};
 ghost use Rattle.co_lock.specs.declared.held.Held.{Held};
 ghost use Rattle.co_program.specs.declared.script.Script.{Script as ScriptOf};
 ghost use Rattle.co_program.specs.Action.{Asks, Silent, Take};
 ghost use Rattle.co_program.specs.Scripts.{IsScript};
 ghost use Rattle.co_program.specs.Indexed.{Counts, cursor_of};
+ghost use Rattle.co_wheel.specs.Turns.{pop_of};
 ghost use Rattle.co_core.specs.World.{World as PlainWorld};
 ghost use Rattle.co_core.specs.Stands.{HeldBy, IsDue, MayAct};
 ghost use Rattle.co_core.specs.Step.{step};
@@ -12,9 +13,10 @@ ghost use Rattle.co_core.specs.Written.{place_at};
 
 use crate::books::{Books, Hand};
 use crate::depot::Depot;
-use co_object::{CallOp, Op, OwnKind, QOp, QReply};
+use co_object::{CallOp, Op, OwnKind, QOp, QReply, RunOp};
 use co_program::{Asked, Cursor, Parcel, Script};
 use co_sbt::Sbt;
+use co_wheel::NextOut;
 
 /// What is written, and where the records are.
 #[derive(Drop)]
@@ -105,4 +107,59 @@ impl Engine {
         let op = QOp::Scan { now };
         self.books.write_queue(script, hand, act, cpu, op, QReply::Count(count));
     }
+
+    /// The first callout that has come due goes into service: of a CPU, or of its interrupt where `direct`. The answer is
+    /// how many notes that makes.
+    fn next(
+        &mut self,
+        script: &Script,
+        hand: &mut Hand,
+        act: u64,
+        cpu: u32,
+        direct: bool,
+    ) -> u32
+        requires script { IsScript script.now }
+        requires may { MayAct script.now self.old hand.old (Asks act (Asked.Queue cpu (pop_of direct))) }
+        ensures stands { (w : PlainWorld) → HeldBy script.now self.old hand.old w → IsDue script.now w hand.old.actor (Asks act (Asked.Queue cpu (pop_of direct))) →
+            HeldBy script.now self.new hand.new (step script.now w hand.old.actor) }
+        ensures actor { hand.new.actor ≡ hand.old.actor }
+        ensures count { length hand.new.notes.items ≡ length hand.old.notes.items + result }
+        ensures few { result ≤ 3 }
+    {
+        let op = pop_of(direct);
+        match self.depot.next(cpu, direct) {
+            NextOut::Empty => {
+                self.books.write_queue(script, hand, act, cpu, op, QReply::Empty);
+                1
+            }
+            NextOut::Took { i, n, at, reply } => {
+                let got = QReply::Got { i, n, at };
+                self.books.write_queue(script, hand, act, cpu, op, got);
+                let pick = Op::Run(RunOp::Pick { n, cpu, at });
+                self.books.write_callout(script, hand, act, i, pick, reply, false);
+                2
+            }
+        }
+    }
+
+    /// The lock of a service is held: its function runs, or it was cancelled meanwhile. One note.
+    fn begin(&mut self, script: &Script, hand: &mut Hand, act: u64, i: u32, n: u64, cpu: u32)
+        requires script { IsScript script.now }
+        requires may { MayAct script.now self.old hand.old (Asks act (Asked.Callout i (Op.Run (RunOp.Begin n cpu)))) }
+        ensures stands { (w : PlainWorld) → HeldBy script.now self.old hand.old w → IsDue script.now w hand.old.actor (Asks act (Asked.Callout i (Op.Run (RunOp.Begin n cpu)))) →
+            HeldBy script.now self.new hand.new (step script.now w hand.old.actor) }
+        ensures actor { hand.new.actor ≡ hand.old.actor }
+        ensures count { length hand.new.notes.items ≡ length hand.old.notes.items + 1 }
+    {
+        let reply = self.depot.begin(cpu);
+        let begin = Op::Run(RunOp::Begin { n, cpu });
+        self.books.write_callout(script, hand, act, i, begin, reply, false);
+    }
+}
+
+/// The Pop of a CPU, or of its interrupt where `direct`.
+fn pop_of(direct: bool) -> QOp
+    ensures { result ≡ pop_of direct }
+{
+    if direct { QOp::PopDirect } else { QOp::Pop }
 }
