@@ -89,6 +89,13 @@ impl Books {
         self.places[actor as usize] = to;
     }
 
+    /// Whether there are more notes than fit into memory.
+    pub(crate) fn is_full(&self) -> bool
+        ensures { result ≡ false → self.now.made < 2 ^ 63 }
+    {
+        self.made >= MOST
+    }
+
     /// Takes the actor's notes in hand, with room for three more. After NoMemory nothing has changed.
     pub(crate) fn open(&mut self, actor: u32) -> Result<Hand, NoMemory>
         requires { actor < length self.old.lists }
@@ -98,7 +105,7 @@ impl Books {
         ensures few { IfOk result (λ hand. self.new.made < 2 ^ 63) }
         ensures err { OnErr result (self.new ≡ self.old) }
     {
-        if self.made >= MOST {
+        if self.is_full() {
             return Err(NoMemory {});
         }
         let list = self.lists.replace(actor as usize, Seq::new(self.alloc));

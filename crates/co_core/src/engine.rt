@@ -11,6 +11,8 @@ ghost use Rattle.co_core.specs.Stands.{HeldBy, IsDue, MayAct};
 ghost use Rattle.co_core.specs.Step.{step};
 ghost use Rattle.co_core.specs.Written.{place_at};
 
+mod acting;
+
 use crate::books::{Books, Hand};
 use crate::depot::Depot;
 use co_object::{CallOp, Op, OwnKind, QOp, QReply, RunOp};

@@ -12,7 +12,7 @@ use crate::depot::Depot;
 use crate::engine::Engine;
 use crate::turn::Turn;
 use co_object::Lists;
-use co_program::Script;
+use co_program::{Action, Script, action_for};
 use co_sbt::NoMemory;
 use std::alloc::Global;
 
@@ -43,6 +43,20 @@ impl Engine {
         ensures turn { IfOk result (λ turn. (w : PlainWorld) → StandsFor script.now self.old.books self.old.depot w → turn ≡ turn_of script.now w actor) }
         ensures err { OnErr result (self.new ≡ self.old) }
     {
-        Err(NoMemory {})
+        if self.books.is_full() {
+            return Err(NoMemory {});
+        }
+        let place = self.books.place(actor);
+        let action = action_for(script, actor, &place);
+        if let Some(why) = self.blocked(script, actor, &place, &action) {
+            return Ok(Turn::Blocked(why));
+        }
+        match action {
+            Action::Nothing => Ok(Turn::Finished),
+            _ => {
+                let count = self.act(script, actor, &action)?;
+                Ok(Turn::Notes(count))
+            }
+        }
     }
 }
