@@ -61,3 +61,4 @@ pub mod Servers
 pub mod Picking
 pub mod Underway
 pub mod BeginSection
+pub mod EndSection
