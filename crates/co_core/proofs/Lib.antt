@@ -77,3 +77,4 @@ pub mod Waiting
 pub mod Picking
 pub mod Underway
 pub mod BeginSection
+pub mod EndSection

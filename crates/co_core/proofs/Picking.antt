@@ -142,11 +142,11 @@ taken_by direct before i n at reply after is = go (callout before i) refl is whe
   go None at_none e = cc
   go (Some a) at_a e = by a at_a (pick a.spec a.state n before.cpu at) refl e
 
-service_here : (direct : Bool) (c : Callouts) (d : Option Due) → (with_service direct c d).here ≡ c.here
+pub service_here : (direct : Bool) (c : Callouts) (d : Option Due) → (with_service direct c d).here ≡ c.here
 service_here true c d = refl
 service_here false c d = refl
 
-service_cpu : (direct : Bool) (c : Callouts) (d : Option Due) → (with_service direct c d).cpu ≡ c.cpu
+pub service_cpu : (direct : Bool) (c : Callouts) (d : Option Due) → (with_service direct c d).cpu ≡ c.cpu
 service_cpu true c d = refl
 service_cpu false c d = refl
 

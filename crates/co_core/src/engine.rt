@@ -5,7 +5,7 @@ ghost use Rattle.co_program.specs.declared.script.Script.{Script as ScriptOf};
 ghost use Rattle.co_program.specs.Action.{Asks, Silent, Take};
 ghost use Rattle.co_program.specs.Scripts.{IsScript};
 ghost use Rattle.co_program.specs.Indexed.{Counts, cursor_of};
-ghost use Rattle.co_wheel.specs.Turns.{pop_of};
+ghost use Rattle.co_wheel.specs.Turns.{pop_of, free_of};
 ghost use Rattle.co_core.specs.World.{World as PlainWorld};
 ghost use Rattle.co_core.specs.Stands.{HeldBy, IsDue, MayAct};
 ghost use Rattle.co_core.specs.Step.{step};
@@ -157,6 +157,24 @@ impl Engine {
         let begin = Op::Run(RunOp::Begin { n, cpu });
         self.books.write_callout(script, hand, act, i, begin, reply, false);
     }
+
+    /// A service is over. Its callout leaves where it is armed for another CPU. The answer is how many notes that makes.
+    fn end(&mut self, script: &Script, hand: &mut Hand, act: u64, i: u32, n: u64, cpu: u32) -> u32
+        requires script { IsScript script.now }
+        requires may { MayAct script.now self.old hand.old (Asks act (Asked.Callout i (Op.Run (RunOp.End n cpu)))) }
+        ensures stands { (w : PlainWorld) → HeldBy script.now self.old hand.old w → IsDue script.now w hand.old.actor (Asks act (Asked.Callout i (Op.Run (RunOp.End n cpu)))) →
+            HeldBy script.now self.new hand.new (step script.now w hand.old.actor) }
+        ensures actor { hand.new.actor ≡ hand.old.actor }
+        ensures count { length hand.new.notes.items ≡ length hand.old.notes.items + result }
+        ensures few { result ≤ 3 }
+    {
+        let direct = script.timers.as_slice()[i as usize].direct;
+        let reply = self.depot.end(cpu, direct, hand.actor);
+        let end = Op::Run(RunOp::End { n, cpu });
+        self.books.write_callout(script, hand, act, i, end, reply, false);
+        self.books.write_queue(script, hand, act, cpu, free_of(direct), QReply::Freed);
+        2
+    }
 }
 
 /// The Pop of a CPU, or of its interrupt where `direct`.
@@ -164,4 +182,11 @@ fn pop_of(direct: bool) -> QOp
     ensures { result ≡ pop_of direct }
 {
     if direct { QOp::PopDirect } else { QOp::Pop }
+}
+
+/// The Free of a CPU, or of its interrupt where `direct`.
+fn free_of(direct: bool) -> QOp
+    ensures { result ≡ free_of direct }
+{
+    if direct { QOp::FreeDirect } else { QOp::Free }
 }
