@@ -78,3 +78,4 @@ pub mod Picking
 pub mod Underway
 pub mod BeginSection
 pub mod EndSection
+pub mod Undue

@@ -104,10 +104,7 @@ impl Engine {
                 self.begin(script, hand, act, i, *n, *cpu);
                 1
             }
-            RunOp::End { n, cpu } => {
-                self.end(script, hand, act, i, *n, *cpu);
-                2
-            }
+            RunOp::End { n, cpu } => self.end(script, hand, act, i, *n, *cpu),
             RunOp::Pick { .. } => unreachable!(),
         }
     }
