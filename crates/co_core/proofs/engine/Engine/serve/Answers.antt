@@ -10,4 +10,6 @@ use Rattle.co_core.proofs.Undue.{never_picks}
 use Rattle.co_core.proofs.engine.Engine.serve.Goals as goal
 
 pub unreachable-requires : goal.unreachable-requires
-unreachable-requires c = ?
+unreachable-requires c =
+    never_picks c.args.script.now c.requires.script (with_list c.args.self.now.books c.args.hand.now.actor c.args.hand.now.notes.items) c.args.self.now.depot c.requires.may.world c.requires.may.held c.args.hand.now.actor c.args.act c.args.i c.in-Pick.n c.in-Pick.cpu c.in-Pick.at
+    (subst (λ (op : RunOp). IsDue c.args.script.now c.requires.may.world c.args.hand.now.actor (Asks c.args.act (Callout c.args.i (Run op)))) c.in-Pick.is c.requires.may.due)
