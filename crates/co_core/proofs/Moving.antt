@@ -47,6 +47,14 @@ any_only p k n a low high none = go (p a) refl where
     all b low' high' (inl own) = ap p own ∙ is
     all b low' high' (inr other) = none b other low' high'
 
+-- some one of them
+any_found : (p : ℕ → Bool) (k n : ℕ) → list_any p (range_with_len k n) ≡ true → (b : ℕ) × (b < k + n) × (p b ≡ true)
+any_found p k zero is = cc
+any_found p k (suc n) is = go (p k) refl is (λ rest. any_found p (k + 1) n rest) where
+  go : (x : Bool) → p k ≡ x → (x || list_any p (range_with_len (k + 1) n)) ≡ true → (list_any p (range_with_len (k + 1) n) ≡ true → (b : ℕ) × (b < k + 1 + n) × (p b ≡ true)) → (b : ℕ) × (b < k + suc n) × (p b ≡ true)
+  go true here is rest = (k, omega arith, here)
+  go false here is rest = let found = rest is in let low = found.1 in (found.0, omega (arith, low), found.2)
+
 -- ---- what moves
 
 -- what the actor's place has on its way is this callout, if anything
@@ -79,6 +87,9 @@ module _ (s : Script) (w : World) where
     go : (b : Bool) → moves i (parcels_of w a) ≡ b → b ≡ false
     go true is = let yes' : is_moving s w i ≡ true = moving_at i a may is in let clash : true ≡ false = sym yes' ∙ still in cc
     go false is = refl
+
+  pub mover : (i : ℕ) → is_moving s w i ≡ true → (b : ℕ) × (b < actor_count s) × (moves i (parcels_of w b) ≡ true)
+  mover i is = let found = any_found (λ b. moves i (parcels_of w b)) 0 (actor_count s) is in let low = found.1 in (found.0, omega (arith, low), found.2)
 
   -- if no other actor moves it
   pub moving_own : (i a : ℕ) → a < actor_count s → ((b : ℕ) → (b ≡ a → ⊥) → b < actor_count s → moves i (parcels_of w b) ≡ false) → is_moving s w i ≡ moves i (parcels_of w a)

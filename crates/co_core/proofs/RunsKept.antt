@@ -83,7 +83,7 @@ eqb_other a b other = go (a == b) refl where
   go false e = refl
 
 -- where an arming stands, by the CPU that has its callout
-off_kept : (state t : State) → t.armed ≡ state.armed → ((x : ℕ) → is_free_at state.run x ≡ is_free_at t.run x) → off t ≡ off state
+pub off_kept : (state t : State) → t.armed ≡ state.armed → ((x : ℕ) → is_free_at state.run x ≡ is_free_at t.run x) → off t ≡ off state
 off_kept state t same free = ap (λ o. listed_cpu (stand_of o t.run)) same ∙ go state.armed where
   go : (o : Option Arming) → listed_cpu (stand_of o t.run) ≡ listed_cpu (stand_of o state.run)
   go None = refl

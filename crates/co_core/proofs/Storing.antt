@@ -1,7 +1,7 @@
 -- What the depot stands for after a section on one callout, at one CPU, by one actor.
 use Rattle.std.proofs.Common.{◌≡◌, ℕ, ◌<◌, ◌⊎◌, inl, inr, Bool, true, false, cond, not, List, length, get_or, set, refl, sym, ap, ◌∙◌, subst, arith, length-set, Option, Some, None, eqb-true, eq-eqb}
 use Rattle.std.specs.Prelude.{◌==◌, ◌&&◌}
-use Rattle.std.proofs.lemmas.List.{get_or-set_same, get_or-set_other}
+use Rattle.std.proofs.lemmas.List.{get_or-set_same, get_or-set_other, set-get_or}
 use Rattle.co_object.specs.declared.alone.Alone.{Alone}
 use Rattle.co_object.specs.declared.State.{State}
 use Rattle.co_object.specs.declared.Arming.{Arming}
@@ -17,12 +17,12 @@ use Rattle.co_wheel.specs.Turns.{Shows}
 use Rattle.co_core.specs.World.{World}
 use Rattle.co_core.specs.Blocked.{is_moving, moves}
 use Rattle.co_core.specs.Step.{are_direct}
-use Rattle.co_core.specs.Stored.{Stored, bag_at, wheel_at, no_wheel}
+use Rattle.co_core.specs.Stored.{Stored, bag_at, wheel_at, no_wheel, with_wheel}
 use Rattle.co_core.specs.Table.{table}
 use Rattle.co_core.specs.Stands.{IsAtWheel, IsBag, IsPacked, IsStored, alone_of, at_home, is_home}
 use Rattle.co_core.proofs.Moves.{IsAt, decide}
 use Rattle.co_core.proofs.Moving.{IsOnly, moves_only, unmoved, parcels_of, moving_own, moving_same}
-use Rattle.co_core.proofs.Tables.{put, same}
+use Rattle.co_core.proofs.Tables.{put, same, read}
 use Rattle.co_core.proofs.Ways.{Goes, stands_of}
 use Rattle.co_core.proofs.Invariant.{states_of, queues_of, places_of}
 
@@ -35,6 +35,18 @@ after_of s i state parcel = cond (moves i parcel) None (Some (with_state s i sta
 
 abbrev bagged_as : Script → Parcel → Arming → State → Travelling
 bagged_as s p arming state = record { i = p.i; callout = with_state s p.i state; arming = arming }
+
+-- a section on a callout that stands at its CPU, by an actor that moves nothing, changes the wheel alone
+pub wheel_alone : (s : Script) (x : Stored) (w : World) → IsStored s x w → (i cpu a : ℕ) → i < length s.timers → a < actor_count s → stands_of w i ≡ cpu → parcels_of w a ≡ None → (wheel : WheelOf) →
+    ◌≡◌ {A = Stored} (record { wheels = set x.wheels cpu wheel; stands = set x.stands i cpu; bags = set x.bags a None }) (with_wheel x cpu wheel)
+wheel_alone s x w stored i cpu a known may stand empty wheel =
+    ap (λ (l : List ℕ). stored_as l (set x.bags a None)) (ap (set x.stands i) (sym (read x.stands (length s.timers) (stands_of w) i 0 stored.each_stand known ∙ stand)) ∙ set-get_or x.stands i 0)
+    ∙ ap (stored_as x.stands) (ap (set x.bags a) (sym no_bag) ∙ set-get_or x.bags a None) where
+      stored_as : List ℕ → List (Option Travelling) → Stored
+      stored_as stands bags = record { wheels = set x.wheels cpu wheel; stands = stands; bags = bags }
+
+      no_bag : bag_at x a ≡ None
+      no_bag = subst (λ (o : Option Parcel). IsBag s w o (bag_at x a)) empty (stored.each_bag a may)
 
 module _ (s : Script) (x : Stored) (w w' : World) (i cpu a : ℕ) (state : State) (queue : TimerQueue) (place : Cursor) (wheel : WheelOf) (bag : Option Travelling)
     (stored : IsStored s x w) (may : a < actor_count s) (on : cpu < s.cpus) (goes : Goes w w' i cpu a state cpu queue place)

@@ -24,7 +24,7 @@ use Rattle.co_program.specs.declared.action.Asked.TheVariants.{Callout, Queue, I
 use Rattle.co_program.specs.Action.{Action, Nothing, Silent, Take, Asks, action_for, action_with}
 use Rattle.co_program.specs.Advance.{advance}
 use Rattle.co_core.specs.World.{World, Timer, with_cursor, updated}
-use Rattle.co_core.specs.Blocked.{blocked, waits_for}
+use Rattle.co_core.specs.Blocked.{blocked}
 use Rattle.co_core.specs.Step.{notes_down, enters, enters_journal, landed, note_of, note_of_cpu, note_of_own, callout_answers, queue_answers, own_note, are_direct, answered, asked_whole, is_within, lands_here, is_in_section, makes_action, goes_on, stepped, step}
 use Rattle.co_core.proofs.Lists.{at_choice, at_updated, updated_here, updated_elsewhere}
 use Rattle.co_core.proofs.Moves.{IsAt, decide, at_updated_is, at_read, place_at, note_at, state_at, queue_at, states_landed}
@@ -135,5 +135,18 @@ goes_insert s w i cpu a act n t o =
 
 -- ---- a step
 
-pub step_silent : (s : Script) (w : World) (a : ℕ) (to : Cursor) → action_for s a (places_of w a) ≡ Silent to → step s w a ≡ with_cursor w a to
-step_silent s w a to due = ap (λ (d : Action). cond (is_some (waits_for s w (places_of w a) d)) w (stepped s w a d)) due
+none_some : {X : Type 0} (o : Option X) → o ≡ None → is_some o ≡ false
+none_some o is = ap is_some is
+
+pub step_free : (s : Script) (w : World) (a : ℕ) (action : Action) → action_for s a (places_of w a) ≡ action → blocked s w a ≡ None → step s w a ≡ stepped s w a action
+step_free s w a action due free =
+    ap (λ (b : Bool). cond b w (stepped s w a (action_for s a (places_of w a)))) (none_some (blocked s w a) free) ∙ ap (stepped s w a) due
+
+-- nothing more belongs to the section
+pub goes_no_further : (s : Script) (w : World) (a : ℕ) → is_in_section w (places_of w a) ≡ false → goes_on s w a ≡ w
+goes_no_further s w a is = ap (λ (b : Bool). cond b (makes_action s w a (action_for s a (places_of w a))) w) is
+
+-- one more note belongs to it
+pub goes_further : (s : Script) (w : World) (a act : ℕ) (asked : Asked) → is_in_section w (places_of w a) ≡ true → action_for s a (places_of w a) ≡ Asks act asked → goes_on s w a ≡ answered s w a act asked
+goes_further s w a act asked is due =
+    ap (λ (b : Bool). cond b (makes_action s w a (action_for s a (places_of w a))) w) is ∙ ap (makes_action s w a) due

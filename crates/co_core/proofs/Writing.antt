@@ -17,6 +17,7 @@ use Rattle.co_object.specs.declared.Place.{Place}
 use Rattle.co_object.specs.declared.Place.TheVariants as place
 use Rattle.co_object.specs.declared.AnyEntry.TheVariants as entry
 use Rattle.co_object.specs.Stand.{off}
+use Rattle.co_object.specs.Entries.{is_armed}
 use Rattle.co_object.specs.Lists.{notes_of, same_place}
 use Rattle.co_object.specs.Queue.{Queue as TimerQueue}
 use Rattle.co_program.specs.declared.script.Script.{Script}
@@ -26,14 +27,15 @@ use Rattle.co_program.specs.Cursor.{Cursor}
 use Rattle.co_program.specs.Advance.{advance}
 use Rattle.co_program.specs.Follows.{scan_count, one_scan}
 use Rattle.co_program.specs.Indexed.{IsCounted, Counts, cursor_of}
-use Rattle.co_core.specs.World.{World, Actor, Timer, Cpu, lists_of, updated}
+use Rattle.co_core.specs.World.{World, Actor, Timer, Cpu, lists_of, updated, with_cursor}
 use Rattle.co_core.specs.Step.{notes_down, enters, enters_journal, landed, note_of, note_of_cpu, note_of_own, callout_answers, queue_answers, own_note}
 use Rattle.co_core.specs.Table.{table}
-use Rattle.co_core.specs.Written.{Written, IsNoted, place_at, list_at, first_place}
+use Rattle.co_core.specs.Written.{Written, IsNoted, place_at, list_at, with_place, first_place}
 use Rattle.co_core.specs.Stands.{IsWritten}
 use Rattle.co_core.proofs.Lists.{at_updated}
-use Rattle.co_core.proofs.Moves.{IsAt, decide, at_all, at_read, at_updated_is, note_at}
+use Rattle.co_core.proofs.Moves.{IsAt, decide, at_all, at_read, at_updated_is, note_at, place_at as place_at_is}
 use Rattle.co_core.proofs.Invariant.{places_of}
+use Rattle.co_core.proofs.Relisted.{relisted}
 use Rattle.co_core.proofs.Tables.{put, read, same, long}
 
 abbrev pub notes_by : World → ℕ → List Note
@@ -158,7 +160,7 @@ abbrev pub callout_note : (a act i pos : ℕ) → Op → Reply → Note
 callout_note a act i pos op reply = record { place = place.Timer i; pos = pos; entry = entry.Timer (record { actor = a; act = act; op = op; reply = reply }) }
 
 pub written_callout : (s : Script) (x x2 : Written) (w : World) (a act i pos : ℕ) (op : Op) (o : State × Reply) (listed : Bool) →
-    IsWritten s x w → a < actor_count s → i < length s.timers → listed ≡ is_some (off o.0) → pos ≡ get_or x.histories i 0 →
+    IsWritten s x w → a < actor_count s → i < length s.timers → (is_armed o.1 ≡ true → listed ≡ is_some (off o.0)) → pos ≡ get_or x.histories i 0 →
     IsNoted s a listed (callout_note a act i pos op o.1) (record x { histories = set x.histories i (pos + 1) }) x2 →
     IsWritten s x2 (callout_answers s w a act i op (Some o))
 written_callout s x x2 w a act i pos op o listed written may known is at noted =
@@ -182,8 +184,11 @@ written_callout s x x2 w a act i pos op o listed written may known is at noted =
 
       noted' : IsNoted s a (is_some (off o.0)) (note_of w i made) (record x { histories = set x.histories i (pos + 1) }) x2
       noted' =
-          subst (λ (b : Bool). IsNoted s a b (note_of w i made) (record x { histories = set x.histories i (pos + 1) }) x2) is
-          (subst (λ (p : ℕ). IsNoted s a listed (callout_note a act i p op o.1) (record x { histories = set x.histories i (pos + 1) }) x2) number noted)
+          let here = subst (λ (p : ℕ). IsNoted s a listed (callout_note a act i p op o.1) (record x { histories = set x.histories i (pos + 1) }) x2) number noted in
+          record { to = here.to; place = here.place ∙ listing (cursor_of s a (place_at x a)) (is_armed o.1) refl; counts = here.counts; noted = here.noted } where
+            listing : (c : Cursor) (b : Bool) → is_armed o.1 ≡ b → advance s c listed (place.Timer i) (entry.Timer made) ≡ advance s c (is_some (off o.0)) (place.Timer i) (entry.Timer made)
+            listing c true h = ap (λ (l : Bool). advance s c l (place.Timer i) (entry.Timer made)) (is h)
+            listing c false h = relisted s (record c { removed = None }) i listed (is_some (off o.0)) op o.1 c.stage h
 
       noted_at : IsAt (notes_by w) a (notes_by w a ++ note_of w i made ∷ []) (notes_by w')
       noted_at = notes_at s v a (is_some (off o.0)) (note_of w i made)
@@ -316,6 +321,48 @@ written_own s x x2 w a act pos kind written may at noted =
         here = ap (λ (l : List Note). length (notes_of (place.Actor a) l)) noted_at.here ∙ one_own a (notes_by w a) (note_of_own s w a act kind) (eq-eqb a a refl);
         else = λ b other. ap (λ (l : List Note). length (notes_of (place.Actor b) l)) (noted_at.else b other);
       }
+
+-- ---- a step without a note
+
+pub written_place : (s : Script) (x : Written) (w : World) (a : ℕ) (to : CursorAt) → IsWritten s x w → a < actor_count s → Counts (place_at x a) to 0 → IsWritten s (with_place x a to) (with_cursor w a (cursor_of s a to))
+written_place s x w a to written may counts = record {
+  places_long = length-set x.places a to ∙ written.places_long;
+  each_place = λ b within. each_place b within (decide b a);
+  each_list = written.each_list ∙ same (actor_count s) (notes_by w) (notes_by w') (λ b within. notes b);
+  each_history = written.each_history;
+  each_journal = written.each_journal;
+  each_scan = written.each_scan;
+  each_own = written.each_own ∙ same (actor_count s) (own_by w) (own_by w') (λ b within. own b);
+  counted = λ b within. counted b within (decide b a);
+  few_entries = written.few_entries;
+  few_turns = written.few_turns;
+  few_own = λ b. (let e = own b in let few = written.few_own b in omega (arith, e, few));
+} where
+  w' : World
+  w' = with_cursor w a (cursor_of s a to)
+
+  notes : (b : ℕ) → notes_by w' b ≡ notes_by w b
+  notes b = at_updated (λ k (x : Actor). x.notes ≡ notes_by w k) w.actors a (record (w.actors a) { cursor = cursor_of s a to }) b refl refl
+
+  own : (b : ℕ) → own_by w' b ≡ own_by w b
+  own b = ap (λ (l : List Note). length (notes_of (place.Actor b) l)) (notes b)
+
+  inside : a < length x.places
+  inside = let l = written.places_long in omega arith
+
+  place_here : get_or (set x.places a to) a first_place ≡ to
+  place_here = get_or-set_same x.places a to first_place inside
+
+  each_place : (b : ℕ) → b < actor_count s → (b ≡ a) ⊎ (b ≡ a → ⊥) → cursor_of s b (place_at (with_place x a to) b) ≡ places_of w' b
+  each_place b within (inl same) = subst (λ k. cursor_of s k (place_at (with_place x a to) k) ≡ places_of w' k) (sym same) (ap (cursor_of s a) place_here ∙ sym (place_at_is w a (cursor_of s a to)).here)
+  each_place b within (inr other) = ap (cursor_of s b) (get_or-set_other x.places a b to first_place other) ∙ written.each_place b within ∙ sym ((place_at_is w a (cursor_of s a to)).else b other)
+
+  counted : (b : ℕ) → b < actor_count s → (b ≡ a) ⊎ (b ≡ a → ⊥) → IsCounted (place_at (with_place x a to) b) x.made
+  counted b within (inl same) =
+      let before = written.counted a may in
+      let after : IsCounted to x.made = omega (arith, before, counts) in
+      subst (λ (p : CursorAt). IsCounted p x.made) (sym (ap (λ k. place_at (with_place x a to) k) same ∙ place_here)) after
+  counted b within (inr other) = subst (λ (p : CursorAt). IsCounted p x.made) (sym (get_or-set_other x.places a b to first_place other)) (written.counted b within)
 
 -- ---- what is there to be read
 

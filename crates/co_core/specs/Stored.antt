@@ -71,10 +71,11 @@ pub record MayLand (x : Stored) (a at : ℕ) : Type 0 where
 -- ---- the sections of a CPU's wheel
 
 -- a call
-pub record IsCalled (before : Cpu) (i : ℕ) (op : CallOp) (reply : Reply) (gone : Bool) (at : Option ℕ) (leaves : Option Parcel) (after : Cpu) : Type 0 where
+pub record IsCalled (before : Cpu) (i : ℕ) (op : CallOp) (reply : Reply) (gone listed : Bool) (at : Option ℕ) (leaves : Option Parcel) (after : Cpu) : Type 0 where
   pub callouts : Some (after.callouts, reply, leaves) ≡ call_at before.callouts i op
   pub removed : gone ≡ is_some (off_of reply)
   pub inserted : is_some at ≡ lists after.callouts i reply
+  pub is_listed : listed ≡ (is_some at || is_some leaves)
   pub queue : Turns before (removal i (off_of reply) ++ insertion i (callout after.callouts i) at) after
 
 pub record IsBegun (before : Cpu) (reply : Reply) (after : Cpu) : Type 0 where

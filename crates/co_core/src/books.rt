@@ -3,7 +3,12 @@ ghost use Rattle.std.specs.Prelude.{◌≡◌, ℕ, ◌+◌, ◌<◌, ◌≤◌,
 ghost use Rattle.co_program.specs.declared.script.Script.{Script as ScriptOf};
 ghost use Rattle.co_program.specs.Scripts.{IsScript};
 ghost use Rattle.co_program.specs.Indexed.{IsCounted};
+ghost use Rattle.std.specs.declared.option.Option.TheVariants.{None};
+ghost use Rattle.co_object.specs.declared.queue.QOp.TheVariants.{Insert, Remove};
+ghost use Rattle.co_object.specs.declared.queue.QReply.TheVariants.{At, Off};
+ghost use Rattle.co_program.specs.declared.cursor.Parcel.{Parcel as ParcelOf};
 ghost use Rattle.co_object.specs.declared.state.State.{State};
+ghost use Rattle.co_object.specs.Entries.{is_armed};
 ghost use Rattle.co_object.specs.Stand.{off};
 ghost use Rattle.co_object.specs.Queue.{Queue as TimerQueue};
 ghost use Rattle.co_program.specs.Follows.{one_scan};
@@ -12,9 +17,12 @@ ghost use Rattle.co_core.specs.Stands.{IsWritten, MayWrite};
 ghost use Rattle.co_core.specs.Step.{callout_answers, own_note, queue_answers};
 ghost use Rattle.co_core.specs.Written.{IsNoted, list_at, place_at, with_list, with_place};
 
+mod boot;
+mod waits;
+
 use co_object::{AnyEntry, CallOp, Entry, Lists, Note, Op, OwnEntry, OwnKind, Place, PlainOp, QEntry, QOp, QReply, Reply, RunOp};
-use co_program::{Cursor, Script, advance};
-use co_sbt::{NoMemory, Room, Seq};
+use co_program::{Cursor, Parcel, Script, advance};
+use co_sbt::{NoMemory, Room, Sbt, Seq};
 use std::alloc::Global;
 use std::marker::Model;
 
@@ -64,12 +72,28 @@ impl Books {
         self.places[actor as usize]
     }
 
+    /// What the actor's place has on its way.
+    pub(crate) fn parcel(&self, actor: u32) -> Option<Parcel>
+        requires { actor < length self.now.places }
+        ensures { result ≡ (place_at self.now actor).parcel }
+    {
+        let place = &self.places[actor as usize];
+        place.parcel
+    }
+
     /// The actor goes on to another place in its program.
     pub(crate) fn go(&mut self, actor: u32, to: Cursor)
         requires { actor < length self.old.places }
         ensures { self.new ≡ with_place self.old actor to }
     {
         self.places[actor as usize] = to;
+    }
+
+    /// Whether there are more notes than fit into memory.
+    pub(crate) fn is_full(&self) -> bool
+        ensures { result ≡ false → self.now.made < 2 ^ 63 }
+    {
+        self.made >= MOST
     }
 
     /// Takes the actor's notes in hand, with room for three more. After NoMemory nothing has changed.
@@ -81,7 +105,7 @@ impl Books {
         ensures few { IfOk result (λ hand. self.new.made < 2 ^ 63) }
         ensures err { OnErr result (self.new ≡ self.old) }
     {
-        if self.made >= MOST {
+        if self.is_full() {
             return Err(NoMemory {});
         }
         let list = self.lists.replace(actor as usize, Seq::new(self.alloc));
@@ -126,7 +150,7 @@ impl Books {
         hand.push(note);
     }
 
-    /// An entry in a callout's history. `listed` is whether the callout stands in a queue after it.
+    /// An entry in a callout's history. Where it accepts an arming, `listed` is whether the callout stands in a queue now.
     pub(crate) fn write_callout(
         &mut self,
         script: &Script,
@@ -142,7 +166,7 @@ impl Books {
         requires known { i < length script.now.timers }
         requires few { self.old.made < 2 ^ 63 + 3 }
         requires room { 0 < hand.old.notes.spare }
-        ensures written { (w : PlainWorld) (state : State) → IsWritten script.now (with_list self.old hand.old.actor hand.old.notes.items) w → listed ≡ is_some (off state) →
+        ensures written { (w : PlainWorld) (state : State) → IsWritten script.now (with_list self.old hand.old.actor hand.old.notes.items) w → (is_armed reply ≡ true → listed ≡ is_some (off state)) →
             IsWritten script.now (with_list self.new hand.old.actor hand.new.notes.items) (callout_answers script.now w hand.old.actor act i op (Some (state, reply))) }
         ensures actor { hand.new.actor ≡ hand.old.actor }
         ensures spare { hand.old.notes.spare ≤ hand.new.notes.spare + 1 }
@@ -203,6 +227,88 @@ impl Books {
             entry: AnyEntry::Cpu(entry),
         };
         self.write(script, hand, false, &note);
+    }
+
+    /// Where a call takes an arming out of its queue, the Remove before its entry. The answer is how many notes that are.
+    pub(crate) fn write_removal(
+        &mut self,
+        script: &Script,
+        hand: &mut Hand,
+        act: u64,
+        cpu: u32,
+        i: u32,
+        removed: bool,
+    ) -> u32
+        requires script { IsScript script.now }
+        requires written { MayWrite script.now (with_list self.old hand.old.actor hand.old.notes.items) hand.old.actor }
+        requires known { cpu < script.now.cpus }
+        requires few { self.old.made < 2 ^ 63 + 3 }
+        requires room { 0 < hand.old.notes.spare }
+        ensures stays { removed ≡ false → with_list self.new hand.old.actor hand.new.notes.items ≡ with_list self.old hand.old.actor hand.old.notes.items }
+        ensures written { (w : PlainWorld) (queue : TimerQueue) → removed ≡ true → IsWritten script.now (with_list self.old hand.old.actor hand.old.notes.items) w →
+            IsWritten script.now (with_list self.new hand.old.actor hand.new.notes.items) (queue_answers script.now w hand.old.actor act cpu (Remove i) (Some (queue, Off))) }
+        ensures actor { hand.new.actor ≡ hand.old.actor }
+        ensures spare { hand.old.notes.spare ≤ hand.new.notes.spare + 1 }
+        ensures count { length hand.new.notes.items ≡ length hand.old.notes.items + result }
+        ensures made { self.new.made ≤ self.old.made + 1 }
+        ensures few { result ≤ 1 }
+    {
+        if !removed {
+            return 0;
+        }
+        self.write_queue(script, hand, act, cpu, QOp::Remove { i }, QReply::Off);
+        1
+    }
+
+    /// Where an arming has entered the queue of its CPU, the Insert that the actor's place has on its way. The answer is
+    /// how many notes that are.
+    pub(crate) fn write_insertion(
+        &mut self,
+        script: &Script,
+        hand: &mut Hand,
+        at: Option<Sbt>,
+    ) -> u32
+        requires script { IsScript script.now }
+        requires written { MayWrite script.now (with_list self.old hand.old.actor hand.old.notes.items) hand.old.actor }
+        requires known { is_some at ≡ true → (parcel : ParcelOf) × ((place_at self.old hand.old.actor).parcel ≡ Some parcel) × (parcel.cpu < script.now.cpus) }
+        requires few { self.old.made < 2 ^ 63 + 3 }
+        requires room { 0 < hand.old.notes.spare }
+        ensures stays { at ≡ None → with_list self.new hand.old.actor hand.new.notes.items ≡ with_list self.old hand.old.actor hand.old.notes.items }
+        ensures written { (w : PlainWorld) (queue : TimerQueue) (parcel : ParcelOf) (t : ℕ) → at ≡ Some t → IsWritten script.now (with_list self.old hand.old.actor hand.old.notes.items) w →
+            (w.actors hand.old.actor).cursor.parcel ≡ Some parcel →
+            IsWritten script.now (with_list self.new hand.old.actor hand.new.notes.items) (queue_answers script.now w hand.old.actor parcel.act parcel.cpu (Insert parcel.i parcel.n parcel.due) (Some (queue, At t))) }
+        ensures actor { hand.new.actor ≡ hand.old.actor }
+        ensures count { length hand.new.notes.items ≡ length hand.old.notes.items + result }
+        ensures few { result ≤ 1 }
+    {
+        let Some(at) = at else {
+            return 0;
+        };
+        let Some(parcel) = self.parcel(hand.actor) else {
+            return 0;
+        };
+        self.write_landing(script, hand, &parcel, at);
+        1
+    }
+
+    /// The Insert of a callout that comes to the CPU at which it is armed.
+    pub(crate) fn write_landing(&mut self, script: &Script, hand: &mut Hand, parcel: &Parcel, at: Sbt)
+        requires script { IsScript script.now }
+        requires written { MayWrite script.now (with_list self.old hand.old.actor hand.old.notes.items) hand.old.actor }
+        requires known { parcel.now.cpu < script.now.cpus }
+        requires few { self.old.made < 2 ^ 63 + 3 }
+        requires room { 0 < hand.old.notes.spare }
+        ensures written { (w : PlainWorld) (queue : TimerQueue) → IsWritten script.now (with_list self.old hand.old.actor hand.old.notes.items) w →
+            IsWritten script.now (with_list self.new hand.old.actor hand.new.notes.items) (queue_answers script.now w hand.old.actor parcel.now.act parcel.now.cpu (Insert parcel.now.i parcel.now.n parcel.now.due) (Some (queue, At at))) }
+        ensures actor { hand.new.actor ≡ hand.old.actor }
+        ensures count { length hand.new.notes.items ≡ length hand.old.notes.items + 1 }
+    {
+        let op = QOp::Insert {
+            i: parcel.i,
+            n: parcel.n,
+            t: parcel.due,
+        };
+        self.write_queue(script, hand, parcel.act, parcel.cpu, op, QReply::At(at));
     }
 
     /// An entry of the actor's own: an act that came to no callout.

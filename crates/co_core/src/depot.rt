@@ -9,10 +9,12 @@ ghost use Rattle.co_wheel.specs.Parcel.{Parcel as Travelling};
 ghost use Rattle.co_wheel.specs.Service.{begin_here, end_here};
 ghost use Rattle.co_core.specs.Stored.{IsBegun, IsCalled, IsEnded, IsLanded, IsNext, IsScanned, MayLand, bag_at, is_entry, services, stand_at, wheel_at, with_bag, with_stand, with_wheel};
 
+mod boot;
+
 use co_object::{CallOp, Reply};
 use co_queue::{ListQueue, Looks};
 use co_sbt::Sbt;
-use co_wheel::{CallOut, EndOut, NextOut, Parcel, Wheel};
+use co_wheel::{EndOut, NextOut, Parcel, Wheel};
 use std::marker::Model;
 
 /// Where the callouts' records are: at the wheels of the CPUs, or on their way.
@@ -34,11 +36,14 @@ impl Model for Depot {
 }
 
 /// What a call answers.
+#[derive(Drop)]
 pub(crate) struct Called {
     pub reply: Reply,
     /// The queue had an arming of the callout, which the call took out.
     pub removed: bool,
-    /// The arming stands in the queue, at this time.
+    /// An accepted arming stands in the queue, or is on its way into another one.
+    pub listed: bool,
+    /// It stands in the queue, at this time.
     pub inserted: Option<Sbt>,
 }
 
@@ -74,16 +79,12 @@ impl Depot {
         requires cpu { cpu < length self.old.wheels }
         requires actor { actor < length self.old.bags }
         requires here { is_here (wheel_at self.old cpu).callouts i ≡ true }
-        ensures { (after : Cpu) × (leaves : Option Travelling) × IsCalled (wheel_at self.old cpu) i op.now result.reply result.removed result.inserted leaves after × (self.new ≡ with_bag (with_wheel self.old cpu after) actor leaves) }
+        ensures { (after : Cpu) × (leaves : Option Travelling) × IsCalled (wheel_at self.old cpu) i op.now result.reply result.removed result.listed result.inserted leaves after × (self.new ≡ with_bag (with_wheel self.old cpu after) actor leaves) }
     {
         let wheel = &mut self.wheels[cpu as usize];
-        let out = call(wheel, i, op);
-        self.bags[actor as usize] = out.leaves;
-        Called {
-            reply: out.reply,
-            removed: out.removed,
-            inserted: out.inserted,
-        }
+        let (called, leaves) = call(wheel, i, op);
+        self.bags[actor as usize] = leaves;
+        called
     }
 
     /// The lock of the callout that this CPU services is held.
@@ -160,11 +161,18 @@ fn scan(wheel: &mut Wheel<ListQueue>, now: Sbt) -> u32
     wheel.scan(now, &mut looks)
 }
 
-fn call(wheel: &mut Wheel<ListQueue>, i: u32, op: &CallOp) -> CallOut
+fn call(wheel: &mut Wheel<ListQueue>, i: u32, op: &CallOp) -> (Called, Option<Parcel>)
     requires { is_here wheel.old.callouts i ≡ true }
-    ensures { IsCalled wheel.old i op.now result.reply result.removed result.inserted result.leaves wheel.new }
+    ensures { IsCalled wheel.old i op.now result.0.reply result.0.removed result.0.listed result.0.inserted result.1 wheel.new }
 {
-    wheel.call(i, op)
+    let out = wheel.call(i, op);
+    let called = Called {
+        reply: out.reply,
+        removed: out.removed,
+        listed: out.inserted.is_some() || out.leaves.is_some(),
+        inserted: out.inserted,
+    };
+    (called, out.leaves)
 }
 
 fn end(wheel: &mut Wheel<ListQueue>, direct: bool) -> EndOut

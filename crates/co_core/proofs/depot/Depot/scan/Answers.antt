@@ -1,7 +1,7 @@
 use Rattle.std.proofs.Common.{rules, ◌≡◌}
 use Rattle.co_core.proofs.Storing.{stored_after}
 use Rattle.co_core.proofs.Placing.{placed_after}
-use Rattle.co_core.proofs.Ways.{step_silent}
+use Rattle.co_core.proofs.Slots.{call_kept}
 use Rattle.co_core.specs.Stands.{IsPlaced}
 use Rattle.std.proofs.lemmas.List.{get_or_read}
 use Rattle.co_core.specs.Stored.{IsScanned, wheel_at}

@@ -1,0 +1,15 @@
+-- A Pick is made with its Pop, and so never due.
+use Rattle.std.proofs.Common.{ℕ, subst}
+use Rattle.co_object.specs.declared.Op.TheVariants.{Run}
+use Rattle.co_object.specs.declared.RunOp.{RunOp}
+use Rattle.co_program.specs.Action.{Asks}
+use Rattle.co_program.specs.declared.Asked.TheVariants.{Callout}
+use Rattle.co_core.specs.Stands.{IsDue}
+use Rattle.co_core.specs.Written.{with_list}
+use Rattle.co_core.proofs.Undue.{never_picks}
+use Rattle.co_core.proofs.engine.Engine.serve.Goals as goal
+
+pub unreachable-requires : goal.unreachable-requires
+unreachable-requires c =
+    never_picks c.args.script.now c.requires.script (with_list c.args.self.now.books c.args.hand.now.actor c.args.hand.now.notes.items) c.args.self.now.depot c.requires.may.world c.requires.may.held c.args.hand.now.actor c.args.act c.args.i c.in-Pick.n c.in-Pick.cpu c.in-Pick.at
+    (subst (λ (op : RunOp). IsDue c.args.script.now c.requires.may.world c.args.hand.now.actor (Asks c.args.act (Callout c.args.i (Run op)))) c.in-Pick.is c.requires.may.due)

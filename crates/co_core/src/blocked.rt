@@ -1,0 +1,103 @@
+//! When an actor's next step has to wait.
+ghost use Rattle.std.specs.Prelude.{◌≡◌, ◌<◌, if◌then◌else◌, length, nat_lt, Some, None};
+ghost use Rattle.co_program.specs.declared.script.Script.{Script as ScriptOf};
+ghost use Rattle.co_program.specs.Action.{action_for};
+ghost use Rattle.co_program.specs.Actors.{actor_count};
+ghost use Rattle.co_program.specs.Follows.{scan_count};
+ghost use Rattle.co_program.specs.Indexed.{action_of, cursor_of, stage_of};
+ghost use Rattle.co_program.specs.Scripts.{IsScript};
+ghost use Rattle.co_core.specs.Blocked.{blocked, is_locked, is_moving, is_waiting};
+ghost use Rattle.co_core.specs.Stands.{IsWritten, StandsFor};
+ghost use Rattle.co_core.specs.Stored.{stand_at};
+ghost use Rattle.co_core.specs.World.{World as PlainWorld};
+ghost use Rattle.co_core.specs.Written.{place_at};
+
+use crate::engine::Engine;
+use crate::turn::Why;
+use co_lock::Held;
+use co_object::Op;
+use co_program::{Action, Asked, Cursor, Script, Stage, scans_first};
+
+impl Engine {
+    /// A lock is taken once no other actor holds it in a mode that excludes this one.
+    fn lock_waits(&self, held: &Held) -> Option<Why>
+        ensures { (s : ScriptOf) (w : PlainWorld) → IsWritten s self.now.books w → result ≡ (if is_locked s w held.now then Some (Why.Lock held.now.id) else None) }
+    {
+        if self.books.is_locked(held) {
+            Some(Why::Lock(held.id))
+        } else {
+            None
+        }
+    }
+
+    /// A call waits while its callout is on its way, and a drain's next try for the end of the service that the last one
+    /// named.
+    fn call_waits(&self, i: u32, stage: &Stage) -> Option<Why>
+        requires stand { i < length self.now.depot.stands }
+        requires wheel { stand_at self.now.depot i < length self.now.depot.wheels }
+        ensures { (s : ScriptOf) (w : PlainWorld) → IsScript s → StandsFor s self.now.books self.now.depot w → i < length s.timers →
+            result ≡ (if is_moving s w i then Some (Why.Moving i) else if is_waiting w i (stage_of s stage.now) then Some (Why.Serviced i) else None) }
+    {
+        if !self.depot.holds(self.depot.stand(i), i) {
+            return Some(Why::Moving(i));
+        }
+        if self.drain_waits(i, stage) {
+            Some(Why::Serviced(i))
+        } else {
+            None
+        }
+    }
+
+    fn drain_waits(&self, i: u32, stage: &Stage) -> bool
+        ensures { (s : ScriptOf) (w : PlainWorld) → IsScript s → StandsFor s self.now.books self.now.depot w → result ≡ is_waiting w i (stage_of s stage.now) }
+    {
+        match stage {
+            Stage::Waiting { n, .. } => self.books.is_serviced(i, *n),
+            _ => false,
+        }
+    }
+
+    /// A soft act waits for the Scans of its CPU.
+    fn tick_waits(&self, cpu: u32, first: u32) -> Option<Why>
+        requires { cpu < length self.now.books.scans }
+        ensures { (s : ScriptOf) (w : PlainWorld) → IsWritten s self.now.books w → cpu < s.cpus → result ≡ (if nat_lt (scan_count (w.cpus cpu).journal) first then Some (Why.Tick cpu) else None) }
+    {
+        if self.books.scans(cpu) < u64::from(first) {
+            Some(Why::Tick(cpu))
+        } else {
+            None
+        }
+    }
+
+    /// Why the actor's next step has to wait, if it has to.
+    pub(crate) fn blocked(
+        &self,
+        script: &Script,
+        actor: u32,
+        place: &Cursor,
+        action: &Action,
+    ) -> Option<Why>
+        requires script { IsScript script.now }
+        requires actor { actor < actor_count script.now }
+        requires stands { (w : PlainWorld) × StandsFor script.now self.now.books self.now.depot w }
+        requires place { place.now ≡ place_at self.now.books actor }
+        requires action { action_of script.now actor action.now ≡ action_for script.now actor (cursor_of script.now actor place.now) }
+        ensures { (w : PlainWorld) → StandsFor script.now self.now.books self.now.depot w → result ≡ blocked script.now w actor }
+    {
+        match action {
+            Action::Nothing => None,
+            Action::Silent(_) => None,
+            Action::Take { held, .. } => self.lock_waits(held),
+            Action::Asks { asked, .. } => match asked {
+                Asked::Callout { i, op } => match op {
+                    Op::Call(_) => self.call_waits(*i, &place.stage),
+                    Op::Run(_) => None,
+                },
+                Asked::Queue { cpu, .. } => {
+                    self.tick_waits(*cpu, scans_first(script, actor, place))
+                }
+                Asked::Itself(_) => None,
+            },
+        }
+    }
+}

@@ -1,0 +1,192 @@
+//! One step after another: the books and the depot of a world.
+ghost use Rattle.std.specs.Prelude.{◌≡◌, ℕ, ◌+◌, ◌<◌, ◌≤◌, length};
+ghost use Rattle.co_lock.specs.declared.held.Held.{Held};
+ghost use Rattle.co_program.specs.declared.script.Script.{Script as ScriptOf};
+ghost use Rattle.co_program.specs.Action.{Asks, Silent, Take};
+ghost use Rattle.co_program.specs.Scripts.{IsScript};
+ghost use Rattle.co_program.specs.Indexed.{Counts, cursor_of};
+ghost use Rattle.co_wheel.specs.Turns.{pop_of, free_of};
+ghost use Rattle.co_core.specs.World.{World as PlainWorld};
+ghost use Rattle.co_core.specs.Stands.{HeldBy, IsDue, MayAct};
+ghost use Rattle.co_core.specs.Step.{step};
+ghost use Rattle.co_core.specs.Written.{place_at};
+
+mod acting;
+
+use crate::books::{Books, Hand};
+use crate::depot::Depot;
+use co_object::{CallOp, Op, OwnKind, QOp, QReply, RunOp};
+use co_program::{Asked, Cursor, Parcel, Script};
+use co_sbt::Sbt;
+use co_wheel::NextOut;
+
+/// What is written, and where the records are.
+#[derive(Drop)]
+pub(crate) struct Engine {
+    pub books: Books,
+    pub depot: Depot,
+}
+
+impl Engine {
+    /// A step without a note.
+    fn go(&mut self, hand: &Hand, to: Cursor)
+        requires { hand.now.actor < length self.old.books.places }
+        ensures silent { (s : ScriptOf) (w : PlainWorld) → HeldBy s self.old hand.now w → IsDue s w hand.now.actor (Silent (cursor_of s hand.now.actor to)) → Counts (place_at self.old.books hand.now.actor) to 0 →
+            HeldBy s self.new hand.now (step s w hand.now.actor) }
+        ensures take { (s : ScriptOf) (w : PlainWorld) (held : Held) → HeldBy s self.old hand.now w → IsDue s w hand.now.actor (Take held (cursor_of s hand.now.actor to)) → Counts (place_at self.old.books hand.now.actor) to 0 →
+            HeldBy s self.new hand.now (step s w hand.now.actor) }
+    {
+        self.books.go(hand.actor, to);
+    }
+
+    /// An act that comes to no callout.
+    fn own(&mut self, script: &Script, hand: &mut Hand, act: u64, kind: OwnKind)
+        requires script { IsScript script.now }
+        requires may { MayAct script.now self.old hand.old (Asks act (Asked.Itself kind)) }
+        ensures stands { (w : PlainWorld) → HeldBy script.now self.old hand.old w → IsDue script.now w hand.old.actor (Asks act (Asked.Itself kind)) →
+            HeldBy script.now self.new hand.new (step script.now w hand.old.actor) }
+        ensures actor { hand.new.actor ≡ hand.old.actor }
+        ensures count { length hand.new.notes.items ≡ length hand.old.notes.items + 1 }
+    {
+        self.books.write_own(script, hand, act, kind);
+    }
+
+    /// A covered call on a callout that stands still. The answer is how many notes it makes.
+    fn call(
+        &mut self,
+        script: &Script,
+        hand: &mut Hand,
+        act: u64,
+        i: u32,
+        op: &CallOp,
+    ) -> u32
+        requires script { IsScript script.now }
+        requires may { MayAct script.now self.old hand.old (Asks act (Asked.Callout i (Op.Call op.now))) }
+        ensures stands { (w : PlainWorld) → HeldBy script.now self.old hand.old w → IsDue script.now w hand.old.actor (Asks act (Asked.Callout i (Op.Call op.now))) →
+            HeldBy script.now self.new hand.new (step script.now w hand.old.actor) }
+        ensures actor { hand.new.actor ≡ hand.old.actor }
+        ensures count { length hand.new.notes.items ≡ length hand.old.notes.items + result }
+    {
+        let cpu = self.depot.stand(i);
+        let out = self.depot.call(cpu, i, op, hand.actor);
+        let removed = self.books.write_removal(script, hand, act, cpu, i, out.removed);
+        self.books.write_callout(
+            script,
+            hand,
+            act,
+            i,
+            Op::Call(*op),
+            out.reply,
+            out.listed,
+        );
+        let inserted = self.books.write_insertion(script, hand, out.inserted);
+        removed + 1 + inserted
+    }
+
+    /// A callout that was on its way comes to the CPU at which it is armed: one note.
+    fn land(&mut self, script: &Script, hand: &mut Hand, parcel: &Parcel)
+        requires script { IsScript script.now }
+        requires may { MayAct script.now self.old hand.old (Asks parcel.now.act (Asked.Queue parcel.now.cpu (QOp.Insert parcel.now.i parcel.now.n parcel.now.due))) }
+        ensures stands { (w : PlainWorld) → HeldBy script.now self.old hand.old w → IsDue script.now w hand.old.actor (Asks parcel.now.act (Asked.Queue parcel.now.cpu (QOp.Insert parcel.now.i parcel.now.n parcel.now.due))) →
+            HeldBy script.now self.new hand.new (step script.now w hand.old.actor) }
+        ensures actor { hand.new.actor ≡ hand.old.actor }
+        ensures count { length hand.new.notes.items ≡ length hand.old.notes.items + 1 }
+    {
+        let at = self.depot.land(parcel.cpu, hand.actor);
+        self.books.write_landing(script, hand, parcel, at);
+    }
+
+    /// A tick of a CPU: one note.
+    fn scan(&mut self, script: &Script, hand: &mut Hand, act: u64, cpu: u32, now: Sbt)
+        requires script { IsScript script.now }
+        requires may { MayAct script.now self.old hand.old (Asks act (Asked.Queue cpu (QOp.Scan now))) }
+        ensures stands { (w : PlainWorld) → HeldBy script.now self.old hand.old w → IsDue script.now w hand.old.actor (Asks act (Asked.Queue cpu (QOp.Scan now))) →
+            HeldBy script.now self.new hand.new (step script.now w hand.old.actor) }
+        ensures actor { hand.new.actor ≡ hand.old.actor }
+        ensures count { length hand.new.notes.items ≡ length hand.old.notes.items + 1 }
+    {
+        let count = self.depot.scan(cpu, now);
+        let op = QOp::Scan { now };
+        self.books.write_queue(script, hand, act, cpu, op, QReply::Count(count));
+    }
+
+    /// The first callout that has come due goes into service: of a CPU, or of its interrupt where `direct`. The answer is
+    /// how many notes that makes.
+    fn next(
+        &mut self,
+        script: &Script,
+        hand: &mut Hand,
+        act: u64,
+        cpu: u32,
+        direct: bool,
+    ) -> u32
+        requires script { IsScript script.now }
+        requires may { MayAct script.now self.old hand.old (Asks act (Asked.Queue cpu (pop_of direct))) }
+        ensures stands { (w : PlainWorld) → HeldBy script.now self.old hand.old w → IsDue script.now w hand.old.actor (Asks act (Asked.Queue cpu (pop_of direct))) →
+            HeldBy script.now self.new hand.new (step script.now w hand.old.actor) }
+        ensures actor { hand.new.actor ≡ hand.old.actor }
+        ensures count { length hand.new.notes.items ≡ length hand.old.notes.items + result }
+        ensures few { result ≤ 3 }
+    {
+        let op = pop_of(direct);
+        match self.depot.next(cpu, direct) {
+            NextOut::Empty => {
+                self.books.write_queue(script, hand, act, cpu, op, QReply::Empty);
+                1
+            }
+            NextOut::Took { i, n, at, reply } => {
+                let got = QReply::Got { i, n, at };
+                self.books.write_queue(script, hand, act, cpu, op, got);
+                let pick = Op::Run(RunOp::Pick { n, cpu, at });
+                self.books.write_callout(script, hand, act, i, pick, reply, false);
+                2
+            }
+        }
+    }
+
+    /// The lock of a service is held: its function runs, or it was cancelled meanwhile. One note.
+    fn begin(&mut self, script: &Script, hand: &mut Hand, act: u64, i: u32, n: u64, cpu: u32)
+        requires script { IsScript script.now }
+        requires may { MayAct script.now self.old hand.old (Asks act (Asked.Callout i (Op.Run (RunOp.Begin n cpu)))) }
+        ensures stands { (w : PlainWorld) → HeldBy script.now self.old hand.old w → IsDue script.now w hand.old.actor (Asks act (Asked.Callout i (Op.Run (RunOp.Begin n cpu)))) →
+            HeldBy script.now self.new hand.new (step script.now w hand.old.actor) }
+        ensures actor { hand.new.actor ≡ hand.old.actor }
+        ensures count { length hand.new.notes.items ≡ length hand.old.notes.items + 1 }
+    {
+        let reply = self.depot.begin(cpu);
+        let begin = Op::Run(RunOp::Begin { n, cpu });
+        self.books.write_callout(script, hand, act, i, begin, reply, false);
+    }
+
+    /// A service is over. Its callout leaves where it is armed for another CPU. The answer is how many notes that makes.
+    fn end(&mut self, script: &Script, hand: &mut Hand, act: u64, i: u32, n: u64, cpu: u32) -> u32
+        requires script { IsScript script.now }
+        requires may { MayAct script.now self.old hand.old (Asks act (Asked.Callout i (Op.Run (RunOp.End n cpu)))) }
+        ensures stands { (w : PlainWorld) → HeldBy script.now self.old hand.old w → IsDue script.now w hand.old.actor (Asks act (Asked.Callout i (Op.Run (RunOp.End n cpu)))) →
+            HeldBy script.now self.new hand.new (step script.now w hand.old.actor) }
+        ensures actor { hand.new.actor ≡ hand.old.actor }
+        ensures count { length hand.new.notes.items ≡ length hand.old.notes.items + result }
+        ensures few { result ≤ 3 }
+    {
+        let direct = script.timers.as_slice()[i as usize].direct;
+        let reply = self.depot.end(cpu, direct, hand.actor);
+        let end = Op::Run(RunOp::End { n, cpu });
+        self.books.write_callout(script, hand, act, i, end, reply, false);
+        self.books.write_queue(script, hand, act, cpu, free_of(direct), QReply::Freed);
+        2
+    }
+}
+
+/// The Pop of a CPU, or of its interrupt where `direct`.
+fn pop_of(direct: bool) -> QOp
+    ensures { result ≡ pop_of direct }
+{
+    if direct { QOp::PopDirect } else { QOp::Pop }
+}
+
+/// The Free of a CPU, or of its interrupt where `direct`.
+fn free_of(direct: bool) -> QOp
+    ensures { result ≡ free_of direct }
+{
+    if direct { QOp::FreeDirect } else { QOp::Free }
+}
