@@ -17,10 +17,16 @@ use Rattle.co_program.specs.declared.Act.{Act}
 use Rattle.co_program.specs.declared.Act.TheVariants.{Now, Lock, ReadLock, Unlock, Reset, Ticks, Schedule, Stop, Drain, AsyncDrain, Active, Pending, Deactivate, Init, Retire, Tick}
 use Rattle.co_program.specs.declared.Scene.{Scene}
 use Rattle.co_program.specs.Calls.{plain_op}
-use Rattle.co_program.specs.Actors.{Task, Does, Soft, Role, cpu_of}
-use Rattle.co_program.specs.Stages.{Service, Stage, Ready, Waiting, Popping, Picking, Locking, Beginning, Unlocking, Firing, Releasing, Ending, Freeing, Drained}
-use Rattle.co_program.specs.Cursor.{Parcel, Cursor}
-use Rattle.co_program.specs.Action.{Action, Nothing, Silent, Take, Asks, Callout, Queue, Itself, spec_at, asks_covered, asks_within, over, takes, asks_drain, begins, drained_of, locks, firing, action_in, action_with, pop_of, free_of}
+use Rattle.co_program.specs.Actors.{cpu_of}
+use Rattle.co_program.specs.declared.Task.{Task}
+use Rattle.co_program.specs.declared.Task.TheVariants.{Does, Soft}
+use Rattle.co_program.specs.declared.Role.{Role}
+use Rattle.co_program.specs.Stages.{Stage, Ready, Waiting, Popping, Picking, Locking, Beginning, Unlocking, Firing, Releasing, Ending, Freeing, Drained}
+use Rattle.co_program.specs.declared.Service.{Service}
+use Rattle.co_program.specs.Cursor.{Cursor}
+use Rattle.co_program.specs.declared.Parcel.{Parcel}
+use Rattle.co_program.specs.Action.{Action, Nothing, Silent, Take, Asks, spec_at, asks_covered, asks_within, over, takes, asks_drain, begins, drained_of, locks, firing, action_in, action_with, pop_of, free_of}
+use Rattle.co_program.specs.declared.Asked.TheVariants.{Callout, Queue, Itself}
 use Rattle.co_core.proofs.Lists.{at_choice}
 
 -- a task that is a client's alone
@@ -33,7 +39,7 @@ is_clients (Soft j) = false
 pub data IsAction (s : Script) (role : Role) (c : Cursor) : Stage → Action → Type 0 where
   stays : (stage : Stage) → IsAction s role c stage Nothing
   -- between two acts
-  drops : c.left ≡ [] → IsAction s role c Ready (Silent (record c { left = []; hold = None; stage = Ready }))
+  drops : c.left ≡ [] → is_some c.hold ≡ true → IsAction s role c Ready (Silent (record c { left = []; hold = None; stage = Ready }))
   passes : (task : Task) (left : List Task) (now : ℕ) (hold : Option Held) → c.left ≡ task ∷ left → is_clients task ≡ true → IsAction s role c Ready (Silent (record (over c left hold) { now = now }))
   grabs : (task : Task) (left : List Task) (held : Held) → c.left ≡ task ∷ left → is_clients task ≡ true → c.hold ≡ None → IsAction s role c Ready (Take held (over c left (Some held)))
   tells : (task : Task) (left : List Task) (kind : OwnKind) → c.left ≡ task ∷ left → is_clients task ≡ true → IsAction s role c Ready (Asks c.act (Itself kind))
@@ -76,7 +82,7 @@ module _ (s : Script) (role : Role) (c : Cursor) where
   due_act task left call is own = covered (IsAction s role c Ready) s c.hold c.act call (stays Ready) (tells task left NotHeld is own) (λ i op. asks task left i op is own)
 
   due_begins : (left : List Task) → c.left ≡ left → IsAction s role c Ready (begins s role c left)
-  due_begins [] is = at_choice (IsAction s role c Ready) (is_some c.hold) (Silent (record c { left = []; hold = None; stage = Ready })) Nothing (λ e. drops is) (λ e. stays Ready)
+  due_begins [] is = at_choice (IsAction s role c Ready) (is_some c.hold) (Silent (record c { left = []; hold = None; stage = Ready })) Nothing (λ e. drops is e) (λ e. stays Ready)
   due_begins (Does (Now time) ∷ left) is = passes (Does (Now time)) left time c.hold is refl
   due_begins (Does (Lock id) ∷ left) is = due_takes (Does (Lock id)) left (record { id = id; exclusive = true }) is refl
   due_begins (Does (ReadLock id) ∷ left) is = due_takes (Does (ReadLock id)) left (record { id = id; exclusive = false }) is refl

@@ -19,10 +19,16 @@ use Rattle.co_object.specs.Queue.{Queue as TimerQueue}
 use Rattle.co_object.proofs.PassageOnce.{stands}
 use Rattle.co_lock.specs.declared.held.Held.{Held}
 use Rattle.co_program.specs.declared.Script.{Script}
-use Rattle.co_program.specs.Actors.{Role, Client, Cpu, Interrupt, role_of, cpu_of, acts_at, actor_count}
-use Rattle.co_program.specs.Stages.{Service, Stage, Ready, Waiting, Popping, Picking, Locking, Beginning, Unlocking, Firing, Releasing, Ending, Freeing, Drained}
-use Rattle.co_program.specs.Cursor.{Parcel, Cursor}
-use Rattle.co_program.specs.Action.{Action, Nothing, Silent, Take, Asks, Asked, Callout, Queue, Itself, action_for, action_with, spec_at}
+use Rattle.co_program.specs.Actors.{role_of, cpu_of, acts_at, actor_count}
+use Rattle.co_program.specs.declared.Role.{Role}
+use Rattle.co_program.specs.declared.Role.TheVariants.{Client, Cpu, Interrupt}
+use Rattle.co_program.specs.Stages.{Stage, Ready, Waiting, Popping, Picking, Locking, Beginning, Unlocking, Firing, Releasing, Ending, Freeing, Drained}
+use Rattle.co_program.specs.declared.Service.{Service}
+use Rattle.co_program.specs.Cursor.{Cursor}
+use Rattle.co_program.specs.declared.Parcel.{Parcel}
+use Rattle.co_program.specs.Action.{Action, Nothing, Silent, Take, Asks, action_for, action_with, spec_at}
+use Rattle.co_program.specs.declared.Asked.{Asked}
+use Rattle.co_program.specs.declared.Asked.TheVariants.{Callout, Queue, Itself}
 use Rattle.co_program.specs.Advance.{act_over, called, advance_callout, due_of_call}
 use Rattle.co_program.specs.Scripts.{IsScript}
 use Rattle.co_core.specs.World.{World, with_cursor}
@@ -38,7 +44,8 @@ use Rattle.co_core.proofs.ServingKept.{serving_same, runs_on}
 use Rattle.co_core.proofs.CarriedKept.{Nobody, carried_state, carried_queue, unlisted}
 use Rattle.co_core.proofs.Turns.{SameTurn, turn_silent, turn_take, turn_over, turn_wait, IsActing, acts_own, acts_call, is_acting_of}
 use Rattle.std.proofs.Common.{ℤ}
-use Rattle.co_program.specs.Actors.{Task, Does}
+use Rattle.co_program.specs.declared.Task.{Task}
+use Rattle.co_program.specs.declared.Task.TheVariants.{Does}
 use Rattle.co_program.specs.declared.Act.TheVariants.{Drain}
 use Rattle.co_core.proofs.CarriedKept.{listed_arming}
 use Rattle.co_core.proofs.Turns.{waiting_client}

@@ -16,7 +16,8 @@ use Rattle.co_object.proofs.QueueChanges.{QChange}
 use Rattle.co_object.specs.Laws.Passage as passage
 use Rattle.co_program.specs.declared.Script.{Script}
 use Rattle.co_program.specs.Actors.{actor_count}
-use Rattle.co_program.specs.Cursor.{Parcel, Cursor}
+use Rattle.co_program.specs.Cursor.{Cursor}
+use Rattle.co_program.specs.declared.Parcel.{Parcel}
 use Rattle.co_core.specs.Step.{are_direct}
 use Rattle.co_core.proofs.Invariant.{IsListed, EntriesFit, IsCarried, IsLane, carries}
 use Rattle.co_core.proofs.Moves.{IsAt, decide, at_all}

@@ -21,7 +21,9 @@ use Rattle.co_object.specs.Journal.{step as queue_step}
 use Rattle.co_program.specs.declared.Script.{Script}
 use Rattle.co_lock.specs.declared.Held.{Held}
 use Rattle.co_program.specs.Cursor.{Cursor, start_of}
-use Rattle.co_program.specs.Action.{Action, Nothing, Silent, Take, Asks, Asked, Callout, Queue, Itself, action_for, spec_at}
+use Rattle.co_program.specs.Action.{Action, Nothing, Silent, Take, Asks, action_for, spec_at}
+use Rattle.co_program.specs.declared.Asked.{Asked}
+use Rattle.co_program.specs.declared.Asked.TheVariants.{Callout, Queue, Itself}
 use Rattle.co_program.specs.Advance.{advance}
 use Rattle.co_core.specs.World.{World, Actor, open_world, with_actor}
 use Rattle.co_core.specs.Blocked.{blocked}

@@ -38,6 +38,7 @@ is_plain reply = true
 -- a service goes on as it did, but that one that waited for its lock may be cancelled
 pub record GoesOn (r t : Run) : Type 0 where
   pub idle : is_idle r ≡ is_idle t
+  pub number : serviced r ≡ serviced t
   pub free : (cpu : ℕ) → is_free_at r cpu ≡ is_free_at t cpu
   pub cpu : cpu_of_run r ≡ cpu_of_run t
   pub taken : (n cpu : ℕ) → IsTaken r n cpu → IsTaken t n cpu
@@ -45,11 +46,11 @@ pub record GoesOn (r t : Run) : Type 0 where
   pub over : (n cpu : ℕ) → IsOver r n cpu → IsOver t n cpu
 
 same_run : (r : Run) → GoesOn r r
-same_run r = record { idle = refl; free = λ cpu. refl; cpu = refl; taken = λ n cpu h. h; running = λ n cpu h. h; over = λ n cpu h. h }
+same_run r = record { idle = refl; number = refl; free = λ cpu. refl; cpu = refl; taken = λ n cpu h. h; running = λ n cpu h. h; over = λ n cpu h. h }
 
 cancelled_run : (r : Run) → GoesOn r (cancel r)
 cancelled_run Idle = same_run Idle
-cancelled_run (Picked a) = record { idle = refl; free = λ cpu. refl; cpu = refl; taken = λ n cpu h. h; running = λ n cpu h. absurd h; over = λ n cpu h. absurd h }
+cancelled_run (Picked a) = record { idle = refl; number = refl; free = λ cpu. refl; cpu = refl; taken = λ n cpu h. h; running = λ n cpu h. absurd h; over = λ n cpu h. absurd h }
 cancelled_run (Cancelled n cpu) = same_run (Cancelled n cpu)
 cancelled_run (Running n cpu) = same_run (Running n cpu)
 

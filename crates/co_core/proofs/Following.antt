@@ -23,7 +23,9 @@ use Rattle.co_object.specs.Queue.{Queue as TimerQueue}
 use Rattle.co_object.specs.Journal.{remove, step as queue_step}
 use Rattle.co_program.specs.declared.Script.{Script}
 use Rattle.co_program.specs.Cursor.{Cursor, start_of}
-use Rattle.co_program.specs.Action.{Action, Nothing, Silent, Take, Asks, Asked, Callout, Queue, Itself, action_for, spec_at, scans_first}
+use Rattle.co_program.specs.Action.{Action, Nothing, Silent, Take, Asks, action_for, spec_at, scans_first}
+use Rattle.co_program.specs.declared.Asked.{Asked}
+use Rattle.co_program.specs.declared.Asked.TheVariants.{Callout, Queue, Itself}
 use Rattle.co_program.specs.Follows.{Histories, settled, scan_count}
 use Rattle.co_core.specs.declared.turn.Why.{Why}
 use Rattle.co_core.specs.declared.turn.Why.TheVariants.{Tick}

@@ -18,10 +18,16 @@ use Rattle.co_lock.specs.declared.Held.{Held}
 use Rattle.co_lock.specs.Service.{hold_of}
 use Rattle.co_program.specs.declared.Script.{Script}
 use Rattle.co_program.specs.declared.Act.{Act}
-use Rattle.co_program.specs.Actors.{Task, Does, Soft, Role, role_of, acts_at, cpu_of}
-use Rattle.co_program.specs.Stages.{Service, Stage, Ready, Waiting, Popping, Picking, Locking, Beginning, Unlocking, Firing, Releasing, Ending, Freeing, Drained}
-use Rattle.co_program.specs.Cursor.{Parcel, Cursor, start_of}
-use Rattle.co_program.specs.Action.{Action, Nothing, Silent, Take, Asks, Callout, Itself, action_for, action_with, action_in, spec_at, firing, draining, locks, asks_covered, asks_within, takes, asks_drain, begins, over, drained_of}
+use Rattle.co_program.specs.Actors.{role_of, acts_at, cpu_of}
+use Rattle.co_program.specs.declared.Task.{Task}
+use Rattle.co_program.specs.declared.Task.TheVariants.{Does, Soft}
+use Rattle.co_program.specs.declared.Role.{Role}
+use Rattle.co_program.specs.Stages.{Stage, Ready, Waiting, Popping, Picking, Locking, Beginning, Unlocking, Firing, Releasing, Ending, Freeing, Drained}
+use Rattle.co_program.specs.declared.Service.{Service}
+use Rattle.co_program.specs.Cursor.{Cursor, start_of}
+use Rattle.co_program.specs.declared.Parcel.{Parcel}
+use Rattle.co_program.specs.Action.{Action, Nothing, Silent, Take, Asks, action_for, action_with, action_in, spec_at, firing, draining, locks, asks_covered, asks_within, takes, asks_drain, begins, over, drained_of}
+use Rattle.co_program.specs.declared.Asked.TheVariants.{Callout, Itself}
 use Rattle.co_program.specs.Advance.{advance, advance_callout, advance_queue, called, act_over, picked, begun, ended, got, popped, freed, tail_of, drain_acts}
 use Rattle.co_object.specs.declared.PlainOp.{PlainOp}
 use Rattle.co_object.specs.declared.CallOp.TheVariants.{Plain, DrainTry}

@@ -19,10 +19,16 @@ use Rattle.co_object.specs.Queue.{Queue as TimerQueue}
 use Rattle.co_object.proofs.PassageOnce.{stands}
 use Rattle.co_lock.specs.declared.held.Held.{Held}
 use Rattle.co_program.specs.declared.Script.{Script}
-use Rattle.co_program.specs.Actors.{Role, Client, Cpu, Interrupt, role_of, cpu_of, acts_at, actor_count}
-use Rattle.co_program.specs.Stages.{Service, Stage, Ready, Waiting, Popping, Picking, Locking, Beginning, Unlocking, Firing, Releasing, Ending, Freeing, Drained}
-use Rattle.co_program.specs.Cursor.{Parcel, Cursor}
-use Rattle.co_program.specs.Action.{Action, Nothing, Silent, Take, Asks, Asked, Callout, Queue, Itself, action_for, action_with, spec_at}
+use Rattle.co_program.specs.Actors.{role_of, cpu_of, acts_at, actor_count}
+use Rattle.co_program.specs.declared.Role.{Role}
+use Rattle.co_program.specs.declared.Role.TheVariants.{Client, Cpu, Interrupt}
+use Rattle.co_program.specs.Stages.{Stage, Ready, Waiting, Popping, Picking, Locking, Beginning, Unlocking, Firing, Releasing, Ending, Freeing, Drained}
+use Rattle.co_program.specs.declared.Service.{Service}
+use Rattle.co_program.specs.Cursor.{Cursor}
+use Rattle.co_program.specs.declared.Parcel.{Parcel}
+use Rattle.co_program.specs.Action.{Action, Nothing, Silent, Take, Asks, action_for, action_with, spec_at}
+use Rattle.co_program.specs.declared.Asked.{Asked}
+use Rattle.co_program.specs.declared.Asked.TheVariants.{Callout, Queue, Itself}
 use Rattle.co_program.specs.Advance.{act_over, called, advance_callout, due_of_call}
 use Rattle.co_program.specs.Scripts.{IsScript}
 use Rattle.co_core.specs.World.{World, with_cursor}
@@ -63,7 +69,7 @@ callout_view s a c act i op is =
 -- ---- a step that changes no queue
 
 pub same_run : (r t : Run) → r ≡ t → GoesOn r t
-same_run r t is = subst (GoesOn r) is (record { idle = refl; free = λ cpu. refl; cpu = refl; taken = λ n cpu h. h; running = λ n cpu h. h; over = λ n cpu h. h })
+same_run r t is = subst (GoesOn r) is (record { idle = refl; number = refl; free = λ cpu. refl; cpu = refl; taken = λ n cpu h. h; running = λ n cpu h. h; over = λ n cpu h. h })
 
 module _ (s : Script) (w : World) (out : Option ℕ) (holds : Holds s w out) (w' : World) (out' : Option ℕ) (a : ℕ) (to : Cursor) (at : IsAt (places_of w) a to (places_of w'))
     (queues : (x : ℕ) → queues_of w' x ≡ queues_of w x) (scans : (x : ℕ) → scans_of w' x ≡ scans_of w x)

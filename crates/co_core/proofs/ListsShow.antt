@@ -25,7 +25,9 @@ use Rattle.co_object.specs.Journal.{step as queue_step}
 use Rattle.co_program.specs.declared.Script.{Script}
 use Rattle.co_program.specs.Actors.{actor_count}
 use Rattle.co_program.specs.Cursor.{Cursor}
-use Rattle.co_program.specs.Action.{Asked, Callout, Queue, Itself, spec_at}
+use Rattle.co_program.specs.Action.{spec_at}
+use Rattle.co_program.specs.declared.Asked.{Asked}
+use Rattle.co_program.specs.declared.Asked.TheVariants.{Callout, Queue, Itself}
 use Rattle.co_program.specs.Advance.{advance}
 use Rattle.co_core.specs.World.{World, Actor, Timer, Cpu, open_world, lists_of, updated, with_cursor}
 use Rattle.co_core.specs.Step.{notes_down, enters, enters_journal, landed, note_of, note_of_cpu, note_of_own, are_direct, callout_answers, queue_answers, answered}

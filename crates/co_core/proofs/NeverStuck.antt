@@ -15,12 +15,19 @@ use Rattle.co_program.specs.declared.Act.{Act}
 use Rattle.co_program.specs.declared.Act.TheVariants.{Now, Lock, ReadLock, Unlock, Reset, Ticks, Schedule, Stop, Drain, AsyncDrain, Active, Pending, Deactivate, Init, Retire, Tick}
 use Rattle.co_program.specs.declared.Scene.{Scene}
 use Rattle.co_program.specs.Calls.{plain_op}
-use Rattle.co_program.specs.Actors.{Task, Does, Soft, Role, Client, Cpu, Interrupt, role_of, cpu_of, actor_count, acts_at}
+use Rattle.co_program.specs.Actors.{role_of, cpu_of, actor_count, acts_at}
+use Rattle.co_program.specs.declared.Task.{Task}
+use Rattle.co_program.specs.declared.Task.TheVariants.{Does, Soft}
+use Rattle.co_program.specs.declared.Role.{Role}
+use Rattle.co_program.specs.declared.Role.TheVariants.{Client, Cpu, Interrupt}
 use Rattle.co_object.specs.declared.QOp.{QOp}
 use Rattle.co_object.specs.declared.QOp.TheVariants.{Pop}
-use Rattle.co_program.specs.Stages.{Service, Stage, Ready, Waiting, Popping, Picking, Locking, Beginning, Unlocking, Firing, Releasing, Ending, Freeing, Drained}
-use Rattle.co_program.specs.Cursor.{Parcel, Cursor}
-use Rattle.co_program.specs.Action.{Action, Nothing, Silent, Take, Asks, Callout, Queue, Itself, action_for, action_with, action_in, spec_at, scans_first, scans_with, scans_at, scans_of, asks_covered, asks_within, takes, begins, over, locks, pop_of}
+use Rattle.co_program.specs.Stages.{Stage, Ready, Waiting, Popping, Picking, Locking, Beginning, Unlocking, Firing, Releasing, Ending, Freeing, Drained}
+use Rattle.co_program.specs.declared.Service.{Service}
+use Rattle.co_program.specs.Cursor.{Cursor}
+use Rattle.co_program.specs.declared.Parcel.{Parcel}
+use Rattle.co_program.specs.Action.{Action, Nothing, Silent, Take, Asks, action_for, action_with, action_in, spec_at, scans_first, scans_with, scans_at, scans_of, asks_covered, asks_within, takes, begins, over, locks, pop_of}
+use Rattle.co_program.specs.declared.Asked.TheVariants.{Callout, Queue, Itself}
 use Rattle.co_program.specs.Follows.{scan_count}
 use Rattle.co_core.specs.declared.turn.Why.{Why}
 use Rattle.co_core.specs.declared.turn.Why.TheVariants as why

@@ -7,7 +7,11 @@ use Rattle.co_object.specs.Queue.{empty_queue}
 use Rattle.co_program.specs.declared.Script.{Script}
 use Rattle.co_program.specs.declared.Act.{Act}
 use Rattle.co_program.specs.declared.Act.TheVariants.{Tick}
-use Rattle.co_program.specs.Actors.{Task, Does, Soft, Role, Client, Cpu, Interrupt, role_of, acts_at, softs, program_of}
+use Rattle.co_program.specs.Actors.{role_of, acts_at, softs, program_of}
+use Rattle.co_program.specs.declared.Task.{Task}
+use Rattle.co_program.specs.declared.Task.TheVariants.{Does, Soft}
+use Rattle.co_program.specs.declared.Role.{Role}
+use Rattle.co_program.specs.declared.Role.TheVariants.{Client, Cpu, Interrupt}
 use Rattle.co_program.specs.Stages.{Ready}
 use Rattle.co_program.specs.Scripts.{IsScript, is_tick}
 use Rattle.co_core.specs.World.{open_world}
@@ -16,7 +20,7 @@ use Rattle.co_core.proofs.Invariant.{Holds, HoldFits, IsTaskOf, AreSoft, serving
 use Rattle.co_core.proofs.Owned.{owned_open}
 use Rattle.co_core.proofs.Sound.{IsSteady, run_steady}
 
-length_softs : (j n : ℕ) → length (softs j n) ≡ n
+pub length_softs : (j n : ℕ) → length (softs j n) ≡ n
 length_softs j zero = refl
 length_softs j (suc n) = ap suc (length_softs (suc j) n)
 

@@ -10,7 +10,9 @@ use Rattle.co_object.specs.Journal.{remove, step, queue_of, reply_of}
 use Rattle.co_object.proofs.QueueChanges.{QChange, inserts, removes, misses, scans, pops, finds_none, frees, pops_direct, finds_no_direct, frees_direct, change}
 use Rattle.co_object.proofs.PassageOnce.{stands, balanced, stands-none}
 use Rattle.co_program.specs.declared.Script.{Script}
-use Rattle.co_program.specs.Actors.{Role, Client, Cpu, Interrupt, cpu_of}
+use Rattle.co_program.specs.Actors.{cpu_of}
+use Rattle.co_program.specs.declared.Role.{Role}
+use Rattle.co_program.specs.declared.Role.TheVariants.{Client, Cpu, Interrupt}
 use Rattle.co_program.specs.Action.{pop_of, free_of}
 use Rattle.co_core.proofs.Invariant.{serving_of}
 use Rattle.co_core.proofs.RolesKept.{IsServer}

@@ -14,7 +14,8 @@ use Rattle.co_object.specs.Serve.{begin_run, end_run, ended, go as go_run}
 use Rattle.co_object.specs.declared.Reply.TheVariants.{Skip}
 use Rattle.co_object.proofs.PassageOnce.{stands, stands-some}
 use Rattle.co_object.proofs.QueueChanges.{inserted}
-use Rattle.co_program.specs.Actors.{Role, Client, Cpu, Interrupt}
+use Rattle.co_program.specs.declared.Role.{Role}
+use Rattle.co_program.specs.declared.Role.TheVariants.{Client, Cpu, Interrupt}
 use Rattle.co_program.specs.Action.{pop_of}
 use Rattle.co_core.proofs.RolesKept.{IsServer}
 use Rattle.co_core.proofs.Invariant.{IsTaken, IsOver, serving_of}

@@ -14,7 +14,8 @@ use Rattle.co_object.proofs.Passing.{passing, one_if}
 use Rattle.co_object.proofs.QueueChanges.{QChange, inserts, removes, misses, scans, pops, finds_none, frees, pops_direct, finds_no_direct, frees_direct}
 use Rattle.co_object.proofs.PassageOnce.{stands, balanced}
 use Rattle.co_program.specs.declared.Script.{Script}
-use Rattle.co_program.specs.Actors.{Role, Client, Cpu, Interrupt}
+use Rattle.co_program.specs.declared.Role.{Role}
+use Rattle.co_program.specs.declared.Role.TheVariants.{Client, Cpu, Interrupt}
 use Rattle.co_program.specs.Action.{pop_of}
 use Rattle.co_core.specs.Step.{are_direct}
 use Rattle.co_core.proofs.Invariant.{IsLane, EntriesFit, serves_direct}

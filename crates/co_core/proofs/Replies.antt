@@ -18,7 +18,9 @@ use Rattle.co_object.specs.Queue.{Queue as TimerQueue, empty_queue}
 use Rattle.co_object.specs.Journal.{step as queue_step, next as queue_next, queue, queue_of, reply_of as queue_reply_of}
 use Rattle.co_program.specs.declared.Script.{Script}
 use Rattle.co_program.specs.Cursor.{Cursor}
-use Rattle.co_program.specs.Action.{Asked, Callout, Queue, Itself, spec_at}
+use Rattle.co_program.specs.Action.{spec_at}
+use Rattle.co_program.specs.declared.Asked.{Asked}
+use Rattle.co_program.specs.declared.Asked.TheVariants.{Callout, Queue, Itself}
 use Rattle.co_core.specs.World.{World, Timer, Cpu, open_world, with_cursor}
 use Rattle.co_core.specs.Step.{landed, are_direct, callout_answers, queue_answers, answered}
 use Rattle.co_core.specs.Laws.{HaveReplies, reached}

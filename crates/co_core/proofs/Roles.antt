@@ -6,7 +6,9 @@ use Rattle.co_object.specs.Actors.{Actors}
 use Rattle.co_object.specs.History.{server}
 use Rattle.co_object.specs.Scan.{is_direct}
 use Rattle.co_program.specs.declared.Script.{Script}
-use Rattle.co_program.specs.Actors.{Role, Client, Cpu, Interrupt, role_of, cpu_of, client_count, actor_count}
+use Rattle.co_program.specs.Actors.{role_of, cpu_of, client_count, actor_count}
+use Rattle.co_program.specs.declared.Role.{Role}
+use Rattle.co_program.specs.declared.Role.TheVariants.{Client, Cpu, Interrupt}
 use Rattle.co_program.specs.Action.{spec_at}
 use Rattle.co_core.specs.Step.{are_direct}
 use Rattle.co_core.specs.Laws.{actors_of}

@@ -24,10 +24,18 @@ use Rattle.co_lock.specs.Service.{hold_of}
 use Rattle.co_program.specs.declared.Script.{Script}
 use Rattle.co_program.specs.declared.Act.{Act}
 use Rattle.co_program.specs.declared.Act.TheVariants.{Now, Lock, ReadLock, Unlock, Reset, Ticks, Schedule, Stop, Drain, AsyncDrain, Active, Pending, Deactivate, Init, Retire, Tick}
-use Rattle.co_program.specs.Actors.{Task, Does, Soft, Role, Client, Cpu, Interrupt, softs, cpu_of, acts_at}
-use Rattle.co_program.specs.Stages.{Service, Stage, Ready, Waiting, Popping, Picking, Locking, Beginning, Unlocking, Firing, Releasing, Ending, Freeing, Drained}
-use Rattle.co_program.specs.Cursor.{Parcel, Cursor}
-use Rattle.co_program.specs.Action.{Action, Nothing, Silent, Take, Asks, Asked, Callout, Queue, Itself, spec_at, firing, draining, pop_of, free_of}
+use Rattle.co_program.specs.Actors.{softs, cpu_of, acts_at}
+use Rattle.co_program.specs.declared.Task.{Task}
+use Rattle.co_program.specs.declared.Task.TheVariants.{Does, Soft}
+use Rattle.co_program.specs.declared.Role.{Role}
+use Rattle.co_program.specs.declared.Role.TheVariants.{Client, Cpu, Interrupt}
+use Rattle.co_program.specs.Stages.{Stage, Ready, Waiting, Popping, Picking, Locking, Beginning, Unlocking, Firing, Releasing, Ending, Freeing, Drained}
+use Rattle.co_program.specs.declared.Service.{Service}
+use Rattle.co_program.specs.Cursor.{Cursor}
+use Rattle.co_program.specs.declared.Parcel.{Parcel}
+use Rattle.co_program.specs.Action.{Action, Nothing, Silent, Take, Asks, spec_at, firing, draining, pop_of, free_of}
+use Rattle.co_program.specs.declared.Asked.{Asked}
+use Rattle.co_program.specs.declared.Asked.TheVariants.{Callout, Queue, Itself}
 use Rattle.co_program.specs.Advance.{tail_of, act_over, called, advance_callout, drain_acts, picked, begun, ended, got, popped, freed, advance_queue}
 use Rattle.co_program.specs.Scripts.{IsScript, is_call}
 use Rattle.co_core.specs.Step.{are_direct}
@@ -247,12 +255,23 @@ first_task P (x ∷ xs) more task is h = let same : x ≡ task = cc in subst P s
 tail_is : (left more : List Task) (task : Task) → left ≡ task ∷ more → tail_of left ≡ more
 tail_is left more task is = ap tail_of is
 
+-- a Pop or a Free leads on alike in both lanes
+pub pop_goes : (s : Script) (role : Role) (c : Cursor) (cpu : ℕ) (reply : QReply) → advance_queue s c cpu (pop_of role) reply ≡ popped c reply c.stage
+pop_goes s (Client k) c cpu reply = refl
+pop_goes s (Cpu x) c cpu reply = refl
+pop_goes s (Interrupt x) c cpu reply = refl
+
+pub free_goes : (s : Script) (role : Role) (c : Cursor) (cpu : ℕ) (reply : QReply) → advance_queue s c cpu (free_of role) reply ≡ freed s c c.stage
+free_goes s (Client k) c cpu reply = refl
+free_goes s (Cpu x) c cpu reply = refl
+free_goes s (Interrupt x) c cpu reply = refl
+
 module _ (s : Script) (ok : IsScript s) (role : Role) (left : List Task) (number now : ℕ) (held : Option Held) (removed : Option ℕ) (parcel : Option Parcel) where
   abbrev at : Stage → Cursor
   at stage = place left number now held stage removed parcel
 
   pub fits_silent : (stage : Stage) (to : Cursor) → IsAction s role (at stage) stage (Silent to) → FitsRole s role left held stage → Fits s role to
-  fits_silent stage to (drops is) fits = record { tasks = tt; soft = subst (AreSoft s role) is fits.soft; hold = none_ready s role; acts = tt; draining = tt; lane = tt }
+  fits_silent stage to (drops is some) fits = record { tasks = tt; soft = subst (AreSoft s role) is fits.soft; hold = none_ready s role; acts = tt; draining = tt; lane = tt }
   fits_silent stage to (passes task more time to_hold is own) fits =
       let client : (c : ℕ) × (role ≡ Client c) = clients_act s role task own (first_task (IsTaskOf s role) left more task is fits.tasks) in
       subst (λ (xs : List Task). FitsRole s role xs to_hold Ready) (tail_is left more task is) (fits_ready s role left held to_hold stage (client_ready s role to_hold client.0 client.1) fits)
@@ -374,18 +393,10 @@ module _ (s : Script) (ok : IsScript s) (role : Role) (left : List Task) (number
   ready_none server h = server_hold s role held Ready server h
 
   pub pop_advance : (c : Cursor) (cpu : ℕ) (reply : QReply) → IsServer role → advance_queue s c cpu (pop_of role) reply ≡ popped c reply c.stage
-  pop_advance c cpu reply server = go role server where
-    go : (r : Role) → IsServer r → advance_queue s c cpu (pop_of r) reply ≡ popped c reply c.stage
-    go (Client k) h = absurd h
-    go (Cpu x) h = refl
-    go (Interrupt x) h = refl
+  pop_advance c cpu reply server = pop_goes s role c cpu reply
 
   pub free_advance : (c : Cursor) (cpu : ℕ) (reply : QReply) → advance_queue s c cpu (free_of role) reply ≡ freed s c c.stage
-  free_advance c cpu reply = go role where
-    go : (r : Role) → advance_queue s c cpu (free_of r) reply ≡ freed s c c.stage
-    go (Client k) = refl
-    go (Cpu x) = refl
-    go (Interrupt x) = refl
+  free_advance c cpu reply = free_goes s role c cpu reply
 
   none_calls : (drain : Option ℕ) → AllByRecursion (λ act. is_call act ≡ true) (drain_acts s drain)
   none_calls None = tt

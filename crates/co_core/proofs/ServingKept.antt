@@ -9,8 +9,11 @@ use Rattle.co_object.specs.History.{server}
 use Rattle.co_object.specs.Scan.{is_direct}
 use Rattle.co_lock.specs.declared.held.Held.{Held}
 use Rattle.co_program.specs.declared.Script.{Script}
-use Rattle.co_program.specs.Actors.{Task, Role, role_of, cpu_of, actor_count}
-use Rattle.co_program.specs.Stages.{Service, Stage, Ready, Waiting, Popping, Picking, Locking, Beginning, Unlocking, Firing, Releasing, Ending, Freeing, Drained}
+use Rattle.co_program.specs.Actors.{role_of, cpu_of, actor_count}
+use Rattle.co_program.specs.declared.Task.{Task}
+use Rattle.co_program.specs.declared.Role.{Role}
+use Rattle.co_program.specs.Stages.{Stage, Ready, Waiting, Popping, Picking, Locking, Beginning, Unlocking, Firing, Releasing, Ending, Freeing, Drained}
+use Rattle.co_program.specs.declared.Service.{Service}
 use Rattle.co_program.specs.Cursor.{Cursor}
 use Rattle.co_program.specs.Action.{spec_at}
 use Rattle.co_core.specs.Step.{are_direct}
@@ -157,7 +160,7 @@ module _ (s : Script) (states : ℕ → State) (places : ℕ → Cursor) (servin
       served = λ j cpu is. served_at j cpu (decide j i) is;
     } where
       same_state : (j : ℕ) → (j ≡ i → ⊥) → GoesOn (states j).run (after j).run
-      same_state j other = subst (λ (x : State). GoesOn (states j).run x.run) (sym (here.else j other)) (record { idle = refl; free = λ cpu. refl; cpu = refl; taken = λ n cpu h. h; running = λ n cpu h. h; over = λ n cpu h. h })
+      same_state j other = subst (λ (x : State). GoesOn (states j).run x.run) (sym (here.else j other)) (record { idle = refl; number = refl; free = λ cpu. refl; cpu = refl; taken = λ n cpu h. h; running = λ n cpu h. h; over = λ n cpu h. h })
 
       At : ℕ → ℕ → ℕ → Type 0
       At j cpu b = (v : Service) × (service_of (places' b).stage ≡ Some v) × (v.i ≡ j) × (b < actor_count s)

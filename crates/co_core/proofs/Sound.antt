@@ -19,10 +19,16 @@ use Rattle.co_object.specs.Queue.{Queue as TimerQueue}
 use Rattle.co_object.proofs.PassageOnce.{stands}
 use Rattle.co_lock.specs.declared.held.Held.{Held}
 use Rattle.co_program.specs.declared.Script.{Script}
-use Rattle.co_program.specs.Actors.{Role, Client, Cpu, Interrupt, role_of, cpu_of, acts_at, actor_count}
-use Rattle.co_program.specs.Stages.{Service, Stage, Waiting, Popping, Picking, Locking, Beginning, Unlocking, Firing, Releasing, Ending, Freeing, Drained}
-use Rattle.co_program.specs.Cursor.{Parcel, Cursor}
-use Rattle.co_program.specs.Action.{Action, Nothing, Silent, Take, Asks, Asked, Callout, Queue, Itself, action_for, action_with, spec_at}
+use Rattle.co_program.specs.Actors.{role_of, cpu_of, acts_at, actor_count}
+use Rattle.co_program.specs.declared.Role.{Role}
+use Rattle.co_program.specs.declared.Role.TheVariants.{Client, Cpu, Interrupt}
+use Rattle.co_program.specs.Stages.{Stage, Waiting, Popping, Picking, Locking, Beginning, Unlocking, Firing, Releasing, Ending, Freeing, Drained}
+use Rattle.co_program.specs.declared.Service.{Service}
+use Rattle.co_program.specs.Cursor.{Cursor}
+use Rattle.co_program.specs.declared.Parcel.{Parcel}
+use Rattle.co_program.specs.Action.{Action, Nothing, Silent, Take, Asks, action_for, action_with, spec_at}
+use Rattle.co_program.specs.declared.Asked.{Asked}
+use Rattle.co_program.specs.declared.Asked.TheVariants.{Callout, Queue, Itself}
 use Rattle.co_program.specs.Advance.{act_over, called, advance_callout, due_of_call}
 use Rattle.co_program.specs.Scripts.{IsScript}
 use Rattle.co_core.specs.World.{World, with_cursor}
@@ -48,7 +54,8 @@ use Rattle.co_object.specs.declared.QEntry.{QEntry}
 use Rattle.co_object.specs.declared.Next.{Next}
 use Rattle.co_object.specs.Queue.{without}
 use Rattle.co_object.proofs.QueueChanges.{QChange, removes}
-use Rattle.co_program.specs.Actors.{Task, Does, Soft}
+use Rattle.co_program.specs.declared.Task.{Task}
+use Rattle.co_program.specs.declared.Task.TheVariants.{Does, Soft}
 use Rattle.co_program.specs.declared.Act.TheVariants.{Tick}
 use Rattle.co_program.specs.declared.Act.{Act}
 use Rattle.co_program.specs.Action.{pop_of, free_of, draining}
@@ -117,9 +124,10 @@ use Rattle.co_core.specs.declared.turn.Why.TheVariants.{Moving, Serviced}
 use Rattle.co_core.proofs.Actions.{drops, passes, unlocks, releases, grabs, enters as enters_lock}
 use Rattle.co_core.proofs.HoldsKept.{over_parcel}
 use Rattle.co_core.proofs.Sections.{rest_good}
+use Rattle.co_core.proofs.DueSteps.{removed_due}
 
 silent_between : (s : Script) (role : Role) (c : Cursor) (stage : Stage) (to : Cursor) → IsAction s role c stage (Silent to) → IsBetween to.stage
-silent_between s role c stage to (drops is) = tt
+silent_between s role c stage to (drops is some) = tt
 silent_between s role c stage to (passes task left now held is own) = tt
 silent_between s role c stage to (unlocks v acts) = firing_between v None acts
 silent_between s role c stage to (releases v) = tt
@@ -183,13 +191,6 @@ module _ (s : Script) (ok : IsScript s) (w : World) (steady : IsSteady s w) (a :
         inl (ap (λ (x : Cursor). x.parcel) (note_at s (enters w i o.0 made) a (is_some (off o.0)) (note_of w i made)).here ∙ run_parcel s role c.left c.act c.now c.hold None c.parcel c.stage act i op (is_some (off o.0)) o.1 view.1 ∙ view.0)
 
   module _ (act i : ℕ) (op : CallOp) (is : action_for s a c ≡ Asks act (Callout i (Call op))) (still : is_moving s w i ≡ false) where
-    removed_due : (o : Option ℕ) → action_for s a (places_of (removed_from s w a act i o) a) ≡ Asks act (Callout i (Call op))
-    removed_due None = is
-    removed_due (Some cpu) =
-        let gone : TimerQueue × QReply = journal.remove (queues_of w cpu) i in
-        let made : QEntry = record { actor = a; act = act; op = Remove i; reply = gone.1 } in
-        ap (action_for s a) (note_at s (enters_journal w cpu gone.0 made) a false (note_of_cpu w cpu made)).here ∙ due_removed s a c (Some cpu) act (Callout i (Call op)) is
-
     call_place : (x : World) → action_for s a (places_of x a) ≡ Asks act (Callout i (Call op)) → IsBetween (places_of (answered s x a act (Callout i (Call op))) a).stage
     call_place x due =
         let d : Cursor = places_of x a in
@@ -201,7 +202,7 @@ module _ (s : Script) (ok : IsScript s) (w : World) (steady : IsSteady s w) (a :
     call_first : Ready (asked_whole s w a act (Callout i (Call op)))
     call_first = (
       call_good s ok w steady.good a may act i op is (unmoved_by s ok w steady.good a may i steady.between still),
-      inr (call_place (removed_from s w a act i (off_of (call (states_of w i) op).1)) (removed_due (off_of (call (states_of w i) op).1))),
+      inr (call_place (removed_from s w a act i (off_of (call (states_of w i) op).1)) (removed_due s w a act i op (off_of (call (states_of w i) op).1) is)),
     )
 
   asked_first : (act : ℕ) (asked : Asked) → action_for s a c ≡ Asks act asked → waits_for s w c (Asks act asked) ≡ None → Ready (asked_whole s w a act asked)

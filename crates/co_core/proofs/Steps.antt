@@ -8,7 +8,9 @@ use Rattle.co_object.specs.Group.{off_of}
 use Rattle.co_object.specs.Callout.{call}
 use Rattle.co_program.specs.declared.Script.{Script}
 use Rattle.co_program.specs.Cursor.{Cursor}
-use Rattle.co_program.specs.Action.{Action, Nothing, Silent, Take, Asks, Asked, Callout, Queue, Itself, action_for}
+use Rattle.co_program.specs.Action.{Action, Nothing, Silent, Take, Asks, action_for}
+use Rattle.co_program.specs.declared.Asked.{Asked}
+use Rattle.co_program.specs.declared.Asked.TheVariants.{Callout, Queue, Itself}
 use Rattle.co_core.specs.World.{World, with_cursor}
 use Rattle.co_core.specs.Blocked.{blocked}
 use Rattle.co_core.specs.Step.{answered, removed_from, removed_first, asked_whole, makes_action, goes_on, is_in_section, stepped, step}

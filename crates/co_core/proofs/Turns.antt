@@ -12,10 +12,16 @@ use Rattle.co_lock.specs.declared.held.Held.{Held}
 use Rattle.co_program.specs.declared.Script.{Script}
 use Rattle.co_program.specs.declared.Act.{Act}
 use Rattle.co_program.specs.declared.Act.TheVariants.{Drain}
-use Rattle.co_program.specs.Actors.{Task, Does, Soft, Role, Client, Cpu, Interrupt}
-use Rattle.co_program.specs.Stages.{Service, Stage, Ready, Waiting, Popping, Picking, Locking, Beginning, Unlocking, Firing, Releasing, Ending, Freeing, Drained}
-use Rattle.co_program.specs.Cursor.{Parcel, Cursor}
-use Rattle.co_program.specs.Action.{Action, Silent, Take, Asks, Callout, Itself, firing, draining}
+use Rattle.co_program.specs.declared.Task.{Task}
+use Rattle.co_program.specs.declared.Task.TheVariants.{Does, Soft}
+use Rattle.co_program.specs.declared.Role.{Role}
+use Rattle.co_program.specs.declared.Role.TheVariants.{Client, Cpu, Interrupt}
+use Rattle.co_program.specs.Stages.{Stage, Ready, Waiting, Popping, Picking, Locking, Beginning, Unlocking, Firing, Releasing, Ending, Freeing, Drained}
+use Rattle.co_program.specs.declared.Service.{Service}
+use Rattle.co_program.specs.Cursor.{Cursor}
+use Rattle.co_program.specs.declared.Parcel.{Parcel}
+use Rattle.co_program.specs.Action.{Action, Silent, Take, Asks, firing, draining}
+use Rattle.co_program.specs.declared.Asked.TheVariants.{Callout, Itself}
 use Rattle.co_program.specs.Advance.{act_over, tail_of}
 use Rattle.co_core.proofs.Invariant.{RunFits, IsRunning, IsOver, HoldFits, FitsRole, IsTaskOf, HasActs, service_of, has_popped, under_way, in_stage}
 use Rattle.co_core.proofs.Actions.{IsAction, drops, passes, grabs, tells, asks, drains, waits, waits_told, enters, unlocks, fires, fires_told, releases, serves, serves_told, is_clients}
@@ -83,7 +89,7 @@ module _ (s : Script) (role : Role) (left : List Task) (number now : ℕ) (held 
   ready_next c left' client = at_rest role left left' Ready Ready refl refl refl refl (λ states cpu. tt) (λ x is. no_interrupt role c x client is) (λ cpu. (refl, refl))
 
   pub turn_silent : (stage : Stage) (to : Cursor) → IsAction s role (at stage) stage (Silent to) → FitsRole s role left held stage → SameTurn role left stage to.left to.stage × (to.parcel ≡ parcel)
-  turn_silent stage to (drops is) fits = (at_rest role left [] Ready Ready refl refl refl refl (λ states cpu. tt) (λ x e. (sym (ap length is), refl)) (λ cpu. (refl, refl)), refl)
+  turn_silent stage to (drops is some) fits = (at_rest role left [] Ready Ready refl refl refl refl (λ states cpu. tt) (λ x e. (sym (ap length is), refl)) (λ cpu. (refl, refl)), refl)
   turn_silent stage to (passes task more time hold is own) fits = let client = client_of stage task more is own fits in (ready_next client.0 more client.1, refl)
   turn_silent stage to (unlocks v acts) fits = (same_running role left (Unlocking v acts) (firing v None acts) v refl refl (λ states cpu h. h) refl (λ cpu. refl) (firing_runs v None acts), refl)
   turn_silent stage to (releases v) fits = (record { service = refl; popped = refl; runs = λ states cpu h. h; ticks = λ x is. (refl, refl); hands = λ cpu. (refl, refl) }, refl)

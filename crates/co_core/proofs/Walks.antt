@@ -1,22 +1,24 @@
--- Walks: one result, and an end wherever something falls with every step.
-use Rattle.std.proofs.Common.{◌≡◌, ℕ, zero, suc, ◌+◌, ◌≤◌, ◌<◌, ◌⊎◌, inl, inr, Bool, true, false, cond, List, [], ◌∷◌, ◌++◌, refl, sym, ap, subst, ◌∙◌, arith, Option, Some, None}
-use Rattle.std.specs.Prelude.{⊤, is_some}
+-- Walks: one result, and an end, since every step falls.
+use Rattle.std.proofs.Common.{◌≡◌, ℕ, zero, suc, ◌+◌, ◌≤◌, ◌<◌, ◌⊎◌, inl, inr, cond, List, [], ◌∷◌, ◌++◌, refl, sym, ap, subst, ◌∙◌, arith, Option, Some, None}
+use Rattle.std.specs.Prelude.{is_some}
 use Rattle.std.specs.List.{AllByRecursion, range_with_len}
-use Rattle.co_object.specs.declared.Note.{Note}
 use Rattle.co_program.specs.declared.Script.{Script}
 use Rattle.co_program.specs.Actors.{actor_count}
 use Rattle.co_program.specs.Action.{Action, Nothing, Silent, Take, Asks, action_for}
 use Rattle.co_core.specs.World.{World, all_actors, open_world, lists_of}
 use Rattle.co_core.specs.Blocked.{blocked, waits_for}
 use Rattle.co_core.specs.Step.{step, stepped}
-use Rattle.co_core.specs.Walk.{run, round, rounds, HasFinished, AllFinished, IsWalk}
+use Rattle.co_core.specs.Walk.{run, round, rounds, HasFinished, AllFinished}
 use Rattle.co_program.specs.Scripts.{IsScript}
 use Rattle.co_core.specs.declared.turn.Why.{Why}
-use Rattle.co_core.specs.Laws.{Falls, NeverStuck, IsSchedule, reached, WalksAgree, WalksEnd}
-use Rattle.co_core.proofs.Lists.{at_choice}
+use Rattle.co_core.specs.Measure.{measure}
+use Rattle.co_core.specs.Laws.{Falls, IsIdle, NeverStuck, IsSchedule, reached, EveryStepFalls, IdleStepsStay, RoundsFall, WalksAgree, WalksEnd}
 use Rattle.co_core.proofs.Moves.{decide}
 use Rattle.co_core.proofs.Answers.{above}
 use Rattle.co_core.proofs.Schedules.{never_stuck_all}
+use Rattle.co_core.proofs.Opening.{reached_steady}
+use Rattle.co_core.proofs.Named.{reached_named}
+use Rattle.co_core.proofs.StepFalls.{step_falls}
 
 -- ---- the actors of a round
 
@@ -80,7 +82,18 @@ one_more : (P : ℕ → Type 0) (xs : List ℕ) (x : ℕ) → AllByRecursion P x
 one_more P [] x h p = (p, tt)
 one_more P (y ∷ xs) x h p = (h.0, one_more P xs x h.1 p)
 
-module _ (s : Script) (ok : IsScript s) (measure : World → ℕ) (falls : (schedule : List ℕ) → IsSchedule s schedule → Falls s measure (reached s schedule)) where
+-- a blocked step changes nothing
+blocked_step : (s : Script) (w : World) (a : ℕ) (why : Why) → blocked s w a ≡ Some why → step s w a ≡ w
+blocked_step s w a why is = ap (λ (o : Option Why). cond (is_some o) w (stepped s w a (action_for s a (w.actors a).cursor))) is
+
+pub idle_steps_stay : IdleStepsStay
+idle_steps_stay s w a (inl finished) = finished_step s w a finished
+idle_steps_stay s w a (inr waits) = blocked_step s w a waits.0 waits.1
+
+pub every_step_falls : EveryStepFalls
+every_step_falls s ok schedule may a within unfinished free = step_falls s ok (reached s schedule) (reached_steady s ok schedule may) (reached_named s ok schedule) a within unfinished free
+
+module _ (s : Script) (ok : IsScript s) where
   -- some schedule reaches the world
   abbrev IsReached : World → Type 0
   IsReached w = (schedule : List ℕ) × IsSchedule s schedule × (w ≡ reached s schedule)
@@ -88,71 +101,66 @@ module _ (s : Script) (ok : IsScript s) (measure : World → ℕ) (falls : (sche
   reached_more : (w : World) (a : ℕ) → a < actor_count s → IsReached w → IsReached (step s w a)
   reached_more w a may h = (h.0 ++ a ∷ [], one_more (λ b. b < actor_count s) h.0 a h.1 may, ap (λ (x : World). step s x a) h.2 ∙ sym (run_more s (open_world s) h.0 a))
 
-  -- nothing to do now
-  abbrev Idle : World → ℕ → Type 0
-  Idle w a = HasFinished s w a ⊎ (blocked s w a ≡ None → ⊥)
+  falls : (w : World) → IsReached w → Falls s w
+  falls w h = subst (Falls s) (sym h.2) (every_step_falls s ok h.0 h.1)
 
-  step_falls : (w : World) (a : ℕ) → a < actor_count s → IsReached w → ((step s w a ≡ w) × Idle w a) ⊎ (measure (step s w a) < measure w)
-  step_falls w a may h = go (blocked s w a) refl (action_for s a (w.actors a).cursor) refl where
-    unblocked : blocked s w a ≡ None → (HasFinished s w a → ⊥) → measure (step s w a) < measure w
-    unblocked free unfinished = subst (λ (x : World). Falls s measure x) (sym h.2) (falls h.0 h.1) a may unfinished free
-
-    waits : (o : Option Why) → blocked s w a ≡ o → is_some o ≡ true → (step s w a ≡ w) × Idle w a
-    waits None e some = cc
-    waits (Some why) e some = (ap (λ (o : Option Why). cond (is_some o) w (stepped s w a (action_for s a (w.actors a).cursor))) e, inr (λ free. (let clash : Some why ≡ None = sym e ∙ free in cc)))
-
-    go : (o : Option Why) → blocked s w a ≡ o → (due : Action) → action_for s a (w.actors a).cursor ≡ due → ((step s w a ≡ w) × Idle w a) ⊎ (measure (step s w a) < measure w)
-    go (Some why) e due is = inl (waits (Some why) e refl)
-    go None e Nothing is = inl (finished_step s w a is, inl is)
-    go None e (Silent to) is = inr (unblocked e (λ finished. (let clash : Silent to ≡ Nothing = sym is ∙ finished in cc)))
-    go None e (Take held to) is = inr (unblocked e (λ finished. (let clash : Take held to ≡ Nothing = sym is ∙ finished in cc)))
-    go None e (Asks act asked) is = inr (unblocked e (λ finished. (let clash : Asks act asked ≡ Nothing = sym is ∙ finished in cc)))
+  step_or_idle : (w : World) (a : ℕ) → a < actor_count s → IsReached w → IsIdle s w a ⊎ (measure s (step s w a) < measure s w)
+  step_or_idle w a may h = go (blocked s w a) refl (action_for s a (w.actors a).cursor) refl where
+    go : (o : Option Why) → blocked s w a ≡ o → (due : Action) → action_for s a (w.actors a).cursor ≡ due → IsIdle s w a ⊎ (measure s (step s w a) < measure s w)
+    go (Some why) e due is = inl (inr (why, e))
+    go None e Nothing is = inl (inl is)
+    go None e (Silent to) is = inr (falls w h a may (λ finished. (let clash : Silent to ≡ Nothing = sym is ∙ finished in cc)) e)
+    go None e (Take held to) is = inr (falls w h a may (λ finished. (let clash : Take held to ≡ Nothing = sym is ∙ finished in cc)) e)
+    go None e (Asks act asked) is = inr (falls w h a may (λ finished. (let clash : Asks act asked ≡ Nothing = sym is ∙ finished in cc)) e)
 
   -- a schedule falls, or nobody in it had anything to do
-  run_falls : (schedule : List ℕ) (w : World) → IsSchedule s schedule → IsReached w → IsReached (run s w schedule) × (((run s w schedule ≡ w) × AllByRecursion (Idle w) schedule) ⊎ (measure (run s w schedule) < measure w))
+  run_falls : (schedule : List ℕ) (w : World) → IsSchedule s schedule → IsReached w → IsReached (run s w schedule) × (((run s w schedule ≡ w) × AllByRecursion (IsIdle s w) schedule) ⊎ (measure s (run s w schedule) < measure s w))
   run_falls [] w may h = (h, inl (refl, tt))
-  run_falls (a ∷ schedule) w may h = (let rest = run_falls schedule (step s w a) may.1 (reached_more w a may.0 h) in (rest.0, go (step_falls w a may.0 h) rest.1)) where
-    go : ((step s w a ≡ w) × Idle w a) ⊎ (measure (step s w a) < measure w) →
-        ((run s (step s w a) schedule ≡ step s w a) × AllByRecursion (Idle (step s w a)) schedule) ⊎ (measure (run s (step s w a) schedule) < measure (step s w a)) →
-        ((run s (step s w a) schedule ≡ w) × (Idle w a × AllByRecursion (Idle w) schedule)) ⊎ (measure (run s (step s w a) schedule) < measure w)
-    go (inl same) (inl all) = inl (all.0 ∙ same.0, (same.1, subst (λ (x : World). AllByRecursion (Idle x) schedule) same.0 all.1))
-    go (inl same) (inr fell) = inr (subst (λ (n : ℕ). measure (run s (step s w a) schedule) < n) (ap measure same.0) fell)
-    go (inr fell) (inl all) = inr (subst (λ (n : ℕ). n < measure w) (sym (ap measure all.0)) fell)
+  run_falls (a ∷ schedule) w may h = (let rest = run_falls schedule (step s w a) may.1 (reached_more w a may.0 h) in (rest.0, go (step_or_idle w a may.0 h) rest.1)) where
+    go : IsIdle s w a ⊎ (measure s (step s w a) < measure s w) →
+        ((run s (step s w a) schedule ≡ step s w a) × AllByRecursion (IsIdle s (step s w a)) schedule) ⊎ (measure s (run s (step s w a) schedule) < measure s (step s w a)) →
+        ((run s (step s w a) schedule ≡ w) × (IsIdle s w a × AllByRecursion (IsIdle s w) schedule)) ⊎ (measure s (run s (step s w a) schedule) < measure s w)
+    go (inl idle) (inl all) = let same : step s w a ≡ w = idle_steps_stay s w a idle in inl (all.0 ∙ same, (idle, subst (λ (x : World). AllByRecursion (IsIdle s x) schedule) same all.1))
+    go (inl idle) (inr fell) = inr (subst (λ (n : ℕ). measure s (run s (step s w a) schedule) < n) (ap (measure s) (idle_steps_stay s w a idle)) fell)
+    go (inr fell) (inl all) = inr (subst (λ (n : ℕ). n < measure s w) (sym (ap (measure s) all.0)) fell)
     go (inr fell) (inr more) = inr (omega arith)
 
   finished_free : (w : World) (a : ℕ) → HasFinished s w a → blocked s w a ≡ None
   finished_free w a is = ap (waits_for s w (w.actors a).cursor) is
 
-  round_falls : (w : World) → IsReached w → IsReached (round s w) × (AllFinished s w ⊎ (measure (round s w) < measure w))
+  round_falls : (w : World) → IsReached w → IsReached (round s w) × (AllFinished s w ⊎ (measure s (round s w) < measure s w))
   round_falls w h =
-      let falls_or : IsReached (round s w) × (((round s w ≡ w) × AllByRecursion (Idle w) (all_actors s)) ⊎ (measure (round s w) < measure w)) =
+      let falls_or : IsReached (round s w) × (((round s w ≡ w) × AllByRecursion (IsIdle s w) (all_actors s)) ⊎ (measure s (round s w) < measure s w)) =
       run_falls (all_actors s) w (all_range (λ a. a < actor_count s) 0 (actor_count s) (λ a within. omega arith)) h in
       (falls_or.0, go falls_or.1) where
-        idle_at : AllByRecursion (Idle w) (all_actors s) → (a : ℕ) → a < actor_count s → Idle w a
-        idle_at all a within = at_range (Idle w) 0 (actor_count s) a all (omega arith) (omega arith)
+        idle_at : AllByRecursion (IsIdle s w) (all_actors s) → (a : ℕ) → a < actor_count s → IsIdle s w a
+        idle_at all a within = at_range (IsIdle s w) 0 (actor_count s) a all (omega arith) (omega arith)
 
-        finished_at : AllByRecursion (Idle w) (all_actors s) → (a : ℕ) → a < actor_count s → Idle w a → HasFinished s w a
+        finished_at : AllByRecursion (IsIdle s w) (all_actors s) → (a : ℕ) → a < actor_count s → IsIdle s w a → HasFinished s w a
         finished_at all a within (inl finished) = finished
         finished_at all a within (inr waits) =
-            let other = subst (λ (x : World). NeverStuck s x) (sym h.2) (never_stuck_all s ok h.0 h.1) a within (λ finished. waits (finished_free w a finished)) in
+            let other = subst (NeverStuck s) (sym h.2) (never_stuck_all s ok h.0 h.1) a within (λ finished. (let clash : Some waits.0 ≡ None = sym waits.1 ∙ finished_free w a finished in cc)) in
             absurd (both other.0 (idle_at all other.0 other.1) other.2 other.3) where
-              both : (b : ℕ) → Idle w b → (HasFinished s w b → ⊥) → blocked s w b ≡ None → ⊥
+              both : (b : ℕ) → IsIdle s w b → (HasFinished s w b → ⊥) → blocked s w b ≡ None → ⊥
               both b (inl finished) unfinished free = unfinished finished
-              both b (inr blocks) unfinished free = blocks free
+              both b (inr blocks) unfinished free = let clash : Some blocks.0 ≡ None = sym blocks.1 ∙ free in cc
 
-        go : ((round s w ≡ w) × AllByRecursion (Idle w) (all_actors s)) ⊎ (measure (round s w) < measure w) → AllFinished s w ⊎ (measure (round s w) < measure w)
+        go : ((round s w ≡ w) × AllByRecursion (IsIdle s w) (all_actors s)) ⊎ (measure s (round s w) < measure s w) → AllFinished s w ⊎ (measure s (round s w) < measure s w)
         go (inl all) = inl (λ a within. finished_at all.1 a within (idle_at all.1 a within))
         go (inr fell) = inr fell
 
-  rounds_end : (fuel : ℕ) (w : World) → measure w < fuel → IsReached w → (n : ℕ) × AllFinished s (rounds s w n)
+  rounds_end : (fuel : ℕ) (w : World) → measure s w < fuel → IsReached w → (n : ℕ) × AllFinished s (rounds s w n)
   rounds_end zero w low h = absurd (omega arith)
   rounds_end (suc fuel) w low h = let falls_or = round_falls w h in go falls_or.1 (λ fell. rounds_end fuel (round s w) (omega (arith, fell, low)) falls_or.0) where
-    go : AllFinished s w ⊎ (measure (round s w) < measure w) → (measure (round s w) < measure w → (n : ℕ) × AllFinished s (rounds s (round s w) n)) → (n : ℕ) × AllFinished s (rounds s w n)
+    go : AllFinished s w ⊎ (measure s (round s w) < measure s w) → (measure s (round s w) < measure s w → (n : ℕ) × AllFinished s (rounds s (round s w) n)) → (n : ℕ) × AllFinished s (rounds s w n)
     go (inl all) rest = (0, all)
     go (inr fell) rest = let end = rest fell in (suc end.0, end.1)
 
+pub rounds_fall : RoundsFall
+rounds_fall s ok schedule may = (round_falls s ok (reached s schedule) (schedule, may, refl)).1
+
 pub walks_end : WalksEnd
-walks_end s ok may measure falls =
+walks_end s ok =
     let w : World = run s (open_world s) s.turns in
-    let end : (n : ℕ) × AllFinished s (rounds s w n) = rounds_end s ok measure falls (suc (measure w)) w (omega arith) (s.turns, may, refl) in
+    let end : (n : ℕ) × AllFinished s (rounds s w n) = rounds_end s ok (suc (measure s w)) w (omega arith) (s.turns, ok.turns, refl) in
     (lists_of s (rounds s w end.0), record { number = end.0; finished = end.1; written = refl })

@@ -6,8 +6,10 @@ use Rattle.co_object.specs.Drain.{serviced}
 use Rattle.co_lock.specs.declared.Held.{Held}
 use Rattle.co_program.specs.declared.Script.{Script}
 use Rattle.co_program.specs.Stages.{Stage, Waiting}
-use Rattle.co_program.specs.Cursor.{Parcel, Cursor}
-use Rattle.co_program.specs.Action.{Action, Nothing, Silent, Take, Asks, Callout, Queue, Itself, action_for, scans_first}
+use Rattle.co_program.specs.Cursor.{Cursor}
+use Rattle.co_program.specs.declared.Parcel.{Parcel}
+use Rattle.co_program.specs.Action.{Action, Nothing, Silent, Take, Asks, action_for, scans_first}
+use Rattle.co_program.specs.declared.Asked.TheVariants.{Callout, Queue, Itself}
 use Rattle.co_core.specs.declared.turn.Why.{Why}
 use Rattle.co_core.specs.declared.turn.Why.TheVariants.{Lock, Moving, Serviced, Tick}
 use Rattle.co_program.specs.Follows.{scan_count}

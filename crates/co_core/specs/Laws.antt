@@ -1,5 +1,5 @@
 -- What holds of every schedule of a script's actors.
-use Rattle.std.specs.Prelude.{◌≡◌, ℕ, ◌<◌, List, length, Some, None}
+use Rattle.std.specs.Prelude.{◌≡◌, ℕ, ◌^◌, ◌<◌, ◌⊎◌, List, length, Some, None}
 use Rattle.std.specs.List.{AllByRecursion}
 use Rattle.co_object.specs.declared.Op.TheVariants.{Run}
 use Rattle.co_object.specs.declared.RunOp.TheVariants.{Begin}
@@ -15,12 +15,15 @@ use Rattle.co_lock.specs.declared.Held.{Held}
 use Rattle.co_lock.specs.Service.{hold_of}
 use Rattle.co_program.specs.declared.Script.{Script}
 use Rattle.co_program.specs.Actors.{actor_count, client_count}
-use Rattle.co_program.specs.Action.{Asks, Callout, action_for, spec_at}
+use Rattle.co_program.specs.Action.{Asks, action_for, spec_at}
+use Rattle.co_program.specs.declared.Asked.TheVariants.{Callout}
 use Rattle.co_program.specs.Follows.{Follows, Histories}
 use Rattle.co_core.specs.World.{World, open_world, lists_of, histories_of}
 use Rattle.co_core.specs.Blocked.{blocked}
 use Rattle.co_core.specs.Step.{step, are_direct}
-use Rattle.co_core.specs.Walk.{run, HasFinished, IsWalk}
+use Rattle.co_core.specs.Walk.{run, round, HasFinished, AllFinished, IsWalk}
+use Rattle.co_core.specs.Measure.{measure}
+use Rattle.co_core.specs.declared.turn.Why.{Why}
 use Rattle.co_object.specs.declared.Note.{Note}
 use Rattle.co_program.specs.Scripts.{IsScript}
 
@@ -75,8 +78,12 @@ NeverStuck s w =
     (b : ℕ) × (b < actor_count s) × (¬ HasFinished s w b) × (blocked s w b ≡ None)
 
 -- what is left to do falls with every step that is made
-abbrev pub Falls : Script → (World → ℕ) → World → Type 0
-Falls s measure w = (a : ℕ) → a < actor_count s → ¬ HasFinished s w a → blocked s w a ≡ None → measure (step s w a) < measure w
+abbrev pub Falls : Script → World → Type 0
+Falls s w = (a : ℕ) → a < actor_count s → ¬ HasFinished s w a → blocked s w a ≡ None → measure s (step s w a) < measure s w
+
+-- the actor has nothing to do now
+abbrev pub IsIdle : Script → World → ℕ → Type 0
+IsIdle s w a = HasFinished s w a ⊎ ((why : Why) × (blocked s w a ≡ Some why))
 
 -- ---- the laws of every schedule
 
@@ -96,11 +103,28 @@ EachFinishedActorFollows = (s : Script) → IsScript s → (schedule : List ℕ)
 abbrev pub NoScheduleIsStuck : Type 0
 NoScheduleIsStuck = (s : Script) → IsScript s → (schedule : List ℕ) → IsSchedule s schedule → NeverStuck s (reached s schedule)
 
+-- what is left to do falls with every step but those of actors that have finished or are blocked
+abbrev pub EveryStepFalls : Type 0
+EveryStepFalls = (s : Script) → IsScript s → (schedule : List ℕ) → IsSchedule s schedule → Falls s (reached s schedule)
+
+-- a step of an actor that has finished or is blocked changes nothing
+abbrev pub IdleStepsStay : Type 0
+IdleStepsStay = (s : Script) (w : World) (a : ℕ) → IsIdle s w a → step s w a ≡ w
+
+-- what is left to do falls with every round until all have finished
+abbrev pub RoundsFall : Type 0
+RoundsFall =
+    (s : Script) → IsScript s → (schedule : List ℕ) → IsSchedule s schedule →
+    AllFinished s (reached s schedule) ⊎ (measure s (round s (reached s schedule)) < measure s (reached s schedule))
+
+-- what is left to do at the opening is below 2 ^ 64
+abbrev pub OpeningFits : Type 0
+OpeningFits = (s : Script) → IsScript s → measure s (open_world s) < 2 ^ 64
+
 -- a script's walk has one result
 abbrev pub WalksAgree : Type 0
 WalksAgree = (s : Script) (lists others : List (List Note)) → IsWalk s lists → IsWalk s others → lists ≡ others
 
--- round robin comes to an end wherever something falls with every step
+-- round robin comes to an end
 abbrev pub WalksEnd : Type 0
-WalksEnd = (s : Script) → IsScript s → IsSchedule s s.turns → (measure : World → ℕ) → ((schedule : List ℕ) → IsSchedule s schedule → Falls s measure (reached s schedule)) →
-    (lists : List (List Note)) × IsWalk s lists
+WalksEnd = (s : Script) → IsScript s → (lists : List (List Note)) × IsWalk s lists

@@ -21,8 +21,11 @@ use Rattle.co_object.specs.Lists.{notes_of}
 use Rattle.co_object.specs.Journal.{step as queue_step}
 use Rattle.co_program.specs.declared.Script.{Script}
 use Rattle.co_program.specs.Stages.{Stage, Picking, Freeing}
-use Rattle.co_program.specs.Cursor.{Parcel, Cursor}
-use Rattle.co_program.specs.Action.{Action, Nothing, Silent, Take, Asks, Asked, Callout, Queue, Itself, action_for, spec_at}
+use Rattle.co_program.specs.Cursor.{Cursor}
+use Rattle.co_program.specs.declared.Parcel.{Parcel}
+use Rattle.co_program.specs.Action.{Action, Nothing, Silent, Take, Asks, action_for, spec_at}
+use Rattle.co_program.specs.declared.Asked.{Asked}
+use Rattle.co_program.specs.declared.Asked.TheVariants.{Callout, Queue, Itself}
 use Rattle.co_program.specs.Advance.{advance}
 use Rattle.co_core.specs.declared.turn.Turn.{Turn}
 use Rattle.co_core.specs.declared.turn.Turn.TheVariants.{Notes, Blocked, Finished}

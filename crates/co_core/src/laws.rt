@@ -3,7 +3,7 @@ ghost use Rattle.std.specs.Prelude.{ℕ, List};
 ghost use Rattle.co_object.specs.Lists.{IsWellFormed};
 ghost use Rattle.co_program.specs.declared.Script.{Script};
 ghost use Rattle.co_core.specs.World.{lists_of};
-ghost use Rattle.co_core.specs.Laws.{AreOfLists, BeginsUnderLock, EachFinishedActorFollows, HaveReplies, HistoriesAreLegal, IsSchedule, NoRemoveIsMissing, NoScheduleIsStuck, WalksAgree, WalksEnd, reached};
+ghost use Rattle.co_core.specs.Laws.{AreOfLists, BeginsUnderLock, EachFinishedActorFollows, EveryStepFalls, HaveReplies, HistoriesAreLegal, IdleStepsStay, IsSchedule, NoRemoveIsMissing, NoScheduleIsStuck, OpeningFits, RoundsFall, WalksAgree, WalksEnd, reached};
 
 /// The positions of each place are 0, 1, 2, .., each once, and rise in each actor's list.
 pub fn well_formed()
@@ -50,7 +50,27 @@ pub fn walks_agree()
     ensures { WalksAgree }
 {}
 
-/// Round robin comes to an end wherever something falls with every step.
+/// Round robin comes to an end.
 pub fn walks_end()
     ensures { WalksEnd }
+{}
+
+/// What is left to do falls with every step that is made.
+pub fn every_step_falls()
+    ensures { EveryStepFalls }
+{}
+
+/// A step of an actor that has finished or is blocked changes nothing.
+pub fn idle_steps_stay()
+    ensures { IdleStepsStay }
+{}
+
+/// What is left to do falls with every round until all actors have finished.
+pub fn rounds_fall()
+    ensures { RoundsFall }
+{}
+
+/// What is left to do at the opening fits 64 bits.
+pub fn opening_fits()
+    ensures { OpeningFits }
 {}

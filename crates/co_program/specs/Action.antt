@@ -2,14 +2,12 @@
 use Rattle.std.specs.Prelude.{ℕ, suc, ◌+◌, Bool, true, false, is_some, if◌then◌else◌, List, [], ◌∷◌, Option, Some, None, slice_index_or}
 use Rattle.co_object.specs.declared.Spec.{Spec}
 use Rattle.co_object.specs.declared.LockUse.TheVariants.{Free}
-use Rattle.co_object.specs.declared.Op.{Op}
 use Rattle.co_object.specs.declared.Op.TheVariants.{Call, Run}
 use Rattle.co_object.specs.declared.CallOp.TheVariants.{Plain, DrainTry}
 use Rattle.co_object.specs.declared.RunOp.TheVariants.{Pick, Begin, End}
 use Rattle.co_object.specs.declared.PlainOp.{PlainOp}
 use Rattle.co_object.specs.declared.QOp.{QOp}
 use Rattle.co_object.specs.declared.QOp.TheVariants.{Insert, Scan, Pop, Free as FreeSlot, PopDirect, FreeDirect}
-use Rattle.co_object.specs.declared.OwnKind.{OwnKind}
 use Rattle.co_object.specs.declared.OwnKind.TheVariants.{NotHeld, HoldsLock, Holding, NotHolding}
 use Rattle.co_lock.specs.declared.Held.{Held}
 use Rattle.co_lock.specs.Covers.{covers}
@@ -17,13 +15,19 @@ use Rattle.co_lock.specs.Service.{hold_of}
 use Rattle.co_program.specs.declared.act.Act.{Act}
 use Rattle.co_program.specs.declared.act.Act.TheVariants.{Now, Lock, ReadLock, Unlock, Drain, Tick}
 use Rattle.co_program.specs.declared.script.Script.{Script}
-use Rattle.co_program.specs.Actors.{Task, Does, Soft, Role, Client, Cpu, Interrupt, role_of, cpu_of}
+use Rattle.co_program.specs.declared.program.Task.{Task}
+use Rattle.co_program.specs.declared.program.Task.TheVariants.{Does, Soft}
+use Rattle.co_program.specs.declared.role.Role.{Role}
+use Rattle.co_program.specs.declared.role.Role.TheVariants.{Client, Cpu, Interrupt}
+use Rattle.co_program.specs.Actors.{role_of, cpu_of}
 use Rattle.co_program.specs.declared.act.Scene.{Scene}
 use Rattle.co_program.specs.Calls.{plain_op}
-use Rattle.co_program.specs.Stages.{Service, Stage, Ready, Waiting, Popping, Picking, Locking, Beginning, Unlocking, Firing, Releasing, Ending, Freeing, Drained}
-use Rattle.co_program.specs.Cursor.{Parcel, Cursor}
-pub use Rattle.co_program.specs.declared.action.Asked.{Asked}
-pub use Rattle.co_program.specs.declared.action.Asked.TheVariants.{Callout, Queue, Itself}
+use Rattle.co_program.specs.declared.cursor.Service.{Service}
+use Rattle.co_program.specs.Stages.{Stage, Ready, Waiting, Popping, Picking, Locking, Beginning, Unlocking, Firing, Releasing, Ending, Freeing, Drained}
+use Rattle.co_program.specs.declared.cursor.Parcel.{Parcel}
+use Rattle.co_program.specs.Cursor.{Cursor}
+use Rattle.co_program.specs.declared.action.Asked.{Asked}
+use Rattle.co_program.specs.declared.action.Asked.TheVariants.{Callout, Queue, Itself}
 
 pub data Action : Type 0 where
   -- the program has ended

@@ -2,10 +2,10 @@
 use Rattle.std.specs.Prelude.{ℕ, zero, suc, ◌+◌, ◌-◌, ◌*◌, ◌%◌, ◌==◌, nat_lt, if◌then◌else◌, List, [], ◌∷◌, map, length, slice_index_or}
 use Rattle.co_program.specs.declared.act.Act.{Act}
 use Rattle.co_program.specs.declared.script.Script.{Script}
-pub use Rattle.co_program.specs.declared.role.Role.{Role}
-pub use Rattle.co_program.specs.declared.role.Role.TheVariants.{Client, Cpu, Interrupt}
-pub use Rattle.co_program.specs.declared.program.Task.{Task}
-pub use Rattle.co_program.specs.declared.program.Task.TheVariants.{Does, Soft}
+use Rattle.co_program.specs.declared.role.Role.{Role}
+use Rattle.co_program.specs.declared.role.Role.TheVariants.{Client, Cpu, Interrupt}
+use Rattle.co_program.specs.declared.program.Task.{Task}
+use Rattle.co_program.specs.declared.program.Task.TheVariants.{Does, Soft}
 
 abbrev pub client_count : Script → ℕ
 client_count s = length s.clients

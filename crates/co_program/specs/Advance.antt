@@ -18,8 +18,10 @@ use Rattle.co_object.specs.declared.QReply.TheVariants.{Got}
 use Rattle.co_program.specs.declared.act.Act.{Act}
 use Rattle.co_program.specs.declared.script.Script.{Script}
 use Rattle.co_program.specs.Actors.{acts_at}
-use Rattle.co_program.specs.Stages.{Service, Stage, Ready, Waiting, Popping, Picking, Locking, Beginning, Unlocking, Firing, Releasing, Ending, Freeing, Drained}
-use Rattle.co_program.specs.Cursor.{Parcel, Cursor}
+use Rattle.co_program.specs.declared.cursor.Service.{Service}
+use Rattle.co_program.specs.Stages.{Stage, Ready, Waiting, Popping, Picking, Locking, Beginning, Unlocking, Firing, Releasing, Ending, Freeing, Drained}
+use Rattle.co_program.specs.declared.cursor.Parcel.{Parcel}
+use Rattle.co_program.specs.Cursor.{Cursor}
 use Rattle.co_program.specs.Action.{over, firing, draining, spec_at}
 
 abbrev pub tail_of : {T : Type 0} → List T → List T

@@ -2,9 +2,10 @@
 use Rattle.std.specs.Prelude.{ℕ, List, Option, None}
 use Rattle.co_lock.specs.declared.Held.{Held}
 use Rattle.co_program.specs.declared.script.Script.{Script}
-use Rattle.co_program.specs.Actors.{Task, program_of, role_of}
+use Rattle.co_program.specs.declared.program.Task.{Task}
+use Rattle.co_program.specs.Actors.{program_of, role_of}
 use Rattle.co_program.specs.Stages.{Stage, Ready}
-pub use Rattle.co_program.specs.declared.cursor.Parcel.{Parcel}
+use Rattle.co_program.specs.declared.cursor.Parcel.{Parcel}
 
 pub record Cursor : Type 0 where
   -- the acts that are not over; the first may be under way

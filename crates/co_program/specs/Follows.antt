@@ -14,7 +14,9 @@ use Rattle.co_object.specs.declared.QOp.TheVariants.{Remove, Scan}
 use Rattle.co_object.specs.declared.QReply.TheVariants.{Off}
 use Rattle.co_program.specs.declared.script.Script.{Script}
 use Rattle.co_program.specs.Cursor.{Cursor, start_of}
-use Rattle.co_program.specs.Action.{Action, Nothing, Silent, Take, Asks, Asked, Callout, Queue, Itself, action_for, scans_first, spec_at}
+use Rattle.co_program.specs.declared.action.Asked.{Asked}
+use Rattle.co_program.specs.declared.action.Asked.TheVariants.{Callout, Queue, Itself}
+use Rattle.co_program.specs.Action.{Action, Nothing, Silent, Take, Asks, action_for, scans_first, spec_at}
 use Rattle.co_program.specs.Advance.{advance}
 use Rattle.co_object.specs.Stand.{off}
 use Rattle.co_object.specs.History.{state}

@@ -1,5 +1,5 @@
 -- A cursor as the code keeps it: what is left is told by how much of it is over.
-use Rattle.std.specs.Prelude.{ℕ, ◌+◌, ◌≤◌, List, drop}
+use Rattle.std.specs.Prelude.{ℕ, ◌+◌, ◌-◌, ◌^◌, ◌≤◌, min, List, drop}
 use Rattle.co_program.specs.declared.act.Act.{Act}
 use Rattle.co_program.specs.declared.script.Script.{Script}
 use Rattle.co_program.specs.declared.cursor.ActsLeft.{ActsLeft}
@@ -8,7 +8,8 @@ use Rattle.co_program.specs.declared.cursor.Stage.TheVariants as at
 use Rattle.co_program.specs.declared.cursor.Cursor.{Cursor as CursorAt}
 use Rattle.co_program.specs.declared.action.Action.{Action as ActionAt}
 use Rattle.co_program.specs.declared.action.Action.TheVariants as action
-use Rattle.co_program.specs.Actors.{Role, role_of, acts_at, program_of}
+use Rattle.co_program.specs.declared.role.Role.{Role}
+use Rattle.co_program.specs.Actors.{role_of, acts_at, program_of}
 use Rattle.co_program.specs.Stages.{Stage, Ready, Waiting, Popping, Picking, Locking, Beginning, Unlocking, Firing, Releasing, Ending, Freeing, Drained}
 use Rattle.co_program.specs.Cursor.{Cursor}
 use Rattle.co_program.specs.Action.{Action, Nothing, Silent, Take, Asks}
@@ -57,13 +58,23 @@ cursor_of s actor c = cursor_as s (role_of s actor) c
 abbrev pub action_of : Script → ℕ → ActionAt → Action
 action_of s actor a = action_as s (role_of s actor) a
 
--- each act that has begun is over in the program, or has made a note
+-- one more is over; past an end it stays there, since no list of acts is as long as the largest number
+abbrev pub past : ℕ → ℕ
+past over = min (over + 1) (2 ^ 32 - 1)
+
+-- ---- the number of the next act
+
+-- of the acts that have begun each is over in the program, or has made one of so many notes
 abbrev pub IsCounted : CursorAt → ℕ → Type 0
 IsCounted c notes = c.act ≤ c.task + notes
 
--- the same wherever the action leads
-abbrev pub IsActionCounted : ActionAt → ℕ → Type 0
-IsActionCounted action.Nothing notes = Unit {0}
-IsActionCounted (action.Silent to) notes = IsCounted to notes
-IsActionCounted (action.Take held to) notes = IsCounted to notes
-IsActionCounted (action.Asks act asked) notes = Unit {0}
+-- so it is of the acts that begin between two places, with so many notes made between them
+abbrev pub Counts : (from to : CursorAt) → ℕ → Type 0
+Counts from to notes = to.act + from.task ≤ from.act + to.task + notes
+
+-- and between a place and the one to which a step without a note leads
+abbrev pub ActionCounts : CursorAt → ActionAt → Type 0
+ActionCounts c action.Nothing = Unit {0}
+ActionCounts c (action.Silent to) = Counts c to 0
+ActionCounts c (action.Take held to) = Counts c to 0
+ActionCounts c (action.Asks act asked) = Unit {0}

@@ -7,3 +7,4 @@ pub mod Advance
 pub mod Follows
 pub mod Scripts
 pub mod Indexed
+pub mod Existing

@@ -1,6 +1,7 @@
 -- The scripts that the service runs: what every accepted script keeps.
-use Rattle.std.specs.Prelude.{◌≡◌, ℕ, ◌≤◌, ◌<◌, Bool, true, false, ◌&&◌, is_some, nat_lt, length, ◌⊎◌}
+use Rattle.std.specs.Prelude.{◌≡◌, ℕ, ◌^◌, ◌≤◌, ◌<◌, Bool, true, false, ◌&&◌, is_some, nat_lt, length, ◌⊎◌}
 use Rattle.std.specs.List.{AllByRecursion}
+use Rattle.co_object.specs.declared.LockUse.TheVariants.{Free}
 use Rattle.co_program.specs.declared.script.Script.{Script}
 use Rattle.co_program.specs.declared.act.Act.{Act}
 use Rattle.co_program.specs.declared.act.Act.TheVariants.{Reset, Ticks, Schedule, Stop, Drain, AsyncDrain, Active, Pending, Deactivate, Init, Retire, Tick}
@@ -10,6 +11,7 @@ use Rattle.co_program.specs.declared.act.Where.{Where}
 use Rattle.co_program.specs.declared.act.Where.TheVariants.{Home, Cpu, Here}
 use Rattle.co_program.specs.Actors.{acts_at, actor_count}
 use Rattle.co_program.specs.Calls.{plain_op}
+use Rattle.co_program.specs.Action.{spec_at}
 
 abbrev pub is_tick : Act → Bool
 is_tick (Tick time) = true
@@ -49,8 +51,10 @@ pub record IsScript (s : Script) : Type 0 where
   pub version : (s.version ≡ 1) ⊎ (s.version ≡ 2)
   pub hz : (1 ≤ s.hz) × (s.hz ≤ 1000000)
   pub cpus : (1 ≤ s.cpus) × (s.cpus ≤ 16)
-  pub buckets : (16 ≤ s.buckets) × (s.buckets ≤ 65536)
+  pub buckets : (16 ≤ s.buckets) × (s.buckets ≤ 65536) × ((e : ℕ) × (s.buckets ≡ 2 ^ e))
   pub timers : (1 ≤ length s.timers) × (length s.timers ≤ 1024)
+  -- an interrupt takes no lock
+  pub direct : (i : ℕ) → (spec_at s i).direct ≡ true → (spec_at s i).lock ≡ Free
   pub few_clients : length s.clients ≤ 16
   -- ticks are the CPUs' acts, all of theirs and nobody else's
   pub ticks : (cpu : ℕ) → AllByRecursion (λ act. is_tick act ≡ true) (acts_at s.ticks cpu)

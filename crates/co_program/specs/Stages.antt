@@ -2,7 +2,7 @@
 use Rattle.std.specs.Prelude.{ℕ, Bool, List, Option}
 use Rattle.co_object.specs.declared.Next.{Next}
 use Rattle.co_program.specs.declared.act.Act.{Act}
-pub use Rattle.co_program.specs.declared.cursor.Service.{Service}
+use Rattle.co_program.specs.declared.cursor.Service.{Service}
 
 pub data Stage : Type 0 where
   -- between two acts

@@ -1,22 +1,31 @@
 //! What an actor does next.
-ghost use Rattle.std.specs.Prelude.{◌≡◌, ℕ, ◌<◌, ◌-◌, ◌^◌};
-ghost use Rattle.co_program.specs.Action.{action_for, scans_first};
-ghost use Rattle.co_program.specs.Indexed.{IsActionCounted, IsCounted, action_of, cursor_of};
+ghost use Rattle.std.specs.Prelude.{◌≡◌, ℕ, ◌<◌, ◌≤◌, ◌-◌, ◌+◌, ◌^◌, [], drop, if◌then◌else◌, is_some, slice_get};
+ghost use Rattle.co_lock.specs.Service.{hold_of};
+ghost use Rattle.co_program.specs.declared.script.Script.{Script};
+ghost use Rattle.co_program.specs.declared.role.Role.{Role};
+ghost use Rattle.co_program.specs.Actors.{actor_count, program_of};
+ghost use Rattle.co_program.specs.Action.{Silent, Asks, action_for, action_in, asks_call, asks_drain, asks_within, begins, draining, drained_of, firing, free_of, locks, over, pop_of, scans_first, scans_of, spec_at, takes};
+ghost use Rattle.co_program.specs.Advance.{tail_of};
+ghost use Rattle.co_program.specs.Existing.{ActionExists, IsIn};
+ghost use Rattle.co_program.specs.Indexed.{ActionCounts, Counts, action_as, action_of, acts_left, cursor_as, cursor_of, past, stage_of};
 ghost use Rattle.co_program.specs.Scripts.{IsScript};
 
 use crate::act::{Act, Scene};
 use crate::call::call_of;
 use crate::cursor::{ActsLeft, Cursor, Service, Stage};
-use crate::program::{Task, next_of, task_at};
+use crate::program::{Task, next_of, task_after};
 use crate::role::{Role, cpu_of, role_of};
 use crate::script::Script;
 use co_lock::{Held, covers};
 use co_object::{CallOp, LockUse, Op, OwnKind, QOp, RunOp, Spec};
+use co_sbt::Sbt;
 
 /// Whom an actor asks, and what.
 #[derive(Clone, Copy, Debug, PartialEq, Eq)]
 pub enum Asked {
+    /// Callout `i`.
     Callout { i: u32, op: Op },
+    /// The timer queue of a CPU.
     Queue { cpu: u32, op: QOp },
     /// Nobody: a note of the actor's own.
     Itself(OwnKind),
@@ -35,84 +44,71 @@ pub enum Action {
     Asks { act: u64, asked: Asked },
 }
 
-/// What the actor does next.
+/// What the actor does next (our own order). A step without a note raises `act` only as it raises `task`.
 pub fn action_for(script: &Script, actor: u32, cursor: &Cursor) -> Action
     requires script { IsScript script.now }
     requires room { cursor.now.act < 2 ^ 64 - 1 }
-    ensures action { action_of script.now actor result ≡ action_for script.now actor (cursor_of script.now actor cursor.now) }
-    ensures counted { (notes : ℕ) → IsCounted cursor.now notes → IsActionCounted result notes }
+    ensures action { let s = script.now in
+        action_of s actor result ≡ action_for s actor (cursor_of s actor cursor.now) }
+    ensures counted { ActionCounts cursor.now result }
+    ensures existing { let s = script.now in
+        actor < actor_count s → IsIn s (cursor_of s actor cursor.now) → ActionExists s (action_of s actor result) }
 {
-    let role = role_of(script, actor);
     match cursor.parcel {
-        Some(parcel) => asks_queue(
-            parcel.act,
-            parcel.cpu,
-            QOp::Insert {
+        Some(parcel) => {
+            let op = QOp::Insert {
                 i: parcel.i,
                 n: parcel.n,
                 t: parcel.due,
-            },
-        ),
-        None => action_in(script, role, cursor),
+            };
+            asks_queue(parcel.act, parcel.cpu, op)
+        }
+        None => action_in(script, role_of(script, actor), cursor),
     }
 }
 
-/// The number of Scans that the CPU's journal must have before the actor's next note: the j-th soft act begins after
-/// j + 1, and all else waits for none.
+/// How many Scans the CPU's journal must have before the actor's next note: j + 1 for the j-th soft act, counted from 0,
+/// and none for all else (our own rule).
 pub fn scans_first(script: &Script, actor: u32, cursor: &Cursor) -> u32
     requires { IsScript script.now }
     ensures { result ≡ scans_first (cursor_of script.now actor cursor.now) }
 {
-    if cursor.parcel.is_some() {
-        return 0;
-    }
-    match cursor.stage {
-        Stage::Ready => scans_of(task_at(script, role_of(script, actor), cursor.task)),
+    match (&cursor.parcel, &cursor.stage) {
+        (None, Stage::Ready) => scans_of(script, role_of(script, actor), cursor.task),
         _ => 0,
     }
 }
 
-fn scans_of(task: Option<Task>) -> u32 {
-    match task {
+/// The same, of the act that begins next.
+fn scans_of(script: &Script, role: Role, over: u32) -> u32
+    requires { IsScript script.now }
+    ensures { result ≡ scans_of (drop over (program_of script.now role)) }
+{
+    match task_after(script, role, over) {
         Some(Task::Soft(j)) => j + 1,
         _ => 0,
     }
 }
 
-fn asks_queue(act: u64, cpu: u32, op: QOp) -> Action {
-    Action::Asks {
-        act,
-        asked: Asked::Queue { cpu, op },
-    }
-}
-
-fn asks_callout(act: u64, i: u32, op: Op) -> Action {
-    Action::Asks {
-        act,
-        asked: Asked::Callout { i, op },
-    }
-}
-
-fn asks_itself(act: u64, kind: OwnKind) -> Action {
-    Action::Asks {
-        act,
-        asked: Asked::Itself(kind),
-    }
-}
+// ---- acts
 
 /// The next step of the act under way.
-fn action_in(script: &Script, role: Role, cursor: &Cursor) -> Action {
+fn action_in(script: &Script, role: Role, cursor: &Cursor) -> Action
+    requires script { IsScript script.now }
+    requires room { cursor.now.act < 2 ^ 64 - 1 }
+    ensures action { let s = script.now in let c = cursor_as s role cursor.now in
+        action_as s role result ≡ action_in s role c c.stage }
+    ensures counted { ActionCounts cursor.now result }
+{
     let cpu = cpu_of(script, role);
-    match cursor.stage {
+    match &cursor.stage {
         Stage::Ready => begins(script, role, cursor),
-        Stage::Waiting { took, .. } => asks_drain(
-            cursor,
-            drained_of(task_at(script, role, cursor.task)),
-            took,
-        ),
-        Stage::Popping { act } => asks_queue(act, cpu, pop_of(role)),
+        Stage::Waiting { took, .. } => {
+            asks_drain(cursor, drained_of(script, role, cursor.task), *took)
+        }
+        Stage::Popping { act } => asks_queue(*act, cpu, pop_of(role)),
         Stage::Picking(v) => asks_run(
-            &v,
+            v,
             RunOp::Pick {
                 n: v.n,
                 cpu,
@@ -120,54 +116,42 @@ fn action_in(script: &Script, role: Role, cursor: &Cursor) -> Action {
             },
         ),
         Stage::Locking(v) => locks(script, cursor, v),
-        Stage::Beginning(v) => asks_run(&v, RunOp::Begin { n: v.n, cpu }),
-        Stage::Unlocking(v, left) => Action::Silent(Cursor {
-            hold: None,
-            stage: firing(script, v, None, left),
-            ..*cursor
-        }),
-        Stage::Firing(v, left) => asks_within(script, cpu, cursor, &v, left),
-        Stage::Releasing(v) => Action::Silent(Cursor {
-            hold: None,
-            stage: Stage::Ending(v),
-            ..*cursor
-        }),
-        Stage::Ending(v) => asks_run(&v, RunOp::End { n: v.n, cpu }),
+        Stage::Beginning(v) => asks_run(v, RunOp::Begin { n: v.n, cpu }),
+        Stage::Unlocking(v, left) => releases(cursor, firing(script, v, None, *left)),
+        Stage::Firing(v, left) => asks_within(script, cpu, cursor, v, *left),
+        Stage::Releasing(v) => releases(cursor, Stage::Ending(*v)),
+        Stage::Ending(v) => asks_run(v, RunOp::End { n: v.n, cpu }),
         Stage::Freeing { service, .. } => asks_queue(service.act, cpu, free_of(role)),
-        Stage::Drained(v, left) => asks_within(script, cpu, cursor, &v, left),
+        Stage::Drained(v, left) => asks_within(script, cpu, cursor, v, *left),
     }
 }
 
-fn asks_run(v: &Service, op: RunOp) -> Action {
-    asks_callout(v.act, v.i, Op::Run(op))
-}
-
 /// How the next act begins; after the last one a lock that is still held is released.
-fn begins(script: &Script, role: Role, cursor: &Cursor) -> Action {
-    match task_at(script, role, cursor.task) {
+fn begins(script: &Script, role: Role, cursor: &Cursor) -> Action
+    requires script { IsScript script.now }
+    requires room { cursor.now.act < 2 ^ 64 - 1 }
+    ensures action { let s = script.now in let c = cursor_as s role cursor.now in
+        action_as s role result ≡ begins s role c c.left }
+    ensures counted { ActionCounts cursor.now result }
+{
+    match task_after(script, role, cursor.task) {
         None => ends(cursor),
-        Some(Task::Does(act)) => begins_act(script, role, cursor, &act),
+        Some(Task::Does(act)) => does(script, role, cursor, &act),
         Some(Task::Soft(_)) => asks_queue(cursor.act, cpu_of(script, role), pop_of(role)),
     }
 }
 
-fn ends(cursor: &Cursor) -> Action {
-    match cursor.hold {
-        Some(_) => Action::Silent(Cursor {
-            hold: None,
-            stage: Stage::Ready,
-            ..*cursor
-        }),
-        None => Action::Nothing,
-    }
-}
-
-fn begins_act(script: &Script, role: Role, cursor: &Cursor, act: &Act) -> Action {
+/// How an act of the script begins.
+fn does(script: &Script, role: Role, cursor: &Cursor, act: &Act) -> Action
+    requires script { IsScript script.now }
+    requires next { slice_get (drop cursor.now.task (program_of script.now role)) 0 ≡ Some (Task.Does act.now) }
+    requires room { cursor.now.act < 2 ^ 64 - 1 }
+    ensures action { let s = script.now in let c = cursor_as s role cursor.now in
+        action_as s role result ≡ begins s role c c.left }
+    ensures counted { ActionCounts cursor.now result }
+{
     match *act {
-        Act::Now(time) => Action::Silent(Cursor {
-            time,
-            ..over(cursor, cursor.hold)
-        }),
+        Act::Now(time) => tells(cursor, time),
         Act::Lock(id) => takes(
             cursor,
             Held {
@@ -196,10 +180,60 @@ fn begins_act(script: &Script, role: Role, cursor: &Cursor, act: &Act) -> Action
     }
 }
 
+/// The actor's time is told.
+fn tells(cursor: &Cursor, time: Sbt) -> Action
+    requires { cursor.now.act < 2 ^ 64 - 1 }
+    ensures action { (s : Script) (role : Role) → IsScript s → let c = cursor_as s role cursor.now in
+        action_as s role result ≡ Silent (record (over c (tail_of c.left) c.hold) { now = time }) }
+    ensures counted { cursor.now.task < 65536 → ActionCounts cursor.now result }
+{
+    Action::Silent(Cursor {
+        time,
+        ..after(cursor, cursor.hold)
+    })
+}
+
+/// A lock is taken.
+fn takes(cursor: &Cursor, held: Held) -> Action
+    requires { cursor.now.act < 2 ^ 64 - 1 }
+    ensures action { (s : Script) (role : Role) → IsScript s → let c = cursor_as s role cursor.now in
+        action_as s role result ≡ takes c (tail_of c.left) held }
+    ensures counted { cursor.now.task < 65536 → ActionCounts cursor.now result }
+{
+    if cursor.hold.is_some() {
+        asks_itself(cursor.act, OwnKind::Holding)
+    } else {
+        Action::Take {
+            held,
+            to: after(cursor, Some(held)),
+        }
+    }
+}
+
+/// The lock is released.
+fn unlocks(cursor: &Cursor) -> Action
+    requires { cursor.now.act < 2 ^ 64 - 1 }
+    ensures action { (s : Script) (role : Role) → IsScript s → let c = cursor_as s role cursor.now in
+        action_as s role result ≡
+        (if is_some c.hold then Silent (over c (tail_of c.left) None) else Asks c.act (Asked.Itself OwnKind.NotHolding)) }
+    ensures counted { cursor.now.task < 65536 → ActionCounts cursor.now result }
+{
+    if cursor.hold.is_some() {
+        Action::Silent(after(cursor, None))
+    } else {
+        asks_itself(cursor.act, OwnKind::NotHolding)
+    }
+}
+
 /// The cursor after the act under way, with this hold.
-pub(crate) fn over(cursor: &Cursor, hold: Option<Held>) -> Cursor {
+pub(crate) fn after(cursor: &Cursor, hold: Option<Held>) -> Cursor
+    requires { cursor.now.act < 2 ^ 64 - 1 }
+    ensures cursor { let c = cursor.now in
+        result ≡ record c { task = past c.task; act = c.act + 1; hold = hold; stage = Stage.Ready } }
+    ensures counted { Counts cursor.now result 1 }
+{
     Cursor {
-        task: cursor.task.saturating_add(1),
+        task: past(cursor.task),
         act: cursor.act + 1,
         hold,
         stage: Stage::Ready,
@@ -207,26 +241,20 @@ pub(crate) fn over(cursor: &Cursor, hold: Option<Held>) -> Cursor {
     }
 }
 
-fn takes(cursor: &Cursor, held: Held) -> Action {
-    if cursor.hold.is_some() {
-        asks_itself(cursor.act, OwnKind::Holding)
-    } else {
-        Action::Take {
-            held,
-            to: over(cursor, Some(held)),
-        }
-    }
+/// One more act is over. No list of acts is as long as the largest number, so that past an end it stays there.
+pub(crate) fn past(over: u32) -> u32
+    ensures value { result ≡ past over }
+    ensures no_less { over ≤ result }
+{
+    over.saturating_add(1)
 }
 
-fn unlocks(cursor: &Cursor) -> Action {
-    if cursor.hold.is_some() {
-        Action::Silent(over(cursor, None))
-    } else {
-        asks_itself(cursor.act, OwnKind::NotHolding)
-    }
-}
-
-fn asks_drain(cursor: &Cursor, i: u32, took: bool) -> Action {
+/// A try of a drain, which no caller makes that holds a lock.
+fn asks_drain(cursor: &Cursor, i: u32, took: bool) -> Action
+    ensures action { (s : Script) (role : Role) →
+        action_as s role result ≡ asks_drain (cursor_as s role cursor.now) i took }
+    ensures counted { ActionCounts cursor.now result }
+{
     if cursor.hold.is_some() {
         asks_itself(cursor.act, OwnKind::HoldsLock)
     } else {
@@ -235,30 +263,50 @@ fn asks_drain(cursor: &Cursor, i: u32, took: bool) -> Action {
 }
 
 /// The callout of the drain under way.
-fn drained_of(task: Option<Task>) -> u32 {
-    match task {
+fn drained_of(script: &Script, role: Role, over: u32) -> u32
+    ensures { result ≡ drained_of (drop over (program_of script.now role)) }
+{
+    match task_after(script, role, over) {
         Some(Task::Does(Act::Drain(i))) => i,
         _ => 0,
     }
 }
 
-/// What an act asks that is a call. A call that the hold doesn't cover comes to no callout.
-fn asks_call(script: &Script, cursor: &Cursor, act: &Act, scene: &Scene) -> Action {
-    match call_of(act, script.hz, scene) {
-        None => Action::Nothing,
-        Some((i, op)) => {
-            let op = CallOp::Plain(op);
-            if covers(cursor.hold, &spec_at(script, i), &op) {
-                asks_callout(cursor.act, i, Op::Call(op))
-            } else {
-                asks_itself(cursor.act, OwnKind::NotHeld)
-            }
-        }
+/// After the last act a lock that is still held is released.
+fn ends(cursor: &Cursor) -> Action
+    ensures action { (s : Script) (role : Role) → let c = cursor_as s role cursor.now in
+        c.left ≡ [] → action_as s role result ≡ begins s role c [] }
+    ensures counted { ActionCounts cursor.now result }
+{
+    if cursor.hold.is_some() {
+        releases(cursor, Stage::Ready)
+    } else {
+        Action::Nothing
     }
 }
 
-/// A function's act, about its service.
-fn asks_within(script: &Script, cpu: u32, cursor: &Cursor, v: &Service, left: ActsLeft) -> Action {
+/// The lock is released, and this stage comes next.
+fn releases(cursor: &Cursor, stage: Stage) -> Action
+    ensures action { (s : Script) (role : Role) → let c = cursor_as s role cursor.now in
+        action_as s role result ≡ Silent (record c { hold = None; stage = stage_of s stage }) }
+    ensures counted { ActionCounts cursor.now result }
+{
+    Action::Silent(Cursor {
+        hold: None,
+        stage,
+        ..*cursor
+    })
+}
+
+// ---- calls
+
+/// What a function's act asks, about its service.
+fn asks_within(script: &Script, cpu: u32, cursor: &Cursor, v: &Service, left: ActsLeft) -> Action
+    requires { IsScript script.now }
+    ensures action { (role : Role) → let s = script.now in
+        action_as s role result ≡ asks_within s cpu (cursor_as s role cursor.now) v.now (acts_left s left) }
+    ensures counted { ActionCounts cursor.now result }
+{
     match next_of(script, left) {
         None => Action::Nothing,
         Some(act) => {
@@ -272,14 +320,55 @@ fn asks_within(script: &Script, cpu: u32, cursor: &Cursor, v: &Service, left: Ac
     }
 }
 
-fn locks(script: &Script, cursor: &Cursor, v: Service) -> Action {
+/// What an act asks that is a call. A call that the hold doesn't cover comes to no callout.
+fn asks_call(script: &Script, cursor: &Cursor, act: &Act, scene: &Scene) -> Action
+    requires { IsScript script.now }
+    ensures action { (role : Role) → let s = script.now in
+        action_as s role result ≡ asks_call s (cursor_as s role cursor.now) act.now scene.now }
+    ensures counted { ActionCounts cursor.now result }
+{
+    match call_of(act, script.hz, scene) {
+        None => Action::Nothing,
+        Some((i, op)) => {
+            let op = CallOp::Plain(op);
+            if covers(cursor.hold, &spec_at(script, i), &op) {
+                asks_callout(cursor.act, i, Op::Call(op))
+            } else {
+                asks_itself(cursor.act, OwnKind::NotHeld)
+            }
+        }
+    }
+}
+
+/// What is fixed of a callout.
+pub(crate) fn spec_at(script: &Script, i: u32) -> Spec
+    ensures { result ≡ spec_at script.now i }
+{
+    match script.timers.as_slice().get(i as usize) {
+        Some(spec) => *spec,
+        None => Spec {
+            lock: LockUse::Free,
+            returns_unlocked: false,
+            direct: false,
+        },
+    }
+}
+
+// ---- services
+
+/// The callout's lock is taken.
+fn locks(script: &Script, cursor: &Cursor, v: &Service) -> Action
+    ensures action { (role : Role) → let s = script.now in
+        action_as s role result ≡ locks s (cursor_as s role cursor.now) v.now (hold_of (spec_at s v.now.i).lock) }
+    ensures counted { ActionCounts cursor.now result }
+{
     match hold_of(spec_at(script, v.i).lock) {
         None => Action::Nothing,
         Some(held) => Action::Take {
             held,
             to: Cursor {
                 hold: Some(held),
-                stage: Stage::Beginning(v),
+                stage: Stage::Beginning(*v),
                 ..*cursor
             },
         },
@@ -287,7 +376,9 @@ fn locks(script: &Script, cursor: &Cursor, v: Service) -> Action {
 }
 
 /// The hold under which a callout's function begins.
-fn hold_of(lock: LockUse) -> Option<Held> {
+fn hold_of(lock: LockUse) -> Option<Held>
+    ensures { result ≡ hold_of lock }
+{
     match lock {
         LockUse::Free => None,
         LockUse::Mtx(id) => Some(Held {
@@ -305,45 +396,78 @@ fn hold_of(lock: LockUse) -> Option<Held> {
     }
 }
 
-/// What is fixed of a callout.
-pub(crate) fn spec_at(script: &Script, i: u32) -> Spec {
-    match script.timers.as_slice().get(i as usize) {
-        Some(spec) => *spec,
-        None => Spec {
-            lock: LockUse::Free,
-            returns_unlocked: false,
-            direct: false,
-        },
+/// What a function's acts lead to: the release of the lock, if it is held still, and the end of the service.
+pub(crate) fn firing(script: &Script, v: &Service, hold: Option<Held>, left: ActsLeft) -> Stage
+    ensures { stage_of script.now result ≡ firing v.now hold (acts_left script.now left) }
+{
+    match (next_of(script, left), hold) {
+        (Some(_), _) => Stage::Firing(*v, left),
+        (None, None) => Stage::Ending(*v),
+        (None, Some(_)) => Stage::Releasing(*v),
     }
 }
 
-fn pop_of(role: Role) -> QOp {
+/// What a drain function's acts lead to: the next callout.
+pub(crate) fn draining(script: &Script, v: &Service, left: ActsLeft) -> Stage
+    ensures { stage_of script.now result ≡ draining v.now (acts_left script.now left) }
+{
+    match next_of(script, left) {
+        Some(_) => Stage::Drained(*v, left),
+        None => Stage::Popping { act: v.act },
+    }
+}
+
+/// The Pop of the role's lane: the urgent one is the interrupt's.
+fn pop_of(role: Role) -> QOp
+    ensures { result ≡ pop_of role }
+{
     match role {
         Role::Client(_) | Role::Cpu(_) => QOp::Pop,
         Role::Interrupt(_) => QOp::PopDirect,
     }
 }
 
-fn free_of(role: Role) -> QOp {
+/// The Free of the role's lane.
+fn free_of(role: Role) -> QOp
+    ensures { result ≡ free_of role }
+{
     match role {
         Role::Client(_) | Role::Cpu(_) => QOp::Free,
         Role::Interrupt(_) => QOp::FreeDirect,
     }
 }
 
-/// What a function's acts lead to: the release of the lock, if it is held still, and the end of the service.
-pub(crate) fn firing(script: &Script, v: Service, hold: Option<Held>, left: ActsLeft) -> Stage {
-    match (next_of(script, left), hold) {
-        (Some(_), _) => Stage::Firing(v, left),
-        (None, None) => Stage::Ending(v),
-        (None, Some(_)) => Stage::Releasing(v),
+// ---- what is asked
+
+fn asks_run(v: &Service, op: RunOp) -> Action
+    ensures { result ≡ Action.Asks v.now.act (Asked.Callout v.now.i (Op.Run op)) }
+{
+    asks_callout(v.act, v.i, Op::Run(op))
+}
+
+fn asks_callout(act: u64, i: u32, op: Op) -> Action
+    ensures { result ≡ Action.Asks act (Asked.Callout i op) }
+{
+    Action::Asks {
+        act,
+        asked: Asked::Callout { i, op },
     }
 }
 
-/// And those of a drain function: the next callout.
-pub(crate) fn draining(script: &Script, v: Service, left: ActsLeft) -> Stage {
-    match next_of(script, left) {
-        Some(_) => Stage::Drained(v, left),
-        None => Stage::Popping { act: v.act },
+fn asks_queue(act: u64, cpu: u32, op: QOp) -> Action
+    ensures { result ≡ Action.Asks act (Asked.Queue cpu op) }
+{
+    Action::Asks {
+        act,
+        asked: Asked::Queue { cpu, op },
+    }
+}
+
+fn asks_itself(act: u64, kind: OwnKind) -> Action
+    ensures { result ≡ Action.Asks act (Asked.Itself kind) }
+{
+    Action::Asks {
+        act,
+        asked: Asked::Itself(kind),
     }
 }

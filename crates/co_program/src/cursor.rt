@@ -1,38 +1,48 @@
-//! An actor's place in its program, by index.
+//! An actor's place in its program, by index. That a service takes the callout's lock before the function runs, and
+//! releases it after unless the function does, is of the callout(9) page; the order of all else is our own.
 ghost use Rattle.std.specs.Prelude.{◌≡◌, ℕ};
 ghost use Rattle.co_program.specs.declared.script.Script.{Script};
 ghost use Rattle.co_program.specs.Cursor.{start_of};
+ghost use Rattle.co_program.specs.Existing.{IsIn};
 ghost use Rattle.co_program.specs.Indexed.{cursor_of};
+ghost use Rattle.co_program.specs.Scripts.{IsScript};
 
 use co_lock::Held;
 use co_object::Next;
 use co_sbt::Sbt;
 
-/// A service in an act: of callout `i`, for its arming `n`, at the time of the last scan.
+/// The service of a callout in an act.
 #[derive(Clone, Copy, Debug, PartialEq, Eq)]
 pub struct Service {
     /// The number of the act.
     pub act: u64,
+    /// The callout.
     pub i: u32,
+    /// The number of its arming.
     pub n: u64,
+    /// The time of the CPU's last scan, which is the function's time.
     pub at: Sbt,
 }
 
-/// An Insert that is still to come: callout `i`, with its arming `n`, is on its way into a CPU's queue.
+/// An Insert that is still to come: the callout is on its way into a CPU's queue.
 #[derive(Clone, Copy, Debug, PartialEq, Eq)]
 pub struct Parcel {
     /// The number of the act.
     pub act: u64,
+    /// The callout.
     pub i: u32,
+    /// The number of its arming.
     pub n: u64,
     pub due: Sbt,
+    /// The CPU into whose queue it goes.
     pub cpu: u32,
 }
 
-/// The acts of a function that are left when some are done.
+/// What is left of a function's acts.
 #[derive(Clone, Copy, Debug, PartialEq, Eq)]
 pub struct ActsLeft {
     pub func: u32,
+    /// How many of its acts are over.
     pub done: u32,
 }
 
@@ -41,7 +51,8 @@ pub struct ActsLeft {
 pub enum Stage {
     /// Between two acts.
     Ready,
-    /// In a drain, which waits for the end of the service of arming `n`.
+    /// In a drain, which waits for the end of the service of arming `n`. `took` is whether one of its tries took an arming
+    /// away.
     Waiting {
         n: u64,
         took: bool,
@@ -64,7 +75,8 @@ pub enum Stage {
     Releasing(Service),
     /// About to end the service.
     Ending(Service),
-    /// About to free the queue of it.
+    /// About to free the queue of it. `drain` is the function of an asynchronous drain that comes then, and `next` the
+    /// arming that goes to another CPU.
     Freeing {
         service: Service,
         drain: Option<u32>,
@@ -74,26 +86,29 @@ pub enum Stage {
     Drained(Service, ActsLeft),
 }
 
-/// An actor's place in its program.
+/// An actor's place in its program: what it has still to do, of which nothing is copied from the script.
 #[derive(Clone, Copy, Debug, PartialEq, Eq)]
 pub struct Cursor {
     /// How many acts of the program are over; the next one may be under way.
     pub task: u32,
     /// The number of the next act to begin, where the acts of functions count too.
     pub act: u64,
-    /// The actor's time.
+    /// The client's time, which its acts `now` tell.
     pub time: Sbt,
+    /// The client lock that the actor holds.
     pub hold: Option<Held>,
     pub stage: Stage,
     /// The CPU from whose queue the call under way has just removed its callout.
     pub removed: Option<u32>,
+    /// What the actor has still to insert, before all else.
     pub parcel: Option<Parcel>,
 }
 
 impl Cursor {
     /// The place before the first act of any program.
     pub fn start() -> Cursor
-        ensures { (s : Script) (actor : ℕ) → cursor_of s actor result ≡ start_of s actor }
+        ensures cursor { (s : Script) (actor : ℕ) → cursor_of s actor result ≡ start_of s actor }
+        ensures existing { (s : Script) (actor : ℕ) → IsScript s → IsIn s (cursor_of s actor result) }
     {
         Cursor {
             task: 0,

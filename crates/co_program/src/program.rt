@@ -1,8 +1,8 @@
 //! The acts of programs and functions, by index.
-ghost use Rattle.std.specs.Prelude.{◌≡◌, length, slice_get};
+ghost use Rattle.std.specs.Prelude.{◌≡◌, drop, length, slice_get};
 ghost use Rattle.co_program.specs.Actors.{acts_at, program_of, softs};
 ghost use Rattle.co_program.specs.Indexed.{acts_left};
-ghost use Rattle.co_program.specs.Scripts.{IsScript};
+ghost use Rattle.std.specs.Option.{option_map};
 
 use crate::act::Act;
 use crate::cursor::ActsLeft;
@@ -19,12 +19,38 @@ pub enum Task {
     Soft(u32),
 }
 
+/// The next act of the role's program once so many are over.
+pub(crate) fn task_after(script: &Script, role: Role, over: u32) -> Option<Task>
+    ensures { result ≡ slice_get (drop over (program_of script.now role)) 0 }
+{
+    match role {
+        Role::Client(client) => does(act_at(&script.clients, client, over)),
+        Role::Cpu(cpu) => {
+            if script.version == 2 {
+                soft_at(act_count(&script.ticks, cpu), over)
+            } else {
+                does(act_at(&script.ticks, cpu, over))
+            }
+        }
+        Role::Interrupt(cpu) => does(act_at(&script.ticks, cpu, over)),
+    }
+}
+
+/// The next act of those of a function that are left.
+pub(crate) fn next_of(script: &Script, left: ActsLeft) -> Option<Act>
+    ensures { result ≡ slice_get (acts_left script.now left) 0 }
+{
+    act_at(&script.funcs, left.func, left.done)
+}
+
 /// The act at `index` of the `i`-th list.
 fn act_at(lists: &Seq<Acts>, i: u32, index: u32) -> Option<Act>
     ensures { result ≡ slice_get (acts_at lists.now i) index }
 {
-    let acts = lists.as_slice().get(i as usize)?;
-    acts.as_slice().get(index as usize).copied()
+    match lists.as_slice().get(i as usize) {
+        Some(acts) => acts.as_slice().get(index as usize).copied(),
+        None => None,
+    }
 }
 
 /// How many acts the `i`-th list has.
@@ -37,24 +63,9 @@ fn act_count(lists: &Seq<Acts>, i: u32) -> usize
     }
 }
 
-/// The act at `index` of the role's program.
-pub(crate) fn task_at(script: &Script, role: Role, index: u32) -> Option<Task>
-    ensures { result ≡ slice_get (program_of script.now role) index }
+fn does(act: Option<Act>) -> Option<Task>
+    ensures { result ≡ option_map Task.Does act }
 {
-    match role {
-        Role::Client(client) => does(act_at(&script.clients, client, index)),
-        Role::Cpu(cpu) => {
-            if script.version == 2 {
-                soft_at(act_count(&script.ticks, cpu), index)
-            } else {
-                does(act_at(&script.ticks, cpu, index))
-            }
-        }
-        Role::Interrupt(cpu) => does(act_at(&script.ticks, cpu, index)),
-    }
-}
-
-fn does(act: Option<Act>) -> Option<Task> {
     match act {
         Some(act) => Some(Task::Does(act)),
         None => None,
@@ -70,11 +81,4 @@ fn soft_at(count: usize, index: u32) -> Option<Task>
     } else {
         None
     }
-}
-
-/// The next act of those that are left.
-pub(crate) fn next_of(script: &Script, left: ActsLeft) -> Option<Act>
-    ensures { result ≡ slice_get (acts_at script.now.funcs left.func) left.done }
-{
-    act_at(&script.funcs, left.func, left.done)
 }

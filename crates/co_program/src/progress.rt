@@ -1,17 +1,25 @@
 //! How an actor's place in its program goes on after a note.
-ghost use Rattle.std.specs.Prelude.{◌≡◌, ℕ, ◌<◌, ◌+◌, ◌-◌, ◌^◌};
-ghost use Rattle.co_program.specs.Advance.{advance};
-ghost use Rattle.co_program.specs.Indexed.{IsCounted, cursor_of};
+ghost use Rattle.std.specs.Prelude.{◌≡◌, ℕ, ◌<◌, ◌-◌, ◌^◌, if◌then◌else◌};
+ghost use Rattle.co_program.specs.declared.script.Script.{Script};
+ghost use Rattle.co_program.specs.declared.role.Role.{Role};
+ghost use Rattle.co_program.specs.Actors.{acts_at};
+ghost use Rattle.co_program.specs.Action.{draining, firing, spec_at};
+ghost use Rattle.co_program.specs.Advance.{act_over, advance, advance_callout, advance_queue, begun, called, drain_acts, due_of_call, ended, freed, got, parcel_of, picked, popped, tail_of};
+ghost use Rattle.co_program.specs.Existing.{EntryExists, IsIn};
+ghost use Rattle.co_program.specs.Indexed.{Counts, acts_left, cursor_as, cursor_of, stage_of};
+ghost use Rattle.co_program.specs.Stages.{Unlocking};
 ghost use Rattle.co_program.specs.Scripts.{IsScript};
 
-use crate::action::{draining, firing, over, spec_at};
+use crate::action::{after, draining, firing, past, spec_at};
 use crate::cursor::{ActsLeft, Cursor, Parcel, Service, Stage};
 use crate::script::Script;
+use co_lock::Held;
 use co_object::{AnyEntry, CallOp, Next, Op, Place, PlainOp, QOp, QReply, Reply};
 use co_sbt::Sbt;
 
-/// The cursor after an entry of the actor's own at this place. `listed` is whether the callout stands in a queue after
-/// it.
+/// The cursor once the actor has made this entry at this place. `listed` is whether the callout stands in a queue after
+/// the entry (no matter for the entries of CPUs and of actors). Of the acts that have begun, each is over in the program or
+/// has made a note: so `act` is at most `task` and the number of the actor's notes, which bounds it for every caller.
 pub fn advance(
     script: &Script,
     cursor: &Cursor,
@@ -21,98 +29,58 @@ pub fn advance(
 ) -> Cursor
     requires script { IsScript script.now }
     requires room { cursor.now.act < 2 ^ 64 - 1 }
-    ensures cursor { (actor : ℕ) → cursor_of script.now actor result ≡ advance script.now (cursor_of script.now actor cursor.now) listed place entry.now }
-    ensures counted { (notes : ℕ) → IsCounted cursor.now notes → IsCounted result (notes + 1) }
+    ensures cursor { (actor : ℕ) → let s = script.now in
+        cursor_of s actor result ≡ advance s (cursor_of s actor cursor.now) listed place entry.now }
+    ensures counted { Counts cursor.now result 1 }
+    ensures existing { (actor : ℕ) → let s = script.now in
+        IsIn s (cursor_of s actor cursor.now) → EntryExists s place entry.now → IsIn s (cursor_of s actor result) }
 {
     match (place, entry) {
-        (Place::Timer(i), AnyEntry::Timer(e)) => advance_callout(
-            script, cursor, i, listed, &e.op, &e.reply,
-        ),
+        (Place::Timer(i), AnyEntry::Timer(e)) => {
+            advance_callout(script, cursor, i, listed, &e.op, &e.reply)
+        }
         (Place::Cpu(cpu), AnyEntry::Cpu(e)) => advance_queue(script, cursor, cpu, &e.op, &e.reply),
         _ => act_over(script, cursor),
     }
 }
 
-/// The cursor after an entry of a callout.
-pub fn advance_callout(
+// ---- after a call, or in its place a note of the actor's own
+
+/// The cursor after an entry of callout `i`.
+fn advance_callout(
     script: &Script,
     cursor: &Cursor,
     i: u32,
     listed: bool,
     op: &Op,
     reply: &Reply,
-) -> Cursor {
-    let cursor = Cursor {
+) -> Cursor
+    requires script { IsScript script.now }
+    requires room { cursor.now.act < 2 ^ 64 - 1 }
+    ensures cursor { (role : Role) → let s = script.now in let c = cursor_as s role cursor.now in
+        cursor_as s role result ≡ advance_callout s (record c { removed = None }) i listed op.now reply.now c.stage }
+    ensures counted { Counts cursor.now result 1 }
+{
+    let under_way = Cursor {
         removed: None,
         ..*cursor
     };
-    match cursor.stage {
-        Stage::Picking(v) => picked(script, &cursor, v, reply),
-        Stage::Beginning(v) => begun(script, &cursor, v, reply),
-        Stage::Ending(v) => ended(&cursor, v, reply),
-        _ => called(script, &cursor, i, listed, op, reply),
+    match &cursor.stage {
+        Stage::Picking(v) => picked(script, &under_way, v, reply),
+        Stage::Beginning(v) => begun(script, &under_way, v, reply),
+        Stage::Ending(v) => ended(&under_way, v, reply),
+        _ => called(script, &under_way, i, listed, op, reply),
     }
 }
 
-/// The cursor after an entry of a CPU's journal.
-pub fn advance_queue(
-    script: &Script,
-    cursor: &Cursor,
-    cpu: u32,
-    op: &QOp,
-    reply: &QReply,
-) -> Cursor {
-    match op {
-        QOp::Insert { .. } => Cursor {
-            parcel: None,
-            ..*cursor
-        },
-        QOp::Remove { .. } => Cursor {
-            removed: Some(cpu),
-            ..*cursor
-        },
-        QOp::Scan { .. } => Cursor {
-            act: cursor.act + 1,
-            stage: Stage::Popping { act: cursor.act },
-            ..*cursor
-        },
-        QOp::Pop | QOp::PopDirect => popped(cursor, reply),
-        QOp::Free | QOp::FreeDirect => freed(script, cursor),
-    }
-}
-
-/// The act is over: the cursor after a call, or in its place a note of the actor's own.
-pub fn act_over(script: &Script, cursor: &Cursor) -> Cursor {
-    match cursor.stage {
-        Stage::Firing(v, left) => Cursor {
-            act: cursor.act + 1,
-            stage: firing(script, v, cursor.hold, one_less(left)),
-            ..*cursor
-        },
-        Stage::Drained(v, left) => Cursor {
-            act: cursor.act + 1,
-            stage: draining(script, v, one_less(left)),
-            ..*cursor
-        },
-        _ => over(cursor, cursor.hold),
-    }
-}
-
-fn one_less(left: ActsLeft) -> ActsLeft {
-    ActsLeft {
-        func: left.func,
-        done: left.done.saturating_add(1),
-    }
-}
-
-fn called(
-    script: &Script,
-    cursor: &Cursor,
-    i: u32,
-    listed: bool,
-    op: &Op,
-    reply: &Reply,
-) -> Cursor {
+/// The cursor after the entry of a call: an accepted arming that is listed is on its way into its CPU's queue.
+fn called(script: &Script, cursor: &Cursor, i: u32, listed: bool, op: &Op, reply: &Reply) -> Cursor
+    requires script { IsScript script.now }
+    requires room { cursor.now.act < 2 ^ 64 - 1 }
+    ensures cursor { (role : Role) → let s = script.now in
+        cursor_as s role result ≡ called (cursor_as s role cursor.now) i listed op.now reply.now }
+    ensures counted { Counts cursor.now result 1 }
+{
     match *reply {
         Reply::Wait { n, took, .. } => Cursor {
             stage: Stage::Waiting { n, took },
@@ -132,7 +100,43 @@ fn called(
     }
 }
 
-fn due_of_call(op: &Op) -> Sbt {
+/// The cursor when the act is over: after a call, or in its place a note of the actor's own.
+fn act_over(script: &Script, cursor: &Cursor) -> Cursor
+    requires script { IsScript script.now }
+    requires room { cursor.now.act < 2 ^ 64 - 1 }
+    ensures cursor { (role : Role) → let s = script.now in let c = cursor_as s role cursor.now in
+        cursor_as s role result ≡ act_over c c.stage }
+    ensures counted { Counts cursor.now result 1 }
+{
+    match &cursor.stage {
+        Stage::Firing(v, left) => Cursor {
+            act: cursor.act + 1,
+            stage: firing(script, v, cursor.hold, one_less(*left)),
+            ..*cursor
+        },
+        Stage::Drained(v, left) => Cursor {
+            act: cursor.act + 1,
+            stage: draining(script, v, one_less(*left)),
+            ..*cursor
+        },
+        _ => after(cursor, cursor.hold),
+    }
+}
+
+/// What is left of a function once its next act is over.
+fn one_less(left: ActsLeft) -> ActsLeft
+    ensures { (s : Script) → IsScript s → acts_left s result ≡ tail_of (acts_left s left) }
+{
+    ActsLeft {
+        func: left.func,
+        done: past(left.done),
+    }
+}
+
+/// The time for which a call arms.
+fn due_of_call(op: &Op) -> Sbt
+    ensures { result ≡ due_of_call op.now }
+{
     match *op {
         Op::Call(CallOp::Plain(PlainOp::Reset { due, .. })) => due,
         Op::Call(CallOp::Plain(PlainOp::Schedule { due, .. })) => due,
@@ -140,37 +144,63 @@ fn due_of_call(op: &Op) -> Sbt {
     }
 }
 
-fn picked(script: &Script, cursor: &Cursor, v: Service, reply: &Reply) -> Cursor {
+// ---- in a service
+
+/// The cursor after a Pick: the function runs, or waits for the callout's lock.
+fn picked(script: &Script, cursor: &Cursor, v: &Service, reply: &Reply) -> Cursor
+    ensures cursor { (role : Role) → let s = script.now in
+        cursor_as s role result ≡ picked s (cursor_as s role cursor.now) v.now reply.now }
+    ensures counted { Counts cursor.now result 1 }
+{
     let stage = match *reply {
         Reply::Go { func, .. } => firing(script, v, cursor.hold, whole(func)),
-        _ => Stage::Locking(v),
+        _ => Stage::Locking(*v),
     };
     Cursor { stage, ..*cursor }
 }
 
-fn whole(func: u32) -> ActsLeft {
+/// The cursor after a Begin: the function runs, or it was cancelled meanwhile and the lock is released.
+fn begun(script: &Script, cursor: &Cursor, v: &Service, reply: &Reply) -> Cursor
+    ensures cursor { (role : Role) → let s = script.now in
+        cursor_as s role result ≡ begun s (cursor_as s role cursor.now) v.now reply.now }
+    ensures counted { Counts cursor.now result 1 }
+{
+    let stage = match *reply {
+        Reply::Go { func, .. } => runs(script, v, cursor.hold, func),
+        _ => Stage::Releasing(*v),
+    };
+    Cursor { stage, ..*cursor }
+}
+
+/// The function begins, under the callout's lock or, where it returns unlocked, once that is released.
+fn runs(script: &Script, v: &Service, hold: Option<Held>, func: u32) -> Stage
+    ensures { let s = script.now in let acts = acts_at s.funcs func in
+        stage_of s result ≡ (if (spec_at s v.now.i).returns_unlocked then Unlocking v.now acts else firing v.now hold acts) }
+{
+    if spec_at(script, v.i).returns_unlocked {
+        Stage::Unlocking(*v, whole(func))
+    } else {
+        firing(script, v, hold, whole(func))
+    }
+}
+
+/// All acts of a function.
+fn whole(func: u32) -> ActsLeft
+    ensures { (s : Script) → acts_left s result ≡ acts_at s.funcs func }
+{
     ActsLeft { func, done: 0 }
 }
 
-fn begun(script: &Script, cursor: &Cursor, v: Service, reply: &Reply) -> Cursor {
-    let stage = match *reply {
-        Reply::Go { func, .. } => {
-            if spec_at(script, v.i).returns_unlocked {
-                Stage::Unlocking(v, whole(func))
-            } else {
-                firing(script, v, cursor.hold, whole(func))
-            }
-        }
-        _ => Stage::Releasing(v),
-    };
-    Cursor { stage, ..*cursor }
-}
-
-fn ended(cursor: &Cursor, v: Service, reply: &Reply) -> Cursor {
+/// The cursor after an End.
+fn ended(cursor: &Cursor, v: &Service, reply: &Reply) -> Cursor
+    ensures cursor { (s : Script) (role : Role) →
+        cursor_as s role result ≡ ended (cursor_as s role cursor.now) v.now reply.now }
+    ensures counted { Counts cursor.now result 1 }
+{
     match *reply {
         Reply::Ended { drain, next, .. } => Cursor {
             stage: Stage::Freeing {
-                service: v,
+                service: *v,
                 drain,
                 next,
             },
@@ -180,51 +210,97 @@ fn ended(cursor: &Cursor, v: Service, reply: &Reply) -> Cursor {
     }
 }
 
-/// A soft act begins with its first Pop.
-fn popped(cursor: &Cursor, reply: &QReply) -> Cursor {
+// ---- from a queue
+
+/// The cursor after an entry of a CPU's journal.
+fn advance_queue(script: &Script, cursor: &Cursor, cpu: u32, op: &QOp, reply: &QReply) -> Cursor
+    requires script { IsScript script.now }
+    requires room { cursor.now.act < 2 ^ 64 - 1 }
+    ensures cursor { (role : Role) → let s = script.now in
+        cursor_as s role result ≡ advance_queue s (cursor_as s role cursor.now) cpu op.now reply.now }
+    ensures counted { Counts cursor.now result 1 }
+{
+    match op {
+        QOp::Insert { .. } => Cursor {
+            parcel: None,
+            ..*cursor
+        },
+        QOp::Remove { .. } => Cursor {
+            removed: Some(cpu),
+            ..*cursor
+        },
+        QOp::Scan { .. } => Cursor {
+            act: cursor.act + 1,
+            stage: Stage::Popping { act: cursor.act },
+            ..*cursor
+        },
+        QOp::Pop | QOp::PopDirect => popped(cursor, reply),
+        QOp::Free | QOp::FreeDirect => freed(script, cursor),
+    }
+}
+
+/// The cursor after a Pop, with the first of which a soft act begins.
+fn popped(cursor: &Cursor, reply: &QReply) -> Cursor
+    requires { cursor.now.act < 2 ^ 64 - 1 }
+    ensures cursor { (s : Script) (role : Role) → IsScript s → let c = cursor_as s role cursor.now in
+        cursor_as s role result ≡ popped c reply.now c.stage }
+    ensures counted { Counts cursor.now result 1 }
+{
     match cursor.stage {
         Stage::Popping { act } => got(cursor, act, reply),
         _ => {
-            let begun = Cursor {
+            let under_way = Cursor {
                 act: cursor.act + 1,
                 ..*cursor
             };
-            got(&begun, cursor.act, reply)
+            got(&under_way, cursor.act, reply)
         }
     }
 }
 
-/// An empty queue ends the act.
-fn got(cursor: &Cursor, act: u64, reply: &QReply) -> Cursor {
+/// What a Pop got; an empty queue ends the act.
+fn got(cursor: &Cursor, act: u64, reply: &QReply) -> Cursor
+    ensures cursor { (s : Script) (role : Role) → IsScript s →
+        cursor_as s role result ≡ got (cursor_as s role cursor.now) act reply.now }
+    ensures counted { Counts cursor.now result 0 }
+{
     match *reply {
         QReply::Got { i, n, at } => Cursor {
             stage: Stage::Picking(Service { act, i, n, at }),
             ..*cursor
         },
         _ => Cursor {
-            task: cursor.task.saturating_add(1),
+            task: past(cursor.task),
             stage: Stage::Ready,
             ..*cursor
         },
     }
 }
 
-fn freed(script: &Script, cursor: &Cursor) -> Cursor {
-    match cursor.stage {
+/// The cursor after a Free: the callout may go to another CPU.
+fn freed(script: &Script, cursor: &Cursor) -> Cursor
+    ensures cursor { (role : Role) → let s = script.now in let c = cursor_as s role cursor.now in
+        cursor_as s role result ≡ freed s c c.stage }
+    ensures counted { Counts cursor.now result 1 }
+{
+    match &cursor.stage {
         Stage::Freeing {
             service,
             drain,
             next,
         } => Cursor {
-            stage: drains(script, service, drain),
-            parcel: parcel_of(service, next),
+            stage: drains(script, service, *drain),
+            parcel: parcel_of(service, *next),
             ..*cursor
         },
         _ => *cursor,
     }
 }
 
-fn drains(script: &Script, v: Service, drain: Option<u32>) -> Stage {
+/// The function of an asynchronous drain begins, if one was named.
+fn drains(script: &Script, v: &Service, drain: Option<u32>) -> Stage
+    ensures { stage_of script.now result ≡ draining v.now (drain_acts script.now drain) }
+{
     match drain {
         None => Stage::Popping { act: v.act },
         Some(func) => draining(script, v, whole(func)),
@@ -232,7 +308,9 @@ fn drains(script: &Script, v: Service, drain: Option<u32>) -> Stage {
 }
 
 /// A callout that the end of its service sends on its way.
-fn parcel_of(v: Service, next: Option<Next>) -> Option<Parcel> {
+fn parcel_of(v: &Service, next: Option<Next>) -> Option<Parcel>
+    ensures { result ≡ parcel_of v.now next }
+{
     match next {
         None => None,
         Some(next) => Some(Parcel {

@@ -1,5 +1,5 @@
-//! The actors of a script: who each of them is, and where it stands.
-ghost use Rattle.std.specs.Prelude.{◌≡◌};
+//! The actors of a script, by number: who each of them is, and on which CPU it acts (our own order).
+ghost use Rattle.std.specs.Prelude.{◌≡◌, ◌≤◌};
 ghost use Rattle.co_program.specs.Actors.{actor_count, cpu_of, role_of};
 ghost use Rattle.co_program.specs.Scripts.{IsScript};
 
@@ -29,7 +29,8 @@ pub fn actor_count(script: &Script) -> u32
     }
 }
 
-/// Who the actor of this number is: first come the clients, then the CPUs, then the interrupts.
+/// Who the actor of this number is: first come the clients, then the CPUs, then the interrupts. From `actor_count` on it
+/// is an interrupt that the script doesn't have.
 pub fn role_of(script: &Script, actor: u32) -> Role
     ensures { result ≡ role_of script.now actor }
 {
@@ -45,9 +46,9 @@ pub fn role_of(script: &Script, actor: u32) -> Role
     }
 }
 
-/// The CPU where a role acts: for a client that of its number, all around.
+/// The CPU where a role acts: its own, or for a client that of the client's number modulo the number of CPUs.
 pub fn cpu_of(script: &Script, role: Role) -> u32
-    requires { IsScript script.now }
+    requires { 1 ≤ script.now.cpus }
     ensures { result ≡ cpu_of script.now role }
 {
     match role {

@@ -3,11 +3,12 @@ ghost use Rattle.std.specs.Prelude.{◌≡◌, true, false};
 ghost use Rattle.co_object.specs.Callout.{call, live_call, retired_call};
 ghost use Rattle.co_object.specs.Query.{answer};
 ghost use Rattle.co_record.specs.Paired.{IsPaired};
+ghost use Rattle.co_record.specs.Same.{SameService};
 ghost use Rattle.co_record.specs.Standing.{state_of, holds};
 
 use crate::arm::{reset, schedule};
 use crate::drain::{async_drain, drain_try, stop};
-use crate::rest::{retire, init};
+use crate::lifetime::{init, retire};
 use crate::{Record, Slot};
 use co_object::{CallOp, PlainOp, Reply};
 
@@ -18,16 +19,16 @@ fn answer(yes: bool) -> Reply
     if yes { Reply::Yes } else { Reply::No }
 }
 
-/// A caller's operation.
+/// A caller's operation on a callout: the reply is the one that the callout alone gives.
+///
+/// The slot is that of the CPU at which the record stands, and either has the callout in service or no slot has. The codes
+/// of stop, reset and schedule for a callout that no service has, and of a stop of a running function, are those of
+/// callout(9) in FreeBSD 12. Every other reply is our own decision: `NoHandler`, `Worn`, `NotArmed`, the two moments
+/// of a drain, all of an asynchronous drain, init and retire.
 pub fn call(rec: &mut Record, slot: &mut Slot, op: &CallOp) -> Reply
     requires paired { IsPaired rec.old slot.old }
     ensures outcome { (state_of rec.new slot.new, result) ≡ call (state_of rec.old slot.old) op.now }
-    ensures paired { IsPaired rec.new slot.new }
-    ensures number { rec.new.i ≡ rec.old.i }
-    ensures spec { rec.new.spec ≡ rec.old.spec }
-    ensures cpu { slot.new.cpu ≡ slot.old.cpu }
-    ensures current { slot.new.current ≡ slot.old.current }
-    ensures unheld { holds slot.old rec.old.i ≡ false → slot.new ≡ slot.old }
+    ensures service { SameService rec.old slot.old rec.new slot.new }
 {
     match op {
         CallOp::Plain(op) => {
@@ -46,12 +47,7 @@ fn live_call(rec: &mut Record, slot: &mut Slot, op: &PlainOp) -> Reply
     requires paired { IsPaired rec.old slot.old }
     requires live { rec.old.live ≡ true }
     ensures outcome { (state_of rec.new slot.new, result) ≡ live_call (state_of rec.old slot.old) op.now }
-    ensures paired { IsPaired rec.new slot.new }
-    ensures number { rec.new.i ≡ rec.old.i }
-    ensures spec { rec.new.spec ≡ rec.old.spec }
-    ensures cpu { slot.new.cpu ≡ slot.old.cpu }
-    ensures current { slot.new.current ≡ slot.old.current }
-    ensures unheld { holds slot.old rec.old.i ≡ false → slot.new ≡ slot.old }
+    ensures service { SameService rec.old slot.old rec.new slot.new }
 {
     match *op {
         PlainOp::Reset {
@@ -80,68 +76,10 @@ fn retired_call(rec: &mut Record, slot: &mut Slot, op: &PlainOp) -> Reply
     requires paired { IsPaired rec.old slot.old }
     requires retired { rec.old.live ≡ false }
     ensures outcome { (state_of rec.new slot.new, result) ≡ retired_call (state_of rec.old slot.old) op.now }
-    ensures paired { IsPaired rec.new slot.new }
-    ensures number { rec.new.i ≡ rec.old.i }
-    ensures spec { rec.new.spec ≡ rec.old.spec }
-    ensures cpu { slot.new.cpu ≡ slot.old.cpu }
-    ensures current { slot.new.current ≡ slot.old.current }
-    ensures unheld { holds slot.old rec.old.i ≡ false → slot.new ≡ slot.old }
+    ensures service { SameService rec.old slot.old rec.new slot.new }
 {
     match op {
         PlainOp::Init => init(rec, slot),
         _ => Reply::Retired,
-    }
-}
-
-#[cfg(test)]
-mod tests {
-    use crate::{Record, Slot, call};
-    use co_object::{CallOp, LockUse, PlainOp, Reply, Spec};
-    use co_sbt::Sbt;
-
-    #[test]
-    fn stops_once(rt: HostRuntime) {
-        let spec = Spec {
-            lock: LockUse::Mtx(0),
-            returns_unlocked: false,
-            direct: false,
-        };
-        let mut rec = Record::new(3, spec, 0);
-        let mut slot = Slot::new(0);
-        let due = Sbt::from_ticks(1, 1000);
-        let reset = CallOp::Plain(PlainOp::Reset {
-            due,
-            prec: due,
-            func: 0,
-            arg: 7,
-            cpu: None,
-        });
-        let armed = call(&mut rec, &mut slot, &reset);
-        assert_eq!(rt;
-            armed,
-            Reply::Armed {
-                code: 0,
-                n: 0,
-                cpu: 0,
-                off: None,
-            }
-        );
-        let stop = CallOp::Plain(PlainOp::Stop);
-        let stopped = call(&mut rec, &mut slot, &stop);
-        assert_eq!(rt;
-            stopped,
-            Reply::Stopped {
-                code: 1,
-                off: Some(0),
-            }
-        );
-        let again = call(&mut rec, &mut slot, &stop);
-        assert_eq!(rt;
-            again,
-            Reply::Stopped {
-                code: -1,
-                off: None,
-            }
-        );
     }
 }

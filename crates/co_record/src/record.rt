@@ -5,13 +5,15 @@ ghost use Rattle.co_object.specs.Arm.{is_picked, is_draining};
 ghost use Rattle.co_object.specs.Stand.{is_idle, off};
 ghost use Rattle.co_record.specs.Fresh.{fresh};
 ghost use Rattle.co_record.specs.Paired.{IsPaired};
+ghost use Rattle.co_record.specs.Same.{};
+ghost use Rattle.co_record.specs.Same.{SameCallout};
 ghost use Rattle.co_record.specs.Standing.{state_of, moved, settled};
 
 use crate::{Move, Slot};
 use co_object::Spec;
 use co_sbt::Sbt;
 
-/// What a callout knows of itself, wherever it is.
+/// What a callout knows of itself, wherever it is: its flags, its last arming and the number of its armings.
 #[derive(Clone, Copy, Debug, PartialEq, Eq)]
 pub struct Record {
     pub(crate) i: u32,
@@ -37,7 +39,7 @@ pub struct Record {
 }
 
 impl Record {
-    /// The record of callout `i` as it is made, but that `made` armings count as made before.
+    /// The record of callout `i`, live, not armed and at home on CPU 0. Its next arming has the number `made`.
     pub fn new(i: u32, spec: Spec, made: u64) -> Record
         ensures { result ≡ fresh i spec made }
     {
@@ -66,35 +68,35 @@ impl Record {
         self.i
     }
 
-    /// What is fixed of the callout.
+    /// The lock and the lane with which the callout was made.
     pub fn spec(&self) -> Spec
         ensures { result ≡ self.now.spec }
     {
         self.spec
     }
 
-    /// Whether it is one that the interrupt services.
+    /// Whether the interrupt services it, and not the CPU's own actor.
     pub fn is_direct(&self) -> bool
         ensures { result ≡ self.now.spec.direct }
     {
         self.spec.direct
     }
 
-    /// When its arming is due.
+    /// When the last arming in the record is due, or 0 before the first. A deferred arming is in the slot.
     pub fn time(&self) -> Sbt
         ensures { result ≡ self.now.time }
     {
         self.time
     }
 
-    /// The CPU that it is armed at, or was last.
+    /// The CPU of the last arming in the record, or 0 before the first.
     pub fn home(&self) -> u32
         ensures { result ≡ self.now.home }
     {
         self.home
     }
 
-    /// The number of accepted armings.
+    /// The number of accepted armings, so the number of the last one is one less.
     pub fn made(&self) -> u64
         ensures { result ≡ self.now.made }
     {
@@ -108,6 +110,7 @@ impl Record {
         self.pending
     }
 
+    /// Whether an arming stands in a queue, or waits for the end of a service.
     pub(crate) fn is_armed(&self, slot: &Slot) -> bool
         ensures { result ≡ is_some (state_of self.now slot.now).armed }
     {
@@ -121,20 +124,21 @@ impl Record {
         !slot.holds(self.i)
     }
 
-    /// It waits for its lock.
+    /// Whether its service waits for its lock.
     pub(crate) fn is_picked(&self, slot: &Slot) -> bool
         ensures { result ≡ is_picked (state_of self.now slot.now).run }
     {
         slot.holds(self.i) && !self.processed && !slot.cancel
     }
 
+    /// Whether a drain waits for the end of the service that has it.
     pub(crate) fn is_draining(&self, slot: &Slot) -> bool
         ensures { result ≡ is_draining (state_of self.now slot.now) }
     {
         slot.holds(self.i) && (slot.waiting || slot.drain.is_some())
     }
 
-    /// The CPU in whose queue it stands.
+    /// The CPU in whose queue it stands, or None where it stands in none.
     pub fn off(&self, slot: &Slot) -> Option<u32>
         requires { IsPaired self.now slot.now }
         ensures { result ≡ off (state_of self.now slot.now) }
@@ -193,9 +197,7 @@ impl Record {
     pub(crate) fn disarm(&mut self, slot: &Slot)
         requires paired { IsPaired self.old slot.now }
         ensures outcome { state_of self.new slot.now ≡ record (state_of self.old slot.now) { armed = None; active = false } }
-        ensures paired { IsPaired self.new slot.now }
-        ensures number { self.new.i ≡ self.old.i }
-        ensures spec { self.new.spec ≡ self.old.spec }
+        ensures callout { SameCallout self.old slot.now self.new slot.now }
     {
         self.settle(slot);
         self.pending = false;

@@ -5,14 +5,14 @@ ghost use Rattle.co_record.specs.Standing.{served, holds};
 
 use co_sbt::Sbt;
 
-/// The arming in service.
+/// The arming in service: callout `i`'s arming `n`.
 #[derive(Clone, Copy, Debug, PartialEq, Eq)]
 pub struct Current {
     pub i: u32,
     pub n: u64,
 }
 
-/// An arming on another CPU that waits for the end of the service.
+/// An arming on another CPU that waits for the end of the service: its due time, precision, function, argument and CPU.
 #[derive(Clone, Copy, Debug, PartialEq, Eq)]
 pub struct Move {
     pub time: Sbt,
@@ -22,7 +22,7 @@ pub struct Move {
     pub cpu: u32,
 }
 
-/// What a CPU knows of the callout that it has in service.
+/// What a CPU knows of the callout that it has in service, if any.
 #[derive(Clone, Copy, Debug, PartialEq, Eq)]
 pub struct Slot {
     pub(crate) cpu: u32,
@@ -66,7 +66,7 @@ impl Slot {
         self.cpu
     }
 
-    /// The arming in service.
+    /// The arming in service, if any.
     pub fn current(&self) -> Option<Current>
         ensures { result ≡ self.now.current }
     {

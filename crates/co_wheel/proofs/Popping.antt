@@ -22,7 +22,7 @@ use Rattle.co_queue.specs.Timers.{Timers}
 use Rattle.co_queue.specs.StandsFor.{StandsFor, Answers, IsAtRest}
 use Rattle.co_queue.proofs.Order.{unlike}
 use Rattle.co_wheel.specs.Agreed.{Came, waits, came, entries, HasCome, IsListedAs, AgreesWith, IsOfItsLane, IsKeptBut, IsWheel}
-use Rattle.co_wheel.specs.Callouts.{Callouts, callout, with_callout, in_service, with_service, direct_of, is_direct_at, is_here, arming_of_callout, off_of_callout, IsDueAt}
+use Rattle.co_wheel.specs.Callouts.{Callouts, callout, with_callout, in_service, with_service, direct_of, is_direct_at, is_here, arming_of_callout, arming_number, due_at, off_of_callout, IsDueAt}
 use Rattle.co_wheel.specs.Cpu.{cpu_of}
 use Rattle.co_wheel.specs.Service.{moved_on, pick_at, pick_it, pick_outcome}
 use Rattle.co_wheel.specs.Turns.{Shows, Turns, pop_of}
@@ -232,11 +232,13 @@ module _ (direct : Bool) (c : Callouts) (s t : Timers) (i n : ℕ) (free : in_se
     pub taken-lane : is_direct_at c i ≡ direct
     taken-lane = ap direct_of found.there ∙ sym found.has_come.lane_is
 
-    pub taken-due : IsDueAt c i n t.last
+    pub taken-number : due_at c i ≡ due i n
+    taken-number = ap (λ o. due i (arming_number o)) (ap arming_of_callout found.there ∙ found.armed) ∙ ap (due i) (sym found.has_come.number)
+
+    pub taken-due : IsDueAt c i t.last
     taken-due = record {
       arming = found.arming;
       armed = ap arming_of_callout found.there ∙ found.armed;
-      number = sym found.has_come.number;
       listed = ap off_of_callout found.there ∙ found.listed;
       due = subst (λ x. found.arming.due ≤ x) (here.scanned ∙ sym same-last) found.has_come.due;
     }

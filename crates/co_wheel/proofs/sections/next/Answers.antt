@@ -4,11 +4,11 @@ use Rattle.std.specs.declared.option.Option.TheVariants.{Some}
 use Rattle.co_object.specs.declared.queue.QReply.TheVariants.{Got}
 use Rattle.co_queue.specs.Timers.{Timers}
 use Rattle.co_queue.specs.StandsFor.{Answers, taken}
-use Rattle.co_wheel.specs.Callouts.{in_service, IsDueAt}
+use Rattle.co_wheel.specs.Callouts.{in_service, due_at, IsDueAt}
 use Rattle.co_wheel.specs.Cpu.{cpu_of}
 use Rattle.co_wheel.specs.Service.{pick_at}
 use Rattle.co_wheel.specs.Turns.{Turns, pop_of}
-use Rattle.co_wheel.proofs.Popping.{taken-here, taken-lane, taken-due, taken-kept, taken-turn}
+use Rattle.co_wheel.proofs.Popping.{taken-here, taken-lane, taken-number, taken-due, taken-kept, taken-turn}
 use Rattle.co_wheel.proofs.sections.next.Goals as goal
 
 -- the queue gave callout i's arming n
@@ -34,7 +34,7 @@ pick-reply-requires-clause-due g c =
     let s = g.Q.TimerQueue.state c.args.queue.now in
     let t = g.Q.TimerQueue.state c.pop.new.queue in
     let answers = got c.args.direct s t c.pop.result c.in-Some.i c.in-Some.n c.in-Some.is c.pop.ensures in
-    subst (IsDueAt c.args.records.now c.in-Some.i c.in-Some.n) (sym c.last-at.ensures)
+    subst (IsDueAt c.args.records.now c.in-Some.i) (sym c.last-at.ensures)
     (taken-due c.args.direct c.args.records.now s t c.in-Some.i c.in-Some.n c.requires.free answers c.requires.kept)
 
 pub returns-in-Some-clause-kept : goal.returns-in-Some-clause-kept
@@ -43,25 +43,22 @@ returns-in-Some-clause-kept g c =
     let t = g.Q.TimerQueue.state c.pop.new.queue in
     let answers = got c.args.direct s t c.pop.result c.in-Some.i c.in-Some.n c.in-Some.is c.pop.ensures in
     let lane = taken-lane c.args.direct c.args.records.now s t c.in-Some.i c.in-Some.n c.requires.free answers c.requires.kept in
+    let number = taken-number c.args.direct c.args.records.now s t c.in-Some.i c.in-Some.n c.requires.free answers c.requires.kept in
     taken-kept c.args.direct c.args.records.now s t c.in-Some.i c.in-Some.n c.requires.free answers c.requires.kept
     c.pick-reply.new.self c.pick-reply.result c.last-at.result
-    (c.pick-reply.ensures ∙ ap (λ d. pick_at d c.args.records.now (record { i = c.in-Some.i; n = c.in-Some.n }) c.last-at.result) lane)
+    (c.pick-reply.ensures ∙ ap (λ d. pick_at d c.args.records.now (due_at c.args.records.now c.in-Some.i) c.last-at.result) lane ∙ ap (λ d. pick_at c.args.direct c.args.records.now d c.last-at.result) number)
 
-pub returns-in-Some-clause-callouts : goal.returns-in-Some-clause-callouts
-returns-in-Some-clause-callouts g c =
+pub returns-in-Some-clause-section : goal.returns-in-Some-clause-section
+returns-in-Some-clause-section g c =
     let s = g.Q.TimerQueue.state c.args.queue.now in
     let t = g.Q.TimerQueue.state c.pop.new.queue in
     let answers = got c.args.direct s t c.pop.result c.in-Some.i c.in-Some.n c.in-Some.is c.pop.ensures in
     let lane = taken-lane c.args.direct c.args.records.now s t c.in-Some.i c.in-Some.n c.requires.free answers c.requires.kept in
-    sym (c.pick-reply.ensures ∙ ap (λ d. pick_at d c.args.records.now (record { i = c.in-Some.i; n = c.in-Some.n }) c.last-at.result) lane)
-
-pub returns-in-Some-clause-queue : goal.returns-in-Some-clause-queue
-returns-in-Some-clause-queue g c =
-    let s = g.Q.TimerQueue.state c.args.queue.now in
-    let t = g.Q.TimerQueue.state c.pop.new.queue in
-    let answers = got c.args.direct s t c.pop.result c.in-Some.i c.in-Some.n c.in-Some.is c.pop.ensures in
-    let lane = taken-lane c.args.direct c.args.records.now s t c.in-Some.i c.in-Some.n c.requires.free answers c.requires.kept in
-    subst (λ at. Turns (cpu_of c.args.records.now s) ((pop_of c.args.direct, Got c.in-Some.i c.in-Some.n at) ∷ []) (cpu_of c.pick-reply.new.self t)) (sym c.last-at.ensures)
-    (taken-turn c.args.direct c.args.records.now s t c.in-Some.i c.in-Some.n c.requires.free answers c.requires.kept
-    c.pick-reply.new.self c.pick-reply.result c.last-at.result
-    (c.pick-reply.ensures ∙ ap (λ d. pick_at d c.args.records.now (record { i = c.in-Some.i; n = c.in-Some.n }) c.last-at.result) lane))
+    let number = taken-number c.args.direct c.args.records.now s t c.in-Some.i c.in-Some.n c.requires.free answers c.requires.kept in
+    let picked = c.pick-reply.ensures ∙ ap (λ d. pick_at d c.args.records.now (due_at c.args.records.now c.in-Some.i) c.last-at.result) lane ∙ ap (λ d. pick_at c.args.direct c.args.records.now d c.last-at.result) number in
+    record {
+      callouts = sym picked;
+      queue = subst (λ at. Turns (cpu_of c.args.records.now s) ((pop_of c.args.direct, Got c.in-Some.i c.in-Some.n at) ∷ []) (cpu_of c.pick-reply.new.self t)) (sym c.last-at.ensures)
+          (taken-turn c.args.direct c.args.records.now s t c.in-Some.i c.in-Some.n c.requires.free answers c.requires.kept
+          c.pick-reply.new.self c.pick-reply.result c.last-at.result picked);
+    }

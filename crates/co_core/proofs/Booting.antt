@@ -1,0 +1,88 @@
+-- What stands in the books and in the depot before the first step is the opening of the plain world.
+use Rattle.std.proofs.Common.{◌≡◌, ℕ, zero, suc, ◌+◌, ◌<◌, ◌≤◌, List, [], ◌∷◌, ◌++◌, length, replicate, get_or, map, refl, ap, sym, subst, ◌∙◌, arith}
+use Rattle.std.specs.Prelude.{Option, Some, None, Bool, true, false, cond, not, ◌&&◌, ◌==◌, slice_index_or}
+use Rattle.std.specs.List.{list_any}
+use Rattle.std.proofs.lemmas.Bool.{eqb-true, eq-eqb}
+use Rattle.std.proofs.lemmas.List.{length-replicate, length-map, get_or-map, get_or-replicate}
+use Rattle.co_object.specs.declared.alone.Alone.{Alone}
+use Rattle.co_object.specs.Queue.{empty_queue}
+use Rattle.co_queue.proofs.Standing.{stands_for-empty}
+use Rattle.co_wheel.specs.Turns.{Shows}
+use Rattle.co_object.specs.declared.note.Note.{Note}
+use Rattle.co_program.specs.declared.script.Script.{Script}
+use Rattle.co_program.specs.declared.cursor.Cursor.{Cursor as CursorAt}
+use Rattle.co_program.specs.Actors.{actor_count}
+use Rattle.co_core.specs.World.{open_world, all_actors}
+use Rattle.co_core.specs.Blocked.{is_moving, moves}
+use Rattle.co_core.specs.Booted.{first_wheel, first_callouts, new_callout}
+use Rattle.co_core.specs.Stored.{Stored, no_wheel, wheel_at, bag_at}
+use Rattle.co_core.specs.Step.{are_direct}
+use Rattle.co_core.specs.Table.{table}
+use Rattle.co_core.proofs.Tables.{table_long, table_at, fills, same}
+use Rattle.co_core.proofs.Filling.{spec_of, plain_spec}
+use Rattle.co_core.specs.Stands.{IsWritten, IsStored, IsAtWheel, at_home, is_home, alone_of}
+use Rattle.co_core.specs.Written.{Written, first_place}
+use Rattle.co_core.proofs.Copies.{table-same}
+
+-- the books before the first step
+pub opening-written : (s : Script) (n timers cpus : ℕ) → n ≡ actor_count s → timers ≡ length s.timers → cpus ≡ s.cpus →
+    IsWritten s (record { places = replicate n first_place; lists = replicate n []; histories = replicate timers 0; journals = replicate cpus 0; scans = replicate cpus 0; own = replicate n 0; made = 0 }) (open_world s)
+opening-written s n timers cpus actors_is timers_is cpus_is = record {
+  places_long = length-replicate n first_place ∙ actors_is;
+  each_place = λ a h. rw (get_or-replicate n a first_place first_place (omega (arith, h, actors_is))) refl;
+  each_list = ap (λ k. replicate k []) actors_is ∙ sym (table-same (actor_count s) []);
+  each_history = ap (λ k. replicate k 0) timers_is ∙ sym (table-same (length s.timers) 0);
+  each_journal = ap (λ k. replicate k 0) cpus_is ∙ sym (table-same s.cpus 0);
+  each_scan = ap (λ k. replicate k 0) cpus_is ∙ sym (table-same s.cpus 0);
+  each_own = ap (λ k. replicate k 0) actors_is ∙ sym (table-same (actor_count s) 0);
+  counted = λ a h. rw (get_or-replicate n a first_place first_place (omega (arith, h, actors_is))) (omega arith);
+  few_entries = λ i. omega arith;
+  few_turns = λ cpu. omega arith;
+  few_own = λ a. omega arith;
+}
+
+-- nobody moves a callout yet
+none-any : (xs : List ℕ) → list_any (λ _. false) xs ≡ false
+none-any [] = refl
+none-any (x ∷ xs) = none-any xs
+
+still : (s : Script) (i : ℕ) → is_moving s (open_world s) i ≡ false
+still s i = none-any (all_actors s)
+
+-- where the callouts are before the first step
+callouts-home : (s : Script) (cpu : ℕ) → first_callouts s.timers cpu ≡ table (length s.timers) (at_home s (open_world s) cpu)
+callouts-home s cpu = go (cpu == 0) refl where
+  here : (i : ℕ) (b : Bool) → (0 == cpu) ≡ b → cond (b && not false) (Some (alone_of s (open_world s) i)) None ≡ at_home s (open_world s) cpu i
+  here i b is = ap (λ c. cond (c && not false) (Some (alone_of s (open_world s) i)) None) (sym is) ∙ ap (λ c. cond ((0 == cpu) && not c) (Some (alone_of s (open_world s) i)) None) (sym (still s i))
+  away : (b : Bool) → (cpu == 0) ≡ false → (0 == cpu) ≡ b → b ≡ false
+  away false h is = refl
+  away true h is = let zero_is : 0 ≡ cpu = eqb-true 0 cpu is in let yes' : (cpu == 0) ≡ true = eq-eqb cpu 0 (sym zero_is) in cc
+  go : (b : Bool) → (cpu == 0) ≡ b → cond b (map new_callout s.timers) (replicate (length s.timers) None) ≡ table (length s.timers) (at_home s (open_world s) cpu)
+  go true is =
+      let zero_is : cpu ≡ 0 = eqb-true cpu 0 is in
+      let home : (0 == cpu) ≡ true = eq-eqb 0 cpu (sym zero_is) in
+      fills (map new_callout s.timers) (length s.timers) (at_home s (open_world s) cpu) None (length-map s.timers new_callout)
+          (λ i within. get_or-map new_callout s.timers i plain_spec None within ∙ here i true home)
+  go false is =
+      sym (table-same (length s.timers) None) ∙ same (length s.timers) (λ _. None) (at_home s (open_world s) cpu)
+          (λ i within. sym (here i false (away (0 == cpu) is refl)))
+
+at-first : (s : Script) (cpu : ℕ) → IsAtWheel s (open_world s) cpu (first_wheel s cpu)
+at-first s cpu = record {
+  number = refl;
+  here = callouts-home s cpu;
+  buckets = refl;
+  direct = refl;
+  shows = record { timers = stands_for-empty (length s.timers) s.buckets (are_direct s); serving = refl; directing = refl };
+}
+
+-- the depot before the first step
+pub opening-stored : (s : Script) (n timers : ℕ) → n ≡ actor_count s → timers ≡ length s.timers →
+    IsStored s (record { wheels = table s.cpus (first_wheel s); stands = replicate timers 0; bags = replicate n None }) (open_world s)
+opening-stored s n timers actors_is timers_is = record {
+  wheels_long = table_long s.cpus (first_wheel s);
+  each_wheel = λ cpu within. subst (λ x. IsAtWheel s (open_world s) cpu x) (sym (table_at s.cpus (first_wheel s) cpu no_wheel within)) (at-first s cpu);
+  each_stand = ap (λ k. replicate k 0) timers_is ∙ sym (table-same (length s.timers) 0);
+  bags_long = length-replicate n None ∙ actors_is;
+  each_bag = λ a h. get_or-replicate n a None None (omega (arith, h, actors_is));
+}

@@ -1,0 +1,21 @@
+-- Lists of equal elements, and tables of equal values.
+use Rattle.std.proofs.Common.{◌≡◌, ℕ, zero, suc, ◌+◌, ◌<◌, List, [], ◌∷◌, ◌++◌, length, replicate, get_or, map, refl, ap, sym, ◌∙◌, arith, add-one}
+use Rattle.std.specs.List.{range_with_len}
+use Rattle.std.proofs.lemmas.List.FromFn.{map-range_with_len_more}
+use Rattle.co_core.specs.Table.{table}
+
+pub replicate-more : {X : Type 0} (n : ℕ) (x : X) → replicate n x ++ x ∷ [] ≡ replicate (n + 1) x
+replicate-more zero x = refl
+replicate-more (suc n) x = let more : suc n + 1 ≡ suc (n + 1) = omega arith in rw more (ap (λ xs. x ∷ xs) (replicate-more n x))
+
+-- a table of one value
+range-same : {X : Type 0} (a n : ℕ) (x : X) → map (λ _. x) (range_with_len a n) ≡ replicate n x
+range-same a zero x = refl
+range-same a (suc n) x = ap (λ xs. x ∷ xs) (range-same (a + 1) n x)
+
+pub table-same : {X : Type 0} (n : ℕ) (x : X) → table n (λ _. x) ≡ replicate n x
+table-same n x = range-same 0 n x
+
+-- a table with one more value
+pub table-more : {X : Type 0} (n : ℕ) (f : ℕ → X) → table n f ++ f n ∷ [] ≡ table (n + 1) f
+table-more n f = sym (map-range_with_len_more f 0 n n (omega arith))

@@ -1,0 +1,25 @@
+use Rattle.std.proofs.Common.{arith, rules, ◌≡◌, ◌<◌, ◌≤◌, ◌+◌, ◌^◌, sym, subst, ap, ◌∙◌, length}
+use Rattle.co_core.specs.contracts.books.Books.{the_view}
+use Rattle.co_core.specs.Written.{Written, IsNoted, with_list, place_at}
+use Rattle.co_program.specs.Indexed.{IsCounted, Counts, cursor_of}
+use Rattle.co_program.specs.declared.cursor.Cursor.{Cursor as CursorAt}
+use Rattle.co_program.specs.Advance.{advance}
+use Rattle.co_core.proofs.Noting.{noted_by, went}
+use Rattle.co_core.proofs.books.Books.write.Goals as goal
+
+pub advance-to-requires-clause-room : goal.advance-to-requires-clause-room
+advance-to-requires-clause-room c =
+    let over : c.place-from.result.task < 2 ^ 32 = search rules in
+    let counted : IsCounted c.place-from.result c.args.self.now.made = subst (λ (p : CursorAt). IsCounted p c.args.self.now.made) (sym c.place-from.ensures) c.requires.counted in
+    omega (arith, counted)
+
+pub returns-clause-noted : goal.returns-clause-noted
+returns-clause-noted c =
+    let x : Written = the_view c.self.inside in
+    let a = c.args.hand.now.actor in
+    let from : c.place-from.result ≡ place_at x a = c.place-from.ensures ∙ ap (λ (y : Written). place_at y a) (sym c.self.view_is) in
+    let within : a < length x.lists = subst (λ (y : Written). a < length y.lists) (sym c.self.view_is) c.requires.list in
+    subst (λ (y : Written). IsNoted c.args.script.now a c.args.listed c.args.note.now (with_list y a c.args.hand.now.notes.items) (with_list (went x a c.advance-to.result) a c.push.new.self.notes.items)) c.self.view_is
+    (noted_by c.args.script.now a c.args.listed c.args.note.now x c.args.hand.now.notes.items c.push.new.self.notes.items c.advance-to.result within
+    (subst (λ (p : CursorAt). cursor_of c.args.script.now a c.advance-to.result ≡ advance c.args.script.now (cursor_of c.args.script.now a p) c.args.listed c.args.note.now.place c.args.note.now.entry) from (c.advance-to.ensures.cursor a))
+    (subst (λ (p : CursorAt). Counts p c.advance-to.result 1) from c.advance-to.ensures.counted) c.push.ensures.items)

@@ -1,0 +1,30 @@
+use Rattle.std.proofs.Common.{rules, ◌≡◌, ◌+◌, ◌<◌, ◌∙◌, ◌⊎◌, None, Option, List, get_or, set, length, map, refl, ap, sym, arith}
+use Rattle.co_object.specs.declared.alone.Alone.{Alone}
+use Rattle.co_core.specs.Booted.{new_callout}
+use Rattle.co_core.proofs.Filling.{partly, partly-none, partly-more, partly-all, partly-long, partly-absent, spec_of}
+use Rattle.co_core.proofs.depot.boot.put_all.Goals as goal
+
+pub loop-i-init : goal.loop-i-init
+loop-i-init c =
+    let w = c.args.wheel.now in
+    ap (λ (xs : List (Option Alone)). record w { callouts = record w.callouts { here = xs } }) (c.requires.empty ∙ partly-none c.args.specs.now)
+
+pub put-requires-clause-below : goal.put-requires-clause-below
+put-requires-clause-below c =
+    rw (c.new.ensures, c.loop-i.invariant) (let l = partly-long c.args.specs.now c.loop-i.i in omega (arith, l, c.loop-i-test.true))
+
+pub put-requires-clause-absent : goal.put-requires-clause-absent
+put-requires-clause-absent c =
+    rw (c.new.ensures, c.loop-i.invariant, partly-absent c.args.specs.now c.loop-i.i c.loop-i-test.true) refl
+
+pub loop-i-preserved : goal.loop-i-preserved
+loop-i-preserved c =
+    let w = c.args.wheel.now in
+    c.put.ensures ∙ rw (c.new.ensures, c.loop-i.invariant) (
+      ap (λ (xs : List (Option Alone)). record w { callouts = record w.callouts { here = xs } }) (partly-more c.args.specs.now c.loop-i.i))
+
+pub returns : goal.returns
+returns c =
+    let w = c.args.wheel.now in
+    let long : length c.args.specs.now ≡ c.loop-i.i = omega (arith, c.loop-i.auto.i-end, c.loop-i-test.false) in
+    c.loop-i.invariant ∙ ap (λ (xs : List (Option Alone)). record w { callouts = record w.callouts { here = xs } }) (ap (λ k. partly c.args.specs.now k) (sym long) ∙ partly-all c.args.specs.now)

@@ -1,0 +1,45 @@
+-- What has been written in a world: each actor's place and notes, and how long each history is.
+use Rattle.std.specs.Prelude.{◌≡◌, ℕ, ◌+◌, Bool, List, [], ◌∷◌, ◌++◌, get_or, set}
+use Rattle.std.specs.declared.option.Option.TheVariants.{None}
+use Rattle.co_object.specs.declared.note.Note.{Note}
+use Rattle.co_program.specs.declared.cursor.Cursor.{Cursor as CursorAt}
+use Rattle.co_program.specs.declared.cursor.Stage.TheVariants.{Ready}
+use Rattle.co_program.specs.declared.script.Script.{Script}
+use Rattle.co_program.specs.Advance.{advance}
+use Rattle.co_program.specs.Indexed.{Counts, cursor_of}
+
+pub record Written : Type 0 where
+  -- by actor: its place in its program, and its notes
+  pub places : List CursorAt
+  pub lists : List (List Note)
+  -- by callout and by CPU: how many entries its history has
+  pub histories : List ℕ
+  pub journals : List ℕ
+  -- by CPU: how many Scans its journal has
+  pub scans : List ℕ
+  -- by actor: how many notes of its own it has
+  pub own : List ℕ
+  -- how many notes there are
+  pub made : ℕ
+
+abbrev pub first_place : CursorAt
+first_place = record { task = 0; act = 0; time = 0; hold = None; stage = Ready; removed = None; parcel = None }
+
+abbrev pub place_at : Written → ℕ → CursorAt
+place_at x a = get_or x.places a first_place
+
+abbrev pub list_at : Written → ℕ → List Note
+list_at x a = get_or x.lists a []
+
+abbrev pub with_place : Written → ℕ → CursorAt → Written
+with_place x a to = record x { places = set x.places a to }
+
+abbrev pub with_list : Written → ℕ → List Note → Written
+with_list x a notes = record x { lists = set x.lists a notes }
+
+-- an actor has made a note, and goes on in its program
+pub record IsNoted (s : Script) (a : ℕ) (listed : Bool) (note : Note) (before after : Written) : Type 0 where
+  pub to : CursorAt
+  pub place : cursor_of s a to ≡ advance s (cursor_of s a (place_at before a)) listed note.place note.entry
+  pub counts : Counts (place_at before a) to 1
+  pub noted : after ≡ record before { places = set before.places a to; lists = set before.lists a (list_at before a ++ note ∷ []); made = before.made + 1 }

@@ -1,0 +1,355 @@
+//! What has been written: each actor's place in its program and its notes, and how long each history is.
+ghost use Rattle.std.specs.Prelude.{◌≡◌, ℕ, ◌+◌, ◌<◌, ◌≤◌, ◌^◌, Bool, true, false, [], ◌∷◌, ◌++◌, length, is_some, IfOk, OnErr};
+ghost use Rattle.co_program.specs.declared.script.Script.{Script as ScriptOf};
+ghost use Rattle.co_program.specs.Scripts.{IsScript};
+ghost use Rattle.co_program.specs.Indexed.{IsCounted};
+ghost use Rattle.std.specs.declared.option.Option.TheVariants.{None};
+ghost use Rattle.co_object.specs.declared.queue.QOp.TheVariants.{Insert, Remove};
+ghost use Rattle.co_object.specs.declared.queue.QReply.TheVariants.{At, Off};
+ghost use Rattle.co_program.specs.declared.cursor.Parcel.{Parcel as ParcelOf};
+ghost use Rattle.co_object.specs.declared.state.State.{State};
+ghost use Rattle.co_object.specs.Entries.{is_armed};
+ghost use Rattle.co_object.specs.Stand.{off};
+ghost use Rattle.co_object.specs.Queue.{Queue as TimerQueue};
+ghost use Rattle.co_program.specs.Follows.{one_scan};
+ghost use Rattle.co_core.specs.World.{World as PlainWorld};
+ghost use Rattle.co_core.specs.Stands.{IsWritten, MayWrite};
+ghost use Rattle.co_core.specs.Step.{callout_answers, own_note, queue_answers};
+ghost use Rattle.co_core.specs.Written.{IsNoted, list_at, place_at, with_list, with_place};
+
+mod boot;
+
+use co_object::{AnyEntry, CallOp, Entry, Lists, Note, Op, OwnEntry, OwnKind, Place, PlainOp, QEntry, QOp, QReply, Reply, RunOp};
+use co_program::{Cursor, Parcel, Script, advance};
+use co_sbt::{NoMemory, Room, Sbt, Seq};
+use std::alloc::Global;
+use std::marker::Model;
+
+/// What has been written: each actor's place in its program and its notes, and how long each history is.
+#[derive(Drop)]
+pub(crate) struct Books {
+    alloc: Global,
+    /// By actor: its place in its program.
+    places: Vec<Cursor>,
+    /// By actor: its notes.
+    lists: Lists,
+    /// By callout: how many entries its history has.
+    histories: Vec<u64>,
+    /// By CPU: how many entries its journal has, and how many of them are Scans.
+    journals: Vec<u64>,
+    scans: Vec<u64>,
+    /// By actor: how many notes of its own it has.
+    own: Vec<u64>,
+    /// How many notes there are.
+    made: u64,
+}
+
+impl Model for Books {
+    ghost use Rattle.co_core.specs.Written.{Written};
+
+    ghost Value = { Written };
+
+    ghost view = { λ b. record { places = b.places.items; lists = b.lists; histories = b.histories.items; journals = b.journals.items; scans = b.scans.items; own = b.own.items; made = b.made } };
+}
+
+/// An actor in the middle of a step: its notes are taken out of the books, with room for more.
+#[derive(Drop)]
+pub(crate) struct Hand {
+    pub actor: u32,
+    pub notes: Room<Note>,
+}
+
+/// So many notes never fit into memory.
+const MOST: u64 = 0x8000_0000_0000_0000;
+
+impl Books {
+    /// The actor's place in its program.
+    pub(crate) fn place(&self, actor: u32) -> Cursor
+        requires { actor < length self.now.places }
+        ensures { result ≡ place_at self.now actor }
+    {
+        self.places[actor as usize]
+    }
+
+    /// What the actor's place has on its way.
+    pub(crate) fn parcel(&self, actor: u32) -> Option<Parcel>
+        requires { actor < length self.now.places }
+        ensures { result ≡ (place_at self.now actor).parcel }
+    {
+        let place = &self.places[actor as usize];
+        place.parcel
+    }
+
+    /// The actor goes on to another place in its program.
+    pub(crate) fn go(&mut self, actor: u32, to: Cursor)
+        requires { actor < length self.old.places }
+        ensures { self.new ≡ with_place self.old actor to }
+    {
+        self.places[actor as usize] = to;
+    }
+
+    /// Takes the actor's notes in hand, with room for three more. After NoMemory nothing has changed.
+    pub(crate) fn open(&mut self, actor: u32) -> Result<Hand, NoMemory>
+        requires { actor < length self.old.lists }
+        ensures actor { IfOk result (λ hand. hand.actor ≡ actor) }
+        ensures opened { IfOk result (λ hand. with_list self.new actor hand.notes.items ≡ self.old) }
+        ensures room { IfOk result (λ hand. 3 ≤ hand.notes.spare) }
+        ensures few { IfOk result (λ hand. self.new.made < 2 ^ 63) }
+        ensures err { OnErr result (self.new ≡ self.old) }
+    {
+        if self.made >= MOST {
+            return Err(NoMemory {});
+        }
+        let list = self.lists.replace(actor as usize, Seq::new(self.alloc));
+        let mut notes = Room::from_seq(list);
+        let reserved = notes.reserve(3);
+        let hand = Hand { actor, notes };
+        match reserved {
+            Ok(()) => Ok(hand),
+            Err(_) => {
+                self.close(hand);
+                Err(NoMemory {})
+            }
+        }
+    }
+
+    /// Puts the actor's notes back.
+    pub(crate) fn close(&mut self, hand: Hand)
+        requires { hand.actor < length self.old.lists }
+        ensures { self.new ≡ with_list self.old hand.actor hand.notes.items }
+    {
+        self.lists.replace(hand.actor as usize, hand.notes.into_seq());
+    }
+
+    /// The actor makes a note, and goes on in its program. `listed` is whether the callout stands in a queue now.
+    fn write(&mut self, script: &Script, hand: &mut Hand, listed: bool, note: &Note)
+        requires script { IsScript script.now }
+        requires actor { hand.old.actor < length self.old.places }
+        requires list { hand.old.actor < length self.old.lists }
+        requires counted { IsCounted (place_at self.old hand.old.actor) self.old.made }
+        requires few { self.old.made < 2 ^ 63 + 3 }
+        requires room { 0 < hand.old.notes.spare }
+        ensures noted { IsNoted script.now hand.old.actor listed note.now (with_list self.old hand.old.actor hand.old.notes.items) (with_list self.new hand.old.actor hand.new.notes.items) }
+        ensures actor { hand.new.actor ≡ hand.old.actor }
+        ensures spare { hand.old.notes.spare ≤ hand.new.notes.spare + 1 }
+        ensures count { length hand.new.notes.items ≡ length hand.old.notes.items + 1 }
+        ensures made { self.new.made ≡ self.old.made + 1 }
+    {
+        let from = self.place(hand.actor);
+        let to = advance(script, &from, listed, note.place, &note.entry);
+        self.places[hand.actor as usize] = to;
+        self.made += 1;
+        hand.push(note);
+    }
+
+    /// An entry in a callout's history. Where it accepts an arming, `listed` is whether the callout stands in a queue now.
+    pub(crate) fn write_callout(
+        &mut self,
+        script: &Script,
+        hand: &mut Hand,
+        act: u64,
+        i: u32,
+        op: Op,
+        reply: Reply,
+        listed: bool,
+    )
+        requires script { IsScript script.now }
+        requires written { MayWrite script.now (with_list self.old hand.old.actor hand.old.notes.items) hand.old.actor }
+        requires known { i < length script.now.timers }
+        requires few { self.old.made < 2 ^ 63 + 3 }
+        requires room { 0 < hand.old.notes.spare }
+        ensures written { (w : PlainWorld) (state : State) → IsWritten script.now (with_list self.old hand.old.actor hand.old.notes.items) w → (is_armed reply ≡ true → listed ≡ is_some (off state)) →
+            IsWritten script.now (with_list self.new hand.old.actor hand.new.notes.items) (callout_answers script.now w hand.old.actor act i op (Some (state, reply))) }
+        ensures actor { hand.new.actor ≡ hand.old.actor }
+        ensures spare { hand.old.notes.spare ≤ hand.new.notes.spare + 1 }
+        ensures count { length hand.new.notes.items ≡ length hand.old.notes.items + 1 }
+        ensures made { self.new.made ≡ self.old.made + 1 }
+    {
+        let pos = self.histories[i as usize];
+        self.histories[i as usize] = pos + 1;
+        let entry = Entry {
+            actor: hand.actor,
+            act,
+            op,
+            reply,
+        };
+        let note = Note {
+            place: Place::Timer(i),
+            pos,
+            entry: AnyEntry::Timer(entry),
+        };
+        self.write(script, hand, listed, &note);
+    }
+
+    /// An entry in a CPU's journal.
+    pub(crate) fn write_queue(
+        &mut self,
+        script: &Script,
+        hand: &mut Hand,
+        act: u64,
+        cpu: u32,
+        op: QOp,
+        reply: QReply,
+    )
+        requires script { IsScript script.now }
+        requires written { MayWrite script.now (with_list self.old hand.old.actor hand.old.notes.items) hand.old.actor }
+        requires known { cpu < script.now.cpus }
+        requires few { self.old.made < 2 ^ 63 + 3 }
+        requires room { 0 < hand.old.notes.spare }
+        ensures written { (w : PlainWorld) (queue : TimerQueue) → IsWritten script.now (with_list self.old hand.old.actor hand.old.notes.items) w →
+            IsWritten script.now (with_list self.new hand.old.actor hand.new.notes.items) (queue_answers script.now w hand.old.actor act cpu op (Some (queue, reply))) }
+        ensures actor { hand.new.actor ≡ hand.old.actor }
+        ensures spare { hand.old.notes.spare ≤ hand.new.notes.spare + 1 }
+        ensures count { length hand.new.notes.items ≡ length hand.old.notes.items + 1 }
+        ensures made { self.new.made ≡ self.old.made + 1 }
+    {
+        let pos = self.journals[cpu as usize];
+        self.journals[cpu as usize] = pos + 1;
+        let scans = self.scans[cpu as usize];
+        self.scans[cpu as usize] = scans + one_scan(&op);
+        let entry = QEntry {
+            actor: hand.actor,
+            act,
+            op,
+            reply,
+        };
+        let note = Note {
+            place: Place::Cpu(cpu),
+            pos,
+            entry: AnyEntry::Cpu(entry),
+        };
+        self.write(script, hand, false, &note);
+    }
+
+    /// Where a call takes an arming out of its queue, the Remove before its entry. The answer is how many notes that are.
+    pub(crate) fn write_removal(
+        &mut self,
+        script: &Script,
+        hand: &mut Hand,
+        act: u64,
+        cpu: u32,
+        i: u32,
+        removed: bool,
+    ) -> u32
+        requires script { IsScript script.now }
+        requires written { MayWrite script.now (with_list self.old hand.old.actor hand.old.notes.items) hand.old.actor }
+        requires known { cpu < script.now.cpus }
+        requires few { self.old.made < 2 ^ 63 + 3 }
+        requires room { 0 < hand.old.notes.spare }
+        ensures stays { removed ≡ false → with_list self.new hand.old.actor hand.new.notes.items ≡ with_list self.old hand.old.actor hand.old.notes.items }
+        ensures written { (w : PlainWorld) (queue : TimerQueue) → removed ≡ true → IsWritten script.now (with_list self.old hand.old.actor hand.old.notes.items) w →
+            IsWritten script.now (with_list self.new hand.old.actor hand.new.notes.items) (queue_answers script.now w hand.old.actor act cpu (Remove i) (Some (queue, Off))) }
+        ensures actor { hand.new.actor ≡ hand.old.actor }
+        ensures spare { hand.old.notes.spare ≤ hand.new.notes.spare + 1 }
+        ensures count { length hand.new.notes.items ≡ length hand.old.notes.items + result }
+        ensures made { self.new.made ≤ self.old.made + 1 }
+        ensures few { result ≤ 1 }
+    {
+        if !removed {
+            return 0;
+        }
+        self.write_queue(script, hand, act, cpu, QOp::Remove { i }, QReply::Off);
+        1
+    }
+
+    /// Where an arming has entered the queue of its CPU, the Insert that the actor's place has on its way. The answer is
+    /// how many notes that are.
+    pub(crate) fn write_insertion(
+        &mut self,
+        script: &Script,
+        hand: &mut Hand,
+        at: Option<Sbt>,
+    ) -> u32
+        requires script { IsScript script.now }
+        requires written { MayWrite script.now (with_list self.old hand.old.actor hand.old.notes.items) hand.old.actor }
+        requires known { is_some at ≡ true → (parcel : ParcelOf) × ((place_at self.old hand.old.actor).parcel ≡ Some parcel) × (parcel.cpu < script.now.cpus) }
+        requires few { self.old.made < 2 ^ 63 + 3 }
+        requires room { 0 < hand.old.notes.spare }
+        ensures stays { at ≡ None → with_list self.new hand.old.actor hand.new.notes.items ≡ with_list self.old hand.old.actor hand.old.notes.items }
+        ensures written { (w : PlainWorld) (queue : TimerQueue) (parcel : ParcelOf) (t : ℕ) → at ≡ Some t → IsWritten script.now (with_list self.old hand.old.actor hand.old.notes.items) w →
+            (w.actors hand.old.actor).cursor.parcel ≡ Some parcel →
+            IsWritten script.now (with_list self.new hand.old.actor hand.new.notes.items) (queue_answers script.now w hand.old.actor parcel.act parcel.cpu (Insert parcel.i parcel.n parcel.due) (Some (queue, At t))) }
+        ensures actor { hand.new.actor ≡ hand.old.actor }
+        ensures count { length hand.new.notes.items ≡ length hand.old.notes.items + result }
+        ensures few { result ≤ 1 }
+    {
+        let Some(at) = at else {
+            return 0;
+        };
+        let Some(parcel) = self.parcel(hand.actor) else {
+            return 0;
+        };
+        self.write_landing(script, hand, &parcel, at);
+        1
+    }
+
+    /// The Insert of a callout that comes to the CPU at which it is armed.
+    fn write_landing(&mut self, script: &Script, hand: &mut Hand, parcel: &Parcel, at: Sbt)
+        requires script { IsScript script.now }
+        requires written { MayWrite script.now (with_list self.old hand.old.actor hand.old.notes.items) hand.old.actor }
+        requires known { parcel.now.cpu < script.now.cpus }
+        requires few { self.old.made < 2 ^ 63 + 3 }
+        requires room { 0 < hand.old.notes.spare }
+        ensures written { (w : PlainWorld) (queue : TimerQueue) → IsWritten script.now (with_list self.old hand.old.actor hand.old.notes.items) w →
+            IsWritten script.now (with_list self.new hand.old.actor hand.new.notes.items) (queue_answers script.now w hand.old.actor parcel.now.act parcel.now.cpu (Insert parcel.now.i parcel.now.n parcel.now.due) (Some (queue, At at))) }
+        ensures actor { hand.new.actor ≡ hand.old.actor }
+        ensures count { length hand.new.notes.items ≡ length hand.old.notes.items + 1 }
+    {
+        let op = QOp::Insert {
+            i: parcel.i,
+            n: parcel.n,
+            t: parcel.due,
+        };
+        self.write_queue(script, hand, parcel.act, parcel.cpu, op, QReply::At(at));
+    }
+
+    /// An entry of the actor's own: an act that came to no callout.
+    pub(crate) fn write_own(&mut self, script: &Script, hand: &mut Hand, act: u64, kind: OwnKind)
+        requires script { IsScript script.now }
+        requires written { MayWrite script.now (with_list self.old hand.old.actor hand.old.notes.items) hand.old.actor }
+        requires few { self.old.made < 2 ^ 63 + 3 }
+        requires room { 0 < hand.old.notes.spare }
+        ensures written { (w : PlainWorld) → IsWritten script.now (with_list self.old hand.old.actor hand.old.notes.items) w →
+            IsWritten script.now (with_list self.new hand.old.actor hand.new.notes.items) (own_note script.now w hand.old.actor act kind) }
+        ensures actor { hand.new.actor ≡ hand.old.actor }
+        ensures count { length hand.new.notes.items ≡ length hand.old.notes.items + 1 }
+    {
+        let actor = hand.actor;
+        let pos = self.own[actor as usize];
+        self.own[actor as usize] = pos + 1;
+        let entry = OwnEntry { actor, act, kind };
+        let note = Note {
+            place: Place::Actor(actor),
+            pos,
+            entry: AnyEntry::Own(entry),
+        };
+        self.write(script, hand, false, &note);
+    }
+}
+
+fn one_scan(op: &QOp) -> u64
+    ensures scans { result ≡ one_scan op.now }
+    ensures few { result ≤ 1 }
+{
+    match op {
+        QOp::Scan { .. } => 1,
+        _ => 0,
+    }
+}
+
+impl Hand {
+    /// Appends a note, into the room.
+    fn push(&mut self, note: &Note)
+        requires { 0 < self.old.notes.spare }
+        ensures actor { self.new.actor ≡ self.old.actor }
+        ensures items { self.new.notes.items ≡ self.old.notes.items ++ note.now ∷ [] }
+        ensures spare { self.old.notes.spare ≤ self.new.notes.spare + 1 }
+    {
+        // The checker wants each enum inside a note that holds a time to be named where a note is passed on.
+        let _call = Op::Call(CallOp::Plain(PlainOp::Stop));
+        let _run = Op::Run(RunOp::Begin { n: 0, cpu: 0 });
+        let _parts: (Option<Entry>, Option<QEntry>, Option<AnyEntry>) = (None, None, None);
+        let _answers = (Reply::Busy, QOp::Pop, QReply::Empty);
+        self.notes.push(*note);
+    }
+}

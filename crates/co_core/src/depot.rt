@@ -1,0 +1,197 @@
+//! Where the callouts' records are: at the wheels of the CPUs, or on their way.
+ghost use Rattle.std.specs.Prelude.{◌≡◌, ◌<◌, Bool, true, false, length, is_some};
+ghost use Rattle.std.specs.Option.{option_map};
+ghost use Rattle.std.specs.declared.option.Option.{Option};
+ghost use Rattle.std.specs.declared.option.Option.TheVariants.{Some, None};
+ghost use Rattle.co_wheel.specs.Callouts.{is_here, in_service};
+ghost use Rattle.co_wheel.specs.Cpu.{Cpu};
+ghost use Rattle.co_wheel.specs.Parcel.{Parcel as Travelling};
+ghost use Rattle.co_wheel.specs.Service.{begin_here, end_here};
+ghost use Rattle.co_core.specs.Stored.{IsBegun, IsCalled, IsEnded, IsLanded, IsNext, IsScanned, MayLand, bag_at, is_entry, services, stand_at, wheel_at, with_bag, with_stand, with_wheel};
+
+mod boot;
+
+use co_object::{CallOp, Reply};
+use co_queue::{ListQueue, Looks};
+use co_sbt::Sbt;
+use co_wheel::{EndOut, NextOut, Parcel, Wheel};
+use std::marker::Model;
+
+/// Where the callouts' records are: at the wheels of the CPUs, or on their way.
+#[derive(Drop)]
+pub(crate) struct Depot {
+    wheels: Vec<Wheel<ListQueue>>,
+    /// By callout: the CPU where its record stands, or which it is leaving.
+    stands: Vec<u32>,
+    /// By actor: the record that it is moving.
+    bags: Vec<Option<Parcel>>,
+}
+
+impl Model for Depot {
+    ghost use Rattle.co_core.specs.Stored.{Stored};
+
+    ghost Value = { Stored };
+
+    ghost view = { λ d. record { wheels = d.wheels.items; stands = d.stands.items; bags = d.bags.items } };
+}
+
+/// What a call answers.
+pub(crate) struct Called {
+    pub reply: Reply,
+    /// The queue had an arming of the callout, which the call took out.
+    pub removed: bool,
+    /// An accepted arming stands in the queue, or is on its way into another one.
+    pub listed: bool,
+    /// It stands in the queue, at this time.
+    pub inserted: Option<Sbt>,
+}
+
+impl Depot {
+    /// The CPU where the callout's record stands, or which it is leaving.
+    pub(crate) fn stand(&self, i: u32) -> u32
+        requires { i < length self.now.stands }
+        ensures { result ≡ stand_at self.now i }
+    {
+        self.stands[i as usize]
+    }
+
+    /// Whether the callout's record is at the wheel of this CPU.
+    pub(crate) fn holds(&self, cpu: u32, i: u32) -> bool
+        requires { cpu < length self.now.wheels }
+        ensures { result ≡ is_here (wheel_at self.now cpu).callouts i }
+    {
+        let wheel = &self.wheels[cpu as usize];
+        wheel.holds(i)
+    }
+
+    /// Whether this CPU or its interrupt has the callout in service, for this arming.
+    pub(crate) fn services(&self, cpu: u32, i: u32, n: u64) -> bool
+        requires { cpu < length self.now.wheels }
+        ensures { result ≡ services (wheel_at self.now cpu).callouts i n }
+    {
+        let wheel = &self.wheels[cpu as usize];
+        is_entry(wheel.serving(), i, n) || is_entry(wheel.directing(), i, n)
+    }
+
+    /// A caller's operation on a callout that is at this CPU. Where its record leaves it goes into the actor's bag.
+    pub(crate) fn call(&mut self, cpu: u32, i: u32, op: &CallOp, actor: u32) -> Called
+        requires cpu { cpu < length self.old.wheels }
+        requires actor { actor < length self.old.bags }
+        requires here { is_here (wheel_at self.old cpu).callouts i ≡ true }
+        ensures { (after : Cpu) × (leaves : Option Travelling) × IsCalled (wheel_at self.old cpu) i op.now result.reply result.removed result.listed result.inserted leaves after × (self.new ≡ with_bag (with_wheel self.old cpu after) actor leaves) }
+    {
+        let wheel = &mut self.wheels[cpu as usize];
+        let (called, leaves) = call(wheel, i, op);
+        self.bags[actor as usize] = leaves;
+        called
+    }
+
+    /// The lock of the callout that this CPU services is held.
+    pub(crate) fn begin(&mut self, cpu: u32) -> Reply
+        requires cpu { cpu < length self.old.wheels }
+        requires possible { is_some (begin_here (wheel_at self.old cpu).callouts) ≡ true }
+        ensures { (after : Cpu) × IsBegun (wheel_at self.old cpu) result after × (self.new ≡ with_wheel self.old cpu after) }
+    {
+        let wheel = &mut self.wheels[cpu as usize];
+        wheel.begin()
+    }
+
+    /// The service of this CPU is over, or of its interrupt where `direct`. Where a record leaves it goes into the actor's bag.
+    pub(crate) fn end(&mut self, cpu: u32, direct: bool, actor: u32) -> Reply
+        requires cpu { cpu < length self.old.wheels }
+        requires actor { actor < length self.old.bags }
+        requires possible { is_some (end_here direct (wheel_at self.old cpu).callouts) ≡ true }
+        ensures { (after : Cpu) × (leaves : Option Travelling) × IsEnded direct (wheel_at self.old cpu) result leaves after × (self.new ≡ with_bag (with_wheel self.old cpu after) actor leaves) }
+    {
+        let wheel = &mut self.wheels[cpu as usize];
+        let out = end(wheel, direct);
+        self.bags[actor as usize] = out.leaves;
+        out.reply
+    }
+
+    /// The first callout that has come due goes into service: of this CPU, or of its interrupt where `direct`.
+    pub(crate) fn next(&mut self, cpu: u32, direct: bool) -> NextOut
+        requires cpu { cpu < length self.old.wheels }
+        requires free { in_service direct (wheel_at self.old cpu).callouts ≡ None }
+        ensures { (after : Cpu) × IsNext direct (wheel_at self.old cpu) result after × (self.new ≡ with_wheel self.old cpu after) }
+    {
+        let wheel = &mut self.wheels[cpu as usize];
+        next(wheel, direct)
+    }
+
+    /// What is due at this CPU by this time has come due. The answer is how many entries that were.
+    pub(crate) fn scan(&mut self, cpu: u32, now: Sbt) -> u32
+        requires { cpu < length self.old.wheels }
+        ensures { (after : Cpu) × IsScanned (wheel_at self.old cpu) now result after × (self.new ≡ with_wheel self.old cpu after) }
+    {
+        let wheel = &mut self.wheels[cpu as usize];
+        scan(wheel, now)
+    }
+
+    /// The record in the actor's bag comes to this CPU, and enters its queue. The answer is the time at which it stands.
+    pub(crate) fn land(&mut self, cpu: u32, actor: u32) -> Sbt
+        requires cpu { cpu < length self.old.wheels }
+        requires may { MayLand self.old actor cpu }
+        ensures { (parcel : Travelling) × (after : Cpu) × (bag_at self.old actor ≡ Some parcel) × IsLanded (wheel_at self.old cpu) parcel result after × (self.new ≡ with_stand (with_bag (with_wheel self.old cpu after) actor None) parcel.i cpu) }
+    {
+        let bag = std::mem::replace(&mut self.bags[actor as usize], None);
+        let Some(parcel) = bag else {
+            return Sbt::zero();
+        };
+        self.stands[parcel.callout() as usize] = cpu;
+        let wheel = &mut self.wheels[cpu as usize];
+        wheel.land(parcel)
+    }
+}
+
+fn is_entry(entry: Option<(u32, u64)>, i: u32, n: u64) -> bool
+    ensures { result ≡ is_entry (option_map (λ d. record { i = d.0; n = d.1 }) entry) i n }
+{
+    match entry {
+        Some((j, m)) => j == i && m == n,
+        None => false,
+    }
+}
+
+fn scan(wheel: &mut Wheel<ListQueue>, now: Sbt) -> u32
+    ensures { IsScanned wheel.old now result wheel.new }
+{
+    let mut looks = Looks::new();
+    wheel.scan(now, &mut looks)
+}
+
+fn call(wheel: &mut Wheel<ListQueue>, i: u32, op: &CallOp) -> (Called, Option<Parcel>)
+    requires { is_here wheel.old.callouts i ≡ true }
+    ensures { IsCalled wheel.old i op.now result.0.reply result.0.removed result.0.listed result.0.inserted result.1 wheel.new }
+{
+    let out = wheel.call(i, op);
+    let called = Called {
+        reply: out.reply,
+        removed: out.removed,
+        listed: out.inserted.is_some() || out.leaves.is_some(),
+        inserted: out.inserted,
+    };
+    (called, out.leaves)
+}
+
+fn end(wheel: &mut Wheel<ListQueue>, direct: bool) -> EndOut
+    requires possible { is_some (end_here direct wheel.old.callouts) ≡ true }
+    ensures { IsEnded direct wheel.old result.reply result.leaves wheel.new }
+{
+    if direct {
+        wheel.end_direct()
+    } else {
+        wheel.end()
+    }
+}
+
+fn next(wheel: &mut Wheel<ListQueue>, direct: bool) -> NextOut
+    requires free { in_service direct wheel.old.callouts ≡ None }
+    ensures { IsNext direct wheel.old result wheel.new }
+{
+    if direct {
+        wheel.next_direct()
+    } else {
+        wheel.next()
+    }
+}

@@ -1,0 +1,48 @@
+//! One step of one actor.
+ghost use Rattle.std.specs.Prelude.{◌≡◌, ◌<◌, OnOk, OnErr, IfOk};
+ghost use Rattle.co_object.specs.declared.note.Note.{Note};
+ghost use Rattle.co_program.specs.Actors.{actor_count};
+ghost use Rattle.co_program.specs.Scripts.{IsScript};
+ghost use Rattle.co_core.specs.Stands.{StandsFor};
+ghost use Rattle.co_core.specs.Step.{step, turn_of};
+ghost use Rattle.co_core.specs.World.{World as PlainWorld, open_world};
+
+use crate::books::Books;
+use crate::depot::Depot;
+use crate::engine::Engine;
+use crate::turn::Turn;
+use co_object::Lists;
+use co_program::Script;
+use co_sbt::NoMemory;
+use std::alloc::Global;
+
+impl Engine {
+    /// Before the first step.
+    pub(crate) fn boot(alloc: Global, script: &Script) -> Result<Engine, NoMemory>
+        requires { IsScript script.now }
+        ensures { IfOk result (λ engine. StandsFor script.now engine.books engine.depot (open_world script.now)) }
+    {
+        let books = Books::boot(alloc, script)?;
+        let depot = Depot::boot(alloc, script)?;
+        Ok(Engine { books, depot })
+    }
+
+    /// The notes so far.
+    pub(crate) fn into_lists(self) -> Lists
+        ensures { result ≡ self.books.lists }
+    {
+        self.books.into_lists()
+    }
+
+    /// One step of an actor. After NoMemory all is as it was.
+    pub(crate) fn step(&mut self, script: &Script, actor: u32) -> Result<Turn, NoMemory>
+        requires script { IsScript script.now }
+        requires actor { actor < actor_count script.now }
+        requires stands { (w : PlainWorld) × StandsFor script.now self.old.books self.old.depot w }
+        ensures stands { OnOk result ((w : PlainWorld) → StandsFor script.now self.old.books self.old.depot w → StandsFor script.now self.new.books self.new.depot (step script.now w actor)) }
+        ensures turn { IfOk result (λ turn. (w : PlainWorld) → StandsFor script.now self.old.books self.old.depot w → turn ≡ turn_of script.now w actor) }
+        ensures err { OnErr result (self.new ≡ self.old) }
+    {
+        Err(NoMemory {})
+    }
+}

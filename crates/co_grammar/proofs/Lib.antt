@@ -1,0 +1,4 @@
+pub mod Spacing
+pub mod ActsBack
+pub mod FrameBack
+pub mod Sizes

@@ -1,0 +1,19 @@
+//! The lines of a script, both ways: what the words of a line state, whether that fits the script so far, and the words
+//! that an act or a line of the frame is written by.
+#![tactic(auto)]
+
+mod actors;
+pub mod checks;
+mod convert;
+pub mod forms;
+pub mod frame;
+mod keyword;
+mod operands;
+mod print;
+mod raw;
+
+pub use actors::turn;
+pub use convert::{act_of, spec_of};
+pub use keyword::{Kind, Opener, Verb, kind_of, verb_of};
+pub use print::{actor_name, print_act, print_lock, print_numbered, print_timer};
+pub use raw::{RawAct, RawLock, RawRole, RawSpec, RawTurn, RawWhere, RawWho};

@@ -1,0 +1,6 @@
+pub mod Identity
+pub mod Steps
+pub mod Rule
+pub mod Seen
+pub mod Views
+pub mod Cases

@@ -1,0 +1,12 @@
+//! A history that several actors share. It only grows, and each actor knows what it has seen of it.
+#![tactic(auto)]
+
+mod life;
+mod rule;
+mod story;
+#[cfg(test)]
+mod tests;
+mod view;
+
+pub use life::{Closed, Keeper, Life, Pass};
+pub use story::Story;

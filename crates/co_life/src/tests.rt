@@ -1,0 +1,97 @@
+ghost use Rattle.std.specs.Prelude.{◌≡◌, [], ◌∷◌, ◌++◌, IfOk, OnOk};
+ghost use Rattle.co_life.specs.Cases.{said_by};
+ghost use Rattle.co_life.specs.Seen.{own};
+ghost use Rattle.co_life.specs.Views.{AreFresh, pass_view};
+
+mod threads;
+
+use super::*;
+use co_sbt::{NoMemory, Seq};
+use std::alloc::Global;
+use std::test::Fail;
+
+/// Entries (actor, value), in which each value is the number of entries before it.
+struct Counting;
+
+impl Story for Counting {
+    type Entry = (u32, u64);
+
+    ghost use Rattle.co_life.specs.Cases.{said_by, Counts, Counts-front};
+
+    ghost actor = { said_by };
+
+    ghost legal = { Counts };
+
+    ghost empty_is_legal = { tt };
+
+    ghost prefix_is_legal = { Counts-front };
+}
+
+// Takes the passes of two actors out, in the order of their numbers.
+fn both<S: Story>(life: &Life<S>, passes: Seq<Pass<S>>) -> (Pass<S>, Pass<S>)
+    requires { AreFresh life.now 2 passes }
+    ensures { (result.0 ≡ pass_view life.now 0 []) × (result.1 ≡ pass_view life.now 1 []) }
+{
+    let mut passes = passes.into_vec();
+    match (passes.pop(), passes.pop()) {
+        (Some(one), Some(zero)) => (zero, one),
+        _ => unreachable!(),
+    }
+}
+
+// The writes (0, 0), (1, 1), (0, 2), their positions, and the history after a close that both passes met before.
+fn two_actors(alloc: Global) -> Result<(Closed<Counting>, [u64; 3]), NoMemory>
+    ensures positions { IfOk result (λ r. r.1 ≡ 0 ∷ 1 ∷ 2 ∷ []) }
+    ensures first { IfOk result (λ r. own said_by 0 r.0 ≡ (0, 0) ∷ (0, 2) ∷ []) }
+    ensures second { IfOk result (λ r. own said_by 1 r.0 ≡ (1, 1) ∷ []) }
+{
+    let (life, mut keeper, passes) = Life::<Counting>::new(alloc, 2)?;
+    let (zero, one) = both(&life, passes);
+    let (zero, first) = life.write(&mut keeper, zero, (0, 0));
+    let (one, second) = life.write(&mut keeper, one, (1, 1));
+    let (zero, third) = life.write(&mut keeper, zero, (0, 2));
+    let _zero = life.meet(&mut keeper, zero);
+    let _one = life.meet(&mut keeper, one);
+    Ok((life.close(keeper), [first, second, third]))
+}
+
+#[test]
+fn entries_have_their_positions(rt: HostRuntime) -> Result<(), Fail> {
+    let (_closed, positions) = two_actors(rt.alloc())?;
+    assert_eq!(rt; positions, [0, 1, 2]);
+    Ok(())
+}
+
+// Puts a life's passes onto one list for each actor.
+fn hand_out(
+    life: &Life<Counting>,
+    passes: Seq<Pass<Counting>>,
+    zero: &mut Seq<Pass<Counting>>,
+    one: &mut Seq<Pass<Counting>>,
+) -> Result<(), NoMemory>
+    requires { AreFresh life.now 2 passes }
+    ensures zero { OnOk result (zero.new ≡ zero.old ++ pass_view life.now 0 [] ∷ []) }
+    ensures one { OnOk result (one.new ≡ one.old ++ pass_view life.now 1 [] ∷ []) }
+{
+    let (of_zero, of_one) = both(life, passes);
+    zero.push(of_zero)?;
+    one.push(of_one)?;
+    Ok(())
+}
+
+// The passes of two lives, a list for each of two actors: the identities stay known.
+#[test]
+fn passes_keep_their_lives(rt: HostRuntime) -> Result<(), Fail> {
+    let alloc = rt.alloc();
+    let (first, _, of_first) = Life::<Counting>::new(alloc, 2)?;
+    let (second, mut keeper, of_second) = Life::<Counting>::new(alloc, 2)?;
+    let mut zero = Seq::new(alloc);
+    let mut one = Seq::new(alloc);
+    hand_out(&first, of_first, &mut zero, &mut one)?;
+    hand_out(&second, of_second, &mut zero, &mut one)?;
+    if let Some(pass) = one.into_vec().pop() {
+        let (_, position) = second.write(&mut keeper, pass, (1, 0));
+        assert_eq!(rt; position, 0);
+    }
+    Ok(())
+}

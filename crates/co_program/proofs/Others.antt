@@ -1,0 +1,67 @@
+-- The last cases of three definitions: acts that are calls, stages outside functions, and a Pop that gets nothing.
+-- Each is a match on what it is about, where the cases that came before are excluded.
+use Rattle.std.proofs.Common.{◌≡◌, ℕ, List, ◌∷◌, refl}
+use Rattle.co_object.specs.declared.QReply.{QReply}
+use Rattle.co_object.specs.declared.QReply.TheVariants.{At, Off, Missing, Count, Got, Empty, Freed}
+use Rattle.co_program.specs.declared.act.Act.{Act}
+use Rattle.co_program.specs.declared.act.Act.TheVariants as act
+use Rattle.co_program.specs.declared.script.Script.{Script}
+use Rattle.co_program.specs.declared.cursor.ActsLeft.{ActsLeft}
+use Rattle.co_program.specs.declared.cursor.Stage.{Stage as StageAt}
+use Rattle.co_program.specs.declared.cursor.Stage.TheVariants as at
+use Rattle.co_program.specs.declared.role.Role.{Role}
+use Rattle.co_program.specs.declared.program.Task.{Task}
+use Rattle.co_program.specs.declared.program.Task.TheVariants.{Does}
+use Rattle.co_program.specs.Actors.{cpu_of}
+use Rattle.co_program.specs.declared.cursor.Service.{Service}
+use Rattle.co_program.specs.Stages.{Ready}
+use Rattle.co_program.specs.Cursor.{Cursor}
+use Rattle.co_program.specs.Action.{asks_call, begins, over}
+use Rattle.co_program.specs.Advance.{act_over, got, tail_of}
+use Rattle.co_program.specs.Indexed.{stage_of}
+
+pub got_empty : (c : Cursor) (n : ℕ) (reply : QReply) → ((i k at : ℕ) → reply ≡ Got i k at → ⊥) → got c n reply ≡ record c { left = tail_of c.left; stage = Ready }
+got_empty c n (At time) not_got = refl
+got_empty c n Off not_got = refl
+got_empty c n Missing not_got = refl
+got_empty c n (Count count) not_got = refl
+got_empty c n (Got i k time) not_got = absurd (not_got i k time refl)
+got_empty c n Empty not_got = refl
+got_empty c n Freed not_got = refl
+
+pub act_over_outside : (s : Script) (c : Cursor) (stage : StageAt) → ((v : Service) (left : ActsLeft) → stage ≡ at.Firing v left → ⊥) → ((v : Service) (left : ActsLeft) → stage ≡ at.Drained v left → ⊥) → act_over c (stage_of s stage) ≡ over c (tail_of c.left) c.hold
+act_over_outside s c at.Ready not_firing not_drained = refl
+act_over_outside s c (at.Waiting n took) not_firing not_drained = refl
+act_over_outside s c (at.Popping n) not_firing not_drained = refl
+act_over_outside s c (at.Picking v) not_firing not_drained = refl
+act_over_outside s c (at.Locking v) not_firing not_drained = refl
+act_over_outside s c (at.Beginning v) not_firing not_drained = refl
+act_over_outside s c (at.Unlocking v left) not_firing not_drained = refl
+act_over_outside s c (at.Firing v left) not_firing not_drained = absurd (not_firing v left refl)
+act_over_outside s c (at.Releasing v) not_firing not_drained = refl
+act_over_outside s c (at.Ending v) not_firing not_drained = refl
+act_over_outside s c (at.Freeing v drain next) not_firing not_drained = refl
+act_over_outside s c (at.Drained v left) not_firing not_drained = absurd (not_drained v left refl)
+
+module _ (s : Script) (role : Role) (c : Cursor) (left : List Task) where
+  pub begins_call :
+      (a : Act) →
+      ((time : ℕ) → a ≡ act.Now time → ⊥) → ((id : ℕ) → a ≡ act.Lock id → ⊥) → ((id : ℕ) → a ≡ act.ReadLock id → ⊥) →
+      (a ≡ act.Unlock → ⊥) → ((i : ℕ) → a ≡ act.Drain i → ⊥) → ((time : ℕ) → a ≡ act.Tick time → ⊥) →
+      begins s role c (Does a ∷ left) ≡ asks_call s c a (record { time = c.now; here = cpu_of s role; me = 0 })
+  begins_call (act.Now time) other _ _ _ _ _ = absurd (other time refl)
+  begins_call (act.Lock id) _ other _ _ _ _ = absurd (other id refl)
+  begins_call (act.ReadLock id) _ _ other _ _ _ = absurd (other id refl)
+  begins_call act.Unlock _ _ _ other _ _ = absurd (other refl)
+  begins_call (act.Reset who when func arg cpu prec) _ _ _ _ _ _ = refl
+  begins_call (act.Ticks who ticks func arg cpu) _ _ _ _ _ _ = refl
+  begins_call (act.Schedule who when cpu prec) _ _ _ _ _ _ = refl
+  begins_call (act.Stop who) _ _ _ _ _ _ = refl
+  begins_call (act.Drain i) _ _ _ _ other _ = absurd (other i refl)
+  begins_call (act.AsyncDrain who func) _ _ _ _ _ _ = refl
+  begins_call (act.Active who) _ _ _ _ _ _ = refl
+  begins_call (act.Pending who) _ _ _ _ _ _ = refl
+  begins_call (act.Deactivate who) _ _ _ _ _ _ = refl
+  begins_call (act.Init who) _ _ _ _ _ _ = refl
+  begins_call (act.Retire who) _ _ _ _ _ _ = refl
+  begins_call (act.Tick time) _ _ _ _ _ other = absurd (other time refl)

@@ -1,0 +1,19 @@
+use Rattle.std.proofs.Common.{◌∙◌, sym, drop}
+use Rattle.co_program.proofs.Remaining.{drop_some}
+use Rattle.co_program.proofs.Others.{begins_call}
+use Rattle.co_program.specs.declared.program.Task.TheVariants.{Does}
+use Rattle.co_program.specs.Actors.{program_of}
+use Rattle.co_program.specs.Advance.{tail_of}
+use Rattle.co_program.specs.Indexed.{cursor_as}
+use Rattle.co_program.proofs.action.does.Goals as goal
+
+pub returns-in_default-clause-action : goal.returns-in_default-clause-action
+returns-in_default-clause-action c =
+    let s = c.args.script.now in
+    let left = drop c.args.cursor.now.task (program_of s c.args.role) in
+    rw (drop_some left (Does c.args.act.now) c.requires.next)
+    (
+    c.asks_call.ensures.action c.args.role
+    ∙ (rw c.cpu_of-in_default.ensures
+    (sym (begins_call s c.args.role (cursor_as s c.args.role c.args.cursor.now) (tail_of left) c.args.act.now c.in_default.not-Now c.in_default.not-Lock c.in_default.not-ReadLock c.in_default.not-Unlock c.in_default.not-Drain c.in_default.not-Tick)))
+    )

@@ -1,0 +1,7 @@
+use Rattle.std.proofs.Common.{◌∙◌, sym, ap, arith, Some}
+use Rattle.co_program.proofs.Remaining.{soft_few}
+use Rattle.co_program.proofs.action.scans_of.Goals as goal
+
+pub overflow_add-result : goal.overflow_add-result
+overflow_add-result c =
+    omega (arith, soft_few c.args.script.now c.requires c.args.role c.args.over c.in-Some-Soft.j (sym c.task_after.ensures ∙ c.in-Some-Soft.is ∙ ap Some c.in-Some-Soft.field-0-is))

@@ -1,0 +1,156 @@
+-- The origins of a place's notes show its history: at each position stands the origin of the one note that is there.
+use Rattle.std.proofs.Common.{◌≡◌, ℕ, suc, ◌+◌, ◌-◌, ◌<◌, ◌≤◌, true, inl, List, [], ◌∷◌, ◌++◌, map, length, get_or, take, drop, refl, ap, sym, subst, ◌∙◌, arith, get_or-drop, get_or-take, length-take, length-drop}
+use Rattle.std.specs.Prelude.{Option, Some, None, IsSome}
+use Rattle.std.specs.List.{find, filter_map, cons_option, range_with_len}
+use Rattle.std.specs.Option.{option_map}
+use Rattle.co_object.specs.declared.Note.{Note}
+use Rattle.co_object.specs.declared.Place.{Place}
+use Rattle.co_object.specs.Lists.{same_place, all_notes_of, IsWellFormed}
+use Rattle.co_object.proofs.Numbers.{same_number, same_itself}
+use Rattle.co_object.proofs.Passing.{passing, count-passing}
+use Rattle.co_program.specs.declared.Script.{Script}
+use Rattle.co_report.specs.declared.origin.Origin.{Origin}
+use Rattle.co_report.specs.Histories.{Numbered, Shown, shown, shown_at, shown_history, all_numbered_of}
+use Rattle.co_report.specs.Origins.{note_at, origin_line, origin_lines, lines_from}
+use Rattle.co_report.specs.Order.{place_index, AreCounts, starts_from, location, note_behind, AreWritten, origins_in, ShowsHistories}
+use Rattle.co_report.specs.Reports.{place_exists, AllHavePlaces, shown_words}
+use Rattle.co_report.proofs.Members.{find-has}
+use Rattle.co_report.proofs.Numbering.{note_of, numbered, all-notes-of, has-note, Found, found}
+use Rattle.co_report.proofs.Places.{index_below, same_index}
+use Rattle.co_report.proofs.Starts.{length-starts, next-start, starts-upto, same-run}
+use Rattle.co_report.proofs.Counted.{note-place, note-actor, count-of, is_at, passing-numbered}
+use Rattle.co_report.proofs.Room.{pos-in-run}
+use Rattle.co_report.proofs.Written.{nowhere}
+
+-- an origin's lines are those of what is shown
+pub record IsLineOf (s : Script) (lists : List (List Note)) (origin : Origin) (o : Option Shown) : Type 0 where
+  this : Shown
+  is : o ≡ Some this
+  line : origin_lines s lists origin ≡ shown_words s this ∷ []
+
+-- origins whose lines are those of what f gives, one by one
+lines-are : (s : Script) (lists : List (List Note)) (f : ℕ → Option Shown) (d : Origin) (xs : List Origin) (k : ℕ)
+    → ((j : ℕ) → j < length xs → IsLineOf s lists (get_or xs j d) (f (k + j)))
+    → lines_from s lists xs ≡ map (shown_words s) (filter_map f (range_with_len k (length xs)))
+lines-are s lists f d [] k each = refl
+lines-are s lists f d (x ∷ xs) k each =
+    let first : IsLineOf s lists x (f (k + 0)) = each 0 (omega arith) in
+    let here : f k ≡ Some first.this = (let none : k ≡ k + 0 = omega arith in ap f none) ∙ first.is in
+    let rest : lines_from s lists xs ≡ map (shown_words s) (filter_map f (range_with_len (k + 1) (length xs))) =
+    lines-are s lists f d xs (k + 1) (λ j below. (let next : k + suc j ≡ (k + 1) + j = omega arith in subst (λ i. IsLineOf s lists (get_or xs j d) (f i)) next (each (suc j) (omega (arith, below))))) in
+    ap (λ ls. ls ++ lines_from s lists xs) first.line
+    ∙ (ap (λ ls. shown_words s first.this ∷ ls) rest
+    ∙ ap (λ o. map (shown_words s) (cons_option o (filter_map f (range_with_len (k + 1) (length xs))))) (sym here))
+
+record Given (o : Option Note) : Type 0 where
+  note : Note
+  is : o ≡ Some note
+
+given : (o : Option Note) → IsSome o → Given o
+given None some = cc
+given (Some n) some = record { note = n; is = refl }
+
+length-map : (xs : List Numbered) → length (map note_of xs) ≡ length xs
+length-map [] = refl
+length-map (x ∷ xs) = ap suc (length-map xs)
+
+module _ (s : Script) (lists : List (List Note)) (counts : List ℕ) (origins : List Origin)
+    (exist : AllHavePlaces s lists) (formed : IsWellFormed lists) (are : AreCounts s lists counts)
+    (w : AreWritten s lists (starts_from 0 counts) origins (length lists) 0) where
+  abbrev start_of : ℕ → ℕ
+  start_of i = get_or (starts_from 0 counts) i 0
+
+  -- two places of one number are one
+  index-of : (q p : Place) → place_exists s q ≡ true → place_exists s p ≡ true → same_place q p ≡ true → place_index s q ≡ place_index s p
+  index-of q p hq hp same = same_number (place_index s q) (place_index s p) (same_index s q p hq hp ∙ same)
+
+  place-of : (q p : Place) → place_exists s q ≡ true → place_exists s p ≡ true → place_index s q ≡ place_index s p → same_place q p ≡ true
+  place-of q p hq hp same = sym (same_index s q p hq hp) ∙ same_itself (place_index s q) (place_index s p) same
+
+  -- the position of a place has a note
+  is-taken : (p : Place) (pos : ℕ) → place_exists s p ≡ true → pos < length (all_notes_of p lists) → IsSome (note_behind lists origins (start_of (place_index s p) + pos))
+  is-taken p pos hp below =
+      let some : 1 ≤ passing (is_at pos) (all_notes_of p lists) = omega (arith, formed.once p pos below, count-passing (is_at pos) (all_notes_of p lists)) in
+      let f : Found p (is_at pos) lists = found p (is_at pos) lists some in
+      let hq : place_exists s f.note.place ≡ true = note-place s lists f.actor f.number f.note exist f.at in
+      let there : location s (starts_from 0 counts) f.note ≡ start_of (place_index s p) + pos =
+      ap (λ i. start_of i + f.note.pos) (index-of f.note.place p hq hp f.here) ∙ ap (λ k. start_of (place_index s p) + k) (same_number f.note.pos pos f.passes) in
+      subst (λ q. IsSome (note_behind lists origins q)) there (w.taken f.actor f.number f.note (inl (note-actor lists f.actor f.number f.note f.at)) f.at)
+
+  -- the note that stands at a position of a place is that place's note at that position
+  at-position : (p : Place) (pos : ℕ) (m : Note) → place_exists s p ≡ true → pos < length (all_notes_of p lists)
+      → note_behind lists origins (start_of (place_index s p) + pos) ≡ Some m
+      → IsLineOf s lists (get_or origins (start_of (place_index s p) + pos) (nowhere lists)) (shown_at (all_numbered_of p lists) pos)
+  at-position p pos m hp below there =
+      let o : Origin = get_or origins (start_of (place_index s p) + pos) (nowhere lists) in
+      let at : note_at lists o.actor o.number ≡ Some m = there in
+      let hm : place_exists s m.place ≡ true = note-place s lists o.actor o.number m exist at in
+      let run : start_of (place_index s m.place) + m.pos ≡ start_of (place_index s p) + pos = w.belong (start_of (place_index s p) + pos) m there in
+      let in_m : m.pos < get_or counts (place_index s m.place) 0 = pos-in-run s lists counts exist formed are o.actor o.number m at in
+      let in_p : pos < get_or counts (place_index s p) 0 = omega (arith, below, count-of s lists counts p are exist hp) in
+      let index : place_index s m.place ≡ place_index s p =
+      same-run 0 counts (place_index s m.place) (place_index s p) m.pos pos (omega (arith, are.places, index_below s m.place hm)) (omega (arith, are.places, index_below s p hp)) in_m in_p run in
+      let same : m.pos ≡ pos = omega (arith, run, ap start_of index) in
+      let one : passing (λ (x : Numbered). is_at pos x.note) (all_numbered_of p lists) ≡ 1 = passing-numbered p pos lists ∙ formed.once p pos below in
+      let this : find (λ (x : Numbered). is_at pos x.note) (all_numbered_of p lists) ≡ Some (numbered o.number m) =
+      find-has (λ (x : Numbered). is_at pos x.note) (numbered o.number m) (all_numbered_of p lists) one (same_itself m.pos pos same)
+      (has-note p lists o.actor o.number m at (place-of m.place p hm hp index)) in record {
+        this = shown (numbered o.number m);
+        is = ap (option_map shown) this;
+        line = ap (origin_line s o.number) there;
+      }
+
+  each-line : (p : Place) (pos : ℕ) → place_exists s p ≡ true → pos < length (all_notes_of p lists)
+      → IsLineOf s lists (get_or origins (start_of (place_index s p) + pos) (nowhere lists)) (shown_at (all_numbered_of p lists) pos)
+  each-line p pos hp below =
+      let g : Given (note_behind lists origins (start_of (place_index s p) + pos)) = given _ (is-taken p pos hp below) in
+      at-position p pos g.note hp below g.is
+
+  -- the origins from one number on
+  abbrev part : ℕ → ℕ → List Origin
+  part first count = take count (drop first origins)
+
+  part-shows : (p : Place) → place_exists s p ≡ true → start_of (place_index s p) + length (all_notes_of p lists) ≤ length origins
+      → lines_from s lists (part (start_of (place_index s p)) (length (all_notes_of p lists))) ≡ map (shown_words s) (shown_history lists p)
+  part-shows p hp room =
+      let first : ℕ = start_of (place_index s p) in
+      let count : ℕ = length (all_notes_of p lists) in
+      let xs : List Origin = part first count in
+      let long : length xs ≡ count = omega (arith, length-take count (drop first origins), length-drop first origins, room) in
+      let many : length xs ≡ length (all_numbered_of p lists) = long ∙ (sym (ap length (all-notes-of p lists)) ∙ length-map (all_numbered_of p lists)) in
+      lines-are s lists (shown_at (all_numbered_of p lists)) (nowhere lists) xs 0 (λ j below. (
+      let inside : j < count = omega (arith, below, long) in
+      let from : get_or xs j (nowhere lists) ≡ get_or origins (first + j) (nowhere lists) = get_or-take count (drop first origins) j (nowhere lists) inside ∙ get_or-drop first origins j (nowhere lists) in
+      let zero_first : j ≡ 0 + j = omega arith in
+      subst (λ k. IsLineOf s lists (get_or xs j (nowhere lists)) (shown_at (all_numbered_of p lists) k)) zero_first
+      (subst (λ o. IsLineOf s lists o (shown_at (all_numbered_of p lists) j)) (sym from) (each-line p j hp inside))))
+      ∙ ap (λ n. map (shown_words s) (filter_map (shown_at (all_numbered_of p lists)) (range_with_len 0 n))) many
+
+  pub shows-histories : length origins ≡ start_of (length counts) → ShowsHistories s lists (record { starts = starts_from 0 counts; origins = origins })
+  shows-histories long = record {
+    count = omega (arith, length-starts 0 counts, are.places);
+    rises = λ i below. starts-upto 0 counts i (i + 1) (omega arith) (omega (arith, below, are.places));
+    within = λ i le. omega (arith, long, starts-upto 0 counts i (length counts) (omega (arith, le, are.places)) (omega arith));
+    shows = λ p hp. shows p hp;
+  }
+    where
+      shows : (p : Place) → place_exists s p ≡ true → lines_from s lists (origins_in (record { starts = starts_from 0 counts; origins = origins }) (place_index s p)) ≡ map (shown_words s) (shown_history lists p)
+      shows p hp =
+          let below : place_index s p < length counts = omega (arith, are.places, index_below s p hp) in
+          let next : start_of (place_index s p + 1) ≡ start_of (place_index s p) + length (all_notes_of p lists) =
+          next-start 0 counts (place_index s p) below ∙ ap (λ n. start_of (place_index s p) + n) (count-of s lists counts p are exist hp) in
+          let count : start_of (place_index s p + 1) - start_of (place_index s p) ≡ length (all_notes_of p lists) = omega (arith, next) in
+          let room : start_of (place_index s p) + length (all_notes_of p lists) ≤ length origins =
+          omega (arith, long, next, starts-upto 0 counts (place_index s p + 1) (length counts) (omega (arith, below)) (omega arith)) in
+          ap (λ n. lines_from s lists (part (start_of (place_index s p)) n)) count ∙ part-shows p hp room
+
+-- the same of starts that are those of the places' numbers of notes
+pub shows-with : (s : Script) (lists : List (List Note)) (counts starts : List ℕ) (origins : List Origin)
+    → AllHavePlaces s lists → IsWellFormed lists → AreCounts s lists counts → starts ≡ starts_from 0 counts
+    → AreWritten s lists starts origins (length lists) 0 → length origins ≡ get_or starts (length counts) 0
+    → ShowsHistories s lists (record { starts = starts; origins = origins })
+shows-with s lists counts starts origins exist formed are is w long =
+    subst (λ ss. ShowsHistories s lists (record { starts = ss; origins = origins })) (sym is)
+    (shows-histories s lists counts origins exist formed are
+    (subst (λ ss. AreWritten s lists ss origins (length lists) 0) is w)
+    (long ∙ ap (λ ss. get_or ss (length counts) 0) is))

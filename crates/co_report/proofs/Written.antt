@@ -1,0 +1,99 @@
+-- Origins written one by one: what is written belongs where it stands, and the place of each note so far is taken.
+use Rattle.std.proofs.Common.{◌≡◌, ◌≢◌, ℕ, zero, suc, ◌+◌, ◌<◌, ◌≤◌, inl, inr, List, length, get_or, set, replicate, refl, ap, sym, subst, ◌∙◌, arith, get_or-set_same, get_or-set_other}
+use Rattle.std.specs.Prelude.{Option, Some, None, IsSome, option_and_then, slice_get}
+use Rattle.std.proofs.lemmas.Option.{slice_get_within, slice_get_past, slice_get_read}
+use Rattle.std.proofs.lemmas.Bool.{cases_eq}
+use Rattle.co_object.specs.declared.Note.{Note}
+use Rattle.co_program.specs.declared.Script.{Script}
+use Rattle.co_report.specs.declared.origin.Origin.{Origin}
+use Rattle.co_report.specs.Origins.{note_at, note_from}
+use Rattle.co_report.specs.Order.{location, note_behind, IsBefore, AreWritten}
+
+abbrev pub nowhere : List (List Note) → Origin
+nowhere lists = record { actor = length lists; number = 0 }
+
+no-note : (lists : List (List Note)) (number : ℕ) → note_at lists (length lists) number ≡ None
+no-note lists number = ap (λ o. option_and_then (λ notes. slice_get notes number) o) (slice_get_past lists (length lists) (omega arith))
+
+get-filled : (n q : ℕ) (x : Origin) → get_or (replicate n x) q x ≡ x
+get-filled zero q x = refl
+get-filled (suc n) zero x = refl
+get-filled (suc n) (suc q) x = get-filled n q x
+
+-- at the beginning nothing is written
+pub none-written : (s : Script) (lists : List (List Note)) (starts : List ℕ) (n : ℕ) → AreWritten s lists starts (replicate n (nowhere lists)) 0 0
+none-written s lists starts n = record {
+  belong = λ q note at. (let none : note_behind lists (replicate n (nowhere lists)) q ≡ None = ap (note_from lists) (get-filled n q (nowhere lists)) ∙ no-note lists 0 in cc);
+  taken = λ a k note before at. elim before [ inl less ↦ absurd (omega arith) | inr here ↦ absurd (omega (arith, here.1)) ];
+}
+
+-- a note that is read from its list
+pub note-read : (lists : List (List Note)) (a i : ℕ) (row notes : List Note) (n : Note)
+    → a < length lists → row ≡ get_or lists a row → notes ≡ row → i < length notes → n ≡ get_or notes i n → note_at lists a i ≡ Some n
+note-read lists a i row notes n in_lists is_row is_notes in_notes is =
+    ap (λ o. option_and_then (λ ns. slice_get ns i) o) (slice_get_read lists (length lists) a row refl in_lists is_row)
+    ∙ (ap (λ ns. slice_get ns i) (sym is_notes) ∙ slice_get_read notes (length notes) i n refl in_notes is)
+
+abbrev some_or : Note → Option Note → Note
+some_or d None = d
+some_or d (Some n) = n
+
+-- the origins with one more, of this actor and number
+abbrev pub with_at : List Origin → ℕ → ℕ → ℕ → List Origin
+with_at origins at a i = set origins at (record { actor = a; number = i })
+
+-- one more note
+module _ (s : Script) (lists : List (List Note)) (starts : List ℕ) (origins : List Origin) (a i at : ℕ) (n : Note)
+    (here : note_at lists a i ≡ Some n) (is : at ≡ location s starts n) (room : at < length origins) (w : AreWritten s lists starts origins a i) where
+  abbrev with_one : List Origin
+  with_one = with_at origins at a i
+
+  written : note_behind lists with_one at ≡ Some n
+  written = ap (note_from lists) (get_or-set_same origins at (record { actor = a; number = i }) (nowhere lists) room) ∙ here
+
+  kept : (q : ℕ) → q ≢ at → note_behind lists with_one q ≡ note_behind lists origins q
+  kept q apart = ap (note_from lists) (get_or-set_other origins at q (record { actor = a; number = i }) (nowhere lists) apart)
+
+  belongs : (q : ℕ) (m : Note) → note_behind lists with_one q ≡ Some m → location s starts m ≡ q
+  belongs q m there = elim (cases_eq q at) [ inl same ↦ at_it same | inr apart ↦ w.belong q m (sym (kept q apart) ∙ there) ]
+    where
+      at_it : q ≡ at → location s starts m ≡ q
+      at_it same =
+          let both : Some m ≡ Some n = sym there ∙ (ap (λ j. note_behind lists with_one j) same ∙ written) in
+          ap (location s starts) (ap (some_or m) both) ∙ (sym is ∙ sym same)
+
+  is_taken : (b k : ℕ) (m : Note) → IsBefore a (i + 1) b k → note_at lists b k ≡ Some m → IsSome (note_behind lists with_one (location s starts m))
+  is_taken b k m before there = elim (cases_eq (location s starts m) at) [ inl same ↦ at_it same | inr apart ↦ subst IsSome (sym (kept (location s starts m) apart)) (earlier apart) ]
+    where
+      at_it : location s starts m ≡ at → IsSome (note_behind lists with_one (location s starts m))
+      at_it same = subst IsSome (sym (ap (λ j. note_behind lists with_one j) same ∙ written)) refl
+
+      this : location s starts m ≢ at → b ≡ a → k ≡ i → ⊥
+      this apart eb ek =
+          let both : Some m ≡ Some n = sym there ∙ (ap (λ c. note_at lists c k) eb ∙ (ap (λ j. note_at lists a j) ek ∙ here)) in
+          apart (ap (location s starts) (ap (some_or m) both) ∙ sym is)
+
+      earlier : location s starts m ≢ at → IsSome (note_behind lists origins (location s starts m))
+      earlier apart = elim before [ inl less ↦ w.taken b k m (inl less) there | inr h ↦ elim (cases_eq k i) [ inl ek ↦ absurd (this apart h.0 ek) | inr other ↦ w.taken b k m (inr (h.0, omega (arith, h.1, other))) there ] ]
+
+  pub one-written : AreWritten s lists starts with_one a (i + 1)
+  one-written = record { belong = belongs; taken = is_taken }
+
+-- after the last note of a list
+pub list-written : (s : Script) (lists : List (List Note)) (starts : List ℕ) (origins : List Origin) (a i : ℕ) (row : List Note)
+    → a < length lists → row ≡ get_or lists a row → length row ≤ i → AreWritten s lists starts origins a i → AreWritten s lists starts origins (a + 1) 0
+list-written s lists starts origins a i row in_lists is_row past w = record {
+  belong = w.belong;
+  taken = λ b k m before there. elim before [ inl less ↦ taken b k m less there | inr h ↦ absurd (omega (arith, h.1)) ];
+}
+  where
+    within : (k : ℕ) (m : Note) → note_at lists a k ≡ Some m → k < i
+    within k m there =
+        let at : slice_get row k ≡ Some m = sym (ap (λ o. option_and_then (λ ns. slice_get ns k) o) (slice_get_read lists (length lists) a row refl in_lists is_row)) ∙ there in
+        omega (arith, slice_get_within row k m at)
+
+    taken : (b k : ℕ) (m : Note) → b < a + 1 → note_at lists b k ≡ Some m → IsSome (note_behind lists origins (location s starts m))
+    taken b k m less there = elim (cases_eq b a) [
+      | inl same ↦ w.taken b k m (inr (same, within k m (sym (ap (λ c. note_at lists c k) same) ∙ there))) there
+      | inr other ↦ w.taken b k m (inl (omega (arith, less, other))) there
+    ]

@@ -1,0 +1,76 @@
+-- The notes of all lists in the report's order: place by place, and in each place by position.
+use Rattle.std.specs.Prelude.{◌≡◌, ◌<◌, ◌≤◌, ◌⊎◌, ℕ, ◌+◌, ◌^◌, true, List, [], ◌∷◌, length, map, ◌==◌, count_by, Option, Some, IsSome, slice_index, slice_index_or, slice_range}
+use Rattle.std.specs.List.{flat_map}
+use Rattle.co_object.specs.declared.Place.{Place}
+use Rattle.co_object.specs.declared.Place.TheVariants as at
+use Rattle.co_object.specs.declared.Note.{Note}
+use Rattle.co_program.specs.declared.Script.{Script}
+use Rattle.co_program.specs.Actors.{actor_count}
+use Rattle.co_report.specs.declared.origin.Origin.{Origin}
+use Rattle.co_report.specs.declared.order.Order.{Order}
+use Rattle.co_report.specs.Origins.{note_at, note_from, lines_from}
+use Rattle.co_report.specs.Histories.{shown_history}
+use Rattle.co_report.specs.Reports.{place_exists, AllHavePlaces, shown_words}
+
+-- the number of a place among those of a report
+abbrev pub place_index : Script → Place → ℕ
+place_index s (at.Timer i) = i
+place_index s (at.Cpu c) = length s.timers + c
+place_index s (at.Actor a) = length s.timers + s.cpus + a
+
+abbrev pub place_count : Script → ℕ
+place_count s = length s.timers + s.cpus + actor_count s
+
+-- how many of these notes stand in the place of this number
+abbrev pub count_in : Script → ℕ → List Note → ℕ
+count_in s i notes = count_by (λ note. place_index s note.place == i) notes
+
+abbrev pub all_of : List (List Note) → List Note
+all_of lists = flat_map (λ notes. notes) lists
+
+-- these are the numbers of notes of the places, in order
+pub record AreCounts (s : Script) (lists : List (List Note)) (counts : List ℕ) : Type 0 where
+  pub places : length counts ≡ place_count s
+  pub each : (i : ℕ) → i < place_count s → slice_index counts i ≡ count_in s i (all_of lists)
+
+-- where runs of these lengths begin, one behind the other, and where the last one ends
+abbrev pub starts_from : ℕ → List ℕ → List ℕ
+starts_from first [] = first ∷ []
+starts_from first (n ∷ ns) = first ∷ starts_from (first + n) ns
+
+-- where a note's origin stands
+abbrev pub location : Script → List ℕ → Note → ℕ
+location s starts note = slice_index starts (place_index s note.place) + note.pos
+
+-- an array of this length has room for the origin of each note, by these starts
+pub record HasRoom (s : Script) (lists : List (List Note)) (starts : List ℕ) (room : ℕ) : Type 0 where
+  pub fits : room < 2 ^ 64
+  pub places : length starts ≡ place_count s + 1
+  pub exist : AllHavePlaces s lists
+  pub inside : (a k : ℕ) (note : Note) → note_at lists a k ≡ Some note → location s starts note < room
+
+-- the note at this index of an array of origins; where nothing was written, there is none
+abbrev pub note_behind : List (List Note) → List Origin → ℕ → Option Note
+note_behind lists origins q = note_from lists (slice_index_or origins q (record { actor = length lists; number = 0 }))
+
+-- a note comes before this one, actor by actor
+abbrev pub IsBefore : (actor number a k : ℕ) → Type 0
+IsBefore actor number a k = (a < actor) ⊎ ((a ≡ actor) × (k < number))
+
+-- the origins of the notes before this one are written
+pub record AreWritten (s : Script) (lists : List (List Note)) (starts : List ℕ) (origins : List Origin) (actor number : ℕ) : Type 0 where
+  -- what is written is the origin of a note that belongs there
+  pub belong : (q : ℕ) (note : Note) → note_behind lists origins q ≡ Some note → location s starts note ≡ q
+  -- each note's place is taken
+  pub taken : (a k : ℕ) (note : Note) → IsBefore actor number a k → note_at lists a k ≡ Some note → IsSome (note_behind lists origins (location s starts note))
+
+-- the origins of the notes of the place of this number
+abbrev pub origins_in : Order → ℕ → List Origin
+origins_in order i = slice_range order.origins (slice_index order.starts i) (slice_index order.starts (i + 1))
+
+-- the order shows the history of each place
+pub record ShowsHistories (s : Script) (lists : List (List Note)) (order : Order) : Type 0 where
+  pub count : length order.starts ≡ place_count s + 1
+  pub rises : (i : ℕ) → i < place_count s → slice_index order.starts i ≤ slice_index order.starts (i + 1)
+  pub within : (i : ℕ) → i ≤ place_count s → slice_index order.starts i ≤ length order.origins
+  pub shows : (p : Place) → place_exists s p ≡ true → lines_from s lists (origins_in order (place_index s p)) ≡ map (shown_words s) (shown_history lists p)

@@ -1,0 +1,64 @@
+-- The text of a report.
+use Rattle.std.specs.Prelude.{◌≡◌, ℕ, Bool, true, nat_lt, List, [], ◌∷◌, ◌++◌, length, flat_map, map, codes}
+use Rattle.std.specs.List.{AllByRecursion, range_with_len}
+use Rattle.co_object.specs.declared.Place.{Place}
+use Rattle.co_object.specs.declared.Place.TheVariants as place
+use Rattle.co_object.specs.declared.Note.{Note}
+use Rattle.co_text.specs.Lines.{text}
+use Rattle.co_text.specs.Values.{Word}
+use Rattle.co_grammar.specs.Spelling.{numbered, actor_word}
+use Rattle.co_script.specs.Canonical.{canonical_lines}
+use Rattle.co_program.specs.declared.Script.{Script}
+use Rattle.co_program.specs.Actors.{actor_count}
+use Rattle.co_report.specs.NoteTexts.{note_words}
+use Rattle.co_report.specs.Histories.{Shown, Histories, shown_history}
+
+-- the places of a report, in order
+abbrev pub places : Script → List Place
+places s = map place.Timer (range_with_len 0 (length s.timers)) ++ (map place.Cpu (range_with_len 0 s.cpus) ++ map place.Actor (range_with_len 0 (actor_count s)))
+
+-- the place is one of these
+abbrev pub place_exists : Script → Place → Bool
+place_exists s (place.Timer i) = nat_lt i (length s.timers)
+place_exists s (place.Cpu c) = nat_lt c s.cpus
+place_exists s (place.Actor a) = nat_lt a (actor_count s)
+
+-- each of these notes stands in one of these places
+abbrev pub HavePlaces : Script → List Note → Type 0
+HavePlaces s notes = AllByRecursion (λ note. place_exists s note.place ≡ true) notes
+
+abbrev pub AllHavePlaces : Script → List (List Note) → Type 0
+AllHavePlaces s lists = AllByRecursion (λ notes. HavePlaces s notes) lists
+
+abbrev pub heading : Script → Place → List Word
+heading s (place.Timer i) = numbered (codes "timer") i
+heading s (place.Cpu c) = numbered (codes "wheel") c
+heading s (place.Actor a) = codes "actor" ∷ actor_word s a ∷ []
+
+abbrev pub shown_words : Script → Shown → List Word
+shown_words s n = note_words s n.number n.entry
+
+-- the heading of a place and its notes
+abbrev pub place_lines : Script → Histories → Place → List (List Word)
+place_lines s histories p = heading s p ∷ map (shown_words s) (histories p)
+
+-- the places of this kind with the first n numbers
+abbrev pub sections_of : Script → List (List Note) → (ℕ → Place) → ℕ → List (List Word)
+sections_of s lists kind n = flat_map (place_lines s (shown_history lists)) (map kind (range_with_len 0 n))
+
+-- the lines of a report, as words
+unfoldable pub report_lines : Script → Histories → List (List Word)
+report_lines s histories =
+    numbered (codes "callout-report") 1
+    ∷ (canonical_lines s
+    ++ (codes "histories" ∷ [])
+    ∷ (flat_map (place_lines s histories) (places s)
+    ++ (codes "end" ∷ []) ∷ []))
+
+unfoldable pub report : Script → Histories → List ℕ
+unfolding report_lines
+report s histories = text (report_lines s histories)
+
+-- the report of these lists
+abbrev pub report_of : Script → List (List Note) → List ℕ
+report_of s lists = report s (shown_history lists)

@@ -1,0 +1,12 @@
+//! The report of a run: its text shows a script and the notes of its actors.
+#![tactic(auto)]
+
+pub mod laws;
+mod note;
+mod order;
+mod origin;
+mod report;
+
+pub use order::Order;
+pub use origin::Origin;
+pub use report::print_report;

@@ -1,0 +1,123 @@
+//! Notes as lines.
+ghost use Rattle.std.specs.Prelude.{◌≡◌, ◌++◌, ◌∷◌, [], codes, OnOk};
+ghost use Rattle.co_text.specs.Lines.{line_text, spaced};
+ghost use Rattle.co_text.specs.Written.{token_word, token_words};
+ghost use Rattle.co_grammar.specs.Spelling.{actor_word};
+ghost use Rattle.co_report.specs.NoteTexts.{op_words, reply_words, queue_words, answer_words, own_words, answered, entry_actor, entry_act, entry_words, note_words};
+
+mod call;
+mod queue;
+mod reply;
+mod words;
+
+use call::print_op;
+use co_object::{AnyEntry, Op, OwnKind, QOp, QReply, Reply};
+use co_program::Script;
+use co_sbt::NoMemory;
+use co_script::actor_name;
+use co_text::{Page, Token};
+use queue::{print_answer, print_queue_op};
+use reply::print_reply;
+
+fn print_equals(page: &mut Page) -> Result<(), NoMemory>
+    ensures { OnOk result (page.new ≡ page.old ++ spaced (codes "=" ∷ [])) }
+{
+    page.more([Token::Text(b"=".as_slice())].as_slice())
+}
+
+/// `=` and a reply.
+#[tactic(auto, using(co_text::proofs::Spacing::both_more))]
+fn print_reply_part(page: &mut Page, reply: &Reply) -> Result<(), NoMemory>
+    ensures { OnOk result (page.new ≡ page.old ++ spaced (codes "=" ∷ reply_words reply.now)) }
+{
+    print_equals(page)?;
+    print_reply(page, reply)?;
+    Ok(())
+}
+
+/// `=` and an answer.
+#[tactic(auto, using(co_text::proofs::Spacing::both_more))]
+fn print_answer_part(page: &mut Page, answer: &QReply) -> Result<(), NoMemory>
+    ensures { OnOk result (page.new ≡ page.old ++ spaced (codes "=" ∷ answer_words answer.now)) }
+{
+    print_equals(page)?;
+    print_answer(page, answer)?;
+    Ok(())
+}
+
+#[tactic(auto, using(co_text::proofs::Spacing::both_more))]
+fn print_call_entry(page: &mut Page, op: &Op, reply: &Reply) -> Result<(), NoMemory>
+    ensures { OnOk result (page.new ≡ page.old ++ spaced (answered (op_words op.now) (reply_words reply.now))) }
+{
+    print_op(page, op)?;
+    print_reply_part(page, reply)?;
+    Ok(())
+}
+
+#[tactic(auto, using(co_text::proofs::Spacing::both_more))]
+fn print_queue_entry(page: &mut Page, op: &QOp, reply: &QReply) -> Result<(), NoMemory>
+    ensures { OnOk result (page.new ≡ page.old ++ spaced (answered (queue_words op.now) (answer_words reply.now))) }
+{
+    print_queue_op(page, op)?;
+    print_answer_part(page, reply)?;
+    Ok(())
+}
+
+fn print_own_entry(page: &mut Page, kind: OwnKind) -> Result<(), NoMemory>
+    ensures { OnOk result (page.new ≡ page.old ++ spaced (own_words kind)) }
+{
+    match kind {
+        OwnKind::NotHeld => page.more([Token::Text(b"notheld".as_slice())].as_slice()),
+        OwnKind::HoldsLock => page.more([Token::Text(b"holdslock".as_slice())].as_slice()),
+        OwnKind::Holding => page.more([Token::Text(b"holding".as_slice())].as_slice()),
+        OwnKind::NotHolding => page.more([Token::Text(b"notholding".as_slice())].as_slice()),
+    }
+}
+
+fn print_entry(page: &mut Page, entry: &AnyEntry) -> Result<(), NoMemory>
+    ensures { OnOk result (page.new ≡ page.old ++ spaced (entry_words entry.now)) }
+{
+    match entry {
+        AnyEntry::Timer(entry) => print_call_entry(page, &entry.op, &entry.reply),
+        AnyEntry::Cpu(entry) => print_queue_entry(page, &entry.op, &entry.reply),
+        AnyEntry::Own(entry) => print_own_entry(page, entry.kind),
+    }
+}
+
+fn entry_actor(entry: &AnyEntry) -> u32
+    ensures { result ≡ entry_actor entry.now }
+{
+    match entry {
+        AnyEntry::Timer(entry) => entry.actor,
+        AnyEntry::Cpu(entry) => entry.actor,
+        AnyEntry::Own(entry) => entry.actor,
+    }
+}
+
+fn entry_act(entry: &AnyEntry) -> u64
+    ensures { result ≡ entry_act entry.now }
+{
+    match entry {
+        AnyEntry::Timer(entry) => entry.act,
+        AnyEntry::Cpu(entry) => entry.act,
+        AnyEntry::Own(entry) => entry.act,
+    }
+}
+
+/// A note as a line: its number in its actor's list, who made it at which act, and what it says.
+#[tactic(auto, using(co_text::proofs::Spacing::one_more))]
+pub fn print_note(
+    page: &mut Page,
+    script: &Script,
+    number: u64,
+    entry: &AnyEntry,
+) -> Result<(), NoMemory>
+    ensures { OnOk result (page.new ≡ page.old ++ line_text (note_words script.now number entry.now)) }
+{
+    let (letter, name) = actor_name(script, u64::from(entry_actor(entry)));
+    let maker = Token::Joined(letter, name, b'/', entry_act(entry));
+    page.begin(&Token::Number(number), [maker].as_slice())?;
+    print_entry(page, entry)?;
+    page.end()?;
+    Ok(())
+}

@@ -1,0 +1,211 @@
+//! The notes of all lists, place by place and in each place by position: counted first, then put where they belong.
+ghost use Rattle.std.specs.Prelude.{◌≡◌, ◌≤◌, ◌<◌, ◌+◌, ◌^◌, ℕ, true, replicate, length, slice_index, OnOk, IfOk};
+ghost use Rattle.co_object.specs.Lists.{IsWellFormed};
+ghost use Rattle.co_report.specs.Reports.{place_exists, HavePlaces, AllHavePlaces};
+ghost use Rattle.co_report.specs.Order.{place_index, place_count, count_in, all_of, AreCounts, starts_from, HasRoom, location, AreWritten, origins_in, ShowsHistories};
+
+use crate::origin::Origin;
+use co_object::{Note, Place};
+use co_program::Script;
+use co_sbt::{NoMemory, Seq};
+use std::alloc::Global;
+
+/// The notes of all lists, in the report's order.
+#[derive(Drop)]
+pub struct Order {
+    /// Where the notes of each place begin, and behind the last place the end.
+    starts: Seq<usize>,
+    origins: Seq<Origin>,
+}
+
+impl Order {
+    /// How many places there are.
+    pub fn place_count(&self) -> usize
+        requires { 1 ≤ length self.now.starts }
+        ensures { result + 1 ≡ length self.now.starts }
+    {
+        self.starts.as_slice().len() - 1
+    }
+
+    /// The origins of the notes of the place of this number.
+    pub fn of_place(&self, place: usize) -> &[Origin]
+        requires place { place + 1 < length self.now.starts }
+        requires rises { slice_index self.now.starts place ≤ slice_index self.now.starts (place + 1) }
+        requires within { slice_index self.now.starts (place + 1) ≤ length self.now.origins }
+        ensures { result.now ≡ origins_in self.now place }
+    {
+        let starts = self.starts.as_slice();
+        &self.origins.as_slice()[starts[place]..starts[place + 1]]
+    }
+}
+
+/// How many places a report of the script has.
+fn place_count(script: &Script) -> Result<usize, NoMemory>
+    ensures { IfOk result (λ count. count ≡ place_count script.now) }
+{
+    let timers = script.timers.as_slice().len();
+    let cpus = script.cpus as usize;
+    let interrupts = if script.version == 2 { cpus } else { 0 };
+    let actors = script
+        .clients
+        .as_slice()
+        .len()
+        .checked_add(cpus + interrupts);
+    match actors.and_then(|actors| actors.checked_add(timers + cpus)) {
+        Some(count) => Ok(count),
+        None => Err(NoMemory {}),
+    }
+}
+
+/// The number of a place among those of a report.
+fn place_index(script: &Script, place: Place) -> usize
+    requires { place_index script.now place < 2 ^ 64 }
+    ensures { result ≡ place_index script.now place }
+{
+    let timers = script.timers.as_slice().len();
+    match place {
+        Place::Timer(timer) => timer as usize,
+        Place::Cpu(cpu) => timers + cpu as usize,
+        Place::Actor(actor) => timers + script.cpus as usize + actor as usize,
+    }
+}
+
+/// A list of copies of one item.
+fn filled<T: Copy + Drop>(alloc: Global, count: usize, item: T) -> Result<Seq<T>, NoMemory>
+    ensures { IfOk result (λ list. list ≡ replicate count item) }
+{
+    let mut list = Seq::new(alloc);
+    for _ in 0..count {
+        list.push(item)?;
+    }
+    Ok(list)
+}
+
+/// One more than a count.
+fn next(count: usize) -> Result<usize, NoMemory>
+    ensures { IfOk result (λ next. next ≡ count + 1) }
+{
+    count.checked_add(1).ok_or(NoMemory {})
+}
+
+/// Adds the numbers of an actor's notes to those of the places.
+fn count_list(script: &Script, counts: &mut Seq<usize>, notes: &[Note]) -> Result<(), NoMemory>
+    requires places { length counts.old ≡ place_count script.now }
+    requires exist { HavePlaces script.now notes.now }
+    ensures places { OnOk result (length counts.new ≡ place_count script.now) }
+    ensures each { OnOk result ((i : ℕ) → i < place_count script.now → slice_index counts.new i ≡ slice_index counts.old i + count_in script.now i notes.now) }
+{
+    for note in notes {
+        let counted = counts.as_slice();
+        let place = place_index(script, note.place);
+        let count = next(counted[place])?;
+        counts.replace(place, count);
+    }
+    Ok(())
+}
+
+/// The number of notes of each place.
+fn counts_of(alloc: Global, script: &Script, lists: &[Seq<Note>]) -> Result<Seq<usize>, NoMemory>
+    requires { AllHavePlaces script.now lists.now }
+    ensures { IfOk result (λ counts. AreCounts script.now lists.now counts) }
+{
+    let mut counts = filled(alloc, place_count(script)?, 0)?;
+    for notes in lists {
+        count_list(script, &mut counts, notes.as_slice())?;
+    }
+    Ok(counts)
+}
+
+/// Where the notes of each place begin, and behind the last place the end.
+fn starts_of(alloc: Global, counts: &[usize]) -> Result<Seq<usize>, NoMemory>
+    ensures { IfOk result (λ starts. starts ≡ starts_from 0 counts.now) }
+{
+    let mut starts = Seq::new(alloc);
+    let mut start: usize = 0;
+    for count in counts {
+        starts.push(start)?;
+        start = start.checked_add(*count).ok_or(NoMemory {})?;
+    }
+    starts.push(start)?;
+    Ok(starts)
+}
+
+/// Where a note's origin stands.
+fn location(script: &Script, starts: &[usize], note: &Note) -> usize
+    requires places { length starts.now ≡ place_count script.now + 1 }
+    requires exists { place_exists script.now note.now.place ≡ true }
+    requires fits { location script.now starts.now note.now < 2 ^ 64 }
+    ensures { result ≡ location script.now starts.now note.now }
+{
+    starts[place_index(script, note.place)] + note.pos as usize
+}
+
+/// A number of 32 bits.
+fn short(number: usize) -> Result<u32, NoMemory>
+    ensures { IfOk result (λ short. short ≡ number) }
+{
+    u32::try_from(number).map_err(|_| NoMemory {})
+}
+
+/// Writes the origins of an actor's notes where they belong.
+fn write_list(
+    script: &Script,
+    lists: &[Seq<Note>],
+    starts: &[usize],
+    origins: &mut Seq<Origin>,
+    actor: u32,
+) -> Result<(), NoMemory>
+    requires actor { actor < length lists.now }
+    requires room { HasRoom script.now lists.now starts.now (length origins.old) }
+    requires written { AreWritten script.now lists.now starts.now origins.old actor 0 }
+    ensures length { OnOk result (length origins.new ≡ length origins.old) }
+    ensures written { OnOk result (AreWritten script.now lists.now starts.now origins.new (actor + 1) 0) }
+{
+    let notes = lists[actor as usize].as_slice();
+    for i in 0..notes.len() {
+        let number = short(i)?;
+        let at = location(script, starts, &notes[i]);
+        origins.replace(at, Origin { actor, number });
+    }
+    Ok(())
+}
+
+/// The origins of all notes, in the report's order.
+fn origins_of(
+    alloc: Global,
+    script: &Script,
+    lists: &[Seq<Note>],
+    starts: &[usize],
+    room: usize,
+) -> Result<Seq<Origin>, NoMemory>
+    requires { HasRoom script.now lists.now starts.now room }
+    ensures length { IfOk result (λ origins. length origins ≡ room) }
+    ensures written { IfOk result (λ origins. AreWritten script.now lists.now starts.now origins (length lists.now) 0) }
+{
+    let actors = short(lists.len())?;
+    // No actor has this number: nothing is written yet.
+    let nowhere = Origin {
+        actor: actors,
+        number: 0,
+    };
+    let mut origins = filled(alloc, room, nowhere)?;
+    for actor in 0..actors {
+        write_list(script, lists, starts, &mut origins, actor)?;
+    }
+    Ok(origins)
+}
+
+/// The notes of all lists, in the report's order.
+pub fn order_of(alloc: Global, script: &Script, lists: &[Seq<Note>]) -> Result<Order, NoMemory>
+    requires places { AllHavePlaces script.now lists.now }
+    requires formed { IsWellFormed lists.now }
+    ensures { IfOk result (λ order. ShowsHistories script.now lists.now order) }
+{
+    let counts = counts_of(alloc, script, lists)?;
+    let counts = counts.as_slice();
+    let starts = starts_of(alloc, counts)?;
+    let from = starts.as_slice();
+    let room = from[counts.len()];
+    let origins = origins_of(alloc, script, lists, from, room)?;
+    Ok(Order { starts, origins })
+}
