@@ -68,3 +68,5 @@ pub mod Relisted
 pub mod CallEnds
 pub mod CallSection
 pub mod Rounding
+pub mod Replied
+pub mod Places

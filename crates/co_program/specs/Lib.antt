@@ -8,3 +8,4 @@ pub mod Follows
 pub mod Scripts
 pub mod Indexed
 pub mod Existing
+pub mod Places
