@@ -70,3 +70,4 @@ pub mod CallSection
 pub mod Rounding
 pub mod Replied
 pub mod Places
+pub mod Runs

@@ -95,7 +95,7 @@ every_step_falls s ok schedule may a within unfinished free = step_falls s ok (r
 
 module _ (s : Script) (ok : IsScript s) where
   -- some schedule reaches the world
-  abbrev IsReached : World → Type 0
+  abbrev pub IsReached : World → Type 0
   IsReached w = (schedule : List ℕ) × IsSchedule s schedule × (w ≡ reached s schedule)
 
   reached_more : (w : World) (a : ℕ) → a < actor_count s → IsReached w → IsReached (step s w a)
@@ -128,7 +128,7 @@ module _ (s : Script) (ok : IsScript s) where
   finished_free : (w : World) (a : ℕ) → HasFinished s w a → blocked s w a ≡ None
   finished_free w a is = ap (waits_for s w (w.actors a).cursor) is
 
-  round_falls : (w : World) → IsReached w → IsReached (round s w) × (AllFinished s w ⊎ (measure s (round s w) < measure s w))
+  pub round_falls : (w : World) → IsReached w → IsReached (round s w) × (AllFinished s w ⊎ (measure s (round s w) < measure s w))
   round_falls w h =
       let falls_or : IsReached (round s w) × (((round s w ≡ w) × AllByRecursion (IsIdle s w) (all_actors s)) ⊎ (measure s (round s w) < measure s w)) =
       run_falls (all_actors s) w (all_range (λ a. a < actor_count s) 0 (actor_count s) (λ a within. omega arith)) h in

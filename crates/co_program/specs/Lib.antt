@@ -9,3 +9,4 @@ pub mod Scripts
 pub mod Indexed
 pub mod Existing
 pub mod Places
+pub mod Runs
