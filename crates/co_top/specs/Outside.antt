@@ -1,49 +1,65 @@
--- The two ends of the program, and what a call may do to them.
-use Rattle.std.specs.Prelude.{ℕ, ◌<◌, Option, List, [], length}
-use Rattle.std.specs.Io.KnownBytes.{Appends, Consumes, IsAtEnd, Keeps}
+-- The two ends of a call of the program, and what it may do to them. A source or a sink that tells no bytes tells nothing here
+-- but its counts.
+use Rattle.std.specs.Prelude.{◌≡◌, ℕ, ◌<◌, ◌⊎◌, ¬, Option, List, length}
+use Rattle.std.specs.Io.KnownBytes.{Appends, Consumes, IsAtEnd}
 use Rattle.co_io.specs.Counts.{Rose}
 use Rattle.co_io.specs.Writing.{AppendsFront}
 
--- the source and the sink at one moment: bytes where they are told, and the counts of what went wrong
-pub record Outside : Type 0 where
-  -- what the source has left
+-- a source at one moment: what is left of its bytes, and how many reads failed
+pub record Input : Type 0 where
   pub left : Option (List ℕ)
-  pub read_faults : ℕ
-  -- what the sink holds
+  pub faults : ℕ
+
+-- a sink at one moment: what it holds, how many writes failed, and how many took nothing of what was not empty
+pub record Output : Type 0 where
   pub held : Option (List ℕ)
-  pub write_faults : ℕ
+  pub faults : ℕ
   pub idle : ℕ
 
-module _ (before after : Outside) where
-  -- the source was read to its end, and it had these bytes
+-- both ends
+pub record Outside : Type 0 where
+  pub input : Input
+  pub output : Output
+
+abbrev pub outside : Option (List ℕ) → ℕ → Option (List ℕ) → ℕ → ℕ → Outside
+outside left read_faults held write_faults idle = record {
+  input = record { left = left; faults = read_faults };
+  output = record { held = held; faults = write_faults; idle = idle };
+}
+
+module _ (before after : Input) where
+  -- the source was read to its end, and these are the bytes that it had
   pub record ReadsToEnd (bytes : List ℕ) : Type 0 where
     pub read : Consumes before.left after.left bytes
     pub ended : IsAtEnd after.left
 
-  -- more than this many bytes were read
+  -- these bytes were read, which are more than the limit
   pub record ReadsOver (limit : ℕ) (bytes : List ℕ) : Type 0 where
     pub read : Consumes before.left after.left bytes
     pub over : limit < length bytes
 
-  -- all of the source's bytes were read, or more than the limit
+  -- all bytes of the source were read, or more than the limit
   abbrev pub Reads : ℕ → List ℕ → Type 0
   Reads limit bytes = ReadsToEnd bytes ⊎ ReadsOver limit bytes
 
-  -- no byte was read
-  abbrev pub ReadsNothing : Type 0
-  ReadsNothing = Keeps before.left after.left
+  -- a read failed
+  abbrev pub ReadFails : Type 0
+  ReadFails = Rose before.faults after.faults
 
+module _ (before after : Output) where
+  -- the whole text was written
   abbrev pub Writes : List ℕ → Type 0
   Writes text = Appends before.held after.held text
 
-  abbrev pub WritesNothing : Type 0
-  WritesNothing = Writes []
+  -- a write failed, or took nothing
+  abbrev pub WriteFails : Type 0
+  WriteFails = Rose before.faults after.faults ⊎ Rose before.idle after.idle
 
-  -- the sink took no more than a proper front of the text, and a count of its own says so
+  -- a write failed, and no more than a proper front of the text was written
   pub record WritesFront (text : List ℕ) : Type 0 where
     pub front : AppendsFront before.held after.held text
-    pub cause : Rose before.write_faults after.write_faults ⊎ Rose before.idle after.idle
+    pub cause : WriteFails
 
-  -- a read failed
-  abbrev pub ReadFails : Type 0
-  ReadFails = Rose before.read_faults after.read_faults
+-- no read and no write failed
+abbrev pub HasNoFault : Outside → Outside → Type 0
+HasNoFault before after = (¬ ReadFails before.input after.input) × (¬ WriteFails before.output after.output)

@@ -5,7 +5,7 @@ ghost use Rattle.co_top.specs.Commands.{command_of};
 /// A command of the program.
 #[derive(Clone, Copy, Debug, PartialEq, Eq)]
 pub enum Command {
-    /// Replays a script and writes its report.
+    /// Reads a script and writes the report of its walk.
     Steps,
 }
 
@@ -13,14 +13,12 @@ pub enum Command {
 pub(crate) fn command_of(words: &[String]) -> Option<Command>
     ensures { result ≡ command_of (map string_bytes words.now) }
 {
-    match words {
-        [word] => {
-            if word.as_bytes() == b"steps".as_slice() {
-                Some(Command::Steps)
-            } else {
-                None
-            }
-        }
-        _ => None,
+    let [word] = words else {
+        return None;
+    };
+    if word.as_bytes() == b"steps".as_slice() {
+        Some(Command::Steps)
+    } else {
+        None
     }
 }

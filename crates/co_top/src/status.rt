@@ -1,6 +1,8 @@
 //! How a call ends.
+ghost use Rattle.std.specs.Prelude.{◌≡◌};
+ghost use Rattle.co_top.specs.Statuses.{exit_status};
 
-/// How a call of the program ends; the exit statuses are 0 to 6 in this order. Our own decision.
+/// How a call of the program ends. Our own decision.
 #[derive(Clone, Copy, Debug, PartialEq, Eq)]
 pub enum Status {
     /// The command's text was written.
@@ -17,4 +19,21 @@ pub enum Status {
     NoMemory,
     /// The report is not legal; its first bad line and the cause were written.
     NotLegal,
+}
+
+impl Status {
+    /// The exit status of the program: 0 to 6, in the order of the statuses.
+    pub fn exit_status(self) -> u8
+        ensures { result ≡ exit_status self }
+    {
+        match self {
+            Status::Done => 0,
+            Status::BadScript => 1,
+            Status::Usage => 2,
+            Status::ReadFault => 3,
+            Status::WriteFault => 4,
+            Status::NoMemory => 5,
+            Status::NotLegal => 6,
+        }
+    }
 }

@@ -1,33 +1,46 @@
 //! The command `steps`.
-ghost use Rattle.std.specs.Prelude.{◌≡◌, IfOk};
+ghost use Rattle.std.specs.Prelude.{◌≡◌, List, IfOk};
+ghost use Rattle.co_object.specs.declared.note.Note.{Note};
+ghost use Rattle.co_program.specs.Runs.{IsRunOf};
+ghost use Rattle.co_script.specs.Reading.{script_of};
+ghost use Rattle.co_program.specs.Scripts.{IsScript};
+ghost use Rattle.co_core.specs.Walk.{IsWalk};
+ghost use Rattle.co_report.specs.Reports.{report_of};
 ghost use Rattle.co_top.specs.Headline.{StepsGive};
 
+use crate::answer::Answer;
 use crate::status::Status;
 use crate::texts::refusal_text;
 use co_core::run_steps;
+use co_program::Script;
 use co_report::print_report;
 use co_sbt::{NoMemory, Seq};
-use co_script::{ScriptFault, read_script};
+use co_script::read_script;
+use co_text::ScriptFault;
 use std::alloc::Global;
 
 /// The report of a script's walk.
-fn report_of_steps(alloc: Global, script: &Script) -> Result<Seq<u8>, NoMemory>
+fn report_of_walk(alloc: Global, script: &Script) -> Result<Seq<u8>, NoMemory>
     requires { IsScript script.now }
-    ensures { IfOk result (IsReportOfWalk script.now) }
+    ensures { IfOk result (λ text. (lists : List (List Note)) × IsWalk script.now lists × IsRunOf script.now lists × (text ≡ report_of script.now lists)) }
 {
     let lists = run_steps(alloc, script)?;
     print_report(alloc, script, &lists)
 }
 
-/// What `steps` comes to on the bytes of its input: the status, and the text that is to be written.
-pub(crate) fn steps(alloc: Global, bytes: &[u8]) -> Result<(Status, Seq<u8>), NoMemory>
-    ensures { IfOk result (λ made. StepsGive bytes.now made.0 made.1) }
+/// What `steps` makes of these bytes.
+pub(crate) fn steps(alloc: Global, bytes: &[u8]) -> Result<Answer, NoMemory>
+    ensures { IfOk result (λ answer. StepsGive bytes.now answer.status answer.text) }
 {
     match read_script(alloc, bytes) {
-        Ok(script) => Ok((Status::Done, report_of_steps(alloc, &script)?)),
-        Err(ScriptFault::Bad { line, cause }) => {
-            Ok((Status::BadScript, refusal_text(alloc, line, cause)?))
-        }
+        Ok(script) => Ok(Answer {
+            status: Status::Done,
+            text: report_of_walk(alloc, &script)?,
+        }),
+        Err(ScriptFault::Bad { line, cause }) => Ok(Answer {
+            status: Status::BadScript,
+            text: refusal_text(alloc, line, cause)?,
+        }),
         Err(ScriptFault::NoMemory) => Err(NoMemory {}),
     }
 }

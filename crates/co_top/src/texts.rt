@@ -1,4 +1,4 @@
-//! The texts of refusals.
+//! The texts that the program itself writes.
 ghost use Rattle.std.specs.Prelude.{◌≡◌, IfOk};
 ghost use Rattle.co_top.specs.Commands.{cause_word, refusal_text, usage_text};
 
@@ -44,6 +44,6 @@ pub(crate) fn refusal_text(alloc: Global, line: u64, cause: Cause) -> Result<Seq
     text.extend_from_slice(digits.format(line).as_bytes())?;
     text.extend_from_slice(b": ".as_slice())?;
     text.extend_from_slice(cause_word(cause))?;
-    text.extend_from_slice(b"\n".as_slice())?;
+    text.push(b'\n')?;
     Ok(text)
 }
