@@ -249,6 +249,10 @@ module _ (s : Script) (ok : IsScript s) (x : Stored) (w : World) (stored : IsSto
     q1 : TimerQueue
     q1 = gone.0
 
+  -- the wheel's reply is the plain callout's
+  pub answer_reply : (reply : Reply) (out : Option Travelling) (after : WheelOf) → Some (after.callouts, reply, out) ≡ call_at before.callouts i op → reply ≡ r'
+  answer_reply reply out after answers = (answer_by before i op (alone_of s w i) there (is_away before.callouts.cpu r' t') after.callouts reply out refl answers).reply_is
+
   -- ---- the call, as the wheel answers it
 
   module _ (gone listed : Bool) (at : Option ℕ) (out : Option Travelling) (after : WheelOf) (wheeled : IsCalled before i op r' gone listed at out after) where
@@ -268,6 +272,10 @@ module _ (s : Script) (ok : IsScript s) (x : Stored) (w : World) (stored : IsSto
 
     abbrev w1 : World
     w1 = removed_from s w a act i (off_of r')
+
+    -- where something is taken out, the world after the Remove
+    pub removed_world : (y : ℕ) → off_of r' ≡ Some y → (q : TimerQueue) × (removed_from s w a act i (off_of r') ≡ queue_answers s w a act cpu (Remove i) (Some (q, Off)))
+    removed_world y is = (removed.0, removed.2.world y is)
 
     abbrev w2 : World
     w2 = callout_answers s w1 a act i (Call op) (Some (t', r'))

@@ -71,3 +71,8 @@ pub mod Rounding
 pub mod Replied
 pub mod Places
 pub mod Runs
+pub mod Calling
+pub mod Steadily
+pub mod Landing
+pub mod Queueing
+pub mod Servers

@@ -1,5 +1,5 @@
 -- Where each record is after a section: what the depot shows, and what holds between the records and the actors.
-use Rattle.std.proofs.Common.{◌≡◌, ℕ, ◌<◌, ◌⊎◌, inl, inr, Bool, true, false, cond, not, List, [], ◌∷◌, ◌++◌, length, refl, sym, ap, ◌∙◌, subst, arith, Option, Some, None}
+use Rattle.std.proofs.Common.{◌≡◌, ℕ, ◌<◌, ◌⊎◌, inl, inr, Bool, true, false, cond, not, List, [], ◌∷◌, ◌++◌, length, get_or, set, length-set, refl, sym, ap, ◌∙◌, subst, arith, Option, Some, None}
 use Rattle.std.specs.Prelude.{◌==◌, ◌&&◌}
 use Rattle.std.specs.List.{AllByRecursion}
 use Rattle.co_object.specs.declared.State.{State}
@@ -12,6 +12,8 @@ use Rattle.co_program.specs.declared.script.Script.{Script}
 use Rattle.co_program.specs.Actors.{actor_count, role_of, cpu_of}
 use Rattle.co_program.specs.Stages.{Stage}
 use Rattle.co_program.specs.Cursor.{Cursor}
+use Rattle.std.proofs.lemmas.List.{get_or-set_same, get_or-set_other}
+use Rattle.co_wheel.specs.Callouts.{Callouts}
 use Rattle.co_wheel.specs.Cpu.{Cpu as WheelOf}
 use Rattle.co_wheel.specs.Parcel.{Parcel as Travelling}
 use Rattle.co_wheel.specs.Turns.{Shows}
@@ -20,7 +22,7 @@ use Rattle.co_core.specs.Blocked.{is_moving, moves}
 use Rattle.co_core.specs.Step.{step}
 use Rattle.co_core.specs.Walk.{run}
 use Rattle.co_core.specs.Laws.{reached}
-use Rattle.co_core.specs.Stored.{Stored, bag_at, wheel_at}
+use Rattle.co_core.specs.Stored.{Stored, bag_at, wheel_at, no_wheel}
 use Rattle.co_core.specs.Stands.{IsAtWheel, IsBag, IsPacked, IsStored, IsPlaced, IsBound, IsSettled, IsReached, alone_of, at_home, is_home, slot_of, in_slot, callout_in}
 use Rattle.co_core.proofs.Moves.{IsAt, decide, at_all}
 use Rattle.co_core.proofs.Moving.{IsOnly, moves_only, unmoved, parcels_of, moving_own, moving_same}
@@ -219,3 +221,77 @@ module _ (s : Script) (w w' : World) (i cpu a : ℕ) (state : State) (queue : Ti
 
   pub placed_after : IsPlaced s w'
   placed_after = record { runs = runs; listed = listed; bound = bound; serves = serves; known = callouts; settled = settles }
+
+-- ---- where one queue changes, and no record
+
+module _ (s : Script) (x : Stored) (w w' : World) (cpu a : ℕ) (queue : TimerQueue) (place : Cursor) (wheel : WheelOf) (on : cpu < s.cpus)
+    (states : (j : ℕ) → states_of w' j ≡ states_of w j) (stands : (j : ℕ) → stands_of w' j ≡ stands_of w j) (queues : IsAt (queues_of w) cpu queue (queues_of w'))
+    (places : IsAt (places_of w) a place (places_of w')) (same_parcel : place.parcel ≡ parcels_of w a) where
+  still_parcels : (b : ℕ) → parcels_of w' b ≡ parcels_of w b
+  still_parcels b = at_all (λ k (c : Cursor). c.parcel ≡ parcels_of w k) (places_of w) a place (places_of w') places same_parcel (λ j other. refl) b
+
+  -- the same world, but for its queue
+  abbrev before_queue : World
+  before_queue = record w' { cpus = w.cpus }
+
+  rebagged : (o : Option Parcel) (bag : Option Travelling) → IsBag s before_queue o bag → IsBag s w' o bag
+  rebagged None bag h = h
+  rebagged (Some p) bag h = record { arming = h.arming; packed = h.packed; armed = h.armed; number = h.number; due = h.due; cpu = h.cpu }
+
+  pub stored_queue : IsStored s x w → wheel.callouts ≡ (wheel_at x cpu).callouts → wheel.timers.buckets ≡ (wheel_at x cpu).timers.buckets → wheel.timers.direct ≡ (wheel_at x cpu).timers.direct → Shows wheel queue →
+      IsStored s (record x { wheels = set x.wheels cpu wheel }) w'
+  stored_queue stored callouts buckets direct shows =
+      let old = stored_quiet s w before_queue states stands (λ y. refl) still_parcels x stored in
+      record {
+        wheels_long = length-set x.wheels cpu wheel ∙ old.wheels_long;
+        each_wheel = λ y within. each y within (decide y cpu) old;
+        each_stand = old.each_stand;
+        bags_long = old.bags_long;
+        each_bag = λ b within. rebagged (parcels_of w' b) (bag_at x b) (old.each_bag b within);
+      } where
+        each : (y : ℕ) → y < s.cpus → (y ≡ cpu) ⊎ (y ≡ cpu → ⊥) → IsStored s x before_queue → IsAtWheel s w' y (get_or (set x.wheels cpu wheel) y no_wheel)
+        each y within (inl same) old =
+            let here = old.each_wheel cpu on in
+            let inside : cpu < length x.wheels = (let l = stored.wheels_long in omega arith) in
+            subst (λ k. IsAtWheel s w' k (get_or (set x.wheels cpu wheel) k no_wheel)) (sym same) (subst (IsAtWheel s w' cpu) (sym (get_or-set_same x.wheels cpu wheel no_wheel inside)) (record {
+              number = ap (λ (c : Callouts). c.cpu) callouts ∙ here.number;
+              here = ap (λ (c : Callouts). c.here) callouts ∙ here.here;
+              buckets = buckets ∙ here.buckets;
+              direct = direct ∙ here.direct;
+              shows = subst (Shows wheel) (sym queues.here) shows;
+            }))
+        each y within (inr other) old =
+            let there = old.each_wheel y within in
+            subst (IsAtWheel s w' y) (sym (get_or-set_other x.wheels cpu y wheel no_wheel other)) (record {
+              number = there.number;
+              here = there.here;
+              buckets = there.buckets;
+              direct = there.direct;
+              shows = subst (Shows (wheel_at x y)) (sym (queues.else y other)) there.shows;
+            })
+
+  pub placed_queue : IsPlaced s w → slot_of (role_of s a) (queues_of w' (cpu_of s (role_of s a))) ≡ in_slot place.stage → ((j : ℕ) → callout_in place.stage ≡ Some j → j < length s.timers) →
+      ((b : ℕ) → (b ≡ a → ⊥) → b < actor_count s → slot_of (role_of s b) (queues_of w' (cpu_of s (role_of s b))) ≡ slot_of (role_of s b) (queues_of w (cpu_of s (role_of s b)))) → IsPlaced s w'
+  placed_queue placed own_slot own_callout slots = record {
+    runs = λ j. subst (λ (t : ℕ). is_free_at (states_of w' j).run t ≡ true) (sym (stands j)) (subst (λ (t : State). is_free_at t.run (stands_of w j) ≡ true) (sym (states j)) (placed.runs j));
+    listed = λ j y free at. stands j ∙ placed.listed j y (sym (moving_same s w w' j (λ b within. ap (moves j) (still_parcels b))) ∙ free) (ap off (sym (states j)) ∙ at);
+    bound = λ b p may is. (
+        let old = placed.bound b p may (sym (still_parcels b) ∙ is) in
+        record { idle = ap (λ (t : State). is_idle t.run) (states p.i) ∙ old.idle; known = old.known; target = old.target });
+    serves = λ b may. serve b may (decide b a);
+    known = λ b i may is. callout b i may (decide b a) is;
+    settled = λ j within. (
+        let old = placed.settled j within in
+        record {
+          home = subst (λ (t : State). t.home < s.cpus) (sym (states j)) old.home;
+          target = λ arming is. old.target arming (ap (λ (t : State). t.armed) (sym (states j)) ∙ is);
+          stand = subst (λ (t : ℕ). t < s.cpus) (sym (stands j)) old.stand;
+        });
+  } where
+    serve : (b : ℕ) → b < actor_count s → (b ≡ a) ⊎ (b ≡ a → ⊥) → slot_of (role_of s b) (queues_of w' (cpu_of s (role_of s b))) ≡ in_slot (places_of w' b).stage
+    serve b within (inl same) = subst (λ k. slot_of (role_of s k) (queues_of w' (cpu_of s (role_of s k))) ≡ in_slot (places_of w' k).stage) (sym same) (own_slot ∙ ap (λ (c : Cursor). in_slot c.stage) (sym places.here))
+    serve b within (inr other) = slots b other within ∙ placed.serves b within ∙ ap (λ (c : Cursor). in_slot c.stage) (sym (places.else b other))
+
+    callout : (b i : ℕ) → b < actor_count s → (b ≡ a) ⊎ (b ≡ a → ⊥) → callout_in (places_of w' b).stage ≡ Some i → i < length s.timers
+    callout b i within (inl same) is = own_callout i (ap (λ (c : Cursor). callout_in c.stage) (sym places.here) ∙ ap (λ k. callout_in (places_of w' k).stage) (sym same) ∙ is)
+    callout b i within (inr other) is = placed.known b i within (ap (λ (c : Cursor). callout_in c.stage) (sym (places.else b other)) ∙ is)

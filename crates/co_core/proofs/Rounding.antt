@@ -1,5 +1,5 @@
 -- Steps one after another in code are a schedule of the plain world: what each loop of the walk keeps.
-use Rattle.std.proofs.Common.{◌≡◌, ℕ, zero, suc, ◌+◌, ◌<◌, ◌≤◌, ◌^◌, Bool, true, false, ◌&&◌, List, [], ◌∷◌, ◌++◌, length, get_or, take, refl, ap, sym, subst, ◌∙◌, arith, inl, inr, append_assoc}
+use Rattle.std.proofs.Common.{◌≡◌, ℕ, zero, suc, ◌+◌, ◌<◌, ◌≤◌, ◌^◌, Bool, true, false, ◌&&◌, ◌-◌, List, [], ◌∷◌, ◌++◌, length, get_or, take, refl, ap, sym, subst, ◌∙◌, arith, inl, inr, append_assoc}
 use Rattle.std.specs.Prelude.{Option, Some, None, ◌⊎◌}
 use Rattle.std.specs.List.{AllByRecursion, range_with_len}
 use Rattle.std.proofs.lemmas.List.FromFn.{map-range_with_len_more}
@@ -11,16 +11,14 @@ use Rattle.co_core.specs.declared.turn.Turn.{Turn}
 use Rattle.co_core.specs.declared.turn.Turn.TheVariants.{Notes, Blocked, Finished}
 use Rattle.co_core.specs.declared.turn.Why.{Why}
 use Rattle.co_core.specs.Blocked.{blocked}
-use Rattle.co_core.specs.Laws.{IsSchedule, reached, RoundsFall, EveryStepFalls, IdleStepsStay, OpeningFits}
+use Rattle.co_core.specs.Laws.{IsIdle, IsSchedule, reached}
 use Rattle.co_core.specs.Measure.{measure}
-use Rattle.co_core.specs.Stands.{StandsFor, IsReached}
+use Rattle.co_core.specs.Stands.{IsReached as Reached}
+use Rattle.co_core.proofs.Bounds.{opening_fits}
+use Rattle.co_core.proofs.Walks.{IsReached, run_falls, rounds_fall, finished_round}
 use Rattle.co_core.specs.Step.{step, turn_of, turn_at}
 use Rattle.co_core.specs.Walk.{AllFinished, HasFinished, round, rounds, run}
 use Rattle.co_core.specs.World.{World, open_world, all_actors}
-
-pub run-more : (s : Script) (w : World) (schedule : List ℕ) (a : ℕ) → run s w (schedule ++ a ∷ []) ≡ step s (run s w schedule) a
-run-more s w [] a = refl
-run-more s w (b ∷ schedule) a = run-more s (step s w b) schedule a
 
 pub rounds-more : (s : Script) (w : World) (n : ℕ) → round s (rounds s w n) ≡ rounds s w (n + 1)
 rounds-more s w zero = refl
@@ -46,3 +44,39 @@ turn-finished s w a h = go (blocked s w a) (action_for s a (w.actors a).cursor) 
   go None (Silent to) is h = cc
   go None (Take held to) is h = cc
   go None (Asks act asked) is h = cc
+
+-- ---- the bound of the rounds
+
+module _ (s : Script) (ok : IsScript s) where
+  -- what is left to do anywhere is below 2 ^ 64
+  bounded : (w : World) → Reached s w → measure s w < 2 ^ 64
+  bounded w h = subst (λ (x : World). measure s x < 2 ^ 64) (sym h.world) (below (falls_or.1)) where
+    falls_or : IsReached s ok (run s (open_world s) h.schedule) × (((run s (open_world s) h.schedule ≡ open_world s) × AllByRecursion (IsIdle s (open_world s)) h.schedule) ⊎ (measure s (run s (open_world s) h.schedule) < measure s (open_world s)))
+    falls_or = run_falls s ok h.schedule (open_world s) h.may ([], tt, refl)
+    below : ((run s (open_world s) h.schedule ≡ open_world s) × AllByRecursion (IsIdle s (open_world s)) h.schedule) ⊎ (measure s (run s (open_world s) h.schedule) < measure s (open_world s)) → measure s (reached s h.schedule) < 2 ^ 64
+    below (inl same) = subst (λ (x : World). measure s x < 2 ^ 64) (sym same.0) (opening_fits s ok)
+    below (inr less) = let most = opening_fits s ok in omega (arith, less, most)
+
+  round-or-end : (w : World) → Reached s w → AllFinished s w ⊎ (measure s (round s w) < measure s w)
+  round-or-end w h = subst (λ (x : World). AllFinished s x ⊎ (measure s (round s x) < measure s x)) (sym h.world) (rounds_fall s ok h.schedule h.may)
+
+  -- so many rounds have been made, and with each what is left to do has become less, or all have finished
+  abbrev pub HasCounted : World → ℕ → Type 0
+  HasCounted w k = (measure s (rounds s w k) + k ≤ measure s w) ⊎ AllFinished s (rounds s w k)
+
+  pub counted-more : (w : World) (k : ℕ) → Reached s (rounds s w k) → HasCounted w k → HasCounted w (k + 1)
+  counted-more w k h (inr all) = inr (subst (λ (x : World). AllFinished s x) (sym (finished_round s (rounds s w k) all) ∙ rounds-more s w k) all)
+  counted-more w k h (inl count) = go (round-or-end (rounds s w k) h) where
+    go : AllFinished s (rounds s w k) ⊎ (measure s (round s (rounds s w k)) < measure s (rounds s w k)) → HasCounted w (k + 1)
+    go (inl all) = counted-more' all where
+      counted-more' : AllFinished s (rounds s w k) → HasCounted w (k + 1)
+      counted-more' all = inr (subst (λ (x : World). AllFinished s x) (sym (finished_round s (rounds s w k) all) ∙ rounds-more s w k) all)
+    go (inr fell) = inl (subst (λ (x : World). measure s x + (k + 1) ≤ measure s w) (rounds-more s w k) (omega (arith, fell, count)))
+
+  -- after 2 ^ 64 - 1 rounds all have finished
+  pub counted-all : (w : World) (k : ℕ) → Reached s w → Reached s (rounds s w k) → 2 ^ 64 - 1 ≤ k → HasCounted w k → AllFinished s (rounds s w k)
+  counted-all w k start h far (inr all) = all
+  counted-all w k start h far (inl count) = go (round-or-end (rounds s w k) h) where
+    go : AllFinished s (rounds s w k) ⊎ (measure s (round s (rounds s w k)) < measure s (rounds s w k)) → AllFinished s (rounds s w k)
+    go (inl all) = all
+    go (inr fell) = let most = bounded w start in let never : ⊥ = omega (arith, fell, count, most, far) in absurd never

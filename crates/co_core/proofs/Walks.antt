@@ -35,26 +35,26 @@ at_range P k (suc n) a all low high = go (decide a k) (λ above. at_range P (k +
 
 -- ---- finished actors change nothing
 
-finished_step : (s : Script) (w : World) (a : ℕ) → HasFinished s w a → step s w a ≡ w
+pub finished_step : (s : Script) (w : World) (a : ℕ) → HasFinished s w a → step s w a ≡ w
 finished_step s w a finished = ap (λ (d : Action). cond (is_some (waits_for s w (w.actors a).cursor d)) w (stepped s w a d)) finished
 
 finished_run : (s : Script) (w : World) (schedule : List ℕ) → AllByRecursion (HasFinished s w) schedule → run s w schedule ≡ w
 finished_run s w [] all = refl
 finished_run s w (a ∷ schedule) all = ap (λ (x : World). run s x schedule) (finished_step s w a all.0) ∙ finished_run s w schedule all.1
 
-finished_round : (s : Script) (w : World) → AllFinished s w → round s w ≡ w
+pub finished_round : (s : Script) (w : World) → AllFinished s w → round s w ≡ w
 finished_round s w all = finished_run s w (all_actors s) (all_range (HasFinished s w) 0 (actor_count s) (λ a within. all a (omega arith)))
 
 finished_rounds : (s : Script) (w : World) (n : ℕ) → AllFinished s w → rounds s w n ≡ w
 finished_rounds s w zero all = refl
 finished_rounds s w (suc n) all = ap (λ (x : World). rounds s x n) (finished_round s w all) ∙ finished_rounds s w n all
 
-rounds_add : (s : Script) (w : World) (n m : ℕ) → rounds s w (n + m) ≡ rounds s (rounds s w n) m
+pub rounds_add : (s : Script) (w : World) (n m : ℕ) → rounds s w (n + m) ≡ rounds s (rounds s w n) m
 rounds_add s w zero m = ap (rounds s w) (let e : 0 + m ≡ m = omega arith in e)
 rounds_add s w (suc n) m = ap (rounds s w) (let e : suc n + m ≡ suc (n + m) = omega arith in e) ∙ rounds_add s (round s w) n m
 
 -- the rounds after the end change nothing
-rounds_stay : (s : Script) (w : World) (n m : ℕ) → AllFinished s (rounds s w n) → rounds s w (n + m) ≡ rounds s w n
+pub rounds_stay : (s : Script) (w : World) (n m : ℕ) → AllFinished s (rounds s w n) → rounds s w (n + m) ≡ rounds s w n
 rounds_stay s w n m all = rounds_add s w n m ∙ finished_rounds s (rounds s w n) m all
 
 order : (n m : ℕ) → ((k : ℕ) × (n + k ≡ m)) ⊎ ((k : ℕ) × (m + k ≡ n))
@@ -74,11 +74,11 @@ walks_agree s lists others one other =
 
 -- ---- a round makes a step, or all have finished
 
-run_more : (s : Script) (w : World) (schedule : List ℕ) (a : ℕ) → run s w (schedule ++ a ∷ []) ≡ step s (run s w schedule) a
+pub run_more : (s : Script) (w : World) (schedule : List ℕ) (a : ℕ) → run s w (schedule ++ a ∷ []) ≡ step s (run s w schedule) a
 run_more s w [] a = refl
 run_more s w (b ∷ schedule) a = run_more s (step s w b) schedule a
 
-one_more : (P : ℕ → Type 0) (xs : List ℕ) (x : ℕ) → AllByRecursion P xs → P x → AllByRecursion P (xs ++ x ∷ [])
+pub one_more : (P : ℕ → Type 0) (xs : List ℕ) (x : ℕ) → AllByRecursion P xs → P x → AllByRecursion P (xs ++ x ∷ [])
 one_more P [] x h p = (p, tt)
 one_more P (y ∷ xs) x h p = (h.0, one_more P xs x h.1 p)
 
@@ -104,7 +104,7 @@ module _ (s : Script) (ok : IsScript s) where
   falls : (w : World) → IsReached w → Falls s w
   falls w h = subst (Falls s) (sym h.2) (every_step_falls s ok h.0 h.1)
 
-  step_or_idle : (w : World) (a : ℕ) → a < actor_count s → IsReached w → IsIdle s w a ⊎ (measure s (step s w a) < measure s w)
+  pub step_or_idle : (w : World) (a : ℕ) → a < actor_count s → IsReached w → IsIdle s w a ⊎ (measure s (step s w a) < measure s w)
   step_or_idle w a may h = go (blocked s w a) refl (action_for s a (w.actors a).cursor) refl where
     go : (o : Option Why) → blocked s w a ≡ o → (due : Action) → action_for s a (w.actors a).cursor ≡ due → IsIdle s w a ⊎ (measure s (step s w a) < measure s w)
     go (Some why) e due is = inl (inr (why, e))
@@ -114,7 +114,7 @@ module _ (s : Script) (ok : IsScript s) where
     go None e (Asks act asked) is = inr (falls w h a may (λ finished. (let clash : Asks act asked ≡ Nothing = sym is ∙ finished in cc)) e)
 
   -- a schedule falls, or nobody in it had anything to do
-  run_falls : (schedule : List ℕ) (w : World) → IsSchedule s schedule → IsReached w → IsReached (run s w schedule) × (((run s w schedule ≡ w) × AllByRecursion (IsIdle s w) schedule) ⊎ (measure s (run s w schedule) < measure s w))
+  pub run_falls : (schedule : List ℕ) (w : World) → IsSchedule s schedule → IsReached w → IsReached (run s w schedule) × (((run s w schedule ≡ w) × AllByRecursion (IsIdle s w) schedule) ⊎ (measure s (run s w schedule) < measure s w))
   run_falls [] w may h = (h, inl (refl, tt))
   run_falls (a ∷ schedule) w may h = (let rest = run_falls schedule (step s w a) may.1 (reached_more w a may.0 h) in (rest.0, go (step_or_idle w a may.0 h) rest.1)) where
     go : IsIdle s w a ⊎ (measure s (step s w a) < measure s w) →

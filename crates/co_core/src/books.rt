@@ -284,7 +284,7 @@ impl Books {
     }
 
     /// The Insert of a callout that comes to the CPU at which it is armed.
-    fn write_landing(&mut self, script: &Script, hand: &mut Hand, parcel: &Parcel, at: Sbt)
+    pub(crate) fn write_landing(&mut self, script: &Script, hand: &mut Hand, parcel: &Parcel, at: Sbt)
         requires script { IsScript script.now }
         requires written { MayWrite script.now (with_list self.old hand.old.actor hand.old.notes.items) hand.old.actor }
         requires known { parcel.now.cpu < script.now.cpus }

@@ -36,6 +36,7 @@ impl Model for Depot {
 }
 
 /// What a call answers.
+#[derive(Drop)]
 pub(crate) struct Called {
     pub reply: Reply,
     /// The queue had an arming of the callout, which the call took out.

@@ -12,8 +12,9 @@ ghost use Rattle.co_core.specs.Written.{place_at};
 
 use crate::books::{Books, Hand};
 use crate::depot::Depot;
-use co_object::OwnKind;
-use co_program::{Asked, Cursor, Script};
+use co_object::{CallOp, Op, OwnKind, QOp, QReply};
+use co_program::{Asked, Cursor, Parcel, Script};
+use co_sbt::Sbt;
 
 /// What is written, and where the records are.
 #[derive(Drop)]
@@ -44,5 +45,64 @@ impl Engine {
         ensures count { length hand.new.notes.items ≡ length hand.old.notes.items + 1 }
     {
         self.books.write_own(script, hand, act, kind);
+    }
+
+    /// A covered call on a callout that stands still. The answer is how many notes it makes.
+    fn call(
+        &mut self,
+        script: &Script,
+        hand: &mut Hand,
+        act: u64,
+        i: u32,
+        op: &CallOp,
+    ) -> u32
+        requires script { IsScript script.now }
+        requires may { MayAct script.now self.old hand.old (Asks act (Asked.Callout i (Op.Call op.now))) }
+        ensures stands { (w : PlainWorld) → HeldBy script.now self.old hand.old w → IsDue script.now w hand.old.actor (Asks act (Asked.Callout i (Op.Call op.now))) →
+            HeldBy script.now self.new hand.new (step script.now w hand.old.actor) }
+        ensures actor { hand.new.actor ≡ hand.old.actor }
+        ensures count { length hand.new.notes.items ≡ length hand.old.notes.items + result }
+    {
+        let cpu = self.depot.stand(i);
+        let out = self.depot.call(cpu, i, op, hand.actor);
+        let removed = self.books.write_removal(script, hand, act, cpu, i, out.removed);
+        self.books.write_callout(
+            script,
+            hand,
+            act,
+            i,
+            Op::Call(*op),
+            out.reply,
+            out.listed,
+        );
+        let inserted = self.books.write_insertion(script, hand, out.inserted);
+        removed + 1 + inserted
+    }
+
+    /// A callout that was on its way comes to the CPU at which it is armed: one note.
+    fn land(&mut self, script: &Script, hand: &mut Hand, parcel: &Parcel)
+        requires script { IsScript script.now }
+        requires may { MayAct script.now self.old hand.old (Asks parcel.now.act (Asked.Queue parcel.now.cpu (QOp.Insert parcel.now.i parcel.now.n parcel.now.due))) }
+        ensures stands { (w : PlainWorld) → HeldBy script.now self.old hand.old w → IsDue script.now w hand.old.actor (Asks parcel.now.act (Asked.Queue parcel.now.cpu (QOp.Insert parcel.now.i parcel.now.n parcel.now.due))) →
+            HeldBy script.now self.new hand.new (step script.now w hand.old.actor) }
+        ensures actor { hand.new.actor ≡ hand.old.actor }
+        ensures count { length hand.new.notes.items ≡ length hand.old.notes.items + 1 }
+    {
+        let at = self.depot.land(parcel.cpu, hand.actor);
+        self.books.write_landing(script, hand, parcel, at);
+    }
+
+    /// A tick of a CPU: one note.
+    fn scan(&mut self, script: &Script, hand: &mut Hand, act: u64, cpu: u32, now: Sbt)
+        requires script { IsScript script.now }
+        requires may { MayAct script.now self.old hand.old (Asks act (Asked.Queue cpu (QOp.Scan now))) }
+        ensures stands { (w : PlainWorld) → HeldBy script.now self.old hand.old w → IsDue script.now w hand.old.actor (Asks act (Asked.Queue cpu (QOp.Scan now))) →
+            HeldBy script.now self.new hand.new (step script.now w hand.old.actor) }
+        ensures actor { hand.new.actor ≡ hand.old.actor }
+        ensures count { length hand.new.notes.items ≡ length hand.old.notes.items + 1 }
+    {
+        let count = self.depot.scan(cpu, now);
+        let op = QOp::Scan { now };
+        self.books.write_queue(script, hand, act, cpu, op, QReply::Count(count));
     }
 }

@@ -14,6 +14,16 @@ use co_program::{Script, actor_count};
 use co_sbt::NoMemory;
 use std::alloc::Global;
 
+/// The step was none, since the actor had finished.
+fn is_finished(turn: Turn) -> bool
+    ensures { result ≡ true → turn ≡ Turn.Finished }
+{
+    match turn {
+        Turn::Finished => true,
+        Turn::Notes(_) | Turn::Blocked(_) => false,
+    }
+}
+
 impl Engine {
     /// The script's turns, one step each.
     fn take_turns(&mut self, script: &Script) -> Result<(), NoMemory>
@@ -36,8 +46,8 @@ impl Engine {
     {
         let mut finished = true;
         for actor in 0..actor_count(script) {
-            let turn = self.step(script, actor)?;
-            finished = finished && turn == Turn::Finished;
+            let ended = is_finished(self.step(script, actor)?);
+            finished = finished && ended;
         }
         Ok(finished)
     }

@@ -1,4 +1,5 @@
 use Rattle.std.proofs.Common.{ℕ, sym, subst}
+use Rattle.co_core.proofs.Servers.{pop_view}
 use Rattle.co_core.proofs.CallSection.{is_at_wheel}
 use Rattle.co_core.specs.Written.{Written, with_list}
 use Rattle.co_core.specs.Stands.{StandsFor}
