@@ -54,7 +54,7 @@ draining_of v (act ∷ acts) = (refl, λ i is. (let e : Some v.i ≡ Some i = is
 
 module _ (s : Script) (role : Role) (c : Cursor) where
   pub silent_kept : (stage : Stage) (to : Cursor) → IsAction s role c stage (Silent to) → StageKept stage to.stage × (to.parcel ≡ c.parcel)
-  silent_kept stage to (drops is) = (kept_same Ready, refl)
+  silent_kept stage to (drops is some) = (kept_same Ready, refl)
   silent_kept stage to (passes task left now hold is own) = (kept_same Ready, refl)
   silent_kept stage to (unlocks v acts) = (goes_on_with v (Unlocking v acts) (firing v None acts) (refl, refl) (firing_of v None acts), refl)
   silent_kept stage to (releases v) = (goes_on_with v (Releasing v) (Ending v) (refl, refl) (refl, refl), refl)
