@@ -13,21 +13,25 @@ use Rattle.co_top.specs.declared.command.Command.TheVariants.{Steps}
 use Rattle.co_top.specs.declared.status.Status.{Status}
 use Rattle.co_top.specs.declared.status.Status.TheVariants.{Done, BadScript, Usage, ReadFault, WriteFault, NoMemory, NotLegal}
 use Rattle.co_top.specs.Commands.{command_of, usage_text, refusal_text}
-use Rattle.co_top.specs.Outside.{Outside, ReadsToEnd, Reads, ReadFails, Writes, WritesFront, HasNoFault}
+use Rattle.co_top.specs.Outside.{Output, Outside, ReadsToEnd, Reads, ReadFails, Writes, WritesFront, HasNoFault}
 
 -- the most bytes that a script has
 abbrev pub script_limit : ℕ
 script_limit = 67108864
 
--- the bytes are a script, and the text is the report of its walk: every callout has one legal history of that callout alone
+-- the text is the report of the script's walk, which is a run of it: every callout has one legal history of that callout alone
 -- and every CPU one of a plain timer queue, made of exactly the steps of the script's actors
-pub record IsReport (bytes text : List ℕ) : Type 0 where
-  pub script : Script
-  pub read : script_of bytes ≡ Ok script
+pub record IsReportOf (script : Script) (text : List ℕ) : Type 0 where
   pub lists : List (List Note)
   pub walk : IsWalk script lists
   pub run : IsRunOf script lists
   pub shown : text ≡ report_of script lists
+
+-- the bytes are a script, and the text is its report
+pub record IsReport (bytes text : List ℕ) : Type 0 where
+  pub script : Script
+  pub read : script_of bytes ≡ Ok script
+  pub report : IsReportOf script text
 
 -- the bytes are no script, and the text says which line is bad, and why
 pub record IsRefusal (bytes text : List ℕ) : Type 0 where
@@ -40,6 +44,10 @@ abbrev pub StepsGive : List ℕ → Status → List ℕ → Type 0
 StepsGive bytes Done text = IsReport bytes text
 StepsGive bytes BadScript text = IsRefusal bytes text
 StepsGive bytes status text = ⊥
+
+-- where this text is to be written for this status, the answer is that status, or the sink failed in the text
+abbrev pub Tells : Status → List ℕ → Output → Output → Status → Type 0
+Tells status text before after answer = ((answer ≡ status) × Writes before after text) ⊎ ((answer ≡ WriteFault) × WritesFront before after text)
 
 abbrev pub IsCommand : Option Command → Type 0
 IsCommand None = ⊥

@@ -1,12 +1,7 @@
 //! The command `steps`.
-ghost use Rattle.std.specs.Prelude.{◌≡◌, List, IfOk};
-ghost use Rattle.co_object.specs.declared.note.Note.{Note};
-ghost use Rattle.co_program.specs.Runs.{IsRunOf};
-ghost use Rattle.co_script.specs.Reading.{script_of};
+ghost use Rattle.std.specs.Prelude.{IfOk};
 ghost use Rattle.co_program.specs.Scripts.{IsScript};
-ghost use Rattle.co_core.specs.Walk.{IsWalk};
-ghost use Rattle.co_report.specs.Reports.{report_of};
-ghost use Rattle.co_top.specs.Headline.{StepsGive};
+ghost use Rattle.co_top.specs.Headline.{IsReportOf, StepsGive};
 
 use crate::answer::Answer;
 use crate::status::Status;
@@ -22,7 +17,7 @@ use std::alloc::Global;
 /// The report of a script's walk.
 fn report_of_walk(alloc: Global, script: &Script) -> Result<Seq<u8>, NoMemory>
     requires { IsScript script.now }
-    ensures { IfOk result (λ text. (lists : List (List Note)) × IsWalk script.now lists × IsRunOf script.now lists × (text ≡ report_of script.now lists)) }
+    ensures { IfOk result (IsReportOf script.now) }
 {
     let lists = run_steps(alloc, script)?;
     print_report(alloc, script, &lists)

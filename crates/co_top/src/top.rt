@@ -1,9 +1,8 @@
 //! The top call.
-ghost use Rattle.std.specs.Prelude.{◌≡◌, ◌⊎◌, Some, map, string_bytes};
+ghost use Rattle.std.specs.Prelude.{Some, map, string_bytes};
 ghost use Rattle.co_top.specs.declared.command.Command.TheVariants as commands;
-ghost use Rattle.co_top.specs.declared.status.Status.TheVariants as statuses;
-ghost use Rattle.co_top.specs.Headline.{IsHeadline, IsComplete, Says};
-ghost use Rattle.co_top.specs.Outside.{Output, outside, Writes, WritesFront};
+ghost use Rattle.co_top.specs.Headline.{IsHeadline, IsComplete, Says, Tells};
+ghost use Rattle.co_top.specs.Outside.{Output, outside};
 
 use crate::command::{Command, command_of};
 use crate::status::Status;
@@ -20,7 +19,7 @@ fn write_text<K: Sink>(sink: &mut K, status: Status, text: &[u8]) -> Status
     ensures {
         let before : Output = record { held = K.held sink.old; faults = K.faults sink.old; idle = K.idle sink.old } in
         let after : Output = record { held = K.held sink.new; faults = K.faults sink.new; idle = K.idle sink.new } in
-        ((result ≡ status) × Writes before after text.now) ⊎ ((result ≡ statuses.WriteFault) × WritesFront before after text.now)
+        Tells status text.now before after result
     }
 {
     match write_all(sink, text) {
