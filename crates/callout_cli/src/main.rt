@@ -3,7 +3,7 @@
 
 use co_io::{FileSink, FileSource};
 use co_top::{Status, callout_main};
-use std::env;
+use std::env::{self, Env};
 use std::io::{self, ErrorKind};
 use std::process::ExitCode;
 
