@@ -1,6 +1,7 @@
 -- What each answer that is due and each step without a note keeps of the world holds after every schedule.
 use Rattle.std.proofs.Common.{◌≡◌, ℕ, List, [], ◌∷◌, false, refl, ap, ◌∙◌, Option, Some, None}
-use Rattle.std.specs.Prelude.{is_some}
+use Rattle.std.specs.Prelude.{⊤, is_some}
+use Rattle.std.specs.List.{AllByRecursion}
 use Rattle.co_object.specs.declared.CallOp.{CallOp}
 use Rattle.co_object.specs.declared.Op.TheVariants.{Call, Run}
 use Rattle.co_object.specs.declared.QOp.TheVariants.{Remove}
@@ -33,40 +34,56 @@ removed_due s w a act i op (Some cpu) is =
     let made : QEntry = record { actor = a; act = act; op = Remove i; reply = gone.1 } in
     ap (action_for s a) (note_at s (enters_journal w cpu gone.0 made) a false (note_of_cpu w cpu made)).here ∙ due_removed s a (places_of w a) (Some cpu) act (Callout i (Call op)) is
 
+-- of a schedule of actors that may step; a Remove before a call is from the queue that the call's reply names
+module _ (s : Script) (May : ℕ → Type 0) (Q : World → Type 0)
+    (answer : (w : World) (a act : ℕ) (asked : Asked) → May a → action_for s a (places_of w a) ≡ Asks act asked → Q w → Q (answered s w a act asked))
+    (remove : (w : World) (a act i cpu : ℕ) (op : CallOp) → May a → action_for s a (places_of w a) ≡ Asks act (Callout i (Call op)) → off_of (call (w.timers i).state op).1 ≡ Some cpu → Q w → Q (answered s w a act (Queue cpu (Remove i))))
+    (silent : (w : World) (a : ℕ) (to : Cursor) → May a → action_for s a (places_of w a) ≡ Silent to → Q w → Q (with_cursor w a to))
+    (take : (w : World) (a : ℕ) (held : Held) (to : Cursor) → May a → action_for s a (places_of w a) ≡ Take held to → Q w → Q (with_cursor w a to)) where
+  from_kept : (w : World) (a act i : ℕ) (op : CallOp) (off : Option ℕ) → May a → action_for s a (places_of w a) ≡ Asks act (Callout i (Call op)) → off_of (call (w.timers i).state op).1 ≡ off → Q w → Q (removed_from s w a act i off)
+  from_kept w a act i op None may is gone q = q
+  from_kept w a act i op (Some cpu) may is gone q = remove w a act i cpu op may is gone q
+
+  whole_kept : (w : World) (a act : ℕ) (asked : Asked) → May a → action_for s a (places_of w a) ≡ Asks act asked → Q w → Q (asked_whole s w a act asked)
+  whole_kept w a act (Callout i (Call op)) may is q =
+      let gone : Option ℕ = off_of (call (w.timers i).state op).1 in
+      answer (removed_from s w a act i gone) a act (Callout i (Call op)) may (removed_due s w a act i op gone is) (from_kept w a act i op gone may is refl q)
+  whole_kept w a act (Callout i (Run op)) may is q = answer w a act (Callout i (Run op)) may is q
+  whole_kept w a act (Queue cpu op) may is q = answer w a act (Queue cpu op) may is q
+  whole_kept w a act (Itself kind) may is q = answer w a act (Itself kind) may is q
+
+  due_kept : (w : World) (a : ℕ) (due : Action) → May a → action_for s a (places_of w a) ≡ due → Q w → Q (makes_action s w a due)
+  due_kept w a (Asks act asked) may is q = answer w a act asked may is q
+  due_kept w a Nothing may is q = q
+  due_kept w a (Silent to) may is q = q
+  due_kept w a (Take held to) may is q = q
+
+  on_kept : (w : World) (a : ℕ) → May a → Q w → Q (goes_on s w a)
+  on_kept w a may q = cond_kept Q (is_in_section w (places_of w a)) (makes_action s w a (action_for s a (places_of w a))) w (due_kept w a (action_for s a (places_of w a)) may refl q) q
+
+  stepped_kept : (w : World) (a : ℕ) (due : Action) → May a → action_for s a (places_of w a) ≡ due → Q w → Q (stepped s w a due)
+  stepped_kept w a Nothing may is q = q
+  stepped_kept w a (Silent to) may is q = silent w a to may is q
+  stepped_kept w a (Take held to) may is q = take w a held to may is q
+  stepped_kept w a (Asks act asked) may is q = on_kept (asked_whole s w a act asked) a may (whole_kept w a act asked may is q)
+
+  pub may_run : (schedule : List ℕ) (w : World) → AllByRecursion May schedule → Q w → Q (run s w schedule)
+  may_run [] w may q = q
+  may_run (a ∷ schedule) w may q =
+      may_run schedule (step s w a) may.1
+      (cond_kept Q (is_some (blocked s w a)) w (stepped s w a (action_for s a (places_of w a))) q (stepped_kept w a (action_for s a (places_of w a)) may.0 refl q))
+
+anyone : (schedule : List ℕ) → AllByRecursion (λ a. ⊤) schedule
+anyone [] = tt
+anyone (a ∷ schedule) = (tt, anyone schedule)
+
+-- of any schedule
 module _ (s : Script) (Q : World → Type 0)
     (answer : (w : World) (a act : ℕ) (asked : Asked) → action_for s a (places_of w a) ≡ Asks act asked → Q w → Q (answered s w a act asked))
     (remove : (w : World) (a act i cpu : ℕ) → Q w → Q (answered s w a act (Queue cpu (Remove i))))
     (silent : (w : World) (a : ℕ) (to : Cursor) → action_for s a (places_of w a) ≡ Silent to → Q w → Q (with_cursor w a to))
     (take : (w : World) (a : ℕ) (held : Held) (to : Cursor) → action_for s a (places_of w a) ≡ Take held to → Q w → Q (with_cursor w a to)) where
-  from_kept : (w : World) (a act i : ℕ) (off : Option ℕ) → Q w → Q (removed_from s w a act i off)
-  from_kept w a act i None q = q
-  from_kept w a act i (Some cpu) q = remove w a act i cpu q
-
-  whole_kept : (w : World) (a act : ℕ) (asked : Asked) → action_for s a (places_of w a) ≡ Asks act asked → Q w → Q (asked_whole s w a act asked)
-  whole_kept w a act (Callout i (Call op)) is q =
-      let gone : Option ℕ = off_of (call (w.timers i).state op).1 in
-      answer (removed_from s w a act i gone) a act (Callout i (Call op)) (removed_due s w a act i op gone is) (from_kept w a act i gone q)
-  whole_kept w a act (Callout i (Run op)) is q = answer w a act (Callout i (Run op)) is q
-  whole_kept w a act (Queue cpu op) is q = answer w a act (Queue cpu op) is q
-  whole_kept w a act (Itself kind) is q = answer w a act (Itself kind) is q
-
-  due_kept : (w : World) (a : ℕ) (due : Action) → action_for s a (places_of w a) ≡ due → Q w → Q (makes_action s w a due)
-  due_kept w a (Asks act asked) is q = answer w a act asked is q
-  due_kept w a Nothing is q = q
-  due_kept w a (Silent to) is q = q
-  due_kept w a (Take held to) is q = q
-
-  on_kept : (w : World) (a : ℕ) → Q w → Q (goes_on s w a)
-  on_kept w a q = cond_kept Q (is_in_section w (places_of w a)) (makes_action s w a (action_for s a (places_of w a))) w (due_kept w a (action_for s a (places_of w a)) refl q) q
-
-  stepped_kept : (w : World) (a : ℕ) (due : Action) → action_for s a (places_of w a) ≡ due → Q w → Q (stepped s w a due)
-  stepped_kept w a Nothing is q = q
-  stepped_kept w a (Silent to) is q = silent w a to is q
-  stepped_kept w a (Take held to) is q = take w a held to is q
-  stepped_kept w a (Asks act asked) is q = on_kept (asked_whole s w a act asked) a (whole_kept w a act asked is q)
-
   pub due_run : (schedule : List ℕ) (w : World) → Q w → Q (run s w schedule)
-  due_run [] w q = q
-  due_run (a ∷ schedule) w q =
-      due_run schedule (step s w a)
-      (cond_kept Q (is_some (blocked s w a)) w (stepped s w a (action_for s a (places_of w a))) q (stepped_kept w a (action_for s a (places_of w a)) refl q))
+  due_run schedule w q =
+      may_run s (λ a. ⊤) Q (λ w a act asked may is q. answer w a act asked is q) (λ w a act i cpu op may is gone q. remove w a act i cpu q) (λ w a to may is q. silent w a to is q) (λ w a held to may is q. take w a held to is q)
+      schedule w (anyone schedule) q

@@ -68,6 +68,9 @@ pub mod Relisted
 pub mod CallEnds
 pub mod CallSection
 pub mod Rounding
+pub mod Replied
+pub mod Places
+pub mod Runs
 pub mod Calling
 pub mod Steadily
 pub mod Landing

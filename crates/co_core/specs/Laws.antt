@@ -4,7 +4,6 @@ use Rattle.std.specs.List.{AllByRecursion}
 use Rattle.co_object.specs.declared.Op.TheVariants.{Run}
 use Rattle.co_object.specs.declared.RunOp.TheVariants.{Begin}
 use Rattle.co_object.specs.declared.QReply.TheVariants.{Missing}
-use Rattle.co_object.specs.Actors.{Actors}
 use Rattle.co_object.specs.Machine.{IsLegalFrom}
 use Rattle.co_object.specs.Callout.{opening, step as callout_step}
 use Rattle.co_object.specs.Queue.{empty_queue}
@@ -14,7 +13,7 @@ use Rattle.co_object.specs.Lists.{callout_history, cpu_journal}
 use Rattle.co_lock.specs.declared.Held.{Held}
 use Rattle.co_lock.specs.Service.{hold_of}
 use Rattle.co_program.specs.declared.Script.{Script}
-use Rattle.co_program.specs.Actors.{actor_count, client_count}
+use Rattle.co_program.specs.Actors.{actor_count}
 use Rattle.co_program.specs.Action.{Asks, action_for, spec_at}
 use Rattle.co_program.specs.declared.Asked.TheVariants.{Callout}
 use Rattle.co_program.specs.Follows.{Follows, Histories}
@@ -26,13 +25,13 @@ use Rattle.co_core.specs.Measure.{measure}
 use Rattle.co_core.specs.declared.turn.Why.{Why}
 use Rattle.co_object.specs.declared.Note.{Note}
 use Rattle.co_program.specs.Scripts.{IsScript}
+use Rattle.co_program.specs.Places.{AllHavePlaces}
+use Rattle.co_program.specs.Runs.{IsRunOf}
+pub use Rattle.co_program.specs.Runs.{actors_of}
 
 -- the world after a schedule
 abbrev pub reached : Script → List ℕ → World
 reached s schedule = run s (open_world s) schedule
-
-abbrev pub actors_of : Script → Actors
-actors_of s = record { version = s.version; clients = client_count s; cpus = s.cpus }
 
 -- a schedule of the script's actors
 abbrev pub IsSchedule : Script → List ℕ → Type 0
@@ -128,3 +127,11 @@ WalksAgree = (s : Script) (lists others : List (List Note)) → IsWalk s lists �
 -- round robin comes to an end
 abbrev pub WalksEnd : Type 0
 WalksEnd = (s : Script) → IsScript s → (lists : List (List Note)) × IsWalk s lists
+
+-- each note stands in a place of the script
+abbrev pub NotesHavePlaces : Type 0
+NotesHavePlaces = (s : Script) → IsScript s → (schedule : List ℕ) → IsSchedule s schedule → AllHavePlaces s (lists_of s (reached s schedule))
+
+-- a script's walk is a run of it
+abbrev pub WalksAreRuns : Type 0
+WalksAreRuns = (s : Script) → IsScript s → (lists : List (List Note)) → IsWalk s lists → IsRunOf s lists

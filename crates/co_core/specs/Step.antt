@@ -1,5 +1,5 @@
 -- One step of one actor.
-use Rattle.std.specs.Prelude.{ℕ, ◌-◌, Bool, true, false, ◌==◌, ◌||◌, is_some, if◌then◌else◌, List, [], ◌∷◌, ◌++◌, map, length, Option, Some, None}
+use Rattle.std.specs.Prelude.{ℕ, ◌-◌, Bool, true, false, ◌==◌, ◌||◌, is_some, if◌then◌else◌, List, [], ◌∷◌, ◌++◌, length, Option, Some, None}
 use Rattle.co_object.specs.declared.State.{State}
 use Rattle.co_object.specs.declared.Reply.{Reply}
 use Rattle.co_object.specs.declared.Op.{Op}
@@ -27,6 +27,7 @@ use Rattle.co_program.specs.Action.{Action, Nothing, Silent, Take, Asks, action_
 use Rattle.co_program.specs.declared.Asked.{Asked}
 use Rattle.co_program.specs.declared.Asked.TheVariants.{Callout, Queue, Itself}
 use Rattle.co_program.specs.Advance.{advance}
+pub use Rattle.co_program.specs.Runs.{are_direct}
 use Rattle.co_core.specs.declared.turn.Turn.{Turn}
 use Rattle.co_core.specs.declared.turn.Turn.TheVariants.{Notes, Blocked, Finished}
 use Rattle.co_core.specs.declared.turn.Why.{Why}
@@ -84,9 +85,6 @@ note_of_own s w a act kind = record {
 
 abbrev pub own_note : Script → World → ℕ → ℕ → OwnKind → World
 own_note s w a act kind = notes_down s w a false (note_of_own s w a act kind)
-
-abbrev pub are_direct : Script → List Bool
-are_direct s = map (λ spec. spec.direct) s.timers
 
 abbrev pub answered : Script → World → ℕ → ℕ → Asked → World
 answered s w a act (Callout i op) = callout_answers s w a act i op (callout_step (spec_at s i) (w.timers i).state op)

@@ -3,7 +3,7 @@ ghost use Rattle.std.specs.Prelude.{ℕ, List};
 ghost use Rattle.co_object.specs.Lists.{IsWellFormed};
 ghost use Rattle.co_program.specs.declared.Script.{Script};
 ghost use Rattle.co_core.specs.World.{lists_of};
-ghost use Rattle.co_core.specs.Laws.{AreOfLists, BeginsUnderLock, EachFinishedActorFollows, EveryStepFalls, HaveReplies, HistoriesAreLegal, IdleStepsStay, IsSchedule, NoRemoveIsMissing, NoScheduleIsStuck, OpeningFits, RoundsFall, WalksAgree, WalksEnd, reached};
+ghost use Rattle.co_core.specs.Laws.{AreOfLists, BeginsUnderLock, EachFinishedActorFollows, EveryStepFalls, HaveReplies, HistoriesAreLegal, IdleStepsStay, IsSchedule, NoRemoveIsMissing, NoScheduleIsStuck, NotesHavePlaces, OpeningFits, RoundsFall, WalksAgree, WalksAreRuns, WalksEnd, reached};
 
 /// The positions of each place are 0, 1, 2, .., each once, and rise in each actor's list.
 pub fn well_formed()
@@ -43,6 +43,17 @@ pub fn no_remove_is_missing()
 /// While an actor is unfinished, some unfinished actor can step.
 pub fn never_stuck()
     ensures { NoScheduleIsStuck }
+{}
+
+/// Each note stands in a place of the script.
+pub fn notes_have_places()
+    ensures { NotesHavePlaces }
+{}
+
+/// A script's walk is a run of it: its lists are well formed, each callout's history and each CPU's journal is legal, no
+/// Remove misses, and each actor's notes follow its whole program.
+pub fn walks_are_runs()
+    ensures { WalksAreRuns }
 {}
 
 /// A script's walk has one result.

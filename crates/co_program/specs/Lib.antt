@@ -8,3 +8,5 @@ pub mod Follows
 pub mod Scripts
 pub mod Indexed
 pub mod Existing
+pub mod Places
+pub mod Runs

@@ -3,7 +3,7 @@ use Rattle.std.proofs.Common.{◌≡◌, ℕ, ◌<◌, true, List, length, get_o
 use Rattle.std.proofs.lemmas.List.Elements.{All-from_recursion}
 use Rattle.co_object.specs.declared.Note.{Note}
 use Rattle.co_program.specs.declared.Script.{Script}
-use Rattle.co_report.specs.Reports.{place_exists, HavePlaces, AllHavePlaces}
+use Rattle.co_program.specs.Places.{place_exists, HavePlaces, AllHavePlaces}
 
 -- the place of a note that is read from its list
 pub note_exists : (s : Script) (notes : List Note) (k : ℕ) (n : Note) → HavePlaces s notes → k < length notes → n ≡ get_or notes k n → place_exists s n.place ≡ true

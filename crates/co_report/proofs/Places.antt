@@ -6,7 +6,7 @@ use Rattle.co_object.specs.declared.Place.TheVariants.{Timer, Cpu, Actor}
 use Rattle.co_object.specs.Lists.{same_place}
 use Rattle.co_program.specs.declared.Script.{Script}
 use Rattle.co_program.specs.Actors.{actor_count}
-use Rattle.co_report.specs.Reports.{place_exists}
+use Rattle.co_program.specs.Places.{place_exists}
 use Rattle.co_report.specs.Order.{place_index, place_count}
 
 below : (m n : ℕ) → nat_lt m n ≡ true → m < n

@@ -6,7 +6,7 @@ use Rattle.co_object.specs.Lists.{IsWellFormed}
 use Rattle.co_program.specs.declared.Script.{Script}
 use Rattle.co_report.specs.Origins.{note_at}
 use Rattle.co_report.specs.Order.{place_index, AreCounts, starts_from, location, HasRoom}
-use Rattle.co_report.specs.Reports.{AllHavePlaces}
+use Rattle.co_program.specs.Places.{AllHavePlaces}
 use Rattle.co_report.proofs.Places.{index_below}
 use Rattle.co_report.proofs.Starts.{length-starts, next-start, starts-upto}
 use Rattle.co_report.proofs.Counted.{note-place, count-of, pos-below}

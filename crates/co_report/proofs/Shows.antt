@@ -13,7 +13,8 @@ use Rattle.co_report.specs.declared.origin.Origin.{Origin}
 use Rattle.co_report.specs.Histories.{Numbered, Shown, shown, shown_at, shown_history, all_numbered_of}
 use Rattle.co_report.specs.Origins.{note_at, origin_line, origin_lines, lines_from}
 use Rattle.co_report.specs.Order.{place_index, AreCounts, starts_from, location, note_behind, AreWritten, origins_in, ShowsHistories}
-use Rattle.co_report.specs.Reports.{place_exists, AllHavePlaces, shown_words}
+use Rattle.co_report.specs.Reports.{shown_words}
+use Rattle.co_program.specs.Places.{place_exists, AllHavePlaces}
 use Rattle.co_report.proofs.Members.{find-has}
 use Rattle.co_report.proofs.Numbering.{note_of, numbered, all-notes-of, has-note, Found, found}
 use Rattle.co_report.proofs.Places.{index_below, same_index}

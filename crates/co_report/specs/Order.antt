@@ -10,7 +10,8 @@ use Rattle.co_report.specs.declared.origin.Origin.{Origin}
 use Rattle.co_report.specs.declared.order.Order.{Order}
 use Rattle.co_report.specs.Origins.{note_at, note_from, lines_from}
 use Rattle.co_report.specs.Histories.{shown_history}
-use Rattle.co_report.specs.Reports.{place_exists, AllHavePlaces, shown_words}
+use Rattle.co_report.specs.Reports.{shown_words}
+use Rattle.co_program.specs.Places.{place_exists, AllHavePlaces}
 
 -- the number of a place among those of a report
 abbrev pub place_index : Script → Place → ℕ

@@ -1,6 +1,6 @@
 -- The text of a report.
-use Rattle.std.specs.Prelude.{◌≡◌, ℕ, Bool, true, nat_lt, List, [], ◌∷◌, ◌++◌, length, flat_map, map, codes}
-use Rattle.std.specs.List.{AllByRecursion, range_with_len}
+use Rattle.std.specs.Prelude.{ℕ, List, [], ◌∷◌, ◌++◌, length, flat_map, map, codes}
+use Rattle.std.specs.List.{range_with_len}
 use Rattle.co_object.specs.declared.Place.{Place}
 use Rattle.co_object.specs.declared.Place.TheVariants as place
 use Rattle.co_object.specs.declared.Note.{Note}
@@ -16,19 +16,6 @@ use Rattle.co_report.specs.Histories.{Shown, Histories, shown_history}
 -- the places of a report, in order
 abbrev pub places : Script → List Place
 places s = map place.Timer (range_with_len 0 (length s.timers)) ++ (map place.Cpu (range_with_len 0 s.cpus) ++ map place.Actor (range_with_len 0 (actor_count s)))
-
--- the place is one of these
-abbrev pub place_exists : Script → Place → Bool
-place_exists s (place.Timer i) = nat_lt i (length s.timers)
-place_exists s (place.Cpu c) = nat_lt c s.cpus
-place_exists s (place.Actor a) = nat_lt a (actor_count s)
-
--- each of these notes stands in one of these places
-abbrev pub HavePlaces : Script → List Note → Type 0
-HavePlaces s notes = AllByRecursion (λ note. place_exists s note.place ≡ true) notes
-
-abbrev pub AllHavePlaces : Script → List (List Note) → Type 0
-AllHavePlaces s lists = AllByRecursion (λ notes. HavePlaces s notes) lists
 
 abbrev pub heading : Script → Place → List Word
 heading s (place.Timer i) = numbered (codes "timer") i

@@ -1,7 +1,7 @@
 //! The notes of all lists, place by place and in each place by position: counted first, then put where they belong.
 ghost use Rattle.std.specs.Prelude.{◌≡◌, ◌≤◌, ◌<◌, ◌+◌, ◌^◌, ℕ, true, replicate, length, slice_index, OnOk, IfOk};
 ghost use Rattle.co_object.specs.Lists.{IsWellFormed};
-ghost use Rattle.co_report.specs.Reports.{place_exists, HavePlaces, AllHavePlaces};
+ghost use Rattle.co_program.specs.Places.{place_exists, HavePlaces, AllHavePlaces};
 ghost use Rattle.co_report.specs.Order.{place_index, place_count, count_in, all_of, AreCounts, starts_from, HasRoom, location, AreWritten, origins_in, ShowsHistories};
 
 use crate::origin::Origin;

@@ -5,7 +5,8 @@ ghost use Rattle.co_program.specs.Actors.{actor_count};
 ghost use Rattle.co_object.specs.Lists.{IsWellFormed};
 ghost use Rattle.co_object.specs.declared.Place.TheVariants as places;
 ghost use Rattle.co_report.specs.Histories.{shown_history};
-ghost use Rattle.co_report.specs.Reports.{AllHavePlaces, place_lines, sections_of, report_of};
+ghost use Rattle.co_report.specs.Reports.{place_lines, sections_of, report_of};
+ghost use Rattle.co_program.specs.Places.{AllHavePlaces};
 ghost use Rattle.co_report.specs.Origins.{lines_from};
 ghost use Rattle.co_report.specs.Order.{place_index, place_count, origins_in, ShowsHistories};
 

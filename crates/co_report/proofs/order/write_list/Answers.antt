@@ -1,6 +1,6 @@
 use Rattle.std.proofs.Common.{◌<◌, ◌≤◌, ◌+◌, length, sym, subst, ap, ◌∙◌, arith}
 use Rattle.std.proofs.lemmas.List.{length-set}
-use Rattle.co_report.specs.Reports.{HavePlaces}
+use Rattle.co_program.specs.Places.{HavePlaces}
 use Rattle.co_report.specs.Order.{AreWritten}
 use Rattle.co_report.proofs.Counts.{note_exists, list_exists}
 use Rattle.co_report.proofs.Written.{with_at, note-read, one-written, list-written}

@@ -1,0 +1,45 @@
+//! Calls of the program in memory.
+use co_io::{MemSink, MemSource};
+use co_sbt::{NoMemory, Seq};
+use co_top::{Status, callout_main};
+use std::alloc::{AllocError, Global};
+
+/// What a call came to: its status, and the bytes that the sink holds then.
+#[derive(Drop)]
+pub struct Outcome {
+    pub status: Status,
+    pub held: Seq<u8>,
+}
+
+fn words_of(alloc: Global, words: &[&str]) -> Result<Vec<String>, AllocError> {
+    let mut copies = Vec::new(alloc);
+    for word in words {
+        copies.push(String::from_str(alloc, word)?)?;
+    }
+    Ok(copies)
+}
+
+/// A call with these words.
+pub fn call(
+    alloc: Global,
+    words: &[&str],
+    mut source: MemSource,
+    mut sink: MemSink,
+) -> Result<Outcome, NoMemory> {
+    let Ok(words) = words_of(alloc, words) else {
+        return Err(NoMemory {});
+    };
+    let status = callout_main(alloc, words.as_slice(), &mut source, &mut sink);
+    let held = Seq::copy_of(alloc, sink.bytes())?;
+    Ok(Outcome { status, held })
+}
+
+// The most bytes of a report in the tables.
+const ROOM: usize = 4096;
+
+/// A call of `steps` without a fault.
+pub fn steps(alloc: Global, script: &[u8]) -> Result<Outcome, NoMemory> {
+    let source = MemSource::new(alloc, script, ROOM, &[])?;
+    let sink = MemSink::new(alloc, ROOM, ROOM, &[])?;
+    call(alloc, ["steps"].as_slice(), source, sink)
+}

@@ -1,0 +1,79 @@
+//! What is refused, and how.
+use crate::prefixes::PREFIXES;
+use crate::{call, steps};
+use co_io::{MemSink, MemSource};
+use co_top::Status;
+use std::alloc::{AllocError, Global};
+use std::process::Abort;
+use std::test::Fail;
+
+// Scripts with the line that is written of each.
+const REFUSED: [(&str, &str); 6] = [
+    ("callout 1\ncpus 1\nwheel 24\n", "line 3: number\n"),
+    ("callout 1\nfuncs 1\ntimer 0 mpsafe\nclient 0\nreset 0 =1.5 f0 a7\ncpu 0\ntick 1.5", "line 7: cut\n"),
+    ("callout 1\nfuncs 1\ntimer 0 mpsafe\nclient 0\nreset 0 =1.5 f0 a7\ncpu 0\ntick 1.5\ntick 1\n", "line 8: falls\n"),
+    ("callout 1\nfuncs 1\ntimer 0 mpsafe\nfunc 0\ndrain 0\nclient 0\nreset 0 =1.5 f0 a7\ncpu 0\ntick 1.5\n", "line 5: order\n"),
+    ("", "line 0: version\n"),
+    ("callout 1\n", "line 0: timer\n"),
+];
+
+fn refuses(rt: &(impl AllocGlobal + Abort), script: &[u8], line: &str) -> Result<(), Fail> {
+    let outcome = steps(rt.alloc(), script)?;
+    assert_eq!(rt; outcome.status, Status::BadScript, "{line}");
+    assert_eq!(rt; outcome.held.as_slice(), line.as_bytes());
+    Ok(())
+}
+
+#[test]
+fn bad_scripts(rt: HostRuntime) -> Result<(), Fail> {
+    for (script, line) in REFUSED {
+        refuses(&rt, script.as_bytes(), line)?;
+    }
+    Ok(())
+}
+
+#[test]
+fn too_long_an_input(rt: HostRuntime) -> Result<(), Fail> {
+    let input = vec![in rt.alloc(); b'#'; 67_108_865]?;
+    refuses(&rt, input.as_slice(), "line 0: size\n")
+}
+
+#[test]
+fn words_that_are_no_command(rt: HostRuntime) -> Result<(), Fail> {
+    let lists: [&[&str]; 4] = [&[], &["steps", "x"], &["gen", "-1"], &[""]];
+    for words in lists {
+        let source = MemSource::new(rt.alloc(), b"callout 1\n", 1, &[0])?;
+        let sink = MemSink::new(rt.alloc(), 100, 100, &[])?;
+        let outcome = call(rt.alloc(), words, source, sink)?;
+        assert_eq!(rt; outcome.status, Status::Usage);
+        assert_eq!(rt; outcome.held.as_slice(), b"usage: callout steps | run | check | gen N | soak N\n".as_slice());
+    }
+    Ok(())
+}
+
+// What is written of the first bytes of a script whose lines up to the timer's are `head` bytes long.
+fn refusal(alloc: Global, prefix: &[u8]) -> Result<String, AllocError> {
+    let lines = prefix.iter().filter(|byte| **byte == b'\n').count();
+    match prefix.last() {
+        None => format!(in alloc; "line 0: version\n"),
+        Some(b'\n') => format!(in alloc; "line 0: timer\n"),
+        Some(_) => format!(in alloc; "line {}: cut\n", lines + 1),
+    }
+}
+
+#[test]
+fn beginnings_of_a_script(rt: HostRuntime) -> Result<(), Fail> {
+    let script = PREFIXES[7].script.as_bytes();
+    for end in 0..script.len() {
+        let prefix = &script[..end];
+        match PREFIXES.iter().find(|case| case.script.as_bytes() == prefix) {
+            Some(case) => {
+                let outcome = steps(rt.alloc(), prefix)?;
+                assert_eq!(rt; outcome.status, Status::Done, "{}", case.name);
+                assert_eq!(rt; outcome.held.as_slice(), case.report.as_bytes(), "{}", case.name);
+            }
+            None => refuses(&rt, prefix, refusal(rt.alloc(), prefix)?.as_str())?,
+        }
+    }
+    Ok(())
+}
