@@ -17,7 +17,9 @@ fn words(rt: &(impl Env + AllocGlobal)) -> io::Result<Vec<String>> {
                 words.push(word)?;
             }
         }
-        Err(error) if error.kind() == ErrorKind::InvalidData => words.push(String::new(rt.alloc()))?,
+        Err(error) if error.kind() == ErrorKind::InvalidData => words.push(String::new(
+            rt.alloc(),
+        ))?,
         Err(error) => return Err(error),
     }
     Ok(words)

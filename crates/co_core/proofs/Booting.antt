@@ -54,18 +54,20 @@ callouts-home : (s : Script) (cpu : ℕ) → first_callouts s.timers cpu ≡ tab
 callouts-home s cpu = go (cpu == 0) refl where
   here : (i : ℕ) (b : Bool) → (0 == cpu) ≡ b → cond (b && not false) (Some (alone_of s (open_world s) i)) None ≡ at_home s (open_world s) cpu i
   here i b is = ap (λ c. cond (c && not false) (Some (alone_of s (open_world s) i)) None) (sym is) ∙ ap (λ c. cond ((0 == cpu) && not c) (Some (alone_of s (open_world s) i)) None) (sym (still s i))
+
   away : (b : Bool) → (cpu == 0) ≡ false → (0 == cpu) ≡ b → b ≡ false
   away false h is = refl
   away true h is = let zero_is : 0 ≡ cpu = eqb-true 0 cpu is in let yes' : (cpu == 0) ≡ true = eq-eqb cpu 0 (sym zero_is) in cc
+
   go : (b : Bool) → (cpu == 0) ≡ b → cond b (map new_callout s.timers) (replicate (length s.timers) None) ≡ table (length s.timers) (at_home s (open_world s) cpu)
   go true is =
       let zero_is : cpu ≡ 0 = eqb-true cpu 0 is in
       let home : (0 == cpu) ≡ true = eq-eqb 0 cpu (sym zero_is) in
       fills (map new_callout s.timers) (length s.timers) (at_home s (open_world s) cpu) None (length-map s.timers new_callout)
-          (λ i within. get_or-map new_callout s.timers i plain_spec None within ∙ here i true home)
+      (λ i within. get_or-map new_callout s.timers i plain_spec None within ∙ here i true home)
   go false is =
       sym (table-same (length s.timers) None) ∙ same (length s.timers) (λ _. None) (at_home s (open_world s) cpu)
-          (λ i within. sym (here i false (away (0 == cpu) is refl)))
+      (λ i within. sym (here i false (away (0 == cpu) is refl)))
 
 at-first : (s : Script) (cpu : ℕ) → IsAtWheel s (open_world s) cpu (first_wheel s cpu)
 at-first s cpu = record {

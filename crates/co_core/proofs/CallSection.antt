@@ -229,20 +229,28 @@ module _ (s : Script) (ok : IsScript s) (x : Stored) (w : World) (stored : IsSto
     world : (y : ℕ) → o ≡ Some y → removed_from s w a act i o ≡ queue_answers s w a act cpu (Remove i) (Some (q1, Off))
 
   removed_by : (o : Option ℕ) (turns : List Turn) (Is : TimerQueue → Type 0) → ((y : ℕ) → o ≡ Some y → y ≡ cpu) → Takes s.buckets (are_direct s) (removal i o ++ turns) q0 Is → (q1 : TimerQueue) × (c1 : Cursor) × IsRemoved o turns Is q1 c1
-  removed_by None turns Is at takes = (q0, places_of w a, record {
-    goes = goes_as w w i cpu a st (stands_of w i) cpu q0 q0 (places_of w a) (places_of w a) stand refl refl (goes_nowhere w i cpu a);
-    same = refl;
-    slots = λ ro. refl;
-    rest = takes;
-    world = λ y is. cc;
-  })
-  removed_by (Some y) turns Is at takes = subst (λ (k : ℕ). (q1 : TimerQueue) × (c1 : Cursor) × IsRemoved (Some k) turns Is q1 c1) (sym (at y refl)) (q1, record (places_of w a) { removed = Some cpu }, record {
-    goes = goes_as w (queue_answers s w a act cpu (Remove i) (Some gone)) i cpu a st (stands_of w i) cpu q1 q1 (record (places_of w a) { removed = Some cpu }) (record (places_of w a) { removed = Some cpu }) stand refl refl (goes_queue s w i cpu a act (Remove i) gone refl);
-    same = refl;
-    slots = quiet_slots s.buckets (are_direct s) q0 (Remove i) gone refl (λ e. cc) (λ e. cc) (λ e. cc) (λ e. cc);
-    rest = takes.1;
-    world = λ z is. ap (λ (g : TimerQueue × QReply). queue_answers s w a act cpu (Remove i) (Some g)) (some_is gone (q1, Off) (answered_so (Some gone) q0 Off takes.0));
-  }) where
+  removed_by None turns Is at takes = (
+    q0,
+    places_of w a,
+    record {
+      goes = goes_as w w i cpu a st (stands_of w i) cpu q0 q0 (places_of w a) (places_of w a) stand refl refl (goes_nowhere w i cpu a);
+      same = refl;
+      slots = λ ro. refl;
+      rest = takes;
+      world = λ y is. cc;
+    },
+  )
+  removed_by (Some y) turns Is at takes = subst (λ (k : ℕ). (q1 : TimerQueue) × (c1 : Cursor) × IsRemoved (Some k) turns Is q1 c1) (sym (at y refl)) (
+    q1,
+    record (places_of w a) { removed = Some cpu },
+    record {
+      goes = goes_as w (queue_answers s w a act cpu (Remove i) (Some gone)) i cpu a st (stands_of w i) cpu q1 q1 (record (places_of w a) { removed = Some cpu }) (record (places_of w a) { removed = Some cpu }) stand refl refl (goes_queue s w i cpu a act (Remove i) gone refl);
+      same = refl;
+      slots = quiet_slots s.buckets (are_direct s) q0 (Remove i) gone refl (λ e. cc) (λ e. cc) (λ e. cc) (λ e. cc);
+      rest = takes.1;
+      world = λ z is. ap (λ (g : TimerQueue × QReply). queue_answers s w a act cpu (Remove i) (Some g)) (some_is gone (q1, Off) (answered_so (Some gone) q0 Off takes.0));
+    },
+  ) where
     gone : TimerQueue × QReply
     gone = journal.remove q0 i
 
@@ -312,9 +320,9 @@ module _ (s : Script) (ok : IsScript s) (x : Stored) (w : World) (stored : IsSto
         after.callouts ≡ with_callout before.callouts i (after_of s i t' pl.parcel) → Shows after q' → IsOnly i pl.parcel → IsBag s w' pl.parcel out → IsRight s i cpu t' pl.parcel → IsStored s x' w' × IsPlaced s w'
     finish w' q' pl goes quiet kept' callouts shows only bag right = (
       subst (λ (l : List ℕ). IsStored s (record x { wheels = set x.wheels cpu after; stands = l; bags = set x.bags a out }) w') stands_same
-      (stored_after s x w w' i cpu a t' q' pl after out stored may on goes nothing only others elsewhere (ap (λ (c : Callouts). c.cpu) callouts) (ap (λ (c : Callouts). c.here) callouts) wheeled.queue.buckets wheeled.queue.direct shows bag),
+          (stored_after s x w w' i cpu a t' q' pl after out stored may on goes nothing only others elsewhere (ap (λ (c : Callouts). c.cpu) callouts) (ap (λ (c : Callouts). c.here) callouts) wheeled.queue.buckets wheeled.queue.direct shows bag),
       placed_after s w w' i cpu a t' q' pl placed may on known goes nothing only others right
-      (slots (role_of s a) (cpu_of s (role_of s a)) ∙ placed.serves a may ∙ sym kept'.slot) (λ j is. placed.known a j may (kept'.callout j is)) (λ b other below. slots (role_of s b) (cpu_of s (role_of s b))),
+          (slots (role_of s a) (cpu_of s (role_of s a)) ∙ placed.serves a may ∙ sym kept'.slot) (λ j is. placed.known a j may (kept'.callout j is)) (λ b other below. slots (role_of s b) (cpu_of s (role_of s b))),
     ) where
       stands_same : set x.stands i cpu ≡ x.stands
       stands_same = ap (set x.stands i) (sym (read x.stands (length s.timers) (stands_of w) i 0 stored.each_stand known ∙ stand)) ∙ set-get_or x.stands i 0

@@ -141,7 +141,6 @@ module _ (s : Script) (w w' : World) (i cpu a : ℕ) (state : State) (queue : Ti
     (own_slot : slot_of (role_of s a) (queues_of w' (cpu_of s (role_of s a))) ≡ in_slot place.stage)
     (own_callout : (j : ℕ) → callout_in place.stage ≡ Some j → j < length s.timers)
     (slots : (b : ℕ) → (b ≡ a → ⊥) → b < actor_count s → slot_of (role_of s b) (queues_of w' (cpu_of s (role_of s b))) ≡ slot_of (role_of s b) (queues_of w (cpu_of s (role_of s b)))) where
-
   parcel_else : (b : ℕ) → (b ≡ a → ⊥) → parcels_of w' b ≡ parcels_of w b
   parcel_else b other = ap (λ (c : Cursor). c.parcel) (goes.places.else b other)
 

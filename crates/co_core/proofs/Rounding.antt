@@ -53,6 +53,7 @@ module _ (s : Script) (ok : IsScript s) where
   bounded w h = subst (λ (x : World). measure s x < 2 ^ 64) (sym h.world) (below (falls_or.1)) where
     falls_or : IsReached s ok (run s (open_world s) h.schedule) × (((run s (open_world s) h.schedule ≡ open_world s) × AllByRecursion (IsIdle s (open_world s)) h.schedule) ⊎ (measure s (run s (open_world s) h.schedule) < measure s (open_world s)))
     falls_or = run_falls s ok h.schedule (open_world s) h.may ([], tt, refl)
+
     below : ((run s (open_world s) h.schedule ≡ open_world s) × AllByRecursion (IsIdle s (open_world s)) h.schedule) ⊎ (measure s (run s (open_world s) h.schedule) < measure s (open_world s)) → measure s (reached s h.schedule) < 2 ^ 64
     below (inl same) = subst (λ (x : World). measure s x < 2 ^ 64) (sym same.0) (opening_fits s ok)
     below (inr less) = let most = opening_fits s ok in omega (arith, less, most)

@@ -57,7 +57,6 @@ module _ (s : Script) (x : Stored) (w w' : World) (i cpu a : ℕ) (state : State
     (here : wheel.callouts.here ≡ set (wheel_at x cpu).callouts.here i (after_of s i state place.parcel))
     (buckets : wheel.timers.buckets ≡ (wheel_at x cpu).timers.buckets) (direct : wheel.timers.direct ≡ (wheel_at x cpu).timers.direct)
     (shows : Shows wheel queue) (bagged : IsBag s w' place.parcel bag) where
-
   abbrev x' : Stored
   x' = record { wheels = set x.wheels cpu wheel; stands = set x.stands i cpu; bags = set x.bags a bag }
 

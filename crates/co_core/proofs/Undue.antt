@@ -101,11 +101,11 @@ turn_notes : (s : Script) (w : World) (a : ℕ) (x : ActionAt) → blocked s w a
     turn_of s w a ≡ Notes (length ((step s w a).actors a).notes - length (w.actors a).notes)
 turn_notes s w a x free due some =
     ap (λ (why : Option Why). turn_at s w a why (action_for s a (places_of w a))) free ∙ (ap (turn_at s w a None) due ∙ go x some) where
-  go : (x : ActionAt) → (x ≡ action.Nothing → ⊥) → turn_at s w a None (action_of s a x) ≡ Notes (length ((step s w a).actors a).notes - length (w.actors a).notes)
-  go action.Nothing some = absurd (some refl)
-  go (action.Silent to) some = refl
-  go (action.Take held to) some = refl
-  go (action.Asks act asked) some = refl
+      go : (x : ActionAt) → (x ≡ action.Nothing → ⊥) → turn_at s w a None (action_of s a x) ≡ Notes (length ((step s w a).actors a).notes - length (w.actors a).notes)
+      go action.Nothing some = absurd (some refl)
+      go (action.Silent to) some = refl
+      go (action.Take held to) some = refl
+      go (action.Asks act asked) some = refl
 
 -- an actor's list in the books has its notes
 pub list_is : (s : Script) (x : Written) (w : World) → IsWritten s x w → (a : ℕ) → a < actor_count s → list_at x a ≡ (w.actors a).notes
@@ -129,8 +129,8 @@ pub turn_is : (s : Script) (x y : Written) (w : World) (a count : ℕ) (act : Ac
 turn_is s x y w a count act may before after free due some counted =
     ap Notes (close (length (list_at y a)) (length (list_at x a)) (length ((step s w a).actors a).notes) (length (w.actors a).notes) (ap length (list_is s y (step s w a) after a may)) (ap length (list_is s x w before a may)) counted)
     ∙ sym (turn_notes s w a act free due some) where
-  close : (m n m' n' : ℕ) → m ≡ m' → n ≡ n' → m ≡ n + count → count ≡ m' - n'
-  close m n m' n' e f g = omega (arith, e, f, g)
+      close : (m n m' n' : ℕ) → m ≡ m' → n ≡ n' → m ≡ n + count → count ≡ m' - n'
+      close m n m' n' e f g = omega (arith, e, f, g)
 
 -- the acting actor's notes are taken in hand, and after the step there is a list to put them back into
 module _ (s : Script) (books opened after : Written) (depot depot' : Stored) (w : World) (a b b' : ℕ) (items items' : List Note) (action : Action) (same : b ≡ a) (same' : b' ≡ b) (taken : with_list opened a items ≡ books) (stands : StandsFor s books depot w) (due : IsDue s w a action) where
@@ -138,6 +138,7 @@ module _ (s : Script) (books opened after : Written) (depot depot' : Stored) (w 
   hand_row stepped = open_row after b' items' (list_row s (with_list after b' items') (step s w b) done.written b' (subst (λ (x : ℕ). x < actor_count s) (sym (same' ∙ same)) due.may)) where
     held : StandsFor s (with_list opened b items) depot w
     held = subst (λ (x : Written). StandsFor s x depot w) (sym (ap (λ (x : ℕ). with_list opened x items) same ∙ taken)) stands
+
     done : StandsFor s (with_list after b' items') depot' (step s w b)
     done = stepped held (subst (λ (x : ℕ). IsDue s w x action) (sym same) due)
 

@@ -78,6 +78,7 @@ any-at p k (suc n) a low high is = go (nat_lt k a) refl (λ after. any-at p (k +
   or-right : (b : Bool) {c : Bool} → c ≡ true → (b || c) ≡ true
   or-right true h = refl
   or-right false h = h
+
   go : (b : Bool) → nat_lt k a ≡ b → (k + 1 ≤ a → list_any p (range_with_len (k + 1) n) ≡ true) → (p k || list_any p (range_with_len (k + 1) n)) ≡ true
   go true less later = or-right (p k) (later (let l = ltb-true k a less in omega (arith, l)))
   go false close later =
@@ -157,6 +158,7 @@ stage-number states cpu i n stage fits is = go stage fits is where
       let callout_is : v.i ≡ i = eqb-true v.i i both.0 in
       let number_is : v.n ≡ n = eqb-true v.n n both.1 in
       subst (λ j. serviced (states j).run ≡ Some n) callout_is (h ∙ ap (λ (k : ℕ). Some k) number_is)
+
   go : (stage : Stage) → RunFits states cpu stage → services i n stage ≡ true → serviced (states i).run ≡ Some n
   go Ready fits is = cc
   go (Waiting m took) fits is = cc
@@ -180,6 +182,7 @@ stage-of-run states cpu i m v stage fits between is callout_is serving = go stag
       let number_is : Some u.n ≡ Some m = sym h ∙ (ap (λ j. serviced (states j).run) here ∙ serving) in
       let number_same : u.n ≡ m = cc in
       rw (eq-eqb u.i i here, eq-eqb u.n m number_same) refl
+
   go : (stage : Stage) → RunFits states cpu stage → IsBetween stage → service_of stage ≡ Some v → services i m stage ≡ true
   go Ready fits between is = cc
   go (Waiting n took) fits between is = cc
@@ -205,19 +208,20 @@ pub serviced-is : (s : Script) (x : Written) (w : World) → IsWritten s x w →
     list_any (λ (place : CursorAt). is_servicing i n place.stage) x.places ≡ is_service_of n (serviced (w.timers i).state.run)
 serviced-is s x w h serving between i n =
     any-place s x w h (λ (place : CursorAt). is_servicing i n place.stage) (λ a. services i n (w.actors a).cursor.stage)
-        (λ a within. stage-services s i n (place_at x a).stage ∙ ap (λ (c : Cursor). services i n c.stage) (h.each_place a within))
+    (λ a within. stage-services s i n (place_at x a).stage ∙ ap (λ (c : Cursor). services i n c.stage) (h.each_place a within))
     ∙ same-bool (list_any (λ a. services i n (w.actors a).cursor.stage) (all_actors s)) (is_service_of n (serviced (w.timers i).state.run)) to from where
-  to : list_any (λ a. services i n (w.actors a).cursor.stage) (all_actors s) ≡ true → is_service_of n (serviced (w.timers i).state.run) ≡ true
-  to h =
-      let found = any-found (λ a. services i n (w.actors a).cursor.stage) 0 (actor_count s) h in
-      let number = stage-number (states_of w) (cpu_of s (role_of s found.0)) i n (w.actors found.0).cursor.stage (serving.serves found.0) found.2 in
-      ap (is_service_of n) number ∙ eq-eqb n n refl
-  from : is_service_of n (serviced (w.timers i).state.run) ≡ true → list_any (λ a. services i n (w.actors a).cursor.stage) (all_actors s) ≡ true
-  from h =
-      let somewhere = serviced-somewhere (w.timers i).state.run n h in
-      let found = serving.served i somewhere.0 somewhere.1 in
-      let b = server (actors_of s) (spec_at s i) somewhere.0 in
-      any-at (λ a. services i n (w.actors a).cursor.stage) 0 (actor_count s) b (omega arith) (let below = found.3 in omega (arith, below))
+      to : list_any (λ a. services i n (w.actors a).cursor.stage) (all_actors s) ≡ true → is_service_of n (serviced (w.timers i).state.run) ≡ true
+      to h =
+          let found = any-found (λ a. services i n (w.actors a).cursor.stage) 0 (actor_count s) h in
+          let number = stage-number (states_of w) (cpu_of s (role_of s found.0)) i n (w.actors found.0).cursor.stage (serving.serves found.0) found.2 in
+          ap (is_service_of n) number ∙ eq-eqb n n refl
+
+      from : is_service_of n (serviced (w.timers i).state.run) ≡ true → list_any (λ a. services i n (w.actors a).cursor.stage) (all_actors s) ≡ true
+      from h =
+          let somewhere = serviced-somewhere (w.timers i).state.run n h in
+          let found = serving.served i somewhere.0 somewhere.1 in
+          let b = server (actors_of s) (spec_at s i) somewhere.0 in
+          any-at (λ a. services i n (w.actors a).cursor.stage) 0 (actor_count s) b (omega arith) (let below = found.3 in omega (arith, below))
           (stage-of-run (states_of w) (cpu_of s (role_of s b)) i n found.0 (w.actors b).cursor.stage (serving.serves b) (between b) found.1 found.2 somewhere.2)
 
 -- ---- which callout is moved
@@ -227,13 +231,13 @@ pub home-is : (s : Script) (y : Stored) (w : World) → IsStored s y w → IsPla
 home-is s y w stored placed i within =
     let stand_is : stand_at y i ≡ (w.timers i).stand = read y.stands (length s.timers) (λ i. (w.timers i).stand) i 0 stored.each_stand within in
     subst (λ cpu. is_here (wheel_at y cpu).callouts i ≡ not (is_moving s w i)) (sym stand_is) (
-      let wheel = stored.each_wheel (w.timers i).stand (placed.settled i within).stand in
-      ap (λ (o : Option Alone). is_some o) (read (wheel_at y (w.timers i).stand).callouts.here (length s.timers) (at_home s w (w.timers i).stand) i None wheel.here within)
-      ∙ go ((w.timers i).stand == (w.timers i).stand) (eq-eqb (w.timers i).stand (w.timers i).stand refl) (is_moving s w i)) where
-  go : (a : Bool) → a ≡ true → (b : Bool) → is_some (cond (a && not b) (Some (alone_of s w i)) None) ≡ not b
-  go true is true = refl
-  go true is false = refl
-  go false is b = cc
+    let wheel = stored.each_wheel (w.timers i).stand (placed.settled i within).stand in
+    ap (λ (o : Option Alone). is_some o) (read (wheel_at y (w.timers i).stand).callouts.here (length s.timers) (at_home s w (w.timers i).stand) i None wheel.here within)
+    ∙ go ((w.timers i).stand == (w.timers i).stand) (eq-eqb (w.timers i).stand (w.timers i).stand refl) (is_moving s w i)) where
+      go : (a : Bool) → a ≡ true → (b : Bool) → is_some (cond (a && not b) (Some (alone_of s w i)) None) ≡ not b
+      go true is true = refl
+      go true is false = refl
+      go false is b = cc
 
 not-true : (b : Bool) → not b ≡ true → b ≡ false
 not-true false h = refl
@@ -285,11 +289,12 @@ module _ (s : Script) (ok : IsScript s) (books : Written) (depot : Stored) (w : 
 
   pub stand_below : (i : ℕ) → i < length s.timers → (i < length depot.stands) × (stand_at depot i < length depot.wheels)
   stand_below i known = (
-      (let l = long depot.stands (length s.timers) (λ i. (w.timers i).stand) stands.stored.each_stand in omega (arith, l, known)),
-      (let is = read depot.stands (length s.timers) (λ i. (w.timers i).stand) i 0 stands.stored.each_stand known in
-       let settled = (stands.placed.settled i known).stand in
-       let l = stands.stored.wheels_long in
-       omega (arith, is, settled, l)))
+    (let l = long depot.stands (length s.timers) (λ i. (w.timers i).stand) stands.stored.each_stand in omega (arith, l, known)),
+    (let is = read depot.stands (length s.timers) (λ i. (w.timers i).stand) i 0 stands.stored.each_stand known in
+        let settled = (stands.placed.settled i known).stand in
+        let l = stands.stored.wheels_long in
+        omega (arith, is, settled, l)),
+  )
 
   pub queue_below : (act cpu : ℕ) (op : QOp) → action_for s a (places_of w a) ≡ Asks act (Queue cpu op) → cpu < s.cpus
   queue_below act cpu op is = go (queue_at s (role_of s a) (places_of w a) (places_of w a).parcel act cpu op (view_of s a (places_of w a) (Asks act (Queue cpu op)) is)) where

@@ -79,7 +79,7 @@ goes_own s w i cpu a act kind = record {
 -- a callout answers
 pub goes_callout : (s : Script) (w : World) (i cpu a act : ℕ) (op : Op) (o : State × Reply) →
     Goes w (callout_answers s w a act i op (Some o)) i cpu a o.0 (stands_of w i) (queues_of w cpu)
-      (advance s (places_of w a) (is_some (off o.0)) (at.Timer i) (entry.Timer (record { actor = a; act = act; op = op; reply = o.1 })))
+    (advance s (places_of w a) (is_some (off o.0)) (at.Timer i) (entry.Timer (record { actor = a; act = act; op = op; reply = o.1 })))
 goes_callout s w i cpu a act op o =
     let made : Entry = record { actor = a; act = act; op = op; reply = o.1 } in
     let after : World = enters w i o.0 made in
@@ -108,7 +108,7 @@ stands_kept w cpu FreeDirect j h = refl
 -- a queue answers
 pub goes_queue : (s : Script) (w : World) (i cpu a act : ℕ) (op : QOp) (o : TimerQueue × QReply) → moves_none op ≡ true →
     Goes w (queue_answers s w a act cpu op (Some o)) i cpu a (states_of w i) (stands_of w i) o.0
-      (advance s (places_of w a) false (at.Cpu cpu) (entry.Cpu (record { actor = a; act = act; op = op; reply = o.1 })))
+    (advance s (places_of w a) false (at.Cpu cpu) (entry.Cpu (record { actor = a; act = act; op = op; reply = o.1 })))
 goes_queue s w i cpu a act op o none =
     let made : QEntry = record { actor = a; act = act; op = op; reply = o.1 } in
     let after : World = enters_journal w cpu o.0 made in
@@ -122,7 +122,7 @@ goes_queue s w i cpu a act op o none =
 -- and so an insert, by which the callout comes to the CPU
 pub goes_insert : (s : Script) (w : World) (i cpu a act n t : ℕ) (o : TimerQueue × QReply) →
     Goes w (queue_answers s w a act cpu (Insert i n t) (Some o)) i cpu a (states_of w i) cpu o.0
-      (advance s (places_of w a) false (at.Cpu cpu) (entry.Cpu (record { actor = a; act = act; op = Insert i n t; reply = o.1 })))
+    (advance s (places_of w a) false (at.Cpu cpu) (entry.Cpu (record { actor = a; act = act; op = Insert i n t; reply = o.1 })))
 goes_insert s w i cpu a act n t o =
     let made : QEntry = record { actor = a; act = act; op = Insert i n t; reply = o.1 } in
     let after : World = enters_journal w cpu o.0 made in

@@ -79,7 +79,6 @@ module _ (s : Script) (x x2 : Written) (w w' : World) (a : ℕ) (listed : Bool) 
     (each_history : histories ≡ table (length s.timers) (entries_of w')) (each_journal : journals ≡ table s.cpus (turns_of w'))
     (each_scan : scans ≡ table s.cpus (scans_in w')) (each_own : own ≡ table (actor_count s) (own_by w'))
     (few_entries : (i : ℕ) → entries_of w' i ≤ x.made + 1) (few_turns : (cpu : ℕ) → turns_of w' cpu ≤ x.made + 1) (few_own : (b : ℕ) → own_by w' b ≤ x.made + 1) where
-
   abbrev places' : List CursorAt
   places' = set x.places a noted.to
 

@@ -20,7 +20,10 @@ ghost use Rattle.co_core.specs.Written.{IsNoted, list_at, place_at, with_list, w
 mod boot;
 mod waits;
 
-use co_object::{AnyEntry, CallOp, Entry, Lists, Note, Op, OwnEntry, OwnKind, Place, PlainOp, QEntry, QOp, QReply, Reply, RunOp};
+use co_object::{
+    AnyEntry, CallOp, Entry, Lists, Note, Op, OwnEntry, OwnKind, Place, PlainOp, QEntry, QOp,
+    QReply, Reply, RunOp,
+};
 use co_program::{Cursor, Parcel, Script, advance};
 use co_sbt::{NoMemory, Room, Sbt, Seq};
 use std::alloc::Global;
@@ -126,7 +129,8 @@ impl Books {
         requires { hand.actor < length self.old.lists }
         ensures { self.new ≡ with_list self.old hand.actor hand.notes.items }
     {
-        self.lists.replace(hand.actor as usize, hand.notes.into_seq());
+        self.lists
+            .replace(hand.actor as usize, hand.notes.into_seq());
     }
 
     /// The actor makes a note, and goes on in its program. `listed` is whether the callout stands in a queue now.
@@ -292,7 +296,13 @@ impl Books {
     }
 
     /// The Insert of a callout that comes to the CPU at which it is armed.
-    pub(crate) fn write_landing(&mut self, script: &Script, hand: &mut Hand, parcel: &Parcel, at: Sbt)
+    pub(crate) fn write_landing(
+        &mut self,
+        script: &Script,
+        hand: &mut Hand,
+        parcel: &Parcel,
+        at: Sbt,
+    )
         requires script { IsScript script.now }
         requires written { MayWrite script.now (with_list self.old hand.old.actor hand.old.notes.items) hand.old.actor }
         requires known { parcel.now.cpu < script.now.cpus }

@@ -52,14 +52,7 @@ impl Engine {
     }
 
     /// A covered call on a callout that stands still. The answer is how many notes it makes.
-    fn call(
-        &mut self,
-        script: &Script,
-        hand: &mut Hand,
-        act: u64,
-        i: u32,
-        op: &CallOp,
-    ) -> u32
+    fn call(&mut self, script: &Script, hand: &mut Hand, act: u64, i: u32, op: &CallOp) -> u32
         requires script { IsScript script.now }
         requires may { MayAct script.now self.old hand.old (Asks act (Asked.Callout i (Op.Call op.now))) }
         ensures stands { (w : PlainWorld) → HeldBy script.now self.old hand.old w → IsDue script.now w hand.old.actor (Asks act (Asked.Callout i (Op.Call op.now))) →
@@ -69,16 +62,11 @@ impl Engine {
     {
         let cpu = self.depot.stand(i);
         let out = self.depot.call(cpu, i, op, hand.actor);
-        let removed = self.books.write_removal(script, hand, act, cpu, i, out.removed);
-        self.books.write_callout(
-            script,
-            hand,
-            act,
-            i,
-            Op::Call(*op),
-            out.reply,
-            out.listed,
-        );
+        let removed = self
+            .books
+            .write_removal(script, hand, act, cpu, i, out.removed);
+        self.books
+            .write_callout(script, hand, act, i, Op::Call(*op), out.reply, out.listed);
         let inserted = self.books.write_insertion(script, hand, out.inserted);
         removed + 1 + inserted
     }
@@ -107,19 +95,13 @@ impl Engine {
     {
         let count = self.depot.scan(cpu, now);
         let op = QOp::Scan { now };
-        self.books.write_queue(script, hand, act, cpu, op, QReply::Count(count));
+        self.books
+            .write_queue(script, hand, act, cpu, op, QReply::Count(count));
     }
 
     /// The first callout that has come due goes into service: of a CPU, or of its interrupt where `direct`. The answer is
     /// how many notes that makes.
-    fn next(
-        &mut self,
-        script: &Script,
-        hand: &mut Hand,
-        act: u64,
-        cpu: u32,
-        direct: bool,
-    ) -> u32
+    fn next(&mut self, script: &Script, hand: &mut Hand, act: u64, cpu: u32, direct: bool) -> u32
         requires script { IsScript script.now }
         requires may { MayAct script.now self.old hand.old (Asks act (Asked.Queue cpu (pop_of direct))) }
         ensures stands { (w : PlainWorld) → HeldBy script.now self.old hand.old w → IsDue script.now w hand.old.actor (Asks act (Asked.Queue cpu (pop_of direct))) →
@@ -131,14 +113,16 @@ impl Engine {
         let op = pop_of(direct);
         match self.depot.next(cpu, direct) {
             NextOut::Empty => {
-                self.books.write_queue(script, hand, act, cpu, op, QReply::Empty);
+                self.books
+                    .write_queue(script, hand, act, cpu, op, QReply::Empty);
                 1
             }
             NextOut::Took { i, n, at, reply } => {
                 let got = QReply::Got { i, n, at };
                 self.books.write_queue(script, hand, act, cpu, op, got);
                 let pick = Op::Run(RunOp::Pick { n, cpu, at });
-                self.books.write_callout(script, hand, act, i, pick, reply, false);
+                self.books
+                    .write_callout(script, hand, act, i, pick, reply, false);
                 2
             }
         }
@@ -155,7 +139,8 @@ impl Engine {
     {
         let reply = self.depot.begin(cpu);
         let begin = Op::Run(RunOp::Begin { n, cpu });
-        self.books.write_callout(script, hand, act, i, begin, reply, false);
+        self.books
+            .write_callout(script, hand, act, i, begin, reply, false);
     }
 
     /// A service is over. Its callout leaves where it is armed for another CPU. The answer is how many notes that makes.
@@ -171,8 +156,10 @@ impl Engine {
         let direct = script.timers.as_slice()[i as usize].direct;
         let reply = self.depot.end(cpu, direct, hand.actor);
         let end = Op::Run(RunOp::End { n, cpu });
-        self.books.write_callout(script, hand, act, i, end, reply, false);
-        self.books.write_queue(script, hand, act, cpu, free_of(direct), QReply::Freed);
+        self.books
+            .write_callout(script, hand, act, i, end, reply, false);
+        self.books
+            .write_queue(script, hand, act, cpu, free_of(direct), QReply::Freed);
         2
     }
 }

@@ -16,11 +16,9 @@ const SCRIPT_LIMIT: usize = 67_108_864;
 
 /// Writes the text of a status: the answer is that status, or WriteFault where the sink failed.
 fn write_text<K: Sink>(sink: &mut K, status: Status, text: &[u8]) -> Status
-    ensures {
-        let before : Output = record { held = K.held sink.old; faults = K.faults sink.old; idle = K.idle sink.old } in
+    ensures { let before : Output = record { held = K.held sink.old; faults = K.faults sink.old; idle = K.idle sink.old } in
         let after : Output = record { held = K.held sink.new; faults = K.faults sink.new; idle = K.idle sink.new } in
-        Tells status text.now before after result
-    }
+        Tells status text.now before after result }
 {
     match write_all(sink, text) {
         Ok(()) => status,
@@ -30,11 +28,9 @@ fn write_text<K: Sink>(sink: &mut K, status: Status, text: &[u8]) -> Status
 
 /// The command `steps`, from the source to the sink.
 fn run_steps_command<S: Source, K: Sink>(alloc: Global, source: &mut S, sink: &mut K) -> Status
-    ensures {
-        let before = outside (S.left source.old) (S.faults source.old) (K.held sink.old) (K.faults sink.old) (K.idle sink.old) in
+    ensures { let before = outside (S.left source.old) (S.faults source.old) (K.held sink.old) (K.faults sink.old) (K.idle sink.old) in
         let after = outside (S.left source.new) (S.faults source.new) (K.held sink.new) (K.faults sink.new) (K.idle sink.new) in
-        Says before after (Some commands.Steps) result
-    }
+        Says before after (Some commands.Steps) result }
 {
     let input = match read_all(alloc, source, SCRIPT_LIMIT) {
         Ok(input) => input,
@@ -57,16 +53,12 @@ pub fn callout_main<S: Source, K: Sink>(
     source: &mut S,
     sink: &mut K,
 ) -> Status
-    ensures headline {
-        let before = outside (S.left source.old) (S.faults source.old) (K.held sink.old) (K.faults sink.old) (K.idle sink.old) in
+    ensures headline { let before = outside (S.left source.old) (S.faults source.old) (K.held sink.old) (K.faults sink.old) (K.idle sink.old) in
         let after = outside (S.left source.new) (S.faults source.new) (K.held sink.new) (K.faults sink.new) (K.idle sink.new) in
-        IsHeadline (map string_bytes words.now) before after result
-    }
-    ensures complete {
-        let before = outside (S.left source.old) (S.faults source.old) (K.held sink.old) (K.faults sink.old) (K.idle sink.old) in
+        IsHeadline (map string_bytes words.now) before after result }
+    ensures complete { let before = outside (S.left source.old) (S.faults source.old) (K.held sink.old) (K.faults sink.old) (K.idle sink.old) in
         let after = outside (S.left source.new) (S.faults source.new) (K.held sink.new) (K.faults sink.new) (K.idle sink.new) in
-        IsComplete (map string_bytes words.now) before after result
-    }
+        IsComplete (map string_bytes words.now) before after result }
 {
     match command_of(words) {
         None => write_text(sink, Status::Usage, usage_text()),

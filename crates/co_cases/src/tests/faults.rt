@@ -7,10 +7,12 @@ use co_top::Status;
 use std::alloc::Global;
 use std::test::Fail;
 
-
-
-
-fn one_firing(alloc: Global, read_fails: &[u64], room: usize, write_fails: &[u64]) -> Result<Outcome, NoMemory> {
+fn one_firing(
+    alloc: Global,
+    read_fails: &[u64],
+    room: usize,
+    write_fails: &[u64],
+) -> Result<Outcome, NoMemory> {
     let source = MemSource::new(alloc, ONE_FIRING.script.as_bytes(), 1, read_fails)?;
     let sink = MemSink::new(alloc, room, 1, write_fails)?;
     call(alloc, ["steps"].as_slice(), source, sink)
@@ -32,7 +34,11 @@ fn each_write_fails_in_turn(rt: HostRuntime) -> Result<(), Fail> {
     for turn in 0..ONE_FIRING.report.len() {
         let outcome = one_firing(rt.alloc(), &[], ONE_FIRING.report.len(), &[turn as u64])?;
         assert_eq!(rt; outcome.status, Status::WriteFault, "write {turn}");
-        assert_eq!(rt; outcome.held.as_slice(), &ONE_FIRING.report.as_bytes()[..turn], "write {turn}");
+        assert_eq!(rt;
+            outcome.held.as_slice(),
+            &ONE_FIRING.report.as_bytes()[..turn],
+            "write {turn}"
+        );
     }
     Ok(())
 }
@@ -43,7 +49,11 @@ fn too_little_room(rt: HostRuntime) -> Result<(), Fail> {
     for room in 0..ONE_FIRING.report.len() {
         let outcome = one_firing(rt.alloc(), &[], room, &[])?;
         assert_eq!(rt; outcome.status, Status::WriteFault, "room {room}");
-        assert_eq!(rt; outcome.held.as_slice(), &ONE_FIRING.report.as_bytes()[..room], "room {room}");
+        assert_eq!(rt;
+            outcome.held.as_slice(),
+            &ONE_FIRING.report.as_bytes()[..room],
+            "room {room}"
+        );
     }
     Ok(())
 }

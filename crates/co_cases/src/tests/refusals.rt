@@ -10,9 +10,18 @@ use std::test::Fail;
 // Scripts with the line that is written of each.
 const REFUSED: [(&str, &str); 6] = [
     ("callout 1\ncpus 1\nwheel 24\n", "line 3: number\n"),
-    ("callout 1\nfuncs 1\ntimer 0 mpsafe\nclient 0\nreset 0 =1.5 f0 a7\ncpu 0\ntick 1.5", "line 7: cut\n"),
-    ("callout 1\nfuncs 1\ntimer 0 mpsafe\nclient 0\nreset 0 =1.5 f0 a7\ncpu 0\ntick 1.5\ntick 1\n", "line 8: falls\n"),
-    ("callout 1\nfuncs 1\ntimer 0 mpsafe\nfunc 0\ndrain 0\nclient 0\nreset 0 =1.5 f0 a7\ncpu 0\ntick 1.5\n", "line 5: order\n"),
+    (
+        "callout 1\nfuncs 1\ntimer 0 mpsafe\nclient 0\nreset 0 =1.5 f0 a7\ncpu 0\ntick 1.5",
+        "line 7: cut\n",
+    ),
+    (
+        "callout 1\nfuncs 1\ntimer 0 mpsafe\nclient 0\nreset 0 =1.5 f0 a7\ncpu 0\ntick 1.5\ntick 1\n",
+        "line 8: falls\n",
+    ),
+    (
+        "callout 1\nfuncs 1\ntimer 0 mpsafe\nfunc 0\ndrain 0\nclient 0\nreset 0 =1.5 f0 a7\ncpu 0\ntick 1.5\n",
+        "line 5: order\n",
+    ),
     ("", "line 0: version\n"),
     ("callout 1\n", "line 0: timer\n"),
 ];
@@ -46,7 +55,10 @@ fn words_that_are_no_command(rt: HostRuntime) -> Result<(), Fail> {
         let sink = MemSink::new(rt.alloc(), 100, 100, &[])?;
         let outcome = call(rt.alloc(), words, source, sink)?;
         assert_eq!(rt; outcome.status, Status::Usage);
-        assert_eq!(rt; outcome.held.as_slice(), b"usage: callout steps | run | check | gen N | soak N\n".as_slice());
+        assert_eq!(rt;
+            outcome.held.as_slice(),
+            b"usage: callout steps | run | check | gen N | soak N\n".as_slice()
+        );
     }
     Ok(())
 }
@@ -66,11 +78,19 @@ fn beginnings_of_a_script(rt: HostRuntime) -> Result<(), Fail> {
     let script = PREFIXES[7].script.as_bytes();
     for end in 0..script.len() {
         let prefix = &script[..end];
-        match PREFIXES.iter().find(|case| case.script.as_bytes() == prefix) {
+        match PREFIXES
+            .iter()
+            .find(|case| case.script.as_bytes() == prefix)
+        {
             Some(case) => {
                 let outcome = steps(rt.alloc(), prefix)?;
                 assert_eq!(rt; outcome.status, Status::Done, "{}", case.name);
-                assert_eq!(rt; outcome.held.as_slice(), case.report.as_bytes(), "{}", case.name);
+                assert_eq!(rt;
+                    outcome.held.as_slice(),
+                    case.report.as_bytes(),
+                    "{}",
+                    case.name
+                );
             }
             None => refuses(&rt, prefix, refusal(rt.alloc(), prefix)?.as_str())?,
         }

@@ -1,9 +1,9 @@
 //! Each script of the tables has its report.
 use crate::case::Case;
 use crate::services::SERVICES;
+use crate::steps;
 use crate::timers::TIMERS;
 use crate::versions::VERSIONS;
-use crate::steps;
 use co_top::Status;
 use std::process::Abort;
 use std::test::Fail;
@@ -12,7 +12,12 @@ fn check(rt: &(impl AllocGlobal + Abort), cases: &[Case]) -> Result<(), Fail> {
     for case in cases {
         let outcome = steps(rt.alloc(), case.script.as_bytes())?;
         assert_eq!(rt; outcome.status, Status::Done, "{}", case.name);
-        assert_eq!(rt; outcome.held.as_slice(), case.report.as_bytes(), "{}", case.name);
+        assert_eq!(rt;
+            outcome.held.as_slice(),
+            case.report.as_bytes(),
+            "{}",
+            case.name
+        );
     }
     Ok(())
 }

@@ -55,14 +55,18 @@ impl Books {
     pub(crate) fn is_locked(&self, held: &Held) -> bool
         ensures { result ≡ list_any (λ place. is_excluded_by held.now place.hold) self.now.places }
     {
-        self.places.iter().any(|place| is_excluded_by(held, place.hold))
+        self.places
+            .iter()
+            .any(|place| is_excluded_by(held, place.hold))
     }
 
     /// Whether an actor is in a service of callout `i`, for its arming `n`.
     pub(crate) fn is_serviced(&self, i: u32, n: u64) -> bool
         ensures { result ≡ list_any (λ place. is_servicing i n place.stage) self.now.places }
     {
-        self.places.iter().any(|place| is_servicing(i, n, &place.stage))
+        self.places
+            .iter()
+            .any(|place| is_servicing(i, n, &place.stage))
     }
 
     /// How many Scans the CPU's journal has.

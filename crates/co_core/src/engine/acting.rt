@@ -84,14 +84,7 @@ impl Engine {
     }
 
     /// The start or the end of a service. A Pick is never due: it is made with its Pop.
-    fn serve(
-        &mut self,
-        script: &Script,
-        hand: &mut Hand,
-        act: u64,
-        i: u32,
-        run: &RunOp,
-    ) -> u32
+    fn serve(&mut self, script: &Script, hand: &mut Hand, act: u64, i: u32, run: &RunOp) -> u32
         requires script { IsScript script.now }
         requires may { MayAct script.now self.old hand.old (Asks act (Asked.Callout i (Op.Run run.now))) }
         ensures stands { (w : PlainWorld) → HeldBy script.now self.old hand.old w → IsDue script.now w hand.old.actor (Asks act (Asked.Callout i (Op.Run run.now))) →
@@ -110,14 +103,7 @@ impl Engine {
     }
 
     /// What a CPU's queue is asked. A Remove is never due, since its call makes it, and a Free is made with its End.
-    fn queue(
-        &mut self,
-        script: &Script,
-        hand: &mut Hand,
-        act: u64,
-        cpu: u32,
-        op: &QOp,
-    ) -> u32
+    fn queue(&mut self, script: &Script, hand: &mut Hand, act: u64, cpu: u32, op: &QOp) -> u32
         requires script { IsScript script.now }
         requires may { MayAct script.now self.old hand.old (Asks act (Asked.Queue cpu op.now)) }
         ensures stands { (w : PlainWorld) → HeldBy script.now self.old hand.old w → IsDue script.now w hand.old.actor (Asks act (Asked.Queue cpu op.now)) →

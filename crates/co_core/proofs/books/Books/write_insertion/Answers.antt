@@ -12,12 +12,12 @@ use Rattle.co_core.proofs.books.Books.write_insertion.Goals as goal
 
 pub returns-clause-written : goal.returns-clause-written
 returns-clause-written c = λ w queue parcel t is written carried.
-  (let a = c.args.hand.now.actor in
-  let both : Some c.in-Some-parcel.parcel ≡ Some parcel =
-  c.in-Some-parcel.ensures ∙ ap (λ (x : Cursor). x.parcel) (written.each_place a c.requires.written.2) ∙ carried in
-  let same : c.in-Some-parcel.parcel ≡ parcel = cc in
-  let times : Some c.in-Some.at ≡ Some t = sym c.in-Some.is ∙ is in
-  let time : c.in-Some.at ≡ t = cc in
-  subst (λ (p : Parcel). IsWritten c.args.script.now (with_list c.write_landing.new.self a c.write_landing.new.hand.notes.items) (queue_answers c.args.script.now w a p.act p.cpu (Insert p.i p.n p.due) (Some (queue, At t)))) same
-  (subst (λ (u : ℕ). IsWritten c.args.script.now (with_list c.write_landing.new.self a c.write_landing.new.hand.notes.items) (queue_answers c.args.script.now w a c.in-Some-parcel.parcel.act c.in-Some-parcel.parcel.cpu (Insert c.in-Some-parcel.parcel.i c.in-Some-parcel.parcel.n c.in-Some-parcel.parcel.due) (Some (queue, At u)))) time
-  (c.write_landing.ensures.written w queue written)))
+    (let a = c.args.hand.now.actor in
+    let both : Some c.in-Some-parcel.parcel ≡ Some parcel =
+    c.in-Some-parcel.ensures ∙ ap (λ (x : Cursor). x.parcel) (written.each_place a c.requires.written.2) ∙ carried in
+    let same : c.in-Some-parcel.parcel ≡ parcel = cc in
+    let times : Some c.in-Some.at ≡ Some t = sym c.in-Some.is ∙ is in
+    let time : c.in-Some.at ≡ t = cc in
+    subst (λ (p : Parcel). IsWritten c.args.script.now (with_list c.write_landing.new.self a c.write_landing.new.hand.notes.items) (queue_answers c.args.script.now w a p.act p.cpu (Insert p.i p.n p.due) (Some (queue, At t)))) same
+    (subst (λ (u : ℕ). IsWritten c.args.script.now (with_list c.write_landing.new.self a c.write_landing.new.hand.notes.items) (queue_answers c.args.script.now w a c.in-Some-parcel.parcel.act c.in-Some-parcel.parcel.cpu (Insert c.in-Some-parcel.parcel.i c.in-Some-parcel.parcel.n c.in-Some-parcel.parcel.due) (Some (queue, At u)))) time
+    (c.write_landing.ensures.written w queue written)))

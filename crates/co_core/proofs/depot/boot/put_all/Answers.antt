@@ -21,7 +21,7 @@ pub loop-i-preserved : goal.loop-i-preserved
 loop-i-preserved c =
     let w = c.args.wheel.now in
     c.put.ensures ∙ rw (c.new.ensures, c.loop-i.invariant) (
-      ap (λ (xs : List (Option Alone)). record w { callouts = record w.callouts { here = xs } }) (partly-more c.args.specs.now c.loop-i.i))
+    ap (λ (xs : List (Option Alone)). record w { callouts = record w.callouts { here = xs } }) (partly-more c.args.specs.now c.loop-i.i))
 
 pub returns : goal.returns
 returns c =

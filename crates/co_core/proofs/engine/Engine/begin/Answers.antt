@@ -30,14 +30,14 @@ write_callout-requires-clause-known c =
 
 pub returns-clause-stands : goal.returns-clause-stands
 returns-clause-stands c = λ w held due.
-  (let a = c.args.hand.now.actor in
-  let s = c.args.script.now in
-  let books : Written = with_list c.args.self.now.books a c.args.hand.now.notes.items in
-  let notes = c.write_callout.new.hand.notes.items in
-  let begun = c.begin-reply.ensures in
-  let none : is_armed c.begin-reply.result ≡ false = begin_unarmed s c.requires.script books c.args.self.now.depot w held a c.args.act c.args.i c.args.n c.args.cpu due c.begin-reply.result begun.0 begun.1 in
-  let written : (state : State) → IsWritten s (with_list c.write_callout.new.self a notes) (callout_answers s w a c.args.act c.args.i (Run (Begin c.args.n c.args.cpu)) (Some (state, c.begin-reply.result))) =
-  λ state. c.write_callout.ensures.written w state held.written (λ e. absurd (let clash : true ≡ false = sym e ∙ none in cc)) in
-  subst (λ (b : ℕ). StandsFor s (with_list c.write_callout.new.self b notes) c.begin-reply.new.self (step s w a)) (sym c.write_callout.ensures.actor)
-  (subst (λ (d : Stored). StandsFor s (with_list c.write_callout.new.self a notes) d (step s w a)) (sym begun.2)
-  (stands_begun s c.requires.script books c.args.self.now.depot w held a c.args.act c.args.i c.args.n c.args.cpu due c.begin-reply.result begun.0 begun.1 (with_list c.write_callout.new.self a notes) written)))
+    (let a = c.args.hand.now.actor in
+    let s = c.args.script.now in
+    let books : Written = with_list c.args.self.now.books a c.args.hand.now.notes.items in
+    let notes = c.write_callout.new.hand.notes.items in
+    let begun = c.begin-reply.ensures in
+    let none : is_armed c.begin-reply.result ≡ false = begin_unarmed s c.requires.script books c.args.self.now.depot w held a c.args.act c.args.i c.args.n c.args.cpu due c.begin-reply.result begun.0 begun.1 in
+    let written : (state : State) → IsWritten s (with_list c.write_callout.new.self a notes) (callout_answers s w a c.args.act c.args.i (Run (Begin c.args.n c.args.cpu)) (Some (state, c.begin-reply.result))) =
+    λ state. c.write_callout.ensures.written w state held.written (λ e. absurd (let clash : true ≡ false = sym e ∙ none in cc)) in
+    subst (λ (b : ℕ). StandsFor s (with_list c.write_callout.new.self b notes) c.begin-reply.new.self (step s w a)) (sym c.write_callout.ensures.actor)
+    (subst (λ (d : Stored). StandsFor s (with_list c.write_callout.new.self a notes) d (step s w a)) (sym begun.2)
+    (stands_begun s c.requires.script books c.args.self.now.depot w held a c.args.act c.args.i c.args.n c.args.cpu due c.begin-reply.result begun.0 begun.1 (with_list c.write_callout.new.self a notes) written)))

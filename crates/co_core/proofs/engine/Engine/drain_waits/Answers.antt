@@ -11,6 +11,6 @@ use Rattle.co_core.proofs.engine.Engine.drain_waits.Goals as goal
 
 pub returns-in-Waiting : goal.returns-in-Waiting
 returns-in-Waiting c = λ s w ok h.
-  (let steady : IsSteady s w = subst (IsSteady s) (sym h.reached.world) (reached_steady s ok h.reached.schedule h.reached.may) in
-  c.is_serviced.ensures ∙ (serviced-is s c.args.self.now.books w h.written steady.good.holds.serving steady.between c.args.i c.in-Waiting.n
-  ∙ sym (ap (λ stage. is_waiting w c.args.i (stage_of s stage)) c.in-Waiting.is)))
+    (let steady : IsSteady s w = subst (IsSteady s) (sym h.reached.world) (reached_steady s ok h.reached.schedule h.reached.may) in
+    c.is_serviced.ensures ∙ (serviced-is s c.args.self.now.books w h.written steady.good.holds.serving steady.between c.args.i c.in-Waiting.n
+    ∙ sym (ap (λ stage. is_waiting w c.args.i (stage_of s stage)) c.in-Waiting.is)))

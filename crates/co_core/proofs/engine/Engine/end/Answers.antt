@@ -62,34 +62,36 @@ write_queue-requires-clause-written c =
     let lane : lane_of c.as_slice.result.now i ≡ (spec_at s i).direct = ap (λ (timers : List Spec). lane_of timers i) c.as_slice.ensures in
     let ended = subst (λ (direct : Bool). IsEnded direct (wheel_at c.args.self.now.depot c.args.cpu) reply out.1 out.0) lane out.2 in
     let none : is_armed reply ≡ false = end_unarmed s c.requires.script books c.args.self.now.depot m.world m.held a c.args.act i c.args.n c.args.cpu m.due reply out.1 out.0 ended in
-    subst (λ (b : ℕ). MayWrite s (with_list c.write_callout.new.self b c.write_callout.new.hand.notes.items) b) (sym c.write_callout.ensures.actor)
-    (callout_answers s m.world a c.args.act i (Run (End c.args.n c.args.cpu)) (Some (states_of m.world i, reply)),
-    c.write_callout.ensures.written m.world (states_of m.world i) m.held.written (λ e. absurd (let clash : true ≡ false = sym e ∙ none in cc)), m.due.may)
+    subst (λ (b : ℕ). MayWrite s (with_list c.write_callout.new.self b c.write_callout.new.hand.notes.items) b) (sym c.write_callout.ensures.actor) (
+      callout_answers s m.world a c.args.act i (Run (End c.args.n c.args.cpu)) (Some (states_of m.world i, reply)),
+      c.write_callout.ensures.written m.world (states_of m.world i) m.held.written (λ e. absurd (let clash : true ≡ false = sym e ∙ none in cc)),
+      m.due.may,
+    )
 
 pub returns-clause-stands : goal.returns-clause-stands
 returns-clause-stands c = λ w held due.
-  (let a = c.args.hand.now.actor in
-  let s = c.args.script.now in
-  let i = c.args.i in
-  let act = c.args.act in
-  let cpu = c.args.cpu in
-  let books : Written = with_list c.args.self.now.books a c.args.hand.now.notes.items in
-  let notes1 = c.write_callout.new.hand.notes.items in
-  let notes2 = c.write_queue.new.hand.notes.items in
-  let out = c.end-reply.ensures in
-  let reply = c.end-reply.result in
-  let e1 = c.write_callout.ensures.actor in
-  let e2 : c.write_queue.new.hand.actor ≡ a = c.write_queue.ensures.actor ∙ e1 in
-  let lane : lane_of c.as_slice.result.now i ≡ (spec_at s i).direct = ap (λ (timers : List Spec). lane_of timers i) c.as_slice.ensures in
-  let op_is : c.free_of.result ≡ free_of (spec_at s i).direct = c.free_of.ensures ∙ ap free_of lane in
-  let ended = subst (λ (direct : Bool). IsEnded direct (wheel_at c.args.self.now.depot cpu) reply out.1 out.0) lane out.2 in
-  let none : is_armed reply ≡ false = end_unarmed s c.requires.script books c.args.self.now.depot w held a act i c.args.n cpu due reply out.1 out.0 ended in
-  let written1 : (state : State) → IsWritten s (with_list c.write_callout.new.self a notes1) (callout_answers s w a act i (Run (End c.args.n cpu)) (Some (state, reply))) =
-  λ state. c.write_callout.ensures.written w state held.written (λ e. absurd (let clash : true ≡ false = sym e ∙ none in cc)) in
-  let written2 : (v : World) (queue : TimerQueue) → IsWritten s (with_list c.write_callout.new.self a notes1) v → IsWritten s (with_list c.write_queue.new.self a notes2) (queue_answers s v a act cpu (free_of (spec_at s i).direct) (Some (queue, Freed))) =
-  subst (λ (op : QOp). (v : World) (queue : TimerQueue) → IsWritten s (with_list c.write_callout.new.self a notes1) v → IsWritten s (with_list c.write_queue.new.self a notes2) (queue_answers s v a act cpu op (Some (queue, Freed)))) op_is
-  (subst (λ (b : ℕ). (v : World) (queue : TimerQueue) → IsWritten s (with_list c.write_callout.new.self b notes1) v → IsWritten s (with_list c.write_queue.new.self b notes2) (queue_answers s v b act cpu c.free_of.result (Some (queue, Freed)))) e1 c.write_queue.ensures.written) in
-  subst (λ (b : ℕ). StandsFor s (with_list c.write_queue.new.self b notes2) c.end-reply.new.self (step s w a)) (sym e2)
-  (subst (λ (d : Stored). StandsFor s (with_list c.write_queue.new.self a notes2) d (step s w a)) (sym out.3)
-  (stands_ended s c.requires.script books c.args.self.now.depot w held a act i c.args.n cpu due reply out.1 out.0 ended (with_list c.write_queue.new.self a notes2)
-  (λ queue state. written2 (callout_answers s w a act i (Run (End c.args.n cpu)) (Some (state, reply))) queue (written1 state)))))
+    (let a = c.args.hand.now.actor in
+    let s = c.args.script.now in
+    let i = c.args.i in
+    let act = c.args.act in
+    let cpu = c.args.cpu in
+    let books : Written = with_list c.args.self.now.books a c.args.hand.now.notes.items in
+    let notes1 = c.write_callout.new.hand.notes.items in
+    let notes2 = c.write_queue.new.hand.notes.items in
+    let out = c.end-reply.ensures in
+    let reply = c.end-reply.result in
+    let e1 = c.write_callout.ensures.actor in
+    let e2 : c.write_queue.new.hand.actor ≡ a = c.write_queue.ensures.actor ∙ e1 in
+    let lane : lane_of c.as_slice.result.now i ≡ (spec_at s i).direct = ap (λ (timers : List Spec). lane_of timers i) c.as_slice.ensures in
+    let op_is : c.free_of.result ≡ free_of (spec_at s i).direct = c.free_of.ensures ∙ ap free_of lane in
+    let ended = subst (λ (direct : Bool). IsEnded direct (wheel_at c.args.self.now.depot cpu) reply out.1 out.0) lane out.2 in
+    let none : is_armed reply ≡ false = end_unarmed s c.requires.script books c.args.self.now.depot w held a act i c.args.n cpu due reply out.1 out.0 ended in
+    let written1 : (state : State) → IsWritten s (with_list c.write_callout.new.self a notes1) (callout_answers s w a act i (Run (End c.args.n cpu)) (Some (state, reply))) =
+    λ state. c.write_callout.ensures.written w state held.written (λ e. absurd (let clash : true ≡ false = sym e ∙ none in cc)) in
+    let written2 : (v : World) (queue : TimerQueue) → IsWritten s (with_list c.write_callout.new.self a notes1) v → IsWritten s (with_list c.write_queue.new.self a notes2) (queue_answers s v a act cpu (free_of (spec_at s i).direct) (Some (queue, Freed))) =
+    subst (λ (op : QOp). (v : World) (queue : TimerQueue) → IsWritten s (with_list c.write_callout.new.self a notes1) v → IsWritten s (with_list c.write_queue.new.self a notes2) (queue_answers s v a act cpu op (Some (queue, Freed)))) op_is
+    (subst (λ (b : ℕ). (v : World) (queue : TimerQueue) → IsWritten s (with_list c.write_callout.new.self b notes1) v → IsWritten s (with_list c.write_queue.new.self b notes2) (queue_answers s v b act cpu c.free_of.result (Some (queue, Freed)))) e1 c.write_queue.ensures.written) in
+    subst (λ (b : ℕ). StandsFor s (with_list c.write_queue.new.self b notes2) c.end-reply.new.self (step s w a)) (sym e2)
+    (subst (λ (d : Stored). StandsFor s (with_list c.write_queue.new.self a notes2) d (step s w a)) (sym out.3)
+    (stands_ended s c.requires.script books c.args.self.now.depot w held a act i c.args.n cpu due reply out.1 out.0 ended (with_list c.write_queue.new.self a notes2)
+    (λ queue state. written2 (callout_answers s w a act i (Run (End c.args.n cpu)) (Some (state, reply))) queue (written1 state)))))

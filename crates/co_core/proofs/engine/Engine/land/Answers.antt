@@ -24,11 +24,11 @@ write_landing-requires-clause-known c =
 
 pub returns-clause-stands : goal.returns-clause-stands
 returns-clause-stands c = λ w held due.
-  (let a = c.args.hand.now.actor in
-  let s = c.args.script.now in
-  let books : Written = with_list c.args.self.now.books a c.args.hand.now.notes.items in
-  let notes = c.write_landing.new.hand.notes.items in
-  let landed = c.land-at.ensures in
-  subst (λ (b : ℕ). StandsFor s (with_list c.write_landing.new.self b notes) c.land-at.new.self (step s w a)) (sym c.write_landing.ensures.actor)
-  (subst (λ (d : Stored). StandsFor s (with_list c.write_landing.new.self a notes) d (step s w a)) (sym landed.4)
-  (stands_landed s c.requires.script books c.args.self.now.depot w held a c.args.parcel.now due landed.0 landed.1 c.land-at.result landed.2 landed.3 (with_list c.write_landing.new.self a notes) (λ queue. c.write_landing.ensures.written w queue held.written))))
+    (let a = c.args.hand.now.actor in
+    let s = c.args.script.now in
+    let books : Written = with_list c.args.self.now.books a c.args.hand.now.notes.items in
+    let notes = c.write_landing.new.hand.notes.items in
+    let landed = c.land-at.ensures in
+    subst (λ (b : ℕ). StandsFor s (with_list c.write_landing.new.self b notes) c.land-at.new.self (step s w a)) (sym c.write_landing.ensures.actor)
+    (subst (λ (d : Stored). StandsFor s (with_list c.write_landing.new.self a notes) d (step s w a)) (sym landed.4)
+    (stands_landed s c.requires.script books c.args.self.now.depot w held a c.args.parcel.now due landed.0 landed.1 c.land-at.result landed.2 landed.3 (with_list c.write_landing.new.self a notes) (λ queue. c.write_landing.ensures.written w queue held.written))))

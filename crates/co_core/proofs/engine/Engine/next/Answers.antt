@@ -49,41 +49,41 @@ write_callout-requires-clause-known c =
 
 pub returns-in-Empty-clause-stands : goal.returns-in-Empty-clause-stands
 returns-in-Empty-clause-stands c = λ w held due.
-  (let a = c.args.hand.now.actor in
-  let s = c.args.script.now in
-  let books : Written = with_list c.args.self.now.books a c.args.hand.now.notes.items in
-  let notes = c.write_queue.new.hand.notes.items in
-  let next = c.in-Empty.ensures in
-  let written : (op : QOp) → c.pop_of-op.result ≡ op → (queue : TimerQueue) → IsWritten s (with_list c.write_queue.new.self a notes) (queue_answers s w a c.args.act c.args.cpu op (Some (queue, Empty))) =
-  λ op e queue. subst (λ (o : QOp). IsWritten s (with_list c.write_queue.new.self a notes) (queue_answers s w a c.args.act c.args.cpu o (Some (queue, Empty)))) e (c.write_queue.ensures.written w queue held.written) in
-  subst (λ (b : ℕ). StandsFor s (with_list c.write_queue.new.self b notes) c.next.new.self (step s w a)) (sym c.write_queue.ensures.actor)
-  (subst (λ (d : Stored). StandsFor s (with_list c.write_queue.new.self a notes) d (step s w a)) (sym next.2)
-  (stands_none s c.requires.script books c.args.self.now.depot w held a c.args.act c.args.cpu c.args.direct due next.0 next.1 (with_list c.write_queue.new.self a notes) (written (pop_of c.args.direct) c.pop_of-op.ensures))))
+    (let a = c.args.hand.now.actor in
+    let s = c.args.script.now in
+    let books : Written = with_list c.args.self.now.books a c.args.hand.now.notes.items in
+    let notes = c.write_queue.new.hand.notes.items in
+    let next = c.in-Empty.ensures in
+    let written : (op : QOp) → c.pop_of-op.result ≡ op → (queue : TimerQueue) → IsWritten s (with_list c.write_queue.new.self a notes) (queue_answers s w a c.args.act c.args.cpu op (Some (queue, Empty))) =
+    λ op e queue. subst (λ (o : QOp). IsWritten s (with_list c.write_queue.new.self a notes) (queue_answers s w a c.args.act c.args.cpu o (Some (queue, Empty)))) e (c.write_queue.ensures.written w queue held.written) in
+    subst (λ (b : ℕ). StandsFor s (with_list c.write_queue.new.self b notes) c.next.new.self (step s w a)) (sym c.write_queue.ensures.actor)
+    (subst (λ (d : Stored). StandsFor s (with_list c.write_queue.new.self a notes) d (step s w a)) (sym next.2)
+    (stands_none s c.requires.script books c.args.self.now.depot w held a c.args.act c.args.cpu c.args.direct due next.0 next.1 (with_list c.write_queue.new.self a notes) (written (pop_of c.args.direct) c.pop_of-op.ensures))))
 
 pub returns-in-Took-clause-stands : goal.returns-in-Took-clause-stands
 returns-in-Took-clause-stands c = λ w held due.
-  (let a = c.args.hand.now.actor in
-  let s = c.args.script.now in
-  let act = c.args.act in
-  let cpu = c.args.cpu in
-  let i = c.in-Took.i in
-  let n = c.in-Took.n in
-  let at = c.in-Took.at in
-  let reply = c.in-Took.reply in
-  let books : Written = with_list c.args.self.now.books a c.args.hand.now.notes.items in
-  let notes1 = c.write_queue-in-Took.new.hand.notes.items in
-  let notes2 = c.write_callout.new.hand.notes.items in
-  let next = c.in-Took.ensures in
-  let e1 = c.write_queue-in-Took.ensures.actor in
-  let e2 : c.write_callout.new.hand.actor ≡ a = c.write_callout.ensures.actor ∙ e1 in
-  let none : is_armed reply ≡ false = unarmed s c.requires.script books c.args.self.now.depot w held a act cpu c.args.direct due i n at reply next.0 next.1 in
-  let written1 : (queue : TimerQueue) → IsWritten s (with_list c.write_queue-in-Took.new.self a notes1) (queue_answers s w a act cpu (pop_of c.args.direct) (Some (queue, Got i n at))) =
-  λ queue. subst (λ (o : QOp). IsWritten s (with_list c.write_queue-in-Took.new.self a notes1) (queue_answers s w a act cpu o (Some (queue, Got i n at)))) c.pop_of-op.ensures (c.write_queue-in-Took.ensures.written w queue held.written) in
-  let written2 : (v : World) (state : State) → IsWritten s (with_list c.write_queue-in-Took.new.self a notes1) v → (is_armed reply ≡ true → false ≡ is_some (off state)) →
-  IsWritten s (with_list c.write_callout.new.self a notes2) (callout_answers s v a act i (Run (Pick n cpu at)) (Some (state, reply))) =
-  subst (λ (b : ℕ). (v : World) (state : State) → IsWritten s (with_list c.write_queue-in-Took.new.self b notes1) v → (is_armed reply ≡ true → false ≡ is_some (off state)) →
-  IsWritten s (with_list c.write_callout.new.self b notes2) (callout_answers s v b act i (Run (Pick n cpu at)) (Some (state, reply)))) e1 c.write_callout.ensures.written in
-  subst (λ (b : ℕ). StandsFor s (with_list c.write_callout.new.self b notes2) c.next.new.self (step s w a)) (sym e2)
-  (subst (λ (d : Stored). StandsFor s (with_list c.write_callout.new.self a notes2) d (step s w a)) (sym next.2)
-  (stands_picked s c.requires.script books c.args.self.now.depot w held a act cpu c.args.direct due i n at reply next.0 next.1 (with_list c.write_callout.new.self a notes2)
-  (λ queue state. written2 (queue_answers s w a act cpu (pop_of c.args.direct) (Some (queue, Got i n at))) state (written1 queue) (λ e. absurd (let clash : true ≡ false = sym e ∙ none in cc))))))
+    (let a = c.args.hand.now.actor in
+    let s = c.args.script.now in
+    let act = c.args.act in
+    let cpu = c.args.cpu in
+    let i = c.in-Took.i in
+    let n = c.in-Took.n in
+    let at = c.in-Took.at in
+    let reply = c.in-Took.reply in
+    let books : Written = with_list c.args.self.now.books a c.args.hand.now.notes.items in
+    let notes1 = c.write_queue-in-Took.new.hand.notes.items in
+    let notes2 = c.write_callout.new.hand.notes.items in
+    let next = c.in-Took.ensures in
+    let e1 = c.write_queue-in-Took.ensures.actor in
+    let e2 : c.write_callout.new.hand.actor ≡ a = c.write_callout.ensures.actor ∙ e1 in
+    let none : is_armed reply ≡ false = unarmed s c.requires.script books c.args.self.now.depot w held a act cpu c.args.direct due i n at reply next.0 next.1 in
+    let written1 : (queue : TimerQueue) → IsWritten s (with_list c.write_queue-in-Took.new.self a notes1) (queue_answers s w a act cpu (pop_of c.args.direct) (Some (queue, Got i n at))) =
+    λ queue. subst (λ (o : QOp). IsWritten s (with_list c.write_queue-in-Took.new.self a notes1) (queue_answers s w a act cpu o (Some (queue, Got i n at)))) c.pop_of-op.ensures (c.write_queue-in-Took.ensures.written w queue held.written) in
+    let written2 : (v : World) (state : State) → IsWritten s (with_list c.write_queue-in-Took.new.self a notes1) v → (is_armed reply ≡ true → false ≡ is_some (off state)) →
+    IsWritten s (with_list c.write_callout.new.self a notes2) (callout_answers s v a act i (Run (Pick n cpu at)) (Some (state, reply))) =
+    subst (λ (b : ℕ). (v : World) (state : State) → IsWritten s (with_list c.write_queue-in-Took.new.self b notes1) v → (is_armed reply ≡ true → false ≡ is_some (off state)) →
+    IsWritten s (with_list c.write_callout.new.self b notes2) (callout_answers s v b act i (Run (Pick n cpu at)) (Some (state, reply)))) e1 c.write_callout.ensures.written in
+    subst (λ (b : ℕ). StandsFor s (with_list c.write_callout.new.self b notes2) c.next.new.self (step s w a)) (sym e2)
+    (subst (λ (d : Stored). StandsFor s (with_list c.write_callout.new.self a notes2) d (step s w a)) (sym next.2)
+    (stands_picked s c.requires.script books c.args.self.now.depot w held a act cpu c.args.direct due i n at reply next.0 next.1 (with_list c.write_callout.new.self a notes2)
+    (λ queue state. written2 (queue_answers s w a act cpu (pop_of c.args.direct) (Some (queue, Got i n at))) state (written1 queue) (λ e. absurd (let clash : true ≡ false = sym e ∙ none in cc))))))

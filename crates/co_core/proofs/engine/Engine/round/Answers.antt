@@ -21,23 +21,21 @@ last s w at i a before here (inr other) below = before a (omega (arith, other, b
 pub loop-actor-preserved : goal.loop-actor-preserved
 loop-actor-preserved c =
     let s = c.args.script.now in
-    let i = c.loop-actor.actor in
-    (
+    let i = c.loop-actor.actor in (
       λ w h.
           let after = c.in_ok-step.ensures.stands (run s w (range_with_len 0 i)) (c.loop-actor.invariant.0 w h) in
           subst (λ (v : World). StandsFor s c.step.new.self.books c.step.new.self.depot v)
-              (sym (run_more s w (range_with_len 0 i) i) ∙ ap (λ (xs : List ℕ). run s w xs) (range-more i)) after,
+          (sym (run_more s w (range_with_len 0 i) i) ∙ ap (λ (xs : List ℕ). run s w xs) (range-more i)) after,
       elim c.if-finished.branch [
-        then-finished b ↦ (λ all w h.
-          let before = c.loop-actor.invariant.1 b.if-finished.true w h in
-          let at = run s w (range_with_len 0 i) in
-          let said = c.is_finished-ended.ensures (sym b.finished-is ∙ all) in
-          let finished : HasFinished s at i = turn-finished s at i (sym (c.in_ok-step.ensures.turn at (c.loop-actor.invariant.0 w h)) ∙ said) in
-          (
-            λ a below. last s w at i a before.0 (subst (λ (v : World). HasFinished s v i) before.1 finished) (decide a i) below,
-            ap (λ (xs : List ℕ). run s w xs) (sym (range-more i)) ∙ (run_more s w (range_with_len 0 i) i ∙ (finished_step s at i finished ∙ before.1)),
-          ))
-      | else-finished b ↦ (λ all w h. let never : false ≡ true = sym b.if-finished.false ∙ (sym b.finished-is ∙ all) in cc)
+        | then-finished b ↦ (λ all w h.
+            let before = c.loop-actor.invariant.1 b.if-finished.true w h in
+            let at = run s w (range_with_len 0 i) in
+            let said = c.is_finished-ended.ensures (sym b.finished-is ∙ all) in
+            let finished : HasFinished s at i = turn-finished s at i (sym (c.in_ok-step.ensures.turn at (c.loop-actor.invariant.0 w h)) ∙ said) in (
+              λ a below. last s w at i a before.0 (subst (λ (v : World). HasFinished s v i) before.1 finished) (decide a i) below,
+              ap (λ (xs : List ℕ). run s w xs) (sym (range-more i)) ∙ (run_more s w (range_with_len 0 i) i ∙ (finished_step s at i finished ∙ before.1)),
+            ))
+        | else-finished b ↦ (λ all w h. let never : false ≡ true = sym b.if-finished.false ∙ (sym b.finished-is ∙ all) in cc)
       ],
     )
 

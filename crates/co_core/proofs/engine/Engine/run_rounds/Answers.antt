@@ -26,8 +26,7 @@ pub loop-round-preserved : goal.loop-round-preserved
 loop-round-preserved c w h =
     let s = c.args.script.now in
     let k = c.loop-round._round in
-    let before = c.loop-round.invariant w h in
-    (
+    let before = c.loop-round.invariant w h in (
       subst (λ (v : World). StandsFor s c.round.new.self.books c.round.new.self.depot v) (rounds-more s w k) (c.in_ok-round.ensures.stands (rounds s w k) before.0),
       λ ok. counted-more s ok w k before.0.reached (before.1 ok),
     )

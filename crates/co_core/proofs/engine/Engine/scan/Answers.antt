@@ -19,11 +19,11 @@ write_queue-requires-clause-known c =
 
 pub returns-clause-stands : goal.returns-clause-stands
 returns-clause-stands c = λ w held due.
-  (let a = c.args.hand.now.actor in
-  let s = c.args.script.now in
-  let books : Written = with_list c.args.self.now.books a c.args.hand.now.notes.items in
-  let notes = c.write_queue.new.hand.notes.items in
-  let scanned = c.scan-count.ensures in
-  subst (λ (b : ℕ). StandsFor s (with_list c.write_queue.new.self b notes) c.scan-count.new.self (step s w a)) (sym c.write_queue.ensures.actor)
-  (subst (λ (d : Stored). StandsFor s (with_list c.write_queue.new.self a notes) d (step s w a)) (sym scanned.2)
-  (stands_scanned s c.requires.script books c.args.self.now.depot w held a c.args.act c.args.cpu c.args.now due c.scan-count.result scanned.0 scanned.1 (with_list c.write_queue.new.self a notes) (λ queue. c.write_queue.ensures.written w queue held.written))))
+    (let a = c.args.hand.now.actor in
+    let s = c.args.script.now in
+    let books : Written = with_list c.args.self.now.books a c.args.hand.now.notes.items in
+    let notes = c.write_queue.new.hand.notes.items in
+    let scanned = c.scan-count.ensures in
+    subst (λ (b : ℕ). StandsFor s (with_list c.write_queue.new.self b notes) c.scan-count.new.self (step s w a)) (sym c.write_queue.ensures.actor)
+    (subst (λ (d : Stored). StandsFor s (with_list c.write_queue.new.self a notes) d (step s w a)) (sym scanned.2)
+    (stands_scanned s c.requires.script books c.args.self.now.depot w held a c.args.act c.args.cpu c.args.now due c.scan-count.result scanned.0 scanned.1 (with_list c.write_queue.new.self a notes) (λ queue. c.write_queue.ensures.written w queue held.written))))

@@ -16,4 +16,4 @@ loop-actor-preserved c w h =
     let after = c.in_ok-step.ensures.stands (run s w (take i turns)) now in
     let one_more : take (i + 1) turns ≡ take i turns ++ get_or turns i 0 ∷ [] = take_more turns i 0 c.loop-actor-test.true in
     subst (λ (v : World). StandsFor s c.step.new.self.books c.step.new.self.depot v)
-        (sym (run_more s w (take i turns) (get_or turns i 0)) ∙ ap (λ (xs : List ℕ). run s w xs) (sym one_more)) after
+    (sym (run_more s w (take i turns) (get_or turns i 0)) ∙ ap (λ (xs : List ℕ). run s w xs) (sym one_more)) after
