@@ -52,7 +52,7 @@ fn small_of(number: u128) -> u32
     number as u32
 }
 
-/// The act that a line states.
+/// The act that a line states, where its numbers are known to be in their ranges.
 pub fn act_of(funcs: u32, script: &Script, act: &RawAct) -> Act
     requires small { IsSmall script.now funcs }
     requires fits { act_fits funcs script.now (act_view act.now) ≡ true }
@@ -117,7 +117,7 @@ pub fn act_of(funcs: u32, script: &Script, act: &RawAct) -> Act
     }
 }
 
-/// The spec that a line states.
+/// The spec that a timer line states, where its lock is known to exist.
 pub fn spec_of(script: &Script, spec: &RawSpec) -> Spec
     requires small { length script.now.locks ≤ 256 }
     requires exists { spec_exists script.now (lock_view spec.now.lock) ≡ true }

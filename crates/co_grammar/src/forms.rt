@@ -75,7 +75,8 @@ fn async_drain(serviced: bool, words: &mut Words) -> Result<RawAct, Cause>
     Ok(RawAct::AsyncDrain { who, func })
 }
 
-/// An act by its first word and the words behind it.
+/// An act by its first word and the words behind it; `Form` where they are not of its form. `serviced` says that the act is
+/// of a function, where `me` names a callout.
 pub fn act(serviced: bool, verb: Verb, words: &mut Words) -> Result<RawAct, Cause>
     ensures { Gives act_view result (act_form serviced verb words.old) }
 {

@@ -1,5 +1,6 @@
 //! The lines of a script, both ways: what the words of a line state, whether that fits the script so far, and the words
-//! that an act or a line of the frame is written by.
+//! that an act or a line of the frame is written by. The acts are the calls of callout(9) in FreeBSD 12; the words are our
+//! own decision.
 #![tactic(auto)]
 
 mod actors;

@@ -6,6 +6,8 @@ mod note;
 mod order;
 mod origin;
 mod report;
+#[cfg(test)]
+mod tests;
 
 pub use order::Order;
 pub use origin::Origin;

@@ -114,7 +114,7 @@ pub fn print_note(
 ) -> Result<(), NoMemory>
     ensures { OnOk result (page.new ≡ page.old ++ line_text (note_words script.now number entry.now)) }
 {
-    let (letter, name) = actor_name(script, u64::from(entry_actor(entry)));
+    let (letter, name) = actor_name(script, entry_actor(entry));
     let maker = Token::Joined(letter, name, b'/', entry_act(entry));
     page.begin(&Token::Number(number), [maker].as_slice())?;
     print_entry(page, entry)?;

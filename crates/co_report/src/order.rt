@@ -15,6 +15,7 @@ use std::alloc::Global;
 pub struct Order {
     /// Where the notes of each place begin, and behind the last place the end.
     starts: Seq<usize>,
+    /// The origins of all notes, place by place, and in each place by position.
     origins: Seq<Origin>,
 }
 
@@ -140,8 +141,8 @@ fn location(script: &Script, starts: &[usize], note: &Note) -> usize
     starts[place_index(script, note.place)] + note.pos as usize
 }
 
-/// A number of 32 bits.
-fn short(number: usize) -> Result<u32, NoMemory>
+/// A number of 32 bits. NoMemory from 2^32 on: so many notes or actors find no memory.
+pub fn short(number: usize) -> Result<u32, NoMemory>
     ensures { IfOk result (λ short. short ≡ number) }
 {
     u32::try_from(number).map_err(|_| NoMemory {})

@@ -12,7 +12,9 @@ use co_text::Page;
 /// Where a note stands: its actor, and its number in the actor's list.
 #[derive(Clone, Copy, Debug, PartialEq, Eq)]
 pub struct Origin {
+    /// The actor's number.
     pub actor: u32,
+    /// The note's number in the actor's list, from 0.
     pub number: u32,
 }
 

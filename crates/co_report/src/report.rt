@@ -10,7 +10,7 @@ ghost use Rattle.co_program.specs.Places.{AllHavePlaces};
 ghost use Rattle.co_report.specs.Origins.{lines_from};
 ghost use Rattle.co_report.specs.Order.{place_index, place_count, origins_in, ShowsHistories};
 
-use crate::order::{Order, order_of};
+use crate::order::{Order, order_of, short};
 use crate::origin::print_from;
 use co_grammar::{actor_name, print_numbered};
 use co_object::{Lists, Note};
@@ -84,7 +84,7 @@ fn print_actor(
     ensures { OnOk result (page.new ≡ page.old ++ text (place_lines script.now (shown_history lists.now) (places.Actor actor))) }
 {
     let timers = script.timers.as_slice().len();
-    let (letter, name) = actor_name(script, actor as u64);
+    let (letter, name) = actor_name(script, short(actor)?);
     page.line(
         &Token::Text(b"actor".as_slice()),
         [Token::Lettered(letter, name)].as_slice(),

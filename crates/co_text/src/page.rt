@@ -10,7 +10,9 @@ use itoa::Buffer;
 use std::alloc::Global;
 use std::marker::Model;
 
-/// A text that grows at its end.
+/// A text that grows at its end, by whole words and lines. Contracts see its bytes.
+///
+/// After NoMemory it has a part of what was to be appended.
 #[derive(Drop)]
 pub struct Page {
     bytes: Seq<u8>,
@@ -34,7 +36,7 @@ impl Page {
         }
     }
 
-    /// The text.
+    /// The text, which is done.
     pub fn done(self) -> Seq<u8>
         ensures { result ≡ self }
     {
@@ -93,7 +95,7 @@ impl Page {
         }
     }
 
-    /// Further words of a line.
+    /// Appends further words of a line, each behind a space.
     pub fn more(&mut self, tokens: &[Token]) -> Result<(), NoMemory>
         ensures { OnOk result (self.new ≡ self.old ++ spaced (token_words tokens.now)) }
     {
@@ -104,7 +106,7 @@ impl Page {
         Ok(())
     }
 
-    /// The first words of a line.
+    /// Appends the first words of a line, with one space between two.
     pub fn begin(&mut self, first: &Token, others: &[Token]) -> Result<(), NoMemory>
         ensures { OnOk result (self.new ≡ self.old ++ (token_word first.now ++ spaced (token_words others.now))) }
     {
@@ -112,18 +114,44 @@ impl Page {
         self.more(others)
     }
 
-    /// The end of a line.
+    /// Appends a line feed.
     pub fn end(&mut self) -> Result<(), NoMemory>
         ensures { OnOk result (self.new ≡ self.old ++ 10 ∷ []) }
     {
         self.push(b'\n')
     }
 
-    /// A line of words.
+    /// Appends a line of words, with one space between two and a line feed.
     pub fn line(&mut self, first: &Token, others: &[Token]) -> Result<(), NoMemory>
         ensures { OnOk result (self.new ≡ self.old ++ line_text (token_word first.now ∷ token_words others.now)) }
     {
         self.begin(first, others)?;
         self.end()
+    }
+}
+
+#[cfg(test)]
+mod tests {
+    use super::Page;
+    use crate::token::Token;
+
+    #[test]
+    fn writes_words(rt: HostRuntime) {
+        let mut page = Page::new(rt.alloc());
+        let words = [
+            Token::Number(3),
+            Token::Units(b'=', 5),
+            Token::Lettered(b'f', 0),
+            Token::Signed(-1),
+            Token::Joined(b'c', 0, b'*', 2),
+        ];
+        assert!(rt;
+            page.line(&Token::Text(b"reset".as_slice()), words.as_slice())
+                .is_ok()
+        );
+        assert_eq!(rt;
+            page.done().as_slice(),
+            b"reset 3 =u5 f0 -1 c0*2\n".as_slice()
+        );
     }
 }
