@@ -1,8 +1,9 @@
 //! The worked examples of the program, as tables for tests of the top call in memory.
 #![tactic(auto)]
 
-mod call;
 mod case;
+mod ordinary;
+mod outcome;
 pub mod prefixes;
 pub mod services;
 #[cfg(test)]
@@ -10,5 +11,6 @@ mod tests;
 pub mod timers;
 pub mod versions;
 
-pub use call::{Outcome, call, steps};
 pub use case::Case;
+pub use ordinary::ordinary_script;
+pub use outcome::{Outcome, call, steps};

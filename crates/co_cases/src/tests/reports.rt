@@ -1,9 +1,10 @@
 //! Each script of the tables has its report.
 use crate::case::Case;
 use crate::services::SERVICES;
-use crate::steps;
 use crate::timers::TIMERS;
 use crate::versions::VERSIONS;
+use crate::{call, ordinary_script, steps};
+use co_io::{MemSink, MemSource};
 use co_top::Status;
 use std::process::Abort;
 use std::test::Fail;
@@ -35,4 +36,16 @@ fn services_and_moves(rt: HostRuntime) -> Result<(), Fail> {
 #[test]
 fn version_two(rt: HostRuntime) -> Result<(), Fail> {
     check(&rt, VERSIONS.as_slice())
+}
+
+#[test]
+fn ordinary_use(rt: HostRuntime) -> Result<(), Fail> {
+    let script = ordinary_script(rt.alloc())?;
+    assert_eq!(rt; script.len(), 44_317);
+    let source = MemSource::new(rt.alloc(), script.as_bytes(), 4096, &[])?;
+    let sink = MemSink::new(rt.alloc(), 500_000, 500_000, &[])?;
+    let outcome = call(rt.alloc(), ["steps"].as_slice(), source, sink)?;
+    assert_eq!(rt; outcome.status, Status::Done);
+    assert_eq!(rt; outcome.held.as_slice().len(), 434_782);
+    Ok(())
 }
