@@ -61,6 +61,41 @@ end
 ",
 };
 
+const A_TICK_THAT_IS_EARLY: Case = Case {
+    name: "a tick that is early",
+    script: r"callout 1
+funcs 1
+timer 0 mpsafe
+client 0
+reset 0 =1.5 f0 a7
+cpu 0
+tick 1.4
+",
+    report: r"callout-report 1
+callout 1
+hz 1000
+cpus 1
+wheel 256
+funcs 1
+timer 0 mpsafe
+func 0
+client 0
+reset 0 =u6442450944 f0 a7
+cpu 0
+tick u6012954214
+histories
+timer 0
+0 c0/0 reset u6442450944 pr u0 f0 a7 cpu - = armed 0 #0 p0 off -
+wheel 0
+1 c0/0 insert i0 #0 u6442450944 = at u6442450944
+0 p0/0 scan u6012954214 = count 0
+1 p0/0 pop = empty
+actor c0
+actor p0
+end
+",
+};
+
 const ONE_UNIT_EARLY: Case = Case {
     name: "one unit early",
     script: r"callout 1
@@ -489,9 +524,10 @@ end
 };
 
 /// Callouts on one CPU, without locks.
-pub const TIMERS: [Case; 11] = [
+pub const TIMERS: [Case; 12] = [
     EMPTY,
     ONE_FIRING,
+    A_TICK_THAT_IS_EARLY,
     ONE_UNIT_EARLY,
     REPLACED,
     TICKS_THAT_ARE_NOT_POSITIVE,
