@@ -2,6 +2,7 @@
 #![tactic(auto)]
 
 pub mod laws;
+mod line;
 mod note;
 mod order;
 mod origin;
@@ -9,6 +10,7 @@ mod report;
 #[cfg(test)]
 mod tests;
 
+pub use line::{Line, Report};
 pub use order::Order;
 pub use origin::Origin;
 pub use report::print_report;
