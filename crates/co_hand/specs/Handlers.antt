@@ -1,5 +1,8 @@
 -- What a handler needs of a port, and what it leaves of it.
-use Rattle.std.specs.Prelude.{◌≡◌, ℕ, ◌<◌, ◌≤◌, List, length}
+use Rattle.std.specs.Borrow.{MutBor}
+use Rattle.std.proofs.Common.{inl, inr}
+use Rattle.co_lock.specs.declared.held.Held.{Held}
+use Rattle.std.specs.Prelude.{◌⊎◌, ⊤, Option, Some, ◌≡◌, ℕ, ◌<◌, ◌≤◌, List, length}
 use Rattle.co_hand.specs.declared.fire.Fire.{Fire}
 use Rattle.co_hand.specs.declared.port_call.PortCall.{PortCall}
 use Rattle.co_hand.specs.Ports.{PortState, after_calls}
@@ -24,3 +27,8 @@ pub record GoesOn {Origin : Type 0} (old new : PortState Origin) (most : ℕ) : 
   pub calls : List PortCall
   pub few : length calls ≤ most
   pub after : new ≡ after_calls old calls
+
+-- a hold that was lent has come back as it was
+abbrev pub HoldStays : Option (MutBor Held) → Unit {0} ⊎ ((MutBor Held × Unit {0}) ⊎ ⊥) → Type 0
+HoldStays (Some old) (inr (inl new)) = new.0.now ≡ old.now
+HoldStays old new = ⊤

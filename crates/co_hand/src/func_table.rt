@@ -6,7 +6,7 @@ ghost use Rattle.co_program.specs.Actors.{acts_at};
 ghost use Rattle.co_program.specs.Calls.{plain_op};
 ghost use Rattle.co_program.specs.Scripts.{IsScript};
 ghost use Rattle.co_hand.specs.Functions.{functions_of, needs_of, CallExists, Makes, Runs, scene_of};
-ghost use Rattle.co_hand.specs.Handlers.{Serves, GoesOn};
+ghost use Rattle.co_hand.specs.Handlers.{Serves, GoesOn, HoldStays};
 
 use crate::fire::Fire;
 use crate::handler::Handler;
@@ -125,6 +125,7 @@ impl Handler for FuncTable {
         ensures port { GoesOn (P.state port.old) (P.state port.new) ((needs_of self.old).calls fire.now.func) }
         ensures needs { needs_of self.new ≡ needs_of self.old }
         ensures calls { Runs self.old fire.now fire.now.func (option_copied_mut hold.entry) (P.state port.old) (P.state port.new) }
+        ensures hold { HoldStays hold.entry hold.exit }
         ensures same { self.new ≡ self.old }
     {
         match hold {

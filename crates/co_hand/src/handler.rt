@@ -11,7 +11,7 @@ use co_lock::Hold;
 /// as the port may.
 pub trait Handler {
     ghost use Rattle.std.specs.Prelude.{◌≡◌};
-    ghost use Rattle.co_hand.specs.Handlers.{Needs, Serves, GoesOn};
+    ghost use Rattle.co_hand.specs.Handlers.{Needs, Serves, GoesOn, HoldStays};
 
     // The callouts and CPUs of which its functions speak, and how many calls it makes for a function.
     ghost needs: { Self → Needs };
@@ -20,7 +20,8 @@ pub trait Handler {
     fn run<P: Port>(&mut self, fire: &Fire, hold: Option<&mut Hold<'_>>, port: &mut P)
         requires { Serves (needs self.old) (P.state port.old) fire.now fire.now.func }
         ensures port { GoesOn (P.state port.old) (P.state port.new) ((needs self.old).calls fire.now.func) }
-        ensures needs { needs self.new ≡ needs self.old };
+        ensures needs { needs self.new ≡ needs self.old }
+        ensures hold { HoldStays hold.entry hold.exit };
 
     /// Releases the hold, and then runs the function of the service: that of a callout with `CALLOUT_RETURNUNLOCKED`.
     fn run_unlock<P: Port>(&mut self, fire: &Fire, hold: Hold<'_>, port: &mut P)
