@@ -53,13 +53,7 @@ impl FuncTable {
     }
 
     /// Makes the calls of a function under this hold. A function that the script doesn't have makes none.
-    fn make_calls<P: Port>(
-        &self,
-        fire: &Fire,
-        func: u32,
-        hold: Option<&Hold<'_>>,
-        port: &mut P,
-    )
+    fn make_calls<P: Port>(&self, fire: &Fire, func: u32, hold: Option<&Hold<'_>>, port: &mut P)
         requires { Serves (needs_of self.now) (P.state port.old) fire.now func }
         ensures { Runs self.now fire.now func (option_copied hold.entry) (P.state port.old) (P.state port.new) }
     {
@@ -86,13 +80,7 @@ fn make_one<P: Port>(hz: u32, act: &Act, fire: &Fire, hold: Option<&Hold<'_>>, p
 }
 
 /// Makes the calls that the acts of the function ask for, in order, under this hold.
-fn make_each<P: Port>(
-    hz: u32,
-    acts: &[Act],
-    fire: &Fire,
-    hold: Option<&Hold<'_>>,
-    port: &mut P,
-)
+fn make_each<P: Port>(hz: u32, acts: &[Act], fire: &Fire, hold: Option<&Hold<'_>>, port: &mut P)
     requires low { 1 ≤ hz }
     requires high { hz ≤ 1000000 }
     requires exist { AllByRecursion (λ act. CallExists (length (P.state port.old).specs) (P.state port.old).cpus (plain_op act hz (scene_of fire.now))) acts.now }

@@ -12,13 +12,7 @@ use co_sbt::Sbt;
 ///
 /// None exactly for `now`, a lock taken or released, a drain and a tick. An act about the callout in service is for a
 /// function alone, where `me` is given.
-pub fn plain_op(
-    act: &Act,
-    hz: u32,
-    now: Sbt,
-    here: u32,
-    me: Option<u32>,
-) -> Option<(u32, PlainOp)>
+pub fn plain_op(act: &Act, hz: u32, now: Sbt, here: u32, me: Option<u32>) -> Option<(u32, PlainOp)>
     requires low { 1 ≤ hz }
     requires high { hz ≤ 1000000 }
     requires me { names_me act.now ≡ true → IsSome me }
