@@ -1,5 +1,5 @@
 -- The functions of a script, and the calls of one.
-use Rattle.std.specs.Prelude.{◌≡◌, ℕ, ◌<◌, ◌≤◌, ⊤, true, List, map, length, Option, Some, None}
+use Rattle.std.specs.Prelude.{◌≡◌, ℕ, ◌<◌, ◌≤◌, List, map, length, Option, Some, None}
 use Rattle.std.specs.List.{AllByRecursion}
 use Rattle.co_object.specs.declared.PlainOp.{PlainOp}
 use Rattle.co_lock.specs.declared.held.Held.{Held}

@@ -1,5 +1,5 @@
 -- A port as contracts see it, and what a call through it does.
-use Rattle.std.specs.Prelude.{◌≡◌, ℕ, ◌+◌, ◌-◌, ◌<◌, ◌↔◌, ⊤, true, false, List, ◌∷◌, [], ◌++◌, length, Option, Some, None, slice_index_or}
+use Rattle.std.specs.Prelude.{◌≡◌, ℕ, ◌-◌, ◌<◌, ◌↔◌, ⊤, false, List, ◌++◌, length, Option, Some, None, slice_index_or}
 use Rattle.co_object.specs.declared.Spec.{Spec}
 use Rattle.co_object.specs.declared.LockUse.TheVariants.{Free}
 use Rattle.co_object.specs.declared.CallOp.TheVariants.{Plain}

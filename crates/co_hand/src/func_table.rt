@@ -6,7 +6,7 @@ ghost use Rattle.co_program.specs.Actors.{acts_at};
 ghost use Rattle.co_program.specs.Calls.{plain_op};
 ghost use Rattle.co_program.specs.Scripts.{IsScript};
 ghost use Rattle.co_hand.specs.Functions.{functions_of, needs_of, CallExists, Makes, Runs, scene_of};
-ghost use Rattle.co_hand.specs.Handlers.{Serves, GoesOn, HoldStays};
+ghost use Rattle.co_hand.specs.Handlers.{Serves, HoldStays};
 
 use crate::fire::Fire;
 use crate::handler::Handler;
@@ -110,8 +110,6 @@ impl Handler for FuncTable {
 
     fn run<P: Port>(&mut self, fire: &Fire, hold: Option<&mut Hold<'_>>, port: &mut P)
         requires { Serves (needs_of self.old) (P.state port.old) fire.now fire.now.func }
-        ensures port { GoesOn (P.state port.old) (P.state port.new) ((needs_of self.old).calls fire.now.func) }
-        ensures needs { needs_of self.new ≡ needs_of self.old }
         ensures calls { Runs self.old fire.now fire.now.func (option_copied_mut hold.entry) (P.state port.old) (P.state port.new) }
         ensures hold { HoldStays hold.entry hold.exit }
         ensures same { self.new ≡ self.old }
@@ -124,8 +122,6 @@ impl Handler for FuncTable {
 
     fn run_unlock<P: Port>(&mut self, fire: &Fire, hold: Hold<'_>, port: &mut P)
         requires { Serves (needs_of self.old) (P.state port.old) fire.now fire.now.func }
-        ensures port { GoesOn (P.state port.old) (P.state port.new) ((needs_of self.old).calls fire.now.func) }
-        ensures needs { needs_of self.new ≡ needs_of self.old }
         ensures calls { Runs self.old fire.now fire.now.func None (P.state port.old) (P.state port.new) }
         ensures same { self.new ≡ self.old }
     {
@@ -135,8 +131,6 @@ impl Handler for FuncTable {
 
     fn drained<P: Port>(&mut self, fire: &Fire, func: u32, port: &mut P)
         requires { Serves (needs_of self.old) (P.state port.old) fire.now func }
-        ensures port { GoesOn (P.state port.old) (P.state port.new) ((needs_of self.old).calls func) }
-        ensures needs { needs_of self.new ≡ needs_of self.old }
         ensures calls { Runs self.old fire.now func None (P.state port.old) (P.state port.new) }
         ensures same { self.new ≡ self.old }
     {
