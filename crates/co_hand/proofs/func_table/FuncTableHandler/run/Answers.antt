@@ -1,0 +1,6 @@
+-- The calls are lent the hold to look at alone.
+use Rattle.std.proofs.Common.{refl}
+use Rattle.co_hand.proofs.func_table.FuncTableHandler.run.Goals as goal
+
+pub returns-in-Some-clause-hold : goal.returns-in-Some-clause-hold
+returns-in-Some-clause-hold g c = rw c.in-Some.is refl

@@ -1,0 +1,6 @@
+-- The callout keeps its spec.
+use Rattle.std.proofs.Common.{◌≡◌}
+use Rattle.co_hand.proofs.tests.running.Given as goal
+
+abbrev pub invariant-loop-op : goal.invariant-loop-op
+invariant-loop-op g l = l.callout.spec ≡ l.fn.spec

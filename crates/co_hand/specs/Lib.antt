@@ -1,0 +1,4 @@
+pub mod Ports
+pub mod Handlers
+pub mod Operations
+pub mod Functions
