@@ -2,6 +2,7 @@
 #![tactic(auto)]
 
 mod case;
+pub mod examples;
 mod ordinary;
 mod outcome;
 pub mod prefixes;

@@ -52,12 +52,20 @@ impl Page {
     fn text(&mut self, word: &[u8]) -> Result<(), NoMemory>
         ensures { OnOk result (self.new ≡ self.old ++ word.now) }
     {
-        self.bytes.extend_from_slice(word)
+        // Many words are a single byte, which is appended faster alone.
+        match word {
+            [byte] => self.push(*byte),
+            _ => self.bytes.extend_from_slice(word),
+        }
     }
 
+    #[tactic(auto, using(std::proofs::lemmas::Fmt::decimal_digit))]
     fn number(&mut self, number: u64) -> Result<(), NoMemory>
         ensures { OnOk result (self.new ≡ self.old ++ decimal number) }
     {
+        if number < 10 {
+            return self.push(b'0' + number as u8);
+        }
         let mut buffer = Buffer::new();
         self.text(buffer.format(number).as_bytes())
     }

@@ -47,6 +47,27 @@ fn too_long_an_input(rt: HostRuntime) -> Result<(), Fail> {
     refuses(&rt, input.as_slice(), "line 0: size\n")
 }
 
+// A script of a million lines, most of them comments, whose last line has no line feed.
+fn million_lines(alloc: Global) -> Result<Vec<u8>, AllocError> {
+    let mut script = Vec::new(alloc);
+    script.extend_from_slice(b"callout 1\ntimer 0 mpsafe\n")?;
+    for _line in 2..999_999 {
+        script.extend_from_slice(b"# x\n")?;
+    }
+    script.extend_from_slice(b"client 0")?;
+    Ok(script)
+}
+
+#[test]
+fn a_million_lines_cut_at_the_last(rt: HostRuntime) -> Result<(), Fail> {
+    let mut script = million_lines(rt.alloc())?;
+    refuses(&rt, script.as_slice(), "line 1000000: cut\n")?;
+    script.push(b'\n')?;
+    let outcome = steps(rt.alloc(), script.as_slice())?;
+    assert_eq!(rt; outcome.status, Status::Done);
+    Ok(())
+}
+
 #[test]
 fn words_that_are_no_command(rt: HostRuntime) -> Result<(), Fail> {
     let lists: [&[&str]; 4] = [&[], &["steps", "x"], &["gen", "-1"], &[""]];

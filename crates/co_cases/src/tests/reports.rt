@@ -1,5 +1,6 @@
 //! Each script of the tables has its report.
 use crate::case::Case;
+use crate::examples::DRAIN;
 use crate::services::SERVICES;
 use crate::timers::TIMERS;
 use crate::versions::VERSIONS;
@@ -36,6 +37,11 @@ fn services_and_moves(rt: HostRuntime) -> Result<(), Fail> {
 #[test]
 fn version_two(rt: HostRuntime) -> Result<(), Fail> {
     check(&rt, VERSIONS.as_slice())
+}
+
+#[test]
+fn readme(rt: HostRuntime) -> Result<(), Fail> {
+    check(&rt, [DRAIN].as_slice())
 }
 
 #[test]
