@@ -11,11 +11,12 @@ use Rattle.co_object.proofs.Passing.{passing, count-passing}
 use Rattle.co_program.specs.declared.Script.{Script}
 use Rattle.co_report.specs.declared.origin.Origin.{Origin}
 use Rattle.co_report.specs.Histories.{Numbered, Shown, shown, shown_at, shown_history, all_numbered_of}
-use Rattle.co_report.specs.Origins.{note_at, origin_line, origin_lines, lines_from}
+use Rattle.co_report.specs.Origins.{note_at, note_from, entries_from, origin_line, lines_from}
 use Rattle.co_report.specs.Order.{place_index, AreCounts, starts_from, location, note_behind, AreWritten, origins_in, ShowsHistories}
 use Rattle.co_report.specs.Reports.{shown_words}
 use Rattle.co_program.specs.Places.{place_exists, AllHavePlaces}
 use Rattle.co_report.proofs.Members.{find-has}
+use Rattle.co_report.proofs.ShownHistories.{histories_shown}
 use Rattle.co_report.proofs.Numbering.{note_of, numbered, all-notes-of, has-note, Found, found}
 use Rattle.co_report.proofs.Places.{index_below, same_index}
 use Rattle.co_report.proofs.Starts.{length-starts, next-start, starts-upto, same-run}
@@ -23,25 +24,52 @@ use Rattle.co_report.proofs.Counted.{note-place, note-actor, count-of, is_at, pa
 use Rattle.co_report.proofs.Room.{pos-in-run}
 use Rattle.co_report.proofs.Written.{nowhere}
 
--- an origin's lines are those of what is shown
-pub record IsLineOf (s : Script) (lists : List (List Note)) (origin : Origin) (o : Option Shown) : Type 0 where
+-- what is shown of the note from an origin
+abbrev shown_note : ℕ → Note → Shown
+shown_note number note = record { number = number; entry = note.entry }
+
+abbrev shown_from : List (List Note) → Origin → Option Shown
+shown_from lists origin = option_map (shown_note origin.number) (note_from lists origin)
+
+abbrev shown_in : List (List Note) → List Origin → List Shown
+shown_in lists origins = filter_map (shown_from lists) origins
+
+-- the note from an origin is what o has
+record IsOf (lists : List (List Note)) (origin : Origin) (o : Option Shown) : Type 0 where
   this : Shown
   is : o ≡ Some this
-  line : origin_lines s lists origin ≡ shown_words s this ∷ []
+  from : shown_from lists origin ≡ Some this
 
--- origins whose lines are those of what f gives, one by one
-lines-are : (s : Script) (lists : List (List Note)) (f : ℕ → Option Shown) (d : Origin) (xs : List Origin) (k : ℕ)
-    → ((j : ℕ) → j < length xs → IsLineOf s lists (get_or xs j d) (f (k + j)))
-    → lines_from s lists xs ≡ map (shown_words s) (filter_map f (range_with_len k (length xs)))
-lines-are s lists f d [] k each = refl
-lines-are s lists f d (x ∷ xs) k each =
-    let first : IsLineOf s lists x (f (k + 0)) = each 0 (omega arith) in
+-- origins of what f gives, one by one
+shown-are : (lists : List (List Note)) (f : ℕ → Option Shown) (d : Origin) (xs : List Origin) (k : ℕ)
+    → ((j : ℕ) → j < length xs → IsOf lists (get_or xs j d) (f (k + j)))
+    → shown_in lists xs ≡ filter_map f (range_with_len k (length xs))
+shown-are lists f d [] k each = refl
+shown-are lists f d (x ∷ xs) k each =
+    let first : IsOf lists x (f (k + 0)) = each 0 (omega arith) in
     let here : f k ≡ Some first.this = (let none : k ≡ k + 0 = omega arith in ap f none) ∙ first.is in
-    let rest : lines_from s lists xs ≡ map (shown_words s) (filter_map f (range_with_len (k + 1) (length xs))) =
-    lines-are s lists f d xs (k + 1) (λ j below. (let next : k + suc j ≡ (k + 1) + j = omega arith in subst (λ i. IsLineOf s lists (get_or xs j d) (f i)) next (each (suc j) (omega (arith, below))))) in
-    ap (λ ls. ls ++ lines_from s lists xs) first.line
-    ∙ (ap (λ ls. shown_words s first.this ∷ ls) rest
-    ∙ ap (λ o. map (shown_words s) (cons_option o (filter_map f (range_with_len (k + 1) (length xs))))) (sym here))
+    let rest : shown_in lists xs ≡ filter_map f (range_with_len (k + 1) (length xs)) =
+    shown-are lists f d xs (k + 1) (λ j below. (let next : k + suc j ≡ (k + 1) + j = omega arith in subst (λ i. IsOf lists (get_or xs j d) (f i)) next (each (suc j) (omega (arith, below))))) in
+    ap (λ o. cons_option o (shown_in lists xs)) first.from
+    ∙ (ap (λ ls. first.this ∷ ls) rest
+    ∙ ap (λ o. cons_option o (filter_map f (range_with_len (k + 1) (length xs)))) (sym here))
+
+-- the lines and the entries of notes from origins are those of what is shown of them
+lines-shown : (s : Script) (lists : List (List Note)) (xs : List Origin) → lines_from s lists xs ≡ map (shown_words s) (shown_in lists xs)
+lines-shown s lists [] = refl
+lines-shown s lists (x ∷ xs) = at_note (note_from lists x) (lines-shown s lists xs) where
+  at_note : (o : Option Note) → lines_from s lists xs ≡ map (shown_words s) (shown_in lists xs)
+      → origin_line s x.number o ++ lines_from s lists xs ≡ map (shown_words s) (cons_option (option_map (shown_note x.number) o) (shown_in lists xs))
+  at_note None rest = rest
+  at_note (Some note) rest = ap (λ ls. shown_words s (shown_note x.number note) ∷ ls) rest
+
+entries-shown : (lists : List (List Note)) (xs : List Origin) → entries_from lists xs ≡ map (λ shown. shown.entry) (shown_in lists xs)
+entries-shown lists [] = refl
+entries-shown lists (x ∷ xs) = at_note (note_from lists x) (entries-shown lists xs) where
+  at_note : (o : Option Note) → entries_from lists xs ≡ map (λ shown. shown.entry) (shown_in lists xs)
+      → cons_option (option_map (λ note. note.entry) o) (entries_from lists xs) ≡ map (λ shown. shown.entry) (cons_option (option_map (shown_note x.number) o) (shown_in lists xs))
+  at_note None rest = rest
+  at_note (Some note) rest = ap (λ es. note.entry ∷ es) rest
 
 record Given (o : Option Note) : Type 0 where
   note : Note
@@ -81,7 +109,7 @@ module _ (s : Script) (lists : List (List Note)) (counts : List ℕ) (origins : 
   -- the note that stands at a position of a place is that place's note at that position
   at-position : (p : Place) (pos : ℕ) (m : Note) → place_exists s p ≡ true → pos < length (all_notes_of p lists)
       → note_behind lists origins (start_of (place_index s p) + pos) ≡ Some m
-      → IsLineOf s lists (get_or origins (start_of (place_index s p) + pos) (nowhere lists)) (shown_at (all_numbered_of p lists) pos)
+      → IsOf lists (get_or origins (start_of (place_index s p) + pos) (nowhere lists)) (shown_at (all_numbered_of p lists) pos)
   at-position p pos m hp below there =
       let o : Origin = get_or origins (start_of (place_index s p) + pos) (nowhere lists) in
       let at : note_at lists o.actor o.number ≡ Some m = there in
@@ -98,11 +126,11 @@ module _ (s : Script) (lists : List (List Note)) (counts : List ℕ) (origins : 
       (has-note p lists o.actor o.number m at (place-of m.place p hm hp index)) in record {
         this = shown (numbered o.number m);
         is = ap (option_map shown) this;
-        line = ap (origin_line s o.number) there;
+        from = ap (option_map (shown_note o.number)) there;
       }
 
   each-line : (p : Place) (pos : ℕ) → place_exists s p ≡ true → pos < length (all_notes_of p lists)
-      → IsLineOf s lists (get_or origins (start_of (place_index s p) + pos) (nowhere lists)) (shown_at (all_numbered_of p lists) pos)
+      → IsOf lists (get_or origins (start_of (place_index s p) + pos) (nowhere lists)) (shown_at (all_numbered_of p lists) pos)
   each-line p pos hp below =
       let g : Given (note_behind lists origins (start_of (place_index s p) + pos)) = given _ (is-taken p pos hp below) in
       at-position p pos g.note hp below g.is
@@ -112,38 +140,42 @@ module _ (s : Script) (lists : List (List Note)) (counts : List ℕ) (origins : 
   part first count = take count (drop first origins)
 
   part-shows : (p : Place) → place_exists s p ≡ true → start_of (place_index s p) + length (all_notes_of p lists) ≤ length origins
-      → lines_from s lists (part (start_of (place_index s p)) (length (all_notes_of p lists))) ≡ map (shown_words s) (shown_history lists p)
+      → shown_in lists (part (start_of (place_index s p)) (length (all_notes_of p lists))) ≡ shown_history lists p
   part-shows p hp room =
       let first : ℕ = start_of (place_index s p) in
       let count : ℕ = length (all_notes_of p lists) in
       let xs : List Origin = part first count in
       let long : length xs ≡ count = omega (arith, length-take count (drop first origins), length-drop first origins, room) in
       let many : length xs ≡ length (all_numbered_of p lists) = long ∙ (sym (ap length (all-notes-of p lists)) ∙ length-map (all_numbered_of p lists)) in
-      lines-are s lists (shown_at (all_numbered_of p lists)) (nowhere lists) xs 0 (λ j below. (
+      shown-are lists (shown_at (all_numbered_of p lists)) (nowhere lists) xs 0 (λ j below. (
       let inside : j < count = omega (arith, below, long) in
       let from : get_or xs j (nowhere lists) ≡ get_or origins (first + j) (nowhere lists) = get_or-take count (drop first origins) j (nowhere lists) inside ∙ get_or-drop first origins j (nowhere lists) in
       let zero_first : j ≡ 0 + j = omega arith in
-      subst (λ k. IsLineOf s lists (get_or xs j (nowhere lists)) (shown_at (all_numbered_of p lists) k)) zero_first
-      (subst (λ o. IsLineOf s lists o (shown_at (all_numbered_of p lists) j)) (sym from) (each-line p j hp inside))))
-      ∙ ap (λ n. map (shown_words s) (filter_map (shown_at (all_numbered_of p lists)) (range_with_len 0 n))) many
+      subst (λ k. IsOf lists (get_or xs j (nowhere lists)) (shown_at (all_numbered_of p lists) k)) zero_first
+      (subst (λ o. IsOf lists o (shown_at (all_numbered_of p lists) j)) (sym from) (each-line p j hp inside))))
+      ∙ ap (λ n. filter_map (shown_at (all_numbered_of p lists)) (range_with_len 0 n)) many
+
+  abbrev origins_of : Place → List Origin
+  origins_of p = origins_in (record { starts = starts_from 0 counts; origins = origins }) (place_index s p)
 
   pub shows-histories : length origins ≡ start_of (length counts) → ShowsHistories s lists (record { starts = starts_from 0 counts; origins = origins })
   shows-histories long = record {
     count = omega (arith, length-starts 0 counts, are.places);
     rises = λ i below. starts-upto 0 counts i (i + 1) (omega arith) (omega (arith, below, are.places));
     within = λ i le. omega (arith, long, starts-upto 0 counts i (length counts) (omega (arith, le, are.places)) (omega arith));
-    shows = λ p hp. shows p hp;
+    entries = λ p hp. entries-shown lists (origins_of p) ∙ (ap (λ xs. map (λ shown. shown.entry) xs) (all p hp) ∙ histories_shown p lists);
+    shows = λ p hp. lines-shown s lists (origins_of p) ∙ ap (λ xs. map (shown_words s) xs) (all p hp);
   }
     where
-      shows : (p : Place) → place_exists s p ≡ true → lines_from s lists (origins_in (record { starts = starts_from 0 counts; origins = origins }) (place_index s p)) ≡ map (shown_words s) (shown_history lists p)
-      shows p hp =
+      all : (p : Place) → place_exists s p ≡ true → shown_in lists (origins_of p) ≡ shown_history lists p
+      all p hp =
           let below : place_index s p < length counts = omega (arith, are.places, index_below s p hp) in
           let next : start_of (place_index s p + 1) ≡ start_of (place_index s p) + length (all_notes_of p lists) =
           next-start 0 counts (place_index s p) below ∙ ap (λ n. start_of (place_index s p) + n) (count-of s lists counts p are exist hp) in
           let count : start_of (place_index s p + 1) - start_of (place_index s p) ≡ length (all_notes_of p lists) = omega (arith, next) in
           let room : start_of (place_index s p) + length (all_notes_of p lists) ≤ length origins =
           omega (arith, long, next, starts-upto 0 counts (place_index s p + 1) (length counts) (omega (arith, below)) (omega arith)) in
-          ap (λ n. lines_from s lists (part (start_of (place_index s p)) n)) count ∙ part-shows p hp room
+          ap (λ n. shown_in lists (part (start_of (place_index s p)) n)) count ∙ part-shows p hp room
 
 -- the same of starts that are those of the places' numbers of notes
 pub shows-with : (s : Script) (lists : List (List Note)) (counts starts : List ℕ) (origins : List Origin)

@@ -4,11 +4,12 @@ use Rattle.std.specs.List.{flat_map}
 use Rattle.co_object.specs.declared.Place.{Place}
 use Rattle.co_object.specs.declared.Place.TheVariants as at
 use Rattle.co_object.specs.declared.Note.{Note}
+use Rattle.co_object.specs.Lists.{history}
 use Rattle.co_program.specs.declared.Script.{Script}
 use Rattle.co_program.specs.Actors.{actor_count}
 use Rattle.co_report.specs.declared.origin.Origin.{Origin}
 use Rattle.co_report.specs.declared.order.Order.{Order}
-use Rattle.co_report.specs.Origins.{note_at, note_from, lines_from}
+use Rattle.co_report.specs.Origins.{note_at, note_from, entries_from, lines_from}
 use Rattle.co_report.specs.Histories.{shown_history}
 use Rattle.co_report.specs.Reports.{shown_words}
 use Rattle.co_program.specs.Places.{place_exists, AllHavePlaces}
@@ -74,4 +75,7 @@ pub record ShowsHistories (s : Script) (lists : List (List Note)) (order : Order
   pub count : length order.starts ≡ place_count s + 1
   pub rises : (i : ℕ) → i < place_count s → slice_index order.starts i ≤ slice_index order.starts (i + 1)
   pub within : (i : ℕ) → i ≤ place_count s → slice_index order.starts i ≤ length order.origins
+  -- the entries of each place's notes are its history
+  pub entries : (p : Place) → place_exists s p ≡ true → entries_from lists (origins_in order (place_index s p)) ≡ history p lists
+  -- and their lines those that a report shows of it
   pub shows : (p : Place) → place_exists s p ≡ true → lines_from s lists (origins_in order (place_index s p)) ≡ map (shown_words s) (shown_history lists p)

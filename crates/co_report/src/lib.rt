@@ -11,6 +11,6 @@ mod report;
 mod tests;
 
 pub use line::{Line, Report};
-pub use order::Order;
-pub use origin::Origin;
+pub use order::{Order, order_of};
+pub use origin::{Origin, note_from};
 pub use report::print_report;

@@ -196,7 +196,10 @@ fn origins_of(
     Ok(origins)
 }
 
-/// The notes of all lists, in the report's order.
+/// The notes of all lists, in the report's order: place by place, and in each place by position. It takes time and memory
+/// in proportion to the notes and the places, and no sorting.
+///
+/// NoMemory where the order finds no memory, or has more than 2^32 notes of one actor.
 pub fn order_of(alloc: Global, script: &Script, lists: &[Seq<Note>]) -> Result<Order, NoMemory>
     requires places { AllHavePlaces script.now lists.now }
     requires formed { IsWellFormed lists.now }

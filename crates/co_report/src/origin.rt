@@ -18,8 +18,8 @@ pub struct Origin {
     pub number: u32,
 }
 
-/// The note from an origin.
-fn note_from(lists: &[Seq<Note>], origin: Origin) -> Option<&Note>
+/// The note from an origin; None where none stands there.
+pub fn note_from(lists: &[Seq<Note>], origin: Origin) -> Option<&Note>
     ensures { MatchOption result (note_from lists.now origin ≡ None) (λ note. note_from lists.now origin ≡ Some note.now) }
 {
     let notes = lists.get(origin.actor as usize)?;

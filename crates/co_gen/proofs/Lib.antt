@@ -1,0 +1,7 @@
+mod Rows
+pub mod Drawing
+pub mod Ranges
+pub mod Fitting
+pub mod Replays
+pub mod Totals
+pub mod Entries

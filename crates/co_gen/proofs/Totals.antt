@@ -1,0 +1,96 @@
+-- The counts of all callouts: one callout more, and that the fates add up to the accepted armings.
+use Rattle.std.proofs.Common.{◌≡◌, ℕ, zero, suc, ◌+◌, ◌≤◌, Bool, List, length, refl, ap, sym, subst, ◌∙◌, arith}
+use Rattle.std.specs.Prelude.{sum_by}
+use Rattle.std.specs.List.{range_with_len}
+use Rattle.co_object.specs.declared.Entry.{Entry}
+use Rattle.co_object.specs.declared.Note.{Note}
+use Rattle.co_object.specs.Actors.{Actors}
+use Rattle.co_object.specs.Callout.{opening}
+use Rattle.co_object.specs.Fate.{Fate}
+use Rattle.co_object.specs.History.{IsLegal}
+use Rattle.co_object.specs.Laws.OneFate.{is_fired}
+use Rattle.co_object.specs.Lists.{callout_history}
+use Rattle.co_object.proofs.Passing.{passing, count-passing}
+use Rattle.co_program.specs.declared.Script.{Script}
+use Rattle.co_program.specs.Action.{spec_at}
+use Rattle.co_gen.specs.declared.counts.Counts.{Counts}
+use Rattle.co_gen.specs.Soak.{is_superseded, is_stopped, is_pending, armings, fates_of, with_fate, counts_of_first, counts_of}
+use Rattle.co_gen.specs.Replay.{replayed}
+use Rattle.co_gen.specs.Laws.{HaveLegalHistories, FatesAddUp}
+use Rattle.co_gen.proofs.Ranges.{sum-more}
+use Rattle.co_gen.proofs.Replays.{accepts, closings, adds-replayed, made-is, fates-met, fates-count, four-kinds}
+
+abbrev made_of : ℕ → ℕ → ℕ → ℕ → ℕ → ℕ → Counts
+made_of n a f p s q = record { notes = n; armed = a; fired = f; superseded = p; stopped = s; pending = q }
+
+-- counts with the same numbers are the same
+same-counts : (c d : Counts) → c.notes ≡ d.notes → c.armed ≡ d.armed → c.fired ≡ d.fired → c.superseded ≡ d.superseded → c.stopped ≡ d.stopped → c.pending ≡ d.pending → c ≡ d
+same-counts c d n a f p s q =
+    ap (λ x. made_of x c.armed c.fired c.superseded c.stopped c.pending) n
+    ∙ ap (λ x. made_of d.notes x c.fired c.superseded c.stopped c.pending) a
+    ∙ ap (λ x. made_of d.notes d.armed x c.superseded c.stopped c.pending) f
+    ∙ ap (λ x. made_of d.notes d.armed d.fired x c.stopped c.pending) p
+    ∙ ap (λ x. made_of d.notes d.armed d.fired d.superseded x c.pending) s
+    ∙ ap (λ x. made_of d.notes d.armed d.fired d.superseded d.stopped x) q
+
+module _ (actors : Actors) (s : Script) (lists : List (List Note)) (i : ℕ) (legal : IsLegal actors (spec_at s i) (callout_history i lists)) where
+  abbrev H : List Entry
+  H = callout_history i lists
+
+  met : (P : Fate → Bool) → with_fate P s lists i ≡ passing P (closings (spec_at s i) (opening 0) H)
+  met P = count-passing P (fates_of s lists i) ∙ fates-met actors (spec_at s i) P H legal
+
+  -- one callout more
+  pub counts-more : (c d : Counts) → c ≡ counts_of_first s lists i → d ≡ replayed (spec_at s i) c (opening 0) H → d ≡ counts_of_first s lists (i + 1)
+  counts-more c d before is =
+      let a = adds-replayed (spec_at s i) c (opening 0) H in
+      is ∙ same-counts (replayed (spec_at s i) c (opening 0) H) (counts_of_first s lists (i + 1))
+      (a.notes ∙ ap (λ (x : Counts). x.notes) before)
+      (let was : c.armed ≡ sum_by (λ k. armings (callout_history k lists)) (range_with_len 0 i) = ap (λ (x : Counts). x.armed) before in
+      omega (arith, a.armed, was, count-passing accepts H, sum-more (λ k. armings (callout_history k lists)) i))
+      (let was : c.fired ≡ sum_by (with_fate is_fired s lists) (range_with_len 0 i) = ap (λ (x : Counts). x.fired) before in
+      omega (arith, a.fired, was, met is_fired, sum-more (with_fate is_fired s lists) i))
+      (let was : c.superseded ≡ sum_by (with_fate is_superseded s lists) (range_with_len 0 i) = ap (λ (x : Counts). x.superseded) before in
+      omega (arith, a.superseded, was, met is_superseded, sum-more (with_fate is_superseded s lists) i))
+      (let was : c.stopped ≡ sum_by (with_fate is_stopped s lists) (range_with_len 0 i) = ap (λ (x : Counts). x.stopped) before in
+      omega (arith, a.stopped, was, met is_stopped, sum-more (with_fate is_stopped s lists) i))
+      (let was : c.pending ≡ sum_by (with_fate is_pending s lists) (range_with_len 0 i) = ap (λ (x : Counts). x.pending) before in
+      omega (arith, a.pending, was, met is_pending, sum-more (with_fate is_pending s lists) i))
+
+  -- each accepted arming has one fate
+  callout-adds-up : armings H ≡ with_fate is_fired s lists i + with_fate is_superseded s lists i + with_fate is_stopped s lists i + with_fate is_pending s lists i
+  callout-adds-up =
+      let fs : List Fate = fates_of s lists i in
+      omega (
+        arith,
+        count-passing accepts H,
+        made-is actors (spec_at s i) H legal,
+        fates-count actors (spec_at s i) H legal,
+        four-kinds fs,
+        count-passing is_fired fs,
+        count-passing is_superseded fs,
+        count-passing is_stopped fs,
+        count-passing is_pending fs,
+      )
+
+abbrev AddUp : Script → List (List Note) → ℕ → Type 0
+AddUp s lists n = (counts_of_first s lists n).armed ≡ (counts_of_first s lists n).fired + (counts_of_first s lists n).superseded + (counts_of_first s lists n).stopped + (counts_of_first s lists n).pending
+
+first-add-up : (actors : Actors) (s : Script) (lists : List (List Note)) → HaveLegalHistories actors s lists → (n : ℕ) → n ≤ length s.timers → AddUp s lists n
+first-add-up actors s lists legal zero inside = refl
+first-add-up actors s lists legal (suc n) inside =
+    let next : suc n ≡ n + 1 = omega arith in
+    subst (AddUp s lists) (sym next) (omega (
+      arith,
+      first-add-up actors s lists legal n (omega (arith, inside)),
+      callout-adds-up actors s lists n (legal n (omega (arith, inside))),
+      sum-more (λ k. armings (callout_history k lists)) n,
+      sum-more (with_fate is_fired s lists) n,
+      sum-more (with_fate is_superseded s lists) n,
+      sum-more (with_fate is_stopped s lists) n,
+      sum-more (with_fate is_pending s lists) n,
+    ))
+
+pub fates-add-up : FatesAddUp
+unfolding counts_of
+fates-add-up actors s lists legal = first-add-up actors s lists legal (length s.timers) (omega arith)

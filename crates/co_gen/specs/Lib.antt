@@ -1,0 +1,4 @@
+pub mod Generator
+pub mod Soak
+pub mod Replay
+pub mod Laws

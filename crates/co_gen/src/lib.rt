@@ -1,0 +1,18 @@
+//! The generator of scripts, and the counts of the notes that a run makes. Both are our own. `laws` says that every generated
+//! script keeps the ranges of a script, and that the fates of a run's armings add up.
+#![tactic(auto)]
+
+mod acts;
+mod choice;
+mod counts;
+mod draws;
+pub mod laws;
+mod replay;
+mod script;
+mod soak;
+#[cfg(test)]
+mod tests;
+
+pub use counts::{Counts, print_soak};
+pub use script::gen_script;
+pub use soak::count_fates;
