@@ -33,3 +33,10 @@ pub record IsSetting (x : Setting) : Type 0 where
   pub names : x.names ≡ names_of x.script.now
   pub few : HasFewActors x.names
   pub places : x.places.now ≡ places x.script.now
+
+-- how far a reader is by this setting, and that the line behind its place is spelled out
+abbrev pub so_far : Setting → Reader → Progress
+so_far x d = progress_view x.places.now d
+
+abbrev pub IsReady : Setting → Reader → Type 0
+IsReady x d = IsSpelled x.script.now x.places.now d

@@ -3,7 +3,7 @@ ghost use Rattle.std.specs.Prelude.{◌≡◌, ◌+◌, ◌^◌, ◌<◌, length
 ghost use Rattle.co_text.specs.Fallible.{LineGives, GivesOrNoMemory};
 ghost use Rattle.co_text.specs.Lines.{lines_of};
 ghost use Rattle.co_report.specs.Reading.{closed_by, note_read, line_after, histories_read, opening};
-ghost use Rattle.co_report.specs.ReadingViews.{progress_view, IsSpelled, IsSetting};
+ghost use Rattle.co_report.specs.ReadingViews.{so_far, IsReady, IsSetting};
 
 use crate::line::Line;
 use crate::reading::names::Names;
@@ -43,8 +43,8 @@ impl Progress {
     /// No place has begun.
     fn opening(alloc: Global, setting: &Setting) -> Result<Progress, NoMemory>
         requires { IsSetting setting.now }
-        ensures value { IfOk result (λ d. progress_view setting.now.places.now d ≡ opening setting.now.script.now) }
-        ensures spelled { IfOk result (λ d. IsSpelled setting.now.script.now setting.now.places.now d) }
+        ensures value { IfOk result (λ d. so_far setting.now d ≡ opening setting.now.script.now) }
+        ensures spelled { IfOk result (λ d. IsReady setting.now d) }
     {
         let first = closing(alloc, setting.script, setting.places, 0)?;
         Ok(Progress {
@@ -58,9 +58,9 @@ impl Progress {
 
     /// The open place has no more notes: the next one begins, or the histories end with line `number`.
     fn close(&mut self, alloc: Global, setting: &Setting, number: u64) -> Result<(), NoMemory>
-        requires { IsSpelled setting.now.script.now setting.now.places.now self.old }
-        ensures value { OnOk result (progress_view setting.now.places.now self.new ≡ closed_by number (progress_view setting.now.places.now self.old) (drop self.old.next setting.now.places.now)) }
-        ensures spelled { OnOk result (IsSpelled setting.now.script.now setting.now.places.now self.new) }
+        requires { IsReady setting.now self.old }
+        ensures value { OnOk result (so_far setting.now self.new ≡ closed_by number (so_far setting.now self.old) (drop self.old.next setting.now.places.now)) }
+        ensures spelled { OnOk result (IsReady setting.now self.new) }
     {
         match setting.places.split_at(self.next).1 {
             [] => {
@@ -79,9 +79,9 @@ impl Progress {
     /// Line `number` shows a note of the open place.
     fn note(&mut self, setting: &Setting, number: u64, line: &[u8]) -> Result<(), LineFault>
         requires setting { IsSetting setting.now }
-        requires spelled { IsSpelled setting.now.script.now setting.now.places.now self.old }
-        ensures value { LineGives (λ _. progress_view setting.now.places.now self.new) result (note_read setting.now.script.now number (progress_view setting.now.places.now self.old) line.now) }
-        ensures spelled { OnOk result (IsSpelled setting.now.script.now setting.now.places.now self.new) }
+        requires spelled { IsReady setting.now self.old }
+        ensures value { LineGives (λ _. so_far setting.now self.new) result (note_read setting.now.script.now number (so_far setting.now self.old) line.now) }
+        ensures spelled { OnOk result (IsReady setting.now self.new) }
     {
         let shown = note_of(&setting.names, self.current, line)?;
         if let Some(place) = self.current {
@@ -104,9 +104,9 @@ impl Progress {
         line: &[u8],
     ) -> Result<(), LineFault>
         requires setting { IsSetting setting.now }
-        requires spelled { IsSpelled setting.now.script.now setting.now.places.now self.old }
-        ensures value { LineGives (λ _. progress_view setting.now.places.now self.new) result (line_after setting.now.script.now number (progress_view setting.now.places.now self.old) line.now) }
-        ensures spelled { OnOk result (IsSpelled setting.now.script.now setting.now.places.now self.new) }
+        requires spelled { IsReady setting.now self.old }
+        ensures value { LineGives (λ _. so_far setting.now self.new) result (line_after setting.now.script.now number (so_far setting.now self.old) line.now) }
+        ensures spelled { OnOk result (IsReady setting.now self.new) }
     {
         if self.end.is_some() {
             return Err(LineFault::Bad(Cause::Note));
@@ -129,7 +129,7 @@ pub fn histories_read(
 ) -> Result<(Progress, u64), ScriptFault>
     requires setting { IsSetting setting.now }
     requires few { first + length text.now < 2 ^ 32 }
-    ensures value { GivesOrNoMemory (λ x. progress_view setting.now.places.now x.0) result (histories_read setting.now.script.now first (opening setting.now.script.now) (lines_of text.now)) }
+    ensures value { GivesOrNoMemory (λ x. so_far setting.now x.0) result (histories_read setting.now.script.now first (opening setting.now.script.now) (lines_of text.now)) }
     ensures last { IfOk result (λ x. x.1 ≡ first + length (lines_of text.now)) }
 {
     let mut progress = match Progress::opening(alloc, setting) {
