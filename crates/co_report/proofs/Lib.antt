@@ -11,3 +11,17 @@ pub mod Counted
 pub mod Room
 pub mod Shows
 pub mod Sections
+pub mod PartSplits
+pub mod Exact
+pub mod ExactValues
+pub mod ExactActors
+pub mod ExactNotes
+pub mod LinesWhole
+pub mod PlacesAdded
+pub mod ScriptLines
+pub mod OneSpelling
+pub mod ReadsBack
+pub mod WholeBack
+pub mod ShownFit
+pub mod ReadFit
+mod ReadRows

@@ -1,9 +1,71 @@
 -- A report shows the histories of its lists.
-use Rattle.std.specs.Prelude.{◌≡◌, List, map}
+use Rattle.std.specs.Prelude.{◌≡◌, ◌↔◌, ℕ, ◌+◌, ◌^◌, ◌<◌, ◌≤◌, true, List, [], ◌∷◌, ◌++◌, length, Some, Ok, map}
+use Rattle.std.specs.List.{AllByRecursion}
 use Rattle.co_object.specs.declared.Note.{Note}
 use Rattle.co_object.specs.declared.Place.{Place}
 use Rattle.co_object.specs.Lists.{history}
-use Rattle.co_report.specs.Histories.{shown_history}
+use Rattle.co_program.specs.declared.Script.{Script}
+use Rattle.co_script.specs.Fits.{fits}
+use Rattle.co_program.specs.Places.{place_exists}
+use Rattle.co_text.specs.Lines.{lines_of}
+use Rattle.co_script.specs.Canonical.{canonical}
+use Rattle.co_report.specs.declared.line.Line.{Line}
+use Rattle.co_report.specs.declared.line.Report.{Report}
+use Rattle.co_report.specs.Histories.{Shown, Histories, shown_history}
+use Rattle.co_report.specs.Reports.{places, shown_words, report_of}
+use Rattle.co_report.specs.NoteValues.{names_of}
+use Rattle.co_report.specs.NoteForms.{note_of}
+use Rattle.co_report.specs.NoteFits.{EntryFits, ShownFits, LineFits}
+use Rattle.co_report.specs.Reading.{joined, report_read}
 
 abbrev pub EachHistoryIsShown : Type 0
 EachHistoryIsShown = (place : Place) (lists : List (List Note)) → map (λ shown. shown.entry) (shown_history lists place) ≡ history place lists
+
+-- where a script fits, a line is read as a note of a place exactly where it is the text of this note, and the note fits the
+-- place
+abbrev pub NotesHaveOneSpelling : Type 0
+NotesHaveOneSpelling = (s : Script) (place : Place) (line : List ℕ) (x : Shown) → fits s ≡ true → (note_of (names_of s) (Some place) line ≡ Ok x) ↔ (ShownFits s place x × (line ≡ joined (shown_words s x)))
+
+-- ---- a report that is read again
+
+-- the lines of the notes of a place, from line k on
+abbrev pub note_lines : ℕ → Place → List Shown → List Line
+note_lines k p [] = []
+note_lines k p (x ∷ xs) = record { line = k; place = p; number = x.number; entry = x.entry } ∷ note_lines (k + 1) p xs
+
+-- the note lines of these places, whose first heading is line k
+abbrev pub section_notes : Histories → ℕ → List Place → List Line
+section_notes h k [] = []
+section_notes h k (p ∷ ps) = note_lines (k + 1) p (h p) ++ section_notes h (k + 1 + length (h p)) ps
+
+-- the line behind them
+abbrev pub line_behind : Histories → ℕ → List Place → ℕ
+line_behind h k [] = k
+line_behind h k (p ∷ ps) = line_behind h (k + 1 + length (h p)) ps
+
+-- what the report of a script says: its first heading stands behind the lines of the script and two more
+abbrev pub report_of_histories : Script → Histories → Report
+report_of_histories s h =
+    let first = length (lines_of (canonical s)) + 3 in
+    record { script = s; lines = section_notes h first (places s); end = line_behind h first (places s) }
+
+-- the notes of each place fit it
+abbrev pub HistoriesFit : Script → Histories → Type 0
+HistoriesFit s h = (p : Place) → place_exists s p ≡ true → AllByRecursion (ShownFits s p) (h p)
+
+-- the lists of a script's actors: each entry fits its place, and no list is longer than its numbers count
+pub record ListsFit (s : Script) (lists : List (List Note)) : Type 0 where
+  pub notes : AllByRecursion (λ notes. AllByRecursion (λ note. EntryFits s note.place note.entry) notes) lists
+  pub short : AllByRecursion (λ notes. length notes < 2 ^ 64) lists
+
+-- the report of a script that fits is read as this script and exactly its notes, where it has at most 268435456 bytes
+abbrev pub ReportReadsBack : Type 0
+ReportReadsBack = (s : Script) (lists : List (List Note)) → fits s ≡ true → ListsFit s lists → length (report_of s lists) ≤ 268435456 → report_read (report_of s lists) ≡ Ok (report_of_histories s (shown_history lists))
+
+-- what a text stands for: a script that fits, and lines that stand in its places
+pub record ReportFits (r : Report) : Type 0 where
+  pub script : fits r.script ≡ true
+  pub lines : AllByRecursion (LineFits r.script) r.lines
+
+abbrev pub ReadReportsFit : Type 0
+ReadReportsFit = (bytes : List ℕ) (r : Report) → report_read bytes ≡ Ok r → ReportFits r

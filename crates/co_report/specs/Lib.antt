@@ -3,4 +3,10 @@ pub mod Histories
 pub mod Reports
 pub mod Origins
 pub mod Order
+pub mod Parts
+pub mod NoteValues
+pub mod NoteForms
+pub mod NoteFits
+pub mod Reading
+pub mod ReadingViews
 pub mod Laws

@@ -1,7 +1,24 @@
 //! The laws of reports, each the contract of a function that does nothing.
-ghost use Rattle.co_report.specs.Laws.{EachHistoryIsShown};
+ghost use Rattle.co_report.specs.Laws.{EachHistoryIsShown, NotesHaveOneSpelling, ReportReadsBack, ReadReportsFit};
 
 /// What a report shows of a place, but for the numbers of the notes, is the place's history.
 pub fn histories_shown()
     ensures { EachHistoryIsShown }
+{}
+
+/// A line is read as a note of a place exactly where it is the text of this note, and the note fits the place.
+pub fn notes_have_one_spelling()
+    ensures { NotesHaveOneSpelling }
+{}
+
+/// The report of a script that fits and of notes that fit their places is read as this script and exactly these notes, place
+/// by place with the numbers of their lines, where it has at most 268435456 bytes.
+pub fn reports_read_back()
+    ensures { ReportReadsBack }
+{}
+
+/// The script of a report that is read fits, and each of its lines stands in a place of it: the place exists, the entry is
+/// of its kind, what it names exists, and an own note is of its actor.
+pub fn read_reports_fit()
+    ensures { ReadReportsFit }
 {}

@@ -6,6 +6,7 @@ mod line;
 mod note;
 mod order;
 mod origin;
+mod reading;
 mod report;
 #[cfg(test)]
 mod tests;
@@ -13,4 +14,5 @@ mod tests;
 pub use line::{Line, Report};
 pub use order::{Order, order_of};
 pub use origin::{Origin, note_from};
+pub use reading::read_report;
 pub use report::print_report;

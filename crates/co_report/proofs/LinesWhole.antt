@@ -1,0 +1,96 @@
+-- The lines of a text have its bytes, and a text that is cut before a line.
+use Rattle.std.proofs.Common.{◌≡◌, ℕ, ◌+◌, ◌-◌, Bool, true, false, List, [], ◌∷◌, ◌++◌, length, take, refl, ap, sym, ◌∙◌, arith, append_assoc, append-nil, length-append}
+use Rattle.std.specs.Prelude.{Option, Some, None, codes, if◌then◌else◌}
+use Rattle.std.specs.Option.{option_map}
+use Rattle.std.proofs.lemmas.Bool.{eqb-true}
+use Rattle.co_text.specs.Lines.{Line, lines_of, lines_behind, is_feed}
+use Rattle.co_report.specs.Reading.{is_line, line_bytes, Halves, line_before, halves}
+
+-- the bytes of lines
+abbrev pub bytes_of : List Line → List ℕ
+bytes_of [] = []
+bytes_of (l ∷ ls) = line_bytes l ++ bytes_of ls
+
+bytes-behind : (b : Bool) (c : ℕ) (ls : List Line) → is_feed c ≡ b → bytes_of (lines_behind b c ls) ≡ c ∷ bytes_of ls
+bytes-behind true c ls e = ap (λ d. d ∷ bytes_of ls) (sym (eqb-true c 10 e))
+bytes-behind false c [] e = refl
+bytes-behind false c (l ∷ ls) e = refl
+
+pub bytes-back : (bs : List ℕ) → bytes_of (lines_of bs) ≡ bs
+bytes-back [] = refl
+bytes-back (c ∷ cs) = bytes-behind (is_feed c) c (lines_of cs) refl ∙ ap (λ l. c ∷ l) (bytes-back cs)
+
+-- a text is its first line and the text behind it
+pub first-bytes : (rest after : List ℕ) (l : Line) → lines_of rest ≡ l ∷ lines_of after → rest ≡ line_bytes l ++ after
+first-bytes rest after l e = sym (bytes-back rest) ∙ (ap bytes_of e ∙ ap (λ t. line_bytes l ++ t) (bytes-back after))
+
+take-all-front : (xs ys : List ℕ) → take (length xs) (xs ++ ys) ≡ xs
+take-all-front [] ys = refl
+take-all-front (x ∷ xs) ys = ap (λ l. x ∷ l) (take-all-front xs ys)
+
+take-front : (xs ys : List ℕ) → take (length (xs ++ ys) - length ys) (xs ++ ys) ≡ xs
+take-front xs ys =
+    let n : length (xs ++ ys) - length ys ≡ length xs = omega (arith, length-append xs ys) in
+    ap (λ k. take k (xs ++ ys)) n ∙ take-all-front xs ys
+
+-- one more line before it
+pub before_more : (text front rest after : List ℕ) (l : Line) → text ≡ front ++ rest → lines_of rest ≡ l ∷ lines_of after → text ≡ (front ++ line_bytes l) ++ after
+before_more text front rest after l e h = e ∙ (ap (λ r. front ++ r) (first-bytes rest after l h) ∙ sym (append_assoc front (line_bytes l) after))
+
+pub front_of : (text front rest : List ℕ) → text ≡ front ++ rest → take (length text - length rest) text ≡ front
+front_of text front rest e = ap (λ t. take (length t - length rest) t) e ∙ take-front front rest
+
+-- a text cut in two, with some lines more in front
+abbrev pub behind_lines : List ℕ → ℕ → Halves → Halves
+behind_lines front count h = record { script = front ++ h.script; count = count + h.count; notes = h.notes }
+
+behind-none : (o : Option Halves) → option_map (behind_lines [] 0) o ≡ o
+behind-none None = refl
+behind-none (Some h) = let e : 0 + h.count ≡ h.count = omega arith in ap (λ n. Some (record { script = h.script; count = n; notes = h.notes })) e
+
+behind-more : (front : List ℕ) (count : ℕ) (l : Line) (o : Option Halves) → option_map (behind_lines front count) (option_map (line_before l) o) ≡ option_map (behind_lines (front ++ line_bytes l) (count + 1)) o
+behind-more front count l None = refl
+behind-more front count l (Some h) =
+    let e : count + (h.count + 1) ≡ (count + 1) + h.count = omega arith in
+    ap (λ t. Some (record { script = t; count = count + (h.count + 1); notes = h.notes })) (sym (append_assoc front (line_bytes l) h.script))
+    ∙ ap (λ n. Some (record { script = (front ++ line_bytes l) ++ h.script; count = n; notes = h.notes })) e
+
+-- at the start
+pub halves_start : (text : List ℕ) → option_map (behind_lines (take (length text - length text) text) 0) (halves (lines_of text)) ≡ halves (lines_of text)
+halves_start text =
+    let none : length text - length text ≡ 0 = omega arith in
+    ap (λ n. option_map (behind_lines (take n text) 0) (halves (lines_of text))) none ∙ behind-none (halves (lines_of text))
+
+pub whole_start : (text : List ℕ) → text ≡ take (length text - length text) text ++ text
+whole_start text = let none : length text - length text ≡ 0 = omega arith in ap (λ n. take n text ++ text) (sym none)
+
+-- one line further
+pub whole_more : (text rest after : List ℕ) (l : Line) → text ≡ take (length text - length rest) text ++ rest → lines_of rest ≡ l ∷ lines_of after → text ≡ take (length text - length after) text ++ after
+whole_more text rest after l e h =
+    let front : List ℕ = take (length text - length rest) text in
+    let more : text ≡ (front ++ line_bytes l) ++ after = before_more text front rest after l e h in
+    more ∙ ap (λ t. t ++ after) (sym (front_of text (front ++ line_bytes l) after more))
+
+abbrev halves_by : Bool → Line → List Line → Option Halves
+halves_by b l ls = if b then Some (record { script = []; count = 0; notes = ls }) else option_map (line_before l) (halves ls)
+
+pub halves_more : (text rest after : List ℕ) (l : Line) (count : ℕ) → text ≡ take (length text - length rest) text ++ rest → lines_of rest ≡ l ∷ lines_of after → is_line (codes "histories") l ≡ false
+    → option_map (behind_lines (take (length text - length rest) text) count) (halves (lines_of rest)) ≡ option_map (behind_lines (take (length text - length after) text) (count + 1)) (halves (lines_of after))
+halves_more text rest after l count e h other =
+    let front : List ℕ = take (length text - length rest) text in
+    let more : text ≡ (front ++ line_bytes l) ++ after = before_more text front rest after l e h in
+    ap (λ ls. option_map (behind_lines front count) (halves ls)) h
+    ∙ (ap (λ b. option_map (behind_lines front count) (halves_by b l (lines_of after))) other
+    ∙ (behind-more front count l (halves (lines_of after))
+    ∙ ap (λ t. option_map (behind_lines t (count + 1)) (halves (lines_of after))) (sym (front_of text (front ++ line_bytes l) after more))))
+
+-- the line `histories`
+pub halves_found : (text rest after : List ℕ) (l : Line) (count : ℕ) → lines_of rest ≡ l ∷ lines_of after → is_line (codes "histories") l ≡ true
+    → option_map (behind_lines (take (length text - length rest) text) count) (halves (lines_of rest)) ≡ Some (record { script = take (length text - length rest) text; count = count; notes = lines_of after })
+halves_found text rest after l count h found =
+    let front : List ℕ = take (length text - length rest) text in
+    let e : count + 0 ≡ count = omega arith in
+    ap (λ ls. option_map (behind_lines front count) (halves ls)) h
+    ∙ (ap (λ b. option_map (behind_lines front count) (halves_by b l (lines_of after))) found
+    ∙ (ap (λ t. Some (record { script = t; count = count + 0; notes = lines_of after })) (append-nil front)
+    ∙ ap (λ n. Some (record { script = front; count = n; notes = lines_of after })) e))

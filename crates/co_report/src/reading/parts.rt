@@ -1,0 +1,93 @@
+//! The parts of a line between its spaces, taken one by one.
+ghost use Rattle.std.specs.Prelude.{◌≡◌, ◌≤◌, ◌∷◌, [], Ok, true, length, MatchOption};
+ghost use Rattle.std.specs.List.{position_or_len};
+ghost use Rattle.co_text.specs.Fallible.{Gives};
+ghost use Rattle.co_text.specs.Taking.{next, ended, option};
+ghost use Rattle.co_report.specs.Parts.{parts, parts_left, is_space};
+
+use co_text::Cause;
+use std::marker::Model;
+
+/// The number of bytes before the first space.
+fn part_length(text: &[u8]) -> usize
+    ensures value { result ≡ position_or_len is_space text.now }
+    ensures bound { result ≤ length text.now }
+{
+    text.iter().take_while(|c| **c != b' ').count()
+}
+
+/// The first part of a text, and the text behind the space that ends it, if a space does.
+fn split(text: &[u8]) -> (&[u8], Option<&[u8]>)
+    ensures { parts text.now ≡ result.0.now ∷ parts_left result.1 }
+{
+    let (part, rest) = text.split_at(part_length(text));
+    if rest.is_empty() {
+        return (part, None);
+    }
+    (part, Some(rest.split_at(1).1))
+}
+
+/// What is left of a line. Contracts see the list of its parts.
+#[derive(Drop)]
+pub struct Parts<'a> {
+    rest: Option<&'a [u8]>,
+}
+
+impl<'a> Model for Parts<'a> {
+    ghost use Rattle.std.specs.Prelude.{ℕ, List};
+    ghost use Rattle.co_report.specs.Parts.{parts_left};
+
+    ghost Value = { List (List ℕ) };
+
+    ghost view = { λ p. parts_left p.rest };
+}
+
+impl<'a> Parts<'a> {
+    /// The parts of a line.
+    pub fn new(line: &'a [u8]) -> Parts<'a>
+        ensures { result ≡ parts line.now }
+    {
+        Parts { rest: Some(line) }
+    }
+
+    /// The next part; `Form` where there is none.
+    pub fn word(&mut self) -> Result<&'a [u8], Cause>
+        ensures { Gives (λ word. (word.now, self.new)) result (next Ok self.old) }
+    {
+        match self.rest {
+            None => Err(Cause::Form),
+            Some(text) => {
+                let (part, rest) = split(text);
+                self.rest = rest;
+                Ok(part)
+            }
+        }
+    }
+
+    /// Whether this word is next. Then it is taken.
+    pub fn option(&mut self, wanted: &[u8]) -> bool
+        ensures { option wanted.now self.old ≡ Ok (result, self.new) }
+    {
+        let Some(text) = self.rest else {
+            return false;
+        };
+        let (part, rest) = split(text);
+        if part == wanted {
+            self.rest = rest;
+            true
+        } else {
+            false
+        }
+    }
+
+    /// Ok where no part follows, else `Form`.
+    #[tactic(auto, using(crate::proofs::PartSplits::parts_not_ended))]
+    pub fn end(&mut self) -> Result<(), Cause>
+        ensures { Gives (λ _. true) result (ended self.old) }
+    {
+        match self.rest {
+            None => Ok(()),
+            Some(_) => Err(Cause::Form),
+        }
+    }
+}

@@ -1,0 +1,150 @@
+//! The histories of a report, line by line.
+ghost use Rattle.std.specs.Prelude.{◌≡◌, ◌+◌, ◌^◌, ◌<◌, length, drop, OnOk, IfOk};
+ghost use Rattle.co_text.specs.Fallible.{LineGives, GivesOrNoMemory};
+ghost use Rattle.co_text.specs.Lines.{lines_of};
+ghost use Rattle.co_report.specs.Reading.{closed_by, note_read, line_after, histories_read, opening};
+ghost use Rattle.co_report.specs.ReadingViews.{so_far, IsReady, IsSetting};
+
+use crate::line::Line;
+use crate::reading::names::Names;
+use crate::reading::notes::note_of;
+use crate::reading::places::closing;
+use crate::reading::texts::no_memory;
+use co_object::Place;
+use co_program::Script;
+use co_sbt::{NoMemory, Seq};
+use co_text::{Cause, LineFault, ScriptFault, next_line};
+use std::alloc::Global;
+
+/// How far the histories are read.
+#[derive(Drop)]
+pub struct Progress {
+    /// The place whose notes come.
+    pub current: Option<Place>,
+    /// How many places have begun.
+    pub next: usize,
+    /// The line that ends the notes of the open place.
+    pub closing: Seq<u8>,
+    /// The notes so far.
+    pub lines: Seq<Line>,
+    /// The number of the line `end`, behind which no line may stand.
+    pub end: Option<u64>,
+}
+
+/// What the histories are read by: a script, what notes may name in it, and its places.
+#[derive(Drop)]
+pub struct Setting<'a> {
+    pub script: &'a Script,
+    pub names: Names,
+    pub places: &'a [Place],
+}
+
+impl Progress {
+    /// No place has begun.
+    fn opening(alloc: Global, setting: &Setting) -> Result<Progress, NoMemory>
+        requires { IsSetting setting.now }
+        ensures value { IfOk result (λ d. so_far setting.now d ≡ opening setting.now.script.now) }
+        ensures spelled { IfOk result (λ d. IsReady setting.now d) }
+    {
+        let first = closing(alloc, setting.script, setting.places, 0)?;
+        Ok(Progress {
+            current: None,
+            next: 0,
+            closing: first,
+            lines: Seq::new(alloc),
+            end: None,
+        })
+    }
+
+    /// The open place has no more notes: the next one begins, or the histories end with line `number`.
+    fn close(&mut self, alloc: Global, setting: &Setting, number: u64) -> Result<(), NoMemory>
+        requires { IsReady setting.now self.old }
+        ensures value { OnOk result (so_far setting.now self.new ≡ closed_by number (so_far setting.now self.old) (drop self.old.next setting.now.places.now)) }
+        ensures spelled { OnOk result (IsReady setting.now self.new) }
+    {
+        match setting.places.split_at(self.next).1 {
+            [] => {
+                self.current = None;
+                self.end = Some(number);
+            }
+            [place, ..] => {
+                self.closing = closing(alloc, setting.script, setting.places, self.next + 1)?;
+                self.current = Some(*place);
+                self.next += 1;
+            }
+        }
+        Ok(())
+    }
+
+    /// Line `number` shows a note of the open place.
+    fn note(&mut self, setting: &Setting, number: u64, line: &[u8]) -> Result<(), LineFault>
+        requires setting { IsSetting setting.now }
+        requires spelled { IsReady setting.now self.old }
+        ensures value { LineGives (λ _. so_far setting.now self.new) result (note_read setting.now.script.now number (so_far setting.now self.old) line.now) }
+        ensures spelled { OnOk result (IsReady setting.now self.new) }
+    {
+        let shown = note_of(&setting.names, self.current, line)?;
+        if let Some(place) = self.current {
+            self.lines.push(Line {
+                line: number,
+                place,
+                number: shown.number,
+                entry: shown.entry,
+            })?;
+        }
+        Ok(())
+    }
+
+    /// What line `number` does; `Note` where it may not stand.
+    fn line(
+        &mut self,
+        alloc: Global,
+        setting: &Setting,
+        number: u64,
+        line: &[u8],
+    ) -> Result<(), LineFault>
+        requires setting { IsSetting setting.now }
+        requires spelled { IsReady setting.now self.old }
+        ensures value { LineGives (λ _. so_far setting.now self.new) result (line_after setting.now.script.now number (so_far setting.now self.old) line.now) }
+        ensures spelled { OnOk result (IsReady setting.now self.new) }
+    {
+        if self.end.is_some() {
+            return Err(LineFault::Bad(Cause::Note));
+        }
+        if line == self.closing.as_slice() {
+            self.close(alloc, setting, number)?;
+            Ok(())
+        } else {
+            self.note(setting, number, line)
+        }
+    }
+}
+
+/// The histories, whose first line has this number, and the number behind their last line.
+pub fn histories_read(
+    alloc: Global,
+    setting: &Setting,
+    first: u64,
+    text: &[u8],
+) -> Result<(Progress, u64), ScriptFault>
+    requires setting { IsSetting setting.now }
+    requires few { first + length text.now < 2 ^ 32 }
+    ensures value { GivesOrNoMemory (λ x. so_far setting.now x.0) result (histories_read setting.now.script.now first (opening setting.now.script.now) (lines_of text.now)) }
+    ensures last { IfOk result (λ x. x.1 ≡ first + length (lines_of text.now)) }
+{
+    let mut progress = match Progress::opening(alloc, setting) {
+        Ok(progress) => progress,
+        Err(fault) => return Err(no_memory(fault)),
+    };
+    let mut rest = text;
+    let mut number = first;
+    while let Some((line, _, after)) = next_line(rest) {
+        match progress.line(alloc, setting, number, line) {
+            Ok(()) => {}
+            Err(fault) => return Err(fault.at(number)),
+        }
+        rest = after;
+        number += 1;
+    }
+    Ok((progress, number))
+}

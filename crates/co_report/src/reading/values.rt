@@ -1,0 +1,342 @@
+//! The values that words of a note carry, each in its one spelling: no zero stands before another digit. Each function takes
+//! the next part of a line; it answers `Form` where there is none, or where it is not spelled so.
+ghost use Rattle.std.specs.Prelude.{◌≡◌, ◌+◌, ◌≤◌, ◌<◌, ◌^◌, true, codes, length, IfOk};
+ghost use Rattle.std.specs.List.{position_or_len};
+ghost use Rattle.co_text.specs.Fallible.{Gives};
+ghost use Rattle.co_text.specs.Values.{behind};
+ghost use Rattle.co_text.specs.Taking.{next, is_next, after_next};
+ghost use Rattle.co_report.specs.NoteValues.{is_shortest, below, lettered, count64, count32, time_in_units, arming, given, callout_of, func_of, cpu_in, or_dash, truth, negative, code, actor_in, is_slash, maker, maker_is, own_kind, HasFewActors};
+ghost use Rattle.co_report.specs.NoteForms.{literal};
+
+use crate::reading::names::Names;
+use crate::reading::parts::Parts;
+use co_object::OwnKind;
+use co_sbt::Sbt;
+use co_text::{Cause, number};
+
+/// No zero stands before another digit.
+fn is_shortest(word: &[u8]) -> bool
+    ensures { result ≡ is_shortest word.now }
+{
+    match word {
+        [] => true,
+        [first, rest @ ..] => rest.is_empty() || *first != b'0',
+    }
+}
+
+/// A number below a bound.
+fn below(bound: u128, word: &[u8]) -> Result<u128, Cause>
+    ensures bounded { IfOk result (λ n. n < bound) }
+    ensures value { Gives (λ n. n) result (below bound word.now) }
+{
+    if !is_shortest(word) {
+        return Err(Cause::Form);
+    }
+    let number = number(word)?;
+    if number < bound {
+        Ok(number)
+    } else {
+        Err(Cause::Form)
+    }
+}
+
+/// The rest of a word that begins with this letter.
+fn behind(letter: u8, word: &[u8]) -> Result<&[u8], Cause>
+    ensures { Gives (λ w. w.now) result (behind letter word.now) }
+{
+    match word {
+        [first, rest @ ..] if *first == letter => Ok(rest),
+        _ => Err(Cause::Form),
+    }
+}
+
+/// A letter and a number below a bound.
+fn lettered(letter: u8, bound: u128, word: &[u8]) -> Result<u128, Cause>
+    ensures bounded { IfOk result (λ n. n < bound) }
+    ensures value { Gives (λ n. n) result (lettered letter bound word.now) }
+{
+    below(bound, behind(letter, word)?)
+}
+
+/// A letter and a number of 64 bits.
+fn lettered64(letter: u8, word: &[u8]) -> Result<u64, Cause>
+    ensures { Gives (λ n. n) result (lettered letter (2 ^ 64) word.now) }
+{
+    Ok(lettered(letter, 0x1_0000_0000_0000_0000, word)? as u64)
+}
+
+/// A letter and a number below a bound of 32 bits.
+fn lettered32(letter: u8, bound: u32, word: &[u8]) -> Result<u32, Cause>
+    ensures { Gives (λ n. n) result (lettered letter bound word.now) }
+{
+    Ok(lettered(letter, u128::from(bound), word)? as u32)
+}
+
+fn count64(word: &[u8]) -> Result<u64, Cause>
+    ensures { Gives (λ n. n) result (count64 word.now) }
+{
+    Ok(below(0x1_0000_0000_0000_0000, word)? as u64)
+}
+
+fn count32(word: &[u8]) -> Result<u32, Cause>
+    ensures { Gives (λ n. n) result (count32 word.now) }
+{
+    Ok(below(0x1_0000_0000, word)? as u32)
+}
+
+fn time_in_units(word: &[u8]) -> Result<Sbt, Cause>
+    ensures { Gives (λ t. t) result (time_in_units word.now) }
+{
+    let units = lettered(b'u', 0x8000_0000_0000_0000, word)? as u64;
+    match Sbt::new(units) {
+        Some(time) => Ok(time),
+        None => Err(Cause::Form),
+    }
+}
+
+fn cpu_or_dash(names: &Names, word: &[u8]) -> Result<Option<u32>, Cause>
+    ensures { Gives (λ c. c) result (or_dash (cpu_in names.now) word.now) }
+{
+    if word == b"-".as_slice() {
+        Ok(None)
+    } else {
+        Ok(Some(lettered32(b'p', names.cpus, word)?))
+    }
+}
+
+fn func_or_dash(names: &Names, word: &[u8]) -> Result<Option<u32>, Cause>
+    ensures { Gives (λ f. f) result (or_dash (func_of names.now) word.now) }
+{
+    if word == b"-".as_slice() {
+        Ok(None)
+    } else {
+        Ok(Some(lettered32(b'f', names.funcs, word)?))
+    }
+}
+
+fn truth_of(word: &[u8]) -> Result<bool, Cause>
+    ensures { Gives (λ b. b) result (truth word.now) }
+{
+    if word == b"1".as_slice() {
+        Ok(true)
+    } else if word == b"0".as_slice() {
+        Ok(false)
+    } else {
+        Err(Cause::Form)
+    }
+}
+
+/// A number below 0, by its size.
+fn negative(size: u128) -> Result<i32, Cause>
+    requires { size < 2 ^ 31 + 1 }
+    ensures { Gives (λ z. z) result (negative size) }
+{
+    if size == 0 {
+        return Err(Cause::Form);
+    }
+    Ok((-(size as i64)) as i32)
+}
+
+fn code_of(word: &[u8]) -> Result<i32, Cause>
+    ensures { Gives (λ z. z) result (code word.now) }
+{
+    match word {
+        [] => Err(Cause::Form),
+        [b'-', rest @ ..] => negative(below(0x8000_0001, rest)?),
+        [_, ..] => Ok(below(0x8000_0000, word)? as i32),
+    }
+}
+
+/// A number below a bound of 32 bits.
+fn index(bound: u32, word: &[u8]) -> Result<u32, Cause>
+    ensures bounded { IfOk result (λ n. n < bound) }
+    ensures value { Gives (λ n. n) result (below bound word.now) }
+{
+    Ok(below(u128::from(bound), word)? as u32)
+}
+
+/// The number of an actor, by its word.
+fn actor_in(names: &Names, word: &[u8]) -> Result<u32, Cause>
+    requires { HasFewActors names.now }
+    ensures { Gives (λ a. a) result (actor_in names.now word.now) }
+{
+    match word {
+        [b'c', rest @ ..] => index(names.clients, rest),
+        [b'p', rest @ ..] => Ok(names.clients + index(names.cpus, rest)?),
+        [b'h', rest @ ..] if names.version == 2 => {
+            Ok(names.clients + names.cpus + index(names.cpus, rest)?)
+        }
+        _ => Err(Cause::Form),
+    }
+}
+
+/// Who made a note, at which act.
+#[derive(Clone, Copy)]
+pub struct Maker {
+    pub actor: u32,
+    pub act: u64,
+}
+
+/// How many bytes stand before the slash.
+fn name_length(word: &[u8]) -> usize
+    ensures value { result ≡ position_or_len is_slash word.now }
+    ensures bound { result ≤ length word.now }
+{
+    word.iter().take_while(|c| **c != b'/').count()
+}
+
+fn maker_of(names: &Names, word: &[u8]) -> Result<Maker, Cause>
+    requires { HasFewActors names.now }
+    ensures { Gives (λ m. m) result (maker names.now word.now) }
+{
+    let (name, rest) = word.split_at(name_length(word));
+    let actor = actor_in(names, name)?;
+    let act = lettered64(b'/', rest)?;
+    Ok(Maker { actor, act })
+}
+
+fn own_maker(names: &Names, actor: u32, word: &[u8]) -> Result<Maker, Cause>
+    requires { HasFewActors names.now }
+    ensures { Gives (λ m. m) result (maker_is names.now actor word.now) }
+{
+    let maker = maker_of(names, word)?;
+    if maker.actor == actor {
+        Ok(maker)
+    } else {
+        Err(Cause::Form)
+    }
+}
+
+fn own_kind_of(word: &[u8]) -> Result<OwnKind, Cause>
+    ensures { Gives (λ k. k) result (own_kind word.now) }
+{
+    if word == b"notheld".as_slice() {
+        Ok(OwnKind::NotHeld)
+    } else if word == b"holdslock".as_slice() {
+        Ok(OwnKind::HoldsLock)
+    } else if word == b"holding".as_slice() {
+        Ok(OwnKind::Holding)
+    } else if word == b"notholding".as_slice() {
+        Ok(OwnKind::NotHolding)
+    } else {
+        Err(Cause::Form)
+    }
+}
+
+/// A number of 64 bits.
+pub fn number64(parts: &mut Parts) -> Result<u64, Cause>
+    ensures { Gives (λ x. (x, parts.new)) result (next count64 parts.old) }
+{
+    count64(parts.word()?)
+}
+
+/// A number of 32 bits.
+pub fn number32(parts: &mut Parts) -> Result<u32, Cause>
+    ensures { Gives (λ x. (x, parts.new)) result (next count32 parts.old) }
+{
+    count32(parts.word()?)
+}
+
+/// `uN`.
+pub fn time(parts: &mut Parts) -> Result<Sbt, Cause>
+    ensures { Gives (λ x. (x, parts.new)) result (next time_in_units parts.old) }
+{
+    time_in_units(parts.word()?)
+}
+
+/// `#N`.
+pub fn arming(parts: &mut Parts) -> Result<u64, Cause>
+    ensures { Gives (λ x. (x, parts.new)) result (next arming parts.old) }
+{
+    lettered64(b'#', parts.word()?)
+}
+
+/// `aN`.
+pub fn argument(parts: &mut Parts) -> Result<u64, Cause>
+    ensures { Gives (λ x. (x, parts.new)) result (next given parts.old) }
+{
+    lettered64(b'a', parts.word()?)
+}
+
+/// `iN`, a callout of the script.
+pub fn callout(names: &Names, parts: &mut Parts) -> Result<u32, Cause>
+    ensures { Gives (λ x. (x, parts.new)) result (next (callout_of names.now) parts.old) }
+{
+    lettered32(b'i', names.timers, parts.word()?)
+}
+
+/// `fN`, a function of the script.
+pub fn func(names: &Names, parts: &mut Parts) -> Result<u32, Cause>
+    ensures { Gives (λ x. (x, parts.new)) result (next (func_of names.now) parts.old) }
+{
+    lettered32(b'f', names.funcs, parts.word()?)
+}
+
+/// `pN`, a CPU of the script.
+pub fn cpu(names: &Names, parts: &mut Parts) -> Result<u32, Cause>
+    ensures { Gives (λ x. (x, parts.new)) result (next (cpu_in names.now) parts.old) }
+{
+    lettered32(b'p', names.cpus, parts.word()?)
+}
+
+/// A CPU, or `-`.
+pub fn cpu_or_none(names: &Names, parts: &mut Parts) -> Result<Option<u32>, Cause>
+    ensures { Gives (λ x. (x, parts.new)) result (next (or_dash (cpu_in names.now)) parts.old) }
+{
+    cpu_or_dash(names, parts.word()?)
+}
+
+/// A function, or `-`.
+pub fn func_or_none(names: &Names, parts: &mut Parts) -> Result<Option<u32>, Cause>
+    ensures { Gives (λ x. (x, parts.new)) result (next (or_dash (func_of names.now)) parts.old) }
+{
+    func_or_dash(names, parts.word()?)
+}
+
+/// `1` or `0`.
+pub fn truth(parts: &mut Parts) -> Result<bool, Cause>
+    ensures { Gives (λ x. (x, parts.new)) result (next truth parts.old) }
+{
+    truth_of(parts.word()?)
+}
+
+/// A number of 32 bits with a sign.
+pub fn code(parts: &mut Parts) -> Result<i32, Cause>
+    ensures { Gives (λ x. (x, parts.new)) result (next code parts.old) }
+{
+    code_of(parts.word()?)
+}
+
+/// `A/M`.
+pub fn made_by(names: &Names, parts: &mut Parts) -> Result<Maker, Cause>
+    requires { HasFewActors names.now }
+    ensures { Gives (λ x. (x, parts.new)) result (next (maker names.now) parts.old) }
+{
+    maker_of(names, parts.word()?)
+}
+
+/// `A/M`, where A is this actor.
+pub fn made_by_actor(names: &Names, actor: u32, parts: &mut Parts) -> Result<Maker, Cause>
+    requires { HasFewActors names.now }
+    ensures { Gives (λ x. (x, parts.new)) result (next (maker_is names.now actor) parts.old) }
+{
+    own_maker(names, actor, parts.word()?)
+}
+
+/// What an own note says.
+pub fn own_kind(parts: &mut Parts) -> Result<OwnKind, Cause>
+    ensures { Gives (λ x. (x, parts.new)) result (next own_kind parts.old) }
+{
+    own_kind_of(parts.word()?)
+}
+
+/// This very word.
+pub fn literal(wanted: &[u8], parts: &mut Parts) -> Result<(), Cause>
+    ensures { Gives (λ _. (true, parts.new)) result (literal wanted.now parts.old) }
+{
+    if parts.word()? == wanted {
+        Ok(())
+    } else {
+        Err(Cause::Form)
+    }
+}
