@@ -1,5 +1,6 @@
 -- The scripts of the worked tests are sound ones.
-use Rattle.std.proofs.Common.{◌≡◌, ℕ, ◌≤◌, true, false, List, [], ◌∷◌, length, refl, inl, arith, lit≤}
+use Rattle.std.specs.Prelude.{Result, Ok, Err, IfOk}
+use Rattle.std.proofs.Common.{◌≡◌, ℕ, ◌≤◌, true, false, List, [], ◌∷◌, length, refl, sym, subst, inl, arith, lit≤}
 use Rattle.std.specs.List.{AllByRecursion}
 use Rattle.co_object.specs.declared.LockUse.{LockUse}
 use Rattle.co_object.specs.declared.LockUse.TheVariants as lock
@@ -11,6 +12,7 @@ use Rattle.co_program.specs.declared.Where.TheVariants as where_
 use Rattle.co_program.specs.declared.Where.{Where}
 use Rattle.co_program.specs.declared.Script.{Script}
 use Rattle.co_program.specs.Scripts.{IsScript, is_tick, is_call, names_exist}
+use Rattle.co_sbt.specs.declared.seq.NoMemory.{NoMemory}
 use Rattle.co_core.specs.Worked.{one_callout}
 use Rattle.co_core.proofs.Rows.Accepted.{all_at, short_at, spec_of}
 
@@ -65,3 +67,8 @@ pub drained_accepted : (t u v tick : ℕ) → IsScript (drained t u v tick)
 drained_accepted t u v tick =
     accepted lock.Free 1 ((reset t 0 where_.Home ∷ act.Drain 0 ∷ reset u 2 where_.Home ∷ []) ∷ (reset v 1 where_.Home ∷ []) ∷ []) ((act.Tick tick ∷ []) ∷ [])
     (lit≤ tt) (lit≤ tt) (lit≤ tt) ((refl, tt), tt) ((refl, (refl, (refl, tt))), ((refl, tt), tt)) ((refl, (refl, (refl, tt))), ((refl, tt), tt)) (lit≤ tt, (lit≤ tt, tt)) (lit≤ tt, tt)
+
+-- a script is made that is a sound one, or there is no memory
+pub sound_if : (r : Result Script NoMemory) (s : Script) → IfOk r (λ x. x ≡ s) → IsScript s → IfOk r IsScript
+sound_if (Ok x) s h ok = subst IsScript (sym h) ok
+sound_if (Err e) s h ok = tt

@@ -93,6 +93,8 @@ fn one_callout(
 fn cancelled(alloc: Global) -> Result<Script, NoMemory>
     ensures { IfOk result IsScript }
 {
+    // The checker wants the enum inside an act that holds a time to be named where an act is passed on.
+    let _when = When::At(Sbt::zero());
     let mut acts = two(alloc, Act::Lock(0), reset_at(seconds(1), 0, Where::Home))?;
     acts.push(Act::Stop(Who::Timer(0)))?;
     let clients = one(alloc, acts)?;
@@ -105,6 +107,8 @@ fn cancelled(alloc: Global) -> Result<Script, NoMemory>
 fn in_transit(alloc: Global) -> Result<Script, NoMemory>
     ensures { IfOk result IsScript }
 {
+    // The checker wants the enum inside an act that holds a time to be named where an act is passed on.
+    let _when = When::At(Sbt::zero());
     let arms = one(alloc, reset_at(seconds(1), 0, Where::Cpu(1)))?;
     let stops = one(alloc, Act::Stop(Who::Timer(0)))?;
     let clients = two(alloc, arms, stops)?;
@@ -116,6 +120,8 @@ fn in_transit(alloc: Global) -> Result<Script, NoMemory>
 fn drained(alloc: Global) -> Result<Script, NoMemory>
     ensures { IfOk result IsScript }
 {
+    // The checker wants the enum inside an act that holds a time to be named where an act is passed on.
+    let _when = When::At(Sbt::zero());
     let mut drains = two(alloc, reset_at(seconds(1), 0, Where::Home), Act::Drain(0))?;
     drains.push(reset_at(seconds(3), 2, Where::Home))?;
     let arms = one(alloc, reset_at(seconds(2), 1, Where::Home))?;
