@@ -1,7 +1,7 @@
 -- What holds of every schedule, put together and said of the lists of notes in place of the world; and a script's walk is a
 -- run of it.
-use Rattle.std.proofs.Common.{◌≡◌, ℕ, zero, suc, ◌+◌, ◌<◌, List, [], map, get_or, refl, sym, ap, subst, ◌∙◌, arith}
-use Rattle.std.specs.List.{AllByRecursion, range_with_len}
+use Rattle.std.proofs.Common.{◌≡◌, ℕ, zero, suc, ◌<◌, List, [], refl, sym, ap, subst, ◌∙◌, arith}
+use Rattle.std.specs.List.{AllByRecursion}
 use Rattle.std.proofs.lemmas.List.FromFn.{get_or-map-range_with_len, length-map-range_with_len}
 use Rattle.co_object.specs.declared.Entry.{Entry}
 use Rattle.co_object.specs.declared.QEntry.{QEntry}
@@ -19,7 +19,7 @@ use Rattle.co_program.specs.Scripts.{IsScript}
 use Rattle.co_core.specs.World.{World, open_world, lists_of, histories_of}
 use Rattle.co_core.specs.SoFar.{IsRunSoFar}
 use Rattle.co_core.specs.Stands.{IsReached as Reached}
-use Rattle.co_core.specs.Walk.{run, round, rounds, AllFinished, IsWalk}
+use Rattle.co_core.specs.Walk.{run, round, rounds, AllFinished}
 use Rattle.co_core.specs.Laws.{reached, IsSchedule, AreOfLists, AreLegal, WalksAreRuns}
 use Rattle.co_core.proofs.ListsShow.{lists_show}
 use Rattle.co_core.proofs.Places.{have_places}

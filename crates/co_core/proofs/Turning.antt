@@ -1,9 +1,7 @@
 -- What the answer of a step tells.
-use Rattle.std.proofs.Common.{◌≡◌, ℕ, ◌-◌, length, refl, sym, ap, ◌∙◌, Option, Some, None}
-use Rattle.std.specs.Prelude.{◌↔◌}
+use Rattle.std.proofs.Common.{◌≡◌, ℕ, ◌-◌, length, refl, sym, ap, Option, Some, None}
 use Rattle.co_program.specs.declared.Script.{Script}
 use Rattle.co_program.specs.Action.{Action, Nothing, Silent, Take, Asks, action_for}
-use Rattle.co_core.specs.declared.turn.Turn.{Turn}
 use Rattle.co_core.specs.declared.turn.Turn.TheVariants.{Notes, Blocked, Finished}
 use Rattle.co_core.specs.declared.turn.Why.{Why}
 use Rattle.co_core.specs.Blocked.{blocked, waits_for}

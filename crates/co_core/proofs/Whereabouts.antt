@@ -1,5 +1,5 @@
 -- Each record of the core's world is in one wheel or with one actor, and each callout is in at most one service.
-use Rattle.std.proofs.Common.{◌≡◌, ℕ, ◌+◌, ◌-◌, ◌<◌, ◌≤◌, ◌⊎◌, length, inl, inr, Bool, true, false, not, cond, ◌&&◌, refl, sym, ap, subst, ◌∙◌, arith, Option, Some, None, eqb-true, eq-eqb, le-ltb, lt-ltb}
+use Rattle.std.proofs.Common.{◌≡◌, ℕ, ◌+◌, ◌-◌, ◌<◌, ◌⊎◌, length, inl, inr, Bool, true, false, not, cond, ◌&&◌, refl, sym, ap, subst, ◌∙◌, arith, Option, Some, None, eqb-true, eq-eqb, le-ltb, lt-ltb}
 use Rattle.std.specs.Prelude.{◌==◌, is_some, nat_lt}
 use Rattle.co_object.specs.declared.alone.Alone.{Alone}
 use Rattle.co_object.specs.declared.State.{State}
@@ -17,18 +17,16 @@ use Rattle.co_program.specs.Actors.{actor_count, client_count, cpu_of, role_of}
 use Rattle.co_program.specs.Action.{spec_at}
 use Rattle.co_program.specs.Scripts.{IsScript}
 use Rattle.co_program.specs.Stages.{Stage, Ready, Waiting, Popping, Picking, Locking, Beginning, Unlocking, Firing, Releasing, Ending, Freeing, Drained}
-use Rattle.co_wheel.specs.Callouts.{callout, is_here, in_service}
+use Rattle.co_wheel.specs.Callouts.{callout, in_service}
 use Rattle.co_wheel.specs.Cpu.{Cpu as WheelOf}
 use Rattle.co_wheel.specs.Parcel.{Parcel as Travelling}
 use Rattle.co_wheel.specs.Turns.{Shows as ShowsQueue}
 use Rattle.co_core.specs.Blocked.{is_moving, moves}
 use Rattle.co_core.specs.Laws.{actors_of}
-use Rattle.co_core.specs.Seen.{Seen}
-use Rattle.co_core.specs.Shows.{Shows}
-use Rattle.co_core.specs.Stands.{IsBag, IsPlaced, IsReached, IsStored, StandsFor, alone_of, at_home, entry_of, in_slot, is_home, slot_of}
+use Rattle.co_core.specs.Stands.{IsBag, IsPlaced, IsReached, IsStored, alone_of, at_home, entry_of, in_slot, is_home, slot_of}
 use Rattle.co_core.specs.Step.{are_direct}
 use Rattle.co_core.specs.Stored.{Stored, wheel_at, bag_at}
-use Rattle.co_core.specs.Whereabouts.{AreOfWorld, CalloutsHaveOneSlot, IsAtOne, IsWithOne, RecordsHaveOnePlace, WheelsAreOfWorlds, is_at, is_entry_of, is_packed, is_served, is_with}
+use Rattle.co_core.specs.Whereabouts.{CalloutsHaveOneSlot, IsAtOne, IsWithOne, RecordsHaveOnePlace, WheelsAreOfWorlds, is_at, is_entry_of, is_packed, is_served, is_with}
 use Rattle.co_core.specs.World.{World}
 use Rattle.co_core.proofs.Invariant.{IsBetween, in_hand, IsOver, IsRunning, IsTaken, LaneFits, RunFits, carries, cpu_of_run, has_popped, places_of, queues_of, serves_direct, serving_of, states_of}
 use Rattle.co_core.proofs.Moves.{decide}

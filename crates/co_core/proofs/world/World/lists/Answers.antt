@@ -1,5 +1,4 @@
 -- The lists are those of a plain world that some schedule reaches, and so are a run's at that moment.
-use Rattle.std.proofs.Common.{sym}
 use Rattle.co_core.proofs.Runs.{so_far}
 use Rattle.co_core.proofs.world.World.lists.Goals as goal
 

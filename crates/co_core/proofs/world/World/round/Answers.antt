@@ -1,13 +1,12 @@
-use Rattle.std.proofs.Common.{rules, ◌≡◌, ℕ, List, ◌+◌, ◌<◌, ◌∙◌, ◌++◌, ◌∷◌, [], ◌⊎◌, ap, subst, sym, true, false, inl, inr, arith}
+use Rattle.std.proofs.Common.{◌≡◌, ℕ, List, ◌+◌, ◌<◌, ◌∙◌, ◌⊎◌, ap, subst, sym, true, false, inl, inr, arith}
 use Rattle.std.specs.List.{range_with_len}
 use Rattle.co_program.specs.declared.Script.{Script}
 use Rattle.co_program.specs.Actors.{actor_count}
 use Rattle.co_core.specs.Shows.{Shows}
 use Rattle.co_core.specs.Seen.{Seen}
 use Rattle.co_core.specs.Step.{step, turn_of}
-use Rattle.co_core.specs.Walk.{run, round, HasFinished}
+use Rattle.co_core.specs.Walk.{run, HasFinished}
 use Rattle.co_core.specs.World.{World}
-use Rattle.co_core.specs.declared.turn.Turn.TheVariants.{Finished}
 use Rattle.co_core.proofs.Moves.{decide}
 use Rattle.co_core.proofs.Rounding.{range-more, turn-finished}
 use Rattle.co_core.proofs.Walks.{run_more, finished_step}

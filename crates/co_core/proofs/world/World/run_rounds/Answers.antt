@@ -1,12 +1,11 @@
-use Rattle.std.proofs.Common.{rules, ◌≡◌, ℕ, ◌+◌, ◌-◌, ◌^◌, ◌≤◌, ◌∙◌, ap, subst, sym, true, inl, inr, refl, arith}
-use Rattle.co_core.specs.Measure.{measure}
+use Rattle.std.proofs.Common.{◌≡◌, ◌-◌, ◌∙◌, subst, true, inl, refl, arith}
 use Rattle.co_program.specs.declared.Script.{Script}
 use Rattle.co_core.specs.Seen.{Seen}
 use Rattle.co_core.specs.Shows.{Shows}
 use Rattle.co_core.specs.Stands.{IsReached}
 use Rattle.co_core.specs.Walk.{AllFinished, round, rounds}
 use Rattle.co_core.specs.World.{World}
-use Rattle.co_core.proofs.Rounding.{HasCounted, counted-more, counted-all, rounds-more}
+use Rattle.co_core.proofs.Rounding.{counted-more, counted-all, rounds-more}
 use Rattle.co_core.proofs.world.World.run_rounds.Goals as goal
 
 -- a round under the script's own name

@@ -1,4 +1,4 @@
-use Rattle.std.proofs.Common.{rules, ◌≡◌, ℕ, List, ◌+◌, ◌∙◌, ◌++◌, ◌∷◌, [], ap, subst, sym, take, get_or}
+use Rattle.std.proofs.Common.{◌≡◌, ℕ, List, ◌+◌, ◌∙◌, ◌++◌, ◌∷◌, [], ap, subst, sym, take, get_or}
 use Rattle.std.proofs.lemmas.List.{take_more}
 use Rattle.co_program.specs.declared.Script.{Script}
 use Rattle.co_core.specs.Shows.{Shows}
