@@ -82,3 +82,7 @@ pub mod Underway
 pub mod BeginSection
 pub mod EndSection
 pub mod Undue
+pub mod Worlds
+pub mod Whereabouts
+pub mod Turning
+pub mod WorkedScripts

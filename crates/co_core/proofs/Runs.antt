@@ -1,7 +1,7 @@
--- A script's walk is a run of it: what holds of every schedule, put together at the one that the walk makes, and said of the
--- lists of notes in place of the world.
-use Rattle.std.proofs.Common.{◌≡◌, ℕ, zero, suc, ◌+◌, ◌<◌, List, [], map, get_or, refl, sym, ap, subst, ◌∙◌, arith}
-use Rattle.std.specs.List.{AllByRecursion, range_with_len}
+-- What holds of every schedule, put together and said of the lists of notes in place of the world; and a script's walk is a
+-- run of it.
+use Rattle.std.proofs.Common.{◌≡◌, ℕ, zero, suc, ◌<◌, List, [], refl, sym, ap, subst, ◌∙◌, arith}
+use Rattle.std.specs.List.{AllByRecursion}
 use Rattle.std.proofs.lemmas.List.FromFn.{get_or-map-range_with_len, length-map-range_with_len}
 use Rattle.co_object.specs.declared.Entry.{Entry}
 use Rattle.co_object.specs.declared.QEntry.{QEntry}
@@ -17,7 +17,9 @@ use Rattle.co_program.specs.Follows.{Follows, Histories}
 use Rattle.co_program.specs.Runs.{IsRunOf, shown_histories, notes_by, actors_of, are_direct}
 use Rattle.co_program.specs.Scripts.{IsScript}
 use Rattle.co_core.specs.World.{World, open_world, lists_of, histories_of}
-use Rattle.co_core.specs.Walk.{run, round, rounds, AllFinished, IsWalk}
+use Rattle.co_core.specs.SoFar.{IsRunSoFar}
+use Rattle.co_core.specs.Stands.{IsReached as Reached}
+use Rattle.co_core.specs.Walk.{run, round, rounds, AllFinished}
 use Rattle.co_core.specs.Laws.{reached, IsSchedule, AreOfLists, AreLegal, WalksAreRuns}
 use Rattle.co_core.proofs.ListsShow.{lists_show}
 use Rattle.co_core.proofs.Places.{have_places}
@@ -44,9 +46,9 @@ module _ (s : Script) (ok : IsScript s) (schedule : List ℕ) (may : IsSchedule 
   list_of : (a : ℕ) → a < actor_count s → notes_by (lists_of s (reached s schedule)) a ≡ ((reached s schedule).actors a).notes
   list_of a within = get_or-map-range_with_len (λ b. ((reached s schedule).actors b).notes) 0 (actor_count s) a a [] within (omega arith)
 
-  -- a schedule after which all have finished makes a run
-  run_of : AllFinished s (reached s schedule) → IsRunOf s (lists_of s (reached s schedule))
-  run_of finished =
+  -- the notes at that moment
+  so_far_at : IsRunSoFar s (lists_of s (reached s schedule))
+  so_far_at =
       let w : World = reached s schedule in
       let are : AreOfLists s w = lists_show s schedule may in
       let legal : AreLegal s (histories_of w) = histories_are_legal s ok schedule may in
@@ -57,10 +59,29 @@ module _ (s : Script) (ok : IsScript s) (schedule : List ℕ) (may : IsSchedule 
         callouts = λ i within. subst (IsLegal (actors_of s) (spec_at s i)) (sym (are.timers i)) (legal.timers i within);
         cpus = λ cpu within. subst (IsLegalQueue (actors_of s) cpu s.buckets (are_direct s)) (sym (are.cpus cpu)) (legal.cpus cpu within);
         found = λ cpu within. subst (AllByRecursion (λ (e : QEntry). e.reply ≡ Missing → ⊥)) (sym (are.cpus cpu)) (no_remove_is_missing s ok schedule may cpu);
+      }
+
+  -- a schedule after which all have finished makes a run
+  run_of : AllFinished s (reached s schedule) → IsRunOf s (lists_of s (reached s schedule))
+  run_of finished =
+      let w : World = reached s schedule in
+      let are : AreOfLists s w = lists_show s schedule may in
+      let so_far : IsRunSoFar s (lists_of s w) = so_far_at in
+      record {
+        actors = so_far.actors;
+        places = so_far.places;
+        formed = so_far.formed;
+        callouts = so_far.callouts;
+        cpus = so_far.cpus;
+        found = so_far.found;
         follow = λ a within.
             subst (λ (notes : List Note). Follows s (shown_histories (lists_of s w)) a notes) (sym (list_of a within))
             (subst (λ (H : Histories). Follows s H a (w.actors a).notes) (histories_shown s w are) (finished_follow_all s ok schedule may a (finished a within)));
       }
+
+-- the notes of any world that some schedule reaches
+pub so_far : (s : Script) → IsScript s → (w : World) → Reached s w → IsRunSoFar s (lists_of s w)
+so_far s ok w h = subst (λ (x : World). IsRunSoFar s (lists_of s x)) (sym h.world) (so_far_at s ok h.schedule h.may)
 
 -- the world after some rounds is one that a schedule reaches
 rounds_reached : (s : Script) (ok : IsScript s) (n : ℕ) (w : World) → IsReached s ok w → IsReached s ok (rounds s w n)

@@ -1,5 +1,5 @@
 -- What holds of every schedule of a script's actors.
-use Rattle.std.specs.Prelude.{◌≡◌, ℕ, ◌^◌, ◌<◌, ◌⊎◌, List, length, Some, None}
+use Rattle.std.specs.Prelude.{◌≡◌, ℕ, ◌-◌, ◌^◌, ◌<◌, ◌⊎◌, ◌↔◌, List, length, Some, None}
 use Rattle.std.specs.List.{AllByRecursion}
 use Rattle.co_object.specs.declared.Op.TheVariants.{Run}
 use Rattle.co_object.specs.declared.RunOp.TheVariants.{Begin}
@@ -19,9 +19,10 @@ use Rattle.co_program.specs.declared.Asked.TheVariants.{Callout}
 use Rattle.co_program.specs.Follows.{Follows, Histories}
 use Rattle.co_core.specs.World.{World, open_world, lists_of, histories_of}
 use Rattle.co_core.specs.Blocked.{blocked}
-use Rattle.co_core.specs.Step.{step, are_direct}
+use Rattle.co_core.specs.Step.{step, turn_of, are_direct}
 use Rattle.co_core.specs.Walk.{run, round, HasFinished, AllFinished, IsWalk}
 use Rattle.co_core.specs.Measure.{measure}
+use Rattle.co_core.specs.declared.turn.Turn.TheVariants.{Notes, Blocked, Finished}
 use Rattle.co_core.specs.declared.turn.Why.{Why}
 use Rattle.co_object.specs.declared.Note.{Note}
 use Rattle.co_program.specs.Scripts.{IsScript}
@@ -80,6 +81,13 @@ NeverStuck s w =
 abbrev pub Falls : Script → World → Type 0
 Falls s w = (a : ℕ) → a < actor_count s → ¬ HasFinished s w a → blocked s w a ≡ None → measure s (step s w a) < measure s w
 
+-- what the answer of a step tells: why it has to wait, exactly where it has to; that the program has ended, exactly where it
+-- has; else how many notes the step made
+pub record TurnTells (s : Script) (w : World) (a : ℕ) : Type 0 where
+  pub waits : (why : Why) → (turn_of s w a ≡ Blocked why) ↔ (blocked s w a ≡ Some why)
+  pub ended : (turn_of s w a ≡ Finished) ↔ HasFinished s w a
+  pub counts : (n : ℕ) → turn_of s w a ≡ Notes n → (blocked s w a ≡ None) × (n ≡ length ((step s w a).actors a).notes - length (w.actors a).notes)
+
 -- the actor has nothing to do now
 abbrev pub IsIdle : Script → World → ℕ → Type 0
 IsIdle s w a = HasFinished s w a ⊎ ((why : Why) × (blocked s w a ≡ Some why))
@@ -105,6 +113,10 @@ NoScheduleIsStuck = (s : Script) → IsScript s → (schedule : List ℕ) → Is
 -- what is left to do falls with every step but those of actors that have finished or are blocked
 abbrev pub EveryStepFalls : Type 0
 EveryStepFalls = (s : Script) → IsScript s → (schedule : List ℕ) → IsSchedule s schedule → Falls s (reached s schedule)
+
+-- what the answers of steps tell, in any world
+abbrev pub TurnsTell : Type 0
+TurnsTell = (s : Script) (w : World) (a : ℕ) → TurnTells s w a
 
 -- a step of an actor that has finished or is blocked changes nothing
 abbrev pub IdleStepsStay : Type 0

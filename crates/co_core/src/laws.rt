@@ -2,8 +2,12 @@
 ghost use Rattle.std.specs.Prelude.{ℕ, List};
 ghost use Rattle.co_object.specs.Lists.{IsWellFormed};
 ghost use Rattle.co_program.specs.declared.Script.{Script};
-ghost use Rattle.co_core.specs.World.{lists_of};
-ghost use Rattle.co_core.specs.Laws.{AreOfLists, BeginsUnderLock, EachFinishedActorFollows, EveryStepFalls, HaveReplies, HistoriesAreLegal, IdleStepsStay, IsSchedule, NoRemoveIsMissing, NoScheduleIsStuck, NotesHavePlaces, OpeningFits, RoundsFall, WalksAgree, WalksAreRuns, WalksEnd, reached};
+ghost use Rattle.co_core.specs.World.{World as PlainWorld, lists_of};
+ghost use Rattle.co_core.specs.Seen.{Seen};
+ghost use Rattle.co_core.specs.Shows.{Shows};
+ghost use Rattle.co_core.specs.Stands.{IsReached};
+ghost use Rattle.co_core.specs.Whereabouts.{CalloutsHaveOneSlot, RecordsHaveOnePlace, WheelsAreOfWorlds};
+ghost use Rattle.co_core.specs.Laws.{AreOfLists, BeginsUnderLock, EachFinishedActorFollows, EveryStepFalls, HaveReplies, HistoriesAreLegal, IdleStepsStay, IsSchedule, NoRemoveIsMissing, NoScheduleIsStuck, NotesHavePlaces, OpeningFits, RoundsFall, TurnsTell, WalksAgree, WalksAreRuns, WalksEnd, reached};
 
 /// The positions of each place are 0, 1, 2, .., each once, and rise in each actor's list.
 pub fn well_formed()
@@ -84,4 +88,29 @@ pub fn rounds_fall()
 /// What is left to do at the opening fits 64 bits.
 pub fn opening_fits()
     ensures { OpeningFits }
+{}
+
+/// What the answers of steps tell: why a step has to wait, that a program has ended, or how many notes were made.
+pub fn turns_tell()
+    ensures { TurnsTell }
+{}
+
+/// What the core's world stands for is reached by some schedule, so that the laws of every schedule hold of it.
+pub fn shown_worlds_are_reached()
+    ensures { (x : Seen) (w : PlainWorld) → Shows x w → IsReached x.script w }
+{}
+
+/// Each callout's record is in exactly one wheel, or with the one actor that is moving it.
+pub fn records_have_one_place()
+    ensures { RecordsHaveOnePlace }
+{}
+
+/// A callout is in at most one service, of a CPU or of its interrupt.
+pub fn callouts_have_one_slot()
+    ensures { CalloutsHaveOneSlot }
+{}
+
+/// The wheels have the states of the plain world that they stand for, and show its queues.
+pub fn wheels_are_of_worlds()
+    ensures { WheelsAreOfWorlds }
 {}

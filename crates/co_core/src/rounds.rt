@@ -1,14 +1,12 @@
 //! The walk of a script: its turns, then round robin until all have finished.
 ghost use Rattle.std.specs.Prelude.{◌≡◌, ℕ, ◌^◌, ◌<◌, true, OnOk, IfOk};
-ghost use Rattle.co_program.specs.Actors.{actor_count};
 ghost use Rattle.co_program.specs.Scripts.{IsScript};
-ghost use Rattle.co_core.specs.Measure.{measure};
-ghost use Rattle.co_core.specs.Stands.{StandsFor};
+ghost use Rattle.co_core.specs.Shows.{Shows};
 ghost use Rattle.co_core.specs.Walk.{AllFinished, IsWalk, round, rounds, run};
 ghost use Rattle.co_core.specs.World.{World as PlainWorld};
 
-use crate::engine::Engine;
 use crate::turn::Turn;
+use crate::world::World;
 use co_object::Lists;
 use co_program::{Script, actor_count};
 use co_sbt::NoMemory;
@@ -24,44 +22,42 @@ fn is_finished(turn: Turn) -> bool
     }
 }
 
-impl Engine {
+impl<'a> World<'a> {
     /// The script's turns, one step each.
-    fn take_turns(&mut self, script: &Script) -> Result<(), NoMemory>
-        requires script { IsScript script.now }
-        requires stands { (w : PlainWorld) × StandsFor script.now self.old.books self.old.depot w }
-        ensures { OnOk result ((w : PlainWorld) → StandsFor script.now self.old.books self.old.depot w → StandsFor script.now self.new.books self.new.depot (run script.now w script.now.turns)) }
+    fn take_turns(&mut self) -> Result<(), NoMemory>
+        ensures stands { OnOk result ((w : PlainWorld) → Shows self.old w → Shows self.new (run self.old.script w self.old.script.turns)) }
+        ensures script { self.new.script ≡ self.old.script }
     {
-        for actor in script.turns.as_slice() {
-            self.step(script, *actor)?;
+        for actor in self.script().turns.as_slice() {
+            self.step(*actor)?;
         }
         Ok(())
     }
 
     /// A round: each actor steps once, in order of the actors' numbers. The answer is whether all had finished before.
-    fn round(&mut self, script: &Script) -> Result<bool, NoMemory>
-        requires script { IsScript script.now }
-        requires stands { (w : PlainWorld) × StandsFor script.now self.old.books self.old.depot w }
-        ensures stands { OnOk result ((w : PlainWorld) → StandsFor script.now self.old.books self.old.depot w → StandsFor script.now self.new.books self.new.depot (round script.now w)) }
-        ensures finished { IfOk result (λ finished. finished ≡ true → (w : PlainWorld) → StandsFor script.now self.old.books self.old.depot w → AllFinished script.now w × (round script.now w ≡ w)) }
+    fn round(&mut self) -> Result<bool, NoMemory>
+        ensures stands { OnOk result ((w : PlainWorld) → Shows self.old w → Shows self.new (round self.old.script w)) }
+        ensures finished { IfOk result (λ finished. finished ≡ true → (w : PlainWorld) → Shows self.old w → AllFinished self.old.script w × (round self.old.script w ≡ w)) }
+        ensures script { self.new.script ≡ self.old.script }
     {
         let mut finished = true;
-        for actor in 0..actor_count(script) {
-            let ended = is_finished(self.step(script, actor)?);
+        for actor in 0..actor_count(self.script()) {
+            let ended = is_finished(self.step(actor)?);
             finished = finished && ended;
         }
         Ok(finished)
     }
 
     /// Round robin until all have finished.
-    fn run_rounds(&mut self, script: &Script) -> Result<(), NoMemory>
-        requires script { IsScript script.now }
-        requires stands { (w : PlainWorld) × StandsFor script.now self.old.books self.old.depot w }
-        ensures { OnOk result ((w : PlainWorld) → StandsFor script.now self.old.books self.old.depot w →
-            (number : ℕ) × StandsFor script.now self.new.books self.new.depot (rounds script.now w number) × AllFinished script.now (rounds script.now w number)) }
+    fn run_rounds(&mut self) -> Result<(), NoMemory>
+        requires { IsScript self.old.script }
+        ensures ends { OnOk result ((w : PlainWorld) → Shows self.old w →
+            (number : ℕ) × Shows self.new (rounds self.old.script w number) × AllFinished self.old.script (rounds self.old.script w number)) }
+        ensures script { self.new.script ≡ self.old.script }
     {
         // What is left to do falls with every round, so it ends long before it has counted so far.
         for _round in 0..u64::MAX {
-            if self.round(script)? {
+            if self.round()? {
                 return Ok(());
             }
         }
@@ -75,8 +71,8 @@ pub fn run_steps(alloc: Global, script: &Script) -> Result<Lists, NoMemory>
     requires { IsScript script.now }
     ensures { IfOk result (IsWalk script.now) }
 {
-    let mut engine = Engine::boot(alloc, script)?;
-    engine.take_turns(script)?;
-    engine.run_rounds(script)?;
-    Ok(engine.into_lists())
+    let mut world = World::boot(alloc, script)?;
+    world.take_turns()?;
+    world.run_rounds()?;
+    Ok(world.into_lists())
 }

@@ -28,6 +28,13 @@ impl Engine {
     }
 
     /// The notes so far.
+    pub(crate) fn lists(&self) -> &Lists
+        ensures { result.now ≡ self.now.books.lists }
+    {
+        self.books.lists()
+    }
+
+    /// The notes at the end.
     pub(crate) fn into_lists(self) -> Lists
         ensures { result ≡ self.books.lists }
     {
