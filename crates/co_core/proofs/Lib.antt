@@ -77,6 +77,7 @@ pub mod Landing
 pub mod Queueing
 pub mod Servers
 pub mod Waiting
+pub mod InSlots
 pub mod Picking
 pub mod Underway
 pub mod BeginSection

@@ -38,21 +38,25 @@ impl Engine {
         ensures { (s : ScriptOf) (w : PlainWorld) → IsScript s → StandsFor s self.now.books self.now.depot w → i < length s.timers →
             result ≡ (if is_moving s w i then Some (Why.Moving i) else if is_waiting w i (stage_of s stage.now) then Some (Why.Serviced i) else None) }
     {
-        if !self.depot.holds(self.depot.stand(i), i) {
+        let cpu = self.depot.stand(i);
+        if !self.depot.holds(cpu, i) {
             return Some(Why::Moving(i));
         }
-        if self.drain_waits(i, stage) {
+        if self.drain_waits(cpu, i, stage) {
             Some(Why::Serviced(i))
         } else {
             None
         }
     }
 
-    fn drain_waits(&self, i: u32, stage: &Stage) -> bool
-        ensures { (s : ScriptOf) (w : PlainWorld) → IsScript s → StandsFor s self.now.books self.now.depot w → result ≡ is_waiting w i (stage_of s stage.now) }
+    /// The CPU at which the callout stands, or the interrupt of it, has it in service.
+    fn drain_waits(&self, cpu: u32, i: u32, stage: &Stage) -> bool
+        requires { cpu < length self.now.depot.wheels }
+        ensures { (s : ScriptOf) (w : PlainWorld) → IsScript s → StandsFor s self.now.books self.now.depot w → i < length s.timers → cpu ≡ stand_at self.now.depot i →
+            result ≡ is_waiting w i (stage_of s stage.now) }
     {
         match stage {
-            Stage::Waiting { n, .. } => self.books.is_serviced(i, *n),
+            Stage::Waiting { n, .. } => self.depot.services(cpu, i, *n),
             _ => false,
         }
     }
