@@ -78,6 +78,7 @@ pub mod Queueing
 pub mod Servers
 pub mod Waiting
 pub mod InSlots
+pub mod Holders
 pub mod Picking
 pub mod Underway
 pub mod BeginSection

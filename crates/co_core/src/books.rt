@@ -18,6 +18,7 @@ ghost use Rattle.co_core.specs.Step.{callout_answers, own_note, queue_answers};
 ghost use Rattle.co_core.specs.Written.{IsNoted, list_at, place_at, with_list, with_place};
 
 mod boot;
+mod holders;
 mod waits;
 
 use co_object::{
@@ -26,6 +27,7 @@ use co_object::{
 };
 use co_program::{Cursor, Parcel, Script, advance};
 use co_sbt::{NoMemory, Room, Sbt, Seq};
+use holders::{Holders, rehold};
 use std::alloc::Global;
 use std::marker::Model;
 
@@ -35,6 +37,8 @@ pub(crate) struct Books {
     alloc: Global,
     /// By actor: its place in its program.
     places: Vec<Cursor>,
+    /// By lock: how many actors hold it.
+    holders: Vec<Holders>,
     /// By actor: its notes.
     lists: Lists,
     /// By callout: how many entries its history has.
@@ -54,6 +58,10 @@ impl Model for Books {
     ghost Value = { Written };
 
     ghost view = { λ b. record { places = b.places.items; lists = b.lists; histories = b.histories.items; journals = b.journals.items; scans = b.scans.items; own = b.own.items; made = b.made } };
+
+    ghost use Rattle.co_core.specs.Holders.{AreHolders};
+
+    ghost invariant = { λ b. AreHolders b.holders.items b.places.items };
 }
 
 /// An actor in the middle of a step: its notes are taken out of the books, with room for more.
@@ -89,6 +97,8 @@ impl Books {
         requires { actor < length self.old.places }
         ensures { self.new ≡ with_place self.old actor to }
     {
+        let from = self.places[actor as usize].hold;
+        rehold(&mut self.holders, from, to.hold);
         self.places[actor as usize] = to;
     }
 
@@ -149,6 +159,7 @@ impl Books {
     {
         let from = self.place(hand.actor);
         let to = advance(script, &from, listed, note.place, &note.entry);
+        rehold(&mut self.holders, from.hold, to.hold);
         self.places[hand.actor as usize] = to;
         self.made += 1;
         hand.push(note);

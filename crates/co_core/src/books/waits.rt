@@ -27,6 +27,17 @@ impl Books {
     pub(crate) fn is_locked(&self, held: &Held) -> bool
         ensures { result ≡ list_any (λ place. is_excluded_by held.now place.hold) self.now.places }
     {
+        match self.holders.get(held.id as usize) {
+            Some(holders) => holders.exclude(held.exclusive),
+            // No lock that a script declares is beyond the table.
+            None => self.is_held(held),
+        }
+    }
+
+    /// The same, by the places of all actors.
+    fn is_held(&self, held: &Held) -> bool
+        ensures { result ≡ list_any (λ place. is_excluded_by held.now place.hold) self.now.places }
+    {
         self.places
             .iter()
             .any(|place| is_excluded_by(held, place.hold))
