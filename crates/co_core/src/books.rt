@@ -157,9 +157,10 @@ impl Books {
         ensures count { length hand.new.notes.items ≡ length hand.old.notes.items + 1 }
         ensures made { self.new.made ≡ self.old.made + 1 }
     {
-        let from = self.place(hand.actor);
-        let to = advance(script, &from, listed, note.place, &note.entry);
-        rehold(&mut self.holders, from.hold, to.hold);
+        let from = &self.places[hand.actor as usize];
+        let (held, _over) = (from.hold, from.task);
+        let to = advance(script, from, listed, note.place, &note.entry);
+        rehold(&mut self.holders, held, to.hold);
         self.places[hand.actor as usize] = to;
         self.made += 1;
         hand.push(note);
@@ -190,16 +191,15 @@ impl Books {
     {
         let pos = self.histories[i as usize];
         self.histories[i as usize] = pos + 1;
-        let entry = Entry {
-            actor: hand.actor,
-            act,
-            op,
-            reply,
-        };
         let note = Note {
             place: Place::Timer(i),
             pos,
-            entry: AnyEntry::Timer(entry),
+            entry: AnyEntry::Timer(Entry {
+                actor: hand.actor,
+                act,
+                op,
+                reply,
+            }),
         };
         self.write(script, hand, listed, &note);
     }
@@ -230,16 +230,15 @@ impl Books {
         self.journals[cpu as usize] = pos + 1;
         let scans = self.scans[cpu as usize];
         self.scans[cpu as usize] = scans + one_scan(&op);
-        let entry = QEntry {
-            actor: hand.actor,
-            act,
-            op,
-            reply,
-        };
         let note = Note {
             place: Place::Cpu(cpu),
             pos,
-            entry: AnyEntry::Cpu(entry),
+            entry: AnyEntry::Cpu(QEntry {
+                actor: hand.actor,
+                act,
+                op,
+                reply,
+            }),
         };
         self.write(script, hand, false, &note);
     }
