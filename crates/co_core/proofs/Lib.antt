@@ -84,3 +84,4 @@ pub mod Underway
 pub mod BeginSection
 pub mod EndSection
 pub mod Undue
+pub mod Taking

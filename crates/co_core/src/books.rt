@@ -83,6 +83,14 @@ impl Books {
         self.places[actor as usize]
     }
 
+    /// The same, where it is.
+    pub(crate) fn at(&self, actor: u32) -> &Cursor
+        requires { actor < length self.now.places }
+        ensures { result.now ≡ place_at self.now actor }
+    {
+        &self.places[actor as usize]
+    }
+
     /// What the actor's place has on its way.
     pub(crate) fn parcel(&self, actor: u32) -> Option<Parcel>
         requires { actor < length self.now.places }
