@@ -20,7 +20,14 @@ use Rattle.co_core.specs.Step.{are_direct}
 use Rattle.co_core.specs.Table.{table}
 use Rattle.co_core.proofs.Tables.{table_long, table_at, fills, same}
 use Rattle.co_core.proofs.Filling.{spec_of, plain_spec}
-use Rattle.co_core.specs.Stands.{IsWritten, IsStored, IsAtWheel, at_home, is_home, alone_of}
+use Rattle.co_core.specs.Stands.{IsWritten, IsStored, IsPlaced, IsBound, StandsFor, IsAtWheel, at_home, is_home, alone_of, slot_of, callout_in}
+use Rattle.co_object.specs.declared.state.Arming.{Arming}
+use Rattle.co_object.specs.Stand.{off}
+use Rattle.co_program.specs.declared.cursor.Parcel.{Parcel}
+use Rattle.co_program.specs.declared.role.Role.{Role}
+use Rattle.co_program.specs.declared.role.Role.TheVariants.{Client, Cpu, Interrupt}
+use Rattle.co_program.specs.Actors.{role_of}
+use Rattle.co_program.specs.Scripts.{IsScript}
 use Rattle.co_core.specs.Written.{Written, first_place}
 use Rattle.co_core.proofs.Copies.{table-same}
 
@@ -87,4 +94,43 @@ opening-stored s n timers actors_is timers_is = record {
   each_stand = ap (λ k. replicate k 0) timers_is ∙ sym (table-same (length s.timers) 0);
   bags_long = length-replicate n None ∙ actors_is;
   each_bag = λ a h. get_or-replicate n a None None (omega (arith, h, actors_is));
+}
+
+-- nothing is armed, in service or on its way
+opening-placed : (s : Script) → IsScript s → IsPlaced s (open_world s)
+opening-placed s ok = record {
+  runs = λ i. refl;
+  listed = λ i cpu still is. nowhere i cpu is;
+  bound = λ a p may is. nothing a p is;
+  serves = λ a may. free (role_of s a);
+  known = λ a i may is. idle a i is;
+  settled = λ i within. record { home = some; target = λ arming is. unarmed i arming is; stand = some };
+} where
+  some : 0 < s.cpus
+  some = let l = ok.cpus.0 in omega (arith, l)
+
+  free : (role : Role) → slot_of role empty_queue ≡ None
+  free (Client c) = refl
+  free (Cpu x) = refl
+  free (Interrupt x) = refl
+
+  nowhere : (i cpu : ℕ) → off ((open_world s).timers i).state ≡ Some cpu → ((open_world s).timers i).stand ≡ cpu
+  nowhere i cpu is = let none : None ≡ Some cpu = is in cc
+
+  nothing : (a : ℕ) (p : Parcel) → ((open_world s).actors a).cursor.parcel ≡ Some p → IsBound s (open_world s) p
+  nothing a p is = let none : None ≡ Some p = is in cc
+
+  idle : (a i : ℕ) → callout_in ((open_world s).actors a).cursor.stage ≡ Some i → i < length s.timers
+  idle a i is = let none : None ≡ Some i = is in cc
+
+  unarmed : (i : ℕ) (arming : Arming) → ((open_world s).timers i).state.armed ≡ Some arming → arming.cpu < s.cpus
+  unarmed i arming is = let none : None ≡ Some arming = is in cc
+
+-- books and depot before the first step
+pub opening-stands : (s : Script) (books : Written) (depot : Stored) → IsScript s → IsWritten s books (open_world s) → IsStored s depot (open_world s) → StandsFor s books depot (open_world s)
+opening-stands s books depot ok written stored = record {
+  written = written;
+  stored = stored;
+  placed = opening-placed s ok;
+  reached = record { schedule = []; may = tt; world = refl };
 }

@@ -77,6 +77,8 @@ pub mod Landing
 pub mod Queueing
 pub mod Servers
 pub mod Waiting
+pub mod InSlots
+pub mod Holders
 pub mod Picking
 pub mod Underway
 pub mod BeginSection
@@ -86,3 +88,4 @@ pub mod Worlds
 pub mod Whereabouts
 pub mod Turning
 pub mod WorkedScripts
+pub mod Taking

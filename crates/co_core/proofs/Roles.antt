@@ -47,6 +47,13 @@ role_interrupt s cpu =
     ∙ ap (λ (t : Bool). cond t (Cpu (b - client_count s)) (Interrupt (b - client_count s - s.cpus))) (le-ltb b (client_count s + s.cpus) (omega arith))
     ∙ ap Interrupt (let e : b - client_count s - s.cpus ≡ cpu = omega arith in e)
 
+pub role_cpu_of : (s : Script) (cpu : ℕ) → cpu < s.cpus → role_of s (client_count s + cpu) ≡ Cpu cpu
+role_cpu_of s cpu within =
+    let b : ℕ = client_count s + cpu in
+    ap (λ (t : Bool). cond t (Client b) (cond (nat_lt b (client_count s + s.cpus)) (Cpu (b - client_count s)) (Interrupt (b - client_count s - s.cpus)))) (le-ltb b (client_count s) (omega arith))
+    ∙ ap (λ (t : Bool). cond t (Cpu (b - client_count s)) (Interrupt (b - client_count s - s.cpus))) (lt-ltb b (client_count s + s.cpus) (omega (arith, within)))
+    ∙ ap Cpu (let e : b - client_count s ≡ cpu = omega arith in e)
+
 pub counted : (s : Script) → s.version ≡ 2 → actor_count s ≡ client_count s + 2 * s.cpus
 counted s is = ap (λ (t : Bool). cond t (client_count s + 2 * s.cpus) (client_count s + s.cpus)) (eq-eqb s.version 2 is)
 

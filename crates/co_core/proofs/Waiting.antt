@@ -1,52 +1,40 @@
--- What the books and the depot say of who waits is what the plain world says: who holds a lock, which callout is moved, which
--- is in service, and how many Scans a CPU has made.
+-- What the books and the depot say of who waits is what the plain world says: who holds a lock, which callout is moved, and how
+-- many Scans a CPU has made.
 use Rattle.std.proofs.Common.{◌≡◌, ℕ, zero, suc, ◌+◌, ◌<◌, ◌≤◌, Bool, true, false, cond, not, ◌&&◌, ◌||◌, List, [], ◌∷◌, length, map, get_or, refl, ap, sym, subst, ◌∙◌, arith, inl, inr}
 use Rattle.std.specs.Prelude.{Option, Some, None, is_some, ◌⊎◌, ◌==◌, nat_lt, if◌then◌else◌}
 use Rattle.std.specs.List.{list_any, range_with_len}
 use Rattle.std.proofs.lemmas.Bool.{eqb-true, eq-eqb, ltb-true, ltb-false}
 use Rattle.co_object.specs.declared.Alone.{Alone}
-use Rattle.co_object.proofs.Changes.{both_true}
-use Rattle.co_object.specs.declared.State.{State}
-use Rattle.co_object.specs.declared.Run.{Run}
-use Rattle.co_object.specs.declared.Run.TheVariants as run
-use Rattle.co_object.specs.Drain.{serviced}
-use Rattle.co_object.specs.Stand.{is_idle}
-use Rattle.co_object.specs.History.{server}
 use Rattle.co_lock.specs.declared.Held.{Held}
 use Rattle.co_program.specs.declared.Script.{Script}
-use Rattle.co_program.specs.declared.Service.{Service}
 use Rattle.co_program.specs.declared.Cursor.{Cursor as CursorAt}
-use Rattle.co_program.specs.declared.Stage.{Stage as StageAt}
-use Rattle.co_program.specs.declared.Stage.TheVariants as at
-use Rattle.co_program.specs.Stages.{Stage, Stage as StageOf, Ready, Waiting, Popping, Picking, Locking, Beginning, Unlocking, Firing, Releasing, Ending, Freeing, Drained}
+use Rattle.co_program.specs.Stages.{Stage as StageOf}
 use Rattle.co_program.specs.Cursor.{Cursor}
 use Rattle.co_program.specs.declared.Role.{Role}
 use Rattle.co_program.specs.Actors.{actor_count, role_of, cpu_of}
 use Rattle.co_program.specs.declared.Action.{Action as ActionAt}
 use Rattle.co_program.specs.declared.action.Action.TheVariants as action
 use Rattle.co_program.specs.declared.Asked.{Asked}
-use Rattle.co_program.specs.declared.Asked.TheVariants.{Callout, Queue, Itself}
+use Rattle.co_program.specs.declared.Asked.TheVariants.{Callout, Queue}
 use Rattle.co_program.specs.declared.Parcel.{Parcel}
 use Rattle.co_object.specs.declared.Op.{Op}
 use Rattle.co_object.specs.declared.Op.TheVariants.{Call}
 use Rattle.co_object.specs.declared.CallOp.{CallOp}
 use Rattle.co_object.specs.declared.QOp.{QOp}
-use Rattle.co_program.specs.Action.{Action, Asks, action_for, spec_at, scans_first}
+use Rattle.co_program.specs.Action.{Asks, action_for, scans_first}
 use Rattle.co_program.specs.Scripts.{IsScript}
 use Rattle.co_program.specs.Follows.{scan_count}
 use Rattle.co_program.specs.Indexed.{stage_of, cursor_of, action_of}
 use Rattle.co_wheel.specs.Callouts.{is_here, callout}
 use Rattle.co_core.specs.World.{World, all_actors}
-use Rattle.co_core.specs.Blocked.{excludes, is_excluded_by, is_locked, is_moving, is_service_of, is_waiting, waits_for, blocked}
+use Rattle.co_core.specs.Blocked.{is_excluded_by, is_locked, is_moving, is_waiting, waits_for, blocked}
 use Rattle.co_core.specs.declared.turn.Why.{Why}
 use Rattle.co_core.specs.declared.turn.Why.TheVariants.{Moving, Serviced, Tick}
-use Rattle.co_core.specs.Laws.{actors_of}
-use Rattle.co_core.specs.Stands.{IsWritten, IsStored, IsPlaced, StandsFor, is_home, at_home, alone_of, callout_in}
+use Rattle.co_core.specs.Stands.{IsWritten, IsStored, IsPlaced, StandsFor, at_home, alone_of, callout_in}
 use Rattle.co_core.specs.Stored.{Stored, wheel_at, stand_at}
 use Rattle.co_core.specs.Table.{table}
-use Rattle.co_core.specs.Waits.{is_of, is_servicing}
 use Rattle.co_core.specs.Written.{Written, place_at, first_place}
-use Rattle.co_core.proofs.Invariant.{Holds, IsServing, RunFits, IsTaken, IsRunning, IsOver, IsBetween, cpu_of_run, service_of, states_of, places_of}
+use Rattle.co_core.proofs.Invariant.{places_of}
 use Rattle.co_core.proofs.Tables.{fills, read, long}
 use Rattle.co_core.proofs.Actions.{IsAction, IsActionWith, inserts, goes_by, scans, starts, pops, frees}
 use Rattle.co_core.proofs.HoldsKept.{view_of}
@@ -62,35 +50,6 @@ any-map : {X Y : Type 0} (p : Y → Bool) (f : X → Y) (xs : List X) → list_a
 any-map p f [] = refl
 any-map p f (x ∷ xs) = ap (λ b. p (f x) || b) (any-map p f xs)
 
-any-found : (p : ℕ → Bool) (k n : ℕ) → list_any p (range_with_len k n) ≡ true → (a : ℕ) × (a < k + n) × (p a ≡ true)
-any-found p k zero h = cc
-any-found p k (suc n) h = go (p k) refl h (λ later. any-found p (k + 1) n later) where
-  go : (b : Bool) → p k ≡ b → (b || list_any p (range_with_len (k + 1) n)) ≡ true → (list_any p (range_with_len (k + 1) n) ≡ true → (a : ℕ) × (a < k + 1 + n) × (p a ≡ true)) → (a : ℕ) × (a < k + suc n) × (p a ≡ true)
-  go true is h later = (k, omega arith, is)
-  go false is h later = let rest = later h in (rest.0, (let low = rest.1 in omega (arith, low)), rest.2)
-
-ltb-same : (k a : ℕ) → k ≤ a → nat_lt k a ≡ false → a ≡ k
-ltb-same k a low close = let most = ltb-false k a close in omega (arith, low, most)
-
-any-at : (p : ℕ → Bool) (k n a : ℕ) → k ≤ a → a < k + n → p a ≡ true → list_any p (range_with_len k n) ≡ true
-any-at p k zero a low high is = let never : ⊥ = omega (arith, low, high) in absurd never
-any-at p k (suc n) a low high is = go (nat_lt k a) refl (λ after. any-at p (k + 1) n a after (omega (arith, high)) is) where
-  or-right : (b : Bool) {c : Bool} → c ≡ true → (b || c) ≡ true
-  or-right true h = refl
-  or-right false h = h
-
-  go : (b : Bool) → nat_lt k a ≡ b → (k + 1 ≤ a → list_any p (range_with_len (k + 1) n) ≡ true) → (p k || list_any p (range_with_len (k + 1) n)) ≡ true
-  go true less later = or-right (p k) (later (let l = ltb-true k a less in omega (arith, l)))
-  go false close later =
-      let same : a ≡ k = ltb-same k a low close in
-      let here : p k ≡ true = subst (λ j. p j ≡ true) same is in
-      rw here refl
-
-same-bool : (a b : Bool) → (a ≡ true → b ≡ true) → (b ≡ true → a ≡ true) → a ≡ b
-same-bool true b to from = sym (to refl)
-same-bool false true to from = from refl
-same-bool false false to from = refl
-
 -- the books' places are those of all actors
 module _ (s : Script) (x : Written) (w : World) (h : IsWritten s x w) where
   places-table : x.places ≡ table (actor_count s) (place_at x)
@@ -105,124 +64,6 @@ module _ (s : Script) (x : Written) (w : World) (h : IsWritten s x w) where
 
   pub scans-is : (cpu : ℕ) → cpu < s.cpus → get_or x.scans cpu 0 ≡ scan_count (w.cpus cpu).journal
   scans-is cpu within = read x.scans s.cpus (λ cpu. scan_count (w.cpus cpu).journal) cpu 0 h.each_scan within
-
--- ---- who is in service
-
-abbrev services : ℕ → ℕ → Stage → Bool
-services i n (Locking v) = is_of i n v
-services i n (Beginning v) = is_of i n v
-services i n (Unlocking v acts) = is_of i n v
-services i n (Firing v acts) = is_of i n v
-services i n (Releasing v) = is_of i n v
-services i n (Ending v) = is_of i n v
-services i n stage = false
-
-stage-services : (s : Script) (i n : ℕ) (stage : StageAt) → is_servicing i n stage ≡ services i n (stage_of s stage)
-stage-services s i n at.Ready = refl
-stage-services s i n (at.Waiting m took) = refl
-stage-services s i n (at.Popping act) = refl
-stage-services s i n (at.Picking v) = refl
-stage-services s i n (at.Locking v) = refl
-stage-services s i n (at.Beginning v) = refl
-stage-services s i n (at.Unlocking v left) = refl
-stage-services s i n (at.Firing v left) = refl
-stage-services s i n (at.Releasing v) = refl
-stage-services s i n (at.Ending v) = refl
-stage-services s i n (at.Freeing v drain next) = refl
-stage-services s i n (at.Drained v left) = refl
-
-taken-serviced : (r : Run) (n cpu : ℕ) → IsTaken r n cpu → serviced r ≡ Some n
-taken-serviced run.Idle n cpu h = absurd h
-taken-serviced (run.Picked a) n cpu h = ap (λ (k : ℕ). Some k) h.0
-taken-serviced (run.Cancelled m c) n cpu h = ap (λ (k : ℕ). Some k) h.0
-taken-serviced (run.Running m c) n cpu h = absurd h
-
-running-serviced : (r : Run) (n cpu : ℕ) → IsRunning r n cpu → serviced r ≡ Some n
-running-serviced run.Idle n cpu h = absurd h
-running-serviced (run.Picked a) n cpu h = absurd h
-running-serviced (run.Cancelled m c) n cpu h = absurd h
-running-serviced (run.Running m c) n cpu h = ap (λ (k : ℕ). Some k) h.0
-
-over-serviced : (r : Run) (n cpu : ℕ) → IsOver r n cpu → serviced r ≡ Some n
-over-serviced run.Idle n cpu h = absurd h
-over-serviced (run.Picked a) n cpu h = absurd h
-over-serviced (run.Cancelled m c) n cpu h = ap (λ (k : ℕ). Some k) h.0
-over-serviced (run.Running m c) n cpu h = ap (λ (k : ℕ). Some k) h.0
-
--- a stage that services has its service's number in the run
-stage-number : (states : ℕ → State) (cpu : ℕ) (i n : ℕ) (stage : Stage) → RunFits states cpu stage → services i n stage ≡ true → serviced (states i).run ≡ Some n
-stage-number states cpu i n stage fits is = go stage fits is where
-  named : (v : Service) → serviced (states v.i).run ≡ Some v.n → is_of i n v ≡ true → serviced (states i).run ≡ Some n
-  named v h is =
-      let both = both_true (v.i == i) (v.n == n) is in
-      let callout_is : v.i ≡ i = eqb-true v.i i both.0 in
-      let number_is : v.n ≡ n = eqb-true v.n n both.1 in
-      subst (λ j. serviced (states j).run ≡ Some n) callout_is (h ∙ ap (λ (k : ℕ). Some k) number_is)
-
-  go : (stage : Stage) → RunFits states cpu stage → services i n stage ≡ true → serviced (states i).run ≡ Some n
-  go Ready fits is = cc
-  go (Waiting m took) fits is = cc
-  go (Popping act) fits is = cc
-  go (Picking v) fits is = cc
-  go (Locking v) fits is = named v (taken-serviced (states v.i).run v.n cpu fits) is
-  go (Beginning v) fits is = named v (taken-serviced (states v.i).run v.n cpu fits) is
-  go (Unlocking v acts) fits is = named v (running-serviced (states v.i).run v.n cpu fits) is
-  go (Firing v acts) fits is = named v (running-serviced (states v.i).run v.n cpu fits) is
-  go (Releasing v) fits is = named v (over-serviced (states v.i).run v.n cpu fits) is
-  go (Ending v) fits is = named v (over-serviced (states v.i).run v.n cpu fits) is
-  go (Freeing v drain next) fits is = cc
-  go (Drained v acts) fits is = cc
-
--- a run in service is that of a stage that services
-stage-of-run : (states : ℕ → State) (cpu i m : ℕ) (v : Service) (stage : Stage) → RunFits states cpu stage → IsBetween stage → service_of stage ≡ Some v → v.i ≡ i → serviced (states i).run ≡ Some m → services i m stage ≡ true
-stage-of-run states cpu i m v stage fits between is callout_is serving = go stage fits between is where
-  named : (u : Service) → serviced (states u.i).run ≡ Some u.n → u ≡ v → is_of i m u ≡ true
-  named u h same =
-      let here : u.i ≡ i = ap (λ (z : Service). z.i) same ∙ callout_is in
-      let number_is : Some u.n ≡ Some m = sym h ∙ (ap (λ j. serviced (states j).run) here ∙ serving) in
-      let number_same : u.n ≡ m = cc in
-      rw (eq-eqb u.i i here, eq-eqb u.n m number_same) refl
-
-  go : (stage : Stage) → RunFits states cpu stage → IsBetween stage → service_of stage ≡ Some v → services i m stage ≡ true
-  go Ready fits between is = cc
-  go (Waiting n took) fits between is = cc
-  go (Popping act) fits between is = cc
-  go (Picking u) fits between is = absurd between
-  go (Locking u) fits between is = named u (taken-serviced (states u.i).run u.n cpu fits) (let same : u ≡ v = cc in same)
-  go (Beginning u) fits between is = named u (taken-serviced (states u.i).run u.n cpu fits) (let same : u ≡ v = cc in same)
-  go (Unlocking u acts) fits between is = named u (running-serviced (states u.i).run u.n cpu fits) (let same : u ≡ v = cc in same)
-  go (Firing u acts) fits between is = named u (running-serviced (states u.i).run u.n cpu fits) (let same : u ≡ v = cc in same)
-  go (Releasing u) fits between is = named u (over-serviced (states u.i).run u.n cpu fits) (let same : u ≡ v = cc in same)
-  go (Ending u) fits between is = named u (over-serviced (states u.i).run u.n cpu fits) (let same : u ≡ v = cc in same)
-  go (Freeing u drain next) fits between is = absurd between
-  go (Drained u acts) fits between is = cc
-
-serviced-somewhere : (r : Run) (n : ℕ) → is_service_of n (serviced r) ≡ true → (cpu : ℕ) × (cpu_of_run r ≡ Some cpu) × (serviced r ≡ Some n)
-serviced-somewhere run.Idle n h = cc
-serviced-somewhere (run.Picked a) n h = (a.cpu, refl, ap (λ (k : ℕ). Some k) (eqb-true a.n n h))
-serviced-somewhere (run.Cancelled m c) n h = (c, refl, ap (λ (k : ℕ). Some k) (eqb-true m n h))
-serviced-somewhere (run.Running m c) n h = (c, refl, ap (λ (k : ℕ). Some k) (eqb-true m n h))
-
--- an actor is in a service of it exactly where the callout's run says so
-pub serviced-is : (s : Script) (x : Written) (w : World) → IsWritten s x w → IsServing s (states_of w) (places_of w) → ((a : ℕ) → IsBetween (places_of w a).stage) → (i n : ℕ) →
-    list_any (λ (place : CursorAt). is_servicing i n place.stage) x.places ≡ is_service_of n (serviced (w.timers i).state.run)
-serviced-is s x w h serving between i n =
-    any-place s x w h (λ (place : CursorAt). is_servicing i n place.stage) (λ a. services i n (w.actors a).cursor.stage)
-    (λ a within. stage-services s i n (place_at x a).stage ∙ ap (λ (c : Cursor). services i n c.stage) (h.each_place a within))
-    ∙ same-bool (list_any (λ a. services i n (w.actors a).cursor.stage) (all_actors s)) (is_service_of n (serviced (w.timers i).state.run)) to from where
-      to : list_any (λ a. services i n (w.actors a).cursor.stage) (all_actors s) ≡ true → is_service_of n (serviced (w.timers i).state.run) ≡ true
-      to h =
-          let found = any-found (λ a. services i n (w.actors a).cursor.stage) 0 (actor_count s) h in
-          let number = stage-number (states_of w) (cpu_of s (role_of s found.0)) i n (w.actors found.0).cursor.stage (serving.serves found.0) found.2 in
-          ap (is_service_of n) number ∙ eq-eqb n n refl
-
-      from : is_service_of n (serviced (w.timers i).state.run) ≡ true → list_any (λ a. services i n (w.actors a).cursor.stage) (all_actors s) ≡ true
-      from h =
-          let somewhere = serviced-somewhere (w.timers i).state.run n h in
-          let found = serving.served i somewhere.0 somewhere.1 in
-          let b = server (actors_of s) (spec_at s i) somewhere.0 in
-          any-at (λ a. services i n (w.actors a).cursor.stage) 0 (actor_count s) b (omega arith) (let below = found.3 in omega (arith, below))
-          (stage-of-run (states_of w) (cpu_of s (role_of s b)) i n found.0 (w.actors b).cursor.stage (serving.serves b) (between b) found.1 found.2 somewhere.2)
 
 -- ---- which callout is moved
 

@@ -1,5 +1,5 @@
 //! When an actor's next step has to wait.
-ghost use Rattle.std.specs.Prelude.{◌≡◌, ◌<◌, if◌then◌else◌, length, nat_lt, Some, None};
+ghost use Rattle.std.specs.Prelude.{◌≡◌, ◌<◌, if◌then◌else◌, length, nat_lt, is_some, true, Some, None};
 ghost use Rattle.co_program.specs.declared.script.Script.{Script as ScriptOf};
 ghost use Rattle.co_program.specs.Action.{action_for};
 ghost use Rattle.co_program.specs.Actors.{actor_count};
@@ -9,14 +9,19 @@ ghost use Rattle.co_program.specs.Scripts.{IsScript};
 ghost use Rattle.co_core.specs.Blocked.{blocked, is_locked, is_moving, is_waiting};
 ghost use Rattle.co_core.specs.Stands.{IsWritten, StandsFor};
 ghost use Rattle.co_core.specs.Stored.{stand_at};
+ghost use Rattle.co_core.specs.Step.{step, turn_of};
+ghost use Rattle.co_core.specs.declared.turn.Turn.TheVariants.{Finished};
 ghost use Rattle.co_core.specs.World.{World as PlainWorld};
 ghost use Rattle.co_core.specs.Written.{place_at};
+
+mod taking;
 
 use crate::engine::Engine;
 use crate::turn::Why;
 use co_lock::Held;
 use co_object::Op;
 use co_program::{Action, Asked, Cursor, Script, Stage, scans_first};
+use taking::{has_ended, takes_next};
 
 impl Engine {
     /// A lock is taken once no other actor holds it in a mode that excludes this one.
@@ -30,6 +35,25 @@ impl Engine {
         }
     }
 
+    /// The actor is a client that has finished.
+    pub(crate) fn has_finished(&self, script: &Script, actor: u32) -> bool
+        requires actor { actor < length self.now.books.places }
+        ensures { (w : PlainWorld) → StandsFor script.now self.now.books self.now.depot w → actor < actor_count script.now → result ≡ true → (step script.now w actor ≡ w) × (turn_of script.now w actor ≡ Finished) }
+    {
+        has_ended(script, actor, self.books.at(actor))
+    }
+
+    /// Why the actor has to wait for a lock, if a lock is what it takes next.
+    pub(crate) fn at_lock(&self, script: &Script, actor: u32) -> Option<Why>
+        requires actor { actor < length self.now.books.places }
+        ensures { (w : PlainWorld) → StandsFor script.now self.now.books self.now.depot w → actor < actor_count script.now → is_some result ≡ true → result ≡ blocked script.now w actor }
+    {
+        match takes_next(script, actor, self.books.at(actor)) {
+            Some(held) => self.lock_waits(&held),
+            None => None,
+        }
+    }
+
     /// A call waits while its callout is on its way, and a drain's next try for the end of the service that the last one
     /// named.
     fn call_waits(&self, i: u32, stage: &Stage) -> Option<Why>
@@ -38,21 +62,25 @@ impl Engine {
         ensures { (s : ScriptOf) (w : PlainWorld) → IsScript s → StandsFor s self.now.books self.now.depot w → i < length s.timers →
             result ≡ (if is_moving s w i then Some (Why.Moving i) else if is_waiting w i (stage_of s stage.now) then Some (Why.Serviced i) else None) }
     {
-        if !self.depot.holds(self.depot.stand(i), i) {
+        let cpu = self.depot.stand(i);
+        if !self.depot.holds(cpu, i) {
             return Some(Why::Moving(i));
         }
-        if self.drain_waits(i, stage) {
+        if self.drain_waits(cpu, i, stage) {
             Some(Why::Serviced(i))
         } else {
             None
         }
     }
 
-    fn drain_waits(&self, i: u32, stage: &Stage) -> bool
-        ensures { (s : ScriptOf) (w : PlainWorld) → IsScript s → StandsFor s self.now.books self.now.depot w → result ≡ is_waiting w i (stage_of s stage.now) }
+    /// The CPU at which the callout stands, or the interrupt of it, has it in service.
+    fn drain_waits(&self, cpu: u32, i: u32, stage: &Stage) -> bool
+        requires { cpu < length self.now.depot.wheels }
+        ensures { (s : ScriptOf) (w : PlainWorld) → IsScript s → StandsFor s self.now.books self.now.depot w → i < length s.timers → cpu ≡ stand_at self.now.depot i →
+            result ≡ is_waiting w i (stage_of s stage.now) }
     {
         match stage {
-            Stage::Waiting { n, .. } => self.books.is_serviced(i, *n),
+            Stage::Waiting { n, .. } => self.depot.services(cpu, i, *n),
             _ => false,
         }
     }

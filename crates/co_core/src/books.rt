@@ -18,6 +18,7 @@ ghost use Rattle.co_core.specs.Step.{callout_answers, own_note, queue_answers};
 ghost use Rattle.co_core.specs.Written.{IsNoted, list_at, place_at, with_list, with_place};
 
 mod boot;
+mod holders;
 mod waits;
 
 use co_object::{
@@ -26,6 +27,7 @@ use co_object::{
 };
 use co_program::{Cursor, Parcel, Script, advance};
 use co_sbt::{NoMemory, Room, Sbt, Seq};
+use holders::{Holders, rehold};
 use std::alloc::Global;
 use std::marker::Model;
 
@@ -35,6 +37,8 @@ pub(crate) struct Books {
     alloc: Global,
     /// By actor: its place in its program.
     places: Vec<Cursor>,
+    /// By lock: how many actors hold it.
+    holders: Vec<Holders>,
     /// By actor: its notes.
     lists: Lists,
     /// By callout: how many entries its history has.
@@ -54,6 +58,10 @@ impl Model for Books {
     ghost Value = { Written };
 
     ghost view = { λ b. record { places = b.places.items; lists = b.lists; histories = b.histories.items; journals = b.journals.items; scans = b.scans.items; own = b.own.items; made = b.made } };
+
+    ghost use Rattle.co_core.specs.Holders.{AreHolders};
+
+    ghost invariant = { λ b. AreHolders b.holders.items b.places.items };
 }
 
 /// An actor in the middle of a step: its notes are taken out of the books, with room for more.
@@ -75,6 +83,14 @@ impl Books {
         self.places[actor as usize]
     }
 
+    /// The same, where it is.
+    pub(crate) fn at(&self, actor: u32) -> &Cursor
+        requires { actor < length self.now.places }
+        ensures { result.now ≡ place_at self.now actor }
+    {
+        &self.places[actor as usize]
+    }
+
     /// What the actor's place has on its way.
     pub(crate) fn parcel(&self, actor: u32) -> Option<Parcel>
         requires { actor < length self.now.places }
@@ -89,6 +105,8 @@ impl Books {
         requires { actor < length self.old.places }
         ensures { self.new ≡ with_place self.old actor to }
     {
+        let from = self.places[actor as usize].hold;
+        rehold(&mut self.holders, from, to.hold);
         self.places[actor as usize] = to;
     }
 
@@ -147,8 +165,10 @@ impl Books {
         ensures count { length hand.new.notes.items ≡ length hand.old.notes.items + 1 }
         ensures made { self.new.made ≡ self.old.made + 1 }
     {
-        let from = self.place(hand.actor);
-        let to = advance(script, &from, listed, note.place, &note.entry);
+        let from = &self.places[hand.actor as usize];
+        let (held, _over) = (from.hold, from.task);
+        let to = advance(script, from, listed, note.place, &note.entry);
+        rehold(&mut self.holders, held, to.hold);
         self.places[hand.actor as usize] = to;
         self.made += 1;
         hand.push(note);
@@ -179,16 +199,15 @@ impl Books {
     {
         let pos = self.histories[i as usize];
         self.histories[i as usize] = pos + 1;
-        let entry = Entry {
-            actor: hand.actor,
-            act,
-            op,
-            reply,
-        };
         let note = Note {
             place: Place::Timer(i),
             pos,
-            entry: AnyEntry::Timer(entry),
+            entry: AnyEntry::Timer(Entry {
+                actor: hand.actor,
+                act,
+                op,
+                reply,
+            }),
         };
         self.write(script, hand, listed, &note);
     }
@@ -219,16 +238,15 @@ impl Books {
         self.journals[cpu as usize] = pos + 1;
         let scans = self.scans[cpu as usize];
         self.scans[cpu as usize] = scans + one_scan(&op);
-        let entry = QEntry {
-            actor: hand.actor,
-            act,
-            op,
-            reply,
-        };
         let note = Note {
             place: Place::Cpu(cpu),
             pos,
-            entry: AnyEntry::Cpu(entry),
+            entry: AnyEntry::Cpu(QEntry {
+                actor: hand.actor,
+                act,
+                op,
+                reply,
+            }),
         };
         self.write(script, hand, false, &note);
     }

@@ -11,8 +11,9 @@ ghost use Rattle.co_core.specs.Stored.{IsBegun, IsCalled, IsEnded, IsLanded, IsN
 
 mod boot;
 
+use co_bucket::WheelQueue;
 use co_object::{CallOp, Reply};
-use co_queue::{ListQueue, Looks};
+use co_queue::Looks;
 use co_sbt::Sbt;
 use co_wheel::{EndOut, NextOut, Parcel, Wheel};
 use std::marker::Model;
@@ -20,7 +21,7 @@ use std::marker::Model;
 /// Where the callouts' records are: at the wheels of the CPUs, or on their way.
 #[derive(Drop)]
 pub(crate) struct Depot {
-    wheels: Vec<Wheel<ListQueue>>,
+    wheels: Vec<Wheel<WheelQueue>>,
     /// By callout: the CPU where its record stands, or which it is leaving.
     stands: Vec<u32>,
     /// By actor: the record that it is moving.
@@ -154,14 +155,14 @@ fn is_entry(entry: Option<(u32, u64)>, i: u32, n: u64) -> bool
     }
 }
 
-fn scan(wheel: &mut Wheel<ListQueue>, now: Sbt) -> u32
+fn scan(wheel: &mut Wheel<WheelQueue>, now: Sbt) -> u32
     ensures { IsScanned wheel.old now result wheel.new }
 {
     let mut looks = Looks::new();
     wheel.scan(now, &mut looks)
 }
 
-fn call(wheel: &mut Wheel<ListQueue>, i: u32, op: &CallOp) -> (Called, Option<Parcel>)
+fn call(wheel: &mut Wheel<WheelQueue>, i: u32, op: &CallOp) -> (Called, Option<Parcel>)
     requires { is_here wheel.old.callouts i ≡ true }
     ensures { IsCalled wheel.old i op.now result.0.reply result.0.removed result.0.listed result.0.inserted result.1 wheel.new }
 {
@@ -175,7 +176,7 @@ fn call(wheel: &mut Wheel<ListQueue>, i: u32, op: &CallOp) -> (Called, Option<Pa
     (called, out.leaves)
 }
 
-fn end(wheel: &mut Wheel<ListQueue>, direct: bool) -> EndOut
+fn end(wheel: &mut Wheel<WheelQueue>, direct: bool) -> EndOut
     requires possible { is_some (end_here direct wheel.old.callouts) ≡ true }
     ensures { IsEnded direct wheel.old result.reply result.leaves wheel.new }
 {
@@ -186,7 +187,7 @@ fn end(wheel: &mut Wheel<ListQueue>, direct: bool) -> EndOut
     }
 }
 
-fn next(wheel: &mut Wheel<ListQueue>, direct: bool) -> NextOut
+fn next(wheel: &mut Wheel<WheelQueue>, direct: bool) -> NextOut
     requires free { in_service direct wheel.old.callouts ≡ None }
     ensures { IsNext direct wheel.old result wheel.new }
 {

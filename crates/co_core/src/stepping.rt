@@ -53,6 +53,12 @@ impl Engine {
         if self.books.is_full() {
             return Err(NoMemory {});
         }
+        if self.has_finished(script, actor) {
+            return Ok(Turn::Finished);
+        }
+        if let Some(why) = self.at_lock(script, actor) {
+            return Ok(Turn::Blocked(why));
+        }
         let place = self.books.place(actor);
         let action = action_for(script, actor, &place);
         if let Some(why) = self.blocked(script, actor, &place, &action) {

@@ -1,12 +1,14 @@
 //! The books before the first step.
 ghost use Rattle.std.specs.Prelude.{◌≡◌, [], replicate, IfOk};
 ghost use Rattle.co_program.specs.Scripts.{IsScript};
+ghost use Rattle.co_core.specs.Holders.{no_holders};
 ghost use Rattle.co_core.specs.Stands.{IsWritten};
 ghost use Rattle.co_core.specs.World.{open_world};
 ghost use Rattle.co_core.specs.Written.{first_place};
 ghost use Rattle.co_program.specs.Actors.{actor_count};
 
 use super::Books;
+use super::holders::Holders;
 use co_lock::Held;
 use co_object::{Lists, Next, Note};
 use co_program::{Cursor, Parcel, Script, Stage, actor_count};
@@ -50,6 +52,14 @@ fn first_places(alloc: Global, count: usize) -> Result<Vec<Cursor>, AllocError>
     Ok(places)
 }
 
+/// So many locks that nobody holds.
+fn nobody(alloc: Global, locks: usize) -> Result<Vec<Holders>, AllocError>
+    ensures { IfOk result (λ holders. holders.items ≡ replicate locks no_holders) }
+{
+    let holders = vec![in alloc; Holders::none(); locks]?;
+    Ok(holders)
+}
+
 /// So many empty lists of notes.
 fn empty_lists(alloc: Global, count: usize) -> Result<Lists, NoMemory>
     ensures { IfOk result (λ lists. lists ≡ replicate count []) }
@@ -86,6 +96,7 @@ impl Books {
         Ok(Books {
             alloc,
             places: first_places(alloc, actors)?,
+            holders: nobody(alloc, script.locks.as_slice().len())?,
             lists,
             histories: zeros(alloc, timers)?,
             journals: zeros(alloc, cpus)?,

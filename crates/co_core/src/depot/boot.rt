@@ -11,9 +11,9 @@ ghost use Rattle.co_core.specs.Table.{table};
 ghost use Rattle.co_core.specs.World.{open_world};
 
 use super::Depot;
+use co_bucket::WheelQueue;
 use co_object::Spec;
 use co_program::{Script, actor_count};
-use co_queue::ListQueue;
 use co_record::Record;
 use co_sbt::{NoMemory, Seq};
 use co_wheel::{Parcel, Wheel};
@@ -37,18 +37,18 @@ fn empty_wheel(
     size: u32,
     buckets: u32,
     direct: &[bool],
-) -> Result<Wheel<ListQueue>, NoMemory>
+) -> Result<Wheel<WheelQueue>, NoMemory>
     requires size { IsSize size }
     requires buckets { IsWheel buckets }
     requires direct { length direct.now ≡ size }
     ensures { IfOk result (λ wheel. wheel ≡ cpu_of (empty_callouts cpu size) (empty_timers size buckets direct.now)) }
 {
-    let queue = ListQueue::new(alloc, size, buckets, direct)?;
+    let queue = WheelQueue::new(alloc, size, buckets, direct)?;
     Wheel::new(alloc, cpu, size, queue)
 }
 
 /// All callouts come to a wheel at which none is.
-fn put_all(wheel: &mut Wheel<ListQueue>, specs: &[Spec])
+fn put_all(wheel: &mut Wheel<WheelQueue>, specs: &[Spec])
     requires empty { wheel.old.callouts.here ≡ replicate (length specs.now) None }
     requires few { length specs.now < 1025 }
     requires direct { wheel.old.timers.direct ≡ map (λ spec. spec.direct) specs.now }
@@ -65,7 +65,7 @@ fn first_wheel(
     script: &Script,
     direct: &[bool],
     cpu: u32,
-) -> Result<Wheel<ListQueue>, NoMemory>
+) -> Result<Wheel<WheelQueue>, NoMemory>
     requires script { IsScript script.now }
     requires direct { direct.now ≡ map (λ spec. spec.direct) script.now.timers }
     ensures { IfOk result (λ wheel. wheel ≡ first_wheel script.now cpu) }
@@ -93,7 +93,7 @@ fn first_wheels(
     alloc: Global,
     script: &Script,
     direct: &[bool],
-) -> Result<Vec<Wheel<ListQueue>>, NoMemory>
+) -> Result<Vec<Wheel<WheelQueue>>, NoMemory>
     requires script { IsScript script.now }
     requires direct { direct.now ≡ map (λ spec. spec.direct) script.now.timers }
     ensures { IfOk result (λ wheels. wheels.items ≡ table script.now.cpus (first_wheel script.now)) }

@@ -18,7 +18,8 @@ use co_sbt::NoMemory;
 
 impl Engine {
     /// An action that nothing blocks, other than that of an actor that has finished. The answer is how many notes it makes.
-    /// After NoMemory all is as it was.
+    /// After NoMemory all is as it was. Not inlined, since a step that is blocked would pay for its locals too.
+    #[inline(never)]
     pub(crate) fn act(
         &mut self,
         script: &Script,

@@ -1,25 +1,66 @@
-use Rattle.std.proofs.Common.{arith, rules, ◌≡◌, ◌<◌, ◌≤◌, ◌+◌, ◌^◌, sym, subst, ap, ◌∙◌, length}
+use Rattle.std.proofs.Common.{arith, rules, ◌≡◌, ◌<◌, ◌≤◌, ◌+◌, ◌-◌, ◌^◌, ℕ, List, sym, subst, ap, ◌∙◌, length, get_or, set}
+use Rattle.std.proofs.lemmas.List.{get_or_read}
 use Rattle.co_core.specs.contracts.books.Books.{the_view}
-use Rattle.co_core.specs.Written.{Written, IsNoted, with_list, place_at}
+use Rattle.co_core.specs.declared.books.holders.Holders.{Holders}
+use Rattle.co_core.specs.Holders.{AreHolders, no_holders, released, taken}
+use Rattle.co_core.specs.Written.{Written, IsNoted, first_place, with_list, place_at}
 use Rattle.co_program.specs.Indexed.{IsCounted, Counts, cursor_of}
 use Rattle.co_program.specs.declared.cursor.Cursor.{Cursor as CursorAt}
 use Rattle.co_program.specs.Advance.{advance}
+use Rattle.co_core.proofs.Holders.{moved, few-left}
 use Rattle.co_core.proofs.Noting.{noted_by, went}
 use Rattle.co_core.proofs.books.Books.write.Goals as goal
 
 pub advance-to-requires-clause-room : goal.advance-to-requires-clause-room
 advance-to-requires-clause-room c =
-    let over : c.place-from.result.task < 2 ^ 32 = search rules in
-    let counted : IsCounted c.place-from.result c.args.self.now.made = subst (λ (p : CursorAt). IsCounted p c.args.self.now.made) (sym c.place-from.ensures) c.requires.counted in
+    let x : Written = the_view c.self.inside in
+    let a = c.args.hand.now.actor in
+    let there : a < length x.places = subst (λ (y : Written). a < length y.places) (sym c.self.view_is) c.requires.actor in
+    let from : c.index-from.result.now ≡ place_at x a = get_or_read c.self.inside.places.items a c.index-from.result.now there c.index-from.ensures first_place in
+    let over : c.index-from.result.now.task < 2 ^ 32 = search rules in
+    let counted : IsCounted c.index-from.result.now c.args.self.now.made =
+    subst (λ (p : CursorAt). IsCounted p c.args.self.now.made) (sym (from ∙ ap (λ (y : Written). place_at y a) c.self.view_is)) c.requires.counted in
     omega (arith, counted)
 
 pub returns-clause-noted : goal.returns-clause-noted
 returns-clause-noted c =
     let x : Written = the_view c.self.inside in
     let a = c.args.hand.now.actor in
-    let from : c.place-from.result ≡ place_at x a = c.place-from.ensures ∙ ap (λ (y : Written). place_at y a) (sym c.self.view_is) in
+    let there : a < length x.places = subst (λ (y : Written). a < length y.places) (sym c.self.view_is) c.requires.actor in
+    let from : c.index-from.result.now ≡ place_at x a = get_or_read c.self.inside.places.items a c.index-from.result.now there c.index-from.ensures first_place in
     let within : a < length x.lists = subst (λ (y : Written). a < length y.lists) (sym c.self.view_is) c.requires.list in
     subst (λ (y : Written). IsNoted c.args.script.now a c.args.listed c.args.note.now (with_list y a c.args.hand.now.notes.items) (with_list (went x a c.advance-to.result) a c.push.new.self.notes.items)) c.self.view_is
     (noted_by c.args.script.now a c.args.listed c.args.note.now x c.args.hand.now.notes.items c.push.new.self.notes.items c.advance-to.result within
     (subst (λ (p : CursorAt). cursor_of c.args.script.now a c.advance-to.result ≡ advance c.args.script.now (cursor_of c.args.script.now a p) c.args.listed c.args.note.now.place c.args.note.now.entry) from (c.advance-to.ensures.cursor a))
     (subst (λ (p : CursorAt). Counts p c.advance-to.result 1) from c.advance-to.ensures.counted) c.push.ensures.items)
+
+pub rehold-requires-clause-shared : goal.rehold-requires-clause-shared
+rehold-requires-clause-shared c =
+    let x : Written = the_view c.self.inside in
+    let a = c.args.hand.now.actor in
+    let there : a < length x.places = subst (λ (y : Written). a < length y.places) (sym c.self.view_is) c.requires.actor in
+    let from : c.index-from.result.now ≡ place_at x a = get_or_read c.self.inside.places.items a c.index-from.result.now there c.index-from.ensures first_place in
+    let long : length c.self.inside.places.items < 2 ^ 64 = search rules in
+    subst (λ (p : CursorAt). (k : ℕ) → k < length (released p.hold c.self.inside.holders.items) → (get_or (released p.hold c.self.inside.holders.items) k no_holders).shared < 2 ^ 64 - 1) (sym from)
+    (λ k below. (let few = (few-left c.self.inside.holders.items c.self.inside.places.items a c.self.invariant there k below).0 in omega (arith, few, long)))
+
+pub rehold-requires-clause-exclusive : goal.rehold-requires-clause-exclusive
+rehold-requires-clause-exclusive c =
+    let x : Written = the_view c.self.inside in
+    let a = c.args.hand.now.actor in
+    let there : a < length x.places = subst (λ (y : Written). a < length y.places) (sym c.self.view_is) c.requires.actor in
+    let from : c.index-from.result.now ≡ place_at x a = get_or_read c.self.inside.places.items a c.index-from.result.now there c.index-from.ensures first_place in
+    let long : length c.self.inside.places.items < 2 ^ 64 = search rules in
+    subst (λ (p : CursorAt). (k : ℕ) → k < length (released p.hold c.self.inside.holders.items) → (get_or (released p.hold c.self.inside.holders.items) k no_holders).exclusive < 2 ^ 64 - 1) (sym from)
+    (λ k below. (let few = (few-left c.self.inside.holders.items c.self.inside.places.items a c.self.invariant there k below).1 in omega (arith, few, long)))
+
+pub invariant_of-self : goal.invariant_of-self
+invariant_of-self c =
+    let x : Written = the_view c.self.inside in
+    let a = c.args.hand.now.actor in
+    let to = c.advance-to.result in
+    let there : a < length x.places = subst (λ (y : Written). a < length y.places) (sym c.self.view_is) c.requires.actor in
+    let from : c.index-from.result.now ≡ place_at x a = get_or_read c.self.inside.places.items a c.index-from.result.now there c.index-from.ensures first_place in
+    let all : c.rehold.new.holders.items ≡ taken to.hold (released (place_at x a).hold c.self.inside.holders.items) =
+    c.rehold.ensures ∙ ap (λ (p : CursorAt). taken to.hold (released p.hold c.self.inside.holders.items)) from in
+    subst (λ (t : List Holders). AreHolders t (set c.self.inside.places.items a to)) (sym all) (moved c.self.inside.holders.items c.self.inside.places.items a to c.self.invariant there)

@@ -1,0 +1,17 @@
+-- A client's next act, or the service under way, takes this lock, and so does the action.
+use Rattle.std.proofs.Common.{rules, ◌≡◌, None, ◌∙◌, sym}
+use Rattle.co_lock.specs.declared.held.Held.{Held}
+use Rattle.co_program.specs.declared.cursor.Parcel.{Parcel}
+use Rattle.std.specs.declared.option.Option.{Option}
+use Rattle.co_core.proofs.Taking.{client-takes, service-takes, none-there}
+use Rattle.co_core.proofs.blocked.taking.takes_next.Goals as goal
+
+pub returns-else-is_some-2 : goal.returns-else-is_some-2
+returns-else-is_some-2 c = λ held is.
+    (client-takes c.args.script.now c.args.actor c.args.place.now held
+    (none-there c.args.place.now.parcel (sym c.is_some.ensures ∙ c.if-is_some.false)) (none-there c.args.place.now.hold (sym c.is_some-in-Ready.ensures ∙ c.if-is_some-2.false)) c.in-Ready.is
+    (sym c.client_lock.ensures ∙ is))
+
+pub returns-in-Locking : goal.returns-in-Locking
+returns-in-Locking c = λ held is.
+    (service-takes c.args.script.now c.args.actor c.args.place.now c.in-Locking.service held (none-there c.args.place.now.parcel (sym c.is_some.ensures ∙ c.if-is_some.false)) c.in-Locking.is (sym c.service_lock.ensures ∙ is))

@@ -1,0 +1,7 @@
+-- The books and the depot before the first step stand for the world that opens.
+use Rattle.std.proofs.Common.{rules}
+use Rattle.co_core.proofs.Booting.{opening-stands}
+use Rattle.co_core.proofs.engine.Engine.boot.Goals as goal
+
+pub returns : goal.returns
+returns c = opening-stands c.args.script.now c.in_ok-books.books c.in_ok-depot.depot c.requires c.in_ok-books.ensures c.in_ok-depot.ensures

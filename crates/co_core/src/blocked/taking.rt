@@ -1,0 +1,96 @@
+//! What an actor's place tells at a glance: that its program has ended, or which lock it takes next. Those who have ended or
+//! wait are asked again and again, so this is told without what else a next step would make.
+ghost use Rattle.std.specs.Prelude.{◌≡◌, ◌<◌, ◌≤◌, true, length, Some, slice_get};
+ghost use Rattle.std.specs.Option.{option_and_then};
+ghost use Rattle.co_lock.specs.declared.held.Held.{Held as HeldOf};
+ghost use Rattle.co_lock.specs.Service.{hold_of};
+ghost use Rattle.co_program.specs.Action.{Nothing, Take, action_for};
+ghost use Rattle.co_program.specs.Actors.{acts_at};
+ghost use Rattle.co_program.specs.Cursor.{Cursor as PlaceOf};
+ghost use Rattle.co_program.specs.Indexed.{cursor_of};
+ghost use Rattle.co_core.specs.Taking.{lock_of};
+
+use co_lock::{Held, hold_of};
+use co_program::{Act, Cursor, Script, Stage};
+
+/// The actor is a client whose program has ended.
+pub(crate) fn has_ended(script: &Script, actor: u32, place: &Cursor) -> bool
+    ensures { result ≡ true → action_for script.now actor (cursor_of script.now actor place.now) ≡ Nothing }
+{
+    if place.parcel.is_some() || place.hold.is_some() {
+        return false;
+    }
+    match &place.stage {
+        Stage::Ready => has_none_left(script, actor, place.task),
+        _ => false,
+    }
+}
+
+/// The client has acts, all of them before this index.
+fn has_none_left(script: &Script, client: u32, index: u32) -> bool
+    ensures { result ≡ true → client < length script.now.clients × length (acts_at script.now.clients client) ≤ index }
+{
+    match script.clients.as_slice().get(client as usize) {
+        Some(acts) => acts.as_slice().len() <= index as usize,
+        None => false,
+    }
+}
+
+/// The hold that the actor takes next, where that is all it does.
+pub(crate) fn takes_next(script: &Script, actor: u32, place: &Cursor) -> Option<Held>
+    ensures { (held : HeldOf) → result ≡ Some held → (to : PlaceOf) × (action_for script.now actor (cursor_of script.now actor place.now) ≡ Take held to) }
+{
+    if place.parcel.is_some() {
+        return None;
+    }
+    match &place.stage {
+        Stage::Ready => {
+            if place.hold.is_some() {
+                None
+            } else {
+                client_lock(script, actor, place.task)
+            }
+        }
+        Stage::Locking(service) => service_lock(script, service.i),
+        _ => None,
+    }
+}
+
+/// What the act of a client takes, counted from 0.
+fn client_lock(script: &Script, client: u32, index: u32) -> Option<Held>
+    ensures { result ≡ option_and_then lock_of (slice_get (acts_at script.now.clients client) index) }
+{
+    match script.clients.as_slice().get(client as usize) {
+        Some(acts) => match acts.as_slice().get(index as usize) {
+            Some(act) => lock_of(act),
+            None => None,
+        },
+        None => None,
+    }
+}
+
+fn lock_of(act: &Act) -> Option<Held>
+    ensures { result ≡ lock_of act.now }
+{
+    match *act {
+        Act::Lock(id) => Some(Held {
+            id,
+            exclusive: true,
+        }),
+        Act::ReadLock(id) => Some(Held {
+            id,
+            exclusive: false,
+        }),
+        _ => None,
+    }
+}
+
+/// What a service takes before it calls the callout's function.
+fn service_lock(script: &Script, i: u32) -> Option<Held>
+    ensures { result ≡ option_and_then (λ spec. hold_of spec.lock) (slice_get script.now.timers i) }
+{
+    match script.timers.as_slice().get(i as usize) {
+        Some(spec) => hold_of(spec.lock),
+        None => None,
+    }
+}

@@ -1,0 +1,103 @@
+//! How many actors hold each lock.
+ghost use Rattle.std.specs.Prelude.{◌≡◌, ℕ, ◌<◌, ◌^◌, ◌-◌, get_or, length};
+ghost use Rattle.co_core.specs.Holders.{excludes_any, fewer, more, no_holders, released, taken};
+
+use co_lock::Held;
+
+/// How many actors hold a lock.
+#[derive(Clone, Copy, Debug, PartialEq, Eq)]
+pub(crate) struct Holders {
+    /// Those that share it.
+    pub shared: u64,
+    /// Those that have it alone.
+    pub exclusive: u64,
+}
+
+impl Holders {
+    /// Nobody.
+    pub(crate) fn none() -> Holders
+        ensures { result ≡ no_holders }
+    {
+        Holders {
+            shared: 0,
+            exclusive: 0,
+        }
+    }
+
+    /// Whether some of them shut out a hold, which is exclusive or shared.
+    pub(crate) fn exclude(&self, exclusive: bool) -> bool
+        ensures { result ≡ excludes_any exclusive self.now }
+    {
+        self.exclusive > 0 || (exclusive && self.shared > 0)
+    }
+
+    fn more(self, exclusive: bool) -> Holders
+        requires shared { self.shared < 2 ^ 64 - 1 }
+        requires exclusive { self.exclusive < 2 ^ 64 - 1 }
+        ensures { result ≡ more exclusive self }
+    {
+        if exclusive {
+            Holders {
+                exclusive: self.exclusive + 1,
+                ..self
+            }
+        } else {
+            Holders {
+                shared: self.shared + 1,
+                ..self
+            }
+        }
+    }
+
+    fn fewer(self, exclusive: bool) -> Holders
+        ensures { result ≡ fewer exclusive self }
+    {
+        if exclusive {
+            Holders {
+                exclusive: self.exclusive.saturating_sub(1),
+                ..self
+            }
+        } else {
+            Holders {
+                shared: self.shared.saturating_sub(1),
+                ..self
+            }
+        }
+    }
+}
+
+fn take(holders: &mut Vec<Holders>, hold: Option<Held>)
+    requires shared { (k : ℕ) → k < length holders.old.items → (get_or holders.old.items k no_holders).shared < 2 ^ 64 - 1 }
+    requires exclusive { (k : ℕ) → k < length holders.old.items → (get_or holders.old.items k no_holders).exclusive < 2 ^ 64 - 1 }
+    ensures { holders.new.items ≡ taken hold holders.old.items }
+{
+    let Some(held) = hold else {
+        return;
+    };
+    let lock = held.id as usize;
+    if lock < holders.len() {
+        holders[lock] = holders[lock].more(held.exclusive);
+    }
+}
+
+fn release(holders: &mut Vec<Holders>, hold: Option<Held>)
+    ensures { holders.new.items ≡ released hold holders.old.items }
+{
+    let Some(held) = hold else {
+        return;
+    };
+    let lock = held.id as usize;
+    if lock < holders.len() {
+        holders[lock] = holders[lock].fewer(held.exclusive);
+    }
+}
+
+/// An actor that had one hold, if any, has another now.
+pub(crate) fn rehold(holders: &mut Vec<Holders>, from: Option<Held>, to: Option<Held>)
+    requires shared { (k : ℕ) → k < length (released from holders.old.items) → (get_or (released from holders.old.items) k no_holders).shared < 2 ^ 64 - 1 }
+    requires exclusive { (k : ℕ) → k < length (released from holders.old.items) → (get_or (released from holders.old.items) k no_holders).exclusive < 2 ^ 64 - 1 }
+    ensures { holders.new.items ≡ taken to (released from holders.old.items) }
+{
+    release(holders, from);
+    take(holders, to);
+}
