@@ -1,0 +1,38 @@
+-- Going along the lines: those above one more, and those that are left.
+use Rattle.std.proofs.Common.{◌≡◌, ℕ, suc, ◌+◌, ◌<◌, cond, List, [], ◌∷◌, ◌++◌, take, drop, length, get_or, refl, ap, sym, subst, ◌∙◌, arith, add-one}
+use Rattle.std.specs.Prelude.{Option, Some, None, slice_get}
+use Rattle.std.proofs.Math.Seq.{drop-cons}
+use Rattle.std.proofs.lemmas.List.{take_more}
+use Rattle.std.proofs.lemmas.Option.{slice_get_within, get_or_from_slice_get}
+use Rattle.co_program.specs.declared.script.Script.{Script}
+use Rattle.co_report.specs.declared.line.Line.{Line}
+use Rattle.co_check.specs.declared.verdict.Unfit.{Unfit}
+use Rattle.co_check.specs.Astray.{Seen, seen_at, seen_from}
+use Rattle.co_check.specs.Replay.{Bad, bad_or, first_bad}
+
+pub front : {X : Type 0} (xs : List X) (k : ℕ) (x : X) → slice_get xs k ≡ Some x → take (k + 1) xs ≡ take k xs ++ x ∷ []
+front xs k x h = take_more xs k x (slice_get_within xs k x h) ∙ ap (λ y. take k xs ++ y ∷ []) (get_or_from_slice_get xs k x x h)
+
+pub back : {X : Type 0} (xs : List X) (k : ℕ) (x : X) → slice_get xs k ≡ Some x → drop k xs ≡ x ∷ drop (k + 1) xs
+back xs k x h = drop-cons xs k x (slice_get_within xs k x h) ∙ (ap (λ y. y ∷ drop (suc k) xs) (get_or_from_slice_get xs k x x h) ∙ ap (λ n. x ∷ drop n xs) (sym (add-one k)))
+
+module _ (wrong : List Line → Line → Option Unfit) (lines : List Line) (k : ℕ) (x : Line) (here : slice_get lines k ≡ Some x) where
+  from_here : first_bad wrong (take k lines) (drop k lines) ≡ bad_or (wrong (take k lines) x) x.line (first_bad wrong (take k lines ++ x ∷ []) (drop (k + 1) lines))
+  from_here = ap (first_bad wrong (take k lines)) (back lines k x here)
+
+  -- nothing is wrong with the line
+  pub first-on : wrong (take k lines) x ≡ None → first_bad wrong (take k lines) (drop k lines) ≡ first_bad wrong (take (k + 1) lines) (drop (k + 1) lines)
+  first-on fine =
+      from_here
+      ∙ (ap (λ o. bad_or o x.line (first_bad wrong (take k lines ++ x ∷ []) (drop (k + 1) lines))) fine
+      ∙ ap (λ above. first_bad wrong above (drop (k + 1) lines)) (sym (front lines k x here)))
+
+  -- something is
+  pub first-at : (cause : Unfit) → wrong (take k lines) x ≡ Some cause → first_bad wrong (take k lines) (drop k lines) ≡ Some (record { line = x.line; cause = cause })
+  first-at cause bad = from_here ∙ ap (λ o. bad_or o x.line (first_bad wrong (take k lines ++ x ∷ []) (drop (k + 1) lines))) bad
+
+pub seen-on : (s : Script) (lines : List Line) (k : ℕ) (x : Line) → slice_get lines k ≡ Some x →
+    seen_from s (take k lines) (drop k lines) ≡ seen_at s (take k lines) x ∷ seen_from s (take (k + 1) lines) (drop (k + 1) lines)
+seen-on s lines k x here =
+    ap (seen_from s (take k lines)) (back lines k x here)
+    ∙ ap (λ above. seen_at s (take k lines) x ∷ seen_from s above (drop (k + 1) lines)) (sym (front lines k x here))

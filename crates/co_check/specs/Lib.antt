@@ -1,0 +1,15 @@
+pub mod Same
+pub mod Shown
+pub mod Cpu
+pub mod Replay
+pub mod Numbers
+pub mod Asking
+pub mod Astray
+pub mod Verdict
+pub mod Laws
+pub mod Programs
+pub mod Runs
+pub mod Lines
+pub mod Replayed
+pub mod Index
+pub mod Walked

@@ -1,0 +1,39 @@
+-- The report of a run is legal.
+use Rattle.std.specs.Prelude.{◌≡◌, ℕ, List, take, Option, Some, option_and_then, slice_get}
+use Rattle.std.specs.List.{count_by}
+use Rattle.co_object.specs.declared.Note.{Note}
+use Rattle.co_object.specs.declared.Place.{Place}
+use Rattle.co_object.specs.Lists as lists_of
+use Rattle.co_object.specs.Lists.{same_place}
+use Rattle.co_program.specs.declared.script.Script.{Script}
+use Rattle.co_program.specs.Runs.{IsRunOf}
+use Rattle.co_report.specs.declared.line.Line.{Line}
+use Rattle.co_report.specs.Origins.{note_at}
+use Rattle.co_check.specs.declared.verdict.Verdict.TheVariants.{Legal}
+use Rattle.co_check.specs.Lines.{AreLinesOf}
+use Rattle.co_check.specs.Shown.{actor_of, callout_history, cpu_journal}
+use Rattle.co_check.specs.Verdict.{verdict_of}
+
+-- how many of these lines stand in a place
+abbrev pub count_in : Place → List Line → ℕ
+count_in p lines = count_by (λ l. same_place l.place p) lines
+
+-- the line shows the note of this number of the actor, below as many of its place as the note's position says
+pub record IsLineOfNote (lines : List Line) (j a number : ℕ) (l : Line) (note : Note) : Type 0 where
+  pub at : slice_get lines j ≡ Some l
+  pub actor : actor_of l.entry ≡ a
+  pub number_is : l.number ≡ number
+  pub place : l.place ≡ note.place
+  pub entry : l.entry ≡ note.entry
+  pub pos : count_in l.place (take j lines) ≡ note.pos
+
+-- each place's lines are its history, each line shows a note, and each note has a line
+pub record Show (lists : List (List Note)) (lines : List Line) : Type 0 where
+  pub callouts : (i : ℕ) → callout_history i lines ≡ lists_of.callout_history i lists
+  pub cpus : (cpu : ℕ) → cpu_journal cpu lines ≡ lists_of.cpu_journal cpu lists
+  pub each_line : (j : ℕ) (l : Line) → slice_get lines j ≡ Some l → (note : Note) × (note_at lists (actor_of l.entry) l.number ≡ Some note) × IsLineOfNote lines j (actor_of l.entry) l.number l note
+  pub each_note : (a number : ℕ) (note : Note) → note_at lists a number ≡ Some note → (j : ℕ) × (l : Line) × IsLineOfNote lines j a number l note
+
+-- the report of a run is legal
+abbrev pub RunsAreLegal : Type 0
+RunsAreLegal = (s : Script) (lists : List (List Note)) (lines : List Line) (end : ℕ) → IsRunOf s lists → AreLinesOf s lines → Show lists lines → verdict_of s lines end ≡ Legal

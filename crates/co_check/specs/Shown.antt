@@ -1,0 +1,60 @@
+-- What lines of a report show: the history of each place, and who made which entry.
+use Rattle.std.specs.Prelude.{ℕ, ◌+◌, ◌==◌, ◌&&◌, Bool, false, is_some, if◌then◌else◌, List, Option, Some, None}
+use Rattle.std.specs.List.{filter_map}
+use Rattle.co_object.specs.declared.Place.{Place}
+use Rattle.co_object.specs.declared.Place.TheVariants as place
+use Rattle.co_object.specs.declared.AnyEntry.{AnyEntry}
+use Rattle.co_object.specs.declared.AnyEntry.TheVariants as of
+use Rattle.co_object.specs.declared.Entry.{Entry}
+use Rattle.co_object.specs.declared.QEntry.{QEntry}
+use Rattle.co_object.specs.Lists.{same_place}
+use Rattle.co_object.specs.Stand.{off}
+use Rattle.co_object.specs.History.{state}
+use Rattle.co_program.specs.declared.script.Script.{Script}
+use Rattle.co_program.specs.Action.{spec_at}
+use Rattle.co_program.specs.Follows.{scan_count}
+use Rattle.co_report.specs.declared.line.Line.{Line}
+
+-- the entry of callout i that stands in this place
+abbrev pub callout_entry : ℕ → Place → AnyEntry → Option Entry
+callout_entry i (place.Timer j) (of.Timer e) = if j == i then Some e else None
+callout_entry i place entry = None
+
+-- and that of a CPU's journal
+abbrev pub queue_entry : ℕ → Place → AnyEntry → Option QEntry
+queue_entry cpu (place.Cpu j) (of.Cpu e) = if j == cpu then Some e else None
+queue_entry cpu place entry = None
+
+-- the history of callout i, and the journal of a CPU
+abbrev pub callout_history : ℕ → List Line → List Entry
+callout_history i lines = filter_map (λ l. callout_entry i l.place l.entry) lines
+
+abbrev pub cpu_journal : ℕ → List Line → List QEntry
+cpu_journal cpu lines = filter_map (λ l. queue_entry cpu l.place l.entry) lines
+
+-- who made an entry
+abbrev pub actor_of : AnyEntry → ℕ
+actor_of (of.Timer e) = e.actor
+actor_of (of.Cpu e) = e.actor
+actor_of (of.Own e) = e.actor
+
+abbrev pub is_by : ℕ → Line → Bool
+is_by a l = actor_of l.entry == a
+
+-- the actor's note of this number
+abbrev pub is_note : (a number : ℕ) → Line → Bool
+is_note a number l = is_by a l && l.number == number
+
+-- a note of the actor in this place
+abbrev pub is_of : ℕ → Place → Line → Bool
+is_of a p l = is_by a l && same_place l.place p
+
+-- whether the callout of this place stands in a queue after these lines
+abbrev pub is_listed : Script → List Line → Place → Bool
+is_listed s lines (place.Timer i) = is_some (off (state (spec_at s i) (callout_history i lines)))
+is_listed s lines place = false
+
+-- the number of Scans of the CPU of this place in these lines
+abbrev pub scans_of : List Line → Place → ℕ
+scans_of lines (place.Cpu cpu) = scan_count (cpu_journal cpu lines)
+scans_of lines place = 0

@@ -1,0 +1,95 @@
+//! The verdict on a report.
+ghost use Rattle.std.specs.Prelude.{◌≡◌, ◌||◌, not, map, IfOk};
+ghost use Rattle.co_check.specs.Astray.{seen};
+ghost use Rattle.co_check.specs.Index.{IsIndexed};
+ghost use Rattle.co_check.specs.Lines.{IsReport};
+ghost use Rattle.co_check.specs.Replayed.{fact_of};
+ghost use Rattle.co_check.specs.Verdict.{verdict, verdict_at_end, verdict_by_numbers, verdict_by_programs};
+
+use crate::index::{Index, Indexed, index_all};
+use crate::replay::{Fact, Replayed, replay_all};
+use crate::verdict::{Unfit, Verdict};
+use crate::walk::{Walked, is_finished, walk};
+use co_program::actor_count;
+use co_report::Report;
+use co_sbt::NoMemory;
+use std::alloc::Global;
+
+/// The verdict on a report as it is read: Legal, or the first line that is wrong and what is wrong with it.
+///
+/// First each timer's and each CPU's history is replayed, line by line; then the notes' numbers are looked at; then each actor's
+/// notes, beside its program; and at last whether each program has ended. The condition is that the script is an accepted one and
+/// has what the lines name, that each entry is of the kind of its place, and that there are no more lines than a report of
+/// 2^28 bytes can have. NoMemory comes for want of memory alone. The order and the causes are our own.
+pub fn check(alloc: Global, report: &Report) -> Result<Verdict, NoMemory>
+    requires { IsReport report.now }
+    ensures { IfOk result (λ found. found ≡ verdict report.now) }
+{
+    match replay_all(alloc, &report.script, report.lines.as_slice())? {
+        Replayed::Fits(facts) => check_numbers(alloc, report, facts.as_slice()),
+        Replayed::Bad { line, cause } => Ok(Verdict::Not { line, cause }),
+    }
+}
+
+/// The verdict where the histories are possible.
+fn check_numbers(alloc: Global, report: &Report, facts: &[Fact]) -> Result<Verdict, NoMemory>
+    requires report { IsReport report.now }
+    requires facts { facts.now ≡ map fact_of (seen report.now.script report.now.lines) }
+    ensures { IfOk result (λ found. found ≡ verdict_by_numbers report.now.script report.now.lines report.now.end) }
+{
+    match index_all(alloc, &report.script, report.lines.as_slice())? {
+        Indexed::Fits(index) => Ok(check_programs(report, facts, &index)),
+        Indexed::Bad { line } => Ok(Verdict::Not {
+            line,
+            cause: Unfit::Number,
+        }),
+    }
+}
+
+/// The verdict where the numbers are right too.
+fn check_programs(report: &Report, facts: &[Fact], index: &Index) -> Verdict
+    requires report { IsReport report.now }
+    requires facts { facts.now ≡ map fact_of (seen report.now.script report.now.lines) }
+    requires index { IsIndexed report.now.script report.now.lines report.now.lines index.now }
+    ensures { result ≡ verdict_by_programs report.now.script report.now.lines report.now.end }
+{
+    let script = &report.script;
+    let lines = report.lines.as_slice();
+    let mut unfinished = false;
+    for actor in 0..actor_count(script) {
+        match walk(script, actor, index.row(actor), lines, facts) {
+            Walked::Astray(line) => {
+                return Verdict::Not {
+                    line,
+                    cause: Unfit::Follows,
+                };
+            }
+            Walked::At(cursor) => {
+                let finished = is_finished(script, actor, &cursor);
+                unfinished = unfinished_after(unfinished, finished);
+            }
+        }
+    }
+    at_end(unfinished, report.end)
+}
+
+/// Whether an actor's program goes on, after one more.
+fn unfinished_after(unfinished: bool, finished: bool) -> bool
+    ensures { result ≡ (unfinished || not finished) }
+{
+    unfinished || !finished
+}
+
+/// The verdict where all notes are of their actors' programs.
+fn at_end(unfinished: bool, end: u64) -> Verdict
+    ensures { result ≡ verdict_at_end unfinished end }
+{
+    if unfinished {
+        Verdict::Not {
+            line: end,
+            cause: Unfit::Missing,
+        }
+    } else {
+        Verdict::Legal
+    }
+}

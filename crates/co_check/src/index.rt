@@ -1,0 +1,181 @@
+//! The notes of each actor by their numbers.
+ghost use Rattle.std.specs.Prelude.{◌≡◌, ◌<◌, ◌≤◌, ◌^◌, [], ℕ, List, length, map, replicate, slice_get, slice_index, IfOk};
+ghost use Rattle.co_program.specs.Actors.{actor_count};
+ghost use Rattle.co_program.specs.declared.script.Script.{Script};
+ghost use Rattle.co_program.specs.Scripts.{IsScript};
+ghost use Rattle.co_report.specs.Order.{place_index, place_count};
+ghost use Rattle.co_report.specs.declared.line.Line.{Line};
+ghost use Rattle.co_check.specs.Index.{AreIndexed, AreSlots, IsIndexed, IsNumbered, IsPut, IsRaised};
+ghost use Rattle.co_check.specs.Lines.{AreLinesOf, IsLineOf, lines_max};
+ghost use Rattle.co_check.specs.Numbers.{count_of};
+ghost use Rattle.co_check.specs.Shown.{actor_of};
+
+use crate::fill::filled;
+use co_object::{AnyEntry, Place};
+use co_program::{Script, actor_count};
+use co_report::Line;
+use co_sbt::NoMemory;
+use std::alloc::Global;
+
+/// The notes of the lines so far, by actor and number.
+#[derive(Drop)]
+pub(crate) struct Index {
+    /// By actor and number: which line has the note.
+    slots: Vec<Vec<Option<u32>>>,
+    /// By place and actor: a number above those of the actor's notes there.
+    latest: Vec<Vec<u64>>,
+}
+
+/// What the numbers of a report's lines come to.
+#[derive(Drop)]
+pub(crate) enum Indexed {
+    /// They are right.
+    Fits(Index),
+    /// The first line of which the number is wrong.
+    Bad { line: u64 },
+}
+
+/// The notes of all lines, by actor and number.
+pub(crate) fn index_all(alloc: Global, script: &Script, lines: &[Line]) -> Result<Indexed, NoMemory>
+    requires script { IsScript script.now }
+    requires lines { AreLinesOf script.now lines.now }
+    requires few { length lines.now ≤ lines_max }
+    ensures { IfOk result (AreIndexed script.now lines.now) }
+{
+    let mut index = Index::open(alloc, script, lines)?;
+    for i in 0..lines.len() {
+        let line = &lines[i];
+        if !index.take(script, line, i as u32) {
+            return Ok(Indexed::Bad { line: line.line });
+        }
+    }
+    Ok(Indexed::Fits(index))
+}
+
+impl Index {
+    /// Which line has the actor's note of each number.
+    pub(crate) fn row(&self, actor: u32) -> &[Option<u32>]
+        requires { actor < length self.now.slots.items }
+        ensures { (s : Script) (lines : List Line) (above : List Line) → IsIndexed s lines above self.now → AreSlots lines above actor result.now }
+    {
+        let row = &self.slots[actor as usize];
+        row.as_slice()
+    }
+
+    /// Before the first line.
+    fn open(alloc: Global, script: &Script, lines: &[Line]) -> Result<Index, NoMemory>
+        requires script { IsScript script.now }
+        requires lines { AreLinesOf script.now lines.now }
+        requires few { length lines.now ≤ lines_max }
+        ensures { IfOk result (IsIndexed script.now lines.now []) }
+    {
+        let actors = actor_count(script) as usize;
+        let counts = counts_of(alloc, actors, lines)?;
+        let slots = rows_of(alloc, &counts, None)?;
+        let places = script.timers.as_slice().len() + script.cpus as usize + actors;
+        let widths = filled(alloc, places, actors as u32)?;
+        let latest = rows_of(alloc, &widths, 0)?;
+        Ok(Index { slots, latest })
+    }
+
+    /// Takes the number of the next line, the one at `at` of all. False where something is wrong with it; then the index is
+    /// of no more use.
+    fn take(&mut self, script: &Script, line: &Line, at: u32) -> bool
+        requires script { IsScript script.now }
+        requires line { IsLineOf script.now line.now }
+        requires indexed { (lines : List Line) × (above : List Line) × IsIndexed script.now lines above self.old × (length lines ≤ lines_max) }
+        ensures { (lines : List Line) (above : List Line) → at ≡ length above → IsIndexed script.now lines above self.old → IsNumbered script.now lines above line.now result self.new }
+    {
+        let actor = actor_of(&line.entry) as usize;
+        let row = &mut self.slots[actor];
+        if !put(row, line.number, at) {
+            return false;
+        }
+        let place = place_index(script, line.place);
+        let high = &mut self.latest[place];
+        if !raise(high, actor, line.number) {
+            return false;
+        }
+        true
+    }
+}
+
+/// Who made an entry.
+pub(crate) fn actor_of(entry: &AnyEntry) -> u32
+    ensures { result ≡ actor_of entry.now }
+{
+    match entry {
+        AnyEntry::Timer(e) => e.actor,
+        AnyEntry::Cpu(e) => e.actor,
+        AnyEntry::Own(e) => e.actor,
+    }
+}
+
+/// The number of a place among those of a report.
+fn place_index(script: &Script, place: Place) -> usize
+    requires script { IsScript script.now }
+    ensures { result ≡ place_index script.now place }
+{
+    let timers = script.timers.as_slice().len();
+    match place {
+        Place::Timer(timer) => timer as usize,
+        Place::Cpu(cpu) => timers + cpu as usize,
+        Place::Actor(actor) => timers + script.cpus as usize + actor as usize,
+    }
+}
+
+/// How many of the lines each of so many actors made.
+fn counts_of(alloc: Global, actors: usize, lines: &[Line]) -> Result<Vec<u32>, NoMemory>
+    requires actors { (k : ℕ) (l : Line) → slice_get lines.now k ≡ Some l → actor_of l.entry < actors }
+    requires few { length lines.now ≤ lines_max }
+    ensures long { IfOk result (λ counts. length counts.items ≡ actors) }
+    ensures each { IfOk result (λ counts. (a : ℕ) → a < actors → slice_index counts.items a ≡ count_of a lines.now) }
+{
+    let mut counts = filled(alloc, actors, 0)?;
+    for line in lines {
+        let actor = actor_of(&line.entry) as usize;
+        counts[actor] += 1;
+    }
+    Ok(counts)
+}
+
+/// Rows of these lengths, of copies of one item.
+fn rows_of<T: Copy + Drop>(alloc: Global, lengths: &[u32], item: T) -> Result<Vec<Vec<T>>, NoMemory>
+    ensures { IfOk result (λ rows. map (λ row. row.items) rows.items ≡ map (λ n. replicate n item) lengths.now) }
+{
+    let mut rows = Vec::new(alloc);
+    for count in lengths {
+        let row = filled(alloc, *count as usize, item)?;
+        match rows.push(row) {
+            Ok(()) => {}
+            Err(_) => return Err(NoMemory {}),
+        }
+    }
+    Ok(rows)
+}
+
+/// Puts a line where its number belongs, if nothing is there yet.
+fn put(row: &mut Vec<Option<u32>>, number: u64, line: u32) -> bool
+    ensures { IsPut row.old.items number line result row.new.items }
+{
+    match row.get(number as usize) {
+        Some(None) => {
+            row[number as usize] = Some(line);
+            true
+        }
+        _ => false,
+    }
+}
+
+/// Notes the number of an actor's last note, if it is above those before.
+fn raise(row: &mut Vec<u64>, actor: usize, number: u64) -> bool
+    requires actor { actor < length row.old.items }
+    requires number { number < 2 ^ 63 }
+    ensures { IsRaised row.old.items actor number result row.new.items }
+{
+    if number < row[actor] {
+        return false;
+    }
+    row[actor] = number + 1;
+    true
+}

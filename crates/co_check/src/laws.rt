@@ -1,0 +1,25 @@
+//! What the verdict says of histories, each the contract of a function that does nothing.
+ghost use Rattle.co_check.specs.Programs.{FollowsWhereSeen};
+ghost use Rattle.co_check.specs.Runs.{RunsAreLegal};
+ghost use Rattle.co_check.specs.Laws.{HistoriesOfLegalReports, LegalHistoriesFit};
+
+/// Where the verdict is Legal, each callout's history is one of that callout alone, and each CPU's journal one of a plain
+/// timer queue.
+pub fn legal_histories()
+    ensures { HistoriesOfLegalReports }
+{}
+
+/// Where they are, nothing is wrong with a report's histories.
+pub fn histories_fit()
+    ensures { LegalHistoriesFit }
+{}
+
+/// An actor's notes follow its program exactly where none of them is astray and the program ends after them.
+pub fn follows_where_seen()
+    ensures { FollowsWhereSeen }
+{}
+
+/// The report of a run is legal.
+pub fn runs_are_legal()
+    ensures { RunsAreLegal }
+{}

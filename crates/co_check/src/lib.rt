@@ -1,0 +1,19 @@
+//! The checker of a report: whether it is one of a run, and else the first line that is wrong.
+#![tactic(auto)]
+
+mod actors;
+mod asking;
+mod checking;
+mod cpu;
+mod fill;
+mod index;
+pub mod laws;
+mod replay;
+mod same;
+#[cfg(test)]
+mod tests;
+mod verdict;
+mod walk;
+
+pub use checking::check;
+pub use verdict::{Unfit, Verdict};

@@ -1,0 +1,265 @@
+//! The histories of timers and CPUs, line by line.
+ghost use Rattle.std.specs.Prelude.{◌≡◌, ◌<◌, ◌≤◌, ◌++◌, ◌∷◌, [], List, is_some, length, map, replicate, IfOk};
+ghost use Rattle.co_object.specs.Callout.{opening};
+ghost use Rattle.co_object.specs.declared.Place.TheVariants as places;
+ghost use Rattle.co_object.specs.declared.AnyEntry.TheVariants as of;
+ghost use Rattle.co_object.specs.Queue.{Queue};
+ghost use Rattle.co_object.specs.Stand.{is_free_at, off};
+ghost use Rattle.co_program.specs.Follows.{one_scan};
+ghost use Rattle.co_program.specs.Runs.{actors_of, are_direct};
+ghost use Rattle.co_program.specs.Scripts.{IsScript};
+ghost use Rattle.co_report.specs.declared.line.Line.{Line};
+ghost use Rattle.co_check.specs.Cpu.{IsFor, NamesCallout, empty_cpu};
+ghost use Rattle.co_check.specs.Lines.{AreLinesOf, IsLineOf, lines_max};
+ghost use Rattle.co_check.specs.Replayed.{IsAfter, IsCalloutTaken, IsQueueTaken, IsReplayed, IsTaken, opened};
+
+use crate::actors::{may_serve, may_work};
+use crate::cpu::CpuQueue;
+use crate::fill::filled;
+use crate::same::{same_answer, same_reply};
+use crate::verdict::Unfit;
+use co_object::{Alone, AnyEntry, Arming, Entry, Place, QEntry, QOp, Run, Spec, State};
+use co_program::Script;
+use co_report::Line;
+use co_sbt::{NoMemory, Seq};
+use std::alloc::Global;
+
+/// What the lines of its place say of a line, up to it.
+#[derive(Clone, Copy, Debug, PartialEq, Eq)]
+pub(crate) struct Fact {
+    /// Its callout stands in a queue once the note is made.
+    pub listed: bool,
+    /// How many Scans stand above it in its CPU's journal.
+    pub scans: u32,
+}
+
+/// Each callout and each CPU after the lines so far.
+#[derive(Drop)]
+pub(crate) struct Replay {
+    callouts: Vec<Alone>,
+    cpus: Vec<CpuQueue>,
+    /// How many Scans each CPU had.
+    scans: Vec<u32>,
+}
+
+/// What the lines of a report come to.
+#[derive(Drop)]
+pub(crate) enum Replayed {
+    /// Each is possible where it stands. What is said of each of them.
+    Fits(Vec<Fact>),
+    /// The first that is not.
+    Bad { line: u64, cause: Unfit },
+}
+
+/// Replays all lines.
+pub(crate) fn replay_all(
+    alloc: Global,
+    script: &Script,
+    lines: &[Line],
+) -> Result<Replayed, NoMemory>
+    requires script { IsScript script.now }
+    requires lines { AreLinesOf script.now lines.now }
+    requires few { length lines.now ≤ lines_max }
+    ensures { IfOk result (IsReplayed script.now lines.now) }
+{
+    let mut replay = Replay::open(alloc, script)?;
+    let mut facts = Vec::new(alloc);
+    for line in lines {
+        match replay.take(script, line) {
+            Ok(fact) => facts.push(fact).map_err(|_| NoMemory {})?,
+            Err(cause) => {
+                return Ok(Replayed::Bad {
+                    line: line.line,
+                    cause,
+                });
+            }
+        }
+    }
+    Ok(Replayed::Fits(facts))
+}
+
+impl Replay {
+    /// Before the first line.
+    fn open(alloc: Global, script: &Script) -> Result<Replay, NoMemory>
+        requires { IsScript script.now }
+        ensures { IfOk result (IsAfter script.now []) }
+    {
+        let callouts = callouts_of(alloc, script.timers.as_slice())?;
+        let cpus = cpus_of(alloc, script)?;
+        let scans = filled(alloc, script.cpus as usize, 0)?;
+        Ok(Replay {
+            callouts,
+            cpus,
+            scans,
+        })
+    }
+
+    /// Takes the next line. Err says what is wrong with it; then the replay is of no more use.
+    pub(crate) fn take(&mut self, script: &Script, line: &Line) -> Result<Fact, Unfit>
+        requires script { IsScript script.now }
+        requires line { IsLineOf script.now line.now }
+        requires after { (above : List Line) × IsAfter script.now above self.old × (length above < lines_max) }
+        ensures { (above : List Line) → IsAfter script.now above self.old → IsTaken script.now above line.now result self.new }
+    {
+        match (line.place, &line.entry) {
+            (Place::Timer(i), AnyEntry::Timer(entry)) => self.take_timer(script, i, entry),
+            (Place::Cpu(cpu), AnyEntry::Cpu(entry)) => self.take_cpu(script, cpu, entry),
+            _ => Ok(Fact {
+                listed: false,
+                scans: 0,
+            }),
+        }
+    }
+
+    /// Takes the next entry of callout `i`.
+    fn take_timer(&mut self, script: &Script, i: u32, entry: &Entry) -> Result<Fact, Unfit>
+        requires few { length script.now.clients ≤ 16 }
+        requires i { i < length self.old.callouts.items }
+        ensures { (above : List Line) (l : Line) → l.place ≡ places.Timer i → l.entry ≡ of.Timer entry.now → IsAfter script.now above self.old → IsTaken script.now above l result self.new }
+    {
+        let callout = &mut self.callouts[i as usize];
+        match take_callout(script, callout, entry) {
+            Ok(listed) => Ok(Fact { listed, scans: 0 }),
+            Err(cause) => Err(cause),
+        }
+    }
+
+    /// Takes the next entry of a CPU's journal.
+    fn take_cpu(&mut self, script: &Script, cpu: u32, entry: &QEntry) -> Result<Fact, Unfit>
+        requires few { length script.now.clients ≤ 16 }
+        requires cpu { cpu < script.now.cpus }
+        requires names { NamesCallout (length script.now.timers) entry.now.op }
+        requires after { (above : List Line) × IsAfter script.now above self.old × (length above < lines_max) }
+        ensures { (above : List Line) (l : Line) → l.place ≡ places.Cpu cpu → l.entry ≡ of.Cpu entry.now → IsAfter script.now above self.old → IsTaken script.now above l result self.new }
+    {
+        let queue = &mut self.cpus[cpu as usize];
+        match take_queue(script, cpu, queue, entry) {
+            Ok(()) => {
+                let scans = self.scans[cpu as usize];
+                self.scans[cpu as usize] = scans + one_scan(&entry.op);
+                Ok(Fact {
+                    listed: false,
+                    scans,
+                })
+            }
+            Err(cause) => Err(cause),
+        }
+    }
+}
+
+/// A callout for each of these, as it is made.
+fn callouts_of(alloc: Global, specs: &[Spec]) -> Result<Vec<Alone>, NoMemory>
+    ensures { IfOk result (λ callouts. callouts.items ≡ map opened specs.now) }
+{
+    let mut callouts = Seq::new(alloc);
+    for spec in specs {
+        let _run = Run::Idle;
+        let _armed: Option<Arming> = None;
+        let _state: Option<State> = None;
+        callouts.push(Alone::open(*spec, 0))?;
+    }
+    Ok(callouts.into_vec())
+}
+
+/// Which callouts are direct.
+fn direct_of(alloc: Global, specs: &[Spec]) -> Result<Vec<bool>, NoMemory>
+    ensures { IfOk result (λ direct. direct.items ≡ map (λ spec. spec.direct) specs.now) }
+{
+    let mut direct = Vec::new(alloc);
+    for spec in specs {
+        direct.push(spec.direct).map_err(|_| NoMemory {})?;
+    }
+    Ok(direct)
+}
+
+/// A queue for each CPU, in which nothing stands.
+fn cpus_of(alloc: Global, script: &Script) -> Result<Vec<CpuQueue>, NoMemory>
+    requires { IsScript script.now }
+    ensures { IfOk result (λ cpus. cpus.items ≡ replicate script.now.cpus (empty_cpu (length script.now.timers) script.now.buckets (are_direct script.now))) }
+{
+    let timers = script.timers.as_slice();
+    let direct = direct_of(alloc, timers)?;
+    let callouts = timers.len() as u32;
+    let mut cpus = Vec::new(alloc);
+    for _ in 0..script.cpus {
+        let cpu = CpuQueue::open(alloc, callouts, script.buckets, direct.as_slice())?;
+        cpus.push(cpu).map_err(|_| NoMemory {})?;
+    }
+    Ok(cpus)
+}
+
+/// Takes the next entry of a callout. The answer is whether it stands in a queue then.
+fn take_callout(script: &Script, callout: &mut Alone, entry: &Entry) -> Result<bool, Unfit>
+    requires { length script.now.clients ≤ 16 }
+    ensures { IsCalloutTaken (actors_of script.now) callout.old entry.now result callout.new }
+{
+    if !may_serve(script, &callout.spec, entry.actor, &entry.op) {
+        return Err(Unfit::Actor);
+    }
+    match callout.step(&entry.op) {
+        Some(reply) => {
+            if same_reply(&reply, &entry.reply) {
+                Ok(is_listed(&callout.state))
+            } else {
+                Err(Unfit::Illegal)
+            }
+        }
+        None => Err(Unfit::Illegal),
+    }
+}
+
+/// Whether the callout stands in a queue.
+fn is_listed(state: &State) -> bool
+    ensures { result ≡ is_some (off state.now) }
+{
+    match state.armed {
+        None => false,
+        Some(arming) => is_free_at(&state.run, arming.cpu),
+    }
+}
+
+/// No service has the callout, or one on this CPU.
+fn is_free_at(run: &Run, cpu: u32) -> bool
+    ensures { result ≡ is_free_at run.now cpu }
+{
+    match run {
+        Run::Idle => true,
+        Run::Picked(arming) => arming.cpu == cpu,
+        Run::Cancelled { cpu: at, .. } => *at == cpu,
+        Run::Running { cpu: at, .. } => *at == cpu,
+    }
+}
+
+/// Takes the next entry of a CPU's journal.
+fn take_queue(script: &Script, cpu: u32, queue: &mut CpuQueue, entry: &QEntry) -> Result<(), Unfit>
+    requires few { length script.now.clients ≤ 16 }
+    requires names { NamesCallout queue.old.queue.size entry.now.op }
+    ensures size { queue.new.queue.size ≡ queue.old.queue.size }
+    ensures buckets { queue.new.queue.buckets ≡ queue.old.queue.buckets }
+    ensures direct { queue.new.queue.direct ≡ queue.old.queue.direct }
+    ensures taken { (q : Queue) → IsFor q queue.old → IsQueueTaken (actors_of script.now) cpu queue.old.queue.buckets queue.old.queue.direct q entry.now result queue.new }
+{
+    if !may_work(script, cpu, entry.actor, &entry.op) {
+        return Err(Unfit::Actor);
+    }
+    match queue.step(&entry.op) {
+        Some(reply) => {
+            if same_answer(&reply, &entry.reply) {
+                Ok(())
+            } else {
+                Err(Unfit::Illegal)
+            }
+        }
+        None => Err(Unfit::Illegal),
+    }
+}
+
+/// 1 for a scan.
+fn one_scan(op: &QOp) -> u32
+    ensures { result ≡ one_scan op.now }
+{
+    match op {
+        QOp::Scan { .. } => 1,
+        _ => 0,
+    }
+}
