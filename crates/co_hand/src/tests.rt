@@ -249,7 +249,7 @@ fn calls_are_made_under_the_hold(rt: HostRuntime) -> Result<(), Fail> {
 }
 
 /// The calls that function 0 makes after the release of lock 0, each while the port holds that lock.
-fn calls_of_run_unlock<R: Wait + Abort>(
+fn calls_of_run_unlock<R: Wait + Sync + Abort>(
     rt: &R,
     alloc: Global,
     locks: &ClientLocks,

@@ -49,7 +49,7 @@ impl ClientLocks {
 
     /// Takes lock `id`, which excludes all others; a reader-writer lock is taken in write mode, as by `rw_wlock`. It waits
     /// while another holds the lock.
-    pub fn lock<R: Wait>(&self, rt: &R, id: u32) -> Hold<'_>
+    pub fn lock<R: Wait + Sync>(&self, rt: &R, id: u32) -> Hold<'_>
         requires { id < length self.now }
         ensures { result ≡ record { id = id; exclusive = true } }
     {
@@ -62,7 +62,7 @@ impl ClientLocks {
 
     /// Takes the reader-writer lock `id` in read mode, as by `rw_rlock`. It waits while another holds the lock in write
     /// mode.
-    pub fn read<R: Wait>(&self, rt: &R, id: u32) -> Hold<'_>
+    pub fn read<R: Wait + Sync>(&self, rt: &R, id: u32) -> Hold<'_>
         requires { slice_get self.now id ≡ Some LockKind.Rw }
         ensures { result ≡ record { id = id; exclusive = false } }
     {

@@ -49,7 +49,7 @@ fn a_drop_releases_each_lock(rt: HostRuntime) {
 }
 
 // Adds 1 so often, by a read and a write of which others may come between unless the lock keeps them out.
-fn count_up<R: Wait>(rt: &R, locks: &ClientLocks, id: u32, count: &AtomicU64)
+fn count_up<R: Wait + Sync>(rt: &R, locks: &ClientLocks, id: u32, count: &AtomicU64)
     requires { id < length locks.now }
 {
     for _ in 0..1000 {
@@ -87,7 +87,7 @@ fn exclusive_holds_exclude_each_other(rt: HostRuntime) {
 }
 
 // Takes the lock in read mode, and keeps it until another has it as well.
-fn read_beside<R: Wait>(rt: &R, locks: &ClientLocks, id: u32, met: &Barrier) -> Held
+fn read_beside<R: Wait + Sync>(rt: &R, locks: &ClientLocks, id: u32, met: &Barrier) -> Held
     requires { slice_get locks.now id ≡ Some LockKind.Rw }
 {
     let hold = locks.read(rt, id);
