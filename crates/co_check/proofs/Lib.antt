@@ -14,6 +14,7 @@ pub mod Counting
 pub mod Showing
 pub mod SeenNotes
 pub mod RunsLegal
+pub mod Reported
 pub mod Walking
 pub mod Acts
 pub mod Taken

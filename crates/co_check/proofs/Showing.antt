@@ -106,7 +106,7 @@ same-itself (place.Timer i) = itself i
 same-itself (place.Cpu i) = itself i
 same-itself (place.Actor i) = itself i
 
-same-equal : (p q : Place) → same_place p q ≡ true → p ≡ q
+pub same-equal : (p q : Place) → same_place p q ≡ true → p ≡ q
 same-equal (place.Timer i) (place.Timer j) h = ap place.Timer (equal i j h)
 same-equal (place.Cpu i) (place.Cpu j) h = ap place.Cpu (equal i j h)
 same-equal (place.Actor i) (place.Actor j) h = ap place.Actor (equal i j h)

@@ -1,6 +1,6 @@
 -- The report of a run is legal.
-use Rattle.std.specs.Prelude.{◌≡◌, ℕ, List, take, Option, Some, option_and_then, slice_get}
-use Rattle.std.specs.List.{count_by}
+use Rattle.std.specs.Prelude.{◌≡◌, ℕ, List, map, take, Option, Some, option_and_then, slice_get}
+use Rattle.std.specs.List.{count_by, filter}
 use Rattle.co_object.specs.declared.Note.{Note}
 use Rattle.co_object.specs.declared.Place.{Place}
 use Rattle.co_object.specs.Lists as lists_of
@@ -8,6 +8,7 @@ use Rattle.co_object.specs.Lists.{same_place}
 use Rattle.co_program.specs.declared.script.Script.{Script}
 use Rattle.co_program.specs.Runs.{IsRunOf}
 use Rattle.co_report.specs.declared.line.Line.{Line}
+use Rattle.co_report.specs.Histories.{Shown, shown_history}
 use Rattle.co_report.specs.Origins.{note_at}
 use Rattle.co_check.specs.declared.verdict.Verdict.TheVariants.{Legal}
 use Rattle.co_check.specs.Lines.{AreLinesOf}
@@ -37,3 +38,17 @@ pub record Show (lists : List (List Note)) (lines : List Line) : Type 0 where
 -- the report of a run is legal
 abbrev pub RunsAreLegal : Type 0
 RunsAreLegal = (s : Script) (lists : List (List Note)) (lines : List Line) (end : ℕ) → IsRunOf s lists → AreLinesOf s lines → Show lists lines → verdict_of s lines end ≡ Legal
+
+-- ---- the lines as a report has them
+
+abbrev pub lines_at : Place → List Line → List Line
+lines_at p lines = filter (λ l. same_place l.place p) lines
+
+-- what a line shows
+abbrev pub shown_line : Line → Shown
+shown_line l = record { number = l.number; entry = l.entry }
+
+-- where the lines of each place are its shown history, they are legal
+abbrev pub ReportsOfRunsAreLegal : Type 0
+ReportsOfRunsAreLegal = (s : Script) (lists : List (List Note)) (lines : List Line) (end : ℕ) →
+    IsRunOf s lists → AreLinesOf s lines → ((p : Place) → map shown_line (lines_at p lines) ≡ shown_history lists p) → verdict_of s lines end ≡ Legal

@@ -1,6 +1,6 @@
 //! What the verdict says of histories, each the contract of a function that does nothing.
 ghost use Rattle.co_check.specs.Programs.{FollowsWhereSeen};
-ghost use Rattle.co_check.specs.Runs.{RunsAreLegal};
+ghost use Rattle.co_check.specs.Runs.{ReportsOfRunsAreLegal, RunsAreLegal};
 ghost use Rattle.co_check.specs.Laws.{HistoriesOfLegalReports, LegalHistoriesFit};
 
 /// Where the verdict is Legal, each callout's history is one of that callout alone, and each CPU's journal one of a plain
@@ -22,4 +22,9 @@ pub fn follows_where_seen()
 /// The report of a run is legal.
 pub fn runs_are_legal()
     ensures { RunsAreLegal }
+{}
+
+/// So is a report whose lines are, place by place, the shown histories of a run's lists.
+pub fn reports_of_runs_are_legal()
+    ensures { ReportsOfRunsAreLegal }
 {}
