@@ -1,16 +1,15 @@
 -- Lines by index, and how many of them pass a test.
-use Rattle.std.proofs.Common.{◌≡◌, ◌≢◌, ℕ, zero, suc, ◌+◌, ◌<◌, ◌≤◌, ◌==◌, ◌&&◌, ◌||◌, Bool, true, false, cond, nat_lt, List, [], ◌∷◌, ◌++◌, take, drop, length, get_or, refl, ap, sym, subst, ◌∙◌, arith}
-use Rattle.std.specs.Prelude.{Option, Some, None, is_some, slice_get}
+use Rattle.std.proofs.Common.{◌≡◌, ℕ, zero, suc, ◌+◌, ◌<◌, ◌≤◌, ◌==◌, ◌&&◌, ◌||◌, Bool, true, false, cond, nat_lt, List, [], ◌∷◌, take, drop, length, refl, ap, ◌∙◌, arith}
+use Rattle.std.specs.Prelude.{Option, Some, None, slice_get}
 use Rattle.std.specs.List.{list_any, count_by}
 use Rattle.std.proofs.lemmas.Bool.Decides.{nat_tests}
-use Rattle.std.proofs.lemmas.Option.{slice_get_within, slice_get-get_or}
 use Rattle.co_object.proofs.Passing.{passing, count-passing}
 use Rattle.co_report.specs.declared.line.Line.{Line}
 use Rattle.co_check.specs.declared.verdict.Unfit.{Unfit}
 use Rattle.co_check.specs.Index.{index_of}
 use Rattle.co_check.specs.Numbers.{count_of}
 use Rattle.co_check.specs.Replay.{first_bad}
-use Rattle.co_check.specs.Shown.{actor_of, is_by, is_note}
+use Rattle.co_check.specs.Shown.{is_by, is_note}
 use Rattle.co_check.proofs.Along.{first-on}
 use Rattle.co_check.proofs.Taking.{some-is}
 

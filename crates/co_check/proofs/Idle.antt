@@ -1,5 +1,5 @@
 -- A script in which nobody does anything, and a line of it.
-use Rattle.std.proofs.Common.{◌≡◌, ℕ, zero, suc, ◌≤◌, true, false, nat_lt, List, [], ◌∷◌, length, refl, ap, arith, inl}
+use Rattle.std.proofs.Common.{◌≡◌, ℕ, zero, suc, ◌≤◌, true, false, nat_lt, [], ◌∷◌, length, refl, ap, arith, inl}
 use Rattle.std.specs.List.{AllByRecursion}
 use Rattle.co_object.specs.declared.LockUse.TheVariants.{Free}
 use Rattle.co_object.specs.declared.OwnKind.TheVariants.{NotHeld}
@@ -9,9 +9,9 @@ use Rattle.co_program.specs.declared.act.Act.{Act}
 use Rattle.co_program.specs.declared.script.Script.{Script}
 use Rattle.co_program.specs.Actors.{acts_at, actor_count}
 use Rattle.co_program.specs.Action.{spec_at}
-use Rattle.co_program.specs.Scripts.{IsScript, is_call, is_tick, names_exist}
+use Rattle.co_program.specs.Scripts.{IsScript, is_tick}
 use Rattle.co_report.specs.declared.line.Line.{Line}
-use Rattle.co_check.specs.Lines.{IsLineOf, AreLinesOf}
+use Rattle.co_check.specs.Lines.{AreLinesOf}
 
 abbrev pub idle : Script
 idle = record {

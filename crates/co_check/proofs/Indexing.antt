@@ -12,7 +12,7 @@ use Rattle.co_program.specs.Actors.{actor_count}
 use Rattle.co_report.specs.Order.{place_index, place_count}
 use Rattle.co_check.specs.declared.index.Index.{Index}
 use Rattle.co_report.specs.declared.line.Line.{Line}
-use Rattle.co_check.specs.Index.{slot_of, AreSlots, AreLatest, IsIndexed}
+use Rattle.co_check.specs.Index.{AreSlots, AreLatest, IsIndexed}
 use Rattle.co_check.specs.Numbers.{count_of}
 use Rattle.co_check.specs.Shown.{actor_of, is_by}
 use Rattle.co_check.proofs.Taking.{some-is}

@@ -1,7 +1,6 @@
 -- Nothing is wrong with the histories of a report exactly where each is legal.
-use Rattle.std.proofs.Common.{◌≡◌, ◌≢◌, ℕ, ◌==◌, Bool, true, false, List, [], ◌∷◌, ◌++◌, append_assoc, refl, ap, sym, subst, ◌∙◌, inl, inr}
+use Rattle.std.proofs.Common.{◌≡◌, ℕ, ◌==◌, Bool, true, false, List, [], ◌∷◌, ◌++◌, append_assoc, refl, ap, sym, subst, ◌∙◌, inl, inr}
 use Rattle.std.specs.Prelude.{Option, Some, None}
-use Rattle.std.specs.List.{fold}
 use Rattle.std.proofs.lemmas.Bool.{cases_eq}
 use Rattle.std.proofs.lemmas.List.Elements.{filter_map-append}
 use Rattle.co_object.specs.declared.Entry.{Entry}
@@ -33,7 +32,7 @@ use Rattle.co_check.specs.declared.verdict.Verdict.TheVariants.{Legal}
 use Rattle.co_check.specs.Laws.{AreLegal, HistoriesOfLegalReports, LegalHistoriesFit}
 use Rattle.co_check.specs.Replay.{Bad, bad_or, first_bad, first_unfit, unfit_at, unless, is_reply, is_answer, may_serve, may_work, callout_unfit, queue_unfit, state_after, queue_after}
 use Rattle.co_check.specs.Shown.{callout_entry, queue_entry, callout_history, cpu_journal}
-use Rattle.co_check.specs.Verdict.{unless_bad, verdict_by_numbers, verdict_of}
+use Rattle.co_check.specs.Verdict.{unless_bad, verdict_by_numbers}
 use Rattle.co_check.proofs.SameValues.{equal, itself, reply-equal, reply-itself, answer-equal, answer-itself}
 use Rattle.co_check.proofs.Taking.{callout-grows, journal-grows, callout-unmoved, journal-unmoved, own-callout, other-callout, no-callout, own-queue, other-queue, no-queue}
 

@@ -16,7 +16,6 @@ use Rattle.co_object.specs.declared.Place.TheVariants as place
 use Rattle.co_object.specs.declared.AnyEntry.{AnyEntry}
 use Rattle.co_object.specs.declared.AnyEntry.TheVariants as of
 use Rattle.co_object.specs.Group.{off_of}
-use Rattle.co_program.specs.declared.action.Asked.{Asked}
 use Rattle.co_program.specs.declared.action.Asked.TheVariants.{Callout, Queue, Itself}
 use Rattle.co_object.specs.declared.Note.{Note}
 use Rattle.co_program.specs.declared.script.Script.{Script}
@@ -30,7 +29,7 @@ use Rattle.co_check.specs.Astray.{Seen, is_next, goes_on, first_astray, place_af
 use Rattle.co_check.specs.Programs.{IsSeenAs, AreSeenAs, IsOfProgram}
 use Rattle.co_check.specs.Same.{same_number, same_op, same_queue_op, same_answer, same_kind}
 use Rattle.co_check.proofs.Walking.{astray-on}
-use Rattle.co_check.proofs.SameValues.{first, second, equal, itself, all, number-equal, number-itself, op-equal, op-itself, queue_op-equal, queue_op-itself, kind-equal, kind-itself, answer-equal, answer-itself}
+use Rattle.co_check.proofs.SameValues.{first, second, equal, itself, all, number-equal, number-itself, op-equal, op-itself, queue_op-equal, queue_op-itself, kind-equal, kind-itself, answer-equal}
 
 -- ---- an entry made of what it says
 

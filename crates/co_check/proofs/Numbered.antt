@@ -1,7 +1,6 @@
 -- A line's number is taken, or something is wrong with it: as the code's slots and highest numbers say.
-use Rattle.std.proofs.Common.{◌≡◌, ◌≢◌, ℕ, ◌+◌, ◌<◌, ◌≤◌, ◌==◌, ◌&&◌, ◌||◌, Bool, true, false, cond, nat_le, nat_lt, List, [], ◌∷◌, ◌++◌, length, get_or, set, get_or-set_same, get_or-set_other, refl, ap, sym, subst, ◌∙◌, arith, inl, inr}
+use Rattle.std.proofs.Common.{◌≡◌, ◌≢◌, ℕ, ◌+◌, ◌<◌, ◌≤◌, ◌==◌, ◌&&◌, ◌||◌, Bool, true, false, cond, nat_le, List, [], ◌∷◌, ◌++◌, length, get_or, set, get_or-set_same, get_or-set_other, refl, ap, sym, subst, ◌∙◌, arith, inl, inr}
 use Rattle.std.specs.Prelude.{Option, Some, None, is_some, Vec, slice_get}
-use Rattle.std.specs.List.{list_any}
 use Rattle.std.proofs.lemmas.Bool.{cases_eq}
 use Rattle.std.proofs.lemmas.Bool.Decides.{nat_tests}
 use Rattle.std.proofs.lemmas.List.{length-set}
@@ -17,10 +16,10 @@ use Rattle.co_check.specs.declared.index.Index.{Index}
 use Rattle.co_report.specs.declared.line.Line.{Line}
 use Rattle.co_check.specs.declared.verdict.Unfit.{Unfit}
 use Rattle.co_check.specs.declared.verdict.Unfit.TheVariants.{Number}
-use Rattle.co_check.specs.Index.{slot_of, index_of, highest, AreSlots, AreLatest, IsIndexed}
+use Rattle.co_check.specs.Index.{slot_of, highest, AreSlots, AreLatest, IsIndexed}
 use Rattle.co_check.specs.Lines.{IsLineOf}
 use Rattle.co_check.specs.Numbers.{count_of, is_beyond, is_taken, falls, number_at}
-use Rattle.co_check.specs.Shown.{actor_of, is_by, is_note, is_of}
+use Rattle.co_check.specs.Shown.{actor_of, is_note, is_of}
 use Rattle.co_check.proofs.Numbering.{any-index, index-other, index-same, highest-other, highest-same, none-above, some-above}
 use Rattle.co_check.proofs.Taking.{get-set-same, get-set-other, some-is}
 

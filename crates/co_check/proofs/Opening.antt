@@ -1,17 +1,15 @@
 -- Before the first line: each callout and each queue is as it is made.
-use Rattle.std.proofs.Common.{◌≡◌, ℕ, zero, suc, ◌<◌, Bool, List, [], ◌∷◌, length, map, get_or, replicate, refl, ap, sym, subst, ◌∙◌, arith}
-use Rattle.std.specs.Prelude.{Option, Some, None, slice_get, slice_index_or}
+use Rattle.std.proofs.Common.{◌≡◌, ℕ, zero, suc, Bool, List, [], ◌∷◌, length, map, get_or, replicate, refl, ap, sym, subst, ◌∙◌}
+use Rattle.std.specs.Prelude.{Some, slice_get}
 use Rattle.std.proofs.lemmas.List.{length-replicate}
 use Rattle.co_object.specs.declared.Alone.{Alone}
 use Rattle.co_object.specs.declared.Spec.{Spec}
-use Rattle.co_object.specs.Callout.{opening}
 use Rattle.co_object.specs.Queue.{empty_queue}
 use Rattle.co_program.specs.declared.script.Script.{Script}
 use Rattle.co_program.specs.Runs.{are_direct}
-use Rattle.co_check.specs.declared.cpu.CpuQueue.{CpuQueue}
 use Rattle.co_check.specs.declared.replay.Replay.{Replay}
 use Rattle.co_check.specs.Cpu.{IsFor, empty_cpu}
-use Rattle.co_check.specs.Replayed.{IsAfter, IsCpuAfter, alone_after, opened}
+use Rattle.co_check.specs.Replayed.{IsAfter, IsCpuAfter, opened}
 use Rattle.co_check.proofs.Taking.{some-is}
 
 length-mapped : {X Y : Type 0} (f : X → Y) (xs : List X) → length (map f xs) ≡ length xs

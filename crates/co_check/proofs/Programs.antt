@@ -13,7 +13,6 @@ use Rattle.co_check.specs.Astray.{seen, first_astray, place_after, astray_of, is
 use Rattle.co_check.specs.Index.{AreSlots}
 use Rattle.co_check.specs.Verdict.{unless_astray, verdict_at_end, verdict_by_programs}
 use Rattle.co_check.specs.declared.verdict.Unfit.TheVariants.{Follows}
-use Rattle.co_check.specs.declared.verdict.Verdict.{Verdict}
 use Rattle.co_check.specs.declared.verdict.Verdict.TheVariants.{Not}
 use Rattle.co_check.specs.Walked.{by_row}
 use Rattle.co_check.proofs.ByActor.{row-by-actor}

@@ -1,9 +1,8 @@
 -- Lines that are the shown histories of a run's lists show its notes.
-use Rattle.std.proofs.Common.{◌≡◌, ℕ, zero, suc, ◌+◌, ◌<◌, ◌≤◌, ◌==◌, Bool, true, false, cond, List, [], ◌∷◌, ◌++◌, map, take, length, refl, ap, sym, subst, ◌∙◌, arith}
+use Rattle.std.proofs.Common.{◌≡◌, ℕ, zero, suc, ◌+◌, ◌<◌, ◌≤◌, ◌==◌, Bool, true, false, cond, List, [], ◌∷◌, map, take, length, refl, ap, sym, ◌∙◌, arith}
 use Rattle.std.specs.Prelude.{Option, Some, None, slice_get, option_and_then}
-use Rattle.std.specs.List.{AllByRecursion, cons_option, filter, filter_map, find, count_by, range_with_len}
+use Rattle.std.specs.List.{cons_option, filter, filter_map, range_with_len}
 use Rattle.std.specs.Option.{option_map}
-use Rattle.std.proofs.lemmas.Bool.Decides.{nat_tests}
 use Rattle.std.proofs.lemmas.Option.{slice_get-map, slice_get_within, slice_get-get_or}
 use Rattle.co_object.specs.declared.Entry.{Entry}
 use Rattle.co_object.specs.declared.QEntry.{QEntry}
@@ -14,14 +13,11 @@ use Rattle.co_object.specs.declared.Place.{Place}
 use Rattle.co_object.specs.declared.Place.TheVariants as place
 use Rattle.co_object.specs.declared.AnyEntry.{AnyEntry}
 use Rattle.co_object.specs.declared.AnyEntry.TheVariants as of
-use Rattle.co_object.specs.Lists.{same_place, all_notes_of, count_at, IsWellFormed, history}
-use Rattle.co_object.specs.Lists as lists_of
+use Rattle.co_object.specs.Lists.{same_place, all_notes_of, IsWellFormed}
 use Rattle.co_object.proofs.Passing.{passing, count-passing}
-use Rattle.co_program.specs.declared.action.Asked.{Asked}
 use Rattle.co_program.specs.declared.action.Asked.TheVariants.{Callout, Queue, Itself}
 use Rattle.co_program.specs.declared.script.Script.{Script}
 use Rattle.co_program.specs.Action.{Action, Nothing, Silent, Take, Asks, action_for}
-use Rattle.co_program.specs.Actors.{actor_count}
 use Rattle.co_program.specs.Cursor.{Cursor, start_of}
 use Rattle.co_program.specs.Follows.{Histories, Fits, FitsCallout, AreNext, goes_on, settled}
 use Rattle.co_program.specs.Runs.{IsRunOf, notes_by, shown_histories}
@@ -29,11 +25,10 @@ use Rattle.co_report.specs.declared.line.Line.{Line}
 use Rattle.co_report.specs.Histories.{Numbered, Shown, shown, shown_at, shown_history, all_numbered_of}
 use Rattle.co_report.specs.Origins.{note_at}
 use Rattle.co_report.proofs.Counted.{passing-numbered, pos-below, note-actor}
-use Rattle.co_report.proofs.Members.{Has, find-has}
+use Rattle.co_report.proofs.Members.{find-has}
 use Rattle.co_report.proofs.Numbering.{numbered, has-note, found, Found, all-notes-of}
 use Rattle.co_report.proofs.ShownHistories.{histories_shown}
-use Rattle.co_check.specs.Lines.{AreLinesOf}
-use Rattle.co_check.specs.Runs.{Show, IsLineOfNote, count_in, shown_line, lines_at, ReportsOfRunsAreLegal, RunsAreLegal}
+use Rattle.co_check.specs.Runs.{IsLineOfNote, count_in, shown_line, lines_at, ReportsOfRunsAreLegal}
 use Rattle.co_check.specs.Shown.{actor_of, callout_entry, queue_entry, callout_history, cpu_journal}
 use Rattle.co_check.proofs.Taking.{some-is}
 use Rattle.co_check.proofs.SameValues.{equal, itself}

@@ -1,5 +1,5 @@
 -- Worked reports, evaluated on the definition of the verdict.
-use Rattle.std.proofs.Common.{◌≡◌, ℕ, List, [], ◌∷◌, false, pos, refl}
+use Rattle.std.proofs.Common.{◌≡◌, ℕ, [], ◌∷◌, false, pos, refl}
 use Rattle.std.specs.declared.option.Option.TheVariants.{None}
 use Rattle.co_object.specs.declared.LockUse.TheVariants.{Free}
 use Rattle.co_object.specs.declared.PlainOp.TheVariants as op
@@ -8,7 +8,7 @@ use Rattle.co_object.specs.declared.RunOp.TheVariants.{Pick, End}
 use Rattle.co_object.specs.declared.Op.TheVariants.{Call, Run}
 use Rattle.co_object.specs.declared.Reply.TheVariants.{Armed, Go, Ended}
 use Rattle.co_object.specs.declared.QOp.TheVariants as queue
-use Rattle.co_object.specs.declared.QReply.TheVariants.{At, Count, Got, Empty, Freed, Missing as Gone}
+use Rattle.co_object.specs.declared.QReply.TheVariants.{At, Count, Got, Empty, Freed}
 use Rattle.co_object.specs.declared.Place.TheVariants as place
 use Rattle.co_object.specs.declared.AnyEntry.TheVariants as of
 use Rattle.co_program.specs.declared.act.Act.TheVariants.{Reset, Tick}

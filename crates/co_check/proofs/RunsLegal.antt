@@ -1,6 +1,6 @@
 -- The report of a run is legal.
-use Rattle.std.proofs.Common.{◌≡◌, ℕ, zero, suc, ◌+◌, ◌<◌, ◌≤◌, ◌==◌, ◌||◌, Bool, true, false, cond, not, nat_lt, List, [], ◌∷◌, length, get_or, refl, ap, sym, subst, ◌∙◌, arith}
-use Rattle.std.specs.Prelude.{Option, Some, None, slice_get}
+use Rattle.std.proofs.Common.{◌≡◌, ℕ, zero, suc, ◌+◌, ◌<◌, ◌≤◌, ◌==◌, ◌||◌, Bool, true, false, cond, not, nat_lt, List, [], ◌∷◌, length, refl, ap, sym, subst, ◌∙◌, arith}
+use Rattle.std.specs.Prelude.{Option, Some, None}
 use Rattle.std.specs.List.{list_any, cons_option, range_with_len}
 use Rattle.std.proofs.lemmas.Bool.Decides.{nat_tests}
 use Rattle.std.proofs.lemmas.Option.{slice_get-get_or}
@@ -19,8 +19,6 @@ use Rattle.co_program.specs.Actors.{actor_count}
 use Rattle.co_program.specs.Places.{place_exists}
 use Rattle.co_program.specs.Runs.{IsRunOf, actors_of, are_direct, notes_by, shown_histories}
 use Rattle.co_report.specs.declared.line.Line.{Line}
-use Rattle.co_check.specs.declared.verdict.Verdict.{Verdict}
-use Rattle.co_check.specs.declared.verdict.Verdict.TheVariants.{Legal}
 use Rattle.co_check.specs.Astray.{by_actor, astray_of, is_unfinished, first_of, or_later, all_actors}
 use Rattle.co_check.specs.Laws.{AreLegal}
 use Rattle.co_check.specs.Lines.{AreLinesOf}

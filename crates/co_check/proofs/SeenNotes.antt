@@ -1,9 +1,9 @@
 -- What is seen of an actor's lines is what the histories say of its notes.
 use Rattle.std.proofs.Common.{◌≡◌, ℕ, zero, suc, ◌+◌, ◌<◌, ◌≤◌, ◌==◌, Bool, true, false, cond, List, [], ◌∷◌, ◌++◌, take, drop, length, append_assoc, refl, ap, sym, subst, ◌∙◌, arith}
 use Rattle.std.specs.Prelude.{Option, Some, None, is_some, slice_get, option_and_then}
-use Rattle.std.specs.List.{list_any, filter_map, cons_option, count_by, range_with_len}
+use Rattle.std.specs.List.{filter_map, cons_option, range_with_len}
 use Rattle.std.proofs.lemmas.List.Elements.{filter_map-append}
-use Rattle.std.proofs.lemmas.Option.{slice_get_within, slice_get_past}
+use Rattle.std.proofs.lemmas.Option.{slice_get_past}
 use Rattle.co_object.specs.declared.Entry.{Entry}
 use Rattle.co_object.specs.declared.QEntry.{QEntry}
 use Rattle.co_object.specs.declared.Note.{Note}
@@ -12,7 +12,6 @@ use Rattle.co_object.specs.declared.Place.TheVariants as place
 use Rattle.co_object.specs.declared.AnyEntry.{AnyEntry}
 use Rattle.co_object.specs.declared.AnyEntry.TheVariants as of
 use Rattle.co_object.specs.Lists.{same_place, IsWellFormed}
-use Rattle.co_object.specs.Lists as lists_of
 use Rattle.co_object.specs.Stand.{off}
 use Rattle.co_object.specs.History.{state}
 use Rattle.co_object.proofs.Passing.{passing, count-passing, passing-append}
@@ -23,15 +22,15 @@ use Rattle.co_program.specs.Runs.{shown_histories}
 use Rattle.co_report.specs.declared.line.Line.{Line}
 use Rattle.co_report.specs.Origins.{note_at}
 use Rattle.co_check.specs.Astray.{Seen, seen_at, seen_from, seen, note_of, notes_of}
-use Rattle.co_check.specs.Index.{index_of, slot_of}
-use Rattle.co_check.specs.Lines.{IsLineOf, AreLinesOf, IsOfKind}
+use Rattle.co_check.specs.Index.{slot_of}
+use Rattle.co_check.specs.Lines.{AreLinesOf, IsOfKind}
 use Rattle.co_check.specs.Numbers.{count_of}
 use Rattle.co_check.specs.Programs.{IsSeenAs, AreSeenAs}
-use Rattle.co_check.specs.Runs.{Show, IsLineOfNote, count_in}
-use Rattle.co_check.specs.Shown.{actor_of, is_note, callout_entry, queue_entry, callout_history, cpu_journal, is_listed, scans_of}
+use Rattle.co_check.specs.Runs.{Show, count_in}
+use Rattle.co_check.specs.Shown.{is_note, callout_entry, queue_entry, callout_history, cpu_journal, is_listed, scans_of}
 use Rattle.co_check.proofs.ByActor.{note-found}
 use Rattle.co_check.proofs.Counting.{none-any, index-is, count-enough}
-use Rattle.co_check.proofs.Along.{front, back}
+use Rattle.co_check.proofs.Along.{front}
 use Rattle.co_check.proofs.Numbering.{any-index}
 use Rattle.co_check.proofs.Taking.{some-is}
 use Rattle.co_check.proofs.Showing.{is-note, stands, shows, first-one, same-itself}

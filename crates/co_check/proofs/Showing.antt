@@ -1,40 +1,19 @@
 -- The lines that show the notes of a run: their numbers are right, and each actor's are seen as its notes.
-use Rattle.std.proofs.Common.{◌≡◌, ◌≢◌, ℕ, zero, suc, ◌+◌, ◌<◌, ◌≤◌, ◌==◌, ◌&&◌, Bool, true, false, cond, nat_lt, nat_le, List, [], ◌∷◌, ◌++◌, map, take, drop, length, get_or, append_assoc, refl, ap, sym, subst, ◌∙◌, arith}
-use Rattle.std.specs.Prelude.{Option, Some, None, is_some, slice_get, option_and_then}
-use Rattle.std.specs.List.{AllByRecursion, list_any, filter, filter_map, cons_option, count_by, range_with_len}
+use Rattle.std.proofs.Common.{◌≡◌, ℕ, zero, suc, ◌+◌, ◌<◌, ◌≤◌, ◌==◌, ◌&&◌, Bool, true, false, cond, nat_lt, List, [], ◌∷◌, map, take, refl, ap, sym, subst, ◌∙◌, arith}
+use Rattle.std.specs.Prelude.{Option, Some, None, slice_get, option_and_then}
+use Rattle.std.specs.List.{AllByRecursion, list_any}
 use Rattle.std.proofs.lemmas.Bool.Decides.{nat_tests}
-use Rattle.std.proofs.lemmas.List.Elements.{filter_map-append}
-use Rattle.std.proofs.lemmas.Option.{slice_get_within, slice_get-get_or, get_or_from_slice_get}
-use Rattle.co_object.specs.declared.Entry.{Entry}
-use Rattle.co_object.specs.declared.QEntry.{QEntry}
 use Rattle.co_object.specs.declared.Note.{Note}
 use Rattle.co_object.specs.declared.Place.{Place}
 use Rattle.co_object.specs.declared.Place.TheVariants as place
-use Rattle.co_object.specs.declared.AnyEntry.{AnyEntry}
-use Rattle.co_object.specs.declared.AnyEntry.TheVariants as of
 use Rattle.co_object.specs.Lists.{same_place, notes_of, IsRising, IsWellFormed}
-use Rattle.co_object.specs.Lists as lists_of
-use Rattle.co_object.specs.Stand.{off}
-use Rattle.co_object.specs.History.{state}
-use Rattle.co_object.proofs.Passing.{passing, count-passing}
-use Rattle.co_program.specs.declared.script.Script.{Script}
-use Rattle.co_program.specs.Action.{spec_at}
-use Rattle.co_program.specs.Follows.{Histories, listed_after, scans_before, scan_count}
-use Rattle.co_program.specs.Runs.{shown_histories}
 use Rattle.co_report.specs.declared.line.Line.{Line}
 use Rattle.co_report.specs.Origins.{note_at}
-use Rattle.co_check.specs.Astray.{Seen, seen_at, seen_from, seen, note_of}
-use Rattle.co_check.specs.Index.{index_of, slot_of}
-use Rattle.co_check.specs.Lines.{IsLineOf, AreLinesOf, IsOfKind}
 use Rattle.co_check.specs.Numbers.{count_of, is_beyond, is_taken, falls, number_at}
-use Rattle.co_check.specs.Programs.{IsSeenAs, AreSeenAs}
 use Rattle.co_check.specs.Runs.{Show, IsLineOfNote, count_in}
-use Rattle.co_check.specs.Shown.{actor_of, is_by, is_note, is_of, callout_entry, queue_entry, callout_history, cpu_journal, is_listed, scans_of}
-use Rattle.co_check.proofs.ByActor.{note-found}
-use Rattle.co_check.proofs.Counting.{any-at, none-any, take-get, index-is, count-rises, count-enough}
-use Rattle.co_check.proofs.Along.{front, back}
+use Rattle.co_check.specs.Shown.{actor_of, is_note, is_of}
+use Rattle.co_check.proofs.Counting.{any-at, none-any, take-get, count-rises, count-enough}
 use Rattle.co_check.proofs.Numbered.{all-fine, le-false}
-use Rattle.co_check.proofs.Numbering.{any-index}
 use Rattle.co_check.proofs.Taking.{some-is}
 use Rattle.co_check.proofs.SameValues.{equal, itself, first, second, all}
 

@@ -1,6 +1,6 @@
 -- What a line is answered: from what its callout or its CPU's queue answers.
-use Rattle.std.proofs.Common.{◌≡◌, ℕ, suc, ◌+◌, ◌<◌, ◌≤◌, ◌^◌, length, arith, Bool, true, false, List, [], ◌∷◌, ◌++◌, get_or, set, refl, ap, sym, subst, ◌∙◌}
-use Rattle.std.specs.Prelude.{Option, Some, None, Result, Ok, Err, is_some, slice_get}
+use Rattle.std.proofs.Common.{◌≡◌, ℕ, suc, ◌+◌, ◌<◌, ◌≤◌, ◌^◌, length, arith, Bool, true, false, List, [], ◌∷◌, ◌++◌, get_or, set, refl, ap, sym, ◌∙◌}
+use Rattle.std.specs.Prelude.{Option, Some, None, Ok, Err, is_some, slice_get}
 use Rattle.std.specs.List.{cons_option}
 use Rattle.co_object.specs.declared.Alone.{Alone}
 use Rattle.co_object.specs.declared.QOp.{QOp}
@@ -11,11 +11,9 @@ use Rattle.co_object.specs.Queue.{Queue}
 use Rattle.co_object.specs.Journal as journal
 use Rattle.co_object.specs.declared.Entry.{Entry}
 use Rattle.co_object.specs.declared.QEntry.{QEntry}
-use Rattle.co_object.specs.declared.Place.{Place}
 use Rattle.co_object.specs.declared.Place.TheVariants as place
 use Rattle.co_object.specs.declared.AnyEntry.{AnyEntry}
 use Rattle.co_object.specs.declared.AnyEntry.TheVariants as of
-use Rattle.co_object.specs.History.{next}
 use Rattle.co_object.specs.Stand.{off}
 use Rattle.co_program.specs.declared.script.Script.{Script}
 use Rattle.co_program.specs.Follows.{one_scan, scan_count}

@@ -1,16 +1,14 @@
 -- A line is taken: the history of its place grows by its entry, and that of no other.
-use Rattle.std.proofs.Common.{◌≡◌, ◌≢◌, ℕ, zero, suc, ◌+◌, ◌<◌, ◌==◌, Bool, true, false, cond, List, [], ◌∷◌, ◌++◌, length, get_or, set, get_or-set_same, get_or-set_other, refl, ap, sym, subst, ◌∙◌, arith, inl, inr}
-use Rattle.std.specs.Prelude.{Option, Some, None, is_some, slice_get}
-use Rattle.std.specs.List.{cons_option, fold, filter_map}
+use Rattle.std.proofs.Common.{◌≡◌, ◌≢◌, ℕ, zero, suc, ◌+◌, ◌<◌, ◌==◌, Bool, cond, List, [], ◌∷◌, ◌++◌, length, get_or, set, get_or-set_same, get_or-set_other, refl, ap, sym, subst, ◌∙◌, arith, inl, inr}
+use Rattle.std.specs.Prelude.{Option, Some, None, slice_get}
+use Rattle.std.specs.List.{cons_option}
 use Rattle.std.proofs.lemmas.Bool.{cases_eq}
 use Rattle.std.proofs.lemmas.Bool.Decides.{nat_tests}
 use Rattle.std.proofs.lemmas.List.{length-set}
 use Rattle.std.proofs.lemmas.List.Elements.{filter_map-append}
-use Rattle.std.proofs.lemmas.Option.{slice_get_within}
 use Rattle.co_object.specs.declared.Alone.{Alone}
 use Rattle.co_object.specs.declared.Entry.{Entry}
 use Rattle.co_object.specs.declared.QEntry.{QEntry}
-use Rattle.co_object.specs.declared.Place.{Place}
 use Rattle.co_object.specs.declared.Place.TheVariants as place
 use Rattle.co_object.specs.declared.AnyEntry.{AnyEntry}
 use Rattle.co_object.specs.declared.AnyEntry.TheVariants as of
@@ -19,15 +17,13 @@ use Rattle.co_object.specs.Callout.{opening}
 use Rattle.co_object.specs.History.{next, state}
 use Rattle.co_object.specs.Journal as journal
 use Rattle.co_object.specs.Queue.{Queue, empty_queue}
-use Rattle.co_object.specs.Stand.{off}
 use Rattle.co_object.proofs.Histories.{state-snoc}
 use Rattle.co_program.specs.declared.script.Script.{Script}
 use Rattle.co_program.specs.Action.{spec_at}
 use Rattle.co_program.specs.Follows.{one_scan, scan_count}
-use Rattle.co_program.specs.Runs.{actors_of, are_direct}
+use Rattle.co_program.specs.Runs.{are_direct}
 use Rattle.co_check.specs.declared.cpu.CpuQueue.{CpuQueue}
 use Rattle.co_report.specs.declared.line.Line.{Line}
-use Rattle.co_check.specs.declared.replay.Fact.{Fact}
 use Rattle.co_check.specs.declared.replay.Replay.{Replay}
 use Rattle.co_check.specs.Cpu.{IsFor}
 use Rattle.co_check.specs.Replay.{state_after, queue_after}

@@ -1,5 +1,5 @@
 -- Whether a note is what an actor asks for at a place in its program.
-use Rattle.std.specs.Prelude.{ℕ, Bool, true, false, ◌==◌, ◌&&◌, nat_le, Option, None}
+use Rattle.std.specs.Prelude.{ℕ, Bool, true, false, ◌==◌, ◌&&◌, Option, None}
 use Rattle.co_object.specs.declared.Place.{Place}
 use Rattle.co_object.specs.declared.Place.TheVariants as place
 use Rattle.co_object.specs.declared.AnyEntry.{AnyEntry}
@@ -11,7 +11,6 @@ use Rattle.co_object.specs.declared.QOp.{QOp}
 use Rattle.co_object.specs.declared.QOp.TheVariants.{Remove}
 use Rattle.co_object.specs.declared.QReply.TheVariants.{Off}
 use Rattle.co_object.specs.Group.{off_of}
-use Rattle.co_program.specs.declared.action.Asked.{Asked}
 use Rattle.co_program.specs.declared.action.Asked.TheVariants.{Callout, Queue, Itself}
 use Rattle.co_program.specs.Action.{Action, Nothing, Silent, Take, Asks}
 use Rattle.co_check.specs.Same.{same_number, same_op, same_queue_op, same_answer, same_kind}

@@ -1,7 +1,6 @@
 -- What the code keeps of the numbers above: which line has each note, and how far the numbers have come in each place.
 use Rattle.std.specs.Prelude.{◌≡◌, ◌≢◌, ℕ, ◌<◌, ◌≤◌, ◌+◌, Bool, true, false, max, if◌then◌else◌, List, [], ◌∷◌, ◌++◌, length, Option, Some, None, Vec, slice_get, slice_set, slice_index}
 use Rattle.co_object.specs.declared.Place.{Place}
-use Rattle.co_object.specs.Lists.{same_place}
 use Rattle.co_program.specs.declared.script.Script.{Script}
 use Rattle.co_program.specs.Actors.{actor_count}
 use Rattle.co_program.specs.Places.{place_exists}
@@ -12,7 +11,7 @@ use Rattle.co_check.specs.declared.index.Indexed.TheVariants.{Fits, Bad as BadLi
 use Rattle.co_report.specs.declared.line.Line.{Line}
 use Rattle.co_check.specs.declared.verdict.Unfit.TheVariants.{Number}
 use Rattle.co_check.specs.Numbers.{count_of, number_at, first_misnumbered}
-use Rattle.co_check.specs.Shown.{is_by, is_note, is_of}
+use Rattle.co_check.specs.Shown.{is_note, is_of}
 
 -- where the first such line stands, the first of all at this number
 abbrev pub index_of : (Line → Bool) → ℕ → List Line → Option ℕ

@@ -1,5 +1,5 @@
 -- What the code keeps of the lines above: each callout's state, each CPU's queue, and how many Scans it had.
-use Rattle.std.specs.Prelude.{◌≡◌, ℕ, ◌<◌, ◌+◌, Bool, is_some, List, [], ◌∷◌, ◌++◌, length, map, Option, Some, None, Result, Ok, Err, slice_get, slice_index}
+use Rattle.std.specs.Prelude.{◌≡◌, ℕ, ◌<◌, Bool, is_some, List, [], ◌∷◌, ◌++◌, length, map, Some, None, Result, Ok, Err, slice_get, slice_index}
 use Rattle.co_object.specs.declared.Alone.{Alone}
 use Rattle.co_object.specs.declared.Spec.{Spec}
 use Rattle.co_object.specs.declared.Entry.{Entry}
@@ -13,7 +13,7 @@ use Rattle.co_object.specs.Stand.{off}
 use Rattle.co_program.specs.declared.script.Script.{Script}
 use Rattle.co_program.specs.Action.{spec_at}
 use Rattle.co_program.specs.Follows.{scan_count}
-use Rattle.co_program.specs.Runs.{actors_of, are_direct}
+use Rattle.co_program.specs.Runs.{are_direct}
 use Rattle.co_check.specs.declared.cpu.CpuQueue.{CpuQueue}
 use Rattle.co_report.specs.declared.line.Line.{Line}
 use Rattle.co_check.specs.declared.replay.Fact.{Fact}

@@ -1,5 +1,5 @@
 -- The report of a run is legal.
-use Rattle.std.specs.Prelude.{◌≡◌, ℕ, List, map, take, Option, Some, option_and_then, slice_get}
+use Rattle.std.specs.Prelude.{◌≡◌, ℕ, List, map, take, Some, slice_get}
 use Rattle.std.specs.List.{count_by, filter}
 use Rattle.co_object.specs.declared.Note.{Note}
 use Rattle.co_object.specs.declared.Place.{Place}

@@ -1,5 +1,5 @@
 -- What lines of a report show: the history of each place, and who made which entry.
-use Rattle.std.specs.Prelude.{ℕ, ◌+◌, ◌==◌, ◌&&◌, Bool, false, is_some, if◌then◌else◌, List, Option, Some, None}
+use Rattle.std.specs.Prelude.{ℕ, ◌==◌, ◌&&◌, Bool, false, is_some, if◌then◌else◌, List, Option, Some, None}
 use Rattle.std.specs.List.{filter_map}
 use Rattle.co_object.specs.declared.Place.{Place}
 use Rattle.co_object.specs.declared.Place.TheVariants as place

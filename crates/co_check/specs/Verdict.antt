@@ -1,6 +1,6 @@
 -- The verdict on a report: the first thing that is wrong, in this order. Each timer's and CPU's history; then the notes' numbers;
 -- then each actor's notes beside its program; then whether each actor's program has ended.
-use Rattle.std.specs.Prelude.{ℕ, Bool, true, false, if◌then◌else◌, List, Option, Some, None}
+use Rattle.std.specs.Prelude.{ℕ, Bool, true, false, List, Option, Some, None}
 use Rattle.std.specs.List.{list_any}
 use Rattle.co_program.specs.declared.script.Script.{Script}
 use Rattle.co_report.specs.declared.line.Line.{Line}

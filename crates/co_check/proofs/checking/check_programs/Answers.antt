@@ -1,5 +1,5 @@
 -- One actor more is done, or its notes are not of its program.
-use Rattle.std.proofs.Common.{◌≡◌, ◌<◌, ◌+◌, length, ap, sym, subst, ◌∙◌, arith}
+use Rattle.std.proofs.Common.{◌<◌, ◌+◌, length, ap, sym, subst, ◌∙◌, arith}
 use Rattle.co_program.specs.Actors.{actor_count}
 use Rattle.co_program.specs.Cursor.{start_of}
 use Rattle.co_program.specs.Indexed.{cursor_of}

@@ -1,7 +1,6 @@
 -- One line more is counted.
-use Rattle.std.proofs.Common.{◌≡◌, ◌<◌, length, get_or, take, ap, sym, ◌∙◌, refl, subst, arith}
+use Rattle.std.proofs.Common.{◌<◌, length, sym, refl, arith}
 use Rattle.std.proofs.lemmas.Option.{slice_get_read, get_or_from_slice_get}
-use Rattle.co_check.specs.Shown.{actor_of}
 use Rattle.co_check.proofs.Indexing.{counted-more, count-few}
 use Rattle.co_check.proofs.index.counts_of.Goals as goal
 

@@ -1,5 +1,5 @@
 -- A line more is indexed, or its number is wrong.
-use Rattle.std.proofs.Common.{◌≡◌, length, take, sym, subst, ◌∙◌, refl, arith}
+use Rattle.std.proofs.Common.{length, take, sym, subst, ◌∙◌, refl, arith}
 use Rattle.std.proofs.lemmas.List.{length-take-le}
 use Rattle.std.proofs.lemmas.Option.{slice_get_read}
 use Rattle.co_check.specs.Index.{IsIndexed}

@@ -1,6 +1,5 @@
 -- A CPU has as many acts as its ticks, in either version.
 use Rattle.std.proofs.Common.{◌≡◌, ◌-◌, length, drop, ap, sym, ◌∙◌}
-use Rattle.co_program.specs.declared.role.Role.{Role}
 use Rattle.co_program.specs.declared.role.Role.TheVariants.{Cpu}
 use Rattle.co_program.specs.Actors.{program_of, role_of}
 use Rattle.co_check.proofs.Acts.{cpu-left}

@@ -1,6 +1,6 @@
 -- One note more is of the program, or is not.
-use Rattle.std.proofs.Common.{◌≡◌, ◌<◌, false, length, get_or, refl, ap, sym, ◌∙◌, arith}
-use Rattle.std.specs.Prelude.{Some, None, slice_get}
+use Rattle.std.proofs.Common.{◌<◌, false, length, get_or, refl, ap, ◌∙◌, arith}
+use Rattle.std.specs.Prelude.{Some, None}
 use Rattle.std.proofs.lemmas.Option.{slice_get-get_or, slice_get_read}
 use Rattle.co_check.specs.declared.replay.Fact.{Fact}
 use Rattle.co_check.proofs.Walking.{walked-on, walked-off, few-facts}

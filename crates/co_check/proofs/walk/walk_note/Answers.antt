@@ -1,5 +1,5 @@
 -- The note is looked at where the steps without a note end.
-use Rattle.std.proofs.Common.{◌≡◌, ap, sym, ◌∙◌}
+use Rattle.std.proofs.Common.{ap, sym, ◌∙◌}
 use Rattle.co_program.specs.Advance.{advance}
 use Rattle.co_program.specs.Cursor.{Cursor}
 use Rattle.co_check.specs.Astray.{Seen, is_next}

@@ -1,8 +1,6 @@
 -- Before the first line no slot is taken, and no number has come.
-use Rattle.std.proofs.Common.{◌≡◌, ◌+◌, ◌<◌, map, length, get_or, replicate, ap, sym, ◌∙◌, arith}
+use Rattle.std.proofs.Common.{◌+◌, map, length, replicate, ap, ◌∙◌, arith}
 use Rattle.co_program.specs.Actors.{actor_count}
-use Rattle.co_report.specs.Order.{place_count}
-use Rattle.co_check.specs.Numbers.{count_of}
 use Rattle.co_check.proofs.Indexing.{opened-index, empty_slots, zeros}
 use Rattle.co_check.proofs.index.Index.open.Goals as goal
 

@@ -1,10 +1,9 @@
 -- The line's number is taken, or something is wrong with it.
-use Rattle.std.proofs.Common.{◌≡◌, ◌<◌, ◌≤◌, ◌+◌, length, get_or, set, ap, sym, ◌∙◌, refl, subst, arith}
-use Rattle.std.specs.Prelude.{Some, None, slice_get}
+use Rattle.std.proofs.Common.{◌<◌, ◌+◌, length, get_or, set, ap, sym, ◌∙◌, refl, arith}
+use Rattle.std.specs.Prelude.{slice_get}
 use Rattle.std.proofs.lemmas.List.Sums.{count_by-le-length}
 use Rattle.std.proofs.lemmas.Option.{slice_get_read}
 use Rattle.co_check.specs.Shown.{actor_of, is_by}
-use Rattle.co_report.specs.Order.{place_index}
 use Rattle.co_report.proofs.Places.{index_below}
 use Rattle.co_check.proofs.Numbered.{numbered, not_free, too_low, in_range}
 use Rattle.co_check.proofs.index.Index.take.Goals as goal

@@ -1,8 +1,6 @@
 -- The queue takes the entry, or refuses it.
-use Rattle.std.proofs.Common.{◌≡◌, ◌<◌, ◌+◌, set, length, get_or, refl, ap, ◌∙◌, sym, arith}
-use Rattle.std.specs.Prelude.{Some, slice_get}
+use Rattle.std.proofs.Common.{◌<◌, ◌+◌, set, length, refl, ap, sym, arith}
 use Rattle.std.proofs.lemmas.Option.{slice_get_read, get_or_from_slice_get}
-use Rattle.co_program.specs.Follows.{one_scan}
 use Rattle.co_check.specs.Replay.{queue_after}
 use Rattle.co_check.proofs.Taken.{refused-queue, taken-queue, room}
 use Rattle.co_check.proofs.replay.Replay.take_cpu.Goals as goal

@@ -1,6 +1,5 @@
 -- The callout takes the entry, or refuses it.
-use Rattle.std.proofs.Common.{◌≡◌, length, refl}
-use Rattle.std.specs.Prelude.{Some, slice_get}
+use Rattle.std.proofs.Common.{length, refl}
 use Rattle.std.proofs.lemmas.Option.{slice_get_read}
 use Rattle.co_check.proofs.Taken.{refused-callout, taken-callout}
 use Rattle.co_check.proofs.replay.Replay.take_timer.Goals as goal
