@@ -1,6 +1,7 @@
 //! The worked examples of the program, as tables for tests of the top call in memory.
 #![tactic(auto)]
 
+pub mod broken;
 mod case;
 pub mod examples;
 mod ordinary;
@@ -14,4 +15,4 @@ pub mod versions;
 
 pub use case::Case;
 pub use ordinary::ordinary_script;
-pub use outcome::{Outcome, call, steps};
+pub use outcome::{Outcome, call, check, make, steps};

@@ -43,3 +43,17 @@ pub fn steps(alloc: Global, script: &[u8]) -> Result<Outcome, NoMemory> {
     let sink = MemSink::new(alloc, ROOM, ROOM, &[])?;
     call(alloc, ["steps"].as_slice(), source, sink)
 }
+
+/// A call of `check` without a fault.
+pub fn check(alloc: Global, report: &[u8]) -> Result<Outcome, NoMemory> {
+    let source = MemSource::new(alloc, report, ROOM, &[])?;
+    let sink = MemSink::new(alloc, ROOM, ROOM, &[])?;
+    call(alloc, ["check"].as_slice(), source, sink)
+}
+
+/// A call of a command that reads nothing, over a source that fails where it is read, into so many bytes.
+pub fn make(alloc: Global, words: &[&str], room: usize) -> Result<Outcome, NoMemory> {
+    let source = MemSource::new(alloc, b"unread".as_slice(), 1, &[0])?;
+    let sink = MemSink::new(alloc, room, room, &[])?;
+    call(alloc, words, source, sink)
+}

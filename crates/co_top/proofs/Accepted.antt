@@ -1,5 +1,5 @@
--- Which inputs are scripts, by their length: a longer one than the limit is refused, so a script was read to its end.
-use Rattle.std.proofs.Common.{◌≡◌, ℕ, ◌<◌, ◌≤◌, Bool, true, false, List, length, refl, subst, sym, ◌∙◌, Ok, Err, Result, arith}
+-- Which inputs are accepted, by their length: a longer one than the limit is refused, so one that is accepted was read to its end.
+use Rattle.std.proofs.Common.{◌≡◌, ℕ, ◌<◌, ◌≤◌, Bool, true, false, List, length, refl, subst, sym, Ok, Err, Result, arith}
 use Rattle.std.specs.Prelude.{nat_le}
 use Rattle.std.proofs.lemmas.Bool.Decides.{nat_tests}
 use Rattle.co_program.specs.declared.script.Script.{Script}
@@ -7,25 +7,44 @@ use Rattle.co_text.specs.Fallible.{Refusal, ◌>>◌, unless, at_line}
 use Rattle.co_text.specs.Lines.{lines_of}
 use Rattle.co_text.specs.declared.cause.Cause.TheVariants.{Size}
 use Rattle.co_script.specs.Reading.{script_of, lines_script}
-use Rattle.co_top.specs.Headline.{script_limit}
+use Rattle.co_report.specs.Reading.{report_read, lines_report}
+use Rattle.co_report.specs.declared.line.Report.{Report}
+use Rattle.co_top.specs.Headline.{limit_of}
+use Rattle.co_top.specs.declared.command.Reading.TheVariants.{Steps, Check}
 
--- what is read where the length is within the limit, or is not
-abbrev within : Bool → List ℕ → Result Script Refusal
-within short bytes = at_line 0 (unless short Size) >> lines_script (lines_of bytes)
+abbrev pub too_long : Refusal
+too_long = record { line = 0; cause = Size }
 
-short_length : (n : ℕ) → nat_le n script_limit ≡ true → n ≤ script_limit
-short_length n h = grind (arith, nat_tests)
+module _ {X : Type 0} (limit : ℕ) (bytes : List ℕ) (rest : Result X Refusal) where
+  -- what is read where the length is within the limit, or is not
+  abbrev within : Bool → Result X Refusal
+  within short = at_line 0 (unless short Size) >> rest
 
-long_length : (n : ℕ) → script_limit < n → nat_le n script_limit ≡ false
-long_length n h = grind (arith, nat_tests)
+  short_length : nat_le (length bytes) limit ≡ true → length bytes ≤ limit
+  short_length h = grind (arith, nat_tests)
 
-pub accepted_short : (bytes : List ℕ) (s : Script) → script_of bytes ≡ Ok s → length bytes ≤ script_limit
+  long_length : limit < length bytes → nat_le (length bytes) limit ≡ false
+  long_length h = grind (arith, nat_tests)
+
+  short : (x : X) (test : Bool) → nat_le (length bytes) limit ≡ test → within test ≡ Ok x → length bytes ≤ limit
+  short x true test read = short_length test
+  short x false test read = cc
+
+  long : limit < length bytes → within (nat_le (length bytes) limit) ≡ Err too_long
+  long over = subst (λ (test : Bool). within test ≡ Err too_long) (sym (long_length over)) refl
+
+pub accepted_short : (bytes : List ℕ) (s : Script) → script_of bytes ≡ Ok s → length bytes ≤ limit_of Steps
 unfolding script_of
-accepted_short bytes s is = go (nat_le (length bytes) script_limit) refl is where
-  go : (short : Bool) → nat_le (length bytes) script_limit ≡ short → within short bytes ≡ Ok s → length bytes ≤ script_limit
-  go true test read = short_length (length bytes) test
-  go false test read = cc
+accepted_short bytes s is = short (limit_of Steps) bytes (lines_script (lines_of bytes)) s (nat_le (length bytes) (limit_of Steps)) refl is
 
-pub long_refused : (bytes : List ℕ) → script_limit < length bytes → script_of bytes ≡ Err (record { line = 0; cause = Size })
+pub long_refused : (bytes : List ℕ) → limit_of Steps < length bytes → script_of bytes ≡ Err too_long
 unfolding script_of
-long_refused bytes long = subst (λ (short : Bool). within short bytes ≡ Err (record { line = 0; cause = Size })) (sym (long_length (length bytes) long)) refl
+long_refused bytes over = long (limit_of Steps) bytes (lines_script (lines_of bytes)) over
+
+pub report_short : (bytes : List ℕ) (r : Report) → report_read bytes ≡ Ok r → length bytes ≤ limit_of Check
+unfolding report_read
+report_short bytes r is = short (limit_of Check) bytes (lines_report (lines_of bytes)) r (nat_le (length bytes) (limit_of Check)) refl is
+
+pub report_refused : (bytes : List ℕ) → limit_of Check < length bytes → report_read bytes ≡ Err too_long
+unfolding report_read
+report_refused bytes over = long (limit_of Check) bytes (lines_report (lines_of bytes)) over

@@ -1,21 +1,24 @@
--- What `steps` says by its status: what was read, what was made of it, and what was written.
-use Rattle.std.proofs.Common.{◌≡◌, ℕ, ◌<◌, ◌≤◌, Bool, true, false, List, length, Some, None, inl, inr, refl, sym, subst, arith}
+-- What a command says by its status: what was read, what was made of it, and what was written.
+use Rattle.std.proofs.Common.{◌≡◌, ℕ, ◌<◌, ◌≤◌, Bool, true, false, List, length, Option, Some, None, inl, inr, refl, sym, subst, arith}
 use Rattle.std.specs.Prelude.{◌↔◌, IsTrue}
 use Rattle.std.specs.Io.KnownBytes.{Consumes, IsAtEnd}
 use Rattle.co_top.specs.declared.command.Command.{Command}
-use Rattle.co_top.specs.declared.command.Command.TheVariants.{Steps}
+use Rattle.co_top.specs.declared.command.Command.TheVariants.{Read, Make}
+use Rattle.co_top.specs.declared.command.Reading.{Reading}
+use Rattle.co_top.specs.declared.command.Reading.TheVariants.{Steps, Check}
+use Rattle.co_top.specs.declared.command.Making.{Making}
 use Rattle.co_top.specs.declared.status.Status.{Status}
 use Rattle.co_top.specs.declared.status.Status.TheVariants.{Done, BadScript, Usage, ReadFault, WriteFault, NoMemory, NotLegal}
 use Rattle.co_top.specs.Commands.{usage_text}
-use Rattle.co_top.specs.Headline.{StepsGive, ComesTo, Says, Tells, script_limit}
+use Rattle.co_top.specs.Headline.{Gives, HasRead, ComesTo, Says, Tells, IsMadeOf, limit_of}
 use Rattle.co_top.specs.Outside.{Outside, Reads, ReadsToEnd, Writes}
-use Rattle.co_top.proofs.Accepted.{accepted_short}
+use Rattle.co_top.proofs.Accepted.{accepted_short, report_short}
 
--- the bytes that were read of the source, and whether there were more than the limit
-pub record HasRead (before after : Outside) (bytes : List ℕ) (over : Bool) : Type 0 where
+-- the bytes that a command read of the source, and whether there were more than its limit
+pub record WasRead (before after : Outside) (reading : Reading) (bytes : List ℕ) (over : Bool) : Type 0 where
   pub read : Consumes before.input.left after.input.left bytes
   pub end : over ≡ false → IsAtEnd after.input.left
-  pub longer : IsTrue over ↔ (script_limit < length bytes)
+  pub longer : IsTrue over ↔ (limit_of reading < length bytes)
 
 -- what is said where the words are no command: the source stays unread, and the usage line is written or a front of it
 pub unknown : (before after : Outside) (result : Status) (text : List ℕ) → after.input ≡ before.input → text ≡ usage_text →
@@ -23,38 +26,62 @@ pub unknown : (before after : Outside) (result : Status) (text : List ℕ) → a
 unknown before after result text unread is (inl whole) = subst (Says before after None) (sym whole.0) (text, (unread, is), whole.1)
 unknown before after result text unread is (inr front) = subst (Says before after None) (sym front.0) (Usage, text, (unread, is), front.1)
 
+-- ---- commands that read
+
 module _ (before after : Outside) (bytes : List ℕ) where
-  within : (over : Bool) → HasRead before after bytes over → length bytes ≤ script_limit → ReadsToEnd before.input after.input bytes
-  within false has short = record { read = has.read; ended = has.end refl }
-  within true has short = let long : script_limit < length bytes = has.longer.0 refl in absurd (omega arith)
+  within : (reading : Reading) (over : Bool) → WasRead before after reading bytes over → length bytes ≤ limit_of reading → ReadsToEnd before.input after.input bytes
+  within reading false has short = record { read = has.read; ended = has.end refl }
+  within reading true has short = let long : limit_of reading < length bytes = has.longer.0 refl in absurd (omega arith)
 
-  read_all : (over : Bool) → HasRead before after bytes over → Reads before.input after.input script_limit bytes
-  read_all false has = inl (record { read = has.read; ended = has.end refl })
-  read_all true has = inr (record { read = has.read; over = has.longer.0 refl })
+  either : (reading : Reading) (over : Bool) → WasRead before after reading bytes over → Reads before.input after.input (limit_of reading) bytes
+  either reading false has = inl (record { read = has.read; ended = has.end refl })
+  either reading true has = inr (record { read = has.read; over = has.longer.0 refl })
 
-  comes : (over : Bool) (status : Status) (text : List ℕ) → HasRead before after bytes over → StepsGive bytes status text → ComesTo before after (Some Steps) status text
-  comes over Done text has given = (bytes, within over has (accepted_short bytes given.script given.read), given)
-  comes over BadScript text has given = (bytes, read_all over has, given)
-  comes over Usage text has given = absurd given
-  comes over ReadFault text has given = absurd given
-  comes over WriteFault text has given = absurd given
-  comes over NoMemory text has given = absurd given
-  comes over NotLegal text has given = absurd given
+  has_read : (reading : Reading) (over : Bool) (status : Status) (text : List ℕ) → WasRead before after reading bytes over → Gives reading bytes status text → HasRead before after reading status bytes
+  has_read Steps over Done text has given = within Steps over has (accepted_short bytes given.script given.read)
+  has_read Steps over BadScript text has given = either Steps over has
+  has_read Steps over Usage text has given = absurd given
+  has_read Steps over ReadFault text has given = absurd given
+  has_read Steps over WriteFault text has given = absurd given
+  has_read Steps over NoMemory text has given = absurd given
+  has_read Steps over NotLegal text has given = absurd given
+  has_read Check over Done text has given = within Check over has (report_short bytes given.report given.read)
+  has_read Check over BadScript text has given = either Check over has
+  has_read Check over NotLegal text has given = within Check over has (report_short bytes given.report given.read)
+  has_read Check over Usage text has given = absurd given
+  has_read Check over ReadFault text has given = absurd given
+  has_read Check over WriteFault text has given = absurd given
+  has_read Check over NoMemory text has given = absurd given
 
-  written : (over : Bool) (status : Status) (text : List ℕ) → HasRead before after bytes over → StepsGive bytes status text → Writes before.output after.output text → Says before after (Some Steps) status
-  written over Done text has given wrote = (text, comes over Done text has given, wrote)
-  written over BadScript text has given wrote = (text, comes over BadScript text has given, wrote)
-  written over Usage text has given wrote = absurd given
-  written over ReadFault text has given wrote = absurd given
-  written over WriteFault text has given wrote = absurd given
-  written over NoMemory text has given wrote = absurd given
-  written over NotLegal text has given wrote = absurd given
+  written : (reading : Reading) (over : Bool) (status : Status) (text : List ℕ) → WasRead before after reading bytes over → Gives reading bytes status text →
+      Writes before.output after.output text → Says before after (Some (Read reading)) status
+  written reading over Done text has given wrote = (text, (bytes, has_read reading over Done text has given, given), wrote)
+  written reading over BadScript text has given wrote = (text, (bytes, has_read reading over BadScript text has given, given), wrote)
+  written reading over NotLegal text has given wrote = (text, (bytes, has_read reading over NotLegal text has given, given), wrote)
+  written reading over Usage text has given wrote = (text, (bytes, has_read reading over Usage text has given, given), wrote)
+  written Steps over ReadFault text has given wrote = absurd given
+  written Steps over WriteFault text has given wrote = absurd given
+  written Steps over NoMemory text has given wrote = absurd given
+  written Check over ReadFault text has given wrote = absurd given
+  written Check over WriteFault text has given wrote = absurd given
+  written Check over NoMemory text has given wrote = absurd given
 
-  pub said : (over : Bool) (status result : Status) (text : List ℕ) → HasRead before after bytes over → StepsGive bytes status text →
-      Tells status text before.output after.output result → Says before after (Some Steps) result
-  said over status result text has given (inl whole) = subst (Says before after (Some Steps)) (sym whole.0) (written over status text has given whole.1)
-  said over status result text has given (inr front) = subst (Says before after (Some Steps)) (sym front.0) (status, text, comes over status text has given, front.1)
+  pub said : (reading : Reading) (over : Bool) (status result : Status) (text : List ℕ) → WasRead before after reading bytes over → Gives reading bytes status text →
+      Tells status text before.output after.output result → Says before after (Some (Read reading)) result
+  said reading over status result text has given (inl whole) =
+      subst (Says before after (Some (Read reading))) (sym whole.0) (written reading over status text has given whole.1)
+  said reading over status result text has given (inr front) =
+      subst (Says before after (Some (Read reading))) (sym front.0) (status, text, (bytes, has_read reading over status text has given, given), front.1)
 
--- there is no other command
-pub sole : (before after : Outside) (command : Command) (result : Status) → Says before after (Some Steps) result → Says before after (Some command) result
-sole before after Steps result says = says
+-- ---- commands that don't
+
+pub made : (before after : Outside) (making : Making) (result : Status) (text : List ℕ) → after.input ≡ before.input → IsMadeOf making text →
+    Tells Done text before.output after.output result → Says before after (Some (Make making)) result
+made before after making result text unread is (inl whole) = subst (Says before after (Some (Make making))) (sym whole.0) (text, (unread, is), whole.1)
+made before after making result text unread is (inr front) = subst (Says before after (Some (Make making))) (sym front.0) (Done, text, (unread, is), front.1)
+
+-- what is said of a command is said of the words that are it
+pub of_words : (before after : Outside) (asked : Option Command) (found command : Command) (result : Status) → Some found ≡ asked → found ≡ command →
+    Says before after (Some command) result → Says before after asked result
+of_words before after asked found command result is same says =
+    subst (λ (x : Option Command). Says before after x result) is (subst (λ (x : Command). Says before after (Some x) result) (sym same) says)

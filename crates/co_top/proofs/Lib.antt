@@ -1,3 +1,6 @@
 pub mod Accepted
 pub mod Commanded
 pub mod Completeness
+pub mod Generated
+pub mod ReadLines
+pub mod Judged

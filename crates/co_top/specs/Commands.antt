@@ -1,16 +1,57 @@
 -- The words that are a command, and the texts that the program itself writes.
-use Rattle.std.specs.Prelude.{ℕ, List, [], ◌∷◌, ◌++◌, Option, Some, None, codes, decimal, if◌then◌else◌}
+use Rattle.std.specs.Prelude.{ℕ, ◌^◌, Bool, true, false, List, [], ◌∷◌, ◌++◌, Option, Some, None, Result, Ok, Err, codes, decimal, nat_lt, if◌then◌else◌}
 use Rattle.co_text.specs.Fallible.{Refusal}
-use Rattle.co_text.specs.Values.{Word, is_word}
+use Rattle.co_text.specs.Values.{Word, is_word, number}
 use Rattle.co_text.specs.declared.cause.Cause.{Cause}
 use Rattle.co_text.specs.declared.cause.Cause.TheVariants as cause
+use Rattle.co_check.specs.declared.verdict.Unfit.{Unfit}
+use Rattle.co_check.specs.declared.verdict.Unfit.TheVariants as unfit
 use Rattle.co_top.specs.declared.command.Command.{Command}
-use Rattle.co_top.specs.declared.command.Command.TheVariants.{Steps}
+use Rattle.co_top.specs.declared.command.Command.TheVariants.{Read, Make}
+use Rattle.co_top.specs.declared.command.Reading.{Reading}
+use Rattle.co_top.specs.declared.command.Reading.TheVariants.{Steps, Check}
+use Rattle.co_top.specs.declared.command.Making.{Making}
+use Rattle.co_top.specs.declared.command.Making.TheVariants.{Gen, Soak}
 
--- the one word `steps`
+-- ---- commands
+
+-- a command of one word
+abbrev pub reading_of : Word → Option Reading
+reading_of word = if is_word word (codes "steps") then Some Steps
+    else (if is_word word (codes "check") then Some Check else None)
+
+-- a seed: 1 to 20 digits, below 2 ^ 64
+abbrev pub small_seed : Result ℕ Cause → Option ℕ
+small_seed (Ok n) = if nat_lt n (2 ^ 64) then Some n else None
+small_seed (Err c) = None
+
+abbrev pub seed_of : Word → Option ℕ
+seed_of word = small_seed (number word)
+
+-- a command of a word and a seed
+abbrev pub making_by : Word → ℕ → Option Making
+making_by word n = if is_word word (codes "gen") then Some (Gen n)
+    else (if is_word word (codes "soak") then Some (Soak n) else None)
+
+abbrev pub making_of : Word → Option ℕ → Option Making
+making_of word None = None
+making_of word (Some n) = making_by word n
+
+abbrev pub reads : Option Reading → Option Command
+reads None = None
+reads (Some reading) = Some (Read reading)
+
+abbrev pub makes : Option Making → Option Command
+makes None = None
+makes (Some making) = Some (Make making)
+
+-- `steps`, `check`, `gen N` and `soak N`
 abbrev pub command_of : List Word → Option Command
-command_of (word ∷ []) = if is_word word (codes "steps") then Some Steps else None
+command_of (word ∷ []) = reads (reading_of word)
+command_of (word ∷ n ∷ []) = makes (making_of word (seed_of n))
 command_of words = None
+
+-- ---- texts
 
 -- a text and a line feed
 abbrev pub line : List ℕ → List ℕ
@@ -18,6 +59,10 @@ line text = text ++ 10 ∷ []
 
 abbrev pub usage_text : List ℕ
 usage_text = line (codes "usage: callout steps | run | check | gen N | soak N")
+
+-- of a report whose verdict is Legal
+abbrev pub legal_text : List ℕ
+legal_text = line (codes "legal")
 
 abbrev pub cause_word : Cause → Word
 cause_word cause.Size = codes "size"
@@ -34,6 +79,17 @@ cause_word cause.Many = codes "many"
 cause_word cause.Timer = codes "timer"
 cause_word cause.Note = codes "note"
 
+abbrev pub unfit_word : Unfit → Word
+unfit_word unfit.Actor = codes "actor"
+unfit_word unfit.Illegal = codes "illegal"
+unfit_word unfit.Number = codes "number"
+unfit_word unfit.Follows = codes "follows"
+unfit_word unfit.Missing = codes "missing"
+
 -- `line N: cause`
+abbrev pub fault_text : ℕ → Word → List ℕ
+fault_text number word = line (codes "line " ++ decimal number ++ codes ": " ++ word)
+
+-- of an input that is no script, or no report
 abbrev pub refusal_text : Refusal → List ℕ
-refusal_text refusal = line (codes "line " ++ decimal refusal.line ++ codes ": " ++ cause_word refusal.cause)
+refusal_text refusal = fault_text refusal.line (cause_word refusal.cause)

@@ -6,18 +6,29 @@ use Rattle.co_program.specs.Runs.{IsRunOf}
 use Rattle.co_text.specs.Fallible.{Refusal}
 use Rattle.co_text.specs.Values.{Word}
 use Rattle.co_script.specs.Reading.{script_of}
+use Rattle.co_script.specs.Canonical.{canonical}
 use Rattle.co_core.specs.Walk.{IsWalk}
+use Rattle.co_report.specs.Reading.{report_read}
 use Rattle.co_report.specs.Reports.{report_of}
+use Rattle.co_report.specs.declared.line.Report.{Report}
+use Rattle.co_check.specs.Verdict.{verdict}
+use Rattle.co_check.specs.declared.verdict.Unfit.{Unfit}
+use Rattle.co_check.specs.declared.verdict.Verdict.{Verdict}
+use Rattle.co_check.specs.declared.verdict.Verdict.TheVariants.{Legal, Not}
+use Rattle.co_gen.specs.Generator.{generated}
+use Rattle.co_gen.specs.Soak.{counts_of, soak_line}
 use Rattle.co_top.specs.declared.command.Command.{Command}
-use Rattle.co_top.specs.declared.command.Command.TheVariants.{Steps}
+use Rattle.co_top.specs.declared.command.Command.TheVariants.{Read, Make}
+use Rattle.co_top.specs.declared.command.Reading.{Reading}
+use Rattle.co_top.specs.declared.command.Reading.TheVariants.{Steps, Check}
+use Rattle.co_top.specs.declared.command.Making.{Making}
+use Rattle.co_top.specs.declared.command.Making.TheVariants.{Gen, Soak}
 use Rattle.co_top.specs.declared.status.Status.{Status}
 use Rattle.co_top.specs.declared.status.Status.TheVariants.{Done, BadScript, Usage, ReadFault, WriteFault, NoMemory, NotLegal}
-use Rattle.co_top.specs.Commands.{command_of, usage_text, refusal_text}
+use Rattle.co_top.specs.Commands.{command_of, usage_text, legal_text, refusal_text, fault_text, unfit_word}
 use Rattle.co_top.specs.Outside.{Output, Outside, ReadsToEnd, Reads, ReadFails, Writes, WritesFront, HasNoFault}
 
--- the most bytes that a script has
-abbrev pub script_limit : ℕ
-script_limit = 67108864
+-- ---- `steps`
 
 -- the text is the report of the script's walk, which is a run of it: every callout has one legal history of that callout alone
 -- and every CPU one of a plain timer queue, made of exactly the steps of the script's actors
@@ -33,32 +44,74 @@ pub record IsReport (bytes text : List ℕ) : Type 0 where
   pub read : script_of bytes ≡ Ok script
   pub report : IsReportOf script text
 
--- the bytes are no script, and the text says which line is bad, and why
-pub record IsRefusal (bytes text : List ℕ) : Type 0 where
+-- the bytes are no script, or no report, and the text says which line is bad, and why
+pub record IsRefused {X : Type 0} (meaning : Result X Refusal) (text : List ℕ) : Type 0 where
   pub refusal : Refusal
-  pub refused : script_of bytes ≡ Err refusal
+  pub refused : meaning ≡ Err refusal
   pub said : text ≡ refusal_text refusal
 
--- what `steps` makes of the bytes that it reads: the status that it comes to, and the text for it
-abbrev pub StepsGive : List ℕ → Status → List ℕ → Type 0
-StepsGive bytes Done text = IsReport bytes text
-StepsGive bytes BadScript text = IsRefusal bytes text
-StepsGive bytes status text = ⊥
+-- ---- `check`
+
+-- what a verdict comes to: `legal`, or which line of the report is wrong, and why
+abbrev pub IsJudged : Verdict → Status → List ℕ → Type 0
+IsJudged Legal status text = (status ≡ Done) × (text ≡ legal_text)
+IsJudged (Not number cause) status text = (status ≡ NotLegal) × (text ≡ fault_text number (unfit_word cause))
+
+-- the bytes are a report, and the text says its verdict
+pub record IsVerdict (bytes : List ℕ) (status : Status) (text : List ℕ) : Type 0 where
+  pub report : Report
+  pub read : report_read bytes ≡ Ok report
+  pub judged : IsJudged (verdict report) status text
+
+-- ---- what is made of the bytes that are read: the status, and the text for it
+
+abbrev pub Gives : Reading → List ℕ → Status → List ℕ → Type 0
+Gives Steps bytes Done text = IsReport bytes text
+Gives Steps bytes BadScript text = IsRefused (script_of bytes) text
+Gives Check bytes Done text = IsVerdict bytes Done text
+Gives Check bytes NotLegal text = IsVerdict bytes NotLegal text
+Gives Check bytes BadScript text = IsRefused (report_read bytes) text
+Gives reading bytes status text = ⊥
+
+-- the most bytes that an input has
+abbrev pub limit_of : Reading → ℕ
+limit_of Steps = 67108864
+limit_of Check = 268435456
+
+-- ---- `gen` and `soak`: the text of a seed
+
+-- the line of the generated script's walk
+pub record IsSoakOf (seed : ℕ) (text : List ℕ) : Type 0 where
+  pub lists : List (List Note)
+  pub walk : IsWalk (generated seed) lists
+  pub run : IsRunOf (generated seed) lists
+  pub shown : text ≡ soak_line seed (counts_of (generated seed) lists)
+
+abbrev pub IsMadeOf : Making → List ℕ → Type 0
+IsMadeOf (Gen seed) text = text ≡ canonical (generated seed)
+IsMadeOf (Soak seed) text = IsSoakOf seed text
+
+-- ---- the statuses
 
 -- where this text is to be written for this status, the answer is that status, or the sink failed in the text
 abbrev pub Tells : Status → List ℕ → Output → Output → Status → Type 0
 Tells status text before after answer = ((answer ≡ status) × Writes before after text) ⊎ ((answer ≡ WriteFault) × WritesFront before after text)
 
-abbrev pub IsCommand : Option Command → Type 0
-IsCommand None = ⊥
-IsCommand (Some command) = Unit {0}
-
 module _ (before after : Outside) where
+  -- the source stays unread
+  abbrev pub IsUnread : Type 0
+  IsUnread = after.input ≡ before.input
+
+  -- of what was read: all of it where the text is of a script or a report; else all, or more than the limit
+  abbrev pub HasRead : Reading → Status → List ℕ → Type 0
+  HasRead reading BadScript bytes = Reads before.input after.input (limit_of reading) bytes
+  HasRead reading status bytes = ReadsToEnd before.input after.input bytes
+
   -- the words come to this status, for which this text is to be written
   abbrev pub ComesTo : Option Command → Status → List ℕ → Type 0
-  ComesTo None Usage text = (after.input ≡ before.input) × (text ≡ usage_text)
-  ComesTo (Some Steps) Done text = (bytes : List ℕ) × ReadsToEnd before.input after.input bytes × StepsGive bytes Done text
-  ComesTo (Some Steps) BadScript text = (bytes : List ℕ) × Reads before.input after.input script_limit bytes × StepsGive bytes BadScript text
+  ComesTo None Usage text = IsUnread × (text ≡ usage_text)
+  ComesTo (Some (Read reading)) status text = (bytes : List ℕ) × HasRead reading status bytes × Gives reading bytes status text
+  ComesTo (Some (Make making)) Done text = IsUnread × IsMadeOf making text
   ComesTo command status text = ⊥
 
   -- the text of this status was written
@@ -69,14 +122,29 @@ module _ (before after : Outside) where
   abbrev pub FailsIn : Option Command → Type 0
   FailsIn command = (status : Status) × (text : List ℕ) × ComesTo command status text × WritesFront before.output after.output text
 
+  -- a read failed of a command that reads
+  abbrev pub FailsToRead : Option Command → Type 0
+  FailsToRead (Some (Read reading)) = ReadFails before.input after.input
+  FailsToRead command = ⊥
+
+  -- there was too little memory for a command, and those that don't read have read nothing
+  abbrev pub LacksMemory : Option Command → Type 0
+  LacksMemory None = ⊥
+  LacksMemory (Some (Read reading)) = Unit {0}
+  LacksMemory (Some (Make making)) = IsUnread
+
+  -- nothing was written
+  abbrev pub IsUnwritten : Type 0
+  IsUnwritten = after.output ≡ before.output
+
   -- what a status says
   abbrev pub Says : Option Command → Status → Type 0
   Says command Done = Answers command Done
   Says command BadScript = Answers command BadScript
   Says command Usage = Answers command Usage
-  Says command ReadFault = IsCommand command × ReadFails before.input after.input × (after.output ≡ before.output)
+  Says command ReadFault = FailsToRead command × IsUnwritten
   Says command WriteFault = FailsIn command
-  Says command NoMemory = IsCommand command × (after.output ≡ before.output)
+  Says command NoMemory = LacksMemory command × IsUnwritten
   Says command NotLegal = Answers command NotLegal
 
 -- what a call with these words says by its status
@@ -85,15 +153,40 @@ IsHeadline words before after status = Says before after (command_of words) stat
 
 -- ---- completeness
 
--- a script is answered by its report, and another input by its refusal, where there is memory
-abbrev pub Ends : Result Script Refusal → Status → Type 0
-Ends (Ok script) status = (status ≡ Done) ⊎ (status ≡ NoMemory)
-Ends (Err refusal) status = (status ≡ BadScript) ⊎ (status ≡ NoMemory)
+abbrev pub script_status : Result Script Refusal → Status
+script_status (Ok script) = Done
+script_status (Err refusal) = BadScript
 
--- a command, without a fault at either end, answers what its input is
-pub record IsAnswered (before : Outside) (status : Status) : Type 0 where
-  pub told : IfSome before.input.left (λ bytes. Ends (script_of bytes) status)
-  pub untold : (status ≡ Done) ⊎ ((status ≡ BadScript) ⊎ (status ≡ NoMemory))
+abbrev pub verdict_status : Verdict → Status
+verdict_status Legal = Done
+verdict_status (Not number cause) = NotLegal
+
+abbrev pub report_status : Result Report Refusal → Status
+report_status (Ok report) = verdict_status (verdict report)
+report_status (Err refusal) = BadScript
+
+-- what an input comes to: a script is answered by its report, a report by its verdict, and another input by its refusal
+abbrev pub status_of : Reading → List ℕ → Status
+status_of Steps bytes = script_status (script_of bytes)
+status_of Check bytes = report_status (report_read bytes)
+
+-- the statuses of a command that reads, where neither end has a fault
+abbrev pub IsWork : Reading → Status → Type 0
+IsWork reading Done = Unit {0}
+IsWork reading BadScript = Unit {0}
+IsWork Check NotLegal = Unit {0}
+IsWork reading NoMemory = Unit {0}
+IsWork reading status = ⊥
+
+-- a command that reads answers what its input comes to, where there is memory
+pub record IsReadAnswered (reading : Reading) (before : Outside) (status : Status) : Type 0 where
+  pub told : IfSome before.input.left (λ bytes. (status ≡ status_of reading bytes) ⊎ (status ≡ NoMemory))
+  pub untold : IsWork reading status
+
+-- what a command answers, without a fault at either end
+abbrev pub IsAnswered : Command → Outside → Status → Type 0
+IsAnswered (Read reading) before status = IsReadAnswered reading before status
+IsAnswered (Make making) before status = (status ≡ Done) ⊎ (status ≡ NoMemory)
 
 abbrev pub IsComplete : List Word → Outside → Outside → Status → Type 0
-IsComplete words before after status = IsCommand (command_of words) → HasNoFault before after → IsAnswered before status
+IsComplete words before after status = IfSome (command_of words) (λ command. HasNoFault before after → IsAnswered command before status)

@@ -1,24 +1,86 @@
 //! The words that are a command.
 ghost use Rattle.std.specs.Prelude.{◌≡◌, map, string_bytes};
-ghost use Rattle.co_top.specs.Commands.{command_of};
+ghost use Rattle.co_top.specs.Commands.{command_of, making_of, reading_of, seed_of};
+
+use co_text::number;
+
+/// A command that reads an input.
+#[derive(Clone, Copy, Debug, PartialEq, Eq)]
+pub enum Reading {
+    /// Reads a script and writes the report of its walk.
+    Steps,
+    /// Reads a report and writes whether it is legal.
+    Check,
+}
+
+/// A command that makes its text from a seed, below 2^64, and leaves the input unread.
+#[derive(Clone, Copy, Debug, PartialEq, Eq)]
+pub enum Making {
+    /// Writes the generated script.
+    Gen(u64),
+    /// Runs the generated script, and writes the counts of its notes and fates.
+    Soak(u64),
+}
 
 /// A command of the program.
 #[derive(Clone, Copy, Debug, PartialEq, Eq)]
 pub enum Command {
-    /// Reads a script and writes the report of its walk.
-    Steps,
+    /// One that reads an input.
+    Read(Reading),
+    /// One that makes its text from a seed.
+    Make(Making),
 }
 
-/// The command that the words are, if they are one: exactly the word `steps`. Our own decision.
+/// The command of one word.
+fn reading_of(word: &[u8]) -> Option<Reading>
+    ensures { result ≡ reading_of word.now }
+{
+    if word == b"steps".as_slice() {
+        Some(Reading::Steps)
+    } else if word == b"check".as_slice() {
+        Some(Reading::Check)
+    } else {
+        None
+    }
+}
+
+/// A seed: 1 to 20 digits with a value below 2^64.
+fn seed_of(word: &[u8]) -> Option<u64>
+    ensures { result ≡ seed_of word.now }
+{
+    match number(word) {
+        Ok(seed) => u64::try_from(seed).ok(),
+        Err(_) => None,
+    }
+}
+
+/// The command of a word and a seed.
+fn making_of(word: &[u8], seed: Option<u64>) -> Option<Making>
+    ensures { result ≡ making_of word.now seed }
+{
+    let seed = seed?;
+    if word == b"gen".as_slice() {
+        Some(Making::Gen(seed))
+    } else if word == b"soak".as_slice() {
+        Some(Making::Soak(seed))
+    } else {
+        None
+    }
+}
+
+/// The command that the words are, if they are one: `steps`, `check`, `gen N` or `soak N`. Our own decision.
 pub(crate) fn command_of(words: &[String]) -> Option<Command>
     ensures { result ≡ command_of (map string_bytes words.now) }
 {
-    let [word] = words else {
-        return None;
-    };
-    if word.as_bytes() == b"steps".as_slice() {
-        Some(Command::Steps)
-    } else {
-        None
+    match words {
+        [word] => match reading_of(word.as_bytes()) {
+            Some(reading) => Some(Command::Read(reading)),
+            None => None,
+        },
+        [word, seed] => match making_of(word.as_bytes(), seed_of(seed.as_bytes())) {
+            Some(making) => Some(Command::Make(making)),
+            None => None,
+        },
+        _ => None,
     }
 }

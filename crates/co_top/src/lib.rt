@@ -3,11 +3,12 @@
 
 mod answer;
 mod command;
+mod making;
+mod reading;
 mod status;
-mod steps;
 mod texts;
 mod top;
 
-pub use command::Command;
+pub use command::{Command, Making, Reading};
 pub use status::Status;
 pub use top::callout_main;

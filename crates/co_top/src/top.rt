@@ -1,18 +1,27 @@
 //! The top call.
-ghost use Rattle.std.specs.Prelude.{Some, map, string_bytes};
+ghost use Rattle.std.specs.Prelude.{◌≡◌, ℕ, List, Option, Some, map, string_bytes};
 ghost use Rattle.co_top.specs.declared.command.Command.TheVariants as commands;
-ghost use Rattle.co_top.specs.Headline.{IsHeadline, IsComplete, Says, Tells};
-ghost use Rattle.co_top.specs.Outside.{Output, outside};
+ghost use Rattle.co_top.specs.Headline.{IsHeadline, IsComplete, Says, Tells, limit_of};
+ghost use Rattle.co_top.specs.Outside.{Input, Output, outside};
 
-use crate::command::{Command, command_of};
+use crate::answer::Answer;
+use crate::command::{Command, Making, Reading, command_of};
+use crate::making::text_of;
+use crate::reading::answer_to;
 use crate::status::Status;
-use crate::steps::steps;
 use crate::texts::usage_text;
 use co_io::{ReadEnd, Sink, Source, read_all, write_all};
 use std::alloc::Global;
 
-// The most bytes that a script has.
-const SCRIPT_LIMIT: usize = 67_108_864;
+/// The most bytes of an input: of a script 64 MiB, of a report 256 MiB.
+fn limit_of(reading: Reading) -> usize
+    ensures { result ≡ limit_of reading }
+{
+    match reading {
+        Reading::Steps => 67_108_864,
+        Reading::Check => 268_435_456,
+    }
+}
 
 /// Writes the text of a status: the answer is that status, or WriteFault where the sink failed.
 fn write_text<K: Sink>(sink: &mut K, status: Status, text: &[u8]) -> Status
@@ -26,19 +35,35 @@ fn write_text<K: Sink>(sink: &mut K, status: Status, text: &[u8]) -> Status
     }
 }
 
-/// The command `steps`, from the source to the sink.
-fn run_steps_command<S: Source, K: Sink>(alloc: Global, source: &mut S, sink: &mut K) -> Status
+/// A command that reads, from the source to the sink.
+fn read_and_answer<S: Source, K: Sink>(
+    alloc: Global,
+    reading: Reading,
+    source: &mut S,
+    sink: &mut K,
+) -> Status
     ensures { let before = outside (S.left source.old) (S.faults source.old) (K.held sink.old) (K.faults sink.old) (K.idle sink.old) in
         let after = outside (S.left source.new) (S.faults source.new) (K.held sink.new) (K.faults sink.new) (K.idle sink.new) in
-        Says before after (Some commands.Steps) result }
+        Says before after (Some (commands.Read reading)) result }
 {
-    let input = match read_all(alloc, source, SCRIPT_LIMIT) {
+    let input = match read_all(alloc, source, limit_of(reading)) {
         Ok(input) => input,
         Err(ReadEnd::NoMemory) => return Status::NoMemory,
         Err(ReadEnd::Fault) => return Status::ReadFault,
     };
-    match steps(alloc, input.bytes.as_slice()) {
+    match answer_to(alloc, reading, input.bytes.as_slice()) {
         Ok(answer) => write_text(sink, answer.status, answer.text.as_slice()),
+        Err(_) => Status::NoMemory,
+    }
+}
+
+/// A command that makes its text, to the sink. It has no source.
+fn make<K: Sink>(alloc: Global, making: Making, sink: &mut K) -> Status
+    ensures { (left : Option (List ℕ)) (faults : ℕ) →
+        Says (outside left faults (K.held sink.old) (K.faults sink.old) (K.idle sink.old)) (outside left faults (K.held sink.new) (K.faults sink.new) (K.idle sink.new)) (Some (commands.Make making)) result }
+{
+    match text_of(alloc, making) {
+        Ok(text) => write_text(sink, Status::Done, text.as_slice()),
         Err(_) => Status::NoMemory,
     }
 }
@@ -62,6 +87,7 @@ pub fn callout_main<S: Source, K: Sink>(
 {
     match command_of(words) {
         None => write_text(sink, Status::Usage, usage_text()),
-        Some(Command::Steps) => run_steps_command(alloc, source, sink),
+        Some(Command::Read(reading)) => read_and_answer(alloc, reading, source, sink),
+        Some(Command::Make(making)) => make(alloc, making, sink),
     }
 }

@@ -70,7 +70,17 @@ fn a_million_lines_cut_at_the_last(rt: HostRuntime) -> Result<(), Fail> {
 
 #[test]
 fn words_that_are_no_command(rt: HostRuntime) -> Result<(), Fail> {
-    let lists: [&[&str]; 4] = [&[], &["steps", "x"], &["gen", "-1"], &[""]];
+    let lists: [&[&str]; 9] = [
+        &[],
+        &["steps", "x"],
+        &["check", "1"],
+        &["gen"],
+        &["gen", "-1"],
+        &["gen", "18446744073709551616"],
+        &["soak", "000000000000000000001"],
+        &["soak", "1", "1"],
+        &[""],
+    ];
     for words in lists {
         let source = MemSource::new(rt.alloc(), b"callout 1\n", 1, &[0])?;
         let sink = MemSink::new(rt.alloc(), 100, 100, &[])?;

@@ -6,7 +6,7 @@ use Rattle.co_core.specs.Walk.{IsWalk}
 use Rattle.co_core.proofs.Runs.{walks_are_runs}
 use Rattle.co_report.specs.Reports.{report_of}
 use Rattle.co_top.specs.Headline.{IsReportOf}
-use Rattle.co_top.proofs.steps.report_of_walk.Goals as goal
+use Rattle.co_top.proofs.reading.report_of_walk.Goals as goal
 
 pub print_report-requires-clause-places : goal.print_report-requires-clause-places
 print_report-requires-clause-places c = (walks_are_runs c.args.script.now c.requires c.in_ok-lists.lists c.in_ok-lists.ensures).places

@@ -1,6 +1,6 @@
 use Rattle.co_script.proofs.Accepted.{fits-accepted}
 use Rattle.co_script.proofs.ReadFits.{read-fits}
-use Rattle.co_top.proofs.steps.steps.Goals as goal
+use Rattle.co_top.proofs.reading.steps.Goals as goal
 
 -- what is read fits, and what fits is what the core runs
 pub report_of_walk-requires : goal.report_of_walk-requires

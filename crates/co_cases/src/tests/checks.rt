@@ -1,0 +1,106 @@
+//! Reports are judged.
+use crate::broken::{DRAIN_EDITS, Edit, FIRING_EDITS, edited};
+use crate::case::Case;
+use crate::examples::DRAIN;
+use crate::services::SERVICES;
+use crate::timers::{ONE_FIRING, TIMERS};
+use crate::versions::VERSIONS;
+use crate::{check, make, steps};
+use co_io::{MemSink, MemSource};
+use co_top::Status;
+use std::process::Abort;
+use std::test::Fail;
+
+fn are_legal(rt: &(impl AllocGlobal + Abort), cases: &[Case]) -> Result<(), Fail> {
+    for case in cases {
+        let outcome = check(rt.alloc(), case.report.as_bytes())?;
+        assert_eq!(rt; outcome.status, Status::Done, "{}", case.name);
+        assert_eq!(rt;
+            outcome.held.as_slice(),
+            b"legal\n".as_slice(),
+            "{}",
+            case.name
+        );
+    }
+    Ok(())
+}
+
+#[test]
+fn reports_of_one_cpu(rt: HostRuntime) -> Result<(), Fail> {
+    are_legal(&rt, TIMERS.as_slice())
+}
+
+#[test]
+fn reports_of_services_and_moves(rt: HostRuntime) -> Result<(), Fail> {
+    are_legal(&rt, SERVICES.as_slice())
+}
+
+#[test]
+fn reports_of_version_two(rt: HostRuntime) -> Result<(), Fail> {
+    are_legal(&rt, VERSIONS.as_slice())
+}
+
+fn are_judged(
+    rt: &(impl AllocGlobal + Abort),
+    case: &Case,
+    edits: &[(Edit, Status, &str)],
+) -> Result<(), Fail> {
+    for (edit, status, line) in edits {
+        let report = edited(rt.alloc(), case.report.as_bytes(), *edit)?;
+        let outcome = check(rt.alloc(), report.as_slice())?;
+        assert_eq!(rt; outcome.status, *status, "{line}");
+        let wanted = format!(in rt.alloc(); "{line}\n")?;
+        assert_eq!(rt; outcome.held.as_slice(), wanted.as_bytes());
+    }
+    Ok(())
+}
+
+#[test]
+fn changes_of_one_firing(rt: HostRuntime) -> Result<(), Fail> {
+    are_judged(&rt, &ONE_FIRING, FIRING_EDITS.as_slice())
+}
+
+#[test]
+fn changes_of_the_drain(rt: HostRuntime) -> Result<(), Fail> {
+    are_judged(&rt, &DRAIN, DRAIN_EDITS.as_slice())
+}
+
+#[test]
+fn soak_counts(rt: HostRuntime) -> Result<(), Fail> {
+    for seed in ["1", "00001"] {
+        let outcome = make(rt.alloc(), ["soak", seed].as_slice(), 200)?;
+        assert_eq!(rt; outcome.status, Status::Done);
+        assert_eq!(rt;
+            outcome.held.as_slice(),
+            b"soak 1 notes 33295 armed 4447 fired 1324 superseded 1761 stopped 1357 pending 5\n".as_slice()
+        );
+    }
+    Ok(())
+}
+
+// The generated script runs, and its report is legal.
+#[test]
+fn generated(rt: HostRuntime) -> Result<(), Fail> {
+    let script = make(rt.alloc(), ["gen", "1"].as_slice(), 500_000)?;
+    assert_eq!(rt; script.status, Status::Done);
+    assert_eq!(rt; script.held.as_slice().len(), 459_440);
+    let source = MemSource::new(rt.alloc(), script.held.as_slice(), 4096, &[])?;
+    let sink = MemSink::new(rt.alloc(), 2_000_000, 2_000_000, &[])?;
+    let report = crate::call(rt.alloc(), ["steps"].as_slice(), source, sink)?;
+    assert_eq!(rt; report.status, Status::Done);
+    let verdict = check(rt.alloc(), report.held.as_slice())?;
+    assert_eq!(rt; verdict.status, Status::Done);
+    assert_eq!(rt; verdict.held.as_slice(), b"legal\n".as_slice());
+    Ok(())
+}
+
+// A script is no report.
+#[test]
+fn a_script_is_no_report(rt: HostRuntime) -> Result<(), Fail> {
+    let outcome = check(rt.alloc(), ONE_FIRING.script.as_bytes())?;
+    assert_eq!(rt; outcome.status, Status::BadScript);
+    assert_eq!(rt; outcome.held.as_slice(), b"line 1: version\n".as_slice());
+    let outcome = steps(rt.alloc(), ONE_FIRING.report.as_bytes())?;
+    assert_eq!(rt; outcome.status, Status::BadScript);
+    Ok(())
+}

@@ -1,0 +1,87 @@
+//! The commands that read an input: what they make of its bytes.
+ghost use Rattle.std.specs.Prelude.{IfOk};
+ghost use Rattle.co_program.specs.Scripts.{IsScript};
+ghost use Rattle.co_check.specs.Lines.{IsReport};
+ghost use Rattle.co_check.specs.Verdict.{verdict};
+ghost use Rattle.co_top.specs.Headline.{Gives, IsJudged, IsReportOf};
+ghost use Rattle.co_top.specs.declared.command.Reading.TheVariants as readings;
+
+use crate::answer::Answer;
+use crate::command::Reading;
+use crate::status::Status;
+use crate::texts::{fault_text, legal_text, refusal_text, unfit_word};
+use co_check::{Verdict, check};
+use co_core::run_steps;
+use co_program::Script;
+use co_report::{Report, print_report, read_report};
+use co_sbt::{NoMemory, Seq};
+use co_script::read_script;
+use co_text::ScriptFault;
+use std::alloc::Global;
+
+/// The report of a script's walk.
+fn report_of_walk(alloc: Global, script: &Script) -> Result<Seq<u8>, NoMemory>
+    requires { IsScript script.now }
+    ensures { IfOk result (IsReportOf script.now) }
+{
+    let lists = run_steps(alloc, script)?;
+    print_report(alloc, script, &lists)
+}
+
+/// What `steps` makes of these bytes.
+fn steps(alloc: Global, bytes: &[u8]) -> Result<Answer, NoMemory>
+    ensures { IfOk result (λ answer. Gives readings.Steps bytes.now answer.status answer.text) }
+{
+    match read_script(alloc, bytes) {
+        Ok(script) => Ok(Answer {
+            status: Status::Done,
+            text: report_of_walk(alloc, &script)?,
+        }),
+        Err(ScriptFault::Bad { line, cause }) => Ok(Answer {
+            status: Status::BadScript,
+            text: refusal_text(alloc, line, cause)?,
+        }),
+        Err(ScriptFault::NoMemory) => Err(NoMemory {}),
+    }
+}
+
+/// The verdict on a report, as an answer.
+fn judged(alloc: Global, report: &Report) -> Result<Answer, NoMemory>
+    requires { IsReport report.now }
+    ensures { IfOk result (λ answer. IsJudged (verdict report.now) answer.status answer.text) }
+{
+    match check(alloc, report)? {
+        Verdict::Legal => Ok(Answer {
+            status: Status::Done,
+            text: Seq::copy_of(alloc, legal_text())?,
+        }),
+        Verdict::Not { line, cause } => Ok(Answer {
+            status: Status::NotLegal,
+            text: fault_text(alloc, line, unfit_word(cause))?,
+        }),
+    }
+}
+
+/// What `check` makes of these bytes.
+fn check_report(alloc: Global, bytes: &[u8]) -> Result<Answer, NoMemory>
+    ensures { IfOk result (λ answer. Gives readings.Check bytes.now answer.status answer.text) }
+{
+    match read_report(alloc, bytes) {
+        Ok(report) => judged(alloc, &report),
+        Err(ScriptFault::Bad { line, cause }) => Ok(Answer {
+            status: Status::BadScript,
+            text: refusal_text(alloc, line, cause)?,
+        }),
+        Err(ScriptFault::NoMemory) => Err(NoMemory {}),
+    }
+}
+
+/// What a command makes of the bytes that it read.
+pub(crate) fn answer_to(alloc: Global, reading: Reading, bytes: &[u8]) -> Result<Answer, NoMemory>
+    ensures { IfOk result (λ answer. Gives reading bytes.now answer.status answer.text) }
+{
+    match reading {
+        Reading::Steps => steps(alloc, bytes),
+        Reading::Check => check_report(alloc, bytes),
+    }
+}
