@@ -1,0 +1,4 @@
+pub mod Name
+pub mod Params
+pub mod Lines
+pub mod Stories

@@ -1,0 +1,13 @@
+//! The running service: the callouts and the timer queues of all CPUs, each CPU's behind a lock of its own, with histories
+//! that travel with what they tell of.
+#![tactic(auto)]
+
+mod line;
+mod name;
+mod params;
+mod stories;
+
+pub use line::Line;
+pub use name::Name;
+pub use params::Params;
+pub use stories::{CpuStory, TimerStory};
