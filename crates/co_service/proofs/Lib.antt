@@ -1,0 +1,5 @@
+pub mod Items
+pub mod Found
+pub mod Entries
+pub mod Writing
+pub mod PassesKept

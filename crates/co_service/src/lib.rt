@@ -2,12 +2,16 @@
 //! that travel with what they tell of.
 #![tactic(auto)]
 
+mod books;
 mod line;
 mod name;
 mod params;
+mod passes;
+mod seats;
 mod stories;
 
 pub use line::Line;
 pub use name::Name;
 pub use params::Params;
+pub use passes::Passes;
 pub use stories::{CpuStory, TimerStory};
