@@ -6,3 +6,8 @@ pub mod Seats
 pub mod Views
 pub mod Writes
 pub mod Books
+pub mod May
+pub mod Serving
+pub mod Desk
+pub mod Outcomes
+pub mod Call

@@ -5,6 +5,7 @@ ghost use Rattle.co_object.specs.declared.note.Place.TheVariants as at;
 ghost use Rattle.co_object.specs.declared.note.AnyEntry.TheVariants as of;
 ghost use Rattle.co_service.specs.Books.{entries_at, history_at, is_kept, with_history};
 ghost use Rattle.co_service.specs.Lines.{made};
+ghost use Rattle.co_service.specs.May.{MayEnter, MayHappen};
 ghost use Rattle.co_service.specs.Seats.{IsShown};
 ghost use Rattle.co_service.specs.Stories.{IsHistory, IsJournal, by, queue_by};
 ghost use Rattle.co_service.specs.Views.{IsKeeperOf, journal_seen, seen_of};
@@ -99,22 +100,22 @@ impl<N: Name> Books<N> {
         &mut self,
         lives: &Lives<CpuStory>,
         passes: &mut Passes,
-        entry: QEntry,
+        entry: &QEntry,
     ) -> Note
         requires lives { lives.now ≡ N.name.cpus }
         requires name { passes.old.name ≡ N.name }
         requires params { self.old.params ≡ passes.old.params }
-        requires legal { IsJournal self.old.params self.old.cpu (self.old.journal ++ entry ∷ []) }
-        requires own { entry.actor ≡ passes.old.actor }
-        ensures books { self.new ≡ record self.old { journal = self.old.journal ++ entry ∷ [] } }
-        ensures note { (result.place ≡ at.Cpu self.old.cpu) × (result.entry ≡ of.Cpu entry) }
-        ensures written { WritesCpu passes.old self.old.cpu entry result.pos self.new.journal passes.new }
+        requires may { MayEnter self.old entry.now }
+        requires own { entry.now.actor ≡ passes.old.actor }
+        ensures books { self.new ≡ record self.old { journal = self.old.journal ++ entry.now ∷ [] } }
+        ensures note { (result.place ≡ at.Cpu self.old.cpu) × (result.entry ≡ of.Cpu entry.now) }
+        ensures written { WritesCpu passes.old self.old.cpu entry.now result.pos self.new.journal passes.new }
     {
-        let pos = passes.write_cpu(lives, &mut self.journal, self.cpu, entry);
+        let pos = passes.write_cpu(lives, &mut self.journal, self.cpu, *entry);
         Note {
             place: Place::Cpu(self.cpu),
             pos,
-            entry: AnyEntry::Cpu(entry),
+            entry: AnyEntry::Cpu(*entry),
         }
     }
 
@@ -124,25 +125,25 @@ impl<N: Name> Books<N> {
         lives: &Lives<TimerStory>,
         passes: &mut Passes,
         i: u32,
-        entry: Entry,
+        entry: &Entry,
     ) -> Note
         requires lives { lives.now ≡ N.name.timers }
         requires name { passes.old.name ≡ N.name }
         requires params { self.old.params ≡ passes.old.params }
         requires here { is_kept self.old i ≡ true }
-        requires legal { IsHistory self.old.params i (entries_at self.old i ++ entry ∷ []) }
-        requires own { entry.actor ≡ passes.old.actor }
-        ensures books { self.new ≡ with_history self.old i (Some (entries_at self.old i ++ entry ∷ [])) }
-        ensures note { (result.place ≡ at.Timer i) × (result.entry ≡ of.Timer entry) }
-        ensures written { WritesTimer passes.old i entry result.pos (entries_at self.old i ++ entry ∷ []) passes.new }
+        requires may { MayHappen self.old i entry.now }
+        requires own { entry.now.actor ≡ passes.old.actor }
+        ensures books { self.new ≡ with_history self.old i (Some (entries_at self.old i ++ entry.now ∷ [])) }
+        ensures note { (result.place ≡ at.Timer i) × (result.entry ≡ of.Timer entry.now) }
+        ensures written { WritesTimer passes.old i entry.now result.pos (entries_at self.old i ++ entry.now ∷ []) passes.new }
     {
         let mut keeper = self.keepers[i as usize].take().unwrap();
-        let pos = passes.write_timer(lives, &mut keeper, i, entry);
+        let pos = passes.write_timer(lives, &mut keeper, i, *entry);
         self.keepers[i as usize] = Some(keeper);
         Note {
             place: Place::Timer(i),
             pos,
-            entry: AnyEntry::Timer(entry),
+            entry: AnyEntry::Timer(*entry),
         }
     }
 

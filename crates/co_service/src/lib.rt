@@ -3,15 +3,21 @@
 #![tactic(auto)]
 
 mod books;
+mod calling;
+mod desk;
+mod laws;
 mod line;
 mod name;
+mod outs;
 mod params;
 mod passes;
 mod seats;
 mod stories;
 
+pub use laws::{begins_by_own, ends_by_own, served_by_own};
 pub use line::Line;
 pub use name::Name;
+pub use outs::{Made, Scanned, Taken};
 pub use params::Params;
 pub use passes::Passes;
 pub use stories::{CpuStory, TimerStory};
