@@ -75,7 +75,7 @@ not_away true to cpu h e = at_test (to == cpu) refl h where
 not_away false to cpu h e = absurd (cc)
 
 listed_here : (cpu : ℕ) (s t : State) (r : Reply) → Shift s t r → is_away cpu r t ≡ false → is_free_at t.run cpu ≡ true → ((x : ℕ) → off s ≡ Some x → x ≡ cpu) → (x : ℕ) → off t ≡ Some x → x ≡ cpu
-listed_here cpu s t r (stays _ _ _ _ _ same) away free before x is = before x (sym same ∙ is)
+listed_here cpu s t r (stays _ _ _ _ _ kept) away free before x is = before x (sym kept ∙ is)
 listed_here cpu s t r (goes _ _ _ _ none) away free before x is = let none_is = none_off t.armed t.run none in absurd (cc)
 listed_here cpu s t r (comes _ a code some _) away free before x is =
     let there = some_off a t.run x (ap (λ (o : Option Arming). listed_cpu (stand_of o t.run)) (sym some) ∙ is) in

@@ -23,7 +23,7 @@ with_turn b e = record b { journal = b.journal ++ e ∷ [] }
 
 pub owes_next : (b : BooksView) (e : QEntry) (turns : List Turn) (w : Cpu) → Owes ((e.op, e.reply) ∷ turns) w b → Owes turns w (with_turn b e)
 owes_next b e turns w o = record {
-  takes = subst (λ (q : Queue). Takes b.params.buckets (directs b.params) turns q (Shows w)) (sym (state-snoc (journal.next b.params.buckets (directs b.params)) empty_queue b.journal e)) o.takes.1;
+  takes = subst (λ (q : Queue). Takes b.params.buckets (directs b.params) turns q (Shows w)) (sym (state-snoc (journal.next b.params.buckets (directs b.params)) (λ q f. Unit {0}) empty_queue b.journal e)) o.takes.1;
 }
 
 pub owes_turns : (w w' : Cpu) (b : BooksView) (turns : List Turn) → IsOf w b → Owes [] w b → Turns w turns w' → Owes turns w' b

@@ -4,7 +4,8 @@ use Rattle.std.specs.Prelude.{nat_lt}
 use Rattle.std.specs.List.{filter, flat_map, range_with_len}
 use Rattle.co_sbt.specs.Time.{hash}
 use Rattle.co_object.specs.Queue.{Waiting, Queue}
-use Rattle.co_queue.specs.Timers.{Timed, Timers, in_bucket, bucket_of}
+use Rattle.co_queue.specs.declared.timed.Timed.{Timed}
+use Rattle.co_queue.specs.Timers.{Timers, in_bucket, bucket_of}
 use Rattle.co_queue.specs.StandsFor.{StandsFor, timed, put_by_serial, newest_first}
 use Rattle.co_bucket.specs.Visits.{visits, visited, looks_at_visited}
 use Rattle.co_service.specs.Outcomes.{looks_in}
@@ -24,12 +25,13 @@ module _ (m b : ℕ) where
   alone x true r = omega arith
   alone x false r = omega arith
 
+  put_test : (x y : Waiting) (ys : List Waiting) (t : Bool) → count (put_by_serial x ys) ≡ count ys + count (x ∷ []) → count (cond t (x ∷ y ∷ ys) (y ∷ put_by_serial x ys)) ≡ count (y ∷ ys) + count (x ∷ [])
+  put_test x y ys true later = alone (timed x) (is_in x) (in_bucket m b (map timed (y ∷ ys)))
+  put_test x y ys false later = one_more (timed y) (is_in y) (in_bucket m b (map timed (put_by_serial x ys))) (in_bucket m b (map timed ys)) (count (x ∷ [])) later
+
   put : (x : Waiting) (ys : List Waiting) → count (put_by_serial x ys) ≡ count ys + count (x ∷ [])
   put x [] = omega arith
-  put x (y ∷ ys) = at_test (nat_lt y.serial x.serial) where
-    at_test : (t : Bool) → count (cond t (x ∷ y ∷ ys) (y ∷ put_by_serial x ys)) ≡ count (y ∷ ys) + count (x ∷ [])
-    at_test true = alone (timed x) (is_in x) (in_bucket m b (map timed (y ∷ ys)))
-    at_test false = one_more (timed y) (is_in y) (in_bucket m b (map timed (put_by_serial x ys))) (in_bucket m b (map timed ys)) (count (x ∷ [])) (put x ys)
+  put x (y ∷ ys) = put_test x y ys (nat_lt y.serial x.serial) (put x ys)
 
   pub newest-count : (ws : List Waiting) → count (newest_first ws) ≡ count ws
   newest-count [] = refl

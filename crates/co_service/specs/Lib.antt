@@ -11,3 +11,4 @@ pub mod Serving
 pub mod Desk
 pub mod Outcomes
 pub mod Call
+pub mod Moving

@@ -97,7 +97,9 @@ pub(crate) fn write_insertion<N: Name>(
     ensures placed { map placed (noted result) ≡ insertion_notes passes.old act books.old.cpu i n due inserted }
     ensures goes_on { (w : Cpu) → Owes (insert_turns i n due inserted) w books.old → Owes [] w books.new }
 {
-    let at = inserted?;
+    let Some(at) = inserted else {
+        return None;
+    };
     let op = QOp::Insert { i, n, t: due };
     Some(write_turn(books, lives, passes, act, op, QReply::At(at)))
 }

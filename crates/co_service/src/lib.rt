@@ -7,6 +7,7 @@ mod calling;
 mod desk;
 mod laws;
 mod line;
+mod moving;
 mod name;
 mod outs;
 mod params;
