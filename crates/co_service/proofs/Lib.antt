@@ -12,3 +12,5 @@ pub mod DeskKept
 pub mod ScanTold
 pub mod CallKept
 pub mod CallNoted
+pub mod CalledDesk
+pub mod CallGroup

@@ -46,5 +46,5 @@ looks_shown s q m now is same =
     ap (λ (k : ℕ). length (visited k s.last (max s.last now) s.content)) same
     ∙ (ap (λ (l : ℕ). length (visited m l (max l now) s.content)) (sym is.last)
     ∙ same_lengths (λ d. in_bucket m ((hash q.last + d) % m) s.content) (λ d. in_bucket m ((hash q.last + d) % m) (map timed q.content))
-        (λ d. ap (λ (k : ℕ). length (in_bucket k ((hash q.last + d) % m) s.content)) (sym same) ∙ (sym (ap length (is.content ((hash q.last + d) % m))) ∙ (ap (λ (k : ℕ). length (in_bucket k ((hash q.last + d) % m) (map timed (newest_first q.content)))) same ∙ newest-count m ((hash q.last + d) % m) q.content)))
-        (range_with_len 0 (visits m q.last (max q.last now))))
+    (λ d. ap (λ (k : ℕ). length (in_bucket k ((hash q.last + d) % m) s.content)) (sym same) ∙ (sym (ap length (is.content ((hash q.last + d) % m))) ∙ (ap (λ (k : ℕ). length (in_bucket k ((hash q.last + d) % m) (map timed (newest_first q.content)))) same ∙ newest-count m ((hash q.last + d) % m) q.content)))
+    (range_with_len 0 (visits m q.last (max q.last now))))

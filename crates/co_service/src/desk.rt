@@ -94,7 +94,14 @@ impl<N: Name> Desk<N> {
         let mut looks = Looks::new();
         let count = self.wheel.scan(now, &mut looks);
         let op = QOp::Scan { now };
-        let note = write_turn(&mut self.books, lives, passes, act, op, QReply::Count(count));
+        let note = write_turn(
+            &mut self.books,
+            lives,
+            passes,
+            act,
+            op,
+            QReply::Count(count),
+        );
         self.scans = self.scans.saturating_add(1);
         Some(Scanned {
             count,

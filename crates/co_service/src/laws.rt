@@ -16,21 +16,18 @@ ghost use Rattle.co_service.specs.Stories.{by, queue_by};
 pub fn served_by_own()
     ensures { (m : ℕ) (directs : List Bool) (actors : Actors) (cpu : ℕ) (direct : Bool) (J : List QEntry) → IsLegalQueue actors cpu m directs J
         → slot direct (queue m directs J) ≡ served_in direct (own queue_by (lane_actor direct actors cpu) J) }
-{
-}
+{}
 
 /// Where the own entries of a callout's server on a CPU say that the arming waits for the lock, its begin is possible.
 #[tactic(auto, using(crate::proofs::Serving::may_begin))]
 pub fn begins_by_own()
     ensures { (cpu : ℕ) (actors : Actors) (spec : Spec) (H : List Entry) (n : ℕ) → IsLegal actors spec H
         → service_in (own by (server actors spec cpu) H) ≡ Waits n → is_some (begin (state spec H) n cpu) ≡ true }
-{
-}
+{}
 
 /// Where they say that it runs or was skipped, its end is possible.
 #[tactic(auto, using(crate::proofs::Serving::may_end))]
 pub fn ends_by_own()
     ensures { (cpu : ℕ) (actors : Actors) (spec : Spec) (H : List Entry) (n : ℕ) → IsLegal actors spec H
         → service_in (own by (server actors spec cpu) H) ≡ Runs n → is_some (end (state spec H) n cpu) ≡ true }
-{
-}
+{}
