@@ -14,3 +14,4 @@ pub mod CallKept
 pub mod CallNoted
 pub mod CalledDesk
 pub mod CallGroup
+pub mod Signing

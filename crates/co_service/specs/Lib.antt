@@ -12,3 +12,4 @@ pub mod Desk
 pub mod Outcomes
 pub mod Call
 pub mod Moving
+pub mod Booted

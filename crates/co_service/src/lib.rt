@@ -3,6 +3,7 @@
 #![tactic(auto)]
 
 mod books;
+mod boot;
 mod calling;
 mod desk;
 mod laws;
