@@ -1,0 +1,90 @@
+-- The books of a desk: a keeper at its number, and the books after it has changed.
+use Rattle.std.proofs.Common.{◌≡◌, ◌≢◌, ℕ, zero, suc, ◌<◌, true, List, [], ◌∷◌, ◌++◌, length, map, set, refl, sym, ap, ◌∙◌, subst, arith}
+use Rattle.std.specs.Prelude.{slice_get, slice_index_or, is_some}
+use Rattle.std.specs.declared.option.Option.{Option}
+use Rattle.std.specs.declared.option.Option.TheVariants.{Some, None}
+use mathlib.Core.Logic.{dite}
+use native.Mathlib.Decide.{ℕ_discrete}
+use Rattle.co_life.specs.Views.{KeeperView}
+use Rattle.co_object.specs.declared.note.Entry.{Entry}
+use Rattle.co_object.specs.declared.note.QEntry.{QEntry}
+use Rattle.co_service.specs.declared.params.Params.{Params}
+use Rattle.co_service.specs.declared.line.Line.{Line}
+use Rattle.co_service.specs.Name.{ServiceName}
+use Rattle.co_service.specs.Lines.{made, opening_of}
+use Rattle.co_service.specs.Seats.{SeatsView, seen_at, IsShown}
+use Rattle.co_service.specs.Stories.{by, queue_by, timer_actor, cpu_actor, IsHistory, IsJournal}
+use Rattle.co_service.specs.Views.{PassesView, passes_of, seen_of, journal_seen, ArePasses, IsKeeperOf}
+use Rattle.co_service.specs.Books.{BooksView, books_of, history_at, entries_in, entries_at, is_kept, with_history, kept_of, IsKept, AreBooks}
+use Rattle.co_service.proofs.Items.{get_here, get_or_of, set_map, set_set, set_same, index_set, index_else}
+use Rattle.co_service.proofs.Entries.{shown_made, same_opening}
+use Rattle.co_service.proofs.Writing.{index-map, below_get}
+
+pub below_kept : (ks : List (Option (KeeperView (Line Entry)))) (i : ℕ) → is_some (slice_index_or (map kept_of ks) i None) ≡ true → i < length ks
+below_kept [] i h = absurd (cc)
+below_kept (k ∷ ks) zero h = omega arith
+below_kept (k ∷ ks) (suc i) h = let r = below_kept ks i h in omega arith
+
+module _ (name : ServiceName) (p : Params) (cpu : ℕ) (ks : List (Option (KeeperView (Line Entry)))) (j : KeeperView (Line QEntry)) (b : BooksView) (are : AreBooks name p cpu ks j) (view : books_of p cpu ks j ≡ b) (i : ℕ) where
+  pub params_are : b.params ≡ p
+  params_are = ap (λ (v : BooksView). v.params) (sym view)
+
+  pub below_here : is_kept b i ≡ true → i < length ks
+  below_here here = below_kept ks i (ap (λ (v : BooksView). is_kept v i) view ∙ here)
+
+  module _ (x : Option (KeeperView (Line Entry))) (k : KeeperView (Line Entry)) (here : is_kept b i ≡ true) (at : x ≡ slice_index_or ks i x) (is : x ≡ Some k) where
+    keeper_here : slice_index_or ks i None ≡ Some k
+    keeper_here = get_or_of ks i None x (get_here ks i x (below_here here) at) ∙ is
+
+    pub keeper_of : IsKeeperOf IsHistory name.timers b.params i k
+    keeper_of = subst (λ (r : Params). IsKeeperOf IsHistory name.timers r i k) (sym params_are) (subst (IsKept name.timers p i) keeper_here (are.each i))
+
+    pub history_here : history_at b i ≡ Some (made k.history)
+    history_here = ap (λ (v : BooksView). history_at v i) (sym view) ∙ (index-map kept_of ks i None ∙ ap kept_of keeper_here)
+
+    pub legal_here : IsHistory b.params i (entries_at b i)
+    legal_here = subst (λ o. IsHistory b.params i (entries_in o)) (sym history_here) keeper_of.legal
+
+    pub same_books : (gone : Option (KeeperView (Line Entry))) (k' : KeeperView (Line Entry)) → k' ≡ k → books_of p cpu (set (set ks i gone) i (Some k')) j ≡ b
+    same_books gone k' same =
+        ap (λ (l : List (Option (KeeperView (Line Entry)))). books_of p cpu l j) (set_set ks i gone (Some k') ∙ (ap (λ (t : KeeperView (Line Entry)). set ks i (Some t)) same ∙ set_same ks i (Some k) (get_here ks i x (below_here here) at ∙ ap Some is))) ∙ view
+
+  pub set_once : (new : Option (KeeperView (Line Entry))) → books_of p cpu (set ks i new) j ≡ with_history b i (kept_of new)
+  set_once new = (λ d. record { params = p; cpu = cpu; timers = set_map kept_of ks i new d; journal = made j.history }) ∙ ap (λ (v : BooksView). with_history v i (kept_of new)) view
+
+  pub set_twice : (gone new : Option (KeeperView (Line Entry))) → books_of p cpu (set (set ks i gone) i new) j ≡ with_history b i (kept_of new)
+  set_twice gone new = ap (λ (l : List (Option (KeeperView (Line Entry)))). books_of p cpu l j) (set_set ks i gone new) ∙ set_once new
+
+  pub kept_once : (new : Option (KeeperView (Line Entry))) → i < length ks → IsKept name.timers p i new → AreBooks name p cpu (set ks i new) j
+  kept_once new below kept = record {
+    own = are.own;
+    each = λ m. dite (ℕ_discrete m i)
+        (λ same. subst (λ (n : ℕ). IsKept name.timers p n (slice_index_or (set ks i new) n None)) (sym same) (subst (IsKept name.timers p i) (sym (index_set ks i new None below)) kept))
+        (λ away. subst (IsKept name.timers p m) (sym (index_else ks i m new None away)) (are.each m));
+  }
+
+  pub kept_twice : (gone new : Option (KeeperView (Line Entry))) → i < length ks → IsKept name.timers p i new → AreBooks name p cpu (set (set ks i gone) i new) j
+  kept_twice gone new below kept = subst (λ l. AreBooks name p cpu l j) (sym (set_set ks i gone new)) (kept_once new below kept)
+
+  -- a keeper of what the books say of the service
+  pub of_params : (k : KeeperView (Line Entry)) → IsKeeperOf IsHistory name.timers b.params i k → IsKept name.timers p i (Some k)
+  of_params k at = subst (λ (r : Params). IsKeeperOf IsHistory name.timers r i k) params_are at
+
+module _ (actors a : ℕ) (params : Params) (t : SeatsView (Line Entry)) (q : SeatsView (Line QEntry)) (p : PassesView) (are : ArePasses actors a params t q) (view : passes_of a params t q ≡ p) (i : ℕ) where
+  pub timer_shown : (h : List (Line Entry)) → IsShown timer_actor t.actor h (seen_at t i) → IsShown by p.actor (made h) (seen_of p i)
+  timer_shown h shown =
+      subst (λ (v : PassesView). IsShown by v.actor (made h) (seen_of v i)) view
+      (subst (λ (s : ℕ × List Entry). IsShown by s.0 (made h) s.1) (λ d. (are.timers_opened.own d, sym (index-map made t.seen i []) d)) (shown_made by t.actor h (seen_at t i) shown))
+
+  pub cpu_shown : (h : List (Line QEntry)) → IsShown cpu_actor q.actor h (seen_at q i) → IsShown queue_by p.actor (made h) (journal_seen p i)
+  cpu_shown h shown =
+      subst (λ (v : PassesView). IsShown queue_by v.actor (made h) (journal_seen v i)) view
+      (subst (λ (s : ℕ × List QEntry). IsShown queue_by s.0 (made h) s.1) (λ d. (are.cpus_opened.own d, sym (index-map made q.seen i []) d)) (shown_made queue_by q.actor h (seen_at q i) shown))
+
+  pub timer_params : (h : List (Line Entry)) (r : Params) → IsShown timer_actor t.actor h (seen_at t i) → i < length t.name → opening_of h ≡ Some (r, i) → opening_of h ≡ Some (p.params, i)
+  timer_params h r shown below opened =
+      opened ∙ (ap (λ (o : Params × ℕ). Some o) (same_opening h (seen_at t i) (r, i) (params, i) shown.prefix (are.timers_opened.opened i (let n = are.timers_opened.named in omega arith)) opened) ∙ ap (λ (v : PassesView). Some (v.params, i)) view)
+
+  pub cpu_params : (h : List (Line QEntry)) (r : Params) → IsShown cpu_actor q.actor h (seen_at q i) → i < length q.name → opening_of h ≡ Some (r, i) → opening_of h ≡ Some (p.params, i)
+  cpu_params h r shown below opened =
+      opened ∙ (ap (λ (o : Params × ℕ). Some o) (same_opening h (seen_at q i) (r, i) (params, i) shown.prefix (are.cpus_opened.opened i (let n = are.cpus_opened.named in omega arith)) opened) ∙ ap (λ (v : PassesView). Some (v.params, i)) view)

@@ -1,0 +1,39 @@
+-- A pass at its place in an actor's list.
+use Rattle.std.proofs.Common.{◌≡◌, ℕ, List, [], map, set, Option, Some, refl, sym, ap, ◌∙◌}
+use Rattle.std.specs.Prelude.{slice_get, slice_index_or}
+use Rattle.std.specs.List.{All}
+use Rattle.co_life.specs.Identity.{LifeId}
+use Rattle.co_life.specs.Views.{PassView}
+use Rattle.co_service.specs.Seats.{life_in, seen_in, IsOwn}
+use Rattle.co_service.proofs.Items.{get_or_of, set_set, set_same, all_at, set_map, get_map, got_map}
+
+module _ {E : Type 0} where
+  -- the pass h of a life stands at i
+  pub record Found (ps : List (Option (PassView E))) (i : ℕ) (life : LifeId) (h : PassView E) : Type 0 where
+    pub here : slice_get ps i ≡ Some (Some h)
+    pub of : h.life ≡ life
+
+  pub found : (ps : List (Option (PassView E))) (i : ℕ) (life : LifeId) (x : Option (PassView E)) (h : PassView E) → slice_get (map life_in ps) i ≡ Some life → x ≡ slice_index_or ps i x → x ≡ Some h → Found ps i life h
+  found ps i life x h named at is =
+      let p = got_map life_in ps i life named in
+      let px : x ≡ p.0 = at ∙ get_or_of ps i x p.0 p.1 in
+      let ph : p.0 ≡ Some h = sym px ∙ is in record {
+        here = p.1 ∙ ap Some ph;
+        of = ap life_in (sym ph) ∙ p.2;
+      }
+
+  pub seen_is : (ps : List (Option (PassView E))) (i : ℕ) (life : LifeId) (h : PassView E) → Found ps i life h → slice_index_or (map seen_in ps) i [] ≡ h.seen
+  seen_is ps i life h at = get_or_of (map seen_in ps) i [] h.seen (get_map seen_in ps i (Some h) at.here)
+
+  pub own_at : (ps : List (Option (PassView E))) (i : ℕ) (life : LifeId) (h : PassView E) (a : ℕ) → Found ps i life h → All (IsOwn a) ps → h.actor ≡ a
+  own_at ps i life h a at all = all_at (IsOwn a) ps i (Some h) all at.here
+
+  pub same_name : (ps : List (Option (PassView E))) (i : ℕ) (life : LifeId) (h new : PassView E) (gone : Option (PassView E)) → Found ps i life h → new.life ≡ life → map life_in (set (set ps i gone) i (Some new)) ≡ map life_in ps
+  same_name ps i life h new gone at is =
+      ap (map life_in) (set_set ps i gone (Some new)) ∙ (set_map life_in ps i (Some new) ∙ (ap (set (map life_in ps) i) (is ∙ sym at.of) ∙ set_same (map life_in ps) i h.life (get_map life_in ps i (Some h) at.here)))
+
+  pub new_seen : (ps : List (Option (PassView E))) (i : ℕ) (new : PassView E) (gone : Option (PassView E)) → map seen_in (set (set ps i gone) i (Some new)) ≡ set (map seen_in ps) i new.seen
+  new_seen ps i new gone = ap (map seen_in) (set_set ps i gone (Some new)) ∙ set_map seen_in ps i (Some new)
+
+  pub same_all : (ps : List (Option (PassView E))) (i : ℕ) (life : LifeId) (h new : PassView E) (gone : Option (PassView E)) → Found ps i life h → new ≡ h → set (set ps i gone) i (Some new) ≡ ps
+  same_all ps i life h new gone at is = set_set ps i gone (Some new) ∙ (ap (λ (t : PassView E). set ps i (Some t)) is ∙ set_same ps i (Some h) at.here)

@@ -1,0 +1,17 @@
+pub mod Items
+pub mod Found
+pub mod Entries
+pub mod Writing
+pub mod PassesKept
+pub mod BooksKept
+pub mod BooksWritten
+pub mod Serving
+pub mod Noting
+pub mod Looking
+pub mod DeskKept
+pub mod ScanTold
+pub mod CallKept
+pub mod CallNoted
+pub mod CalledDesk
+pub mod CallGroup
+pub mod Signing

@@ -1,0 +1,24 @@
+use Rattle.std.proofs.Common.{sym, ◌∙◌, subst}
+use Rattle.std.specs.declared.option.Option.TheVariants.{Some}
+use Rattle.co_service.specs.Stories.{IsHistory}
+use Rattle.co_service.specs.Views.{IsKeeperOf}
+use Rattle.co_service.proofs.BooksKept.{keeper_of, legal_here, same_books, kept_twice, below_here, of_params}
+use Rattle.co_service.proofs.books.Books.meet_timer.Goals as goal
+
+pub meet_timer-requires-clause-opened : goal.meet_timer-requires-clause-opened
+meet_timer-requires-clause-opened g c =
+    (c.args.self.now.params, (keeper_of g.N.Name.name c.self.inside.params.value c.self.inside.cpu c.self.inside.keepers.items c.self.inside.journal c.args.self.now c.self.invariant c.self.view_is c.args.i c.index_mut.result.now c.unwrap-keeper.result c.requires.here c.index_mut.ensures.value (sym c.take.ensures.value ∙ c.unwrap-keeper.ensures)).opened)
+
+pub invariant_of-self : goal.invariant_of-self
+invariant_of-self g c =
+    let at = keeper_of g.N.Name.name c.self.inside.params.value c.self.inside.cpu c.self.inside.keepers.items c.self.inside.journal c.args.self.now c.self.invariant c.self.view_is c.args.i c.index_mut.result.now c.unwrap-keeper.result c.requires.here c.index_mut.ensures.value (sym c.take.ensures.value ∙ c.unwrap-keeper.ensures) in
+    kept_twice g.N.Name.name c.self.inside.params.value c.self.inside.cpu c.self.inside.keepers.items c.self.inside.journal c.args.self.now c.self.invariant c.self.view_is c.args.i c.take.new.self (Some c.meet_timer.new.keeper) (below_here g.N.Name.name c.self.inside.params.value c.self.inside.cpu c.self.inside.keepers.items c.self.inside.journal c.args.self.now c.self.invariant c.self.view_is c.args.i c.requires.here)
+    (of_params g.N.Name.name c.self.inside.params.value c.self.inside.cpu c.self.inside.keepers.items c.self.inside.journal c.args.self.now c.self.invariant c.self.view_is c.args.i c.meet_timer.new.keeper (subst (IsKeeperOf IsHistory g.N.Name.name.timers c.args.self.now.params c.args.i) (sym c.meet_timer.ensures.keeper) at))
+
+pub returns-clause-kept : goal.returns-clause-kept
+returns-clause-kept g c =
+    same_books g.N.Name.name c.self.inside.params.value c.self.inside.cpu c.self.inside.keepers.items c.self.inside.journal c.args.self.now c.self.invariant c.self.view_is c.args.i c.index_mut.result.now c.unwrap-keeper.result c.requires.here c.index_mut.ensures.value (sym c.take.ensures.value ∙ c.unwrap-keeper.ensures) c.take.new.self c.meet_timer.new.keeper c.meet_timer.ensures.keeper
+
+pub returns-clause-legal : goal.returns-clause-legal
+returns-clause-legal g c =
+    legal_here g.N.Name.name c.self.inside.params.value c.self.inside.cpu c.self.inside.keepers.items c.self.inside.journal c.args.self.now c.self.invariant c.self.view_is c.args.i c.index_mut.result.now c.unwrap-keeper.result c.requires.here c.index_mut.ensures.value (sym c.take.ensures.value ∙ c.unwrap-keeper.ensures)

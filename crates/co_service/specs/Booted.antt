@@ -1,0 +1,69 @@
+-- What boot makes, place by place.
+use Rattle.std.specs.Prelude.{◌≡◌, ℕ, ◌<◌, ◌≤◌, List, [], ◌∷◌, ◌++◌, length, map, slice_get, slice_index_or}
+use Rattle.std.specs.declared.option.Option.TheVariants.{Some}
+use Rattle.co_life.specs.Identity.{LifeId}
+use Rattle.co_life.specs.Views.{KeeperView}
+use Rattle.co_service.specs.declared.params.Params.{Params}
+use Rattle.co_service.specs.declared.line.Line.{Line}
+use Rattle.co_service.specs.declared.line.Line.TheVariants.{Opening, Made}
+use Rattle.co_service.specs.Name.{ServiceName}
+use Rattle.co_service.specs.Params.{actor_count}
+use Rattle.co_service.specs.Lines.{made, openings, opening_of, AllCarry}
+use Rattle.co_service.specs.Seats.{SeatsView, fresh_seats}
+use Rattle.co_service.specs.Views.{PassesView}
+
+module _ {E : Type 0} where
+  -- the first n actors have made their opening entries, and nothing else was made
+  pub record IsOpened (p : Params) (i n : ℕ) (h : List (Line E)) : Type 0 where
+    pub carry : AllCarry p i h
+    pub nothing : made h ≡ []
+    pub count : openings h ≡ n
+
+  -- an opening entry is made by the actor that it names
+  abbrev pub opener : Line E → ℕ → Type 0
+  opener (Opening actor place params) a = a ≡ actor
+  opener (Made e) a = Unit {0}
+
+  -- an actor has seen opening entries of place i alone
+  pub record IsSeated (p : Params) (i : ℕ) (h : List (Line E)) : Type 0 where
+    pub opened : opening_of h ≡ Some (p, i)
+    pub nothing : made h ≡ []
+
+  -- an actor's passes of these places
+  pub record AreSeatedAt (p : Params) (name : List LifeId) (a : ℕ) (s : SeatsView (Line E)) : Type 0 where
+    pub name_is : s.name ≡ name
+    pub actor_is : s.actor ≡ a
+    pub count : length s.seen ≡ length name
+    pub each : (i : ℕ) → i < length name → IsSeated p i (slice_index_or s.seen i [])
+
+  abbrev pub seats_at : List (SeatsView (Line E)) → ℕ → SeatsView (Line E)
+  seats_at all k = slice_index_or all k (fresh_seats [] 0)
+
+  -- each of n actors has its passes of these places, and the first `done` of one place more
+  pub record AreSeated (p : Params) (name more : List LifeId) (n done : ℕ) (all : List (SeatsView (Line E))) : Type 0 where
+    pub count : length all ≡ n
+    pub ahead : (k : ℕ) → k < done → AreSeatedAt p (name ++ more) k (seats_at all k)
+    pub behind : (k : ℕ) → done ≤ k → k < n → AreSeatedAt p name k (seats_at all k)
+
+module _ {E : Type 0} where
+  -- the keeper of place i, where all actors have made their opening entries
+  pub record IsReady (p : Params) (actors i : ℕ) (lives : List LifeId) (k : KeeperView (Line E)) : Type 0 where
+    pub life : slice_get lives i ≡ Some k.life
+    pub actors_are : k.actors ≡ actors
+    pub opened : IsOpened p i actors k.history
+
+  -- so many places, with their lives, their keepers, and each actor's passes of them
+  pub record ArePlaces (p : Params) (count actors : ℕ) (lives : List LifeId) (keepers : List (KeeperView (Line E))) (all : List (SeatsView (Line E))) : Type 0 where
+    pub lives_are : length lives ≡ count
+    pub keepers_are : length keepers ≡ count
+    pub ready : (i : ℕ) (k : KeeperView (Line E)) → slice_get keepers i ≡ Some k → IsReady p actors i lives k
+    pub seated : AreSeated p lives [] actors 0 all
+
+-- passes that have seen nothing
+abbrev pub booted : ServiceName → Params → ℕ → PassesView
+booted name p a = record { name = name; params = p; actor = a; timers = map (λ _. []) name.timers; cpus = map (λ _. []) name.cpus }
+
+-- one actor's passes after the other, and none has seen anything
+pub record AreBooted (name : ServiceName) (p : Params) (all : List PassesView) : Type 0 where
+  pub count : length all ≡ actor_count p
+  pub each : (j : ℕ) → j < actor_count p → slice_get all j ≡ Some (booted name p j)

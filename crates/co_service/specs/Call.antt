@@ -1,0 +1,82 @@
+-- A caller's operation, section by section.
+use Rattle.std.specs.Prelude.{◌≡◌, ℕ, List, [], ◌∷◌, ◌++◌, map}
+use Rattle.std.specs.declared.option.Option.{Option}
+use Rattle.std.specs.declared.option.Option.TheVariants.{Some, None}
+use Rattle.co_object.specs.declared.note.Entry.{Entry}
+use Rattle.co_object.specs.declared.note.Note.{Note}
+use Rattle.co_object.specs.declared.note.Place.TheVariants as at
+use Rattle.co_object.specs.declared.note.AnyEntry.TheVariants as of
+use Rattle.co_object.specs.declared.op.CallOp.{CallOp}
+use Rattle.co_object.specs.declared.op.CallOp.TheVariants.{Plain, DrainTry}
+use Rattle.co_object.specs.declared.op.PlainOp.TheVariants.{Reset, Schedule}
+use Rattle.co_object.specs.declared.op.Op.TheVariants.{Call}
+use Rattle.co_object.specs.declared.reply.Reply.{Reply}
+use Rattle.co_object.specs.declared.queue.QOp.TheVariants.{Insert, Remove}
+use Rattle.co_object.specs.declared.queue.QReply.TheVariants.{At, Off}
+use Rattle.co_object.specs.declared.state.Arming.{Arming}
+use Rattle.co_object.specs.Group.{Placed, placed, group}
+use Rattle.co_object.specs.History.{state}
+use Rattle.co_wheel.specs.Turns.{Turn}
+use Rattle.co_service.specs.Params.{spec_at}
+use Rattle.co_service.specs.Views.{PassesView, seen_of}
+use Rattle.co_service.specs.Writes.{Writes}
+
+-- the entry of a caller's operation
+abbrev pub call_entry : PassesView → ℕ → CallOp → Reply → Entry
+call_entry p act op reply = record { actor = p.actor; act = act; op = Call op; reply = reply }
+
+abbrev pub noted : Option Note → List Note
+noted None = []
+noted (Some note) = note ∷ []
+
+-- the notes that there are
+abbrev pub notes_in : List (Option Note) → List Note
+notes_in [] = []
+notes_in (o ∷ os) = noted o ++ notes_in os
+
+-- where an arming goes that leaves its CPU
+pub record Target : Type 0 where
+  pub cpu : ℕ
+  pub n : ℕ
+  pub due : ℕ
+
+-- the Insert of callout i at its target, as the queue there will answer it
+abbrev pub landing : PassesView → (act i : ℕ) → Option Target → ℕ → List Placed
+landing p act i None time = []
+landing p act i (Some t) time = (at.Cpu t.cpu, of.Cpu (record { actor = p.actor; act = act; op = Insert i t.n t.due; reply = At time })) ∷ []
+
+-- the time of the Insert: of one that is still to come, or of one that there is
+abbrev pub time_of : Option Target → (time later : ℕ) → ℕ
+time_of None time later = time
+time_of (Some t) time later = later
+
+-- these notes, with the Insert of what leaves, are the notes of the call. `time` is the answer to an Insert among them
+pub record IsGroupBut (p : PassesView) (act i : ℕ) (op : CallOp) (reply : Reply) (leaves : Option Target) (notes : List Note) (q : PassesView) : Type 0 where
+  pub time : ℕ
+  pub group_is : (later : ℕ) → map placed notes ++ landing p act i leaves later
+      ≡ group i (call_entry p act op reply) (state (spec_at p.params i) (seen_of q i)) (time_of leaves time later)
+
+-- one section of a call: the notes so far, and what leaves for another CPU
+pub record IsAnswer (p : PassesView) (act i : ℕ) (op : CallOp) (reply : Reply) (leaves : Option Target) (notes : List Note) (q : PassesView) : Type 0 where
+  pub group_but : IsGroupBut p act i op reply leaves notes q
+  pub written : Writes p notes q
+
+-- the due time that an operation names
+abbrev pub due_in : CallOp → ℕ
+due_in (Plain (Reset due prec func arg cpu)) = due
+due_in (Plain (Schedule due prec cpu)) = due
+due_in _ = 0
+
+-- what a call took out of a queue
+abbrev pub removal_notes : ℕ → Entry → Option ℕ → List Placed
+removal_notes i e None = []
+removal_notes i e (Some cpu) = (at.Cpu cpu, of.Cpu (record { actor = e.actor; act = e.act; op = Remove i; reply = Off })) ∷ []
+
+-- what the queue is asked for an arming that is to stand in it
+abbrev pub insert_turns : (i n due : ℕ) → Option ℕ → List Turn
+insert_turns i n due None = []
+insert_turns i n due (Some time) = (Insert i n due, At time) ∷ []
+
+abbrev pub insertion_notes : PassesView → (act cpu i n due : ℕ) → Option ℕ → List Placed
+insertion_notes p act cpu i n due None = []
+insertion_notes p act cpu i n due (Some time) = (at.Cpu cpu, of.Cpu (record { actor = p.actor; act = act; op = Insert i n due; reply = At time })) ∷ []

@@ -1,0 +1,15 @@
+pub mod Name
+pub mod Params
+pub mod Lines
+pub mod Stories
+pub mod Seats
+pub mod Views
+pub mod Writes
+pub mod Books
+pub mod May
+pub mod Serving
+pub mod Desk
+pub mod Outcomes
+pub mod Call
+pub mod Moving
+pub mod Booted

@@ -1,0 +1,45 @@
+-- A callout on its way to the CPU at which it is armed, with its history.
+use Rattle.std.specs.Prelude.{◌≡◌, ℕ, true, List}
+use Rattle.std.specs.declared.option.Option.{Option}
+use Rattle.std.specs.declared.option.Option.TheVariants.{Some, None}
+use Rattle.co_life.specs.Views.{KeeperView}
+use Rattle.co_object.specs.declared.note.Entry.{Entry}
+use Rattle.co_object.specs.Stand.{is_idle}
+use Rattle.co_wheel.specs.Parcel.{Parcel}
+use Rattle.co_service.specs.declared.params.Params.{Params}
+use Rattle.co_service.specs.declared.line.Line.{Line}
+use Rattle.co_service.specs.Name.{ServiceName}
+use Rattle.co_service.specs.Params.{nothing}
+use Rattle.co_service.specs.Lines.{made, opening_of}
+use Rattle.co_service.specs.Stories.{IsHistory}
+use Rattle.co_service.specs.Views.{IsKeeperOf}
+use Rattle.co_service.specs.Desk.{alone_after}
+use Rattle.co_service.specs.Call.{Target}
+
+abbrev pub params_in : Option (Params × ℕ) → Params
+params_in None = nothing
+params_in (Some o) = o.0
+
+pub record MovingView : Type 0 where
+  pub params : Params
+  pub i : ℕ
+  pub history : List Entry
+  pub target : Target
+
+abbrev pub moving_of : Parcel → KeeperView (Line Entry) → (n due : ℕ) → MovingView
+moving_of parcel keeper n due = record {
+  params = params_in (opening_of keeper.history);
+  i = parcel.i;
+  history = made keeper.history;
+  target = record { cpu = parcel.arming.cpu; n = n; due = due };
+}
+
+-- its state is what its history gives, no service has it, and it is armed as its target says
+pub record IsMoving (name : ServiceName) (parcel : Parcel) (keeper : KeeperView (Line Entry)) (n due : ℕ) : Type 0 where
+  pub params : Params
+  pub kept : IsKeeperOf IsHistory name.timers params parcel.i keeper
+  pub callout : parcel.callout ≡ alone_after params parcel.i (made keeper.history)
+  pub idle : is_idle parcel.callout.state.run ≡ true
+  pub armed : parcel.callout.state.armed ≡ Some parcel.arming
+  pub number : n ≡ parcel.arming.n
+  pub due_is : due ≡ parcel.arming.due

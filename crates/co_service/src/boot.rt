@@ -1,0 +1,132 @@
+//! The places of a service, made one after the other.
+ghost use Rattle.std.specs.Prelude.{◌≡◌, ◌≤◌, ◌+◌, ◌<◌, ◌^◌, ℕ, [], ◌∷◌, ◌++◌, List, length, map, IfOk, OnOk, vec_len};
+ghost use Rattle.co_life.specs.Views.{AreFresh};
+ghost use Rattle.co_service.specs.Booted.{ArePlaces, AreSeated, IsOpened, IsSeated, opener, seats_at as seats_in};
+ghost use Rattle.co_service.specs.Seats.{fresh_seats};
+ghost use Rattle.co_service.specs.declared.line.Line.{Line as LineOf};
+
+use crate::seats::{Lives, Seats};
+use crate::{Line, Params};
+use co_life::{Keeper, Life, Pass, Story};
+use co_sbt::NoMemory;
+use std::alloc::Global;
+use std::snapshot::Snapshot;
+
+/// An actor makes its opening entry of a place.
+fn sign<E: Drop, S: Story<Entry = Line<E>>>(
+    life: &Life<S>,
+    keeper: &mut Keeper<S>,
+    pass: Pass<S>,
+    actor: u32,
+    place: u32,
+    params: &Params,
+) -> Pass<S>
+    requires keeper { keeper.old.life ≡ life.now }
+    requires pass { (pass.life ≡ life.now) × (pass.actor ≡ actor) }
+    requires opened { IsOpened params.now place actor keeper.old.history }
+    requires legal { (h : List (LineOf E)) (n : ℕ) → IsOpened params.now place n h → S.legal h }
+    requires by { (l : LineOf E) → opener l (S.actor l) }
+    ensures keeper { keeper.new ≡ record keeper.old { history = keeper.new.history } }
+    ensures opened { IsOpened params.now place (actor + 1) keeper.new.history }
+    ensures pass { result ≡ record pass { seen = keeper.new.history } }
+    ensures seated { IsSeated params.now place keeper.new.history }
+{
+    let entry = Line::Opening {
+        actor,
+        place,
+        params: Snapshot::of(params),
+    };
+    life.write(keeper, pass, entry).0
+}
+
+/// Gives each actor its pass of one place more, once it has made its opening entry there.
+fn add_place<E: Drop, S: Story<Entry = Line<E>>>(
+    lives: &Lives<S>,
+    life: &Life<S>,
+    keeper: &mut Keeper<S>,
+    seats: &mut Vec<Seats<S>>,
+    passes: Vec<Pass<S>>,
+    place: u32,
+    params: &Params,
+) -> Result<(), NoMemory>
+    requires keeper { (keeper.old.life ≡ life.now) × (keeper.old.history ≡ []) }
+    requires few { vec_len seats.old < 2 ^ 32 }
+    requires passes { AreFresh life.now (vec_len seats.old) passes.items }
+    requires seats { AreSeated params.now lives.now (life.now ∷ []) (vec_len seats.old) 0 seats.old.items }
+    requires place { place ≡ length lives.now }
+    requires legal { (h : List (LineOf E)) (n : ℕ) → IsOpened params.now place n h → S.legal h }
+    requires by { (l : LineOf E) → opener l (S.actor l) }
+    ensures keeper { OnOk result (keeper.new ≡ record keeper.old { history = keeper.new.history }) }
+    ensures opened { OnOk result (IsOpened params.now place (vec_len seats.old) keeper.new.history) }
+    ensures seats { OnOk result (AreSeated params.now lives.now (life.now ∷ []) (vec_len seats.old) (vec_len seats.old) seats.new.items) }
+{
+    let mut actor = 0;
+    for pass in passes {
+        let signed = sign(life, keeper, pass, actor, place, params);
+        let one = &mut seats[actor as usize];
+        one.add(signed)?;
+        actor += 1;
+    }
+    Ok(())
+}
+
+/// So many actors with no place yet.
+fn empty_seats<E: Drop, S: Story<Entry = Line<E>>>(
+    alloc: Global,
+    actors: u32,
+) -> Result<Vec<Seats<S>>, NoMemory>
+    ensures count { IfOk result (λ all. vec_len all ≡ actors) }
+    ensures each { IfOk result (λ all. (k : ℕ) → k < actors → seats_in all.items k ≡ fresh_seats [] k) }
+{
+    let mut all = Vec::new(alloc);
+    for actor in 0..actors {
+        if all.push(Seats::new(alloc, actor)).is_err() {
+            return Err(NoMemory {});
+        }
+    }
+    Ok(all)
+}
+
+/// Appends an item.
+fn push<T: Drop>(items: &mut Vec<T>, item: T) -> Result<(), NoMemory>
+    ensures { OnOk result (items.new.items ≡ items.old.items ++ item ∷ []) }
+{
+    match items.push(item) {
+        Ok(()) => Ok(()),
+        Err(_) => Err(NoMemory {}),
+    }
+}
+
+/// The places of a kind, made one after the other: their lives, their keepers, and each actor's passes of them, which
+/// have seen the opening entries alone.
+fn make_places<E: Drop, S: Story<Entry = Line<E>>>(
+    alloc: Global,
+    params: &Params,
+    count: u32,
+    actors: u32,
+) -> Result<(Lives<S>, Vec<Keeper<S>>, Vec<Seats<S>>), NoMemory>
+    requires some { 1 ≤ actors }
+    requires legal { (i n : ℕ) (h : List (LineOf E)) → IsOpened params.now i n h → S.legal h }
+    requires by { (l : LineOf E) → opener l (S.actor l) }
+    ensures { IfOk result (λ made. ArePlaces params.now count actors made.0 made.1.items made.2.items) }
+{
+    let mut lives = Lives::new(alloc);
+    let mut keepers = Vec::new(alloc);
+    let mut seats = empty_seats(alloc, actors)?;
+    for place in 0..count {
+        let (life, mut keeper, passes) = Life::new(alloc, actors)?;
+        let passes = passes.into_vec();
+        add_place(
+            &lives,
+            &life,
+            &mut keeper,
+            &mut seats,
+            passes,
+            place,
+            params,
+        )?;
+        lives.push(life)?;
+        push(&mut keepers, keeper)?;
+    }
+    Ok((lives, keepers, seats))
+}

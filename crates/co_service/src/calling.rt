@@ -1,0 +1,105 @@
+//! What a call writes in the books of a desk.
+ghost use Rattle.std.specs.Prelude.{◌≡◌, ℕ, [], ◌∷◌, ◌++◌, List, map, is_some, true, false};
+ghost use Rattle.std.specs.declared.option.Option.TheVariants.{Some, None};
+ghost use Rattle.co_object.specs.declared.note.AnyEntry.TheVariants as of;
+ghost use Rattle.co_object.specs.declared.note.Entry.{Entry};
+ghost use Rattle.co_object.specs.declared.note.Place.TheVariants as at;
+ghost use Rattle.co_object.specs.Callout.{call};
+ghost use Rattle.co_object.specs.Group.{off_of, placed};
+ghost use Rattle.co_service.specs.Books.{entries_at, is_kept, with_history};
+ghost use Rattle.co_service.specs.Call.{call_entry, insert_turns, insertion_notes, noted, removal_notes};
+ghost use Rattle.co_service.specs.Desk.{Owes};
+ghost use Rattle.co_service.specs.May.{MayHappen, state_at};
+ghost use Rattle.co_service.specs.Writes.{Writes, WritesTimer};
+ghost use Rattle.co_wheel.specs.Cpu.{Cpu};
+ghost use Rattle.co_wheel.specs.Turns.{Turn, removal};
+
+use crate::books::Books;
+use crate::desk::write_turn;
+use crate::seats::Lives;
+use crate::{CpuStory, Name, Passes, TimerStory};
+use co_object::{CallOp, Entry, Note, Op, QOp, QReply, Reply};
+use co_sbt::Sbt;
+
+/// Where a call took an arming out of the queue, the Remove before its entry.
+pub(crate) fn write_removal<N: Name>(
+    books: &mut Books<N>,
+    lives: &Lives<CpuStory>,
+    passes: &mut Passes,
+    act: u64,
+    i: u32,
+    reply: &Reply,
+    removed: bool,
+) -> Option<Note>
+    requires lives { lives.now ≡ N.name.cpus }
+    requires name { passes.old.name ≡ N.name }
+    requires params { books.old.params ≡ passes.old.params }
+    requires removed { removed ≡ is_some (off_of reply.now) }
+    requires here { (x : ℕ) → off_of reply.now ≡ Some x → x ≡ books.old.cpu }
+    requires owes { (turns : List Turn) × (w : Cpu) × Owes (removal i (off_of reply.now) ++ turns) w books.old }
+    ensures books { books.new ≡ record books.old { journal = books.new.journal } }
+    ensures written { Writes passes.old (noted result) passes.new }
+    ensures placed { (e : Entry) → e.actor ≡ passes.old.actor → e.act ≡ act → map placed (noted result) ≡ removal_notes i e (off_of reply.now) }
+    ensures goes_on { (turns : List Turn) (w : Cpu) → Owes (removal i (off_of reply.now) ++ turns) w books.old → Owes turns w books.new }
+{
+    if !removed {
+        return None;
+    }
+    let op = QOp::Remove { i };
+    Some(write_turn(books, lives, passes, act, op, QReply::Off))
+}
+
+/// The entry of a call.
+pub(crate) fn write_call<N: Name>(
+    books: &mut Books<N>,
+    lives: &Lives<TimerStory>,
+    passes: &mut Passes,
+    act: u64,
+    i: u32,
+    op: &CallOp,
+    reply: &Reply,
+) -> Note
+    requires lives { lives.now ≡ N.name.timers }
+    requires name { passes.old.name ≡ N.name }
+    requires params { books.old.params ≡ passes.old.params }
+    requires here { is_kept books.old i ≡ true }
+    requires reply { reply.now ≡ (call (state_at books.old i) op.now).1 }
+    ensures books { books.new ≡ with_history books.old i (Some (entries_at books.old i ++ call_entry passes.old act op.now reply.now ∷ [])) }
+    ensures note { (result.place ≡ at.Timer i) × (result.entry ≡ of.Timer (call_entry passes.old act op.now reply.now)) }
+    ensures written { WritesTimer passes.old i (call_entry passes.old act op.now reply.now) result.pos (entries_at books.old i ++ call_entry passes.old act op.now reply.now ∷ []) passes.new }
+{
+    let entry = Entry {
+        actor: passes.actor(),
+        act,
+        op: Op::Call(*op),
+        reply: *reply,
+    };
+    books.write_timer(lives, passes, i, &entry)
+}
+
+/// Where the queue has an accepted arming, the Insert after its entry.
+pub(crate) fn write_insertion<N: Name>(
+    books: &mut Books<N>,
+    lives: &Lives<CpuStory>,
+    passes: &mut Passes,
+    act: u64,
+    i: u32,
+    n: u64,
+    due: Sbt,
+    inserted: Option<Sbt>,
+) -> Option<Note>
+    requires lives { lives.now ≡ N.name.cpus }
+    requires name { passes.old.name ≡ N.name }
+    requires params { books.old.params ≡ passes.old.params }
+    requires owes { (w : Cpu) × Owes (insert_turns i n due inserted) w books.old }
+    ensures books { books.new ≡ record books.old { journal = books.new.journal } }
+    ensures written { Writes passes.old (noted result) passes.new }
+    ensures placed { map placed (noted result) ≡ insertion_notes passes.old act books.old.cpu i n due inserted }
+    ensures goes_on { (w : Cpu) → Owes (insert_turns i n due inserted) w books.old → Owes [] w books.new }
+{
+    let Some(at) = inserted else {
+        return None;
+    };
+    let op = QOp::Insert { i, n, t: due };
+    Some(write_turn(books, lives, passes, act, op, QReply::At(at)))
+}

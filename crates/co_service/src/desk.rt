@@ -1,0 +1,112 @@
+//! What one lock guards.
+ghost use Rattle.std.specs.Prelude.{◌≡◌, ◌<◌, ◌+◌, ◌^◌, [], ◌∷◌, ◌++◌, List, IfSome, IfNone, length};
+ghost use Rattle.std.specs.declared.option.Option.TheVariants.{Some, None};
+ghost use Rattle.co_object.specs.Journal.{scanner, step, reply_of, IsOfItsActor};
+ghost use Rattle.co_service.specs.Params.{actors_of, directs};
+ghost use Rattle.co_service.specs.May.{queue_of};
+ghost use Rattle.co_service.specs.Desk.{Owes, IsOf};
+ghost use Rattle.co_service.specs.Outcomes.{IsScan, IsTurn, turn};
+ghost use Rattle.co_service.specs.Writes.{WritesCpu};
+ghost use Rattle.co_wheel.specs.Cpu.{Cpu};
+ghost use Rattle.co_wheel.specs.Turns.{Turn};
+
+use crate::books::Books;
+use crate::seats::Lives;
+use crate::{CpuStory, Name, Passes, Scanned};
+use co_bucket::WheelQueue;
+use co_object::{Note, QEntry, QOp, QReply};
+use co_queue::Looks;
+use co_sbt::Sbt;
+use co_wheel::Wheel;
+use std::marker::Model;
+
+/// What one lock guards: a CPU's wheel, the journal of its timer queue, and the histories of the callouts that stand there.
+///
+/// Each record's state is what its history gives, and the queue, with what is in service, stands for the plain queue after
+/// the journal. A callout's service and its listed arming are at this CPU.
+#[derive(Drop)]
+pub(crate) struct Desk<N: Name> {
+    pub(crate) wheel: Wheel<WheelQueue>,
+    pub(crate) books: Books<N>,
+    /// At most as many Scans the journal has.
+    pub(crate) scans: u64,
+}
+
+impl<N: Name> Model for Desk<N> {
+    ghost use Rattle.co_service.specs.Books.{BooksView};
+    ghost use Rattle.co_service.specs.Desk.{IsDesk};
+
+    ghost Value = { BooksView };
+
+    ghost view = { λ d. d.books };
+
+    ghost invariant = { λ d. IsDesk d.wheel d.books d.scans };
+}
+
+/// Writes what the queue did next.
+pub(crate) fn write_turn<N: Name>(
+    books: &mut Books<N>,
+    lives: &Lives<CpuStory>,
+    passes: &mut Passes,
+    act: u64,
+    op: QOp,
+    reply: QReply,
+) -> Note
+    requires lives { lives.now ≡ N.name.cpus }
+    requires name { passes.old.name ≡ N.name }
+    requires params { books.old.params ≡ passes.old.params }
+    requires possible { reply_of (step books.old.params.buckets (directs books.old.params) (queue_of books.old) op) ≡ Some reply }
+    requires actor { IsOfItsActor (actors_of books.old.params) books.old.cpu passes.old.actor op }
+    ensures books { books.new ≡ record books.old { journal = books.old.journal ++ turn passes.old act op reply ∷ [] } }
+    ensures note { IsTurn books.old.cpu (turn passes.old act op reply) result }
+    ensures written { WritesCpu passes.old books.old.cpu (turn passes.old act op reply) result.pos books.new.journal passes.new }
+    ensures goes_on { (turns : List Turn) (w : Cpu) → Owes ((op, reply) ∷ turns) w books.old → Owes turns w books.new }
+{
+    let entry = QEntry {
+        actor: passes.actor(),
+        act,
+        op,
+        reply,
+    };
+    books.write(lives, passes, &entry)
+}
+
+impl<N: Name> Desk<N> {
+    /// What is due at this CPU has come due. None where the desk is of another CPU.
+    pub(crate) fn scan(
+        &mut self,
+        lives: &Lives<CpuStory>,
+        passes: &mut Passes,
+        cpu: u32,
+        act: u64,
+        now: Sbt,
+    ) -> Option<Scanned>
+        requires lives { lives.now ≡ N.name.cpus }
+        requires name { passes.old.name ≡ N.name }
+        requires scanner { passes.old.actor ≡ scanner (actors_of passes.old.params) cpu }
+        ensures none { IfNone result (passes.new ≡ passes.old) }
+        ensures some { IfSome result (λ out. IsScan passes.old cpu act now out passes.new) }
+    {
+        if self.books.cpu() != cpu {
+            return None;
+        }
+        self.books.meet(lives, passes);
+        let mut looks = Looks::new();
+        let count = self.wheel.scan(now, &mut looks);
+        let op = QOp::Scan { now };
+        let note = write_turn(
+            &mut self.books,
+            lives,
+            passes,
+            act,
+            op,
+            QReply::Count(count),
+        );
+        self.scans = self.scans.saturating_add(1);
+        Some(Scanned {
+            count,
+            note,
+            looks: looks.count(),
+        })
+    }
+}

@@ -1,0 +1,25 @@
+//! The running service: the callouts and the timer queues of all CPUs, each CPU's behind a lock of its own, with histories
+//! that travel with what they tell of.
+#![tactic(auto)]
+
+mod books;
+mod boot;
+mod calling;
+mod desk;
+mod laws;
+mod line;
+mod moving;
+mod name;
+mod outs;
+mod params;
+mod passes;
+mod seats;
+mod stories;
+
+pub use laws::{begins_by_own, ends_by_own, served_by_own};
+pub use line::Line;
+pub use name::Name;
+pub use outs::{Made, Scanned, Taken};
+pub use params::Params;
+pub use passes::Passes;
+pub use stories::{CpuStory, TimerStory};

@@ -1,0 +1,20 @@
+//! What the shared histories hold.
+use crate::Params;
+use std::snapshot::Snapshot;
+
+/// An entry of a shared history. It begins with an opening entry of each actor, so whoever has a pass of it knows of
+/// which place it is, and of which service.
+#[derive(Drop)]
+pub enum Line<E> {
+    /// An actor's opening entry. What it carries stands in the proofs alone.
+    Opening {
+        /// Whose it is.
+        actor: u32,
+        /// The number of the callout, or of the CPU.
+        place: u32,
+        /// What is fixed of the service.
+        params: Snapshot<Params>,
+    },
+    /// An entry that a call made.
+    Made(E),
+}

@@ -1,0 +1,49 @@
+//! A callout on its way from one desk to another.
+ghost use Rattle.std.specs.Prelude.{◌≡◌};
+ghost use Rattle.std.specs.declared.option.Option.TheVariants.{Some, None};
+
+use crate::{Name, TimerStory};
+use co_life::Keeper;
+use co_sbt::Sbt;
+use co_wheel::Parcel;
+use std::marker::{Model, PhantomData};
+
+/// A callout on its way to the CPU at which it is armed, with the keeper of its history.
+///
+/// It stands in no queue. The type says of which service it is, and that its record's state is what its history gives.
+#[derive(Drop)]
+pub(crate) struct Moving<N: Name> {
+    pub(crate) parcel: Parcel,
+    pub(crate) keeper: Keeper<TimerStory>,
+    /// The number of its arming.
+    pub(crate) n: u64,
+    /// When that is due.
+    pub(crate) due: Sbt,
+    pub(crate) of: PhantomData<N>,
+}
+
+impl<N: Name> Model for Moving<N> {
+    ghost use Rattle.co_service.specs.Moving.{MovingView, moving_of, IsMoving};
+
+    ghost Value = { MovingView };
+
+    ghost view = { λ m. moving_of m.parcel m.keeper m.n m.due };
+
+    ghost invariant = { λ m. IsMoving N.name m.parcel m.keeper m.n m.due };
+}
+
+impl<N: Name> Moving<N> {
+    /// The CPU that it goes to.
+    pub(crate) fn cpu(&self) -> u32
+        ensures { result ≡ self.now.target.cpu }
+    {
+        self.parcel.cpu()
+    }
+
+    /// The callout's number.
+    pub(crate) fn callout(&self) -> u32
+        ensures { result ≡ self.now.i }
+    {
+        self.parcel.callout()
+    }
+}

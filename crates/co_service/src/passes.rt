@@ -1,0 +1,129 @@
+//! What one actor has seen of a service.
+ghost use Rattle.std.specs.Prelude.{◌≡◌, [], ◌∷◌, ◌++◌, slice_get};
+ghost use Rattle.std.specs.declared.option.Option.TheVariants.{Some};
+ghost use Rattle.co_service.specs.declared.params.Params.{Params};
+ghost use Rattle.co_service.specs.Lines.{made, opening_of};
+ghost use Rattle.co_service.specs.Params.{actor_count};
+ghost use Rattle.co_service.specs.Seats.{IsShown};
+ghost use Rattle.co_service.specs.Stories.{IsHistory, IsJournal, by, queue_by};
+ghost use Rattle.co_service.specs.Views.{IsKeeperOf, journal_seen, seen_of};
+ghost use Rattle.co_service.specs.Writes.{WritesCpu, WritesTimer};
+
+use crate::seats::{Lives, Seats};
+use crate::{CpuStory, Line, Params, TimerStory};
+use co_life::Keeper;
+use co_object::{Entry, QEntry};
+use std::marker::Model;
+use std::snapshot::Snapshot;
+
+/// One actor's passes of all callouts and all CPUs of a service. They may go to another thread.
+///
+/// Contracts see the service's name and parameters, the actor's number, and what it has seen of each history.
+#[derive(Drop)]
+pub struct Passes {
+    pub(crate) actor: u32,
+    /// How many actors the service has.
+    pub(crate) actors: u32,
+    pub(crate) params: Snapshot<Params>,
+    pub(crate) timers: Seats<TimerStory>,
+    pub(crate) cpus: Seats<CpuStory>,
+}
+
+impl Model for Passes {
+    ghost use Rattle.co_service.specs.Views.{PassesView, passes_of, ArePasses};
+
+    ghost Value = { PassesView };
+
+    ghost view = { λ p. passes_of p.actor p.params.value p.timers p.cpus };
+
+    ghost invariant = { λ p. ArePasses p.actors p.actor p.params.value p.timers p.cpus };
+}
+
+impl Passes {
+    /// The actor's number.
+    pub fn actor(&self) -> u32
+        ensures { result ≡ self.now.actor }
+    {
+        self.actor
+    }
+
+    /// Writes an entry of callout `i`, and gives its position.
+    pub(crate) fn write_timer(
+        &mut self,
+        lives: &Lives<TimerStory>,
+        keeper: &mut Keeper<TimerStory>,
+        i: u32,
+        entry: Entry,
+    ) -> u64
+        requires name { self.old.name.timers ≡ lives.now }
+        requires keeper { IsKeeperOf IsHistory lives.now self.old.params i keeper.old }
+        requires legal { IsHistory self.old.params i (made keeper.old.history ++ entry ∷ []) }
+        requires own { entry.actor ≡ self.old.actor }
+        ensures keeper { IsKeeperOf IsHistory lives.now self.old.params i keeper.new }
+        ensures history { made keeper.new.history ≡ made keeper.old.history ++ entry ∷ [] }
+        ensures written { WritesTimer self.old i entry result (made keeper.new.history) self.new }
+    {
+        let number = self
+            .timers
+            .write(lives.get(i), keeper, i, Line::Made(entry));
+        number.saturating_sub(u64::from(self.actors))
+    }
+
+    /// Writes an entry of a CPU's journal, and gives its position.
+    pub(crate) fn write_cpu(
+        &mut self,
+        lives: &Lives<CpuStory>,
+        keeper: &mut Keeper<CpuStory>,
+        cpu: u32,
+        entry: QEntry,
+    ) -> u64
+        requires name { self.old.name.cpus ≡ lives.now }
+        requires keeper { IsKeeperOf IsJournal lives.now self.old.params cpu keeper.old }
+        requires legal { IsJournal self.old.params cpu (made keeper.old.history ++ entry ∷ []) }
+        requires own { entry.actor ≡ self.old.actor }
+        ensures keeper { IsKeeperOf IsJournal lives.now self.old.params cpu keeper.new }
+        ensures history { made keeper.new.history ≡ made keeper.old.history ++ entry ∷ [] }
+        ensures written { WritesCpu self.old cpu entry result (made keeper.new.history) self.new }
+    {
+        let number = self
+            .cpus
+            .write(lives.get(cpu), keeper, cpu, Line::Made(entry));
+        number.saturating_sub(u64::from(self.actors))
+    }
+
+    /// Compares the pass of callout `i` with its history. Nothing changes.
+    pub(crate) fn meet_timer(
+        &mut self,
+        lives: &Lives<TimerStory>,
+        keeper: &mut Keeper<TimerStory>,
+        i: u32,
+    )
+        requires name { self.old.name.timers ≡ lives.now }
+        requires life { slice_get lives.now i ≡ Some keeper.old.life }
+        requires opened { (params : Params) × (opening_of keeper.old.history ≡ Some (params, i)) }
+        ensures keeper { keeper.new ≡ keeper.old }
+        ensures same { self.new ≡ self.old }
+        ensures shown { IsShown by self.old.actor (made keeper.old.history) (seen_of self.old i) }
+        ensures params { opening_of keeper.old.history ≡ Some (self.old.params, i) }
+    {
+        self.timers.meet(lives.get(i), keeper, i);
+    }
+
+    /// Compares the pass of a CPU with its journal. Nothing changes.
+    pub(crate) fn meet_cpu(
+        &mut self,
+        lives: &Lives<CpuStory>,
+        keeper: &mut Keeper<CpuStory>,
+        cpu: u32,
+    )
+        requires name { self.old.name.cpus ≡ lives.now }
+        requires life { slice_get lives.now cpu ≡ Some keeper.old.life }
+        requires opened { (params : Params) × (opening_of keeper.old.history ≡ Some (params, cpu)) }
+        ensures keeper { keeper.new ≡ keeper.old }
+        ensures same { self.new ≡ self.old }
+        ensures shown { IsShown queue_by self.old.actor (made keeper.old.history) (journal_seen self.old cpu) }
+        ensures params { opening_of keeper.old.history ≡ Some (self.old.params, cpu) }
+    {
+        self.cpus.meet(lives.get(cpu), keeper, cpu);
+    }
+}

@@ -1,0 +1,151 @@
+//! One actor's passes of many places, and the lives of these places.
+ghost use Rattle.std.specs.Prelude.{◌≡◌, ◌<◌, [], ◌∷◌, ◌++◌, length, Some, slice_get, slice_set, slice_index_or, OnOk};
+ghost use Rattle.std.specs.List.{All};
+ghost use Rattle.co_life.specs.Rule.{capped};
+ghost use Rattle.co_life.specs.Seen.{Extends};
+ghost use Rattle.co_life.specs.Views.{};
+ghost use Rattle.co_service.specs.Seats.{IsShown, fresh_seats, seen_at};
+
+use co_life::{Keeper, Life, Pass, Story};
+use co_sbt::NoMemory;
+use std::alloc::Global;
+use std::marker::Model;
+
+/// The lives of all places of a kind. Contracts see their identities.
+#[derive(Drop)]
+pub(crate) struct Lives<S: Story> {
+    pub(crate) lives: Vec<Life<S>>,
+}
+
+impl<S: Story> Model for Lives<S> {
+    ghost use Rattle.std.specs.Prelude.{List};
+    ghost use Rattle.std.specs.Coded.{coded_list};
+    ghost use Rattle.co_life.specs.Identity.{LifeId, life_coded};
+
+    ghost Value = { List LifeId };
+
+    ghost coded = { coded_list life_coded };
+
+    ghost view = { λ l. l.lives.items };
+}
+
+impl<S: Story> Lives<S> {
+    /// No place yet.
+    pub(crate) fn new(alloc: Global) -> Lives<S>
+        ensures { result ≡ [] }
+    {
+        Lives {
+            lives: Vec::new(alloc),
+        }
+    }
+
+    /// One place more.
+    pub(crate) fn push(&mut self, life: Life<S>) -> Result<(), NoMemory>
+        ensures { OnOk result (self.new ≡ self.old ++ life ∷ []) }
+    {
+        match self.lives.push(life) {
+            Ok(()) => Ok(()),
+            Err(_) => Err(NoMemory {}),
+        }
+    }
+
+    /// How many there are.
+    pub(crate) fn len(&self) -> usize
+        ensures { result ≡ length self.now }
+    {
+        self.lives.len()
+    }
+
+    /// The life of a place.
+    pub(crate) fn get(&self, i: u32) -> &Life<S>
+        requires { i < length self.now }
+        ensures { slice_get self.now i ≡ Some result.now }
+    {
+        &self.lives[i as usize]
+    }
+}
+
+/// One actor's passes of all places of a kind.
+#[derive(Drop)]
+pub(crate) struct Seats<S: Story> {
+    actor: u32,
+    passes: Vec<Option<Pass<S>>>,
+}
+
+impl<S: Story> Model for Seats<S> {
+    ghost use Rattle.std.specs.List.{All};
+    ghost use Rattle.co_service.specs.Seats.{SeatsView, seats_coded, seats_of, IsOwn};
+
+    ghost Value = { SeatsView S.Entry };
+
+    ghost coded = { seats_coded S.Entry.code };
+
+    ghost view = { λ s. seats_of s.actor s.passes.items };
+
+    ghost invariant = { λ s. All (IsOwn s.actor) s.passes.items };
+}
+
+impl<S: Story> Seats<S> {
+    /// An actor with no place yet.
+    pub(crate) fn new(alloc: Global, actor: u32) -> Seats<S>
+        ensures { result ≡ fresh_seats [] actor }
+    {
+        Seats {
+            actor,
+            passes: Vec::new(alloc),
+        }
+    }
+
+    /// Takes the actor's pass of one place more.
+    pub(crate) fn add(&mut self, pass: Pass<S>) -> Result<(), NoMemory>
+        requires { pass.actor ≡ self.old.actor }
+        ensures { OnOk result (self.new ≡ record self.old { name = self.old.name ++ pass.life ∷ []; seen = self.old.seen ++ pass.seen ∷ [] }) }
+    {
+        match self.passes.push(Some(pass)) {
+            Ok(()) => Ok(()),
+            Err(_) => Err(NoMemory {}),
+        }
+    }
+
+    /// Writes an entry of the actor at a place, with its pass of that place. The other passes stay.
+    pub(crate) fn write(
+        &mut self,
+        life: &Life<S>,
+        keeper: &mut Keeper<S>,
+        i: u32,
+        entry: S::Entry,
+    ) -> u64
+        requires at { slice_get self.old.name i ≡ Some life.now }
+        requires keeper { keeper.old.life ≡ life.now }
+        requires legal { S.legal (keeper.old.history ++ entry ∷ []) }
+        requires actor { S.actor entry ≡ self.old.actor }
+        ensures keeper { keeper.new ≡ record keeper.old { history = keeper.old.history ++ entry ∷ [] } }
+        ensures same { (self.new.name ≡ self.old.name) × (self.new.actor ≡ self.old.actor) }
+        ensures seen { self.new.seen ≡ slice_set self.old.seen i keeper.new.history }
+        ensures extends { Extends S.actor self.old.actor (seen_at self.old i) entry keeper.new.history }
+        ensures position { result ≡ capped (length keeper.old.history) }
+        ensures actors { All (λ e. S.actor e < keeper.new.actors) keeper.new.history }
+    {
+        let at = i as usize;
+        let pass = self.passes[at].take().unwrap();
+        let (pass, number) = life.write(keeper, pass, entry);
+        self.passes[at] = Some(pass);
+        number
+    }
+
+    /// Shows the history of a place to the actor's pass of it. Nothing changes.
+    pub(crate) fn meet(&mut self, life: &Life<S>, keeper: &mut Keeper<S>, i: u32)
+        requires at { slice_get self.old.name i ≡ Some life.now }
+        requires keeper { keeper.old.life ≡ life.now }
+        ensures keeper { keeper.new ≡ keeper.old }
+        ensures same { self.new ≡ self.old }
+        ensures shown { IsShown S.actor self.old.actor keeper.old.history (seen_at self.old i) }
+        ensures actors { All (λ e. S.actor e < keeper.old.actors) keeper.old.history }
+        ensures legal { S.legal keeper.old.history }
+    {
+        let at = i as usize;
+        let pass = self.passes[at].take().unwrap();
+        let pass = life.meet(keeper, pass);
+        self.passes[at] = Some(pass);
+    }
+}
