@@ -1,5 +1,5 @@
 -- What may be due at each stage: the definition read backwards, for proofs about it.
-use Rattle.std.proofs.Common.{◌≡◌, ℕ, ◌+◌, Bool, true, false, cond, List, [], ◌∷◌, refl, Option, Some, None}
+use Rattle.std.proofs.Common.{◌≡◌, ℕ, Bool, true, false, List, [], ◌∷◌, refl, Option, Some, None}
 use Rattle.std.specs.Prelude.{is_some}
 use Rattle.co_object.specs.declared.PlainOp.{PlainOp}
 use Rattle.co_object.specs.declared.Op.TheVariants.{Call, Run}
@@ -14,8 +14,7 @@ use Rattle.co_lock.specs.Covers.{covers}
 use Rattle.co_lock.specs.Service.{hold_of}
 use Rattle.co_program.specs.declared.Script.{Script}
 use Rattle.co_program.specs.declared.Act.{Act}
-use Rattle.co_program.specs.declared.Act.TheVariants.{Now, Lock, ReadLock, Unlock, Reset, Ticks, Schedule, Stop, Drain, AsyncDrain, Active, Pending, Deactivate, Init, Retire, Tick}
-use Rattle.co_program.specs.declared.Scene.{Scene}
+use Rattle.co_program.specs.declared.Act.TheVariants.{Now, Lock, ReadLock, Unlock, Drain, Tick}
 use Rattle.co_program.specs.Calls.{plain_op}
 use Rattle.co_program.specs.Actors.{cpu_of}
 use Rattle.co_program.specs.declared.Task.{Task}
@@ -25,7 +24,7 @@ use Rattle.co_program.specs.Stages.{Stage, Ready, Waiting, Popping, Picking, Loc
 use Rattle.co_program.specs.declared.Service.{Service}
 use Rattle.co_program.specs.Cursor.{Cursor}
 use Rattle.co_program.specs.declared.Parcel.{Parcel}
-use Rattle.co_program.specs.Action.{Action, Nothing, Silent, Take, Asks, spec_at, asks_covered, asks_within, over, takes, asks_drain, begins, drained_of, locks, firing, action_in, action_with, pop_of, free_of}
+use Rattle.co_program.specs.Action.{Action, Nothing, Silent, Take, Asks, spec_at, asks_covered, asks_within, over, takes, begins, drained_of, locks, firing, action_in, action_with, pop_of, free_of}
 use Rattle.co_program.specs.declared.Asked.TheVariants.{Callout, Queue, Itself}
 use Rattle.co_core.proofs.Lists.{at_choice}
 

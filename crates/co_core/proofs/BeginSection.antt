@@ -1,7 +1,6 @@
 -- The lock of a service is held: its function runs, or it was cancelled meanwhile. What the wheel, the books and the plain world have after it.
 use Rattle.std.proofs.Common.{◌≡◌, ℕ, ◌<◌, Bool, true, false, cond, List, [], ◌∷◌, length, set, refl, sym, ap, ◌∙◌, subst, Option, Some, None}
 use Rattle.std.specs.Prelude.{◌==◌, ◌&&◌, ◌||◌, is_some}
-use Rattle.co_object.specs.declared.Arming.{Arming}
 use Rattle.co_object.specs.declared.alone.Alone.{Alone}
 use Rattle.co_object.specs.declared.Spec.{Spec}
 use Rattle.co_object.specs.declared.State.{State}
@@ -16,7 +15,7 @@ use Rattle.co_object.specs.declared.AnyEntry.TheVariants as entry
 use Rattle.co_object.specs.declared.Place.TheVariants as place
 use Rattle.co_object.specs.Callout.{step as callout_step}
 use Rattle.co_object.specs.Entries.{is_armed}
-use Rattle.co_object.specs.Queue.{Queue as TimerQueue, Due}
+use Rattle.co_object.specs.Queue.{Queue as TimerQueue}
 use Rattle.co_object.specs.Serve.{begin, begin_run, go as go_run}
 use Rattle.co_object.specs.Stand.{is_free_at, off}
 use Rattle.co_lock.specs.declared.held.Held.{Held}
@@ -27,8 +26,8 @@ use Rattle.co_program.specs.declared.cursor.Parcel.{Parcel}
 use Rattle.co_program.specs.declared.cursor.Service.{Service}
 use Rattle.co_program.specs.declared.action.Asked.TheVariants.{Callout}
 use Rattle.co_program.specs.declared.script.Script.{Script}
-use Rattle.co_program.specs.Actors.{actor_count, role_of, cpu_of, acts_at}
-use Rattle.co_program.specs.Stages.{Stage, Beginning, Unlocking}
+use Rattle.co_program.specs.Actors.{role_of, cpu_of, acts_at}
+use Rattle.co_program.specs.Stages.{Beginning, Unlocking}
 use Rattle.co_program.specs.Cursor.{Cursor}
 use Rattle.co_program.specs.Action.{Asks, spec_at, firing}
 use Rattle.co_program.specs.Advance.{advance, advance_callout, begun}
@@ -56,7 +55,7 @@ use Rattle.co_core.proofs.RunsKept.{off_kept}
 use Rattle.co_core.proofs.Sound.{IsSteady}
 use Rattle.co_core.proofs.Slots.{firing_of}
 use Rattle.co_core.proofs.Steadily.{steady_of}
-use Rattle.co_core.proofs.Storing.{with_state, after_of, stored_after, wheel_alone}
+use Rattle.co_core.proofs.Storing.{after_of, stored_after, wheel_alone}
 use Rattle.co_core.proofs.Underway.{IsStage, IsBusyAt, begin_view, beginning_cpu, taken_busy, cpu_below, cpu_there, known, stand, still, there, others, elsewhere}
 use Rattle.co_core.proofs.Ways.{Goes, goes_callout, step_free, goes_no_further, stands_of}
 

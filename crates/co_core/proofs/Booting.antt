@@ -1,26 +1,22 @@
 -- What stands in the books and in the depot before the first step is the opening of the plain world.
-use Rattle.std.proofs.Common.{◌≡◌, ℕ, zero, suc, ◌+◌, ◌<◌, ◌≤◌, List, [], ◌∷◌, ◌++◌, length, replicate, get_or, map, refl, ap, sym, subst, ◌∙◌, arith}
-use Rattle.std.specs.Prelude.{Option, Some, None, Bool, true, false, cond, not, ◌&&◌, ◌==◌, slice_index_or}
+use Rattle.std.proofs.Common.{◌≡◌, ℕ, ◌<◌, List, [], ◌∷◌, length, replicate, map, refl, ap, sym, subst, ◌∙◌, arith}
+use Rattle.std.specs.Prelude.{Some, None, Bool, true, false, cond, not, ◌&&◌, ◌==◌}
 use Rattle.std.specs.List.{list_any}
 use Rattle.std.proofs.lemmas.Bool.{eqb-true, eq-eqb}
 use Rattle.std.proofs.lemmas.List.{length-replicate, length-map, get_or-map, get_or-replicate}
-use Rattle.co_object.specs.declared.alone.Alone.{Alone}
 use Rattle.co_object.specs.Queue.{empty_queue}
 use Rattle.co_queue.proofs.Standing.{stands_for-empty}
-use Rattle.co_wheel.specs.Turns.{Shows}
-use Rattle.co_object.specs.declared.note.Note.{Note}
 use Rattle.co_program.specs.declared.script.Script.{Script}
-use Rattle.co_program.specs.declared.cursor.Cursor.{Cursor as CursorAt}
 use Rattle.co_program.specs.Actors.{actor_count}
 use Rattle.co_core.specs.World.{open_world, all_actors}
-use Rattle.co_core.specs.Blocked.{is_moving, moves}
+use Rattle.co_core.specs.Blocked.{is_moving}
 use Rattle.co_core.specs.Booted.{first_wheel, first_callouts, new_callout}
-use Rattle.co_core.specs.Stored.{Stored, no_wheel, wheel_at, bag_at}
+use Rattle.co_core.specs.Stored.{Stored, no_wheel}
 use Rattle.co_core.specs.Step.{are_direct}
 use Rattle.co_core.specs.Table.{table}
 use Rattle.co_core.proofs.Tables.{table_long, table_at, fills, same}
-use Rattle.co_core.proofs.Filling.{spec_of, plain_spec}
-use Rattle.co_core.specs.Stands.{IsWritten, IsStored, IsPlaced, IsBound, StandsFor, IsAtWheel, at_home, is_home, alone_of, slot_of, callout_in}
+use Rattle.co_core.proofs.Filling.{plain_spec}
+use Rattle.co_core.specs.Stands.{IsWritten, IsStored, IsPlaced, IsBound, StandsFor, IsAtWheel, at_home, alone_of, slot_of, callout_in}
 use Rattle.co_object.specs.declared.state.Arming.{Arming}
 use Rattle.co_object.specs.Stand.{off}
 use Rattle.co_program.specs.declared.cursor.Parcel.{Parcel}

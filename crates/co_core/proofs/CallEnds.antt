@@ -1,5 +1,5 @@
 -- How a call ends: the callout stays, enters the queue where it stands, or leaves for another CPU.
-use Rattle.std.proofs.Common.{◌≡◌, ℕ, ◌<◌, ◌⊎◌, inl, inr, Bool, true, false, cond, not, refl, sym, ap, ◌∙◌, subst, Option, Some, None, eqb-true, eq-eqb}
+use Rattle.std.proofs.Common.{◌≡◌, ℕ, ◌⊎◌, inl, inr, Bool, true, false, cond, not, refl, sym, ap, ◌∙◌, Option, Some, None, eqb-true, eq-eqb}
 use Rattle.std.specs.Prelude.{◌==◌, ◌&&◌, is_some}
 use Rattle.co_object.specs.declared.Arming.{Arming}
 use Rattle.co_object.specs.declared.Run.{Run}
@@ -8,16 +8,14 @@ use Rattle.co_object.specs.declared.State.{State}
 use Rattle.co_object.specs.declared.Spec.{Spec}
 use Rattle.co_object.specs.declared.Op.TheVariants.{Call}
 use Rattle.co_object.specs.declared.CallOp.{CallOp}
-use Rattle.co_object.specs.declared.CallOp.TheVariants.{Plain, DrainTry}
 use Rattle.co_object.specs.declared.Reply.{Reply}
 use Rattle.co_object.specs.declared.Reply.TheVariants.{NotArmed, Armed, Stopped, Done, Drained, Wait, Hold, Go, Ended, NoHandler, Worn, Busy, Yes, No, Live, Retired, InUse, Skip}
 use Rattle.co_object.specs.Entries.{is_armed}
 use Rattle.co_object.specs.Group.{off_of}
 use Rattle.co_object.specs.Stand.{is_idle, is_free_at, off, stand_of, listed_cpu, Listed, Deferred}
 use Rattle.co_program.specs.declared.cursor.Parcel.{Parcel}
-use Rattle.co_program.specs.Stages.{Waiting}
 use Rattle.co_program.specs.Cursor.{Cursor}
-use Rattle.co_program.specs.Advance.{called, act_over, due_of_call}
+use Rattle.co_program.specs.Advance.{called, due_of_call}
 use Rattle.co_wheel.specs.Call.{is_away}
 use Rattle.co_core.proofs.CallsKept.{off_same, off_none}
 use Rattle.co_core.proofs.CarriedKept.{off_listed}

@@ -1,10 +1,9 @@
 -- The section of a call: what the wheel, the books and the plain world have after it.
-use Rattle.std.proofs.Common.{◌≡◌, ℕ, ◌<◌, ◌⊎◌, inl, inr, Bool, true, false, cond, not, List, [], ◌∷◌, ◌++◌, length, get_or, set, refl, sym, ap, ◌∙◌, subst, arith, Option, Some, None, eqb-true, eq-eqb}
-use Rattle.std.specs.Prelude.{◌==◌, ◌&&◌, ◌||◌, is_some, ⊤}
+use Rattle.std.proofs.Common.{◌≡◌, ℕ, ◌<◌, ◌⊎◌, inl, inr, Bool, true, false, cond, not, List, [], ◌∷◌, ◌++◌, length, set, refl, sym, ap, ◌∙◌, subst, arith, Option, Some, None, eqb-true, eq-eqb}
+use Rattle.std.specs.Prelude.{◌==◌, ◌&&◌, ◌||◌, is_some}
 use Rattle.co_object.specs.declared.Arming.{Arming}
 use Rattle.co_object.specs.declared.alone.Alone.{Alone}
 use Rattle.co_object.specs.declared.State.{State}
-use Rattle.co_object.specs.declared.Spec.{Spec}
 use Rattle.co_object.specs.declared.Op.TheVariants.{Call}
 use Rattle.co_object.specs.declared.CallOp.{CallOp}
 use Rattle.co_object.specs.declared.Reply.{Reply}
@@ -13,7 +12,6 @@ use Rattle.co_object.specs.declared.QOp.TheVariants.{Insert, Remove, Pop, Free, 
 use Rattle.co_object.specs.declared.QReply.{QReply}
 use Rattle.co_object.specs.declared.QReply.TheVariants.{At, Off}
 use Rattle.co_object.specs.declared.Entry.{Entry}
-use Rattle.co_object.specs.declared.QEntry.{QEntry}
 use Rattle.co_object.specs.declared.AnyEntry.TheVariants as entry
 use Rattle.co_object.specs.declared.Place.TheVariants as place
 use Rattle.co_object.specs.Callout.{call}
@@ -22,30 +20,28 @@ use Rattle.co_object.specs.Group.{off_of}
 use Rattle.co_object.specs.Journal as journal
 use Rattle.co_object.specs.Queue.{Queue as TimerQueue}
 use Rattle.co_object.specs.Stand.{is_idle, is_free_at, off}
-use Rattle.co_object.proofs.QueueChanges.{QChange}
 use Rattle.co_program.specs.declared.role.Role.{Role}
 use Rattle.co_program.specs.declared.role.Role.TheVariants as role
 use Rattle.co_program.specs.declared.cursor.Parcel.{Parcel}
-use Rattle.co_program.specs.declared.action.Asked.TheVariants.{Callout, Queue, Itself}
+use Rattle.co_program.specs.declared.action.Asked.TheVariants.{Callout, Queue}
 use Rattle.co_program.specs.declared.script.Script.{Script}
 use Rattle.co_program.specs.Actors.{actor_count, role_of, cpu_of}
 use Rattle.co_program.specs.Stages.{Stage}
 use Rattle.co_program.specs.Stages as stages
 use Rattle.co_program.specs.Cursor.{Cursor}
-use Rattle.co_program.specs.Action.{Action, Asks, action_for, action_with, spec_at}
-use Rattle.co_program.specs.Advance.{called, advance_callout, advance, act_over, due_of_call}
+use Rattle.co_program.specs.Action.{Asks, action_for, action_with, spec_at}
+use Rattle.co_program.specs.Advance.{called, advance_callout, advance, due_of_call}
 use Rattle.co_program.specs.Scripts.{IsScript}
 use Rattle.co_wheel.specs.Call.{is_away, call_at, call_it}
 use Rattle.co_wheel.specs.Callouts.{Callouts, callout, is_here, with_callout, is_listed_of, is_at}
 use Rattle.co_wheel.specs.Cpu.{Cpu as WheelOf}
 use Rattle.co_wheel.specs.Parcel.{Parcel as Travelling, parcel, parcel_to}
-use Rattle.co_wheel.specs.Turns.{Shows, Takes, Turn, Turns, removal, insertion, insertion_of}
+use Rattle.co_wheel.specs.Turns.{Shows, Takes, Turn, removal, insertion, insertion_of}
 use Rattle.co_core.specs.World.{World}
 use Rattle.co_core.specs.Blocked.{is_moving, moves}
-use Rattle.co_core.specs.Step.{are_direct, answered, removed_from, asked_whole, callout_answers, queue_answers, goes_on, is_in_section, is_within, lands_here, step}
-use Rattle.co_core.specs.Stored.{Stored, IsCalled, wheel_at, bag_at}
-use Rattle.co_core.specs.Table.{table}
-use Rattle.co_core.specs.Stands.{IsDue, IsAtWheel, IsBag, IsPacked, IsStored, IsPlaced, alone_of, at_home, is_home, slot_of, in_slot, callout_in}
+use Rattle.co_core.specs.Step.{are_direct, removed_from, asked_whole, callout_answers, queue_answers, goes_on, is_in_section, is_within, lands_here, step}
+use Rattle.co_core.specs.Stored.{Stored, IsCalled, wheel_at}
+use Rattle.co_core.specs.Stands.{IsDue, IsAtWheel, IsBag, IsPacked, IsStored, IsPlaced, alone_of, at_home, slot_of}
 use Rattle.std.proofs.lemmas.List.{set-get_or, get_or-set_same}
 use Rattle.co_core.proofs.Actions.{IsAction}
 use Rattle.co_core.proofs.CallEnds.{Ends, stays, lands, leaves, ends, took_out, runs_on_free, parcel_for}
@@ -53,7 +49,7 @@ use Rattle.co_core.proofs.Deeds.{Did, did_call}
 use Rattle.co_core.proofs.HoldsKept.{callout_view}
 use Rattle.co_core.proofs.Homes.{CpusFit, fit_call}
 use Rattle.co_core.proofs.Invariant.{states_of, queues_of, places_of}
-use Rattle.co_core.proofs.Moves.{IsAt, decide}
+use Rattle.co_core.proofs.Moves.{decide}
 use Rattle.co_core.proofs.Moving.{IsOnly, moves_it, moving_none, parcels_of}
 use Rattle.co_core.proofs.Naming.{NamesCpu}
 use Rattle.co_core.proofs.Passages.{changed, serving_stays, directing_stays}

@@ -1,5 +1,5 @@
 -- A call in code: from the books and the depot before it to those after it.
-use Rattle.std.proofs.Common.{◌≡◌, ℕ, ◌<◌, ◌⊎◌, Bool, true, false, cond, length, get_or, refl, sym, ap, ◌∙◌, subst, arith, Option, Some, None}
+use Rattle.std.proofs.Common.{◌≡◌, ℕ, ◌<◌, Bool, true, false, cond, length, refl, sym, ap, ◌∙◌, subst, arith, Option, Some, None}
 use Rattle.std.specs.Prelude.{is_some}
 use Rattle.co_object.specs.declared.State.{State}
 use Rattle.co_object.specs.declared.Op.TheVariants.{Call}
@@ -13,27 +13,24 @@ use Rattle.co_object.specs.Group.{off_of}
 use Rattle.co_object.specs.Queue.{Queue as TimerQueue}
 use Rattle.co_object.specs.Stand.{off}
 use Rattle.co_program.specs.declared.cursor.Parcel.{Parcel}
-use Rattle.co_program.specs.declared.action.Asked.TheVariants.{Callout, Queue, Itself}
+use Rattle.co_program.specs.declared.action.Asked.TheVariants.{Callout}
 use Rattle.co_program.specs.declared.script.Script.{Script}
-use Rattle.co_program.specs.Actors.{actor_count}
 use Rattle.co_program.specs.Cursor.{Cursor}
-use Rattle.co_program.specs.Action.{Action, Asks, action_for}
+use Rattle.co_program.specs.Action.{Asks, action_for}
 use Rattle.co_program.specs.Scripts.{IsScript}
 use Rattle.co_program.specs.Indexed.{cursor_of}
-use Rattle.co_wheel.specs.Call.{is_away, call_at, call_it}
-use Rattle.co_wheel.specs.Callouts.{callout, is_here}
+use Rattle.co_wheel.specs.Callouts.{is_here}
 use Rattle.co_wheel.specs.Cpu.{Cpu as WheelOf}
 use Rattle.co_wheel.specs.Parcel.{Parcel as Travelling}
-use Rattle.co_core.specs.declared.turn.Why.{Why}
 use Rattle.co_core.specs.declared.turn.Why.TheVariants.{Moving, Serviced}
 use Rattle.co_core.specs.World.{World}
-use Rattle.co_core.specs.Blocked.{is_moving, is_waiting, waits_for, blocked}
+use Rattle.co_core.specs.Blocked.{is_moving, is_waiting, waits_for}
 use Rattle.co_core.specs.Step.{callout_answers, queue_answers, removed_from, step}
 use Rattle.co_core.specs.Stored.{Stored, IsCalled, wheel_at, stand_at, with_bag, with_wheel}
 use Rattle.co_core.specs.Written.{Written, place_at}
-use Rattle.co_core.specs.Stands.{StandsFor, IsDue, IsWritten, IsStored, IsPlaced, callout_in}
-use Rattle.co_core.proofs.CallSection.{is_at_wheel, at_wheel, answer_reply, removed_world, IsDone, call_done, Tail, ends_there, one_more, some_is}
-use Rattle.co_core.proofs.Invariant.{states_of, queues_of, places_of}
+use Rattle.co_core.specs.Stands.{StandsFor, IsDue, IsWritten, callout_in}
+use Rattle.co_core.proofs.CallSection.{is_at_wheel, answer_reply, removed_world, IsDone, call_done, Tail, ends_there, one_more}
+use Rattle.co_core.proofs.Invariant.{states_of, places_of}
 use Rattle.co_core.proofs.Naming.{NamesCpu, cursor_names, names_of, Names}
 use Rattle.co_core.proofs.Placing.{reached_after}
 use Rattle.co_core.proofs.Tables.{read, long}

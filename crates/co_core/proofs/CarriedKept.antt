@@ -1,27 +1,20 @@
 -- Every step keeps each listed arming in one queue or in one hand.
-use Rattle.std.proofs.Common.{◌≡◌, ℕ, zero, suc, ◌+◌, ◌≤◌, ◌<◌, ◌⊎◌, Bool, true, false, cond, ◌||◌, List, [], ◌∷◌, inl, inr, refl, sym, ap, subst, ◌∙◌, arith, eqb-true, eq-eqb, Option, Some, None}
+use Rattle.std.proofs.Common.{◌≡◌, ℕ, zero, suc, ◌+◌, ◌≤◌, ◌<◌, ◌⊎◌, Bool, true, false, cond, List, [], ◌∷◌, inl, inr, refl, sym, ap, subst, ◌∙◌, arith, eqb-true, Option, Some, None}
 use Rattle.std.specs.Prelude.{◌==◌}
 use Rattle.co_object.specs.declared.State.{State}
 use Rattle.co_object.specs.declared.Arming.{Arming}
-use Rattle.co_object.specs.declared.Run.{Run}
-use Rattle.co_object.specs.declared.QOp.{QOp}
-use Rattle.co_object.specs.declared.QOp.TheVariants.{Insert, Remove, Scan, Pop, Free, PopDirect, FreeDirect}
-use Rattle.co_object.specs.declared.QReply.{QReply}
 use Rattle.co_object.specs.Stand.{off, is_free_at, stand_of, listed_cpu, Listed, Deferred}
 use Rattle.co_object.specs.Queue.{Waiting, Due, Queue as TimerQueue}
 use Rattle.co_object.proofs.Each.{Each}
 use Rattle.co_object.proofs.Passing.{passing, one_if}
-use Rattle.co_object.proofs.PassageOnce.{stands, balanced}
-use Rattle.co_object.proofs.QueueChanges.{QChange}
-use Rattle.co_object.specs.Laws.Passage as passage
+use Rattle.co_object.proofs.PassageOnce.{stands}
 use Rattle.co_program.specs.declared.Script.{Script}
 use Rattle.co_program.specs.Actors.{actor_count}
 use Rattle.co_program.specs.Cursor.{Cursor}
 use Rattle.co_program.specs.declared.Parcel.{Parcel}
-use Rattle.co_core.specs.Step.{are_direct}
-use Rattle.co_core.proofs.Invariant.{IsListed, EntriesFit, IsCarried, IsLane, carries}
+use Rattle.co_core.proofs.Invariant.{IsListed, EntriesFit, IsCarried, carries}
 use Rattle.co_core.proofs.Moves.{IsAt, decide, at_all}
-use Rattle.co_core.proofs.QueuesKept.{entries_all, entries_both, entries_stand, entries_change, entries_got}
+use Rattle.co_core.proofs.QueuesKept.{entries_all, entries_both, entries_stand}
 
 -- ---- where a listed arming is
 

@@ -1,7 +1,6 @@
 -- What an operation on a callout changes of its arming, its run and where it stands.
-use Rattle.std.proofs.Common.{◌≡◌, ◌∙◌, ℕ, ◌≤◌, Bool, true, false, cond, not, ◌&&◌, ◌||◌, ◌==◌, refl, ap, sym, subst, Option, Some, None, eqb-true, pos}
+use Rattle.std.proofs.Common.{◌≡◌, ℕ, Bool, true, false, cond, not, ◌&&◌, ◌||◌, ◌==◌, refl, sym, subst, Option, Some, None, eqb-true, pos}
 use Rattle.std.specs.Prelude.{⊤, is_some, unwrap_or, nat_le}
-use Rattle.std.proofs.lemmas.Bool.Decides.{nat_tests}
 use Rattle.co_object.specs.declared.Spec.{Spec}
 use Rattle.co_object.specs.declared.Arming.{Arming}
 use Rattle.co_object.specs.declared.Run.{Run}
@@ -15,14 +14,14 @@ use Rattle.co_object.specs.declared.RunOp.TheVariants.{Pick, Begin, End}
 use Rattle.co_object.specs.declared.Op.{Op}
 use Rattle.co_object.specs.declared.Op.TheVariants.{Call, Run as Serve}
 use Rattle.co_object.specs.declared.Reply.{Reply}
-use Rattle.co_object.specs.declared.Reply.TheVariants.{NotArmed, Armed, Stopped, Done, Drained, Wait, Hold, Go, Ended, NoHandler, Worn, Busy, Yes, No, Live, Retired, InUse, Skip}
+use Rattle.co_object.specs.declared.Reply.TheVariants.{NotArmed, Armed, Stopped, Done, Wait, Hold, Go, Ended, NoHandler, Worn, Busy, Yes, No, Live, Retired, InUse, Skip}
 use Rattle.co_object.specs.Stand.{is_idle, off, is_free_at}
 use Rattle.co_object.specs.Group.{off_of}
 use Rattle.co_object.specs.Arm.{is_picked, cancel, is_draining, arm, refuse, reset, reset_to_last, made_max, code_of}
-use Rattle.co_object.specs.Stop.{stop, stop_code}
-use Rattle.co_object.specs.Drain.{serviced, drain_at, drain_later, async_drain}
+use Rattle.co_object.specs.Stop.{stop}
+use Rattle.co_object.specs.Drain.{serviced, drain_at, drain_later}
 use Rattle.co_object.specs.Query.{answer}
-use Rattle.co_object.specs.Lifetime.{retire, init}
+use Rattle.co_object.specs.Lifetime.{init}
 use Rattle.co_object.specs.Serve.{has_lock, taken, is_due, pick_armed, begin_run, ended, end_run, go, next_of}
 use Rattle.co_object.specs.Callout.{live_call, retired_call, call, step}
 use Rattle.co_object.proofs.Changes.{either_way, both_true}

@@ -1,13 +1,11 @@
 -- A service is over: its callout stays or leaves for another CPU, and its server is free. What the wheel, the books and the plain world have after it.
 use Rattle.std.proofs.Common.{◌≡◌, ℕ, ◌<◌, ◌⊎◌, inl, inr, Bool, true, false, cond, List, [], ◌∷◌, length, set, refl, sym, ap, ◌∙◌, subst, arith, Option, Some, None, eqb-true, eq-eqb}
-use Rattle.std.specs.Prelude.{◌==◌, ◌&&◌, ◌||◌, is_some}
+use Rattle.std.specs.Prelude.{◌==◌, ◌&&◌, is_some}
 use Rattle.std.proofs.lemmas.List.{set-get_or}
 use Rattle.co_object.specs.declared.Arming.{Arming}
-use Rattle.co_object.specs.declared.alone.Alone.{Alone}
 use Rattle.co_object.specs.declared.State.{State}
 use Rattle.co_object.specs.declared.Next.{Next}
 use Rattle.co_object.specs.declared.Reply.{Reply}
-use Rattle.co_object.specs.declared.Reply.TheVariants.{Ended}
 use Rattle.co_object.specs.declared.Run.{Run}
 use Rattle.co_object.specs.declared.Run.TheVariants as run
 use Rattle.co_object.specs.declared.Op.TheVariants.{Run as Serve}
@@ -21,32 +19,31 @@ use Rattle.co_object.specs.declared.Place.TheVariants as place
 use Rattle.co_object.specs.Callout.{step as callout_step}
 use Rattle.co_object.specs.Entries.{is_armed}
 use Rattle.co_object.specs.Journal as journal
-use Rattle.co_object.specs.Queue.{Queue as TimerQueue, Due}
+use Rattle.co_object.specs.Queue.{Queue as TimerQueue}
 use Rattle.co_object.specs.Serve.{end, end_run, ended, next_of}
-use Rattle.co_object.specs.Stand.{is_free_at, off}
+use Rattle.co_object.specs.Stand.{off}
 use Rattle.co_object.proofs.QueueChanges.{QChange}
 use Rattle.co_program.specs.declared.role.Role.{Role}
 use Rattle.co_program.specs.declared.role.Role.TheVariants as role
-use Rattle.co_program.specs.declared.act.Act.{Act}
 use Rattle.co_program.specs.declared.cursor.Parcel.{Parcel}
 use Rattle.co_program.specs.declared.cursor.Service.{Service}
 use Rattle.co_program.specs.declared.action.Asked.TheVariants.{Callout, Queue}
 use Rattle.co_program.specs.declared.script.Script.{Script}
 use Rattle.co_program.specs.Actors.{actor_count, role_of, cpu_of}
-use Rattle.co_program.specs.Stages.{Stage, Ending, Freeing}
+use Rattle.co_program.specs.Stages.{Ending, Freeing}
 use Rattle.co_program.specs.Cursor.{Cursor}
-use Rattle.co_program.specs.Action.{Asks, action_for, action_in, action_with, spec_at, pop_of, free_of, draining}
+use Rattle.co_program.specs.Action.{Asks, action_for, action_with, spec_at, pop_of, free_of, draining}
 use Rattle.co_program.specs.Advance.{advance, advance_callout, advance_queue, ended as ended_place, freed, parcel_of, drain_acts}
 use Rattle.co_program.specs.Scripts.{IsScript}
 use Rattle.co_wheel.specs.Callouts.{Callouts, callout, with_callout, with_service, in_service}
 use Rattle.co_wheel.specs.Cpu.{Cpu as WheelOf}
 use Rattle.co_wheel.specs.Parcel.{Parcel as Travelling, parcel, parcel_to}
-use Rattle.co_wheel.specs.Service.{end_here, end_served, end_it, end_outcome, moved_on}
+use Rattle.co_wheel.specs.Service.{end_here, end_served, end_it, end_outcome}
 use Rattle.co_wheel.specs.Turns.{Shows, Takes, pop_of as lane_pop, free_of as lane_free}
 use Rattle.co_core.specs.World.{World}
 use Rattle.co_core.specs.Blocked.{moves}
 use Rattle.co_core.specs.Step.{are_direct, answered, goes_on, callout_answers, queue_answers, is_in_section, step}
-use Rattle.co_core.specs.Stored.{Stored, IsEnded, wheel_at, bag_at, with_wheel, with_bag}
+use Rattle.co_core.specs.Stored.{Stored, IsEnded, wheel_at, with_wheel, with_bag}
 use Rattle.co_core.specs.Written.{Written}
 use Rattle.co_core.specs.Stands.{StandsFor, IsDue, IsAtWheel, IsBag, IsPacked, IsStored, IsPlaced, IsSettled, IsWritten, alone_of, slot_of, in_slot, callout_in, entry_of}
 use Rattle.co_core.proofs.CallSection.{some_is, answered_so, goes_as}
@@ -67,7 +64,7 @@ use Rattle.co_core.proofs.Sound.{IsSteady}
 use Rattle.co_core.proofs.Steadily.{steady_of}
 use Rattle.co_core.proofs.Storing.{with_state, after_of, stored_after}
 use Rattle.co_core.proofs.Tables.{read}
-use Rattle.co_core.proofs.Underway.{IsStage, IsBusyAt, end_view, over_busy, cpu_below, cpu_there, known, stand, still, there, others, elsewhere}
+use Rattle.co_core.proofs.Underway.{IsStage, IsBusyAt, end_view, over_busy, cpu_below, cpu_there, known, stand, there, others, elsewhere}
 use Rattle.co_core.proofs.Ways.{Goes, goes_on_from, goes_callout, goes_queue, moves_none, step_free, goes_further, stands_of}
 
 -- ---- the lanes

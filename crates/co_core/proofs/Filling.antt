@@ -1,19 +1,16 @@
 -- Wheels before the first step: callouts come to a wheel one after the other, and all begin at CPU 0.
-use Rattle.std.proofs.Common.{◌≡◌, ℕ, zero, suc, ◌+◌, ◌-◌, ◌<◌, ◌≤◌, Bool, true, false, cond, not, ◌&&◌, List, [], ◌∷◌, ◌++◌, length, replicate, get_or, set, map, refl, ap, sym, subst, ◌∙◌, arith, inl, inr}
-use Rattle.std.specs.Prelude.{Option, Some, None, nat_lt, nat_le, ◌⊎◌, ◌==◌, slice_index_or, if◌then◌else◌}
-use Rattle.std.specs.List.{list_any, range_with_len}
+use Rattle.std.proofs.Common.{◌≡◌, ℕ, ◌+◌, ◌<◌, ◌≤◌, Bool, true, false, cond, List, length, replicate, get_or, set, map, refl, ap, sym, ◌∙◌, arith, inl, inr}
+use Rattle.std.specs.Prelude.{Option, None, nat_lt, nat_le, ◌⊎◌, if◌then◌else◌}
 use Rattle.std.proofs.lemmas.Bool.{ltb-true, lt-ltb}
 use Rattle.std.proofs.lemmas.Bool.Decides.{leb_tells}
-use Rattle.std.proofs.lemmas.List.{length-replicate, length-map, get_or-map}
+use Rattle.std.proofs.lemmas.List.{length-map, get_or-map}
 use Rattle.co_object.specs.declared.alone.Alone.{Alone}
 use Rattle.co_object.specs.declared.spec.Spec.{Spec}
 use Rattle.co_object.specs.declared.spec.LockUse.TheVariants.{Free}
 use Rattle.co_object.specs.Scan.{is_direct}
-use Rattle.co_program.specs.declared.script.Script.{Script}
 use Rattle.co_core.specs.Booted.{new_callout}
 use Rattle.co_core.specs.Table.{table}
 use Rattle.co_core.proofs.Copies.{table-same}
-use Rattle.co_core.proofs.Moves.{IsAt}
 use Rattle.co_core.proofs.Tables.{fills, put, read, long, same}
 
 abbrev pub plain_spec : Spec

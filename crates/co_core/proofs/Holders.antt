@@ -1,8 +1,8 @@
 -- The table of who holds each lock: it follows an actor from one place to the next, and says whether a hold is excluded.
-use Rattle.std.proofs.Common.{◌≡◌, ℕ, zero, suc, ◌+◌, ◌-◌, ◌≤◌, ◌<◌, ◌^◌, ◌⊎◌, inl, inr, Bool, true, false, cond, not, ◌&&◌, ◌||◌, List, [], ◌∷◌, length, get_or, set, replicate, refl, sym, ap, ◌∙◌, subst, arith, lt-ltb, length-set, Option, Some, None}
-use Rattle.std.specs.Prelude.{◌==◌, nat_lt, if◌then◌else◌}
+use Rattle.std.proofs.Common.{◌≡◌, ℕ, zero, suc, ◌+◌, ◌-◌, ◌≤◌, ◌<◌, Bool, true, false, cond, not, ◌&&◌, ◌||◌, List, [], ◌∷◌, length, get_or, set, replicate, refl, sym, ap, ◌∙◌, subst, arith, lt-ltb, length-set, Option, Some, None}
+use Rattle.std.specs.Prelude.{◌==◌, nat_lt}
 use Rattle.std.specs.List.{list_any, sum_by}
-use Rattle.std.proofs.lemmas.Bool.{eqb-true, eq-eqb, ltb-true, ltb-false}
+use Rattle.std.proofs.lemmas.Bool.{eqb-true, ltb-true, ltb-false}
 use Rattle.std.proofs.lemmas.List.{length-replicate, get_or-replicate, get_or-set_same}
 use Rattle.std.proofs.lemmas.List.Sums.{sum_by-set, sum_by-cons}
 use Rattle.co_lock.specs.declared.held.Held.{Held}
@@ -13,8 +13,8 @@ use Rattle.co_core.specs.Holders.{shares, owns, holders_at, AreHolders, no_holde
 use Rattle.co_core.specs.Table.{table}
 use Rattle.co_core.specs.Written.{first_place}
 use Rattle.co_core.specs.declared.books.holders.Holders.{Holders}
-use Rattle.co_core.proofs.Lists.{updated_here, updated_elsewhere}
-use Rattle.co_core.proofs.Moves.{IsAt, decide, at_updated_is}
+use Rattle.co_core.proofs.Lists.{updated_elsewhere}
+use Rattle.co_core.proofs.Moves.{at_updated_is}
 use Rattle.co_core.proofs.Tables.{fills, long, put, read, same}
 
 same_holders : (x y : Holders) → x.shared ≡ y.shared → x.exclusive ≡ y.exclusive → x ≡ y

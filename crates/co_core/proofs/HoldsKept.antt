@@ -1,48 +1,34 @@
 -- Steps without a note, notes of an actor's own and calls keep what holds of the world.
-use Rattle.std.proofs.Common.{◌≡◌, ℕ, ◌+◌, ◌≤◌, ◌<◌, ◌⊎◌, Bool, true, false, cond, List, [], ◌∷◌, ◌++◌, length, inl, inr, refl, sym, ap, subst, ◌∙◌, arith, Option, Some, None}
-use Rattle.std.specs.Prelude.{⊤, is_some}
+use Rattle.std.proofs.Common.{◌≡◌, ℕ, ◌+◌, ◌≤◌, ◌<◌, ◌⊎◌, false, length, inl, inr, refl, sym, ap, subst, ◌∙◌, arith, Option, Some, None}
 use Rattle.co_object.specs.declared.State.{State}
-use Rattle.co_object.specs.declared.Arming.{Arming}
 use Rattle.co_object.specs.declared.Run.{Run}
-use Rattle.co_object.specs.declared.Reply.{Reply}
-use Rattle.co_object.specs.declared.Reply.TheVariants.{Armed, Wait}
 use Rattle.co_object.specs.declared.Op.{Op}
-use Rattle.co_object.specs.declared.Op.TheVariants.{Call, Run as Serve}
-use Rattle.co_object.specs.declared.CallOp.{CallOp}
-use Rattle.co_object.specs.declared.CallOp.TheVariants.{Plain, DrainTry}
 use Rattle.co_object.specs.declared.OwnKind.{OwnKind}
-use Rattle.co_object.specs.declared.Entry.{Entry}
-use Rattle.co_object.specs.Stand.{off, is_free_at, stand_of, listed_cpu, Listed, Deferred}
-use Rattle.co_object.specs.Group.{off_of}
-use Rattle.co_object.specs.Callout.{step as callout_step}
 use Rattle.co_object.specs.Queue.{Queue as TimerQueue}
 use Rattle.co_object.proofs.PassageOnce.{stands}
 use Rattle.co_lock.specs.declared.held.Held.{Held}
 use Rattle.co_program.specs.declared.Script.{Script}
 use Rattle.co_program.specs.Actors.{role_of, cpu_of, acts_at, actor_count}
 use Rattle.co_program.specs.declared.Role.{Role}
-use Rattle.co_program.specs.declared.Role.TheVariants.{Client, Cpu, Interrupt}
+use Rattle.co_program.specs.declared.Role.TheVariants.{Interrupt}
 use Rattle.co_program.specs.Stages.{Stage, Ready, Waiting, Popping, Picking, Locking, Beginning, Unlocking, Firing, Releasing, Ending, Freeing, Drained}
-use Rattle.co_program.specs.declared.Service.{Service}
 use Rattle.co_program.specs.Cursor.{Cursor}
 use Rattle.co_program.specs.declared.Parcel.{Parcel}
-use Rattle.co_program.specs.Action.{Action, Nothing, Silent, Take, Asks, action_for, action_with, spec_at}
-use Rattle.co_program.specs.declared.Asked.{Asked}
-use Rattle.co_program.specs.declared.Asked.TheVariants.{Callout, Queue, Itself}
-use Rattle.co_program.specs.Advance.{act_over, called, advance_callout, due_of_call}
+use Rattle.co_program.specs.Action.{Action, Silent, Take, Asks, action_for}
+use Rattle.co_program.specs.declared.Asked.TheVariants.{Callout, Itself}
+use Rattle.co_program.specs.Advance.{act_over}
 use Rattle.co_program.specs.Scripts.{IsScript}
 use Rattle.co_core.specs.World.{World, with_cursor}
-use Rattle.co_core.specs.Step.{notes_down, enters, note_of, note_of_own, callout_answers, own_note}
-use Rattle.co_core.proofs.Invariant.{Holds, IsListed, IsCarried, IsServing, IsLane, FitsRole, states_of, queues_of, places_of, scans_of, carries, in_hand, in_stage, serving_of, has_popped, under_way, service_of}
-use Rattle.co_core.proofs.Moves.{IsAt, at_all, place_at, note_at, state_at, decide, at_updated_is}
-use Rattle.co_core.proofs.Actions.{IsAction, IsActionWith, inserts, goes_by, due_parcel}
-use Rattle.co_core.proofs.Deeds.{Did, GoesOn, keeps, clears, arms, is_plain, did}
-use Rattle.co_core.proofs.Deeds as deed
+use Rattle.co_core.specs.Step.{note_of_own, own_note}
+use Rattle.co_core.proofs.Invariant.{Holds, IsCarried, IsServing, IsLane, states_of, queues_of, places_of, scans_of, carries, in_hand, in_stage, serving_of, has_popped, under_way}
+use Rattle.co_core.proofs.Moves.{IsAt, at_all, place_at, note_at, decide}
+use Rattle.co_core.proofs.Actions.{IsAction, IsActionWith, goes_by, due_parcel}
+use Rattle.co_core.proofs.Deeds.{GoesOn}
 use Rattle.co_core.proofs.Made.{due_removed}
-use Rattle.co_core.proofs.RolesKept.{place, Fits, fits_silent, fits_take, fits_over, fits_callout, plain_called}
+use Rattle.co_core.proofs.RolesKept.{Fits, fits_silent, fits_take, fits_over}
 use Rattle.co_core.proofs.ServingKept.{serving_same, runs_on}
-use Rattle.co_core.proofs.CarriedKept.{Nobody, carried_state, carried_queue, unlisted}
-use Rattle.co_core.proofs.Turns.{SameTurn, turn_silent, turn_take, turn_over, turn_wait, IsActing, acts_own, acts_call, is_acting_of}
+use Rattle.co_core.proofs.CarriedKept.{carried_queue}
+use Rattle.co_core.proofs.Turns.{SameTurn, turn_silent, turn_take, turn_over, IsActing, acts_own, is_acting_of}
 
 -- ---- what is due, by an actor's place
 

@@ -1,6 +1,6 @@
 -- The CPUs that a callout names exist, before a call and after it.
-use Rattle.std.proofs.Common.{◌≡◌, ℕ, ◌≤◌, ◌<◌, Bool, true, false, not, ◌&&◌, ◌||◌, ◌==◌, refl, sym, ap, ◌∙◌, arith, Option, Some, None, pos}
-use Rattle.std.specs.Prelude.{⊤, is_some, unwrap_or}
+use Rattle.std.proofs.Common.{◌≡◌, ℕ, ◌≤◌, ◌<◌, Bool, false, not, ◌&&◌, ◌||◌, ◌==◌, refl, sym, ◌∙◌, arith, Option, Some, None}
+use Rattle.std.specs.Prelude.{is_some, unwrap_or}
 use Rattle.co_object.specs.declared.Arming.{Arming}
 use Rattle.co_object.specs.declared.State.{State}
 use Rattle.co_object.specs.declared.PlainOp.{PlainOp}
@@ -8,12 +8,11 @@ use Rattle.co_object.specs.declared.PlainOp.TheVariants.{Reset, Schedule, Stop, 
 use Rattle.co_object.specs.declared.CallOp.{CallOp}
 use Rattle.co_object.specs.declared.CallOp.TheVariants.{Plain, DrainTry}
 use Rattle.co_object.specs.declared.Reply.{Reply}
-use Rattle.co_object.specs.declared.Reply.TheVariants.{NoHandler, Worn, Stopped, Busy, Done, InUse, Live, Retired}
-use Rattle.co_object.specs.Stand.{is_idle, off}
+use Rattle.co_object.specs.declared.Reply.TheVariants.{Worn, Done, InUse}
+use Rattle.co_object.specs.Stand.{is_idle}
 use Rattle.co_object.specs.Arm.{is_draining, arm, refuse, reset, reset_to_last, made_max}
 use Rattle.co_object.specs.Stop.{stop}
-use Rattle.co_object.specs.Drain.{serviced, drain_at, drain_later, async_drain}
-use Rattle.co_object.specs.Query.{answer}
+use Rattle.co_object.specs.Drain.{serviced, drain_at, drain_later}
 use Rattle.co_object.specs.Callout.{live_call, retired_call, call}
 use Rattle.co_object.proofs.Changes.{either_way}
 use Rattle.co_core.proofs.Naming.{IsBelow, NamesCpu}

@@ -1,6 +1,6 @@
 -- The slots of a CPU and of its interrupt have what they service: a callout is in service exactly where the CPU at which its
 -- record stands, or the interrupt of it, has it in its slot.
-use Rattle.std.proofs.Common.{◌≡◌, ℕ, ◌+◌, ◌<◌, ◌⊎◌, inl, inr, Bool, true, false, cond, ◌&&◌, ◌||◌, refl, ap, sym, subst, ◌∙◌, arith}
+use Rattle.std.proofs.Common.{◌≡◌, ℕ, ◌+◌, ◌<◌, ◌⊎◌, inl, inr, Bool, true, false, ◌&&◌, ◌||◌, refl, ap, sym, subst, ◌∙◌}
 use Rattle.std.specs.Prelude.{Option, Some, None, is_some, length, ◌==◌}
 use Rattle.std.proofs.lemmas.Bool.{eqb-true, eq-eqb}
 use Rattle.co_object.proofs.Changes.{both_true}
@@ -18,15 +18,13 @@ use Rattle.co_program.specs.declared.Role.{Role}
 use Rattle.co_program.specs.declared.Role.TheVariants.{Client, Cpu, Interrupt}
 use Rattle.co_program.specs.Actors.{actor_count, client_count, role_of, cpu_of}
 use Rattle.co_program.specs.Action.{spec_at}
-use Rattle.co_wheel.specs.Callouts.{Callouts}
 use Rattle.co_core.specs.World.{World}
 use Rattle.co_core.specs.Blocked.{is_service_of}
 use Rattle.co_core.specs.Laws.{actors_of}
-use Rattle.co_core.specs.Stands.{IsStored, IsPlaced, in_slot, slot_of, entry_of}
+use Rattle.co_core.specs.Stands.{IsStored, IsPlaced, in_slot, slot_of}
 use Rattle.co_core.specs.Stored.{Stored, wheel_at, stand_at, is_entry, services}
-use Rattle.co_core.specs.Table.{table}
-use Rattle.co_core.proofs.Invariant.{Holds, RunFits, IsTaken, IsRunning, IsOver, IsBetween, cpu_of_run, service_of, serving_of, has_popped, states_of, places_of, queues_of}
-use Rattle.co_core.proofs.Roles.{NumberFits, number_fits, role_cpu_of, role_interrupt}
+use Rattle.co_core.proofs.Invariant.{RunFits, IsTaken, IsRunning, IsOver, IsBetween, cpu_of_run, service_of, serving_of, has_popped, states_of, places_of, queues_of}
+use Rattle.co_core.proofs.Roles.{role_cpu_of, role_interrupt}
 use Rattle.co_core.proofs.ServingKept.{service_actor}
 use Rattle.co_core.proofs.Sound.{IsSteady}
 use Rattle.co_core.proofs.Tables.{read}

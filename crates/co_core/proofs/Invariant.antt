@@ -1,5 +1,5 @@
 -- What every step keeps of the plain world of a sound script, between two steps.
-use Rattle.std.proofs.Common.{◌≡◌, ℕ, suc, ◌+◌, ◌≤◌, ◌<◌, ◌⊎◌, Bool, true, false, List, [], ◌∷◌, ◌++◌, length, map, Option, Some, None}
+use Rattle.std.proofs.Common.{◌≡◌, ℕ, ◌+◌, ◌≤◌, ◌<◌, ◌⊎◌, Bool, true, false, List, [], ◌∷◌, length, Option, Some, None}
 use Rattle.std.specs.Prelude.{⊤, if◌then◌else◌, is_some}
 use Rattle.std.specs.List.{AllByRecursion}
 use Rattle.co_program.specs.Scripts.{is_call}
@@ -15,7 +15,6 @@ use Rattle.co_object.specs.Scan.{is_direct}
 use Rattle.co_lock.specs.declared.Held.{Held}
 use Rattle.co_lock.specs.Service.{hold_of}
 use Rattle.co_program.specs.declared.Script.{Script}
-use Rattle.co_program.specs.declared.Act.{Act}
 use Rattle.co_program.specs.declared.Act.TheVariants.{Drain, Tick}
 use Rattle.co_program.specs.Actors.{softs, role_of, cpu_of, acts_at, actor_count}
 use Rattle.co_program.specs.declared.Task.{Task}

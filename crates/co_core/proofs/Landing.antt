@@ -1,8 +1,6 @@
 -- The landing of a callout that was on its way: what the wheel, the books and the plain world have after it.
-use Rattle.std.proofs.Common.{◌≡◌, ℕ, ◌<◌, ◌⊎◌, inl, inr, Bool, true, false, cond, not, List, [], ◌∷◌, length, get_or, set, refl, sym, ap, ◌∙◌, subst, arith, Option, Some, None}
+use Rattle.std.proofs.Common.{◌≡◌, ℕ, ◌<◌, Bool, true, false, cond, not, List, [], ◌∷◌, length, refl, sym, ap, ◌∙◌, subst, arith, Option, Some, None}
 use Rattle.std.specs.Prelude.{◌==◌, ◌&&◌, ◌||◌, is_some}
-use Rattle.co_object.specs.declared.Arming.{Arming}
-use Rattle.co_object.specs.declared.alone.Alone.{Alone}
 use Rattle.co_object.specs.declared.Run.{Run}
 use Rattle.co_object.specs.declared.Run.TheVariants as run
 use Rattle.co_object.specs.declared.State.{State}
@@ -13,28 +11,28 @@ use Rattle.co_object.specs.declared.QReply.TheVariants.{At}
 use Rattle.co_object.specs.Journal as journal
 use Rattle.co_object.specs.Queue.{Queue as TimerQueue}
 use Rattle.co_object.specs.Scan.{is_direct}
-use Rattle.co_object.specs.Stand.{is_idle, is_free_at, off}
+use Rattle.co_object.specs.Stand.{is_idle, is_free_at}
 use Rattle.co_program.specs.declared.role.Role.{Role}
 use Rattle.co_program.specs.declared.role.Role.TheVariants as role
 use Rattle.co_program.specs.declared.cursor.Parcel.{Parcel}
-use Rattle.co_program.specs.declared.action.Asked.TheVariants.{Callout, Queue, Itself}
+use Rattle.co_program.specs.declared.action.Asked.TheVariants.{Queue}
 use Rattle.co_program.specs.declared.script.Script.{Script}
 use Rattle.co_program.specs.Actors.{actor_count, role_of, cpu_of}
 use Rattle.co_program.specs.Stages.{Stage}
 use Rattle.co_program.specs.Stages as stages
 use Rattle.co_program.specs.Cursor.{Cursor}
-use Rattle.co_program.specs.Action.{Action, Asks, action_for, spec_at, pop_of, free_of}
+use Rattle.co_program.specs.Action.{Asks, pop_of, free_of}
 use Rattle.co_program.specs.Scripts.{IsScript}
-use Rattle.co_wheel.specs.Callouts.{Callouts, callout, is_here, with_callout}
+use Rattle.co_wheel.specs.Callouts.{Callouts, callout, with_callout}
 use Rattle.co_wheel.specs.Cpu.{Cpu as WheelOf}
 use Rattle.co_wheel.specs.Parcel.{Parcel as Travelling}
 use Rattle.co_wheel.specs.Turns.{Shows, Takes}
 use Rattle.co_core.specs.World.{World}
 use Rattle.co_core.specs.Blocked.{is_moving, moves}
-use Rattle.co_core.specs.Step.{are_direct, goes_on, queue_answers, is_in_section, is_within, lands_here, step}
+use Rattle.co_core.specs.Step.{are_direct, goes_on, queue_answers, is_in_section, is_within, step}
 use Rattle.co_core.specs.Stored.{Stored, IsLanded, MayLand, wheel_at, bag_at, with_bag, with_wheel, with_stand}
 use Rattle.co_core.specs.Written.{Written}
-use Rattle.co_core.specs.Stands.{StandsFor, IsDue, IsAtWheel, IsBag, IsPacked, IsStored, IsPlaced, IsWritten, alone_of, at_home, slot_of, in_slot, callout_in}
+use Rattle.co_core.specs.Stands.{StandsFor, IsDue, IsAtWheel, IsBag, IsPacked, IsStored, IsPlaced, IsWritten, alone_of, at_home, slot_of}
 use Rattle.co_core.proofs.Actions.{IsAction, IsActionWith, inserts, goes_by, scans, starts, pops, frees}
 use Rattle.co_core.proofs.CallSection.{some_is, answered_so, quiet_slots, all_slots}
 use Rattle.co_core.proofs.CarriedKept.{off_listed}
@@ -44,7 +42,7 @@ use Rattle.co_core.proofs.Moving.{IsOnly, moves_it, moving_at, parcels_of}
 use Rattle.co_core.proofs.Placing.{IsRight, placed_after, reached_after}
 use Rattle.co_core.proofs.Roles.{is_direct_at}
 use Rattle.co_core.proofs.Steadily.{steady_of, moved_once}
-use Rattle.co_core.proofs.Storing.{with_state, after_of, stored_after}
+use Rattle.co_core.proofs.Storing.{with_state, stored_after}
 use Rattle.co_core.proofs.Tables.{read, long}
 use Rattle.co_core.proofs.Ways.{Goes, goes_insert, step_free, goes_no_further, stands_of}
 

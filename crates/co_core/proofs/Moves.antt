@@ -1,23 +1,19 @@
 -- One step changes one callout, one queue and one actor's place: what that leaves of the others.
-use Rattle.std.proofs.Common.{◌≡◌, ℕ, Bool, true, false, ◌⊎◌, List, [], ◌∷◌, ◌++◌, inl, inr, refl, sym, ap, subst, eqb-true, eq-eqb, Option, Some, None}
-use Rattle.std.specs.Prelude.{◌==◌, is_some}
+use Rattle.std.proofs.Common.{◌≡◌, ℕ, Bool, true, false, ◌⊎◌, [], ◌∷◌, ◌++◌, inl, inr, refl, sym, ap, subst, eqb-true, eq-eqb}
+use Rattle.std.specs.Prelude.{◌==◌}
 use Rattle.co_object.specs.declared.State.{State}
-use Rattle.co_object.specs.declared.Reply.{Reply}
-use Rattle.co_object.specs.declared.Op.{Op}
 use Rattle.co_object.specs.declared.QOp.{QOp}
 use Rattle.co_object.specs.declared.QOp.TheVariants.{Insert, Remove, Scan, Pop, Free, PopDirect, FreeDirect}
-use Rattle.co_object.specs.declared.QReply.{QReply}
 use Rattle.co_object.specs.declared.Entry.{Entry}
 use Rattle.co_object.specs.declared.QEntry.{QEntry}
 use Rattle.co_object.specs.declared.Note.{Note}
-use Rattle.co_object.specs.Stand.{off}
 use Rattle.co_object.specs.Queue.{Queue as TimerQueue}
 use Rattle.co_program.specs.declared.Script.{Script}
 use Rattle.co_program.specs.Cursor.{Cursor}
 use Rattle.co_program.specs.Advance.{advance}
-use Rattle.co_core.specs.World.{World, Actor, Timer, Cpu, updated, with_actor, with_cursor}
-use Rattle.co_core.specs.Step.{notes_down, enters, enters_journal, landed, note_of, note_of_cpu, note_of_own}
-use Rattle.co_core.proofs.Lists.{at_choice, updated_here, updated_elsewhere, at_updated}
+use Rattle.co_core.specs.World.{World, Actor, Timer, Cpu, updated, with_cursor}
+use Rattle.co_core.specs.Step.{notes_down, enters, enters_journal, landed}
+use Rattle.co_core.proofs.Lists.{updated_here, updated_elsewhere, at_updated}
 use Rattle.co_core.proofs.Invariant.{states_of, queues_of, places_of}
 
 -- g is f but for one value

@@ -1,10 +1,10 @@
 -- What an actor's call names exists: its callout and its CPU.
-use Rattle.std.proofs.Common.{◌≡◌, ℕ, zero, suc, ◌+◌, ◌%◌, ◌≤◌, ◌<◌, ◌⊎◌, Bool, true, false, cond, List, [], ◌∷◌, length, map, drop, refl, sym, ap, ◌∙◌, subst, arith, ltb-true, Option, Some, None, inl, inr, eqb-true}
-use Rattle.std.specs.Prelude.{⊤, ◌&&◌, ◌==◌, nat_lt, is_some}
+use Rattle.std.proofs.Common.{◌≡◌, ℕ, zero, suc, ◌≤◌, ◌<◌, Bool, true, false, List, [], ◌∷◌, length, map, drop, refl, subst, arith, ltb-true, Option, Some, None}
+use Rattle.std.specs.Prelude.{⊤, ◌==◌, is_some}
 use Rattle.std.specs.List.{AllByRecursion}
 use Rattle.co_object.specs.declared.PlainOp.{PlainOp}
 use Rattle.co_object.specs.declared.PlainOp.TheVariants as op
-use Rattle.co_object.specs.declared.Op.TheVariants.{Call, Run as Serve}
+use Rattle.co_object.specs.declared.Op.TheVariants.{Call}
 use Rattle.co_object.specs.declared.CallOp.{CallOp}
 use Rattle.co_object.specs.declared.CallOp.TheVariants.{Plain, DrainTry}
 use Rattle.co_object.specs.declared.OwnKind.TheVariants.{NotHeld, HoldsLock, Holding, NotHolding}
@@ -28,7 +28,7 @@ use Rattle.co_program.specs.declared.cursor.Parcel.{Parcel}
 use Rattle.co_program.specs.declared.cursor.Cursor.{Cursor as CursorAt}
 use Rattle.co_program.specs.declared.cursor.Stage.{Stage as StageAt}
 use Rattle.co_program.specs.declared.cursor.Stage.TheVariants as stage_at
-use Rattle.co_program.specs.declared.action.Asked.TheVariants.{Callout, Queue, Itself}
+use Rattle.co_program.specs.declared.action.Asked.TheVariants.{Callout, Itself}
 use Rattle.co_program.specs.declared.script.Script.{Script}
 use Rattle.co_program.specs.Actors.{actor_count, role_of, cpu_of, program_of, acts_at, softs}
 use Rattle.co_sbt.specs.Time.{sat_add, from_ticks}
@@ -37,7 +37,7 @@ use Rattle.co_program.specs.Stages.{Stage, Ready, Waiting, Popping, Picking, Loc
 use Rattle.co_program.specs.Cursor.{Cursor}
 use Rattle.co_program.specs.Action.{Action, Nothing, Silent, Take, Asks, action_for, action_with, action_in, spec_at, asks_covered, asks_within, asks_drain, takes, begins, drained_of, over, locks}
 use Rattle.co_program.specs.Scripts.{IsScript, names_exist, who_exists, cpu_exists, is_tick}
-use Rattle.co_program.specs.Indexed.{cursor_of, cursor_as, stage_of, acts_left}
+use Rattle.co_program.specs.Indexed.{cursor_of, stage_of}
 use Rattle.co_core.specs.Stands.{callout_in}
 use Rattle.co_core.proofs.Lists.{at_choice}
 use Rattle.co_core.proofs.Roles.{NumberFits, number_fits, interrupt_version}

@@ -1,12 +1,12 @@
 -- A note is made: the actor's notes and its place, in the books.
-use Rattle.std.proofs.Common.{◌≡◌, ℕ, ◌+◌, ◌<◌, Bool, List, [], ◌∷◌, ◌++◌, length, get_or, set, refl, sym, ap, ◌∙◌}
+use Rattle.std.proofs.Common.{◌≡◌, ℕ, ◌+◌, ◌<◌, Bool, List, [], ◌∷◌, ◌++◌, length, get_or, set, sym, ap, ◌∙◌}
 use Rattle.std.proofs.lemmas.List.{get_or-set_same}
 use Rattle.co_object.specs.declared.note.Note.{Note}
 use Rattle.co_program.specs.declared.cursor.Cursor.{Cursor as CursorAt}
 use Rattle.co_program.specs.declared.script.Script.{Script}
 use Rattle.co_program.specs.Advance.{advance}
 use Rattle.co_program.specs.Indexed.{Counts, cursor_of}
-use Rattle.co_core.specs.Written.{Written, IsNoted, place_at, list_at, with_list}
+use Rattle.co_core.specs.Written.{Written, IsNoted, place_at, with_list}
 use Rattle.co_core.proofs.Listing.{set_twice}
 
 abbrev pub went : Written → ℕ → CursorAt → Written

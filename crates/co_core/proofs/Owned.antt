@@ -1,12 +1,8 @@
 -- Each entry is its actor's, and no Remove is answered Missing.
-use Rattle.std.proofs.Common.{◌≡◌, ℕ, ◌<◌, Bool, true, false, List, [], ◌∷◌, ◌++◌, refl, sym, ap, subst, ◌∙◌, Option, Some, None}
-use Rattle.std.specs.Prelude.{is_some}
+use Rattle.std.proofs.Common.{◌≡◌, ℕ, Bool, false, List, [], ◌∷◌, ◌++◌}
 use Rattle.std.specs.List.{AllByRecursion}
 use Rattle.co_object.specs.declared.State.{State}
-use Rattle.co_object.specs.declared.Reply.{Reply}
-use Rattle.co_object.specs.declared.Op.{Op}
 use Rattle.co_object.specs.declared.QOp.{QOp}
-use Rattle.co_object.specs.declared.QReply.{QReply}
 use Rattle.co_object.specs.declared.QReply.TheVariants.{Missing}
 use Rattle.co_object.specs.declared.Entry.{Entry}
 use Rattle.co_object.specs.declared.QEntry.{QEntry}

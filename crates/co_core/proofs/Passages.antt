@@ -1,11 +1,11 @@
 -- How often a callout stands in a queue after each operation, and whom the queue serves.
-use Rattle.std.proofs.Common.{◌≡◌, ℕ, ◌+◌, ◌≤◌, Bool, true, false, cond, ◌||◌, List, [], ◌∷◌, refl, sym, ap, subst, ◌∙◌, arith, Option, Some, None, ◌⊎◌, inl, inr, eq-eqb, eqb-true}
+use Rattle.std.proofs.Common.{◌≡◌, ℕ, ◌+◌, ◌≤◌, Bool, true, false, cond, ◌||◌, List, refl, sym, ap, subst, ◌∙◌, arith, Some, ◌⊎◌, inl, inr}
 use Rattle.std.specs.Prelude.{is_some, ◌==◌}
 use Rattle.co_object.specs.declared.QOp.{QOp}
 use Rattle.co_object.specs.declared.QOp.TheVariants.{Insert, Remove, Scan, Pop, Free, PopDirect, FreeDirect}
 use Rattle.co_object.specs.declared.QReply.{QReply}
 use Rattle.co_object.specs.declared.QReply.TheVariants.{Got, Off, Missing, Empty}
-use Rattle.co_object.specs.Queue.{Queue, Due, holds, without}
+use Rattle.co_object.specs.Queue.{Queue, holds, without}
 use Rattle.co_object.specs.Journal.{remove, step, queue_of, reply_of}
 use Rattle.co_object.proofs.QueueChanges.{QChange, inserts, removes, misses, scans, pops, finds_none, frees, pops_direct, finds_no_direct, frees_direct, change}
 use Rattle.co_object.proofs.PassageOnce.{stands, balanced, stands-none}

@@ -1,8 +1,8 @@
 -- The first callout that has come due goes into service, or none has: what the wheel, the books and the plain world have after it.
-use Rattle.std.proofs.Common.{◌≡◌, ℕ, ◌<◌, ◌≤◌, ◌⊎◌, inl, inr, Bool, true, false, cond, not, List, [], ◌∷◌, length, get_or, set, refl, sym, ap, ◌∙◌, subst, arith, Option, Some, None, eqb-true, eq-eqb}
-use Rattle.std.specs.Prelude.{◌==◌, ◌&&◌, ◌||◌, is_some}
+use Rattle.std.proofs.Common.{◌≡◌, ℕ, ◌<◌, ◌≤◌, ◌⊎◌, inl, inr, Bool, true, false, cond, not, List, [], ◌∷◌, length, set, refl, sym, ap, ◌∙◌, subst, arith, Option, Some, None, eqb-true, eq-eqb}
+use Rattle.std.specs.Prelude.{◌==◌, ◌&&◌, is_some}
 use Rattle.std.proofs.lemmas.Bool.{cases_lt}
-use Rattle.std.proofs.lemmas.List.{get_or_past, set-get_or}
+use Rattle.std.proofs.lemmas.List.{get_or_past}
 use Rattle.co_object.specs.declared.Arming.{Arming}
 use Rattle.co_object.specs.declared.alone.Alone.{Alone}
 use Rattle.co_object.specs.declared.Spec.{Spec}
@@ -13,7 +13,6 @@ use Rattle.co_object.specs.declared.Run.TheVariants as run
 use Rattle.co_object.specs.declared.Op.TheVariants.{Run as Serve}
 use Rattle.co_object.specs.declared.RunOp.TheVariants.{Pick}
 use Rattle.co_object.specs.declared.QOp.{QOp}
-use Rattle.co_object.specs.declared.QOp.TheVariants.{Pop, Free, PopDirect, FreeDirect}
 use Rattle.co_object.specs.declared.QReply.{QReply}
 use Rattle.co_object.specs.declared.QReply.TheVariants.{Got, Empty}
 use Rattle.co_object.specs.declared.Entry.{Entry}
@@ -30,24 +29,23 @@ use Rattle.co_program.specs.declared.role.Role.{Role}
 use Rattle.co_program.specs.declared.role.Role.TheVariants as role
 use Rattle.co_program.specs.declared.cursor.Parcel.{Parcel}
 use Rattle.co_program.specs.declared.cursor.Service.{Service}
-use Rattle.co_program.specs.declared.action.Asked.TheVariants.{Callout, Queue, Itself}
+use Rattle.co_program.specs.declared.action.Asked.TheVariants.{Callout, Queue}
 use Rattle.co_program.specs.declared.script.Script.{Script}
 use Rattle.co_program.specs.Actors.{actor_count, role_of, cpu_of, acts_at}
-use Rattle.co_program.specs.Stages.{Stage, Ready, Picking}
+use Rattle.co_program.specs.Stages.{Ready, Picking}
 use Rattle.co_program.specs.Cursor.{Cursor}
-use Rattle.co_program.specs.Action.{Action, Asks, action_for, action_with, spec_at, pop_of, firing}
-use Rattle.co_program.specs.Advance.{advance, advance_queue, advance_callout, popped, picked, tail_of}
+use Rattle.co_program.specs.Action.{Asks, action_for, action_with, spec_at, pop_of}
+use Rattle.co_program.specs.Advance.{advance, advance_queue, popped, picked, tail_of}
 use Rattle.co_program.specs.Scripts.{IsScript}
 use Rattle.co_wheel.specs.declared.outs.NextOut.TheVariants.{Empty as Nothing, Took}
 use Rattle.co_wheel.specs.Callouts.{Callouts, callout, with_callout, with_service, in_service}
 use Rattle.co_wheel.specs.Cpu.{Cpu as WheelOf}
-use Rattle.co_wheel.specs.Parcel.{Parcel as Travelling}
 use Rattle.co_wheel.specs.Service.{pick_at, pick_it, pick_outcome, moved_on}
 use Rattle.co_wheel.specs.Turns.{Shows, Takes, pop_of as lane_pop}
 use Rattle.co_core.specs.World.{World}
 use Rattle.co_core.specs.Blocked.{is_moving, moves}
-use Rattle.co_core.specs.Step.{are_direct, answered, goes_on, queue_answers, callout_answers, is_in_section, is_within, lands_here, step}
-use Rattle.co_core.specs.Stored.{Stored, IsNext, wheel_at, bag_at, with_wheel}
+use Rattle.co_core.specs.Step.{are_direct, answered, goes_on, queue_answers, callout_answers, is_in_section, step}
+use Rattle.co_core.specs.Stored.{Stored, IsNext, wheel_at, with_wheel}
 use Rattle.co_core.specs.Written.{Written}
 use Rattle.co_core.specs.Stands.{StandsFor, IsDue, IsAtWheel, IsBag, IsStored, IsPlaced, IsWritten, alone_of, at_home, slot_of, in_slot, callout_in, entry_of}
 use Rattle.co_core.proofs.CallSection.{some_is, answered_so, goes_as}
@@ -56,7 +54,7 @@ use Rattle.co_core.proofs.Deeds.{Did, did}
 use Rattle.co_core.proofs.Deeds as deed
 use Rattle.co_core.proofs.HoldsKept.{view_of}
 use Rattle.co_core.proofs.Invariant.{states_of, queues_of, places_of}
-use Rattle.co_core.proofs.Moves.{IsAt, decide}
+use Rattle.co_core.proofs.Moves.{decide}
 use Rattle.co_core.proofs.Moving.{IsOnly, moving_none, parcels_of}
 use Rattle.co_core.proofs.Naming.{role_cpu}
 use Rattle.co_core.proofs.Passages.{changed}
@@ -67,7 +65,7 @@ use Rattle.co_core.proofs.RolesKept.{IsServer}
 use Rattle.co_core.proofs.Servers.{IsPopping, IsPop, pop_view, pop_slot, pop_none, other_slot}
 use Rattle.co_core.proofs.Slots.{firing_of}
 use Rattle.co_core.proofs.Steadily.{steady_of}
-use Rattle.co_core.proofs.Storing.{with_state, after_of, stored_after, wheel_alone}
+use Rattle.co_core.proofs.Storing.{after_of, stored_after, wheel_alone}
 use Rattle.co_core.proofs.Tables.{read, long}
 use Rattle.co_core.proofs.Ways.{Goes, goes_on_from, goes_callout, goes_queue, moves_none, step_free, goes_further, stands_of}
 

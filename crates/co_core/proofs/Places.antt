@@ -1,8 +1,8 @@
 -- Every schedule leaves notes that stand in places of the script: the places in the programs, the callouts' states and the
 -- queues name what exists, at the opening and after each answer, and so does each note.
-use Rattle.std.proofs.Common.{◌≡◌, ℕ, zero, suc, ◌+◌, ◌≤◌, ◌<◌, Bool, true, false, List, [], ◌∷◌, ◌++◌, length, map, refl, sym, ap, subst, ◌∙◌, arith, lt-ltb, Option, Some, None}
-use Rattle.std.specs.Prelude.{⊤, is_some}
-use Rattle.std.specs.List.{AllByRecursion, range_with_len}
+use Rattle.std.proofs.Common.{◌≡◌, ℕ, zero, suc, ◌+◌, ◌<◌, Bool, true, false, List, [], ◌∷◌, ◌++◌, length, map, refl, sym, subst, arith, lt-ltb, Option, Some, None}
+use Rattle.std.specs.Prelude.{is_some}
+use Rattle.std.specs.List.{range_with_len}
 use Rattle.co_object.specs.declared.State.{State}
 use Rattle.co_object.specs.declared.Reply.{Reply}
 use Rattle.co_object.specs.declared.CallOp.{CallOp}
@@ -15,15 +15,12 @@ use Rattle.co_object.specs.declared.QReply.TheVariants.{Got}
 use Rattle.co_object.specs.declared.Entry.{Entry}
 use Rattle.co_object.specs.declared.QEntry.{QEntry}
 use Rattle.co_object.specs.declared.Note.{Note}
-use Rattle.co_object.specs.declared.Place.TheVariants as place
-use Rattle.co_object.specs.declared.AnyEntry.TheVariants as entry
 use Rattle.co_object.specs.Stand.{off}
 use Rattle.co_object.specs.Group.{off_of}
 use Rattle.co_object.specs.Queue.{Queue as TimerQueue}
 use Rattle.co_object.specs.Callout.{call, step as callout_step}
 use Rattle.co_object.specs.Journal as journal
 use Rattle.co_object.proofs.QueueChanges.{QChange}
-use Rattle.co_lock.specs.declared.Held.{Held}
 use Rattle.co_program.specs.declared.Script.{Script}
 use Rattle.co_program.specs.declared.Asked.{Asked}
 use Rattle.co_program.specs.declared.Asked.TheVariants.{Callout, Queue, Itself}
@@ -36,7 +33,7 @@ use Rattle.co_program.specs.Places.{place_exists, HavePlaces, AllHavePlaces}
 use Rattle.co_program.specs.Scripts.{IsScript}
 use Rattle.co_program.proofs.Existing.{start_in, action_exists, advance_exists}
 use Rattle.co_core.specs.World.{World, Actor, open_world, with_cursor, lists_of}
-use Rattle.co_core.specs.Step.{notes_down, enters, note_of, callout_answers, enters_journal, note_of_cpu, queue_answers, note_of_own, own_note, are_direct, answered}
+use Rattle.co_core.specs.Step.{notes_down, enters, note_of, callout_answers, enters_journal, note_of_cpu, queue_answers, note_of_own, are_direct, answered}
 use Rattle.co_core.specs.Laws.{reached, IsSchedule}
 use Rattle.co_core.proofs.Invariant.{EntriesFit, states_of, queues_of, places_of}
 use Rattle.co_core.proofs.Moves.{IsAt, at_all, at_read, at_updated_is, place_at, note_at, state_at, queue_at, states_landed}

@@ -5,8 +5,7 @@ use Rattle.std.specs.List.{AllByRecursion}
 use Rattle.co_object.specs.declared.State.{State}
 use Rattle.co_object.specs.declared.Arming.{Arming}
 use Rattle.co_object.specs.Stand.{is_idle, is_free_at, off}
-use Rattle.co_object.specs.Queue.{Queue as TimerQueue, Due}
-use Rattle.co_program.specs.declared.role.Role.{Role}
+use Rattle.co_object.specs.Queue.{Queue as TimerQueue}
 use Rattle.co_program.specs.declared.cursor.Parcel.{Parcel}
 use Rattle.co_program.specs.declared.script.Script.{Script}
 use Rattle.co_program.specs.Actors.{actor_count, role_of, cpu_of}
@@ -21,7 +20,6 @@ use Rattle.co_core.specs.World.{World, open_world}
 use Rattle.co_core.specs.Blocked.{is_moving, moves}
 use Rattle.co_core.specs.Step.{step}
 use Rattle.co_core.specs.Walk.{run}
-use Rattle.co_core.specs.Laws.{reached}
 use Rattle.co_core.specs.Stored.{Stored, bag_at, wheel_at, no_wheel}
 use Rattle.co_core.specs.Stands.{IsAtWheel, IsBag, IsPacked, IsStored, IsPlaced, IsBound, IsSettled, IsReached, alone_of, at_home, is_home, slot_of, in_slot, callout_in}
 use Rattle.co_core.proofs.Moves.{IsAt, decide, at_all}

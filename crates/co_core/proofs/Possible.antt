@@ -1,5 +1,5 @@
 -- What is due between two steps is possible: with Sections, each operation that an unblocked step asks for.
-use Rattle.std.proofs.Common.{◌≡◌, ℕ, max, Bool, true, false, cond, refl, sym, ap, arith, Option, Some, None, eq-eqb}
+use Rattle.std.proofs.Common.{◌≡◌, ℕ, max, Bool, true, false, cond, refl, ap, arith, Option, Some, None, eq-eqb}
 use Rattle.std.specs.Prelude.{is_some, ◌==◌, ◌&&◌}
 use Rattle.std.specs.Prelude.{List}
 use Rattle.co_object.specs.declared.QReply.{QReply}

@@ -1,21 +1,21 @@
 -- A section on a queue alone: a scan, and a pop that finds nothing due.
-use Rattle.std.proofs.Common.{◌≡◌, ℕ, ◌+◌, ◌<◌, ◌⊎◌, inl, inr, Bool, true, false, List, [], ◌∷◌, length, refl, sym, ap, ◌∙◌, subst, arith, Option, Some, None}
-use Rattle.std.specs.Prelude.{◌||◌, is_some}
+use Rattle.std.proofs.Common.{◌≡◌, ℕ, ◌+◌, ◌<◌, Bool, true, false, List, [], ◌∷◌, length, refl, sym, ap, ◌∙◌, subst, arith, Option, Some, None}
+use Rattle.std.specs.Prelude.{◌||◌}
 use Rattle.co_object.specs.declared.QOp.{QOp}
-use Rattle.co_object.specs.declared.QOp.TheVariants.{Insert, Scan, Pop, Free, PopDirect, FreeDirect}
+use Rattle.co_object.specs.declared.QOp.TheVariants.{Scan}
 use Rattle.co_object.specs.declared.QReply.{QReply}
-use Rattle.co_object.specs.declared.QReply.TheVariants.{Count, Empty, Got}
+use Rattle.co_object.specs.declared.QReply.TheVariants.{Count}
 use Rattle.co_object.specs.Journal as journal
-use Rattle.co_object.specs.Queue.{Queue as TimerQueue, Due}
+use Rattle.co_object.specs.Queue.{Queue as TimerQueue}
 use Rattle.co_program.specs.declared.role.Role.{Role}
 use Rattle.co_program.specs.declared.role.Role.TheVariants as role
 use Rattle.co_program.specs.declared.cursor.Parcel.{Parcel}
-use Rattle.co_program.specs.declared.action.Asked.TheVariants.{Callout, Queue, Itself}
+use Rattle.co_program.specs.declared.action.Asked.TheVariants.{Queue}
 use Rattle.co_program.specs.declared.script.Script.{Script}
-use Rattle.co_program.specs.Actors.{actor_count, role_of, cpu_of}
+use Rattle.co_program.specs.Actors.{role_of, cpu_of}
 use Rattle.co_program.specs.Stages.{Stage, Ready, Popping}
 use Rattle.co_program.specs.Cursor.{Cursor}
-use Rattle.co_program.specs.Action.{Action, Asks, action_for, pop_of, free_of}
+use Rattle.co_program.specs.Action.{Asks, pop_of, free_of}
 use Rattle.co_program.specs.Advance.{advance_queue}
 use Rattle.co_program.specs.Scripts.{IsScript}
 use Rattle.co_wheel.specs.Cpu.{Cpu as WheelOf}

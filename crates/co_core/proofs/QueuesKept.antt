@@ -1,10 +1,10 @@
 -- What an operation keeps of a queue's lanes and entries.
-use Rattle.std.proofs.Common.{◌≡◌, ℕ, suc, ◌+◌, ◌≤◌, Bool, true, false, cond, not, ◌||◌, List, [], ◌∷◌, ◌++◌, map, max, refl, sym, ap, subst, arith, eq-eqb, Option, Some, None}
+use Rattle.std.proofs.Common.{◌≡◌, ℕ, ◌≤◌, Bool, true, false, cond, not, List, [], ◌∷◌, map, max, refl, ap, subst, arith, eq-eqb}
 use Rattle.std.specs.Prelude.{⊤, ◌==◌, nat_le, nat_lt}
 use Rattle.std.specs.List.{filter}
 use Rattle.std.proofs.lemmas.Bool.Decides.{nat_tests}
 use Rattle.co_object.specs.declared.QOp.{QOp}
-use Rattle.co_object.specs.declared.QOp.TheVariants.{Insert, Remove, Scan, Pop, Free, PopDirect, FreeDirect}
+use Rattle.co_object.specs.declared.QOp.TheVariants.{Insert, Pop, PopDirect}
 use Rattle.co_object.specs.declared.QReply.{QReply}
 use Rattle.co_object.specs.declared.QReply.TheVariants.{Got}
 use Rattle.co_object.specs.Queue.{Waiting, Due, Queue}

@@ -1,27 +1,24 @@
 -- Steps that ask no callout and no queue: without a note, and with one of the actor's own.
-use Rattle.std.proofs.Common.{◌≡◌, ℕ, ◌<◌, Bool, true, false, refl, sym, ap, ◌∙◌, subst, Option, Some, None}
+use Rattle.std.proofs.Common.{◌≡◌, ℕ, ◌<◌, Bool, false, refl, sym, ap, ◌∙◌, subst, Option, None}
 use Rattle.std.specs.Prelude.{◌||◌}
 use Rattle.co_object.specs.declared.OwnKind.{OwnKind}
-use Rattle.co_object.specs.declared.AnyEntry.TheVariants as entry
-use Rattle.co_object.specs.declared.Place.TheVariants as place
 use Rattle.co_lock.specs.declared.held.Held.{Held}
 use Rattle.co_program.specs.declared.role.Role.{Role}
 use Rattle.co_program.specs.declared.cursor.Cursor.{Cursor as CursorAt}
 use Rattle.co_program.specs.declared.cursor.Parcel.{Parcel}
-use Rattle.co_program.specs.declared.action.Asked.TheVariants.{Callout, Queue, Itself}
+use Rattle.co_program.specs.declared.action.Asked.TheVariants.{Itself}
 use Rattle.co_program.specs.declared.script.Script.{Script}
 use Rattle.co_program.specs.Actors.{actor_count, role_of}
-use Rattle.co_program.specs.Stages.{Stage}
 use Rattle.co_program.specs.Cursor.{Cursor}
-use Rattle.co_program.specs.Action.{Action, Silent, Take, Asks, action_for}
+use Rattle.co_program.specs.Action.{Silent, Take, Asks}
 use Rattle.co_program.specs.Advance.{act_over}
 use Rattle.co_program.specs.Indexed.{Counts, cursor_of}
 use Rattle.co_core.specs.World.{World, with_cursor}
-use Rattle.co_core.specs.Step.{own_note, note_of_own, step, goes_on, is_in_section, is_within, lands_here}
+use Rattle.co_core.specs.Step.{own_note, note_of_own, step, is_in_section, is_within, lands_here}
 use Rattle.co_core.specs.Stored.{Stored}
 use Rattle.co_core.specs.Written.{Written, place_at, with_place}
 use Rattle.co_core.specs.Stands.{StandsFor, IsDue, IsStored, IsPlaced, IsWritten}
-use Rattle.co_core.proofs.Actions.{IsAction, IsActionWith, inserts, goes_by}
+use Rattle.co_core.proofs.Actions.{IsAction, IsActionWith, goes_by}
 use Rattle.co_core.proofs.HoldsKept.{view_of}
 use Rattle.co_core.proofs.Invariant.{places_of}
 use Rattle.co_core.proofs.Moves.{IsAt, at_all, place_at as place_at_is, note_at}

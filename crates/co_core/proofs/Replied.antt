@@ -26,7 +26,7 @@ use Rattle.co_object.specs.Group.{off_of}
 use Rattle.co_object.specs.Callout.{live_call, retired_call, call, serve, step}
 use Rattle.co_object.proofs.Changes.{either_way}
 use Rattle.co_program.specs.declared.Script.{Script}
-use Rattle.co_program.specs.Existing.{IsCpu, CpuExists, NextExists, OpExists, ReplyExists}
+use Rattle.co_program.specs.Existing.{CpuExists, NextExists, OpExists, ReplyExists}
 use Rattle.co_core.proofs.Naming.{IsBelow, NamesCpu}
 use Rattle.co_core.proofs.Homes.{CpusFit, fit_call}
 

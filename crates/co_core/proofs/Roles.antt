@@ -1,8 +1,7 @@
 -- Which actor has which role.
-use Rattle.std.proofs.Common.{◌≡◌, ℕ, zero, suc, ◌+◌, ◌-◌, ◌*◌, ◌≤◌, ◌<◌, Bool, true, false, cond, List, [], ◌∷◌, length, map, refl, sym, ap, subst, ◌∙◌, arith, le-ltb, lt-ltb, ltb-true, ltb-false, eqb-true, eq-eqb, inl, inr, ◌⊎◌}
+use Rattle.std.proofs.Common.{◌≡◌, ℕ, zero, suc, ◌+◌, ◌-◌, ◌*◌, ◌≤◌, ◌<◌, Bool, true, false, cond, List, [], ◌∷◌, map, refl, sym, ap, subst, ◌∙◌, arith, le-ltb, lt-ltb, ltb-true, ltb-false, eqb-true, eq-eqb}
 use Rattle.std.specs.Prelude.{◌==◌, nat_lt, get_or, slice_index_or}
 use Rattle.co_object.specs.declared.Spec.{Spec}
-use Rattle.co_object.specs.Actors.{Actors}
 use Rattle.co_object.specs.History.{server}
 use Rattle.co_object.specs.Scan.{is_direct}
 use Rattle.co_program.specs.declared.Script.{Script}

@@ -1,16 +1,15 @@
 -- Every step leaves an actor at a place that fits its role.
 use Rattle.std.proofs.Common.{◌≡◌, ℕ, suc, ◌+◌, Bool, true, false, cond, List, [], ◌∷◌, length, refl, sym, ap, subst, ◌∙◌, arith, Option, Some, None}
-use Rattle.std.specs.Prelude.{⊤, is_some}
+use Rattle.std.specs.Prelude.{⊤}
 use Rattle.std.specs.List.{AllByRecursion}
 use Rattle.co_object.specs.declared.Spec.{Spec}
 use Rattle.co_object.specs.declared.LockUse.{LockUse}
 use Rattle.co_object.specs.declared.LockUse.TheVariants.{Free, Mtx, Rw, RwShared}
 use Rattle.co_object.specs.declared.State.{State}
-use Rattle.co_object.specs.declared.Next.{Next}
 use Rattle.co_object.specs.declared.Reply.{Reply}
 use Rattle.co_object.specs.declared.Reply.TheVariants.{NotArmed, Armed, Stopped, Done, Drained as IsDrained, Wait, Hold, Go, Ended, NoHandler, Worn, Busy, Yes, No, Live, Retired, InUse, Skip}
 use Rattle.co_object.specs.declared.Op.{Op}
-use Rattle.co_object.specs.declared.Op.TheVariants.{Call, Run}
+use Rattle.co_object.specs.declared.Op.TheVariants.{Call}
 use Rattle.co_object.specs.declared.CallOp.{CallOp}
 use Rattle.co_object.specs.declared.CallOp.TheVariants.{Plain, DrainTry}
 use Rattle.co_object.specs.declared.QOp.{QOp}
@@ -23,7 +22,7 @@ use Rattle.co_lock.specs.declared.held.Held.{Held}
 use Rattle.co_lock.specs.Service.{hold_of}
 use Rattle.co_program.specs.declared.Script.{Script}
 use Rattle.co_program.specs.declared.Act.{Act}
-use Rattle.co_program.specs.declared.Act.TheVariants.{Now, Lock, ReadLock, Unlock, Reset, Ticks, Schedule, Stop, Drain, AsyncDrain, Active, Pending, Deactivate, Init, Retire, Tick}
+use Rattle.co_program.specs.declared.Act.TheVariants.{Drain, Tick}
 use Rattle.co_program.specs.Actors.{softs, cpu_of, acts_at}
 use Rattle.co_program.specs.declared.Task.{Task}
 use Rattle.co_program.specs.declared.Task.TheVariants.{Does, Soft}
@@ -33,15 +32,13 @@ use Rattle.co_program.specs.Stages.{Stage, Ready, Waiting, Popping, Picking, Loc
 use Rattle.co_program.specs.declared.Service.{Service}
 use Rattle.co_program.specs.Cursor.{Cursor}
 use Rattle.co_program.specs.declared.Parcel.{Parcel}
-use Rattle.co_program.specs.Action.{Action, Nothing, Silent, Take, Asks, spec_at, firing, draining, pop_of, free_of}
-use Rattle.co_program.specs.declared.Asked.{Asked}
-use Rattle.co_program.specs.declared.Asked.TheVariants.{Callout, Queue, Itself}
-use Rattle.co_program.specs.Advance.{tail_of, act_over, called, advance_callout, drain_acts, picked, begun, ended, got, popped, freed, advance_queue}
+use Rattle.co_program.specs.Action.{Silent, Take, Asks, spec_at, firing, draining, pop_of, free_of}
+use Rattle.co_program.specs.declared.Asked.TheVariants.{Callout, Queue}
+use Rattle.co_program.specs.Advance.{tail_of, act_over, called, advance_callout, drain_acts, got, popped, freed, advance_queue}
 use Rattle.co_program.specs.Scripts.{IsScript, is_call}
 use Rattle.co_core.specs.Step.{are_direct}
-use Rattle.co_core.proofs.Lists.{at_choice}
 use Rattle.co_core.proofs.Invariant.{ClientHold, ServerHold, HoldFits, HasActs, IsTaskOf, BeginsDrain, IsDraining, LaneFits, AreSoft, FitsRole, serves_direct, hold_within}
-use Rattle.co_core.proofs.Actions.{is_clients, IsAction, drops, passes, grabs, tells, asks, drains, scans, starts, waits, waits_told, pops, picks, enters, opens, unlocks, fires, fires_told, releases, ends, frees, serves, serves_told}
+use Rattle.co_core.proofs.Actions.{is_clients, IsAction, drops, passes, grabs, asks, drains, scans, starts, waits, pops, picks, enters, opens, unlocks, fires, releases, ends, frees, serves}
 use Rattle.co_core.proofs.Deeds.{Did, is_plain, keeps, clears, arms, holds, goes, skips}
 use Rattle.co_core.proofs.Deeds as deed
 

@@ -1,24 +1,21 @@
 -- Steps one after another in code are a schedule of the plain world: what each loop of the walk keeps.
-use Rattle.std.proofs.Common.{◌≡◌, ℕ, zero, suc, ◌+◌, ◌<◌, ◌≤◌, ◌^◌, Bool, true, false, ◌&&◌, ◌-◌, List, [], ◌∷◌, ◌++◌, length, get_or, take, refl, ap, sym, subst, ◌∙◌, arith, inl, inr, append_assoc}
+use Rattle.std.proofs.Common.{◌≡◌, ℕ, zero, suc, ◌+◌, ◌<◌, ◌≤◌, ◌^◌, ◌-◌, List, [], ◌∷◌, ◌++◌, length, get_or, refl, ap, sym, subst, ◌∙◌, arith, inl, inr}
 use Rattle.std.specs.Prelude.{Option, Some, None, ◌⊎◌}
 use Rattle.std.specs.List.{AllByRecursion, range_with_len}
-use Rattle.std.proofs.lemmas.List.FromFn.{map-range_with_len_more}
 use Rattle.co_program.specs.declared.Script.{Script}
-use Rattle.co_program.specs.Actors.{actor_count}
 use Rattle.co_program.specs.Action.{Action, Nothing, Silent, Take, Asks, action_for}
 use Rattle.co_program.specs.Scripts.{IsScript}
-use Rattle.co_core.specs.declared.turn.Turn.{Turn}
-use Rattle.co_core.specs.declared.turn.Turn.TheVariants.{Notes, Blocked, Finished}
+use Rattle.co_core.specs.declared.turn.Turn.TheVariants.{Finished}
 use Rattle.co_core.specs.declared.turn.Why.{Why}
 use Rattle.co_core.specs.Blocked.{blocked}
-use Rattle.co_core.specs.Laws.{IsIdle, IsSchedule, reached}
+use Rattle.co_core.specs.Laws.{IsIdle, reached}
 use Rattle.co_core.specs.Measure.{measure}
 use Rattle.co_core.specs.Stands.{IsReached as Reached}
 use Rattle.co_core.proofs.Bounds.{opening_fits}
 use Rattle.co_core.proofs.Walks.{IsReached, run_falls, rounds_fall, finished_round}
-use Rattle.co_core.specs.Step.{step, turn_of, turn_at}
+use Rattle.co_core.specs.Step.{turn_of, turn_at}
 use Rattle.co_core.specs.Walk.{AllFinished, HasFinished, round, rounds, run}
-use Rattle.co_core.specs.World.{World, open_world, all_actors}
+use Rattle.co_core.specs.World.{World, open_world}
 
 pub rounds-more : (s : Script) (w : World) (n : ℕ) → round s (rounds s w n) ≡ rounds s w (n + 1)
 rounds-more s w zero = refl

@@ -2,7 +2,6 @@
 use Rattle.std.proofs.Common.{◌≡◌, ℕ, List, [], ◌∷◌, Some}
 use Rattle.std.specs.List.{AllByRecursion}
 use Rattle.co_object.specs.declared.QReply.TheVariants.{Missing}
-use Rattle.co_object.specs.declared.Entry.{Entry}
 use Rattle.co_object.specs.declared.QEntry.{QEntry}
 use Rattle.co_object.specs.Callout.{opening, step as callout_step}
 use Rattle.co_object.specs.Queue.{empty_queue}
@@ -11,11 +10,9 @@ use Rattle.co_object.specs.Journal as journal
 use Rattle.co_object.specs.Machine.{IsLegalFrom}
 use Rattle.co_program.specs.declared.Script.{Script}
 use Rattle.co_program.specs.Action.{spec_at}
-use Rattle.co_program.specs.Scripts.{IsScript}
 use Rattle.co_core.specs.Step.{are_direct}
-use Rattle.co_core.specs.Laws.{reached, actors_of, IsSchedule, HistoriesAreLegal, NoRemoveIsMissing, EachFinishedActorFollows, NoScheduleIsStuck}
+use Rattle.co_core.specs.Laws.{reached, actors_of, HistoriesAreLegal, NoRemoveIsMissing, EachFinishedActorFollows, NoScheduleIsStuck}
 use Rattle.co_core.proofs.Owned.{IsOwned, IsOwn, IsOwnOf}
-use Rattle.co_core.proofs.Sound.{IsSteady}
 use Rattle.co_core.proofs.Opening.{reached_steady}
 use Rattle.co_core.proofs.Replies.{have_replies}
 use Rattle.co_core.proofs.Following.{finished_follow}

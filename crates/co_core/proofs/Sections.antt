@@ -1,23 +1,14 @@
 -- A section comes to its end: what is due in the middle of one is possible.
-use Rattle.std.proofs.Common.{◌≡◌, ℕ, ◌+◌, ◌≤◌, ◌<◌, ◌⊎◌, Bool, true, false, cond, List, [], ◌∷◌, ◌++◌, length, inl, inr, refl, sym, ap, subst, ◌∙◌, arith, Option, Some, None}
-use Rattle.std.specs.Prelude.{⊤, is_some}
+use Rattle.std.proofs.Common.{◌≡◌, ℕ, ◌<◌, Bool, true, false, cond, List, inl, inr, refl, sym, ap, subst, ◌∙◌, Option, Some, None}
+use Rattle.std.specs.Prelude.{is_some}
 use Rattle.co_object.specs.declared.State.{State}
 use Rattle.co_object.specs.declared.Arming.{Arming}
-use Rattle.co_object.specs.declared.Run.{Run}
 use Rattle.co_object.specs.declared.Reply.{Reply}
-use Rattle.co_object.specs.declared.Reply.TheVariants.{Armed, Wait}
-use Rattle.co_object.specs.declared.Op.{Op}
-use Rattle.co_object.specs.declared.Op.TheVariants.{Call, Run as Serve}
-use Rattle.co_object.specs.declared.CallOp.{CallOp}
-use Rattle.co_object.specs.declared.CallOp.TheVariants.{Plain, DrainTry}
-use Rattle.co_object.specs.declared.OwnKind.{OwnKind}
+use Rattle.co_object.specs.declared.Op.TheVariants.{Run as Serve}
 use Rattle.co_object.specs.declared.Entry.{Entry}
-use Rattle.co_object.specs.Stand.{off, is_free_at, stand_of, listed_cpu, Listed, Deferred}
-use Rattle.co_object.specs.Group.{off_of}
+use Rattle.co_object.specs.Stand.{off}
 use Rattle.co_object.specs.Callout.{step as callout_step}
 use Rattle.co_object.specs.Queue.{Queue as TimerQueue}
-use Rattle.co_object.proofs.PassageOnce.{stands}
-use Rattle.co_lock.specs.declared.held.Held.{Held}
 use Rattle.co_program.specs.declared.Script.{Script}
 use Rattle.co_program.specs.Actors.{role_of, cpu_of, acts_at, actor_count}
 use Rattle.co_program.specs.declared.Role.{Role}
@@ -26,97 +17,42 @@ use Rattle.co_program.specs.Stages.{Stage, Ready, Waiting, Popping, Picking, Loc
 use Rattle.co_program.specs.declared.Service.{Service}
 use Rattle.co_program.specs.Cursor.{Cursor}
 use Rattle.co_program.specs.declared.Parcel.{Parcel}
-use Rattle.co_program.specs.Action.{Action, Nothing, Silent, Take, Asks, action_for, action_with, spec_at}
-use Rattle.co_program.specs.declared.Asked.{Asked}
-use Rattle.co_program.specs.declared.Asked.TheVariants.{Callout, Queue, Itself}
-use Rattle.co_program.specs.Advance.{act_over, called, advance_callout, due_of_call}
+use Rattle.co_program.specs.Action.{Action, Asks, action_for, action_with, spec_at}
+use Rattle.co_program.specs.declared.Asked.TheVariants.{Callout, Queue}
+use Rattle.co_program.specs.Advance.{advance_callout}
 use Rattle.co_program.specs.Scripts.{IsScript}
-use Rattle.co_core.specs.World.{World, with_cursor}
-use Rattle.co_core.specs.Step.{notes_down, enters, note_of, note_of_own, callout_answers, own_note}
-use Rattle.co_core.proofs.Invariant.{Holds, IsListed, IsCarried, IsServing, IsLane, FitsRole, states_of, queues_of, places_of, scans_of, carries, in_hand, in_stage, serving_of, has_popped, under_way, service_of}
-use Rattle.co_core.proofs.Moves.{IsAt, at_all, place_at, note_at, state_at, decide, at_updated_is}
-use Rattle.co_core.proofs.Actions.{IsAction, IsActionWith, inserts, goes_by, due_parcel}
-use Rattle.co_core.proofs.Deeds.{Did, GoesOn, keeps, clears, arms, is_plain, did, did_call}
-use Rattle.co_object.specs.Callout.{call}
-use Rattle.co_program.specs.Actors.{client_count}
-use Rattle.co_core.proofs.Roles.{interrupt_version}
-use Rattle.co_core.proofs.Deeds as deed
-use Rattle.co_core.proofs.Made.{due_removed}
-use Rattle.co_core.proofs.RolesKept.{place, Fits, fits_silent, fits_take, fits_over, fits_callout, plain_called}
-use Rattle.co_core.proofs.ServingKept.{serving_same, runs_on}
-use Rattle.co_core.proofs.CarriedKept.{Nobody, carried_state, carried_queue, unlisted}
-use Rattle.co_core.proofs.Turns.{SameTurn, turn_silent, turn_take, turn_over, turn_wait, IsActing, acts_own, acts_call, is_acting_of}
-use Rattle.co_object.specs.declared.QOp.{QOp}
-use Rattle.co_object.specs.declared.QOp.TheVariants.{Insert, Remove, Scan, Pop, Free, PopDirect, FreeDirect}
+use Rattle.co_core.specs.World.{World}
+use Rattle.co_core.specs.Step.{enters, note_of, callout_answers}
+use Rattle.co_core.proofs.Invariant.{IsListed, states_of, queues_of, places_of, carries, in_hand, in_stage, serving_of, has_popped}
+use Rattle.co_core.proofs.Moves.{note_at}
+use Rattle.co_object.specs.declared.QOp.TheVariants.{Insert}
 use Rattle.co_object.specs.declared.QReply.{QReply}
-use Rattle.co_object.specs.declared.QReply.TheVariants.{Got, Off, Empty}
 use Rattle.co_object.specs.declared.QEntry.{QEntry}
 use Rattle.co_object.specs.declared.Next.{Next}
-use Rattle.co_object.specs.Queue.{without}
-use Rattle.co_object.proofs.QueueChanges.{QChange, removes}
-use Rattle.co_program.specs.declared.Task.{Task}
-use Rattle.co_program.specs.declared.Task.TheVariants.{Does, Soft}
-use Rattle.co_program.specs.declared.Act.TheVariants.{Tick}
-use Rattle.co_program.specs.declared.Act.{Act}
-use Rattle.co_program.specs.Action.{pop_of, free_of, draining}
-use Rattle.co_program.specs.Advance.{advance_queue, parcel_of, drain_acts, tail_of, popped, got, freed}
-use Rattle.co_program.specs.Follows.{scan_count, one_scan}
-use Rattle.co_core.specs.World.{Cpu as CpuState}
+use Rattle.co_program.specs.Action.{free_of}
+use Rattle.co_program.specs.Advance.{drain_acts, freed}
 use Rattle.co_core.specs.Step.{enters_journal, note_of_cpu, are_direct}
-use Rattle.co_core.proofs.Invariant.{IsBetween, RunFits, IsTaskOf, IsTicking, EntriesFit}
-use Rattle.co_core.proofs.Moves.{queue_at, states_landed, at_read}
-use Rattle.co_core.proofs.Actions.{scans as due_scans, starts, pops as due_pops, frees as due_frees}
-use Rattle.co_core.proofs.Passages.{scan_stands, insert_stands, got_stands, remove_held, remove_stands, quiet_serving, is_quiet, other_lane, Popped, has, none, popped_by, freed_by}
-use Rattle.co_core.proofs.QueuesKept.{lane_kept, lane_got, entries_change, entries_got}
-use Rattle.co_core.proofs.CarriedKept.{elsewhere, no_out, listed_later, listed_off}
-use Rattle.co_core.proofs.RolesKept.{IsServer, is_server, servers_task, first_task, fits_queue, hold_server, server_hold, pop_advance, free_advance}
-use Rattle.co_core.proofs.Roles.{same_role, cpu_number, interrupt_number}
-use Rattle.co_core.proofs.HoldsKept.{view_of, same_run, hand_none}
-use Rattle.std.proofs.Common.{zero, suc, max, eq-eqb, eqb-true}
+use Rattle.co_core.proofs.Invariant.{IsBetween, RunFits}
+use Rattle.co_core.proofs.RolesKept.{free_advance}
+use Rattle.std.proofs.Common.{eq-eqb}
 use Rattle.std.specs.Prelude.{◌==◌}
 use Rattle.co_object.specs.declared.Run.TheVariants as run
 use Rattle.co_object.specs.Stand.{is_idle}
-use Rattle.co_object.specs.History.{server as server_actor}
-use Rattle.co_core.specs.Laws.{actors_of}
-use Rattle.co_core.proofs.Invariant.{cpu_of_run}
-use Rattle.co_core.proofs.Roles.{server_of_lane}
-use Rattle.co_core.proofs.CarriedKept.{stands_listed}
-use Rattle.co_core.proofs.QueuesKept.{max_left}
-use Rattle.std.proofs.Common.{leb-true, le-leb, le-ltb, ltb-true, ltb-false}
-use Rattle.std.specs.Prelude.{nat_le, nat_lt, ◌&&◌, ◌||◌}
-use Rattle.std.specs.List.{list_any, range_with_len}
+use Rattle.std.proofs.Common.{le-leb}
+use Rattle.std.specs.Prelude.{nat_le, ◌&&◌, ◌||◌}
 use Rattle.co_object.specs.declared.RunOp.{RunOp}
-use Rattle.co_object.specs.declared.RunOp.TheVariants.{Pick, Begin, End}
-use Rattle.co_object.specs.declared.QReply.TheVariants.{Missing, At as InsertedAt, Count, Freed}
-use Rattle.co_object.specs.History.{IsOfItsActor}
+use Rattle.co_object.specs.declared.RunOp.TheVariants.{Pick}
 use Rattle.co_object.specs.Journal as journal
-use Rattle.co_object.specs.Serve.{taken as taken_by, is_due}
-use Rattle.co_program.specs.Action.{firing}
-use Rattle.co_core.specs.World.{all_actors}
-use Rattle.co_core.specs.Step.{answered, queue_answers, removed_from, asked_whole, is_within, is_in_section, lands_here, makes_action, goes_on, stepped, step}
-use Rattle.co_core.specs.Blocked.{blocked, waits_for, is_moving, moves}
-use Rattle.co_core.proofs.Owned.{IsOwned, owned_callout, owned_queue, owned_own, owned_place}
-use Rattle.co_core.proofs.CallsKept.{holds_call, TookOut}
-use Rattle.co_core.proofs.RunsKept.{holds_run}
-use Rattle.co_core.proofs.HoldsKept.{callout_view, holds_silent, holds_take, holds_own}
-use Rattle.co_core.proofs.JournalsKept.{holds_insert, holds_remove, holds_scan, holds_free, holds_empty, holds_got, between_hand}
-use Rattle.co_core.proofs.Passages.{changed, remove_is}
-use Rattle.co_core.proofs.Actions.{picks, opens, ends}
-use Rattle.co_object.specs.Scan.{is_direct}
-use Rattle.co_core.proofs.Invariant.{serves_direct, HoldFits}
-use Rattle.co_object.proofs.QueueChanges.{inserts as change_inserts, misses as change_misses, scans as change_scans, pops as change_pops, finds_none, frees as change_frees, pops_direct, finds_no_direct, frees_direct}
-use Rattle.co_core.specs.Step.{removed_first}
-use Rattle.co_core.proofs.Lists.{cond_kept, at_choice}
-use Rattle.co_core.proofs.Actions.{asks, drains, waits, fires, serves}
-use Rattle.co_core.proofs.RolesKept.{is_acting}
-use Rattle.co_core.proofs.Answers.{Good, queue_good, run_good, own_good, call_good, unmoved_by}
-use Rattle.co_core.proofs.Invariant.{IsSound}
-use Rattle.co_object.specs.declared.Reply.TheVariants.{NotArmed, Stopped, Done, Drained as IsDrained, Hold, Go, Ended, NoHandler, Worn, Busy, Yes, No, Live, Retired, InUse, Skip}
-use Rattle.co_program.specs.Advance.{picked, begun, ended}
+use Rattle.co_object.specs.Serve.{taken as taken_by}
+use Rattle.co_core.specs.Step.{queue_answers, is_within, is_in_section, lands_here, makes_action, goes_on}
+use Rattle.co_core.proofs.Lists.{at_choice}
+use Rattle.co_core.proofs.Answers.{Good, queue_good, run_good}
+use Rattle.co_object.specs.declared.Reply.TheVariants.{Hold}
+use Rattle.co_program.specs.Advance.{picked}
 use Rattle.co_object.specs.Queue.{Due}
 use Rattle.co_object.specs.Serve.{has_lock, pick_armed, go as go_run}
 use Rattle.co_program.specs.Action.{action_in}
-use Rattle.co_core.proofs.Steadies.{IsReady, draining_between, firing_between, call_between, run_parcel, advance_ready, callout_else, queue_else, answered_else, first_else, makes_else, goes_else}
+use Rattle.co_core.proofs.Steadies.{IsReady, draining_between, firing_between}
 
 -- ---- what is due in mid-section is possible
 

@@ -1,30 +1,26 @@
 -- A queue's servers: what a Pop and a Free leave in the slots, and when a Pop is due.
-use Rattle.std.proofs.Common.{◌≡◌, ℕ, ◌+◌, ◌<◌, ◌⊎◌, inl, inr, Bool, true, false, List, [], ◌∷◌, refl, sym, ap, ◌∙◌, subst, Option, Some, None}
-use Rattle.std.specs.Prelude.{⊤, is_some}
+use Rattle.std.proofs.Common.{◌≡◌, ℕ, ◌+◌, ◌⊎◌, inl, inr, Bool, List, refl, sym, ap, ◌∙◌, Option, Some, None}
 use Rattle.co_object.specs.declared.QOp.{QOp}
-use Rattle.co_object.specs.declared.QOp.TheVariants.{Insert, Remove, Scan, Pop, Free, PopDirect, FreeDirect}
+use Rattle.co_object.specs.declared.QOp.TheVariants.{Pop, Free, PopDirect, FreeDirect}
 use Rattle.co_object.specs.declared.QReply.{QReply}
 use Rattle.co_object.specs.declared.QReply.TheVariants.{Got, Empty}
 use Rattle.co_object.specs.Queue.{Queue as TimerQueue, Due}
 use Rattle.co_object.proofs.QueueChanges.{QChange, pops as change_pops, pops_direct, inserts as change_inserts, removes as change_removes, misses as change_misses, scans as change_scans, finds_none, finds_no_direct, frees as change_frees, frees_direct}
-use Rattle.co_lock.specs.declared.held.Held.{Held}
 use Rattle.co_program.specs.declared.role.Role.{Role}
 use Rattle.co_program.specs.declared.role.Role.TheVariants.{Client, Cpu, Interrupt}
-use Rattle.co_program.specs.declared.program.Task.{Task}
-use Rattle.co_program.specs.declared.program.Task.TheVariants.{Does, Soft}
+use Rattle.co_program.specs.declared.program.Task.TheVariants.{Soft}
 use Rattle.co_program.specs.declared.cursor.Parcel.{Parcel}
-use Rattle.co_program.specs.declared.cursor.Service.{Service}
-use Rattle.co_program.specs.declared.action.Asked.TheVariants.{Callout, Queue, Itself}
+use Rattle.co_program.specs.declared.action.Asked.TheVariants.{Queue}
 use Rattle.co_program.specs.declared.script.Script.{Script}
 use Rattle.co_program.specs.Actors.{cpu_of}
 use Rattle.co_program.specs.Stages.{Stage, Ready, Popping, Picking}
 use Rattle.co_program.specs.Cursor.{Cursor}
-use Rattle.co_program.specs.Action.{Action, Asks, pop_of, free_of}
+use Rattle.co_program.specs.Action.{Asks, pop_of, free_of}
 use Rattle.co_program.specs.Advance.{popped, got, tail_of}
 use Rattle.co_core.specs.Stands.{slot_of, in_slot}
 use Rattle.co_core.proofs.Actions.{IsAction, IsActionWith, inserts, goes_by, scans, starts, pops, frees}
 use Rattle.co_core.proofs.Invariant.{FitsRole, IsTaskOf}
-use Rattle.co_core.proofs.Passages.{changed, serving_stays, directing_stays}
+use Rattle.co_core.proofs.Passages.{serving_stays, directing_stays}
 use Rattle.co_core.proofs.RolesKept.{IsServer, is_server, servers_task, first_task}
 
 -- ---- the slots after a Pop and a Free

@@ -1,6 +1,5 @@
 -- Every step keeps each service under way that of its callout's run.
-use Rattle.std.proofs.Common.{◌≡◌, ℕ, List, ◌<◌, ◌⊎◌, Bool, true, false, inl, inr, refl, sym, ap, subst, ◌∙◌, Option, Some, None}
-use Rattle.std.specs.Prelude.{⊤}
+use Rattle.std.proofs.Common.{◌≡◌, ℕ, List, ◌<◌, ◌⊎◌, true, inl, inr, refl, sym, ap, subst, ◌∙◌, Option, Some}
 use Rattle.co_object.specs.declared.Run.{Run}
 use Rattle.co_object.specs.declared.Run.TheVariants as run
 use Rattle.co_object.specs.declared.State.{State}
@@ -18,7 +17,7 @@ use Rattle.co_program.specs.Cursor.{Cursor}
 use Rattle.co_program.specs.Action.{spec_at}
 use Rattle.co_core.specs.Step.{are_direct}
 use Rattle.co_core.specs.Laws.{actors_of}
-use Rattle.co_core.proofs.Invariant.{IsServing, RunFits, IsTaken, IsRunning, IsOver, IsBetween, FitsRole, HoldFits, service_of, serves_direct, cpu_of_run}
+use Rattle.co_core.proofs.Invariant.{IsServing, RunFits, IsTaken, IsRunning, IsOver, IsBetween, FitsRole, service_of, serves_direct, cpu_of_run}
 use Rattle.co_core.proofs.Deeds.{GoesOn}
 use Rattle.co_core.proofs.Moves.{IsAt, decide, at_all}
 use Rattle.co_core.proofs.Roles.{server_of_lane}

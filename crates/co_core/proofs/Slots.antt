@@ -1,8 +1,8 @@
 -- What a stage has in service and which callout it is about: what each step keeps of both.
 use Rattle.std.proofs.Common.{◌≡◌, ℕ, Bool, true, false, List, [], ◌∷◌, refl, sym, ap, ◌∙◌, subst, Option, Some, None}
-use Rattle.co_object.specs.declared.Op.TheVariants.{Call, Run as Serve}
+use Rattle.co_object.specs.declared.Op.TheVariants.{Call}
 use Rattle.co_object.specs.declared.CallOp.{CallOp}
-use Rattle.co_object.specs.declared.CallOp.TheVariants.{Plain, DrainTry}
+use Rattle.co_object.specs.declared.CallOp.TheVariants.{DrainTry}
 use Rattle.co_object.specs.declared.Op.{Op}
 use Rattle.co_object.specs.declared.OwnKind.{OwnKind}
 use Rattle.co_object.specs.declared.Reply.{Reply}
@@ -14,11 +14,11 @@ use Rattle.co_lock.specs.declared.held.Held.{Held}
 use Rattle.co_program.specs.declared.act.Act.{Act}
 use Rattle.co_program.specs.declared.role.Role.{Role}
 use Rattle.co_program.specs.declared.cursor.Service.{Service}
-use Rattle.co_program.specs.declared.action.Asked.TheVariants.{Callout, Queue, Itself}
+use Rattle.co_program.specs.declared.action.Asked.TheVariants.{Callout, Itself}
 use Rattle.co_program.specs.declared.script.Script.{Script}
 use Rattle.co_program.specs.Stages.{Stage, Ready, Waiting, Popping, Picking, Locking, Beginning, Unlocking, Firing, Releasing, Ending, Freeing, Drained}
 use Rattle.co_program.specs.Cursor.{Cursor}
-use Rattle.co_program.specs.Action.{Action, Silent, Take, Asks, firing, draining}
+use Rattle.co_program.specs.Action.{Silent, Take, Asks, firing, draining}
 use Rattle.co_program.specs.Advance.{act_over, called, tail_of}
 use Rattle.co_core.specs.Step.{is_within}
 use Rattle.co_core.specs.Stands.{in_slot, callout_in, entry_of}

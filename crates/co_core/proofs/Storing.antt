@@ -1,5 +1,5 @@
 -- What the depot stands for after a section on one callout, at one CPU, by one actor.
-use Rattle.std.proofs.Common.{◌≡◌, ℕ, ◌<◌, ◌⊎◌, inl, inr, Bool, true, false, cond, not, List, length, get_or, set, refl, sym, ap, ◌∙◌, subst, arith, length-set, Option, Some, None, eqb-true, eq-eqb}
+use Rattle.std.proofs.Common.{◌≡◌, ℕ, ◌<◌, ◌⊎◌, inl, inr, Bool, true, false, cond, not, List, length, set, refl, sym, ap, ◌∙◌, subst, arith, length-set, Option, Some, None, eqb-true, eq-eqb}
 use Rattle.std.specs.Prelude.{◌==◌, ◌&&◌}
 use Rattle.std.proofs.lemmas.List.{get_or-set_same, get_or-set_other, set-get_or}
 use Rattle.co_object.specs.declared.alone.Alone.{Alone}
@@ -16,15 +16,13 @@ use Rattle.co_wheel.specs.Parcel.{Parcel as Travelling}
 use Rattle.co_wheel.specs.Turns.{Shows}
 use Rattle.co_core.specs.World.{World}
 use Rattle.co_core.specs.Blocked.{is_moving, moves}
-use Rattle.co_core.specs.Step.{are_direct}
 use Rattle.co_core.specs.Stored.{Stored, bag_at, wheel_at, no_wheel, with_wheel}
-use Rattle.co_core.specs.Table.{table}
 use Rattle.co_core.specs.Stands.{IsAtWheel, IsBag, IsPacked, IsStored, alone_of, at_home, is_home}
-use Rattle.co_core.proofs.Moves.{IsAt, decide}
+use Rattle.co_core.proofs.Moves.{decide}
 use Rattle.co_core.proofs.Moving.{IsOnly, moves_only, unmoved, parcels_of, moving_own, moving_same}
 use Rattle.co_core.proofs.Tables.{put, same, read}
 use Rattle.co_core.proofs.Ways.{Goes, stands_of}
-use Rattle.co_core.proofs.Invariant.{states_of, queues_of, places_of}
+use Rattle.co_core.proofs.Invariant.{states_of}
 
 -- the callout after the section: at the wheel, unless its actor moves it
 abbrev pub with_state : Script → ℕ → State → Alone

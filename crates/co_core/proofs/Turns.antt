@@ -1,11 +1,10 @@
 -- What a step that is no turn of a service keeps of an actor's stage.
-use Rattle.std.proofs.Common.{◌≡◌, ℕ, Bool, true, false, List, [], ◌∷◌, length, refl, sym, ap, subst, ◌∙◌, Option, Some, None}
+use Rattle.std.proofs.Common.{◌≡◌, ℕ, Bool, true, false, List, [], ◌∷◌, length, refl, sym, ap, ◌∙◌, Option, Some, None}
 use Rattle.std.specs.Prelude.{⊤}
-use Rattle.std.specs.List.{AllByRecursion}
 use Rattle.co_object.specs.declared.Run.{Run}
 use Rattle.co_object.specs.declared.Run.TheVariants as run
 use Rattle.co_object.specs.declared.State.{State}
-use Rattle.co_object.specs.declared.Op.TheVariants.{Call, Run as Serve}
+use Rattle.co_object.specs.declared.Op.TheVariants.{Call}
 use Rattle.co_object.specs.declared.CallOp.{CallOp}
 use Rattle.co_object.specs.declared.OwnKind.{OwnKind}
 use Rattle.co_lock.specs.declared.held.Held.{Held}
@@ -13,17 +12,17 @@ use Rattle.co_program.specs.declared.Script.{Script}
 use Rattle.co_program.specs.declared.Act.{Act}
 use Rattle.co_program.specs.declared.Act.TheVariants.{Drain}
 use Rattle.co_program.specs.declared.Task.{Task}
-use Rattle.co_program.specs.declared.Task.TheVariants.{Does, Soft}
+use Rattle.co_program.specs.declared.Task.TheVariants.{Does}
 use Rattle.co_program.specs.declared.Role.{Role}
 use Rattle.co_program.specs.declared.Role.TheVariants.{Client, Cpu, Interrupt}
 use Rattle.co_program.specs.Stages.{Stage, Ready, Waiting, Popping, Picking, Locking, Beginning, Unlocking, Firing, Releasing, Ending, Freeing, Drained}
 use Rattle.co_program.specs.declared.Service.{Service}
 use Rattle.co_program.specs.Cursor.{Cursor}
 use Rattle.co_program.specs.declared.Parcel.{Parcel}
-use Rattle.co_program.specs.Action.{Action, Silent, Take, Asks, firing, draining}
+use Rattle.co_program.specs.Action.{Silent, Take, Asks, firing, draining}
 use Rattle.co_program.specs.declared.Asked.TheVariants.{Callout, Itself}
 use Rattle.co_program.specs.Advance.{act_over, tail_of}
-use Rattle.co_core.proofs.Invariant.{RunFits, IsRunning, IsOver, HoldFits, FitsRole, IsTaskOf, HasActs, service_of, has_popped, under_way, in_stage}
+use Rattle.co_core.proofs.Invariant.{RunFits, IsRunning, IsOver, HoldFits, FitsRole, IsTaskOf, service_of, has_popped, under_way, in_stage}
 use Rattle.co_core.proofs.Actions.{IsAction, drops, passes, grabs, tells, asks, drains, waits, waits_told, enters, unlocks, fires, fires_told, releases, serves, serves_told, is_clients}
 use Rattle.co_core.proofs.RolesKept.{place, is_acting, clients_act, first_task}
 

@@ -1,14 +1,10 @@
 -- A service under way: when its Begin and its End are due, and where its callout's record is.
 use Rattle.std.proofs.Common.{◌≡◌, ℕ, ◌<◌, Bool, true, false, cond, not, length, refl, sym, ap, ◌∙◌, subst, arith, Option, Some, None, eqb-true}
 use Rattle.std.specs.Prelude.{◌==◌, ◌&&◌}
-use Rattle.co_object.specs.declared.alone.Alone.{Alone}
 use Rattle.co_object.specs.declared.Op.TheVariants.{Run as Serve}
-use Rattle.co_object.specs.declared.RunOp.{RunOp}
 use Rattle.co_object.specs.declared.RunOp.TheVariants.{Begin, End}
 use Rattle.co_object.specs.declared.Run.{Run}
 use Rattle.co_object.specs.declared.Run.TheVariants.{Idle, Picked, Cancelled, Running}
-use Rattle.co_object.specs.declared.State.{State}
-use Rattle.co_object.specs.Queue.{Due}
 use Rattle.co_object.specs.Stand.{is_idle, is_free_at}
 use Rattle.co_lock.specs.declared.held.Held.{Held}
 use Rattle.co_lock.specs.Service.{hold_of}
@@ -24,16 +20,14 @@ use Rattle.co_program.specs.Cursor.{Cursor}
 use Rattle.co_program.specs.Action.{Asks, spec_at}
 use Rattle.co_program.specs.Scripts.{IsScript}
 use Rattle.co_wheel.specs.Callouts.{callout}
-use Rattle.co_wheel.specs.Cpu.{Cpu as WheelOf}
 use Rattle.co_core.specs.World.{World}
 use Rattle.co_core.specs.Blocked.{is_moving, moves}
-use Rattle.co_core.specs.Step.{are_direct}
 use Rattle.co_core.specs.Stored.{Stored, wheel_at}
 use Rattle.co_core.specs.Written.{Written}
 use Rattle.co_core.specs.Stands.{StandsFor, alone_of, at_home, callout_in}
 use Rattle.co_core.proofs.Actions.{IsAction, IsActionWith, goes_by, opens, ends}
 use Rattle.co_core.proofs.CallSection.{at_wheel}
-use Rattle.co_core.proofs.Invariant.{IsTaken, IsOver, FitsRole, LaneFits, HoldFits, places_of, states_of}
+use Rattle.co_core.proofs.Invariant.{IsTaken, IsOver, LaneFits, HoldFits, places_of, states_of}
 use Rattle.co_core.proofs.Moving.{parcels_of, moving_none, mover}
 use Rattle.co_core.proofs.Naming.{role_cpu}
 use Rattle.co_core.proofs.Roles.{is_direct_at}

@@ -1,20 +1,18 @@
 -- What is never due to an actor: between two of its steps no section is open.
-use Rattle.std.proofs.Common.{◌≡◌, ℕ, ◌+◌, ◌-◌, ◌<◌, ◌⊎◌, inl, inr, Bool, List, [], ◌∷◌, length, set, refl, sym, ap, ◌∙◌, subst, arith, Option, Some, None}
+use Rattle.std.proofs.Common.{◌≡◌, ℕ, ◌+◌, ◌-◌, ◌<◌, List, [], length, refl, sym, ap, ◌∙◌, subst, arith, Option, Some, None}
 use Rattle.std.proofs.lemmas.List.{get_or-set_same, length-set}
 use Rattle.co_object.specs.declared.note.Note.{Note}
-use Rattle.co_object.specs.declared.Next.{Next}
 use Rattle.co_object.specs.declared.Op.TheVariants.{Run}
 use Rattle.co_object.specs.declared.RunOp.TheVariants.{Pick}
 use Rattle.co_object.specs.declared.QOp.{QOp}
-use Rattle.co_object.specs.declared.QOp.TheVariants.{Insert, Remove, Scan, Pop, Free, PopDirect, FreeDirect}
+use Rattle.co_object.specs.declared.QOp.TheVariants.{Insert, Remove, Scan, Free, FreeDirect}
 use Rattle.co_program.specs.declared.Script.{Script}
 use Rattle.co_program.specs.declared.Role.{Role}
 use Rattle.co_program.specs.declared.Role.TheVariants.{Client, Cpu, Interrupt}
-use Rattle.co_program.specs.declared.Service.{Service}
 use Rattle.co_program.specs.declared.Parcel.{Parcel}
 use Rattle.co_program.specs.declared.Asked.TheVariants.{Callout, Queue}
 use Rattle.co_program.specs.Actors.{actor_count, role_of}
-use Rattle.co_program.specs.Stages.{Stage, Picking, Freeing}
+use Rattle.co_program.specs.Stages.{Stage}
 use Rattle.co_program.specs.Cursor.{Cursor}
 use Rattle.co_program.specs.Action.{Action, Asks, action_for, pop_of}
 use Rattle.co_program.specs.Scripts.{IsScript}

@@ -1,9 +1,9 @@
 -- What the books and the depot say of who waits is what the plain world says: who holds a lock, which callout is moved, and how
 -- many Scans a CPU has made.
-use Rattle.std.proofs.Common.{◌≡◌, ℕ, zero, suc, ◌+◌, ◌<◌, ◌≤◌, Bool, true, false, cond, not, ◌&&◌, ◌||◌, List, [], ◌∷◌, length, map, get_or, refl, ap, sym, subst, ◌∙◌, arith, inl, inr}
+use Rattle.std.proofs.Common.{◌≡◌, ℕ, zero, suc, ◌+◌, ◌<◌, Bool, true, false, cond, not, ◌&&◌, ◌||◌, List, [], ◌∷◌, length, map, get_or, refl, ap, sym, subst, ◌∙◌, arith, inl, inr}
 use Rattle.std.specs.Prelude.{Option, Some, None, is_some, ◌⊎◌, ◌==◌, nat_lt, if◌then◌else◌}
 use Rattle.std.specs.List.{list_any, range_with_len}
-use Rattle.std.proofs.lemmas.Bool.{eqb-true, eq-eqb, ltb-true, ltb-false}
+use Rattle.std.proofs.lemmas.Bool.{eq-eqb}
 use Rattle.co_object.specs.declared.Alone.{Alone}
 use Rattle.co_lock.specs.declared.Held.{Held}
 use Rattle.co_program.specs.declared.Script.{Script}
@@ -25,7 +25,7 @@ use Rattle.co_program.specs.Action.{Asks, action_for, scans_first}
 use Rattle.co_program.specs.Scripts.{IsScript}
 use Rattle.co_program.specs.Follows.{scan_count}
 use Rattle.co_program.specs.Indexed.{stage_of, cursor_of, action_of}
-use Rattle.co_wheel.specs.Callouts.{is_here, callout}
+use Rattle.co_wheel.specs.Callouts.{is_here}
 use Rattle.co_core.specs.World.{World, all_actors}
 use Rattle.co_core.specs.Blocked.{is_excluded_by, is_locked, is_moving, is_waiting, waits_for, blocked}
 use Rattle.co_core.specs.declared.turn.Why.{Why}

@@ -1,6 +1,6 @@
 -- Which callout, queue and place the notes of a section change, and how a step is made of them.
-use Rattle.std.proofs.Common.{◌≡◌, ℕ, Bool, true, false, cond, ◌⊎◌, List, [], ◌∷◌, ◌++◌, inl, inr, refl, sym, ap, subst, ◌∙◌, eqb-true, eq-eqb, Option, Some, None}
-use Rattle.std.specs.Prelude.{◌==◌, ◌||◌, is_some}
+use Rattle.std.proofs.Common.{◌≡◌, ℕ, Bool, true, false, cond, [], ◌∷◌, ◌++◌, refl, ap, ◌∙◌, Option, Some, None}
+use Rattle.std.specs.Prelude.{is_some}
 use Rattle.co_object.specs.declared.State.{State}
 use Rattle.co_object.specs.declared.Reply.{Reply}
 use Rattle.co_object.specs.declared.Op.{Op}
@@ -14,20 +14,16 @@ use Rattle.co_object.specs.declared.AnyEntry.TheVariants as entry
 use Rattle.co_object.specs.declared.Place.TheVariants as at
 use Rattle.co_object.specs.Queue.{Queue as TimerQueue}
 use Rattle.co_object.specs.Stand.{off}
-use Rattle.co_object.specs.Journal as journal
 use Rattle.co_program.specs.declared.script.Script.{Script}
-use Rattle.co_program.specs.Stages.{Stage}
-use Rattle.co_program.specs.declared.cursor.Parcel.{Parcel}
 use Rattle.co_program.specs.Cursor.{Cursor}
 use Rattle.co_program.specs.declared.action.Asked.{Asked}
-use Rattle.co_program.specs.declared.action.Asked.TheVariants.{Callout, Queue, Itself}
-use Rattle.co_program.specs.Action.{Action, Nothing, Silent, Take, Asks, action_for, action_with}
+use Rattle.co_program.specs.Action.{Action, Asks, action_for}
 use Rattle.co_program.specs.Advance.{advance}
-use Rattle.co_core.specs.World.{World, Timer, with_cursor, updated}
+use Rattle.co_core.specs.World.{World, Timer, with_cursor}
 use Rattle.co_core.specs.Blocked.{blocked}
-use Rattle.co_core.specs.Step.{notes_down, enters, enters_journal, landed, note_of, note_of_cpu, note_of_own, callout_answers, queue_answers, own_note, are_direct, answered, asked_whole, is_within, lands_here, is_in_section, makes_action, goes_on, stepped, step}
-use Rattle.co_core.proofs.Lists.{at_choice, at_updated, updated_here, updated_elsewhere}
-use Rattle.co_core.proofs.Moves.{IsAt, decide, at_updated_is, at_read, place_at, note_at, state_at, queue_at, states_landed}
+use Rattle.co_core.specs.Step.{enters, enters_journal, landed, note_of, note_of_cpu, note_of_own, callout_answers, queue_answers, own_note, answered, is_in_section, makes_action, goes_on, stepped, step}
+use Rattle.co_core.proofs.Lists.{at_updated}
+use Rattle.co_core.proofs.Moves.{IsAt, at_updated_is, at_read, place_at, note_at, state_at, queue_at, states_landed}
 use Rattle.co_core.proofs.Invariant.{states_of, queues_of, places_of}
 
 abbrev pub stands_of : World → ℕ → ℕ

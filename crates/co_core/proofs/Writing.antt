@@ -1,5 +1,5 @@
 -- What the books show after a note: of a callout, of a queue, or of the actor's own.
-use Rattle.std.proofs.Common.{◌≡◌, ℕ, ◌+◌, ◌<◌, ◌≤◌, ◌⊎◌, inl, inr, Bool, true, false, cond, List, [], ◌∷◌, ◌++◌, length, get_or, set, map, refl, sym, ap, ◌∙◌, subst, arith, length-append, length-set, eq-eqb, Option, Some, None}
+use Rattle.std.proofs.Common.{◌≡◌, ℕ, ◌+◌, ◌<◌, ◌≤◌, ◌⊎◌, inl, inr, Bool, true, false, cond, List, [], ◌∷◌, ◌++◌, length, get_or, set, refl, sym, ap, ◌∙◌, subst, arith, length-append, length-set, eq-eqb, Some, None}
 use Rattle.std.specs.Prelude.{is_some}
 use Rattle.std.proofs.lemmas.List.{get_or-set_same, get_or-set_other}
 use Rattle.std.proofs.lemmas.List.Elements.{filter-append}
@@ -13,7 +13,6 @@ use Rattle.co_object.specs.declared.QReply.{QReply}
 use Rattle.co_object.specs.declared.Entry.{Entry}
 use Rattle.co_object.specs.declared.QEntry.{QEntry}
 use Rattle.co_object.specs.declared.Note.{Note}
-use Rattle.co_object.specs.declared.Place.{Place}
 use Rattle.co_object.specs.declared.Place.TheVariants as place
 use Rattle.co_object.specs.declared.AnyEntry.TheVariants as entry
 use Rattle.co_object.specs.Stand.{off}
@@ -27,7 +26,7 @@ use Rattle.co_program.specs.Cursor.{Cursor}
 use Rattle.co_program.specs.Advance.{advance}
 use Rattle.co_program.specs.Follows.{scan_count, one_scan}
 use Rattle.co_program.specs.Indexed.{IsCounted, Counts, cursor_of}
-use Rattle.co_core.specs.World.{World, Actor, Timer, Cpu, lists_of, updated, with_cursor}
+use Rattle.co_core.specs.World.{World, Actor, Timer, Cpu, with_cursor}
 use Rattle.co_core.specs.Step.{notes_down, enters, enters_journal, landed, note_of, note_of_cpu, note_of_own, callout_answers, queue_answers, own_note}
 use Rattle.co_core.specs.Table.{table}
 use Rattle.co_core.specs.Written.{Written, IsNoted, place_at, list_at, with_place, first_place}

@@ -4,20 +4,21 @@ ghost use Rattle.co_lock.specs.declared.lock_kind.LockKind.TheVariants as kind;
 ghost use Rattle.co_program.specs.Actors.{acts_at};
 ghost use Rattle.co_program.specs.Scripts.{IsScript};
 ghost use Rattle.co_hand.specs.Handlers.{Serves};
+ghost use denote.Param.Send.{IsSync};
 
 mod gates;
 mod ports;
 
-use self::ports::{AlonePort, LockingPort};
+use self::ports::{AlonePort, MeetingPort};
 use crate::{Fire, FuncTable, Handler, Port, PortCall, PortReply, plain_op};
 use co_lock::{ClientLocks, Held, Hold, LockKind};
 use co_object::{Alone, CallOp, LockUse, Op, PlainOp, Reply, RunOp, Spec};
 use co_program::{Act, Acts, Script, When, Where, Who};
 use co_sbt::{NoMemory, Sbt, Seq};
 use std::alloc::Global;
-use std::process::Abort;
-use std::sync::Wait;
+use std::sync::{Barrier, Wait};
 use std::test::Fail;
+use std::thread::{Threads, join};
 
 /// The time of so many seconds, of which there are few.
 fn seconds(count: u32) -> Sbt
@@ -112,7 +113,7 @@ fn first_fire() -> Fire
 }
 
 /// A callout that was armed for one second, and whose function runs.
-fn running(rt: &impl Abort, spec: Spec) -> Alone
+fn running(spec: Spec) -> Alone
     ensures { result.spec ≡ spec }
 {
     let mut callout = Alone::open(spec, 0);
@@ -148,7 +149,6 @@ fn serve<H: Handler, P: Port>(
 
 /// The calls that function 0 makes, under this hold, in the service of a callout of this spec.
 fn calls_of_run(
-    rt: &impl Abort,
     alloc: Global,
     spec: Spec,
     hold: Option<&mut Hold<'_>>,
@@ -156,7 +156,7 @@ fn calls_of_run(
     requires { spec.direct ≡ false }
 {
     let mut table = worked_table(alloc, spec)?;
-    let mut callouts = [running(rt, spec)];
+    let mut callouts = [running(spec)];
     let mut port = AlonePort::new(alloc, &mut callouts, 5, 2)?;
     serve(&mut table, &first_fire(), hold, &mut port);
     Ok(port.into_calls())
@@ -203,7 +203,7 @@ const STOPPED: PortReply = PortReply::Reply(Reply::Stopped {
 #[test]
 fn a_function_makes_its_acts_in_order(rt: HostRuntime) -> Result<(), Fail> {
     let free = spec_of(LockUse::Free, false);
-    let calls = calls_of_run(&rt, rt.alloc(), free, None)?;
+    let calls = calls_of_run(rt.alloc(), free, None)?;
     assert_eq!(rt; calls.as_slice(), [again(ARMED), stop(STOPPED)].as_slice());
     Ok(())
 }
@@ -217,14 +217,13 @@ fn two_locks(alloc: Global) -> Result<ClientLocks, NoMemory>
 
 /// The calls that function 0 makes under this hold, and what is held after them.
 fn calls_under(
-    rt: &impl Abort,
     alloc: Global,
     spec: Spec,
     mut hold: Hold<'_>,
 ) -> Result<(Seq<PortCall>, Held), NoMemory>
     requires { spec.direct ≡ false }
 {
-    let calls = calls_of_run(rt, alloc, spec, Some(&mut hold))?;
+    let calls = calls_of_run(alloc, spec, Some(&mut hold))?;
     Ok((calls, hold.held()))
 }
 
@@ -232,10 +231,10 @@ fn calls_under(
 fn calls_are_made_under_the_hold(rt: HostRuntime) -> Result<(), Fail> {
     let locks = two_locks(rt.alloc())?;
     let locked = spec_of(LockUse::Mtx(0), false);
-    let (calls, _) = calls_under(&rt, rt.alloc(), locked, locks.lock(&rt, 0))?;
+    let (calls, _) = calls_under(rt.alloc(), locked, locks.lock(&rt, 0))?;
     assert_eq!(rt; calls.as_slice(), [again(ARMED), stop(STOPPED)].as_slice());
     let shared = spec_of(LockUse::RwShared(1), false);
-    let (calls, held) = calls_under(&rt, rt.alloc(), shared, locks.read(&rt, 1))?;
+    let (calls, held) = calls_under(rt.alloc(), shared, locks.read(&rt, 1))?;
     assert_eq!(rt;
         calls.as_slice(),
         [again(ARMED), stop(PortReply::NotHeld)].as_slice()
@@ -248,28 +247,61 @@ fn calls_are_made_under_the_hold(rt: HostRuntime) -> Result<(), Fail> {
     Ok(())
 }
 
-/// The calls that function 0 makes after the release of lock 0, each while the port holds that lock.
-fn calls_of_run_unlock<R: Wait + Sync + Abort>(
+/// The calls that function 0 makes after the release of lock 0. Another thread is met before and after each.
+fn calls_of_run_unlock<R: Wait + Sync>(
+    rt: &R,
+    alloc: Global,
+    locks: &ClientLocks,
+    met: &Barrier,
+) -> Result<Seq<PortCall>, NoMemory>
+    requires { 0 < length locks.now }
+{
+    let spec = spec_of(LockUse::Mtx(0), true);
+    let mut table = worked_table(alloc, spec)?;
+    let mut callouts = [running(spec)];
+    let mut port = AlonePort::new(alloc, &mut callouts, 5, 2)?;
+    let hold = locks.lock(rt, 0);
+    let mut meeting = MeetingPort::new(rt, met, &mut port);
+    table.run_unlock(&first_fire(), hold, &mut meeting);
+    Ok(port.into_calls())
+}
+
+/// Takes lock 0 in each of two calls of another thread.
+fn lock_in_calls<R: Wait + Sync>(rt: &R, locks: &ClientLocks, met: &Barrier)
+    requires { 0 < length locks.now }
+{
+    for _ in 0..2 {
+        met.wait(rt);
+        drop(locks.lock(rt, 0));
+        met.wait(rt);
+    }
+}
+
+/// The calls of function 0, in each of which another thread can take the lock that the service had.
+fn calls_beside_a_lock<R: Threads + Wait + Sync>(
     rt: &R,
     alloc: Global,
     locks: &ClientLocks,
 ) -> Result<Seq<PortCall>, NoMemory>
     requires { 0 < length locks.now }
 {
-    let spec = spec_of(LockUse::Mtx(0), true);
-    let mut table = worked_table(alloc, spec)?;
-    let mut callouts = [running(rt, spec)];
-    let mut port = AlonePort::new(alloc, &mut callouts, 5, 2)?;
-    let hold = locks.lock(rt, 0);
-    let mut locking = LockingPort::new(rt, locks, &mut port);
-    table.run_unlock(&first_fire(), hold, &mut locking);
-    Ok(port.into_calls())
+    let met = Barrier::new(2);
+    let (calls, ()) = join(
+        rt,
+        || -> Result<Seq<PortCall>, NoMemory>
+            requires { IsSync R.row × (0 < length locks.now) }
+        { calls_of_run_unlock(rt, alloc, locks, &met) },
+        ||
+            requires { IsSync R.row × (0 < length locks.now) }
+        { lock_in_calls(rt, locks, &met) },
+    );
+    calls
 }
 
 #[test]
 fn the_hold_is_released_before_the_first_act(rt: HostRuntime) -> Result<(), Fail> {
     let locks = two_locks(rt.alloc())?;
-    let calls = calls_of_run_unlock(&rt, rt.alloc(), &locks)?;
+    let calls = calls_beside_a_lock(&rt, rt.alloc(), &locks)?;
     assert_eq!(rt;
         calls.as_slice(),
         [again(PortReply::NotHeld), stop(PortReply::NotHeld)].as_slice()

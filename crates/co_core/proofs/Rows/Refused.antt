@@ -1,7 +1,6 @@
 -- Lists of notes that don't follow, next to those of the row in transit.
-use Rattle.std.proofs.Common.{◌≡◌, ℕ, List, [], ◌∷◌, ◌++◌}
+use Rattle.std.proofs.Common.{List, [], ◌∷◌, ◌++◌}
 use Rattle.co_object.specs.declared.Note.{Note}
-use Rattle.co_program.specs.Action.{Nothing}
 use Rattle.co_program.specs.Follows.{Follows}
 use Rattle.co_core.proofs.Rows.InTransit.{script, histories, list0}
 

@@ -5,11 +5,11 @@ ghost use Rattle.co_lock.specs.Covers.{covers};
 ghost use Rattle.co_hand.specs.Ports.{PortState};
 
 use crate::{Port, PortCall, PortReply};
-use co_lock::{ClientLocks, Held, Hold, covers};
+use co_lock::{Held, Hold, covers};
 use co_object::{Alone, CallOp, Next, Op, PlainOp, Reply};
 use co_sbt::{NoMemory, Room, Seq};
 use std::alloc::Global;
-use std::sync::Wait;
+use std::sync::{Barrier, Wait};
 
 /// Answers from callouts that it borrows, and stores its calls. It was made with a number.
 #[derive(Drop)]
@@ -98,31 +98,31 @@ fn answer_of(callout: &mut Alone, op: &PlainOp, held: Option<Held>) -> PortReply
     }
 }
 
-/// A port that takes lock 0 for each of its calls, and so waits where another has it, its caller among them.
+/// A port that meets another thread before and after each of its calls, and waits for it.
 #[derive(Drop)]
-pub struct LockingPort<'a, R: Wait, P: Port> {
+pub struct MeetingPort<'a, R: Wait, P: Port> {
     rt: &'a R,
-    locks: &'a ClientLocks,
+    met: &'a Barrier,
     port: &'a mut P,
-    ghost some: { 0 < length locks.now },
 }
 
-impl<'a, R: Wait, P: Port> LockingPort<'a, R, P> {
-    pub fn new(rt: &'a R, locks: &'a ClientLocks, port: &'a mut P) -> LockingPort<'a, R, P>
-        requires { 0 < length locks.now }
+impl<'a, R: Wait, P: Port> MeetingPort<'a, R, P> {
+    pub fn new(rt: &'a R, met: &'a Barrier, port: &'a mut P) -> MeetingPort<'a, R, P>
         ensures { P.state result.port.now ≡ P.state port.old }
     {
-        LockingPort { rt, locks, port }
+        MeetingPort { rt, met, port }
     }
 }
 
-impl<'a, R: Wait, P: Port> Port for LockingPort<'a, R, P> {
+impl<'a, R: Wait, P: Port> Port for MeetingPort<'a, R, P> {
     type Origin = P::Origin;
 
     ghost state = { λ p. P.state p.port.now };
 
     fn call(&mut self, i: u32, op: &PlainOp, hold: Option<&Hold<'_>>) -> PortReply {
-        let _held = self.locks.lock(self.rt, 0);
-        self.port.call(i, op, hold)
+        self.met.wait(self.rt);
+        let answer = self.port.call(i, op, hold);
+        self.met.wait(self.rt);
+        answer
     }
 }

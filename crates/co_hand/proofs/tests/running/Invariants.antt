@@ -3,4 +3,4 @@ use Rattle.std.proofs.Common.{◌≡◌}
 use Rattle.co_hand.proofs.tests.running.Given as goal
 
 abbrev pub invariant-loop-op : goal.invariant-loop-op
-invariant-loop-op g l = l.callout.spec ≡ l.fn.spec
+invariant-loop-op l = l.callout.spec ≡ l.fn.spec

@@ -1,8 +1,5 @@
 -- A client's next act, or the service under way, takes this lock, and so does the action.
-use Rattle.std.proofs.Common.{rules, ◌≡◌, None, ◌∙◌, sym}
-use Rattle.co_lock.specs.declared.held.Held.{Held}
-use Rattle.co_program.specs.declared.cursor.Parcel.{Parcel}
-use Rattle.std.specs.declared.option.Option.{Option}
+use Rattle.std.proofs.Common.{◌∙◌, sym}
 use Rattle.co_core.proofs.Taking.{client-takes, service-takes, none-there}
 use Rattle.co_core.proofs.blocked.taking.takes_next.Goals as goal
 

@@ -1,5 +1,5 @@
 -- The table has the holders of the lock, and says whether one of them excludes the hold.
-use Rattle.std.proofs.Common.{rules, ◌≡◌, ◌<◌, length, get_or, sym, ap, ◌∙◌}
+use Rattle.std.proofs.Common.{rules, ◌≡◌, ◌<◌, length, get_or, ap, ◌∙◌}
 use Rattle.std.specs.List.{list_any}
 use Rattle.co_program.specs.declared.cursor.Cursor.{Cursor as CursorAt}
 use Rattle.co_core.specs.Blocked.{is_excluded_by}

@@ -1,4 +1,4 @@
-use Rattle.std.proofs.Common.{rules, ◌≡◌, ℕ, replicate, [], length, refl, ap, sym, ◌∙◌, arith}
+use Rattle.std.proofs.Common.{length, refl, ap}
 use Rattle.co_program.specs.Actors.{actor_count}
 use Rattle.co_core.proofs.Booting.{opening-written}
 use Rattle.co_core.proofs.Holders.{no-one}

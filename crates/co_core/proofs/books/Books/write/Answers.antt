@@ -1,4 +1,4 @@
-use Rattle.std.proofs.Common.{arith, rules, ◌≡◌, ◌<◌, ◌≤◌, ◌+◌, ◌-◌, ◌^◌, ℕ, List, sym, subst, ap, ◌∙◌, length, get_or, set}
+use Rattle.std.proofs.Common.{arith, rules, ◌≡◌, ◌<◌, ◌-◌, ◌^◌, ℕ, List, sym, subst, ap, ◌∙◌, length, get_or, set}
 use Rattle.std.proofs.lemmas.List.{get_or_read}
 use Rattle.co_core.specs.contracts.books.Books.{the_view}
 use Rattle.co_core.specs.declared.books.holders.Holders.{Holders}

@@ -1,7 +1,6 @@
 -- The books hold a count of the callout's entries, which is below the number of notes; one entry more is as the plain world has it.
-use Rattle.std.proofs.Common.{rules, arith, ◌≡◌, ◌<◌, ◌≤◌, ◌+◌, ◌^◌, ℕ, sym, ap, subst, ◌∙◌, length, get_or, set, length-set}
+use Rattle.std.proofs.Common.{rules, arith, ◌≡◌, ◌<◌, ◌≤◌, ◌+◌, sym, ap, subst, ◌∙◌, length, get_or, set, length-set}
 use Rattle.std.proofs.lemmas.List.{get_or_read}
-use Rattle.co_core.specs.contracts.books.Books.{the_view}
 use Rattle.co_core.specs.Written.{Written, IsNoted, with_list}
 use Rattle.co_core.proofs.Writing.{written_callout, history_there, list_there, callout_note}
 use Rattle.co_core.proofs.books.Books.write_callout.Goals as goal

@@ -3,7 +3,6 @@ use Rattle.std.proofs.Common.{◌≡◌, ℕ, sym, ap, ◌∙◌, subst, Some}
 use Rattle.co_object.specs.declared.queue.QOp.TheVariants.{Insert}
 use Rattle.co_object.specs.declared.queue.QReply.TheVariants.{At}
 use Rattle.co_program.specs.declared.cursor.Parcel.{Parcel}
-use Rattle.co_program.specs.declared.cursor.Cursor.{Cursor as CursorAt}
 use Rattle.co_program.specs.Cursor.{Cursor}
 use Rattle.co_core.specs.Stands.{IsWritten}
 use Rattle.co_core.specs.Step.{queue_answers}

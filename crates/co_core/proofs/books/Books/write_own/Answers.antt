@@ -1,7 +1,6 @@
 -- The books hold a count of the actor's own notes, at most the number of notes; one more is as the plain world has it.
-use Rattle.std.proofs.Common.{rules, false, arith, ◌≡◌, ◌<◌, ◌≤◌, ◌+◌, ◌^◌, ℕ, sym, ap, subst, ◌∙◌, length, get_or, set, length-set}
+use Rattle.std.proofs.Common.{rules, false, arith, ◌≡◌, ◌<◌, ◌≤◌, ◌+◌, sym, ap, subst, ◌∙◌, length, get_or, set, length-set}
 use Rattle.std.proofs.lemmas.List.{get_or_read}
-use Rattle.co_core.specs.contracts.books.Books.{the_view}
 use Rattle.co_core.specs.Written.{Written, IsNoted, with_list}
 use Rattle.co_core.proofs.Writing.{written_own, own_there, list_there, own_entry}
 use Rattle.co_core.proofs.books.Books.write_own.Goals as goal

@@ -1,5 +1,5 @@
 -- The books hold counts of the journal's entries and of its Scans, each at most the number of notes; one entry more is as the plain world has it.
-use Rattle.std.proofs.Common.{rules, false, arith, ◌≡◌, ◌<◌, ◌≤◌, ◌+◌, ◌^◌, ℕ, sym, ap, subst, ◌∙◌, length, get_or, set, length-set}
+use Rattle.std.proofs.Common.{rules, false, arith, ◌≡◌, ◌<◌, ◌≤◌, ◌+◌, ℕ, sym, ap, subst, ◌∙◌, length, get_or, set, length-set}
 use Rattle.std.proofs.lemmas.List.{get_or_read}
 use Rattle.co_program.specs.Follows.{one_scan}
 use Rattle.co_core.specs.contracts.books.Books.{the_view}

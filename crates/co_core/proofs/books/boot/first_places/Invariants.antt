@@ -1,4 +1,4 @@
-use Rattle.std.proofs.Common.{◌≡◌, ◌-◌, ◌≤◌, length, replicate, vec_len}
+use Rattle.std.proofs.Common.{◌≡◌, ◌-◌, ◌≤◌, replicate, vec_len}
 use Rattle.co_core.specs.Written.{first_place}
 use Rattle.co_core.proofs.books.boot.first_places.Given as goal
 

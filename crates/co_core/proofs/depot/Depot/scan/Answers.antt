@@ -1,10 +1,6 @@
 use Rattle.std.proofs.Common.{rules, ◌≡◌}
-use Rattle.co_core.proofs.Storing.{stored_after}
-use Rattle.co_core.proofs.Placing.{placed_after}
-use Rattle.co_core.proofs.Slots.{call_kept}
-use Rattle.co_core.specs.Stands.{IsPlaced}
 use Rattle.std.proofs.lemmas.List.{get_or_read}
-use Rattle.co_core.specs.Stored.{IsScanned, wheel_at}
+use Rattle.co_core.specs.Stored.{wheel_at}
 use Rattle.co_core.proofs.depot.Depot.scan.Goals as goal
 
 pub returns : goal.returns

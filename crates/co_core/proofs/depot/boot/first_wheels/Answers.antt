@@ -1,4 +1,4 @@
-use Rattle.std.proofs.Common.{rules, ◌≡◌, ◌+◌, ◌++◌, ◌∷◌, [], ◌∙◌, List, ap}
+use Rattle.std.proofs.Common.{◌++◌, ◌∷◌, [], ◌∙◌, List, ap}
 use Rattle.co_wheel.specs.Cpu.{Cpu}
 use Rattle.co_core.specs.Booted.{first_wheel}
 use Rattle.co_core.specs.Table.{table}

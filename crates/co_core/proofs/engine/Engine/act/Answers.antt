@@ -1,5 +1,5 @@
 -- The actor's notes are taken in hand, lengthened and put back.
-use Rattle.std.proofs.Common.{◌≡◌, ℕ, ◌<◌, length, sym, ap, subst}
+use Rattle.std.proofs.Common.{ℕ, sym, ap, subst}
 use Rattle.co_program.specs.Action.{Action}
 use Rattle.co_program.specs.Indexed.{action_of}
 use Rattle.co_core.specs.Stands.{IsDue}

@@ -1,11 +1,9 @@
 -- The depot's begin and its entry are together the plain world's step.
 use Rattle.std.proofs.Common.{◌≡◌, ℕ, true, false, sym, ◌∙◌, subst, Some}
-use Rattle.std.specs.Prelude.{is_some}
 use Rattle.co_object.specs.declared.state.State.{State}
 use Rattle.co_object.specs.declared.op.Op.TheVariants.{Run}
 use Rattle.co_object.specs.declared.RunOp.TheVariants.{Begin}
 use Rattle.co_object.specs.Entries.{is_armed}
-use Rattle.co_object.specs.Stand.{off}
 use Rattle.co_core.specs.Stored.{Stored}
 use Rattle.co_core.specs.Written.{Written, with_list}
 use Rattle.co_core.specs.Stands.{StandsFor, IsWritten}

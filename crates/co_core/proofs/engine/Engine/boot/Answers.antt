@@ -1,5 +1,4 @@
 -- The books and the depot before the first step stand for the world that opens.
-use Rattle.std.proofs.Common.{rules}
 use Rattle.co_core.proofs.Booting.{opening-stands}
 use Rattle.co_core.proofs.engine.Engine.boot.Goals as goal
 

@@ -9,14 +9,11 @@ use Rattle.co_object.specs.Queue.{Queue as TimerQueue}
 use Rattle.co_object.specs.Stand.{off}
 use Rattle.co_program.specs.declared.cursor.Parcel.{Parcel}
 use Rattle.co_object.specs.declared.op.Op.TheVariants.{Call}
-use Rattle.co_program.specs.declared.action.Asked.TheVariants.{Callout}
-use Rattle.co_program.specs.declared.script.Script.{Script}
-use Rattle.co_program.specs.Action.{Asks}
 use Rattle.co_core.specs.World.{World}
 use Rattle.co_core.specs.Step.{callout_answers, queue_answers, step}
-use Rattle.co_core.specs.Stored.{Stored, with_bag, with_wheel}
-use Rattle.co_core.specs.Written.{Written, with_list, place_at}
-use Rattle.co_core.specs.Stands.{StandsFor, IsWritten, IsDue, MayWrite}
+use Rattle.co_core.specs.Stored.{Stored}
+use Rattle.co_core.specs.Written.{with_list, place_at}
+use Rattle.co_core.specs.Stands.{StandsFor, IsWritten, MayWrite}
 use Rattle.co_core.proofs.Calling.{known, stand_there, cpu_there, cpu_below, here, first_world, second_world, parcel_there, stands_called}
 use Rattle.co_core.proofs.engine.Engine.call.Goals as goal
 

@@ -1,9 +1,7 @@
 -- A drain's next try waits while the slots of the callout's CPU have the service that its last one named.
-use Rattle.std.proofs.Common.{◌≡◌, ℕ, sym, ap, ◌∙◌, subst}
-use Rattle.co_program.specs.Scripts.{IsScript}
+use Rattle.std.proofs.Common.{sym, ap, ◌∙◌, subst}
 use Rattle.co_program.specs.Indexed.{stage_of}
 use Rattle.co_core.specs.Blocked.{is_waiting}
-use Rattle.co_core.specs.Stands.{StandsFor}
 use Rattle.co_core.proofs.InSlots.{in-service}
 use Rattle.co_core.proofs.Opening.{reached_steady}
 use Rattle.co_core.proofs.Sound.{IsSteady}

@@ -1,5 +1,5 @@
 -- The depot's end, its entry and the Free are together the plain world's step.
-use Rattle.std.proofs.Common.{◌≡◌, ℕ, ◌<◌, Bool, true, false, List, slice_index_or, sym, ap, ◌∙◌, subst, arith, length, Some, Option}
+use Rattle.std.proofs.Common.{◌≡◌, ℕ, ◌<◌, Bool, true, false, List, slice_index_or, sym, ap, ◌∙◌, subst, length, Some}
 use Rattle.std.specs.Prelude.{is_some}
 use Rattle.co_object.specs.declared.spec.LockUse.TheVariants.{Free}
 use Rattle.co_object.specs.declared.spec.Spec.{Spec}
@@ -10,9 +10,7 @@ use Rattle.co_object.specs.declared.queue.QOp.{QOp}
 use Rattle.co_object.specs.declared.queue.QReply.TheVariants.{Freed}
 use Rattle.co_object.specs.Entries.{is_armed}
 use Rattle.co_object.specs.Queue.{Queue as TimerQueue}
-use Rattle.co_object.specs.Stand.{off}
 use Rattle.co_program.specs.Action.{spec_at}
-use Rattle.co_wheel.specs.Parcel.{Parcel as Travelling}
 use Rattle.co_wheel.specs.Service.{end_here}
 use Rattle.co_wheel.specs.Turns.{free_of}
 use Rattle.co_core.specs.World.{World}
@@ -21,7 +19,7 @@ use Rattle.co_core.specs.Written.{Written, with_list}
 use Rattle.co_core.specs.Stands.{StandsFor, IsWritten, MayWrite}
 use Rattle.co_core.specs.Step.{callout_answers, queue_answers, step}
 use Rattle.co_core.proofs.Invariant.{states_of}
-use Rattle.co_core.proofs.EndSection.{end_there, end_known, end_bag, ends_here, end_unarmed, stands_ended}
+use Rattle.co_core.proofs.EndSection.{end_there, end_known, ends_here, end_unarmed, stands_ended}
 use Rattle.co_core.proofs.engine.Engine.end.Goals as goal
 
 -- the lane of the callout, as it was read

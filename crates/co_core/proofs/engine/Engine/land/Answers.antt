@@ -1,5 +1,5 @@
 -- The depot's landing and the Insert are together the plain world's step.
-use Rattle.std.proofs.Common.{◌≡◌, ℕ, sym, ◌∙◌, subst, Some}
+use Rattle.std.proofs.Common.{ℕ, sym, subst}
 use Rattle.co_core.specs.Stored.{Stored}
 use Rattle.co_core.specs.Written.{Written, with_list}
 use Rattle.co_core.specs.Stands.{StandsFor}

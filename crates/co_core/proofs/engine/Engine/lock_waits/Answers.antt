@@ -1,6 +1,5 @@
 -- A lock is held in the books where an actor of the world has it.
-use Rattle.std.proofs.Common.{◌≡◌, sym, ◌∙◌, refl}
-use Rattle.co_core.specs.Blocked.{is_locked}
+use Rattle.std.proofs.Common.{sym, ◌∙◌, refl}
 use Rattle.co_core.proofs.Waiting.{locked-is}
 use Rattle.co_core.proofs.engine.Engine.lock_waits.Goals as goal
 

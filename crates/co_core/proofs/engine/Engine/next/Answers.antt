@@ -1,5 +1,5 @@
 -- The depot's next, the Pop and, where a callout has come due, its Pick are together the plain world's step.
-use Rattle.std.proofs.Common.{◌≡◌, ℕ, ◌<◌, true, false, sym, ◌∙◌, subst, Some}
+use Rattle.std.proofs.Common.{◌≡◌, ℕ, true, false, sym, ◌∙◌, subst, Some}
 use Rattle.std.specs.Prelude.{is_some}
 use Rattle.co_object.specs.declared.state.State.{State}
 use Rattle.co_object.specs.declared.op.Op.TheVariants.{Run}

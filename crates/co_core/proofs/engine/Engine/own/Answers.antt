@@ -1,6 +1,4 @@
 use Rattle.std.proofs.Common.{ℕ, sym, subst}
-use Rattle.co_core.proofs.EndSection.{ends_here}
-use Rattle.co_core.proofs.CallSection.{is_at_wheel}
 use Rattle.co_core.specs.Written.{Written, with_list}
 use Rattle.co_core.specs.Stands.{StandsFor}
 use Rattle.co_core.specs.Step.{step}

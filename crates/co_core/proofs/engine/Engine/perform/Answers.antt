@@ -1,5 +1,5 @@
 -- Each action is one section's.
-use Rattle.std.proofs.Common.{ℕ, subst}
+use Rattle.std.proofs.Common.{subst}
 use Rattle.co_program.specs.declared.Action.{Action}
 use Rattle.co_program.specs.Indexed.{ActionCounts, action_of}
 use Rattle.co_core.specs.Stands.{IsDue}

@@ -1,5 +1,5 @@
 -- A Remove is made by its call and a Free with its End, and so neither is ever due.
-use Rattle.std.proofs.Common.{ℕ, subst}
+use Rattle.std.proofs.Common.{subst}
 use Rattle.co_object.specs.declared.QOp.{QOp}
 use Rattle.co_program.specs.Action.{Asks}
 use Rattle.co_program.specs.declared.Asked.TheVariants.{Queue}

@@ -1,5 +1,5 @@
 -- The depot's scan and its entry are together the plain world's step.
-use Rattle.std.proofs.Common.{◌≡◌, ℕ, sym, ◌∙◌, subst}
+use Rattle.std.proofs.Common.{ℕ, sym, subst}
 use Rattle.co_core.specs.Stored.{Stored}
 use Rattle.co_core.specs.Written.{Written, with_list}
 use Rattle.co_core.specs.Stands.{StandsFor}

@@ -1,5 +1,5 @@
 -- A Pick is made with its Pop, and so never due.
-use Rattle.std.proofs.Common.{ℕ, subst}
+use Rattle.std.proofs.Common.{subst}
 use Rattle.co_object.specs.declared.Op.TheVariants.{Run}
 use Rattle.co_object.specs.declared.RunOp.{RunOp}
 use Rattle.co_program.specs.Action.{Asks}

@@ -1,7 +1,5 @@
 -- The step is the plain world's, and what it answers is told by how many notes it made.
-use Rattle.std.proofs.Common.{◌≡◌, ℕ, ◌<◌, sym, ap, ◌∙◌, subst, arith}
-use Rattle.co_core.specs.Stands.{StandsFor, IsDue}
-use Rattle.co_core.specs.Step.{step}
+use Rattle.std.proofs.Common.{sym, ◌∙◌}
 use Rattle.co_core.proofs.Undue.{turn_is, not_some}
 use Rattle.co_core.proofs.Waiting.{due_of}
 use Rattle.co_core.proofs.engine.Engine.step.Goals as goal

@@ -1,4 +1,4 @@
-use Rattle.std.proofs.Common.{◌≡◌, ◌-◌, ◌∙◌, subst, true, inl, refl, arith}
+use Rattle.std.proofs.Common.{◌≡◌, ◌∙◌, subst, inl, refl, arith}
 use Rattle.co_program.specs.declared.Script.{Script}
 use Rattle.co_core.specs.Seen.{Seen}
 use Rattle.co_core.specs.Shows.{Shows}
