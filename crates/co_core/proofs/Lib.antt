@@ -89,3 +89,4 @@ pub mod Whereabouts
 pub mod Turning
 pub mod WorkedScripts
 pub mod Taking
+pub mod Ending

@@ -1,10 +1,14 @@
 //! The walk of a script: its turns, then round robin until all have finished.
 ghost use Rattle.std.specs.Prelude.{◌≡◌, ℕ, ◌^◌, ◌<◌, true, OnOk, IfOk};
+ghost use Rattle.co_program.specs.Actors.{actor_count};
 ghost use Rattle.co_program.specs.Scripts.{IsScript};
 ghost use Rattle.co_core.specs.Shows.{Shows};
-ghost use Rattle.co_core.specs.Walk.{AllFinished, IsWalk, round, rounds, run};
+ghost use Rattle.co_core.specs.Ended.{HaveEnded};
+ghost use Rattle.co_core.specs.Step.{step};
+ghost use Rattle.co_core.specs.Walk.{AllFinished, HasFinished, IsWalk, round, rounds, run};
 ghost use Rattle.co_core.specs.World.{World as PlainWorld};
 
+use crate::ended::Ended;
 use crate::turn::Turn;
 use crate::world::World;
 use co_object::Lists;
@@ -34,16 +38,37 @@ impl<'a> World<'a> {
         Ok(())
     }
 
+    /// One step of an actor, unless it is known to have finished: then a step changes nothing. The answer is whether it has
+    /// finished.
+    fn step_unless_ended(&mut self, actor: u32, ended: &mut Ended) -> Result<bool, NoMemory>
+        requires { actor < actor_count self.old.script }
+        ensures stands { OnOk result ((w : PlainWorld) → Shows self.old w → HaveEnded self.old.script w ended.old.flags →
+            Shows self.new (step self.old.script w actor) × HaveEnded self.old.script (step self.old.script w actor) ended.new.flags) }
+        ensures finished { IfOk result (λ finished. finished ≡ true → (w : PlainWorld) → Shows self.old w → HaveEnded self.old.script w ended.old.flags → HasFinished self.old.script w actor) }
+        ensures script { self.new.script ≡ self.old.script }
+    {
+        if ended.knows(actor) {
+            return Ok(true);
+        }
+        let finished = is_finished(self.step(actor)?);
+        if finished {
+            ended.learn(actor);
+        }
+        Ok(finished)
+    }
+
     /// A round: each actor steps once, in order of the actors' numbers. The answer is whether all had finished before.
-    fn round(&mut self) -> Result<bool, NoMemory>
-        ensures stands { OnOk result ((w : PlainWorld) → Shows self.old w → Shows self.new (round self.old.script w)) }
-        ensures finished { IfOk result (λ finished. finished ≡ true → (w : PlainWorld) → Shows self.old w → AllFinished self.old.script w × (round self.old.script w ≡ w)) }
+    fn round(&mut self, ended: &mut Ended) -> Result<bool, NoMemory>
+        ensures stands { OnOk result ((w : PlainWorld) → Shows self.old w → HaveEnded self.old.script w ended.old.flags →
+            Shows self.new (round self.old.script w) × HaveEnded self.old.script (round self.old.script w) ended.new.flags) }
+        ensures finished { IfOk result (λ finished. finished ≡ true → (w : PlainWorld) → Shows self.old w → HaveEnded self.old.script w ended.old.flags →
+            AllFinished self.old.script w × (round self.old.script w ≡ w)) }
         ensures script { self.new.script ≡ self.old.script }
     {
         let mut finished = true;
         for actor in 0..actor_count(self.script()) {
-            let ended = is_finished(self.step(actor)?);
-            finished = finished && ended;
+            let done = self.step_unless_ended(actor, ended)?;
+            finished = finished && done;
         }
         Ok(finished)
     }
@@ -55,9 +80,10 @@ impl<'a> World<'a> {
             (number : ℕ) × Shows self.new (rounds self.old.script w number) × AllFinished self.old.script (rounds self.old.script w number)) }
         ensures script { self.new.script ≡ self.old.script }
     {
+        let mut ended = Ended::none();
         // What is left to do falls with every round, so it ends long before it has counted so far.
         for _round in 0..u64::MAX {
-            if self.round()? {
+            if self.round(&mut ended)? {
                 return Ok(());
             }
         }

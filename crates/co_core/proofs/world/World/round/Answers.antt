@@ -1,14 +1,15 @@
-use Rattle.std.proofs.Common.{◌≡◌, ℕ, List, ◌+◌, ◌<◌, ◌∙◌, ◌⊎◌, ap, subst, sym, true, false, inl, inr, arith}
+use Rattle.std.proofs.Common.{◌≡◌, ℕ, List, Bool, ◌+◌, ◌<◌, ◌∙◌, ◌⊎◌, ap, subst, sym, true, false, inl, inr, arith}
 use Rattle.std.specs.List.{range_with_len}
 use Rattle.co_program.specs.declared.Script.{Script}
 use Rattle.co_program.specs.Actors.{actor_count}
+use Rattle.co_core.specs.Ended.{HaveEnded}
 use Rattle.co_core.specs.Shows.{Shows}
 use Rattle.co_core.specs.Seen.{Seen}
-use Rattle.co_core.specs.Step.{step, turn_of}
+use Rattle.co_core.specs.Step.{step}
 use Rattle.co_core.specs.Walk.{run, HasFinished}
 use Rattle.co_core.specs.World.{World}
 use Rattle.co_core.proofs.Moves.{decide}
-use Rattle.co_core.proofs.Rounding.{range-more, turn-finished}
+use Rattle.co_core.proofs.Rounding.{range-more}
 use Rattle.co_core.proofs.Walks.{run_more, finished_step}
 use Rattle.co_core.proofs.world.World.round.Goals.{then-finished, else-finished}
 use Rattle.co_core.proofs.world.World.round.Goals as goal
@@ -18,36 +19,42 @@ last : (s : Script) (w at : World) (i a : ℕ) → ((b : ℕ) → b < i → HasF
 last s w at i a before here (inl same) below = subst (λ (k : ℕ). HasFinished s w k) (sym same) here
 last s w at i a before here (inr other) below = before a (omega (arith, other, below))
 
+-- what is shown and known, of a world
+abbrev IsKnown : Seen → List Bool → Script → World → Type 0
+IsKnown x known s w = Shows x w × HaveEnded s w known
+
 -- a step under the script's own name
-under : (x : Seen) (s k : Script) (w : World) (a : ℕ) → k ≡ s → Shows x (step k w a) → Shows x (step s w a)
-under x s k w a same h = subst (λ (j : Script). Shows x (step j w a)) same h
+under : (x : Seen) (known : List Bool) (s k : Script) (w : World) (a : ℕ) → k ≡ s → IsKnown x known k (step k w a) → IsKnown x known s (step s w a)
+under x known s k w a same h = subst (λ (j : Script). IsKnown x known j (step j w a)) same h
 
 pub loop-actor-preserved : goal.loop-actor-preserved
 loop-actor-preserved c =
     let s = c.args.self.now.script in
     let i = c.loop-actor.actor in
     let own = c.loop-actor.invariant.2 in (
-      λ w h.
+      λ w h have.
           let at = run s w (range_with_len 0 i) in
-          let after = under c.step.new.self s c.loop-actor.self.script at i own (c.in_ok-step.ensures.stands at (c.loop-actor.invariant.0 w h)) in
-          subst (λ (v : World). Shows c.step.new.self v) (sym (run_more s w (range_with_len 0 i) i) ∙ ap (λ (xs : List ℕ). run s w xs) (range-more i)) after,
+          let here = c.loop-actor.invariant.0 w h have in
+          let known = subst (λ (k : Script). HaveEnded k at c.loop-actor.ended.flags) (sym own) here.1 in
+          let after = under c.step_unless_ended.new.self c.step_unless_ended.new.ended.flags s c.loop-actor.self.script at i own (c.in_ok-done.ensures.stands at here.0 known) in
+          subst (λ (v : World). IsKnown c.step_unless_ended.new.self c.step_unless_ended.new.ended.flags s v) (sym (run_more s w (range_with_len 0 i) i) ∙ ap (λ (xs : List ℕ). run s w xs) (range-more i)) after,
       elim c.if-finished.branch [
-        | then-finished b ↦ (λ all w h.
-            let before = c.loop-actor.invariant.1 b.if-finished.true w h in
+        | then-finished b ↦ (λ all w h have.
+            let before = c.loop-actor.invariant.1 b.if-finished.true w h have in
             let at = run s w (range_with_len 0 i) in
-            let said = c.is_finished-ended.ensures (sym b.finished-is ∙ all) in
-            let turn = c.in_ok-step.ensures.turn at (c.loop-actor.invariant.0 w h) in
-            let finished : HasFinished s at i = turn-finished s at i (ap (λ (k : Script). turn_of k at i) (sym own) ∙ sym turn ∙ said) in (
+            let here = c.loop-actor.invariant.0 w h have in
+            let known = subst (λ (k : Script). HaveEnded k at c.loop-actor.ended.flags) (sym own) here.1 in
+            let finished : HasFinished s at i = subst (λ (k : Script). HasFinished k at i) own (c.in_ok-done.ensures.finished (sym b.finished-is ∙ all) at here.0 known) in (
               λ a below. last s w at i a before.0 (subst (λ (v : World). HasFinished s v i) before.1 finished) (decide a i) below,
               ap (λ (xs : List ℕ). run s w xs) (sym (range-more i)) ∙ (run_more s w (range_with_len 0 i) i ∙ (finished_step s at i finished ∙ before.1)),
             ))
-        | else-finished b ↦ (λ all w h. let never : false ≡ true = sym b.if-finished.false ∙ (sym b.finished-is ∙ all) in cc)
+        | else-finished b ↦ (λ all w h have. let never : false ≡ true = sym b.if-finished.false ∙ (sym b.finished-is ∙ all) in cc)
       ],
-      c.step.ensures.script ∙ own,
+      c.step_unless_ended.ensures.script ∙ own,
     )
 
 pub returns-clause-stands : goal.returns-clause-stands
-returns-clause-stands c w h =
+returns-clause-stands c w h have =
     let s = c.args.self.now.script in
     let whole : c.loop-actor.actor ≡ actor_count s = omega (arith, c.loop-actor.auto.actor-end, c.loop-actor-test.false, c.actor_count-actor-end.ensures, ap (λ (k : Script). actor_count k) c.script.ensures.same) in
-    subst (λ (n : ℕ). Shows c.loop-actor.self (run s w (range_with_len 0 n))) whole (c.loop-actor.invariant.0 w h)
+    subst (λ (n : ℕ). IsKnown c.loop-actor.self c.loop-actor.ended.flags s (run s w (range_with_len 0 n))) whole (c.loop-actor.invariant.0 w h have)

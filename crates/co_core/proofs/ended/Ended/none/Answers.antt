@@ -1,0 +1,5 @@
+use Rattle.co_core.proofs.Ending.{none_known}
+use Rattle.co_core.proofs.ended.Ended.none.Goals as goal
+
+pub returns : goal.returns
+returns c a = none_known 48 a
