@@ -54,6 +54,6 @@ pub fn check(alloc: Global, report: &[u8]) -> Result<Outcome, NoMemory> {
 /// A call of a command that reads nothing, over a source that fails where it is read, into so many bytes.
 pub fn make(alloc: Global, words: &[&str], room: usize) -> Result<Outcome, NoMemory> {
     let source = MemSource::new(alloc, b"unread".as_slice(), 1, &[0])?;
-    let sink = MemSink::new(alloc, room, room, &[])?;
+    let sink = MemSink::new(alloc, room, ROOM, &[])?;
     call(alloc, words, source, sink)
 }
