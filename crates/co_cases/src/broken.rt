@@ -54,8 +54,8 @@ pub fn edited(alloc: Global, report: &[u8], edit: Edit) -> Result<Seq<u8>, NoMem
     Ok(text)
 }
 
-/// Changes of the report of one firing: the change, how `check` ends, and the line that it writes.
-pub const FIRING_EDITS: [(Edit, Status, &str); 141] = [
+/// Lines left out of the report of one firing: the change, how `check` ends, and the line that it writes.
+pub const FIRING_DROPS: [(Edit, Status, &str); 26] = [
     (Edit::Drop(1), Status::BadScript, "line 1: version"),
     (Edit::Drop(2), Status::BadScript, "line 2: version"),
     (Edit::Drop(3), Status::BadScript, "line 3: form"),
@@ -82,6 +82,10 @@ pub const FIRING_EDITS: [(Edit, Status, &str); 141] = [
     (Edit::Drop(24), Status::BadScript, "line 24: note"),
     (Edit::Drop(25), Status::BadScript, "line 25: note"),
     (Edit::Drop(26), Status::BadScript, "line 26: note"),
+];
+
+/// Lines of it that stand twice: the change, how `check` ends, and the line that it writes.
+pub const FIRING_DOUBLES: [(Edit, Status, &str); 26] = [
     (Edit::Double(1), Status::BadScript, "line 2: version"),
     (Edit::Double(2), Status::BadScript, "line 3: order"),
     (Edit::Double(3), Status::BadScript, "line 4: order"),
@@ -108,6 +112,10 @@ pub const FIRING_EDITS: [(Edit, Status, &str); 141] = [
     (Edit::Double(24), Status::BadScript, "line 25: note"),
     (Edit::Double(25), Status::BadScript, "line 26: note"),
     (Edit::Double(26), Status::BadScript, "line 27: note"),
+];
+
+/// Lines of it in another order: the change, how `check` ends, and the line that it writes.
+pub const FIRING_SWAPS: [(Edit, Status, &str); 25] = [
     (Edit::Swap(1), Status::BadScript, "line 1: version"),
     (Edit::Swap(2), Status::BadScript, "line 2: version"),
     (Edit::Swap(3), Status::BadScript, "line 4: order"),
@@ -133,6 +141,10 @@ pub const FIRING_EDITS: [(Edit, Status, &str); 141] = [
     (Edit::Swap(23), Status::BadScript, "line 24: note"),
     (Edit::Swap(24), Status::BadScript, "line 24: note"),
     (Edit::Swap(25), Status::BadScript, "line 25: note"),
+];
+
+/// Other texts in it, first of the reset: the change, how `check` ends, and the line that it writes.
+pub const FIRING_RESETS: [(Edit, Status, &str); 22] = [
     (
         Edit::Put(
             15,
@@ -297,6 +309,10 @@ pub const FIRING_EDITS: [(Edit, Status, &str); 141] = [
         Status::NotLegal,
         "line 16: follows",
     ),
+];
+
+/// Other texts in it, of the service and the queue: the change, how `check` ends, and the line that it writes.
+pub const FIRING_SERVICES: [(Edit, Status, &str); 22] = [
     (
         Edit::Put(16, r"2 p0/0 pick #0 p0 u6442450944 = hold"),
         Status::NotLegal,
@@ -407,6 +423,10 @@ pub const FIRING_EDITS: [(Edit, Status, &str); 141] = [
         Status::NotLegal,
         "line 21: illegal",
     ),
+];
+
+/// Other texts in it, of the tick, the headings and the script: the change, how `check` ends, and the line that it writes.
+pub const FIRING_OTHERS: [(Edit, Status, &str); 19] = [
     (
         Edit::Put(21, r"1 p0/0 pop = got i0 #0 u6442450943"),
         Status::NotLegal,
@@ -421,11 +441,6 @@ pub const FIRING_EDITS: [(Edit, Status, &str); 141] = [
         Edit::Put(21, r"1 p0/0 pop direct = empty"),
         Status::NotLegal,
         "line 21: actor",
-    ),
-    (
-        Edit::Put(22, r"4 p0/0 free = empty"),
-        Status::BadScript,
-        "line 22: note",
     ),
     (
         Edit::Put(22, r"4 p0/0 pop = empty"),

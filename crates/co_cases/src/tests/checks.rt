@@ -1,5 +1,8 @@
 //! Reports are judged.
-use crate::broken::{DRAIN_EDITS, Edit, FIRING_EDITS, edited};
+use crate::broken::{
+    DRAIN_EDITS, Edit, FIRING_DOUBLES, FIRING_DROPS, FIRING_OTHERS, FIRING_RESETS, FIRING_SERVICES,
+    FIRING_SWAPS, edited,
+};
 use crate::case::Case;
 use crate::examples::DRAIN;
 use crate::services::SERVICES;
@@ -56,8 +59,33 @@ fn are_judged(
 }
 
 #[test]
-fn changes_of_one_firing(rt: HostRuntime) -> Result<(), Fail> {
-    are_judged(&rt, &ONE_FIRING, FIRING_EDITS.as_slice())
+fn lines_left_out(rt: HostRuntime) -> Result<(), Fail> {
+    are_judged(&rt, &ONE_FIRING, FIRING_DROPS.as_slice())
+}
+
+#[test]
+fn lines_twice(rt: HostRuntime) -> Result<(), Fail> {
+    are_judged(&rt, &ONE_FIRING, FIRING_DOUBLES.as_slice())
+}
+
+#[test]
+fn lines_in_another_order(rt: HostRuntime) -> Result<(), Fail> {
+    are_judged(&rt, &ONE_FIRING, FIRING_SWAPS.as_slice())
+}
+
+#[test]
+fn other_resets(rt: HostRuntime) -> Result<(), Fail> {
+    are_judged(&rt, &ONE_FIRING, FIRING_RESETS.as_slice())
+}
+
+#[test]
+fn other_services(rt: HostRuntime) -> Result<(), Fail> {
+    are_judged(&rt, &ONE_FIRING, FIRING_SERVICES.as_slice())
+}
+
+#[test]
+fn other_headings(rt: HostRuntime) -> Result<(), Fail> {
+    are_judged(&rt, &ONE_FIRING, FIRING_OTHERS.as_slice())
 }
 
 #[test]
