@@ -1,0 +1,6 @@
+//! Notes that are told as they are made, to whoever keeps them.
+#![tactic(auto)]
+
+mod notebook;
+
+pub use notebook::Notebook;
