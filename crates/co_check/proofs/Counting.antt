@@ -94,14 +94,14 @@ any-passing p (x ∷ xs) h = at_test (p x) h (λ g. any-passing p xs g) where
   at_test false g later = omega (arith, later g)
 
 -- an actor's notes of lower numbers
-abbrev is_below : ℕ → ℕ → Line → Bool
+abbrev pub is_below : ℕ → ℕ → Line → Bool
 is_below a n l = is_by a l && nat_lt l.number n
 
-one-split : (by : Bool) (m n : ℕ) → cond (by && nat_lt m (suc n)) 1 0 ≡ cond (by && nat_lt m n) 1 0 + cond (by && m == n) 1 0
+pub one-split : (by : Bool) (m n : ℕ) → cond (by && nat_lt m (suc n)) 1 0 ≡ cond (by && nat_lt m n) 1 0 + cond (by && m == n) 1 0
 one-split true m n = grind (arith, nat_tests)
 one-split false m n = refl
 
-below-split : (a n : ℕ) (xs : List Line) → passing (is_below a (suc n)) xs ≡ passing (is_below a n) xs + passing (is_note a n) xs
+pub below-split : (a n : ℕ) (xs : List Line) → passing (is_below a (suc n)) xs ≡ passing (is_below a n) xs + passing (is_note a n) xs
 below-split a n [] = refl
 below-split a n (x ∷ xs) = omega (arith, one-split (is_by a x) x.number n, below-split a n xs)
 

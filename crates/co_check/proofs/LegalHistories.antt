@@ -110,7 +110,7 @@ module _ (s : Script) where
       nothing (may_serve (actors_of s) (spec_at s i) e.actor e.op) (is_reply (reply_of (step (spec_at s i) (state_after s above i) e.op)) e.reply)
       (served (actors_of s) (spec_at s i) e.actor e.op h.1) (reply-given (reply_of (step (spec_at s i) (state_after s above i) e.op)) e.reply h.0)
 
-  queue-may : (cpu : ℕ) (above : List Line) (e : QEntry) → queue_unfit (actors_of s) cpu s.buckets (are_direct s) (queue_after s above cpu) e ≡ None → May_queue cpu above e
+  pub queue-may : (cpu : ℕ) (above : List Line) (e : QEntry) → queue_unfit (actors_of s) cpu s.buckets (are_direct s) (queue_after s above cpu) e ≡ None → May_queue cpu above e
   queue-may cpu above e h =
       let may = may_work (actors_of s) cpu e.actor e.op in
       let legal = is_answer (journal.reply_of (journal.step s.buckets (are_direct s) (queue_after s above cpu) e.op)) e.reply in

@@ -19,3 +19,8 @@ pub mod Walking
 pub mod Acts
 pub mod Taken
 pub mod Taking
+pub mod Pigeons
+pub mod Relisting
+pub mod Reformed
+pub mod Removing
+pub mod LegalReports

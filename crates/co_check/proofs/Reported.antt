@@ -41,7 +41,7 @@ none-some x h = cc
 -- ---- the lines of a place
 
 -- a line stands among those of its place, below as many as stand above it
-filter-get : (q : Line → Bool) (lines : List Line) (j : ℕ) (l : Line) → slice_get lines j ≡ Some l → q l ≡ true → slice_get (filter q lines) (passing q (take j lines)) ≡ Some l
+pub filter-get : (q : Line → Bool) (lines : List Line) (j : ℕ) (l : Line) → slice_get lines j ≡ Some l → q l ≡ true → slice_get (filter q lines) (passing q (take j lines)) ≡ Some l
 filter-get q [] j l at here = cc
 filter-get q (x ∷ xs) zero l at here =
     ap (λ b. slice_get (cond {A = List Line} b (x ∷ filter q xs) (filter q xs)) 0) (ap q (some-is x l at) ∙ here) ∙ at
@@ -61,7 +61,7 @@ pub record StandsAt (q : Line → Bool) (lines : List Line) (m : ℕ) (l : Line)
   pub here : q l ≡ true
   pub above : passing q (take index lines) ≡ m
 
-filter-index : (q : Line → Bool) (lines : List Line) (m : ℕ) (l : Line) → slice_get (filter q lines) m ≡ Some l → StandsAt q lines m l
+pub filter-index : (q : Line → Bool) (lines : List Line) (m : ℕ) (l : Line) → slice_get (filter q lines) m ≡ Some l → StandsAt q lines m l
 filter-index q [] m l at = cc
 filter-index q (x ∷ xs) m l at = at_test (q x) refl m at (λ k rest. filter-index q xs k l rest) where
   behind : (k n : ℕ) → cond (q x) 1 0 + k ≡ n → StandsAt q xs k l → StandsAt q (x ∷ xs) n l
@@ -82,7 +82,7 @@ at-pos : (n : Note) (pos : ℕ) → n.pos ≡ pos → (n.pos == pos) ≡ true
 at-pos n pos h = ap (λ m. m == pos) h ∙ itself pos
 
 -- a note of the lists is shown at its position
-shown-note : (lists : List (List Note)) (a k : ℕ) (n : Note) → IsWellFormed lists → note_at lists a k ≡ Some n → shown_at (all_numbered_of n.place lists) n.pos ≡ Some (record { number = k; entry = n.entry })
+pub shown-note : (lists : List (List Note)) (a k : ℕ) (n : Note) → IsWellFormed lists → note_at lists a k ≡ Some n → shown_at (all_numbered_of n.place lists) n.pos ≡ Some (record { number = k; entry = n.entry })
 shown-note lists a k n formed at =
     ap (option_map shown)
     (find-has (λ (x : Numbered). x.note.pos == n.pos) (numbered k n) (all_numbered_of n.place lists)
@@ -95,7 +95,7 @@ noted : (lists : List (List Note)) (p : Place) (pos : ℕ) → IsWellFormed list
 noted lists p pos formed below = found p (λ (n : Note). n.pos == pos) lists
     (omega (arith, formed.once p pos below, count-passing (λ (n : Note). n.pos == pos) (all_notes_of p lists)))
 
-get-range : {X : Type 0} (f : ℕ → Option X) (from n m : ℕ) → ((k : ℕ) → k < from + n → from ≤ k → (x : X) × (f k ≡ Some x)) → m < n → slice_get (filter_map f (range_with_len from n)) m ≡ f (from + m)
+pub get-range : {X : Type 0} (f : ℕ → Option X) (from n m : ℕ) → ((k : ℕ) → k < from + n → from ≤ k → (x : X) × (f k ≡ Some x)) → m < n → slice_get (filter_map f (range_with_len from n)) m ≡ f (from + m)
 get-range f from zero m each below = absurd (omega arith)
 get-range f from (suc n) zero each below =
     let r = each from (omega arith) (omega arith) in
@@ -109,21 +109,21 @@ get-range f from (suc n) (suc m) each below =
       shifted : (a b : ℕ) → a + 1 + b ≡ a + suc b
       shifted a b = omega arith
 
-length-range : {X : Type 0} (f : ℕ → Option X) (from n : ℕ) → length (filter_map f (range_with_len from n)) ≤ n
+pub length-range : {X : Type 0} (f : ℕ → Option X) (from n : ℕ) → length (filter_map f (range_with_len from n)) ≤ n
 length-range f from zero = omega arith
 length-range f from (suc n) = at_test (f from) (length-range f (from + 1) n) where
   at_test : (o : Option _) → length (filter_map f (range_with_len (from + 1) n)) ≤ n → length (cons_option o (filter_map f (range_with_len (from + 1) n))) ≤ suc n
   at_test None rest = omega (arith, rest)
   at_test (Some x) rest = omega (arith, rest)
 
-length-numbered : (p : Place) (lists : List (List Note)) → length (all_numbered_of p lists) ≡ length (all_notes_of p lists)
+pub length-numbered : (p : Place) (lists : List (List Note)) → length (all_numbered_of p lists) ≡ length (all_notes_of p lists)
 length-numbered p lists = sym (length-mapped (λ (x : Numbered). x.note) (all_numbered_of p lists)) ∙ ap length (all-notes-of p lists) where
   length-mapped : {X Y : Type 0} (f : X → Y) (xs : List X) → length (map f xs) ≡ length xs
   length-mapped f [] = refl
   length-mapped f (x ∷ xs) = ap suc (length-mapped f xs)
 
 -- the history at a position
-history-get : (lists : List (List Note)) (p : Place) (m : ℕ) → IsWellFormed lists → m < length (all_notes_of p lists) → slice_get (shown_history lists p) m ≡ shown_at (all_numbered_of p lists) m
+pub history-get : (lists : List (List Note)) (p : Place) (m : ℕ) → IsWellFormed lists → m < length (all_notes_of p lists) → slice_get (shown_history lists p) m ≡ shown_at (all_numbered_of p lists) m
 history-get lists p m formed below =
     get-range (shown_at (all_numbered_of p lists)) 0 (length (all_numbered_of p lists)) m
     (λ k b le. some k (omega (arith, b, length-numbered p lists)))
@@ -268,7 +268,7 @@ module _ (s : Script) (lists : List (List Note)) (lines : List Line) (run : IsRu
 
 -- ---- histories
 
-callouts-of : (f : AnyEntry → Option Entry) → ((e : Entry) → f (of.Timer e) ≡ Some e) → ((e : QEntry) → f (of.Cpu e) ≡ None) → ((e : _) → f (of.Own e) ≡ None)
+pub callouts-of : (f : AnyEntry → Option Entry) → ((e : Entry) → f (of.Timer e) ≡ Some e) → ((e : QEntry) → f (of.Cpu e) ≡ None) → ((e : _) → f (of.Own e) ≡ None)
     → (i : ℕ) (lines : List Line) → filter_map f (map (λ (x : Shown). x.entry) (map shown_line (lines_at (place.Timer i) lines))) ≡ callout_history i lines
 callouts-of f timer cpu own i [] = refl
 callouts-of f timer cpu own i (l ∷ ls) = at_place l.place l.entry (callouts-of f timer cpu own i ls) where
@@ -293,7 +293,7 @@ callouts-of f timer cpu own i (l ∷ ls) = at_place l.place l.entry (callouts-of
   at_place (place.Actor j) (of.Cpu e) rest = rest
   at_place (place.Actor j) (of.Own e) rest = rest
 
-queues-of : (f : AnyEntry → Option QEntry) → ((e : Entry) → f (of.Timer e) ≡ None) → ((e : QEntry) → f (of.Cpu e) ≡ Some e) → ((e : _) → f (of.Own e) ≡ None)
+pub queues-of : (f : AnyEntry → Option QEntry) → ((e : Entry) → f (of.Timer e) ≡ None) → ((e : QEntry) → f (of.Cpu e) ≡ Some e) → ((e : _) → f (of.Own e) ≡ None)
     → (i : ℕ) (lines : List Line) → filter_map f (map (λ (x : Shown). x.entry) (map shown_line (lines_at (place.Cpu i) lines))) ≡ cpu_journal i lines
 queues-of f timer cpu own i [] = refl
 queues-of f timer cpu own i (l ∷ ls) = at_place l.place l.entry (queues-of f timer cpu own i ls) where

@@ -52,3 +52,9 @@ shown_line l = record { number = l.number; entry = l.entry }
 abbrev pub ReportsOfRunsAreLegal : Type 0
 ReportsOfRunsAreLegal = (s : Script) (lists : List (List Note)) (lines : List Line) (end : ℕ) →
     IsRunOf s lists → AreLinesOf s lines → ((p : Place) → map shown_line (lines_at p lines) ≡ shown_history lists p) → verdict_of s lines end ≡ Legal
+
+-- the lines of a legal report are, place by place, the shown histories of the lists of a run: the numbers put each actor's
+-- notes into their order
+abbrev pub LegalReportsAreOfRuns : Type 0
+LegalReportsAreOfRuns = (s : Script) (lines : List Line) (end : ℕ) → AreLinesOf s lines → verdict_of s lines end ≡ Legal →
+    (lists : List (List Note)) × IsRunOf s lists × ((p : Place) → map shown_line (lines_at p lines) ≡ shown_history lists p)

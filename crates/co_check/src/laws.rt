@@ -1,6 +1,6 @@
 //! What the verdict says of histories, each the contract of a function that does nothing.
 ghost use Rattle.co_check.specs.Programs.{FollowsWhereSeen};
-ghost use Rattle.co_check.specs.Runs.{ReportsOfRunsAreLegal, RunsAreLegal};
+ghost use Rattle.co_check.specs.Runs.{LegalReportsAreOfRuns, ReportsOfRunsAreLegal, RunsAreLegal};
 ghost use Rattle.co_check.specs.Laws.{HistoriesOfLegalReports, LegalHistoriesFit};
 
 /// Where the verdict is Legal, each callout's history is one of that callout alone, and each CPU's journal one of a plain
@@ -27,4 +27,10 @@ pub fn runs_are_legal()
 /// So is a report whose lines are, place by place, the shown histories of a run's lists.
 pub fn reports_of_runs_are_legal()
     ensures { ReportsOfRunsAreLegal }
+{}
+
+/// And a report that is legal is of a run: there are lists of notes, one for each actor, that are a run of the script, and
+/// the report's lines are their shown histories.
+pub fn legal_reports_are_of_runs()
+    ensures { LegalReportsAreOfRuns }
 {}
