@@ -53,7 +53,7 @@ use Rattle.co_check.proofs.Reformed.{of-script, as-many, well-formed}
 use Rattle.co_check.proofs.Relisting.{Noted, noted_at, noted, note_numbered, list_by, lists_by, noted-get, noted-back, passing-noted, numbered-one, list-get, list-few, lists-get}
 use Rattle.co_check.proofs.Removing.{AsksNoRemove, IsNoRemove, never_removes, not_missing}
 use Rattle.co_check.proofs.Reported.{filter-index, shown-note, length-range, length-numbered, history-get, callouts-of, queues-of}
-use Rattle.co_check.proofs.SameValues.{equal, itself, all}
+use Rattle.co_check.proofs.SameValues.{equal, itself, first, second, all}
 use Rattle.co_check.proofs.SeenNotes.{actor-seen}
 use Rattle.co_check.proofs.Showing.{same-equal}
 
@@ -105,9 +105,7 @@ not-not false h = cc
 
 has-at : {X : Type 0} (xs : List X) (j : ℕ) (x : X) → slice_get xs j ≡ Some x → Has x xs
 has-at [] j x h = cc
-has-at (y ∷ ys) zero x h = inl (is y x h) where
-  is : {Y : Type 0} (a b : Y) → Some a ≡ Some b → a ≡ b
-  is a b h = cc
+has-at (y ∷ ys) zero x h = inl (some-is y x h)
 has-at (y ∷ ys) (suc j) x h = inr (has-at ys j x h)
 
 find-at : {X : Type 0} (p : X → Bool) (xs : List X) (x : X) → find p xs ≡ Some x → (i : ℕ) × (slice_get xs i ≡ Some x)
@@ -132,15 +130,11 @@ alike : {X : Type 0} (xs ys : List X) → ((m : ℕ) → slice_get xs m ≡ slic
 alike [] [] h = refl
 alike [] (y ∷ ys) h = let e = h 0 in cc
 alike (x ∷ xs) [] h = let e = h 0 in cc
-alike (x ∷ xs) (y ∷ ys) h = ap (λ z. z ∷ xs) (is x y (h 0)) ∙ ap (λ zs. y ∷ zs) (alike xs ys (λ m. h (suc m))) where
-  is : {Y : Type 0} (a b : Y) → Some a ≡ Some b → a ≡ b
-  is a b h = cc
+alike (x ∷ xs) (y ∷ ys) h = ap (λ z. z ∷ xs) (some-is x y (h 0)) ∙ ap (λ zs. y ∷ zs) (alike xs ys (λ m. h (suc m)))
 
 mapped-none : {X Y : Type 0} (f : X → Y) (o : Option X) (y : Y) → option_map f o ≡ Some y → (x : X) × (o ≡ Some x) × (f x ≡ y)
 mapped-none f None y h = cc
-mapped-none f (Some x) y h = (x, refl, is (f x) y h) where
-  is : {Z : Type 0} (a b : Z) → Some a ≡ Some b → a ≡ b
-  is a b h = cc
+mapped-none f (Some x) y h = (x, refl, some-is (f x) y h)
 
 -- ---- the lists that the lines show
 
@@ -181,30 +175,19 @@ module _ (s : Script) (lines : List Line) (of_script : AreLinesOf s lines) (righ
       let r = number-of a k n h in
       let one = numbered-one lines right a k r.0 in
       let back = noted-back [] lines one.index one.one one.at in
-      let is : one.one.note ≡ n = same-note one.one.note n (sym (ap (option_map (λ (x : Noted). x.note)) one.found) ∙ r.1) in
+      let is : one.one.note ≡ n = some-is one.one.note n (sym (ap (option_map (λ (x : Noted). x.note)) one.found) ∙ r.1) in
       let by : is_note a k one.one.line ≡ true = one.passes in (
         one.index,
         one.one.line,
         record {
           at = back.at;
-          actor = equal (actor_of one.one.line.entry) a (first' (actor_of one.one.line.entry == a) (one.one.line.number == k) by);
-          number_is = equal one.one.line.number k (second' (actor_of one.one.line.entry == a) (one.one.line.number == k) by);
+          actor = equal (actor_of one.one.line.entry) a (first (actor_of one.one.line.entry == a) (one.one.line.number == k) by);
+          number_is = equal one.one.line.number k (second (actor_of one.one.line.entry == a) (one.one.line.number == k) by);
           place = sym (ap (λ (x : Noted). x.note.place) back.is) ∙ ap (λ (x : Note). x.place) is;
           entry = sym (ap (λ (x : Noted). x.note.entry) back.is) ∙ ap (λ (x : Note). x.entry) is;
           pos = sym (ap (λ (x : Noted). x.note.pos) back.is) ∙ ap (λ (x : Note). x.pos) is;
         },
       )
-    where
-      same-note : (x y : Note) → Some x ≡ Some y → x ≡ y
-      same-note x y h = cc
-
-      first' : (a b : Bool) → (a && b) ≡ true → a ≡ true
-      first' true b h = refl
-      first' false b h = h
-
-      second' : (a b : Bool) → (a && b) ≡ true → b ≡ true
-      second' true b h = h
-      second' false b h = cc
 
   -- the lines of a place are its history
   count-lines : (p : Place) → length (map shown_line (lines_at p lines)) ≡ passing (λ (l : Line). same_place l.place p) lines
@@ -275,13 +258,10 @@ found-entry s a c (Take held to) cpu e none h = absurd h
 next-found : (s : Script) (H : Histories) (a : ℕ) (c : Cursor) (notes : List Note) (k : ℕ) (n : Note) (cpu : ℕ) (e : QEntry) → AreNext s H a c notes → slice_get notes k ≡ Some n → n.place ≡ place.Cpu cpu → n.entry ≡ of.Cpu e → (e.reply ≡ Off) ⊎ IsNoRemove e.op
 next-found s H a c [] k n cpu e h at p q = cc
 next-found s H a c (x ∷ xs) zero n cpu e h at p q =
-    let is : x ≡ n = same-note x n at in
+    let is : x ≡ n = some-is x n at in
     found-entry s a (settled s a c) (action_for s a (settled s a c)) cpu e (never_removes s a (settled s a c))
     (subst (Fits a (settled s a c) (action_for s a (settled s a c)) (place.Cpu cpu)) (ap (λ (y : Note). y.entry) is ∙ q)
     (subst (λ (y : Place). Fits a (settled s a c) (action_for s a (settled s a c)) y x.entry) (ap (λ (y : Note). y.place) is ∙ p) h.0.fits))
-  where
-    same-note : (x y : Note) → Some x ≡ Some y → x ≡ y
-    same-note x y h = cc
 next-found s H a c (x ∷ xs) (suc k) n cpu e h at p q = next-found s H a (goes_on s H (settled s a c) x) xs k n cpu e h.1 at p q
 
 -- ---- the run

@@ -20,7 +20,7 @@ bad-none : (o : Option Unfit) (line : ℕ) (rest : Option Bad) → bad_or o line
 bad-none None line rest h = (refl, h)
 bad-none (Some cause) line rest h = let no : ◌≡◌ {A = Option Bad} (Some (record { line = line; cause = cause })) None = h in cc
 
-append-nil : {X : Type 0} (xs : List X) → xs ++ [] ≡ xs
+pub append-nil : {X : Type 0} (xs : List X) → xs ++ [] ≡ xs
 append-nil [] = refl
 append-nil (x ∷ xs) = ap (λ ys. x ∷ ys) (append-nil xs)
 
@@ -89,7 +89,7 @@ few-notes a k (x ∷ xs) free =
       at_test false is rest = omega (arith, rest)
       at_test true is rest = omega (arith, passing-none (is_note a k) xs (none-any (is_note a k) xs (another is)))
 
-passing-alike : (p q : Line → Bool) (xs : List Line) → ((i : ℕ) (x : Line) → slice_get xs i ≡ Some x → p x ≡ q x) → passing p xs ≡ passing q xs
+pub passing-alike : {X : Type 0} (p q : X → Bool) (xs : List X) → ((i : ℕ) (x : X) → slice_get xs i ≡ Some x → p x ≡ q x) → passing p xs ≡ passing q xs
 passing-alike p q [] h = refl
 passing-alike p q (x ∷ xs) h = ap (λ b. cond b 1 0 + passing p xs) (h zero x refl) ∙ ap (λ n. cond (q x) 1 0 + n) (passing-alike p q xs (λ i y at. h (suc i) y at))
 

@@ -16,8 +16,8 @@ use Rattle.co_check.specs.Numbers.{count_of}
 use Rattle.co_check.specs.Runs.{count_in}
 use Rattle.co_check.specs.Shown.{actor_of, is_by, is_note, is_of}
 use Rattle.co_check.proofs.Counting.{any-at, count-rises}
-use Rattle.co_check.proofs.Pigeons.{IsNumbered}
-use Rattle.co_check.proofs.Relisting.{Noted, noted_from, noted, note_numbered, list_by, lists_by, noted-back, passing-alike, passing-never, passing-filter, numbered-one, list-passing}
+use Rattle.co_check.proofs.Pigeons.{passing-alike, IsNumbered}
+use Rattle.co_check.proofs.Relisting.{Noted, noted_from, noted, note_numbered, list_by, lists_by, noted-back, passing-never, passing-filter, numbered-one, list-passing}
 use Rattle.co_check.proofs.SameValues.{equal, itself, first, second, all}
 use Rattle.co_check.proofs.Showing.{same-itself, same-equal}
 use Rattle.co_check.proofs.Taking.{some-is}
@@ -278,8 +278,8 @@ module _ (s : Script) (lines : List Line) (of_script : AreLinesOf s lines) (righ
       let r2 = numbered-one lines right a m below in
       let b = noted-back [] lines r.index r.one r.at in
       let b2 = noted-back [] lines r2.index r2.one r2.at in
-      let e : r.one.note ≡ n = same-note r.one.note n (sym (ap (option_map (λ (x : Noted). x.note)) r.found) ∙ is) in
-      let e2 : r2.one.note ≡ n2 = same-note r2.one.note n2 (sym (ap (option_map (λ (x : Noted). x.note)) r2.found) ∙ is2) in
+      let e : r.one.note ≡ n = some-is r.one.note n (sym (ap (option_map (λ (x : Noted). x.note)) r.found) ∙ is) in
+      let e2 : r2.one.note ≡ n2 = some-is r2.one.note n2 (sym (ap (option_map (λ (x : Noted). x.note)) r2.found) ∙ is2) in
       let place : r.one.line.place ≡ p = sym (ap (λ (x : Noted). x.note.place) b.is) ∙ (ap (λ (x : Note). x.place) e ∙ same-equal n.place p pn) in
       let place2 : r2.one.line.place ≡ p = sym (ap (λ (x : Noted). x.note.place) b2.is) ∙ (ap (λ (x : Note). x.place) e2 ∙ same-equal n2.place p pn2) in
       let pos : n.pos ≡ count_in p (take r.index lines) = ap (λ (x : Note). x.pos) (sym e) ∙ (ap (λ (x : Noted). x.note.pos) b.is ∙ ap (λ q. count_in q (take r.index lines)) place) in
@@ -287,9 +287,6 @@ module _ (s : Script) (lines : List Line) (of_script : AreLinesOf s lines) (righ
       let order = below-it a k m r.index r2.index r.one.line r2.one.line p less b.at b2.at r.passes r2.passes place place2 in
       let up = count-rises (λ (l : Line). same_place l.place p) lines r.index r2.index r.one.line b.at (ap (λ q. same_place q p) place ∙ same-itself p) order in
       omega (arith, pos, pos2, up)
-    where
-      same-note : (x y : Note) → Some x ≡ Some y → x ≡ y
-      same-note x y h = cc
 
   Above : ℕ → List ℕ → Type 0
   Above x ys = AllByRecursion (λ y. x < y) ys

@@ -14,7 +14,7 @@ use Rattle.co_check.specs.Numbers.{count_of}
 use Rattle.co_check.specs.Runs.{count_in}
 use Rattle.co_check.specs.Shown.{is_by, is_note}
 use Rattle.co_check.proofs.Counting.{is_below, one-split}
-use Rattle.co_check.proofs.Pigeons.{IsNumbered, all-below, one-note}
+use Rattle.co_check.proofs.Pigeons.{append-nil, passing-alike, IsNumbered, all-below, one-note}
 use Rattle.co_check.proofs.Reported.{get-range, length-range}
 use Rattle.co_check.proofs.Taking.{some-is}
 
@@ -45,13 +45,9 @@ lists_by s lines = map (list_by lines) (range_with_len 0 (actor_count s))
 
 -- ---- notes and lines by index
 
-append-nil : {X : Type 0} (xs : List X) → xs ≡ xs ++ []
-append-nil [] = refl
-append-nil (x ∷ xs) = ap (λ ys. x ∷ ys) (append-nil xs)
-
 pub noted-get : (above lines : List Line) (j : ℕ) (l : Line) → slice_get lines j ≡ Some l → slice_get (noted_from above lines) j ≡ Some (noted_at (above ++ take j lines) l)
 noted-get above [] j l h = cc
-noted-get above (x ∷ xs) zero l h = ap (λ y. Some (noted_at above y)) (some-is x l h) ∙ ap (λ (ls : List Line). Some (noted_at ls l)) (append-nil above)
+noted-get above (x ∷ xs) zero l h = ap (λ y. Some (noted_at above y)) (some-is x l h) ∙ ap (λ (ls : List Line). Some (noted_at ls l)) (sym (append-nil above))
 noted-get above (x ∷ xs) (suc j) l h = noted-get (above ++ x ∷ []) xs j l h ∙ ap (λ (ls : List Line). Some (noted_at ls l)) (append_assoc above (x ∷ []) (take j xs))
 
 -- what is noted is a line's note
@@ -62,14 +58,11 @@ pub record IsNotedAt (above lines : List Line) (j : ℕ) (x : Noted) : Type 0 wh
 pub noted-back : (above lines : List Line) (j : ℕ) (x : Noted) → slice_get (noted_from above lines) j ≡ Some x → IsNotedAt above lines j x
 noted-back above [] j x h = cc
 noted-back above (l ∷ ls) zero x h =
-    let e : noted_at above l ≡ x = same-noted (noted_at above l) x h in
+    let e : noted_at above l ≡ x = some-is (noted_at above l) x h in
     record {
       at = ap (λ (y : Noted). Some y.line) e;
-      is = sym e ∙ (ap (λ (y : Line). noted_at above y) (ap (λ (y : Noted). y.line) e) ∙ ap (λ (ys : List Line). noted_at ys x.line) (append-nil above));
+      is = sym e ∙ (ap (λ (y : Line). noted_at above y) (ap (λ (y : Noted). y.line) e) ∙ ap (λ (ys : List Line). noted_at ys x.line) (sym (append-nil above)));
     }
-  where
-    same-noted : (x y : Noted) → Some x ≡ Some y → x ≡ y
-    same-noted x y h = cc
 noted-back above (l ∷ ls) (suc j) x h =
     let r = noted-back (above ++ l ∷ []) ls j x h in
     record { at = r.at; is = r.is ∙ ap (λ (ys : List Line). noted_at ys x.line) (append_assoc above (l ∷ []) (take j ls)) }
@@ -145,10 +138,6 @@ both-split a n t (x ∷ xs) = omega (arith, one (t x), both-split a n t xs) wher
     nothing false true false = refl
     nothing false false true = refl
     nothing false false false = refl
-
-pub passing-alike : {X : Type 0} (p q : X → Bool) (xs : List X) → ((i : ℕ) (x : X) → slice_get xs i ≡ Some x → p x ≡ q x) → passing p xs ≡ passing q xs
-passing-alike p q [] h = refl
-passing-alike p q (x ∷ xs) h = ap (λ b. cond b 1 0 + passing p xs) (h zero x refl) ∙ ap (λ n. cond (q x) 1 0 + n) (passing-alike p q xs (λ i y at. h (suc i) y at))
 
 pub passing-never : {X : Type 0} (p : X → Bool) (xs : List X) → ((x : X) → p x ≡ false) → passing p xs ≡ 0
 passing-never p [] h = refl
