@@ -1,5 +1,5 @@
 -- The lines of a legal report are the histories of a run.
-use Rattle.std.proofs.Common.{◌≡◌, ℕ, zero, suc, ◌+◌, ◌<◌, ◌≤◌, ◌==◌, ◌&&◌, ◌||◌, Bool, true, false, cond, not, ◌⊎◌, inl, inr, List, [], ◌∷◌, map, take, length, refl, ap, sym, subst, ◌∙◌, arith}
+use Rattle.std.proofs.Common.{◌≡◌, ℕ, zero, suc, ◌+◌, ◌<◌, ◌≤◌, ◌==◌, ◌||◌, Bool, true, false, cond, not, ◌⊎◌, inl, inr, List, [], ◌∷◌, map, take, length, refl, ap, sym, subst, ◌∙◌, arith}
 use Rattle.std.specs.Prelude.{Option, Some, None, slice_get, option_and_then}
 use Rattle.std.specs.List.{AllByRecursion, cons_option, filter_map, find, list_any, range_with_len}
 use Rattle.std.specs.Option.{option_map}
@@ -56,6 +56,7 @@ use Rattle.co_check.proofs.Reported.{filter-index, shown-note, length-range, len
 use Rattle.co_check.proofs.SameValues.{equal, itself, first, second, all}
 use Rattle.co_check.proofs.SeenNotes.{actor-seen}
 use Rattle.co_check.proofs.Showing.{same-equal}
+use Rattle.co_check.proofs.Taking.{some-is}
 
 -- ---- what a Legal verdict says
 
