@@ -76,14 +76,6 @@ const MOST: u64 = 0x8000_0000_0000_0000;
 
 impl Books {
     /// The actor's place in its program.
-    pub(crate) fn place(&self, actor: u32) -> Cursor
-        requires { actor < length self.now.places }
-        ensures { result ≡ place_at self.now actor }
-    {
-        self.places[actor as usize]
-    }
-
-    /// The same, where it is.
     pub(crate) fn at(&self, actor: u32) -> &Cursor
         requires { actor < length self.now.places }
         ensures { result.now ≡ place_at self.now actor }

@@ -59,9 +59,11 @@ impl Engine {
         if let Some(why) = self.at_lock(script, actor) {
             return Ok(Turn::Blocked(why));
         }
-        let place = self.books.place(actor);
-        let action = action_for(script, actor, &place);
-        if let Some(why) = self.blocked(script, actor, &place, &action) {
+        let place = self.books.at(actor);
+        // The checker knows the range of a number behind a reference once it is read.
+        let _task = place.task;
+        let action = action_for(script, actor, place);
+        if let Some(why) = self.blocked(script, actor, place, &action) {
             return Ok(Turn::Blocked(why));
         }
         match action {
