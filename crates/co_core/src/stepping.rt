@@ -48,6 +48,7 @@ impl Engine {
         requires stands { (w : PlainWorld) × StandsFor script.now self.old.books self.old.depot w }
         ensures stands { OnOk result ((w : PlainWorld) → StandsFor script.now self.old.books self.old.depot w → StandsFor script.now self.new.books self.new.depot (step script.now w actor)) }
         ensures turn { IfOk result (λ turn. (w : PlainWorld) → StandsFor script.now self.old.books self.old.depot w → turn ≡ turn_of script.now w actor) }
+        ensures told { self.new.books.told ≡ self.old.books.told }
         ensures err { OnErr result (self.new ≡ self.old) }
     {
         if self.books.is_full() {
