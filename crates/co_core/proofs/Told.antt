@@ -1,8 +1,8 @@
 -- The notes of a step are told: those of the world's actors, and the positions of each place count in their order.
-use Rattle.std.proofs.Common.{◌≡◌, ℕ, ◌+◌, ◌-◌, ◌<◌, ◌≤◌, ◌⊎◌, inl, inr, Bool, true, false, cond, List, [], ◌∷◌, ◌++◌, length, drop, get_or, set, map, refl, sym, ap, subst, ◌∙◌, arith, append_assoc, eq-eqb, length-set}
+use Rattle.std.proofs.Common.{◌≡◌, ℕ, ◌+◌, ◌-◌, ◌<◌, ◌≤◌, ◌⊎◌, inl, inr, Bool, true, false, cond, List, [], ◌∷◌, ◌++◌, length, drop, get_or, set, map, refl, sym, ap, subst, ◌∙◌, arith, append_assoc, eq-eqb, length-append, length-set}
 use Rattle.std.specs.Prelude.{◌==◌, is_some, Option, Some, None}
 use Rattle.std.specs.List.{filter, range_with_len}
-use Rattle.std.proofs.lemmas.Bool.Decides.{eqb_tells}
+use Rattle.std.proofs.lemmas.Bool.Decides.{eqb_tells, nat_tests}
 use Rattle.std.proofs.lemmas.List.{get_or-set_other, get_or-set_same, length-drop, length-map, map-append}
 use Rattle.std.proofs.lemmas.List.Elements.{filter-append}
 use Rattle.std.proofs.lemmas.List.FromFn.{length-map-range_with_len}
@@ -33,21 +33,25 @@ use Rattle.co_program.specs.Action.{spec_at}
 use Rattle.co_program.specs.Actors.{actor_count}
 use Rattle.co_program.specs.Cursor.{Cursor}
 use Rattle.co_core.specs.declared.engine.Engine.{Engine}
+use Rattle.co_core.specs.declared.turn.Turn.{Turn}
+use Rattle.co_core.specs.declared.turn.Turn.TheVariants.{Notes, Blocked, Finished}
 use Rattle.co_core.specs.Stands.{IsWritten, StandsFor, untold}
 use Rattle.co_core.specs.Stored.{Stored}
-use Rattle.co_core.specs.Step.{answered, are_direct, callout_answers, enters, enters_journal, note_of, note_of_cpu, note_of_own, notes_down, queue_answers, step}
-use Rattle.co_core.specs.Telling.{AreMade, GoesOn, HasNotes, HasTold, IsTelling, entry_count, made_by}
+use Rattle.co_core.specs.Step.{answered, are_direct, callout_answers, enters, enters_journal, note_of, note_of_cpu, note_of_own, notes_down, queue_answers, step, turn_of}
+use Rattle.co_core.specs.Telling.{AreMade, GoesOn, HasNotes, HasTold, IsTelling, entry_count, made_by, makes_notes}
 use Rattle.co_core.specs.Walk.{AllFinished, rounds, run}
 use Rattle.co_core.specs.World.{Actor, World, open_world, with_cursor}
 use Rattle.co_core.specs.Written.{Written, let_go, list_at, told_at}
 use Rattle.co_core.proofs.ListsShow.{Tells, entries_at, placed_entries, placed_notes, tells_callout, tells_own, tells_queue}
 use Rattle.co_core.proofs.Moves.{IsAt, decide}
 use Rattle.co_core.proofs.Prefix.{length_more}
-use Rattle.co_core.proofs.Rounding.{range-more}
+use Rattle.co_core.proofs.Rounding.{range-more, turn-finished}
 use Rattle.co_core.proofs.Shown.{append_none}
 use Rattle.co_core.proofs.Steps.{step_keeps}
 use Rattle.co_core.proofs.Tables.{put, same}
+use Rattle.co_core.proofs.Turning.{turns_tell}
 use Rattle.co_core.proofs.Undue.{list_is}
+use Rattle.co_core.proofs.Walks.{idle_steps_stay}
 use Rattle.co_core.proofs.Worlds.{open_whole}
 use Rattle.co_core.proofs.Writing.{notes_at, notes_by}
 
@@ -259,6 +263,52 @@ module _ (s : Script) {B : Type 0} (has : B → List Made → Type 0) (before af
           made = notes.made ++ made_by a grown.notes;
           holds = subst (λ (l : List Note). has new (notes.made ++ made_by a l)) list_new (tells notes.made notes.holds);
           are = grown.told notes.made notes.are;
+        };
+  }
+
+-- ---- a step without notes
+
+without : (s : Script) (w : World) (a : ℕ) (turn : Turn) → turn ≡ turn_of s w a → makes_notes turn ≡ false → length (notes_by (step s w a) a) ≡ length (notes_by w a)
+without s w a (Notes count) is none =
+    let long = ap length (step_grows s w a).own ∙ length-append (notes_by w a) (step_grows s w a).notes in
+    let made = ((turns_tell s w a).counts count (sym is)).1 in
+    let zero : count ≡ 0 = grind (arith, nat_tests, none) in
+    omega (arith, long, made, zero)
+without s w a (Blocked why) is none = ap (λ (v : World). length (notes_by v a)) (idle_steps_stay s w a (inr (why, ((turns_tell s w a).waits why).0 (sym is))))
+without s w a Finished is none = ap (λ (v : World). length (notes_by v a)) (idle_steps_stay s w a (inl (turn-finished s w a (sym is))))
+
+nothing_in : (notes : List Note) → length notes ≡ 0 → notes ≡ []
+nothing_in [] h = refl
+nothing_in (note ∷ notes) h = absurd (let never : ⊥ = omega (arith, h) in never)
+
+-- it tells none
+module _ (s : Script) {B : Type 0} (has : B → List Made → Type 0) (before after : Engine) (book : B) (w : World) (a : ℕ) (turn : Turn)
+    (start : HasTold s before w) (stands : StandsFor s after.books after.depot (step s w a)) (same : after.books.told ≡ before.books.told)
+    (is : turn ≡ turn_of s w a) (none : makes_notes turn ≡ false) where
+  unmade : Grows s w a (step s w a)
+  unmade = step_grows s w a
+
+  no_notes : unmade.notes ≡ []
+  no_notes =
+      let long = ap length unmade.own ∙ length-append (notes_by w a) unmade.notes in
+      let quiet = without s w a turn is none in
+      nothing_in unmade.notes (omega (arith, long, quiet))
+
+  as_long : (b : ℕ) → (b ≡ a) ⊎ (b ≡ a → ⊥) → length (notes_by (step s w a) b) ≡ length (notes_by w b)
+  as_long b (inl own) = subst (λ (k : ℕ). length (notes_by (step s w a) k) ≡ length (notes_by w k)) (sym own) (without s w a turn is none)
+  as_long b (inr other) = ap length (unmade.else b other)
+
+  pub quiet_told : GoesOn s has after book book w (step s w a)
+  quiet_told = record {
+    told = record {
+      stands = stands;
+      told = λ b within. ap (λ (l : List ℕ). get_or l b 0) same ∙ start.told b within ∙ sym (as_long b (decide b a));
+    };
+    notes = λ notes.
+        record {
+          made = notes.made;
+          holds = notes.holds;
+          are = subst (AreMade s (step s w a)) (ap (λ (l : List Note). notes.made ++ made_by a l) no_notes ∙ append_none notes.made) (unmade.told notes.made notes.are);
         };
   }
 

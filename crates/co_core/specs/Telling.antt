@@ -1,5 +1,5 @@
 -- The notes of a script's walk, told as they are made.
-use Rattle.std.specs.Prelude.{◌≡◌, ℕ, ◌<◌, List, length, map}
+use Rattle.std.specs.Prelude.{◌≡◌, ℕ, ◌<◌, Bool, false, nat_lt, List, length, map}
 use Rattle.std.specs.List.{range_with_len}
 use Rattle.co_object.specs.declared.note.Note.{Note}
 use Rattle.co_object.specs.declared.note.Place.{Place}
@@ -9,6 +9,8 @@ use Rattle.co_notebook.specs.Made.{IsInOrder, Made, list_by, lists_by, made_in}
 use Rattle.co_program.specs.declared.script.Script.{Script}
 use Rattle.co_program.specs.Actors.{actor_count}
 use Rattle.co_core.specs.declared.engine.Engine.{Engine}
+use Rattle.co_core.specs.declared.turn.Turn.{Turn}
+use Rattle.co_core.specs.declared.turn.Turn.TheVariants.{Notes, Blocked, Finished}
 use Rattle.co_core.specs.Stands.{StandsFor}
 use Rattle.co_core.specs.Walk.{IsWalk}
 use Rattle.co_core.specs.World.{World}
@@ -20,6 +22,12 @@ pub record IsTelling (s : Script) (made : List Made) : Type 0 where
   pub order : IsInOrder made
 
 -- ---- in the middle of a walk
+
+-- what the step answers tells of notes
+abbrev pub makes_notes : Turn → Bool
+makes_notes (Notes count) = nat_lt 0 count
+makes_notes (Blocked why) = false
+makes_notes Finished = false
 
 -- how many entries the world's history of a place has
 abbrev pub entry_count : World → Place → ℕ

@@ -5,7 +5,7 @@ ghost use Rattle.co_program.specs.Actors.{actor_count};
 ghost use Rattle.co_program.specs.Scripts.{IsScript};
 ghost use Rattle.co_core.specs.Ended.{HaveEnded};
 ghost use Rattle.co_core.specs.Step.{step, turn_of};
-ghost use Rattle.co_core.specs.Telling.{GoesOn, HasTold, IsTelling};
+ghost use Rattle.co_core.specs.Telling.{GoesOn, HasTold, IsTelling, makes_notes};
 ghost use Rattle.co_core.specs.Walk.{AllFinished, HasFinished, round, rounds, run};
 ghost use Rattle.co_core.specs.World.{World as PlainWorld};
 
@@ -17,6 +17,16 @@ use co_notebook::Notebook;
 use co_program::{Script, actor_count};
 use co_sbt::NoMemory;
 use std::alloc::Global;
+
+/// The step made notes.
+fn makes_notes(turn: Turn) -> bool
+    ensures { result ≡ makes_notes turn }
+{
+    match turn {
+        Turn::Notes(count) => count > 0,
+        Turn::Blocked(_) | Turn::Finished => false,
+    }
+}
 
 impl Engine {
     /// One step of an actor, whose notes are told and let go.
@@ -35,6 +45,9 @@ impl Engine {
         ensures actors { N.actors notebook.new ≡ N.actors notebook.old }
     {
         let turn = self.step(script, actor)?;
+        if !makes_notes(turn) {
+            return Ok(turn);
+        }
         if self.books.is_full() {
             return Err(NoMemory {});
         }
@@ -135,7 +148,8 @@ impl Engine {
 }
 
 /// Tells the notes of a script's walk, one after the other, as they are made, and keeps none: the notes that `run_steps`
-/// lists, in the order of the steps. Fails for want of memory alone, its own or the notebook's. Our own decision.
+/// lists, in the order of the steps. Fails for want of memory alone, its own or the notebook's; what the notebook has after
+/// that is not told. Our own decision.
 pub fn tell_walk<N: Notebook>(
     alloc: Global,
     script: &Script,

@@ -1,12 +1,18 @@
 -- The step is the plain world's, and what the actor's list has then are the step's notes.
-use Rattle.std.proofs.Common.{◌≡◌, ◌+◌, ◌<◌, ◌≤◌, ◌^◌, arith, length, subst, sym}
+use Rattle.std.proofs.Common.{rules, ◌≡◌, false, ◌+◌, ◌<◌, ◌≤◌, ◌^◌, arith, length, subst, sym, ◌∙◌}
 use Rattle.co_core.specs.declared.engine.Engine.{Engine}
 use Rattle.co_core.specs.Step.{step}
 use Rattle.co_core.specs.Telling.{GoesOn}
 use Rattle.co_core.specs.Written.{Written, list_at, told_at}
-use Rattle.co_core.proofs.Told.{step_told, told_few}
+use Rattle.co_core.proofs.Told.{quiet_told, step_told, told_few}
 use Rattle.co_core.proofs.Undue.{list_row}
 use Rattle.co_core.proofs.engine.Engine.tell_step.Goals as goal
+
+pub returns-then-not-makes_notes-clause-told : goal.returns-then-not-makes_notes-clause-told
+returns-then-not-makes_notes-clause-told g c w h =
+    let none : c.makes_notes.result ≡ false = search rules in
+    quiet_told c.args.script.now g.N.Notebook.has c.args.self.now c.step.new.self c.args.notebook.now w c.args.actor c.in_ok-turn.turn h (c.in_ok-turn.ensures.stands w h.stands) c.step.ensures.told
+    (c.in_ok-turn.ensures.turn w h.stands) (sym c.makes_notes.ensures ∙ none)
 
 pub tell-requires-clause-list : goal.tell-requires-clause-list
 tell-requires-clause-list g c =
