@@ -8,6 +8,7 @@ mod order;
 mod origin;
 mod reading;
 mod report;
+mod sections;
 #[cfg(test)]
 mod tests;
 
@@ -16,3 +17,4 @@ pub use order::{Order, order_of};
 pub use origin::{Origin, note_from};
 pub use reading::read_report;
 pub use report::print_report;
+pub use sections::Sections;
