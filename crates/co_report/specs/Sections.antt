@@ -46,3 +46,11 @@ pub record HasTold (x : Written) (made : List Made) : Type 0 where
   pub actors : AllByRecursion (λ m. m.actor < actor_count x.script) made
   pub counts : x.counts ≡ map (count_by made) (range_with_len 0 (actor_count x.script))
   pub pages : x.pages ≡ map (section x.script made) (places x.script)
+
+-- these notes of this script are told
+pub record IsToldOf (s : Script) (x : Written) (made : List Made) : Type 0 where
+  pub script : x.script ≡ s
+  pub told : HasTold x made
+
+abbrev pub no_script : Script
+no_script = record { version = 1; hz = 0; cpus = 0; buckets = 0; locks = []; timers = []; funcs = []; clients = []; ticks = []; turns = [] }

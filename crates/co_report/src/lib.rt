@@ -9,6 +9,7 @@ mod origin;
 mod reading;
 mod report;
 mod sections;
+mod subject;
 #[cfg(test)]
 mod tests;
 
@@ -18,3 +19,4 @@ pub use origin::{Origin, note_from};
 pub use reading::read_report;
 pub use report::print_report;
 pub use sections::Sections;
+pub use subject::{SectionsOf, Subject};

@@ -179,7 +179,12 @@ impl<'a> Notebook for Sections<'a> {
     ghost has = { HasTold };
 
     /// Appends the note's line to the section of its place. A note of a place that the script hasn't is written nowhere.
-    fn write(&mut self, actor: u32, note: &Note) -> Result<(), NoMemory> {
+    fn write(&mut self, actor: u32, note: &Note) -> Result<(), NoMemory>
+        requires actor { actor < actor_count self.old.script }
+        ensures has { OnOk result ((made : List Made) → HasTold self.old made → HasTold self.new (made ++ record { actor = actor; note = note.now } ∷ [])) }
+        ensures actors { actor_count self.new.script ≡ actor_count self.old.script }
+        ensures script { self.new.script ≡ self.old.script }
+    {
         let count = &mut self.counts[actor as usize];
         let number = *count;
         *count = next(number)?;
