@@ -1,9 +1,10 @@
 -- What stands in the books and in the depot before the first step is the opening of the plain world.
-use Rattle.std.proofs.Common.{◌≡◌, ℕ, ◌<◌, List, [], ◌∷◌, length, replicate, map, refl, ap, sym, subst, ◌∙◌, arith}
+use Rattle.std.proofs.Common.{◌≡◌, ℕ, zero, suc, ◌<◌, List, [], ◌∷◌, length, drop, get_or, replicate, map, refl, ap, sym, subst, ◌∙◌, arith}
 use Rattle.std.specs.Prelude.{Some, None, Bool, true, false, cond, not, ◌&&◌, ◌==◌}
 use Rattle.std.specs.List.{list_any}
 use Rattle.std.proofs.lemmas.Bool.{eqb-true, eq-eqb}
 use Rattle.std.proofs.lemmas.List.{length-replicate, length-map, get_or-map, get_or-replicate}
+use Rattle.co_object.specs.declared.note.Note.{Note}
 use Rattle.co_object.specs.Queue.{empty_queue}
 use Rattle.co_queue.proofs.Standing.{stands_for-empty}
 use Rattle.co_program.specs.declared.script.Script.{Script}
@@ -27,13 +28,21 @@ use Rattle.co_program.specs.Scripts.{IsScript}
 use Rattle.co_core.specs.Written.{Written, first_place}
 use Rattle.co_core.proofs.Copies.{table-same}
 
+no-counts : (n a : ℕ) → ◌≡◌ {A = ℕ} (get_or (replicate n 0) a 0) 0
+no-counts zero a = refl
+no-counts (suc n) zero = refl
+no-counts (suc n) (suc a) = no-counts n a
+
 -- the books before the first step
 pub opening-written : (s : Script) (n timers cpus : ℕ) → n ≡ actor_count s → timers ≡ length s.timers → cpus ≡ s.cpus →
-    IsWritten s (record { places = replicate n first_place; lists = replicate n []; histories = replicate timers 0; journals = replicate cpus 0; scans = replicate cpus 0; own = replicate n 0; made = 0 }) (open_world s)
+    IsWritten s (record { places = replicate n first_place; lists = replicate n []; histories = replicate timers 0; journals = replicate cpus 0; scans = replicate cpus 0; own = replicate n 0; told = replicate n 0; made = 0 }) (open_world s)
 opening-written s n timers cpus actors_is timers_is cpus_is = record {
   places_long = length-replicate n first_place ∙ actors_is;
   each_place = λ a h. rw (get_or-replicate n a first_place first_place (omega (arith, h, actors_is))) refl;
-  each_list = ap (λ k. replicate k []) actors_is ∙ sym (table-same (actor_count s) []);
+  told_long = length-replicate n 0 ∙ actors_is;
+  each_list =
+      ap (λ k. replicate k []) actors_is ∙ sym (table-same (actor_count s) [])
+      ∙ same (actor_count s) (λ (a : ℕ). none) (λ (a : ℕ). drop (get_or (replicate n 0) a 0) none) (λ a within. ap (λ (k : ℕ). drop k none) (no-counts n a));
   each_history = ap (λ k. replicate k 0) timers_is ∙ sym (table-same (length s.timers) 0);
   each_journal = ap (λ k. replicate k 0) cpus_is ∙ sym (table-same s.cpus 0);
   each_scan = ap (λ k. replicate k 0) cpus_is ∙ sym (table-same s.cpus 0);
@@ -41,8 +50,12 @@ opening-written s n timers cpus actors_is timers_is cpus_is = record {
   counted = λ a h. rw (get_or-replicate n a first_place first_place (omega (arith, h, actors_is))) (omega arith);
   few_entries = λ i. omega arith;
   few_turns = λ cpu. omega arith;
+  few_told = λ a. (let none = no-counts n a in omega (arith, none));
+  few_notes = λ a. omega arith;
   few_own = λ a. omega arith;
-}
+} where
+  none : List Note
+  none = []
 
 -- nobody moves a callout yet
 none-any : (xs : List ℕ) → list_any (λ _. false) xs ≡ false

@@ -90,3 +90,4 @@ pub mod Turning
 pub mod WorkedScripts
 pub mod Taking
 pub mod Ending
+pub mod Told

@@ -42,6 +42,11 @@ turn-finished s w a h = go (blocked s w a) (action_for s a (w.actors a).cursor) 
   go None (Take held to) is h = cc
   go None (Asks act asked) is h = cc
 
+-- those before have finished, and the last one
+pub last_finished : (s : Script) (w : World) (i a : ℕ) → ((b : ℕ) → b < i → HasFinished s w b) → HasFinished s w i → (a ≡ i) ⊎ (a ≡ i → ⊥) → a < i + 1 → HasFinished s w a
+last_finished s w i a before here (inl same) below = subst (λ (k : ℕ). HasFinished s w k) (sym same) here
+last_finished s w i a before here (inr other) below = before a (omega (arith, other, below))
+
 -- ---- the bound of the rounds
 
 module _ (s : Script) (ok : IsScript s) where

@@ -1,6 +1,6 @@
 -- What is never due to an actor: between two of its steps no section is open.
-use Rattle.std.proofs.Common.{◌≡◌, ℕ, ◌+◌, ◌-◌, ◌<◌, List, [], length, refl, sym, ap, ◌∙◌, subst, arith, Option, Some, None}
-use Rattle.std.proofs.lemmas.List.{get_or-set_same, length-set}
+use Rattle.std.proofs.Common.{◌≡◌, ℕ, ◌+◌, ◌-◌, ◌<◌, ◌≤◌, List, [], get_or, length, refl, sym, ap, ◌∙◌, subst, arith, Option, Some, None}
+use Rattle.std.proofs.lemmas.List.{get_or-set_same, length-drop, length-set}
 use Rattle.co_object.specs.declared.note.Note.{Note}
 use Rattle.co_object.specs.declared.Op.TheVariants.{Run}
 use Rattle.co_object.specs.declared.RunOp.TheVariants.{Pick}
@@ -17,7 +17,7 @@ use Rattle.co_program.specs.Cursor.{Cursor}
 use Rattle.co_program.specs.Action.{Action, Asks, action_for, pop_of}
 use Rattle.co_program.specs.Scripts.{IsScript}
 use Rattle.co_core.specs.World.{World}
-use Rattle.co_core.specs.Stands.{IsWritten, StandsFor, IsDue}
+use Rattle.co_core.specs.Stands.{IsWritten, StandsFor, IsDue, untold}
 use Rattle.co_core.specs.Blocked.{blocked}
 use Rattle.co_core.specs.Step.{step, turn_at, turn_of}
 use Rattle.co_core.specs.declared.turn.Why.{Why}
@@ -27,7 +27,7 @@ use Rattle.co_program.specs.declared.action.Action.TheVariants as action
 use Rattle.co_program.specs.Indexed.{action_of}
 use Rattle.co_core.proofs.Tables.{read, long}
 use Rattle.co_core.specs.Stored.{Stored}
-use Rattle.co_core.specs.Written.{Written, list_at, with_list}
+use Rattle.co_core.specs.Written.{Written, list_at, told_at, with_list}
 use Rattle.co_core.proofs.Actions.{IsAction, IsActionWith, inserts, goes_by, scans, starts, pops, frees, picks}
 use Rattle.co_core.proofs.HoldsKept.{view_of}
 use Rattle.co_core.proofs.Invariant.{IsBetween, places_of}
@@ -106,11 +106,15 @@ turn_notes s w a x free due some =
       go (action.Asks act asked) some = refl
 
 -- an actor's list in the books has its notes
-pub list_is : (s : Script) (x : Written) (w : World) → IsWritten s x w → (a : ℕ) → a < actor_count s → list_at x a ≡ (w.actors a).notes
-list_is s x w h a may = read x.lists (actor_count s) (λ a. (w.actors a).notes) a [] h.each_list may
+pub list_is : (s : Script) (x : Written) (w : World) → IsWritten s x w → (a : ℕ) → a < actor_count s → list_at x a ≡ untold x w a
+list_is s x w h a may = read x.lists (actor_count s) (untold x w) a [] h.each_list may
+
+-- how long it is
+list_long : (s : Script) (x : Written) (w : World) → IsWritten s x w → (a : ℕ) → a < actor_count s → length (list_at x a) ≡ length (w.actors a).notes - told_at x a
+list_long s x w h a may = ap length (list_is s x w h a may) ∙ length-drop (told_at x a) (w.actors a).notes
 
 pub list_row : (s : Script) (x : Written) (w : World) → IsWritten s x w → (a : ℕ) → a < actor_count s → a < length x.lists
-list_row s x w h a may = let l = long x.lists (actor_count s) (λ a. (w.actors a).notes) h.each_list in omega (arith, l, may)
+list_row s x w h a may = let l = long x.lists (actor_count s) (untold x w) h.each_list in omega (arith, l, may)
 
 pub open_row : (x : Written) (a : ℕ) (items : List Note) → a < length (with_list x a items).lists → a < length x.lists
 open_row x a items h = let l = length-set x.lists a items in omega (arith, l, h)
@@ -123,12 +127,13 @@ took_at x y a items same within =
     ap (λ (z : Written). list_at z a) (sym same) ∙ put_at x a a items refl (open_row x a items (subst (λ (z : Written). a < length z.lists) (sym same) within))
 
 pub turn_is : (s : Script) (x y : Written) (w : World) (a count : ℕ) (act : ActionAt) → a < actor_count s → IsWritten s x w → IsWritten s y (step s w a) → blocked s w a ≡ None → action_for s a (places_of w a) ≡ action_of s a act → (act ≡ action.Nothing → ⊥) →
-    length (list_at y a) ≡ length (list_at x a) + count → Notes count ≡ turn_of s w a
-turn_is s x y w a count act may before after free due some counted =
-    ap Notes (close (length (list_at y a)) (length (list_at x a)) (length ((step s w a).actors a).notes) (length (w.actors a).notes) (ap length (list_is s y (step s w a) after a may)) (ap length (list_is s x w before a may)) counted)
+    y.told ≡ x.told → length (list_at y a) ≡ length (list_at x a) + count → Notes count ≡ turn_of s w a
+turn_is s x y w a count act may before after free due some told counted =
+    ap Notes (close (length (list_at y a)) (length (list_at x a)) (length ((step s w a).actors a).notes) (length (w.actors a).notes) (told_at y a) (told_at x a) (list_long s y (step s w a) after a may) (list_long s x w before a may)
+    (ap (λ (l : List ℕ). get_or l a 0) told) (after.few_told a) (before.few_told a) counted)
     ∙ sym (turn_notes s w a act free due some) where
-      close : (m n m' n' : ℕ) → m ≡ m' → n ≡ n' → m ≡ n + count → count ≡ m' - n'
-      close m n m' n' e f g = omega (arith, e, f, g)
+      close : (m n m' n' k' k : ℕ) → m ≡ m' - k' → n ≡ n' - k → k' ≡ k → k' ≤ m' → k ≤ n' → m ≡ n + count → count ≡ m' - n'
+      close m n m' n' k' k e f same low' low g = omega (arith, e, f, same, low', low, g)
 
 -- the acting actor's notes are taken in hand, and after the step there is a list to put them back into
 module _ (s : Script) (books opened after : Written) (depot depot' : Stored) (w : World) (a b b' : ℕ) (items items' : List Note) (action : Action) (same : b ≡ a) (same' : b' ≡ b) (taken : with_list opened a items ≡ books) (stands : StandsFor s books depot w) (due : IsDue s w a action) where

@@ -1,7 +1,7 @@
 -- What the books show after a note: of a callout, of a queue, or of the actor's own.
-use Rattle.std.proofs.Common.{◌≡◌, ℕ, ◌+◌, ◌<◌, ◌≤◌, ◌⊎◌, inl, inr, Bool, true, false, cond, List, [], ◌∷◌, ◌++◌, length, get_or, set, refl, sym, ap, ◌∙◌, subst, arith, length-append, length-set, eq-eqb, Some, None}
+use Rattle.std.proofs.Common.{◌≡◌, ℕ, ◌+◌, ◌<◌, ◌≤◌, ◌⊎◌, inl, inr, Bool, true, false, cond, List, [], ◌∷◌, ◌++◌, length, drop, get_or, set, refl, sym, ap, ◌∙◌, subst, arith, length-append, length-set, eq-eqb, Some, None}
 use Rattle.std.specs.Prelude.{is_some}
-use Rattle.std.proofs.lemmas.List.{get_or-set_same, get_or-set_other}
+use Rattle.std.proofs.lemmas.List.{drop-append-le, get_or-set_same, get_or-set_other}
 use Rattle.std.proofs.lemmas.List.Elements.{filter-append}
 use Rattle.co_object.specs.declared.State.{State}
 use Rattle.co_object.specs.declared.Reply.{Reply}
@@ -29,8 +29,8 @@ use Rattle.co_program.specs.Indexed.{IsCounted, Counts, cursor_of}
 use Rattle.co_core.specs.World.{World, Actor, Timer, Cpu, with_cursor}
 use Rattle.co_core.specs.Step.{notes_down, enters, enters_journal, landed, note_of, note_of_cpu, note_of_own, callout_answers, queue_answers, own_note}
 use Rattle.co_core.specs.Table.{table}
-use Rattle.co_core.specs.Written.{Written, IsNoted, place_at, list_at, with_place, first_place}
-use Rattle.co_core.specs.Stands.{IsWritten}
+use Rattle.co_core.specs.Written.{Written, IsNoted, place_at, list_at, told_at, with_place, first_place}
+use Rattle.co_core.specs.Stands.{IsWritten, untold}
 use Rattle.co_core.proofs.Lists.{at_updated}
 use Rattle.co_core.proofs.Moves.{IsAt, decide, at_all, at_read, at_updated_is, note_at, place_at as place_at_is}
 use Rattle.co_core.proofs.Invariant.{places_of}
@@ -114,23 +114,42 @@ module _ (s : Script) (x x2 : Written) (w w' : World) (a : ℕ) (listed : Bool) 
         let after : IsCounted (place_at x b) (x.made + 1) = omega (arith, before) in
         subst (λ (p : CursorAt). IsCounted p (x.made + 1)) (sym (place_else b other)) after
 
-  each_list : set x.lists a (list_at x a ++ note ∷ []) ≡ table (actor_count s) (notes_by w')
+  untold_after : IsAt (untold x w) a (untold x w a ++ note ∷ []) (untold x w')
+  untold_after = record {
+    here = ap (drop (told_at x a)) notes.here ∙ drop-append-le (told_at x a) (notes_by w a) (note ∷ []) (written.few_told a);
+    else = λ b other. ap (drop (told_at x b)) (notes.else b other);
+  }
+
+  each_list : set x.lists a (list_at x a ++ note ∷ []) ≡ table (actor_count s) (untold x w')
   each_list =
-      ap (λ (l : List Note). set x.lists a (l ++ note ∷ [])) (read x.lists (actor_count s) (notes_by w) a [] written.each_list may)
-      ∙ put x.lists (actor_count s) (notes_by w) a (notes_by w a ++ note ∷ []) (notes_by w') written.each_list notes
+      ap (λ (l : List Note). set x.lists a (l ++ note ∷ [])) (read x.lists (actor_count s) (untold x w) a [] written.each_list may)
+      ∙ put x.lists (actor_count s) (untold x w) a (untold x w a ++ note ∷ []) (untold x w') written.each_list untold_after
+
+  few_told : (b : ℕ) → told_at x b ≤ length (notes_by w' b)
+  few_told =
+      at_all (λ b (l : List Note). told_at x b ≤ length l) (notes_by w) a (notes_by w a ++ note ∷ []) (notes_by w') notes
+      (let few = written.few_told a in let more = length-append (notes_by w a) (note ∷ []) in omega (arith, few, more)) (λ b other. written.few_told b)
+
+  few_notes : (b : ℕ) → length (notes_by w' b) ≤ x.made + 1
+  few_notes =
+      at_all (λ b (l : List Note). length l ≤ x.made + 1) (notes_by w) a (notes_by w a ++ note ∷ []) (notes_by w') notes
+      (let few = written.few_notes a in let more = length-append (notes_by w a) (note ∷ []) in omega (arith, few, more)) (λ b other. (let few = written.few_notes b in omega (arith, few)))
 
   pub written_after : IsWritten s x2 w'
   written_after = subst (λ (y : Written). IsWritten s y w') (sym noted.noted) (record {
     places_long = length-set x.places a noted.to ∙ written.places_long;
     each_place = each_place;
+    told_long = written.told_long;
     each_list = each_list;
     each_history = each_history;
     each_journal = each_journal;
     each_scan = each_scan;
     each_own = each_own;
+    few_told = few_told;
     counted = counted;
     few_entries = few_entries;
     few_turns = few_turns;
+    few_notes = few_notes;
     few_own = few_own;
   })
 
@@ -326,7 +345,8 @@ pub written_place : (s : Script) (x : Written) (w : World) (a : ℕ) (to : Curso
 written_place s x w a to written may counts = record {
   places_long = length-set x.places a to ∙ written.places_long;
   each_place = λ b within. each_place b within (decide b a);
-  each_list = written.each_list ∙ same (actor_count s) (notes_by w) (notes_by w') (λ b within. notes b);
+  told_long = written.told_long;
+  each_list = written.each_list ∙ same (actor_count s) (untold x w) (untold x w') (λ b within. ap (drop (told_at x b)) (notes b));
   each_history = written.each_history;
   each_journal = written.each_journal;
   each_scan = written.each_scan;
@@ -334,6 +354,8 @@ written_place s x w a to written may counts = record {
   counted = λ b within. counted b within (decide b a);
   few_entries = written.few_entries;
   few_turns = written.few_turns;
+  few_told = λ b. (let e = ap length (notes b) in let few = written.few_told b in omega (arith, e, few));
+  few_notes = λ b. (let e = ap length (notes b) in let few = written.few_notes b in omega (arith, e, few));
   few_own = λ b. (let e = own b in let few = written.few_own b in omega (arith, e, few));
 } where
   w' : World
@@ -395,7 +417,7 @@ module _ (s : Script) (x : Written) (w : World) (written : IsWritten s x w) wher
       (omega arith, omega arith)
 
   pub list_there : (a : ℕ) → a < actor_count s → a < length x.lists
-  list_there a known = let l = long x.lists (actor_count s) (notes_by w) written.each_list in omega arith
+  list_there a known = let l = long x.lists (actor_count s) (untold x w) written.each_list in omega arith
 
   pub place_there : (a : ℕ) → a < actor_count s → (a < length x.places) × IsCounted (place_at x a) x.made
   place_there a known = let l = written.places_long in let counts = written.counted a known in (omega arith, counts)

@@ -1,5 +1,5 @@
 -- What the world in code stands for: a plain world that some schedule reaches.
-use Rattle.std.specs.Prelude.{◌≡◌, ℕ, ◌^◌, ◌≤◌, ◌<◌, ◌==◌, ◌&&◌, not, Bool, true, false, List, length, if◌then◌else◌}
+use Rattle.std.specs.Prelude.{◌≡◌, ℕ, ◌^◌, ◌≤◌, ◌<◌, ◌==◌, ◌&&◌, not, Bool, true, false, List, length, drop, if◌then◌else◌}
 use Rattle.std.specs.declared.option.Option.{Option}
 use Rattle.std.specs.declared.option.Option.TheVariants.{Some, None}
 use Rattle.co_object.specs.declared.alone.Alone.{Alone}
@@ -7,6 +7,7 @@ use Rattle.co_object.specs.declared.state.Arming.{Arming}
 use Rattle.co_object.specs.Stand.{is_idle, is_free_at, off}
 use Rattle.co_object.specs.Queue.{Queue, Due}
 use Rattle.co_object.specs.Lists.{notes_of}
+use Rattle.co_object.specs.declared.note.Note.{Note}
 use Rattle.co_object.specs.declared.note.Place.TheVariants.{Actor}
 use Rattle.co_program.specs.declared.script.Script.{Script}
 use Rattle.co_program.specs.declared.role.Role.{Role}
@@ -23,29 +24,36 @@ use Rattle.co_wheel.specs.Parcel.{Parcel as Travelling}
 use Rattle.co_wheel.specs.Turns.{Shows}
 use Rattle.co_core.specs.declared.books.Hand.{Hand}
 use Rattle.co_core.specs.declared.engine.Engine.{Engine}
-use Rattle.co_core.specs.World.{World, lists_of}
+use Rattle.co_core.specs.World.{World}
 use Rattle.co_core.specs.Blocked.{blocked, is_moving}
 use Rattle.co_core.specs.Step.{are_direct}
 use Rattle.co_core.specs.Laws.{IsSchedule, reached}
 use Rattle.co_core.specs.Stored.{Stored, bag_at, wheel_at}
 use Rattle.co_core.specs.Table.{table}
-use Rattle.co_core.specs.Written.{Written, place_at, with_list}
+use Rattle.co_core.specs.Written.{Written, place_at, told_at, with_list}
 
 -- ---- what has been written
+
+-- an actor's notes but for those that have been told and let go
+abbrev pub untold : Written → World → ℕ → List Note
+untold x w a = drop (told_at x a) (w.actors a).notes
 
 -- the books have each actor's place and notes, and how long each history is
 pub record IsWritten (s : Script) (x : Written) (w : World) : Type 0 where
   pub places_long : length x.places ≡ actor_count s
   pub each_place : (a : ℕ) → a < actor_count s → cursor_of s a (place_at x a) ≡ (w.actors a).cursor
-  pub each_list : x.lists ≡ lists_of s w
+  pub told_long : length x.told ≡ actor_count s
+  pub each_list : x.lists ≡ table (actor_count s) (untold x w)
   pub each_history : x.histories ≡ table (length s.timers) (λ i. length (w.timers i).history)
   pub each_journal : x.journals ≡ table s.cpus (λ cpu. length (w.cpus cpu).journal)
   pub each_scan : x.scans ≡ table s.cpus (λ cpu. scan_count (w.cpus cpu).journal)
   pub each_own : x.own ≡ table (actor_count s) (λ a. length (notes_of (Actor a) (w.actors a).notes))
+  pub few_told : (a : ℕ) → told_at x a ≤ length (w.actors a).notes
   -- each act that has begun is over in its program or has made a note, and each entry is a note
   pub counted : (a : ℕ) → a < actor_count s → IsCounted (place_at x a) x.made
   pub few_entries : (i : ℕ) → length (w.timers i).history ≤ x.made
   pub few_turns : (cpu : ℕ) → length (w.cpus cpu).journal ≤ x.made
+  pub few_notes : (a : ℕ) → length (w.actors a).notes ≤ x.made
   pub few_own : (a : ℕ) → length (notes_of (Actor a) (w.actors a).notes) ≤ x.made
 
 -- an actor may write: the books are those of some world

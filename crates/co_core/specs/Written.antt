@@ -1,5 +1,5 @@
 -- What has been written in a world: each actor's place and notes, and how long each history is.
-use Rattle.std.specs.Prelude.{◌≡◌, ℕ, ◌+◌, Bool, List, [], ◌∷◌, ◌++◌, get_or, set}
+use Rattle.std.specs.Prelude.{◌≡◌, ℕ, ◌+◌, Bool, List, [], ◌∷◌, ◌++◌, get_or, length, set}
 use Rattle.std.specs.declared.option.Option.TheVariants.{None}
 use Rattle.co_object.specs.declared.note.Note.{Note}
 use Rattle.co_program.specs.declared.cursor.Cursor.{Cursor as CursorAt}
@@ -9,7 +9,7 @@ use Rattle.co_program.specs.Advance.{advance}
 use Rattle.co_program.specs.Indexed.{Counts, cursor_of}
 
 pub record Written : Type 0 where
-  -- by actor: its place in its program, and its notes
+  -- by actor: its place in its program, and its notes but for those that have been told and let go
   pub places : List CursorAt
   pub lists : List (List Note)
   -- by callout and by CPU: how many entries its history has
@@ -19,6 +19,8 @@ pub record Written : Type 0 where
   pub scans : List ℕ
   -- by actor: how many notes of its own it has
   pub own : List ℕ
+  -- by actor: how many of its notes have been told and let go
+  pub told : List ℕ
   -- how many notes there are
   pub made : ℕ
 
@@ -31,11 +33,18 @@ place_at x a = get_or x.places a first_place
 abbrev pub list_at : Written → ℕ → List Note
 list_at x a = get_or x.lists a []
 
+abbrev pub told_at : Written → ℕ → ℕ
+told_at x a = get_or x.told a 0
+
 abbrev pub with_place : Written → ℕ → CursorAt → Written
 with_place x a to = record x { places = set x.places a to }
 
 abbrev pub with_list : Written → ℕ → List Note → Written
 with_list x a notes = record x { lists = set x.lists a notes }
+
+-- an actor's notes have been told, and are let go
+abbrev pub let_go : Written → ℕ → Written
+let_go x a = record x { lists = set x.lists a []; told = set x.told a (told_at x a + length (list_at x a)) }
 
 -- an actor has made a note, and goes on in its program
 pub record IsNoted (s : Script) (a : ℕ) (listed : Bool) (note : Note) (before after : Written) : Type 0 where

@@ -19,6 +19,7 @@ ghost use Rattle.co_core.specs.Written.{IsNoted, list_at, place_at, with_list, w
 
 mod boot;
 mod holders;
+mod telling;
 mod waits;
 
 use co_object::{
@@ -39,7 +40,7 @@ pub(crate) struct Books {
     places: Vec<Cursor>,
     /// By lock: how many actors hold it.
     holders: Vec<Holders>,
-    /// By actor: its notes.
+    /// By actor: its notes, but for those that have been let go.
     lists: Lists,
     /// By callout: how many entries its history has.
     histories: Vec<u64>,
@@ -48,6 +49,8 @@ pub(crate) struct Books {
     scans: Vec<u64>,
     /// By actor: how many notes of its own it has.
     own: Vec<u64>,
+    /// By actor: how many of its notes have been told to a notebook and let go; the list has those after them.
+    told: Vec<u64>,
     /// How many notes there are.
     made: u64,
 }
@@ -57,7 +60,7 @@ impl Model for Books {
 
     ghost Value = { Written };
 
-    ghost view = { λ b. record { places = b.places.items; lists = b.lists; histories = b.histories.items; journals = b.journals.items; scans = b.scans.items; own = b.own.items; made = b.made } };
+    ghost view = { λ b. record { places = b.places.items; lists = b.lists; histories = b.histories.items; journals = b.journals.items; scans = b.scans.items; own = b.own.items; told = b.told.items; made = b.made } };
 
     ghost use Rattle.co_core.specs.Holders.{AreHolders};
 
@@ -76,14 +79,6 @@ const MOST: u64 = 0x8000_0000_0000_0000;
 
 impl Books {
     /// The actor's place in its program.
-    pub(crate) fn place(&self, actor: u32) -> Cursor
-        requires { actor < length self.now.places }
-        ensures { result ≡ place_at self.now actor }
-    {
-        self.places[actor as usize]
-    }
-
-    /// The same, where it is.
     pub(crate) fn at(&self, actor: u32) -> &Cursor
         requires { actor < length self.now.places }
         ensures { result.now ≡ place_at self.now actor }
@@ -161,6 +156,7 @@ impl Books {
         requires room { 0 < hand.old.notes.spare }
         ensures noted { IsNoted script.now hand.old.actor listed note.now (with_list self.old hand.old.actor hand.old.notes.items) (with_list self.new hand.old.actor hand.new.notes.items) }
         ensures actor { hand.new.actor ≡ hand.old.actor }
+        ensures told { self.new.told ≡ self.old.told }
         ensures spare { hand.old.notes.spare ≤ hand.new.notes.spare + 1 }
         ensures count { length hand.new.notes.items ≡ length hand.old.notes.items + 1 }
         ensures made { self.new.made ≡ self.old.made + 1 }
@@ -193,6 +189,7 @@ impl Books {
         ensures written { (w : PlainWorld) (state : State) → IsWritten script.now (with_list self.old hand.old.actor hand.old.notes.items) w → (is_armed reply ≡ true → listed ≡ is_some (off state)) →
             IsWritten script.now (with_list self.new hand.old.actor hand.new.notes.items) (callout_answers script.now w hand.old.actor act i op (Some (state, reply))) }
         ensures actor { hand.new.actor ≡ hand.old.actor }
+        ensures told { self.new.told ≡ self.old.told }
         ensures spare { hand.old.notes.spare ≤ hand.new.notes.spare + 1 }
         ensures count { length hand.new.notes.items ≡ length hand.old.notes.items + 1 }
         ensures made { self.new.made ≡ self.old.made + 1 }
@@ -230,6 +227,7 @@ impl Books {
         ensures written { (w : PlainWorld) (queue : TimerQueue) → IsWritten script.now (with_list self.old hand.old.actor hand.old.notes.items) w →
             IsWritten script.now (with_list self.new hand.old.actor hand.new.notes.items) (queue_answers script.now w hand.old.actor act cpu op (Some (queue, reply))) }
         ensures actor { hand.new.actor ≡ hand.old.actor }
+        ensures told { self.new.told ≡ self.old.told }
         ensures spare { hand.old.notes.spare ≤ hand.new.notes.spare + 1 }
         ensures count { length hand.new.notes.items ≡ length hand.old.notes.items + 1 }
         ensures made { self.new.made ≡ self.old.made + 1 }
@@ -270,6 +268,7 @@ impl Books {
         ensures written { (w : PlainWorld) (queue : TimerQueue) → removed ≡ true → IsWritten script.now (with_list self.old hand.old.actor hand.old.notes.items) w →
             IsWritten script.now (with_list self.new hand.old.actor hand.new.notes.items) (queue_answers script.now w hand.old.actor act cpu (Remove i) (Some (queue, Off))) }
         ensures actor { hand.new.actor ≡ hand.old.actor }
+        ensures told { self.new.told ≡ self.old.told }
         ensures spare { hand.old.notes.spare ≤ hand.new.notes.spare + 1 }
         ensures count { length hand.new.notes.items ≡ length hand.old.notes.items + result }
         ensures made { self.new.made ≤ self.old.made + 1 }
@@ -300,6 +299,7 @@ impl Books {
             (w.actors hand.old.actor).cursor.parcel ≡ Some parcel →
             IsWritten script.now (with_list self.new hand.old.actor hand.new.notes.items) (queue_answers script.now w hand.old.actor parcel.act parcel.cpu (Insert parcel.i parcel.n parcel.due) (Some (queue, At t))) }
         ensures actor { hand.new.actor ≡ hand.old.actor }
+        ensures told { self.new.told ≡ self.old.told }
         ensures count { length hand.new.notes.items ≡ length hand.old.notes.items + result }
         ensures few { result ≤ 1 }
     {
@@ -329,6 +329,7 @@ impl Books {
         ensures written { (w : PlainWorld) (queue : TimerQueue) → IsWritten script.now (with_list self.old hand.old.actor hand.old.notes.items) w →
             IsWritten script.now (with_list self.new hand.old.actor hand.new.notes.items) (queue_answers script.now w hand.old.actor parcel.now.act parcel.now.cpu (Insert parcel.now.i parcel.now.n parcel.now.due) (Some (queue, At at))) }
         ensures actor { hand.new.actor ≡ hand.old.actor }
+        ensures told { self.new.told ≡ self.old.told }
         ensures count { length hand.new.notes.items ≡ length hand.old.notes.items + 1 }
     {
         let op = QOp::Insert {
@@ -348,6 +349,7 @@ impl Books {
         ensures written { (w : PlainWorld) → IsWritten script.now (with_list self.old hand.old.actor hand.old.notes.items) w →
             IsWritten script.now (with_list self.new hand.old.actor hand.new.notes.items) (own_note script.now w hand.old.actor act kind) }
         ensures actor { hand.new.actor ≡ hand.old.actor }
+        ensures told { self.new.told ≡ self.old.told }
         ensures count { length hand.new.notes.items ≡ length hand.old.notes.items + 1 }
     {
         let actor = hand.actor;

@@ -35,6 +35,7 @@ impl Engine {
             HeldBy s self.new hand.now (step s w hand.now.actor) }
         ensures take { (s : ScriptOf) (w : PlainWorld) (held : Held) → HeldBy s self.old hand.now w → IsDue s w hand.now.actor (Take held (cursor_of s hand.now.actor to)) → Counts (place_at self.old.books hand.now.actor) to 0 →
             HeldBy s self.new hand.now (step s w hand.now.actor) }
+        ensures told { self.new.books.told ≡ self.old.books.told }
     {
         self.books.go(hand.actor, to);
     }
@@ -46,6 +47,7 @@ impl Engine {
         ensures stands { (w : PlainWorld) → HeldBy script.now self.old hand.old w → IsDue script.now w hand.old.actor (Asks act (Asked.Itself kind)) →
             HeldBy script.now self.new hand.new (step script.now w hand.old.actor) }
         ensures actor { hand.new.actor ≡ hand.old.actor }
+        ensures told { self.new.books.told ≡ self.old.books.told }
         ensures count { length hand.new.notes.items ≡ length hand.old.notes.items + 1 }
     {
         self.books.write_own(script, hand, act, kind);
@@ -58,6 +60,7 @@ impl Engine {
         ensures stands { (w : PlainWorld) → HeldBy script.now self.old hand.old w → IsDue script.now w hand.old.actor (Asks act (Asked.Callout i (Op.Call op.now))) →
             HeldBy script.now self.new hand.new (step script.now w hand.old.actor) }
         ensures actor { hand.new.actor ≡ hand.old.actor }
+        ensures told { self.new.books.told ≡ self.old.books.told }
         ensures count { length hand.new.notes.items ≡ length hand.old.notes.items + result }
     {
         let cpu = self.depot.stand(i);
@@ -78,6 +81,7 @@ impl Engine {
         ensures stands { (w : PlainWorld) → HeldBy script.now self.old hand.old w → IsDue script.now w hand.old.actor (Asks parcel.now.act (Asked.Queue parcel.now.cpu (QOp.Insert parcel.now.i parcel.now.n parcel.now.due))) →
             HeldBy script.now self.new hand.new (step script.now w hand.old.actor) }
         ensures actor { hand.new.actor ≡ hand.old.actor }
+        ensures told { self.new.books.told ≡ self.old.books.told }
         ensures count { length hand.new.notes.items ≡ length hand.old.notes.items + 1 }
     {
         let at = self.depot.land(parcel.cpu, hand.actor);
@@ -91,6 +95,7 @@ impl Engine {
         ensures stands { (w : PlainWorld) → HeldBy script.now self.old hand.old w → IsDue script.now w hand.old.actor (Asks act (Asked.Queue cpu (QOp.Scan now))) →
             HeldBy script.now self.new hand.new (step script.now w hand.old.actor) }
         ensures actor { hand.new.actor ≡ hand.old.actor }
+        ensures told { self.new.books.told ≡ self.old.books.told }
         ensures count { length hand.new.notes.items ≡ length hand.old.notes.items + 1 }
     {
         let count = self.depot.scan(cpu, now);
@@ -107,6 +112,7 @@ impl Engine {
         ensures stands { (w : PlainWorld) → HeldBy script.now self.old hand.old w → IsDue script.now w hand.old.actor (Asks act (Asked.Queue cpu (pop_of direct))) →
             HeldBy script.now self.new hand.new (step script.now w hand.old.actor) }
         ensures actor { hand.new.actor ≡ hand.old.actor }
+        ensures told { self.new.books.told ≡ self.old.books.told }
         ensures count { length hand.new.notes.items ≡ length hand.old.notes.items + result }
         ensures few { result ≤ 3 }
     {
@@ -135,6 +141,7 @@ impl Engine {
         ensures stands { (w : PlainWorld) → HeldBy script.now self.old hand.old w → IsDue script.now w hand.old.actor (Asks act (Asked.Callout i (Op.Run (RunOp.Begin n cpu)))) →
             HeldBy script.now self.new hand.new (step script.now w hand.old.actor) }
         ensures actor { hand.new.actor ≡ hand.old.actor }
+        ensures told { self.new.books.told ≡ self.old.books.told }
         ensures count { length hand.new.notes.items ≡ length hand.old.notes.items + 1 }
     {
         let reply = self.depot.begin(cpu);
@@ -150,6 +157,7 @@ impl Engine {
         ensures stands { (w : PlainWorld) → HeldBy script.now self.old hand.old w → IsDue script.now w hand.old.actor (Asks act (Asked.Callout i (Op.Run (RunOp.End n cpu)))) →
             HeldBy script.now self.new hand.new (step script.now w hand.old.actor) }
         ensures actor { hand.new.actor ≡ hand.old.actor }
+        ensures told { self.new.books.told ≡ self.old.books.told }
         ensures count { length hand.new.notes.items ≡ length hand.old.notes.items + result }
         ensures few { result ≤ 3 }
     {

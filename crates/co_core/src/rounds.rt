@@ -17,7 +17,7 @@ use co_sbt::NoMemory;
 use std::alloc::Global;
 
 /// The step was none, since the actor had finished.
-fn is_finished(turn: Turn) -> bool
+pub(crate) fn is_finished(turn: Turn) -> bool
     ensures { result ≡ true → turn ≡ Turn.Finished }
 {
     match turn {

@@ -48,6 +48,7 @@ impl Engine {
         requires stands { (w : PlainWorld) × StandsFor script.now self.old.books self.old.depot w }
         ensures stands { OnOk result ((w : PlainWorld) → StandsFor script.now self.old.books self.old.depot w → StandsFor script.now self.new.books self.new.depot (step script.now w actor)) }
         ensures turn { IfOk result (λ turn. (w : PlainWorld) → StandsFor script.now self.old.books self.old.depot w → turn ≡ turn_of script.now w actor) }
+        ensures told { self.new.books.told ≡ self.old.books.told }
         ensures err { OnErr result (self.new ≡ self.old) }
     {
         if self.books.is_full() {
@@ -59,9 +60,11 @@ impl Engine {
         if let Some(why) = self.at_lock(script, actor) {
             return Ok(Turn::Blocked(why));
         }
-        let place = self.books.place(actor);
-        let action = action_for(script, actor, &place);
-        if let Some(why) = self.blocked(script, actor, &place, &action) {
+        let place = self.books.at(actor);
+        // The checker knows the range of a number behind a reference once it is read.
+        let _task = place.task;
+        let action = action_for(script, actor, place);
+        if let Some(why) = self.blocked(script, actor, place, &action) {
             return Ok(Turn::Blocked(why));
         }
         match action {

@@ -1,5 +1,5 @@
 //! Worlds of worked scripts, stepped by hand.
-ghost use Rattle.std.specs.Prelude.{◌≡◌, ◌∷◌, [], IfOk};
+ghost use Rattle.std.specs.Prelude.{◌≡◌, ◌^◌, ◌∷◌, [], IfOk};
 ghost use Rattle.co_object.specs.declared.spec.LockUse.TheVariants.{Free};
 ghost use Rattle.co_program.specs.declared.act.Act.TheVariants.{Reset};
 ghost use Rattle.co_program.specs.declared.act.When.TheVariants.{At};
@@ -7,8 +7,9 @@ ghost use Rattle.co_program.specs.declared.act.Who.TheVariants.{Timer};
 ghost use Rattle.co_program.specs.Scripts.{IsScript};
 ghost use Rattle.co_core.specs.Worked.{one_callout};
 
-use crate::{Turn, Why, World, run_steps};
+use crate::{Turn, Why, World, run_steps, tell_walk};
 use co_lock::LockKind;
+use co_notebook::Notebook;
 use co_object::{
     AnyEntry, CallOp, Entry, Lists, LockUse, Note, Op, Place, PlainOp, QEntry, QOp, QReply, Reply,
     Spec,
@@ -280,5 +281,35 @@ fn drain_against_reset(rt: HostRuntime) -> Result<(), Fail> {
 fn walks(rt: HostRuntime) -> Result<(), Fail> {
     let lists = run_steps(rt.alloc(), &in_transit(rt.alloc())?)?;
     assert_eq!(rt; lists.as_slice().len(), 4);
+    Ok(())
+}
+
+/// Keeps who makes each note, and at which position of its place.
+#[derive(Drop)]
+struct Told {
+    notes: Seq<(u32, u64)>,
+}
+
+impl Notebook for Told {
+    ghost actors = { λ x. 2 ^ 32 };
+
+    ghost has = { λ x made. Unit {0} };
+
+    fn write(&mut self, actor: u32, note: &Note) -> Result<(), NoMemory> {
+        self.notes.push((actor, note.pos))
+    }
+}
+
+#[test]
+fn tells_as_it_walks(rt: HostRuntime) -> Result<(), Fail> {
+    let script = in_transit(rt.alloc())?;
+    let mut told = Told {
+        notes: Seq::new(rt.alloc()),
+    };
+    assert_eq!(rt; tell_walk(rt.alloc(), &script, &mut told), Ok(()));
+    assert_eq!(rt;
+        told.notes.as_slice(),
+        [(0, 0), (0, 0), (1, 1), (1, 1)].as_slice()
+    );
     Ok(())
 }

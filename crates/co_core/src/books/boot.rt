@@ -102,6 +102,7 @@ impl Books {
             journals: zeros(alloc, cpus)?,
             scans: zeros(alloc, cpus)?,
             own: zeros(alloc, actors)?,
+            told: zeros(alloc, actors)?,
             made: 0,
         })
     }

@@ -31,6 +31,7 @@ impl Engine {
         requires counted { ActionCounts (place_at self.old.books actor) action.now }
         ensures stands { OnOk result ((w : PlainWorld) → StandsFor script.now self.old.books self.old.depot w → IsDue script.now w actor (action_of script.now actor action.now) →
             StandsFor script.now self.new.books self.new.depot (step script.now w actor)) }
+        ensures told { self.new.books.told ≡ self.old.books.told }
         ensures count { IfOk result (λ count. length (list_at self.new.books actor) ≡ length (list_at self.old.books actor) + count) }
         ensures err { OnErr result (self.new ≡ self.old) }
     {
@@ -47,6 +48,7 @@ impl Engine {
         ensures stands { (w : PlainWorld) → HeldBy script.now self.old hand.old w → IsDue script.now w hand.old.actor (action_of script.now hand.old.actor action.now) →
             HeldBy script.now self.new hand.new (step script.now w hand.old.actor) }
         ensures actor { hand.new.actor ≡ hand.old.actor }
+        ensures told { self.new.books.told ≡ self.old.books.told }
         ensures count { length hand.new.notes.items ≡ length hand.old.notes.items + result }
     {
         match action {
@@ -69,6 +71,7 @@ impl Engine {
         ensures stands { (w : PlainWorld) → HeldBy script.now self.old hand.old w → IsDue script.now w hand.old.actor (Asks act asked.now) →
             HeldBy script.now self.new hand.new (step script.now w hand.old.actor) }
         ensures actor { hand.new.actor ≡ hand.old.actor }
+        ensures told { self.new.books.told ≡ self.old.books.told }
         ensures count { length hand.new.notes.items ≡ length hand.old.notes.items + result }
     {
         match asked {
@@ -91,6 +94,7 @@ impl Engine {
         ensures stands { (w : PlainWorld) → HeldBy script.now self.old hand.old w → IsDue script.now w hand.old.actor (Asks act (Asked.Callout i (Op.Run run.now))) →
             HeldBy script.now self.new hand.new (step script.now w hand.old.actor) }
         ensures actor { hand.new.actor ≡ hand.old.actor }
+        ensures told { self.new.books.told ≡ self.old.books.told }
         ensures count { length hand.new.notes.items ≡ length hand.old.notes.items + result }
     {
         match run {
@@ -110,6 +114,7 @@ impl Engine {
         ensures stands { (w : PlainWorld) → HeldBy script.now self.old hand.old w → IsDue script.now w hand.old.actor (Asks act (Asked.Queue cpu op.now)) →
             HeldBy script.now self.new hand.new (step script.now w hand.old.actor) }
         ensures actor { hand.new.actor ≡ hand.old.actor }
+        ensures told { self.new.books.told ≡ self.old.books.told }
         ensures count { length hand.new.notes.items ≡ length hand.old.notes.items + result }
     {
         match op {

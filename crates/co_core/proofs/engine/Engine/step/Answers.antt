@@ -1,19 +1,31 @@
 -- The step is the plain world's, and what it answers is told by how many notes it made.
-use Rattle.std.proofs.Common.{sym, ◌∙◌}
+use Rattle.std.proofs.Common.{rules, ◌<◌, ◌^◌, arith, subst, sym, ◌∙◌}
+use Rattle.co_program.specs.declared.cursor.Cursor.{Cursor as CursorAt}
+use Rattle.co_program.specs.Indexed.{IsCounted}
 use Rattle.co_core.proofs.Undue.{turn_is, not_some}
 use Rattle.co_core.proofs.Waiting.{due_of}
 use Rattle.co_core.proofs.engine.Engine.step.Goals as goal
 
+-- the act's number is at most the number of notes, which is far below
+pub action_for-action-requires-clause-room : goal.action_for-action-requires-clause-room
+action_for-action-requires-clause-room c =
+    let counted : IsCounted c.at-place.result.now c.args.self.now.books.made =
+    subst (λ (p : CursorAt). IsCounted p c.args.self.now.books.made) (sym c.at-place.ensures) (c.requires.stands.1.written.counted c.args.actor c.requires.actor) in
+    let few : c.args.self.now.books.made < 2 ^ 63 = c.is_full.ensures c.if-is_full.false in
+    let task : c.at-place.result.now.task < 2 ^ 32 = search rules in
+    omega (arith, counted, few, task)
+
 pub returns-in_ok-count-in_default-action : goal.returns-in_ok-count-in_default-action
 returns-in_ok-count-in_default-action c = record {
   stands = λ w h.
-      (let due = due_of c.args.script.now c.requires.script c.args.self.now.books c.args.self.now.depot w h c.args.actor c.requires.actor c.place-place.result c.action_for-action.result c.place-place.ensures c.action_for-action.ensures.action in
+      (let due = due_of c.args.script.now c.requires.script c.args.self.now.books c.args.self.now.depot w h c.args.actor c.requires.actor c.at-place.result.now c.action_for-action.result c.at-place.ensures c.action_for-action.ensures.action in
       let free = sym (c.blocked.ensures w h) ∙ not_some c.blocked.result c.in_default-blocked.not-Some in
       c.in_ok-count-in_default-action.ensures.stands w h (record { may = c.requires.actor; due = due; free = free }));
   turn = λ w h.
-      (let due = due_of c.args.script.now c.requires.script c.args.self.now.books c.args.self.now.depot w h c.args.actor c.requires.actor c.place-place.result c.action_for-action.result c.place-place.ensures c.action_for-action.ensures.action in
+      (let due = due_of c.args.script.now c.requires.script c.args.self.now.books c.args.self.now.depot w h c.args.actor c.requires.actor c.at-place.result.now c.action_for-action.result c.at-place.ensures c.action_for-action.ensures.action in
       let free = sym (c.blocked.ensures w h) ∙ not_some c.blocked.result c.in_default-blocked.not-Some in
       let after = c.in_ok-count-in_default-action.ensures.stands w h (record { may = c.requires.actor; due = due; free = free }) in
-      turn_is c.args.script.now c.args.self.now.books c.act.new.self.books w c.args.actor c.in_ok-count-in_default-action.count c.action_for-action.result c.requires.actor h.written after.written free due c.in_default-action.not-Nothing c.in_ok-count-in_default-action.ensures.count);
+      turn_is c.args.script.now c.args.self.now.books c.act.new.self.books w c.args.actor c.in_ok-count-in_default-action.count c.action_for-action.result c.requires.actor h.written after.written free due c.in_default-action.not-Nothing c.act.ensures.told c.in_ok-count-in_default-action.ensures.count);
+  told = c.act.ensures.told;
   err = tt;
 }

@@ -9,15 +9,10 @@ use Rattle.co_core.specs.Step.{step}
 use Rattle.co_core.specs.Walk.{run, HasFinished}
 use Rattle.co_core.specs.World.{World}
 use Rattle.co_core.proofs.Moves.{decide}
-use Rattle.co_core.proofs.Rounding.{range-more}
+use Rattle.co_core.proofs.Rounding.{last_finished, range-more}
 use Rattle.co_core.proofs.Walks.{run_more, finished_step}
 use Rattle.co_core.proofs.world.World.round.Goals.{then-finished, else-finished}
 use Rattle.co_core.proofs.world.World.round.Goals as goal
-
--- those before, and the last one
-last : (s : Script) (w at : World) (i a : ℕ) → ((b : ℕ) → b < i → HasFinished s w b) → HasFinished s w i → (a ≡ i) ⊎ (a ≡ i → ⊥) → a < i + 1 → HasFinished s w a
-last s w at i a before here (inl same) below = subst (λ (k : ℕ). HasFinished s w k) (sym same) here
-last s w at i a before here (inr other) below = before a (omega (arith, other, below))
 
 -- what is shown and known, of a world
 abbrev IsKnown : Seen → List Bool → Script → World → Type 0
@@ -45,7 +40,7 @@ loop-actor-preserved c =
             let here = c.loop-actor.invariant.0 w h have in
             let known = subst (λ (k : Script). HaveEnded k at c.loop-actor.ended.flags) (sym own) here.1 in
             let finished : HasFinished s at i = subst (λ (k : Script). HasFinished k at i) own (c.in_ok-done.ensures.finished (sym b.finished-is ∙ all) at here.0 known) in (
-              λ a below. last s w at i a before.0 (subst (λ (v : World). HasFinished s v i) before.1 finished) (decide a i) below,
+              λ a below. last_finished s w i a before.0 (subst (λ (v : World). HasFinished s v i) before.1 finished) (decide a i) below,
               ap (λ (xs : List ℕ). run s w xs) (sym (range-more i)) ∙ (run_more s w (range_with_len 0 i) i ∙ (finished_step s at i finished ∙ before.1)),
             ))
         | else-finished b ↦ (λ all w h have. let never : false ≡ true = sym b.if-finished.false ∙ (sym b.finished-is ∙ all) in cc)

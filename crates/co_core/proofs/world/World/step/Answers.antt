@@ -5,4 +5,4 @@ use Rattle.co_core.proofs.world.World.step.Goals as goal
 pub invariant_of-self : goal.invariant_of-self
 invariant_of-self c =
     let s = c.self.inside.script.now in
-    stays_world s c.step.result c.self.inside.engine c.step.new.self (λ w. step s w c.args.actor) c.self.invariant c.step.ensures.stands c.step.ensures.err
+    stays_world s c.step.result c.self.inside.engine c.step.new.self (λ w. step s w c.args.actor) c.self.invariant c.step.ensures.stands c.step.ensures.told c.step.ensures.err

@@ -1,0 +1,65 @@
+use Rattle.std.proofs.Common.{◌≡◌, ℕ, List, Bool, ◌+◌, ◌<◌, ◌∙◌, ◌⊎◌, ap, subst, sym, true, false, inl, inr, refl, arith}
+use Rattle.std.specs.List.{range_with_len}
+use Rattle.co_program.specs.declared.Script.{Script}
+use Rattle.co_program.specs.Actors.{actor_count}
+use Rattle.co_core.specs.Ended.{HaveEnded}
+use Rattle.co_core.specs.Step.{step}
+use Rattle.co_core.specs.Telling.{GoesOn}
+use Rattle.co_core.specs.Walk.{run, HasFinished}
+use Rattle.co_core.specs.World.{World}
+use Rattle.co_core.proofs.Moves.{decide}
+use Rattle.co_core.proofs.Rounding.{last_finished, range-more}
+use Rattle.co_core.proofs.Told.{further, not_yet}
+use Rattle.co_core.proofs.Walks.{run_more, finished_step}
+use Rattle.co_core.proofs.engine.Engine.tell_round.Goals.{then-finished, else-finished}
+use Rattle.co_core.proofs.engine.Engine.tell_round.Goals as goal
+
+pub loop-actor-init : goal.loop-actor-init
+loop-actor-init g c = record {
+  world = c.requires.world;
+  told = λ w h have. (not_yet c.args.script.now g.N.Notebook.has c.args.self.now c.args.notebook.now w h, have);
+  finished = λ all w h have. ((λ a below. absurd (let never : ⊥ = omega (arith, below) in never)), refl);
+  actors = refl;
+}
+
+pub loop-actor-preserved : goal.loop-actor-preserved
+loop-actor-preserved g c =
+    let s = c.args.script.now in
+    let i = c.loop-actor.actor in
+    let has = g.N.Notebook.has in
+    let known = c.tell_unless_ended.new.ended.flags in record {
+      world = c.in_ok-done.ensures.world;
+      told = λ w h have.
+          (let at = run s w (range_with_len 0 i) in
+          let before = c.loop-actor.invariant.told w h have in
+          let after = c.in_ok-done.ensures.told at before.0.told before.1 in
+          subst (λ (v : World). GoesOn s has c.tell_unless_ended.new.self c.args.notebook.now c.tell_unless_ended.new.notebook w v × HaveEnded s v known) (sym (run_more s w (range_with_len 0 i) i) ∙ ap (λ (xs : List ℕ). run s w xs) (range-more i))
+          (further s has c.loop-actor.self c.tell_unless_ended.new.self c.args.notebook.now c.loop-actor.notebook c.tell_unless_ended.new.notebook w at (step s at i) before.0 after.0, after.1));
+      finished = elim c.if-finished.branch [
+        | then-finished b ↦ (λ all w h have.
+            let rest = c.loop-actor.invariant.finished b.if-finished.true w h have in
+            let at = run s w (range_with_len 0 i) in
+            let before = c.loop-actor.invariant.told w h have in
+            let finished : HasFinished s at i = c.in_ok-done.ensures.finished (sym b.finished-is ∙ all) at before.0.told before.1 in (
+              λ a below. last_finished s w i a rest.0 (subst (λ (v : World). HasFinished s v i) rest.1 finished) (decide a i) below,
+              ap (λ (xs : List ℕ). run s w xs) (sym (range-more i)) ∙ (run_more s w (range_with_len 0 i) i ∙ (finished_step s at i finished ∙ rest.1)),
+            ))
+        | else-finished b ↦ (λ all w h have. let never : false ≡ true = sym b.if-finished.false ∙ (sym b.finished-is ∙ all) in cc)
+      ];
+      actors = c.tell_unless_ended.ensures.actors ∙ c.loop-actor.invariant.actors;
+    }
+
+pub returns-clause-told : goal.returns-clause-told
+returns-clause-told g c w h have =
+    let s = c.args.script.now in
+    let whole : c.loop-actor.actor ≡ actor_count s = omega (arith, c.loop-actor.auto.actor-end, c.loop-actor-test.false, c.actor_count-actor-end.ensures) in
+    subst (λ (n : ℕ). GoesOn s g.N.Notebook.has c.loop-actor.self c.args.notebook.now c.loop-actor.notebook w (run s w (range_with_len 0 n)) × HaveEnded s (run s w (range_with_len 0 n)) c.loop-actor.ended.flags) whole (c.loop-actor.invariant.told w h have)
+
+pub returns-clause-finished : goal.returns-clause-finished
+returns-clause-finished g c all w h have =
+    let s = c.args.script.now in
+    let whole : c.loop-actor.actor ≡ actor_count s = omega (arith, c.loop-actor.auto.actor-end, c.loop-actor-test.false, c.actor_count-actor-end.ensures) in
+    let rest = c.loop-actor.invariant.finished all w h have in (
+      λ a within. rest.0 a (omega (arith, within, whole)),
+      subst (λ (n : ℕ). run s w (range_with_len 0 n) ≡ w) whole rest.1,
+    )

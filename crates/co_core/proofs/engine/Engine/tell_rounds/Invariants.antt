@@ -1,0 +1,17 @@
+use Rattle.std.proofs.Common.{◌≡◌}
+use Rattle.co_program.specs.Scripts.{IsScript}
+use Rattle.co_core.specs.Ended.{HaveEnded}
+use Rattle.co_core.specs.Telling.{GoesOn, HasTold}
+use Rattle.co_core.specs.Walk.{rounds}
+use Rattle.co_core.specs.World.{World as PlainWorld}
+use Rattle.co_core.proofs.Rounding.{HasCounted}
+use Rattle.co_core.proofs.engine.Engine.tell_rounds.Given as goal
+
+abbrev pub invariant-loop-round : goal.invariant-loop-round
+invariant-loop-round g l = record {
+  world : (w : PlainWorld) × HasTold l.script l.self w;
+  told : (w : PlainWorld) → HasTold l.script l.fn.self w →
+      GoesOn l.script g.N.Notebook.has l.self l.fn.notebook l.notebook w (rounds l.script w l._round) × HaveEnded l.script (rounds l.script w l._round) l.ended.flags
+      × ((ok : IsScript l.script) → HasCounted l.script ok w l._round);
+  actors : g.N.Notebook.actors l.notebook ≡ g.N.Notebook.actors l.fn.notebook;
+}

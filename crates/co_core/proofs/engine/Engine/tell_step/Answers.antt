@@ -1,0 +1,32 @@
+-- The step is the plain world's, and what the actor's list has then are the step's notes.
+use Rattle.std.proofs.Common.{◌≡◌, ◌+◌, ◌<◌, ◌≤◌, ◌^◌, arith, length, subst, sym}
+use Rattle.co_core.specs.declared.engine.Engine.{Engine}
+use Rattle.co_core.specs.Step.{step}
+use Rattle.co_core.specs.Telling.{GoesOn}
+use Rattle.co_core.specs.Written.{Written, list_at, told_at}
+use Rattle.co_core.proofs.Told.{step_told, told_few}
+use Rattle.co_core.proofs.Undue.{list_row}
+use Rattle.co_core.proofs.engine.Engine.tell_step.Goals as goal
+
+pub tell-requires-clause-list : goal.tell-requires-clause-list
+tell-requires-clause-list g c =
+    let s = c.args.script.now in
+    let at = c.requires.world in
+    list_row s c.step.new.self.books (step s at.0 c.args.actor) (c.in_ok-turn.ensures.stands at.0 at.1.stands).written c.args.actor c.requires.actor
+
+pub tell-requires-clause-few : goal.tell-requires-clause-few
+tell-requires-clause-few g c =
+    let s = c.args.script.now in
+    let at = c.requires.world in
+    let books = c.step.new.self.books in
+    let few : told_at books c.args.actor + length (list_at books c.args.actor) ≤ books.made = told_few s books (step s at.0 c.args.actor) c.args.actor (c.in_ok-turn.ensures.stands at.0 at.1.stands).written c.requires.actor in
+    let most : books.made < 2 ^ 63 = c.is_full.ensures c.if-is_full.false in
+    omega (arith, few, most)
+
+pub returns-clause-told : goal.returns-clause-told
+returns-clause-told g c w h =
+    let s = c.args.script.now in
+    let a = c.args.actor in
+    let engine : Written → Engine = λ books. record { books = books; depot = c.step.new.self.depot } in
+    subst (λ (books : Written). GoesOn s g.N.Notebook.has (engine books) c.args.notebook.now c.tell.new.notebook w (step s w a)) (sym c.in_ok-tell.ensures.let_go)
+    (step_told s g.N.Notebook.has c.args.self.now c.step.new.self c.args.notebook.now c.tell.new.notebook w a c.requires.actor h (c.in_ok-turn.ensures.stands w h.stands) c.step.ensures.told c.in_ok-tell.ensures.has)

@@ -1,0 +1,20 @@
+-- The turns and then the rounds, from the opening to the end.
+use Rattle.co_core.specs.Walk.{run}
+use Rattle.co_core.specs.World.{open_world}
+use Rattle.std.proofs.lemmas.Result.{on_ok_weaker}
+use Rattle.co_core.proofs.Told.{opening_told, walk_told}
+use Rattle.co_core.proofs.telling.tell_walk.Goals as goal
+
+pub tell_rounds-requires-clause-world : goal.tell_rounds-requires-clause-world
+tell_rounds-requires-clause-world g c =
+    let s = c.args.script.now in
+    (run s (open_world s) s.turns, (c.in_ok-tell_turns.ensures.told (open_world s) (opening_told s c.in_ok-engine.engine c.in_ok-engine.ensures)).told)
+
+pub returns-clause-told : goal.returns-clause-told
+returns-clause-told g c =
+    let s = c.args.script.now in
+    let turns = c.in_ok-tell_turns.ensures.told (open_world s) (opening_told s c.in_ok-engine.engine c.in_ok-engine.ensures) in
+    on_ok_weaker c.tell_rounds.result
+    (λ ends empty. (let end = ends (run s (open_world s) s.turns) turns.told in
+    walk_told s g.N.Notebook.has c.tell_turns.new.self c.tell_rounds.new.self c.args.notebook.now c.tell_turns.new.notebook c.tell_rounds.new.notebook end.0 turns end.1 end.2 empty))
+    c.tell_rounds.ensures.ends

@@ -1,0 +1,53 @@
+-- The notes of a script's walk, told as they are made.
+use Rattle.std.specs.Prelude.{◌≡◌, ℕ, ◌<◌, List, length, map}
+use Rattle.std.specs.List.{range_with_len}
+use Rattle.co_object.specs.declared.note.Note.{Note}
+use Rattle.co_object.specs.declared.note.Place.{Place}
+use Rattle.co_object.specs.declared.note.Place.TheVariants.{Actor, Cpu, Timer}
+use Rattle.co_object.specs.Lists.{notes_of}
+use Rattle.co_notebook.specs.Made.{IsInOrder, Made, list_by, lists_by, made_in}
+use Rattle.co_program.specs.declared.script.Script.{Script}
+use Rattle.co_program.specs.Actors.{actor_count}
+use Rattle.co_core.specs.declared.engine.Engine.{Engine}
+use Rattle.co_core.specs.Stands.{StandsFor}
+use Rattle.co_core.specs.Walk.{IsWalk}
+use Rattle.co_core.specs.World.{World}
+use Rattle.co_core.specs.Written.{told_at}
+
+-- these notes, in this order, are those of the script's walk, and the positions of each place count in their order
+pub record IsTelling (s : Script) (made : List Made) : Type 0 where
+  pub walk : IsWalk s (lists_by (actor_count s) made)
+  pub order : IsInOrder made
+
+-- ---- in the middle of a walk
+
+-- how many entries the world's history of a place has
+abbrev pub entry_count : World → Place → ℕ
+entry_count w (Timer i) = length (w.timers i).history
+entry_count w (Cpu cpu) = length (w.cpus cpu).journal
+entry_count w (Actor a) = length (notes_of (Actor a) (w.actors a).notes)
+
+-- these notes are those of the world's actors, and the positions of each place count in their order
+pub record AreMade (s : Script) (w : World) (made : List Made) : Type 0 where
+  pub lists : (a : ℕ) → a < actor_count s → list_by made a ≡ (w.actors a).notes
+  pub order : (here : Place) → map (λ note. note.pos) (made_in made here) ≡ range_with_len 0 (entry_count w here)
+
+-- these notes, made by this actor
+abbrev pub made_by : ℕ → List Note → List Made
+made_by a notes = map (λ note. record { actor = a; note = note }) notes
+
+-- the engine stands for this world, and has told all its notes
+pub record HasTold (s : Script) (e : Engine) (w : World) : Type 0 where
+  pub stands : StandsFor s e.books e.depot w
+  pub told : (a : ℕ) → a < actor_count s → told_at e.books a ≡ length (w.actors a).notes
+
+-- the notebook has the notes of this world
+pub record HasNotes (s : Script) {B : Type 0} (has : B → List Made → Type 0) (book : B) (w : World) : Type 0 where
+  pub made : List Made
+  pub holds : has book made
+  pub are : AreMade s w made
+
+-- the engine has come to this world, and a notebook that had the notes of the one before has those of this one
+pub record GoesOn (s : Script) {B : Type 0} (has : B → List Made → Type 0) (e : Engine) (old new : B) (before after : World) : Type 0 where
+  pub told : HasTold s e after
+  pub notes : HasNotes s has old before → HasNotes s has new after

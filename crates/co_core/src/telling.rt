@@ -1,0 +1,152 @@
+//! The walk of a script, told note by note.
+ghost use Rattle.std.specs.Prelude.{◌≡◌, ℕ, ◌<◌, ◌≤◌, List, [], true, OnOk, IfOk};
+ghost use Rattle.co_notebook.specs.Made.{Made};
+ghost use Rattle.co_program.specs.Actors.{actor_count};
+ghost use Rattle.co_program.specs.Scripts.{IsScript};
+ghost use Rattle.co_core.specs.Ended.{HaveEnded};
+ghost use Rattle.co_core.specs.Step.{step, turn_of};
+ghost use Rattle.co_core.specs.Telling.{GoesOn, HasTold, IsTelling};
+ghost use Rattle.co_core.specs.Walk.{AllFinished, HasFinished, round, rounds, run};
+ghost use Rattle.co_core.specs.World.{World as PlainWorld};
+
+use crate::ended::Ended;
+use crate::engine::Engine;
+use crate::rounds::is_finished;
+use crate::turn::Turn;
+use co_notebook::Notebook;
+use co_program::{Script, actor_count};
+use co_sbt::NoMemory;
+use std::alloc::Global;
+
+impl Engine {
+    /// One step of an actor, whose notes are told and let go.
+    fn tell_step<N: Notebook>(
+        &mut self,
+        script: &Script,
+        actor: u32,
+        notebook: &mut N,
+    ) -> Result<Turn, NoMemory>
+        requires script { IsScript script.now }
+        requires actor { actor < actor_count script.now }
+        requires room { actor_count script.now ≤ N.actors notebook.old }
+        requires world { (w : PlainWorld) × HasTold script.now self.old w }
+        ensures told { OnOk result ((w : PlainWorld) → HasTold script.now self.old w → GoesOn script.now N.has self.new notebook.old notebook.new w (step script.now w actor)) }
+        ensures turn { IfOk result (λ turn. (w : PlainWorld) → HasTold script.now self.old w → turn ≡ turn_of script.now w actor) }
+        ensures actors { N.actors notebook.new ≡ N.actors notebook.old }
+    {
+        let turn = self.step(script, actor)?;
+        if self.books.is_full() {
+            return Err(NoMemory {});
+        }
+        self.books.tell(actor, notebook)?;
+        Ok(turn)
+    }
+
+    /// The script's turns, one step each.
+    fn tell_turns<N: Notebook>(&mut self, script: &Script, notebook: &mut N) -> Result<(), NoMemory>
+        requires script { IsScript script.now }
+        requires room { actor_count script.now ≤ N.actors notebook.old }
+        requires world { (w : PlainWorld) × HasTold script.now self.old w }
+        ensures told { OnOk result ((w : PlainWorld) → HasTold script.now self.old w → GoesOn script.now N.has self.new notebook.old notebook.new w (run script.now w script.now.turns)) }
+        ensures actors { N.actors notebook.new ≡ N.actors notebook.old }
+    {
+        for actor in script.turns.as_slice() {
+            self.tell_step(script, *actor, notebook)?;
+        }
+        Ok(())
+    }
+
+    /// One step of an actor, unless it is known to have finished: then a step changes nothing. The answer is whether it has
+    /// finished.
+    fn tell_unless_ended<N: Notebook>(
+        &mut self,
+        script: &Script,
+        actor: u32,
+        ended: &mut Ended,
+        notebook: &mut N,
+    ) -> Result<bool, NoMemory>
+        requires script { IsScript script.now }
+        requires actor { actor < actor_count script.now }
+        requires room { actor_count script.now ≤ N.actors notebook.old }
+        requires world { (w : PlainWorld) × HasTold script.now self.old w }
+        ensures world { OnOk result ((w : PlainWorld) × HasTold script.now self.new w) }
+        ensures told { OnOk result ((w : PlainWorld) → HasTold script.now self.old w → HaveEnded script.now w ended.old.flags →
+            GoesOn script.now N.has self.new notebook.old notebook.new w (step script.now w actor) × HaveEnded script.now (step script.now w actor) ended.new.flags) }
+        ensures finished { IfOk result (λ finished. finished ≡ true → (w : PlainWorld) → HasTold script.now self.old w → HaveEnded script.now w ended.old.flags → HasFinished script.now w actor) }
+        ensures actors { N.actors notebook.new ≡ N.actors notebook.old }
+    {
+        if ended.knows(actor) {
+            return Ok(true);
+        }
+        let finished = is_finished(self.tell_step(script, actor, notebook)?);
+        if finished {
+            ended.learn(actor);
+        }
+        Ok(finished)
+    }
+
+    /// A round: each actor steps once, in order of the actors' numbers. The answer is whether all had finished before.
+    fn tell_round<N: Notebook>(
+        &mut self,
+        script: &Script,
+        ended: &mut Ended,
+        notebook: &mut N,
+    ) -> Result<bool, NoMemory>
+        requires script { IsScript script.now }
+        requires room { actor_count script.now ≤ N.actors notebook.old }
+        requires world { (w : PlainWorld) × HasTold script.now self.old w }
+        ensures world { OnOk result ((w : PlainWorld) × HasTold script.now self.new w) }
+        ensures told { OnOk result ((w : PlainWorld) → HasTold script.now self.old w → HaveEnded script.now w ended.old.flags →
+            GoesOn script.now N.has self.new notebook.old notebook.new w (round script.now w) × HaveEnded script.now (round script.now w) ended.new.flags) }
+        ensures finished { IfOk result (λ finished. finished ≡ true → (w : PlainWorld) → HasTold script.now self.old w → HaveEnded script.now w ended.old.flags →
+            AllFinished script.now w × (round script.now w ≡ w)) }
+        ensures actors { N.actors notebook.new ≡ N.actors notebook.old }
+    {
+        let mut finished = true;
+        for actor in 0..actor_count(script) {
+            let done = self.tell_unless_ended(script, actor, ended, notebook)?;
+            finished = finished && done;
+        }
+        Ok(finished)
+    }
+
+    /// Round robin until all have finished.
+    fn tell_rounds<N: Notebook>(
+        &mut self,
+        script: &Script,
+        notebook: &mut N,
+    ) -> Result<(), NoMemory>
+        requires script { IsScript script.now }
+        requires room { actor_count script.now ≤ N.actors notebook.old }
+        requires world { (w : PlainWorld) × HasTold script.now self.old w }
+        ensures ends { OnOk result ((w : PlainWorld) → HasTold script.now self.old w →
+            (number : ℕ) × GoesOn script.now N.has self.new notebook.old notebook.new w (rounds script.now w number) × AllFinished script.now (rounds script.now w number)) }
+        ensures actors { N.actors notebook.new ≡ N.actors notebook.old }
+    {
+        let mut ended = Ended::none();
+        // What is left to do falls with every round, so it ends long before it has counted so far.
+        for _round in 0..u64::MAX {
+            if self.tell_round(script, &mut ended, notebook)? {
+                return Ok(());
+            }
+        }
+        Ok(())
+    }
+}
+
+/// Tells the notes of a script's walk, one after the other, as they are made, and keeps none: the notes that `run_steps`
+/// lists, in the order of the steps. Fails for want of memory alone, its own or the notebook's. Our own decision.
+pub fn tell_walk<N: Notebook>(
+    alloc: Global,
+    script: &Script,
+    notebook: &mut N,
+) -> Result<(), NoMemory>
+    requires script { IsScript script.now }
+    requires actors { actor_count script.now ≤ N.actors notebook.old }
+    ensures told { OnOk result (N.has notebook.old [] → (made : List Made) × N.has notebook.new made × IsTelling script.now made) }
+    ensures actors { N.actors notebook.new ≡ N.actors notebook.old }
+{
+    let mut engine = Engine::boot(alloc, script)?;
+    engine.tell_turns(script, notebook)?;
+    engine.tell_rounds(script, notebook)
+}
