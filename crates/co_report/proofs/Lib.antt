@@ -10,7 +10,10 @@ pub mod Written
 pub mod Counted
 pub mod Room
 pub mod Shows
-pub mod Sections
+pub mod SectionsWritten
+pub mod ToldNotes
+pub mod ToldShown
+pub mod ToldPages
 pub mod PartSplits
 pub mod Exact
 pub mod ExactValues

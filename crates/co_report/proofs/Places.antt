@@ -9,7 +9,7 @@ use Rattle.co_program.specs.Actors.{actor_count}
 use Rattle.co_program.specs.Places.{place_exists}
 use Rattle.co_report.specs.Order.{place_index, place_count}
 
-below : (m n : ℕ) → nat_lt m n ≡ true → m < n
+pub below : (m n : ℕ) → nat_lt m n ≡ true → m < n
 below m n h = grind (arith, nat_tests)
 
 pub index_below : (s : Script) (p : Place) → place_exists s p ≡ true → place_index s p < place_count s

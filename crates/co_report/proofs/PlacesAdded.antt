@@ -2,7 +2,7 @@
 use Rattle.std.proofs.Common.{◌≡◌, ℕ, ◌+◌, List, [], ◌∷◌, ◌++◌, map, ap, sym, ◌∙◌, arith, append_assoc}
 use Rattle.std.specs.List.{range_with_len}
 use Rattle.co_object.specs.declared.Place.{Place}
-use Rattle.co_report.proofs.Sections.{range-more, map-more}
+use Rattle.co_report.proofs.SectionsWritten.{range-more, map-more}
 
 pub place_added : (kind : ℕ → Place) (i : ℕ) (old ps qs : List Place) → ps ≡ old ++ map kind (range_with_len 0 i) → qs ≡ ps ++ kind i ∷ [] → qs ≡ old ++ map kind (range_with_len 0 (i + 1))
 place_added kind i old ps qs e f =

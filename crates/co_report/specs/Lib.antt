@@ -9,4 +9,5 @@ pub mod NoteForms
 pub mod NoteFits
 pub mod Reading
 pub mod ReadingViews
+pub mod Sections
 pub mod Laws

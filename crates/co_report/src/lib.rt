@@ -8,6 +8,8 @@ mod order;
 mod origin;
 mod reading;
 mod report;
+mod sections;
+mod subject;
 #[cfg(test)]
 mod tests;
 
@@ -16,3 +18,5 @@ pub use order::{Order, order_of};
 pub use origin::{Origin, note_from};
 pub use reading::read_report;
 pub use report::print_report;
+pub use sections::Sections;
+pub use subject::{SectionsOf, Subject};

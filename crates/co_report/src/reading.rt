@@ -14,7 +14,7 @@ mod names;
 mod notes;
 mod operations;
 mod parts;
-mod places;
+pub mod places;
 mod progress;
 mod queue;
 mod replies;

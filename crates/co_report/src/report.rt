@@ -146,7 +146,7 @@ fn print_actors(
 }
 
 /// A line of one word.
-fn print_word(page: &mut Page, word: &[u8]) -> Result<(), NoMemory>
+pub fn print_word(page: &mut Page, word: &[u8]) -> Result<(), NoMemory>
     ensures { OnOk result (page.new ≡ page.old ++ line_text (word.now ∷ [])) }
 {
     page.line(&Token::Text(word), [].as_slice())

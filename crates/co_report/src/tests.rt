@@ -1,6 +1,8 @@
 //! Worked reports.
 ghost use Rattle.std.specs.Prelude.{◌≡◌, ◌∷◌, [], IfOk};
 
+mod told;
+
 use crate::{print_report, read_report};
 use co_object::{AnyEntry, Lists, OwnEntry, OwnKind, Place};
 use co_sbt::{NoMemory, Seq};

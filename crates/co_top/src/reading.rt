@@ -1,5 +1,5 @@
 //! The commands that read an input: what they make of its bytes.
-ghost use Rattle.std.specs.Prelude.{IfOk};
+ghost use Rattle.std.specs.Prelude.{◌≡◌, IfOk};
 ghost use Rattle.co_program.specs.Scripts.{IsScript};
 ghost use Rattle.co_check.specs.Lines.{IsReport};
 ghost use Rattle.co_check.specs.Verdict.{verdict};
@@ -11,21 +11,32 @@ use crate::command::Reading;
 use crate::status::Status;
 use crate::texts::{fault_text, legal_text, refusal_text, unfit_word};
 use co_check::{Verdict, check};
-use co_core::run_steps;
+use co_core::tell_walk;
 use co_program::Script;
-use co_report::{Report, print_report, read_report};
+use co_report::{Report, SectionsOf, Subject, read_report};
 use co_sbt::{NoMemory, Seq};
 use co_script::read_script;
 use co_text::ScriptFault;
 use std::alloc::Global;
+use std::marker::Brand;
+
+/// The report of a type's script, whose notes are printed as the walk makes them.
+fn report_told<S: Subject>(alloc: Global, script: &Script) -> Result<Seq<u8>, NoMemory>
+    requires sound { IsScript script.now }
+    requires subject { script.now ≡ S.script }
+    ensures { IfOk result (IsReportOf script.now) }
+{
+    let mut sections = SectionsOf::<S>::new(alloc, script)?;
+    tell_walk(alloc, script, &mut sections)?;
+    sections.report(alloc)
+}
 
 /// The report of a script's walk.
 fn report_of_walk(alloc: Global, script: &Script) -> Result<Seq<u8>, NoMemory>
     requires { IsScript script.now }
     ensures { IfOk result (IsReportOf script.now) }
 {
-    let lists = run_steps(alloc, script)?;
-    print_report(alloc, script, &lists)
+    report_told::<Brand>(alloc, script)
 }
 
 /// What `steps` makes of these bytes.

@@ -1,5 +1,5 @@
 use Rattle.co_object.specs.declared.Place.TheVariants.{Actor}
-use Rattle.co_report.proofs.Sections.{section_written}
+use Rattle.co_report.proofs.SectionsWritten.{section_written}
 use Rattle.co_report.proofs.report.print_actors.Goals as goal
 
 pub loop-actor-preserved : goal.loop-actor-preserved

@@ -1,4 +1,4 @@
-use Rattle.co_report.proofs.Sections.{report_written}
+use Rattle.co_report.proofs.SectionsWritten.{report_written}
 use Rattle.co_report.proofs.report.print_parts.Goals as goal
 
 pub returns : goal.returns

@@ -1,5 +1,5 @@
 use Rattle.co_object.specs.declared.Place.TheVariants.{Timer}
-use Rattle.co_report.proofs.Sections.{section_written}
+use Rattle.co_report.proofs.SectionsWritten.{section_written}
 use Rattle.co_report.proofs.report.print_timers.Goals as goal
 
 pub loop-timer-preserved : goal.loop-timer-preserved

@@ -1,5 +1,5 @@
 use Rattle.co_object.specs.declared.Place.TheVariants.{Cpu}
-use Rattle.co_report.proofs.Sections.{section_written}
+use Rattle.co_report.proofs.SectionsWritten.{section_written}
 use Rattle.co_report.proofs.report.print_wheels.Goals as goal
 
 pub loop-cpu-preserved : goal.loop-cpu-preserved

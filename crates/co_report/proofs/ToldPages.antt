@@ -1,0 +1,340 @@
+-- The sections and counts after one note more, before the first one, and as the parts of the report.
+use Rattle.std.proofs.Common.{◌≡◌, ◌≢◌, ℕ, zero, suc, ◌+◌, ◌-◌, ◌<◌, ◌==◌, nat_lt, Bool, true, false, List, [], ◌∷◌, ◌++◌, map, length, set, get_or, replicate, refl, ap, sym, subst, ◌∙◌, arith, append_assoc, append-nil, length-append}
+use Rattle.std.specs.Prelude.{codes}
+use Rattle.std.specs.List.{AllByRecursion, flat_map, range_with_len}
+use Rattle.std.proofs.lemmas.Bool.Decides.{nat_tests}
+use Rattle.std.proofs.lemmas.List.{map-append, set-append_left, set-append_right, get_or_append_left, get_or-append-add}
+use Rattle.std.proofs.lemmas.List.FromFn.{length-range_with_len, length-map-range_with_len, get_or-range_with_len, get_or-map-range_with_len}
+use Rattle.co_object.specs.declared.Note.{Note}
+use Rattle.co_object.specs.declared.Place.{Place}
+use Rattle.co_object.specs.declared.Place.TheVariants.{Timer, Cpu, Actor}
+use Rattle.co_object.specs.Lists.{same_place}
+use Rattle.co_object.proofs.ListsGrow.{same_place-eq}
+use Rattle.co_notebook.specs.Made.{Made, lists_by, IsInOrder}
+use Rattle.co_program.specs.declared.Script.{Script}
+use Rattle.co_program.specs.Actors.{actor_count}
+use Rattle.co_program.specs.Places.{place_exists}
+use Rattle.co_program.specs.Scripts.{IsScript}
+use Rattle.co_script.specs.Canonical.{canonical, canonical_lines}
+use Rattle.co_grammar.specs.Spelling.{numbered}
+use Rattle.co_text.specs.Lines.{line_text, text}
+use Rattle.co_text.specs.Values.{Word}
+use Rattle.co_text.proofs.Spacing.{text_one, text_append}
+use Rattle.co_report.specs.Histories.{Histories, shown_history}
+use Rattle.co_report.specs.NoteTexts.{note_words}
+use Rattle.co_report.specs.Order.{place_index, place_count}
+use Rattle.co_report.specs.Reports.{places, heading, place_lines, report, report_lines, report_of}
+use Rattle.co_report.specs.Sections.{count_by, told_in, section, Written, HasRooms, HasTold}
+use Rattle.co_report.proofs.Places.{below, same_itself}
+use Rattle.co_report.proofs.ToldNotes.{count-own, count-other, section-here, section-elsewhere}
+use Rattle.co_report.proofs.ToldShown.{shown-as-told}
+
+-- ---- one element of a mapped list that is written anew
+
+module _ {X Y : Type 0} (g h : X → Y) where
+  pub map-same : (ks : List X) (d : X) → ((j : ℕ) → j < length ks → h (get_or ks j d) ≡ g (get_or ks j d)) → map g ks ≡ map h ks
+  map-same [] d same = refl
+  map-same (k ∷ ks) d same =
+      ap (λ y. y ∷ map g ks) (sym (same 0 (omega arith)))
+      ∙ ap (λ ys. h k ∷ ys) (map-same ks d (λ j inside. same (suc j) (omega (arith, inside))))
+
+  pub set-map : (ks : List X) (i : ℕ) (d : X) → i < length ks → ((j : ℕ) → j < length ks → j ≢ i → h (get_or ks j d) ≡ g (get_or ks j d)) → set (map g ks) i (h (get_or ks i d)) ≡ map h ks
+  set-map [] i d inside same = absurd (omega (arith, inside))
+  set-map (k ∷ ks) zero d inside same = ap (λ ys. h k ∷ ys) (map-same ks d (λ j in_ks. same (suc j) (omega (arith, in_ks)) (λ e. absurd (omega (arith, e)))))
+  set-map (k ∷ ks) (suc i) d inside same =
+      ap (λ y. y ∷ set (map g ks) i (h (get_or ks i d))) (sym (same 0 (omega arith) (λ e. absurd (omega (arith, e)))))
+      ∙ ap (λ ys. h k ∷ ys) (set-map ks i d (omega (arith, inside)) (λ j in_ks ne. same (suc j) (omega (arith, in_ks)) (λ e. ne (omega (arith, e)))))
+
+equal-test : (a b : ℕ) → a ≡ b → (a == b) ≡ true
+equal-test a b h = grind (arith, nat_tests)
+
+unequal-test : (a b : ℕ) → a ≢ b → (b == a) ≡ false
+unequal-test a b h = grind (arith, nat_tests)
+
+less-test : (a b : ℕ) → a < b → nat_lt a b ≡ true
+less-test a b h = grind (arith, nat_tests)
+
+-- ---- counts
+
+pub counts-more : (made : List Made) (m : Made) (n number next : ℕ) (old : List ℕ) → m.actor < n → old ≡ map (count_by made) (range_with_len 0 n) → number ≡ get_or old m.actor number → next ≡ number + 1
+    → (number ≡ count_by made m.actor) × (set old m.actor next ≡ map (count_by (made ++ m ∷ [])) (range_with_len 0 n))
+counts-more made m n number next old actor was at more = (is, written) where
+  is : number ≡ count_by made m.actor
+  is = at ∙ (ap (λ xs. get_or xs m.actor number) was ∙ get_or-map-range_with_len (count_by made) 0 n m.actor m.actor number actor (omega arith))
+
+  own : (k : ℕ) → k ≡ m.actor → count_by (made ++ m ∷ []) k ≡ count_by made m.actor + 1
+  own k e = count-own made m k (equal-test m.actor k (sym e)) ∙ ap (λ a. count_by made a + 1) e
+
+  other : (j k : ℕ) → k ≡ j → j ≢ m.actor → count_by (made ++ m ∷ []) k ≡ count_by made k
+  other j k e ne = count-other made m k (unequal-test k m.actor (λ f. ne (sym e ∙ f)))
+
+  value : next ≡ count_by (made ++ m ∷ []) (get_or (range_with_len 0 n) m.actor 0)
+  value = more ∙ (ap (λ k. k + 1) is ∙ sym (own (get_or (range_with_len 0 n) m.actor 0) (get_or-range_with_len 0 n m.actor 0 actor ∙ omega arith)))
+
+  long : length (range_with_len 0 n) ≡ n
+  long = length-range_with_len 0 n
+
+  written : set old m.actor next ≡ map (count_by (made ++ m ∷ [])) (range_with_len 0 n)
+  written =
+      ap (λ xs. set xs m.actor next) was
+      ∙ (ap (λ v. set (map (count_by made) (range_with_len 0 n)) m.actor v) value
+      ∙ set-map (count_by made) (count_by (made ++ m ∷ [])) (range_with_len 0 n) m.actor 0 (omega (arith, actor, long))
+      (λ j inside ne. other j (get_or (range_with_len 0 n) j 0) (get_or-range_with_len 0 n j 0 (omega (arith, inside, long)) ∙ omega arith) ne))
+
+-- ---- sections
+
+-- those of one kind of places
+module _ {Y : Type 0} (g h : Place → Y) (kind : ℕ → Place) (n : ℕ) where
+  kind-at : (j : ℕ) (d : Place) → j < n → get_or (map kind (range_with_len 0 n)) j d ≡ kind j
+  kind-at j d inside = get_or-map-range_with_len kind 0 n j j d inside (omega arith)
+
+  kind-same : ((j : ℕ) → j < n → h (kind j) ≡ g (kind j)) → map g (map kind (range_with_len 0 n)) ≡ map h (map kind (range_with_len 0 n))
+  kind-same same =
+      map-same g h (map kind (range_with_len 0 n)) (kind 0) (λ j inside.
+      (let in_range : j < n = omega (arith, inside, length-map-range_with_len kind 0 n) in
+      let at = kind-at j (kind 0) in_range in ap h at ∙ (same j in_range ∙ ap g (sym at))))
+
+  kind-set : (i : ℕ) → i < n → ((j : ℕ) → j ≢ i → h (kind j) ≡ g (kind j)) → set (map g (map kind (range_with_len 0 n))) i (h (kind i)) ≡ map h (map kind (range_with_len 0 n))
+  kind-set i inside same =
+      ap (λ p. set (map g (map kind (range_with_len 0 n))) i (h p)) (sym (kind-at i (kind 0) inside))
+      ∙ set-map g h (map kind (range_with_len 0 n)) i (kind 0) (omega (arith, inside, length-map-range_with_len kind 0 n)) (λ j in_ks ne.
+      (let at = kind-at j (kind 0) (omega (arith, in_ks, length-map-range_with_len kind 0 n)) in ap h at ∙ (same j ne ∙ ap g (sym at))))
+
+module _ {Y : Type 0} (g : Place → Y) (kind : ℕ → Place) where
+  length-both : (ks : List ℕ) → length (map g (map kind ks)) ≡ length ks
+  length-both [] = refl
+  length-both (k ∷ ks) = ap suc (length-both ks)
+
+  at-both : (d : Y) (ks : List ℕ) (j : ℕ) → j < length ks → get_or (map g (map kind ks)) j d ≡ g (kind (get_or ks j 0))
+  at-both d [] j h = absurd (omega (arith, h))
+  at-both d (k ∷ ks) zero h = refl
+  at-both d (k ∷ ks) (suc j) h = at-both d ks j (omega (arith, h))
+
+-- those of the three kinds
+module _ (s : Script) where
+  abbrev timers : List Place
+  timers = map Timer (range_with_len 0 (length s.timers))
+
+  abbrev wheels : List Place
+  wheels = map Cpu (range_with_len 0 s.cpus)
+
+  abbrev actors : List Place
+  actors = map Actor (range_with_len 0 (actor_count s))
+
+  module _ {Y : Type 0} (g : Place → Y) where
+    pub map-places : map g (places s) ≡ map g timers ++ (map g wheels ++ map g actors)
+    map-places = map-append g timers (wheels ++ actors) ∙ ap (λ ys. map g timers ++ ys) (map-append g wheels actors)
+
+    length-kind : (kind : ℕ → Place) (n : ℕ) → length (map g (map kind (range_with_len 0 n))) ≡ n
+    length-kind kind n = length-both g kind (range_with_len 0 n) ∙ length-range_with_len 0 n
+
+    at-kind : (kind : ℕ → Place) (n i : ℕ) (d : Y) → i < n → get_or (map g (map kind (range_with_len 0 n))) i d ≡ g (kind i)
+    at-kind kind n i d inside =
+        let first : 0 + i ≡ i = omega arith in
+        at-both g kind d (range_with_len 0 n) i (omega (arith, inside, length-range_with_len 0 n)) ∙ ap (λ k. g (kind k)) (get_or-range_with_len 0 n i 0 inside ∙ first)
+
+    pub at-place : (p : Place) (d : Y) → place_exists s p ≡ true → get_or (map g (places s)) (place_index s p) d ≡ g p
+    at-place (Timer i) d exists =
+        let inside : i < length s.timers = below i (length s.timers) exists in
+        ap (λ ys. get_or ys i d) map-places
+        ∙ (get_or_append_left (map g timers) (map g wheels ++ map g actors) d i (omega (arith, inside, length-kind Timer (length s.timers)))
+        ∙ at-kind Timer (length s.timers) i d inside)
+    at-place (Cpu c) d exists =
+        let inside : c < s.cpus = below c s.cpus exists in
+        ap (λ ys. get_or ys (length s.timers + c) d) map-places
+        ∙ (ap (λ k. get_or (map g timers ++ (map g wheels ++ map g actors)) (k + c) d) (sym (length-kind Timer (length s.timers)))
+        ∙ (get_or-append-add (map g timers) (map g wheels ++ map g actors) c d
+        ∙ (get_or_append_left (map g wheels) (map g actors) d c (omega (arith, inside, length-kind Cpu s.cpus))
+        ∙ at-kind Cpu s.cpus c d inside)))
+    at-place (Actor a) d exists =
+        let inside : a < actor_count s = below a (actor_count s) exists in
+        let first : length s.timers + s.cpus + a ≡ length (map g timers) + (length (map g wheels) + a) = omega (arith, length-kind Timer (length s.timers), length-kind Cpu s.cpus) in
+        ap (λ ys. get_or ys (length s.timers + s.cpus + a) d) map-places
+        ∙ (ap (λ k. get_or (map g timers ++ (map g wheels ++ map g actors)) k d) first
+        ∙ (get_or-append-add (map g timers) (map g wheels ++ map g actors) (length (map g wheels) + a) d
+        ∙ (get_or-append-add (map g wheels) (map g actors) a d
+        ∙ at-kind Actor (actor_count s) a d inside)))
+
+  module _ {Y : Type 0} (g h : Place → Y) where
+    pub same-places : ((q : Place) → place_exists s q ≡ true → h q ≡ g q) → map g (places s) ≡ map h (places s)
+    same-places same =
+        map-places g
+        ∙ (ap (λ ys. ys ++ (map g wheels ++ map g actors)) (kind-same g h Timer (length s.timers) (λ j in_range. same (Timer j) (less-test j (length s.timers) in_range)))
+        ∙ (ap (λ ys. map h timers ++ (ys ++ map g actors)) (kind-same g h Cpu s.cpus (λ j in_range. same (Cpu j) (less-test j s.cpus in_range)))
+        ∙ (ap (λ ys. map h timers ++ (map h wheels ++ ys)) (kind-same g h Actor (actor_count s) (λ j in_range. same (Actor j) (less-test j (actor_count s) in_range)))
+        ∙ sym (map-places h))))
+
+    -- a place is written anew, and the others are as they were
+    pub set-place : (p : Place) → place_exists s p ≡ true → ((q : Place) → same_place p q ≡ false → h q ≡ g q) → set (map g (places s)) (place_index s p) (h p) ≡ map h (places s)
+    set-place (Timer i) exists same =
+        let inside : i < length s.timers = below i (length s.timers) exists in
+        ap (λ ys. set ys i (h (Timer i))) (map-places g)
+        ∙ (set-append_left (map g timers) (map g wheels ++ map g actors) i (h (Timer i)) (omega (arith, inside, length-kind g Timer (length s.timers)))
+        ∙ (ap (λ ys. ys ++ (map g wheels ++ map g actors)) (kind-set g h Timer (length s.timers) i inside (λ j ne. same (Timer j) (unequal-test j i ne)))
+        ∙ (ap (λ ys. map h timers ++ (ys ++ map g actors)) (kind-same g h Cpu s.cpus (λ j in_range. same (Cpu j) refl))
+        ∙ (ap (λ ys. map h timers ++ (map h wheels ++ ys)) (kind-same g h Actor (actor_count s) (λ j in_range. same (Actor j) refl))
+        ∙ sym (map-places h)))))
+    set-place (Cpu c) exists same =
+        let inside : c < s.cpus = below c s.cpus exists in
+        let back : (length s.timers + c) - length s.timers ≡ c = omega arith in
+        ap (λ ys. set ys (length s.timers + c) (h (Cpu c))) (map-places g)
+        ∙ (set-append_right (map g timers) (map g wheels ++ map g actors) (length s.timers) (length s.timers + c) (h (Cpu c)) (length-kind g Timer (length s.timers)) (omega arith)
+        ∙ (ap (λ k. map g timers ++ set (map g wheels ++ map g actors) k (h (Cpu c))) back
+        ∙ (ap (λ ys. map g timers ++ ys) (set-append_left (map g wheels) (map g actors) c (h (Cpu c)) (omega (arith, inside, length-kind g Cpu s.cpus)))
+        ∙ (ap (λ ys. map g timers ++ (ys ++ map g actors)) (kind-set g h Cpu s.cpus c inside (λ j ne. same (Cpu j) (unequal-test j c ne)))
+        ∙ (ap (λ ys. ys ++ (map h wheels ++ map g actors)) (kind-same g h Timer (length s.timers) (λ j in_range. same (Timer j) refl))
+        ∙ (ap (λ ys. map h timers ++ (map h wheels ++ ys)) (kind-same g h Actor (actor_count s) (λ j in_range. same (Actor j) refl))
+        ∙ sym (map-places h)))))))
+    set-place (Actor a) exists same =
+        let inside : a < actor_count s = below a (actor_count s) exists in
+        let back : (length s.timers + s.cpus + a) - length s.timers ≡ s.cpus + a = omega arith in
+        let again : (s.cpus + a) - s.cpus ≡ a = omega arith in
+        ap (λ ys. set ys (length s.timers + s.cpus + a) (h (Actor a))) (map-places g)
+        ∙ (set-append_right (map g timers) (map g wheels ++ map g actors) (length s.timers) (length s.timers + s.cpus + a) (h (Actor a)) (length-kind g Timer (length s.timers)) (omega arith)
+        ∙ (ap (λ k. map g timers ++ set (map g wheels ++ map g actors) k (h (Actor a))) back
+        ∙ (ap (λ ys. map g timers ++ ys) (set-append_right (map g wheels) (map g actors) s.cpus (s.cpus + a) (h (Actor a)) (length-kind g Cpu s.cpus) (omega arith))
+        ∙ (ap (λ k. map g timers ++ (map g wheels ++ set (map g actors) k (h (Actor a)))) again
+        ∙ (ap (λ ys. map g timers ++ (map g wheels ++ ys)) (kind-set g h Actor (actor_count s) a inside (λ j ne. same (Actor j) (unequal-test j a ne)))
+        ∙ (ap (λ ys. ys ++ (map g wheels ++ map h actors)) (kind-same g h Timer (length s.timers) (λ j in_range. same (Timer j) refl))
+        ∙ (ap (λ ys. map h timers ++ (ys ++ map h actors)) (kind-same g h Cpu s.cpus (λ j in_range. same (Cpu j) refl))
+        ∙ sym (map-places h))))))))
+
+-- ---- one note more
+
+all-more : (n : ℕ) (made : List Made) (m : Made) → AllByRecursion (λ (x : Made). x.actor < n) made → m.actor < n → AllByRecursion (λ (x : Made). x.actor < n) (made ++ m ∷ [])
+all-more n [] m all last = (last, tt)
+all-more n (x ∷ made) m all last = (all.0, all-more n made m all.1 last)
+
+-- a place that the script has, and one that it hasn't
+missing : (s : Script) (p q : Place) → place_exists s p ≡ false → place_exists s q ≡ true → same_place p q ≡ false
+missing s p q none some = by_test (same_place p q) refl where
+  by_test : (b : Bool) → same_place p q ≡ b → same_place p q ≡ false
+  by_test true same = (let both : place_exists s p ≡ place_exists s q = ap (place_exists s) (same_place-eq p q same) in cc)
+  by_test false other = other
+
+module _ (s : Script) (made : List Made) (m : Made) (pages : List (List ℕ)) (counts : List ℕ) (number next : ℕ) where
+  abbrev before : Written
+  before = record { script = s; pages = pages; counts = counts }
+
+  pub told-written : HasTold before made → m.actor < actor_count s → number ≡ get_or counts m.actor number → next ≡ number + 1 → (index : ℕ) (old new : List ℕ)
+      → place_exists s m.note.place ≡ true → index ≡ place_index s m.note.place → old ≡ get_or pages index old → new ≡ old ++ line_text (note_words s number m.note.entry)
+      → HasTold (record { script = s; pages = set pages index new; counts = set counts m.actor next }) (made ++ m ∷ [])
+  told-written told actor at more index old new exists place at_old written =
+      let p : Place = m.note.place in
+      let counted = counts-more made m (actor_count s) number next counts actor told.counts at more in
+      let was : old ≡ section s made p =
+      at_old
+      ∙ (ap (λ xs. get_or xs index old) told.pages
+      ∙ (ap (λ k. get_or (map (section s made) (places s)) k old) place
+      ∙ at-place s (section s made) p old exists)) in
+      let now : new ≡ section s (made ++ m ∷ []) p =
+      written
+      ∙ (ap (λ t. t ++ line_text (note_words s number m.note.entry)) was
+      ∙ (ap (λ k. section s made p ++ line_text (note_words s k m.note.entry)) counted.0
+      ∙ sym (section-here s made m p (same_itself p)))) in record {
+        actors = all-more (actor_count s) made m told.actors actor;
+        counts = counted.1;
+        pages =
+            ap (λ xs. set xs index new) told.pages
+            ∙ (ap (λ k. set (map (section s made) (places s)) k new) place
+            ∙ (ap (λ t. set (map (section s made) (places s)) (place_index s p) t) now
+            ∙ set-place s (section s made) (section s (made ++ m ∷ [])) p exists (λ q other. section-elsewhere s made m q other)));
+      }
+
+  pub told-nowhere : HasTold before made → m.actor < actor_count s → number ≡ get_or counts m.actor number → next ≡ number + 1 → place_exists s m.note.place ≡ false
+      → HasTold (record { script = s; pages = pages; counts = set counts m.actor next }) (made ++ m ∷ [])
+  told-nowhere told actor at more none =
+      let counted = counts-more made m (actor_count s) number next counts actor told.counts at more in record {
+        actors = all-more (actor_count s) made m told.actors actor;
+        counts = counted.1;
+        pages =
+            told.pages
+            ∙ same-places s (section s made) (section s (made ++ m ∷ [])) (λ q some. section-elsewhere s made m q (missing s m.note.place q none some));
+      }
+
+-- ---- before the first note
+
+headings-alone : (s : Script) (ps : List Place) → map (λ p. line_text (heading s p)) ps ≡ map (section s []) ps
+headings-alone s [] = refl
+headings-alone s (p ∷ ps) = ap (λ t. t ∷ map (λ q. line_text (heading s q)) ps) (sym (append-nil (line_text (heading s p)))) ∙ ap (λ ts. section s [] p ∷ ts) (headings-alone s ps)
+
+no-counts : (i n : ℕ) → replicate n 0 ≡ map (count_by []) (range_with_len i n)
+no-counts i zero = refl
+no-counts i (suc n) = ap (λ ns. 0 ∷ ns) (no-counts (i + 1) n)
+
+pub nothing-told : (s : Script) (pages : List (List ℕ)) (counts : List ℕ) → pages ≡ map (λ p. line_text (heading s p)) (places s) → counts ≡ replicate (actor_count s) 0
+    → HasTold (record { script = s; pages = pages; counts = counts }) []
+nothing-told s pages counts opened zeros = record {
+  actors = tt;
+  counts = zeros ∙ no-counts 0 (actor_count s);
+  pages = opened ∙ headings-alone s (places s);
+}
+
+length-places : {Y : Type 0} (s : Script) (g : Place → Y) → length (map g (places s)) ≡ place_count s
+length-places s g =
+    ap length (map-places s g)
+    ∙ omega (
+      arith,
+      length-append (map g (timers s)) (map g (wheels s) ++ map g (actors s)),
+      length-append (map g (wheels s)) (map g (actors s)),
+      length-kind s g Timer (length s.timers),
+      length-kind s g Cpu s.cpus,
+      length-kind s g Actor (actor_count s),
+    )
+
+-- what is told has its rooms
+pub told-rooms : (x : Written) (made : List Made) → IsScript x.script → HasTold x made → HasRooms x
+told-rooms x made sound told = record {
+  script = sound;
+  pages = ap length told.pages ∙ length-places x.script (section x.script made);
+  counts = ap length told.counts ∙ length-map-range_with_len (count_by made) 0 (actor_count x.script);
+}
+
+-- ---- the whole report
+
+joined : (s : Script) (made : List Made) (ps : List Place) → flat_map (λ page. page) (map (section s made) ps) ≡ text (flat_map (place_lines s (told_in made)) ps)
+joined s made [] = refl
+joined s made (p ∷ ps) =
+    ap (λ t. section s made p ++ t) (joined s made ps)
+    ∙ sym (text_append (place_lines s (told_in made) p) (flat_map (place_lines s (told_in made)) ps))
+
+parts : (a : List Word) (b : List (List Word)) (h : List Word) (ls : List (List Word)) (e : List Word)
+    → text (a ∷ (b ++ (h ∷ (ls ++ e ∷ [])))) ≡ line_text a ++ text b ++ line_text h ++ text ls ++ line_text e
+parts a b h ls e =
+    ap (λ t. line_text a ++ t) (text_append b (h ∷ (ls ++ e ∷ [])) ∙ ap (λ t. text b ++ (line_text h ++ t)) (text_append ls (e ∷ []) ∙ ap (λ t. text ls ++ t) (text_one e)))
+    ∙ sym (pieces (line_text a) (text b) (line_text h) (text ls) (line_text e))
+  where
+    pieces : (v w x y z : List ℕ) → v ++ w ++ x ++ y ++ z ≡ v ++ (w ++ (x ++ (y ++ z)))
+    pieces v w x y z = simp append_assoc
+
+told-text : (s : Script) (h : Histories) → report s h ≡ line_text (numbered (codes "callout-report") 1) ++ canonical s ++ line_text (codes "histories" ∷ []) ++ text (flat_map (place_lines s h) (places s)) ++ line_text (codes "end" ∷ [])
+unfolding report report_lines canonical
+told-text s h = parts (numbered (codes "callout-report") 1) (canonical_lines s) (codes "histories" ∷ []) (flat_map (place_lines s h) (places s)) (codes "end" ∷ [])
+
+-- the lines before the first section
+pub head-written : (s : Script) (first then' : Word) (p0 p1 p2 p3 : List ℕ) → p1 ≡ p0 ++ line_text (numbered first 1) → p2 ≡ p1 ++ canonical s → p3 ≡ p2 ++ line_text (then' ∷ [])
+    → first ≡ codes "callout-report" → then' ≡ codes "histories"
+    → p3 ≡ p0 ++ line_text (numbered (codes "callout-report") 1) ++ canonical s ++ line_text (codes "histories" ∷ [])
+head-written s first then' p0 p1 p2 p3 e1 e2 e3 f1 f2 = rw (e3, e2, e1, f1, f2) refl
+
+pub whole-told : (x : Written) (made : List Made) → HasTold x made → IsInOrder made
+    → line_text (numbered (codes "callout-report") 1) ++ canonical x.script ++ line_text (codes "histories" ∷ []) ++ flat_map (λ page. page) x.pages ++ line_text (codes "end" ∷ []) ≡ report_of x.script (lists_by (actor_count x.script) made)
+whole-told x made told order =
+    let s : Script = x.script in
+    let head : List ℕ = line_text (numbered (codes "callout-report") 1) ++ canonical s ++ line_text (codes "histories" ∷ []) in
+    let shown : told_in made ≡ shown_history (lists_by (actor_count s) made) = (λ d p. sym (shown-as-told (actor_count s) made p order told.actors) d) in
+    ap (λ t. head ++ t ++ line_text (codes "end" ∷ [])) (ap (flat_map (λ page. page)) told.pages ∙ joined s made (places s))
+    ∙ (sym (told-text s (told_in made))
+    ∙ ap (report s) shown)
+
+-- as it is put together
+pub report-told : (x y : Written) (made : List Made) → x ≡ y → HasTold x made → IsInOrder made → (p0 p1 p2 p3 p4 : List ℕ) {last : List ℕ}
+    → p0 ≡ [] → p1 ≡ p0 ++ line_text (numbered (codes "callout-report") 1) ++ canonical y.script ++ line_text (codes "histories" ∷ []) → p2 ≡ p1
+    → p3 ≡ p2 ++ flat_map (λ page. page) y.pages → p4 ≡ p3 ++ last → last ≡ line_text (codes "end" ∷ [])
+    → p4 ≡ report_of x.script (lists_by (actor_count x.script) made)
+report-told x y made same told order p0 p1 p2 p3 p4 {last} e0 e1 e2 e3 e4 f =
+    e4
+    ∙ (ap (λ t. p3 ++ t) f
+    ∙ (ap (λ t. t ++ line_text (codes "end" ∷ [])) (e3 ∙ ap (λ t. t ++ flat_map (λ page. page) y.pages) (e2 ∙ (e1 ∙ ap (λ t. t ++ line_text (numbered (codes "callout-report") 1) ++ canonical y.script ++ line_text (codes "histories" ∷ [])) e0)))
+    ∙ (ap (λ (z : Written). line_text (numbered (codes "callout-report") 1) ++ canonical z.script ++ line_text (codes "histories" ∷ []) ++ flat_map (λ page. page) z.pages ++ line_text (codes "end" ∷ [])) (sym same)
+    ∙ whole-told x made told order)))

@@ -1,0 +1,200 @@
+//! A notebook that prints: a report is written section by section, note by note as they are told.
+ghost use Rattle.std.specs.Prelude.{◌≡◌, ◌<◌, ◌+◌, ◌++◌, ◌∷◌, [], true, false, replicate, codes, List, map, OnOk, IfOk, MatchOption};
+ghost use Rattle.std.specs.List.{flat_map};
+ghost use Rattle.co_text.specs.Lines.{line_text};
+ghost use Rattle.co_grammar.specs.Spelling.{numbered};
+ghost use Rattle.co_script.specs.Canonical.{canonical};
+ghost use Rattle.co_notebook.specs.Made.{Made, IsInOrder, lists_by};
+ghost use Rattle.co_program.specs.Actors.{actor_count};
+ghost use Rattle.co_program.specs.Places.{place_exists};
+ghost use Rattle.co_program.specs.Scripts.{IsScript};
+ghost use Rattle.co_report.specs.Order.{place_index};
+ghost use Rattle.co_report.specs.Reports.{places, heading, report_of};
+ghost use Rattle.co_report.specs.Sections.{HasTold};
+
+use crate::note::print_note;
+use crate::reading::places::places;
+use crate::report::print_word;
+use co_grammar::{actor_name, print_numbered};
+use co_notebook::Notebook;
+use co_object::{Note, Place};
+use co_program::{Script, actor_count};
+use co_sbt::{NoMemory, Seq};
+use co_script::print_lines;
+use co_text::{Page, Token};
+use std::alloc::Global;
+use std::marker::Model;
+
+/// The sections of a script's report while its notes are told: each has its heading and the lines of the notes of its place
+/// so far. No note is kept, and no memory is taken but the texts'. Our own decision.
+///
+/// Contracts see the script, the texts of the sections in the report's order, and how many notes each actor has made.
+#[derive(Drop)]
+pub struct Sections<'a> {
+    script: &'a Script,
+    pages: Vec<Page>,
+    counts: Vec<u64>,
+}
+
+impl<'a> Model for Sections<'a> {
+    ghost use Rattle.co_report.specs.Sections.{Written, HasRooms};
+
+    ghost Value = { Written };
+
+    ghost view = { λ x. record { script = x.script.now; pages = x.pages.items; counts = x.counts.items } };
+
+    ghost invariant = { λ x. HasRooms (record { script = x.script.now; pages = x.pages.items; counts = x.counts.items }) };
+}
+
+/// The line that a section begins with.
+fn print_heading(page: &mut Page, script: &Script, place: Place) -> Result<(), NoMemory>
+    ensures { OnOk result (page.new ≡ page.old ++ line_text (heading script.now place)) }
+{
+    match place {
+        Place::Timer(timer) => print_numbered(page, b"timer".as_slice(), u64::from(timer)),
+        Place::Cpu(cpu) => print_numbered(page, b"wheel".as_slice(), u64::from(cpu)),
+        Place::Actor(actor) => {
+            let (letter, name) = actor_name(script, actor);
+            page.line(
+                &Token::Text(b"actor".as_slice()),
+                [Token::Lettered(letter, name)].as_slice(),
+            )
+        }
+    }
+}
+
+/// The section of a place that has no note yet.
+fn opened(alloc: Global, script: &Script, place: Place) -> Result<Page, NoMemory>
+    ensures { IfOk result (λ page. page ≡ line_text (heading script.now place)) }
+{
+    let mut page = Page::new(alloc);
+    print_heading(&mut page, script, place)?;
+    Ok(page)
+}
+
+/// The sections before the first note, in the report's order.
+fn all_opened(alloc: Global, script: &Script) -> Result<Vec<Page>, NoMemory>
+    requires { IsScript script.now }
+    ensures { IfOk result (λ pages. pages.items ≡ map (λ place. line_text (heading script.now place)) (places script.now)) }
+{
+    let places = places(alloc, script)?;
+    let mut pages = Seq::new(alloc);
+    for place in places.as_slice() {
+        pages.push(opened(alloc, script, *place)?)?;
+    }
+    Ok(pages.into_vec())
+}
+
+/// As many counts, each 0.
+fn zeros(alloc: Global, count: u32) -> Result<Vec<u64>, NoMemory>
+    ensures { IfOk result (λ counts. counts.items ≡ replicate count 0) }
+{
+    let mut counts = Seq::new(alloc);
+    for _ in 0..count {
+        counts.push(0_u64)?;
+    }
+    Ok(counts.into_vec())
+}
+
+/// One more than a count.
+fn next(count: u64) -> Result<u64, NoMemory>
+    ensures { IfOk result (λ next. next ≡ count + 1) }
+{
+    count.checked_add(1).ok_or(NoMemory {})
+}
+
+/// The number of a place among those of the report; None where the script has no such place.
+fn existing_index(script: &Script, place: Place) -> Option<usize>
+    requires { IsScript script.now }
+    ensures { MatchOption result (place_exists script.now place ≡ false) (λ index. (place_exists script.now place ≡ true) × (index ≡ place_index script.now place)) }
+{
+    let timers = script.timers.as_slice().len();
+    let cpus = script.cpus as usize;
+    match place {
+        Place::Timer(timer) if (timer as usize) < timers => Some(timer as usize),
+        Place::Cpu(cpu) if cpu < script.cpus => Some(timers + cpu as usize),
+        Place::Actor(actor) if actor < actor_count(script) => Some(timers + cpus + actor as usize),
+        _ => None,
+    }
+}
+
+/// The lines before the first section.
+fn print_head(page: &mut Page, script: &Script) -> Result<(), NoMemory>
+    ensures { OnOk result (page.new ≡ page.old ++ line_text (numbered (codes "callout-report") 1) ++ canonical script.now ++ line_text (codes "histories" ∷ [])) }
+{
+    print_numbered(page, b"callout-report".as_slice(), 1)?;
+    print_lines(page, script)?;
+    print_word(page, b"histories".as_slice())?;
+    Ok(())
+}
+
+/// Appends the pages, and lets each of them go.
+fn append_all(text: &mut Seq<u8>, pages: Vec<Page>) -> Result<(), NoMemory>
+    ensures { OnOk result (text.new ≡ text.old ++ flat_map (λ page. page) pages.items) }
+{
+    for page in pages {
+        let bytes = page.done();
+        text.extend_from_slice(bytes.as_slice())?;
+    }
+    Ok(())
+}
+
+impl<'a> Sections<'a> {
+    /// The sections before the first note.
+    pub fn new(alloc: Global, script: &'a Script) -> Result<Sections<'a>, NoMemory>
+        requires { IsScript script.now }
+        ensures script { IfOk result (λ sections. sections.script ≡ script.now) }
+        ensures empty { IfOk result (λ sections. HasTold sections []) }
+    {
+        let pages = all_opened(alloc, script)?;
+        let counts = zeros(alloc, actor_count(script))?;
+        Ok(Sections {
+            script,
+            pages,
+            counts,
+        })
+    }
+
+    /// The whole report, where the notes of each place were told in the order of their positions: the canonical text of the
+    /// script, and the sections.
+    pub fn report(self, alloc: Global) -> Result<Seq<u8>, NoMemory>
+        ensures { IfOk result (λ bytes. (made : List Made) → HasTold self.entry made → IsInOrder made → bytes ≡ report_of self.entry.script (lists_by (actor_count self.entry.script) made)) }
+    {
+        let Sections { script, pages, .. } = self;
+        let mut head = Page::new(alloc);
+        print_head(&mut head, script)?;
+        let mut text = head.done();
+        append_all(&mut text, pages)?;
+        text.extend_from_slice(b"end\n".as_slice())?;
+        Ok(text)
+    }
+}
+
+impl<'a> Notebook for Sections<'a> {
+    ghost use Rattle.co_program.specs.Actors.{actor_count};
+    ghost use Rattle.co_report.specs.Sections.{HasTold};
+
+    ghost actors = { λ x. actor_count x.script };
+
+    ghost has = { HasTold };
+
+    /// Appends the note's line to the section of its place. A note of a place that the script hasn't is written nowhere.
+    fn write(&mut self, actor: u32, note: &Note) -> Result<(), NoMemory>
+        requires actor { actor < actor_count self.old.script }
+        ensures has { OnOk result ((made : List Made) → HasTold self.old made → HasTold self.new (made ++ record { actor = actor; note = note.now } ∷ [])) }
+        ensures actors { actor_count self.new.script ≡ actor_count self.old.script }
+        ensures script { self.new.script ≡ self.old.script }
+    {
+        let count = &mut self.counts[actor as usize];
+        let number = *count;
+        *count = next(number)?;
+        match existing_index(self.script, note.place) {
+            Some(place) => {
+                let page = &mut self.pages[place];
+                print_note(page, self.script, number, &note.entry)?;
+                Ok(())
+            }
+            None => Ok(()),
+        }
+    }
+}
