@@ -68,7 +68,7 @@ module _ (s : Script) where
   named (place.Timer i) (of.Cpu e) h = absurd h
   named (place.Timer i) (of.Own e) h = absurd h
   named (place.Cpu c) (of.Timer e) h = absurd h
-  named (place.Cpu c) (of.Cpu e) h = names e.op h.1.0
+  named (place.Cpu c) (of.Cpu e) h = names e.op h.1.0.0
   named (place.Cpu c) (of.Own e) h = absurd h
   named (place.Actor a) (of.Timer e) h = absurd h
   named (place.Actor a) (of.Cpu e) h = absurd h
@@ -77,7 +77,7 @@ module _ (s : Script) where
   line_of : (l : Line) → LineFits s l → IsLineOf s l
   line_of l h = record { place = h.place; kind = of_kind l.place l.entry h.entry; actor = by_actor l.place l.entry h.entry; names = named l.place l.entry h.entry }
 
-  lines_of : (ls : List Line) → AllByRecursion (LineFits s) ls → AreLinesOf s ls
+  pub lines_of : (ls : List Line) → AllByRecursion (LineFits s) ls → AreLinesOf s ls
   lines_of [] h = tt
   lines_of (l ∷ ls) h = (line_of l h.0, lines_of ls h.1)
 
