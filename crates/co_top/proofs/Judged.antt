@@ -1,5 +1,5 @@
 -- A report that is read meets the checker's condition, and what is said of its verdict.
-use Rattle.std.proofs.Common.{◌≡◌, ℕ, ◌<◌, ◌≤◌, true, List, [], ◌∷◌, length, Ok, Err, Result, IfOk, refl, sym, subst, arith}
+use Rattle.std.proofs.Common.{◌≡◌, ℕ, ◌<◌, ◌≤◌, List, [], ◌∷◌, length, Ok, Err, Result, IfOk, refl, sym, subst, arith}
 use Rattle.std.specs.List.{AllByRecursion}
 use Rattle.co_object.specs.declared.Place.{Place}
 use Rattle.co_object.specs.declared.Place.TheVariants as place
@@ -25,7 +25,7 @@ use Rattle.co_top.specs.declared.answer.Answer.{Answer}
 use Rattle.co_top.specs.declared.command.Reading.TheVariants.{Check}
 use Rattle.co_top.specs.declared.status.Status.{Status}
 use Rattle.co_top.specs.declared.status.Status.TheVariants.{Done, NotLegal}
-use Rattle.co_top.specs.Headline.{Gives, IsVerdict, IsJudged}
+use Rattle.co_top.specs.Headline.{Gives, IsJudged}
 use Rattle.co_top.proofs.Accepted.{report_short}
 use Rattle.co_top.proofs.ReadLines.{notes_few}
 

@@ -2,3 +2,5 @@ pub mod Statuses
 pub mod Commands
 pub mod Outside
 pub mod Headline
+pub mod Typed
+pub mod Laws

@@ -3,11 +3,13 @@
 
 mod answer;
 mod command;
+pub mod laws;
 mod making;
 mod reading;
 mod status;
 mod texts;
 mod top;
+mod typed;
 
 pub use command::{Command, Making, Reading};
 pub use status::Status;

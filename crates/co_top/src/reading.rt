@@ -1,6 +1,6 @@
 //! The commands that read an input: what they make of its bytes.
-ghost use Rattle.std.specs.Prelude.{IfOk};
-ghost use Rattle.co_program.specs.Scripts.{IsScript};
+ghost use Rattle.std.specs.Prelude.{◌≡◌, true, IfOk};
+ghost use Rattle.co_script.specs.Fits.{fits};
 ghost use Rattle.co_check.specs.Lines.{IsReport};
 ghost use Rattle.co_check.specs.Verdict.{verdict};
 ghost use Rattle.co_top.specs.Headline.{Gives, IsJudged, IsReportOf};
@@ -10,6 +10,7 @@ use crate::answer::Answer;
 use crate::command::Reading;
 use crate::status::Status;
 use crate::texts::{fault_text, legal_text, refusal_text, unfit_word};
+use crate::typed::lists_are_typed;
 use co_check::{Verdict, check};
 use co_core::run_steps;
 use co_program::Script;
@@ -21,10 +22,11 @@ use std::alloc::Global;
 
 /// The report of a script's walk.
 fn report_of_walk(alloc: Global, script: &Script) -> Result<Seq<u8>, NoMemory>
-    requires { IsScript script.now }
+    requires { fits script.now ≡ true }
     ensures { IfOk result (IsReportOf script.now) }
 {
     let lists = run_steps(alloc, script)?;
+    lists_are_typed(&lists);
     print_report(alloc, script, &lists)
 }
 
