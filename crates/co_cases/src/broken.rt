@@ -426,7 +426,7 @@ pub const FIRING_SERVICES: [(Edit, Status, &str); 22] = [
 ];
 
 /// Other texts in it, of the tick, the headings and the script: the change, how `check` ends, and the line that it writes.
-pub const FIRING_OTHERS: [(Edit, Status, &str); 19] = [
+pub const FIRING_OTHERS: [(Edit, Status, &str); 23] = [
     (
         Edit::Put(21, r"1 p0/0 pop = got i0 #0 u6442450943"),
         Status::NotLegal,
@@ -446,6 +446,26 @@ pub const FIRING_OTHERS: [(Edit, Status, &str); 19] = [
         Edit::Put(22, r"4 p0/0 pop = empty"),
         Status::NotLegal,
         "line 22: illegal",
+    ),
+    (
+        Edit::Put(19, r"1 c0/0 insert i0 #0 u6442450944 = off"),
+        Status::BadScript,
+        "line 19: note",
+    ),
+    (
+        Edit::Put(20, r"0 p0/0 scan u6442450944 = empty"),
+        Status::BadScript,
+        "line 20: note",
+    ),
+    (
+        Edit::Put(21, r"1 p0/0 pop = freed"),
+        Status::BadScript,
+        "line 21: note",
+    ),
+    (
+        Edit::Put(22, r"4 p0/0 free = empty"),
+        Status::BadScript,
+        "line 22: note",
     ),
     (
         Edit::Put(23, r"5 p0/0 pop = got i0 #0 u6442450944"),

@@ -70,6 +70,9 @@ pub mod CallSection
 pub mod Rounding
 pub mod Replied
 pub mod Places
+pub mod FuncsNamed
+pub mod FuncsKept
+pub mod NotesNamed
 pub mod Runs
 pub mod Calling
 pub mod Steadily

@@ -84,7 +84,7 @@ pub so_far : (s : Script) → IsScript s → (w : World) → Reached s w → IsR
 so_far s ok w h = subst (λ (x : World). IsRunSoFar s (lists_of s x)) (sym h.world) (so_far_at s ok h.schedule h.may)
 
 -- the world after some rounds is one that a schedule reaches
-rounds_reached : (s : Script) (ok : IsScript s) (n : ℕ) (w : World) → IsReached s ok w → IsReached s ok (rounds s w n)
+pub rounds_reached : (s : Script) (ok : IsScript s) (n : ℕ) (w : World) → IsReached s ok w → IsReached s ok (rounds s w n)
 rounds_reached s ok zero w h = h
 rounds_reached s ok (suc n) w h = rounds_reached s ok n (round s w) (round_falls s ok w h).0
 

@@ -28,6 +28,7 @@ use Rattle.co_object.specs.declared.Note.{Note}
 use Rattle.co_program.specs.Scripts.{IsScript}
 use Rattle.co_program.specs.Places.{AllHavePlaces}
 use Rattle.co_program.specs.Runs.{IsRunOf}
+use Rattle.co_core.specs.Names.{FuncsExist, AllNotesName}
 pub use Rattle.co_program.specs.Runs.{actors_of}
 
 -- the world after a schedule
@@ -143,6 +144,14 @@ WalksEnd = (s : Script) → IsScript s → (lists : List (List Note)) × IsWalk 
 -- each note stands in a place of the script
 abbrev pub NotesHavePlaces : Type 0
 NotesHavePlaces = (s : Script) → IsScript s → (schedule : List ℕ) → IsSchedule s schedule → AllHavePlaces s (lists_of s (reached s schedule))
+
+-- what the notes name exists, where the functions that the script's acts name do
+abbrev pub NotesNameWhatExists : Type 0
+NotesNameWhatExists = (s : Script) → IsScript s → FuncsExist s → (schedule : List ℕ) → IsSchedule s schedule → AllNotesName s (lists_of s (reached s schedule))
+
+-- the same of a walk
+abbrev pub WalksNameWhatExists : Type 0
+WalksNameWhatExists = (s : Script) → IsScript s → FuncsExist s → (lists : List (List Note)) → IsWalk s lists → AllNotesName s lists
 
 -- a script's walk is a run of it
 abbrev pub WalksAreRuns : Type 0

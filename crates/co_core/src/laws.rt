@@ -7,7 +7,7 @@ ghost use Rattle.co_core.specs.Seen.{Seen};
 ghost use Rattle.co_core.specs.Shows.{Shows};
 ghost use Rattle.co_core.specs.Stands.{IsReached};
 ghost use Rattle.co_core.specs.Whereabouts.{CalloutsHaveOneSlot, RecordsHaveOnePlace, WheelsAreOfWorlds};
-ghost use Rattle.co_core.specs.Laws.{AreOfLists, BeginsUnderLock, EachFinishedActorFollows, EveryStepFalls, HaveReplies, HistoriesAreLegal, IdleStepsStay, IsSchedule, NoRemoveIsMissing, NoScheduleIsStuck, NotesHavePlaces, OpeningFits, RoundsFall, TurnsTell, WalksAgree, WalksAreRuns, WalksEnd, reached};
+ghost use Rattle.co_core.specs.Laws.{AreOfLists, BeginsUnderLock, EachFinishedActorFollows, EveryStepFalls, HaveReplies, HistoriesAreLegal, IdleStepsStay, IsSchedule, NoRemoveIsMissing, NoScheduleIsStuck, NotesHavePlaces, NotesNameWhatExists, OpeningFits, RoundsFall, TurnsTell, WalksAgree, WalksAreRuns, WalksEnd, WalksNameWhatExists, reached};
 
 /// The positions of each place are 0, 1, 2, .., each once, and rise in each actor's list.
 pub fn well_formed()
@@ -52,6 +52,17 @@ pub fn never_stuck()
 /// Each note stands in a place of the script.
 pub fn notes_have_places()
     ensures { NotesHavePlaces }
+{}
+
+/// What each note names exists in the script, its actor, callouts, CPUs and functions, where the functions that the script's
+/// acts name do; each entry is of its place's kind, and the answer of each queue is one to its operation.
+pub fn notes_name_what_exists()
+    ensures { NotesNameWhatExists }
+{}
+
+/// So it is with the notes of a script's walk.
+pub fn walks_name_what_exists()
+    ensures { WalksNameWhatExists }
 {}
 
 /// A script's walk is a run of it: its lists are well formed, each callout's history and each CPU's journal is legal, no

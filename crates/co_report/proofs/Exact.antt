@@ -11,7 +11,7 @@ use Rattle.co_text.specs.declared.Cause.{Cause}
 use Rattle.co_text.specs.declared.Cause.TheVariants.{Form}
 use Rattle.co_report.proofs.PartSplits.{IsPart, AreParts, is_mark}
 use Rattle.co_script.proofs.FormsTold.{bind-ok, unless-ok, cond-ok}
-use Rattle.co_report.specs.NoteForms.{Reader, nothing, both, literal, after, made, choice, one_of, whole}
+use Rattle.co_report.specs.NoteForms.{Reader, nothing, both, literal, after, made, choice, one_of, whole, such}
 
 pub same_word : (w v : Word) → is_word w v ≡ true → w ≡ v
 same_word w v e = (bytes_eq-Decides w v).0 e
@@ -85,6 +85,30 @@ reword {X} {F} {v} {w} {r} e same = record {
   told = λ ws x rest h. let t = e.told ws x rest h in (t.0, t.1 ∙ ap (λ u. u ++ rest) (same x));
   ink = λ x h. subst AreParts (same x) (e.ink x h);
 }
+
+-- something, where its test passed
+abbrev passed_by : {A : Type 0} → Bool → A → List Word → Read A
+passed_by b a ws = unless b Form >>= λ _. Ok (a, ws)
+
+-- something that passes a test
+pub such_exact : {A : Type 0} {F : A → Type 0} {v : A → List Word} {r : Reader A} (test : A → Bool) → Exact F v r → Exact (λ (a : A). F a × (test a ≡ true)) v (such test r)
+such_exact {A} {F} {v} {r} test x = record {
+  back = λ a ws h.
+      ap (λ (z : Read A). z >>= λ y. unless (test y.0) Form >>= λ _. Ok y) (x.back a ws h.0)
+      ∙ ap (λ (b : Bool). passed_by b a ws) h.1;
+  told = told;
+  ink = λ a h. x.ink a h.0;
+} where
+  told : (ws : List Word) (a : A) (rest : List Word) → such test r ws ≡ Ok (a, rest) → (F a × (test a ≡ true)) × (ws ≡ v a ++ rest)
+  told ws a rest h =
+      let y = bind-ok (r ws) (λ y. unless (test y.0) Form >>= λ _. Ok y) (a, rest) h in
+      let b = bind-ok (unless (test y.0.0) Form) (λ _. Ok y.0) (a, rest) y.2 in
+      let e = same_pair y.0.0 a y.0.1 rest b.2 in
+      let t = x.told ws y.0.0 y.0.1 y.1 in
+      let passed : test y.0.0 ≡ true = unless-ok (test y.0.0) Form b.0 b.1 in (
+        (subst F e.0 t.0, ap test (sym e.0) ∙ passed),
+        t.1 ∙ (ap (λ (z : A). v z ++ y.0.1) e.0 ∙ ap (λ (u : List Word). v a ++ u) e.1),
+      )
 
 literal-told : (k : Word) (ws : List Word) (l : Bool × List Word) → literal k ws ≡ Ok l → ws ≡ k ∷ l.1
 literal-told k [] l h = cc

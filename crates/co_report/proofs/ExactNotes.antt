@@ -32,9 +32,9 @@ use Rattle.co_report.specs.Histories.{Shown}
 use Rattle.co_report.specs.NoteTexts.{callout_word, arming_word, cpu_word, truth_word, cpu_or_dash, func_or_dash, off_words, next_words, op_words, reply_words, queue_words, answer_words, own_words, note_words}
 use Rattle.co_report.specs.Reports.{shown_words}
 use Rattle.co_report.specs.NoteValues.{names_of, IsSmall, count64, time_in_units, arming, given, callout_of, func_of, cpu_in, or_dash, code, maker, maker_is, own_kind}
-use Rattle.co_report.specs.NoteForms.{both, after, made, due_and_precision, target, arming_and_cpu, op_forms, op_form, off_form, later_form, next_form, drain_named, next_named, woke_form, reply_forms, reply_form, direct_or, queue_forms, queue_form, answer_forms, answer_form, call_form, journal_form, note_form}
+use Rattle.co_report.specs.NoteForms.{both, after, made, due_and_precision, target, arming_and_cpu, op_forms, op_form, off_form, later_form, next_form, drain_named, next_named, woke_form, reply_forms, reply_form, direct_or, queue_forms, queue_form, answer_forms, answer_form, may_answer, answered_form, call_form, journal_form, note_form}
 use Rattle.co_report.specs.NoteFits.{IsTime, IsLong, IsCallout, IsFunc, IsCpu, MakerFits, ArmingFits, OpFits, NextFits, ReplyFits, QueueFits, AnswerFits, ShownFits}
-use Rattle.co_report.proofs.Exact.{IsSpelling, Exact, lit, same_word, same_pair, one, two, two_told, behind, words-append, reword, made-back, made-told, Tells, tells-made, tells-nothing, EachTells, choice-told}
+use Rattle.co_report.proofs.Exact.{IsSpelling, Exact, lit, same_word, same_pair, one, two, two_told, such_exact, behind, words-append, reword, made-back, made-told, Tells, tells-made, tells-nothing, EachTells, choice-told}
 use Rattle.co_report.proofs.ExactValues.{letters, times, armings, arguments, longs, counts, truths, codes-exact, or_dashes, kinds, kind_word}
 use Rattle.co_report.proofs.ExactActors.{makers, own_makers, maker_word}
 
@@ -444,15 +444,21 @@ module _ (s : Script) (small : IsSmall s) where
   given_answer : Exact (AnswerFits s) (λ a. codes "=" ∷ answer_words a) (after (codes "=") (answer_form names))
   given_answer = behind (codes "=") refl (lit (codes "=") refl) answer_exact
 
-  journal_exact : Exact (λ p. QueueFits s p.0 × AnswerFits s p.1) (λ p. queue_words p.0 ++ codes "=" ∷ answer_words p.1) (journal_form names)
-  journal_exact = record {
+  any_answer : Exact (λ p. QueueFits s p.0 × AnswerFits s p.1) (λ p. queue_words p.0 ++ codes "=" ∷ answer_words p.1) (answered_form (queue_form names) (answer_form names))
+  any_answer = record {
     back = λ p ws h.
-        ap (journal_form names) (append_assoc (queue_words p.0) (codes "=" ∷ answer_words p.1) ws)
+        ap (answered_form (queue_form names) (answer_form names)) (append_assoc (queue_words p.0) (codes "=" ∷ answer_words p.1) ws)
         ∙ (ap (λ z. z >>= λ a. after (codes "=") (answer_form names) a.1 >>= λ b. Ok ((a.0, b.0), b.1)) (queue-back p.0 (answer_words p.1 ++ ws) h.0)
         ∙ ap (λ z. z >>= λ b. Ok ((p.0, b.0), b.1)) (given_answer.back p.1 ws h.1));
     told = two_told (QueueFits s) (AnswerFits s) queue_words (λ a. codes "=" ∷ answer_words a) (queue_form names) (after (codes "=") (answer_form names)) (choice-told (QueueFits s) queue_words (queue_forms names) queue-tells) given_answer.told;
     ink = λ p h. words-append (queue_words p.0) (codes "=" ∷ answer_words p.1) (queue-ink p.0 h.0) (given_answer.ink p.1 h.1);
   }
+
+  abbrev is_answered : QOp × QReply → Bool
+  is_answered p = may_answer p.0 p.1
+
+  journal_exact : Exact (λ p. (QueueFits s p.0 × AnswerFits s p.1) × (is_answered p ≡ true)) (λ p. queue_words p.0 ++ codes "=" ∷ answer_words p.1) (journal_form names)
+  journal_exact = such_exact is_answered any_answer
 
   own-same : (k : OwnKind) → kind_word k ∷ [] ≡ own_words k
   own-same NotHeld = refl
@@ -466,7 +472,7 @@ module _ (s : Script) (small : IsSmall s) where
   abbrev timer_parts : Exact (λ p. (IsLong p.0.0 × MakerFits s p.0.1.actor p.0.1.act) × (OpFits s p.1.0 × ReplyFits s p.1.1)) (λ p. decimal p.0.0 ∷ maker_word s small p.0.1 ∷ (op_words p.1.0 ++ codes "=" ∷ reply_words p.1.1)) (both (both (next count64) (next (maker names))) (call_form names))
   timer_parts = two (two (one longs) (one (makers s small))) call_exact
 
-  abbrev wheel_parts : Exact (λ p. (IsLong p.0.0 × MakerFits s p.0.1.actor p.0.1.act) × (QueueFits s p.1.0 × AnswerFits s p.1.1)) (λ p. decimal p.0.0 ∷ maker_word s small p.0.1 ∷ (queue_words p.1.0 ++ codes "=" ∷ answer_words p.1.1)) (both (both (next count64) (next (maker names))) (journal_form names))
+  abbrev wheel_parts : Exact (λ p. (IsLong p.0.0 × MakerFits s p.0.1.actor p.0.1.act) × ((QueueFits s p.1.0 × AnswerFits s p.1.1) × (may_answer p.1.0 p.1.1 ≡ true))) (λ p. decimal p.0.0 ∷ maker_word s small p.0.1 ∷ (queue_words p.1.0 ++ codes "=" ∷ answer_words p.1.1)) (both (both (next count64) (next (maker names))) (journal_form names))
   wheel_parts = two (two (one longs) (one (makers s small))) journal_exact
 
   abbrev own_parts : (a : ℕ) → Exact (λ p. (IsLong p.0.0 × (MakerFits s p.0.1.actor p.0.1.act × (p.0.1.actor ≡ a))) × Unit {0}) (λ p. decimal p.0.0 ∷ maker_word s small p.0.1 ∷ own_words p.1) (both (both (next count64) (next (maker_is names a))) (next own_kind))

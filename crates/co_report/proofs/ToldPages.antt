@@ -1,7 +1,7 @@
 -- The sections and counts after one note more, before the first one, and as the parts of the report.
-use Rattle.std.proofs.Common.{◌≡◌, ◌≢◌, ℕ, zero, suc, ◌+◌, ◌-◌, ◌<◌, ◌==◌, nat_lt, Bool, true, false, List, [], ◌∷◌, ◌++◌, map, length, set, get_or, replicate, refl, ap, sym, subst, ◌∙◌, arith, append_assoc, append-nil, length-append}
+use Rattle.std.proofs.Common.{◌≡◌, ◌≢◌, ℕ, zero, suc, ◌+◌, ◌-◌, ◌<◌, ◌^◌, ◌==◌, nat_lt, Bool, true, false, cond, List, [], ◌∷◌, ◌++◌, map, length, set, get_or, replicate, refl, ap, sym, subst, ◌∙◌, arith, append_assoc, append-nil, length-append}
 use Rattle.std.specs.Prelude.{codes}
-use Rattle.std.specs.List.{AllByRecursion, flat_map, range_with_len}
+use Rattle.std.specs.List.{AllByRecursion, filter, flat_map, range_with_len}
 use Rattle.std.proofs.lemmas.Bool.Decides.{nat_tests}
 use Rattle.std.proofs.lemmas.List.{map-append, set-append_left, set-append_right, get_or_append_left, get_or-append-add}
 use Rattle.std.proofs.lemmas.List.FromFn.{length-range_with_len, length-map-range_with_len, get_or-range_with_len, get_or-map-range_with_len}
@@ -10,7 +10,7 @@ use Rattle.co_object.specs.declared.Place.{Place}
 use Rattle.co_object.specs.declared.Place.TheVariants.{Timer, Cpu, Actor}
 use Rattle.co_object.specs.Lists.{same_place}
 use Rattle.co_object.proofs.ListsGrow.{same_place-eq}
-use Rattle.co_notebook.specs.Made.{Made, lists_by, IsInOrder}
+use Rattle.co_notebook.specs.Made.{Made, list_by, lists_by, notes_made, IsInOrder}
 use Rattle.co_program.specs.declared.Script.{Script}
 use Rattle.co_program.specs.Actors.{actor_count}
 use Rattle.co_program.specs.Places.{place_exists}
@@ -25,6 +25,7 @@ use Rattle.co_report.specs.NoteTexts.{note_words}
 use Rattle.co_report.specs.Order.{place_index, place_count}
 use Rattle.co_report.specs.Reports.{places, heading, place_lines, report, report_lines, report_of}
 use Rattle.co_report.specs.Sections.{count_by, told_in, section, Written, HasRooms, HasTold}
+use Rattle.co_report.specs.Typed.{EntryTyped, ListsTyped}
 use Rattle.co_report.proofs.Places.{below, same_itself}
 use Rattle.co_report.proofs.ToldNotes.{count-own, count-other, section-here, section-elsewhere}
 use Rattle.co_report.proofs.ToldShown.{shown-as-told}
@@ -201,9 +202,18 @@ module _ (s : Script) where
 
 -- ---- one note more
 
-all-more : (n : ℕ) (made : List Made) (m : Made) → AllByRecursion (λ (x : Made). x.actor < n) made → m.actor < n → AllByRecursion (λ (x : Made). x.actor < n) (made ++ m ∷ [])
-all-more n [] m all last = (last, tt)
-all-more n (x ∷ made) m all last = (all.0, all-more n made m all.1 last)
+all-more : (P : Made → Type 0) (made : List Made) (m : Made) → AllByRecursion P made → P m → AllByRecursion P (made ++ m ∷ [])
+all-more P [] m all last = (last, tt)
+all-more P (x ∷ made) m all last = (all.0, all-more P made m all.1 last)
+
+all-set : (counts : List ℕ) (i n : ℕ) → AllByRecursion (λ count. count < 2 ^ 64) counts → n < 2 ^ 64 → AllByRecursion (λ count. count < 2 ^ 64) (set counts i n)
+all-set [] i n all few = tt
+all-set (c ∷ cs) zero n all few = (few, all.1)
+all-set (c ∷ cs) (suc i) n all few = (all.0, all-set cs i n all.1 few)
+
+all-zero : (n : ℕ) → AllByRecursion (λ count. count < 2 ^ 64) (replicate n 0)
+all-zero zero = tt
+all-zero (suc n) = (omega arith, all-zero n)
 
 -- a place that the script has, and one that it hasn't
 missing : (s : Script) (p q : Place) → place_exists s p ≡ false → place_exists s q ≡ true → same_place p q ≡ false
@@ -216,10 +226,10 @@ module _ (s : Script) (made : List Made) (m : Made) (pages : List (List ℕ)) (c
   abbrev before : Written
   before = record { script = s; pages = pages; counts = counts }
 
-  pub told-written : HasTold before made → m.actor < actor_count s → number ≡ get_or counts m.actor number → next ≡ number + 1 → (index : ℕ) (old new : List ℕ)
+  pub told-written : HasTold before made → EntryTyped m.note.entry → next < 2 ^ 64 → m.actor < actor_count s → number ≡ get_or counts m.actor number → next ≡ number + 1 → (index : ℕ) (old new : List ℕ)
       → place_exists s m.note.place ≡ true → index ≡ place_index s m.note.place → old ≡ get_or pages index old → new ≡ old ++ line_text (note_words s number m.note.entry)
       → HasTold (record { script = s; pages = set pages index new; counts = set counts m.actor next }) (made ++ m ∷ [])
-  told-written told actor at more index old new exists place at_old written =
+  told-written told typed few actor at more index old new exists place at_old written =
       let p : Place = m.note.place in
       let counted = counts-more made m (actor_count s) number next counts actor told.counts at more in
       let was : old ≡ section s made p =
@@ -232,7 +242,9 @@ module _ (s : Script) (made : List Made) (m : Made) (pages : List (List ℕ)) (c
       ∙ (ap (λ t. t ++ line_text (note_words s number m.note.entry)) was
       ∙ (ap (λ k. section s made p ++ line_text (note_words s k m.note.entry)) counted.0
       ∙ sym (section-here s made m p (same_itself p)))) in record {
-        actors = all-more (actor_count s) made m told.actors actor;
+        actors = all-more (λ (x : Made). x.actor < actor_count s) made m told.actors actor;
+        typed = all-more (λ (x : Made). EntryTyped x.note.entry) made m told.typed typed;
+        few = all-set counts m.actor next told.few few;
         counts = counted.1;
         pages =
             ap (λ xs. set xs index new) told.pages
@@ -241,11 +253,13 @@ module _ (s : Script) (made : List Made) (m : Made) (pages : List (List ℕ)) (c
             ∙ set-place s (section s made) (section s (made ++ m ∷ [])) p exists (λ q other. section-elsewhere s made m q other)));
       }
 
-  pub told-nowhere : HasTold before made → m.actor < actor_count s → number ≡ get_or counts m.actor number → next ≡ number + 1 → place_exists s m.note.place ≡ false
+  pub told-nowhere : HasTold before made → EntryTyped m.note.entry → next < 2 ^ 64 → m.actor < actor_count s → number ≡ get_or counts m.actor number → next ≡ number + 1 → place_exists s m.note.place ≡ false
       → HasTold (record { script = s; pages = pages; counts = set counts m.actor next }) (made ++ m ∷ [])
-  told-nowhere told actor at more none =
+  told-nowhere told typed few actor at more none =
       let counted = counts-more made m (actor_count s) number next counts actor told.counts at more in record {
-        actors = all-more (actor_count s) made m told.actors actor;
+        actors = all-more (λ (x : Made). x.actor < actor_count s) made m told.actors actor;
+        typed = all-more (λ (x : Made). EntryTyped x.note.entry) made m told.typed typed;
+        few = all-set counts m.actor next told.few few;
         counts = counted.1;
         pages =
             told.pages
@@ -266,6 +280,8 @@ pub nothing-told : (s : Script) (pages : List (List ℕ)) (counts : List ℕ) �
     → HasTold (record { script = s; pages = pages; counts = counts }) []
 nothing-told s pages counts opened zeros = record {
   actors = tt;
+  typed = tt;
+  few = subst (AllByRecursion (λ (count : ℕ). count < 2 ^ 64)) (sym zeros) (all-zero (actor_count s));
   counts = zeros ∙ no-counts 0 (actor_count s);
   pages = opened ∙ headings-alone s (places s);
 }
@@ -289,6 +305,23 @@ told-rooms x made sound told = record {
   pages = ap length told.pages ∙ length-places x.script (section x.script made);
   counts = ap length told.counts ∙ length-map-range_with_len (count_by made) 0 (actor_count x.script);
 }
+
+-- ---- the values of the lists
+
+filter-typed : (a : ℕ) (made : List Made) → AllByRecursion (λ (m : Made). EntryTyped m.note.entry) made → AllByRecursion (λ (note : Note). EntryTyped note.entry) (list_by made a)
+filter-typed a [] all = tt
+filter-typed a (m ∷ ms) all = at_test (m.actor == a) (filter-typed a ms all.1) where
+  at_test : (b : Bool) → AllByRecursion (λ (note : Note). EntryTyped note.entry) (list_by ms a) → AllByRecursion (λ (note : Note). EntryTyped note.entry) (notes_made (cond {A = List Made} b (m ∷ filter (λ x. x.actor == a) ms) (filter (λ x. x.actor == a) ms)))
+  at_test true rest = (all.0, rest)
+  at_test false rest = rest
+
+lists-typed : (made : List Made) (n from : ℕ) → AllByRecursion (λ (m : Made). EntryTyped m.note.entry) made → AllByRecursion (λ (count : ℕ). count < 2 ^ 64) (map (count_by made) (range_with_len from n)) → ListsTyped (map (list_by made) (range_with_len from n))
+lists-typed made zero from typed few = tt
+lists-typed made (suc n) from typed few = (record { entries = filter-typed from made typed; short = few.0 }, lists-typed made n (from + 1) typed few.1)
+
+-- the values of what is told are those that types allow
+pub told-typed : (x : Written) (made : List Made) → HasTold x made → ListsTyped (lists_by (actor_count x.script) made)
+told-typed x made told = lists-typed made (actor_count x.script) 0 told.typed (subst (AllByRecursion (λ (count : ℕ). count < 2 ^ 64)) told.counts told.few)
 
 -- ---- the whole report
 

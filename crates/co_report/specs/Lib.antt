@@ -11,3 +11,4 @@ pub mod Reading
 pub mod ReadingViews
 pub mod Sections
 pub mod Laws
+pub mod Typed

@@ -1,4 +1,5 @@
--- The notes that a report of a script may have: their values fit their types, and what they name exists in the script.
+-- The notes that a report of a script may have: their values fit their types, what they name exists in the script, and an
+-- operation on a queue has an answer of its own.
 use Rattle.std.specs.Prelude.{◌≡◌, ℕ, ℤ, pos, negsuc, ◌^◌, ◌<◌, true, IfSome, length}
 use Rattle.co_object.specs.declared.PlainOp.{PlainOp}
 use Rattle.co_object.specs.declared.PlainOp.TheVariants.{Reset, Schedule, AsyncDrain}
@@ -24,6 +25,7 @@ use Rattle.co_program.specs.Actors.{actor_count}
 use Rattle.co_program.specs.Places.{place_exists}
 use Rattle.co_report.specs.declared.line.Line.{Line}
 use Rattle.co_report.specs.Histories.{Shown}
+use Rattle.co_report.specs.NoteForms.{may_answer}
 
 -- ---- values
 
@@ -110,7 +112,7 @@ MakerFits s actor act = IsActor s actor × IsLong act
 -- an entry of this place: of its kind, and an own one of its actor
 abbrev pub EntryFits : Script → Place → AnyEntry → Type 0
 EntryFits s (place.Timer i) (of.Timer e) = MakerFits s e.actor e.act × (OpFits s e.op × ReplyFits s e.reply)
-EntryFits s (place.Cpu c) (of.Cpu e) = MakerFits s e.actor e.act × (QueueFits s e.op × AnswerFits s e.reply)
+EntryFits s (place.Cpu c) (of.Cpu e) = MakerFits s e.actor e.act × ((QueueFits s e.op × AnswerFits s e.reply) × (may_answer e.op e.reply ≡ true))
 EntryFits s (place.Actor a) (of.Own e) = MakerFits s e.actor e.act × (e.actor ≡ a)
 EntryFits s p e = ⊥
 

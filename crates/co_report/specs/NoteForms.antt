@@ -1,5 +1,5 @@
 -- The notes that the words of a line show: NoteTexts read the other way. Each reader takes what it reads from the front.
-use Rattle.std.specs.Prelude.{ℕ, Bool, List, [], ◌∷◌, Option, Some, None, Result, Ok, Err, if◌then◌else◌, codes}
+use Rattle.std.specs.Prelude.{ℕ, Bool, true, false, List, [], ◌∷◌, Option, Some, None, Result, Ok, Err, if◌then◌else◌, codes}
 use Rattle.co_object.specs.declared.PlainOp.TheVariants.{Reset, Schedule, Stop, AsyncDrain, Active, Pending, Deactivate, Init, Retire}
 use Rattle.co_object.specs.declared.CallOp.TheVariants.{Plain, DrainTry}
 use Rattle.co_object.specs.declared.RunOp.TheVariants.{Pick, Begin, End}
@@ -51,6 +51,10 @@ after v r ws = literal v ws >>= λ l. r l.1
 -- what is made of something
 abbrev pub made : {A B : Type 0} → (A → B) → Reader A → Reader B
 made make r ws = r ws >>= λ a. Ok (make a.0, a.1)
+
+-- something that passes a test
+abbrev pub such : {A : Type 0} → (A → Bool) → Reader A → Reader A
+such test r ws = r ws >>= λ a. unless (test a.0) Form >>= λ _. Ok a
 
 -- what stands behind a word, by this word
 abbrev pub choice : {X : Type 0} → List (Word × Reader X) → Word → Reader X
@@ -258,6 +262,20 @@ answer_forms n =
 abbrev pub answer_form : Names → Reader QReply
 answer_form n = one_of (answer_forms n)
 
+-- the answers that each operation may have
+abbrev pub may_answer : QOp → QReply → Bool
+may_answer (queue.Insert i n t) (answer.At u) = true
+may_answer (queue.Remove i) answer.Off = true
+may_answer (queue.Remove i) answer.Missing = true
+may_answer (queue.Scan now) (answer.Count k) = true
+may_answer queue.Pop (answer.Got i n at) = true
+may_answer queue.Pop answer.Empty = true
+may_answer queue.PopDirect (answer.Got i n at) = true
+may_answer queue.PopDirect answer.Empty = true
+may_answer queue.Free answer.Freed = true
+may_answer queue.FreeDirect answer.Freed = true
+may_answer o a = false
+
 -- ---- notes
 
 -- an operation, `=` and its answer
@@ -267,8 +285,9 @@ answered_form op reply = both op (after (codes "=") reply)
 abbrev pub call_form : Names → Reader (Op × Reply)
 call_form n = answered_form (op_form n) (reply_form n)
 
+-- an answer of the operation
 abbrev pub journal_form : Names → Reader (QOp × QReply)
-journal_form n = answered_form (queue_form n) (answer_form n)
+journal_form n = such (λ x. may_answer x.0 x.1) (answered_form (queue_form n) (answer_form n))
 
 -- a note's number, who made it, and what it says
 abbrev pub head_form : (Word → Result Maker Cause) → Reader (ℕ × Maker)

@@ -1,5 +1,5 @@
 -- The sections of a report while its notes are told: each has its heading and the lines of the notes of its place so far.
-use Rattle.std.specs.Prelude.{◌≡◌, ℕ, ◌<◌, List, [], ◌∷◌, ◌++◌, length, map}
+use Rattle.std.specs.Prelude.{◌≡◌, ℕ, ◌<◌, ◌^◌, List, [], ◌∷◌, ◌++◌, length, map}
 use Rattle.std.specs.List.{AllByRecursion, filter, range_with_len}
 use Rattle.co_object.specs.declared.Place.{Place}
 use Rattle.co_object.specs.Lists.{same_place}
@@ -11,6 +11,7 @@ use Rattle.co_text.specs.Lines.{text}
 use Rattle.co_report.specs.Histories.{Numbered, Shown, shown}
 use Rattle.co_report.specs.Order.{place_count}
 use Rattle.co_report.specs.Reports.{places, place_lines}
+use Rattle.co_report.specs.Typed.{EntryTyped}
 
 -- how many of these notes an actor made
 abbrev pub count_by : List Made → ℕ → ℕ
@@ -41,9 +42,11 @@ pub record HasRooms (x : Written) : Type 0 where
   pub pages : length x.pages ≡ place_count x.script
   pub counts : length x.counts ≡ actor_count x.script
 
--- these notes are told, all by actors of the script
+-- these notes are told, all by actors of the script, with values that their types allow
 pub record HasTold (x : Written) (made : List Made) : Type 0 where
   pub actors : AllByRecursion (λ m. m.actor < actor_count x.script) made
+  pub typed : AllByRecursion (λ m. EntryTyped m.note.entry) made
+  pub few : AllByRecursion (λ count. count < 2 ^ 64) x.counts
   pub counts : x.counts ≡ map (count_by made) (range_with_len 0 (actor_count x.script))
   pub pages : x.pages ≡ map (section x.script made) (places x.script)
 

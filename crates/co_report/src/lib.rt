@@ -12,6 +12,7 @@ mod sections;
 mod subject;
 #[cfg(test)]
 mod tests;
+mod typed;
 
 pub use line::{Line, Report};
 pub use order::{Order, order_of};

@@ -1,5 +1,5 @@
 //! A notebook that prints: a report is written section by section, note by note as they are told.
-ghost use Rattle.std.specs.Prelude.{◌≡◌, ◌<◌, ◌+◌, ◌++◌, ◌∷◌, [], true, false, replicate, codes, List, map, OnOk, IfOk, MatchOption};
+ghost use Rattle.std.specs.Prelude.{◌≡◌, ◌<◌, ◌+◌, ◌^◌, ◌++◌, ◌∷◌, [], true, false, replicate, codes, List, map, OnOk, IfOk, MatchOption};
 ghost use Rattle.std.specs.List.{flat_map};
 ghost use Rattle.co_text.specs.Lines.{line_text};
 ghost use Rattle.co_grammar.specs.Spelling.{numbered};
@@ -15,6 +15,7 @@ ghost use Rattle.co_report.specs.Sections.{HasTold};
 use crate::note::print_note;
 use crate::reading::places::places;
 use crate::report::print_word;
+use crate::typed::note_is_typed;
 use co_grammar::{actor_name, print_numbered};
 use co_notebook::Notebook;
 use co_object::{Note, Place};
@@ -98,7 +99,8 @@ fn zeros(alloc: Global, count: u32) -> Result<Vec<u64>, NoMemory>
 
 /// One more than a count.
 fn next(count: u64) -> Result<u64, NoMemory>
-    ensures { IfOk result (λ next. next ≡ count + 1) }
+    ensures next { IfOk result (λ next. next ≡ count + 1) }
+    ensures few { IfOk result (λ next. next < 2 ^ 64) }
 {
     count.checked_add(1).ok_or(NoMemory {})
 }
@@ -185,6 +187,7 @@ impl<'a> Notebook for Sections<'a> {
         ensures actors { actor_count self.new.script ≡ actor_count self.old.script }
         ensures script { self.new.script ≡ self.old.script }
     {
+        note_is_typed(*note);
         let count = &mut self.counts[actor as usize];
         let number = *count;
         *count = next(number)?;

@@ -10,7 +10,7 @@ use Rattle.co_top.specs.declared.command.Making.{Making}
 use Rattle.co_top.specs.declared.status.Status.{Status}
 use Rattle.co_top.specs.declared.status.Status.TheVariants.{Done, BadScript, Usage, ReadFault, WriteFault, NoMemory, NotLegal}
 use Rattle.co_top.specs.Commands.{usage_text}
-use Rattle.co_top.specs.Headline.{Gives, HasRead, ComesTo, Says, Tells, IsMadeOf, limit_of}
+use Rattle.co_top.specs.Headline.{Gives, HasRead, Says, Tells, IsMadeOf, limit_of}
 use Rattle.co_top.specs.Outside.{Outside, Reads, ReadsToEnd, Writes}
 use Rattle.co_top.proofs.Accepted.{accepted_short, report_short}
 

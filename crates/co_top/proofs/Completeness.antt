@@ -1,11 +1,8 @@
 -- A command without a fault at either end is answered: each status that the headline allows then fits the input.
-use Rattle.std.proofs.Common.{◌≡◌, ◌⊎◌, ℕ, ◌+◌, ◌<◌, ◌≤◌, List, [], ◌++◌, length, Option, Some, None, Result, Ok, Err, inl, inr, refl, sym, ap, subst, ◌∙◌, arith, length-append, append-nil}
+use Rattle.std.proofs.Common.{◌≡◌, ◌⊎◌, ℕ, ◌+◌, ◌<◌, List, ◌++◌, length, Option, Some, None, inl, inr, refl, sym, ap, subst, ◌∙◌, arith, length-append, append-nil}
 use Rattle.std.specs.Prelude.{IfSome}
 use Rattle.std.specs.Io.KnownBytes.{Consumes, IsAtEnd}
-use Rattle.co_text.specs.Fallible.{Refusal}
 use Rattle.co_text.specs.Values.{Word}
-use Rattle.co_script.specs.Reading.{script_of}
-use Rattle.co_report.specs.Reading.{report_read}
 use Rattle.co_check.specs.Verdict.{verdict}
 use Rattle.co_check.specs.declared.verdict.Verdict.{Verdict}
 use Rattle.co_check.specs.declared.verdict.Verdict.TheVariants.{Legal, Not}
@@ -17,9 +14,9 @@ use Rattle.co_top.specs.declared.command.Making.{Making}
 use Rattle.co_top.specs.declared.status.Status.{Status}
 use Rattle.co_top.specs.declared.status.Status.TheVariants.{Done, BadScript, Usage, ReadFault, WriteFault, NoMemory, NotLegal}
 use Rattle.co_top.specs.Commands.{command_of}
-use Rattle.co_top.specs.Headline.{Gives, IsJudged, HasRead, Says, IsWork, IsReadAnswered, IsAnswered, IsHeadline, IsComplete, limit_of, status_of, script_status, report_status, verdict_status}
-use Rattle.co_top.specs.Outside.{Input, Outside, ReadsToEnd, Reads, HasNoFault}
-use Rattle.co_top.proofs.Accepted.{too_long, long_refused, report_refused}
+use Rattle.co_top.specs.Headline.{Gives, IsJudged, Says, IsReadAnswered, IsAnswered, IsHeadline, IsComplete, limit_of, status_of, script_status, report_status, verdict_status}
+use Rattle.co_top.specs.Outside.{Outside, ReadsToEnd, Reads, HasNoFault}
+use Rattle.co_top.proofs.Accepted.{long_refused, report_refused}
 
 -- ---- what a source that tells its bytes had
 

@@ -1,5 +1,5 @@
 -- A report that is read meets the checker's condition, and what is said of its verdict.
-use Rattle.std.proofs.Common.{◌≡◌, ℕ, ◌<◌, ◌≤◌, true, List, [], ◌∷◌, length, Ok, Err, Result, IfOk, refl, sym, subst, arith}
+use Rattle.std.proofs.Common.{◌≡◌, ℕ, ◌<◌, ◌≤◌, List, [], ◌∷◌, length, Ok, Err, Result, IfOk, refl, sym, subst, arith}
 use Rattle.std.specs.List.{AllByRecursion}
 use Rattle.co_object.specs.declared.Place.{Place}
 use Rattle.co_object.specs.declared.Place.TheVariants as place
@@ -25,7 +25,7 @@ use Rattle.co_top.specs.declared.answer.Answer.{Answer}
 use Rattle.co_top.specs.declared.command.Reading.TheVariants.{Check}
 use Rattle.co_top.specs.declared.status.Status.{Status}
 use Rattle.co_top.specs.declared.status.Status.TheVariants.{Done, NotLegal}
-use Rattle.co_top.specs.Headline.{Gives, IsVerdict, IsJudged}
+use Rattle.co_top.specs.Headline.{Gives, IsJudged}
 use Rattle.co_top.proofs.Accepted.{report_short}
 use Rattle.co_top.proofs.ReadLines.{notes_few}
 
@@ -68,7 +68,7 @@ module _ (s : Script) where
   named (place.Timer i) (of.Cpu e) h = absurd h
   named (place.Timer i) (of.Own e) h = absurd h
   named (place.Cpu c) (of.Timer e) h = absurd h
-  named (place.Cpu c) (of.Cpu e) h = names e.op h.1.0
+  named (place.Cpu c) (of.Cpu e) h = names e.op h.1.0.0
   named (place.Cpu c) (of.Own e) h = absurd h
   named (place.Actor a) (of.Timer e) h = absurd h
   named (place.Actor a) (of.Cpu e) h = absurd h
@@ -77,7 +77,7 @@ module _ (s : Script) where
   line_of : (l : Line) → LineFits s l → IsLineOf s l
   line_of l h = record { place = h.place; kind = of_kind l.place l.entry h.entry; actor = by_actor l.place l.entry h.entry; names = named l.place l.entry h.entry }
 
-  lines_of : (ls : List Line) → AllByRecursion (LineFits s) ls → AreLinesOf s ls
+  pub lines_of : (ls : List Line) → AllByRecursion (LineFits s) ls → AreLinesOf s ls
   lines_of [] h = tt
   lines_of (l ∷ ls) h = (line_of l h.0, lines_of ls h.1)
 

@@ -1,5 +1,5 @@
 -- A report has no more notes than its text has lines, and so no more than it has bytes.
-use Rattle.std.proofs.Common.{◌≡◌, ℕ, ◌+◌, ◌≤◌, Bool, true, false, List, [], ◌∷◌, ◌++◌, length, refl, sym, ap, subst, ◌∙◌, arith, length-append}
+use Rattle.std.proofs.Common.{◌≡◌, ℕ, ◌+◌, ◌≤◌, Bool, true, false, List, [], ◌∷◌, ◌++◌, length, refl, ap, subst, arith, length-append}
 use Rattle.std.specs.Prelude.{Option, Some, None, Result, Ok, Err, nat_le, bytes_eq, codes, if◌then◌else◌}
 use Rattle.std.specs.Option.{option_map}
 use Rattle.co_object.specs.declared.Place.{Place}

@@ -1,5 +1,5 @@
 -- What the program promises: for each status what was read, and what was written.
-use Rattle.std.specs.Prelude.{◌≡◌, ℕ, ◌⊎◌, List, Option, Some, None, Result, Ok, Err, IfSome}
+use Rattle.std.specs.Prelude.{◌≡◌, ℕ, ◌≤◌, ◌⊎◌, List, length, Option, Some, None, Result, Ok, Err, IfSome}
 use Rattle.co_object.specs.declared.note.Note.{Note}
 use Rattle.co_program.specs.declared.script.Script.{Script}
 use Rattle.co_program.specs.Runs.{IsRunOf}
@@ -12,7 +12,6 @@ use Rattle.co_report.specs.Reading.{report_read}
 use Rattle.co_report.specs.Reports.{report_of}
 use Rattle.co_report.specs.declared.line.Report.{Report}
 use Rattle.co_check.specs.Verdict.{verdict}
-use Rattle.co_check.specs.declared.verdict.Unfit.{Unfit}
 use Rattle.co_check.specs.declared.verdict.Verdict.{Verdict}
 use Rattle.co_check.specs.declared.verdict.Verdict.TheVariants.{Legal, Not}
 use Rattle.co_gen.specs.Generator.{generated}
@@ -30,13 +29,21 @@ use Rattle.co_top.specs.Outside.{Output, Outside, ReadsToEnd, Reads, ReadFails, 
 
 -- ---- `steps`
 
+-- the text is a report, and its verdict is Legal
+pub record IsLegalReport (text : List ℕ) : Type 0 where
+  pub report : Report
+  pub read : report_read text ≡ Ok report
+  pub legal : verdict report ≡ Legal
+
 -- the text is the report of the script's walk, which is a run of it: every callout has one legal history of that callout alone
--- and every CPU one of a plain timer queue, made of exactly the steps of the script's actors
+-- and every CPU one of a plain timer queue, made of exactly the steps of the script's actors. It is legal, where it is not too
+-- long for a report
 pub record IsReportOf (script : Script) (text : List ℕ) : Type 0 where
   pub lists : List (List Note)
   pub walk : IsWalk script lists
   pub run : IsRunOf script lists
   pub shown : text ≡ report_of script lists
+  pub legal : length text ≤ 268435456 → IsLegalReport text
 
 -- the bytes are a script, and the text is its report
 pub record IsReport (bytes text : List ℕ) : Type 0 where

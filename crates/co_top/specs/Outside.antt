@@ -1,6 +1,6 @@
 -- The two ends of a call of the program, and what it may do to them. A source or a sink that tells no bytes tells nothing here
 -- but its counts.
-use Rattle.std.specs.Prelude.{◌≡◌, ℕ, ◌<◌, ◌⊎◌, Option, List, length}
+use Rattle.std.specs.Prelude.{ℕ, ◌<◌, ◌⊎◌, Option, List, length}
 use Rattle.std.specs.Io.KnownBytes.{Appends, Consumes, IsAtEnd}
 use Rattle.co_io.specs.Counts.{Rose}
 use Rattle.co_io.specs.Writing.{AppendsFront}

@@ -1,6 +1,6 @@
 //! The commands that read an input: what they make of its bytes.
-ghost use Rattle.std.specs.Prelude.{◌≡◌, IfOk};
-ghost use Rattle.co_program.specs.Scripts.{IsScript};
+ghost use Rattle.std.specs.Prelude.{◌≡◌, true, IfOk};
+ghost use Rattle.co_script.specs.Fits.{fits};
 ghost use Rattle.co_check.specs.Lines.{IsReport};
 ghost use Rattle.co_check.specs.Verdict.{verdict};
 ghost use Rattle.co_top.specs.Headline.{Gives, IsJudged, IsReportOf};
@@ -22,7 +22,7 @@ use std::marker::Brand;
 
 /// The report of a type's script, whose notes are printed as the walk makes them.
 fn report_told<S: Subject>(alloc: Global, script: &Script) -> Result<Seq<u8>, NoMemory>
-    requires sound { IsScript script.now }
+    requires fits { fits script.now ≡ true }
     requires subject { script.now ≡ S.script }
     ensures { IfOk result (IsReportOf script.now) }
 {
@@ -33,7 +33,7 @@ fn report_told<S: Subject>(alloc: Global, script: &Script) -> Result<Seq<u8>, No
 
 /// The report of a script's walk.
 fn report_of_walk(alloc: Global, script: &Script) -> Result<Seq<u8>, NoMemory>
-    requires { IsScript script.now }
+    requires { fits script.now ≡ true }
     ensures { IfOk result (IsReportOf script.now) }
 {
     report_told::<Brand>(alloc, script)

@@ -7,7 +7,7 @@ ghost use Rattle.co_report.specs.Parts.{parts};
 use crate::reading::names::Names;
 use crate::reading::operations::operation;
 use crate::reading::parts::Parts;
-use crate::reading::queue::{answer, queue_op};
+use crate::reading::queue::{answer, may_answer, queue_op};
 use crate::reading::replies::reply;
 use crate::reading::values::{Maker, literal, made_by, made_by_actor, number64, own_kind};
 use co_object::{AnyEntry, Entry, Op, OwnEntry, Place, QEntry, QOp, QReply, Reply};
@@ -30,14 +30,18 @@ fn call(names: &Names, parts: &mut Parts) -> Result<(Op, Reply), Cause>
     Ok((op, reply))
 }
 
-/// An operation on a timer queue, `=` and its answer.
+/// An operation on a timer queue, `=` and its answer; `Form` where that is an answer of another operation.
 fn journal(names: &Names, parts: &mut Parts) -> Result<(QOp, QReply), Cause>
     ensures { Gives (λ x. (x, parts.new)) result (journal_form names.now parts.old) }
 {
     let op = queue_op(names, parts)?;
     literal(b"=".as_slice(), parts)?;
     let reply = answer(names, parts)?;
-    Ok((op, reply))
+    if may_answer(&op, &reply) {
+        Ok((op, reply))
+    } else {
+        Err(Cause::Form)
+    }
 }
 
 /// A note's number, and who made it.

@@ -1,6 +1,7 @@
 //! Operations on a timer queue and their answers, read from the words of a note.
+ghost use Rattle.std.specs.Prelude.{◌≡◌};
 ghost use Rattle.co_text.specs.Fallible.{Gives};
-ghost use Rattle.co_report.specs.NoteForms.{insert_form, remove_form, scan_form, direct_or, queue_form, at_form, count_form, got_form, answer_form, choice, queue_forms, answer_forms};
+ghost use Rattle.co_report.specs.NoteForms.{insert_form, remove_form, scan_form, direct_or, queue_form, at_form, count_form, got_form, answer_form, choice, queue_forms, answer_forms, may_answer};
 
 use crate::reading::names::Names;
 use crate::reading::parts::Parts;
@@ -119,4 +120,17 @@ pub fn answer(names: &Names, parts: &mut Parts) -> Result<QReply, Cause>
 {
     let word = parts.word()?;
     answer_by(names, word, parts)
+}
+
+/// The answer is one that the operation may have.
+pub fn may_answer(op: &QOp, answer: &QReply) -> bool
+    ensures { result ≡ may_answer op.now answer.now }
+{
+    match op {
+        QOp::Insert { .. } => matches!(answer, QReply::At(_)),
+        QOp::Remove { .. } => matches!(answer, QReply::Off | QReply::Missing),
+        QOp::Scan { .. } => matches!(answer, QReply::Count(_)),
+        QOp::Pop | QOp::PopDirect => matches!(answer, QReply::Got { .. } | QReply::Empty),
+        QOp::Free | QOp::FreeDirect => matches!(answer, QReply::Freed),
+    }
 }

@@ -1,4 +1,4 @@
-use Rattle.std.proofs.Common.{◌≡◌, map, string_bytes, Option, refl, sym, subst}
+use Rattle.std.proofs.Common.{map, string_bytes, Option, refl, subst}
 use Rattle.co_top.specs.declared.command.Command.{Command}
 use Rattle.co_top.specs.declared.command.Command.TheVariants.{Read, Make}
 use Rattle.co_top.specs.Commands.{command_of}
