@@ -3,6 +3,8 @@
 //! It prints how many notes the run made. With the word `read` it only reads the script, so that the difference is the run.
 #![tactic(auto)]
 
+ghost use Rattle.co_program.specs.Scripts.{IsScript};
+
 use anyhow::{Context, bail};
 use co_core::run_steps;
 use co_io::{FileSource, read_all};
@@ -18,7 +20,6 @@ const LIMIT: usize = 67_108_864;
 
 /// Runs the script: how many notes that makes.
 fn walk(alloc: Global, script: &Script) -> Option<usize>
-    ghost use Rattle.co_program.specs.Scripts.{IsScript};
     requires { IsScript script.now }
 {
     let lists = run_steps(alloc, script).ok()?;
