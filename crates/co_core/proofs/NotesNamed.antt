@@ -2,7 +2,7 @@
 -- the opening and after each answer, and what else they name stands with the places of the notes.
 use Rattle.std.proofs.Common.{◌≡◌, ℕ, zero, suc, ◌+◌, ◌<◌, Bool, false, List, [], ◌∷◌, ◌++◌, map, refl, sym, ap, subst, ◌∙◌, arith, Option, Some, None}
 use Rattle.std.specs.Prelude.{is_some}
-use Rattle.std.specs.List.{AllByRecursion, range_with_len}
+use Rattle.std.specs.List.{range_with_len}
 use Rattle.co_object.specs.declared.State.{State}
 use Rattle.co_object.specs.declared.Reply.{Reply}
 use Rattle.co_object.specs.declared.CallOp.{CallOp}
@@ -31,7 +31,7 @@ use Rattle.co_program.specs.Existing.{IsCallout, CpuExists, QOpExists, ActionExi
 use Rattle.co_program.specs.Scripts.{IsScript}
 use Rattle.co_core.specs.World.{World, Actor, open_world, with_cursor, lists_of}
 use Rattle.co_core.specs.Step.{notes_down, enters, note_of, callout_answers, enters_journal, note_of_cpu, queue_answers, note_of_own, are_direct, answered}
-use Rattle.co_core.specs.Walk.{IsWalk, run, rounds}
+use Rattle.co_core.specs.Walk.{run, rounds}
 use Rattle.co_core.specs.Laws.{reached, IsSchedule, NotesNameWhatExists, WalksNameWhatExists}
 use Rattle.co_core.specs.Names.{FuncsExist, EntryNames, NotesName, AllNotesName}
 use Rattle.co_core.proofs.Invariant.{states_of, queues_of, places_of}
@@ -39,7 +39,7 @@ use Rattle.co_core.proofs.Moves.{at_all, at_read, at_updated_is, place_at, note_
 use Rattle.co_core.proofs.Passages.{changed}
 use Rattle.co_core.proofs.Replied.{AnswerFits, answer_fits}
 use Rattle.co_core.proofs.DueSteps.{may_run}
-use Rattle.co_core.proofs.Places.{IsPut, notes_in, notes_at, due_at, callout_put, queue_put, got_exists, inserts, answer_put, remove_put, moved, open_put}
+use Rattle.co_core.proofs.Places.{IsPut, notes_in, notes_at, due_at, callout_put, queue_put, got_exists, inserts, answer_put, moved, open_put}
 use Rattle.co_core.proofs.FuncsNamed.{NamesFuncs, ActionNamesFuncs, start_names, action_names, advance_names}
 use Rattle.co_core.proofs.FuncsKept.{StateFuncs, Keeps, open_funcs, funcs_kept}
 use Rattle.co_core.proofs.Runs.{rounds_reached}

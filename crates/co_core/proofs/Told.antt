@@ -1,5 +1,5 @@
 -- The notes of a step are told: those of the world's actors, and the positions of each place count in their order.
-use Rattle.std.proofs.Common.{◌≡◌, ℕ, ◌+◌, ◌-◌, ◌<◌, ◌≤◌, ◌⊎◌, inl, inr, Bool, true, false, cond, List, [], ◌∷◌, ◌++◌, length, drop, get_or, set, map, refl, sym, ap, subst, ◌∙◌, arith, append_assoc, eq-eqb, length-append, length-set}
+use Rattle.std.proofs.Common.{◌≡◌, ℕ, ◌+◌, ◌<◌, ◌≤◌, ◌⊎◌, inl, inr, Bool, true, false, cond, List, [], ◌∷◌, ◌++◌, length, drop, get_or, map, refl, sym, ap, subst, ◌∙◌, arith, append_assoc, length-append, length-set}
 use Rattle.std.specs.Prelude.{◌==◌, is_some, Option, Some, None}
 use Rattle.std.specs.List.{filter, range_with_len}
 use Rattle.std.proofs.lemmas.Bool.Decides.{eqb_tells, nat_tests}
@@ -16,7 +16,6 @@ use Rattle.co_object.specs.declared.QReply.{QReply}
 use Rattle.co_object.specs.declared.Entry.{Entry}
 use Rattle.co_object.specs.declared.QEntry.{QEntry}
 use Rattle.co_object.specs.declared.Note.{Note}
-use Rattle.co_object.specs.declared.AnyEntry.{AnyEntry}
 use Rattle.co_object.specs.declared.AnyEntry.TheVariants as of
 use Rattle.co_object.specs.declared.Place.{Place}
 use Rattle.co_object.specs.declared.Place.TheVariants as place
@@ -25,7 +24,7 @@ use Rattle.co_object.specs.Stand.{off}
 use Rattle.co_object.specs.Callout.{step as callout_step}
 use Rattle.co_object.specs.Queue.{Queue as TimerQueue}
 use Rattle.co_object.specs.Journal.{step as queue_step}
-use Rattle.co_notebook.specs.Made.{IsInOrder, Made, list_by, made_in, notes_made}
+use Rattle.co_notebook.specs.Made.{Made, list_by, made_in, notes_made}
 use Rattle.co_program.specs.declared.Script.{Script}
 use Rattle.co_program.specs.declared.Asked.{Asked}
 use Rattle.co_program.specs.declared.Asked.TheVariants.{Callout, Queue, Itself}
@@ -36,7 +35,6 @@ use Rattle.co_core.specs.declared.engine.Engine.{Engine}
 use Rattle.co_core.specs.declared.turn.Turn.{Turn}
 use Rattle.co_core.specs.declared.turn.Turn.TheVariants.{Notes, Blocked, Finished}
 use Rattle.co_core.specs.Stands.{IsWritten, StandsFor, untold}
-use Rattle.co_core.specs.Stored.{Stored}
 use Rattle.co_core.specs.Step.{answered, are_direct, callout_answers, enters, enters_journal, note_of, note_of_cpu, note_of_own, notes_down, queue_answers, step, turn_of}
 use Rattle.co_core.specs.Telling.{AreMade, GoesOn, HasNotes, HasTold, IsTelling, entry_count, made_by, makes_notes}
 use Rattle.co_core.specs.Walk.{AllFinished, rounds, run}

@@ -5,7 +5,6 @@ use Rattle.co_sbt.specs.declared.seq.NoMemory.{NoMemory}
 use Rattle.co_program.specs.declared.script.Script.{Script}
 use Rattle.co_core.specs.declared.engine.Engine.{Engine}
 use Rattle.co_core.specs.declared.turn.Turn.{Turn}
-use Rattle.co_object.specs.declared.note.Note.{Note}
 use Rattle.co_program.specs.Actors.{actor_count}
 use Rattle.co_core.specs.Shows.{HasAll, IsWorld}
 use Rattle.co_core.specs.Stands.{IsWritten, StandsFor, untold}

@@ -2,8 +2,8 @@
 use Rattle.std.specs.Prelude.{◌≡◌, ℕ, ◌<◌, ⊤, List, length, Option, Some, None}
 use Rattle.std.specs.List.{AllByRecursion}
 use Rattle.co_object.specs.declared.Op.{Op}
-use Rattle.co_object.specs.declared.Op.TheVariants.{Call, Run}
-use Rattle.co_object.specs.declared.CallOp.TheVariants.{Plain, DrainTry}
+use Rattle.co_object.specs.declared.Op.TheVariants.{Call}
+use Rattle.co_object.specs.declared.CallOp.TheVariants.{Plain}
 use Rattle.co_object.specs.declared.PlainOp.TheVariants as op
 use Rattle.co_object.specs.declared.Reply.{Reply}
 use Rattle.co_object.specs.declared.Reply.TheVariants.{Go, Ended}

@@ -1,6 +1,6 @@
 -- Notes that are told in the order of their positions are shown in the order in which they are told.
 use Rattle.std.proofs.Common.{◌≡◌, ℕ, zero, suc, ◌+◌, ◌<◌, ◌≤◌, ◌==◌, Bool, true, false, cond, List, [], ◌∷◌, ◌++◌, map, length, get_or, refl, ap, sym, subst, ◌∙◌, arith, append_assoc, append-nil, length-append}
-use Rattle.std.specs.Prelude.{Option, Some, None}
+use Rattle.std.specs.Prelude.{Some}
 use Rattle.std.specs.Option.{option_map}
 use Rattle.std.specs.List.{AllByRecursion, filter, find, flat_map, filter_map, cons_option, range_with_len}
 use Rattle.std.proofs.Math.Seq.{get_or-append_seam}
@@ -10,9 +10,9 @@ use Rattle.std.proofs.lemmas.List.Elements.{filter-append, filter_map-append}
 use Rattle.std.proofs.lemmas.List.FromFn.{get_or-range_with_len}
 use Rattle.co_object.specs.declared.Note.{Note}
 use Rattle.co_object.specs.declared.Place.{Place}
-use Rattle.co_object.specs.Lists.{same_place, notes_of}
+use Rattle.co_object.specs.Lists.{same_place}
 use Rattle.co_object.proofs.ListsGrow.{same_place-eq}
-use Rattle.co_notebook.specs.Made.{Made, list_by, lists_by, made_in, notes_made, IsInOrder}
+use Rattle.co_notebook.specs.Made.{Made, list_by, lists_by, made_in, IsInOrder}
 use Rattle.co_report.specs.Histories.{Numbered, Shown, shown, shown_at, numbered_from, numbered_of, all_numbered_of, shown_history}
 use Rattle.co_report.specs.Sections.{count_by, told_in}
 use Rattle.co_report.proofs.Numbering.{numbered}

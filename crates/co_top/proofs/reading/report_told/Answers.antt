@@ -1,5 +1,5 @@
 -- The notebook has the notes of the script's walk, and prints their report.
-use Rattle.std.proofs.Common.{◌≡◌, ◌≤◌, ℕ, true, List, length, Result, Ok, Err, IfOk, refl, ap, sym, subst, ◌∙◌, arith}
+use Rattle.std.proofs.Common.{◌≡◌, ◌≤◌, ℕ, true, List, length, Result, Ok, Err, IfOk, ap, sym, subst, ◌∙◌, arith}
 use Rattle.co_notebook.specs.Made.{Made, IsInOrder, lists_by}
 use Rattle.co_program.specs.declared.script.Script.{Script}
 use Rattle.co_program.specs.Actors.{actor_count}

@@ -1,6 +1,5 @@
-use Rattle.std.proofs.Common.{◌≡◌, ℕ, List, Bool, ◌+◌, ◌<◌, ◌∙◌, ◌⊎◌, ap, subst, sym, true, false, inl, inr, refl, arith}
+use Rattle.std.proofs.Common.{◌≡◌, ℕ, List, ◌∙◌, ap, subst, sym, true, false, refl, arith}
 use Rattle.std.specs.List.{range_with_len}
-use Rattle.co_program.specs.declared.Script.{Script}
 use Rattle.co_program.specs.Actors.{actor_count}
 use Rattle.co_core.specs.Ended.{HaveEnded}
 use Rattle.co_core.specs.Step.{step}

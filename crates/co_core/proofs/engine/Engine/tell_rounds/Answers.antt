@@ -1,7 +1,7 @@
-use Rattle.std.proofs.Common.{◌≡◌, ◌∙◌, Bool, true, false, subst, sym, inl, refl, arith}
+use Rattle.std.proofs.Common.{◌≡◌, ◌∙◌, true, false, subst, sym, inl, refl, arith}
 use Rattle.co_core.specs.Ended.{HaveEnded}
 use Rattle.co_core.specs.Telling.{GoesOn}
-use Rattle.co_core.specs.Walk.{AllFinished, round, rounds}
+use Rattle.co_core.specs.Walk.{round, rounds}
 use Rattle.co_core.specs.World.{World}
 use Rattle.co_core.proofs.Rounding.{counted-more, counted-all, rounds-more}
 use Rattle.co_core.proofs.Told.{further, not_yet}

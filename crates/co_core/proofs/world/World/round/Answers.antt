@@ -1,4 +1,4 @@
-use Rattle.std.proofs.Common.{◌≡◌, ℕ, List, Bool, ◌+◌, ◌<◌, ◌∙◌, ◌⊎◌, ap, subst, sym, true, false, inl, inr, arith}
+use Rattle.std.proofs.Common.{◌≡◌, ℕ, List, Bool, ◌∙◌, ap, subst, sym, true, false, arith}
 use Rattle.std.specs.List.{range_with_len}
 use Rattle.co_program.specs.declared.Script.{Script}
 use Rattle.co_program.specs.Actors.{actor_count}

@@ -1,6 +1,5 @@
 -- Each section has its heading, and each count is 0.
 use Rattle.std.proofs.Common.{ap, replicate, ◌∙◌}
-use Rattle.co_report.specs.Sections.{HasTold}
 use Rattle.co_report.proofs.ToldPages.{nothing-told, told-rooms}
 use Rattle.co_report.proofs.sections.Sections.new.Goals as goal
 

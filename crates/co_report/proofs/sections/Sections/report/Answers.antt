@@ -1,7 +1,5 @@
 -- The lines before the sections, the sections and the last line are the report.
-use Rattle.std.proofs.Common.{◌≡◌, ◌++◌, ◌∷◌, [], ℕ, List, sym, subst, ap, ◌∙◌}
-use Rattle.std.specs.Prelude.{codes}
-use Rattle.co_report.specs.Sections.{Written, HasTold}
+use Rattle.std.proofs.Common.{sym}
 use Rattle.co_report.proofs.ToldPages.{report-told}
 use Rattle.co_report.proofs.sections.Sections.report.Goals as goal
 
