@@ -1,5 +1,5 @@
 -- What boot makes, place by place.
-use Rattle.std.specs.Prelude.{◌≡◌, ℕ, ◌<◌, ◌≤◌, List, [], ◌∷◌, ◌++◌, length, map, slice_get, slice_index_or}
+use Rattle.std.specs.Prelude.{◌≡◌, ℕ, ◌<◌, ◌≤◌, List, [], ◌++◌, length, map, slice_get, slice_index_or}
 use Rattle.std.specs.declared.option.Option.TheVariants.{Some}
 use Rattle.co_life.specs.Identity.{LifeId}
 use Rattle.co_life.specs.Views.{KeeperView}
@@ -44,6 +44,11 @@ module _ {E : Type 0} where
     pub count : length all ≡ n
     pub ahead : (k : ℕ) → k < done → AreSeatedAt p (name ++ more) k (seats_at all k)
     pub behind : (k : ℕ) → done ≤ k → k < n → AreSeatedAt p name k (seats_at all k)
+
+  -- the actors from `done` on still have their passes of these places
+  pub record AreLeft (p : Params) (name : List LifeId) (n done : ℕ) (all : List (SeatsView (Line E))) : Type 0 where
+    pub count : length all ≡ n
+    pub left : (k : ℕ) → done ≤ k → k < n → AreSeatedAt p name k (seats_at all k)
 
 module _ {E : Type 0} where
   -- the keeper of place i, where all actors have made their opening entries
