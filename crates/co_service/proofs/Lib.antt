@@ -28,3 +28,4 @@ pub mod WholeCall
 pub mod LandSection
 pub mod Signing
 pub mod Joined
+pub mod Coming

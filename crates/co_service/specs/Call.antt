@@ -1,5 +1,5 @@
 -- A caller's operation, section by section.
-use Rattle.std.specs.Prelude.{◌≡◌, ℕ, List, [], ◌∷◌, ◌++◌, map}
+use Rattle.std.specs.Prelude.{◌≡◌, ℕ, List, [], ◌∷◌, ◌++◌, map, ◌<◌}
 use Rattle.std.specs.declared.option.Option.{Option}
 use Rattle.std.specs.declared.option.Option.TheVariants.{Some, None}
 use Rattle.co_object.specs.declared.note.Entry.{Entry}
@@ -76,6 +76,12 @@ pub record IsCalled (p : PassesView) (act i : ℕ) (op : CallOp) (reply : Reply)
 -- the last note is still free
 abbrev pub HasRoom : List (Option Note) → Type 0
 HasRoom notes = (first : Option Note) × (second : Option Note) × (notes ≡ first ∷ second ∷ None ∷ [])
+
+-- a CPU that an operation names exists
+abbrev pub NamesCpu : ℕ → CallOp → Type 0
+NamesCpu cpus (Plain (Reset due prec func arg (Some cpu))) = cpu < cpus
+NamesCpu cpus (Plain (Schedule due prec (Some cpu))) = cpu < cpus
+NamesCpu cpus _ = Unit {0}
 
 -- the due time that an operation names
 abbrev pub due_in : CallOp → ℕ

@@ -20,6 +20,7 @@ mod seats;
 mod service;
 mod services;
 mod stories;
+mod wheels;
 
 pub use laws::{begins_by_own, ends_by_own, served_by_own};
 pub use line::Line;

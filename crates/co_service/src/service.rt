@@ -3,10 +3,13 @@ ghost use Rattle.std.specs.Prelude.{◌≡◌, ◌<◌, ◌≤◌, IfErr, IfNone
 ghost use Rattle.std.specs.declared.option.Option.TheVariants.{Some, None};
 ghost use Rattle.co_object.specs.Queue.{Due};
 ghost use Rattle.co_object.specs.Journal.{scanner};
-ghost use Rattle.co_service.specs.Call.{HasRoom, IsAnswer, IsCalled, notes_in};
+ghost use Rattle.std.specs.Option.{option_copied};
+ghost use Rattle.co_lock.specs.Covers.{covers};
+ghost use Rattle.co_lock.specs.Service.{hold_of};
+ghost use Rattle.co_service.specs.Call.{HasRoom, IsAnswer, IsCalled, NamesCpu, notes_in};
 ghost use Rattle.co_service.specs.Moving.{IsOfService, target_of};
 ghost use Rattle.co_service.specs.Outcomes.{IsScan};
-ghost use Rattle.co_service.specs.Params.{actors_of};
+ghost use Rattle.co_service.specs.Params.{actors_of, spec_at};
 ghost use Rattle.co_service.specs.Services.{FollowsScans, IsBegun, IsEnded, IsEndedBut, IsFree, IsLanded, IsServing, IsTaken};
 ghost use Rattle.co_service.specs.Serving.{Runs, Waits};
 ghost use Rattle.co_service.specs.Views.{AreOf, journal_seen};
@@ -16,6 +19,7 @@ use crate::moving::Moving;
 use crate::places::Places;
 use crate::running::with_last;
 use crate::{Made, Name, Params, Passes, Scanned, Taken};
+use co_lock::Hold;
 use co_object::{CallOp, Note};
 use co_sbt::Sbt;
 use std::marker::Model;
@@ -184,14 +188,25 @@ impl<N: Name> Service<N> {
         unreachable!()
     }
 
-    /// A call on callout `i`, the landing of its record at another CPU included: what the caller asks, its reply and notes.
+    /// A call on callout `i`, the landing of its record at another CPU included. The caller's hold covers it.
     ///
     /// It waits for the desks' locks, and while the record is on its way.
-    pub fn call<R: Wait>(&self, rt: &R, passes: &mut Passes, act: u64, i: u32, op: &CallOp) -> Made
+    pub fn call<R: Wait>(
+        &self,
+        rt: &R,
+        passes: &mut Passes,
+        act: u64,
+        i: u32,
+        op: &CallOp,
+        hold: Option<&Hold<'_>>,
+    ) -> Made
         requires passes { AreOf N.name self.now passes.old }
         requires callout { i < length self.now.specs }
+        requires cpu { NamesCpu self.now.cpus op.now }
+        requires covered { covers (option_copied hold) (spec_at self.now i) op.now ≡ true }
         ensures { IsCalled passes.old act i op.now result.reply (notes_in result.notes) passes.new }
     {
+        let _ = hold;
         let (made, leaves) = self.call_found(rt, passes, act, i, op);
         match leaves {
             None => made,
@@ -282,15 +297,24 @@ impl<N: Name> Service<N> {
         unreachable!()
     }
 
-    /// The lock of the callout that the CPU has in service is held.
+    /// The lock of the callout that the CPU has in service is held, in the mode that its spec wants.
     ///
     /// The passes are those of the CPU's actor, whose own entries have a callout in service that waits for its lock.
-    pub fn begin<R: Wait>(&self, rt: &R, passes: &mut Passes, cpu: u32, act: u64) -> Made
+    pub fn begin<R: Wait>(
+        &self,
+        rt: &R,
+        passes: &mut Passes,
+        cpu: u32,
+        act: u64,
+        hold: &Hold<'_>,
+    ) -> Made
         requires cpu { cpu < self.now.cpus }
         requires passes { AreOf N.name self.now passes.old }
         requires serves { (d : Due) × IsServing false passes.old cpu d (Waits d.n) }
+        requires held { (d : Due) → IsServing false passes.old cpu d (Waits d.n) → hold_of (spec_at self.now d.i).lock ≡ Some hold.now }
         ensures { (d : Due) → IsServing false passes.old cpu d (Waits d.n) → IsBegun passes.old cpu act d result passes.new }
     {
+        let _ = hold;
         for _ in rt.forever() {
             let locked = &self.desks[cpu as usize];
             let out = locked.desk.lock(rt).begin(&self.places, passes, cpu, act);
