@@ -29,3 +29,4 @@ pub mod LandSection
 pub mod Signing
 pub mod Joined
 pub mod Coming
+pub mod FirstDesk

@@ -5,6 +5,8 @@ use Rattle.std.specs.declared.option.Option.{Option}
 use Rattle.co_life.specs.Identity.{LifeId}
 use Rattle.co_life.specs.Views.{KeeperView}
 use Rattle.co_object.specs.declared.alone.Alone.{Alone}
+use Rattle.co_object.specs.declared.note.Entry.{Entry}
+use Rattle.co_object.specs.declared.note.QEntry.{QEntry}
 use Rattle.co_object.specs.declared.spec.Spec.{Spec}
 use Rattle.co_object.specs.Callout.{opening}
 use Rattle.co_queue.specs.Timers.{empty_timers}
@@ -17,6 +19,7 @@ use Rattle.co_service.specs.Params.{actor_count, directs, no_spec}
 use Rattle.co_service.specs.Lines.{made, openings, opening_of, AllCarry}
 use Rattle.co_service.specs.Seats.{SeatsView, fresh_seats}
 use Rattle.co_service.specs.Views.{PassesView}
+use Rattle.co_service.specs.Books.{AreBooks, kept_of}
 
 module _ {E : Type 0} where
   -- the first n actors have made their opening entries, and nothing else was made
@@ -100,3 +103,12 @@ pub record IsFirst (p : Params) (cpu : ℕ) (w : Cpu) : Type 0 where
   pub serving : w.callouts.serving ≡ None
   pub directing : w.callouts.directing ≡ None
   pub timers : w.timers ≡ empty_timers (length p.specs) p.buckets (directs p)
+
+-- what a CPU has before the first call: its wheel, and keepers of the service in whose histories no call has made an entry
+pub record IsBench (name : ServiceName) (p : Params) (cpu : ℕ) (w : Cpu) (keepers : List (Option (KeeperView (Line Entry)))) (journal : KeeperView (Line QEntry)) : Type 0 where
+  pub wheel : IsFirst p cpu w
+  pub books : AreBooks name p cpu keepers journal
+  pub size : length keepers ≡ length p.specs
+  pub come : (i : ℕ) → i < come_to cpu p.specs → kept_of (slice_index_or keepers i None) ≡ Some []
+  pub missing : (i : ℕ) → come_to cpu p.specs ≤ i → kept_of (slice_index_or keepers i None) ≡ None
+  pub nothing : made journal.history ≡ []
