@@ -89,9 +89,6 @@ module _ (w : Cpu) (b : BooksView) (i : ℕ) (H : List Entry) (st : Stand w b) (
   pub at_now : IsAt b.cpu (alone_after b.params i H)
   at_now = here_at b.cpu (callout w.callouts i) (alone_after b.params i H) (st.here i) there_now
 
-  pub within_now : i < length b.timers
-  within_now = within_history b.timers i H kept
-
 -- callout i is now this, here and in the books
 module _ (w w' : Cpu) (b : BooksView) (i : ℕ) (of : IsOf w b) (st : Stand w b) (below : i < length b.timers) (a : Option Alone) (h : Option (List Entry)) (J : List QEntry)
     (c : w'.callouts.here ≡ set w.callouts.here i a) where

@@ -1,5 +1,5 @@
 -- Callouts come to a wheel one after the other.
-use Rattle.std.proofs.Common.{◌≡◌, ◌≢◌, ℕ, zero, suc, ◌+◌, ◌<◌, ◌≤◌, ◌==◌, Bool, true, false, cond, List, [], ◌∷◌, ◌++◌, length, replicate, get_or, set, refl, sym, ap, ◌∙◌, subst, arith, length-set}
+use Rattle.std.proofs.Common.{◌≡◌, ◌≢◌, ℕ, zero, suc, ◌+◌, ◌<◌, ◌==◌, Bool, true, false, cond, List, [], ◌∷◌, ◌++◌, length, replicate, get_or, set, refl, sym, ap, ◌∙◌, subst, arith, length-set}
 use Rattle.std.specs.Prelude.{slice_get, slice_index_or, is_some}
 use Rattle.std.specs.declared.option.Option.{Option}
 use Rattle.std.specs.declared.option.Option.TheVariants.{Some, None}
@@ -47,12 +47,9 @@ one_come specs k here x c below is = record {
 pub absent_next : (specs : List Spec) (k : ℕ) (here : List (Option Alone)) → AreCome specs k here → is_some (get_or here k None) ≡ false
 absent_next specs k here c = ap is_some (c.missing k (omega arith))
 
--- a wheel to which none comes, and one to which all do
+-- a CPU to which none comes
 pub come_other : (cpu : ℕ) (specs : List Spec) (here : List (Option Alone)) → (cpu == 0) ≡ false → AreCome specs 0 here → AreCome specs (come_to cpu specs) here
 come_other cpu specs here away c = subst (λ (b : Bool). AreCome specs (cond b (length specs) 0) here) (sym away) c
-
-pub come_first : (cpu : ℕ) (specs : List Spec) (here : List (Option Alone)) → (cpu == 0) ≡ true → AreCome specs (length specs) here → AreCome specs (come_to cpu specs) here
-come_first cpu specs here is c = subst (λ (b : Bool). AreCome specs (cond b (length specs) 0) here) (sym is) c
 
 -- a wheel more
 pub wheel_more : (p : Params) (xs : List Cpu) (x : Cpu) (n : ℕ) → length xs ≡ n → ((k : ℕ) (w : Cpu) → slice_get xs k ≡ Some w → IsFirst p k w) → IsFirst p n x → (k : ℕ) (w : Cpu) → slice_get (xs ++ x ∷ []) k ≡ Some w → IsFirst p k w

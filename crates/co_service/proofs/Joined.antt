@@ -9,20 +9,11 @@ use Rattle.co_service.specs.declared.params.Params.{Params}
 use Rattle.co_service.specs.declared.line.Line.{Line}
 use Rattle.co_service.specs.Booted.{AreLeft, AreSeatedAt, booted}
 use Rattle.co_service.specs.Lines.{made}
-use Rattle.co_service.specs.Params.{actor_count}
 use Rattle.co_service.specs.Seats.{SeatsView, fresh_seats}
-use Rattle.co_service.specs.Views.{AreOpened, ArePasses, passes_of}
+use Rattle.co_service.specs.Views.{passes_of}
 use Rattle.co_service.proofs.Items.{index_else}
 
 module _ {E : Type 0} where
-  pub opened_seats : (p : Params) (a count : ℕ) (s : SeatsView (Line E)) → AreSeatedAt p s.name a s → length s.name ≡ count → AreOpened p a count s
-  opened_seats p a count s at long = record {
-    own = at.actor_is;
-    named = long;
-    count_is = at.count ∙ long;
-    opened = λ i below. (at.each i (subst (λ (n : ℕ). i < n) (sym long) below)).opened;
-  }
-
   -- where nothing was made anywhere
   nothing_made : (xs : List (List (Line E))) (name : List LifeId) → length xs ≡ length name → ((i : ℕ) → i < length name → made (slice_index_or xs i []) ≡ []) → map made xs ≡ map (λ (l : LifeId). []) name
   nothing_made [] [] long none = refl
@@ -44,9 +35,6 @@ module _ {E : Type 0} where
 
 pub passes_joined : (p : Params) (a : ℕ) (t : SeatsView (Line Entry)) (q : SeatsView (Line QEntry)) → AreSeatedAt p t.name a t → AreSeatedAt p q.name a q → passes_of a p t q ≡ booted (record { timers = t.name; cpus = q.name }) p a
 passes_joined p a t q ts qs = λ d. record { name = record { timers = t.name; cpus = q.name }; params = p; actor = a; timers = nothing_seen p a t ts d; cpus = nothing_seen p a q qs d }
-
-pub are_passes : (p : Params) (actors a : ℕ) (t : SeatsView (Line Entry)) (q : SeatsView (Line QEntry)) → actors ≡ actor_count p → AreSeatedAt p t.name a t → AreSeatedAt p q.name a q → length t.name ≡ length p.specs → length q.name ≡ p.cpus → ArePasses actors a p t q
-are_passes p actors a t q count ts qs callouts wheels = record { count = count; timers_opened = opened_seats p a (length p.specs) t ts callouts; cpus_opened = opened_seats p a p.cpus q qs wheels }
 
 -- seats whose names are a service's are so by their own name
 pub seated_own : {E : Type 0} (p : Params) (name : List LifeId) (a : ℕ) (s : SeatsView (Line E)) → AreSeatedAt p name a s → AreSeatedAt p s.name a s

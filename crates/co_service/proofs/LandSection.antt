@@ -1,9 +1,8 @@
 -- The section of a landing on a desk: what its wheel and its books have after it.
-use Rattle.std.proofs.Common.{◌≡◌, ℕ, ◌<◌, Bool, true, false, List, [], ◌∷◌, ◌++◌, length, set, refl, sym, ap, ◌∙◌, subst, arith}
-use Rattle.std.specs.Prelude.{is_some, slice_set}
+use Rattle.std.proofs.Common.{◌≡◌, ℕ, ◌<◌, true, false, List, [], ◌∷◌, ◌++◌, length, set, sym, ap, ◌∙◌, subst, arith}
+use Rattle.std.specs.Prelude.{slice_set}
 use Rattle.std.specs.declared.option.Option.{Option}
-use Rattle.std.specs.declared.option.Option.TheVariants.{Some, None}
-use Rattle.co_object.specs.declared.alone.Alone.{Alone}
+use Rattle.std.specs.declared.option.Option.TheVariants.{Some}
 use Rattle.co_object.specs.declared.note.Entry.{Entry}
 use Rattle.co_object.specs.declared.note.QEntry.{QEntry}
 use Rattle.co_object.specs.declared.queue.QOp.{QOp}
@@ -11,26 +10,17 @@ use Rattle.co_object.specs.declared.queue.QReply.{QReply}
 use Rattle.co_object.specs.declared.queue.QOp.TheVariants.{Insert}
 use Rattle.co_object.specs.declared.queue.QReply.TheVariants.{At}
 use Rattle.co_object.specs.declared.state.Arming.{Arming}
-use Rattle.co_object.specs.Scan.{is_direct}
 use Rattle.co_object.specs.Stand.{listed_cpu, stand_of, is_idle}
-use Rattle.co_wheel.specs.Callouts.{Callouts, callout, is_here}
+use Rattle.co_wheel.specs.Callouts.{Callouts}
 use Rattle.co_wheel.specs.Cpu.{Cpu}
 use Rattle.co_wheel.specs.Parcel.{Parcel}
 use Rattle.co_wheel.specs.Sections.{IsLanding}
-use Rattle.co_service.specs.declared.params.Params.{Params}
-use Rattle.co_service.specs.Books.{BooksView, history_at, is_kept}
-use Rattle.co_service.specs.Desk.{IsAt, IsDesk, Owes, StandsAs, alone_after}
+use Rattle.co_service.specs.Books.{BooksView, is_kept}
+use Rattle.co_service.specs.Desk.{IsAt, IsDesk, Owes, alone_after}
 use Rattle.co_service.proofs.CallJoined.{idle_free}
 use Rattle.co_service.proofs.CallKept.{some_off}
 use Rattle.co_service.proofs.CalledDesk.{of_changed, stand_after}
 use Rattle.co_service.proofs.DeskKept.{owes_next, owes_turns, scans_more}
-use Rattle.co_service.proofs.Lanes.{direct_spec}
-
-absent_so : (p : Params) (i : ℕ) (o : Option Alone) (h : Option (List Entry)) → StandsAs p i o h → is_some h ≡ false → is_some o ≡ false
-absent_so p i None None st is = refl
-absent_so p i None (Some H) st is = absurd st
-absent_so p i (Some a) None st is = absurd st
-absent_so p i (Some a) (Some H) st is = absurd (cc)
 
 -- what comes to a desk: its state is what its history gives, no service has it, and it is armed at this CPU
 pub record Comes (b : BooksView) (parcel : Parcel) (H : List Entry) (n due : ℕ) : Type 0 where
@@ -44,18 +34,6 @@ pub record Comes (b : BooksView) (parcel : Parcel) (H : List Entry) (n due : ℕ
   pub due_is : due ≡ parcel.arming.due
 
 module _ (w : Cpu) (b : BooksView) (scans : ℕ) (parcel : Parcel) (H : List Entry) (n due : ℕ) (desk : IsDesk w b scans) (is : Comes b parcel H n due) where
-  pub lands_cpu : parcel.arming.cpu ≡ w.callouts.cpu
-  lands_cpu = is.here ∙ sym desk.of.cpu
-
-  pub lands_below : parcel.i < length w.callouts.here
-  lands_below = subst (λ (m : ℕ). parcel.i < m) (sym desk.of.size) is.below
-
-  pub lands_absent : is_here w.callouts parcel.i ≡ false
-  lands_absent = absent_so b.params parcel.i (callout w.callouts parcel.i) (history_at b parcel.i) (desk.stand.each parcel.i) is.absent
-
-  pub lands_lane : parcel.callout.spec.direct ≡ is_direct w.timers.direct parcel.i
-  lands_lane = ap (λ (a : Alone). a.spec.direct) is.callout_is ∙ (sym (direct_spec b.params parcel.i) ∙ ap (λ (l : List Bool). is_direct l parcel.i) (sym desk.of.direct))
-
   at_here : IsAt b.cpu parcel.callout
   at_here = record {
     runs = idle_free parcel.callout.state.run b.cpu is.idle;

@@ -1,7 +1,4 @@
 use Rattle.std.proofs.Common.{◌≡◌, length, replicate, List, ap, ◌∙◌}
-use Rattle.std.specs.declared.option.Option.{Option}
-use Rattle.std.specs.declared.option.Option.TheVariants.{None}
-use Rattle.co_object.specs.declared.alone.Alone.{Alone}
 use Rattle.co_object.specs.declared.spec.Spec.{Spec}
 use Rattle.co_queue.specs.Timers.{empty_timers}
 use Rattle.co_wheel.specs.Cpu.{Cpu}

@@ -1,7 +1,5 @@
-use Rattle.std.proofs.Common.{◌≡◌, ◌∙◌, ℕ, ◌+◌, ◌<◌, length, List, refl, set, ap, sym, subst, arith}
-use Rattle.std.specs.declared.option.Option.{Option}
+use Rattle.std.proofs.Common.{◌≡◌, ℕ, ◌+◌, length, refl, set, ap, sym, subst, arith}
 use Rattle.std.specs.declared.option.Option.TheVariants.{Some}
-use Rattle.co_object.specs.declared.alone.Alone.{Alone}
 use Rattle.co_record.specs.Rest.{callout_of}
 use Rattle.co_wheel.specs.Cpu.{Cpu}
 use Rattle.co_service.specs.Booted.{AreCome}
