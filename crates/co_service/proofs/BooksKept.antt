@@ -1,6 +1,6 @@
 -- The books of a desk: a keeper at its number, and the books after it has changed.
-use Rattle.std.proofs.Common.{◌≡◌, ◌≢◌, ℕ, zero, suc, ◌<◌, true, List, [], ◌∷◌, ◌++◌, length, map, set, refl, sym, ap, ◌∙◌, subst, arith}
-use Rattle.std.specs.Prelude.{slice_get, slice_index_or, is_some}
+use Rattle.std.proofs.Common.{◌≡◌, ℕ, zero, suc, ◌<◌, true, List, [], ◌∷◌, length, map, set, sym, ap, ◌∙◌, subst, arith}
+use Rattle.std.specs.Prelude.{slice_index_or, is_some}
 use Rattle.std.specs.declared.option.Option.{Option}
 use Rattle.std.specs.declared.option.Option.TheVariants.{Some, None}
 use mathlib.Core.Logic.{dite}
@@ -13,12 +13,12 @@ use Rattle.co_service.specs.declared.line.Line.{Line}
 use Rattle.co_service.specs.Name.{ServiceName}
 use Rattle.co_service.specs.Lines.{made, opening_of}
 use Rattle.co_service.specs.Seats.{SeatsView, seen_at, IsShown}
-use Rattle.co_service.specs.Stories.{by, queue_by, timer_actor, cpu_actor, IsHistory, IsJournal}
+use Rattle.co_service.specs.Stories.{by, queue_by, timer_actor, cpu_actor, IsHistory}
 use Rattle.co_service.specs.Views.{PassesView, passes_of, seen_of, journal_seen, ArePasses, IsKeeperOf}
 use Rattle.co_service.specs.Books.{BooksView, books_of, history_at, entries_in, entries_at, is_kept, with_history, kept_of, IsKept, AreBooks}
 use Rattle.co_service.proofs.Items.{get_here, get_or_of, set_map, set_set, set_same, index_set, index_else}
 use Rattle.co_service.proofs.Entries.{shown_made, same_opening}
-use Rattle.co_service.proofs.Writing.{index-map, below_get}
+use Rattle.co_service.proofs.Writing.{index-map}
 
 pub below_kept : (ks : List (Option (KeeperView (Line Entry)))) (i : ℕ) → is_some (slice_index_or (map kept_of ks) i None) ≡ true → i < length ks
 below_kept [] i h = absurd (cc)

@@ -19,10 +19,10 @@ use Rattle.co_service.specs.Params.{actors_of, spec_at, directs}
 use Rattle.co_service.specs.Lines.{made}
 use Rattle.co_service.specs.Stories.{IsHistory, IsJournal}
 use Rattle.co_service.specs.Views.{PassesView, IsKeeperOf}
-use Rattle.co_service.specs.Writes.{WritesTimer, WritesCpu}
-use Rattle.co_service.specs.Books.{BooksView, books_of, entries_in, entries_at, is_kept, with_history, kept_of, IsKept, AreBooks}
+use Rattle.co_service.specs.Writes.{WritesTimer}
+use Rattle.co_service.specs.Books.{BooksView, books_of, entries_in, entries_at, is_kept, with_history, AreBooks}
 use Rattle.co_service.specs.May.{MayEnter, MayHappen}
-use Rattle.co_service.proofs.BooksKept.{params_are, keeper_of, history_here, kept_twice, below_here, set_twice, of_params}
+use Rattle.co_service.proofs.BooksKept.{keeper_of, history_here, kept_twice, below_here, set_twice}
 
 pub journal_snoc : (p : Params) (cpu : ℕ) (J : List QEntry) (e : QEntry) → IsJournal p cpu J
     → journal.May (actors_of p) cpu p.buckets (directs p) (journal.queue p.buckets (directs p) J) e → IsJournal p cpu (J ++ e ∷ [])

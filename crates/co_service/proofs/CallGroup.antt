@@ -1,29 +1,20 @@
 -- The notes of a call are its group.
-use Rattle.std.proofs.Common.{◌≡◌, ℕ, ℤ, Bool, true, false, cond, not, ◌&&◌, ◌==◌, List, [], ◌∷◌, ◌++◌, map, refl, sym, ap, ◌∙◌, subst, append_assoc, append-nil}
-use Rattle.std.specs.Prelude.{is_some, unwrap_or}
+use Rattle.std.proofs.Common.{◌≡◌, ℕ, ℤ, Bool, true, false, cond, List, [], ◌∷◌, ◌++◌, refl, sym, ap, ◌∙◌, subst}
 use Rattle.std.specs.declared.option.Option.{Option}
 use Rattle.std.specs.declared.option.Option.TheVariants.{Some, None}
-use Rattle.co_object.specs.declared.alone.Alone.{Alone}
 use Rattle.co_object.specs.declared.note.Entry.{Entry}
 use Rattle.co_object.specs.declared.note.Place.TheVariants as at
 use Rattle.co_object.specs.declared.note.AnyEntry.TheVariants as of
 use Rattle.co_object.specs.declared.state.Arming.{Arming}
 use Rattle.co_object.specs.declared.state.State.{State}
-use Rattle.co_object.specs.declared.op.CallOp.{CallOp}
-use Rattle.co_object.specs.declared.op.CallOp.TheVariants.{Plain, DrainTry}
-use Rattle.co_object.specs.declared.op.PlainOp.{PlainOp}
-use Rattle.co_object.specs.declared.op.PlainOp.TheVariants.{Reset, Schedule, Stop, AsyncDrain, Active, Pending, Deactivate, Init, Retire}
 use Rattle.co_object.specs.declared.op.Op.{Op}
 use Rattle.co_object.specs.declared.reply.Reply.{Reply}
 use Rattle.co_object.specs.declared.reply.Reply.TheVariants.{Armed, NotArmed, NoHandler, Worn, Stopped, Wait, Drained, Busy, Yes, No, Done, Go, Hold, Skip, Ended, Live, Retired, InUse}
-use Rattle.co_object.specs.declared.queue.QOp.TheVariants.{Insert, Remove}
-use Rattle.co_object.specs.declared.queue.QReply.TheVariants.{At, Off}
-use Rattle.co_object.specs.Arm.{arm, refuse, reset, reset_to_last, made_max, is_draining}
-use Rattle.co_object.specs.Callout.{call, live_call, retired_call}
+use Rattle.co_object.specs.declared.queue.QOp.TheVariants.{Insert}
+use Rattle.co_object.specs.declared.queue.QReply.TheVariants.{At}
 use Rattle.co_object.specs.Entries.{is_armed}
-use Rattle.co_object.specs.Group.{Placed, placed, off_of, group}
-use Rattle.co_object.specs.Stand.{Stand, Nowhere, Listed, Deferred, stand, stand_of, listed_cpu, is_free_at, is_idle, off}
-use Rattle.co_object.proofs.Changes.{either_way}
+use Rattle.co_object.specs.Group.{Placed, off_of, group}
+use Rattle.co_object.specs.Stand.{Stand, Nowhere, Listed, Deferred, stand_of, listed_cpu, is_free_at, off}
 use Rattle.co_service.specs.Call.{removal_notes}
 
 abbrev entry_of : (actor act : ℕ) → Op → Reply → Entry

@@ -1,6 +1,5 @@
 -- A call on a callout that stands here: where it stands afterwards, and what its notes are.
-use Rattle.std.proofs.Common.{◌≡◌, ◌≢◌, ℕ, ◌+◌, ◌<◌, Bool, true, false, cond, not, ◌&&◌, ◌==◌, List, [], ◌∷◌, ◌++◌, length, ℤ, refl, sym, ap, ◌∙◌, subst, arith}
-use Rattle.std.specs.Prelude.{is_some, unwrap_or}
+use Rattle.std.proofs.Common.{◌≡◌, ℕ, Bool, true, false, cond, not, ◌&&◌, ◌==◌, refl, sym, ap, ◌∙◌}
 use Rattle.std.specs.declared.option.Option.{Option}
 use Rattle.std.specs.declared.option.Option.TheVariants.{Some, None}
 use Rattle.co_object.specs.declared.alone.Alone.{Alone}
@@ -9,20 +8,14 @@ use Rattle.co_object.specs.declared.state.State.{State}
 use Rattle.co_object.specs.declared.state.Run.{Run}
 use Rattle.co_object.specs.declared.state.Run.TheVariants.{Idle, Picked, Cancelled, Running}
 use Rattle.co_object.specs.declared.op.CallOp.{CallOp}
-use Rattle.co_object.specs.declared.op.CallOp.TheVariants.{Plain, DrainTry}
-use Rattle.co_object.specs.declared.op.PlainOp.{PlainOp}
-use Rattle.co_object.specs.declared.op.PlainOp.TheVariants.{Reset, Schedule, Stop, AsyncDrain, Active, Pending, Deactivate, Init, Retire}
 use Rattle.co_object.specs.declared.op.Op.{Op}
 use Rattle.co_object.specs.declared.op.Op.TheVariants.{Call}
 use Rattle.co_object.specs.declared.reply.Reply.{Reply}
-use Rattle.co_object.specs.declared.reply.Reply.TheVariants.{Armed}
 use Rattle.co_object.specs.Arm.{cancel}
-use Rattle.co_object.specs.Callout.{call, step}
-use Rattle.co_object.specs.Entries.{is_armed}
 use Rattle.co_object.specs.Group.{off_of}
-use Rattle.co_object.specs.Stand.{Stand, Nowhere, Listed, Deferred, stand_of, stand, listed_cpu, is_free_at, off, is_idle}
+use Rattle.co_object.specs.Stand.{Listed, Deferred, stand_of, listed_cpu, is_free_at, off, is_idle}
 use Rattle.co_object.proofs.Changes.{Change, same, refused, armed, stopped, rested, awaits, cleared, retires, inits, drained, waits, held, fired, begun, over, change}
-use Rattle.co_object.proofs.Numbers.{same_number, same_itself}
+use Rattle.co_object.proofs.Numbers.{same_number}
 use Rattle.co_wheel.proofs.Calls.{Shift, stays, goes, comes, shift}
 use Rattle.co_wheel.specs.Call.{is_away, called, reply}
 use Rattle.co_service.specs.Desk.{IsAt}
@@ -57,11 +50,11 @@ free_both (Picked a) x y busy fx fy = sym (same_number a.cpu x fx) ∙ same_numb
 free_both (Cancelled n at) x y busy fx fy = sym (same_number at x fx) ∙ same_number at y fy
 free_both (Running n at) x y busy fx fy = sym (same_number at x fx) ∙ same_number at y fy
 
-none_off : (o : Option Arming) (r : Run) → o ≡ None → listed_cpu (stand_of o r) ≡ None
+pub none_off : (o : Option Arming) (r : Run) → o ≡ None → listed_cpu (stand_of o r) ≡ None
 none_off o r is = ap (λ (x : Option Arming). listed_cpu (stand_of x r)) is
 
 -- an arming that is listed is so at its own CPU, where the run is free
-some_off : (a : Arming) (r : Run) (x : ℕ) → listed_cpu (stand_of (Some a) r) ≡ Some x → (is_free_at r a.cpu ≡ true) × (x ≡ a.cpu)
+pub some_off : (a : Arming) (r : Run) (x : ℕ) → listed_cpu (stand_of (Some a) r) ≡ Some x → (is_free_at r a.cpu ≡ true) × (x ≡ a.cpu)
 some_off a r x is = at_test (is_free_at r a.cpu) refl is where
   at_test : (b : Bool) → is_free_at r a.cpu ≡ b → listed_cpu (cond b (Listed a.cpu) (Deferred a.cpu)) ≡ Some x → (is_free_at r a.cpu ≡ true) × (x ≡ a.cpu)
   at_test true e h = (e, cc)

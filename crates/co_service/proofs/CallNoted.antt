@@ -1,5 +1,5 @@
 -- The notes of a call beside its entry: what it took out of the queue, and what it put in.
-use Rattle.std.proofs.Common.{◌≡◌, ℕ, true, false, List, [], ◌∷◌, ◌++◌, map, refl, sym, ap, ◌∙◌, subst}
+use Rattle.std.proofs.Common.{◌≡◌, ℕ, true, false, List, [], ◌∷◌, ◌++◌, map, refl, sym, ◌∙◌}
 use Rattle.std.specs.Prelude.{is_some}
 use Rattle.std.specs.declared.option.Option.{Option}
 use Rattle.std.specs.declared.option.Option.TheVariants.{Some, None}
@@ -10,13 +10,13 @@ use Rattle.co_object.specs.declared.note.Place.TheVariants as at
 use Rattle.co_object.specs.declared.note.AnyEntry.TheVariants as of
 use Rattle.co_object.specs.declared.queue.QOp.TheVariants.{Insert, Remove}
 use Rattle.co_object.specs.declared.queue.QReply.TheVariants.{At, Off}
-use Rattle.co_object.specs.Group.{Placed, placed}
+use Rattle.co_object.specs.Group.{placed}
 use Rattle.co_object.specs.Journal.{step, reply_of}
 use Rattle.co_wheel.specs.Cpu.{Cpu}
 use Rattle.co_wheel.specs.Turns.{Turn, removal}
 use Rattle.co_service.specs.Params.{directs}
 use Rattle.co_service.specs.Books.{BooksView}
-use Rattle.co_service.specs.Call.{noted, removal_notes, insert_turns, insertion_notes}
+use Rattle.co_service.specs.Call.{noted, removal_notes, insertion_notes}
 use Rattle.co_service.specs.Desk.{Owes}
 use Rattle.co_service.specs.May.{queue_of}
 use Rattle.co_service.specs.Outcomes.{IsTurn, turn}

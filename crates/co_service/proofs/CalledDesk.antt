@@ -1,5 +1,5 @@
 -- What stands behind the lock after a section on one callout.
-use Rattle.std.proofs.Common.{◌≡◌, ◌≢◌, ℕ, zero, suc, ◌<◌, Bool, true, false, cond, List, [], ◌∷◌, ◌++◌, length, refl, sym, ap, ◌∙◌, subst, arith, get_or, length-set}
+use Rattle.std.proofs.Common.{◌≡◌, ◌≢◌, ℕ, zero, suc, ◌<◌, Bool, true, false, cond, List, [], ◌∷◌, ◌++◌, length, set, refl, sym, ap, ◌∙◌, subst, arith, get_or, length-set}
 use Rattle.std.specs.Prelude.{slice_set, slice_index_or}
 use Rattle.std.specs.declared.option.Option.{Option}
 use Rattle.std.specs.declared.option.Option.TheVariants.{Some, None}
@@ -60,15 +60,21 @@ here_at : (cpu : ℕ) (o : Option Alone) (a : Alone) → IsHere cpu o → o ≡ 
 here_at cpu None a h is = absurd (cc)
 here_at cpu (Some x) a h is = subst (IsAt cpu) (some_same x a is) h
 
-within_callout : (xs : List (Option Alone)) (i : ℕ) (a : Alone) → get_or xs i None ≡ Some a → i < length xs
+pub within_callout : (xs : List (Option Alone)) (i : ℕ) (a : Alone) → get_or xs i None ≡ Some a → i < length xs
 within_callout [] i a is = absurd (cc)
 within_callout (x ∷ xs) zero a is = omega arith
 within_callout (x ∷ xs) (suc i) a is = let h = within_callout xs i a is in omega arith
 
-within_history : (xs : List (Option (List Entry))) (i : ℕ) (H : List Entry) → slice_index_or xs i None ≡ Some H → i < length xs
+pub within_history : (xs : List (Option (List Entry))) (i : ℕ) (H : List Entry) → slice_index_or xs i None ≡ Some H → i < length xs
 within_history [] i H is = absurd (cc)
 within_history (x ∷ xs) zero H is = omega arith
 within_history (x ∷ xs) (suc i) H is = let h = within_history xs i H is in omega arith
+
+-- after an operation the callout is as its history with the entry says
+pub alone_then : (p : Params) (i : ℕ) (H : List Entry) (e : Entry) (s : State) (r : Reply) → step (spec_at p i) (state (spec_at p i) H) e.op ≡ Some (s, r) → record { spec = spec_at p i; state = s } ≡ alone_after p i (H ++ e ∷ [])
+alone_then p i H e s r is =
+    ap (λ (x : State). record { spec = spec_at p i; state = x })
+    (ap (λ (o : Option (State × Reply)). state_of o (state (spec_at p i) H)) (sym is) ∙ sym (state-snoc (next (spec_at p i)) (λ s f. Unit {0}) (opening 0) H e))
 
 -- a callout that answers is as its history with the entry says
 pub alone_next : (p : Params) (i : ℕ) (H : List Entry) (op : CallOp) (e : Entry) → e.op ≡ Call op → called (alone_after p i H) op ≡ alone_after p i (H ++ e ∷ [])
@@ -76,39 +82,40 @@ alone_next p i H op e is =
     ap (λ (s : State). record { spec = spec_at p i; state = s })
     (ap (λ (o : Op). state_of (step (spec_at p i) (state (spec_at p i) H) o) (state (spec_at p i) H)) (sym is) ∙ sym (state-snoc (next (spec_at p i)) (λ s f. Unit {0}) (opening 0) H e))
 
-module _ (w w' : Cpu) (b : BooksView) (i : ℕ) (H : List Entry) (of : IsOf w b) (st : Stand w b) (kept : history_at b i ≡ Some H) where
+module _ (w : Cpu) (b : BooksView) (i : ℕ) (H : List Entry) (st : Stand w b) (kept : history_at b i ≡ Some H) where
   pub there_now : callout w.callouts i ≡ Some (alone_after b.params i H)
   there_now = stands_there b.params i H (callout w.callouts i) (history_at b i) (st.each i) kept
 
   pub at_now : IsAt b.cpu (alone_after b.params i H)
   at_now = here_at b.cpu (callout w.callouts i) (alone_after b.params i H) (st.here i) there_now
 
-  module _ (a : Option Alone) (h : Option (List Entry)) (J : List QEntry) (c : w'.callouts ≡ with_callout w.callouts i a) (stands : StandsAs b.params i a h) (here : IsHere b.cpu a) where
-    abbrev after : BooksView
-    after = record b { timers = slice_set b.timers i h; journal = J }
+-- callout i is now this, here and in the books
+module _ (w w' : Cpu) (b : BooksView) (i : ℕ) (of : IsOf w b) (st : Stand w b) (below : i < length b.timers) (a : Option Alone) (h : Option (List Entry)) (J : List QEntry)
+    (c : w'.callouts.here ≡ set w.callouts.here i a) where
+  abbrev after : BooksView
+  after = record b { timers = slice_set b.timers i h; journal = J }
 
-    callout_here : callout w'.callouts i ≡ a
-    callout_here = ap (λ (x : Callouts). callout x i) c ∙ get_or-set_same w.callouts.here i a None (within_callout w.callouts.here i (alone_after b.params i H) there_now)
+  callout_here : callout w'.callouts i ≡ a
+  callout_here = ap (λ (x : List (Option Alone)). get_or x i None) c ∙ get_or-set_same w.callouts.here i a None (subst (λ (n : ℕ). i < n) (sym of.size) below)
 
-    callout_else : (j : ℕ) → j ≢ i → callout w'.callouts j ≡ callout w.callouts j
-    callout_else j away = ap (λ (x : Callouts). callout x j) c ∙ get_or-set_other w.callouts.here i j a None away
+  callout_else : (j : ℕ) → j ≢ i → callout w'.callouts j ≡ callout w.callouts j
+  callout_else j away = ap (λ (x : List (Option Alone)). get_or x j None) c ∙ get_or-set_other w.callouts.here i j a None away
 
-    -- callout i is now this, here and in the books
-    pub stand_after : Stand w' after
-    stand_after = record {
-      each = λ j. dite (ℕ_discrete j i)
-          (λ same. subst (λ (n : ℕ). StandsAs b.params n (callout w'.callouts n) (history_at after n)) (sym same)
-          (subst (λ (t : Option Alone × Option (List Entry)). StandsAs b.params i t.0 t.1) (λ d. (sym callout_here d, sym (index_set b.timers i h None (within_history b.timers i H kept)) d)) stands))
-          (λ away. subst (λ (t : Option Alone × Option (List Entry)). StandsAs b.params j t.0 t.1) (λ d. (sym (callout_else j away) d, sym (index_else b.timers i j h None away) d)) (st.each j));
-      here = λ j. dite (ℕ_discrete j i)
-          (λ same. subst (λ (n : ℕ). IsHere b.cpu (callout w'.callouts n)) (sym same) (subst (IsHere b.cpu) (sym callout_here) here))
-          (λ away. subst (IsHere b.cpu) (sym (callout_else j away)) (st.here j));
-    }
+  pub stand_after : StandsAs b.params i a h → IsHere b.cpu a → Stand w' after
+  stand_after stands here = record {
+    each = λ j. dite (ℕ_discrete j i)
+        (λ same. subst (λ (n : ℕ). StandsAs b.params n (callout w'.callouts n) (history_at after n)) (sym same)
+        (subst (λ (t : Option Alone × Option (List Entry)). StandsAs b.params i t.0 t.1) (λ d. (sym callout_here d, sym (index_set b.timers i h None below) d)) stands))
+        (λ away. subst (λ (t : Option Alone × Option (List Entry)). StandsAs b.params j t.0 t.1) (λ d. (sym (callout_else j away) d, sym (index_else b.timers i j h None away) d)) (st.each j));
+    here = λ j. dite (ℕ_discrete j i)
+        (λ same. subst (λ (n : ℕ). IsHere b.cpu (callout w'.callouts n)) (sym same) (subst (IsHere b.cpu) (sym callout_here) here))
+        (λ away. subst (IsHere b.cpu) (sym (callout_else j away)) (st.here j));
+  }
 
-    pub of_changed : (turns : List Turn) → Turns w turns w' → IsOf w' after
-    of_changed turns ts = record {
-      cpu = ap (λ (x : Callouts). x.cpu) c ∙ of.cpu;
-      size = ap (λ (x : Callouts). length x.here) c ∙ (length-set w.callouts.here i a ∙ (of.size ∙ sym (length-set b.timers i h)));
-      buckets = ts.buckets ∙ of.buckets;
-      direct = ts.direct ∙ of.direct;
-    }
+  pub of_changed : (turns : List Turn) → Turns w turns w' → w'.callouts.cpu ≡ w.callouts.cpu → IsOf w' after
+  of_changed turns ts same = record {
+    cpu = same ∙ of.cpu;
+    size = ap length c ∙ (length-set w.callouts.here i a ∙ (of.size ∙ sym (length-set b.timers i h)));
+    buckets = ts.buckets ∙ of.buckets;
+    direct = ts.direct ∙ of.direct;
+  }

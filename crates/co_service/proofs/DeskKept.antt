@@ -1,11 +1,9 @@
 -- What stands behind a lock after its wheel has changed and its books have been written.
-use Rattle.std.proofs.Common.{◌≡◌, ℕ, ◌+◌, ◌≤◌, Bool, true, false, cond, List, [], ◌∷◌, ◌++◌, length, refl, sym, ap, ◌∙◌, subst, arith, length-append}
+use Rattle.std.proofs.Common.{◌≡◌, ℕ, ◌+◌, ◌≤◌, Bool, cond, List, [], ◌∷◌, ◌++◌, length, refl, sym, ap, ◌∙◌, subst, arith, length-append}
 use Rattle.std.proofs.lemmas.List.Sums.{sum_by-append}
 use Rattle.co_object.specs.declared.note.QEntry.{QEntry}
 use Rattle.co_object.specs.declared.queue.QOp.{QOp}
 use Rattle.co_object.specs.declared.queue.QOp.TheVariants.{Scan}
-use Rattle.co_object.specs.declared.queue.QReply.{QReply}
-use Rattle.co_object.specs.declared.queue.QReply.TheVariants.{Count}
 use Rattle.co_object.specs.Journal as journal
 use Rattle.co_object.specs.Queue.{Queue, empty_queue}
 use Rattle.co_object.proofs.Histories.{state-snoc}
@@ -15,7 +13,7 @@ use Rattle.co_wheel.specs.Turns.{Shows, Takes, Turn, Turns}
 use Rattle.co_service.specs.Params.{directs}
 use Rattle.co_service.specs.Books.{BooksView, history_at}
 use Rattle.co_service.specs.May.{queue_of}
-use Rattle.co_service.specs.Desk.{StandsAs, IsHere, is_scan, scans_in, IsOf, Stand, Owes, IsDesk}
+use Rattle.co_service.specs.Desk.{StandsAs, IsHere, is_scan, scans_in, IsOf, Owes, IsDesk}
 
 -- the books with one entry more in the journal
 abbrev pub with_turn : BooksView → QEntry → BooksView
@@ -45,6 +43,10 @@ scan_weight e = cond (is_scan e.op) 1 0
 scans-append : (J : List QEntry) (e : QEntry) → scans_in (J ++ e ∷ []) ≡ scans_in J + scans_in (e ∷ [])
 scans-append J e = sum_by-append scan_weight J (e ∷ [])
 
+-- an entry more takes no Scan away
+pub scans_more : (b : BooksView) (e : QEntry) → scans_in b.journal ≤ scans_in (with_turn b e).journal
+scans_more b e = let more = scans-append b.journal e in omega arith
+
 one_scan : (e : QEntry) (now : ℕ) → e.op ≡ Scan now → scans_in (e ∷ []) ≡ 1
 one_scan e now is = let h : scan_weight e ≡ 1 = ap (λ (o : QOp). cond (is_scan o) 1 0) is in omega arith
 
@@ -65,3 +67,10 @@ snoc_same [] [] x e = refl
 snoc_same [] (y ∷ ys) x e = let n = ap length e in let m = length-append ys (x ∷ []) in absurd (omega arith)
 snoc_same (a ∷ xs) [] x e = let n = ap length e in let m = length-append xs (x ∷ []) in absurd (omega arith)
 snoc_same (a ∷ xs) (b ∷ ys) x e = let rest : xs ++ x ∷ [] ≡ ys ++ x ∷ [] = cc in let first : a ≡ b = cc in let h = snoc_same xs ys x rest in cc
+
+-- what stands before the last entry
+pub snoc_front : {A : Type 0} (xs ys : List A) (x y : A) → xs ++ x ∷ [] ≡ ys ++ y ∷ [] → xs ≡ ys
+snoc_front [] [] x y e = refl
+snoc_front [] (b ∷ ys) x y e = let n = ap length e in let m = length-append ys (y ∷ []) in absurd (omega arith)
+snoc_front (a ∷ xs) [] x y e = let n = ap length e in let m = length-append xs (x ∷ []) in absurd (omega arith)
+snoc_front (a ∷ xs) (b ∷ ys) x y e = let rest : xs ++ x ∷ [] ≡ ys ++ y ∷ [] = cc in let first : a ≡ b = cc in let h = snoc_front xs ys x y rest in cc

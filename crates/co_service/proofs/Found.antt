@@ -1,5 +1,5 @@
 -- A pass at its place in an actor's list.
-use Rattle.std.proofs.Common.{◌≡◌, ℕ, List, [], map, set, Option, Some, refl, sym, ap, ◌∙◌}
+use Rattle.std.proofs.Common.{◌≡◌, ℕ, List, [], map, set, Option, Some, sym, ap, ◌∙◌}
 use Rattle.std.specs.Prelude.{slice_get, slice_index_or}
 use Rattle.std.specs.List.{All}
 use Rattle.co_life.specs.Identity.{LifeId}

@@ -6,6 +6,7 @@ pub mod PassesKept
 pub mod BooksKept
 pub mod BooksWritten
 pub mod Serving
+pub mod Lanes
 pub mod Noting
 pub mod Looking
 pub mod DeskKept
@@ -14,4 +15,18 @@ pub mod CallKept
 pub mod CallNoted
 pub mod CalledDesk
 pub mod CallGroup
+pub mod CallArming
+pub mod CallJoined
+pub mod Departing
+pub mod CallSection
+pub mod ServedDesk
+pub mod NextSection
+pub mod ServiceSection
+pub mod EndSection
+pub mod MetDesk
+pub mod WholeCall
+pub mod LandSection
 pub mod Signing
+pub mod Joined
+pub mod Coming
+pub mod FirstDesk

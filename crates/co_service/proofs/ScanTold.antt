@@ -1,15 +1,12 @@
 -- What a scan on a desk tells its caller.
-use Rattle.std.proofs.Common.{◌≡◌, ℕ, ◌+◌, Bool, List, [], ◌∷◌, ◌++◌, length, refl, sym, ap, ◌∙◌, subst, arith}
-use Rattle.std.specs.Prelude.{slice_index_or}
+use Rattle.std.proofs.Common.{◌≡◌, ℕ, List, [], ◌∷◌, ◌++◌, sym, ap, ◌∙◌, subst}
 use Rattle.co_object.specs.declared.note.QEntry.{QEntry}
-use Rattle.co_object.specs.declared.note.Note.{Note}
 use Rattle.co_object.specs.declared.queue.QOp.TheVariants.{Scan}
 use Rattle.co_object.specs.declared.queue.QReply.TheVariants.{Count}
 use Rattle.co_object.specs.Journal.{queue}
 use Rattle.co_bucket.specs.Visits.{looks_at_visited}
 use Rattle.co_wheel.specs.Cpu.{Cpu}
 use Rattle.co_service.specs.declared.outs.Scanned.{Scanned}
-use Rattle.co_service.specs.declared.params.Params.{Params}
 use Rattle.co_service.specs.Params.{directs}
 use Rattle.co_service.specs.Views.{PassesView, journal_seen}
 use Rattle.co_service.specs.Writes.{WritesCpu}

@@ -1,5 +1,5 @@
 -- What is in service is decided by the entries of the one actor that serves.
-use Rattle.std.proofs.Common.{◌≡◌, ◌≢◌, ℕ, ◌+◌, ◌==◌, ◌&&◌, Bool, true, false, cond, List, [], ◌∷◌, refl, sym, ap, ◌∙◌, subst, arith}
+use Rattle.std.proofs.Common.{◌≡◌, ℕ, ◌==◌, ◌&&◌, Bool, true, false, cond, List, [], ◌∷◌, refl, sym, ap, ◌∙◌, subst, arith}
 use Rattle.std.specs.Prelude.{is_some}
 use Rattle.std.specs.List.{fold}
 use Rattle.std.specs.declared.option.Option.{Option}
@@ -14,10 +14,8 @@ use Rattle.co_object.specs.declared.note.QEntry.{QEntry}
 use Rattle.co_object.specs.declared.op.CallOp.{CallOp}
 use Rattle.co_object.specs.declared.op.Op.{Op}
 use Rattle.co_object.specs.declared.op.Op.TheVariants.{Call, Run as Serve}
-use Rattle.co_object.specs.declared.op.RunOp.{RunOp}
 use Rattle.co_object.specs.declared.op.RunOp.TheVariants.{Pick, Begin, End}
 use Rattle.co_object.specs.declared.reply.Reply.{Reply}
-use Rattle.co_object.specs.declared.reply.Reply.TheVariants.{Hold, Go}
 use Rattle.co_object.specs.declared.queue.QOp.{QOp}
 use Rattle.co_object.specs.declared.queue.QOp.TheVariants.{Insert, Remove, Scan, Pop, Free, PopDirect, FreeDirect}
 use Rattle.co_object.specs.declared.queue.QReply.{QReply}
@@ -30,7 +28,7 @@ use Rattle.co_object.specs.History.{next, May, state, state_of, reply_of, server
 use Rattle.co_object.specs.Journal as journal
 use Rattle.co_object.specs.Machine.{IsLegalFrom}
 use Rattle.co_object.specs.Queue.{Queue, Due, empty_queue}
-use Rattle.co_object.specs.Serve.{begin, begin_run, end, end_run, pick, pick_armed}
+use Rattle.co_object.specs.Serve.{begin, begin_run, end, end_run}
 use Rattle.co_object.proofs.Changes.{Change, same, refused, armed, stopped, rested, awaits, cleared, retires, inits, drained, waits, held, fired, over, change, both_true}
 use Rattle.co_object.proofs.Changes as changes
 use Rattle.co_object.proofs.Numbers.{same_number, same_itself}
@@ -42,7 +40,7 @@ use Rattle.co_service.specs.Serving.{served, served_from, served_in, lane_actor,
 -- ---- the CPU
 
 module _ (m : ℕ) (direct : List Bool) where
-  slot_after : (lane : Bool) (q : Queue) (op : QOp) (r : QReply) (t : Queue) → QChange m direct q op r t → slot lane t ≡ served lane (slot lane q) op r
+  pub slot_after : (lane : Bool) (q : Queue) (op : QOp) (r : QReply) (t : Queue) → QChange m direct q op r t → slot lane t ≡ served lane (slot lane q) op r
   slot_after false q op r t (inserts i n at free) = refl
   slot_after false q op r t (removes i stood) = refl
   slot_after false q op r t (misses i) = refl

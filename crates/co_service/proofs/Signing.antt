@@ -1,14 +1,14 @@
 -- The opening entries of a place, and the passes of the actors that made them.
-use Rattle.std.proofs.Common.{◌≡◌, ◌≢◌, ℕ, zero, suc, ◌+◌, ◌<◌, ◌≤◌, List, [], ◌∷◌, ◌++◌, length, map, set, refl, sym, ap, ◌∙◌, subst, arith, length-set, length-append}
+use Rattle.std.proofs.Common.{◌≡◌, ℕ, zero, suc, ◌+◌, ◌<◌, List, [], ◌∷◌, ◌++◌, length, set, refl, sym, ap, ◌∙◌, subst, arith, length-set, length-append}
 use Rattle.std.specs.Prelude.{slice_index_or, slice_get}
-use Rattle.std.specs.declared.option.Option.TheVariants.{Some, None}
+use Rattle.std.specs.declared.option.Option.TheVariants.{Some}
 use mathlib.Core.Logic.{dite}
 use native.Mathlib.Decide.{ℕ_discrete}
 use Rattle.co_life.specs.Identity.{LifeId}
 use Rattle.co_service.specs.declared.params.Params.{Params}
 use Rattle.co_service.specs.declared.line.Line.{Line}
 use Rattle.co_service.specs.declared.line.Line.TheVariants.{Opening, Made}
-use Rattle.co_service.specs.Lines.{made, openings, opening_of, AllCarry}
+use Rattle.co_service.specs.Lines.{made, openings, AllCarry}
 use Rattle.co_life.specs.Views.{KeeperView}
 use Rattle.co_service.specs.Seats.{SeatsView, fresh_seats}
 use Rattle.co_service.specs.Booted.{IsOpened, IsSeated, AreSeatedAt, AreSeated, seats_at, IsReady, ArePlaces}

@@ -1,5 +1,5 @@
 -- What a write in a shared history leaves: the keeper of its place, and the passes of the actor that made it.
-use Rattle.std.proofs.Common.{◌≡◌, ◌≢◌, ℕ, zero, suc, ◌+◌, ◌-◌, ◌<◌, ◌≤◌, ◌^◌, List, [], ◌∷◌, ◌++◌, length, map, set, Option, Some, None, refl, sym, ap, ◌∙◌, subst, arith, length-append, length-set}
+use Rattle.std.proofs.Common.{◌≡◌, ℕ, zero, suc, ◌-◌, ◌<◌, ◌^◌, List, [], ◌∷◌, ◌++◌, length, map, set, Some, refl, sym, ap, ◌∙◌, subst, arith, length-append, length-set}
 use Rattle.std.specs.Prelude.{slice_get, slice_set, slice_index_or}
 use Rattle.std.specs.List.{All}
 use mathlib.Core.Logic.{dite}
@@ -10,13 +10,13 @@ use Rattle.co_life.specs.Rule.{capped}
 use Rattle.co_life.specs.Views.{KeeperView}
 use Rattle.co_service.specs.declared.params.Params.{Params}
 use Rattle.co_service.specs.declared.line.Line.{Line}
-use Rattle.co_service.specs.declared.line.Line.TheVariants.{Opening, Made}
+use Rattle.co_service.specs.declared.line.Line.TheVariants.{Made}
 use Rattle.co_service.specs.Params.{actor_count}
-use Rattle.co_service.specs.Lines.{actor_in, made, openings, opening_of, AllCarry, IsStory}
+use Rattle.co_service.specs.Lines.{actor_in, made, opening_of, IsStory}
 use Rattle.co_service.specs.Seats.{SeatsView, seen_at}
 use Rattle.co_service.specs.Views.{AreOpened, IsKeeperOf}
 use Rattle.co_service.specs.Writes.{Adds}
-use Rattle.co_service.proofs.Items.{set_map, get_or_of, get_set, get_else, index_set, index_else}
+use Rattle.co_service.proofs.Items.{set_map, index_set, index_else}
 use Rattle.co_service.proofs.Entries.{made-append, length-made, carry-made, openings-made, opening-longer, extends_made, all_made, placed}
 
 pub index-map : {A B : Type 0} (f : A → B) (xs : List A) (i : ℕ) (d : A) → slice_index_or (map f xs) i (f d) ≡ f (slice_index_or xs i d)

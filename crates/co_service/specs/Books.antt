@@ -1,5 +1,5 @@
 -- What a desk's books hold: the journal of its CPU, and the histories of the callouts that stand there.
-use Rattle.std.specs.Prelude.{◌≡◌, ℕ, Bool, List, [], ◌∷◌, ◌++◌, length, map, is_some, slice_index_or, slice_set}
+use Rattle.std.specs.Prelude.{ℕ, Bool, List, [], map, is_some, slice_index_or, slice_set}
 use Rattle.std.specs.declared.option.Option.{Option}
 use Rattle.std.specs.declared.option.Option.TheVariants.{Some, None}
 use Rattle.co_life.specs.Identity.{LifeId}

@@ -1,16 +1,25 @@
 -- What boot makes, place by place.
-use Rattle.std.specs.Prelude.{◌≡◌, ℕ, ◌<◌, ◌≤◌, List, [], ◌∷◌, ◌++◌, length, map, slice_get, slice_index_or}
-use Rattle.std.specs.declared.option.Option.TheVariants.{Some}
+use Rattle.std.specs.Prelude.{◌≡◌, ℕ, ◌<◌, ◌≤◌, List, [], ◌++◌, length, map, slice_get, slice_index_or, ◌==◌, get_or, if◌then◌else◌}
+use Rattle.std.specs.declared.option.Option.TheVariants.{Some, None}
+use Rattle.std.specs.declared.option.Option.{Option}
 use Rattle.co_life.specs.Identity.{LifeId}
 use Rattle.co_life.specs.Views.{KeeperView}
+use Rattle.co_object.specs.declared.alone.Alone.{Alone}
+use Rattle.co_object.specs.declared.note.Entry.{Entry}
+use Rattle.co_object.specs.declared.note.QEntry.{QEntry}
+use Rattle.co_object.specs.declared.spec.Spec.{Spec}
+use Rattle.co_object.specs.Callout.{opening}
+use Rattle.co_queue.specs.Timers.{empty_timers}
+use Rattle.co_wheel.specs.Cpu.{Cpu}
 use Rattle.co_service.specs.declared.params.Params.{Params}
 use Rattle.co_service.specs.declared.line.Line.{Line}
 use Rattle.co_service.specs.declared.line.Line.TheVariants.{Opening, Made}
 use Rattle.co_service.specs.Name.{ServiceName}
-use Rattle.co_service.specs.Params.{actor_count}
+use Rattle.co_service.specs.Params.{actor_count, directs, no_spec}
 use Rattle.co_service.specs.Lines.{made, openings, opening_of, AllCarry}
 use Rattle.co_service.specs.Seats.{SeatsView, fresh_seats}
 use Rattle.co_service.specs.Views.{PassesView}
+use Rattle.co_service.specs.Books.{AreBooks, kept_of}
 
 module _ {E : Type 0} where
   -- the first n actors have made their opening entries, and nothing else was made
@@ -45,6 +54,11 @@ module _ {E : Type 0} where
     pub ahead : (k : ℕ) → k < done → AreSeatedAt p (name ++ more) k (seats_at all k)
     pub behind : (k : ℕ) → done ≤ k → k < n → AreSeatedAt p name k (seats_at all k)
 
+  -- the actors from `done` on still have their passes of these places
+  pub record AreLeft (p : Params) (name : List LifeId) (n done : ℕ) (all : List (SeatsView (Line E))) : Type 0 where
+    pub count : length all ≡ n
+    pub left : (k : ℕ) → done ≤ k → k < n → AreSeatedAt p name k (seats_at all k)
+
 module _ {E : Type 0} where
   -- the keeper of place i, where all actors have made their opening entries
   pub record IsReady (p : Params) (actors i : ℕ) (lives : List LifeId) (k : KeeperView (Line E)) : Type 0 where
@@ -67,3 +81,34 @@ booted name p a = record { name = name; params = p; actor = a; timers = map (λ 
 pub record AreBooted (name : ServiceName) (p : Params) (all : List PassesView) : Type 0 where
   pub count : length all ≡ actor_count p
   pub each : (j : ℕ) → j < actor_count p → slice_get all j ≡ Some (booted name p j)
+
+-- a callout before the first call
+abbrev pub new_callout : Spec → Option Alone
+new_callout spec = Some (record { spec = spec; state = opening 0 })
+
+-- the callouts below k are at a wheel, and no others
+pub record AreCome (specs : List Spec) (k : ℕ) (here : List (Option Alone)) : Type 0 where
+  pub count : length here ≡ length specs
+  pub come : (i : ℕ) → i < k → get_or here i None ≡ new_callout (slice_index_or specs i no_spec)
+  pub missing : (i : ℕ) → k ≤ i → get_or here i None ≡ None
+
+-- the callouts of a CPU: all begin at CPU 0
+abbrev pub come_to : ℕ → List Spec → ℕ
+come_to cpu specs = if cpu == 0 then length specs else 0
+
+-- the wheel of a CPU before the first call
+pub record IsFirst (p : Params) (cpu : ℕ) (w : Cpu) : Type 0 where
+  pub come : AreCome p.specs (come_to cpu p.specs) w.callouts.here
+  pub cpu_is : w.callouts.cpu ≡ cpu
+  pub serving : w.callouts.serving ≡ None
+  pub directing : w.callouts.directing ≡ None
+  pub timers : w.timers ≡ empty_timers (length p.specs) p.buckets (directs p)
+
+-- what a CPU has before the first call: its wheel, and keepers of the service in whose histories no call has made an entry
+pub record IsBench (name : ServiceName) (p : Params) (cpu : ℕ) (w : Cpu) (keepers : List (Option (KeeperView (Line Entry)))) (journal : KeeperView (Line QEntry)) : Type 0 where
+  pub wheel : IsFirst p cpu w
+  pub books : AreBooks name p cpu keepers journal
+  pub size : length keepers ≡ length p.specs
+  pub come : (i : ℕ) → i < come_to cpu p.specs → kept_of (slice_index_or keepers i None) ≡ Some []
+  pub missing : (i : ℕ) → come_to cpu p.specs ≤ i → kept_of (slice_index_or keepers i None) ≡ None
+  pub nothing : made journal.history ≡ []

@@ -1,5 +1,5 @@
 -- A caller's operation, section by section.
-use Rattle.std.specs.Prelude.{◌≡◌, ℕ, List, [], ◌∷◌, ◌++◌, map}
+use Rattle.std.specs.Prelude.{◌≡◌, ℕ, List, [], ◌∷◌, ◌++◌, map, ◌<◌}
 use Rattle.std.specs.declared.option.Option.{Option}
 use Rattle.std.specs.declared.option.Option.TheVariants.{Some, None}
 use Rattle.co_object.specs.declared.note.Entry.{Entry}
@@ -7,16 +7,17 @@ use Rattle.co_object.specs.declared.note.Note.{Note}
 use Rattle.co_object.specs.declared.note.Place.TheVariants as at
 use Rattle.co_object.specs.declared.note.AnyEntry.TheVariants as of
 use Rattle.co_object.specs.declared.op.CallOp.{CallOp}
-use Rattle.co_object.specs.declared.op.CallOp.TheVariants.{Plain, DrainTry}
+use Rattle.co_object.specs.declared.op.CallOp.TheVariants.{Plain}
 use Rattle.co_object.specs.declared.op.PlainOp.TheVariants.{Reset, Schedule}
 use Rattle.co_object.specs.declared.op.Op.TheVariants.{Call}
 use Rattle.co_object.specs.declared.reply.Reply.{Reply}
+use Rattle.co_object.specs.declared.reply.Reply.TheVariants.{Armed}
 use Rattle.co_object.specs.declared.queue.QOp.TheVariants.{Insert, Remove}
 use Rattle.co_object.specs.declared.queue.QReply.TheVariants.{At, Off}
-use Rattle.co_object.specs.declared.state.Arming.{Arming}
-use Rattle.co_object.specs.Group.{Placed, placed, group}
+use Rattle.co_object.specs.Group.{Placed, placed, off_of, group}
 use Rattle.co_object.specs.History.{state}
-use Rattle.co_wheel.specs.Turns.{Turn}
+use Rattle.co_wheel.specs.Parcel.{Parcel}
+use Rattle.co_wheel.specs.Turns.{Turn, removal}
 use Rattle.co_service.specs.Params.{spec_at}
 use Rattle.co_service.specs.Views.{PassesView, seen_of}
 use Rattle.co_service.specs.Writes.{Writes}
@@ -40,6 +41,11 @@ pub record Target : Type 0 where
   pub n : ℕ
   pub due : ℕ
 
+-- where what leaves a wheel goes
+abbrev pub target_in : Option Parcel → Option Target
+target_in None = None
+target_in (Some q) = Some (record { cpu = q.arming.cpu; n = q.arming.n; due = q.arming.due })
+
 -- the Insert of callout i at its target, as the queue there will answer it
 abbrev pub landing : PassesView → (act i : ℕ) → Option Target → ℕ → List Placed
 landing p act i None time = []
@@ -61,11 +67,32 @@ pub record IsAnswer (p : PassesView) (act i : ℕ) (op : CallOp) (reply : Reply)
   pub group_but : IsGroupBut p act i op reply leaves notes q
   pub written : Writes p notes q
 
+-- a call with its landing: its notes are its group. `time` is the answer to an Insert among them
+pub record IsCalled (p : PassesView) (act i : ℕ) (op : CallOp) (reply : Reply) (notes : List Note) (q : PassesView) : Type 0 where
+  pub time : ℕ
+  pub group_is : map placed notes ≡ group i (call_entry p act op reply) (state (spec_at p.params i) (seen_of q i)) time
+  pub written : Writes p notes q
+
+-- the last note is still free
+abbrev pub HasRoom : List (Option Note) → Type 0
+HasRoom notes = (first : Option Note) × (second : Option Note) × (notes ≡ first ∷ second ∷ None ∷ [])
+
+-- a CPU that an operation names exists
+abbrev pub NamesCpu : ℕ → CallOp → Type 0
+NamesCpu cpus (Plain (Reset due prec func arg (Some cpu))) = cpu < cpus
+NamesCpu cpus (Plain (Schedule due prec (Some cpu))) = cpu < cpus
+NamesCpu cpus _ = Unit {0}
+
 -- the due time that an operation names
 abbrev pub due_in : CallOp → ℕ
 due_in (Plain (Reset due prec func arg cpu)) = due
 due_in (Plain (Schedule due prec cpu)) = due
 due_in _ = 0
+
+-- the number of the arming that a reply accepts
+abbrev pub number_in : Reply → ℕ
+number_in (Armed code n cpu off) = n
+number_in _ = 0
 
 -- what a call took out of a queue
 abbrev pub removal_notes : ℕ → Entry → Option ℕ → List Placed
@@ -80,3 +107,14 @@ insert_turns i n due (Some time) = (Insert i n due, At time) ∷ []
 abbrev pub insertion_notes : PassesView → (act cpu i n due : ℕ) → Option ℕ → List Placed
 insertion_notes p act cpu i n due None = []
 insertion_notes p act cpu i n due (Some time) = (at.Cpu cpu, of.Cpu (record { actor = p.actor; act = act; op = Insert i n due; reply = At time })) ∷ []
+
+-- what a call asks of the queue
+abbrev pub call_turns : ℕ → CallOp → Reply → Option ℕ → List Turn
+call_turns i op reply inserted = removal i (off_of reply) ++ insert_turns i (number_in reply) (due_in op) inserted
+
+-- the notes of a call's section on its callout's CPU
+abbrev pub section_notes : PassesView → (act cpu i : ℕ) → CallOp → Reply → Option ℕ → List Placed
+section_notes p act cpu i op reply inserted =
+    removal_notes i (call_entry p act op reply) (off_of reply)
+    ++ ((at.Timer i, of.Timer (call_entry p act op reply)) ∷ [])
+    ++ insertion_notes p act cpu i (number_in reply) (due_in op) inserted

@@ -12,4 +12,5 @@ pub mod Desk
 pub mod Outcomes
 pub mod Call
 pub mod Moving
+pub mod Services
 pub mod Booted

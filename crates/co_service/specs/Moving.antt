@@ -13,6 +13,7 @@ use Rattle.co_service.specs.Params.{nothing}
 use Rattle.co_service.specs.Lines.{made, opening_of}
 use Rattle.co_service.specs.Stories.{IsHistory}
 use Rattle.co_service.specs.Views.{IsKeeperOf}
+use Rattle.co_service.specs.Books.{BooksView, entries_at, is_kept, with_history}
 use Rattle.co_service.specs.Desk.{alone_after}
 use Rattle.co_service.specs.Call.{Target}
 
@@ -43,3 +44,34 @@ pub record IsMoving (name : ServiceName) (parcel : Parcel) (keeper : KeeperView 
   pub armed : parcel.callout.state.armed ≡ Some parcel.arming
   pub number : n ≡ parcel.arming.n
   pub due_is : due ≡ parcel.arming.due
+
+-- a callout that leaves a desk: its state is what its history gives, no service has it, and it is armed with arming n
+pub record Departs (b : BooksView) (n due : ℕ) (parcel : Parcel) : Type 0 where
+  pub here : is_kept b parcel.i ≡ true
+  pub callout : parcel.callout ≡ alone_after b.params parcel.i (entries_at b parcel.i)
+  pub idle : is_idle parcel.callout.state.run ≡ true
+  pub armed : parcel.callout.state.armed ≡ Some parcel.arming
+  pub number : n ≡ parcel.arming.n
+  pub due_is : due ≡ parcel.arming.due
+
+abbrev pub MayDepart : BooksView → (n due : ℕ) → Option Parcel → Type 0
+MayDepart b n due None = Unit {0}
+MayDepart b n due (Some q) = Departs b n due q
+
+-- the books without what leaves
+abbrev pub departed : BooksView → Option Parcel → BooksView
+departed b None = b
+departed b (Some q) = with_history b q.i None
+
+abbrev pub moving_from : BooksView → (n due : ℕ) → Option Parcel → Option MovingView
+moving_from b n due None = None
+moving_from b n due (Some q) = Some (record { params = b.params; i = q.i; history = entries_at b q.i; target = record { cpu = q.arming.cpu; n = n; due = due } })
+
+abbrev pub target_of : Option MovingView → Option Target
+target_of None = None
+target_of (Some m) = Some m.target
+
+-- what leaves is callout i of this service
+abbrev pub IsOfService : Params → ℕ → Option MovingView → Type 0
+IsOfService p i None = Unit {0}
+IsOfService p i (Some m) = (m.params ≡ p) × (m.i ≡ i)

@@ -1,5 +1,5 @@
 -- What is fixed of a service.
-use Rattle.std.specs.Prelude.{◌≡◌, ℕ, ◌+◌, ◌*◌, ◌≤◌, ◌⊎◌, ◌==◌, Bool, false, List, [], length, map, slice_index_or, if◌then◌else◌}
+use Rattle.std.specs.Prelude.{◌≡◌, ℕ, ◌+◌, ◌≤◌, ◌⊎◌, ◌==◌, Bool, false, List, [], length, map, slice_index_or, if◌then◌else◌}
 use Rattle.std.specs.List.{All}
 use Rattle.co_object.specs.declared.spec.Spec.{Spec}
 use Rattle.co_object.specs.declared.spec.LockUse.TheVariants.{Free}

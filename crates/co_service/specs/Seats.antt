@@ -1,9 +1,9 @@
 -- One actor's passes of many places, and the lives of these places.
-use Rattle.std.specs.Prelude.{◌≡◌, ℕ, ◌<◌, ◌≤◌, List, [], ◌∷◌, ◌++◌, length, map, Option, Some, None, refl, slice_get, slice_index_or}
+use Rattle.std.specs.Prelude.{◌≡◌, ℕ, List, [], map, Option, Some, None, refl, slice_index_or}
 use Rattle.std.specs.Coded.{Coded, code_by, coded×, coded_ℕ, coded_list}
 use Rattle.co_life.specs.Identity.{LifeId, life_coded}
 use Rattle.co_life.specs.Seen.{own, StartsWith}
-use Rattle.co_life.specs.Views.{KeeperView, PassView}
+use Rattle.co_life.specs.Views.{PassView}
 
 -- the places' lives, the actor, and what it has seen of each place
 pub record SeatsView (E : Type 0) : Type 0 where

@@ -11,7 +11,7 @@ use Rattle.co_object.specs.declared.op.RunOp.TheVariants.{Pick, Begin, End}
 use Rattle.co_object.specs.declared.reply.Reply.{Reply}
 use Rattle.co_object.specs.declared.reply.Reply.TheVariants.{Hold}
 use Rattle.co_object.specs.declared.queue.QOp.{QOp}
-use Rattle.co_object.specs.declared.queue.QOp.TheVariants.{Insert, Remove, Scan, Pop, Free, PopDirect, FreeDirect}
+use Rattle.co_object.specs.declared.queue.QOp.TheVariants.{Pop, Free, PopDirect, FreeDirect}
 use Rattle.co_object.specs.declared.queue.QReply.{QReply}
 use Rattle.co_object.specs.declared.queue.QReply.TheVariants.{Got}
 use Rattle.co_object.specs.Queue.{Queue, Due}

@@ -1,5 +1,5 @@
 -- What contracts see of the service's values.
-use Rattle.std.specs.Prelude.{◌≡◌, ℕ, ◌<◌, ◌≤◌, ◌+◌, ◌^◌, List, [], map, length, Option, Some, None, slice_get, slice_index_or}
+use Rattle.std.specs.Prelude.{◌≡◌, ℕ, ◌<◌, ◌≤◌, ◌^◌, List, [], map, length, Some, slice_get, slice_index_or}
 use Rattle.co_life.specs.Identity.{LifeId}
 use Rattle.co_life.specs.Views.{KeeperView}
 use Rattle.co_object.specs.declared.note.Entry.{Entry}

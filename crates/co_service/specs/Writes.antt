@@ -1,5 +1,5 @@
 -- What one entry does to the passes of the actor that makes it.
-use Rattle.std.specs.Prelude.{◌≡◌, ℕ, ◌+◌, ◌<◌, List, [], ◌∷◌, ◌++◌, length, slice_set}
+use Rattle.std.specs.Prelude.{◌≡◌, ℕ, ◌+◌, ◌<◌, List, [], ◌∷◌, length, slice_set}
 use Rattle.std.specs.List.{All}
 use Rattle.co_life.specs.Seen.{Extends}
 use Rattle.co_object.specs.declared.note.Entry.{Entry}

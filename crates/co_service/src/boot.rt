@@ -88,7 +88,7 @@ fn empty_seats<E: Drop, S: Story<Entry = Line<E>>>(
 }
 
 /// Appends an item.
-fn push<T: Drop>(items: &mut Vec<T>, item: T) -> Result<(), NoMemory>
+pub(crate) fn push<T: Drop>(items: &mut Vec<T>, item: T) -> Result<(), NoMemory>
     ensures { OnOk result (items.new.items ≡ items.old.items ++ item ∷ []) }
 {
     match items.push(item) {

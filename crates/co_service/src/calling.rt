@@ -1,5 +1,5 @@
 //! What a call writes in the books of a desk.
-ghost use Rattle.std.specs.Prelude.{◌≡◌, ℕ, [], ◌∷◌, ◌++◌, List, map, is_some, true, false};
+ghost use Rattle.std.specs.Prelude.{◌≡◌, ◌≤◌, ℕ, [], ◌∷◌, ◌++◌, List, map, is_some, true, false};
 ghost use Rattle.std.specs.declared.option.Option.TheVariants.{Some, None};
 ghost use Rattle.co_object.specs.declared.note.AnyEntry.TheVariants as of;
 ghost use Rattle.co_object.specs.declared.note.Entry.{Entry};
@@ -7,19 +7,22 @@ ghost use Rattle.co_object.specs.declared.note.Place.TheVariants as at;
 ghost use Rattle.co_object.specs.Callout.{call};
 ghost use Rattle.co_object.specs.Group.{off_of, placed};
 ghost use Rattle.co_service.specs.Books.{entries_at, is_kept, with_history};
-ghost use Rattle.co_service.specs.Call.{call_entry, insert_turns, insertion_notes, noted, removal_notes};
-ghost use Rattle.co_service.specs.Desk.{Owes};
+ghost use Rattle.co_service.specs.Call.{HasRoom, call_entry, call_turns, due_in, insert_turns, insertion_notes, noted, notes_in, number_in, removal_notes, section_notes};
+ghost use Rattle.co_service.specs.Desk.{Owes, scans_in};
 ghost use Rattle.co_service.specs.May.{MayHappen, state_at};
+ghost use Rattle.co_service.specs.Views.{seen_of};
 ghost use Rattle.co_service.specs.Writes.{Writes, WritesTimer};
 ghost use Rattle.co_wheel.specs.Cpu.{Cpu};
 ghost use Rattle.co_wheel.specs.Turns.{Turn, removal};
 
 use crate::books::Books;
 use crate::desk::write_turn;
+use crate::places::Places;
 use crate::seats::Lives;
 use crate::{CpuStory, Name, Passes, TimerStory};
-use co_object::{CallOp, Entry, Note, Op, QOp, QReply, Reply};
+use co_object::{CallOp, Entry, Note, Op, PlainOp, QOp, QReply, Reply};
 use co_sbt::Sbt;
+use co_wheel::CallOut;
 
 /// Where a call took an arming out of the queue, the Remove before its entry.
 pub(crate) fn write_removal<N: Name>(
@@ -39,6 +42,8 @@ pub(crate) fn write_removal<N: Name>(
     requires owes { (turns : List Turn) × (w : Cpu) × Owes (removal i (off_of reply.now) ++ turns) w books.old }
     ensures books { books.new ≡ record books.old { journal = books.new.journal } }
     ensures written { Writes passes.old (noted result) passes.new }
+    ensures timers { passes.new.timers ≡ passes.old.timers }
+    ensures grows { scans_in books.old.journal ≤ scans_in books.new.journal }
     ensures placed { (e : Entry) → e.actor ≡ passes.old.actor → e.act ≡ act → map placed (noted result) ≡ removal_notes i e (off_of reply.now) }
     ensures goes_on { (turns : List Turn) (w : Cpu) → Owes (removal i (off_of reply.now) ++ turns) w books.old → Owes turns w books.new }
 {
@@ -94,6 +99,9 @@ pub(crate) fn write_insertion<N: Name>(
     requires owes { (w : Cpu) × Owes (insert_turns i n due inserted) w books.old }
     ensures books { books.new ≡ record books.old { journal = books.new.journal } }
     ensures written { Writes passes.old (noted result) passes.new }
+    ensures timers { passes.new.timers ≡ passes.old.timers }
+    ensures grows { scans_in books.old.journal ≤ scans_in books.new.journal }
+    ensures none { inserted ≡ None → result ≡ None }
     ensures placed { map placed (noted result) ≡ insertion_notes passes.old act books.old.cpu i n due inserted }
     ensures goes_on { (w : Cpu) → Owes (insert_turns i n due inserted) w books.old → Owes [] w books.new }
 {
@@ -102,4 +110,67 @@ pub(crate) fn write_insertion<N: Name>(
     };
     let op = QOp::Insert { i, n, t: due };
     Some(write_turn(books, lives, passes, act, op, QReply::At(at)))
+}
+
+/// The number of the arming that a reply accepts.
+pub(crate) fn number(reply: &Reply) -> u64
+    ensures { result ≡ number_in reply.now }
+{
+    match *reply {
+        Reply::Armed { n, .. } => n,
+        _ => 0,
+    }
+}
+
+/// The due time that an operation names.
+pub(crate) fn time(op: &CallOp) -> Sbt
+    ensures { result ≡ due_in op.now }
+{
+    match *op {
+        CallOp::Plain(PlainOp::Reset { due, .. }) => due,
+        CallOp::Plain(PlainOp::Schedule { due, .. }) => due,
+        _ => Sbt::zero(),
+    }
+}
+
+/// What a call did, note after note: what it took out of the queue, its entry, and what it put in.
+pub(crate) fn write_group<N: Name>(
+    books: &mut Books<N>,
+    places: &Places,
+    passes: &mut Passes,
+    act: u64,
+    i: u32,
+    op: &CallOp,
+    out: &CallOut,
+) -> [Option<Note>; 3]
+    requires places { places.now ≡ N.name }
+    requires name { passes.old.name ≡ N.name }
+    requires params { books.old.params ≡ passes.old.params }
+    requires here { is_kept books.old i ≡ true }
+    requires reply { out.now.reply ≡ (call (state_at books.old i) op.now).1 }
+    requires removed { out.now.removed ≡ is_some (off_of out.now.reply) }
+    requires off { (x : ℕ) → off_of out.now.reply ≡ Some x → x ≡ books.old.cpu }
+    requires owes { (w : Cpu) × Owes (call_turns i op.now out.now.reply out.now.inserted) w books.old }
+    ensures books { books.new ≡ record (with_history books.old i (Some (entries_at books.old i ++ call_entry passes.old act op.now out.now.reply ∷ []))) { journal = books.new.journal } }
+    ensures written { Writes passes.old (notes_in result) passes.new }
+    ensures placed { map placed (notes_in result) ≡ section_notes passes.old act books.old.cpu i op.now out.now.reply out.now.inserted }
+    ensures seen { seen_of passes.new i ≡ entries_at books.old i ++ call_entry passes.old act op.now out.now.reply ∷ [] }
+    ensures grows { scans_in books.old.journal ≤ scans_in books.new.journal }
+    ensures room { out.now.inserted ≡ None → HasRoom result }
+    ensures goes_on { (w : Cpu) → Owes (call_turns i op.now out.now.reply out.now.inserted) w books.old → Owes [] w books.new }
+{
+    let removal = write_removal(
+        books,
+        places.cpus(),
+        passes,
+        act,
+        i,
+        &out.reply,
+        out.removed,
+    );
+    let entry = write_call(books, places.timers(), passes, act, i, op, &out.reply);
+    let n = number(&out.reply);
+    let due = time(op);
+    let insertion = write_insertion(books, places.cpus(), passes, act, i, n, due, out.inserted);
+    [removal, Some(entry), insertion]
 }

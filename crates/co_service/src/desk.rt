@@ -1,9 +1,11 @@
 //! What one lock guards.
-ghost use Rattle.std.specs.Prelude.{◌≡◌, ◌<◌, ◌+◌, ◌^◌, [], ◌∷◌, ◌++◌, List, IfSome, IfNone, length};
+ghost use Rattle.std.specs.Prelude.{◌≡◌, ◌<◌, ◌+◌, ◌^◌, [], ◌∷◌, ◌++◌, List, IfSome, IfNone, is_some, length, true};
 ghost use Rattle.std.specs.declared.option.Option.TheVariants.{Some, None};
 ghost use Rattle.co_object.specs.Journal.{scanner, step, reply_of, IsOfItsActor};
 ghost use Rattle.co_service.specs.Params.{actors_of, directs};
+ghost use Rattle.co_service.specs.Call.{HasRoom, IsAnswer, notes_in};
 ghost use Rattle.co_service.specs.May.{queue_of};
+ghost use Rattle.co_service.specs.Moving.{IsOfService, target_of};
 ghost use Rattle.co_service.specs.Desk.{Owes, IsOf};
 ghost use Rattle.co_service.specs.Outcomes.{IsScan, IsTurn, turn};
 ghost use Rattle.co_service.specs.Writes.{WritesCpu};
@@ -11,10 +13,13 @@ ghost use Rattle.co_wheel.specs.Cpu.{Cpu};
 ghost use Rattle.co_wheel.specs.Turns.{Turn};
 
 use crate::books::Books;
+use crate::calling::{number, time, write_group};
+use crate::moving::{Moving, depart};
+use crate::places::Places;
 use crate::seats::Lives;
-use crate::{CpuStory, Name, Passes, Scanned};
+use crate::{CpuStory, Made, Name, Passes, Scanned};
 use co_bucket::WheelQueue;
-use co_object::{Note, QEntry, QOp, QReply};
+use co_object::{CallOp, Note, QEntry, QOp, QReply};
 use co_queue::Looks;
 use co_sbt::Sbt;
 use co_wheel::Wheel;
@@ -108,5 +113,34 @@ impl<N: Name> Desk<N> {
             note,
             looks: looks.count(),
         })
+    }
+
+    /// A caller's operation on callout `i`: its answer, and the callout where it leaves for another CPU. None where it
+    /// isn't here.
+    pub(crate) fn call(
+        &mut self,
+        places: &Places,
+        passes: &mut Passes,
+        act: u64,
+        i: u32,
+        op: &CallOp,
+    ) -> Option<(Made, Option<Moving<N>>)>
+        requires places { places.now ≡ N.name }
+        requires name { passes.old.name ≡ N.name }
+        ensures none { IfNone result (passes.new ≡ passes.old) }
+        ensures some { IfSome result (λ out. IsAnswer passes.old act i op.now out.0.reply (target_of out.1) (notes_in out.0.notes) passes.new) }
+        ensures leaves { IfSome result (λ out. IsOfService passes.old.params i out.1) }
+        ensures room { IfSome result (λ out. is_some out.1 ≡ true → HasRoom out.0.notes) }
+    {
+        if !self.books.has(i) {
+            return None;
+        }
+        self.books.meet(places.cpus(), passes);
+        let out = self.wheel.call(i, op);
+        let notes = write_group(&mut self.books, places, passes, act, i, op, &out);
+        let reply = out.reply;
+        let n = number(&reply);
+        let leaves = depart(&mut self.books, out.leaves, n, time(op));
+        Some((Made { reply, notes }, leaves))
     }
 }

@@ -2,10 +2,12 @@
 //! that travel with what they tell of.
 #![tactic(auto)]
 
+mod bench;
 mod books;
 mod boot;
 mod calling;
 mod desk;
+mod joining;
 mod laws;
 mod line;
 mod moving;
@@ -13,8 +15,13 @@ mod name;
 mod outs;
 mod params;
 mod passes;
+mod places;
+mod running;
 mod seats;
+mod service;
+mod services;
 mod stories;
+mod wheels;
 
 pub use laws::{begins_by_own, ends_by_own, served_by_own};
 pub use line::Line;
@@ -22,4 +29,5 @@ pub use name::Name;
 pub use outs::{Made, Scanned, Taken};
 pub use params::Params;
 pub use passes::Passes;
+pub use service::{DeskHold, Service};
 pub use stories::{CpuStory, TimerStory};

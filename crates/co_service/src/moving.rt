@@ -1,7 +1,8 @@
 //! A callout on its way from one desk to another.
 ghost use Rattle.std.specs.Prelude.{◌≡◌};
-ghost use Rattle.std.specs.declared.option.Option.TheVariants.{Some, None};
+ghost use Rattle.co_service.specs.Moving.{MayDepart, departed, moving_from};
 
+use crate::books::Books;
 use crate::{Name, TimerStory};
 use co_life::Keeper;
 use co_sbt::Sbt;
@@ -45,5 +46,31 @@ impl<N: Name> Moving<N> {
         ensures { result ≡ self.now.i }
     {
         self.parcel.callout()
+    }
+}
+
+/// What leaves a desk takes its history along.
+pub(crate) fn depart<N: Name>(
+    books: &mut Books<N>,
+    leaves: Option<Parcel>,
+    n: u64,
+    due: Sbt,
+) -> Option<Moving<N>>
+    requires { MayDepart books.old n due leaves }
+    ensures books { books.new ≡ departed books.old leaves }
+    ensures moving { result ≡ moving_from books.old n due leaves }
+{
+    match leaves {
+        None => None,
+        Some(parcel) => {
+            let keeper = books.take(parcel.callout());
+            Some(Moving {
+                parcel,
+                keeper,
+                n,
+                due,
+                of: PhantomData,
+            })
+        }
     }
 }

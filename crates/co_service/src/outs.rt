@@ -7,7 +7,8 @@ use co_sbt::Sbt;
 pub struct Made {
     /// The callout's reply.
     pub reply: Reply,
-    /// The notes of the call, in their order: at most one of a Remove or a Free, the callout's entry, and one of an Insert.
+    /// The notes, in their order. Of a call these are at most a Remove, the callout's entry, and at most an Insert; of an
+    /// end the callout's entry, the Free, and at most an Insert.
     pub notes: [Option<Note>; 3],
 }
 

@@ -1,4 +1,4 @@
-use Rattle.std.proofs.Common.{◌≡◌, [], length, sym, ap, ◌∙◌, subst, arith, vec_len}
+use Rattle.std.proofs.Common.{◌≡◌, [], sym, ap, ◌∙◌, subst, arith, vec_len}
 use Rattle.co_service.specs.Booted.{ArePlaces, IsOpened}
 use Rattle.co_service.proofs.Signing.{no_places, places_more}
 use Rattle.co_service.proofs.boot.make_places.Goals as goal

@@ -1,4 +1,4 @@
-use Rattle.std.proofs.Common.{◌≡◌, ◌+◌, ◌≤◌, refl, sym, ap, ◌∙◌, subst, arith}
+use Rattle.std.proofs.Common.{◌≡◌, refl, sym, ap, ◌∙◌, subst, arith}
 use Rattle.co_object.specs.declared.queue.QOp.TheVariants.{Scan}
 use Rattle.co_object.specs.declared.queue.QReply.TheVariants.{Count}
 use Rattle.co_bucket.specs.Visits.{looks_at_visited}

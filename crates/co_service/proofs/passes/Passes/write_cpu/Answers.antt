@@ -1,4 +1,4 @@
-use Rattle.std.proofs.Common.{◌≡◌, ◌-◌, sym, ap, ◌∙◌, arith}
+use Rattle.std.proofs.Common.{◌-◌, ap, ◌∙◌, arith}
 use Rattle.co_service.specs.Stories.{queue_by, IsJournal}
 use Rattle.co_service.proofs.PassesKept.{cpu_written, cpus_kept}
 use Rattle.co_service.proofs.Writing.{Written, story_next, keeper_next, history_next}

@@ -1,4 +1,4 @@
-use Rattle.std.proofs.Common.{◌≡◌, ◌-◌, sym, ap, ◌∙◌, arith}
+use Rattle.std.proofs.Common.{◌-◌, ap, ◌∙◌, arith}
 use Rattle.co_service.specs.Stories.{by, IsHistory}
 use Rattle.co_service.proofs.PassesKept.{timer_written, timers_kept}
 use Rattle.co_service.proofs.Writing.{Written, story_next, keeper_next, history_next}

@@ -1,0 +1,44 @@
+use Rattle.std.proofs.Common.{◌≡◌, ℕ, length, List, [], ◌∷◌, ◌++◌, refl, sym, ap, ◌∙◌, subst, arith}
+use Rattle.std.specs.Prelude.{slice_set}
+use Rattle.std.specs.declared.option.Option.TheVariants.{Some}
+use Rattle.co_object.specs.declared.note.Entry.{Entry}
+use Rattle.co_object.specs.declared.queue.QOp.TheVariants.{Insert}
+use Rattle.co_object.specs.declared.queue.QReply.TheVariants.{At}
+use Rattle.co_service.specs.Books.{BooksView, is_kept, with_history}
+use Rattle.co_service.specs.Desk.{IsDesk, alone_after}
+use Rattle.co_service.specs.Lines.{made}
+use Rattle.co_service.specs.Moving.{MovingView, params_in}
+use Rattle.co_service.specs.Outcomes.{turn}
+use Rattle.co_service.proofs.LandSection.{Comes, landed_desk}
+use Rattle.co_service.proofs.desk.Desk.land.Goals as goal
+
+pub invariant_of-self : goal.invariant_of-self
+invariant_of-self g c =
+    let m = c.moving.inside in
+    let i : ℕ = m.parcel.i in
+    let b : BooksView = c.meet.new.self in
+    let H : List Entry = made m.keeper.history in
+    let at_is : c.callout-i.result ≡ i = c.callout-i.ensures ∙ ap (λ (v : MovingView). v.i) (sym c.moving.view_is) in
+    let desk : IsDesk c.self.inside.wheel b c.self.inside.scans = subst (λ b. IsDesk c.self.inside.wheel b c.self.inside.scans) (sym c.meet.ensures.kept) c.self.invariant in
+    let params : c.moving.invariant.params ≡ b.params =
+    ap params_in (sym c.moving.invariant.kept.opened) ∙ (ap (λ (v : MovingView). v.params) c.moving.view_is ∙ (c.requires.params ∙ (sym c.meet.ensures.params ∙ ap (λ (v : BooksView). v.params) (sym c.meet.ensures.kept)))) in
+    let long : length b.timers ≡ length c.self.inside.books.timers = ap (λ (v : BooksView). length v.timers) c.meet.ensures.kept in
+    let kept : is_kept b i ≡ is_kept c.self.inside.books c.callout-i.result = (λ d. is_kept (c.meet.ensures.kept d) (sym at_is d)) in
+    let cpu : b.cpu ≡ c.self.inside.books.cpu = ap (λ (v : BooksView). v.cpu) c.meet.ensures.kept in
+    let target : m.parcel.arming.cpu ≡ c.args.moving.target.cpu = ap (λ (v : MovingView). v.target.cpu) c.moving.view_is in
+    let comes : Comes b m.parcel H m.n m.due = record {
+      below = (let n = c.size.ensures in let f = c.if-size-i.false in omega arith);
+      absent = (let h = c.has.ensures in let f = c.if-has.false in cc);
+      callout_is = c.moving.invariant.callout ∙ (λ d. alone_after (params d) i H);
+      idle = c.moving.invariant.idle;
+      armed = c.moving.invariant.armed;
+      here = (let h = c.cpu.ensures in let t = c.cpu-cpu.ensures in let f = c.if-cpu.false in omega arith);
+      number = c.moving.invariant.number;
+      due_is = c.moving.invariant.due_is;
+    } in
+    let put : c.put.new.self ≡ with_history b i (Some H) = c.put.ensures.books ∙ (λ d. with_history b (at_is d) (Some H)) in
+    let wrote : c.write_turn.new.books ≡ record b { timers = slice_set b.timers i (Some H); journal = b.journal ++ turn c.meet.new.passes c.args.act (Insert c.callout-i.result m.n m.due) (At c.land-at.result) ∷ [] } =
+    c.write_turn.ensures.books ∙ (λ d. record (put d) { journal = (put d).journal ++ turn c.meet.new.passes c.args.act (Insert c.callout-i.result m.n m.due) (At c.land-at.result) ∷ [] }) in
+    subst (λ v. IsDesk c.land-at.new.self v c.self.inside.scans) (sym wrote)
+    (landed_desk c.self.inside.wheel b c.self.inside.scans m.parcel H m.n m.due desk comes c.land-at.new.self c.land-at.result c.land-at.ensures
+    (turn c.meet.new.passes c.args.act (Insert c.callout-i.result m.n m.due) (At c.land-at.result)) (ap (λ (k : ℕ). Insert k m.n m.due) at_is) refl)

@@ -1,0 +1,44 @@
+//! The places of a service.
+use crate::seats::Lives;
+use crate::{CpuStory, TimerStory};
+use std::marker::Model;
+
+/// The lives of all places of a service. Contracts see its name.
+#[derive(Drop)]
+pub(crate) struct Places {
+    callouts: Lives<TimerStory>,
+    wheels: Lives<CpuStory>,
+}
+
+impl Model for Places {
+    ghost use Rattle.co_service.specs.Name.{ServiceName};
+
+    ghost Value = { ServiceName };
+
+    ghost view = { λ p. record { timers = p.callouts; cpus = p.wheels } };
+}
+
+impl Places {
+    ghost use Rattle.std.specs.Prelude.{◌≡◌};
+
+    /// The places of these lives.
+    pub(crate) fn new(callouts: Lives<TimerStory>, wheels: Lives<CpuStory>) -> Places
+        ensures { result ≡ record { timers = callouts; cpus = wheels } }
+    {
+        Places { callouts, wheels }
+    }
+
+    /// The lives of the callouts.
+    pub(crate) fn timers(&self) -> &Lives<TimerStory>
+        ensures { result.now ≡ self.now.timers }
+    {
+        &self.callouts
+    }
+
+    /// The lives of the CPUs.
+    pub(crate) fn cpus(&self) -> &Lives<CpuStory>
+        ensures { result.now ≡ self.now.cpus }
+    {
+        &self.wheels
+    }
+}

@@ -1,0 +1,189 @@
+//! What a service writes in the books of a desk.
+ghost use Rattle.std.specs.Prelude.{◌≡◌, ◌≤◌, Bool, [], ◌∷◌, ◌++◌, List, true, is_some};
+ghost use Rattle.std.specs.Option.{option_map};
+ghost use Rattle.std.specs.declared.option.Option.TheVariants.{Some, None};
+ghost use Rattle.co_object.specs.declared.note.AnyEntry.TheVariants as of;
+ghost use Rattle.co_object.specs.declared.note.Place.TheVariants as at;
+ghost use Rattle.co_service.specs.Books.{entries_at, is_kept, with_history};
+ghost use Rattle.co_service.specs.Call.{HasRoom, notes_in};
+ghost use Rattle.co_service.specs.Desk.{Owes};
+ghost use Rattle.co_service.specs.May.{MayHappen};
+ghost use Rattle.co_service.specs.Params.{actors_of};
+ghost use Rattle.co_service.specs.Services.{IsTaken, MayPick, next_due, next_number, picked_histories, pop_entry, run_entry};
+ghost use Rattle.co_service.specs.Serving.{lane_actor};
+ghost use Rattle.co_service.specs.Views.{journal_seen};
+ghost use Rattle.co_service.specs.Writes.{WritesTimer};
+ghost use Rattle.co_wheel.specs.Cpu.{Cpu};
+ghost use Rattle.co_wheel.specs.Callouts.{in_service};
+ghost use Rattle.co_wheel.specs.Next.{popping};
+ghost use Rattle.co_wheel.specs.Sections.{IsEnding, IsNext};
+ghost use Rattle.co_wheel.specs.Service.{end_here};
+ghost use Rattle.co_wheel.specs.Turns.{free_of, pop_of};
+
+use crate::books::Books;
+use crate::desk::write_turn;
+use crate::places::Places;
+use crate::seats::Lives;
+use crate::{Made, Name, Passes, Taken, TimerStory};
+use co_bucket::WheelQueue;
+use co_object::{Entry, Note, Op, QOp, QReply, Reply, RunOp};
+use co_sbt::Sbt;
+use co_wheel::{EndOut, NextOut, Wheel};
+
+/// The entry of a service's operation.
+pub(crate) fn write_run<N: Name>(
+    books: &mut Books<N>,
+    lives: &Lives<TimerStory>,
+    passes: &mut Passes,
+    act: u64,
+    i: u32,
+    op: RunOp,
+    reply: &Reply,
+) -> Note
+    requires lives { lives.now ≡ N.name.timers }
+    requires name { passes.old.name ≡ N.name }
+    requires params { books.old.params ≡ passes.old.params }
+    requires here { is_kept books.old i ≡ true }
+    requires may { MayHappen books.old i (run_entry passes.old act op reply.now) }
+    ensures books { books.new ≡ with_history books.old i (Some (entries_at books.old i ++ run_entry passes.old act op reply.now ∷ [])) }
+    ensures note { (result.place ≡ at.Timer i) × (result.entry ≡ of.Timer (run_entry passes.old act op reply.now)) }
+    ensures written { WritesTimer passes.old i (run_entry passes.old act op reply.now) result.pos (entries_at books.old i ++ run_entry passes.old act op reply.now ∷ []) passes.new }
+{
+    let entry = Entry {
+        actor: passes.actor(),
+        act,
+        op: Op::Run(op),
+        reply: *reply,
+    };
+    books.write_timer(lives, passes, i, &entry)
+}
+
+/// Up to three notes, in their order.
+pub(crate) fn three(
+    first: Option<Note>,
+    second: Option<Note>,
+    third: Option<Note>,
+) -> [Option<Note>; 3]
+    ensures { result ≡ first ∷ second ∷ third ∷ [] }
+{
+    [first, second, third]
+}
+
+/// An answer whose last note is still free, with this one.
+pub(crate) fn with_last(made: Made, last: Note) -> Made
+    requires { HasRoom made.notes }
+    ensures reply { result.reply ≡ made.reply }
+    ensures notes { notes_in result.notes ≡ notes_in made.notes ++ last ∷ [] }
+{
+    let reply = made.reply;
+    let [first, second, _] = made.notes;
+    let notes = three(first, second, Some(last));
+    Made { reply, notes }
+}
+
+/// The queue's operation that takes from a lane.
+fn pop(direct: bool) -> QOp
+    ensures { result ≡ pop_of direct }
+{
+    if direct { QOp::PopDirect } else { QOp::Pop }
+}
+
+/// The first callout that has come due goes into service: of the CPU, or of its interrupt where `direct`.
+pub(crate) fn take(wheel: &mut Wheel<WheelQueue>, direct: bool) -> NextOut
+    requires free { in_service direct wheel.old.callouts ≡ None }
+    ensures { IsNext direct wheel.old wheel.new result }
+{
+    if direct {
+        wheel.next_direct()
+    } else {
+        wheel.next()
+    }
+}
+
+/// What a wheel took into service: the Pop, and the Pick of an arming.
+pub(crate) fn write_taken<N: Name>(
+    books: &mut Books<N>,
+    places: &Places,
+    passes: &mut Passes,
+    act: u64,
+    direct: bool,
+    out: NextOut,
+) -> Taken
+    requires places { places.now ≡ N.name }
+    requires name { passes.old.name ≡ N.name }
+    requires params { books.old.params ≡ passes.old.params }
+    requires actor { passes.old.actor ≡ lane_actor direct (actors_of books.old.params) books.old.cpu }
+    requires owes { (w : Cpu) × Owes (popping direct out) w books.old }
+    requires may { MayPick books.old passes.old act out }
+    ensures books { books.new ≡ record books.old { timers = picked_histories books.old passes.old act out; journal = books.old.journal ++ pop_entry direct passes.old act out ∷ [] } }
+    ensures told { IsTaken direct passes.old books.old.cpu act result passes.new }
+    ensures seen { journal_seen passes.new books.old.cpu ≡ books.new.journal }
+{
+    let op = pop(direct);
+    match out {
+        NextOut::Empty => {
+            let reply = QReply::Empty;
+            let note = write_turn(books, places.cpus(), passes, act, op, reply);
+            Taken::Empty { note }
+        }
+        NextOut::Took { i, n, at, reply } => {
+            let got = QReply::Got { i, n, at };
+            let pop = write_turn(books, places.cpus(), passes, act, op, got);
+            let cpu = books.cpu();
+            let picks = RunOp::Pick { n, cpu, at };
+            let pick = write_run(books, places.timers(), passes, act, i, picks, &reply);
+            Taken::Took {
+                i,
+                n,
+                at,
+                reply,
+                pop,
+                pick,
+            }
+        }
+    }
+}
+
+/// The queue's operation that frees a lane.
+pub(crate) fn free(direct: bool) -> QOp
+    ensures { result ≡ free_of direct }
+{
+    if direct { QOp::FreeDirect } else { QOp::Free }
+}
+
+/// What is in service, of the CPU or of its interrupt where `direct`.
+pub(crate) fn serviced(wheel: &Wheel<WheelQueue>, direct: bool) -> Option<(u32, u64)>
+    ensures { option_map (λ d. record { i = d.0; n = d.1 }) result ≡ in_service direct wheel.now.callouts }
+{
+    if direct {
+        wheel.directing()
+    } else {
+        wheel.serving()
+    }
+}
+
+/// The service is over, of the CPU or of its interrupt where `direct`.
+pub(crate) fn finish(wheel: &mut Wheel<WheelQueue>, direct: bool) -> EndOut
+    requires possible { is_some (end_here direct wheel.old.callouts) ≡ true }
+    ensures { IsEnding direct wheel.old wheel.new result }
+{
+    if direct {
+        wheel.end_direct()
+    } else {
+        wheel.end()
+    }
+}
+
+/// The number and the due time of the arming that waited for an end.
+pub(crate) fn waited(reply: &Reply) -> (u64, Sbt)
+    ensures number { result.0 ≡ next_number reply.now }
+    ensures due { result.1 ≡ next_due reply.now }
+{
+    match *reply {
+        Reply::Ended {
+            next: Some(next),
+            ..
+        } => (next.n, next.due),
+        _ => (0, Sbt::zero()),
+    }
+}

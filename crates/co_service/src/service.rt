@@ -1,0 +1,420 @@
+//! The running service: each CPU's desk behind a lock of its own.
+ghost use Rattle.std.specs.Prelude.{◌≡◌, ◌<◌, ◌≤◌, IfErr, IfNone, IfOk, IfSome, false, is_some, length, true};
+ghost use Rattle.std.specs.declared.option.Option.TheVariants.{Some, None};
+ghost use Rattle.co_object.specs.Queue.{Due};
+ghost use Rattle.co_object.specs.Journal.{scanner};
+ghost use Rattle.std.specs.Option.{option_copied};
+ghost use Rattle.co_lock.specs.Covers.{covers};
+ghost use Rattle.co_lock.specs.Service.{hold_of};
+ghost use Rattle.co_service.specs.Call.{HasRoom, IsAnswer, IsCalled, NamesCpu, notes_in};
+ghost use Rattle.co_service.specs.Moving.{IsOfService, target_of};
+ghost use Rattle.co_service.specs.Outcomes.{IsScan};
+ghost use Rattle.co_service.specs.Params.{actors_of, spec_at};
+ghost use Rattle.co_service.specs.Services.{FollowsScans, IsBegun, IsEnded, IsEndedBut, IsFree, IsLanded, IsServing, IsTaken};
+ghost use Rattle.co_service.specs.Serving.{Runs, Waits};
+ghost use Rattle.co_service.specs.Views.{AreOf, journal_seen};
+
+use crate::desk::Desk;
+use crate::moving::Moving;
+use crate::places::Places;
+use crate::running::with_last;
+use crate::{Made, Name, Params, Passes, Scanned, Taken};
+use co_lock::Hold;
+use co_object::{CallOp, Note};
+use co_sbt::Sbt;
+use std::marker::Model;
+use std::snapshot::Snapshot;
+use std::sync::atomic::{AtomicU32, Ordering};
+use std::sync::{Condvar, Mutex, MutexGuard, Wait};
+
+/// A desk behind its lock, with what is told of its changes.
+#[derive(Drop)]
+struct Locked<N: Name> {
+    desk: Mutex<Desk<N>>,
+    changed: Condvar,
+}
+
+/// A desk's lock. It lends nothing.
+#[derive(Drop)]
+pub struct DeskHold<'a, N: Name> {
+    _desk: MutexGuard<'a, Desk<N>>,
+}
+
+/// The running service. Contracts see its parameters; its name is that of `N`.
+#[derive(Drop)]
+pub struct Service<N: Name> {
+    places: Places,
+    params: Snapshot<Params>,
+    /// By CPU.
+    desks: Vec<Locked<N>>,
+    /// By callout: the CPU whose desk is asked first. No clause rests on it.
+    hints: Vec<AtomicU32>,
+}
+
+impl<N: Name> Model for Service<N> {
+    ghost use Rattle.std.specs.Prelude.{◌≡◌, ◌≤◌, vec_len};
+    ghost use Rattle.co_service.specs.declared.params.Params.{Params as ParamsOf};
+
+    ghost Value = { ParamsOf };
+
+    ghost view = { λ s. s.params.value };
+
+    ghost invariant = { λ s. (s.places ≡ N.name) × (vec_len s.desks ≡ s.params.value.cpus) × (1 ≤ s.params.value.cpus) };
+}
+
+impl<N: Name> Service<N> {
+    /// The CPU whose desk is asked first for a callout.
+    fn hint(&self, i: u32) -> usize
+        ensures { result < self.now.cpus }
+    {
+        let Some(word) = self.hints.get(i as usize) else {
+            return 0;
+        };
+        let cpu = word.load(Ordering::SeqCst) as usize;
+        if cpu < self.desks.len() { cpu } else { 0 }
+    }
+
+    /// A call on one desk.
+    fn call_at<R: Wait>(
+        &self,
+        rt: &R,
+        passes: &mut Passes,
+        act: u64,
+        i: u32,
+        op: &CallOp,
+        cpu: usize,
+    ) -> Option<(Made, Option<Moving<N>>)>
+        requires cpu { cpu < self.now.cpus }
+        requires passes { AreOf N.name self.now passes.old }
+        ensures none { IfNone result (passes.new ≡ passes.old) }
+        ensures some { IfSome result (λ out. IsAnswer passes.old act i op.now out.0.reply (target_of out.1) (notes_in out.0.notes) passes.new) }
+        ensures leaves { IfSome result (λ out. IsOfService passes.old.params i out.1) }
+        ensures room { IfSome result (λ out. is_some out.1 ≡ true → HasRoom out.0.notes) }
+    {
+        let locked = &self.desks[cpu];
+        locked.desk.lock(rt).call(&self.places, passes, act, i, op)
+    }
+
+    /// A call on the desk that the callout's hint names, and where it isn't there on the others in rising order.
+    fn call_once<R: Wait>(
+        &self,
+        rt: &R,
+        passes: &mut Passes,
+        act: u64,
+        i: u32,
+        op: &CallOp,
+    ) -> Option<(Made, Option<Moving<N>>)>
+        requires passes { AreOf N.name self.now passes.old }
+        ensures none { IfNone result (passes.new ≡ passes.old) }
+        ensures some { IfSome result (λ out. IsAnswer passes.old act i op.now out.0.reply (target_of out.1) (notes_in out.0.notes) passes.new) }
+        ensures leaves { IfSome result (λ out. IsOfService passes.old.params i out.1) }
+        ensures room { IfSome result (λ out. is_some out.1 ≡ true → HasRoom out.0.notes) }
+    {
+        let first = self.hint(i);
+        if let Some(out) = self.call_at(rt, passes, act, i, op, first) {
+            return Some(out);
+        }
+        for cpu in 0..self.desks.len() {
+            if cpu != first {
+                if let Some(out) = self.call_at(rt, passes, act, i, op, cpu) {
+                    return Some(out);
+                }
+            }
+        }
+        None
+    }
+
+    /// A callout comes to the desk of the CPU at which it is armed.
+    fn land_once<R: Wait>(
+        &self,
+        rt: &R,
+        passes: &mut Passes,
+        act: u64,
+        moving: Moving<N>,
+    ) -> Result<Note, Moving<N>>
+        requires passes { AreOf N.name self.now passes.old }
+        requires params { moving.params ≡ passes.old.params }
+        ensures back { IfErr result (λ m. (m ≡ moving) × (passes.new ≡ passes.old)) }
+        ensures landed { IfOk result (λ note. IsLanded passes.old act moving.i moving.target note passes.new) }
+    {
+        let i = moving.callout();
+        let cpu = moving.cpu();
+        let Some(locked) = self.desks.get(cpu as usize) else {
+            return Err(moving);
+        };
+        let mut desk = locked.desk.lock(rt);
+        let note = desk.land(&self.places, passes, act, moving)?;
+        if let Some(hint) = self.hints.get(i as usize) {
+            hint.store(cpu, Ordering::SeqCst);
+        }
+        Ok(note)
+    }
+
+    /// A callout comes to its CPU. It is tried again where that desk can't take it.
+    fn land<R: Wait>(&self, rt: &R, passes: &mut Passes, act: u64, moving: Moving<N>) -> Note
+        requires passes { AreOf N.name self.now passes.old }
+        requires params { moving.params ≡ passes.old.params }
+        ensures { IsLanded passes.old act moving.i moving.target result passes.new }
+    {
+        let mut moving = moving;
+        for _ in rt.forever() {
+            match self.land_once(rt, passes, act, moving) {
+                Ok(note) => return note,
+                Err(back) => moving = back,
+            }
+        }
+        unreachable!()
+    }
+
+    /// A call, where the record stands.
+    fn call_found<R: Wait>(
+        &self,
+        rt: &R,
+        passes: &mut Passes,
+        act: u64,
+        i: u32,
+        op: &CallOp,
+    ) -> (Made, Option<Moving<N>>)
+        requires passes { AreOf N.name self.now passes.old }
+        ensures answer { IsAnswer passes.old act i op.now result.0.reply (target_of result.1) (notes_in result.0.notes) passes.new }
+        ensures leaves { IsOfService passes.old.params i result.1 }
+        ensures room { is_some result.1 ≡ true → HasRoom result.0.notes }
+    {
+        for _ in rt.forever() {
+            if let Some(out) = self.call_once(rt, passes, act, i, op) {
+                return out;
+            }
+        }
+        unreachable!()
+    }
+
+    /// A call on callout `i`, the landing of its record at another CPU included. The caller's hold covers it.
+    ///
+    /// It waits for the desks' locks, and while the record is on its way.
+    pub fn call<R: Wait>(
+        &self,
+        rt: &R,
+        passes: &mut Passes,
+        act: u64,
+        i: u32,
+        op: &CallOp,
+        hold: Option<&Hold<'_>>,
+    ) -> Made
+        requires passes { AreOf N.name self.now passes.old }
+        requires callout { i < length self.now.specs }
+        requires cpu { NamesCpu self.now.cpus op.now }
+        requires covered { covers (option_copied hold) (spec_at self.now i) op.now ≡ true }
+        ensures { IsCalled passes.old act i op.now result.reply (notes_in result.notes) passes.new }
+    {
+        let _ = hold;
+        let (made, leaves) = self.call_found(rt, passes, act, i, op);
+        match leaves {
+            None => made,
+            Some(moving) => with_last(made, self.land(rt, passes, act, moving)),
+        }
+    }
+
+    /// What is due at this CPU has come due. It waits for the desk's lock.
+    ///
+    /// The passes are those of the actor that scans this CPU: its own, and from version 2 on its interrupt.
+    pub fn scan<R: Wait>(
+        &self,
+        rt: &R,
+        passes: &mut Passes,
+        cpu: u32,
+        act: u64,
+        now: Sbt,
+    ) -> Scanned
+        requires cpu { cpu < self.now.cpus }
+        requires passes { AreOf N.name self.now passes.old }
+        requires scanner { passes.old.actor ≡ scanner (actors_of self.now) cpu }
+        ensures { IsScan passes.old cpu act now result passes.new }
+    {
+        for _ in rt.forever() {
+            let locked = &self.desks[cpu as usize];
+            let out = locked
+                .desk
+                .lock(rt)
+                .scan(self.places.cpus(), passes, cpu, act, now);
+            if let Some(out) = out {
+                locked.changed.notify_all();
+                return out;
+            }
+        }
+        unreachable!()
+    }
+
+    /// The first callout that has come due goes into the CPU's service. It waits until the CPU's journal has so many Scans.
+    ///
+    /// The passes are those of the CPU's actor, whose own entries have nothing in service.
+    pub fn next<R: Wait>(
+        &self,
+        rt: &R,
+        passes: &mut Passes,
+        cpu: u32,
+        act: u64,
+        scans: u64,
+    ) -> Taken
+        requires cpu { cpu < self.now.cpus }
+        requires passes { AreOf N.name self.now passes.old }
+        requires free { IsFree false passes.old cpu }
+        ensures taken { IsTaken false passes.old cpu act result passes.new }
+        ensures scans { FollowsScans scans (journal_seen passes.new cpu) }
+    {
+        for _ in rt.forever() {
+            let locked = &self.desks[cpu as usize];
+            let mut desk = locked
+                .changed
+                .wait_while(rt, locked.desk.lock(rt), |desk: &mut Desk<N>| -> bool {
+                    desk.lacks(scans)
+                });
+            if let Some(out) = desk.next(&self.places, passes, cpu, act, scans, false) {
+                return out;
+            }
+        }
+        unreachable!()
+    }
+
+    /// The first direct callout that has come due goes into the service of the CPU's interrupt.
+    ///
+    /// The passes are those of the interrupt, whose own entries have nothing in service.
+    pub fn next_direct<R: Wait>(&self, rt: &R, passes: &mut Passes, cpu: u32, act: u64) -> Taken
+        requires cpu { cpu < self.now.cpus }
+        requires passes { AreOf N.name self.now passes.old }
+        requires free { IsFree true passes.old cpu }
+        ensures { IsTaken true passes.old cpu act result passes.new }
+    {
+        for _ in rt.forever() {
+            let locked = &self.desks[cpu as usize];
+            let out = locked
+                .desk
+                .lock(rt)
+                .next(&self.places, passes, cpu, act, 0, true);
+            if let Some(out) = out {
+                return out;
+            }
+        }
+        unreachable!()
+    }
+
+    /// The lock of the callout that the CPU has in service is held, in the mode that its spec wants.
+    ///
+    /// The passes are those of the CPU's actor, whose own entries have a callout in service that waits for its lock.
+    pub fn begin<R: Wait>(
+        &self,
+        rt: &R,
+        passes: &mut Passes,
+        cpu: u32,
+        act: u64,
+        hold: &Hold<'_>,
+    ) -> Made
+        requires cpu { cpu < self.now.cpus }
+        requires passes { AreOf N.name self.now passes.old }
+        requires serves { (d : Due) × IsServing false passes.old cpu d (Waits d.n) }
+        requires held { (d : Due) → IsServing false passes.old cpu d (Waits d.n) → hold_of (spec_at self.now d.i).lock ≡ Some hold.now }
+        ensures { (d : Due) → IsServing false passes.old cpu d (Waits d.n) → IsBegun passes.old cpu act d result passes.new }
+    {
+        let _ = hold;
+        for _ in rt.forever() {
+            let locked = &self.desks[cpu as usize];
+            let out = locked.desk.lock(rt).begin(&self.places, passes, cpu, act);
+            if let Some(out) = out {
+                return out;
+            }
+        }
+        unreachable!()
+    }
+
+    /// The end of a service on its desk, of the CPU or of its interrupt where `direct`.
+    fn end_found<R: Wait>(
+        &self,
+        rt: &R,
+        passes: &mut Passes,
+        cpu: u32,
+        act: u64,
+        direct: bool,
+    ) -> (Made, Option<Moving<N>>)
+        requires cpu { cpu < self.now.cpus }
+        requires passes { AreOf N.name self.now passes.old }
+        requires serves { (d : Due) × IsServing direct passes.old cpu d (Runs d.n) }
+        ensures ended { (d : Due) → IsServing direct passes.old cpu d (Runs d.n) → IsEndedBut direct passes.old cpu act d result.0.reply (target_of result.1) (notes_in result.0.notes) passes.new × IsOfService passes.old.params d.i result.1 }
+        ensures room { HasRoom result.0.notes }
+    {
+        for _ in rt.forever() {
+            let locked = &self.desks[cpu as usize];
+            let out = locked
+                .desk
+                .lock(rt)
+                .end(&self.places, passes, cpu, act, direct);
+            if let Some(out) = out {
+                locked.changed.notify_all();
+                return out;
+            }
+        }
+        unreachable!()
+    }
+
+    /// The end of a service, the landing of what leaves included.
+    fn end_lane<R: Wait>(
+        &self,
+        rt: &R,
+        passes: &mut Passes,
+        cpu: u32,
+        act: u64,
+        direct: bool,
+    ) -> Made
+        requires cpu { cpu < self.now.cpus }
+        requires passes { AreOf N.name self.now passes.old }
+        requires serves { (d : Due) × IsServing direct passes.old cpu d (Runs d.n) }
+        ensures { (d : Due) → IsServing direct passes.old cpu d (Runs d.n) → IsEnded direct passes.old cpu act d result.reply (notes_in result.notes) passes.new }
+    {
+        let (made, leaves) = self.end_found(rt, passes, cpu, act, direct);
+        match leaves {
+            None => made,
+            Some(moving) => with_last(made, self.land(rt, passes, act, moving)),
+        }
+    }
+
+    /// The CPU's service is over: the function has returned, or was skipped. Where an arming at another CPU waited for this
+    /// end, the callout lands there.
+    ///
+    /// The passes are those of the CPU's actor, whose own entries have a callout in service that doesn't wait for its lock.
+    pub fn end<R: Wait>(&self, rt: &R, passes: &mut Passes, cpu: u32, act: u64) -> Made
+        requires cpu { cpu < self.now.cpus }
+        requires passes { AreOf N.name self.now passes.old }
+        requires serves { (d : Due) × IsServing false passes.old cpu d (Runs d.n) }
+        ensures { (d : Due) → IsServing false passes.old cpu d (Runs d.n) → IsEnded false passes.old cpu act d result.reply (notes_in result.notes) passes.new }
+    {
+        self.end_lane(rt, passes, cpu, act, false)
+    }
+
+    /// The same for the CPU's interrupt, whose passes these are.
+    pub fn end_direct<R: Wait>(&self, rt: &R, passes: &mut Passes, cpu: u32, act: u64) -> Made
+        requires cpu { cpu < self.now.cpus }
+        requires passes { AreOf N.name self.now passes.old }
+        requires serves { (d : Due) × IsServing true passes.old cpu d (Runs d.n) }
+        ensures { (d : Due) → IsServing true passes.old cpu d (Runs d.n) → IsEnded true passes.old cpu act d result.reply (notes_in result.notes) passes.new }
+    {
+        self.end_lane(rt, passes, cpu, act, true)
+    }
+
+    /// Waits until the service of callout `i`'s arming `n` may have ended. It promises nothing.
+    pub fn drain_wait<R: Wait>(&self, rt: &R, i: u32, n: u64) {
+        for locked in &self.desks {
+            let _desk = locked
+                .changed
+                .wait_while(rt, locked.desk.lock(rt), |desk: &mut Desk<N>| -> bool {
+                    desk.services(i, n)
+                });
+        }
+    }
+
+    /// Takes a desk's lock, which the drop of the answer releases.
+    pub fn hold_desk<R: Wait>(&self, rt: &R, cpu: u32) -> DeskHold<'_, N>
+        requires { cpu < self.now.cpus }
+    {
+        DeskHold {
+            _desk: self.desks[cpu as usize].desk.lock(rt),
+        }
+    }
+}

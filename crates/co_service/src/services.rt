@@ -1,0 +1,178 @@
+//! The sections of a desk in which a callout is serviced, and its landing.
+ghost use Rattle.std.specs.Prelude.{◌≡◌, ◌≤◌, IfErr, IfNone, IfOk, IfSome, false};
+ghost use Rattle.std.specs.declared.option.Option.TheVariants.{Some, None};
+ghost use Rattle.co_object.specs.Queue.{Due};
+ghost use Rattle.co_service.specs.Call.{HasRoom, notes_in};
+ghost use Rattle.co_service.specs.Moving.{IsOfService, target_of};
+ghost use Rattle.co_service.specs.Services.{FollowsScans, IsBegun, IsEndedBut, IsFree, IsLanded, IsServing, IsTaken};
+ghost use Rattle.co_service.specs.Serving.{Runs, Waits};
+ghost use Rattle.co_service.specs.Views.{journal_seen};
+
+use crate::desk::{Desk, write_turn};
+use crate::moving::{Moving, depart};
+use crate::places::Places;
+use crate::running::{finish, free, serviced, take, three, waited, write_run, write_taken};
+use crate::{Made, Name, Passes, Taken};
+use co_object::{Note, QOp, QReply, RunOp};
+
+fn is_of(service: Option<(u32, u64)>, i: u32, n: u64) -> bool {
+    match service {
+        Some((j, m)) => j == i && m == n,
+        None => false,
+    }
+}
+
+impl<N: Name> Desk<N> {
+    /// Whether the journal may have fewer Scans.
+    pub(crate) fn lacks(&self, scans: u64) -> bool {
+        self.scans < scans
+    }
+
+    /// Whether this CPU or its interrupt has this arming of callout `i` in service.
+    pub(crate) fn services(&self, i: u32, n: u64) -> bool {
+        is_of(serviced(&self.wheel, false), i, n) || is_of(serviced(&self.wheel, true), i, n)
+    }
+
+    /// The first callout that has come due goes into service: of this CPU, or of its interrupt where `direct`. None where
+    /// the desk is of another CPU, or its journal has fewer Scans yet.
+    pub(crate) fn next(
+        &mut self,
+        places: &Places,
+        passes: &mut Passes,
+        cpu: u32,
+        act: u64,
+        scans: u64,
+        direct: bool,
+    ) -> Option<Taken>
+        requires places { places.now ≡ N.name }
+        requires name { passes.old.name ≡ N.name }
+        requires free { IsFree direct passes.old cpu }
+        ensures none { IfNone result (passes.new ≡ passes.old) }
+        ensures some { IfSome result (λ out. IsTaken direct passes.old cpu act out passes.new) }
+        ensures scans { IfSome result (λ _. FollowsScans scans (journal_seen passes.new cpu)) }
+    {
+        if self.books.cpu() != cpu {
+            return None;
+        }
+        if self.scans < scans {
+            return None;
+        }
+        self.books.meet(places.cpus(), passes);
+        let out = take(&mut self.wheel, direct);
+        Some(write_taken(&mut self.books, places, passes, act, direct, out))
+    }
+
+    /// The lock of the callout that this CPU has in service is held. None where the desk is of another CPU.
+    pub(crate) fn begin(
+        &mut self,
+        places: &Places,
+        passes: &mut Passes,
+        cpu: u32,
+        act: u64,
+    ) -> Option<Made>
+        requires places { places.now ≡ N.name }
+        requires name { passes.old.name ≡ N.name }
+        requires serves { (d : Due) × IsServing false passes.old cpu d (Waits d.n) }
+        ensures none { IfNone result (passes.new ≡ passes.old) }
+        ensures some { IfSome result (λ out. (d : Due) → IsServing false passes.old cpu d (Waits d.n) → IsBegun passes.old cpu act d out passes.new) }
+    {
+        if self.books.cpu() != cpu {
+            return None;
+        }
+        self.books.meet(places.cpus(), passes);
+        let Some((i, n)) = serviced(&self.wheel, false) else {
+            return None;
+        };
+        if !self.books.has(i) {
+            return None;
+        }
+        self.books.meet_timer(places.timers(), passes, i);
+        let reply = self.wheel.begin();
+        let op = RunOp::Begin { n, cpu };
+        let note = write_run(&mut self.books, places.timers(), passes, act, i, op, &reply);
+        let notes = three(Some(note), None, None);
+        Some(Made { reply, notes })
+    }
+
+    /// The service is over: of this CPU, or of its interrupt where `direct`. The callout where it leaves for another
+    /// CPU. None where the desk is of another CPU.
+    pub(crate) fn end(
+        &mut self,
+        places: &Places,
+        passes: &mut Passes,
+        cpu: u32,
+        act: u64,
+        direct: bool,
+    ) -> Option<(Made, Option<Moving<N>>)>
+        requires places { places.now ≡ N.name }
+        requires name { passes.old.name ≡ N.name }
+        requires serves { (d : Due) × IsServing direct passes.old cpu d (Runs d.n) }
+        ensures none { IfNone result (passes.new ≡ passes.old) }
+        ensures some { IfSome result (λ out. (d : Due) → IsServing direct passes.old cpu d (Runs d.n) → IsEndedBut direct passes.old cpu act d out.0.reply (target_of out.1) (notes_in out.0.notes) passes.new × IsOfService passes.old.params d.i out.1) }
+        ensures room { IfSome result (λ out. HasRoom out.0.notes) }
+    {
+        if self.books.cpu() != cpu {
+            return None;
+        }
+        self.books.meet(places.cpus(), passes);
+        let Some((i, n)) = serviced(&self.wheel, direct) else {
+            return None;
+        };
+        if !self.books.has(i) {
+            return None;
+        }
+        self.books.meet_timer(places.timers(), passes, i);
+        let out = finish(&mut self.wheel, direct);
+        let op = RunOp::End { n, cpu };
+        let reply = out.reply;
+        let ends = write_run(&mut self.books, places.timers(), passes, act, i, op, &reply);
+        let frees = write_turn(
+            &mut self.books,
+            places.cpus(),
+            passes,
+            act,
+            free(direct),
+            QReply::Freed,
+        );
+        let (n, due) = waited(&reply);
+        let leaves = depart(&mut self.books, out.leaves, n, due);
+        let notes = three(Some(ends), Some(frees), None);
+        Some((Made { reply, notes }, leaves))
+    }
+
+    /// A callout comes here that is armed at this CPU. It is handed back where the desk is another CPU's, or has no such
+    /// number, or has it.
+    pub(crate) fn land(
+        &mut self,
+        places: &Places,
+        passes: &mut Passes,
+        act: u64,
+        moving: Moving<N>,
+    ) -> Result<Note, Moving<N>>
+        requires places { places.now ≡ N.name }
+        requires name { passes.old.name ≡ N.name }
+        requires params { moving.params ≡ passes.old.params }
+        ensures back { IfErr result (λ m. (m ≡ moving) × (passes.new ≡ passes.old)) }
+        ensures landed { IfOk result (λ note. IsLanded passes.old act moving.i moving.target note passes.new) }
+    {
+        let i = moving.callout();
+        let cpu = moving.cpu();
+        if self.books.cpu() != cpu || self.books.size() <= i as usize || self.books.has(i) {
+            return Err(moving);
+        }
+        self.books.meet(places.cpus(), passes);
+        let n = moving.n;
+        let t = moving.due;
+        let at = self.wheel.land(moving.parcel);
+        self.books.put(i, moving.keeper);
+        let op = QOp::Insert { i, n, t };
+        Ok(write_turn(
+            &mut self.books,
+            places.cpus(),
+            passes,
+            act,
+            op,
+            QReply::At(at),
+        ))
+    }
+}
