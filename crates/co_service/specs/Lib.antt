@@ -14,3 +14,4 @@ pub mod Call
 pub mod Moving
 pub mod Services
 pub mod Booted
+pub mod Fresh

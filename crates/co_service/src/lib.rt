@@ -7,6 +7,7 @@ mod books;
 mod boot;
 mod calling;
 mod desk;
+mod fresh;
 mod joining;
 mod laws;
 mod line;
@@ -23,6 +24,7 @@ mod services;
 mod stories;
 mod wheels;
 
+pub use fresh::Fresh;
 pub use laws::{begins_by_own, ends_by_own, served_by_own};
 pub use line::Line;
 pub use name::Name;

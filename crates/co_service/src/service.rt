@@ -1,5 +1,5 @@
 //! The running service: each CPU's desk behind a lock of its own.
-ghost use Rattle.std.specs.Prelude.{◌≡◌, ◌<◌, ◌≤◌, IfErr, IfNone, IfOk, IfSome, false, is_some, length, true};
+ghost use Rattle.std.specs.Prelude.{◌≡◌, ◌<◌, ◌≤◌, ◌^◌, IfErr, IfNone, IfOk, IfSome, false, is_some, length, true, vec_len};
 ghost use Rattle.std.specs.declared.option.Option.TheVariants.{Some, None};
 ghost use Rattle.co_object.specs.Queue.{Due};
 ghost use Rattle.co_object.specs.Journal.{scanner};
@@ -7,6 +7,7 @@ ghost use Rattle.std.specs.Option.{option_copied};
 ghost use Rattle.co_lock.specs.Covers.{covers};
 ghost use Rattle.co_lock.specs.Service.{hold_of};
 ghost use Rattle.co_service.specs.Call.{HasRoom, IsAnswer, IsCalled, NamesCpu, notes_in};
+ghost use Rattle.co_service.specs.Fresh.{AreBenches};
 ghost use Rattle.co_service.specs.Moving.{IsOfService, target_of};
 ghost use Rattle.co_service.specs.Outcomes.{IsScan};
 ghost use Rattle.co_service.specs.Params.{actors_of, spec_at};
@@ -14,14 +15,17 @@ ghost use Rattle.co_service.specs.Services.{FollowsScans, IsBegun, IsEnded, IsEn
 ghost use Rattle.co_service.specs.Serving.{Runs, Waits};
 ghost use Rattle.co_service.specs.Views.{AreOf, journal_seen};
 
+use crate::bench::Bench;
+use crate::boot::push;
 use crate::desk::Desk;
 use crate::moving::Moving;
 use crate::places::Places;
 use crate::running::with_last;
-use crate::{Made, Name, Params, Passes, Scanned, Taken};
+use crate::{Fresh, Made, Name, Params, Passes, Scanned, Taken};
 use co_lock::Hold;
 use co_object::{CallOp, Note};
-use co_sbt::Sbt;
+use co_sbt::{NoMemory, Sbt};
+use std::alloc::Global;
 use std::marker::Model;
 use std::snapshot::Snapshot;
 use std::sync::atomic::{AtomicU32, Ordering};
@@ -62,7 +66,59 @@ impl<N: Name> Model for Service<N> {
     ghost invariant = { λ s. (s.places ≡ N.name) × (vec_len s.desks ≡ s.params.value.cpus) × (1 ≤ s.params.value.cpus) };
 }
 
+/// The desks behind their locks.
+fn lock_all<N: Name>(
+    alloc: Global,
+    params: &Params,
+    benches: Vec<Bench>,
+) -> Result<Vec<Locked<N>>, NoMemory>
+    requires few { params.now.cpus < 2 ^ 32 }
+    requires benches { AreBenches N.name params.now benches.items }
+    ensures { IfOk result (λ desks. vec_len desks ≡ params.now.cpus) }
+{
+    let mut desks = Vec::new(alloc);
+    let mut cpu = 0;
+    for bench in benches {
+        let locked = Locked {
+            desk: Mutex::new(Desk::new(cpu, params, bench)),
+            changed: Condvar::new(),
+        };
+        push(&mut desks, locked)?;
+        cpu += 1;
+    }
+    Ok(desks)
+}
+
+/// The hints of so many callouts, all of which begin at the first CPU.
+fn first_hints(alloc: Global, callouts: usize) -> Result<Vec<AtomicU32>, NoMemory> {
+    let mut hints = Vec::new(alloc);
+    for _ in 0..callouts {
+        push(&mut hints, AtomicU32::new(0))?;
+    }
+    Ok(hints)
+}
+
 impl<N: Name> Service<N> {
+    /// The running service: the desks go behind their locks. It keeps the name and the parameters.
+    pub fn open(alloc: Global, fresh: Fresh) -> Result<Service<N>, NoMemory>
+        requires { fresh.name ≡ N.name }
+        ensures { IfOk result (λ service. service ≡ fresh.params) }
+    {
+        let Fresh {
+            places,
+            params,
+            benches,
+        } = fresh;
+        let desks = lock_all(alloc, &params, benches)?;
+        let hints = first_hints(alloc, params.specs.as_slice().len())?;
+        Ok(Service {
+            places,
+            params: Snapshot::of(&params),
+            desks,
+            hints,
+        })
+    }
+
     /// The CPU whose desk is asked first for a callout.
     fn hint(&self, i: u32) -> usize
         ensures { result < self.now.cpus }
