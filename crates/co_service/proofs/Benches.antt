@@ -7,16 +7,11 @@ use Rattle.std.proofs.lemmas.List.{length-map}
 use Rattle.co_life.specs.Identity.{LifeId}
 use Rattle.co_life.specs.Views.{KeeperView}
 use Rattle.co_object.specs.declared.note.Entry.{Entry}
-use Rattle.co_object.specs.declared.note.QEntry.{QEntry}
-use Rattle.co_wheel.specs.Cpu.{Cpu}
 use Rattle.co_service.specs.declared.params.Params.{Params}
 use Rattle.co_service.specs.declared.line.Line.{Line}
 use Rattle.co_service.specs.Booted.{AreBegun, AreFirst, IsBench, IsFirst}
 use Rattle.co_service.specs.Books.{IsKept, kept_of}
-use Rattle.co_service.specs.Lines.{made}
-use Rattle.co_service.specs.Name.{ServiceName}
-use Rattle.co_service.specs.Stories.{IsHistory, IsJournal}
-use Rattle.co_service.specs.Views.{IsKeeperOf}
+use Rattle.co_service.specs.Stories.{IsHistory}
 use Rattle.co_service.proofs.Coming.{not_first}
 use Rattle.co_service.proofs.Writing.{below_get}
 
@@ -80,14 +75,3 @@ none_first lives p cpu n here long is =
       come = λ i below. absurd (let less : i < cond false (length p.specs) 0 = subst (λ (b : Bool). i < cond b (length p.specs) 0) other below in omega arith);
       missing = λ i from. ap kept_of (none_there n i);
     }
-
--- a CPU's wheel, the keepers of the callouts that begin there, and its journal's
-pub bench_of : (name : ServiceName) (p : Params) (cpu : ℕ) (w : Cpu) (ks : List Kept) (j : KeeperView (Line QEntry)) → IsFirst p cpu w → AreFirst name.timers p cpu ks → IsKeeperOf IsJournal name.cpus p cpu j → made j.history ≡ [] → IsBench name p cpu w ks j
-bench_of name p cpu w ks j wheel first own nothing = record {
-  wheel = wheel;
-  books = record { own = own; each = first.each };
-  size = first.size;
-  come = first.come;
-  missing = first.missing;
-  nothing = nothing;
-}

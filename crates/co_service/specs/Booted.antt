@@ -19,7 +19,8 @@ use Rattle.co_service.specs.Params.{actor_count, directs, no_spec}
 use Rattle.co_service.specs.Lines.{made, openings, opening_of, AllCarry}
 use Rattle.co_service.specs.Seats.{SeatsView, fresh_seats}
 use Rattle.co_service.specs.Views.{PassesView, IsKeeperOf}
-use Rattle.co_service.specs.Books.{AreBooks, IsKept, kept_of}
+use Rattle.co_service.specs.Books.{IsKept, kept_of}
+use Rattle.co_service.specs.Stories.{IsJournal}
 
 module _ {E : Type 0} where
   -- the first n actors have made their opening entries, and nothing else was made
@@ -127,8 +128,6 @@ pub record AreFirst (lives : List LifeId) (p : Params) (cpu : ℕ) (keepers : Li
 -- what a CPU has before the first call: its wheel, and keepers of the service in whose histories no call has made an entry
 pub record IsBench (name : ServiceName) (p : Params) (cpu : ℕ) (w : Cpu) (keepers : List (Option (KeeperView (Line Entry)))) (journal : KeeperView (Line QEntry)) : Type 0 where
   pub wheel : IsFirst p cpu w
-  pub books : AreBooks name p cpu keepers journal
-  pub size : length keepers ≡ length p.specs
-  pub come : (i : ℕ) → i < come_to cpu p.specs → kept_of (slice_index_or keepers i None) ≡ Some []
-  pub missing : (i : ℕ) → come_to cpu p.specs ≤ i → kept_of (slice_index_or keepers i None) ≡ None
+  pub first : AreFirst name.timers p cpu keepers
+  pub own : IsKeeperOf IsJournal name.cpus p cpu journal
   pub nothing : made journal.history ≡ []

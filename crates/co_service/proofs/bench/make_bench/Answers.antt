@@ -1,12 +1,16 @@
 use Rattle.std.proofs.Common.{sym, ap, ◌∙◌, subst, arith}
 use Rattle.co_service.specs.Booted.{AreFirst}
-use Rattle.co_service.proofs.Benches.{none_first, bench_of}
+use Rattle.co_service.proofs.Benches.{none_first}
 use Rattle.co_service.proofs.bench.make_bench.Goals as goal
 
 pub returns-clause-bench : goal.returns-clause-bench
 returns-clause-bench c =
-    bench_of c.args.places.now c.args.params.now c.args.cpu c.in_ok-wheel.wheel c.replace-keepers.result.items c.args.journal c.in_ok-wheel.ensures
-    (subst (AreFirst c.args.places.now.timers c.args.params.now c.args.cpu) (ap (λ v. v.items) (sym c.replace-keepers.ensures.value)) c.requires.here) c.requires.journal c.requires.nothing
+    record {
+      wheel = c.in_ok-wheel.ensures;
+      first = subst (AreFirst c.args.places.now.timers c.args.params.now c.args.cpu) (ap (λ v. v.items) (sym c.replace-keepers.ensures.value)) c.requires.here;
+      own = c.requires.journal;
+      nothing = c.requires.nothing;
+    }
 
 pub returns-clause-here : goal.returns-clause-here
 returns-clause-here c =
