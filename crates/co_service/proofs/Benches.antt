@@ -9,7 +9,7 @@ use Rattle.co_life.specs.Views.{KeeperView}
 use Rattle.co_object.specs.declared.note.Entry.{Entry}
 use Rattle.co_service.specs.declared.params.Params.{Params}
 use Rattle.co_service.specs.declared.line.Line.{Line}
-use Rattle.co_service.specs.Booted.{AreBegun, AreFirst, IsBench, IsFirst}
+use Rattle.co_service.specs.Booted.{AreBegun, AreFirst}
 use Rattle.co_service.specs.Books.{IsKept, kept_of}
 use Rattle.co_service.specs.Stories.{IsHistory}
 use Rattle.co_service.proofs.Coming.{not_first}

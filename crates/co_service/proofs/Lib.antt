@@ -32,3 +32,4 @@ pub mod Coming
 pub mod FirstDesk
 pub mod SetUp
 pub mod Benches
+pub mod Ended

@@ -15,3 +15,4 @@ pub mod Moving
 pub mod Services
 pub mod Booted
 pub mod Fresh
+pub mod Closing

@@ -7,6 +7,7 @@ ghost use Rattle.std.specs.Option.{option_copied};
 ghost use Rattle.co_lock.specs.Covers.{covers};
 ghost use Rattle.co_lock.specs.Service.{hold_of};
 ghost use Rattle.co_service.specs.Call.{HasRoom, IsAnswer, IsCalled, NamesCpu, notes_in};
+ghost use Rattle.co_service.specs.Closing.{AreAll, AreEnded, AreEndedCpus};
 ghost use Rattle.co_service.specs.Fresh.{AreBenches};
 ghost use Rattle.co_service.specs.Moving.{IsOfService, target_of};
 ghost use Rattle.co_service.specs.Outcomes.{IsScan};
@@ -16,7 +17,9 @@ ghost use Rattle.co_service.specs.Serving.{Runs, Waits};
 ghost use Rattle.co_service.specs.Views.{AreOf, journal_seen};
 
 use crate::bench::Bench;
+use crate::books::Books;
 use crate::boot::push;
+use crate::closing::{Closing, Ending, end_all};
 use crate::desk::Desk;
 use crate::moving::Moving;
 use crate::places::Places;
@@ -24,7 +27,7 @@ use crate::running::with_last;
 use crate::{Fresh, Made, Name, Params, Passes, Scanned, Taken};
 use co_lock::Hold;
 use co_object::{CallOp, Note};
-use co_sbt::{NoMemory, Sbt};
+use co_sbt::{NoMemory, Room, Sbt, Seq};
 use std::alloc::Global;
 use std::marker::Model;
 use std::snapshot::Snapshot;
@@ -53,17 +56,20 @@ pub struct Service<N: Name> {
     desks: Vec<Locked<N>>,
     /// By callout: the CPU whose desk is asked first. No clause rests on it.
     hints: Vec<AtomicU32>,
+    /// What the end needs. The lock is for the type alone: nothing of it is shared before the end.
+    ending: Mutex<Ending<N>>,
 }
 
 impl<N: Name> Model for Service<N> {
-    ghost use Rattle.std.specs.Prelude.{◌≡◌, ◌≤◌, vec_len};
+    ghost use Rattle.std.specs.Prelude.{vec_len};
+    ghost use Rattle.co_service.specs.Fresh.{IsService};
     ghost use Rattle.co_service.specs.declared.params.Params.{Params as ParamsOf};
 
     ghost Value = { ParamsOf };
 
     ghost view = { λ s. s.params.value };
 
-    ghost invariant = { λ s. (s.places ≡ N.name) × (vec_len s.desks ≡ s.params.value.cpus) × (1 ≤ s.params.value.cpus) };
+    ghost invariant = { λ s. IsService N.name s.places s.params.value (vec_len s.desks) };
 }
 
 /// The desks behind their locks.
@@ -87,6 +93,18 @@ fn lock_all<N: Name>(
         cpu += 1;
     }
     Ok(desks)
+}
+
+/// The books of the desks, which nothing locks any more.
+fn open_desks<N: Name>(desks: Vec<Locked<N>>, room: Room<Books<N>>) -> Vec<Books<N>>
+    requires { vec_len desks ≤ room.spare }
+{
+    let mut room = room;
+    for locked in desks {
+        let Locked { desk, changed: _ } = locked;
+        room.push(desk.into_inner().into_books());
+    }
+    room.into_seq().into_vec()
 }
 
 /// The hints of so many callouts, all of which begin at the first CPU.
@@ -116,6 +134,7 @@ impl<N: Name> Service<N> {
             params: Snapshot::of(&params),
             desks,
             hints,
+            ending: Mutex::new(Ending::new(alloc)?),
         })
     }
 
@@ -472,5 +491,30 @@ impl<N: Name> Service<N> {
         DeskHold {
             _desk: self.desks[cpu as usize].desk.lock(rt),
         }
+    }
+
+    /// Ends the service, with all actors' passes of it. It takes no memory, and waits where a history isn't found.
+    ///
+    /// What each actor had seen of a history begins it, and it has no more entries of the actor.
+    pub fn close<R: Wait>(self, rt: &R, passes: Seq<Passes>) -> Closing
+        requires { AreAll N.name self passes }
+        ensures name { result.name ≡ N.name }
+        ensures timers { AreEnded self passes result.timers }
+        ensures cpus { AreEndedCpus self passes result.cpus }
+    {
+        let Service {
+            places,
+            params: _,
+            desks,
+            hints: _,
+            ending,
+        } = self;
+        let Ending {
+            books,
+            timers,
+            cpus,
+        } = ending.into_inner();
+        let books = open_desks(desks, books);
+        end_all(rt, places, books, passes.into_vec(), timers, cpus)
     }
 }
