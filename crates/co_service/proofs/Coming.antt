@@ -1,8 +1,8 @@
 -- Callouts come to a wheel one after the other.
-use Rattle.std.proofs.Common.{◌≡◌, ◌≢◌, ℕ, zero, suc, ◌+◌, ◌<◌, ◌==◌, Bool, true, false, cond, List, [], ◌∷◌, ◌++◌, length, replicate, get_or, set, refl, sym, ap, ◌∙◌, subst, arith, length-set}
-use Rattle.std.specs.Prelude.{slice_get, slice_index_or, is_some}
+use Rattle.std.proofs.Common.{◌≡◌, ◌≢◌, ℕ, zero, suc, ◌+◌, ◌<◌, ◌==◌, Bool, true, false, cond, List, length, replicate, get_or, set, refl, sym, ap, ◌∙◌, subst, arith, length-set}
+use Rattle.std.specs.Prelude.{slice_index_or, is_some}
 use Rattle.std.specs.declared.option.Option.{Option}
-use Rattle.std.specs.declared.option.Option.TheVariants.{Some, None}
+use Rattle.std.specs.declared.option.Option.TheVariants.{None}
 use Rattle.std.proofs.lemmas.List.{get_or-set_same, get_or-set_other}
 use mathlib.Core.Logic.{dite}
 use native.Mathlib.Decide.{ℕ_discrete}
@@ -10,8 +10,7 @@ use Rattle.co_object.specs.declared.alone.Alone.{Alone}
 use Rattle.co_object.specs.declared.spec.Spec.{Spec}
 use Rattle.co_object.proofs.Numbers.{same_number}
 use Rattle.co_wheel.specs.Cpu.{Cpu}
-use Rattle.co_service.specs.declared.params.Params.{Params}
-use Rattle.co_service.specs.Booted.{AreCome, IsFirst, come_to, new_callout}
+use Rattle.co_service.specs.Booted.{AreCome, come_to, new_callout}
 use Rattle.co_service.specs.Params.{no_spec}
 
 abbrev pub nobody : Option Alone
@@ -50,15 +49,6 @@ absent_next specs k here c = ap is_some (c.missing k (omega arith))
 -- a CPU to which none comes
 pub come_other : (cpu : ℕ) (specs : List Spec) (here : List (Option Alone)) → (cpu == 0) ≡ false → AreCome specs 0 here → AreCome specs (come_to cpu specs) here
 come_other cpu specs here away c = subst (λ (b : Bool). AreCome specs (cond b (length specs) 0) here) (sym away) c
-
--- a wheel more
-pub wheel_more : (p : Params) (xs : List Cpu) (x : Cpu) (n : ℕ) → length xs ≡ n → ((k : ℕ) (w : Cpu) → slice_get xs k ≡ Some w → IsFirst p k w) → IsFirst p n x → (k : ℕ) (w : Cpu) → slice_get (xs ++ x ∷ []) k ≡ Some w → IsFirst p k w
-wheel_more p xs x n long each is k w at = by_place (λ j. IsFirst p j) xs x each (subst (λ (m : ℕ). IsFirst p m x) (sym long) is) k w at where
-  by_place : (P : ℕ → Cpu → Type 0) (xs : List Cpu) (x : Cpu) → ((k : ℕ) (w : Cpu) → slice_get xs k ≡ Some w → P k w) → P (length xs) x → (k : ℕ) (w : Cpu) → slice_get (xs ++ x ∷ []) k ≡ Some w → P k w
-  by_place P [] x each is zero w at = let same : x ≡ w = cc in subst (P zero) same is
-  by_place P [] x each is (suc k) w at = absurd (cc)
-  by_place P (y ∷ xs) x each is zero w at = each zero w at
-  by_place P (y ∷ xs) x each is (suc k) w at = by_place (λ j v. P (suc j) v) xs x (λ j v h. each (suc j) v h) is k w at
 
 -- only who is there has changed
 pub rest_then : (w w' w'' : Cpu) (here : List (Option Alone)) → w' ≡ record w { callouts = record w.callouts { here = w'.callouts.here } } → w'' ≡ record w' { callouts = record w'.callouts { here = here } } → w'' ≡ record w { callouts = record w.callouts { here = w''.callouts.here } }

@@ -36,8 +36,8 @@ module _ (name : ServiceName) (p : Params) (cpu : ℕ) (w : Cpu) (ks : List (Opt
   stands : (i : ℕ) → StandsAs p i (callout w.callouts i) (history_at b i)
   stands i = go (leb_tells (come_to cpu p.specs) i) where
     go : ((nat_le (come_to cpu p.specs) i ≡ true) × (come_to cpu p.specs ≤ i)) ⊎ ((nat_le (come_to cpu p.specs) i ≡ false) × (i < come_to cpu p.specs)) → StandsAs p i (callout w.callouts i) (history_at b i)
-    go (inl from) = subst (λ (t : Option Alone × Option (List Entry)). StandsAs p i t.0 t.1) (λ d. (sym (is.wheel.come.missing i from.1) d, sym (history_is i ∙ is.missing i from.1) d)) tt
-    go (inr less) = subst (λ (t : Option Alone × Option (List Entry)). StandsAs p i t.0 t.1) (λ d. (sym (is.wheel.come.come i less.1) d, sym (history_is i ∙ is.come i less.1) d)) refl
+    go (inl from) = subst (λ (t : Option Alone × Option (List Entry)). StandsAs p i t.0 t.1) (λ d. (sym (is.wheel.come.missing i from.1) d, sym (history_is i ∙ is.first.missing i from.1) d)) tt
+    go (inr less) = subst (λ (t : Option Alone × Option (List Entry)). StandsAs p i t.0 t.1) (λ d. (sym (is.wheel.come.come i less.1) d, sym (history_is i ∙ is.first.come i less.1) d)) refl
 
   here : (i : ℕ) → IsHere cpu (callout w.callouts i)
   here i = go (leb_tells (come_to cpu p.specs) i) where
@@ -49,7 +49,7 @@ module _ (name : ServiceName) (p : Params) (cpu : ℕ) (w : Cpu) (ks : List (Opt
   first_desk = record {
     of = record {
       cpu = is.wheel.cpu_is;
-      size = is.wheel.come.count ∙ (sym is.size ∙ sym (length-map ks kept_of));
+      size = is.wheel.come.count ∙ (sym is.first.size ∙ sym (length-map ks kept_of));
       buckets = ap (λ (t : Timers). t.buckets) is.wheel.timers;
       direct = ap (λ (t : Timers). t.direct) is.wheel.timers;
     };

@@ -96,3 +96,10 @@ module _ {A : Type 0} where
   index_else (x ∷ xs) zero (suc j) a d away = refl
   index_else (x ∷ xs) (suc k) zero a d away = refl
   index_else (x ∷ xs) (suc k) (suc j) a d away = index_else xs k j a d (λ e. away (ap suc e))
+
+-- each item as its number says, and one more
+pub each_place : {A : Type 0} (P : ℕ → A → Type 0) (xs : List A) (x : A) → ((k : ℕ) (y : A) → slice_get xs k ≡ Some y → P k y) → P (length xs) x → (k : ℕ) (y : A) → slice_get (xs ++ x ∷ []) k ≡ Some y → P k y
+each_place P [] x each is zero y at = let same : x ≡ y = cc in subst (P zero) same is
+each_place P [] x each is (suc k) y at = absurd (cc)
+each_place P (z ∷ xs) x each is zero y at = each zero y at
+each_place P (z ∷ xs) x each is (suc k) y at = each_place (λ j v. P (suc j) v) xs x (λ j v h. each (suc j) v h) is k y at

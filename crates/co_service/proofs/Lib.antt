@@ -30,3 +30,6 @@ pub mod Signing
 pub mod Joined
 pub mod Coming
 pub mod FirstDesk
+pub mod SetUp
+pub mod Benches
+pub mod Ended

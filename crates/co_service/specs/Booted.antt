@@ -18,8 +18,9 @@ use Rattle.co_service.specs.Name.{ServiceName}
 use Rattle.co_service.specs.Params.{actor_count, directs, no_spec}
 use Rattle.co_service.specs.Lines.{made, openings, opening_of, AllCarry}
 use Rattle.co_service.specs.Seats.{SeatsView, fresh_seats}
-use Rattle.co_service.specs.Views.{PassesView}
-use Rattle.co_service.specs.Books.{AreBooks, kept_of}
+use Rattle.co_service.specs.Views.{PassesView, IsKeeperOf}
+use Rattle.co_service.specs.Books.{IsKept, kept_of}
+use Rattle.co_service.specs.Stories.{IsJournal}
 
 module _ {E : Type 0} where
   -- the first n actors have made their opening entries, and nothing else was made
@@ -73,6 +74,19 @@ module _ {E : Type 0} where
     pub ready : (i : ℕ) (k : KeeperView (Line E)) → slice_get keepers i ≡ Some k → IsReady p actors i lives k
     pub seated : AreSeated p lives [] actors 0 all
 
+module _ {E : Type 0} where
+  -- the keepers of all places of a kind, in whose histories no call has made an entry
+  pub record AreBegun (Legal : Params → ℕ → List E → Type 0) (lives : List LifeId) (p : Params) (keepers : List (KeeperView (Line E))) : Type 0 where
+    pub each : (i : ℕ) (k : KeeperView (Line E)) → slice_get keepers i ≡ Some k → IsKeeperOf Legal lives p i k
+    pub nothing : (i : ℕ) (k : KeeperView (Line E)) → slice_get keepers i ≡ Some k → made k.history ≡ []
+
+  -- so many places of a kind, and each actor's passes of them
+  pub record AreSetUp (Legal : Params → ℕ → List E → Type 0) (p : Params) (count : ℕ) (lives : List LifeId) (keepers : List (KeeperView (Line E))) (all : List (SeatsView (Line E))) : Type 0 where
+    pub lives_are : length lives ≡ count
+    pub keepers_are : length keepers ≡ count
+    pub begun : AreBegun Legal lives p keepers
+    pub left : AreLeft p lives (actor_count p) 0 all
+
 -- passes that have seen nothing
 abbrev pub booted : ServiceName → Params → ℕ → PassesView
 booted name p a = record { name = name; params = p; actor = a; timers = map (λ _. []) name.timers; cpus = map (λ _. []) name.cpus }
@@ -104,11 +118,16 @@ pub record IsFirst (p : Params) (cpu : ℕ) (w : Cpu) : Type 0 where
   pub directing : w.callouts.directing ≡ None
   pub timers : w.timers ≡ empty_timers (length p.specs) p.buckets (directs p)
 
--- what a CPU has before the first call: its wheel, and keepers of the service in whose histories no call has made an entry
-pub record IsBench (name : ServiceName) (p : Params) (cpu : ℕ) (w : Cpu) (keepers : List (Option (KeeperView (Line Entry)))) (journal : KeeperView (Line QEntry)) : Type 0 where
-  pub wheel : IsFirst p cpu w
-  pub books : AreBooks name p cpu keepers journal
+-- the keepers of the callouts of a CPU, in whose histories no call has made an entry
+pub record AreFirst (lives : List LifeId) (p : Params) (cpu : ℕ) (keepers : List (Option (KeeperView (Line Entry)))) : Type 0 where
+  pub each : (i : ℕ) → IsKept lives p i (slice_index_or keepers i None)
   pub size : length keepers ≡ length p.specs
   pub come : (i : ℕ) → i < come_to cpu p.specs → kept_of (slice_index_or keepers i None) ≡ Some []
   pub missing : (i : ℕ) → come_to cpu p.specs ≤ i → kept_of (slice_index_or keepers i None) ≡ None
+
+-- what a CPU has before the first call: its wheel, and keepers of the service in whose histories no call has made an entry
+pub record IsBench (name : ServiceName) (p : Params) (cpu : ℕ) (w : Cpu) (keepers : List (Option (KeeperView (Line Entry)))) (journal : KeeperView (Line QEntry)) : Type 0 where
+  pub wheel : IsFirst p cpu w
+  pub first : AreFirst name.timers p cpu keepers
+  pub own : IsKeeperOf IsJournal name.cpus p cpu journal
   pub nothing : made journal.history ≡ []

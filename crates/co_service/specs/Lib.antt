@@ -14,3 +14,5 @@ pub mod Call
 pub mod Moving
 pub mod Services
 pub mod Booted
+pub mod Fresh
+pub mod Closing

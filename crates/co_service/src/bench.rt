@@ -1,15 +1,27 @@
 //! What a CPU has before the locks.
-ghost use Rattle.std.specs.Prelude.{◌≡◌};
+ghost use Rattle.std.specs.Prelude.{◌≡◌, ◌+◌, ◌<◌, ◌≤◌, ◌^◌, [], IfOk, OnOk, length, map, replicate};
+ghost use Rattle.std.specs.declared.option.Option.TheVariants.{Some, None};
 ghost use Rattle.co_service.specs.Books.{books_of};
-ghost use Rattle.co_service.specs.Booted.{IsBench};
+ghost use Rattle.co_service.specs.Booted.{AreBegun, AreFirst, IsBench};
+ghost use Rattle.co_service.specs.Fresh.{AreBenches};
+ghost use Rattle.co_service.specs.Lines.{made};
+ghost use Rattle.co_service.specs.Params.{AreParams, directs as directs_of};
+ghost use Rattle.co_service.specs.Stories.{IsHistory, IsJournal};
+ghost use Rattle.co_service.specs.Views.{IsKeeperOf};
 
 use crate::books::Books;
+use crate::boot::push;
 use crate::desk::Desk;
+use crate::places::Places;
+use crate::wheels::{directs, first_wheel};
 use crate::{CpuStory, Name, Params, TimerStory};
 use co_bucket::WheelQueue;
 use co_life::Keeper;
+use co_sbt::NoMemory;
 use co_wheel::Wheel;
+use std::alloc::Global;
 use std::marker::PhantomData;
+use std::mem;
 use std::snapshot::Snapshot;
 
 /// What a CPU has before the locks: its wheel, the keepers of the callouts that begin there, and that of its journal.
@@ -39,4 +51,92 @@ impl<N: Name> Desk<N> {
             scans: 0,
         }
     }
+}
+
+/// All callouts are here.
+fn all_here(
+    alloc: Global,
+    keepers: Vec<Keeper<TimerStory>>,
+) -> Result<Vec<Option<Keeper<TimerStory>>>, NoMemory>
+    ensures { IfOk result (λ here. here.items ≡ map Some keepers.items) }
+{
+    let mut here = Vec::new(alloc);
+    for keeper in keepers {
+        push(&mut here, Some(keeper))?;
+    }
+    Ok(here)
+}
+
+/// None of so many callouts is here.
+fn none_here(alloc: Global, count: usize) -> Result<Vec<Option<Keeper<TimerStory>>>, NoMemory>
+    ensures { IfOk result (λ here. here.items ≡ replicate count None) }
+{
+    let mut here = Vec::new(alloc);
+    for _at in 0..count {
+        push(&mut here, None)?;
+    }
+    Ok(here)
+}
+
+/// What a CPU has before the locks. It takes the keepers that are here, and none are left for the next CPU.
+fn make_bench(
+    alloc: Global,
+    params: &Params,
+    places: &Places,
+    direct: &[bool],
+    cpu: u32,
+    here: &mut Vec<Option<Keeper<TimerStory>>>,
+    journal: Keeper<CpuStory>,
+) -> Result<Bench, NoMemory>
+    requires params { AreParams params.now }
+    requires direct { direct.now ≡ directs_of params.now }
+    requires here { AreFirst places.now.timers params.now cpu here.old.items }
+    requires journal { IsKeeperOf IsJournal places.now.cpus params.now cpu journal }
+    requires nothing { made journal.history ≡ [] }
+    ensures bench { IfOk result (λ bench. IsBench places.now params.now cpu bench.wheel bench.keepers.items bench.journal) }
+    ensures here { OnOk result (AreFirst places.now.timers params.now (cpu + 1) here.new.items) }
+{
+    let wheel = first_wheel(alloc, params, direct, cpu)?;
+    let others = none_here(alloc, here.len())?;
+    let keepers = mem::replace(here, others);
+    Ok(Bench {
+        wheel,
+        keepers,
+        journal,
+    })
+}
+
+/// What each CPU has before the locks, in the order of their numbers.
+pub(crate) fn make_benches(
+    alloc: Global,
+    params: &Params,
+    places: &Places,
+    timers: Vec<Keeper<TimerStory>>,
+    journals: Vec<Keeper<CpuStory>>,
+) -> Result<Vec<Bench>, NoMemory>
+    requires params { AreParams params.now }
+    requires timers { AreBegun IsHistory places.now.timers params.now timers.items }
+    requires callouts { length timers.items ≡ length params.now.specs }
+    requires journals { AreBegun IsJournal places.now.cpus params.now journals.items }
+    requires cpus { length journals.items ≡ params.now.cpus }
+    ensures { IfOk result (λ benches. AreBenches places.now params.now benches.items) }
+{
+    let direct = directs(alloc, params.specs.as_slice())?;
+    let mut here = all_here(alloc, timers)?;
+    let mut benches = Vec::new(alloc);
+    let mut cpu = 0;
+    for journal in journals {
+        let bench = make_bench(
+            alloc,
+            params,
+            places,
+            direct.as_slice(),
+            cpu,
+            &mut here,
+            journal,
+        )?;
+        push(&mut benches, bench)?;
+        cpu += 1;
+    }
+    Ok(benches)
 }

@@ -165,4 +165,11 @@ impl<N: Name> Books<N> {
     {
         self.keepers[i as usize] = Some(keeper);
     }
+
+    /// The keeper of the CPU's journal, where nothing else is wanted any more.
+    pub(crate) fn into_journal(self) -> Keeper<CpuStory>
+        ensures { IsKeeperOf IsJournal N.name.cpus self.params self.cpu result }
+    {
+        self.journal
+    }
 }

@@ -99,7 +99,7 @@ pub(crate) fn push<T: Drop>(items: &mut Vec<T>, item: T) -> Result<(), NoMemory>
 
 /// The places of a kind, made one after the other: their lives, their keepers, and each actor's passes of them, which
 /// have seen the opening entries alone.
-fn make_places<E: Drop, S: Story<Entry = Line<E>>>(
+pub(crate) fn make_places<E: Drop, S: Story<Entry = Line<E>>>(
     alloc: Global,
     params: &Params,
     count: u32,

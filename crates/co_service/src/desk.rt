@@ -77,6 +77,11 @@ pub(crate) fn write_turn<N: Name>(
 }
 
 impl<N: Name> Desk<N> {
+    /// The books, where nothing else is wanted any more.
+    pub(crate) fn into_books(self) -> Books<N> {
+        self.books
+    }
+
     /// What is due at this CPU has come due. None where the desk is of another CPU.
     pub(crate) fn scan(
         &mut self,

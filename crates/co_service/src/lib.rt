@@ -6,7 +6,9 @@ mod bench;
 mod books;
 mod boot;
 mod calling;
+mod closing;
 mod desk;
+mod fresh;
 mod joining;
 mod laws;
 mod line;
@@ -23,6 +25,8 @@ mod services;
 mod stories;
 mod wheels;
 
+pub use closing::Closing;
+pub use fresh::Fresh;
 pub use laws::{begins_by_own, ends_by_own, served_by_own};
 pub use line::Line;
 pub use name::Name;

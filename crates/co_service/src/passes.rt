@@ -2,6 +2,7 @@
 ghost use Rattle.std.specs.Prelude.{◌≡◌, [], ◌∷◌, ◌++◌, slice_get};
 ghost use Rattle.std.specs.declared.option.Option.TheVariants.{Some};
 ghost use Rattle.co_service.specs.declared.params.Params.{Params};
+ghost use Rattle.co_service.specs.Closing.{MeetsCpu, MeetsTimer};
 ghost use Rattle.co_service.specs.Lines.{made, opening_of};
 ghost use Rattle.co_service.specs.Params.{actor_count};
 ghost use Rattle.co_service.specs.Seats.{IsShown};
@@ -11,7 +12,7 @@ ghost use Rattle.co_service.specs.Writes.{WritesCpu, WritesTimer};
 
 use crate::seats::{Lives, Seats};
 use crate::{CpuStory, Line, Params, TimerStory};
-use co_life::Keeper;
+use co_life::{Keeper, Life};
 use co_object::{Entry, QEntry};
 use std::marker::Model;
 use std::snapshot::Snapshot;
@@ -125,5 +126,39 @@ impl Passes {
         ensures params { opening_of keeper.old.history ≡ Some (self.old.params, cpu) }
     {
         self.cpus.meet(lives.get(cpu), keeper, cpu);
+    }
+
+    /// Compares the pass of callout `i` with its history, by its life. Nothing changes.
+    pub(crate) fn meet_last_timer(
+        &mut self,
+        life: &Life<TimerStory>,
+        keeper: &mut Keeper<TimerStory>,
+        i: u32,
+    )
+        requires at { slice_get self.old.name.timers i ≡ Some life.now }
+        requires life { keeper.old.life ≡ life.now }
+        requires opened { (params : Params) × (opening_of keeper.old.history ≡ Some (params, i)) }
+        ensures keeper { keeper.new ≡ keeper.old }
+        ensures same { self.new ≡ self.old }
+        ensures met { MeetsTimer keeper.old i self.old }
+    {
+        self.timers.meet(life, keeper, i);
+    }
+
+    /// Compares the pass of a CPU with its journal, by its life. Nothing changes.
+    pub(crate) fn meet_last_cpu(
+        &mut self,
+        life: &Life<CpuStory>,
+        keeper: &mut Keeper<CpuStory>,
+        cpu: u32,
+    )
+        requires at { slice_get self.old.name.cpus cpu ≡ Some life.now }
+        requires life { keeper.old.life ≡ life.now }
+        requires opened { (params : Params) × (opening_of keeper.old.history ≡ Some (params, cpu)) }
+        ensures keeper { keeper.new ≡ keeper.old }
+        ensures same { self.new ≡ self.old }
+        ensures met { MeetsCpu keeper.old cpu self.old }
+    {
+        self.cpus.meet(life, keeper, cpu);
     }
 }

@@ -41,4 +41,11 @@ impl Places {
     {
         &self.wheels
     }
+
+    /// The lives of the callouts, and those of the CPUs.
+    pub(crate) fn into_lives(self) -> (Lives<TimerStory>, Lives<CpuStory>)
+        ensures { (result.0 ≡ self.timers) × (result.1 ≡ self.cpus) }
+    {
+        (self.callouts, self.wheels)
+    }
 }

@@ -49,6 +49,13 @@ impl<S: Story> Lives<S> {
         }
     }
 
+    /// The lives, in the order of their places.
+    pub(crate) fn into_vec(self) -> Vec<Life<S>>
+        ensures { result.items ≡ self }
+    {
+        self.lives
+    }
+
     /// How many there are.
     pub(crate) fn len(&self) -> usize
         ensures { result ≡ length self.now }

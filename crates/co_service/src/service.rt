@@ -1,5 +1,5 @@
 //! The running service: each CPU's desk behind a lock of its own.
-ghost use Rattle.std.specs.Prelude.{◌≡◌, ◌<◌, ◌≤◌, IfErr, IfNone, IfOk, IfSome, false, is_some, length, true};
+ghost use Rattle.std.specs.Prelude.{◌≡◌, ◌<◌, ◌≤◌, ◌^◌, IfErr, IfNone, IfOk, IfSome, false, is_some, length, true, vec_len};
 ghost use Rattle.std.specs.declared.option.Option.TheVariants.{Some, None};
 ghost use Rattle.co_object.specs.Queue.{Due};
 ghost use Rattle.co_object.specs.Journal.{scanner};
@@ -7,6 +7,8 @@ ghost use Rattle.std.specs.Option.{option_copied};
 ghost use Rattle.co_lock.specs.Covers.{covers};
 ghost use Rattle.co_lock.specs.Service.{hold_of};
 ghost use Rattle.co_service.specs.Call.{HasRoom, IsAnswer, IsCalled, NamesCpu, notes_in};
+ghost use Rattle.co_service.specs.Closing.{AreAll, AreEnded, AreEndedCpus};
+ghost use Rattle.co_service.specs.Fresh.{AreBenches};
 ghost use Rattle.co_service.specs.Moving.{IsOfService, target_of};
 ghost use Rattle.co_service.specs.Outcomes.{IsScan};
 ghost use Rattle.co_service.specs.Params.{actors_of, spec_at};
@@ -14,14 +16,19 @@ ghost use Rattle.co_service.specs.Services.{FollowsScans, IsBegun, IsEnded, IsEn
 ghost use Rattle.co_service.specs.Serving.{Runs, Waits};
 ghost use Rattle.co_service.specs.Views.{AreOf, journal_seen};
 
+use crate::bench::Bench;
+use crate::books::Books;
+use crate::boot::push;
+use crate::closing::{Closing, Ending, end_all};
 use crate::desk::Desk;
 use crate::moving::Moving;
 use crate::places::Places;
 use crate::running::with_last;
-use crate::{Made, Name, Params, Passes, Scanned, Taken};
+use crate::{Fresh, Made, Name, Params, Passes, Scanned, Taken};
 use co_lock::Hold;
 use co_object::{CallOp, Note};
-use co_sbt::Sbt;
+use co_sbt::{NoMemory, Room, Sbt, Seq};
+use std::alloc::Global;
 use std::marker::Model;
 use std::snapshot::Snapshot;
 use std::sync::atomic::{AtomicU32, Ordering};
@@ -49,20 +56,88 @@ pub struct Service<N: Name> {
     desks: Vec<Locked<N>>,
     /// By callout: the CPU whose desk is asked first. No clause rests on it.
     hints: Vec<AtomicU32>,
+    /// What the end needs. The lock is for the type alone: nothing of it is shared before the end.
+    ending: Mutex<Ending<N>>,
 }
 
 impl<N: Name> Model for Service<N> {
-    ghost use Rattle.std.specs.Prelude.{◌≡◌, ◌≤◌, vec_len};
+    ghost use Rattle.std.specs.Prelude.{vec_len};
+    ghost use Rattle.co_service.specs.Fresh.{IsService};
     ghost use Rattle.co_service.specs.declared.params.Params.{Params as ParamsOf};
 
     ghost Value = { ParamsOf };
 
     ghost view = { λ s. s.params.value };
 
-    ghost invariant = { λ s. (s.places ≡ N.name) × (vec_len s.desks ≡ s.params.value.cpus) × (1 ≤ s.params.value.cpus) };
+    ghost invariant = { λ s. IsService N.name s.places s.params.value (vec_len s.desks) };
+}
+
+/// The desks behind their locks.
+fn lock_all<N: Name>(
+    alloc: Global,
+    params: &Params,
+    benches: Vec<Bench>,
+) -> Result<Vec<Locked<N>>, NoMemory>
+    requires few { params.now.cpus < 2 ^ 32 }
+    requires benches { AreBenches N.name params.now benches.items }
+    ensures { IfOk result (λ desks. vec_len desks ≡ params.now.cpus) }
+{
+    let mut desks = Vec::new(alloc);
+    let mut cpu = 0;
+    for bench in benches {
+        let locked = Locked {
+            desk: Mutex::new(Desk::new(cpu, params, bench)),
+            changed: Condvar::new(),
+        };
+        push(&mut desks, locked)?;
+        cpu += 1;
+    }
+    Ok(desks)
+}
+
+/// The books of the desks, which nothing locks any more.
+fn open_desks<N: Name>(desks: Vec<Locked<N>>, room: Room<Books<N>>) -> Vec<Books<N>>
+    requires { vec_len desks ≤ room.spare }
+{
+    let mut room = room;
+    for locked in desks {
+        let Locked { desk, changed: _ } = locked;
+        room.push(desk.into_inner().into_books());
+    }
+    room.into_seq().into_vec()
+}
+
+/// The hints of so many callouts, all of which begin at the first CPU.
+fn first_hints(alloc: Global, callouts: usize) -> Result<Vec<AtomicU32>, NoMemory> {
+    let mut hints = Vec::new(alloc);
+    for _ in 0..callouts {
+        push(&mut hints, AtomicU32::new(0))?;
+    }
+    Ok(hints)
 }
 
 impl<N: Name> Service<N> {
+    /// The running service: the desks go behind their locks. It keeps the name and the parameters.
+    pub fn open(alloc: Global, fresh: Fresh) -> Result<Service<N>, NoMemory>
+        requires { fresh.name ≡ N.name }
+        ensures { IfOk result (λ service. service ≡ fresh.params) }
+    {
+        let Fresh {
+            places,
+            params,
+            benches,
+        } = fresh;
+        let desks = lock_all(alloc, &params, benches)?;
+        let hints = first_hints(alloc, params.specs.as_slice().len())?;
+        Ok(Service {
+            places,
+            params: Snapshot::of(&params),
+            desks,
+            hints,
+            ending: Mutex::new(Ending::new(alloc)?),
+        })
+    }
+
     /// The CPU whose desk is asked first for a callout.
     fn hint(&self, i: u32) -> usize
         ensures { result < self.now.cpus }
@@ -416,5 +491,30 @@ impl<N: Name> Service<N> {
         DeskHold {
             _desk: self.desks[cpu as usize].desk.lock(rt),
         }
+    }
+
+    /// Ends the service, with all actors' passes of it. It takes no memory, and waits where a history isn't found.
+    ///
+    /// What each actor had seen of a history begins it, and it has no more entries of the actor.
+    pub fn close<R: Wait>(self, rt: &R, passes: Seq<Passes>) -> Closing
+        requires { AreAll N.name self passes }
+        ensures name { result.name ≡ N.name }
+        ensures timers { AreEnded self passes result.timers }
+        ensures cpus { AreEndedCpus self passes result.cpus }
+    {
+        let Service {
+            places,
+            params: _,
+            desks,
+            hints: _,
+            ending,
+        } = self;
+        let Ending {
+            books,
+            timers,
+            cpus,
+        } = ending.into_inner();
+        let books = open_desks(desks, books);
+        end_all(rt, places, books, passes.into_vec(), timers, cpus)
     }
 }

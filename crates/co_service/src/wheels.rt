@@ -1,14 +1,12 @@
 //! The wheels of a service before the first call.
-ghost use Rattle.std.specs.Prelude.{◌≡◌, ◌<◌, ℕ, length, map, vec_len, IfOk, slice_get};
-ghost use Rattle.std.specs.declared.option.Option.TheVariants.{Some, None};
+ghost use Rattle.std.specs.Prelude.{◌≡◌, ◌<◌, length, map, IfOk};
 ghost use Rattle.co_queue.specs.Timers.{IsSize, IsWheel, empty_timers};
 ghost use Rattle.co_wheel.specs.Callouts.{empty_callouts};
-ghost use Rattle.co_wheel.specs.Cpu.{Cpu, cpu_of};
+ghost use Rattle.co_wheel.specs.Cpu.{cpu_of};
 ghost use Rattle.co_service.specs.Booted.{AreCome, IsFirst};
 ghost use Rattle.co_service.specs.Params.{AreParams, directs};
 
 use crate::Params;
-use crate::boot::push;
 use co_bucket::WheelQueue;
 use co_object::Spec;
 use co_record::Record;
@@ -17,7 +15,7 @@ use co_wheel::Wheel;
 use std::alloc::Global;
 
 /// Which of the callouts are direct.
-fn directs(alloc: Global, specs: &[Spec]) -> Result<Seq<bool>, NoMemory>
+pub(crate) fn directs(alloc: Global, specs: &[Spec]) -> Result<Seq<bool>, NoMemory>
     ensures { IfOk result (λ directs. directs ≡ map (λ spec. spec.direct) specs.now) }
 {
     let mut directs = Seq::new(alloc);
@@ -58,7 +56,7 @@ fn put_all(wheel: &mut Wheel<WheelQueue>, specs: &[Spec])
 }
 
 /// The wheel of a CPU before the first call: all callouts begin at CPU 0.
-fn first_wheel(
+pub(crate) fn first_wheel(
     alloc: Global,
     params: &Params,
     direct: &[bool],
@@ -75,22 +73,4 @@ fn first_wheel(
     }
     put_all(&mut wheel, specs);
     Ok(wheel)
-}
-
-/// The wheels of all CPUs before the first call.
-pub(crate) fn first_wheels(
-    alloc: Global,
-    params: &Params,
-) -> Result<Vec<Wheel<WheelQueue>>, NoMemory>
-    requires params { AreParams params.now }
-    ensures count { IfOk result (λ wheels. vec_len wheels ≡ params.now.cpus) }
-    ensures each { IfOk result (λ wheels. (cpu : ℕ) (w : Cpu) → slice_get wheels.items cpu ≡ Some w → IsFirst params.now cpu w) }
-{
-    let direct = directs(alloc, params.specs.as_slice())?;
-    let mut wheels = Vec::new(alloc);
-    for cpu in 0..params.cpus {
-        let wheel = first_wheel(alloc, params, direct.as_slice(), cpu)?;
-        push(&mut wheels, wheel)?;
-    }
-    Ok(wheels)
 }

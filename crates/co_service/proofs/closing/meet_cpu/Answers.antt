@@ -1,0 +1,36 @@
+use Rattle.std.proofs.Common.{◌≡◌, ◌<◌, length, set, ap, ◌∙◌, subst, arith}
+use Rattle.std.specs.Prelude.{slice_get, slice_index_or}
+use Rattle.std.specs.declared.option.Option.TheVariants.{Some}
+use Rattle.co_service.specs.Closing.{MeetsCpu}
+use Rattle.co_service.proofs.Items.{all_at, all_taken, all_of_taken, set_same, get_here}
+use Rattle.co_service.proofs.closing.meet_cpu.Goals as goal
+
+pub meet_last_cpu-requires-clause-at : goal.meet_last_cpu-requires-clause-at
+meet_last_cpu-requires-clause-at c =
+    let at = c.loop-at in
+    let i = at.invariant in
+    let x = c.index_mut-one.result.now in
+    let xs = c.args.passes.now.items in
+    let here = c.index_mut-one.ensures.value ∙ ap (λ l. slice_index_or l at.at x) i.passes in
+    let few : at.at < length xs = (let n = c.len-at-end.ensures in let t = c.loop-at-test.true in let l = c.args.passes.now.ok.0 in omega arith) in
+    all_at (λ q. slice_get q.name.cpus c.args.cpu ≡ Some c.args.life.now) xs at.at x c.requires.at (get_here xs at.at x few here)
+
+pub loop-at-preserved : goal.loop-at-preserved
+loop-at-preserved c =
+    let at = c.loop-at in
+    let i = at.invariant in
+    let m = c.meet_last_cpu.ensures in
+    let x = c.index_mut-one.result.now in
+    let xs = c.args.passes.now.items in
+    let here = c.index_mut-one.ensures.value ∙ ap (λ l. slice_index_or l at.at x) i.passes in
+    let few : at.at < length xs = (let n = c.len-at-end.ensures in let t = c.loop-at-test.true in let l = c.args.passes.now.ok.0 in omega arith) in
+    record {
+      keeper = m.keeper ∙ i.keeper;
+      passes = ap (set at.passes.items at.at) m.same ∙ (ap (λ l. set l at.at x) i.passes ∙ set_same xs at.at x (get_here xs at.at x few here));
+      met = all_taken (MeetsCpu c.args.keeper.now c.args.cpu) xs at.at x few i.met here (subst (λ k. MeetsCpu k c.args.cpu x) i.keeper m.met);
+    }
+
+pub returns-clause-met : goal.returns-clause-met
+returns-clause-met c =
+    let at = c.loop-at in
+    all_of_taken (MeetsCpu c.args.keeper.now c.args.cpu) c.args.passes.now.items at.at (let n = c.len-at-end.ensures in let t = c.loop-at-test.false in let l = c.args.passes.now.ok.0 in omega arith) at.invariant.met

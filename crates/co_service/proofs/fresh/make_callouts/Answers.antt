@@ -1,0 +1,19 @@
+use Rattle.std.proofs.Common.{length, ap, subst}
+use Rattle.std.proofs.lemmas.Result.{IfOk-weaker}
+use Rattle.co_service.specs.Booted.{AreSetUp}
+use Rattle.co_service.specs.Stories.{IsHistory}
+use Rattle.co_service.proofs.SetUp.{no_history, timer_opener, set_up, story_opened}
+use Rattle.co_service.proofs.fresh.make_callouts.Goals as goal
+
+pub make_places-requires-clause-legal : goal.make_places-requires-clause-legal
+make_places-requires-clause-legal c = λ i n h is. story_opened IsHistory c.args.params.now i n h (no_history c.args.params.now i) is
+
+pub make_places-requires-clause-by : goal.make_places-requires-clause-by
+make_places-requires-clause-by c = timer_opener
+
+pub returns : goal.returns
+returns c =
+    let p = c.args.params.now in
+    IfOk-weaker c.make_places.result _ _
+    (λ made is. subst (λ n. AreSetUp IsHistory p n made.0 made.1.items made.2.items) (ap length c.as_slice.ensures)
+    (set_up IsHistory p _ c.args.actors made.0 made.1.items made.2.items (no_history p) c.requires.actors.0 c.requires.actors.1 is)) c.make_places.ensures

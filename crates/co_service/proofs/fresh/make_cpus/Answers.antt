@@ -1,0 +1,15 @@
+use Rattle.std.proofs.lemmas.Result.{IfOk-weaker}
+use Rattle.co_service.specs.Stories.{IsJournal}
+use Rattle.co_service.proofs.SetUp.{no_journal, cpu_opener, set_up, story_opened}
+use Rattle.co_service.proofs.fresh.make_cpus.Goals as goal
+
+pub make_places-requires-clause-legal : goal.make_places-requires-clause-legal
+make_places-requires-clause-legal c = λ i n h is. story_opened IsJournal c.args.params.now i n h (no_journal c.args.params.now i) is
+
+pub make_places-requires-clause-by : goal.make_places-requires-clause-by
+make_places-requires-clause-by c = cpu_opener
+
+pub returns : goal.returns
+returns c =
+    let p = c.args.params.now in
+    IfOk-weaker c.make_places.result _ _ (λ made is. set_up IsJournal p _ c.args.actors made.0 made.1.items made.2.items (no_journal p) c.requires.actors.0 c.requires.actors.1 is) c.make_places.ensures

@@ -1,0 +1,29 @@
+use Rattle.std.proofs.Common.{◌≡◌, ◌+◌, [], ◌∷◌, ◌++◌, length, sym, ap, ◌∙◌, arith, append_assoc, length-append}
+use Rattle.std.specs.Prelude.{slice_get}
+use Rattle.std.specs.declared.option.Option.TheVariants.{Some}
+use Rattle.std.specs.Vec.Iter.{into_iter_items}
+use Rattle.co_service.proofs.Items.{get_mid}
+use Rattle.co_service.proofs.service.lock_all.Goals as goal
+
+pub new-requires : goal.new-requires
+new-requires g c =
+    let at = c.loop-bench in
+    let i = at.invariant in
+    let x = c.in-Some.bench in
+    let steps : into_iter_items at.bench-iterator ≡ x ∷ into_iter_items c.next.new.self = c.in-Some.ensures.steps.0 in
+    let all = ap (λ l. at.yielded ++ l) (sym steps) ∙ (i.yields ∙ c.into_iter-bench-iterator.ensures.into_iter_gives.0) in
+    let here : slice_get c.args.benches.items at.cpu ≡ Some x = ap (λ l. slice_get l at.cpu) (sym all) ∙ (ap (slice_get (at.yielded ++ x ∷ into_iter_items c.next.new.self)) i.at ∙ get_mid at.yielded x (into_iter_items c.next.new.self)) in
+    c.requires.benches.each at.cpu x here
+
+pub loop-bench-preserved : goal.loop-bench-preserved
+loop-bench-preserved g c =
+    let at = c.loop-bench in
+    let i = at.invariant in
+    let x = c.in-Some.bench in
+    let steps : into_iter_items at.bench-iterator ≡ x ∷ into_iter_items c.next.new.self = c.in-Some.ensures.steps.0 in
+    record {
+      yields = append_assoc at.yielded (x ∷ []) _ ∙ rw (← steps) i.yields;
+      left = (let was = i.left in let gone = c.in-Some.ensures.steps.1 in let short = ap length steps in omega arith);
+      at = ap (λ n. n + 1) i.at ∙ sym (length-append at.yielded (x ∷ []));
+      count = (let was = i.count in let e = ap length c.in_ok-push.ensures ∙ length-append at.desks.items _ in let m = c.push.new.items.ok.0 in let n = at.desks.ok.0 in omega arith);
+    }

@@ -1,0 +1,12 @@
+use Rattle.std.proofs.Common.{◌≡◌, ◌++◌, length, vec_len}
+use Rattle.std.specs.Vec.Iter.{into_iter_items, into_iter_len}
+use Rattle.co_service.proofs.service.lock_all.Given as goal
+
+abbrev pub invariant-loop-bench : goal.invariant-loop-bench
+invariant-loop-bench g l =
+    record {
+      yields : l.yielded ++ into_iter_items l.bench-iterator ≡ into_iter_items l.initial.bench-iterator;
+      left : length (into_iter_items l.bench-iterator) ≡ into_iter_len l.bench-iterator;
+      at : l.cpu ≡ length l.yielded;
+      count : vec_len l.desks ≡ l.cpu;
+    }

@@ -1,0 +1,93 @@
+-- The end of a service: the final histories.
+use Rattle.std.specs.Prelude.{◌≡◌, ℕ, ◌<◌, ◌≤◌, List, [], length, slice_get}
+use Rattle.std.specs.declared.option.Option.TheVariants.{Some}
+use Rattle.std.specs.List.{All}
+use Rattle.co_life.specs.Views.{KeeperView}
+use Rattle.co_object.specs.declared.note.Entry.{Entry}
+use Rattle.co_object.specs.declared.note.QEntry.{QEntry}
+use Rattle.co_sbt.specs.RoomView.{RoomView}
+use Rattle.co_service.specs.Books.{BooksView}
+use Rattle.co_service.specs.declared.params.Params.{Params}
+use Rattle.co_service.specs.declared.line.Line.{Line}
+use Rattle.co_service.specs.Name.{ServiceName}
+use Rattle.co_service.specs.Params.{actor_count}
+use Rattle.co_service.specs.Lines.{made, opening_of}
+use Rattle.co_service.specs.Seats.{IsShown}
+use Rattle.co_service.specs.Stories.{by, queue_by, IsHistory, IsJournal}
+use Rattle.co_service.specs.Views.{PassesView, AreOf, journal_seen, seen_of}
+
+-- a service's name, and the final history of each callout and each CPU
+pub record ClosingView : Type 0 where
+  pub name : ServiceName
+  pub timers : List (List Entry)
+  pub cpus : List (List QEntry)
+
+module _ {E : Type 0} (made_by : E → ℕ) where
+  -- an actor's pass of place i has met the keeper
+  pub record IsMet (actor : ℕ) (p : Params) (i : ℕ) (k : KeeperView (Line E)) (seen : List E) : Type 0 where
+    pub shown : IsShown made_by actor (made k.history) seen
+    pub opened : opening_of k.history ≡ Some (p, i)
+    pub actors : All (λ e. made_by e < k.actors) (made k.history)
+
+  -- a final history is legal, each entry is of one of the service's actors
+  pub record IsFinal (Legal : Params → ℕ → List E → Type 0) (p : Params) (i : ℕ) (H : List E) : Type 0 where
+    pub legal : Legal p i H
+    pub actors : All (λ e. made_by e < actor_count p) H
+
+abbrev pub MeetsTimer : KeeperView (Line Entry) → ℕ → PassesView → Type 0
+MeetsTimer k i q = IsMet by q.actor q.params i k (seen_of q i)
+
+abbrev pub MeetsCpu : KeeperView (Line QEntry) → ℕ → PassesView → Type 0
+MeetsCpu k cpu q = IsMet queue_by q.actor q.params cpu k (journal_seen q cpu)
+
+-- what an actor has seen of callout i begins its final history, which has no more entries of the actor
+abbrev pub ShowsTimer : List Entry → ℕ → PassesView → Type 0
+ShowsTimer H i q = IsShown by q.actor H (seen_of q i)
+
+abbrev pub ShowsCpu : List QEntry → ℕ → PassesView → Type 0
+ShowsCpu J cpu q = IsShown queue_by q.actor J (journal_seen q cpu)
+
+-- all actors' passes of a service
+pub record AreAll (name : ServiceName) (p : Params) (all : List PassesView) : Type 0 where
+  pub count : length all ≡ actor_count p
+  pub of : All (AreOf name p) all
+
+-- a final history of callout i, by one actor's passes
+pub record EndsTimer (H : List Entry) (i : ℕ) (q : PassesView) : Type 0 where
+  pub shown : ShowsTimer H i q
+  pub final : IsFinal by IsHistory q.params i H
+
+pub record EndsCpu (J : List QEntry) (cpu : ℕ) (q : PassesView) : Type 0 where
+  pub shown : ShowsCpu J cpu q
+  pub final : IsFinal queue_by IsJournal q.params cpu J
+
+-- each of these is the final history of its callout, by all these passes
+abbrev pub EndTimers : List PassesView → List (List Entry) → Type 0
+EndTimers all Hs = (i : ℕ) (H : List Entry) → slice_get Hs i ≡ Some H → All (EndsTimer H i) all
+
+abbrev pub EndCpus : List PassesView → List (List QEntry) → Type 0
+EndCpus all Js = (cpu : ℕ) (J : List QEntry) → slice_get Js cpu ≡ Some J → All (EndsCpu J cpu) all
+
+-- the final history of each callout, and what the actors had seen of it
+pub record AreEnded (p : Params) (all : List PassesView) (Hs : List (List Entry)) : Type 0 where
+  pub count : length Hs ≡ length p.specs
+  pub final : (i : ℕ) (H : List Entry) → slice_get Hs i ≡ Some H → IsFinal by IsHistory p i H
+  pub shown : (i : ℕ) (H : List Entry) → slice_get Hs i ≡ Some H → All (ShowsTimer H i) all
+
+-- the same of the CPUs' journals
+pub record AreEndedCpus (p : Params) (all : List PassesView) (Js : List (List QEntry)) : Type 0 where
+  pub count : length Js ≡ p.cpus
+  pub final : (cpu : ℕ) (J : List QEntry) → slice_get Js cpu ≡ Some J → IsFinal queue_by IsJournal p cpu J
+  pub shown : (cpu : ℕ) (J : List QEntry) → slice_get Js cpu ≡ Some J → All (ShowsCpu J cpu) all
+
+-- what there is room for
+pub record EndingView : Type 0 where
+  pub books : RoomView BooksView
+  pub timers : RoomView (List (Line Entry))
+  pub cpus : RoomView (List (Line QEntry))
+
+-- room for the most CPUs and the most callouts that a service may have
+pub record IsEnding (e : EndingView) : Type 0 where
+  pub for_books : (e.books.items ≡ []) × (16 ≤ e.books.spare)
+  pub for_timers : (e.timers.items ≡ []) × (1024 ≤ e.timers.spare)
+  pub for_cpus : (e.cpus.items ≡ []) × (16 ≤ e.cpus.spare)

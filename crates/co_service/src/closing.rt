@@ -1,0 +1,262 @@
+//! The end of a service.
+ghost use Rattle.std.specs.Prelude.{◌≡◌, ◌<◌, ◌≤◌, ◌^◌, [], IfOk, length, map, slice_get};
+ghost use Rattle.std.specs.List.{All};
+ghost use Rattle.std.specs.declared.option.Option.TheVariants.{Some};
+ghost use Rattle.co_service.specs.declared.params.Params.{Params};
+ghost use Rattle.co_service.specs.Closing.{EndCpus, EndTimers, EndsCpu, EndsTimer, MeetsCpu, MeetsTimer};
+ghost use Rattle.co_service.specs.Lines.{made, opening_of};
+ghost use Rattle.co_service.specs.Stories.{IsHistory, IsJournal};
+ghost use Rattle.co_service.specs.Views.{IsKeeperOf};
+
+use crate::books::Books;
+use crate::places::Places;
+use crate::seats::Lives;
+use crate::{CpuStory, Name, Passes, TimerStory};
+use co_life::{Closed, Keeper, Life};
+use co_sbt::{NoMemory, Room, Seq};
+use std::alloc::Global;
+use std::marker::Model;
+use std::snapshot::Snapshot;
+use std::sync::Wait;
+
+/// The room for what the end of a service makes. It is taken at the opening, so that the end takes no memory.
+#[derive(Drop)]
+pub(crate) struct Ending<N: Name> {
+    pub(crate) books: Room<Books<N>>,
+    pub(crate) timers: Room<Closed<TimerStory>>,
+    pub(crate) cpus: Room<Closed<CpuStory>>,
+}
+
+impl<N: Name> Model for Ending<N> {
+    ghost use Rattle.co_service.specs.Closing.{EndingView, IsEnding};
+
+    ghost Value = { EndingView };
+
+    ghost view = { λ e. record { books = e.books; timers = e.timers; cpus = e.cpus } };
+
+    ghost invariant = { λ e. IsEnding (record { books = e.books; timers = e.timers; cpus = e.cpus }) };
+}
+
+impl<N: Name> Ending<N> {
+    /// Room for as many callouts and CPUs as a service may have.
+    pub(crate) fn new(alloc: Global) -> Result<Ending<N>, NoMemory> {
+        let mut books = Room::from_seq(Seq::new(alloc));
+        let mut timers = Room::from_seq(Seq::new(alloc));
+        let mut cpus = Room::from_seq(Seq::new(alloc));
+        books.reserve(16)?;
+        timers.reserve(1024)?;
+        cpus.reserve(16)?;
+        Ok(Ending {
+            books,
+            timers,
+            cpus,
+        })
+    }
+}
+
+/// What is left of a service after its end: the final history of each callout and each CPU, which stand in the proofs
+/// alone.
+///
+/// Contracts see the service's name and these histories.
+#[derive(Drop)]
+pub struct Closing {
+    name: Snapshot<Places>,
+    timers: Seq<Closed<TimerStory>>,
+    cpus: Seq<Closed<CpuStory>>,
+}
+
+impl Model for Closing {
+    ghost use Rattle.std.specs.Prelude.{map};
+    ghost use Rattle.co_service.specs.Closing.{ClosingView};
+    ghost use Rattle.co_service.specs.Lines.{made};
+
+    ghost Value = { ClosingView };
+
+    ghost view = { λ c. record { name = c.name.value; timers = map made c.timers; cpus = map made c.cpus } };
+}
+
+/// Takes the keeper of callout `i` from the books where it is. It is asked for again where none has it.
+fn take_timer<N: Name, R: Wait>(rt: &R, books: &mut Vec<Books<N>>, i: u32) -> Keeper<TimerStory>
+    ensures { (params : Params) × IsKeeperOf IsHistory N.name.timers params i result }
+{
+    for _ in rt.forever() {
+        for at in 0..books.len() {
+            let one = &mut books[at];
+            if one.has(i) {
+                return one.take(i);
+            }
+        }
+    }
+    unreachable!()
+}
+
+/// Takes the keeper of a CPU's journal from the books where it is. It is asked for again where none has it.
+fn take_journal<N: Name, R: Wait>(rt: &R, books: &mut Vec<Books<N>>, cpu: u32) -> Keeper<CpuStory>
+    ensures { (params : Params) × IsKeeperOf IsJournal N.name.cpus params cpu result }
+{
+    for _ in rt.forever() {
+        for at in 0..books.len() {
+            if books[at].cpu() == cpu {
+                return books.swap_remove(at).into_journal();
+            }
+        }
+    }
+    unreachable!()
+}
+
+/// Compares each actor's pass of callout `i` with its history.
+fn meet_timer(
+    passes: &mut Vec<Passes>,
+    life: &Life<TimerStory>,
+    keeper: &mut Keeper<TimerStory>,
+    i: u32,
+)
+    requires at { All (λ q. slice_get q.name.timers i ≡ Some life.now) passes.old.items }
+    requires life { keeper.old.life ≡ life.now }
+    requires opened { (params : Params) × (opening_of keeper.old.history ≡ Some (params, i)) }
+    ensures keeper { keeper.new ≡ keeper.old }
+    ensures passes { passes.new.items ≡ passes.old.items }
+    ensures met { All (MeetsTimer keeper.old i) passes.old.items }
+{
+    for at in 0..passes.len() {
+        let one = &mut passes[at];
+        one.meet_last_timer(life, keeper, i);
+    }
+}
+
+/// Compares each actor's pass of a CPU with its journal.
+fn meet_cpu(
+    passes: &mut Vec<Passes>,
+    life: &Life<CpuStory>,
+    keeper: &mut Keeper<CpuStory>,
+    cpu: u32,
+)
+    requires at { All (λ q. slice_get q.name.cpus cpu ≡ Some life.now) passes.old.items }
+    requires life { keeper.old.life ≡ life.now }
+    requires opened { (params : Params) × (opening_of keeper.old.history ≡ Some (params, cpu)) }
+    ensures keeper { keeper.new ≡ keeper.old }
+    ensures passes { passes.new.items ≡ passes.old.items }
+    ensures met { All (MeetsCpu keeper.old cpu) passes.old.items }
+{
+    for at in 0..passes.len() {
+        let one = &mut passes[at];
+        one.meet_last_cpu(life, keeper, cpu);
+    }
+}
+
+/// Ends the history of callout `i`, once each actor's pass was compared with it.
+fn end_timer<N: Name, R: Wait>(
+    rt: &R,
+    life: Life<TimerStory>,
+    books: &mut Vec<Books<N>>,
+    passes: &mut Vec<Passes>,
+    i: u32,
+) -> Closed<TimerStory>
+    requires at { slice_get N.name.timers i ≡ Some life }
+    requires passes { All (λ q. q.name ≡ N.name) passes.old.items }
+    ensures passes { passes.new.items ≡ passes.old.items }
+    ensures ends { All (EndsTimer (made result) i) passes.old.items }
+{
+    let mut keeper = take_timer(rt, books, i);
+    meet_timer(passes, &life, &mut keeper, i);
+    life.close(keeper)
+}
+
+/// Ends the histories of all callouts.
+fn end_timers<N: Name, R: Wait>(
+    rt: &R,
+    lives: Lives<TimerStory>,
+    books: &mut Vec<Books<N>>,
+    passes: &mut Vec<Passes>,
+    room: Room<Closed<TimerStory>>,
+) -> Seq<Closed<TimerStory>>
+    requires lives { lives ≡ N.name.timers }
+    requires few { length N.name.timers < 2 ^ 32 }
+    requires room { (room.items ≡ []) × (length N.name.timers ≤ room.spare) }
+    requires passes { All (λ q. q.name ≡ N.name) passes.old.items }
+    ensures passes { passes.new.items ≡ passes.old.items }
+    ensures count { length result ≡ length N.name.timers }
+    ensures ends { EndTimers passes.old.items (map made result) }
+{
+    let mut room = room;
+    let mut i = 0;
+    for life in lives.into_vec() {
+        let closed = end_timer(rt, life, books, passes, i);
+        room.push(closed);
+        i += 1;
+    }
+    room.into_seq()
+}
+
+/// Ends a CPU's journal, once each actor's pass was compared with it.
+fn end_cpu<N: Name, R: Wait>(
+    rt: &R,
+    life: Life<CpuStory>,
+    books: &mut Vec<Books<N>>,
+    passes: &mut Vec<Passes>,
+    cpu: u32,
+) -> Closed<CpuStory>
+    requires at { slice_get N.name.cpus cpu ≡ Some life }
+    requires passes { All (λ q. q.name ≡ N.name) passes.old.items }
+    ensures passes { passes.new.items ≡ passes.old.items }
+    ensures ends { All (EndsCpu (made result) cpu) passes.old.items }
+{
+    let mut keeper = take_journal(rt, books, cpu);
+    meet_cpu(passes, &life, &mut keeper, cpu);
+    life.close(keeper)
+}
+
+/// Ends the journals of all CPUs.
+fn end_cpus<N: Name, R: Wait>(
+    rt: &R,
+    lives: Lives<CpuStory>,
+    books: &mut Vec<Books<N>>,
+    passes: &mut Vec<Passes>,
+    room: Room<Closed<CpuStory>>,
+) -> Seq<Closed<CpuStory>>
+    requires lives { lives ≡ N.name.cpus }
+    requires few { length N.name.cpus < 2 ^ 32 }
+    requires room { (room.items ≡ []) × (length N.name.cpus ≤ room.spare) }
+    requires passes { All (λ q. q.name ≡ N.name) passes.old.items }
+    ensures passes { passes.new.items ≡ passes.old.items }
+    ensures count { length result ≡ length N.name.cpus }
+    ensures ends { EndCpus passes.old.items (map made result) }
+{
+    let mut room = room;
+    let mut cpu = 0;
+    for life in lives.into_vec() {
+        let closed = end_cpu(rt, life, books, passes, cpu);
+        room.push(closed);
+        cpu += 1;
+    }
+    room.into_seq()
+}
+
+/// Ends all histories of a service.
+pub(crate) fn end_all<N: Name, R: Wait>(
+    rt: &R,
+    places: Places,
+    books: Vec<Books<N>>,
+    passes: Vec<Passes>,
+    timers: Room<Closed<TimerStory>>,
+    cpus: Room<Closed<CpuStory>>,
+) -> Closing
+    requires places { places ≡ N.name }
+    requires few { (length N.name.timers < 2 ^ 32) × (length N.name.cpus < 2 ^ 32) }
+    requires timers { (timers.items ≡ []) × (length N.name.timers ≤ timers.spare) }
+    requires cpus { (cpus.items ≡ []) × (length N.name.cpus ≤ cpus.spare) }
+    requires passes { All (λ q. q.name ≡ N.name) passes.items }
+    ensures name { result.name ≡ N.name }
+    ensures timers_count { length result.timers ≡ length N.name.timers }
+    ensures timers { EndTimers passes.items result.timers }
+    ensures cpus_count { length result.cpus ≡ length N.name.cpus }
+    ensures cpus { EndCpus passes.items result.cpus }
+{
+    let mut books = books;
+    let mut passes = passes;
+    let name = Snapshot::of(&places);
+    let (callouts, wheels) = places.into_lives();
+    let timers = end_timers(rt, callouts, &mut books, &mut passes, timers);
+    let cpus = end_cpus(rt, wheels, &mut books, &mut passes, cpus);
+    Closing { name, timers, cpus }
+}
