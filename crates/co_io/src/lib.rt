@@ -20,4 +20,4 @@ pub use quiet::{QuietSink, QuietSource};
 pub use read::{Input, ReadEnd, read_all};
 pub use sink::Sink;
 pub use source::{Failed, Source};
-pub use write::{WriteEnd, write_all};
+pub use write::{WriteEnd, write_all, write_pieces};

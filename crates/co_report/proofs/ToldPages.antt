@@ -1,9 +1,11 @@
 -- The sections and counts after one note more, before the first one, and as the parts of the report.
 use Rattle.std.proofs.Common.{◌≡◌, ◌≢◌, ℕ, zero, suc, ◌+◌, ◌-◌, ◌<◌, ◌^◌, ◌==◌, nat_lt, Bool, true, false, cond, List, [], ◌∷◌, ◌++◌, map, length, set, get_or, replicate, refl, ap, sym, subst, ◌∙◌, arith, append_assoc, append-nil, length-append}
 use Rattle.std.specs.Prelude.{codes}
-use Rattle.std.specs.List.{AllByRecursion, filter, flat_map, range_with_len}
+use Rattle.std.specs.List.{AllByRecursion, concat, filter, flat_map, range_with_len}
 use Rattle.std.proofs.lemmas.Bool.Decides.{nat_tests}
 use Rattle.std.proofs.lemmas.List.{map-append, set-append_left, set-append_right, get_or_append_left, get_or-append-add}
+use Rattle.std.proofs.lemmas.List.Concat.{concat_is}
+use Rattle.std.proofs.lemmas.List.Folds.{concat-append}
 use Rattle.std.proofs.lemmas.List.FromFn.{length-range_with_len, length-map-range_with_len, get_or-range_with_len, get_or-map-range_with_len}
 use Rattle.co_object.specs.declared.Note.{Note}
 use Rattle.co_object.specs.declared.Place.{Place}
@@ -361,13 +363,18 @@ whole-told x made told order =
     ∙ ap (report s) shown)
 
 -- as it is put together
-pub report-told : (x y : Written) (made : List Made) → x ≡ y → HasTold x made → IsInOrder made → (p0 p1 p2 p3 p4 : List ℕ) {last : List ℕ}
+joined-pieces : (head last : List ℕ) (pages : List (List ℕ)) → concat ((([] ++ head ∷ []) ++ pages) ++ last ∷ []) ≡ (head ++ flat_map (λ page. page) pages) ++ last
+joined-pieces head last pages =
+    concat-append (head ∷ pages) (last ∷ []) ∙ (ap (λ t. (head ++ concat pages) ++ t) (append-nil last) ∙ ap (λ t. (head ++ t) ++ last) (concat_is pages))
+
+pub pieces-told : (x y : Written) (made : List Made) → x ≡ y → HasTold x made → IsInOrder made → (p0 p1 p2 : List ℕ) (q0 q1 q2 q3 : List (List ℕ)) {last : List ℕ}
     → p0 ≡ [] → p1 ≡ p0 ++ line_text (numbered (codes "callout-report") 1) ++ canonical y.script ++ line_text (codes "histories" ∷ []) → p2 ≡ p1
-    → p3 ≡ p2 ++ flat_map (λ page. page) y.pages → p4 ≡ p3 ++ last → last ≡ line_text (codes "end" ∷ [])
-    → p4 ≡ report_of x.script (lists_by (actor_count x.script) made)
-report-told x y made same told order p0 p1 p2 p3 p4 {last} e0 e1 e2 e3 e4 f =
-    e4
-    ∙ (ap (λ t. p3 ++ t) f
-    ∙ (ap (λ t. t ++ line_text (codes "end" ∷ [])) (e3 ∙ ap (λ t. t ++ flat_map (λ page. page) y.pages) (e2 ∙ (e1 ∙ ap (λ t. t ++ line_text (numbered (codes "callout-report") 1) ++ canonical y.script ++ line_text (codes "histories" ∷ [])) e0)))
+    → q0 ≡ [] → q1 ≡ q0 ++ p2 ∷ [] → q2 ≡ q1 ++ y.pages → last ≡ line_text (codes "end" ∷ []) → q3 ≡ q2 ++ last ∷ []
+    → concat q3 ≡ report_of x.script (lists_by (actor_count x.script) made)
+pieces-told x y made same told order p0 p1 p2 q0 q1 q2 q3 {last} e0 e1 e2 f0 f1 f2 is f3 =
+    ap concat (f3 ∙ ap (λ q. q ++ last ∷ []) (f2 ∙ ap (λ q. q ++ y.pages) (f1 ∙ ap (λ q. q ++ p2 ∷ []) f0)))
+    ∙ (joined-pieces p2 last y.pages
+    ∙ (ap (λ t. (p2 ++ flat_map (λ page. page) y.pages) ++ t) is
+    ∙ (ap (λ t. (t ++ flat_map (λ page. page) y.pages) ++ line_text (codes "end" ∷ [])) (e2 ∙ (e1 ∙ ap (λ t. t ++ line_text (numbered (codes "callout-report") 1) ++ canonical y.script ++ line_text (codes "histories" ∷ [])) e0))
     ∙ (ap (λ (z : Written). line_text (numbered (codes "callout-report") 1) ++ canonical z.script ++ line_text (codes "histories" ∷ []) ++ flat_map (λ page. page) z.pages ++ line_text (codes "end" ∷ [])) (sym same)
-    ∙ whole-told x made told order)))
+    ∙ whole-told x made told order))))

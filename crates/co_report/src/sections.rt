@@ -1,6 +1,6 @@
 //! A notebook that prints: a report is written section by section, note by note as they are told.
 ghost use Rattle.std.specs.Prelude.{◌≡◌, ◌<◌, ◌+◌, ◌^◌, ◌++◌, ◌∷◌, [], true, false, replicate, codes, List, map, OnOk, IfOk, MatchOption};
-ghost use Rattle.std.specs.List.{flat_map};
+ghost use Rattle.std.specs.List.{concat};
 ghost use Rattle.co_text.specs.Lines.{line_text};
 ghost use Rattle.co_grammar.specs.Spelling.{numbered};
 ghost use Rattle.co_script.specs.Canonical.{canonical};
@@ -130,13 +130,12 @@ fn print_head(page: &mut Page, script: &Script) -> Result<(), NoMemory>
     Ok(())
 }
 
-/// Appends the pages, and lets each of them go.
-fn append_all(text: &mut Seq<u8>, pages: Vec<Page>) -> Result<(), NoMemory>
-    ensures { OnOk result (text.new ≡ text.old ++ flat_map (λ page. page) pages.items) }
+/// Appends the pages' texts, none of which is copied.
+fn append_all(pieces: &mut Seq<Seq<u8>>, pages: Vec<Page>) -> Result<(), NoMemory>
+    ensures { OnOk result (pieces.new ≡ pieces.old ++ pages.items) }
 {
     for page in pages {
-        let bytes = page.done();
-        text.extend_from_slice(bytes.as_slice())?;
+        pieces.push(page.done())?;
     }
     Ok(())
 }
@@ -157,18 +156,19 @@ impl<'a> Sections<'a> {
         })
     }
 
-    /// The whole report, where the notes of each place were told in the order of their positions: the canonical text of the
-    /// script, and the sections.
-    pub fn report(self, alloc: Global) -> Result<Seq<u8>, NoMemory>
-        ensures { IfOk result (λ bytes. (made : List Made) → HasTold self.entry made → IsInOrder made → bytes ≡ report_of self.entry.script (lists_by (actor_count self.entry.script) made)) }
+    /// The whole report in pieces, where the notes of each place were told in the order of their positions: the canonical
+    /// text of the script, the sections, and the last line. Joined they are the report.
+    pub fn pieces(self, alloc: Global) -> Result<Seq<Seq<u8>>, NoMemory>
+        ensures { IfOk result (λ pieces. (made : List Made) → HasTold self.entry made → IsInOrder made → concat pieces ≡ report_of self.entry.script (lists_by (actor_count self.entry.script) made)) }
     {
         let Sections { script, pages, .. } = self;
         let mut head = Page::new(alloc);
         print_head(&mut head, script)?;
-        let mut text = head.done();
-        append_all(&mut text, pages)?;
-        text.extend_from_slice(b"end\n".as_slice())?;
-        Ok(text)
+        let mut pieces = Seq::new(alloc);
+        pieces.push(head.done())?;
+        append_all(&mut pieces, pages)?;
+        pieces.push(Seq::copy_of(alloc, b"end\n".as_slice())?)?;
+        Ok(pieces)
     }
 }
 

@@ -1,5 +1,6 @@
 //! Sections by the script that they are of: whoever tells notes to a notebook knows the notebook by its type alone.
 ghost use Rattle.std.specs.Prelude.{◌≡◌, [], List, IfOk};
+ghost use Rattle.std.specs.List.{concat};
 ghost use Rattle.co_notebook.specs.Made.{Made, IsInOrder, lists_by};
 ghost use Rattle.co_program.specs.Actors.{actor_count};
 ghost use Rattle.co_program.specs.Scripts.{IsScript};
@@ -48,11 +49,12 @@ impl<'a, S: Subject> SectionsOf<'a, S> {
         })
     }
 
-    /// The whole report, where the notes of each place were told in the order of their positions.
-    pub fn report(self, alloc: Global) -> Result<Seq<u8>, NoMemory>
-        ensures { IfOk result (λ bytes. (made : List Made) → IsToldOf S.script self.entry.sections made → IsInOrder made → bytes ≡ report_of S.script (lists_by (actor_count S.script) made)) }
+    /// The whole report in pieces, where the notes of each place were told in the order of their positions. Joined they are
+    /// the report.
+    pub fn pieces(self, alloc: Global) -> Result<Seq<Seq<u8>>, NoMemory>
+        ensures { IfOk result (λ pieces. (made : List Made) → IsToldOf S.script self.entry.sections made → IsInOrder made → concat pieces ≡ report_of S.script (lists_by (actor_count S.script) made)) }
     {
-        self.sections.report(alloc)
+        self.sections.pieces(alloc)
     }
 }
 

@@ -1,6 +1,6 @@
 -- A report that is read meets the checker's condition, and what is said of its verdict.
 use Rattle.std.proofs.Common.{◌≡◌, ℕ, ◌<◌, ◌≤◌, List, [], ◌∷◌, length, Ok, Err, Result, IfOk, refl, sym, subst, arith}
-use Rattle.std.specs.List.{AllByRecursion}
+use Rattle.std.specs.List.{AllByRecursion, concat}
 use Rattle.co_object.specs.declared.Place.{Place}
 use Rattle.co_object.specs.declared.Place.TheVariants as place
 use Rattle.co_object.specs.declared.AnyEntry.{AnyEntry}
@@ -97,7 +97,7 @@ gives bytes report Legal status text read is judged =
 gives bytes report (Not number cause) status text read is judged =
     subst (λ (x : Status). Gives Check bytes x text) (sym judged.0) (record { report = report; read = read; judged = subst (λ (v : Verdict). IsJudged v NotLegal text) is (refl, judged.1) })
 
-pub judged_gives : {E : Type 0} (bytes : List ℕ) (report : Report) (r : Result Answer E) → report_read bytes ≡ Ok report → IfOk r (λ a. IsJudged (verdict report) a.status a.text) →
-    IfOk r (λ a. Gives Check bytes a.status a.text)
-judged_gives bytes report (Ok a) read judged = gives bytes report (verdict report) a.status a.text read refl judged
+pub judged_gives : {E : Type 0} (bytes : List ℕ) (report : Report) (r : Result Answer E) → report_read bytes ≡ Ok report → IfOk r (λ a. IsJudged (verdict report) a.status (concat a.pieces)) →
+    IfOk r (λ a. Gives Check bytes a.status (concat a.pieces))
+judged_gives bytes report (Ok a) read judged = gives bytes report (verdict report) a.status (concat a.pieces) read refl judged
 judged_gives bytes report (Err e) read judged = tt

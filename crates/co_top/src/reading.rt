@@ -1,12 +1,13 @@
 //! The commands that read an input: what they make of its bytes.
 ghost use Rattle.std.specs.Prelude.{◌≡◌, true, IfOk};
+ghost use Rattle.std.specs.List.{concat};
 ghost use Rattle.co_script.specs.Fits.{fits};
 ghost use Rattle.co_check.specs.Lines.{IsReport};
 ghost use Rattle.co_check.specs.Verdict.{verdict};
 ghost use Rattle.co_top.specs.Headline.{Gives, IsJudged, IsReportOf};
 ghost use Rattle.co_top.specs.declared.command.Reading.TheVariants as readings;
 
-use crate::answer::Answer;
+use crate::answer::{Answer, whole};
 use crate::command::Reading;
 use crate::status::Status;
 use crate::texts::{fault_text, legal_text, refusal_text, unfit_word};
@@ -21,36 +22,39 @@ use std::alloc::Global;
 use std::marker::Brand;
 
 /// The report of a type's script, whose notes are printed as the walk makes them.
-fn report_told<S: Subject>(alloc: Global, script: &Script) -> Result<Seq<u8>, NoMemory>
+fn report_told<S: Subject>(
+    alloc: Global,
+    script: &Script,
+) -> Result<Seq<Seq<u8>>, NoMemory>
     requires fits { fits script.now ≡ true }
     requires subject { script.now ≡ S.script }
-    ensures { IfOk result (IsReportOf script.now) }
+    ensures { IfOk result (λ pieces. IsReportOf script.now (concat pieces)) }
 {
     let mut sections = SectionsOf::<S>::new(alloc, script)?;
     tell_walk(alloc, script, &mut sections)?;
-    sections.report(alloc)
+    sections.pieces(alloc)
 }
 
 /// The report of a script's walk.
-fn report_of_walk(alloc: Global, script: &Script) -> Result<Seq<u8>, NoMemory>
+fn report_of_walk(alloc: Global, script: &Script) -> Result<Seq<Seq<u8>>, NoMemory>
     requires { fits script.now ≡ true }
-    ensures { IfOk result (IsReportOf script.now) }
+    ensures { IfOk result (λ pieces. IsReportOf script.now (concat pieces)) }
 {
     report_told::<Brand>(alloc, script)
 }
 
 /// What `steps` makes of these bytes.
 fn steps(alloc: Global, bytes: &[u8]) -> Result<Answer, NoMemory>
-    ensures { IfOk result (λ answer. Gives readings.Steps bytes.now answer.status answer.text) }
+    ensures { IfOk result (λ answer. Gives readings.Steps bytes.now answer.status (concat answer.pieces)) }
 {
     match read_script(alloc, bytes) {
         Ok(script) => Ok(Answer {
             status: Status::Done,
-            text: report_of_walk(alloc, &script)?,
+            pieces: report_of_walk(alloc, &script)?,
         }),
         Err(ScriptFault::Bad { line, cause }) => Ok(Answer {
             status: Status::BadScript,
-            text: refusal_text(alloc, line, cause)?,
+            pieces: whole(alloc, refusal_text(alloc, line, cause)?)?,
         }),
         Err(ScriptFault::NoMemory) => Err(NoMemory {}),
     }
@@ -59,29 +63,29 @@ fn steps(alloc: Global, bytes: &[u8]) -> Result<Answer, NoMemory>
 /// The verdict on a report, as an answer.
 fn judged(alloc: Global, report: &Report) -> Result<Answer, NoMemory>
     requires { IsReport report.now }
-    ensures { IfOk result (λ answer. IsJudged (verdict report.now) answer.status answer.text) }
+    ensures { IfOk result (λ answer. IsJudged (verdict report.now) answer.status (concat answer.pieces)) }
 {
     match check(alloc, report)? {
         Verdict::Legal => Ok(Answer {
             status: Status::Done,
-            text: Seq::copy_of(alloc, legal_text())?,
+            pieces: whole(alloc, Seq::copy_of(alloc, legal_text())?)?,
         }),
         Verdict::Not { line, cause } => Ok(Answer {
             status: Status::NotLegal,
-            text: fault_text(alloc, line, unfit_word(cause))?,
+            pieces: whole(alloc, fault_text(alloc, line, unfit_word(cause))?)?,
         }),
     }
 }
 
 /// What `check` makes of these bytes.
 fn check_report(alloc: Global, bytes: &[u8]) -> Result<Answer, NoMemory>
-    ensures { IfOk result (λ answer. Gives readings.Check bytes.now answer.status answer.text) }
+    ensures { IfOk result (λ answer. Gives readings.Check bytes.now answer.status (concat answer.pieces)) }
 {
     match read_report(alloc, bytes) {
         Ok(report) => judged(alloc, &report),
         Err(ScriptFault::Bad { line, cause }) => Ok(Answer {
             status: Status::BadScript,
-            text: refusal_text(alloc, line, cause)?,
+            pieces: whole(alloc, refusal_text(alloc, line, cause)?)?,
         }),
         Err(ScriptFault::NoMemory) => Err(NoMemory {}),
     }
@@ -89,7 +93,7 @@ fn check_report(alloc: Global, bytes: &[u8]) -> Result<Answer, NoMemory>
 
 /// What a command makes of the bytes that it read.
 pub(crate) fn answer_to(alloc: Global, reading: Reading, bytes: &[u8]) -> Result<Answer, NoMemory>
-    ensures { IfOk result (λ answer. Gives reading bytes.now answer.status answer.text) }
+    ensures { IfOk result (λ answer. Gives reading bytes.now answer.status (concat answer.pieces)) }
 {
     match reading {
         Reading::Steps => steps(alloc, bytes),

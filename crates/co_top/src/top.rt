@@ -1,6 +1,8 @@
 //! The top call.
-ghost use Rattle.std.specs.Prelude.{◌≡◌, ℕ, List, Option, Some, map, string_bytes};
+ghost use Rattle.std.specs.Prelude.{◌≡◌, ℕ, List, MatchResult, Option, Some, map, string_bytes};
+ghost use Rattle.std.specs.List.{concat};
 ghost use Rattle.co_top.specs.declared.command.Command.TheVariants as commands;
+ghost use Rattle.co_top.specs.declared.status.Status.TheVariants.{WriteFault};
 ghost use Rattle.co_top.specs.Headline.{IsHeadline, IsComplete, Says, Tells, limit_of};
 ghost use Rattle.co_top.specs.Outside.{Input, Output, outside};
 
@@ -10,7 +12,7 @@ use crate::making::text_of;
 use crate::reading::answer_to;
 use crate::status::Status;
 use crate::texts::usage_text;
-use co_io::{ReadEnd, Sink, Source, read_all, write_all};
+use co_io::{ReadEnd, Sink, Source, WriteEnd, read_all, write_all, write_pieces};
 use std::alloc::Global;
 
 /// The most bytes of an input: of a script 64 MiB, of a report 256 MiB.
@@ -23,16 +25,32 @@ fn limit_of(reading: Reading) -> usize
     }
 }
 
+/// The status of a text that was written to its end, or else WriteFault.
+fn told(status: Status, end: Result<(), WriteEnd>) -> Status
+    ensures { MatchResult end (λ _. result ≡ status) (λ _. result ≡ WriteFault) }
+{
+    match end {
+        Ok(()) => status,
+        Err(_) => Status::WriteFault,
+    }
+}
+
 /// Writes the text of a status: the answer is that status, or WriteFault where the sink failed.
 fn write_text<K: Sink>(sink: &mut K, status: Status, text: &[u8]) -> Status
     ensures { let before : Output = record { held = K.held sink.old; faults = K.faults sink.old; idle = K.idle sink.old } in
         let after : Output = record { held = K.held sink.new; faults = K.faults sink.new; idle = K.idle sink.new } in
         Tells status text.now before after result }
 {
-    match write_all(sink, text) {
-        Ok(()) => status,
-        Err(_) => Status::WriteFault,
-    }
+    told(status, write_all(sink, text))
+}
+
+/// Writes an answer, piece by piece: the result is its status, or WriteFault where the sink failed.
+fn write_answer<K: Sink>(sink: &mut K, answer: &Answer) -> Status
+    ensures { let before : Output = record { held = K.held sink.old; faults = K.faults sink.old; idle = K.idle sink.old } in
+        let after : Output = record { held = K.held sink.new; faults = K.faults sink.new; idle = K.idle sink.new } in
+        Tells answer.now.status (concat answer.now.pieces) before after result }
+{
+    told(answer.status, write_pieces(sink, answer.pieces.as_slice()))
 }
 
 /// A command that reads, from the source to the sink.
@@ -52,7 +70,7 @@ fn read_and_answer<S: Source, K: Sink>(
         Err(ReadEnd::Fault) => return Status::ReadFault,
     };
     match answer_to(alloc, reading, input.bytes.as_slice()) {
-        Ok(answer) => write_text(sink, answer.status, answer.text.as_slice()),
+        Ok(answer) => write_answer(sink, &answer),
         Err(_) => Status::NoMemory,
     }
 }

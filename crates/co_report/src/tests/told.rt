@@ -30,7 +30,11 @@ fn report_told<S: Subject>(
             sections.write(*actor, note)?;
         }
     }
-    sections.report(alloc)
+    let mut text = Seq::new(alloc);
+    for piece in sections.pieces(alloc)?.as_slice() {
+        text.extend_from_slice(piece.as_slice())?;
+    }
+    Ok(text)
 }
 
 /// The same of the script that a text stands for.

@@ -1,5 +1,4 @@
 use Rattle.std.proofs.Common.{◌≡◌, ◌++◌, length}
-use Rattle.std.specs.List.{flat_map}
 use Rattle.std.specs.Vec.Iter.{into_iter_items, into_iter_len}
 use Rattle.co_report.proofs.sections.append_all.Given as goal
 
@@ -8,5 +7,5 @@ abbrev pub invariant-loop-page : goal.invariant-loop-page
 invariant-loop-page l = record {
   yields : l.yielded ++ into_iter_items l.page-iterator ≡ into_iter_items l.initial.page-iterator;
   left : length (into_iter_items l.page-iterator) ≡ into_iter_len l.page-iterator;
-  appended : l.text ≡ l.fn.text ++ flat_map (λ page. page) l.yielded;
+  appended : l.pieces ≡ l.fn.pieces ++ l.yielded;
 }

@@ -1,5 +1,6 @@
 -- The notebook has the notes of the script's walk, and prints their report.
 use Rattle.std.proofs.Common.{◌≡◌, ◌≤◌, ℕ, true, List, length, Result, Ok, Err, IfOk, ap, sym, subst, ◌∙◌, arith}
+use Rattle.std.specs.List.{concat}
 use Rattle.co_notebook.specs.Made.{Made, IsInOrder, lists_by}
 use Rattle.co_program.specs.declared.script.Script.{Script}
 use Rattle.co_program.specs.Actors.{actor_count}
@@ -28,9 +29,9 @@ pub tell_walk-requires-clause-script : goal.tell_walk-requires-clause-script
 tell_walk-requires-clause-script g c = fits-accepted c.args.script.now c.requires.fits
 
 -- the printed text is the report of the walk
-reported : {E : Type 0} (s t : Script) (x : Written) (made : List Made) (r : Result (List ℕ) E) → s ≡ t → fits s ≡ true → IsTelling s made → IsToldOf t x made
-    → IfOk r (λ text. (all : List Made) → IsToldOf t x all → IsInOrder all → text ≡ report_of t (lists_by (actor_count t) all)) → IfOk r (IsReportOf s)
-reported s t x made (Ok text) same fit telling told shown = record {
+reported : {E : Type 0} (s t : Script) (x : Written) (made : List Made) (r : Result (List (List ℕ)) E) → s ≡ t → fits s ≡ true → IsTelling s made → IsToldOf t x made
+    → IfOk r (λ pieces. (all : List Made) → IsToldOf t x all → IsInOrder all → concat pieces ≡ report_of t (lists_by (actor_count t) all)) → IfOk r (λ pieces. IsReportOf s (concat pieces))
+reported s t x made (Ok pieces) same fit telling told shown = record {
   lists = lists_by (actor_count s) made;
   walk = telling.walk;
   run = walks_are_runs s (fits-accepted s fit) (lists_by (actor_count s) made) telling.walk;
@@ -38,7 +39,7 @@ reported s t x made (Ok text) same fit telling told shown = record {
   legal = λ short. subst IsLegalReport (sym is) (walk_legal s fit (lists_by (actor_count s) made) telling.walk typed (subst (λ (bytes : List ℕ). length bytes ≤ 268435456) is short));
 }
   where
-    is : text ≡ report_of s (lists_by (actor_count s) made)
+    is : concat pieces ≡ report_of s (lists_by (actor_count s) made)
     is = shown made told telling.order ∙ ap (λ (z : Script). report_of z (lists_by (actor_count z) made)) (sym same)
 
     typed : ListsTyped (lists_by (actor_count s) made)
@@ -48,4 +49,4 @@ reported s t x made (Err e) same fit telling told shown = tt
 pub returns : goal.returns
 returns g c =
     let made = c.in_ok-tell_walk.ensures.told c.in_ok-sections.ensures in
-    reported c.args.script.now g.S.Subject.script _ made.0 c.report.result c.requires.subject c.requires.fits made.2 made.1 c.report.ensures
+    reported c.args.script.now g.S.Subject.script _ made.0 c.pieces.result c.requires.subject c.requires.fits made.2 made.1 c.pieces.ensures
