@@ -49,12 +49,12 @@ seam done written rest tail =
 
 -- a proper front of the next piece ends a proper front of them all
 pub front_more : (a b c : Option (List ℕ)) (pieces : List (List ℕ)) (i : ℕ) (d : List ℕ) → i < length pieces → Appends a b (concat (take i pieces)) → AppendsFront b c (get_or pieces i d) → AppendsFront a c (concat pieces)
-front_more a b c pieces i d inside before (written , rest , split , some , after) =
+front_more a b c pieces i d inside before (written, rest, split, some, after) =
     let tail = concat (drop (i + 1) pieces) in
     let done = concat (take i pieces) in
     let whole : concat pieces ≡ (done ++ written) ++ (rest ++ tail) = concat_split pieces i d inside ∙ ap (λ l. (done ++ l) ++ tail) split ∙ seam done written rest tail in
     let more : length (rest ++ tail) ≡ length rest + length tail = length-append rest tail in
-    (done ++ written , rest ++ tail , whole , omega arith , Appends-trans _ _ _ _ _ before after)
+    (done ++ written, rest ++ tail, whole, omega arith, Appends-trans _ _ _ _ _ before after)
 
 -- a count that rose at last rose in all
 pub rose_since : (a b c : ℕ) → a ≤ b → Rose b c → Rose a c

@@ -2,7 +2,7 @@ ghost use Rattle.std.specs.Prelude.{◌≡◌, ◌≤◌, ◌<◌, ◌^◌, ◌+
 ghost use Rattle.std.specs.Io.KnownBytes.{Appends};
 
 use super::*;
-use co_sbt::NoMemory;
+use co_sbt::{NoMemory, Seq};
 use std::alloc::Global;
 use std::io::{self, ErrorKind, Read, Write};
 use std::test::Fail;
@@ -43,6 +43,24 @@ fn a_failed_write_leaves_a_front(rt: HostRuntime) -> Result<(), Fail> {
     assert_eq!(rt; sink.bytes(), b"a".as_slice());
     assert_eq!(rt; write_all(&mut sink, b"bc"), Err(WriteEnd::Stalled));
     assert_eq!(rt; sink.bytes(), b"ab".as_slice());
+    Ok(())
+}
+
+#[test]
+fn pieces_are_written_in_order_up_to_a_failure(rt: HostRuntime) -> Result<(), Fail> {
+    let mut pieces = Seq::new(rt.alloc());
+    for text in [b"ab".as_slice(), b"".as_slice(), b"cd".as_slice()] {
+        pieces.push(Seq::copy_of(rt.alloc(), text)?)?;
+    }
+    let mut sink = MemSink::new(rt.alloc(), 9, 9, &[])?;
+    assert_eq!(rt; write_pieces(&mut sink, pieces.as_slice()), Ok(()));
+    assert_eq!(rt; sink.bytes(), b"abcd".as_slice());
+    let mut sink = MemSink::new(rt.alloc(), 3, 9, &[])?;
+    assert_eq!(rt;
+        write_pieces(&mut sink, pieces.as_slice()),
+        Err(WriteEnd::Stalled)
+    );
+    assert_eq!(rt; sink.bytes(), b"abc".as_slice());
     Ok(())
 }
 

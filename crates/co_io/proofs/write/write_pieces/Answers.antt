@@ -30,7 +30,7 @@ loop-piece-preserved g c =
     let item = c.as_slice.ensures ∙ c.piece-item.is in
     let taken = c.in_ok-write_all.ensures in record {
       appended = subst (Appends (g.K.Sink.held c.args.sink.now) (g.K.Sink.held c.write_all.new.sink)) (sym (concat_more c.args.pieces.now at _ c.loop-piece-test.true))
-        (Appends-trans _ _ _ _ _ i.appended (subst (Appends (g.K.Sink.held c.loop-piece.sink) (g.K.Sink.held c.write_all.new.sink)) item taken.ok));
+          (Appends-trans _ _ _ _ _ i.appended (subst (Appends (g.K.Sink.held c.loop-piece.sink) (g.K.Sink.held c.write_all.new.sink)) item taken.ok));
       filled = filled_by _ _ _ c.args.pieces.now at _ c.loop-piece-test.true i.filled (subst (λ bytes. Fills (g.K.Sink.room c.loop-piece.sink) (g.K.Sink.room c.write_all.new.sink) (length bytes)) item taken.room);
       faults = omega (arith, taken.faults);
       idle = omega (arith, taken.idle);
