@@ -105,13 +105,7 @@ fn entry_act(entry: &AnyEntry) -> u64
 
 /// The first words of a note.
 #[tactic(auto, using(crate::proofs::NoteHeads::note_head))]
-fn print_head(
-    page: &mut Page,
-    number: u64,
-    letter: u8,
-    name: u64,
-    act: u64,
-) -> Result<(), NoMemory>
+fn print_head(page: &mut Page, number: u64, letter: u8, name: u64, act: u64) -> Result<(), NoMemory>
     ensures { OnOk result (page.new ≡ page.old ++ (decimal number ++ spaced (((letter ∷ decimal name) ++ 47 ∷ decimal act) ∷ []))) }
 {
     page.number(number)?;

@@ -70,3 +70,6 @@ four_pieces old p1 p2 p3 p4 a b c d e1 e2 e3 e4 = rw (e4, e3, e2, e1) (simp (app
 
 pub five_pieces : (old p1 p2 p3 p4 p5 a b c d e : List ℕ) → p1 ≡ old ++ a → p2 ≡ p1 ++ b → p3 ≡ p2 ++ c → p4 ≡ p3 ++ d → p5 ≡ p4 ++ e → p5 ≡ old ++ (a ++ (b ++ (c ++ (d ++ (e ++ [])))))
 five_pieces old p1 p2 p3 p4 p5 a b c d e e1 e2 e3 e4 e5 = rw (e5, e4, e3, e2, e1) (simp (append_assoc, append-nil))
+
+pub six_pieces : (old p1 p2 p3 p4 p5 p6 a b c d e f : List ℕ) → p1 ≡ old ++ a → p2 ≡ p1 ++ b → p3 ≡ p2 ++ c → p4 ≡ p3 ++ d → p5 ≡ p4 ++ e → p6 ≡ p5 ++ f → p6 ≡ old ++ (a ++ (b ++ (c ++ (d ++ (e ++ (f ++ []))))))
+six_pieces old p1 p2 p3 p4 p5 p6 a b c d e f e1 e2 e3 e4 e5 e6 = rw (e6, e5, e4, e3, e2, e1) (simp (append_assoc, append-nil))

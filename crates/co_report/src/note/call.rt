@@ -30,16 +30,11 @@ fn print_reset(
     Ok(())
 }
 
-#[tactic(auto, using(co_text::proofs::Spacing::three_pieces))]
-fn print_schedule(
-    page: &mut Page,
-    due: Sbt,
-    prec: Sbt,
-    place: Option<u32>,
-) -> Result<(), NoMemory>
+fn print_schedule(page: &mut Page, due: Sbt, prec: Sbt, place: Option<u32>) -> Result<(), NoMemory>
     ensures { OnOk result (page.new ≡ page.old ++ spaced (plain_words (plain.Schedule due prec place))) }
 {
-    page.tagged(b" schedule u".as_slice(), due.raw())?;
+    page.text(b" schedule".as_slice())?;
+    page.tagged(b" u".as_slice(), due.raw())?;
     page.tagged(b" pr u".as_slice(), prec.raw())?;
     print_target(page, place)?;
     Ok(())

@@ -5,24 +5,25 @@ ghost use Rattle.co_text.specs.Lines.{spaced};
 ghost use Rattle.co_report.specs.NoteTexts.{reply_words, off_words};
 ghost use Rattle.co_object.specs.declared.Reply.TheVariants as replies;
 
-use crate::note::words::{print_drained, print_off, print_truth, print_woke};
+use crate::note::words::{print_drain, print_off, print_truth, print_woke};
 use co_object::{Next, Reply};
 use co_sbt::NoMemory;
 use co_text::Page;
 
 /// The end of a run, behind which no run is next.
-#[tactic(auto, using(co_text::proofs::Spacing::three_pieces))]
+#[tactic(auto, using(co_text::proofs::Spacing::four_pieces))]
 fn print_last(page: &mut Page, drain: Option<u32>, woke: bool) -> Result<(), NoMemory>
     ensures { OnOk result (page.new ≡ page.old ++ spaced (reply_words (replies.Ended drain None woke))) }
 {
-    print_drained(page, drain)?;
+    page.text(b" ended".as_slice())?;
+    print_drain(page, drain)?;
     page.text(b" next -".as_slice())?;
     print_woke(page, woke)?;
     Ok(())
 }
 
 /// The end of a run, behind which this run is next.
-#[tactic(auto, using(co_text::proofs::Spacing::five_pieces))]
+#[tactic(auto, using(co_text::proofs::Spacing::six_pieces))]
 fn print_followed(
     page: &mut Page,
     drain: Option<u32>,
@@ -31,7 +32,8 @@ fn print_followed(
 ) -> Result<(), NoMemory>
     ensures { OnOk result (page.new ≡ page.old ++ spaced (reply_words (replies.Ended drain (Some next) woke))) }
 {
-    print_drained(page, drain)?;
+    page.text(b" ended".as_slice())?;
+    print_drain(page, drain)?;
     page.tagged(b" next #".as_slice(), next.n)?;
     page.tagged(b" p".as_slice(), next.cpu as u64)?;
     page.tagged(b" u".as_slice(), next.due.raw())?;
