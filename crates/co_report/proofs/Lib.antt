@@ -28,3 +28,4 @@ pub mod WholeBack
 pub mod ShownFit
 pub mod ReadFit
 mod ReadRows
+mod NoteHeads

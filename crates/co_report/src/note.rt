@@ -1,7 +1,6 @@
 //! Notes as lines.
-ghost use Rattle.std.specs.Prelude.{◌≡◌, ◌++◌, ◌∷◌, [], codes, OnOk};
+ghost use Rattle.std.specs.Prelude.{◌≡◌, ◌++◌, ◌∷◌, [], codes, decimal, OnOk};
 ghost use Rattle.co_text.specs.Lines.{line_text, spaced};
-ghost use Rattle.co_text.specs.Written.{token_word, token_words};
 ghost use Rattle.co_grammar.specs.Spelling.{actor_word};
 ghost use Rattle.co_report.specs.NoteTexts.{op_words, reply_words, queue_words, answer_words, own_words, answered, entry_actor, entry_act, entry_words, note_words};
 
@@ -15,14 +14,14 @@ use co_object::{AnyEntry, Op, OwnKind, QOp, QReply, Reply};
 use co_program::Script;
 use co_sbt::NoMemory;
 use co_script::actor_name;
-use co_text::{Page, Token};
+use co_text::Page;
 use queue::{print_answer, print_queue_op};
 use reply::print_reply;
 
 fn print_equals(page: &mut Page) -> Result<(), NoMemory>
     ensures { OnOk result (page.new ≡ page.old ++ spaced (codes "=" ∷ [])) }
 {
-    page.more([Token::Text(b"=".as_slice())].as_slice())
+    page.text(b" =".as_slice())
 }
 
 /// `=` and a reply.
@@ -67,10 +66,10 @@ fn print_own_entry(page: &mut Page, kind: OwnKind) -> Result<(), NoMemory>
     ensures { OnOk result (page.new ≡ page.old ++ spaced (own_words kind)) }
 {
     match kind {
-        OwnKind::NotHeld => page.more([Token::Text(b"notheld".as_slice())].as_slice()),
-        OwnKind::HoldsLock => page.more([Token::Text(b"holdslock".as_slice())].as_slice()),
-        OwnKind::Holding => page.more([Token::Text(b"holding".as_slice())].as_slice()),
-        OwnKind::NotHolding => page.more([Token::Text(b"notholding".as_slice())].as_slice()),
+        OwnKind::NotHeld => page.text(b" notheld".as_slice()),
+        OwnKind::HoldsLock => page.text(b" holdslock".as_slice()),
+        OwnKind::Holding => page.text(b" holding".as_slice()),
+        OwnKind::NotHolding => page.text(b" notholding".as_slice()),
     }
 }
 
@@ -104,6 +103,18 @@ fn entry_act(entry: &AnyEntry) -> u64
     }
 }
 
+/// The first words of a note.
+#[tactic(auto, using(crate::proofs::NoteHeads::note_head))]
+fn print_head(page: &mut Page, number: u64, letter: u8, name: u64, act: u64) -> Result<(), NoMemory>
+    ensures { OnOk result (page.new ≡ page.old ++ (decimal number ++ spaced (((letter ∷ decimal name) ++ 47 ∷ decimal act) ∷ []))) }
+{
+    page.number(number)?;
+    page.text([b' ', letter].as_slice())?;
+    page.number(name)?;
+    page.tagged(b"/".as_slice(), act)?;
+    Ok(())
+}
+
 /// A note as a line: its number in its actor's list, who made it at which act, and what it says.
 #[tactic(auto, using(co_text::proofs::Spacing::one_more))]
 pub fn print_note(
@@ -115,8 +126,7 @@ pub fn print_note(
     ensures { OnOk result (page.new ≡ page.old ++ line_text (note_words script.now number entry.now)) }
 {
     let (letter, name) = actor_name(script, entry_actor(entry));
-    let maker = Token::Joined(letter, name, b'/', entry_act(entry));
-    page.begin(&Token::Number(number), [maker].as_slice())?;
+    print_head(page, number, letter, name, entry_act(entry))?;
     print_entry(page, entry)?;
     page.end()?;
     Ok(())

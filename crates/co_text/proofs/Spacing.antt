@@ -53,3 +53,23 @@ one_line old p1 p2 p3 w ws vs e1 e2 e3 = one_more old p1 p2 p3 w ws vs e1 e2 e3 
 -- some words and further ones
 pub both_more : (old p1 p2 : List ℕ) (vs ws : List Word) → p1 ≡ old ++ spaced vs → p2 ≡ p1 ++ spaced ws → p2 ≡ old ++ spaced (vs ++ ws)
 both_more old p1 p2 vs ws e1 e2 = rw (e2, e1, spaced-append vs ws) (append_assoc old (spaced vs) (spaced ws))
+
+-- texts appended one after the other
+
+pub one_piece : (old p1 a b : List ℕ) → p1 ≡ old ++ (a ++ b) → p1 ≡ old ++ (a ++ (b ++ []))
+one_piece old p1 a b e1 = rw e1 (simp append-nil)
+
+pub two_pieces : (old p1 p2 a b : List ℕ) → p1 ≡ old ++ a → p2 ≡ p1 ++ b → p2 ≡ old ++ (a ++ (b ++ []))
+two_pieces old p1 p2 a b e1 e2 = rw (e2, e1) (simp (append_assoc, append-nil))
+
+pub three_pieces : (old p1 p2 p3 a b c : List ℕ) → p1 ≡ old ++ a → p2 ≡ p1 ++ b → p3 ≡ p2 ++ c → p3 ≡ old ++ (a ++ (b ++ (c ++ [])))
+three_pieces old p1 p2 p3 a b c e1 e2 e3 = rw (e3, e2, e1) (simp (append_assoc, append-nil))
+
+pub four_pieces : (old p1 p2 p3 p4 a b c d : List ℕ) → p1 ≡ old ++ a → p2 ≡ p1 ++ b → p3 ≡ p2 ++ c → p4 ≡ p3 ++ d → p4 ≡ old ++ (a ++ (b ++ (c ++ (d ++ []))))
+four_pieces old p1 p2 p3 p4 a b c d e1 e2 e3 e4 = rw (e4, e3, e2, e1) (simp (append_assoc, append-nil))
+
+pub five_pieces : (old p1 p2 p3 p4 p5 a b c d e : List ℕ) → p1 ≡ old ++ a → p2 ≡ p1 ++ b → p3 ≡ p2 ++ c → p4 ≡ p3 ++ d → p5 ≡ p4 ++ e → p5 ≡ old ++ (a ++ (b ++ (c ++ (d ++ (e ++ [])))))
+five_pieces old p1 p2 p3 p4 p5 a b c d e e1 e2 e3 e4 e5 = rw (e5, e4, e3, e2, e1) (simp (append_assoc, append-nil))
+
+pub six_pieces : (old p1 p2 p3 p4 p5 p6 a b c d e f : List ℕ) → p1 ≡ old ++ a → p2 ≡ p1 ++ b → p3 ≡ p2 ++ c → p4 ≡ p3 ++ d → p5 ≡ p4 ++ e → p6 ≡ p5 ++ f → p6 ≡ old ++ (a ++ (b ++ (c ++ (d ++ (e ++ (f ++ []))))))
+six_pieces old p1 p2 p3 p4 p5 p6 a b c d e f e1 e2 e3 e4 e5 e6 = rw (e6, e5, e4, e3, e2, e1) (simp (append_assoc, append-nil))

@@ -1,5 +1,5 @@
 //! Lines of words at the end of one text.
-ghost use Rattle.std.specs.Prelude.{◌≡◌, ◌++◌, ◌∷◌, [], decimal, OnOk};
+ghost use Rattle.std.specs.Prelude.{◌≡◌, ◌+◌, ◌%◌, ◌≤◌, ◌<◌, ◌++◌, ◌∷◌, [], decimal, OnOk};
 ghost use Rattle.std.specs.Fmt.{signed_decimal};
 ghost use Rattle.co_text.specs.Lines.{spaced, line_text};
 ghost use Rattle.co_text.specs.Written.{token_word, token_words};
@@ -9,6 +9,14 @@ use co_sbt::{NoMemory, Seq};
 use itoa::Buffer;
 use std::alloc::Global;
 use std::marker::Model;
+
+/// The last digit of a number.
+#[inline(always)]
+fn digit(number: u64) -> u8
+    ensures { result ≡ 48 + number % 10 }
+{
+    b'0' + (number % 10) as u8
+}
 
 /// A text that grows at its end, by whole words and lines. Contracts see its bytes.
 ///
@@ -43,38 +51,101 @@ impl Page {
         self.bytes
     }
 
+    #[inline]
     fn push(&mut self, byte: u8) -> Result<(), NoMemory>
         ensures { OnOk result (self.new ≡ self.old ++ byte ∷ []) }
     {
         self.bytes.push(byte)
     }
 
-    fn text(&mut self, word: &[u8]) -> Result<(), NoMemory>
-        ensures { OnOk result (self.new ≡ self.old ++ word.now) }
+    /// Appends these bytes.
+    // Most texts are literals: inlined, a few bytes are stored with no call.
+    #[inline(always)]
+    pub fn text(&mut self, text: &[u8]) -> Result<(), NoMemory>
+        ensures { OnOk result (self.new ≡ self.old ++ text.now) }
     {
-        // Many words are a single byte, which is appended faster alone.
-        match word {
-            [byte] => self.push(*byte),
-            _ => self.bytes.extend_from_slice(word),
-        }
+        self.bytes.extend_from_slice(text)
     }
 
+    #[tactic(auto, using(crate::proofs::Digits::decimal_two))]
+    fn two_digits(&mut self, number: u64) -> Result<(), NoMemory>
+        requires low { 10 ≤ number }
+        requires high { number < 100 }
+        ensures { OnOk result (self.new ≡ self.old ++ decimal number) }
+    {
+        self.text([digit(number / 10), digit(number)].as_slice())
+    }
+
+    #[tactic(auto, using(crate::proofs::Digits::decimal_three))]
+    fn three_digits(&mut self, number: u64) -> Result<(), NoMemory>
+        requires low { 100 ≤ number }
+        requires high { number < 1000 }
+        ensures { OnOk result (self.new ≡ self.old ++ decimal number) }
+    {
+        let tens = number / 10;
+        self.text([digit(tens / 10), digit(tens), digit(number)].as_slice())
+    }
+
+    #[tactic(auto, using(crate::proofs::Digits::decimal_four))]
+    fn four_digits(&mut self, number: u64) -> Result<(), NoMemory>
+        requires low { 1000 ≤ number }
+        requires high { number < 10000 }
+        ensures { OnOk result (self.new ≡ self.old ++ decimal number) }
+    {
+        let tens = number / 10;
+        let hundreds = tens / 10;
+        let digits = [
+            digit(hundreds / 10),
+            digit(hundreds),
+            digit(tens),
+            digit(number),
+        ];
+        self.text(digits.as_slice())
+    }
+
+    fn many_digits(&mut self, number: u64) -> Result<(), NoMemory>
+        ensures { OnOk result (self.new ≡ self.old ++ decimal number) }
+    {
+        let mut buffer = Buffer::new();
+        self.text(buffer.format(number).as_bytes())
+    }
+
+    /// Appends a number, without leading zeros.
     #[tactic(auto, using(std::proofs::lemmas::Fmt::decimal_digit))]
-    fn number(&mut self, number: u64) -> Result<(), NoMemory>
+    pub fn number(&mut self, number: u64) -> Result<(), NoMemory>
         ensures { OnOk result (self.new ≡ self.old ++ decimal number) }
     {
         if number < 10 {
-            return self.push(b'0' + number as u8);
+            self.push(b'0' + number as u8)
+        } else if number < 100 {
+            self.two_digits(number)
+        } else if number < 1000 {
+            self.three_digits(number)
+        } else if number < 10000 {
+            self.four_digits(number)
+        } else {
+            self.many_digits(number)
+        }
+    }
+
+    /// Appends a number, with a `-` where it is below 0.
+    pub fn signed(&mut self, number: i32) -> Result<(), NoMemory>
+        ensures { OnOk result (self.new ≡ self.old ++ signed_decimal number) }
+    {
+        if number >= 0 {
+            return self.number(number as u64);
         }
         let mut buffer = Buffer::new();
         self.text(buffer.format(number).as_bytes())
     }
 
-    fn signed(&mut self, number: i32) -> Result<(), NoMemory>
-        ensures { OnOk result (self.new ≡ self.old ++ signed_decimal number) }
+    /// Appends these bytes and a number.
+    #[inline(always)]
+    pub fn tagged(&mut self, tag: &[u8], number: u64) -> Result<(), NoMemory>
+        ensures { OnOk result (self.new ≡ self.old ++ (tag.now ++ decimal number)) }
     {
-        let mut buffer = Buffer::new();
-        self.text(buffer.format(number).as_bytes())
+        self.text(tag)?;
+        self.number(number)
     }
 
     fn lettered(&mut self, letter: u8, number: u64) -> Result<(), NoMemory>
@@ -160,6 +231,22 @@ mod tests {
         assert_eq!(rt;
             page.done().as_slice(),
             b"reset 3 =u5 f0 -1 c0*2\n".as_slice()
+        );
+    }
+
+    #[test]
+    fn writes_numbers(rt: HostRuntime) {
+        let mut page = Page::new(rt.alloc());
+        for number in [0, 10, 999, 1000, 9999, 10000, 18446744073709551615] {
+            assert!(rt; page.tagged(b" u".as_slice(), number).is_ok());
+        }
+        for number in [-2147483648, -1, 99] {
+            assert!(rt; page.text(b" ".as_slice()).is_ok());
+            assert!(rt; page.signed(number).is_ok());
+        }
+        assert_eq!(rt;
+            page.done().as_slice(),
+            b" u0 u10 u999 u1000 u9999 u10000 u18446744073709551615 -2147483648 -1 99".as_slice()
         );
     }
 }

@@ -1,19 +1,43 @@
 //! Operations on a callout.
-ghost use Rattle.std.specs.Prelude.{◌≡◌, ◌++◌, OnOk};
+ghost use Rattle.std.specs.Prelude.{◌≡◌, ◌++◌, ◌∷◌, [], codes, decimal, OnOk};
 ghost use Rattle.co_text.specs.Lines.{spaced};
-ghost use Rattle.co_text.specs.Written.{token_word, token_words};
-ghost use Rattle.co_report.specs.NoteTexts.{plain_words, op_words};
+ghost use Rattle.co_report.specs.NoteTexts.{plain_words, op_words, truth_word};
 ghost use Rattle.co_object.specs.declared.Op.TheVariants as ops;
+ghost use Rattle.co_object.specs.declared.PlainOp.TheVariants as plain;
+ghost use Rattle.co_object.specs.declared.RunOp.TheVariants as runs;
 
-use crate::note::words::{arg, arming, cpu, cpu_or_dash, func, truth, units};
+use crate::note::words::{print_lone, print_target, print_truth};
 use co_object::{CallOp, Op, PlainOp, RunOp};
-use co_sbt::NoMemory;
-use co_text::{Page, Token};
+use co_sbt::{NoMemory, Sbt};
+use co_text::Page;
 
-fn word<'a>(text: &'a [u8]) -> Token<'a>
-    ensures { token_word result ≡ text.now }
+#[tactic(auto, using(co_text::proofs::Spacing::five_pieces))]
+fn print_reset(
+    page: &mut Page,
+    due: Sbt,
+    prec: Sbt,
+    func: u32,
+    arg: u64,
+    place: Option<u32>,
+) -> Result<(), NoMemory>
+    ensures { OnOk result (page.new ≡ page.old ++ spaced (plain_words (plain.Reset due prec func arg place))) }
 {
-    Token::Text(text)
+    page.tagged(b" reset u".as_slice(), due.raw())?;
+    page.tagged(b" pr u".as_slice(), prec.raw())?;
+    page.tagged(b" f".as_slice(), func as u64)?;
+    page.tagged(b" a".as_slice(), arg)?;
+    print_target(page, place)?;
+    Ok(())
+}
+
+fn print_schedule(page: &mut Page, due: Sbt, prec: Sbt, place: Option<u32>) -> Result<(), NoMemory>
+    ensures { OnOk result (page.new ≡ page.old ++ spaced (plain_words (plain.Schedule due prec place))) }
+{
+    page.text(b" schedule".as_slice())?;
+    page.tagged(b" u".as_slice(), due.raw())?;
+    page.tagged(b" pr u".as_slice(), prec.raw())?;
+    print_target(page, place)?;
+    Ok(())
 }
 
 fn print_plain(page: &mut Page, op: &PlainOp) -> Result<(), NoMemory>
@@ -23,47 +47,28 @@ fn print_plain(page: &mut Page, op: &PlainOp) -> Result<(), NoMemory>
         PlainOp::Reset {
             due,
             prec,
-            func: handler,
-            arg: argument,
-            cpu: place,
-        } => {
-            let words = [
-                word(b"reset".as_slice()),
-                units(due),
-                word(b"pr".as_slice()),
-                units(prec),
-                func(handler),
-                arg(argument),
-                word(b"cpu".as_slice()),
-                cpu_or_dash(place),
-            ];
-            page.more(words.as_slice())
-        }
-        PlainOp::Schedule {
-            due,
-            prec,
-            cpu: place,
-        } => {
-            let words = [
-                word(b"schedule".as_slice()),
-                units(due),
-                word(b"pr".as_slice()),
-                units(prec),
-                word(b"cpu".as_slice()),
-                cpu_or_dash(place),
-            ];
-            page.more(words.as_slice())
-        }
-        PlainOp::Stop => page.more([word(b"stop".as_slice())].as_slice()),
-        PlainOp::AsyncDrain { func: handler } => {
-            page.more([word(b"adrain".as_slice()), func(handler)].as_slice())
-        }
-        PlainOp::Active => page.more([word(b"active".as_slice())].as_slice()),
-        PlainOp::Pending => page.more([word(b"pending".as_slice())].as_slice()),
-        PlainOp::Deactivate => page.more([word(b"deactivate".as_slice())].as_slice()),
-        PlainOp::Init => page.more([word(b"init".as_slice())].as_slice()),
-        PlainOp::Retire => page.more([word(b"retire".as_slice())].as_slice()),
+            func,
+            arg,
+            cpu,
+        } => print_reset(page, due, prec, func, arg, cpu),
+        PlainOp::Schedule { due, prec, cpu } => print_schedule(page, due, prec, cpu),
+        PlainOp::Stop => page.text(b" stop".as_slice()),
+        PlainOp::AsyncDrain { func } => print_lone(page, b" adrain f".as_slice(), func as u64),
+        PlainOp::Active => page.text(b" active".as_slice()),
+        PlainOp::Pending => page.text(b" pending".as_slice()),
+        PlainOp::Deactivate => page.text(b" deactivate".as_slice()),
+        PlainOp::Init => page.text(b" init".as_slice()),
+        PlainOp::Retire => page.text(b" retire".as_slice()),
     }
+}
+
+#[tactic(auto, using(co_text::proofs::Spacing::two_pieces))]
+fn print_drain(page: &mut Page, took: bool) -> Result<(), NoMemory>
+    ensures { OnOk result (page.new ≡ page.old ++ spaced (codes "drain" ∷ truth_word took ∷ [])) }
+{
+    page.text(b" drain".as_slice())?;
+    print_truth(page, took)?;
+    Ok(())
 }
 
 fn print_call(page: &mut Page, op: &CallOp) -> Result<(), NoMemory>
@@ -71,25 +76,45 @@ fn print_call(page: &mut Page, op: &CallOp) -> Result<(), NoMemory>
 {
     match op {
         CallOp::Plain(op) => print_plain(page, op),
-        CallOp::DrainTry { took } => {
-            page.more([word(b"drain".as_slice()), truth(*took)].as_slice())
-        }
+        CallOp::DrainTry { took } => print_drain(page, *took),
     }
+}
+
+#[tactic(auto, using(co_text::proofs::Spacing::three_pieces))]
+fn print_pick(page: &mut Page, n: u64, cpu: u32, at: Sbt) -> Result<(), NoMemory>
+    ensures { OnOk result (page.new ≡ page.old ++ spaced (op_words (ops.Run (runs.Pick n cpu at)))) }
+{
+    page.tagged(b" pick #".as_slice(), n)?;
+    page.tagged(b" p".as_slice(), cpu as u64)?;
+    page.tagged(b" u".as_slice(), at.raw())?;
+    Ok(())
+}
+
+#[tactic(auto, using(co_text::proofs::Spacing::two_pieces))]
+fn print_begin(page: &mut Page, n: u64, cpu: u32) -> Result<(), NoMemory>
+    ensures { OnOk result (page.new ≡ page.old ++ spaced (op_words (ops.Run (runs.Begin n cpu)))) }
+{
+    page.tagged(b" begin #".as_slice(), n)?;
+    page.tagged(b" p".as_slice(), cpu as u64)?;
+    Ok(())
+}
+
+#[tactic(auto, using(co_text::proofs::Spacing::two_pieces))]
+fn print_end(page: &mut Page, n: u64, cpu: u32) -> Result<(), NoMemory>
+    ensures { OnOk result (page.new ≡ page.old ++ spaced (op_words (ops.Run (runs.End n cpu)))) }
+{
+    page.tagged(b" end #".as_slice(), n)?;
+    page.tagged(b" p".as_slice(), cpu as u64)?;
+    Ok(())
 }
 
 fn print_run(page: &mut Page, op: &RunOp) -> Result<(), NoMemory>
     ensures { OnOk result (page.new ≡ page.old ++ spaced (op_words (ops.Run op.now))) }
 {
     match *op {
-        RunOp::Pick { n, cpu: place, at } => {
-            page.more([word(b"pick".as_slice()), arming(n), cpu(place), units(at)].as_slice())
-        }
-        RunOp::Begin { n, cpu: place } => {
-            page.more([word(b"begin".as_slice()), arming(n), cpu(place)].as_slice())
-        }
-        RunOp::End { n, cpu: place } => {
-            page.more([word(b"end".as_slice()), arming(n), cpu(place)].as_slice())
-        }
+        RunOp::Pick { n, cpu, at } => print_pick(page, n, cpu, at),
+        RunOp::Begin { n, cpu } => print_begin(page, n, cpu),
+        RunOp::End { n, cpu } => print_end(page, n, cpu),
     }
 }
 
