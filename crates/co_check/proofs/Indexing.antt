@@ -1,19 +1,20 @@
 -- Before the first line no slot is taken, and no number has come.
-use Rattle.std.proofs.Common.{◌≡◌, ◌≢◌, ℕ, zero, suc, ◌+◌, ◌<◌, ◌≤◌, ◌==◌, true, false, inl, inr, set, take, get_or-set_same, get_or-set_other, List, [], ◌∷◌, length, map, get_or, replicate, refl, ap, sym, subst, ◌∙◌, arith}
+use Rattle.std.proofs.Common.{◌≡◌, ◌≢◌, ℕ, zero, suc, ◌+◌, ◌<◌, ◌≤◌, ◌==◌, true, false, cond, inl, inr, set, get_or-set_same, get_or-set_other, List, [], ◌∷◌, ◌++◌, length, map, get_or, replicate, refl, ap, sym, subst, ◌∙◌, arith}
 use Rattle.std.specs.Prelude.{Option, Some, None, Vec, slice_get}
 use Rattle.std.specs.Option.{option_map}
 use Rattle.std.proofs.lemmas.Bool.{cases_eq}
 use Rattle.std.proofs.lemmas.Bool.Decides.{nat_tests}
-use Rattle.std.proofs.lemmas.List.{length-replicate, length-set, length-take}
-use Rattle.std.proofs.lemmas.List.Sums.{count_by-le-length, count_by_more_yes, count_by_more_no}
+use Rattle.std.proofs.lemmas.List.{length-replicate, length-set}
+use Rattle.std.proofs.lemmas.List.Sums.{count_by-le-length}
 use Rattle.std.proofs.lemmas.Option.{slice_get-map, slice_get_within, get_or_from_slice_get}
+use Rattle.co_object.proofs.Passing.{passing, count-passing, passing-append}
 use Rattle.co_program.specs.declared.script.Script.{Script}
 use Rattle.co_program.specs.Actors.{actor_count}
 use Rattle.co_report.specs.Order.{place_index, place_count}
 use Rattle.co_check.specs.declared.index.Index.{Index}
 use Rattle.co_report.specs.declared.line.Line.{Line}
 use Rattle.co_check.specs.Index.{AreSlots, AreLatest, IsIndexed}
-use Rattle.co_check.specs.Numbers.{count_of}
+use Rattle.co_check.specs.Numbers.{AreCounts, count_of}
 use Rattle.co_check.specs.Shown.{actor_of, is_by}
 use Rattle.co_check.proofs.Taking.{some-is}
 
@@ -79,30 +80,41 @@ opened-index s lines counts widths x long each slots_are widths_are latest_are =
 
 -- ---- counts
 
-pub count-few : (a : ℕ) (lines : List Line) (k : ℕ) → count_of a (take k lines) ≤ k
-count-few a lines k = omega (arith, count_by-le-length (is_by a) (take k lines), length-take k lines)
+-- before the first line
+pub no-counts : (n : ℕ) → AreCounts n [] (replicate n 0)
+no-counts n = record { long = length-replicate n 0; each = λ a below. zero-at n a }
 
-pub counted-more : (lines : List Line) (k : ℕ) (x : Line) (counts : List ℕ) (actors a n : ℕ) → slice_get lines k ≡ Some x → length counts ≡ actors → ((b : ℕ) → b < actors → get_or counts b 0 ≡ count_of b (take k lines))
-    → a ≡ actor_of x.entry → a < actors → n ≡ get_or counts a 0
-    → (length (set counts a (n + 1)) ≡ actors) × ((b : ℕ) → b < actors → get_or (set counts a (n + 1)) b 0 ≡ count_of b (take (k + 1) lines))
-counted-more lines k x counts actors a n here long each is below count = (
-  length-set counts a (n + 1) ∙ long,
-  λ b b_below. elim (cases_eq b a) [
-    | inl same ↦ ap (λ m. get_or (set counts a (n + 1)) m 0) same ∙ (own ∙ ap (λ m. count_of m (take (k + 1) lines)) (sym same))
-    | inr apart ↦ get_or-set_other counts a b (n + 1) 0 apart ∙ (each b b_below ∙ sym (count_by_more_no (is_by b) lines k x (slice_get_within lines k x here) (ap (is_by b) item ∙ apart-is (actor_of x.entry) b (λ e. apart (sym e ∙ sym is)))))
-  ],
-)
+pub count-few : (actors : ℕ) (above : List Line) (counts : List ℕ) (a : ℕ) → AreCounts actors above counts → a < actors → get_or counts a 0 ≤ length above
+count-few actors above counts a h below = omega (arith, h.each a below, count_by-le-length (is_by a) above)
+
+-- one line more
+count-own : (above : List Line) (x : Line) (a : ℕ) → is_by a x ≡ true → count_of a (above ++ x ∷ []) ≡ count_of a above + 1
+count-own above x a own =
+    let one : passing (is_by a) (x ∷ []) ≡ 1 = ap (λ b. cond b 1 0 + 0) own in
+    omega (arith, one, passing-append (is_by a) above (x ∷ []), count-passing (is_by a) above, count-passing (is_by a) (above ++ x ∷ []))
+
+count-other : (above : List Line) (x : Line) (a : ℕ) → is_by a x ≡ false → count_of a (above ++ x ∷ []) ≡ count_of a above
+count-other above x a other =
+    let none : passing (is_by a) (x ∷ []) ≡ 0 = ap (λ b. cond b 1 0 + 0) other in
+    omega (arith, none, passing-append (is_by a) above (x ∷ []), count-passing (is_by a) above, count-passing (is_by a) (above ++ x ∷ []))
+
+pub counted-more : (actors : ℕ) (above : List Line) (x : Line) (counts : List ℕ) (a n : ℕ) → AreCounts actors above counts → a ≡ actor_of x.entry → a < actors → n ≡ get_or counts a 0
+    → AreCounts actors (above ++ x ∷ []) (set counts a (n + 1))
+counted-more actors above x counts a n h is below count = record {
+  long = length-set counts a (n + 1) ∙ h.long;
+  each = λ b b_below. elim (cases_eq b a) [
+    | inl same ↦ ap (λ m. get_or (set counts a (n + 1)) m 0) same ∙ (own ∙ ap (λ m. count_of m (above ++ x ∷ [])) (sym same))
+    | inr apart ↦ get_or-set_other counts a b (n + 1) 0 apart ∙ (h.each b b_below ∙ sym (count-other above x b (apart-is (actor_of x.entry) b (λ e. apart (sym e ∙ sym is)))))
+  ];
+}
   where
-    item : get_or lines k x ≡ x
-    item = get_or_from_slice_get lines k x x here
-
     equal : (m n : ℕ) → m ≡ n → (m == n) ≡ true
     equal m n h = grind (arith, nat_tests)
 
     apart-is : (m n : ℕ) → m ≢ n → (m == n) ≡ false
     apart-is m n h = grind (arith, nat_tests)
 
-    own : get_or (set counts a (n + 1)) a 0 ≡ count_of a (take (k + 1) lines)
-    own = get_or-set_same counts a (n + 1) 0 (omega (arith, below, long))
-        ∙ (ap (λ m. m + 1) (count ∙ each a below)
-        ∙ sym (count_by_more_yes (is_by a) lines k x (slice_get_within lines k x here) (ap (is_by a) item ∙ equal (actor_of x.entry) a (sym is))))
+    own : get_or (set counts a (n + 1)) a 0 ≡ count_of a (above ++ x ∷ [])
+    own = get_or-set_same counts a (n + 1) 0 (omega (arith, below, h.long))
+        ∙ (ap (λ m. m + 1) (count ∙ h.each a below)
+        ∙ sym (count-own above x a (equal (actor_of x.entry) a (sym is))))

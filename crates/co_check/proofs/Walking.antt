@@ -87,7 +87,7 @@ module _ (s : Script) (a : ℕ) where
     all : (m n : ℕ) → m ≡ n → m + 1 - 0 ≡ suc n
     all m n h = omega arith
 
-  pub settle-next : (at to : CursorAt) (steps k : ℕ) (end : Cursor) → k < steps → IsQuietStep s a at (Some to) → past s a (steps - k) (cursor_of s a at) (action_for s a (cursor_of s a at)) ≡ end
+  pub settle-next : (at to : CursorAt) (steps k : ℕ) (end : Cursor) → k < steps → IsQuietStep s a at None to → past s a (steps - k) (cursor_of s a at) (action_for s a (cursor_of s a at)) ≡ end
       → past s a (steps - (k + 1)) (cursor_of s a to) (action_for s a (cursor_of s a to)) ≡ end
   settle-next at to steps k end below quiet h =
       sym (quiet (steps - (k + 1))) ∙ (ap (λ n. past s a n (cursor_of s a at) (action_for s a (cursor_of s a at))) (one_less steps k below) ∙ h) where
@@ -108,7 +108,7 @@ module _ (s : Script) (a : ℕ) (lines : List Line) (facts : List Fact) (row : L
   row_is : by_row (seen s lines) (drop k row) ≡ note ∷ by_row (seen s lines) (drop (k + 1) row)
   row_is = row-on (seen s lines) row k i note here (read-seen s lines facts i l f facts_are line_is fact_is)
 
-  pub walked-on : (to : CursorAt) → IsNoteWalked s a c note (Some to) →
+  pub walked-on : (to : CursorAt) → IsNoteWalked s a c note true to →
       (first_astray s a (cursor_of s a c) (by_row (seen s lines) (drop k row)) ≡ first_astray s a (cursor_of s a to) (by_row (seen s lines) (drop (k + 1) row)))
       × (place_after s a (cursor_of s a c) (by_row (seen s lines) (drop k row)) ≡ place_after s a (cursor_of s a to) (by_row (seen s lines) (drop (k + 1) row)))
   walked-on to h = (
@@ -118,5 +118,5 @@ module _ (s : Script) (a : ℕ) (lines : List Line) (facts : List Fact) (row : L
     ap (place_after s a (cursor_of s a c)) row_is ∙ ap (λ (x : Cursor). place_after s a x (by_row (seen s lines) (drop (k + 1) row))) (sym h.1),
   )
 
-  pub walked-off : IsNoteWalked s a c note None → first_astray s a (cursor_of s a c) (by_row (seen s lines) (drop k row)) ≡ Some l.line
-  walked-off h = ap (first_astray s a (cursor_of s a c)) row_is ∙ astray-at s a (cursor_of s a c) note (by_row (seen s lines) (drop (k + 1) row)) h
+  pub walked-off : (to : CursorAt) → IsNoteWalked s a c note false to → first_astray s a (cursor_of s a c) (by_row (seen s lines) (drop k row)) ≡ Some l.line
+  walked-off to h = ap (first_astray s a (cursor_of s a c)) row_is ∙ astray-at s a (cursor_of s a c) note (by_row (seen s lines) (drop (k + 1) row)) h

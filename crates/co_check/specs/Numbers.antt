@@ -1,5 +1,5 @@
 -- The numbers of the notes: those of each actor are 0, 1, 2 and so on, each once, and rise in each place.
-use Rattle.std.specs.Prelude.{ℕ, Bool, ◌&&◌, ◌||◌, nat_lt, nat_le, if◌then◌else◌, List, [], Option, Some, None}
+use Rattle.std.specs.Prelude.{◌≡◌, ℕ, ◌<◌, length, slice_index, Bool, ◌&&◌, ◌||◌, nat_lt, nat_le, if◌then◌else◌, List, [], Option, Some, None}
 use Rattle.std.specs.List.{list_any, count_by}
 use Rattle.co_report.specs.declared.line.Line.{Line}
 use Rattle.co_check.specs.declared.verdict.Unfit.{Unfit}
@@ -10,6 +10,11 @@ use Rattle.co_check.specs.Shown.{actor_of, is_by, is_note, is_of}
 -- how many of these lines the actor made
 abbrev pub count_of : ℕ → List Line → ℕ
 count_of a lines = count_by (is_by a) lines
+
+-- so many of them each of these actors made
+pub record AreCounts (actors : ℕ) (lines : List Line) (counts : List ℕ) : Type 0 where
+  pub long : length counts ≡ actors
+  pub each : (a : ℕ) → a < actors → slice_index counts a ≡ count_of a lines
 
 -- there are not so many
 abbrev pub is_beyond : List Line → Line → Bool

@@ -12,6 +12,7 @@ use Rattle.co_object.specs.Journal as journal
 use Rattle.co_object.specs.Stand.{off}
 use Rattle.co_program.specs.declared.script.Script.{Script}
 use Rattle.co_program.specs.Action.{spec_at}
+use Rattle.co_program.specs.Actors.{actor_count}
 use Rattle.co_program.specs.Follows.{scan_count}
 use Rattle.co_program.specs.Runs.{are_direct}
 use Rattle.co_check.specs.declared.cpu.CpuQueue.{CpuQueue}
@@ -23,6 +24,7 @@ use Rattle.co_check.specs.declared.replay.Replayed.TheVariants.{Fits, Bad as Bad
 use Rattle.co_check.specs.declared.verdict.Unfit.{Unfit}
 use Rattle.co_check.specs.Astray.{Seen, seen_at, seen}
 use Rattle.co_check.specs.Cpu.{IsFor}
+use Rattle.co_check.specs.Numbers.{AreCounts}
 use Rattle.co_check.specs.Replay.{callout_unfit, queue_unfit, state_after, queue_after, unfit_at, first_unfit}
 use Rattle.co_check.specs.Shown.{cpu_journal}
 
@@ -71,7 +73,7 @@ IsTaken s above l (Err cause) after = unfit_at s above l.place l.entry ≡ Some 
 abbrev pub opened : Spec → Alone
 opened spec = record { spec = spec; state = opening 0 }
 
--- no line is unfit, and this is said of each of them; or the first that is
+-- no line is unfit, and this is said of each of them and of their counts; or the first that is
 abbrev pub IsReplayed : Script → List Line → Replayed → Type 0
-IsReplayed s lines (Fits facts) = (first_unfit s lines ≡ None) × (facts.items ≡ map fact_of (seen s lines))
+IsReplayed s lines (Fits facts counts) = (first_unfit s lines ≡ None) × (facts.items ≡ map fact_of (seen s lines)) × AreCounts (actor_count s) lines counts.items
 IsReplayed s lines (BadLine line cause) = first_unfit s lines ≡ Some (record { line = line; cause = cause })

@@ -1,12 +1,13 @@
 -- Where an actor's notes lead, by the lines that have them.
-use Rattle.std.specs.Prelude.{◌≡◌, ℕ, suc, true, false, List, Option, Some, None, option_and_then, slice_get}
+use Rattle.std.specs.Prelude.{◌≡◌, ℕ, suc, Bool, true, false, List, Option, Some, None, option_and_then, slice_get}
 use Rattle.std.specs.List.{filter_map}
 use Rattle.co_program.specs.declared.script.Script.{Script}
 use Rattle.co_program.specs.declared.cursor.Cursor.{Cursor as CursorAt}
+use Rattle.co_program.specs.declared.action.Action.{Action}
 use Rattle.co_program.specs.Action.{action_for}
 use Rattle.co_program.specs.Cursor.{start_of}
 use Rattle.co_program.specs.Follows.{past, settled}
-use Rattle.co_program.specs.Indexed.{IsCounted, cursor_of}
+use Rattle.co_program.specs.Indexed.{IsCounted, action_of, cursor_of}
 use Rattle.co_check.specs.declared.walk.Walked.{Walked}
 use Rattle.co_check.specs.declared.walk.Walked.TheVariants.{Astray, At}
 use Rattle.co_check.specs.Astray.{Seen, is_next, goes_on, first_astray, place_after}
@@ -20,13 +21,18 @@ abbrev pub IsWalked : Script → ℕ → List Seen → Walked → Type 0
 IsWalked s a notes (Astray line) = first_astray s a (start_of s a) notes ≡ Some line
 IsWalked s a notes (At c) = (first_astray s a (start_of s a) notes ≡ None) × (cursor_of s a c ≡ place_after s a (start_of s a) notes) × IsCounted c lines_max
 
--- the cursor steps there without a note, or has no such step
-abbrev pub IsQuietStep : Script → ℕ → CursorAt → Option CursorAt → Type 0
-IsQuietStep s a c None = (fuel : ℕ) → past s a fuel (cursor_of s a c) (action_for s a (cursor_of s a c)) ≡ cursor_of s a c
-IsQuietStep s a c (Some to) = (fuel : ℕ) →
+-- this is what the program does there
+abbrev pub IsActionAt : Script → ℕ → CursorAt → Action → Type 0
+IsActionAt s a c action = action_of s a c action ≡ action_for s a (cursor_of s a c)
+
+-- the cursor steps there without a note, or has no such step and stays
+abbrev pub IsQuietStep : Script → ℕ → CursorAt → Option Action → CursorAt → Type 0
+IsQuietStep s a c (Some action) to =
+    (to ≡ c) × IsActionAt s a c action × ((fuel : ℕ) → past s a fuel (cursor_of s a c) (action_for s a (cursor_of s a c)) ≡ cursor_of s a c)
+IsQuietStep s a c None to = (fuel : ℕ) →
     past s a (suc fuel) (cursor_of s a c) (action_for s a (cursor_of s a c)) ≡ past s a fuel (cursor_of s a to) (action_for s a (cursor_of s a to))
 
 -- the note is the next one of the program, which goes on there; or it is not
-abbrev pub IsNoteWalked : Script → ℕ → CursorAt → Seen → Option CursorAt → Type 0
-IsNoteWalked s a c x None = is_next s a (settled s a (cursor_of s a c)) x ≡ false
-IsNoteWalked s a c x (Some to) = (is_next s a (settled s a (cursor_of s a c)) x ≡ true) × (cursor_of s a to ≡ goes_on s (settled s a (cursor_of s a c)) x)
+abbrev pub IsNoteWalked : Script → ℕ → CursorAt → Seen → Bool → CursorAt → Type 0
+IsNoteWalked s a c x false to = is_next s a (settled s a (cursor_of s a c)) x ≡ false
+IsNoteWalked s a c x true to = (is_next s a (settled s a (cursor_of s a c)) x ≡ true) × (cursor_of s a to ≡ goes_on s (settled s a (cursor_of s a c)) x)

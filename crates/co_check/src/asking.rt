@@ -2,6 +2,7 @@
 ghost use Rattle.std.specs.Prelude.{◌≡◌, Option};
 ghost use Rattle.co_object.specs.Group.{off_of};
 ghost use Rattle.co_program.specs.declared.script.Script.{Script};
+ghost use Rattle.co_program.specs.declared.cursor.Cursor.{Cursor};
 ghost use Rattle.co_program.specs.Indexed.{action_of};
 ghost use Rattle.co_check.specs.Asking.{asks, asks_callout, asks_itself, asks_queue};
 ghost use Rattle.co_check.specs.Same.{same_number};
@@ -19,7 +20,7 @@ pub(crate) fn asks(
     place: Place,
     entry: &AnyEntry,
 ) -> bool
-    ensures { (s : Script) → result ≡ asks actor removed (action_of s actor action.now) place entry.now }
+    ensures { (s : Script) (c : Cursor) → result ≡ asks actor removed (action_of s actor c action.now) place entry.now }
 {
     match action {
         Action::Asks { act, asked } => match asked {

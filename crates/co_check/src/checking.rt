@@ -1,8 +1,10 @@
 //! The verdict on a report.
 ghost use Rattle.std.specs.Prelude.{◌≡◌, ◌||◌, not, map, IfOk};
+ghost use Rattle.co_program.specs.Actors.{actor_count};
 ghost use Rattle.co_check.specs.Astray.{seen};
 ghost use Rattle.co_check.specs.Index.{IsIndexed};
 ghost use Rattle.co_check.specs.Lines.{IsReport};
+ghost use Rattle.co_check.specs.Numbers.{AreCounts};
 ghost use Rattle.co_check.specs.Replayed.{fact_of};
 ghost use Rattle.co_check.specs.Verdict.{verdict, verdict_at_end, verdict_by_numbers, verdict_by_programs};
 
@@ -26,18 +28,26 @@ pub fn check(alloc: Global, report: &Report) -> Result<Verdict, NoMemory>
     ensures { IfOk result (λ found. found ≡ verdict report.now) }
 {
     match replay_all(alloc, &report.script, report.lines.as_slice())? {
-        Replayed::Fits(facts) => check_numbers(alloc, report, facts.as_slice()),
+        Replayed::Fits { facts, counts } => {
+            check_numbers(alloc, report, facts.as_slice(), counts.as_slice())
+        }
         Replayed::Bad { line, cause } => Ok(Verdict::Not { line, cause }),
     }
 }
 
 /// The verdict where the histories are possible.
-fn check_numbers(alloc: Global, report: &Report, facts: &[Fact]) -> Result<Verdict, NoMemory>
+fn check_numbers(
+    alloc: Global,
+    report: &Report,
+    facts: &[Fact],
+    counts: &[u32],
+) -> Result<Verdict, NoMemory>
     requires report { IsReport report.now }
     requires facts { facts.now ≡ map fact_of (seen report.now.script report.now.lines) }
+    requires counts { AreCounts (actor_count report.now.script) report.now.lines counts.now }
     ensures { IfOk result (λ found. found ≡ verdict_by_numbers report.now.script report.now.lines report.now.end) }
 {
-    match index_all(alloc, &report.script, report.lines.as_slice())? {
+    match index_all(alloc, &report.script, report.lines.as_slice(), counts)? {
         Indexed::Fits(index) => Ok(check_programs(report, facts, &index)),
         Indexed::Bad { line } => Ok(Verdict::Not {
             line,

@@ -1,5 +1,5 @@
 //! The notes of each actor by their numbers.
-ghost use Rattle.std.specs.Prelude.{◌≡◌, ◌<◌, ◌≤◌, ◌^◌, [], ℕ, List, length, map, replicate, slice_get, slice_index, IfOk};
+ghost use Rattle.std.specs.Prelude.{◌≡◌, ◌<◌, ◌≤◌, ◌^◌, ◌++◌, ◌∷◌, [], ℕ, List, length, map, replicate, slice_index, IfOk};
 ghost use Rattle.co_program.specs.Actors.{actor_count};
 ghost use Rattle.co_program.specs.declared.script.Script.{Script};
 ghost use Rattle.co_program.specs.Scripts.{IsScript};
@@ -7,7 +7,7 @@ ghost use Rattle.co_report.specs.Order.{place_index, place_count};
 ghost use Rattle.co_report.specs.declared.line.Line.{Line};
 ghost use Rattle.co_check.specs.Index.{AreIndexed, AreSlots, IsIndexed, IsNumbered, IsPut, IsRaised};
 ghost use Rattle.co_check.specs.Lines.{AreLinesOf, IsLineOf, lines_max};
-ghost use Rattle.co_check.specs.Numbers.{count_of};
+ghost use Rattle.co_check.specs.Numbers.{AreCounts};
 ghost use Rattle.co_check.specs.Shown.{actor_of};
 
 use crate::fill::filled;
@@ -35,14 +35,20 @@ pub(crate) enum Indexed {
     Bad { line: u64 },
 }
 
-/// The notes of all lines, by actor and number.
-pub(crate) fn index_all(alloc: Global, script: &Script, lines: &[Line]) -> Result<Indexed, NoMemory>
+/// The notes of all lines, by actor and number. `counts` says how many of them each actor made.
+pub(crate) fn index_all(
+    alloc: Global,
+    script: &Script,
+    lines: &[Line],
+    counts: &[u32],
+) -> Result<Indexed, NoMemory>
     requires script { IsScript script.now }
+    requires counts { AreCounts (actor_count script.now) lines.now counts.now }
     requires lines { AreLinesOf script.now lines.now }
     requires few { length lines.now ≤ lines_max }
     ensures { IfOk result (AreIndexed script.now lines.now) }
 {
-    let mut index = Index::open(alloc, script, lines)?;
+    let mut index = Index::open(alloc, script, counts)?;
     for i in 0..lines.len() {
         let line = &lines[i];
         if !index.take(script, line, i as u32) {
@@ -62,16 +68,13 @@ impl Index {
         row.as_slice()
     }
 
-    /// Before the first line.
-    fn open(alloc: Global, script: &Script, lines: &[Line]) -> Result<Index, NoMemory>
-        requires script { IsScript script.now }
-        requires lines { AreLinesOf script.now lines.now }
-        requires few { length lines.now ≤ lines_max }
-        ensures { IfOk result (IsIndexed script.now lines.now []) }
+    /// Before the first line, with room for as many notes as these of each actor.
+    fn open(alloc: Global, script: &Script, counts: &[u32]) -> Result<Index, NoMemory>
+        requires { IsScript script.now }
+        ensures { IfOk result (λ index. (lines : List Line) → AreCounts (actor_count script.now) lines counts.now → IsIndexed script.now lines [] index) }
     {
         let actors = actor_count(script) as usize;
-        let counts = counts_of(alloc, actors, lines)?;
-        let slots = rows_of(alloc, &counts, None)?;
+        let slots = rows_of(alloc, counts, None)?;
         let places = script.timers.as_slice().len() + script.cpus as usize + actors;
         let widths = filled(alloc, places, actors as u32)?;
         let latest = rows_of(alloc, &widths, 0)?;
@@ -124,19 +127,14 @@ fn place_index(script: &Script, place: Place) -> usize
     }
 }
 
-/// How many of the lines each of so many actors made.
-fn counts_of(alloc: Global, actors: usize, lines: &[Line]) -> Result<Vec<u32>, NoMemory>
-    requires actors { (k : ℕ) (l : Line) → slice_get lines.now k ≡ Some l → actor_of l.entry < actors }
-    requires few { length lines.now ≤ lines_max }
-    ensures long { IfOk result (λ counts. length counts.items ≡ actors) }
-    ensures each { IfOk result (λ counts. (a : ℕ) → a < actors → slice_index counts.items a ≡ count_of a lines.now) }
+/// Counts a line, for the actor that made it.
+pub(crate) fn count_line(counts: &mut Vec<u32>, line: &Line)
+    requires actor { actor_of line.now.entry < length counts.old.items }
+    requires counted { (above : List Line) × AreCounts (length counts.old.items) above counts.old.items × (length above < lines_max) }
+    ensures { (actors : ℕ) (above : List Line) → AreCounts actors above counts.old.items → AreCounts actors (above ++ line.now ∷ []) counts.new.items }
 {
-    let mut counts = filled(alloc, actors, 0)?;
-    for line in lines {
-        let actor = actor_of(&line.entry) as usize;
-        counts[actor] += 1;
-    }
-    Ok(counts)
+    let actor = actor_of(&line.entry) as usize;
+    counts[actor] += 1;
 }
 
 /// Rows of these lengths, of copies of one item.

@@ -16,10 +16,11 @@ ghost use Rattle.co_check.specs.Replayed.{IsAfter, IsCalloutTaken, IsQueueTaken,
 use crate::actors::{may_serve, may_work};
 use crate::cpu::CpuQueue;
 use crate::fill::filled;
+use crate::index::count_line;
 use crate::same::{same_answer, same_reply};
 use crate::verdict::Unfit;
 use co_object::{Alone, AnyEntry, Arming, Entry, Place, QEntry, QOp, Run, Spec, State};
-use co_program::Script;
+use co_program::{Script, actor_count};
 use co_report::Line;
 use co_sbt::{NoMemory, Seq};
 use std::alloc::Global;
@@ -45,13 +46,21 @@ pub(crate) struct Replay {
 /// What the lines of a report come to.
 #[derive(Drop)]
 pub(crate) enum Replayed {
-    /// Each is possible where it stands. What is said of each of them.
-    Fits(Vec<Fact>),
+    /// Each is possible where it stands.
+    Fits {
+        /// What is said of each of them.
+        facts: Vec<Fact>,
+        /// By actor: how many of them it made.
+        counts: Vec<u32>,
+    },
     /// The first that is not.
-    Bad { line: u64, cause: Unfit },
+    Bad {
+        line: u64,
+        cause: Unfit,
+    },
 }
 
-/// Replays all lines.
+/// Replays all lines, and counts them on the way.
 pub(crate) fn replay_all(
     alloc: Global,
     script: &Script,
@@ -63,10 +72,14 @@ pub(crate) fn replay_all(
     ensures { IfOk result (IsReplayed script.now lines.now) }
 {
     let mut replay = Replay::open(alloc, script)?;
-    let mut facts = Vec::new(alloc);
+    let mut facts = Seq::new(alloc);
+    let mut counts = filled(alloc, actor_count(script) as usize, 0)?;
     for line in lines {
         match replay.take(script, line) {
-            Ok(fact) => facts.push(fact).map_err(|_| NoMemory {})?,
+            Ok(fact) => {
+                facts.push(fact)?;
+                count_line(&mut counts, line);
+            }
             Err(cause) => {
                 return Ok(Replayed::Bad {
                     line: line.line,
@@ -75,7 +88,10 @@ pub(crate) fn replay_all(
             }
         }
     }
-    Ok(Replayed::Fits(facts))
+    Ok(Replayed::Fits {
+        facts: facts.into_vec(),
+        counts,
+    })
 }
 
 impl Replay {

@@ -1,5 +1,5 @@
 //! The notes of an actor beside its program.
-ghost use Rattle.std.specs.Prelude.{◌≡◌, ℕ, ◌<◌, ◌≤◌, ◌-◌, ◌^◌, Bool, IfSome, drop, length, map, slice_get};
+ghost use Rattle.std.specs.Prelude.{◌≡◌, ℕ, ◌<◌, ◌≤◌, ◌-◌, Bool, true, drop, length, map, slice_get};
 ghost use Rattle.co_program.specs.Actors.{acts_at, program_of, role_of};
 ghost use Rattle.co_program.specs.Action.{action_for};
 ghost use Rattle.co_program.specs.Follows.{settled};
@@ -9,11 +9,13 @@ ghost use Rattle.co_check.specs.Asking.{is_nothing};
 ghost use Rattle.co_check.specs.Astray.{is_next, seen};
 ghost use Rattle.co_check.specs.Lines.{lines_max};
 ghost use Rattle.co_check.specs.Replayed.{fact_of};
-ghost use Rattle.co_check.specs.Walked.{IsNoteWalked, IsQuietStep, IsWalked, by_row};
+ghost use Rattle.co_check.specs.Walked.{IsActionAt, IsNoteWalked, IsQuietStep, IsWalked, by_row};
 
 use crate::asking::asks;
 use crate::replay::Fact;
-use co_program::{Action, Acts, Cursor, Role, Script, action_for, advance, role_of, scans_first};
+use co_program::{
+    Action, Acts, Cursor, Role, Script, action_for, advance, go, role_of, scans_first,
+};
 use co_report::Line;
 use co_sbt::Seq;
 
@@ -46,32 +48,27 @@ pub(crate) fn walk(
             continue;
         };
         let line = &lines[i as usize];
-        match walk_note(script, actor, &cursor, line, facts[i as usize]) {
-            Some(to) => cursor = to,
-            None => return Walked::Astray(line.line),
+        if !walk_note(script, actor, &mut cursor, line, facts[i as usize]) {
+            return Walked::Astray(line.line);
         }
     }
     Walked::At(cursor)
 }
 
-/// Goes on past the actor's next note. None where the program doesn't give it.
-fn walk_note(
-    script: &Script,
-    actor: u32,
-    cursor: &Cursor,
-    line: &Line,
-    fact: Fact,
-) -> Option<Cursor>
+/// Goes on past the actor's next note. False where the program doesn't give it.
+fn walk_note(script: &Script, actor: u32, cursor: &mut Cursor, line: &Line, fact: Fact) -> bool
     requires script { IsScript script.now }
-    requires counted { IsCounted cursor.now lines_max }
-    ensures note { IsNoteWalked script.now actor cursor.now (record { line = line.now; listed = fact.listed; scans = fact.scans }) result }
-    ensures counted { IfSome result (λ to. Counts cursor.now to 1) }
+    requires counted { IsCounted cursor.old lines_max }
+    ensures note { IsNoteWalked script.now actor cursor.old (record { line = line.now; listed = fact.listed; scans = fact.scans }) result cursor.new }
+    ensures counted { result ≡ true → Counts cursor.old cursor.new 1 }
 {
-    let at = settle(script, actor, cursor);
-    if !is_next(script, actor, &at, line, fact.scans) {
-        return None;
+    let action = settle(script, actor, cursor);
+    if !is_next(script, actor, cursor, &action, line, fact.scans) {
+        return false;
     }
-    Some(advance(script, &at, fact.listed, line.place, &line.entry))
+    let _over = cursor.task;
+    advance(script, cursor, fact.listed, line.place, &line.entry);
+    true
 }
 
 /// Whether the program ends there.
@@ -80,54 +77,63 @@ pub(crate) fn is_finished(script: &Script, actor: u32, cursor: &Cursor) -> bool
     requires counted { IsCounted cursor.now lines_max }
     ensures { let s = script.now in result ≡ is_nothing (action_for s actor (settled s actor (cursor_of s actor cursor.now))) }
 {
-    let at = settle(script, actor, cursor);
-    matches!(action_for(script, actor, &at), Action::Nothing)
+    let mut at = *cursor;
+    matches!(settle(script, actor, &mut at), Action::Nothing)
 }
 
-/// Whether the note is the next one of the program, and stands below the Scans that it waits for.
-fn is_next(script: &Script, actor: u32, cursor: &Cursor, line: &Line, scans: u32) -> bool
+/// Whether the note is the next one of the program, and stands below the Scans that it waits for. `action` is what the
+/// program does there.
+fn is_next(
+    script: &Script,
+    actor: u32,
+    cursor: &Cursor,
+    action: &Action,
+    line: &Line,
+    scans: u32,
+) -> bool
     requires script { IsScript script.now }
-    requires room { cursor.now.act < 2 ^ 64 - 1 }
+    requires action { IsActionAt script.now actor cursor.now action.now }
     ensures { (listed : Bool) → let s = script.now in
         result ≡ is_next s actor (cursor_of s actor cursor.now) (record { line = line.now; listed = listed; scans = scans }) }
 {
-    let action = action_for(script, actor, cursor);
-    asks(actor, cursor.removed, &action, line.place, &line.entry)
+    asks(actor, cursor.removed, action, line.place, &line.entry)
         && scans_first(script, actor, cursor) <= scans
 }
 
-/// Past the steps without a note.
-fn settle(script: &Script, actor: u32, cursor: &Cursor) -> Cursor
+/// Past the steps without a note. The answer is what the program does then.
+fn settle(script: &Script, actor: u32, cursor: &mut Cursor) -> Action
     requires script { IsScript script.now }
-    requires counted { IsCounted cursor.now lines_max }
-    ensures cursor { let s = script.now in cursor_of s actor result ≡ settled s actor (cursor_of s actor cursor.now) }
-    ensures counted { Counts cursor.now result 0 }
+    requires counted { IsCounted cursor.old lines_max }
+    ensures cursor { let s = script.now in cursor_of s actor cursor.new ≡ settled s actor (cursor_of s actor cursor.old) }
+    ensures counted { Counts cursor.old cursor.new 0 }
+    ensures action { IsActionAt script.now actor cursor.new result }
 {
-    let mut at = *cursor;
     let steps = u64::from(acts_left(script, actor, cursor.task)) + 1;
     for _ in 0..steps {
-        match quiet_step(script, actor, &at) {
-            Some(to) => at = to,
-            None => return at,
+        if let Some(action) = quiet_step(script, actor, cursor) {
+            return action;
         }
     }
-    at
+    let _over = cursor.task;
+    action_for(script, actor, cursor)
 }
 
-/// A step without a note, if that is the next one.
-fn quiet_step(script: &Script, actor: u32, cursor: &Cursor) -> Option<Cursor>
+/// Does a step without a note, if that is the next one. If not, the answer is what the program does instead.
+fn quiet_step(script: &Script, actor: u32, cursor: &mut Cursor) -> Option<Action>
     requires script { IsScript script.now }
-    requires counted { IsCounted cursor.now lines_max }
-    ensures step { IsQuietStep script.now actor cursor.now result }
-    ensures counted { IfSome result (λ to. Counts cursor.now to 0) }
+    requires counted { IsCounted cursor.old lines_max }
+    ensures step { IsQuietStep script.now actor cursor.old result cursor.new }
+    ensures counted { Counts cursor.old cursor.new 0 }
 {
     let _over = cursor.task;
-    match action_for(script, actor, cursor) {
-        Action::Silent(to) => Some(to),
-        Action::Take { to, .. } => Some(to),
-        Action::Nothing => None,
-        Action::Asks { .. } => None,
+    let action = action_for(script, actor, cursor);
+    match &action {
+        Action::Silent(to) => go(script, cursor, to),
+        Action::Take { to, .. } => go(script, cursor, to),
+        Action::Nothing => return Some(action),
+        Action::Asks { .. } => return Some(action),
     }
+    None
 }
 
 /// How many acts of the actor's program are left once so many are over.

@@ -85,6 +85,18 @@ length-program s is (Cpu x) =
     (rw length-map (is.short_ticks x))
 length-program s is (Interrupt x) = rw length-map (is.short_ticks x)
 
+-- an act that is left has a small number
+pub task_below : (s : Script) → IsScript s → (role : Role) (n : ℕ) (task : Task) → slice_get (drop n (program_of s role)) 0 ≡ Some task → n < 65536
+task_below s is role n task e =
+    elim (cases_lt n 65536) [
+      | inl low ↦ low
+      | inr high ↦
+          let long = length-program s is role in
+          let none : slice_get (drop n (program_of s role)) 0 ≡ None = ap (λ (xs : List Task). slice_get xs 0) (drop_end (program_of s role) n (omega (arith, long, high))) in
+          let never : None ≡ Some task = sym none ∙ e in
+          cc
+    ]
+
 pub first_does : (acts : List Act) (n : ℕ) → option_map Does (slice_get acts n) ≡ slice_get (drop n (map Does acts)) 0
 first_does acts n = sym (first-drop (map Does acts) n ∙ slice_get-map Does acts n)
 

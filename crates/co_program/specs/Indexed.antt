@@ -1,5 +1,5 @@
 -- A cursor as the code keeps it: what is left is told by how much of it is over.
-use Rattle.std.specs.Prelude.{ℕ, ◌+◌, ◌-◌, ◌^◌, ◌≤◌, min, List, drop}
+use Rattle.std.specs.Prelude.{ℕ, ◌+◌, ◌-◌, ◌^◌, ◌≤◌, ◌<◌, min, List, drop, None}
 use Rattle.co_program.specs.declared.act.Act.{Act}
 use Rattle.co_program.specs.declared.script.Script.{Script}
 use Rattle.co_program.specs.declared.cursor.ActsLeft.{ActsLeft}
@@ -8,11 +8,14 @@ use Rattle.co_program.specs.declared.cursor.Stage.TheVariants as at
 use Rattle.co_program.specs.declared.cursor.Cursor.{Cursor as CursorAt}
 use Rattle.co_program.specs.declared.action.Action.{Action as ActionAt}
 use Rattle.co_program.specs.declared.action.Action.TheVariants as action
+use Rattle.co_program.specs.declared.action.Move.{Move}
+use Rattle.co_program.specs.declared.action.Move.TheVariants as moves
 use Rattle.co_program.specs.declared.role.Role.{Role}
 use Rattle.co_program.specs.Actors.{role_of, acts_at, program_of}
 use Rattle.co_program.specs.Stages.{Stage, Ready, Waiting, Popping, Picking, Locking, Beginning, Unlocking, Firing, Releasing, Ending, Freeing, Drained}
 use Rattle.co_program.specs.Cursor.{Cursor}
-use Rattle.co_program.specs.Action.{Action, Nothing, Silent, Take, Asks}
+use Rattle.co_program.specs.Action.{Action, Nothing, Silent, Take, Asks, firing, over}
+use Rattle.co_program.specs.Advance.{tail_of}
 
 -- the acts of a function that are left
 abbrev pub acts_left : Script → ActsLeft → List Act
@@ -45,18 +48,32 @@ cursor_as s role c =
       parcel = c.parcel;
     }
 
-abbrev pub action_as : Script → Role → ActionAt → Action
-action_as s role action.Nothing = Nothing
-action_as s role (action.Silent to) = Silent (cursor_as s role to)
-action_as s role (action.Take held to) = Take held (cursor_as s role to)
-action_as s role (action.Asks act asked) = Asks act asked
+-- the stage to which a step without a note leads within an act
+abbrev pub passed : Stage → Stage
+passed (Locking v) = Beginning v
+passed (Unlocking v acts) = firing v None acts
+passed (Releasing v) = Ending v
+passed stage = stage
+
+-- the cursor after a step without a note
+abbrev pub moved : Cursor → Move → Cursor
+moved c (moves.Over time hold) = record (over c (tail_of c.left) hold) { now = time }
+moved c (moves.Within hold) = record c { hold = hold; stage = passed c.stage }
+moved c moves.Ends = record c { hold = None; stage = Ready }
+
+-- what a role does that is at this place
+abbrev pub action_as : Script → Role → CursorAt → ActionAt → Action
+action_as s role c action.Nothing = Nothing
+action_as s role c (action.Silent to) = Silent (moved (cursor_as s role c) to)
+action_as s role c (action.Take held to) = Take held (moved (cursor_as s role c) to)
+action_as s role c (action.Asks act asked) = Asks act asked
 
 -- the same of an actor
 abbrev pub cursor_of : Script → ℕ → CursorAt → Cursor
 cursor_of s actor c = cursor_as s (role_of s actor) c
 
-abbrev pub action_of : Script → ℕ → ActionAt → Action
-action_of s actor a = action_as s (role_of s actor) a
+abbrev pub action_of : Script → ℕ → CursorAt → ActionAt → Action
+action_of s actor c a = action_as s (role_of s actor) c a
 
 -- one more is over; past an end it stays there, since no list of acts is as long as the largest number
 abbrev pub past : ℕ → ℕ
@@ -72,9 +89,14 @@ IsCounted c notes = c.act ≤ c.task + notes
 abbrev pub Counts : (from to : CursorAt) → ℕ → Type 0
 Counts from to notes = to.act + from.task ≤ from.act + to.task + notes
 
--- and between a place and the one to which a step without a note leads
+-- and a step without a note raises the number of the next act only with that of those that are over
+abbrev pub MoveCounts : CursorAt → Move → Type 0
+MoveCounts c (moves.Over time hold) = (c.act < 2 ^ 64 - 1) × (c.task < 65536)
+MoveCounts c (moves.Within hold) = Unit {0}
+MoveCounts c moves.Ends = Unit {0}
+
 abbrev pub ActionCounts : CursorAt → ActionAt → Type 0
 ActionCounts c action.Nothing = Unit {0}
-ActionCounts c (action.Silent to) = Counts c to 0
-ActionCounts c (action.Take held to) = Counts c to 0
+ActionCounts c (action.Silent to) = MoveCounts c to
+ActionCounts c (action.Take held to) = MoveCounts c to
 ActionCounts c (action.Asks act asked) = Unit {0}

@@ -7,7 +7,7 @@ ghost use Rattle.co_program.specs.Actors.{actor_count, program_of};
 ghost use Rattle.co_program.specs.Action.{Silent, Asks, action_for, action_in, asks_call, asks_drain, asks_within, begins, draining, drained_of, firing, free_of, locks, over, pop_of, scans_first, scans_of, spec_at, takes};
 ghost use Rattle.co_program.specs.Advance.{tail_of};
 ghost use Rattle.co_program.specs.Existing.{ActionExists, IsIn};
-ghost use Rattle.co_program.specs.Indexed.{ActionCounts, Counts, action_as, action_of, acts_left, cursor_as, cursor_of, past, stage_of};
+ghost use Rattle.co_program.specs.Indexed.{ActionCounts, action_as, action_of, acts_left, cursor_as, cursor_of, stage_of};
 ghost use Rattle.co_program.specs.Scripts.{IsScript};
 
 use crate::act::{Act, Scene};
@@ -31,28 +31,39 @@ pub enum Asked {
     Itself(OwnKind),
 }
 
+/// What a step without a note does to the actor's place.
+#[derive(Clone, Copy, Debug, PartialEq, Eq)]
+pub enum Move {
+    /// The act is over. This is the client's time then, and what it holds.
+    Over { time: Sbt, hold: Option<Held> },
+    /// The act goes on to its next stage, with this hold.
+    Within { hold: Option<Held> },
+    /// The program is over, and the lock that is still held is released.
+    Ends,
+}
+
 /// What an actor does next.
 #[derive(Clone, Copy, Debug, PartialEq, Eq)]
 pub enum Action {
     /// The program has ended.
     Nothing,
-    /// A step without a note, after which the cursor is there.
-    Silent(Cursor),
+    /// A step without a note, which `go` makes.
+    Silent(Move),
     /// The same, once this lock can be taken.
-    Take { held: Held, to: Cursor },
+    Take { held: Held, to: Move },
     /// A note of what is asked, in the act of this number.
     Asks { act: u64, asked: Asked },
 }
 
-/// What the actor does next (our own order). A step without a note raises `act` only as it raises `task`.
+/// What the actor does next (our own order).
 pub fn action_for(script: &Script, actor: u32, cursor: &Cursor) -> Action
     requires script { IsScript script.now }
     requires room { cursor.now.act < 2 ^ 64 - 1 }
     ensures action { let s = script.now in
-        action_of s actor result ≡ action_for s actor (cursor_of s actor cursor.now) }
+        action_of s actor cursor.now result ≡ action_for s actor (cursor_of s actor cursor.now) }
     ensures counted { ActionCounts cursor.now result }
     ensures existing { let s = script.now in
-        actor < actor_count s → IsIn s (cursor_of s actor cursor.now) → ActionExists s (action_of s actor result) }
+        actor < actor_count s → IsIn s (cursor_of s actor cursor.now) → ActionExists s (action_of s actor cursor.now result) }
 {
     match cursor.parcel {
         Some(parcel) => {
@@ -97,7 +108,7 @@ fn action_in(script: &Script, role: Role, cursor: &Cursor) -> Action
     requires script { IsScript script.now }
     requires room { cursor.now.act < 2 ^ 64 - 1 }
     ensures action { let s = script.now in let c = cursor_as s role cursor.now in
-        action_as s role result ≡ action_in s role c c.stage }
+        action_as s role cursor.now result ≡ action_in s role c c.stage }
     ensures counted { ActionCounts cursor.now result }
 {
     let cpu = cpu_of(script, role);
@@ -117,9 +128,9 @@ fn action_in(script: &Script, role: Role, cursor: &Cursor) -> Action
         ),
         Stage::Locking(v) => locks(script, cursor, v),
         Stage::Beginning(v) => asks_run(v, RunOp::Begin { n: v.n, cpu }),
-        Stage::Unlocking(v, left) => releases(cursor, firing(script, v, None, *left)),
+        Stage::Unlocking(_, _) => Action::Silent(Move::Within { hold: None }),
         Stage::Firing(v, left) => asks_within(script, cpu, cursor, v, *left),
-        Stage::Releasing(v) => releases(cursor, Stage::Ending(*v)),
+        Stage::Releasing(_) => Action::Silent(Move::Within { hold: None }),
         Stage::Ending(v) => asks_run(v, RunOp::End { n: v.n, cpu }),
         Stage::Freeing { service, .. } => asks_queue(service.act, cpu, free_of(role)),
         Stage::Drained(v, left) => asks_within(script, cpu, cursor, v, *left),
@@ -131,7 +142,7 @@ fn begins(script: &Script, role: Role, cursor: &Cursor) -> Action
     requires script { IsScript script.now }
     requires room { cursor.now.act < 2 ^ 64 - 1 }
     ensures action { let s = script.now in let c = cursor_as s role cursor.now in
-        action_as s role result ≡ begins s role c c.left }
+        action_as s role cursor.now result ≡ begins s role c c.left }
     ensures counted { ActionCounts cursor.now result }
 {
     match task_after(script, role, cursor.task) {
@@ -147,7 +158,7 @@ fn does(script: &Script, role: Role, cursor: &Cursor, act: &Act) -> Action
     requires next { slice_get (drop cursor.now.task (program_of script.now role)) 0 ≡ Some (Task.Does act.now) }
     requires room { cursor.now.act < 2 ^ 64 - 1 }
     ensures action { let s = script.now in let c = cursor_as s role cursor.now in
-        action_as s role result ≡ begins s role c c.left }
+        action_as s role cursor.now result ≡ begins s role c c.left }
     ensures counted { ActionCounts cursor.now result }
 {
     match *act {
@@ -184,12 +195,12 @@ fn does(script: &Script, role: Role, cursor: &Cursor, act: &Act) -> Action
 fn tells(cursor: &Cursor, time: Sbt) -> Action
     requires { cursor.now.act < 2 ^ 64 - 1 }
     ensures action { (s : Script) (role : Role) → IsScript s → let c = cursor_as s role cursor.now in
-        action_as s role result ≡ Silent (record (over c (tail_of c.left) c.hold) { now = time }) }
+        action_as s role cursor.now result ≡ Silent (record (over c (tail_of c.left) c.hold) { now = time }) }
     ensures counted { cursor.now.task < 65536 → ActionCounts cursor.now result }
 {
-    Action::Silent(Cursor {
+    Action::Silent(Move::Over {
         time,
-        ..after(cursor, cursor.hold)
+        hold: cursor.hold,
     })
 }
 
@@ -197,7 +208,7 @@ fn tells(cursor: &Cursor, time: Sbt) -> Action
 fn takes(cursor: &Cursor, held: Held) -> Action
     requires { cursor.now.act < 2 ^ 64 - 1 }
     ensures action { (s : Script) (role : Role) → IsScript s → let c = cursor_as s role cursor.now in
-        action_as s role result ≡ takes c (tail_of c.left) held }
+        action_as s role cursor.now result ≡ takes c (tail_of c.left) held }
     ensures counted { cursor.now.task < 65536 → ActionCounts cursor.now result }
 {
     if cursor.hold.is_some() {
@@ -205,7 +216,10 @@ fn takes(cursor: &Cursor, held: Held) -> Action
     } else {
         Action::Take {
             held,
-            to: after(cursor, Some(held)),
+            to: Move::Over {
+                time: cursor.time,
+                hold: Some(held),
+            },
         }
     }
 }
@@ -214,45 +228,24 @@ fn takes(cursor: &Cursor, held: Held) -> Action
 fn unlocks(cursor: &Cursor) -> Action
     requires { cursor.now.act < 2 ^ 64 - 1 }
     ensures action { (s : Script) (role : Role) → IsScript s → let c = cursor_as s role cursor.now in
-        action_as s role result ≡
+        action_as s role cursor.now result ≡
         (if is_some c.hold then Silent (over c (tail_of c.left) None) else Asks c.act (Asked.Itself OwnKind.NotHolding)) }
     ensures counted { cursor.now.task < 65536 → ActionCounts cursor.now result }
 {
     if cursor.hold.is_some() {
-        Action::Silent(after(cursor, None))
+        Action::Silent(Move::Over {
+            time: cursor.time,
+            hold: None,
+        })
     } else {
         asks_itself(cursor.act, OwnKind::NotHolding)
     }
 }
 
-/// The cursor after the act under way, with this hold.
-pub(crate) fn after(cursor: &Cursor, hold: Option<Held>) -> Cursor
-    requires { cursor.now.act < 2 ^ 64 - 1 }
-    ensures cursor { let c = cursor.now in
-        result ≡ record c { task = past c.task; act = c.act + 1; hold = hold; stage = Stage.Ready } }
-    ensures counted { Counts cursor.now result 1 }
-{
-    Cursor {
-        task: past(cursor.task),
-        act: cursor.act + 1,
-        hold,
-        stage: Stage::Ready,
-        ..*cursor
-    }
-}
-
-/// One more act is over. No list of acts is as long as the largest number, so that past an end it stays there.
-pub(crate) fn past(over: u32) -> u32
-    ensures value { result ≡ past over }
-    ensures no_less { over ≤ result }
-{
-    over.saturating_add(1)
-}
-
 /// A try of a drain, which no caller makes that holds a lock.
 fn asks_drain(cursor: &Cursor, i: u32, took: bool) -> Action
     ensures action { (s : Script) (role : Role) →
-        action_as s role result ≡ asks_drain (cursor_as s role cursor.now) i took }
+        action_as s role cursor.now result ≡ asks_drain (cursor_as s role cursor.now) i took }
     ensures counted { ActionCounts cursor.now result }
 {
     if cursor.hold.is_some() {
@@ -275,27 +268,14 @@ fn drained_of(script: &Script, role: Role, over: u32) -> u32
 /// After the last act a lock that is still held is released.
 fn ends(cursor: &Cursor) -> Action
     ensures action { (s : Script) (role : Role) → let c = cursor_as s role cursor.now in
-        c.left ≡ [] → action_as s role result ≡ begins s role c [] }
+        c.left ≡ [] → action_as s role cursor.now result ≡ begins s role c [] }
     ensures counted { ActionCounts cursor.now result }
 {
     if cursor.hold.is_some() {
-        releases(cursor, Stage::Ready)
+        Action::Silent(Move::Ends)
     } else {
         Action::Nothing
     }
-}
-
-/// The lock is released, and this stage comes next.
-fn releases(cursor: &Cursor, stage: Stage) -> Action
-    ensures action { (s : Script) (role : Role) → let c = cursor_as s role cursor.now in
-        action_as s role result ≡ Silent (record c { hold = None; stage = stage_of s stage }) }
-    ensures counted { ActionCounts cursor.now result }
-{
-    Action::Silent(Cursor {
-        hold: None,
-        stage,
-        ..*cursor
-    })
 }
 
 // ---- calls
@@ -304,7 +284,7 @@ fn releases(cursor: &Cursor, stage: Stage) -> Action
 fn asks_within(script: &Script, cpu: u32, cursor: &Cursor, v: &Service, left: ActsLeft) -> Action
     requires { IsScript script.now }
     ensures action { (role : Role) → let s = script.now in
-        action_as s role result ≡ asks_within s cpu (cursor_as s role cursor.now) v.now (acts_left s left) }
+        action_as s role cursor.now result ≡ asks_within s cpu (cursor_as s role cursor.now) v.now (acts_left s left) }
     ensures counted { ActionCounts cursor.now result }
 {
     match next_of(script, left) {
@@ -324,7 +304,7 @@ fn asks_within(script: &Script, cpu: u32, cursor: &Cursor, v: &Service, left: Ac
 fn asks_call(script: &Script, cursor: &Cursor, act: &Act, scene: &Scene) -> Action
     requires { IsScript script.now }
     ensures action { (role : Role) → let s = script.now in
-        action_as s role result ≡ asks_call s (cursor_as s role cursor.now) act.now scene.now }
+        action_as s role cursor.now result ≡ asks_call s (cursor_as s role cursor.now) act.now scene.now }
     ensures counted { ActionCounts cursor.now result }
 {
     match call_of(act, script.hz, scene) {
@@ -358,19 +338,16 @@ pub(crate) fn spec_at(script: &Script, i: u32) -> Spec
 
 /// The callout's lock is taken.
 fn locks(script: &Script, cursor: &Cursor, v: &Service) -> Action
+    requires stage { cursor.now.stage ≡ Stage.Locking v.now }
     ensures action { (role : Role) → let s = script.now in
-        action_as s role result ≡ locks s (cursor_as s role cursor.now) v.now (hold_of (spec_at s v.now.i).lock) }
+        action_as s role cursor.now result ≡ locks s (cursor_as s role cursor.now) v.now (hold_of (spec_at s v.now.i).lock) }
     ensures counted { ActionCounts cursor.now result }
 {
     match hold_of(spec_at(script, v.i).lock) {
         None => Action::Nothing,
         Some(held) => Action::Take {
             held,
-            to: Cursor {
-                hold: Some(held),
-                stage: Stage::Beginning(*v),
-                ..*cursor
-            },
+            to: Move::Within { hold: Some(held) },
         },
     }
 }

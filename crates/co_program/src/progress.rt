@@ -10,30 +10,25 @@ ghost use Rattle.co_program.specs.Indexed.{Counts, acts_left, cursor_as, cursor_
 ghost use Rattle.co_program.specs.Stages.{Unlocking};
 ghost use Rattle.co_program.specs.Scripts.{IsScript};
 
-use crate::action::{after, draining, firing, past, spec_at};
+use crate::action::{draining, firing, spec_at};
 use crate::cursor::{ActsLeft, Cursor, Parcel, Service, Stage};
+use crate::going::{over, past};
 use crate::script::Script;
 use co_lock::Held;
 use co_object::{AnyEntry, CallOp, Next, Op, Place, PlainOp, QOp, QReply, Reply};
 use co_sbt::Sbt;
 
-/// The cursor once the actor has made this entry at this place. `listed` is whether the callout stands in a queue after
+/// The actor has made this entry at this place, and its cursor goes on. `listed` is whether the callout stands in a queue after
 /// the entry (no matter for the entries of CPUs and of actors). Of the acts that have begun, each is over in the program or
 /// has made a note: so `act` is at most `task` and the number of the actor's notes, which bounds it for every caller.
-pub fn advance(
-    script: &Script,
-    cursor: &Cursor,
-    listed: bool,
-    place: Place,
-    entry: &AnyEntry,
-) -> Cursor
+pub fn advance(script: &Script, cursor: &mut Cursor, listed: bool, place: Place, entry: &AnyEntry)
     requires script { IsScript script.now }
-    requires room { cursor.now.act < 2 ^ 64 - 1 }
+    requires room { cursor.old.act < 2 ^ 64 - 1 }
     ensures cursor { (actor : ℕ) → let s = script.now in
-        cursor_of s actor result ≡ advance s (cursor_of s actor cursor.now) listed place entry.now }
-    ensures counted { Counts cursor.now result 1 }
+        cursor_of s actor cursor.new ≡ advance s (cursor_of s actor cursor.old) listed place entry.now }
+    ensures counted { Counts cursor.old cursor.new 1 }
     ensures existing { (actor : ℕ) → let s = script.now in
-        IsIn s (cursor_of s actor cursor.now) → EntryExists s place entry.now → IsIn s (cursor_of s actor result) }
+        IsIn s (cursor_of s actor cursor.old) → EntryExists s place entry.now → IsIn s (cursor_of s actor cursor.new) }
 {
     match (place, entry) {
         (Place::Timer(i), AnyEntry::Timer(e)) => {
@@ -46,80 +41,73 @@ pub fn advance(
 
 // ---- after a call, or in its place a note of the actor's own
 
-/// The cursor after an entry of callout `i`.
+/// The cursor goes on after an entry of callout `i`.
 fn advance_callout(
     script: &Script,
-    cursor: &Cursor,
+    cursor: &mut Cursor,
     i: u32,
     listed: bool,
     op: &Op,
     reply: &Reply,
-) -> Cursor
+)
     requires script { IsScript script.now }
-    requires room { cursor.now.act < 2 ^ 64 - 1 }
-    ensures cursor { (role : Role) → let s = script.now in let c = cursor_as s role cursor.now in
-        cursor_as s role result ≡ advance_callout s (record c { removed = None }) i listed op.now reply.now c.stage }
-    ensures counted { Counts cursor.now result 1 }
+    requires room { cursor.old.act < 2 ^ 64 - 1 }
+    ensures cursor { (role : Role) → let s = script.now in let c = cursor_as s role cursor.old in
+        cursor_as s role cursor.new ≡ advance_callout s (record c { removed = None }) i listed op.now reply.now c.stage }
+    ensures counted { Counts cursor.old cursor.new 1 }
 {
-    let under_way = Cursor {
-        removed: None,
-        ..*cursor
-    };
-    match &cursor.stage {
-        Stage::Picking(v) => picked(script, &under_way, v, reply),
-        Stage::Beginning(v) => begun(script, &under_way, v, reply),
-        Stage::Ending(v) => ended(&under_way, v, reply),
-        _ => called(script, &under_way, i, listed, op, reply),
+    cursor.removed = None;
+    match cursor.stage {
+        Stage::Picking(v) => picked(script, cursor, &v, reply),
+        Stage::Beginning(v) => begun(script, cursor, &v, reply),
+        Stage::Ending(v) => ended(cursor, &v, reply),
+        _ => called(script, cursor, i, listed, op, reply),
     }
 }
 
-/// The cursor after the entry of a call: an accepted arming that is listed is on its way into its CPU's queue.
-fn called(script: &Script, cursor: &Cursor, i: u32, listed: bool, op: &Op, reply: &Reply) -> Cursor
+/// After the entry of a call: an accepted arming that is listed is on its way into its CPU's queue.
+fn called(script: &Script, cursor: &mut Cursor, i: u32, listed: bool, op: &Op, reply: &Reply)
     requires script { IsScript script.now }
-    requires room { cursor.now.act < 2 ^ 64 - 1 }
+    requires room { cursor.old.act < 2 ^ 64 - 1 }
     ensures cursor { (role : Role) → let s = script.now in
-        cursor_as s role result ≡ called (cursor_as s role cursor.now) i listed op.now reply.now }
-    ensures counted { Counts cursor.now result 1 }
+        cursor_as s role cursor.new ≡ called (cursor_as s role cursor.old) i listed op.now reply.now }
+    ensures counted { Counts cursor.old cursor.new 1 }
 {
     match *reply {
-        Reply::Wait { n, took, .. } => Cursor {
-            stage: Stage::Waiting { n, took },
-            ..*cursor
-        },
-        Reply::Armed { n, cpu, .. } if listed => Cursor {
-            parcel: Some(Parcel {
-                act: cursor.act,
+        Reply::Wait { n, took, .. } => cursor.stage = Stage::Waiting { n, took },
+        Reply::Armed { n, cpu, .. } if listed => {
+            let act = cursor.act;
+            act_over(script, cursor);
+            cursor.parcel = Some(Parcel {
+                act,
                 i,
                 n,
                 due: due_of_call(op),
                 cpu,
-            }),
-            ..act_over(script, cursor)
-        },
+            });
+        }
         _ => act_over(script, cursor),
     }
 }
 
-/// The cursor when the act is over: after a call, or in its place a note of the actor's own.
-fn act_over(script: &Script, cursor: &Cursor) -> Cursor
+/// The act is over: after a call, or in its place a note of the actor's own.
+fn act_over(script: &Script, cursor: &mut Cursor)
     requires script { IsScript script.now }
-    requires room { cursor.now.act < 2 ^ 64 - 1 }
-    ensures cursor { (role : Role) → let s = script.now in let c = cursor_as s role cursor.now in
-        cursor_as s role result ≡ act_over c c.stage }
-    ensures counted { Counts cursor.now result 1 }
+    requires room { cursor.old.act < 2 ^ 64 - 1 }
+    ensures cursor { (role : Role) → let s = script.now in let c = cursor_as s role cursor.old in
+        cursor_as s role cursor.new ≡ act_over c c.stage }
+    ensures counted { Counts cursor.old cursor.new 1 }
 {
-    match &cursor.stage {
-        Stage::Firing(v, left) => Cursor {
-            act: cursor.act + 1,
-            stage: firing(script, v, cursor.hold, one_less(*left)),
-            ..*cursor
-        },
-        Stage::Drained(v, left) => Cursor {
-            act: cursor.act + 1,
-            stage: draining(script, v, one_less(*left)),
-            ..*cursor
-        },
-        _ => after(cursor, cursor.hold),
+    match cursor.stage {
+        Stage::Firing(v, left) => {
+            cursor.act += 1;
+            cursor.stage = firing(script, &v, cursor.hold, one_less(left));
+        }
+        Stage::Drained(v, left) => {
+            cursor.act += 1;
+            cursor.stage = draining(script, &v, one_less(left));
+        }
+        _ => over(cursor, cursor.hold),
     }
 }
 
@@ -146,30 +134,28 @@ fn due_of_call(op: &Op) -> Sbt
 
 // ---- in a service
 
-/// The cursor after a Pick: the function runs, or waits for the callout's lock.
-fn picked(script: &Script, cursor: &Cursor, v: &Service, reply: &Reply) -> Cursor
+/// After a Pick: the function runs, or waits for the callout's lock.
+fn picked(script: &Script, cursor: &mut Cursor, v: &Service, reply: &Reply)
     ensures cursor { (role : Role) → let s = script.now in
-        cursor_as s role result ≡ picked s (cursor_as s role cursor.now) v.now reply.now }
-    ensures counted { Counts cursor.now result 1 }
+        cursor_as s role cursor.new ≡ picked s (cursor_as s role cursor.old) v.now reply.now }
+    ensures counted { Counts cursor.old cursor.new 1 }
 {
-    let stage = match *reply {
+    cursor.stage = match *reply {
         Reply::Go { func, .. } => firing(script, v, cursor.hold, whole(func)),
         _ => Stage::Locking(*v),
     };
-    Cursor { stage, ..*cursor }
 }
 
-/// The cursor after a Begin: the function runs, or it was cancelled meanwhile and the lock is released.
-fn begun(script: &Script, cursor: &Cursor, v: &Service, reply: &Reply) -> Cursor
+/// After a Begin: the function runs, or it was cancelled meanwhile and the lock is released.
+fn begun(script: &Script, cursor: &mut Cursor, v: &Service, reply: &Reply)
     ensures cursor { (role : Role) → let s = script.now in
-        cursor_as s role result ≡ begun s (cursor_as s role cursor.now) v.now reply.now }
-    ensures counted { Counts cursor.now result 1 }
+        cursor_as s role cursor.new ≡ begun s (cursor_as s role cursor.old) v.now reply.now }
+    ensures counted { Counts cursor.old cursor.new 1 }
 {
-    let stage = match *reply {
+    cursor.stage = match *reply {
         Reply::Go { func, .. } => runs(script, v, cursor.hold, func),
         _ => Stage::Releasing(*v),
     };
-    Cursor { stage, ..*cursor }
 }
 
 /// The function begins, under the callout's lock or, where it returns unlocked, once that is released.
@@ -191,109 +177,89 @@ fn whole(func: u32) -> ActsLeft
     ActsLeft { func, done: 0 }
 }
 
-/// The cursor after an End.
-fn ended(cursor: &Cursor, v: &Service, reply: &Reply) -> Cursor
+/// After an End.
+fn ended(cursor: &mut Cursor, v: &Service, reply: &Reply)
     ensures cursor { (s : Script) (role : Role) →
-        cursor_as s role result ≡ ended (cursor_as s role cursor.now) v.now reply.now }
-    ensures counted { Counts cursor.now result 1 }
+        cursor_as s role cursor.new ≡ ended (cursor_as s role cursor.old) v.now reply.now }
+    ensures counted { Counts cursor.old cursor.new 1 }
 {
-    match *reply {
-        Reply::Ended { drain, next, .. } => Cursor {
-            stage: Stage::Freeing {
-                service: *v,
-                drain,
-                next,
-            },
-            ..*cursor
-        },
-        _ => *cursor,
+    if let Reply::Ended { drain, next, .. } = *reply {
+        cursor.stage = Stage::Freeing {
+            service: *v,
+            drain,
+            next,
+        };
     }
 }
 
 // ---- from a queue
 
-/// The cursor after an entry of a CPU's journal.
-fn advance_queue(script: &Script, cursor: &Cursor, cpu: u32, op: &QOp, reply: &QReply) -> Cursor
+/// The cursor goes on after an entry of a CPU's journal.
+fn advance_queue(script: &Script, cursor: &mut Cursor, cpu: u32, op: &QOp, reply: &QReply)
     requires script { IsScript script.now }
-    requires room { cursor.now.act < 2 ^ 64 - 1 }
+    requires room { cursor.old.act < 2 ^ 64 - 1 }
     ensures cursor { (role : Role) → let s = script.now in
-        cursor_as s role result ≡ advance_queue s (cursor_as s role cursor.now) cpu op.now reply.now }
-    ensures counted { Counts cursor.now result 1 }
+        cursor_as s role cursor.new ≡ advance_queue s (cursor_as s role cursor.old) cpu op.now reply.now }
+    ensures counted { Counts cursor.old cursor.new 1 }
 {
     match op {
-        QOp::Insert { .. } => Cursor {
-            parcel: None,
-            ..*cursor
-        },
-        QOp::Remove { .. } => Cursor {
-            removed: Some(cpu),
-            ..*cursor
-        },
-        QOp::Scan { .. } => Cursor {
-            act: cursor.act + 1,
-            stage: Stage::Popping { act: cursor.act },
-            ..*cursor
-        },
+        QOp::Insert { .. } => cursor.parcel = None,
+        QOp::Remove { .. } => cursor.removed = Some(cpu),
+        QOp::Scan { .. } => {
+            cursor.stage = Stage::Popping { act: cursor.act };
+            cursor.act += 1;
+        }
         QOp::Pop | QOp::PopDirect => popped(cursor, reply),
         QOp::Free | QOp::FreeDirect => freed(script, cursor),
     }
 }
 
-/// The cursor after a Pop, with the first of which a soft act begins.
-fn popped(cursor: &Cursor, reply: &QReply) -> Cursor
-    requires { cursor.now.act < 2 ^ 64 - 1 }
-    ensures cursor { (s : Script) (role : Role) → IsScript s → let c = cursor_as s role cursor.now in
-        cursor_as s role result ≡ popped c reply.now c.stage }
-    ensures counted { Counts cursor.now result 1 }
+/// After a Pop, with the first of which a soft act begins.
+fn popped(cursor: &mut Cursor, reply: &QReply)
+    requires { cursor.old.act < 2 ^ 64 - 1 }
+    ensures cursor { (s : Script) (role : Role) → IsScript s → let c = cursor_as s role cursor.old in
+        cursor_as s role cursor.new ≡ popped c reply.now c.stage }
+    ensures counted { Counts cursor.old cursor.new 1 }
 {
     match cursor.stage {
         Stage::Popping { act } => got(cursor, act, reply),
         _ => {
-            let under_way = Cursor {
-                act: cursor.act + 1,
-                ..*cursor
-            };
-            got(&under_way, cursor.act, reply)
+            let act = cursor.act;
+            cursor.act += 1;
+            got(cursor, act, reply)
         }
     }
 }
 
 /// What a Pop got; an empty queue ends the act.
-fn got(cursor: &Cursor, act: u64, reply: &QReply) -> Cursor
+fn got(cursor: &mut Cursor, act: u64, reply: &QReply)
     ensures cursor { (s : Script) (role : Role) → IsScript s →
-        cursor_as s role result ≡ got (cursor_as s role cursor.now) act reply.now }
-    ensures counted { Counts cursor.now result 0 }
+        cursor_as s role cursor.new ≡ got (cursor_as s role cursor.old) act reply.now }
+    ensures counted { Counts cursor.old cursor.new 0 }
 {
     match *reply {
-        QReply::Got { i, n, at } => Cursor {
-            stage: Stage::Picking(Service { act, i, n, at }),
-            ..*cursor
-        },
-        _ => Cursor {
-            task: past(cursor.task),
-            stage: Stage::Ready,
-            ..*cursor
-        },
+        QReply::Got { i, n, at } => cursor.stage = Stage::Picking(Service { act, i, n, at }),
+        _ => {
+            cursor.task = past(cursor.task);
+            cursor.stage = Stage::Ready;
+        }
     }
 }
 
-/// The cursor after a Free: the callout may go to another CPU.
-fn freed(script: &Script, cursor: &Cursor) -> Cursor
-    ensures cursor { (role : Role) → let s = script.now in let c = cursor_as s role cursor.now in
-        cursor_as s role result ≡ freed s c c.stage }
-    ensures counted { Counts cursor.now result 1 }
+/// After a Free: the callout may go to another CPU.
+fn freed(script: &Script, cursor: &mut Cursor)
+    ensures cursor { (role : Role) → let s = script.now in let c = cursor_as s role cursor.old in
+        cursor_as s role cursor.new ≡ freed s c c.stage }
+    ensures counted { Counts cursor.old cursor.new 1 }
 {
-    match &cursor.stage {
-        Stage::Freeing {
-            service,
-            drain,
-            next,
-        } => Cursor {
-            stage: drains(script, service, *drain),
-            parcel: parcel_of(service, *next),
-            ..*cursor
-        },
-        _ => *cursor,
+    if let Stage::Freeing {
+        service,
+        drain,
+        next,
+    } = cursor.stage
+    {
+        cursor.stage = drains(script, &service, drain);
+        cursor.parcel = parcel_of(&service, next);
     }
 }
 

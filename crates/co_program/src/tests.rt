@@ -74,10 +74,10 @@ fn callout_says(
     rt: &impl Abort,
     script: &Script,
     actor: u32,
-    cursor: &Cursor,
+    cursor: &mut Cursor,
     op: &Op,
     reply: Reply,
-) -> Cursor
+)
     requires { IsScript script.now }
 {
     assert!(rt; cursor.act < 10);
@@ -94,7 +94,7 @@ fn callout_says(
         op: *op,
         reply,
     });
-    advance(script, cursor, true, Place::Timer(0), &entry)
+    advance(script, cursor, true, Place::Timer(0), &entry);
 }
 
 /// The actor asks the queue of CPU 0 this, and goes on after the reply.
@@ -102,10 +102,10 @@ fn queue_says(
     rt: &impl Abort,
     script: &Script,
     actor: u32,
-    cursor: &Cursor,
+    cursor: &mut Cursor,
     op: &QOp,
     reply: QReply,
-) -> Cursor
+)
     requires { IsScript script.now }
 {
     assert!(rt; cursor.act < 10);
@@ -122,7 +122,7 @@ fn queue_says(
         op: *op,
         reply,
     });
-    advance(script, cursor, false, Place::Cpu(0), &entry)
+    advance(script, cursor, false, Place::Cpu(0), &entry);
 }
 
 /// The actor has finished.
@@ -149,20 +149,15 @@ fn client_arms(rt: HostRuntime) -> Result<(), Fail> {
         cpu: 0,
         off: None,
     };
-    let at = callout_says(
-        &rt,
-        &script,
-        0,
-        &Cursor::start(),
-        &Op::Call(CallOp::Plain(reset)),
-        armed,
-    );
+    let mut at = Cursor::start();
+    let call = Op::Call(CallOp::Plain(reset));
+    callout_says(&rt, &script, 0, &mut at, &call, armed);
     let insert = QOp::Insert {
         i: 0,
         n: 0,
         t: due(),
     };
-    let at = queue_says(&rt, &script, 0, &at, &insert, QReply::At(due()));
+    queue_says(&rt, &script, 0, &mut at, &insert, QReply::At(due()));
     ends(&rt, &script, 0, &at);
     Ok(())
 }
@@ -172,38 +167,32 @@ fn cpu_serves(rt: HostRuntime) -> Result<(), Fail> {
     let script = one_firing(rt.alloc())?;
     assert_eq!(rt; actor_count(&script), 2);
     assert_eq!(rt; role_of(&script, 1), Role::Cpu(0));
-    let at = Cursor::start();
+    let mut at = Cursor::start();
     assert_eq!(rt; scans_first(&script, 1, &at), 0);
-    let at = queue_says(
-        &rt,
-        &script,
-        1,
-        &at,
-        &QOp::Scan { now: due() },
-        QReply::Count(1),
-    );
+    let scan = QOp::Scan { now: due() };
+    queue_says(&rt, &script, 1, &mut at, &scan, QReply::Count(1));
     let got = QReply::Got {
         i: 0,
         n: 0,
         at: due(),
     };
-    let at = queue_says(&rt, &script, 1, &at, &QOp::Pop, got);
+    queue_says(&rt, &script, 1, &mut at, &QOp::Pop, got);
     let pick = RunOp::Pick {
         n: 0,
         cpu: 0,
         at: due(),
     };
     let go = Reply::Go { func: 0, arg: 7 };
-    let at = callout_says(&rt, &script, 1, &at, &Op::Run(pick), go);
+    callout_says(&rt, &script, 1, &mut at, &Op::Run(pick), go);
     let end = RunOp::End { n: 0, cpu: 0 };
     let ended = Reply::Ended {
         drain: None,
         next: None,
         woke: false,
     };
-    let at = callout_says(&rt, &script, 1, &at, &Op::Run(end), ended);
-    let at = queue_says(&rt, &script, 1, &at, &QOp::Free, QReply::Freed);
-    let at = queue_says(&rt, &script, 1, &at, &QOp::Pop, QReply::Empty);
+    callout_says(&rt, &script, 1, &mut at, &Op::Run(end), ended);
+    queue_says(&rt, &script, 1, &mut at, &QOp::Free, QReply::Freed);
+    queue_says(&rt, &script, 1, &mut at, &QOp::Pop, QReply::Empty);
     ends(&rt, &script, 1, &at);
     Ok(())
 }

@@ -1,5 +1,7 @@
 use Rattle.std.proofs.Common.{◌≡◌, ◌++◌, map, take, drop}
+use Rattle.co_program.specs.Actors.{actor_count}
 use Rattle.co_check.specs.Astray.{seen, seen_from}
+use Rattle.co_check.specs.Numbers.{AreCounts}
 use Rattle.co_check.specs.Replay.{first_bad, first_unfit, unfit_at}
 use Rattle.co_check.specs.Replayed.{IsAfter, fact_of}
 use Rattle.co_check.proofs.replay.replay_all.Given as goal
@@ -9,5 +11,6 @@ abbrev pub invariant-loop-line : goal.invariant-loop-line
 invariant-loop-line l = record {
   after : IsAfter l.script (take l.line-index l.lines) l.replay;
   rest : first_unfit l.script l.lines ≡ first_bad (λ above x. unfit_at l.script above x.place x.entry) (take l.line-index l.lines) (drop l.line-index l.lines);
-  facts : l.facts.items ++ map fact_of (seen_from l.script (take l.line-index l.lines) (drop l.line-index l.lines)) ≡ map fact_of (seen l.script l.lines);
+  counted : AreCounts (actor_count l.script) (take l.line-index l.lines) l.counts.items;
+  facts : l.facts ++ map fact_of (seen_from l.script (take l.line-index l.lines) (drop l.line-index l.lines)) ≡ map fact_of (seen l.script l.lines);
 }

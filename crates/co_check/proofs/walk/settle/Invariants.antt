@@ -7,6 +7,6 @@ use Rattle.co_check.proofs.walk.settle.Given as goal
 -- the steps that are left lead where all do
 abbrev pub invariant-loop : goal.invariant-loop
 invariant-loop l = record {
-  left : past l.script l.actor (l.steps - l.counter) (cursor_of l.script l.actor l.at) (action_for l.script l.actor (cursor_of l.script l.actor l.at)) ≡ settled l.script l.actor (cursor_of l.script l.actor l.cursor);
-  counted : Counts l.cursor l.at 0;
+  left : past l.script l.actor (l.steps - l.counter) (cursor_of l.script l.actor l.cursor) (action_for l.script l.actor (cursor_of l.script l.actor l.cursor)) ≡ settled l.script l.actor (cursor_of l.script l.actor l.fn.cursor);
+  counted : Counts l.fn.cursor l.cursor 0;
 }

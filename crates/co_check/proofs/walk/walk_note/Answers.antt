@@ -12,12 +12,12 @@ note l f = record { line = l; listed = f.listed; scans = f.scans }
 
 pub returns-then-not-is_next-clause-note : goal.returns-then-not-is_next-clause-note
 returns-then-not-is_next-clause-note c =
-    ap (λ (x : Cursor). is_next c.args.script.now c.args.actor x (note c.args.line.now c.args.fact)) (sym c.settle-at.ensures.cursor)
+    ap (λ (x : Cursor). is_next c.args.script.now c.args.actor x (note c.args.line.now c.args.fact)) (sym c.settle-action.ensures.cursor)
     ∙ (sym (c.is_next.ensures c.args.fact.listed) ∙ c.if-not-is_next.true)
 
 pub returns-clause-note : goal.returns-clause-note
 returns-clause-note c = (
-  ap (λ (x : Cursor). is_next c.args.script.now c.args.actor x (note c.args.line.now c.args.fact)) (sym c.settle-at.ensures.cursor)
+  ap (λ (x : Cursor). is_next c.args.script.now c.args.actor x (note c.args.line.now c.args.fact)) (sym c.settle-action.ensures.cursor)
       ∙ (sym (c.is_next.ensures c.args.fact.listed) ∙ c.if-not-is_next.false),
-  c.advance.ensures.cursor c.args.actor ∙ ap (λ (x : Cursor). advance c.args.script.now x c.args.fact.listed c.args.line.now.place c.args.line.now.entry) c.settle-at.ensures.cursor,
+  c.advance.ensures.cursor c.args.actor ∙ ap (λ (x : Cursor). advance c.args.script.now x c.args.fact.listed c.args.line.now.place c.args.line.now.entry) c.settle-action.ensures.cursor,
 )

@@ -11,6 +11,6 @@ returns-in-None-clause-existing c below inside =
     let s = c.args.script.now in
     let role = role_of s c.args.actor in
     let cursor = cursor_of s c.args.actor c.args.cursor.now in
-    let here = subst (λ r. let at = cursor_as s r c.args.cursor.now in action_as s r c.action_in.result ≡ action_in s r at at.stage) c.role_of.ensures c.action_in.ensures.action in
-    let same = subst (λ parcel. action_as s role c.action_in.result ≡ action_with s role cursor parcel) (sym c.in-None.is) here in
+    let here = subst (λ r. let at = cursor_as s r c.args.cursor.now in action_as s r c.args.cursor.now c.action_in.result ≡ action_in s r at at.stage) c.role_of.ensures c.action_in.ensures.action in
+    let same = subst (λ parcel. action_as s role c.args.cursor.now c.action_in.result ≡ action_with s role cursor parcel) (sym c.in-None.is) here in
     subst (ActionExists s) (sym same) (action_exists s c.requires.script c.args.actor below cursor inside)

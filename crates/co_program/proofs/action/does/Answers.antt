@@ -1,5 +1,5 @@
 use Rattle.std.proofs.Common.{◌∙◌, sym, drop}
-use Rattle.co_program.proofs.Remaining.{drop_some}
+use Rattle.co_program.proofs.Remaining.{drop_some, task_below}
 use Rattle.co_program.proofs.Others.{begins_call}
 use Rattle.co_program.specs.declared.program.Task.TheVariants.{Does}
 use Rattle.co_program.specs.Actors.{program_of}
@@ -17,3 +17,15 @@ returns-in_default-clause-action c =
     ∙ (rw c.cpu_of-in_default.ensures
     (sym (begins_call s c.args.role (cursor_as s c.args.role c.args.cursor.now) (tail_of left) c.args.act.now c.in_default.not-Now c.in_default.not-Lock c.in_default.not-ReadLock c.in_default.not-Unlock c.in_default.not-Drain c.in_default.not-Tick)))
     )
+
+pub returns-in-Now-clause-counted : goal.returns-in-Now-clause-counted
+returns-in-Now-clause-counted c = c.tells.ensures.counted (task_below c.args.script.now c.requires.script c.args.role c.args.cursor.now.task (Does c.args.act.now) c.requires.next)
+
+pub returns-in-Lock-clause-counted : goal.returns-in-Lock-clause-counted
+returns-in-Lock-clause-counted c = c.takes.ensures.counted (task_below c.args.script.now c.requires.script c.args.role c.args.cursor.now.task (Does c.args.act.now) c.requires.next)
+
+pub returns-in-ReadLock-clause-counted : goal.returns-in-ReadLock-clause-counted
+returns-in-ReadLock-clause-counted c = c.takes-in-ReadLock.ensures.counted (task_below c.args.script.now c.requires.script c.args.role c.args.cursor.now.task (Does c.args.act.now) c.requires.next)
+
+pub returns-in-Unlock-clause-counted : goal.returns-in-Unlock-clause-counted
+returns-in-Unlock-clause-counted c = c.unlocks.ensures.counted (task_below c.args.script.now c.requires.script c.args.role c.args.cursor.now.task (Does c.args.act.now) c.requires.next)

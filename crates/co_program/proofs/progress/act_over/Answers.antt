@@ -10,6 +10,6 @@ returns-in_default-clause-cursor c role =
     let cursor = c.args.cursor.now in
     rw (
       act_over_outside s (cursor_as s role cursor) cursor.stage c.in_default.not-Firing c.in_default.not-Drained,
-      c.after.ensures.cursor,
+      c.over.ensures.cursor,
       drop-past (program_of s role) cursor.task (length-program s c.requires.script role),
     )
