@@ -6,6 +6,7 @@ use Rattle.co_object.specs.declared.Op.TheVariants.{Run}
 use Rattle.co_object.specs.declared.RunOp.TheVariants.{Pick}
 use Rattle.co_object.specs.declared.QOp.{QOp}
 use Rattle.co_object.specs.declared.QOp.TheVariants.{Insert, Remove, Scan, Free, FreeDirect}
+use Rattle.co_program.specs.declared.cursor.Cursor.{Cursor as CursorAt}
 use Rattle.co_program.specs.declared.Script.{Script}
 use Rattle.co_program.specs.declared.Role.{Role}
 use Rattle.co_program.specs.declared.Role.TheVariants.{Client, Cpu, Interrupt}
@@ -95,11 +96,11 @@ module _ (s : Script) (ok : IsScript s) (books : Written) (depot : Stored) (w : 
 
 -- ---- what a step answers
 
-turn_notes : (s : Script) (w : World) (a : ℕ) (x : ActionAt) → blocked s w a ≡ None → action_for s a (places_of w a) ≡ action_of s a x → (x ≡ action.Nothing → ⊥) →
+turn_notes : (s : Script) (w : World) (a : ℕ) (p : CursorAt) (x : ActionAt) → blocked s w a ≡ None → action_for s a (places_of w a) ≡ action_of s a p x → (x ≡ action.Nothing → ⊥) →
     turn_of s w a ≡ Notes (length ((step s w a).actors a).notes - length (w.actors a).notes)
-turn_notes s w a x free due some =
+turn_notes s w a p x free due some =
     ap (λ (why : Option Why). turn_at s w a why (action_for s a (places_of w a))) free ∙ (ap (turn_at s w a None) due ∙ go x some) where
-      go : (x : ActionAt) → (x ≡ action.Nothing → ⊥) → turn_at s w a None (action_of s a x) ≡ Notes (length ((step s w a).actors a).notes - length (w.actors a).notes)
+      go : (x : ActionAt) → (x ≡ action.Nothing → ⊥) → turn_at s w a None (action_of s a p x) ≡ Notes (length ((step s w a).actors a).notes - length (w.actors a).notes)
       go action.Nothing some = absurd (some refl)
       go (action.Silent to) some = refl
       go (action.Take held to) some = refl
@@ -126,12 +127,12 @@ pub took_at : (x y : Written) (a : ℕ) (items : List Note) → with_list x a it
 took_at x y a items same within =
     ap (λ (z : Written). list_at z a) (sym same) ∙ put_at x a a items refl (open_row x a items (subst (λ (z : Written). a < length z.lists) (sym same) within))
 
-pub turn_is : (s : Script) (x y : Written) (w : World) (a count : ℕ) (act : ActionAt) → a < actor_count s → IsWritten s x w → IsWritten s y (step s w a) → blocked s w a ≡ None → action_for s a (places_of w a) ≡ action_of s a act → (act ≡ action.Nothing → ⊥) →
+pub turn_is : (s : Script) (x y : Written) (w : World) (a count : ℕ) (p : CursorAt) (act : ActionAt) → a < actor_count s → IsWritten s x w → IsWritten s y (step s w a) → blocked s w a ≡ None → action_for s a (places_of w a) ≡ action_of s a p act → (act ≡ action.Nothing → ⊥) →
     y.told ≡ x.told → length (list_at y a) ≡ length (list_at x a) + count → Notes count ≡ turn_of s w a
-turn_is s x y w a count act may before after free due some told counted =
+turn_is s x y w a count p act may before after free due some told counted =
     ap Notes (close (length (list_at y a)) (length (list_at x a)) (length ((step s w a).actors a).notes) (length (w.actors a).notes) (told_at y a) (told_at x a) (list_long s y (step s w a) after a may) (list_long s x w before a may)
     (ap (λ (l : List ℕ). get_or l a 0) told) (after.few_told a) (before.few_told a) counted)
-    ∙ sym (turn_notes s w a act free due some) where
+    ∙ sym (turn_notes s w a p act free due some) where
       close : (m n m' n' k' k : ℕ) → m ≡ m' - k' → n ≡ n' - k → k' ≡ k → k' ≤ m' → k ≤ n' → m ≡ n + count → count ≡ m' - n'
       close m n m' n' k' k e f same low' low g = omega (arith, e, f, same, low', low, g)
 

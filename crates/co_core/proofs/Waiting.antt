@@ -115,8 +115,8 @@ module _ (s : Script) (ok : IsScript s) (books : Written) (depot : Stored) (w : 
   same_place : cursor_of s a (place_at books a) ≡ places_of w a
   same_place = stands.written.each_place a may
 
-  pub due_of : (place : CursorAt) (action : ActionAt) → place ≡ place_at books a → action_of s a action ≡ action_for s a (cursor_of s a place) → action_for s a (places_of w a) ≡ action_of s a action
-  due_of place action here is = sym (is ∙ ap (action_for s a) (ap (cursor_of s a) here ∙ same_place))
+  pub due_of : (place : CursorAt) (action : ActionAt) → place ≡ place_at books a → action_of s a place action ≡ action_for s a (cursor_of s a place) → action_for s a (places_of w a) ≡ action_of s a (place_at books a) action
+  due_of place action here is = sym (ap (λ (p : CursorAt). action_of s a p action) (sym here) ∙ (is ∙ ap (action_for s a) (ap (cursor_of s a) here ∙ same_place)))
 
   pub stage_at_place : (place : CursorAt) → place ≡ place_at books a → stage_of s place.stage ≡ (places_of w a).stage
   stage_at_place place here = ap (λ (c : Cursor). c.stage) (ap (cursor_of s a) here ∙ same_place)
@@ -146,9 +146,9 @@ module _ (s : Script) (ok : IsScript s) (books : Written) (depot : Stored) (w : 
   pub scan_row : (cpu : ℕ) → cpu < s.cpus → cpu < length books.scans
   scan_row cpu below = let l = long books.scans s.cpus (λ cpu. scan_count (w.cpus cpu).journal) stands.written.each_scan in omega (arith, l, below)
 
-  module _ (place : CursorAt) (x : ActionAt) (here : place ≡ place_at books a) (is : action_of s a x ≡ action_for s a (cursor_of s a place)) (act : ℕ) (asked : Asked) (asks : x ≡ action.Asks act asked) where
+  module _ (place : CursorAt) (x : ActionAt) (here : place ≡ place_at books a) (is : action_of s a place x ≡ action_for s a (cursor_of s a place)) (act : ℕ) (asked : Asked) (asks : x ≡ action.Asks act asked) where
     asked_due : action_for s a (places_of w a) ≡ Asks act asked
-    asked_due = due_of place x here is ∙ ap (action_of s a) asks
+    asked_due = due_of place x here is ∙ ap (action_of s a (place_at books a)) asks
 
     module _ (i : ℕ) (op : Op) (call : CallOp) (callout_is : asked ≡ Callout i op) (call_is : op ≡ Call call) where
       call_due : action_for s a (places_of w a) ≡ Asks act (Callout i (Call call))

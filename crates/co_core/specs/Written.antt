@@ -6,7 +6,8 @@ use Rattle.co_program.specs.declared.cursor.Cursor.{Cursor as CursorAt}
 use Rattle.co_program.specs.declared.cursor.Stage.TheVariants.{Ready}
 use Rattle.co_program.specs.declared.script.Script.{Script}
 use Rattle.co_program.specs.Advance.{advance}
-use Rattle.co_program.specs.Indexed.{Counts, cursor_of}
+use Rattle.co_program.specs.declared.action.Move.{Move}
+use Rattle.co_program.specs.Indexed.{Counts, cursor_of, moved}
 
 pub record Written : Type 0 where
   -- by actor: its place in its program, and its notes but for those that have been told and let go
@@ -45,6 +46,13 @@ with_list x a notes = record x { lists = set x.lists a notes }
 -- an actor's notes have been told, and are let go
 abbrev pub let_go : Written → ℕ → Written
 let_go x a = record x { lists = set x.lists a []; told = set x.told a (told_at x a + length (list_at x a)) }
+
+-- an actor goes on in its program without a note
+pub record IsMoved (s : Script) (a : ℕ) (move : Move) (before after : Written) : Type 0 where
+  pub to : CursorAt
+  pub place : cursor_of s a to ≡ moved (cursor_of s a (place_at before a)) move
+  pub counts : Counts (place_at before a) to 0
+  pub went : after ≡ with_place before a to
 
 -- an actor has made a note, and goes on in its program
 pub record IsNoted (s : Script) (a : ℕ) (listed : Bool) (note : Note) (before after : Written) : Type 0 where

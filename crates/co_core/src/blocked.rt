@@ -109,7 +109,7 @@ impl Engine {
         requires actor { actor < actor_count script.now }
         requires stands { (w : PlainWorld) × StandsFor script.now self.now.books self.now.depot w }
         requires place { place.now ≡ place_at self.now.books actor }
-        requires action { action_of script.now actor action.now ≡ action_for script.now actor (cursor_of script.now actor place.now) }
+        requires action { action_of script.now actor place.now action.now ≡ action_for script.now actor (cursor_of script.now actor place.now) }
         ensures { (w : PlainWorld) → StandsFor script.now self.now.books self.now.depot w → result ≡ blocked script.now w actor }
     {
         match action {

@@ -2,7 +2,7 @@
 ghost use Rattle.std.specs.Prelude.{◌≡◌, ℕ, ◌+◌, ◌<◌, ◌≤◌, ◌^◌, Bool, true, false, [], ◌∷◌, ◌++◌, length, is_some, IfOk, OnErr};
 ghost use Rattle.co_program.specs.declared.script.Script.{Script as ScriptOf};
 ghost use Rattle.co_program.specs.Scripts.{IsScript};
-ghost use Rattle.co_program.specs.Indexed.{IsCounted};
+ghost use Rattle.co_program.specs.Indexed.{IsCounted, MoveCounts};
 ghost use Rattle.std.specs.declared.option.Option.TheVariants.{None};
 ghost use Rattle.co_object.specs.declared.queue.QOp.TheVariants.{Insert, Remove};
 ghost use Rattle.co_object.specs.declared.queue.QReply.TheVariants.{At, Off};
@@ -15,7 +15,7 @@ ghost use Rattle.co_program.specs.Follows.{one_scan};
 ghost use Rattle.co_core.specs.World.{World as PlainWorld};
 ghost use Rattle.co_core.specs.Stands.{IsWritten, MayWrite};
 ghost use Rattle.co_core.specs.Step.{callout_answers, own_note, queue_answers};
-ghost use Rattle.co_core.specs.Written.{IsNoted, list_at, place_at, with_list, with_place};
+ghost use Rattle.co_core.specs.Written.{IsMoved, IsNoted, list_at, place_at, with_list};
 
 mod boot;
 mod holders;
@@ -26,7 +26,7 @@ use co_object::{
     AnyEntry, CallOp, Entry, Lists, Note, Op, OwnEntry, OwnKind, Place, PlainOp, QEntry, QOp,
     QReply, Reply, RunOp,
 };
-use co_program::{Cursor, Parcel, Script, advance};
+use co_program::{Cursor, Move, Parcel, Script, advance, go};
 use co_sbt::{NoMemory, Room, Sbt, Seq};
 use holders::{Holders, rehold};
 use std::alloc::Global;
@@ -95,14 +95,18 @@ impl Books {
         place.parcel
     }
 
-    /// The actor goes on to another place in its program.
-    pub(crate) fn go(&mut self, actor: u32, to: Cursor)
-        requires { actor < length self.old.places }
-        ensures { self.new ≡ with_place self.old actor to }
+    /// The actor goes on in its program without a note.
+    pub(crate) fn go(&mut self, script: &Script, actor: u32, to: &Move)
+        requires script { IsScript script.now }
+        requires actor { actor < length self.old.places }
+        requires counted { MoveCounts (place_at self.old actor) to.now }
+        ensures { IsMoved script.now actor to.now self.old self.new }
     {
-        let from = self.places[actor as usize].hold;
-        rehold(&mut self.holders, from, to.hold);
-        self.places[actor as usize] = to;
+        let place = &mut self.places[actor as usize];
+        let from = place.hold;
+        go(script, place, to);
+        let hold = place.hold;
+        rehold(&mut self.holders, from, hold);
     }
 
     /// Whether there are more notes than fit into memory.
@@ -161,11 +165,11 @@ impl Books {
         ensures count { length hand.new.notes.items ≡ length hand.old.notes.items + 1 }
         ensures made { self.new.made ≡ self.old.made + 1 }
     {
-        let from = &self.places[hand.actor as usize];
-        let (held, _over) = (from.hold, from.task);
-        let to = advance(script, from, listed, note.place, &note.entry);
-        rehold(&mut self.holders, held, to.hold);
-        self.places[hand.actor as usize] = to;
+        let place = &mut self.places[hand.actor as usize];
+        let (from, _over) = (place.hold, place.task);
+        advance(script, place, listed, note.place, &note.entry);
+        let hold = place.hold;
+        rehold(&mut self.holders, from, hold);
         self.made += 1;
         hand.push(note);
     }

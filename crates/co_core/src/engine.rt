@@ -1,13 +1,12 @@
 //! One step after another: the books and the depot of a world.
 ghost use Rattle.std.specs.Prelude.{◌≡◌, ℕ, ◌+◌, ◌<◌, ◌≤◌, length};
 ghost use Rattle.co_lock.specs.declared.held.Held.{Held};
-ghost use Rattle.co_program.specs.declared.script.Script.{Script as ScriptOf};
 ghost use Rattle.co_program.specs.Action.{Asks, Silent, Take};
 ghost use Rattle.co_program.specs.Scripts.{IsScript};
-ghost use Rattle.co_program.specs.Indexed.{Counts, cursor_of};
+ghost use Rattle.co_program.specs.Indexed.{MoveCounts, cursor_of, moved};
 ghost use Rattle.co_wheel.specs.Turns.{pop_of, free_of};
 ghost use Rattle.co_core.specs.World.{World as PlainWorld};
-ghost use Rattle.co_core.specs.Stands.{HeldBy, IsDue, MayAct};
+ghost use Rattle.co_core.specs.Stands.{HeldBy, IsDue, MayAct, StandsFor};
 ghost use Rattle.co_core.specs.Step.{step};
 ghost use Rattle.co_core.specs.Written.{place_at};
 
@@ -16,7 +15,7 @@ mod acting;
 use crate::books::{Books, Hand};
 use crate::depot::Depot;
 use co_object::{CallOp, Op, OwnKind, QOp, QReply, RunOp};
-use co_program::{Asked, Cursor, Parcel, Script};
+use co_program::{Asked, Move, Parcel, Script};
 use co_sbt::Sbt;
 use co_wheel::NextOut;
 
@@ -29,15 +28,20 @@ pub(crate) struct Engine {
 
 impl Engine {
     /// A step without a note.
-    fn go(&mut self, hand: &Hand, to: Cursor)
-        requires { hand.now.actor < length self.old.books.places }
-        ensures silent { (s : ScriptOf) (w : PlainWorld) → HeldBy s self.old hand.now w → IsDue s w hand.now.actor (Silent (cursor_of s hand.now.actor to)) → Counts (place_at self.old.books hand.now.actor) to 0 →
-            HeldBy s self.new hand.now (step s w hand.now.actor) }
-        ensures take { (s : ScriptOf) (w : PlainWorld) (held : Held) → HeldBy s self.old hand.now w → IsDue s w hand.now.actor (Take held (cursor_of s hand.now.actor to)) → Counts (place_at self.old.books hand.now.actor) to 0 →
-            HeldBy s self.new hand.now (step s w hand.now.actor) }
+    fn go(&mut self, script: &Script, actor: u32, to: &Move)
+        requires script { IsScript script.now }
+        requires actor { actor < length self.old.books.places }
+        requires counted { MoveCounts (place_at self.old.books actor) to.now }
+        ensures silent { (w : PlainWorld) → StandsFor script.now self.old.books self.old.depot w →
+            IsDue script.now w actor (Silent (moved (cursor_of script.now actor (place_at self.old.books actor)) to.now)) →
+            StandsFor script.now self.new.books self.new.depot (step script.now w actor) }
+        ensures take { (w : PlainWorld) (held : Held) → StandsFor script.now self.old.books self.old.depot w →
+            IsDue script.now w actor (Take held (moved (cursor_of script.now actor (place_at self.old.books actor)) to.now)) →
+            StandsFor script.now self.new.books self.new.depot (step script.now w actor) }
         ensures told { self.new.books.told ≡ self.old.books.told }
+        ensures lists { self.new.books.lists ≡ self.old.books.lists }
     {
-        self.books.go(hand.actor, to);
+        self.books.go(script, actor, to);
     }
 
     /// An act that comes to no callout.

@@ -14,7 +14,7 @@ use Rattle.co_program.specs.declared.role.Role.{Role}
 use Rattle.co_program.specs.declared.role.Role.TheVariants.{Client, Cpu, Interrupt}
 use Rattle.co_program.specs.Actors.{acts_at, program_of, softs}
 use Rattle.co_program.specs.Advance.{tail_of}
-use Rattle.co_program.specs.Indexed.{past}
+use Rattle.co_program.specs.Indexed.{acts_of, is_soft, past}
 use Rattle.co_program.specs.Scripts.{IsScript}
 
 pub first-drop : {X : Type 0} (xs : List X) (n : ℕ) → slice_get (drop n xs) 0 ≡ slice_get xs n
@@ -105,6 +105,34 @@ program-soft s x e = ap (λ b. cond b (softs 0 (length (acts_at s.ticks x))) (ma
 
 pub program-hard : (s : Script) (x : ℕ) → (s.version ≡ 2 → ⊥) → program_of s (Cpu x) ≡ map Does (acts_at s.ticks x)
 program-hard s x ne = ap (λ b. cond b (softs 0 (length (acts_at s.ticks x))) (map Does (acts_at s.ticks x))) (ne_eqb s.version 2 ne)
+
+-- a program by its acts
+
+pub program-does : (s : Script) (role : Role) → is_soft s role ≡ false → program_of s role ≡ map Does (acts_of s role)
+program-does s (Client c) e = refl
+program-does s (Cpu x) e = ap (λ b. cond b (softs 0 (length (acts_at s.ticks x))) (map Does (acts_at s.ticks x))) e
+program-does s (Interrupt x) e = refl
+
+pub program-softs : (s : Script) (role : Role) → is_soft s role ≡ true → program_of s role ≡ softs 0 (length (acts_of s role))
+program-softs s (Client c) e = cc
+program-softs s (Cpu x) e = ap (λ b. cond b (softs 0 (length (acts_at s.ticks x))) (map Does (acts_at s.ticks x))) e
+program-softs s (Interrupt x) e = cc
+
+length-acts : (s : Script) (role : Role) (b : Bool) → is_soft s role ≡ b → length (program_of s role) ≡ length (acts_of s role)
+length-acts s role true e = ap length (program-softs s role e) ∙ length-softs 0 (length (acts_of s role))
+length-acts s role false e = rw (program-does s role e, length-map) refl
+
+pub none_left : (s : Script) (role : Role) (n : ℕ) → length (acts_of s role) ≤ n → drop n (program_of s role) ≡ []
+none_left s role n high = let long = length-acts s role (is_soft s role) refl in drop_end (program_of s role) n (omega (arith, long, high))
+
+pub soft_left : (s : Script) (role : Role) (n : ℕ) → is_soft s role ≡ true → n < length (acts_of s role) → drop n (program_of s role) ≡ Soft n ∷ tail_of (drop n (program_of s role))
+soft_left s role n e low =
+    drop_some (drop n (program_of s role)) (Soft n)
+    (first-drop (program_of s role) n ∙ (ap (λ (tasks : List Task). slice_get tasks n) (program-softs s role e) ∙ slice_get-softs 0 (length (acts_of s role)) n n low (omega arith)))
+
+pub act_left : (s : Script) (role : Role) (n : ℕ) (act : Act) → is_soft s role ≡ false → slice_get (acts_of s role) n ≡ Some act → slice_get (drop n (program_of s role)) 0 ≡ Some (Does act)
+act_left s role n act e is =
+    ap (λ (tasks : List Task). slice_get (drop n tasks) 0) (program-does s role e) ∙ (sym (first_does (acts_of s role) n) ∙ ap (option_map Does) is)
 
 -- a soft act's number is below the number of ticks
 

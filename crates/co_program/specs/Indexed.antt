@@ -1,5 +1,5 @@
 -- A cursor as the code keeps it: what is left is told by how much of it is over.
-use Rattle.std.specs.Prelude.{ℕ, ◌+◌, ◌-◌, ◌^◌, ◌≤◌, ◌<◌, min, List, drop, None}
+use Rattle.std.specs.Prelude.{ℕ, ◌+◌, ◌-◌, ◌^◌, ◌≤◌, ◌<◌, ◌==◌, Bool, false, min, List, drop, None}
 use Rattle.co_program.specs.declared.act.Act.{Act}
 use Rattle.co_program.specs.declared.script.Script.{Script}
 use Rattle.co_program.specs.declared.cursor.ActsLeft.{ActsLeft}
@@ -11,6 +11,7 @@ use Rattle.co_program.specs.declared.action.Action.TheVariants as action
 use Rattle.co_program.specs.declared.action.Move.{Move}
 use Rattle.co_program.specs.declared.action.Move.TheVariants as moves
 use Rattle.co_program.specs.declared.role.Role.{Role}
+use Rattle.co_program.specs.declared.role.Role.TheVariants.{Client, Cpu, Interrupt}
 use Rattle.co_program.specs.Actors.{role_of, acts_at, program_of}
 use Rattle.co_program.specs.Stages.{Stage, Ready, Waiting, Popping, Picking, Locking, Beginning, Unlocking, Firing, Releasing, Ending, Freeing, Drained}
 use Rattle.co_program.specs.Cursor.{Cursor}
@@ -20,6 +21,17 @@ use Rattle.co_program.specs.Advance.{tail_of}
 -- the acts of a function that are left
 abbrev pub acts_left : Script → ActsLeft → List Act
 acts_left s left = drop left.done (acts_at s.funcs left.func)
+
+-- the acts of a role; a CPU that has soft acts has one for each of them
+abbrev pub acts_of : Script → Role → List Act
+acts_of s (Client c) = acts_at s.clients c
+acts_of s (Cpu x) = acts_at s.ticks x
+acts_of s (Interrupt x) = acts_at s.ticks x
+
+abbrev pub is_soft : Script → Role → Bool
+is_soft s (Client c) = false
+is_soft s (Cpu x) = s.version == 2
+is_soft s (Interrupt x) = false
 
 abbrev pub stage_of : Script → StageAt → Stage
 stage_of s at.Ready = Ready

@@ -13,7 +13,7 @@ ghost use Rattle.co_program.specs.Scripts.{IsScript};
 use crate::act::{Act, Scene};
 use crate::call::call_of;
 use crate::cursor::{ActsLeft, Cursor, Service, Stage};
-use crate::program::{Task, next_of, task_after};
+use crate::program::{Task, acts_of, is_soft, next_of, task_after};
 use crate::role::{Role, cpu_of, role_of};
 use crate::script::Script;
 use co_lock::{Held, covers};
@@ -145,10 +145,14 @@ fn begins(script: &Script, role: Role, cursor: &Cursor) -> Action
         action_as s role cursor.now result ≡ begins s role c c.left }
     ensures counted { ActionCounts cursor.now result }
 {
-    match task_after(script, role, cursor.task) {
-        None => ends(cursor),
-        Some(Task::Does(act)) => does(script, role, cursor, &act),
-        Some(Task::Soft(_)) => asks_queue(cursor.act, cpu_of(script, role), pop_of(role)),
+    let acts = acts_of(script, role);
+    let index = cursor.task as usize;
+    if index >= acts.len() {
+        ends(cursor)
+    } else if is_soft(script, role) {
+        asks_queue(cursor.act, cpu_of(script, role), pop_of(role))
+    } else {
+        does(script, role, cursor, &acts[index])
     }
 }
 

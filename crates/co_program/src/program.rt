@@ -1,7 +1,7 @@
 //! The acts of programs and functions, by index.
 ghost use Rattle.std.specs.Prelude.{◌≡◌, drop, length, slice_get};
 ghost use Rattle.co_program.specs.Actors.{acts_at, program_of, softs};
-ghost use Rattle.co_program.specs.Indexed.{acts_left};
+ghost use Rattle.co_program.specs.Indexed.{acts_left, acts_of, is_soft};
 ghost use Rattle.std.specs.Option.{option_map};
 
 use crate::act::Act;
@@ -17,6 +17,28 @@ pub enum Task {
     Does(Act),
     /// A CPU's j-th soft act, which runs what j + 1 ticks of its interrupt have expired.
     Soft(u32),
+}
+
+/// The acts of the role; a CPU that has soft acts has one for each of them.
+pub(crate) fn acts_of(script: &Script, role: Role) -> &[Act]
+    ensures { result.now ≡ acts_of script.now role }
+{
+    match role {
+        Role::Client(client) => acts_at(&script.clients, client),
+        Role::Cpu(cpu) => acts_at(&script.ticks, cpu),
+        Role::Interrupt(cpu) => acts_at(&script.ticks, cpu),
+    }
+}
+
+/// The role's acts are soft: they run what its interrupt has expired.
+pub(crate) fn is_soft(script: &Script, role: Role) -> bool
+    ensures { result ≡ is_soft script.now role }
+{
+    match role {
+        Role::Client(_) => false,
+        Role::Cpu(_) => script.version == 2,
+        Role::Interrupt(_) => false,
+    }
 }
 
 /// The next act of the role's program once so many are over.
@@ -41,6 +63,16 @@ pub(crate) fn next_of(script: &Script, left: ActsLeft) -> Option<Act>
     ensures { result ≡ slice_get (acts_left script.now left) 0 }
 {
     act_at(&script.funcs, left.func, left.done)
+}
+
+/// The acts of the `i`-th list.
+fn acts_at(lists: &Seq<Acts>, i: u32) -> &[Act]
+    ensures { result.now ≡ acts_at lists.now i }
+{
+    match lists.as_slice().get(i as usize) {
+        Some(acts) => acts.as_slice(),
+        None => &[],
+    }
 }
 
 /// The act at `index` of the `i`-th list.

@@ -27,42 +27,48 @@ impl Engine {
         action: &Action,
     ) -> Result<u32, NoMemory>
         requires script { IsScript script.now }
-        requires may { (w : PlainWorld) × StandsFor script.now self.old.books self.old.depot w × IsDue script.now w actor (action_of script.now actor action.now) }
+        requires may { (w : PlainWorld) × StandsFor script.now self.old.books self.old.depot w × IsDue script.now w actor (action_of script.now actor (place_at self.old.books actor) action.now) }
         requires counted { ActionCounts (place_at self.old.books actor) action.now }
-        ensures stands { OnOk result ((w : PlainWorld) → StandsFor script.now self.old.books self.old.depot w → IsDue script.now w actor (action_of script.now actor action.now) →
+        ensures stands { OnOk result ((w : PlainWorld) → StandsFor script.now self.old.books self.old.depot w → IsDue script.now w actor (action_of script.now actor (place_at self.old.books actor) action.now) →
+            StandsFor script.now self.new.books self.new.depot (step script.now w actor)) }
+        ensures told { self.new.books.told ≡ self.old.books.told }
+        ensures count { IfOk result (λ count. length (list_at self.new.books actor) ≡ length (list_at self.old.books actor) + count) }
+        ensures err { OnErr result (self.new ≡ self.old) }
+    {
+        match action {
+            Action::Nothing => Ok(0),
+            Action::Silent(to) => {
+                self.go(script, actor, to);
+                Ok(0)
+            }
+            Action::Take { to, .. } => {
+                self.go(script, actor, to);
+                Ok(0)
+            }
+            Action::Asks { act, asked } => self.note(script, actor, *act, asked),
+        }
+    }
+
+    /// What is asked is done, and noted. After NoMemory all is as it was.
+    fn note(
+        &mut self,
+        script: &Script,
+        actor: u32,
+        act: u64,
+        asked: &Asked,
+    ) -> Result<u32, NoMemory>
+        requires script { IsScript script.now }
+        requires may { (w : PlainWorld) × StandsFor script.now self.old.books self.old.depot w × IsDue script.now w actor (Asks act asked.now) }
+        ensures stands { OnOk result ((w : PlainWorld) → StandsFor script.now self.old.books self.old.depot w → IsDue script.now w actor (Asks act asked.now) →
             StandsFor script.now self.new.books self.new.depot (step script.now w actor)) }
         ensures told { self.new.books.told ≡ self.old.books.told }
         ensures count { IfOk result (λ count. length (list_at self.new.books actor) ≡ length (list_at self.old.books actor) + count) }
         ensures err { OnErr result (self.new ≡ self.old) }
     {
         let mut hand = self.books.open(actor)?;
-        let count = self.perform(script, &mut hand, action);
+        let count = self.ask(script, &mut hand, act, asked);
         self.books.close(hand);
         Ok(count)
-    }
-
-    fn perform(&mut self, script: &Script, hand: &mut Hand, action: &Action) -> u32
-        requires script { IsScript script.now }
-        requires may { MayAct script.now self.old hand.old (action_of script.now hand.old.actor action.now) }
-        requires counted { ActionCounts (place_at self.old.books hand.old.actor) action.now }
-        ensures stands { (w : PlainWorld) → HeldBy script.now self.old hand.old w → IsDue script.now w hand.old.actor (action_of script.now hand.old.actor action.now) →
-            HeldBy script.now self.new hand.new (step script.now w hand.old.actor) }
-        ensures actor { hand.new.actor ≡ hand.old.actor }
-        ensures told { self.new.books.told ≡ self.old.books.told }
-        ensures count { length hand.new.notes.items ≡ length hand.old.notes.items + result }
-    {
-        match action {
-            Action::Nothing => 0,
-            Action::Silent(to) => {
-                self.go(hand, *to);
-                0
-            }
-            Action::Take { to, .. } => {
-                self.go(hand, *to);
-                0
-            }
-            Action::Asks { act, asked } => self.ask(script, hand, *act, asked),
-        }
     }
 
     fn ask(&mut self, script: &Script, hand: &mut Hand, act: u64, asked: &Asked) -> u32

@@ -10,24 +10,24 @@ use Rattle.co_core.proofs.books.Books.go.Goals as goal
 
 pub rehold-requires-clause-shared : goal.rehold-requires-clause-shared
 rehold-requires-clause-shared c =
-    let within : c.args.actor < length c.self.inside.places.items = subst (λ (x : Written). c.args.actor < length x.places) (sym c.self.view_is) c.requires in
-    let read : c.index.result.now ≡ get_or c.self.inside.places.items c.args.actor first_place = get_or_read c.self.inside.places.items c.args.actor c.index.result.now within c.index.ensures first_place in
+    let within : c.args.actor < length c.self.inside.places.items = subst (λ (x : Written). c.args.actor < length x.places) (sym c.self.view_is) c.requires.actor in
+    let read : c.index_mut-place.result.now ≡ get_or c.self.inside.places.items c.args.actor first_place = get_or_read c.self.inside.places.items c.args.actor c.index_mut-place.result.now within c.index_mut-place.ensures.value first_place in
     let long : length c.self.inside.places.items < 2 ^ 64 = search rules in
     subst (λ (p : CursorAt). (k : ℕ) → k < length (released p.hold c.self.inside.holders.items) → (get_or (released p.hold c.self.inside.holders.items) k no_holders).shared < 2 ^ 64 - 1) (sym read)
     (λ k below. (let few = (few-left c.self.inside.holders.items c.self.inside.places.items c.args.actor c.self.invariant within k below).0 in omega (arith, few, long)))
 
 pub rehold-requires-clause-exclusive : goal.rehold-requires-clause-exclusive
 rehold-requires-clause-exclusive c =
-    let within : c.args.actor < length c.self.inside.places.items = subst (λ (x : Written). c.args.actor < length x.places) (sym c.self.view_is) c.requires in
-    let read : c.index.result.now ≡ get_or c.self.inside.places.items c.args.actor first_place = get_or_read c.self.inside.places.items c.args.actor c.index.result.now within c.index.ensures first_place in
+    let within : c.args.actor < length c.self.inside.places.items = subst (λ (x : Written). c.args.actor < length x.places) (sym c.self.view_is) c.requires.actor in
+    let read : c.index_mut-place.result.now ≡ get_or c.self.inside.places.items c.args.actor first_place = get_or_read c.self.inside.places.items c.args.actor c.index_mut-place.result.now within c.index_mut-place.ensures.value first_place in
     let long : length c.self.inside.places.items < 2 ^ 64 = search rules in
     subst (λ (p : CursorAt). (k : ℕ) → k < length (released p.hold c.self.inside.holders.items) → (get_or (released p.hold c.self.inside.holders.items) k no_holders).exclusive < 2 ^ 64 - 1) (sym read)
     (λ k below. (let few = (few-left c.self.inside.holders.items c.self.inside.places.items c.args.actor c.self.invariant within k below).1 in omega (arith, few, long)))
 
 pub invariant_of-self : goal.invariant_of-self
 invariant_of-self c =
-    let within : c.args.actor < length c.self.inside.places.items = subst (λ (x : Written). c.args.actor < length x.places) (sym c.self.view_is) c.requires in
-    let read : c.index.result.now ≡ get_or c.self.inside.places.items c.args.actor first_place = get_or_read c.self.inside.places.items c.args.actor c.index.result.now within c.index.ensures first_place in
-    let all : c.rehold.new.holders.items ≡ taken c.args.to.hold (released (get_or c.self.inside.places.items c.args.actor first_place).hold c.self.inside.holders.items) =
-    c.rehold.ensures ∙ ap (λ (p : CursorAt). taken c.args.to.hold (released p.hold c.self.inside.holders.items)) read in
-    subst (λ (t : List Holders). AreHolders t (set c.self.inside.places.items c.args.actor c.args.to)) (sym all) (moved c.self.inside.holders.items c.self.inside.places.items c.args.actor c.args.to c.self.invariant within)
+    let within : c.args.actor < length c.self.inside.places.items = subst (λ (x : Written). c.args.actor < length x.places) (sym c.self.view_is) c.requires.actor in
+    let read : c.index_mut-place.result.now ≡ get_or c.self.inside.places.items c.args.actor first_place = get_or_read c.self.inside.places.items c.args.actor c.index_mut-place.result.now within c.index_mut-place.ensures.value first_place in
+    let all : c.rehold.new.holders.items ≡ taken c.go.new.cursor.hold (released (get_or c.self.inside.places.items c.args.actor first_place).hold c.self.inside.holders.items) =
+    c.rehold.ensures ∙ ap (λ (p : CursorAt). taken c.go.new.cursor.hold (released p.hold c.self.inside.holders.items)) read in
+    subst (λ (t : List Holders). AreHolders t (set c.self.inside.places.items c.args.actor c.go.new.cursor)) (sym all) (moved c.self.inside.holders.items c.self.inside.places.items c.args.actor c.go.new.cursor c.self.invariant within)

@@ -11,35 +11,24 @@ use Rattle.co_core.proofs.Holders.{moved, few-left}
 use Rattle.co_core.proofs.Noting.{noted_by, went}
 use Rattle.co_core.proofs.books.Books.write.Goals as goal
 
-pub advance-to-requires-clause-room : goal.advance-to-requires-clause-room
-advance-to-requires-clause-room c =
-    let x : Written = the_view c.self.inside in
-    let a = c.args.hand.now.actor in
-    let there : a < length x.places = subst (λ (y : Written). a < length y.places) (sym c.self.view_is) c.requires.actor in
-    let from : c.index-from.result.now ≡ place_at x a = get_or_read c.self.inside.places.items a c.index-from.result.now there c.index-from.ensures first_place in
-    let over : c.index-from.result.now.task < 2 ^ 32 = search rules in
-    let counted : IsCounted c.index-from.result.now c.args.self.now.made =
-    subst (λ (p : CursorAt). IsCounted p c.args.self.now.made) (sym (from ∙ ap (λ (y : Written). place_at y a) c.self.view_is)) c.requires.counted in
-    omega (arith, counted)
-
 pub returns-clause-noted : goal.returns-clause-noted
 returns-clause-noted c =
     let x : Written = the_view c.self.inside in
     let a = c.args.hand.now.actor in
     let there : a < length x.places = subst (λ (y : Written). a < length y.places) (sym c.self.view_is) c.requires.actor in
-    let from : c.index-from.result.now ≡ place_at x a = get_or_read c.self.inside.places.items a c.index-from.result.now there c.index-from.ensures first_place in
+    let from : c.index_mut-place.result.now ≡ place_at x a = get_or_read c.self.inside.places.items a c.index_mut-place.result.now there c.index_mut-place.ensures.value first_place in
     let within : a < length x.lists = subst (λ (y : Written). a < length y.lists) (sym c.self.view_is) c.requires.list in
-    subst (λ (y : Written). IsNoted c.args.script.now a c.args.listed c.args.note.now (with_list y a c.args.hand.now.notes.items) (with_list (went x a c.advance-to.result) a c.push.new.self.notes.items)) c.self.view_is
-    (noted_by c.args.script.now a c.args.listed c.args.note.now x c.args.hand.now.notes.items c.push.new.self.notes.items c.advance-to.result within
-    (subst (λ (p : CursorAt). cursor_of c.args.script.now a c.advance-to.result ≡ advance c.args.script.now (cursor_of c.args.script.now a p) c.args.listed c.args.note.now.place c.args.note.now.entry) from (c.advance-to.ensures.cursor a))
-    (subst (λ (p : CursorAt). Counts p c.advance-to.result 1) from c.advance-to.ensures.counted) c.push.ensures.items)
+    subst (λ (y : Written). IsNoted c.args.script.now a c.args.listed c.args.note.now (with_list y a c.args.hand.now.notes.items) (with_list (went x a c.advance.new.cursor) a c.push.new.self.notes.items)) c.self.view_is
+    (noted_by c.args.script.now a c.args.listed c.args.note.now x c.args.hand.now.notes.items c.push.new.self.notes.items c.advance.new.cursor within
+    (subst (λ (p : CursorAt). cursor_of c.args.script.now a c.advance.new.cursor ≡ advance c.args.script.now (cursor_of c.args.script.now a p) c.args.listed c.args.note.now.place c.args.note.now.entry) from (c.advance.ensures.cursor a))
+    (subst (λ (p : CursorAt). Counts p c.advance.new.cursor 1) from c.advance.ensures.counted) c.push.ensures.items)
 
 pub rehold-requires-clause-shared : goal.rehold-requires-clause-shared
 rehold-requires-clause-shared c =
     let x : Written = the_view c.self.inside in
     let a = c.args.hand.now.actor in
     let there : a < length x.places = subst (λ (y : Written). a < length y.places) (sym c.self.view_is) c.requires.actor in
-    let from : c.index-from.result.now ≡ place_at x a = get_or_read c.self.inside.places.items a c.index-from.result.now there c.index-from.ensures first_place in
+    let from : c.index_mut-place.result.now ≡ place_at x a = get_or_read c.self.inside.places.items a c.index_mut-place.result.now there c.index_mut-place.ensures.value first_place in
     let long : length c.self.inside.places.items < 2 ^ 64 = search rules in
     subst (λ (p : CursorAt). (k : ℕ) → k < length (released p.hold c.self.inside.holders.items) → (get_or (released p.hold c.self.inside.holders.items) k no_holders).shared < 2 ^ 64 - 1) (sym from)
     (λ k below. (let few = (few-left c.self.inside.holders.items c.self.inside.places.items a c.self.invariant there k below).0 in omega (arith, few, long)))
@@ -49,7 +38,7 @@ rehold-requires-clause-exclusive c =
     let x : Written = the_view c.self.inside in
     let a = c.args.hand.now.actor in
     let there : a < length x.places = subst (λ (y : Written). a < length y.places) (sym c.self.view_is) c.requires.actor in
-    let from : c.index-from.result.now ≡ place_at x a = get_or_read c.self.inside.places.items a c.index-from.result.now there c.index-from.ensures first_place in
+    let from : c.index_mut-place.result.now ≡ place_at x a = get_or_read c.self.inside.places.items a c.index_mut-place.result.now there c.index_mut-place.ensures.value first_place in
     let long : length c.self.inside.places.items < 2 ^ 64 = search rules in
     subst (λ (p : CursorAt). (k : ℕ) → k < length (released p.hold c.self.inside.holders.items) → (get_or (released p.hold c.self.inside.holders.items) k no_holders).exclusive < 2 ^ 64 - 1) (sym from)
     (λ k below. (let few = (few-left c.self.inside.holders.items c.self.inside.places.items a c.self.invariant there k below).1 in omega (arith, few, long)))
@@ -58,9 +47,9 @@ pub invariant_of-self : goal.invariant_of-self
 invariant_of-self c =
     let x : Written = the_view c.self.inside in
     let a = c.args.hand.now.actor in
-    let to = c.advance-to.result in
+    let to = c.advance.new.cursor in
     let there : a < length x.places = subst (λ (y : Written). a < length y.places) (sym c.self.view_is) c.requires.actor in
-    let from : c.index-from.result.now ≡ place_at x a = get_or_read c.self.inside.places.items a c.index-from.result.now there c.index-from.ensures first_place in
+    let from : c.index_mut-place.result.now ≡ place_at x a = get_or_read c.self.inside.places.items a c.index_mut-place.result.now there c.index_mut-place.ensures.value first_place in
     let all : c.rehold.new.holders.items ≡ taken to.hold (released (place_at x a).hold c.self.inside.holders.items) =
     c.rehold.ensures ∙ ap (λ (p : CursorAt). taken to.hold (released p.hold c.self.inside.holders.items)) from in
     subst (λ (t : List Holders). AreHolders t (set c.self.inside.places.items a to)) (sym all) (moved c.self.inside.holders.items c.self.inside.places.items a to c.self.invariant there)

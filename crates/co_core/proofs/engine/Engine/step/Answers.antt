@@ -2,6 +2,7 @@
 use Rattle.std.proofs.Common.{rules, ◌<◌, ◌^◌, arith, subst, sym, ◌∙◌}
 use Rattle.co_program.specs.declared.cursor.Cursor.{Cursor as CursorAt}
 use Rattle.co_program.specs.Indexed.{IsCounted}
+use Rattle.co_core.specs.Written.{place_at}
 use Rattle.co_core.proofs.Undue.{turn_is, not_some}
 use Rattle.co_core.proofs.Waiting.{due_of}
 use Rattle.co_core.proofs.engine.Engine.step.Goals as goal
@@ -25,7 +26,7 @@ returns-in_ok-count-in_default-action c = record {
       (let due = due_of c.args.script.now c.requires.script c.args.self.now.books c.args.self.now.depot w h c.args.actor c.requires.actor c.at-place.result.now c.action_for-action.result c.at-place.ensures c.action_for-action.ensures.action in
       let free = sym (c.blocked.ensures w h) ∙ not_some c.blocked.result c.in_default-blocked.not-Some in
       let after = c.in_ok-count-in_default-action.ensures.stands w h (record { may = c.requires.actor; due = due; free = free }) in
-      turn_is c.args.script.now c.args.self.now.books c.act.new.self.books w c.args.actor c.in_ok-count-in_default-action.count c.action_for-action.result c.requires.actor h.written after.written free due c.in_default-action.not-Nothing c.act.ensures.told c.in_ok-count-in_default-action.ensures.count);
+      turn_is c.args.script.now c.args.self.now.books c.act.new.self.books w c.args.actor c.in_ok-count-in_default-action.count (place_at c.args.self.now.books c.args.actor) c.action_for-action.result c.requires.actor h.written after.written free due c.in_default-action.not-Nothing c.act.ensures.told c.in_ok-count-in_default-action.ensures.count);
   told = c.act.ensures.told;
   err = tt;
 }
