@@ -5,3 +5,6 @@ pub mod Fitting
 pub mod Replays
 pub mod Totals
 pub mod Entries
+pub mod Terms
+pub mod Tallying
+pub mod Tallied

@@ -62,7 +62,7 @@ adds-fate c Fired = record { notes = refl; armed = omega arith; fired = omega ar
 adds-fate c Superseded = record { notes = refl; armed = omega arith; fired = omega arith; superseded = omega arith; stopped = omega arith; pending = omega arith }
 adds-fate c Stopped = record { notes = refl; armed = omega arith; fired = omega arith; superseded = omega arith; stopped = omega arith; pending = omega arith }
 
-abbrev one_if : Bool → ℕ
+abbrev pub one_if : Bool → ℕ
 one_if b = cond b 1 0
 
 adds-armed : (c : Counts) (b : Bool) → Adds c (cond b (record c { armed = c.armed + 1 }) c) [] (one_if b)
@@ -73,7 +73,7 @@ adds-armed c false = adds-none c
 abbrev decided : Bool → Fate → List Fate
 decided b f = cond b (f ∷ []) []
 
-abbrev closing : Spec → State → Entry → List Fate
+abbrev pub closing : Spec → State → Entry → List Fate
 closing spec s e = decided (is_closed (open_arming s) (next spec s e)) (fate_by e.op)
 
 abbrev ending : Option ℕ → List Fate
@@ -99,7 +99,7 @@ accepts e = is_armed e.reply
 same-number : (c d : Counts) (fs : List Fate) (a b : ℕ) → a ≡ b → Adds c d fs a → Adds c d fs b
 same-number c d fs a b is h = subst (Adds c d fs) is h
 
-adds-entry : (spec : Spec) (c : Counts) (s : State) (e : Entry) → Adds c (after_entry spec c s e) (closing spec s e) (one_if (accepts e))
+pub adds-entry : (spec : Spec) (c : Counts) (s : State) (e : Entry) → Adds c (after_entry spec c s e) (closing spec s e) (one_if (accepts e))
 adds-entry spec c s e =
     let b : Bool = is_closed (open_arming s) (next spec s e) in
     let two : Adds c (counted_if b (accepted c e.reply) (fate_by e.op)) ([] ++ decided b (fate_by e.op)) (one_if (accepts e) + 0) =

@@ -24,7 +24,7 @@ abbrev made_of : ℕ → ℕ → ℕ → ℕ → ℕ → ℕ → Counts
 made_of n a f p s q = record { notes = n; armed = a; fired = f; superseded = p; stopped = s; pending = q }
 
 -- counts with the same numbers are the same
-same-counts : (c d : Counts) → c.notes ≡ d.notes → c.armed ≡ d.armed → c.fired ≡ d.fired → c.superseded ≡ d.superseded → c.stopped ≡ d.stopped → c.pending ≡ d.pending → c ≡ d
+pub same-counts : (c d : Counts) → c.notes ≡ d.notes → c.armed ≡ d.armed → c.fired ≡ d.fired → c.superseded ≡ d.superseded → c.stopped ≡ d.stopped → c.pending ≡ d.pending → c ≡ d
 same-counts c d n a f p s q =
     ap (λ x. made_of x c.armed c.fired c.superseded c.stopped c.pending) n
     ∙ ap (λ x. made_of d.notes x c.fired c.superseded c.stopped c.pending) a
@@ -37,7 +37,7 @@ module _ (actors : Actors) (s : Script) (lists : List (List Note)) (i : ℕ) (le
   abbrev H : List Entry
   H = callout_history i lists
 
-  met : (P : Fate → Bool) → with_fate P s lists i ≡ passing P (closings (spec_at s i) (opening 0) H)
+  pub met : (P : Fate → Bool) → with_fate P s lists i ≡ passing P (closings (spec_at s i) (opening 0) H)
   met P = count-passing P (fates_of s lists i) ∙ fates-met actors (spec_at s i) P H legal
 
   -- one callout more

@@ -10,9 +10,11 @@ pub mod laws;
 mod replay;
 mod script;
 mod soak;
+mod tally;
 #[cfg(test)]
 mod tests;
 
 pub use counts::{Counts, print_soak};
 pub use script::gen_script;
 pub use soak::count_fates;
+pub use tally::TallyOf;

@@ -14,7 +14,7 @@ use co_report::{Origin, note_from};
 use co_sbt::{NoMemory, Seq};
 
 /// One more than a count.
-fn more(count: u64) -> Result<u64, NoMemory>
+pub(crate) fn more(count: u64) -> Result<u64, NoMemory>
     ensures { IfOk result (λ more. more ≡ count + 1) }
 {
     count.checked_add(1).ok_or(NoMemory {})
@@ -31,7 +31,7 @@ fn picked_arming(run: &Run) -> Option<u64>
 }
 
 /// The arming that is to fire yet.
-fn open_arming(state: &State) -> Option<u64>
+pub(crate) fn open_arming(state: &State) -> Option<u64>
     ensures { result ≡ open_arming state.now }
 {
     match state.armed {
@@ -120,7 +120,11 @@ fn count_accepted(counts: &mut Counts, reply: &Reply) -> Result<(), NoMemory>
 }
 
 /// Counts what an entry accepts and the fate that it decides, and takes the callout along.
-fn count_entry(counts: &mut Counts, callout: &mut Alone, entry: &Entry) -> Result<(), NoMemory>
+pub(crate) fn count_entry(
+    counts: &mut Counts,
+    callout: &mut Alone,
+    entry: &Entry,
+) -> Result<(), NoMemory>
     ensures state { OnOk result (callout.new.state ≡ next callout.old.spec callout.old.state entry.now) }
     ensures spec { callout.new.spec ≡ callout.old.spec }
     ensures counts { OnOk result (counts.new ≡ after_entry callout.old.spec counts.old callout.old.state entry.now) }

@@ -1,0 +1,153 @@
+//! A notebook that counts: what becomes of the armings of a script's callouts, note by note as they are told.
+ghost use Rattle.std.specs.Prelude.{◌≡◌, ℕ, ◌<◌, ◌++◌, ◌∷◌, [], List, length, map, slice_get, IfOk, OnOk};
+ghost use Rattle.std.specs.List.{range_with_len};
+ghost use Rattle.co_notebook.specs.Made.{Made, IsInOrder, lists_by};
+ghost use Rattle.co_program.specs.declared.script.Script.{Script};
+ghost use Rattle.co_program.specs.Actors.{actor_count};
+ghost use Rattle.co_program.specs.Runs.{actors_of};
+ghost use Rattle.co_gen.specs.Laws.{HaveLegalHistories};
+ghost use Rattle.co_gen.specs.Soak.{counts_of};
+ghost use Rattle.co_gen.specs.Tally.{HasCounted, IsEntryTaken, at_ends, callout_told};
+
+use crate::counts::Counts;
+use crate::replay::{count_entry, more, open_arming};
+use co_notebook::Notebook;
+use co_object::{Alone, AnyEntry, Arming, Entry, Note, Place, Run, State};
+use co_program::Script;
+use co_report::Subject;
+use co_sbt::{NoMemory, Seq};
+use std::alloc::Global;
+use std::marker::PhantomData;
+
+/// Each callout after its entries so far, and the counts of what they decided. No note is kept. Our own decision.
+#[derive(Drop)]
+pub struct Tally {
+    callouts: Vec<Alone>,
+    counts: Counts,
+}
+
+/// Each callout as it is made.
+fn opened(alloc: Global, script: &Script) -> Result<Vec<Alone>, NoMemory>
+    ensures { IfOk result (λ callouts. callouts.items ≡ map (callout_told script.now []) (range_with_len 0 (length script.now.timers))) }
+{
+    let timers = script.timers.as_slice();
+    let mut callouts = Seq::new(alloc);
+    for timer in 0..timers.len() {
+        let _run = Run::Idle;
+        let _armed: Option<Arming> = None;
+        let _state: Option<State> = None;
+        callouts.push(Alone::open(timers[timer], 0))?;
+    }
+    Ok(callouts.into_vec())
+}
+
+/// The counts at the end of all histories: what is to fire yet is pending.
+fn ended(counts: Counts, callouts: &[Alone]) -> Result<Counts, NoMemory>
+    ensures { IfOk result (λ ended. ended ≡ at_ends counts callouts.now) }
+{
+    let mut counts = counts;
+    for callout in callouts {
+        if open_arming(&callout.state).is_some() {
+            counts.pending = more(counts.pending)?;
+        }
+    }
+    Ok(counts)
+}
+
+impl Tally {
+    /// Before the first note.
+    fn new(alloc: Global, script: &Script) -> Result<Tally, NoMemory>
+        ensures { IfOk result (λ tally. HasCounted script.now tally []) }
+    {
+        let callouts = opened(alloc, script)?;
+        let counts = Counts {
+            notes: 0,
+            armed: 0,
+            fired: 0,
+            superseded: 0,
+            stopped: 0,
+            pending: 0,
+        };
+        Ok(Tally { callouts, counts })
+    }
+
+    /// Takes an entry of a callout; one that the script hasn't is not counted.
+    fn take_entry(&mut self, timer: u32, entry: &Entry) -> Result<(), NoMemory>
+        ensures { OnOk result (IsEntryTaken (slice_get self.old.callouts.items timer) self.old timer entry.now self.new) }
+    {
+        let at = timer as usize;
+        if at >= self.callouts.len() {
+            return Ok(());
+        }
+        let callout = &mut self.callouts[at];
+        count_entry(&mut self.counts, callout, entry)
+    }
+
+    /// Takes a note.
+    fn take(&mut self, note: &Note) -> Result<(), NoMemory>
+        ensures { OnOk result ((s : Script) (made : List Made) (actor : ℕ) → actor < actor_count s → HasCounted s self.old made →
+            HasCounted s self.new (made ++ record { actor = actor; note = note.now } ∷ [])) }
+    {
+        self.counts.notes = more(self.counts.notes)?;
+        match note.place {
+            Place::Timer(timer) => match &note.entry {
+                AnyEntry::Timer(entry) => self.take_entry(timer, entry),
+                AnyEntry::Cpu(_) => Ok(()),
+                AnyEntry::Own(_) => Ok(()),
+            },
+            Place::Cpu(_) => Ok(()),
+            Place::Actor(_) => Ok(()),
+        }
+    }
+
+    /// The counts of all notes.
+    fn total(self) -> Result<Counts, NoMemory>
+        ensures { IfOk result (λ counts. (s : Script) (made : List Made) → HasCounted s self made → IsInOrder made →
+            HaveLegalHistories (actors_of s) s (lists_by (actor_count s) made) → counts ≡ counts_of s (lists_by (actor_count s) made)) }
+    {
+        ended(self.counts, self.callouts.as_slice())
+    }
+}
+
+/// The counts of the notes of a type's script, while they are told. Our own decision.
+#[derive(Drop)]
+pub struct TallyOf<S: Subject> {
+    tally: Tally,
+    of: PhantomData<S>,
+}
+
+impl<S: Subject> TallyOf<S> {
+    /// Before the first note. Fails for want of memory alone.
+    pub fn new(alloc: Global, script: &Script) -> Result<TallyOf<S>, NoMemory>
+        requires { script.now ≡ S.script }
+        ensures { IfOk result (λ x. HasCounted S.script x.tally []) }
+    {
+        let tally = Tally::new(alloc, script)?;
+        Ok(TallyOf {
+            tally,
+            of: PhantomData,
+        })
+    }
+
+    /// The counts of the notes that were told, where each place's came in the order of their positions: those that
+    /// `count_fates` gives for their lists. NoMemory where a count is 2^64 or more.
+    pub fn counts(self) -> Result<Counts, NoMemory>
+        ensures { IfOk result (λ counts. (made : List Made) → HasCounted S.script self.tally made → IsInOrder made →
+            HaveLegalHistories (actors_of S.script) S.script (lists_by (actor_count S.script) made) → counts ≡ counts_of S.script (lists_by (actor_count S.script) made)) }
+    {
+        self.tally.total()
+    }
+}
+
+impl<S: Subject> Notebook for TallyOf<S> {
+    ghost use Rattle.co_program.specs.Actors.{actor_count};
+    ghost use Rattle.co_gen.specs.Tally.{HasCounted};
+
+    ghost actors = { λ x. actor_count S.script };
+
+    ghost has = { λ x made. HasCounted S.script x.tally made };
+
+    fn write(&mut self, actor: u32, note: &Note) -> Result<(), NoMemory> {
+        self.tally.take(note)
+    }
+}
