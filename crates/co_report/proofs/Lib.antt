@@ -29,3 +29,4 @@ pub mod ShownFit
 pub mod ReadFit
 mod ReadRows
 mod NoteHeads
+mod LinesEnded

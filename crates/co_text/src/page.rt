@@ -103,6 +103,8 @@ impl Page {
         self.text(digits.as_slice())
     }
 
+    // Apart, so that short numbers, which are the most, need no buffer.
+    #[inline(never)]
     fn many_digits(&mut self, number: u64) -> Result<(), NoMemory>
         ensures { OnOk result (self.new ≡ self.old ++ decimal number) }
     {

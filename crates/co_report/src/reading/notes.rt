@@ -45,6 +45,7 @@ fn journal(names: &Names, parts: &mut Parts) -> Result<(QOp, QReply), Cause>
 }
 
 /// A note's number, and who made it.
+#[inline(always)]
 fn head(names: &Names, parts: &mut Parts) -> Result<(u64, Maker), Cause>
     requires { HasFewActors names.now }
     ensures { Gives (λ x. (x, parts.new)) result (head_form (maker names.now) parts.old) }

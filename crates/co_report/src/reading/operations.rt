@@ -13,6 +13,7 @@ use co_sbt::Sbt;
 use co_text::Cause;
 
 /// `uDUE pr uPREC`.
+#[inline(always)]
 fn due_and_precision(parts: &mut Parts) -> Result<(Sbt, Sbt), Cause>
     ensures { Gives (λ x. (x, parts.new)) result (due_and_precision parts.old) }
 {
@@ -74,6 +75,7 @@ fn drain(parts: &mut Parts) -> Result<Op, Cause>
     Ok(Op::Call(op))
 }
 
+#[inline(always)]
 fn pick(names: &Names, parts: &mut Parts) -> Result<Op, Cause>
     ensures { Gives (λ x. (x, parts.new)) result (pick_form names.now parts.old) }
 {

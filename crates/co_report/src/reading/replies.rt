@@ -67,6 +67,7 @@ fn in_use(parts: &mut Parts) -> Result<Reply, Cause>
     Ok(Reply::InUse { armed, serviced })
 }
 
+#[inline(always)]
 fn go(names: &Names, parts: &mut Parts) -> Result<Reply, Cause>
     ensures { Gives (λ x. (x, parts.new)) result (go_form names.now parts.old) }
 {
@@ -120,6 +121,7 @@ fn woke(parts: &mut Parts) -> Result<bool, Cause>
     truth(parts)
 }
 
+#[inline(always)]
 fn ended(names: &Names, parts: &mut Parts) -> Result<Reply, Cause>
     ensures { Gives (λ x. (x, parts.new)) result (ended_form names.now parts.old) }
 {

@@ -31,8 +31,8 @@ pub fn no_memory(_fault: NoMemory) -> ScriptFault
     ScriptFault::NoMemory
 }
 
-/// `Cut` at the last line where it has no line feed.
-pub fn none_cut(text: &[u8]) -> Result<(), ScriptFault>
+/// The same, line by line.
+fn none_cut_by_line(text: &[u8]) -> Result<(), ScriptFault>
     requires { length text.now ≤ 268435456 }
     ensures { GivesOrNoMemory (λ _. true) result (none_cut 1 (lines_of text.now)) }
 {
@@ -46,6 +46,18 @@ pub fn none_cut(text: &[u8]) -> Result<(), ScriptFault>
         number += 1;
     }
     Ok(())
+}
+
+/// `Cut` at the last line where it has no line feed.
+#[tactic(auto, using(crate::proofs::LinesEnded::none_cut_ended))]
+pub fn none_cut(text: &[u8]) -> Result<(), ScriptFault>
+    requires { length text.now ≤ 268435456 }
+    ensures { GivesOrNoMemory (λ _. true) result (none_cut 1 (lines_of text.now)) }
+{
+    match text.split_last() {
+        Some((last, _)) if *last == b'\n' => Ok(()),
+        _ => none_cut_by_line(text),
+    }
 }
 
 /// The text behind the first line, which is `callout-report 1`.

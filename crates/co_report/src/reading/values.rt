@@ -25,6 +25,7 @@ fn is_shortest(word: &[u8]) -> bool
 }
 
 /// A number below a bound.
+#[inline(always)]
 fn below(bound: u128, word: &[u8]) -> Result<u128, Cause>
     ensures bounded { IfOk result (λ n. n < bound) }
     ensures value { Gives (λ n. n) result (below bound word.now) }
@@ -51,6 +52,7 @@ fn behind(letter: u8, word: &[u8]) -> Result<&[u8], Cause>
 }
 
 /// A letter and a number below a bound.
+#[inline(always)]
 fn lettered(letter: u8, bound: u128, word: &[u8]) -> Result<u128, Cause>
     ensures bounded { IfOk result (λ n. n < bound) }
     ensures value { Gives (λ n. n) result (lettered letter bound word.now) }
@@ -59,6 +61,7 @@ fn lettered(letter: u8, bound: u128, word: &[u8]) -> Result<u128, Cause>
 }
 
 /// A letter and a number of 64 bits.
+#[inline(always)]
 fn lettered64(letter: u8, word: &[u8]) -> Result<u64, Cause>
     ensures { Gives (λ n. n) result (lettered letter (2 ^ 64) word.now) }
 {
@@ -66,12 +69,14 @@ fn lettered64(letter: u8, word: &[u8]) -> Result<u64, Cause>
 }
 
 /// A letter and a number below a bound of 32 bits.
+#[inline(always)]
 fn lettered32(letter: u8, bound: u32, word: &[u8]) -> Result<u32, Cause>
     ensures { Gives (λ n. n) result (lettered letter bound word.now) }
 {
     Ok(lettered(letter, u128::from(bound), word)? as u32)
 }
 
+#[inline(always)]
 fn count64(word: &[u8]) -> Result<u64, Cause>
     ensures { Gives (λ n. n) result (count64 word.now) }
 {
@@ -84,6 +89,7 @@ fn count32(word: &[u8]) -> Result<u32, Cause>
     Ok(below(0x1_0000_0000, word)? as u32)
 }
 
+#[inline(always)]
 fn time_in_units(word: &[u8]) -> Result<Sbt, Cause>
     ensures { Gives (λ t. t) result (time_in_units word.now) }
 {
@@ -148,6 +154,7 @@ fn code_of(word: &[u8]) -> Result<i32, Cause>
 }
 
 /// A number below a bound of 32 bits.
+#[inline(always)]
 fn index(bound: u32, word: &[u8]) -> Result<u32, Cause>
     ensures bounded { IfOk result (λ n. n < bound) }
     ensures value { Gives (λ n. n) result (below bound word.now) }
@@ -185,6 +192,7 @@ fn name_length(word: &[u8]) -> usize
     word.iter().take_while(|c| **c != b'/').count()
 }
 
+#[inline(always)]
 fn maker_of(names: &Names, word: &[u8]) -> Result<Maker, Cause>
     requires { HasFewActors names.now }
     ensures { Gives (λ m. m) result (maker names.now word.now) }
@@ -224,6 +232,7 @@ fn own_kind_of(word: &[u8]) -> Result<OwnKind, Cause>
 }
 
 /// A number of 64 bits.
+#[inline(always)]
 pub fn number64(parts: &mut Parts) -> Result<u64, Cause>
     ensures { Gives (λ x. (x, parts.new)) result (next count64 parts.old) }
 {
@@ -308,6 +317,7 @@ pub fn code(parts: &mut Parts) -> Result<i32, Cause>
 }
 
 /// `A/M`.
+#[inline(always)]
 pub fn made_by(names: &Names, parts: &mut Parts) -> Result<Maker, Cause>
     requires { HasFewActors names.now }
     ensures { Gives (λ x. (x, parts.new)) result (next (maker names.now) parts.old) }

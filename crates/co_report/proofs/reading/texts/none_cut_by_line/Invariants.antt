@@ -1,7 +1,7 @@
 use Rattle.std.proofs.Common.{◌≡◌, ◌+◌, ◌≤◌, length}
 use Rattle.co_text.specs.Lines.{lines_of}
 use Rattle.co_report.specs.Reading.{none_cut}
-use Rattle.co_report.proofs.reading.texts.none_cut.Given as goal
+use Rattle.co_report.proofs.reading.texts.none_cut_by_line.Given as goal
 
 abbrev pub decreases-loop-ended : goal.decreases-loop-ended
 decreases-loop-ended l = length l.rest
