@@ -83,9 +83,8 @@ impl Depot {
         ensures { (after : Cpu) × (leaves : Option Travelling) × IsCalled (wheel_at self.old cpu) i op.now result.reply result.removed result.listed result.inserted leaves after × (self.new ≡ with_bag (with_wheel self.old cpu after) actor leaves) }
     {
         let wheel = &mut self.wheels[cpu as usize];
-        let (called, leaves) = call(wheel, i, op);
-        self.bags[actor as usize] = leaves;
-        called
+        let bag = &mut self.bags[actor as usize];
+        call(wheel, i, op, bag)
     }
 
     /// The lock of the callout that this CPU services is held.
@@ -162,18 +161,24 @@ fn scan(wheel: &mut Wheel<WheelQueue>, now: Sbt) -> u32
     wheel.scan(now, &mut looks)
 }
 
-fn call(wheel: &mut Wheel<WheelQueue>, i: u32, op: &CallOp) -> (Called, Option<Parcel>)
+fn call(
+    wheel: &mut Wheel<WheelQueue>,
+    i: u32,
+    op: &CallOp,
+    bag: &mut Option<Parcel>,
+) -> Called
     requires { is_here wheel.old.callouts i ≡ true }
-    ensures { IsCalled wheel.old i op.now result.0.reply result.0.removed result.0.listed result.0.inserted result.1 wheel.new }
+    ensures { IsCalled wheel.old i op.now result.reply result.removed result.listed result.inserted bag.new wheel.new }
 {
     let out = wheel.call(i, op);
-    let called = Called {
+    let listed = out.inserted.is_some() || out.leaves.is_some();
+    *bag = out.leaves;
+    Called {
         reply: out.reply,
         removed: out.removed,
-        listed: out.inserted.is_some() || out.leaves.is_some(),
+        listed,
         inserted: out.inserted,
-    };
-    (called, out.leaves)
+    }
 }
 
 fn end(wheel: &mut Wheel<WheelQueue>, direct: bool) -> EndOut

@@ -6,7 +6,7 @@ use crate::choice::{Choice, Kind, choice_of, time};
 use crate::draws::Draws;
 use co_object::LockUse;
 use co_program::{Act, Acts, When, Where, Who};
-use co_sbt::{NoMemory, Sbt, Seq};
+use co_sbt::{NoMemory, Room, Sbt, Seq};
 use std::alloc::Global;
 
 /// The lock of a callout: of four the first has none, the others a mutex, a reader-writer lock and a mutex.
@@ -124,12 +124,21 @@ fn push_group(acts: &mut Acts, number: u32, choice: &Choice) -> Result<(), NoMem
     push_under(acts, lock_of(choice), call_of(choice))
 }
 
+/// No acts yet, with memory for so many.
+fn acts_for(alloc: Global, count: usize) -> Result<Acts, NoMemory>
+    ensures { IfOk result (λ acts. acts ≡ []) }
+{
+    let mut room = Room::from_seq(Seq::new(alloc));
+    room.reserve(count)?;
+    Ok(room.into_seq())
+}
+
 /// The acts of a client: 1024 groups, and a draw for each.
 pub fn client_acts(alloc: Global, draws: &mut Draws) -> Result<Acts, NoMemory>
     ensures acts { IfOk result (λ acts. acts ≡ client_acts draws.old) }
     ensures draws { OnOk result (draws.new ≡ state_after draws.old 1024) }
 {
-    let mut acts = Seq::new(alloc);
+    let mut acts = acts_for(alloc, 4096)?;
     for number in 0..1024 {
         let choice = choice_of(draws.draw());
         push_group(&mut acts, number, &choice)?;
@@ -141,7 +150,7 @@ pub fn client_acts(alloc: Global, draws: &mut Draws) -> Result<Acts, NoMemory>
 pub fn tick_acts(alloc: Global) -> Result<Acts, NoMemory>
     ensures { IfOk result (λ acts. acts ≡ tick_acts) }
 {
-    let mut acts = Seq::new(alloc);
+    let mut acts = acts_for(alloc, 1280)?;
     for number in 0..1280_u64 {
         push_act(&mut acts, Act::Tick(time((number + 1) * 67_108_864)))?;
     }

@@ -13,6 +13,7 @@ use Rattle.co_program.specs.declared.program.Task.TheVariants.{Does, Soft}
 use Rattle.co_program.specs.declared.role.Role.{Role}
 use Rattle.co_program.specs.declared.role.Role.TheVariants.{Client, Cpu, Interrupt}
 use Rattle.co_program.specs.Actors.{acts_at, program_of, softs}
+use Rattle.co_program.specs.Action.{scans_of}
 use Rattle.co_program.specs.Advance.{tail_of}
 use Rattle.co_program.specs.Indexed.{acts_of, is_soft, past}
 use Rattle.co_program.specs.Scripts.{IsScript}
@@ -133,6 +134,16 @@ soft_left s role n e low =
 pub act_left : (s : Script) (role : Role) (n : ℕ) (act : Act) → is_soft s role ≡ false → slice_get (acts_of s role) n ≡ Some act → slice_get (drop n (program_of s role)) 0 ≡ Some (Does act)
 act_left s role n act e is =
     ap (λ (tasks : List Task). slice_get (drop n tasks) 0) (program-does s role e) ∙ (sym (first_does (acts_of s role) n) ∙ ap (option_map Does) is)
+
+no_scans : (acts : List Act) (n : ℕ) → scans_of (drop n (map Does acts)) ≡ 0
+no_scans [] zero = refl
+no_scans [] (suc n) = refl
+no_scans (act ∷ acts) zero = refl
+no_scans (act ∷ acts) (suc n) = no_scans acts n
+
+-- and other acts wait for no Scan
+pub hard_scans : (s : Script) (role : Role) (n : ℕ) → is_soft s role ≡ false → scans_of (drop n (program_of s role)) ≡ 0
+hard_scans s role n e = ap (λ (tasks : List Task). scans_of (drop n tasks)) (program-does s role e) ∙ no_scans (acts_of s role) n
 
 -- a soft act's number is below the number of ticks
 

@@ -4,7 +4,7 @@ ghost use Rattle.co_lock.specs.Service.{hold_of};
 ghost use Rattle.co_program.specs.declared.script.Script.{Script};
 ghost use Rattle.co_program.specs.declared.role.Role.{Role};
 ghost use Rattle.co_program.specs.Actors.{actor_count, program_of};
-ghost use Rattle.co_program.specs.Action.{Silent, Asks, action_for, action_in, asks_call, asks_drain, asks_within, begins, draining, drained_of, firing, free_of, locks, over, pop_of, scans_first, scans_of, spec_at, takes};
+ghost use Rattle.co_program.specs.Action.{Silent, Asks, action_for, action_in, action_with, asks_call, asks_drain, asks_within, begins, draining, drained_of, firing, free_of, locks, over, pop_of, scans_first, scans_of, spec_at, takes};
 ghost use Rattle.co_program.specs.Advance.{tail_of};
 ghost use Rattle.co_program.specs.Existing.{ActionExists, IsIn};
 ghost use Rattle.co_program.specs.Indexed.{ActionCounts, action_as, action_of, acts_left, cursor_as, cursor_of, stage_of};
@@ -65,6 +65,21 @@ pub fn action_for(script: &Script, actor: u32, cursor: &Cursor) -> Action
     ensures existing { let s = script.now in
         actor < actor_count s → IsIn s (cursor_of s actor cursor.now) → ActionExists s (action_of s actor cursor.now result) }
 {
+    let mut next = Action::Nothing;
+    action_with(script, role_of(script, actor), cursor, &mut next);
+    next
+}
+
+// The action is put where the caller wants it, since each return of so large a value would be a copy.
+
+/// The next step: a callout that is on its way comes first.
+fn action_with(script: &Script, role: Role, cursor: &Cursor, next: &mut Action)
+    requires script { IsScript script.now }
+    requires room { cursor.now.act < 2 ^ 64 - 1 }
+    ensures action { let s = script.now in let c = cursor_as s role cursor.now in
+        action_as s role cursor.now next.new ≡ action_with s role c c.parcel }
+    ensures counted { ActionCounts cursor.now next.new }
+{
     match cursor.parcel {
         Some(parcel) => {
             let op = QOp::Insert {
@@ -72,9 +87,9 @@ pub fn action_for(script: &Script, actor: u32, cursor: &Cursor) -> Action
                 n: parcel.n,
                 t: parcel.due,
             };
-            asks_queue(parcel.act, parcel.cpu, op)
+            *next = asks_queue(parcel.act, parcel.cpu, op);
         }
-        None => action_in(script, role_of(script, actor), cursor),
+        None => action_in(script, role, cursor, next),
     }
 }
 
@@ -95,6 +110,9 @@ fn scans_of(script: &Script, role: Role, over: u32) -> u32
     requires { IsScript script.now }
     ensures { result ≡ scans_of (drop over (program_of script.now role)) }
 {
+    if !is_soft(script, role) {
+        return 0;
+    }
     match task_after(script, role, over) {
         Some(Task::Soft(j)) => j + 1,
         _ => 0,
@@ -104,93 +122,95 @@ fn scans_of(script: &Script, role: Role, over: u32) -> u32
 // ---- acts
 
 /// The next step of the act under way.
-fn action_in(script: &Script, role: Role, cursor: &Cursor) -> Action
+fn action_in(script: &Script, role: Role, cursor: &Cursor, next: &mut Action)
     requires script { IsScript script.now }
     requires room { cursor.now.act < 2 ^ 64 - 1 }
     ensures action { let s = script.now in let c = cursor_as s role cursor.now in
-        action_as s role cursor.now result ≡ action_in s role c c.stage }
-    ensures counted { ActionCounts cursor.now result }
+        action_as s role cursor.now next.new ≡ action_in s role c c.stage }
+    ensures counted { ActionCounts cursor.now next.new }
 {
     let cpu = cpu_of(script, role);
     match &cursor.stage {
-        Stage::Ready => begins(script, role, cursor),
+        Stage::Ready => begins(script, role, cursor, next),
         Stage::Waiting { took, .. } => {
-            asks_drain(cursor, drained_of(script, role, cursor.task), *took)
+            *next = asks_drain(cursor, drained_of(script, role, cursor.task), *took);
         }
-        Stage::Popping { act } => asks_queue(*act, cpu, pop_of(role)),
-        Stage::Picking(v) => asks_run(
-            v,
-            RunOp::Pick {
+        Stage::Popping { act } => *next = asks_queue(*act, cpu, pop_of(role)),
+        Stage::Picking(v) => {
+            let pick = RunOp::Pick {
                 n: v.n,
                 cpu,
                 at: v.at,
-            },
-        ),
-        Stage::Locking(v) => locks(script, cursor, v),
-        Stage::Beginning(v) => asks_run(v, RunOp::Begin { n: v.n, cpu }),
-        Stage::Unlocking(_, _) => Action::Silent(Move::Within { hold: None }),
-        Stage::Firing(v, left) => asks_within(script, cpu, cursor, v, *left),
-        Stage::Releasing(_) => Action::Silent(Move::Within { hold: None }),
-        Stage::Ending(v) => asks_run(v, RunOp::End { n: v.n, cpu }),
-        Stage::Freeing { service, .. } => asks_queue(service.act, cpu, free_of(role)),
-        Stage::Drained(v, left) => asks_within(script, cpu, cursor, v, *left),
+            };
+            *next = asks_run(v, pick);
+        }
+        Stage::Locking(v) => *next = locks(script, cursor, v),
+        Stage::Beginning(v) => *next = asks_run(v, RunOp::Begin { n: v.n, cpu }),
+        Stage::Unlocking(_, _) => *next = Action::Silent(Move::Within { hold: None }),
+        Stage::Firing(v, left) => asks_within(script, cpu, cursor, v, *left, next),
+        Stage::Releasing(_) => *next = Action::Silent(Move::Within { hold: None }),
+        Stage::Ending(v) => *next = asks_run(v, RunOp::End { n: v.n, cpu }),
+        Stage::Freeing { service, .. } => *next = asks_queue(service.act, cpu, free_of(role)),
+        Stage::Drained(v, left) => asks_within(script, cpu, cursor, v, *left, next),
     }
 }
 
 /// How the next act begins; after the last one a lock that is still held is released.
-fn begins(script: &Script, role: Role, cursor: &Cursor) -> Action
+fn begins(script: &Script, role: Role, cursor: &Cursor, next: &mut Action)
     requires script { IsScript script.now }
     requires room { cursor.now.act < 2 ^ 64 - 1 }
     ensures action { let s = script.now in let c = cursor_as s role cursor.now in
-        action_as s role cursor.now result ≡ begins s role c c.left }
-    ensures counted { ActionCounts cursor.now result }
+        action_as s role cursor.now next.new ≡ begins s role c c.left }
+    ensures counted { ActionCounts cursor.now next.new }
 {
     let acts = acts_of(script, role);
     let index = cursor.task as usize;
     if index >= acts.len() {
-        ends(cursor)
+        *next = ends(cursor);
     } else if is_soft(script, role) {
-        asks_queue(cursor.act, cpu_of(script, role), pop_of(role))
+        *next = asks_queue(cursor.act, cpu_of(script, role), pop_of(role));
     } else {
-        does(script, role, cursor, &acts[index])
+        does(script, role, cursor, &acts[index], next);
     }
 }
 
 /// How an act of the script begins.
-fn does(script: &Script, role: Role, cursor: &Cursor, act: &Act) -> Action
+fn does(script: &Script, role: Role, cursor: &Cursor, act: &Act, next: &mut Action)
     requires script { IsScript script.now }
     requires next { slice_get (drop cursor.now.task (program_of script.now role)) 0 ≡ Some (Task.Does act.now) }
     requires room { cursor.now.act < 2 ^ 64 - 1 }
     ensures action { let s = script.now in let c = cursor_as s role cursor.now in
-        action_as s role cursor.now result ≡ begins s role c c.left }
-    ensures counted { ActionCounts cursor.now result }
+        action_as s role cursor.now next.new ≡ begins s role c c.left }
+    ensures counted { ActionCounts cursor.now next.new }
 {
     match *act {
-        Act::Now(time) => tells(cursor, time),
-        Act::Lock(id) => takes(
+        Act::Now(time) => *next = tells(cursor, time),
+        Act::Lock(id) => *next = takes(
             cursor,
             Held {
                 id,
                 exclusive: true,
             },
         ),
-        Act::ReadLock(id) => takes(
+        Act::ReadLock(id) => *next = takes(
             cursor,
             Held {
                 id,
                 exclusive: false,
             },
         ),
-        Act::Unlock => unlocks(cursor),
-        Act::Drain(i) => asks_drain(cursor, i, false),
-        Act::Tick(now) => asks_queue(cursor.act, cpu_of(script, role), QOp::Scan { now }),
+        Act::Unlock => *next = unlocks(cursor),
+        Act::Drain(i) => *next = asks_drain(cursor, i, false),
+        Act::Tick(now) => {
+            *next = asks_queue(cursor.act, cpu_of(script, role), QOp::Scan { now });
+        }
         _ => {
             let scene = Scene {
                 time: cursor.time,
                 here: cpu_of(script, role),
                 me: 0,
             };
-            asks_call(script, cursor, act, &scene)
+            asks_call(script, cursor, act, &scene, next);
         }
     }
 }
@@ -285,40 +305,47 @@ fn ends(cursor: &Cursor) -> Action
 // ---- calls
 
 /// What a function's act asks, about its service.
-fn asks_within(script: &Script, cpu: u32, cursor: &Cursor, v: &Service, left: ActsLeft) -> Action
+fn asks_within(
+    script: &Script,
+    cpu: u32,
+    cursor: &Cursor,
+    v: &Service,
+    left: ActsLeft,
+    next: &mut Action,
+)
     requires { IsScript script.now }
     ensures action { (role : Role) → let s = script.now in
-        action_as s role cursor.now result ≡ asks_within s cpu (cursor_as s role cursor.now) v.now (acts_left s left) }
-    ensures counted { ActionCounts cursor.now result }
+        action_as s role cursor.now next.new ≡ asks_within s cpu (cursor_as s role cursor.now) v.now (acts_left s left) }
+    ensures counted { ActionCounts cursor.now next.new }
 {
     match next_of(script, left) {
-        None => Action::Nothing,
+        None => *next = Action::Nothing,
         Some(act) => {
             let scene = Scene {
                 time: v.at,
                 here: cpu,
                 me: v.i,
             };
-            asks_call(script, cursor, &act, &scene)
+            asks_call(script, cursor, &act, &scene, next);
         }
     }
 }
 
 /// What an act asks that is a call. A call that the hold doesn't cover comes to no callout.
-fn asks_call(script: &Script, cursor: &Cursor, act: &Act, scene: &Scene) -> Action
+fn asks_call(script: &Script, cursor: &Cursor, act: &Act, scene: &Scene, next: &mut Action)
     requires { IsScript script.now }
     ensures action { (role : Role) → let s = script.now in
-        action_as s role cursor.now result ≡ asks_call s (cursor_as s role cursor.now) act.now scene.now }
-    ensures counted { ActionCounts cursor.now result }
+        action_as s role cursor.now next.new ≡ asks_call s (cursor_as s role cursor.now) act.now scene.now }
+    ensures counted { ActionCounts cursor.now next.new }
 {
     match call_of(act, script.hz, scene) {
-        None => Action::Nothing,
+        None => *next = Action::Nothing,
         Some((i, op)) => {
             let op = CallOp::Plain(op);
             if covers(cursor.hold, &spec_at(script, i), &op) {
-                asks_callout(cursor.act, i, Op::Call(op))
+                *next = asks_callout(cursor.act, i, Op::Call(op));
             } else {
-                asks_itself(cursor.act, OwnKind::NotHeld)
+                *next = asks_itself(cursor.act, OwnKind::NotHeld);
             }
         }
     }

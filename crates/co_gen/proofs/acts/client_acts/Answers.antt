@@ -6,7 +6,7 @@ use Rattle.co_gen.proofs.Ranges.{parts-more}
 use Rattle.co_gen.proofs.acts.client_acts.Goals as goal
 
 pub loop-number-init : goal.loop-number-init
-loop-number-init c = record { draws = sym (no-draws c.args.draws.now); acts = c.new-acts.ensures }
+loop-number-init c = record { draws = sym (no-draws c.args.draws.now); acts = c.in_ok-acts.ensures }
 
 pub loop-number-preserved : goal.loop-number-preserved
 loop-number-preserved c =
