@@ -151,14 +151,14 @@ impl Books {
     }
 
     /// The actor makes a note, and goes on in its program. `listed` is whether the callout stands in a queue now.
-    fn write(&mut self, script: &Script, hand: &mut Hand, listed: bool, note: Note)
+    fn write(&mut self, script: &Script, hand: &mut Hand, listed: bool, note: &Note)
         requires script { IsScript script.now }
         requires actor { hand.old.actor < length self.old.places }
         requires list { hand.old.actor < length self.old.lists }
         requires counted { IsCounted (place_at self.old hand.old.actor) self.old.made }
         requires few { self.old.made < 2 ^ 63 + 3 }
         requires room { 0 < hand.old.notes.spare }
-        ensures noted { IsNoted script.now hand.old.actor listed note (with_list self.old hand.old.actor hand.old.notes.items) (with_list self.new hand.old.actor hand.new.notes.items) }
+        ensures noted { IsNoted script.now hand.old.actor listed note.now (with_list self.old hand.old.actor hand.old.notes.items) (with_list self.new hand.old.actor hand.new.notes.items) }
         ensures actor { hand.new.actor ≡ hand.old.actor }
         ensures told { self.new.told ≡ self.old.told }
         ensures spare { hand.old.notes.spare ≤ hand.new.notes.spare + 1 }
@@ -210,7 +210,7 @@ impl Books {
                 reply,
             }),
         };
-        self.write(script, hand, listed, note);
+        self.write(script, hand, listed, &note);
     }
 
     /// An entry in a CPU's journal.
@@ -250,7 +250,7 @@ impl Books {
                 reply,
             }),
         };
-        self.write(script, hand, false, note);
+        self.write(script, hand, false, &note);
     }
 
     /// Where a call takes an arming out of its queue, the Remove before its entry. The answer is how many notes that are.
@@ -365,7 +365,7 @@ impl Books {
             pos,
             entry: AnyEntry::Own(entry),
         };
-        self.write(script, hand, false, note);
+        self.write(script, hand, false, &note);
     }
 }
 
@@ -381,10 +381,10 @@ fn one_scan(op: &QOp) -> u64
 
 impl Hand {
     /// Appends a note, into the room.
-    fn push(&mut self, note: Note)
+    fn push(&mut self, note: &Note)
         requires { 0 < self.old.notes.spare }
         ensures actor { self.new.actor ≡ self.old.actor }
-        ensures items { self.new.notes.items ≡ self.old.notes.items ++ note ∷ [] }
+        ensures items { self.new.notes.items ≡ self.old.notes.items ++ note.now ∷ [] }
         ensures spare { self.old.notes.spare ≤ self.new.notes.spare + 1 }
     {
         // The checker wants each enum inside a note that holds a time to be named where a note is passed on.
@@ -392,6 +392,6 @@ impl Hand {
         let _run = Op::Run(RunOp::Begin { n: 0, cpu: 0 });
         let _parts: (Option<Entry>, Option<QEntry>, Option<AnyEntry>) = (None, None, None);
         let _answers = (Reply::Busy, QOp::Pop, QReply::Empty);
-        self.notes.push(note);
+        self.notes.push(*note);
     }
 }

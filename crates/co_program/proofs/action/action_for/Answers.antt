@@ -1,5 +1,4 @@
 use Rattle.std.proofs.Common.{◌≡◌, sym, subst}
-use Rattle.co_program.specs.Actors.{role_of}
 use Rattle.co_program.specs.Action.{action_with}
 use Rattle.co_program.specs.Existing.{ActionExists}
 use Rattle.co_program.specs.Indexed.{action_as, cursor_as, cursor_of}

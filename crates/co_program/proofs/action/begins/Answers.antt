@@ -6,10 +6,9 @@ use Rattle.co_program.proofs.Remaining.{none_left, soft_left, act_left}
 use Rattle.co_program.specs.declared.act.Act.{Act}
 use Rattle.co_program.specs.declared.action.Action.{Action as ActionAt}
 use Rattle.co_program.specs.declared.action.Asked.TheVariants.{Queue}
-use Rattle.co_program.specs.declared.program.Task.{Task}
 use Rattle.co_program.specs.declared.program.Task.TheVariants.{Soft}
 use Rattle.co_program.specs.Actors.{program_of, cpu_of}
-use Rattle.co_program.specs.Action.{Asks, begins, pop_of}
+use Rattle.co_program.specs.Action.{Asks, begins}
 use Rattle.co_program.specs.Advance.{tail_of}
 use Rattle.co_program.specs.Indexed.{action_as, acts_of, cursor_as, is_soft}
 use Rattle.co_program.proofs.action.begins.Goals as goal

@@ -18,9 +18,9 @@ returns-clause-noted c =
     let there : a < length x.places = subst (λ (y : Written). a < length y.places) (sym c.self.view_is) c.requires.actor in
     let from : c.index_mut-place.result.now ≡ place_at x a = get_or_read c.self.inside.places.items a c.index_mut-place.result.now there c.index_mut-place.ensures.value first_place in
     let within : a < length x.lists = subst (λ (y : Written). a < length y.lists) (sym c.self.view_is) c.requires.list in
-    subst (λ (y : Written). IsNoted c.args.script.now a c.args.listed c.args.note (with_list y a c.args.hand.now.notes.items) (with_list (went x a c.advance.new.cursor) a c.push.new.self.notes.items)) c.self.view_is
-    (noted_by c.args.script.now a c.args.listed c.args.note x c.args.hand.now.notes.items c.push.new.self.notes.items c.advance.new.cursor within
-    (subst (λ (p : CursorAt). cursor_of c.args.script.now a c.advance.new.cursor ≡ advance c.args.script.now (cursor_of c.args.script.now a p) c.args.listed c.args.note.place c.args.note.entry) from (c.advance.ensures.cursor a))
+    subst (λ (y : Written). IsNoted c.args.script.now a c.args.listed c.args.note.now (with_list y a c.args.hand.now.notes.items) (with_list (went x a c.advance.new.cursor) a c.push.new.self.notes.items)) c.self.view_is
+    (noted_by c.args.script.now a c.args.listed c.args.note.now x c.args.hand.now.notes.items c.push.new.self.notes.items c.advance.new.cursor within
+    (subst (λ (p : CursorAt). cursor_of c.args.script.now a c.advance.new.cursor ≡ advance c.args.script.now (cursor_of c.args.script.now a p) c.args.listed c.args.note.now.place c.args.note.now.entry) from (c.advance.ensures.cursor a))
     (subst (λ (p : CursorAt). Counts p c.advance.new.cursor 1) from c.advance.ensures.counted) c.push.ensures.items)
 
 pub rehold-requires-clause-shared : goal.rehold-requires-clause-shared
