@@ -25,6 +25,8 @@ pub mod ServiceSection
 pub mod EndSection
 pub mod MetDesk
 pub mod WholeCall
+pub mod Lasting
+pub mod Lasts
 pub mod LandSection
 pub mod Signing
 pub mod Joined
