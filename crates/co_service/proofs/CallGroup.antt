@@ -17,11 +17,11 @@ use Rattle.co_object.specs.Group.{Placed, off_of, group}
 use Rattle.co_object.specs.Stand.{Stand, Nowhere, Listed, Deferred, stand_of, listed_cpu, is_free_at, off}
 use Rattle.co_service.specs.Call.{removal_notes}
 
-abbrev entry_of : (actor act : ℕ) → Op → Reply → Entry
+abbrev pub entry_of : (actor act : ℕ) → Op → Reply → Entry
 entry_of actor act op r = record { actor = actor; act = act; op = op; reply = r }
 
 module _ (i actor act : ℕ) (op : Op) (t : State) (time : ℕ) where
-  abbrev head : Reply → List Placed
+  abbrev pub head : Reply → List Placed
   head r = removal_notes i (entry_of actor act op r) (off_of r) ++ ((at.Timer i, of.Timer (entry_of actor act op r)) ∷ [])
 
   stops : (r : Reply) (o : Option ℕ) → removal_notes i (entry_of actor act op r) o ++ ((at.Timer i, of.Timer (entry_of actor act op r)) ∷ []) ++ [] ≡ removal_notes i (entry_of actor act op r) o ++ ((at.Timer i, of.Timer (entry_of actor act op r)) ∷ [])
@@ -57,7 +57,7 @@ module _ (i actor act : ℕ) (op : Op) (t : State) (time : ℕ) where
   put_notes m None = []
   put_notes m (Some cpu) = (at.Cpu cpu, of.Cpu (record { actor = actor; act = act; op = Insert i m.n m.due; reply = At time })) ∷ []
 
-  abbrev listed_notes : Arming → Stand → List Placed
+  abbrev pub listed_notes : Arming → Stand → List Placed
   listed_notes m Nowhere = []
   listed_notes m (Deferred cpu) = []
   listed_notes m (Listed cpu) = (at.Cpu cpu, of.Cpu (record { actor = actor; act = act; op = Insert i m.n m.due; reply = At time })) ∷ []
@@ -73,7 +73,7 @@ module _ (i actor act : ℕ) (op : Op) (t : State) (time : ℕ) where
   at_free code n cpu None m false is = rw is
   at_free code n cpu (Some x) m false is = rw is
 
-  group_listed : (code : ℤ) (n cpu : ℕ) (o : Option ℕ) (m : Arming) → group i (entry_of actor act op (Armed code n cpu o)) (record t { armed = Some m }) time ≡ head (Armed code n cpu o) ++ listed_notes m (stand_of (Some m) t.run)
+  pub group_listed : (code : ℤ) (n cpu : ℕ) (o : Option ℕ) (m : Arming) → group i (entry_of actor act op (Armed code n cpu o)) (record t { armed = Some m }) time ≡ head (Armed code n cpu o) ++ listed_notes m (stand_of (Some m) t.run)
   group_listed code n cpu o m = at_free code n cpu o m (is_free_at t.run m.cpu) refl
 
   -- a call that arms puts in what is then listed

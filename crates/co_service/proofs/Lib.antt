@@ -25,6 +25,9 @@ pub mod ServiceSection
 pub mod EndSection
 pub mod MetDesk
 pub mod WholeCall
+pub mod Lasting
+pub mod Lasts
+pub mod Stages
 pub mod LandSection
 pub mod Signing
 pub mod Joined

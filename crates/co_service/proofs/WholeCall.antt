@@ -22,18 +22,12 @@ use Rattle.co_wheel.specs.Turns.{free_of}
 use Rattle.co_service.specs.Params.{spec_at}
 use Rattle.co_service.specs.Call.{IsAnswer, IsCalled, Target, call_entry, landing}
 use Rattle.co_service.specs.Outcomes.{turn}
-use Rattle.co_service.specs.Services.{IsEnded, IsEndedBut, IsLanded, run_entry}
+use Rattle.co_service.specs.Services.{AreSame, IsEnded, IsEndedBut, IsLanded, run_entry}
 use Rattle.co_service.specs.Views.{PassesView, seen_of}
 use Rattle.co_service.specs.Writes.{WritesAt, Writes}
 use Rattle.co_service.proofs.Noting.{writes-append}
 
--- an actor's passes keep whose they are, and of which service
-pub record Keeps (p q : PassesView) : Type 0 where
-  pub name : q.name ≡ p.name
-  pub params : q.params ≡ p.params
-  pub actor : q.actor ≡ p.actor
-
-keeps_at : (p q : PassesView) (place : Place) (entry : AnyEntry) (pos : ℕ) → WritesAt p place entry pos q → Keeps p q
+keeps_at : (p q : PassesView) (place : Place) (entry : AnyEntry) (pos : ℕ) → WritesAt p place entry pos q → AreSame p q
 keeps_at p q (Timer i) (of.Timer e) pos w = record { name = ap (λ (v : PassesView). v.name) w.1.passes; params = ap (λ (v : PassesView). v.params) w.1.passes; actor = ap (λ (v : PassesView). v.actor) w.1.passes }
 keeps_at p q (Timer i) (of.Cpu e) pos w = absurd w
 keeps_at p q (Timer i) (of.Own e) pos w = absurd w
@@ -42,7 +36,7 @@ keeps_at p q (Cpu cpu) (of.Cpu e) pos w = record { name = ap (λ (v : PassesView
 keeps_at p q (Cpu cpu) (of.Own e) pos w = absurd w
 keeps_at p q (Actor a) entry pos w = absurd w
 
-pub writes_keep : (p q : PassesView) (notes : List Note) → Writes p notes q → Keeps p q
+pub writes_keep : (p q : PassesView) (notes : List Note) → Writes p notes q → AreSame p q
 writes_keep p q [] w = record { name = ap (λ (v : PassesView). v.name) w; params = ap (λ (v : PassesView). v.params) w; actor = ap (λ (v : PassesView). v.actor) w }
 writes_keep p q (n ∷ ns) w =
     let first = keeps_at p w.0 n.place n.entry n.pos w.1 in

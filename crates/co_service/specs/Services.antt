@@ -30,21 +30,40 @@ use Rattle.co_service.specs.Desk.{scans_in}
 use Rattle.co_service.specs.May.{MayHappen}
 use Rattle.co_service.specs.Outcomes.{turn, IsTurn}
 use Rattle.co_service.specs.Params.{actors_of}
-use Rattle.co_service.specs.Serving.{Service, lane_actor, served_in, service_in}
+use Rattle.co_service.specs.Serving.{Service, lane_actor, picked, served_in, service_in}
 use Rattle.co_service.specs.Stories.{by, queue_by}
 use Rattle.co_service.specs.Views.{PassesView, journal_seen, seen_of}
 use Rattle.co_service.specs.Writes.{Writes}
 
+-- what the caller has in service on a CPU, or as its interrupt where `direct`, by its own entries
+abbrev pub service_of : Bool → PassesView → ℕ → Option Due
+service_of direct p cpu = served_in direct (own queue_by p.actor (journal_seen p cpu))
+
+-- how far its service of callout i is
+abbrev pub far_of : PassesView → ℕ → Service
+far_of p i = service_in (own by p.actor (seen_of p i))
+
 -- the caller serves this lane of the CPU, and has nothing in service
 pub record IsFree (direct : Bool) (p : PassesView) (cpu : ℕ) : Type 0 where
   pub actor : p.actor ≡ lane_actor direct (actors_of p.params) cpu
-  pub free : served_in direct (own queue_by p.actor (journal_seen p cpu)) ≡ None
+  pub free : service_of direct p cpu ≡ None
 
 -- it has this arming in service, which is so far
 pub record IsServing (direct : Bool) (p : PassesView) (cpu : ℕ) (d : Due) (far : Service) : Type 0 where
   pub actor : p.actor ≡ lane_actor direct (actors_of p.params) cpu
-  pub serves : served_in direct (own queue_by p.actor (journal_seen p cpu)) ≡ Some d
-  pub far_is : service_in (own by p.actor (seen_of p d.i)) ≡ far
+  pub serves : service_of direct p cpu ≡ Some d
+  pub far_is : far_of p d.i ≡ far
+
+-- the same actor's passes of the same service
+pub record AreSame (p q : PassesView) : Type 0 where
+  pub name : q.name ≡ p.name
+  pub params : q.params ≡ p.params
+  pub actor : q.actor ≡ p.actor
+
+-- what the caller has in service after it asked for the next
+abbrev pub HasNext : Bool → PassesView → ℕ → Taken → Type 0
+HasNext direct q cpu (Empty note) = IsFree direct q cpu
+HasNext direct q cpu (Took i n time reply pop pick) = IsServing direct q cpu (record { i = i; n = n }) (picked n reply)
 
 -- the entry of a service's operation
 abbrev pub run_entry : PassesView → (act : ℕ) → RunOp → Reply → Entry

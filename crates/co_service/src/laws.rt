@@ -8,6 +8,11 @@ ghost use Rattle.co_object.specs.declared.spec.Spec.{Spec};
 ghost use Rattle.co_object.specs.History.{IsLegal, server, state};
 ghost use Rattle.co_object.specs.Journal.{IsLegalQueue, queue};
 ghost use Rattle.co_object.specs.Serve.{begin, end};
+ghost use Rattle.co_service.specs.declared.params.Params.{Params};
+ghost use Rattle.co_service.specs.Booted.{booted};
+ghost use Rattle.co_service.specs.Name.{ServiceName};
+ghost use Rattle.co_service.specs.Params.{actors_of};
+ghost use Rattle.co_service.specs.Services.{IsFree};
 ghost use Rattle.co_service.specs.Serving.{Runs, Waits, lane_actor, served_in, service_in, slot};
 ghost use Rattle.co_service.specs.Stories.{by, queue_by};
 
@@ -30,4 +35,10 @@ pub fn begins_by_own()
 pub fn ends_by_own()
     ensures { (cpu : ℕ) (actors : Actors) (spec : Spec) (H : List Entry) (n : ℕ) → IsLegal actors spec H
         → service_in (own by (server actors spec cpu) H) ≡ Runs n → is_some (end (state spec H) n cpu) ≡ true }
+{}
+
+/// Who has seen nothing has nothing in service.
+#[tactic(auto, using(crate::proofs::Lasts::booted_free))]
+pub fn begins_free()
+    ensures { (name : ServiceName) (p : Params) (direct : Bool) (cpu : ℕ) → IsFree direct (booted name p (lane_actor direct (actors_of p) cpu)) cpu }
 {}

@@ -23,11 +23,13 @@ mod seats;
 mod service;
 mod services;
 mod stories;
+#[cfg(test)]
+mod tests;
 mod wheels;
 
 pub use closing::Closing;
 pub use fresh::Fresh;
-pub use laws::{begins_by_own, ends_by_own, served_by_own};
+pub use laws::{begins_by_own, begins_free, ends_by_own, served_by_own};
 pub use line::Line;
 pub use name::Name;
 pub use outs::{Made, Scanned, Taken};

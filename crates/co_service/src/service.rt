@@ -1,19 +1,20 @@
 //! The running service: each CPU's desk behind a lock of its own.
-ghost use Rattle.std.specs.Prelude.{◌≡◌, ◌<◌, ◌≤◌, ◌^◌, IfErr, IfNone, IfOk, IfSome, false, is_some, length, true, vec_len};
+ghost use Rattle.std.specs.Prelude.{◌≡◌, ◌<◌, ◌≤◌, ◌^◌, ℕ, Bool, IfErr, IfNone, IfOk, IfSome, false, is_some, length, true, vec_len};
 ghost use Rattle.std.specs.declared.option.Option.TheVariants.{Some, None};
 ghost use Rattle.co_object.specs.Queue.{Due};
 ghost use Rattle.co_object.specs.Journal.{scanner};
 ghost use Rattle.std.specs.Option.{option_copied};
 ghost use Rattle.co_lock.specs.Covers.{covers};
 ghost use Rattle.co_lock.specs.Service.{hold_of};
+ghost use Rattle.co_service.specs.Booted.{AreBooted};
 ghost use Rattle.co_service.specs.Call.{HasRoom, IsAnswer, IsCalled, NamesCpu, notes_in};
 ghost use Rattle.co_service.specs.Closing.{AreAll, AreEnded, AreEndedCpus};
 ghost use Rattle.co_service.specs.Fresh.{AreBenches};
 ghost use Rattle.co_service.specs.Moving.{IsOfService, target_of};
 ghost use Rattle.co_service.specs.Outcomes.{IsScan};
-ghost use Rattle.co_service.specs.Params.{actors_of, spec_at};
-ghost use Rattle.co_service.specs.Services.{FollowsScans, IsBegun, IsEnded, IsEndedBut, IsFree, IsLanded, IsServing, IsTaken};
-ghost use Rattle.co_service.specs.Serving.{Runs, Waits};
+ghost use Rattle.co_service.specs.Params.{AreParams, actors_of, spec_at};
+ghost use Rattle.co_service.specs.Services.{FollowsScans, HasNext, IsBegun, IsEnded, IsEndedBut, IsFree, IsLanded, IsServing, IsTaken};
+ghost use Rattle.co_service.specs.Serving.{Runs, Service as Progress, Waits};
 ghost use Rattle.co_service.specs.Views.{AreOf, journal_seen};
 
 use crate::bench::Bench;
@@ -26,10 +27,10 @@ use crate::places::Places;
 use crate::running::with_last;
 use crate::{Fresh, Made, Name, Params, Passes, Scanned, Taken};
 use co_lock::Hold;
-use co_object::{CallOp, Note};
+use co_object::{CallOp, Note, Spec};
 use co_sbt::{NoMemory, Room, Sbt, Seq};
 use std::alloc::Global;
-use std::marker::Model;
+use std::marker::{Brand, Model};
 use std::snapshot::Snapshot;
 use std::sync::atomic::{AtomicU32, Ordering};
 use std::sync::{Condvar, Mutex, MutexGuard, Wait};
@@ -114,6 +115,25 @@ fn first_hints(alloc: Global, callouts: usize) -> Result<Vec<AtomicU32>, NoMemor
         push(&mut hints, AtomicU32::new(0))?;
     }
     Ok(hints)
+}
+
+impl Service<Brand> {
+    /// A service before its locks, and each actor's passes of it, as [`Fresh::boot`] gives them. Its name is its own, whatever
+    /// type it is opened with.
+    pub fn boot(
+        alloc: Global,
+        version: u32,
+        cpus: u32,
+        buckets: u32,
+        clients: u32,
+        specs: &[Spec],
+    ) -> Result<(Fresh, Seq<Passes>), NoMemory>
+        requires { AreParams (record { version = version; clients = clients; cpus = cpus; buckets = buckets; specs = specs.now }) }
+        ensures params { IfOk result (λ made. made.0.params ≡ record { version = version; clients = clients; cpus = cpus; buckets = buckets; specs = specs.now }) }
+        ensures passes { IfOk result (λ made. AreBooted made.0.name made.0.params made.1) }
+    {
+        Fresh::boot(alloc, version, cpus, buckets, clients, specs)
+    }
 }
 
 impl<N: Name> Service<N> {
@@ -263,9 +283,28 @@ impl<N: Name> Service<N> {
         unreachable!()
     }
 
+    /// A call, the landing of what leaves included.
+    fn call_landed<R: Wait>(
+        &self,
+        rt: &R,
+        passes: &mut Passes,
+        act: u64,
+        i: u32,
+        op: &CallOp,
+    ) -> Made
+        requires passes { AreOf N.name self.now passes.old }
+        ensures { IsCalled passes.old act i op.now result.reply (notes_in result.notes) passes.new }
+    {
+        let (made, leaves) = self.call_found(rt, passes, act, i, op);
+        match leaves {
+            None => made,
+            Some(moving) => with_last(made, self.land(rt, passes, act, moving)),
+        }
+    }
+
     /// A call on callout `i`, the landing of its record at another CPU included. The caller's hold covers it.
     ///
-    /// It waits for the desks' locks, and while the record is on its way.
+    /// It waits for the desks' locks, and while the record is on its way. The caller still has in service what it had.
     pub fn call<R: Wait>(
         &self,
         rt: &R,
@@ -279,19 +318,20 @@ impl<N: Name> Service<N> {
         requires callout { i < length self.now.specs }
         requires cpu { NamesCpu self.now.cpus op.now }
         requires covered { covers (option_copied hold) (spec_at self.now i) op.now ≡ true }
-        ensures { IsCalled passes.old act i op.now result.reply (notes_in result.notes) passes.new }
+        ensures called { IsCalled passes.old act i op.now result.reply (notes_in result.notes) passes.new }
+        ensures of { AreOf N.name self.now passes.new }
+        ensures actor { passes.new.actor ≡ passes.old.actor }
+        ensures free { (direct : Bool) (cpu : ℕ) → IsFree direct passes.old cpu → IsFree direct passes.new cpu }
+        ensures serving { (direct : Bool) (cpu : ℕ) (d : Due) (far : Progress) → IsServing direct passes.old cpu d far → IsServing direct passes.new cpu d far }
     {
         let _ = hold;
-        let (made, leaves) = self.call_found(rt, passes, act, i, op);
-        match leaves {
-            None => made,
-            Some(moving) => with_last(made, self.land(rt, passes, act, moving)),
-        }
+        self.call_landed(rt, passes, act, i, op)
     }
 
     /// What is due at this CPU has come due. It waits for the desk's lock.
     ///
-    /// The passes are those of the actor that scans this CPU: its own, and from version 2 on its interrupt.
+    /// The passes are those of the actor that scans this CPU: its own, and from version 2 on its interrupt. It still has in
+    /// service what it had.
     pub fn scan<R: Wait>(
         &self,
         rt: &R,
@@ -303,7 +343,11 @@ impl<N: Name> Service<N> {
         requires cpu { cpu < self.now.cpus }
         requires passes { AreOf N.name self.now passes.old }
         requires scanner { passes.old.actor ≡ scanner (actors_of self.now) cpu }
-        ensures { IsScan passes.old cpu act now result passes.new }
+        ensures scanned { IsScan passes.old cpu act now result passes.new }
+        ensures of { AreOf N.name self.now passes.new }
+        ensures actor { passes.new.actor ≡ passes.old.actor }
+        ensures free { (direct : Bool) (x : ℕ) → IsFree direct passes.old x → IsFree direct passes.new x }
+        ensures serving { (direct : Bool) (x : ℕ) (d : Due) (far : Progress) → IsServing direct passes.old x d far → IsServing direct passes.new x d far }
     {
         for _ in rt.forever() {
             let locked = &self.desks[cpu as usize];
@@ -335,6 +379,9 @@ impl<N: Name> Service<N> {
         requires free { IsFree false passes.old cpu }
         ensures taken { IsTaken false passes.old cpu act result passes.new }
         ensures scans { FollowsScans scans (journal_seen passes.new cpu) }
+        ensures of { AreOf N.name self.now passes.new }
+        ensures actor { passes.new.actor ≡ passes.old.actor }
+        ensures next { HasNext false passes.new cpu result }
     {
         for _ in rt.forever() {
             let locked = &self.desks[cpu as usize];
@@ -357,7 +404,10 @@ impl<N: Name> Service<N> {
         requires cpu { cpu < self.now.cpus }
         requires passes { AreOf N.name self.now passes.old }
         requires free { IsFree true passes.old cpu }
-        ensures { IsTaken true passes.old cpu act result passes.new }
+        ensures taken { IsTaken true passes.old cpu act result passes.new }
+        ensures of { AreOf N.name self.now passes.new }
+        ensures actor { passes.new.actor ≡ passes.old.actor }
+        ensures next { HasNext true passes.new cpu result }
     {
         for _ in rt.forever() {
             let locked = &self.desks[cpu as usize];
@@ -387,7 +437,10 @@ impl<N: Name> Service<N> {
         requires passes { AreOf N.name self.now passes.old }
         requires serves { (d : Due) × IsServing false passes.old cpu d (Waits d.n) }
         requires held { (d : Due) → IsServing false passes.old cpu d (Waits d.n) → hold_of (spec_at self.now d.i).lock ≡ Some hold.now }
-        ensures { (d : Due) → IsServing false passes.old cpu d (Waits d.n) → IsBegun passes.old cpu act d result passes.new }
+        ensures begun { (d : Due) → IsServing false passes.old cpu d (Waits d.n) → IsBegun passes.old cpu act d result passes.new }
+        ensures of { AreOf N.name self.now passes.new }
+        ensures actor { passes.new.actor ≡ passes.old.actor }
+        ensures serving { (d : Due) → IsServing false passes.old cpu d (Waits d.n) → IsServing false passes.new cpu d (Runs d.n) }
     {
         let _ = hold;
         for _ in rt.forever() {
@@ -458,7 +511,10 @@ impl<N: Name> Service<N> {
         requires cpu { cpu < self.now.cpus }
         requires passes { AreOf N.name self.now passes.old }
         requires serves { (d : Due) × IsServing false passes.old cpu d (Runs d.n) }
-        ensures { (d : Due) → IsServing false passes.old cpu d (Runs d.n) → IsEnded false passes.old cpu act d result.reply (notes_in result.notes) passes.new }
+        ensures ended { (d : Due) → IsServing false passes.old cpu d (Runs d.n) → IsEnded false passes.old cpu act d result.reply (notes_in result.notes) passes.new }
+        ensures of { AreOf N.name self.now passes.new }
+        ensures actor { passes.new.actor ≡ passes.old.actor }
+        ensures free { IsFree false passes.new cpu }
     {
         self.end_lane(rt, passes, cpu, act, false)
     }
@@ -468,7 +524,10 @@ impl<N: Name> Service<N> {
         requires cpu { cpu < self.now.cpus }
         requires passes { AreOf N.name self.now passes.old }
         requires serves { (d : Due) × IsServing true passes.old cpu d (Runs d.n) }
-        ensures { (d : Due) → IsServing true passes.old cpu d (Runs d.n) → IsEnded true passes.old cpu act d result.reply (notes_in result.notes) passes.new }
+        ensures ended { (d : Due) → IsServing true passes.old cpu d (Runs d.n) → IsEnded true passes.old cpu act d result.reply (notes_in result.notes) passes.new }
+        ensures of { AreOf N.name self.now passes.new }
+        ensures actor { passes.new.actor ≡ passes.old.actor }
+        ensures free { IsFree true passes.new cpu }
     {
         self.end_lane(rt, passes, cpu, act, true)
     }
