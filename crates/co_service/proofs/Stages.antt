@@ -4,7 +4,7 @@ use Rattle.std.specs.Prelude.{◌⊎◌, slice_get, slice_index_or}
 use Rattle.std.specs.List.{All}
 use Rattle.std.proofs.lemmas.List.Elements.{All-nil, All-cons, All-head, All-tail}
 use Rattle.std.specs.declared.option.Option.TheVariants.{Some}
-use Rattle.co_object.specs.declared.spec.LockUse.TheVariants.{Free}
+use Rattle.co_object.specs.declared.spec.LockUse.TheVariants.{Free, Mtx}
 use Rattle.co_object.specs.declared.spec.Spec.{Spec}
 use Rattle.co_object.specs.Journal.{scanner}
 use Rattle.co_service.specs.declared.params.Params.{Params}
@@ -12,9 +12,10 @@ use Rattle.co_service.specs.Booted.{AreBooted, booted}
 use Rattle.co_service.specs.Closing.{AreAll}
 use Rattle.co_service.specs.Name.{ServiceName}
 use Rattle.co_service.specs.Params.{AreParams, IsSpec, actor_count, actors_of, no_spec, spec_at}
-use Rattle.co_service.specs.Scenes.{AreFirst, IsFreeSpec, IsScene}
-use Rattle.co_service.specs.Services.{IsFree}
-use Rattle.co_service.specs.Serving.{lane_actor}
+use Rattle.co_service.specs.Scenes.{AreFirst, IsFreeSpec, IsLocked, IsScene}
+use Rattle.co_object.specs.Queue.{Due}
+use Rattle.co_service.specs.Services.{IsFree, IsServing}
+use Rattle.co_service.specs.Serving.{Service}
 use Rattle.co_service.specs.Views.{AreOf, PassesView}
 use Rattle.co_service.proofs.Items.{all_more}
 use Rattle.co_service.proofs.Lasts.{booted_free}
@@ -67,6 +68,38 @@ module _ (version cpus n : ℕ) (specs : List Spec) (size : length specs ≡ n) 
     count : (b : Bool) → 1 + cond b cpus (cpus + cpus) ≡ cond b (1 + cpus) (1 + (cpus + cpus))
     count true = refl
     count false = refl
+
+-- ---- a callout with a mutex
+
+abbrev locked : Spec
+locked = record { lock = Mtx 0; returns_unlocked = false; direct = false }
+
+abbrev locked_scene : List Spec → Params
+locked_scene specs = record { version = 1; clients = 1; cpus = 1; buckets = 16; specs = specs }
+
+pub locked_allowed : (specs : List Spec) → specs ≡ locked ∷ [] → AreParams (locked_scene specs)
+locked_allowed specs is = subst (λ (l : List Spec). AreParams (locked_scene l)) (sym is) (record {
+  version = inl refl;
+  clients = omega arith;
+  cpus = (omega arith, omega arith);
+  buckets = (omega arith, omega arith, (4, refl));
+  size = (omega arith, omega arith);
+  specs = All-cons (IsSpec 1) locked [] (record { unlocked = λ _. refl; free = inl refl; later = λ _. refl }) (All-nil (IsSpec 1));
+})
+
+pub locked_is : (specs : List Spec) (p : Params) → specs ≡ locked ∷ [] → p ≡ locked_scene specs → IsLocked p
+locked_is specs p is here = subst IsLocked (sym (here ∙ ap locked_scene is)) (record {
+  version_is = refl;
+  clients = refl;
+  cpus_are = refl;
+  size = refl;
+  lock = refl;
+  actors_are = refl;
+})
+
+-- an actor has one arming in service
+pub same_due : (direct : Bool) (q : PassesView) (cpu : ℕ) (d e : Due) (v w : Service) → IsServing direct q cpu d v → IsServing direct q cpu e w → d ≡ e
+same_due direct q cpu d e v w a b = let both : Some d ≡ Some e = sym a.serves ∙ b.serves in cc
 
 -- ---- the actors
 

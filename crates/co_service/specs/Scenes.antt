@@ -2,7 +2,7 @@
 use Rattle.std.specs.Prelude.{◌≡◌, ℕ, ◌<◌, List, length, slice_get}
 use Rattle.std.specs.declared.option.Option.TheVariants.{Some}
 use Rattle.co_object.specs.declared.spec.Spec.{Spec}
-use Rattle.co_object.specs.declared.spec.LockUse.TheVariants.{Free}
+use Rattle.co_object.specs.declared.spec.LockUse.TheVariants.{Free, Mtx}
 use Rattle.co_service.specs.declared.params.Params.{Params}
 use Rattle.co_service.specs.Booted.{booted}
 use Rattle.co_service.specs.Name.{ServiceName}
@@ -21,6 +21,15 @@ pub record IsScene (version cpus callouts actors : ℕ) (p : Params) : Type 0 wh
   pub size : length p.specs ≡ callouts
   pub free : (i : ℕ) → (spec_at p i).lock ≡ Free
   pub actors_are : actor_count p ≡ actors
+
+-- one client, one CPU, and one callout with a mutex
+pub record IsLocked (p : Params) : Type 0 where
+  pub version_is : p.version ≡ 1
+  pub clients : p.clients ≡ 1
+  pub cpus_are : p.cpus ≡ 1
+  pub size : length p.specs ≡ 1
+  pub lock : (spec_at p 0).lock ≡ Mtx 0
+  pub actors_are : actor_count p ≡ 2
 
 -- the passes of the first n actors, which have seen nothing
 pub record AreFirst (name : ServiceName) (p : Params) (n : ℕ) (all : List PassesView) : Type 0 where

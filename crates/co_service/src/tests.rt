@@ -2,6 +2,7 @@
 mod acts;
 mod cast;
 mod firing;
+mod held;
 mod lanes;
 mod looks;
 mod moving;

@@ -69,6 +69,16 @@ pub(super) fn picked(i: u32, pos: u64, by: Author, n: u64, cpu: u32, at: Sbt, ar
     timer(i, pos, by, op, Reply::Go { func: 0, arg })
 }
 
+/// Arming `n` of callout `i` is picked, and waits for the callout's lock.
+pub(super) fn waiting(i: u32, pos: u64, by: Author, n: u64, cpu: u32, at: Sbt) -> Note {
+    timer(i, pos, by, Op::Run(RunOp::Pick { n, cpu, at }), Reply::Hold)
+}
+
+/// The lock is held, and arming `n` was cancelled meanwhile.
+pub(super) fn skipped(i: u32, pos: u64, by: Author, n: u64, cpu: u32) -> Note {
+    timer(i, pos, by, Op::Run(RunOp::Begin { n, cpu }), Reply::Skip)
+}
+
 /// The service of arming `n` ends.
 pub(super) fn ended(
     i: u32,
