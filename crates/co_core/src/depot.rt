@@ -161,12 +161,7 @@ fn scan(wheel: &mut Wheel<WheelQueue>, now: Sbt) -> u32
     wheel.scan(now, &mut looks)
 }
 
-fn call(
-    wheel: &mut Wheel<WheelQueue>,
-    i: u32,
-    op: &CallOp,
-    bag: &mut Option<Parcel>,
-) -> Called
+fn call(wheel: &mut Wheel<WheelQueue>, i: u32, op: &CallOp, bag: &mut Option<Parcel>) -> Called
     requires { is_here wheel.old.callouts i ≡ true }
     ensures { IsCalled wheel.old i op.now result.reply result.removed result.listed result.inserted bag.new wheel.new }
 {

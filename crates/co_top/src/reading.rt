@@ -22,10 +22,7 @@ use std::alloc::Global;
 use std::marker::Brand;
 
 /// The report of a type's script, whose notes are printed as the walk makes them.
-fn report_told<S: Subject>(
-    alloc: Global,
-    script: &Script,
-) -> Result<Seq<Seq<u8>>, NoMemory>
+fn report_told<S: Subject>(alloc: Global, script: &Script) -> Result<Seq<Seq<u8>>, NoMemory>
     requires fits { fits script.now ≡ true }
     requires subject { script.now ≡ S.script }
     ensures { IfOk result (λ pieces. IsReportOf script.now (concat pieces)) }
