@@ -35,3 +35,4 @@ pub mod FirstDesk
 pub mod SetUp
 pub mod Benches
 pub mod Ended
+pub mod Sent
