@@ -27,6 +27,7 @@ pub mod MetDesk
 pub mod WholeCall
 pub mod Lasting
 pub mod Lasts
+pub mod Stages
 pub mod LandSection
 pub mod Signing
 pub mod Joined

@@ -77,7 +77,7 @@ impl<N: Name> Books<N> {
         ensures shown { IsShown queue_by passes.old.actor self.old.journal (journal_seen passes.old self.old.cpu) }
         ensures legal { IsJournal self.old.params self.old.cpu self.old.journal }
     {
-        passes.meet_cpu(lives, &mut self.journal, self.cpu);
+        passes.meet_cpu(lives.get(self.cpu), &mut self.journal, self.cpu);
     }
 
     /// Compares the actor's pass of callout `i` with its history. Nothing changes.
@@ -91,7 +91,7 @@ impl<N: Name> Books<N> {
         ensures legal { IsHistory self.old.params i (entries_at self.old i) }
     {
         let mut keeper = self.keepers[i as usize].take().unwrap();
-        passes.meet_timer(lives, &mut keeper, i);
+        passes.meet_timer(lives.get(i), &mut keeper, i);
         self.keepers[i as usize] = Some(keeper);
     }
 

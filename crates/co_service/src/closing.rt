@@ -120,7 +120,7 @@ fn meet_timer(
 {
     for at in 0..passes.len() {
         let one = &mut passes[at];
-        one.meet_last_timer(life, keeper, i);
+        one.meet_timer(life, keeper, i);
     }
 }
 
@@ -140,7 +140,7 @@ fn meet_cpu(
 {
     for at in 0..passes.len() {
         let one = &mut passes[at];
-        one.meet_last_cpu(life, keeper, cpu);
+        one.meet_cpu(life, keeper, cpu);
     }
 }
 
