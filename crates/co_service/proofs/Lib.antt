@@ -36,4 +36,3 @@ pub mod FirstDesk
 pub mod SetUp
 pub mod Benches
 pub mod Ended
-pub mod Sent
