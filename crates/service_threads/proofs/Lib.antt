@@ -1,2 +1,1 @@
 pub mod Crowds
-pub mod Sent
