@@ -30,8 +30,12 @@ fn add_all<R: Threads + Wait + Sync>(rt: &R, counters: &[Mutex<u64>], work: &Wor
     let thread = threads - 1;
     join(
         rt,
-        || requires { IsSync R.row } { add_all(rt, counters, work, thread) },
-        || requires { IsSync R.row } { add(rt, counters, work, thread) },
+        ||
+            requires { IsSync R.row }
+        { add_all(rt, counters, work, thread) },
+        ||
+            requires { IsSync R.row }
+        { add(rt, counters, work, thread) },
     );
 }
 

@@ -85,11 +85,7 @@ fn hammer_all<N: Name + Send + Sync, R: Threads + Wait + Sync>(
 }
 
 /// The clients' passes, once those of the CPUs have left.
-fn leave_cpus<N: Name>(
-    service: &Service<N>,
-    crowd: &Crowd,
-    mut all: Vec<Passes>,
-) -> Vec<Passes>
+fn leave_cpus<N: Name>(service: &Service<N>, crowd: &Crowd, mut all: Vec<Passes>) -> Vec<Passes>
     requires crowd { IsCrowd crowd.now service.now }
     requires all { AreFirst N.name service.now (crowd.now.clients + crowd.now.cpus) all.items }
     ensures { AreFirst N.name service.now crowd.now.clients result.items }

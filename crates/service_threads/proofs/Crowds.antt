@@ -2,7 +2,7 @@
 use Rattle.std.proofs.Common.{◌≡◌, ℕ, zero, suc, ◌+◌, ◌<◌, ◌≤◌, ◌++◌, List, [], ◌∷◌, length, refl, sym, ap, ◌∙◌, subst, arith, length-append, inl, map, false}
 use Rattle.std.specs.Prelude.{slice_get, slice_index_or, if◌then◌else◌, ◌==◌}
 use Rattle.std.specs.List.{All}
-use Rattle.std.proofs.lemmas.List.Elements.{All-weaker, All-head, All-tail, All-map, All-same}
+use Rattle.std.proofs.lemmas.List.Elements.{All-weaker, All-cons, All-head, All-map, All-nil, All-same, All-tail}
 use Rattle.co_object.specs.declared.spec.Spec.{Spec}
 use Rattle.co_object.specs.declared.spec.LockUse.TheVariants.{Free}
 use Rattle.co_object.specs.Journal.{scanner}
@@ -87,3 +87,15 @@ all_back name p played passes count back same e = record {
 
 pub crowd_count : (c : Crowd) (p : Params) → IsCrowd c p → actor_count p ≡ c.clients + c.cpus
 crowd_count c p is = crowd_actors p is.version_is ∙ (ap (λ n. n + p.cpus) is.clients_are ∙ ap (λ n. c.clients + n) is.cpus_are)
+
+-- three passes, each put behind those before it, are all of a service of three actors
+pub all_three : (name : ServiceName) (p : Params) (a b c : PassesView) (none one two all : List PassesView) → none ≡ [] → one ≡ none ++ a ∷ [] → two ≡ one ++ b ∷ [] → all ≡ two ++ c ∷ []
+    → actor_count p ≡ 3 → AreOf name p a → AreOf name p b → AreOf name p c → AreAll name p all
+all_three name p a b c none one two all e₀ e₁ e₂ e₃ three of-a of-b of-c =
+    let P : PassesView → Type 0 = AreOf name p in
+    let e : all ≡ a ∷ b ∷ c ∷ [] = e₃ ∙ ap (λ (l : List PassesView). l ++ c ∷ []) (e₂ ∙ ap (λ (l : List PassesView). l ++ b ∷ []) (e₁ ∙ ap (λ (l : List PassesView). l ++ a ∷ []) e₀)) in
+    subst (AreAll name p) (sym e) (record { count = sym three; of = All-cons P a (b ∷ c ∷ []) of-a (All-cons P b (c ∷ []) of-b (All-cons P c [] of-c (All-nil P))) })
+
+-- an actor that has seen nothing
+pub booted_of : (name : ServiceName) (p : Params) (a : ℕ) (q : PassesView) → q ≡ booted name p a → AreOf name p q
+booted_of name p a q e = subst (AreOf name p) (sym e) (record { name_is = refl; params_are = refl })

@@ -111,7 +111,15 @@ fn run_open<N: Name + Send + Sync, R: Threads + Wait + Sync>(
     let service = Service::<N>::open(alloc, fresh)?;
     let clock = Clock::new(crowd.clients);
     let actors = crowd.clients + crowd.cpus;
-    let played = play_all(rt, alloc, &service, crowd, &clock, passes.into_vec(), actors)?;
+    let played = play_all(
+        rt,
+        alloc,
+        &service,
+        crowd,
+        &clock,
+        passes.into_vec(),
+        actors,
+    )?;
     let (passes, lists) = part(alloc, played)?;
     let _closing = service.close(rt, passes);
     Ok(lists)

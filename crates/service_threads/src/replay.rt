@@ -3,7 +3,9 @@ ghost use Rattle.service_threads.specs.Crowd.{IsWithin};
 
 use crate::Crowd;
 use crate::bench::Bench;
-use co_object::{Alone, AnyEntry, Entry, Lists, LockUse, Note, Op, Place, QEntry, QOp, RunOp, Spec};
+use co_object::{
+    Alone, AnyEntry, Entry, Lists, LockUse, Note, Op, Place, QEntry, QOp, RunOp, Spec,
+};
 use co_sbt::NoMemory;
 use std::alloc::Global;
 
@@ -101,10 +103,12 @@ fn is_of_one_callout(crowd: &Crowd, history: &[Option<Note>]) -> bool {
     };
     let mut callout = Alone::open(spec, 0);
     for told in history {
-        let Some(Note {
-            entry: AnyEntry::Timer(entry),
-            ..
-        }) = told
+        let Some(
+            Note {
+                entry: AnyEntry::Timer(entry),
+                ..
+            },
+        ) = told
         else {
             return false;
         };
@@ -134,10 +138,12 @@ fn is_of_one_queue(
 {
     let mut bench = Bench::new(alloc, crowd.callouts)?;
     for told in journal {
-        let Some(Note {
-            entry: AnyEntry::Cpu(entry),
-            ..
-        }) = told
+        let Some(
+            Note {
+                entry: AnyEntry::Cpu(entry),
+                ..
+            },
+        ) = told
         else {
             return Ok(false);
         };

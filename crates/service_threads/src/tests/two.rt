@@ -16,31 +16,26 @@ use std::sync::Wait;
 use std::test::Fail;
 use std::thread::{Threads, join};
 
+const ONE_CPU: Crowd = Crowd {
+    clients: 2,
+    cpus: 1,
+    callouts: 1,
+    calls: 1,
+};
+
 #[test]
 fn two_threads(rt: HostRuntime) -> Result<(), Fail> {
-    let crowd = Crowd {
-        clients: 2,
-        cpus: 1,
-        callouts: 1,
-        calls: 1,
-    };
-    let (fresh, passes) = boot_crowd(rt.alloc(), &crowd)?;
-    stops_twice::<Brand, _>(&rt, rt.alloc(), &crowd, fresh, passes)?;
+    let (fresh, passes) = boot_crowd(rt.alloc(), &ONE_CPU)?;
+    stops_twice::<Brand, _>(&rt, rt.alloc(), fresh, passes)?;
     Ok(())
 }
 
 /// One client's stop of callout 0.
-fn stops<N: Name, R: Wait>(
-    rt: &R,
-    service: &Service<N>,
-    crowd: &Crowd,
-    mut passes: Passes,
-) -> (Passes, Made)
-    requires crowd { IsCrowd crowd.now service.now }
+fn stops<N: Name, R: Wait>(rt: &R, service: &Service<N>, mut passes: Passes) -> (Passes, Made)
+    requires crowd { IsCrowd ONE_CPU service.now }
     requires passes { AreOf N.name service.now passes }
     ensures { AreOf N.name service.now result.0 }
 {
-    let _ = crowd;
     let made = ask(rt, service, &mut passes, 0, 0, PlainOp::Stop);
     (passes, made)
 }
@@ -49,11 +44,10 @@ fn stops<N: Name, R: Wait>(
 fn stop_both<N: Name + Send + Sync, R: Threads + Wait + Sync>(
     rt: &R,
     service: &Service<N>,
-    crowd: &Crowd,
     one: Passes,
     two: Passes,
 ) -> ((Passes, Made), (Passes, Made))
-    requires crowd { IsCrowd crowd.now service.now }
+    requires crowd { IsCrowd ONE_CPU service.now }
     requires one { AreOf N.name service.now one }
     requires two { AreOf N.name service.now two }
     ensures one { AreOf N.name service.now result.0.0 }
@@ -62,13 +56,13 @@ fn stop_both<N: Name + Send + Sync, R: Threads + Wait + Sync>(
     join(
         rt,
         || -> (Passes, Made)
-            requires { IsSync R.row × IsCrowd crowd.now service.now × AreOf N.name service.now one }
+            requires { IsSync R.row × IsCrowd ONE_CPU service.now × AreOf N.name service.now one }
             ensures { AreOf N.name service.entry.now result.0 }
-        { stops(rt, service, crowd, one) },
+        { stops(rt, service, one) },
         || -> (Passes, Made)
-            requires { IsSync R.row × IsCrowd crowd.now service.now × AreOf N.name service.now two }
+            requires { IsSync R.row × IsCrowd ONE_CPU service.now × AreOf N.name service.now two }
             ensures { AreOf N.name service.entry.now result.0 }
-        { stops(rt, service, crowd, two) },
+        { stops(rt, service, two) },
     )
 }
 
@@ -76,12 +70,11 @@ fn stop_both<N: Name + Send + Sync, R: Threads + Wait + Sync>(
 fn stops_twice<N: Name + Send + Sync, R: Threads + Wait + Abort + Sync>(
     rt: &R,
     alloc: Global,
-    crowd: &Crowd,
     fresh: Fresh,
     passes: Seq<Passes>,
 ) -> Result<(), NoMemory>
     requires name { fresh.name ≡ N.name }
-    requires crowd { IsCrowd crowd.now fresh.params }
+    requires crowd { IsCrowd ONE_CPU fresh.params }
     requires passes { AreBooted fresh.name fresh.params passes }
 {
     let service = Service::<N>::open(alloc, fresh)?;
@@ -89,7 +82,7 @@ fn stops_twice<N: Name + Send + Sync, R: Threads + Wait + Abort + Sync>(
     let cpu = leave(&service, &mut all, 2);
     let two = leave(&service, &mut all, 1);
     let one = leave(&service, &mut all, 0);
-    let ((one, first), (two, second)) = stop_both(rt, &service, crowd, one, two);
+    let ((one, first), (two, second)) = stop_both(rt, &service, one, two);
     let none = Reply::Stopped {
         code: -1,
         off: None,

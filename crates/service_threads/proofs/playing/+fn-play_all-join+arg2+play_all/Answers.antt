@@ -11,4 +11,4 @@ returns-clause-back g t c =
     let was = c.join-rest.ensures.first in
     let P : Played → Type 0 = IsBack g.N.Name.name c.args.service.now in
     All-same P _ _ c.in_ok-push.ensures.ok
-      (All-push P _ _ (IfOk-at_ok (All P) c.in_ok-rest.was was.1) (IfOk-at_ok P c.in_ok-last.was c.join-rest.ensures.second))
+    (All-push P _ _ (IfOk-at_ok (All P) c.in_ok-rest.was was.1) (IfOk-at_ok P c.in_ok-last.was c.join-rest.ensures.second))
