@@ -159,7 +159,7 @@ module _ (direct : Bool) (p q : PassesView) (cpu act : ℕ) where
   taken_next : (i n time : ℕ) (reply : Reply) (pop pick : Note) → IsFree direct p cpu → IsTaking direct p cpu act i n time reply pop pick q → IsServing direct q cpu (record { i = i; n = n }) (picked n reply)
   taken_next i n time reply pop pick f is =
       let ends : map placed (pop ∷ pick ∷ []) ≡ (at.Cpu cpu, of.Cpu (turn p act (pop_of direct) (Got i n time))) ∷ (at.Timer i, of.Timer (run_entry p act (Pick n cpu time) reply)) ∷ []
-              = λ d. (is.popped.place d, is.popped.entry d) ∷ (is.place d, is.entry d) ∷ [] in
+      = λ d. (is.popped.place d, is.popped.entry d) ∷ (is.place d, is.entry d) ∷ [] in
       is_serving direct p q cpu (writes_keep p q (pop ∷ pick ∷ []) is.written) (record { i = i; n = n }) (picked n reply) f.actor
       (turns direct cpu p q (pop ∷ pick ∷ []) is.written
       ∙ (ap (turned_by direct cpu (service_of direct p cpu)) ends

@@ -27,6 +27,7 @@ pub mod MetDesk
 pub mod WholeCall
 pub mod Lasting
 pub mod Lasts
+pub mod Stages
 pub mod LandSection
 pub mod Signing
 pub mod Joined
@@ -35,4 +36,3 @@ pub mod FirstDesk
 pub mod SetUp
 pub mod Benches
 pub mod Ended
-pub mod Sent

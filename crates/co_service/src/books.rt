@@ -13,10 +13,9 @@ ghost use Rattle.co_service.specs.Writes.{WritesCpu, WritesTimer};
 
 use crate::seats::Lives;
 use crate::{CpuStory, Name, Params, Passes, TimerStory};
-use co_life::Keeper;
+use co_life::{Keeper, Shown};
 use co_object::{AnyEntry, Entry, Note, Place, QEntry};
 use std::marker::{Model, PhantomData};
-use std::snapshot::Snapshot;
 
 /// The histories that stand at a desk: the journal of its CPU, and those of the callouts there.
 ///
@@ -25,7 +24,7 @@ use std::snapshot::Snapshot;
 #[derive(Drop)]
 pub(crate) struct Books<N: Name> {
     pub(crate) cpu: u32,
-    pub(crate) params: Snapshot<Params>,
+    pub(crate) params: Shown<Params>,
     /// By number: the keeper of each callout that stands here.
     pub(crate) keepers: Vec<Option<Keeper<TimerStory>>>,
     pub(crate) journal: Keeper<CpuStory>,
@@ -77,7 +76,7 @@ impl<N: Name> Books<N> {
         ensures shown { IsShown queue_by passes.old.actor self.old.journal (journal_seen passes.old self.old.cpu) }
         ensures legal { IsJournal self.old.params self.old.cpu self.old.journal }
     {
-        passes.meet_cpu(lives, &mut self.journal, self.cpu);
+        passes.meet_cpu(lives.get(self.cpu), &mut self.journal, self.cpu);
     }
 
     /// Compares the actor's pass of callout `i` with its history. Nothing changes.
@@ -91,7 +90,7 @@ impl<N: Name> Books<N> {
         ensures legal { IsHistory self.old.params i (entries_at self.old i) }
     {
         let mut keeper = self.keepers[i as usize].take().unwrap();
-        passes.meet_timer(lives, &mut keeper, i);
+        passes.meet_timer(lives.get(i), &mut keeper, i);
         self.keepers[i as usize] = Some(keeper);
     }
 

@@ -23,6 +23,8 @@ mod seats;
 mod service;
 mod services;
 mod stories;
+#[cfg(test)]
+mod tests;
 mod wheels;
 
 pub use closing::Closing;

@@ -5,17 +5,15 @@ ghost use Rattle.co_service.specs.declared.params.Params.{Params};
 ghost use Rattle.co_service.specs.Closing.{MeetsCpu, MeetsTimer};
 ghost use Rattle.co_service.specs.Lines.{made, opening_of};
 ghost use Rattle.co_service.specs.Params.{actor_count};
-ghost use Rattle.co_service.specs.Seats.{IsShown};
-ghost use Rattle.co_service.specs.Stories.{IsHistory, IsJournal, by, queue_by};
-ghost use Rattle.co_service.specs.Views.{IsKeeperOf, journal_seen, seen_of};
+ghost use Rattle.co_service.specs.Stories.{IsHistory, IsJournal};
+ghost use Rattle.co_service.specs.Views.{IsKeeperOf};
 ghost use Rattle.co_service.specs.Writes.{WritesCpu, WritesTimer};
 
 use crate::seats::{Lives, Seats};
 use crate::{CpuStory, Line, Params, TimerStory};
-use co_life::{Keeper, Life};
+use co_life::{Keeper, Life, Shown};
 use co_object::{Entry, QEntry};
 use std::marker::Model;
-use std::snapshot::Snapshot;
 
 /// One actor's passes of all callouts and all CPUs of a service. They may go to another thread.
 ///
@@ -25,7 +23,7 @@ pub struct Passes {
     pub(crate) actor: u32,
     /// How many actors the service has.
     pub(crate) actors: u32,
-    pub(crate) params: Snapshot<Params>,
+    pub(crate) params: Shown<Params>,
     pub(crate) timers: Seats<TimerStory>,
     pub(crate) cpus: Seats<CpuStory>,
 }
@@ -95,42 +93,6 @@ impl Passes {
     /// Compares the pass of callout `i` with its history. Nothing changes.
     pub(crate) fn meet_timer(
         &mut self,
-        lives: &Lives<TimerStory>,
-        keeper: &mut Keeper<TimerStory>,
-        i: u32,
-    )
-        requires name { self.old.name.timers ≡ lives.now }
-        requires life { slice_get lives.now i ≡ Some keeper.old.life }
-        requires opened { (params : Params) × (opening_of keeper.old.history ≡ Some (params, i)) }
-        ensures keeper { keeper.new ≡ keeper.old }
-        ensures same { self.new ≡ self.old }
-        ensures shown { IsShown by self.old.actor (made keeper.old.history) (seen_of self.old i) }
-        ensures params { opening_of keeper.old.history ≡ Some (self.old.params, i) }
-    {
-        self.timers.meet(lives.get(i), keeper, i);
-    }
-
-    /// Compares the pass of a CPU with its journal. Nothing changes.
-    pub(crate) fn meet_cpu(
-        &mut self,
-        lives: &Lives<CpuStory>,
-        keeper: &mut Keeper<CpuStory>,
-        cpu: u32,
-    )
-        requires name { self.old.name.cpus ≡ lives.now }
-        requires life { slice_get lives.now cpu ≡ Some keeper.old.life }
-        requires opened { (params : Params) × (opening_of keeper.old.history ≡ Some (params, cpu)) }
-        ensures keeper { keeper.new ≡ keeper.old }
-        ensures same { self.new ≡ self.old }
-        ensures shown { IsShown queue_by self.old.actor (made keeper.old.history) (journal_seen self.old cpu) }
-        ensures params { opening_of keeper.old.history ≡ Some (self.old.params, cpu) }
-    {
-        self.cpus.meet(lives.get(cpu), keeper, cpu);
-    }
-
-    /// Compares the pass of callout `i` with its history, by its life. Nothing changes.
-    pub(crate) fn meet_last_timer(
-        &mut self,
         life: &Life<TimerStory>,
         keeper: &mut Keeper<TimerStory>,
         i: u32,
@@ -145,8 +107,8 @@ impl Passes {
         self.timers.meet(life, keeper, i);
     }
 
-    /// Compares the pass of a CPU with its journal, by its life. Nothing changes.
-    pub(crate) fn meet_last_cpu(
+    /// Compares the pass of a CPU with its journal. Nothing changes.
+    pub(crate) fn meet_cpu(
         &mut self,
         life: &Life<CpuStory>,
         keeper: &mut Keeper<CpuStory>,

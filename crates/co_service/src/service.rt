@@ -6,12 +6,13 @@ ghost use Rattle.co_object.specs.Journal.{scanner};
 ghost use Rattle.std.specs.Option.{option_copied};
 ghost use Rattle.co_lock.specs.Covers.{covers};
 ghost use Rattle.co_lock.specs.Service.{hold_of};
+ghost use Rattle.co_service.specs.Booted.{AreBooted};
 ghost use Rattle.co_service.specs.Call.{HasRoom, IsAnswer, IsCalled, NamesCpu, notes_in};
 ghost use Rattle.co_service.specs.Closing.{AreAll, AreEnded, AreEndedCpus};
 ghost use Rattle.co_service.specs.Fresh.{AreBenches};
 ghost use Rattle.co_service.specs.Moving.{IsOfService, target_of};
 ghost use Rattle.co_service.specs.Outcomes.{IsScan};
-ghost use Rattle.co_service.specs.Params.{actors_of, spec_at};
+ghost use Rattle.co_service.specs.Params.{AreParams, actors_of, spec_at};
 ghost use Rattle.co_service.specs.Services.{FollowsScans, HasNext, IsBegun, IsEnded, IsEndedBut, IsFree, IsLanded, IsServing, IsTaken};
 ghost use Rattle.co_service.specs.Serving.{Runs, Service as Progress, Waits};
 ghost use Rattle.co_service.specs.Views.{AreOf, journal_seen};
@@ -25,12 +26,12 @@ use crate::moving::Moving;
 use crate::places::Places;
 use crate::running::with_last;
 use crate::{Fresh, Made, Name, Params, Passes, Scanned, Taken};
+use co_life::Shown;
 use co_lock::Hold;
-use co_object::{CallOp, Note};
+use co_object::{CallOp, Note, Spec};
 use co_sbt::{NoMemory, Room, Sbt, Seq};
 use std::alloc::Global;
-use std::marker::Model;
-use std::snapshot::Snapshot;
+use std::marker::{Brand, Model};
 use std::sync::atomic::{AtomicU32, Ordering};
 use std::sync::{Condvar, Mutex, MutexGuard, Wait};
 
@@ -51,7 +52,7 @@ pub struct DeskHold<'a, N: Name> {
 #[derive(Drop)]
 pub struct Service<N: Name> {
     places: Places,
-    params: Snapshot<Params>,
+    params: Shown<Params>,
     /// By CPU.
     desks: Vec<Locked<N>>,
     /// By callout: the CPU whose desk is asked first. No clause rests on it.
@@ -116,6 +117,25 @@ fn first_hints(alloc: Global, callouts: usize) -> Result<Vec<AtomicU32>, NoMemor
     Ok(hints)
 }
 
+impl Service<Brand> {
+    /// A service before its locks, and each actor's passes of it, as [`Fresh::boot`] gives them. Its name is its own, whatever
+    /// type it is opened with.
+    pub fn boot(
+        alloc: Global,
+        version: u32,
+        cpus: u32,
+        buckets: u32,
+        clients: u32,
+        specs: &[Spec],
+    ) -> Result<(Fresh, Seq<Passes>), NoMemory>
+        requires { AreParams (record { version = version; clients = clients; cpus = cpus; buckets = buckets; specs = specs.now }) }
+        ensures params { IfOk result (λ made. made.0.params ≡ record { version = version; clients = clients; cpus = cpus; buckets = buckets; specs = specs.now }) }
+        ensures passes { IfOk result (λ made. AreBooted made.0.name made.0.params made.1) }
+    {
+        Fresh::boot(alloc, version, cpus, buckets, clients, specs)
+    }
+}
+
 impl<N: Name> Service<N> {
     /// The running service: the desks go behind their locks. It keeps the name and the parameters.
     pub fn open(alloc: Global, fresh: Fresh) -> Result<Service<N>, NoMemory>
@@ -131,7 +151,7 @@ impl<N: Name> Service<N> {
         let hints = first_hints(alloc, params.specs.as_slice().len())?;
         Ok(Service {
             places,
-            params: Snapshot::of(&params),
+            params: Shown::of(&params),
             desks,
             hints,
             ending: Mutex::new(Ending::new(alloc)?),

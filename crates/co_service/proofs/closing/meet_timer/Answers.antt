@@ -5,8 +5,8 @@ use Rattle.co_service.specs.Closing.{MeetsTimer}
 use Rattle.co_service.proofs.Items.{all_at, all_taken, all_of_taken, set_same, get_here}
 use Rattle.co_service.proofs.closing.meet_timer.Goals as goal
 
-pub meet_last_timer-requires-clause-at : goal.meet_last_timer-requires-clause-at
-meet_last_timer-requires-clause-at c =
+pub meet_timer-requires-clause-at : goal.meet_timer-requires-clause-at
+meet_timer-requires-clause-at c =
     let at = c.loop-at in
     let i = at.invariant in
     let x = c.index_mut-one.result.now in
@@ -19,7 +19,7 @@ pub loop-at-preserved : goal.loop-at-preserved
 loop-at-preserved c =
     let at = c.loop-at in
     let i = at.invariant in
-    let m = c.meet_last_timer.ensures in
+    let m = c.meet_timer.ensures in
     let x = c.index_mut-one.result.now in
     let xs = c.args.passes.now.items in
     let here = c.index_mut-one.ensures.value ∙ ap (λ l. slice_index_or l at.at x) i.passes in

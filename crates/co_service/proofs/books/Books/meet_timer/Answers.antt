@@ -1,9 +1,16 @@
-use Rattle.std.proofs.Common.{sym, ◌∙◌, subst}
+use Rattle.std.proofs.Common.{◌≡◌, sym, ◌∙◌, subst}
+use Rattle.std.specs.Prelude.{slice_get}
 use Rattle.std.specs.declared.option.Option.TheVariants.{Some}
 use Rattle.co_service.specs.Stories.{IsHistory}
 use Rattle.co_service.specs.Views.{IsKeeperOf}
 use Rattle.co_service.proofs.BooksKept.{keeper_of, legal_here, same_books, kept_twice, below_here, of_params}
+use Rattle.co_service.proofs.Writing.{below_get}
 use Rattle.co_service.proofs.books.Books.meet_timer.Goals as goal
+
+pub get-requires : goal.get-requires
+get-requires g c =
+    let at = keeper_of g.N.Name.name c.self.inside.params.value c.self.inside.cpu c.self.inside.keepers.items c.self.inside.journal c.args.self.now c.self.invariant c.self.view_is c.args.i c.index_mut.result.now c.unwrap-keeper.result c.requires.here c.index_mut.ensures.value (sym c.take.ensures.value ∙ c.unwrap-keeper.ensures) in
+    below_get c.args.lives.now c.args.i c.unwrap-keeper.result.life (subst (λ l. slice_get l c.args.i ≡ Some c.unwrap-keeper.result.life) (sym c.requires.lives) at.life)
 
 pub meet_timer-requires-clause-opened : goal.meet_timer-requires-clause-opened
 meet_timer-requires-clause-opened g c =

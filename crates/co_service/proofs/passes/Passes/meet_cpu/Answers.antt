@@ -1,13 +1,17 @@
-use Rattle.std.proofs.Common.{◌<◌, length, sym, ap, ◌∙◌, subst}
+use Rattle.std.proofs.Common.{◌<◌, length, ap, ◌∙◌}
+use Rattle.std.specs.Prelude.{slice_get}
+use Rattle.co_service.specs.Stories.{queue_by}
 use Rattle.co_service.proofs.BooksKept.{cpu_shown, cpu_params}
+use Rattle.co_service.proofs.Entries.{all_made}
 use Rattle.co_service.proofs.Writing.{below_get}
 use Rattle.co_service.proofs.passes.Passes.meet_cpu.Goals as goal
 
-pub returns-clause-shown : goal.returns-clause-shown
-returns-clause-shown c =
-    cpu_shown c.self.inside.actors c.self.inside.actor c.self.inside.params.value c.self.inside.timers c.self.inside.cpus c.args.self.now c.self.invariant c.self.view_is c.args.cpu c.args.keeper.now.history c.meet.ensures.shown
-
-pub returns-clause-params : goal.returns-clause-params
-returns-clause-params c =
-    let below : c.args.cpu < length c.self.inside.cpus.name = subst (λ l. c.args.cpu < length l) (sym (ap (λ v. v.name.cpus) c.self.view_is ∙ c.requires.name)) (below_get c.args.lives.now c.args.cpu c.args.keeper.now.life c.requires.life) in
-    cpu_params c.self.inside.actors c.self.inside.actor c.self.inside.params.value c.self.inside.timers c.self.inside.cpus c.args.self.now c.self.invariant c.self.view_is c.args.cpu c.args.keeper.now.history c.requires.opened.0 c.meet.ensures.shown below c.requires.opened.1
+pub returns-clause-met : goal.returns-clause-met
+returns-clause-met c =
+    let h = c.args.keeper.now.history in
+    let below : c.args.cpu < length c.self.inside.cpus.name = below_get c.self.inside.cpus.name c.args.cpu c.args.life.now (ap (λ v. slice_get v.name.cpus c.args.cpu) c.self.view_is ∙ c.requires.at) in
+    record {
+      shown = cpu_shown c.self.inside.actors c.self.inside.actor c.self.inside.params.value c.self.inside.timers c.self.inside.cpus c.args.self.now c.self.invariant c.self.view_is c.args.cpu h c.meet.ensures.shown;
+      opened = cpu_params c.self.inside.actors c.self.inside.actor c.self.inside.params.value c.self.inside.timers c.self.inside.cpus c.args.self.now c.self.invariant c.self.view_is c.args.cpu h c.requires.opened.0 c.meet.ensures.shown below c.requires.opened.1;
+      actors = all_made queue_by c.args.keeper.now.actors h c.meet.ensures.actors;
+    }
