@@ -3,10 +3,12 @@
 
 mod life;
 mod rule;
+mod shown;
 mod story;
 #[cfg(test)]
 mod tests;
 mod view;
 
 pub use life::{Closed, Keeper, Life, Pass};
+pub use shown::Shown;
 pub use story::Story;

@@ -7,13 +7,13 @@ ghost use Rattle.co_life.specs.Steps.{Learns, let_in};
 ghost use Rattle.co_life.specs.Views.{AreFresh, pass_view, history_in, made_in, IsKeeper};
 
 use crate::rule::{Append, Deal, Enter, HistoryRule, Leave, Look};
+use crate::shown::Shown;
 use crate::story::Story;
 use crate::view::SeatView;
 use atomic_table::{Seat, Table};
 use co_sbt::{NoMemory, Seq};
 use std::alloc::Global;
 use std::marker::Model;
-use std::snapshot::Snapshot;
 
 /// One shared history, from its opening to its close. Our own decision.
 ///
@@ -80,7 +80,7 @@ impl<S: Story> Model for Pass<S> {
 /// A history that has ended. Contracts see it as its entries.
 #[derive(Drop)]
 pub struct Closed<S: Story> {
-    last: Snapshot<Keeper<S>>,
+    last: Shown<Keeper<S>>,
 }
 
 impl<S: Story> Model for Closed<S> {
@@ -209,7 +209,7 @@ impl<S: Story> Life<S> {
         ensures history { result ≡ keeper.history }
         ensures legal { S.legal result }
     {
-        let last = Snapshot::of(&keeper);
+        let last = Shown::of(&keeper);
         let Life { table } = self;
         let Keeper { seat } = keeper;
         table.close_with(seat).free();

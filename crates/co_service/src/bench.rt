@@ -16,13 +16,12 @@ use crate::places::Places;
 use crate::wheels::{directs, first_wheel};
 use crate::{CpuStory, Name, Params, TimerStory};
 use co_bucket::WheelQueue;
-use co_life::Keeper;
+use co_life::{Keeper, Shown};
 use co_sbt::NoMemory;
 use co_wheel::Wheel;
 use std::alloc::Global;
 use std::marker::PhantomData;
 use std::mem;
-use std::snapshot::Snapshot;
 
 /// What a CPU has before the locks: its wheel, the keepers of the callouts that begin there, and that of its journal.
 #[derive(Drop)]
@@ -40,7 +39,7 @@ impl<N: Name> Desk<N> {
     {
         let books = Books {
             cpu,
-            params: Snapshot::of(params),
+            params: Shown::of(params),
             keepers: bench.keepers,
             journal: bench.journal,
             of: PhantomData,

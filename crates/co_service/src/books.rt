@@ -13,10 +13,9 @@ ghost use Rattle.co_service.specs.Writes.{WritesCpu, WritesTimer};
 
 use crate::seats::Lives;
 use crate::{CpuStory, Name, Params, Passes, TimerStory};
-use co_life::Keeper;
+use co_life::{Keeper, Shown};
 use co_object::{AnyEntry, Entry, Note, Place, QEntry};
 use std::marker::{Model, PhantomData};
-use std::snapshot::Snapshot;
 
 /// The histories that stand at a desk: the journal of its CPU, and those of the callouts there.
 ///
@@ -25,7 +24,7 @@ use std::snapshot::Snapshot;
 #[derive(Drop)]
 pub(crate) struct Books<N: Name> {
     pub(crate) cpu: u32,
-    pub(crate) params: Snapshot<Params>,
+    pub(crate) params: Shown<Params>,
     /// By number: the keeper of each callout that stands here.
     pub(crate) keepers: Vec<Option<Keeper<TimerStory>>>,
     pub(crate) journal: Keeper<CpuStory>,

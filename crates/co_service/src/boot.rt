@@ -7,10 +7,9 @@ ghost use Rattle.co_service.specs.declared.line.Line.{Line as LineOf};
 
 use crate::seats::{Lives, Seats};
 use crate::{Line, Params};
-use co_life::{Keeper, Life, Pass, Story};
+use co_life::{Keeper, Life, Pass, Shown, Story};
 use co_sbt::NoMemory;
 use std::alloc::Global;
-use std::snapshot::Snapshot;
 
 /// An actor makes its opening entry of a place.
 fn sign<E: Drop, S: Story<Entry = Line<E>>>(
@@ -34,7 +33,7 @@ fn sign<E: Drop, S: Story<Entry = Line<E>>>(
     let entry = Line::Opening {
         actor,
         place,
-        params: Snapshot::of(params),
+        params: Shown::of(params),
     };
     life.write(keeper, pass, entry).0
 }

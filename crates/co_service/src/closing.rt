@@ -12,11 +12,10 @@ use crate::books::Books;
 use crate::places::Places;
 use crate::seats::Lives;
 use crate::{CpuStory, Name, Passes, TimerStory};
-use co_life::{Closed, Keeper, Life};
+use co_life::{Closed, Keeper, Life, Shown};
 use co_sbt::{NoMemory, Room, Seq};
 use std::alloc::Global;
 use std::marker::Model;
-use std::snapshot::Snapshot;
 use std::sync::Wait;
 
 /// The room for what the end of a service makes. It is taken at the opening, so that the end takes no memory.
@@ -60,7 +59,7 @@ impl<N: Name> Ending<N> {
 /// Contracts see the service's name and these histories.
 #[derive(Drop)]
 pub struct Closing {
-    name: Snapshot<Places>,
+    name: Shown<Places>,
     timers: Seq<Closed<TimerStory>>,
     cpus: Seq<Closed<CpuStory>>,
 }
@@ -254,7 +253,7 @@ pub(crate) fn end_all<N: Name, R: Wait>(
 {
     let mut books = books;
     let mut passes = passes;
-    let name = Snapshot::of(&places);
+    let name = Shown::of(&places);
     let (callouts, wheels) = places.into_lives();
     let timers = end_timers(rt, callouts, &mut books, &mut passes, timers);
     let cpus = end_cpus(rt, wheels, &mut books, &mut passes, cpus);

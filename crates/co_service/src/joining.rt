@@ -6,10 +6,10 @@ ghost use Rattle.co_service.specs.Params.{actor_count};
 use crate::places::Places;
 use crate::seats::Seats;
 use crate::{CpuStory, Params, Passes, TimerStory};
+use co_life::Shown;
 use co_sbt::{NoMemory, Seq};
 use std::alloc::Global;
 use std::mem;
-use std::snapshot::Snapshot;
 
 /// One actor's passes, of its seats at the callouts and at the CPUs.
 fn join(
@@ -29,7 +29,7 @@ fn join(
     Passes {
         actor,
         actors,
-        params: Snapshot::of(params),
+        params: Shown::of(params),
         timers,
         cpus,
     }

@@ -1,6 +1,6 @@
 //! What the shared histories hold.
 use crate::Params;
-use std::snapshot::Snapshot;
+use co_life::Shown;
 
 /// An entry of a shared history. It begins with an opening entry of each actor, so whoever has a pass of it knows of
 /// which place it is, and of which service.
@@ -13,7 +13,7 @@ pub enum Line<E> {
         /// The number of the callout, or of the CPU.
         place: u32,
         /// What is fixed of the service.
-        params: Snapshot<Params>,
+        params: Shown<Params>,
     },
     /// An entry that a call made.
     Made(E),

@@ -11,10 +11,9 @@ ghost use Rattle.co_service.specs.Writes.{WritesCpu, WritesTimer};
 
 use crate::seats::{Lives, Seats};
 use crate::{CpuStory, Line, Params, TimerStory};
-use co_life::{Keeper, Life};
+use co_life::{Keeper, Life, Shown};
 use co_object::{Entry, QEntry};
 use std::marker::Model;
-use std::snapshot::Snapshot;
 
 /// One actor's passes of all callouts and all CPUs of a service. They may go to another thread.
 ///
@@ -24,7 +23,7 @@ pub struct Passes {
     pub(crate) actor: u32,
     /// How many actors the service has.
     pub(crate) actors: u32,
-    pub(crate) params: Snapshot<Params>,
+    pub(crate) params: Shown<Params>,
     pub(crate) timers: Seats<TimerStory>,
     pub(crate) cpus: Seats<CpuStory>,
 }

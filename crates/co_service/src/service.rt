@@ -26,12 +26,12 @@ use crate::moving::Moving;
 use crate::places::Places;
 use crate::running::with_last;
 use crate::{Fresh, Made, Name, Params, Passes, Scanned, Taken};
+use co_life::Shown;
 use co_lock::Hold;
 use co_object::{CallOp, Note, Spec};
 use co_sbt::{NoMemory, Room, Sbt, Seq};
 use std::alloc::Global;
 use std::marker::{Brand, Model};
-use std::snapshot::Snapshot;
 use std::sync::atomic::{AtomicU32, Ordering};
 use std::sync::{Condvar, Mutex, MutexGuard, Wait};
 
@@ -52,7 +52,7 @@ pub struct DeskHold<'a, N: Name> {
 #[derive(Drop)]
 pub struct Service<N: Name> {
     places: Places,
-    params: Snapshot<Params>,
+    params: Shown<Params>,
     /// By CPU.
     desks: Vec<Locked<N>>,
     /// By callout: the CPU whose desk is asked first. No clause rests on it.
@@ -151,7 +151,7 @@ impl<N: Name> Service<N> {
         let hints = first_hints(alloc, params.specs.as_slice().len())?;
         Ok(Service {
             places,
-            params: Snapshot::of(&params),
+            params: Shown::of(&params),
             desks,
             hints,
             ending: Mutex::new(Ending::new(alloc)?),

@@ -1,0 +1,101 @@
+-- The actors of a service, who leave one after the other.
+use Rattle.std.proofs.Common.{◌≡◌, ℕ, zero, suc, ◌+◌, ◌<◌, ◌≤◌, ◌++◌, List, [], ◌∷◌, length, refl, sym, ap, ◌∙◌, subst, arith, length-append, inl, map, false}
+use Rattle.std.specs.Prelude.{slice_get, slice_index_or, if◌then◌else◌, ◌==◌}
+use Rattle.std.specs.List.{All}
+use Rattle.std.proofs.lemmas.List.Elements.{All-weaker, All-cons, All-head, All-map, All-nil, All-same, All-tail}
+use Rattle.co_object.specs.declared.spec.Spec.{Spec}
+use Rattle.co_object.specs.declared.spec.LockUse.TheVariants.{Free}
+use Rattle.co_object.specs.Journal.{scanner}
+use Rattle.co_service.specs.declared.params.Params.{Params}
+use Rattle.co_service.specs.Booted.{booted}
+use Rattle.co_service.specs.Name.{ServiceName}
+use Rattle.co_service.specs.Params.{AreParams, IsSpec, actor_count, actors_of, no_spec, spec_at}
+use Rattle.co_service.specs.Closing.{AreAll}
+use Rattle.co_service.specs.Views.{AreOf, PassesView}
+use Rattle.co_service.proofs.Lasts.{booted_free}
+use Rattle.service_threads.specs.declared.crowd.Crowd.{Crowd}
+use Rattle.service_threads.specs.declared.played.Played.{Played}
+use Rattle.service_threads.specs.Crowd.{AreFirst, AreServers, IsBack, IsCrowd, IsPlain, IsWithin}
+
+module _ {A : Type 0} where
+  pub get_front : (xs ys : List A) (k : ℕ) → k < length xs → slice_get (xs ++ ys) k ≡ slice_get xs k
+  get_front [] ys k below = absurd (omega arith)
+  get_front (x ∷ xs) ys zero below = refl
+  get_front (x ∷ xs) ys (suc k) below = get_front xs ys k (omega arith)
+
+-- all but the last
+pub first_rest : (name : ServiceName) (p : Params) (n : ℕ) (rest : List PassesView) (x : PassesView) → AreFirst name p (n + 1) (rest ++ x ∷ []) → AreFirst name p n rest
+first_rest name p n rest x are =
+    let count : length rest ≡ n = (let whole = are.count in let long = length-append rest (x ∷ []) in omega arith) in
+    record {
+      count = count;
+      each = λ j below. sym (get_front rest (x ∷ []) j (omega arith)) ∙ are.each j (omega arith);
+    }
+
+-- a crowd's service is within the limits
+pub crowd_params : (c : Crowd) (specs : List Spec) → IsWithin c → length specs ≡ c.callouts → All IsPlain specs
+    → AreParams (record { version = 1; clients = c.clients; cpus = c.cpus; buckets = 16; specs = specs })
+crowd_params c specs within size plain = record {
+  version = inl refl;
+  clients = within.clients;
+  cpus = within.cpus;
+  buckets = (omega arith, omega arith, (4, refl));
+  size = (let few = within.callouts in (omega arith, omega arith));
+  specs = All-weaker IsPlain (IsSpec 1) (λ spec is. is.allowed) specs plain;
+}
+
+plain_free : (specs : List Spec) (i : ℕ) → All IsPlain specs → (slice_index_or specs i no_spec).lock ≡ Free
+plain_free [] i plain = refl
+plain_free (x ∷ xs) zero plain = (All-head IsPlain x xs plain).lock
+plain_free (x ∷ xs) (suc i) plain = plain_free xs i (All-tail IsPlain x xs plain)
+
+-- and it is one for the crowd
+pub crowd_is : (c : Crowd) (p : Params) (specs : List Spec) → IsWithin c → length specs ≡ c.callouts → All IsPlain specs
+    → p ≡ record { version = 1; clients = c.clients; cpus = c.cpus; buckets = 16; specs = specs } → IsCrowd c p
+crowd_is c p specs within size plain e =
+    let P : Params → Type 0 = λ q. IsCrowd c q in
+    subst P (sym e) (record {
+      within = within;
+      version_is = refl;
+      clients_are = refl;
+      cpus_are = refl;
+      size = size;
+      free = λ i. plain_free specs i plain;
+    })
+
+-- the clients, then the CPUs
+pub crowd_actors : (p : Params) → p.version ≡ 1 → actor_count p ≡ p.clients + p.cpus
+crowd_actors p one = ap (λ n. p.clients + (if n == 1 then p.cpus else p.cpus + p.cpus)) one
+
+-- a CPU's actor that has seen nothing
+pub first_server : (name : ServiceName) (p : Params) (cpu a : ℕ) → p.version ≡ 1 → a ≡ p.clients + cpu → AreServers name p cpu (booted name p a)
+first_server name p cpu a one e =
+    let P : ℕ → Type 0 = λ n. AreServers name p cpu (booted name p n) in
+    subst P (sym e) (record {
+      of = record { name_is = refl; params_are = refl };
+      scans = sym (ap (λ n. if n == 1 then p.clients + cpu else p.clients + p.cpus + cpu) one);
+      free = booted_free name p false cpu;
+    })
+
+-- the passes that all actors bring back are all there are
+pub all_back : (name : ServiceName) (p : Params) (played : List Played) (passes : List PassesView) → length played ≡ actor_count p → All (IsBack name p) played
+    → length passes ≡ length played → passes ≡ map (λ (one : Played). one.passes) played → AreAll name p passes
+all_back name p played passes count back same e = record {
+  count = same ∙ count;
+  of = All-same (AreOf name p) passes (map (λ (one : Played). one.passes) played) e (All-map (AreOf name p) (λ (one : Played). one.passes) played back);
+}
+
+pub crowd_count : (c : Crowd) (p : Params) → IsCrowd c p → actor_count p ≡ c.clients + c.cpus
+crowd_count c p is = crowd_actors p is.version_is ∙ (ap (λ n. n + p.cpus) is.clients_are ∙ ap (λ n. c.clients + n) is.cpus_are)
+
+-- three passes, each put behind those before it, are all of a service of three actors
+pub all_three : (name : ServiceName) (p : Params) (a b c : PassesView) (none one two all : List PassesView) → none ≡ [] → one ≡ none ++ a ∷ [] → two ≡ one ++ b ∷ [] → all ≡ two ++ c ∷ []
+    → actor_count p ≡ 3 → AreOf name p a → AreOf name p b → AreOf name p c → AreAll name p all
+all_three name p a b c none one two all e₀ e₁ e₂ e₃ three of-a of-b of-c =
+    let P : PassesView → Type 0 = AreOf name p in
+    let e : all ≡ a ∷ b ∷ c ∷ [] = e₃ ∙ ap (λ (l : List PassesView). l ++ c ∷ []) (e₂ ∙ ap (λ (l : List PassesView). l ++ b ∷ []) (e₁ ∙ ap (λ (l : List PassesView). l ++ a ∷ []) e₀)) in
+    subst (AreAll name p) (sym e) (record { count = sym three; of = All-cons P a (b ∷ c ∷ []) of-a (All-cons P b (c ∷ []) of-b (All-cons P c [] of-c (All-nil P))) })
+
+-- an actor that has seen nothing
+pub booted_of : (name : ServiceName) (p : Params) (a : ℕ) (q : PassesView) → q ≡ booted name p a → AreOf name p q
+booted_of name p a q e = subst (AreOf name p) (sym e) (record { name_is = refl; params_are = refl })

@@ -1,0 +1,4 @@
+//! Services that threads share.
+mod crowds;
+mod held;
+mod two;
