@@ -1,0 +1,62 @@
+//! Threads that add to counters behind locks.
+ghost use Rattle.std.specs.Prelude.{◌≡◌, ◌<◌, ◌≤◌, vec_len, IfOk};
+ghost use denote.Param.Send.{IsSync};
+
+use crate::work::Work;
+use co_sbt::NoMemory;
+use std::alloc::Global;
+use std::sync::{Mutex, Wait};
+use std::thread::{Threads, join};
+
+/// Adds to a counter behind its lock, twice as often as there are calls of each kind.
+fn add<R: Wait>(rt: &R, counters: &[Mutex<u64>], work: &Work, thread: u32) {
+    let Some(counter) = counters.get(work.place(thread) as usize) else {
+        return;
+    };
+    for _ in 0..work.calls {
+        let mut count = counter.lock(rt);
+        *count = count.saturating_add(1);
+        drop(count);
+        let mut count = counter.lock(rt);
+        *count = count.saturating_add(1);
+    }
+}
+
+/// So many threads, each in a branch of its own.
+fn add_all<R: Threads + Wait + Sync>(rt: &R, counters: &[Mutex<u64>], work: &Work, threads: u32) {
+    if threads == 0 {
+        return;
+    }
+    let thread = threads - 1;
+    join(
+        rt,
+        ||
+            requires { IsSync R.row }
+        { add_all(rt, counters, work, thread) },
+        ||
+            requires { IsSync R.row }
+        { add(rt, counters, work, thread) },
+    );
+}
+
+/// A counter for each thread.
+fn counters(alloc: Global, threads: u32) -> Result<Vec<Mutex<u64>>, NoMemory> {
+    let mut all = Vec::new(alloc);
+    for _ in 0..threads {
+        if all.push(Mutex::new(0)).is_err() {
+            return Err(NoMemory {});
+        }
+    }
+    Ok(all)
+}
+
+/// Lets the threads add, and gives half of what stands in the counters then.
+pub fn run<R: Threads + Wait + Sync>(rt: &R, alloc: Global, work: &Work) -> Result<u64, NoMemory> {
+    let all = counters(alloc, work.threads)?;
+    add_all(rt, all.as_slice(), work, work.threads);
+    let mut sum: u64 = 0;
+    for counter in all {
+        sum = sum.saturating_add(counter.into_inner());
+    }
+    Ok(sum / 2)
+}
