@@ -110,6 +110,21 @@ module _ (t : List Holders) (places : List CursorAt) (a : ℕ) (to : CursorAt) (
       let all = new ∙ same (length t) (plus to.hold (less from f)) (holders_at (set places a to)) (λ k below. sym (each k)) in
       subst (λ (n : ℕ). taken to.hold (released from t) ≡ table n (holders_at (set places a to))) (sym (long (taken to.hold (released from t)) (length t) (holders_at (set places a to)) all)) all
 
+-- ---- an actor's place changes, and what it holds does not
+
+sum-stays : (p : Option Held → ℕ) (places : List CursorAt) (a : ℕ) (to : CursorAt) → a < length places → to.hold ≡ (get_or places a first_place).hold →
+    sum_by (λ (c : CursorAt). p c.hold) places ≡ sum_by (λ (c : CursorAt). p c.hold) (set places a to)
+sum-stays p places a to within same_hold =
+    let moves = sum_by-set (λ (c : CursorAt). p c.hold) places a to first_place within in
+    let counts = ap p same_hold in
+    omega (arith, moves, counts)
+
+pub stayed : (t : List Holders) (places : List CursorAt) (a : ℕ) (to : CursorAt) → AreHolders t places → a < length places → to.hold ≡ (get_or places a first_place).hold →
+    AreHolders t (set places a to)
+stayed t places a to are within same_hold =
+    are ∙ same (length t) (holders_at places) (holders_at (set places a to))
+    (λ k below. same_holders (holders_at (set places a to) k) (holders_at places k) (sym (sum-stays (shares k) places a to within same_hold)) (sym (sum-stays (owns k) places a to within same_hold)))
+
 -- ---- a table says whether a hold is excluded
 
 positive : (m : ℕ) → nat_lt 0 (1 + m) ≡ true

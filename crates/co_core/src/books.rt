@@ -166,10 +166,10 @@ impl Books {
         ensures made { self.new.made ≡ self.old.made + 1 }
     {
         let place = &mut self.places[hand.actor as usize];
-        let (from, _over) = (place.hold, place.task);
+        // The checker knows the range of a number behind a reference once it is read.
+        let _over = place.task;
+        // The table of holders stays, since no note changes what the actor holds.
         advance(script, place, listed, note.place, &note.entry);
-        let hold = place.hold;
-        rehold(&mut self.holders, from, hold);
         self.made += 1;
         hand.push(note);
     }

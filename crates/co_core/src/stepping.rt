@@ -63,7 +63,8 @@ impl Engine {
         let place = self.books.at(actor);
         // The checker knows the range of a number behind a reference once it is read.
         let _task = place.task;
-        let action = action_for(script, actor, place);
+        let mut action = Action::Nothing;
+        action_for(script, actor, place, &mut action);
         if let Some(why) = self.blocked(script, actor, place, &action) {
             return Ok(Turn::Blocked(why));
         }

@@ -1,3 +1,4 @@
 pub mod Remaining
 pub mod Others
 pub mod Existing
+pub mod Keeping

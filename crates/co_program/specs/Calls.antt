@@ -1,5 +1,5 @@
 -- The call that an act asks for.
-use Rattle.std.specs.Prelude.{ℕ, Option, Some, None}
+use Rattle.std.specs.Prelude.{ℕ, Bool, true, false, Option, Some, None}
 use Rattle.co_sbt.specs.Time.{sat_add, from_ticks}
 use Rattle.co_object.specs.declared.PlainOp.{PlainOp}
 use Rattle.co_object.specs.declared.PlainOp.TheVariants as op
@@ -44,3 +44,14 @@ plain_op (ReadLock id) hz at = None
 plain_op Unlock hz at = None
 plain_op (Drain i) hz at = None
 plain_op (Tick time) hz at = None
+
+-- the act names the CPU where it is made
+abbrev pub is_here : Where → Bool
+is_here Here = true
+is_here cpu = false
+
+abbrev pub names_here : Act → Bool
+names_here (Reset who when func arg cpu prec) = is_here cpu
+names_here (Ticks who ticks func arg cpu) = is_here cpu
+names_here (Schedule who when cpu prec) = is_here cpu
+names_here act = false

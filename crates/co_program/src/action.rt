@@ -3,15 +3,16 @@ ghost use Rattle.std.specs.Prelude.{◌≡◌, ℕ, ◌<◌, ◌≤◌, ◌-◌,
 ghost use Rattle.co_lock.specs.Service.{hold_of};
 ghost use Rattle.co_program.specs.declared.script.Script.{Script};
 ghost use Rattle.co_program.specs.declared.role.Role.{Role};
-ghost use Rattle.co_program.specs.Actors.{actor_count, program_of};
+ghost use Rattle.co_program.specs.Actors.{actor_count, cpu_of, program_of};
 ghost use Rattle.co_program.specs.Action.{Silent, Asks, action_for, action_in, action_with, asks_call, asks_drain, asks_within, begins, draining, drained_of, firing, free_of, locks, over, pop_of, scans_first, scans_of, spec_at, takes};
 ghost use Rattle.co_program.specs.Advance.{tail_of};
+ghost use Rattle.co_program.specs.Calls.{plain_op};
 ghost use Rattle.co_program.specs.Existing.{ActionExists, IsIn};
 ghost use Rattle.co_program.specs.Indexed.{ActionCounts, action_as, action_of, acts_left, cursor_as, cursor_of, stage_of};
 ghost use Rattle.co_program.specs.Scripts.{IsScript};
 
 use crate::act::{Act, Scene};
-use crate::call::call_of;
+use crate::call::{call_of, names_here};
 use crate::cursor::{ActsLeft, Cursor, Service, Stage};
 use crate::program::{Task, acts_of, is_soft, next_of, task_after};
 use crate::role::{Role, cpu_of, role_of};
@@ -55,24 +56,25 @@ pub enum Action {
     Asks { act: u64, asked: Asked },
 }
 
-/// What the actor does next (our own order).
-pub fn action_for(script: &Script, actor: u32, cursor: &Cursor) -> Action
+// The action is put where the caller wants it, since each return of so large a value would be a copy. So the call that
+// finds the role belongs into its caller, and the steps that it leads to stand once for all callers.
+
+/// Puts into `next` what the actor does next (our own order). What was there doesn't matter.
+#[inline(always)]
+pub fn action_for(script: &Script, actor: u32, cursor: &Cursor, next: &mut Action)
     requires script { IsScript script.now }
     requires room { cursor.now.act < 2 ^ 64 - 1 }
     ensures action { let s = script.now in
-        action_of s actor cursor.now result ≡ action_for s actor (cursor_of s actor cursor.now) }
-    ensures counted { ActionCounts cursor.now result }
+        action_of s actor cursor.now next.new ≡ action_for s actor (cursor_of s actor cursor.now) }
+    ensures counted { ActionCounts cursor.now next.new }
     ensures existing { let s = script.now in
-        actor < actor_count s → IsIn s (cursor_of s actor cursor.now) → ActionExists s (action_of s actor cursor.now result) }
+        actor < actor_count s → IsIn s (cursor_of s actor cursor.now) → ActionExists s (action_of s actor cursor.now next.new) }
 {
-    let mut next = Action::Nothing;
-    action_with(script, role_of(script, actor), cursor, &mut next);
-    next
+    action_with(script, role_of(script, actor), cursor, next);
 }
 
-// The action is put where the caller wants it, since each return of so large a value would be a copy.
-
 /// The next step: a callout that is on its way comes first.
+#[inline(never)]
 fn action_with(script: &Script, role: Role, cursor: &Cursor, next: &mut Action)
     requires script { IsScript script.now }
     requires room { cursor.now.act < 2 ^ 64 - 1 }
@@ -129,29 +131,41 @@ fn action_in(script: &Script, role: Role, cursor: &Cursor, next: &mut Action)
         action_as s role cursor.now next.new ≡ action_in s role c c.stage }
     ensures counted { ActionCounts cursor.now next.new }
 {
-    let cpu = cpu_of(script, role);
+    // A client's CPU takes a division to find, so it is found only where it is asked for.
     match &cursor.stage {
         Stage::Ready => begins(script, role, cursor, next),
         Stage::Waiting { took, .. } => {
             *next = asks_drain(cursor, drained_of(script, role, cursor.task), *took);
         }
-        Stage::Popping { act } => *next = asks_queue(*act, cpu, pop_of(role)),
+        Stage::Popping { act } => *next = asks_queue(*act, cpu_of(script, role), pop_of(role)),
         Stage::Picking(v) => {
             let pick = RunOp::Pick {
                 n: v.n,
-                cpu,
+                cpu: cpu_of(script, role),
                 at: v.at,
             };
             *next = asks_run(v, pick);
         }
         Stage::Locking(v) => *next = locks(script, cursor, v),
-        Stage::Beginning(v) => *next = asks_run(v, RunOp::Begin { n: v.n, cpu }),
+        Stage::Beginning(v) => {
+            let cpu = cpu_of(script, role);
+            *next = asks_run(v, RunOp::Begin { n: v.n, cpu });
+        }
         Stage::Unlocking(_, _) => *next = Action::Silent(Move::Within { hold: None }),
-        Stage::Firing(v, left) => asks_within(script, cpu, cursor, v, *left, next),
+        Stage::Firing(v, left) => {
+            asks_within(script, cpu_of(script, role), cursor, v, *left, next);
+        }
         Stage::Releasing(_) => *next = Action::Silent(Move::Within { hold: None }),
-        Stage::Ending(v) => *next = asks_run(v, RunOp::End { n: v.n, cpu }),
-        Stage::Freeing { service, .. } => *next = asks_queue(service.act, cpu, free_of(role)),
-        Stage::Drained(v, left) => asks_within(script, cpu, cursor, v, *left, next),
+        Stage::Ending(v) => {
+            let cpu = cpu_of(script, role);
+            *next = asks_run(v, RunOp::End { n: v.n, cpu });
+        }
+        Stage::Freeing { service, .. } => {
+            *next = asks_queue(service.act, cpu_of(script, role), free_of(role));
+        }
+        Stage::Drained(v, left) => {
+            asks_within(script, cpu_of(script, role), cursor, v, *left, next);
+        }
     }
 }
 
@@ -207,11 +221,25 @@ fn does(script: &Script, role: Role, cursor: &Cursor, act: &Act, next: &mut Acti
         _ => {
             let scene = Scene {
                 time: cursor.time,
-                here: cpu_of(script, role),
+                here: here_of(script, role, act),
                 me: 0,
             };
             asks_call(script, cursor, act, &scene, next);
         }
+    }
+}
+
+/// The CPU where the role makes the act, if that names it; to find a client's takes a division. What the act asks is the
+/// same either way.
+fn here_of(script: &Script, role: Role, act: &Act) -> u32
+    requires { 1 ≤ script.now.cpus }
+    ensures { (hz time me : ℕ) → plain_op act.now hz (record { time = time; here = result; me = me }) ≡
+        plain_op act.now hz (record { time = time; here = cpu_of script.now role; me = me }) }
+{
+    if names_here(act) {
+        cpu_of(script, role)
+    } else {
+        0
     }
 }
 

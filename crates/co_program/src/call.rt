@@ -1,6 +1,6 @@
 //! The call that an act asks for.
 ghost use Rattle.std.specs.Prelude.{◌≡◌, ◌≤◌};
-ghost use Rattle.co_program.specs.Calls.{callout_of, cpu_named, due_of, plain_op};
+ghost use Rattle.co_program.specs.Calls.{callout_of, cpu_named, due_of, names_here, plain_op};
 
 use crate::act::{Act, Scene, When, Where, Who};
 use co_object::PlainOp;
@@ -80,6 +80,18 @@ pub fn call_of(act: &Act, hz: u32, scene: &Scene) -> Option<(u32, PlainOp)>
         | Act::Unlock
         | Act::Drain(_)
         | Act::Tick(_) => None,
+    }
+}
+
+/// Whether the act names the CPU where it is made.
+pub(crate) fn names_here(act: &Act) -> bool
+    ensures { result ≡ names_here act.now }
+{
+    match act {
+        Act::Reset { cpu, .. } => matches!(cpu, Where::Here),
+        Act::Ticks { cpu, .. } => matches!(cpu, Where::Here),
+        Act::Schedule { cpu, .. } => matches!(cpu, Where::Here),
+        _ => false,
     }
 }
 

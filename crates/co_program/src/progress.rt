@@ -20,13 +20,15 @@ use co_sbt::Sbt;
 
 /// The actor has made this entry at this place, and its cursor goes on. `listed` is whether the callout stands in a queue after
 /// the entry (no matter for the entries of CPUs and of actors). Of the acts that have begun, each is over in the program or
-/// has made a note: so `act` is at most `task` and the number of the actor's notes, which bounds it for every caller.
+/// has made a note: so `act` is at most `task` and the number of the actor's notes, which bounds it for every caller. No
+/// note changes what the actor holds.
 pub fn advance(script: &Script, cursor: &mut Cursor, listed: bool, place: Place, entry: &AnyEntry)
     requires script { IsScript script.now }
     requires room { cursor.old.act < 2 ^ 64 - 1 }
     ensures cursor { (actor : ℕ) → let s = script.now in
         cursor_of s actor cursor.new ≡ advance s (cursor_of s actor cursor.old) listed place entry.now }
     ensures counted { Counts cursor.old cursor.new 1 }
+    ensures hold { cursor.new.hold ≡ cursor.old.hold }
     ensures existing { (actor : ℕ) → let s = script.now in
         IsIn s (cursor_of s actor cursor.old) → EntryExists s place entry.now → IsIn s (cursor_of s actor cursor.new) }
 {

@@ -1,5 +1,5 @@
 //! What the actors of a worked run ask: a callout that fires once, at 1.5 seconds.
-ghost use Rattle.std.specs.Prelude.{◌≡◌, ◌∷◌, [], IfOk};
+ghost use Rattle.std.specs.Prelude.{◌≡◌, ◌<◌, ◌-◌, ◌^◌, ◌∷◌, [], IfOk};
 ghost use Rattle.co_program.specs.Scripts.{IsScript};
 
 use crate::{
@@ -69,6 +69,16 @@ fn one_firing(alloc: Global) -> Result<Script, NoMemory>
     })
 }
 
+/// What the actor does next.
+fn action_at(script: &Script, actor: u32, cursor: &Cursor) -> Action
+    requires script { IsScript script.now }
+    requires room { cursor.now.act < 2 ^ 64 - 1 }
+{
+    let mut next = Action::Nothing;
+    action_for(script, actor, cursor, &mut next);
+    next
+}
+
 /// The actor asks callout 0 this, and goes on after the reply.
 fn callout_says(
     rt: &impl Abort,
@@ -82,7 +92,7 @@ fn callout_says(
 {
     assert!(rt; cursor.act < 10);
     assert_eq!(rt;
-        action_for(script, actor, cursor),
+        action_at(script, actor, cursor),
         Action::Asks {
             act: 0,
             asked: Asked::Callout { i: 0, op: *op },
@@ -110,7 +120,7 @@ fn queue_says(
 {
     assert!(rt; cursor.act < 10);
     assert_eq!(rt;
-        action_for(script, actor, cursor),
+        action_at(script, actor, cursor),
         Action::Asks {
             act: 0,
             asked: Asked::Queue { cpu: 0, op: *op },
@@ -130,7 +140,7 @@ fn ends(rt: &impl Abort, script: &Script, actor: u32, cursor: &Cursor)
     requires { IsScript script.now }
 {
     assert!(rt; cursor.act < 10);
-    assert_eq!(rt; action_for(script, actor, cursor), Action::Nothing);
+    assert_eq!(rt; action_at(script, actor, cursor), Action::Nothing);
 }
 
 #[test]

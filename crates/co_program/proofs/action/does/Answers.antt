@@ -1,8 +1,9 @@
-use Rattle.std.proofs.Common.{◌∙◌, sym, drop}
+use Rattle.std.proofs.Common.{◌∙◌, sym, ap, drop}
 use Rattle.co_program.proofs.Remaining.{drop_some, task_below}
 use Rattle.co_program.proofs.Others.{begins_call}
 use Rattle.co_program.specs.declared.program.Task.TheVariants.{Does}
 use Rattle.co_program.specs.Actors.{program_of}
+use Rattle.co_program.specs.Action.{asks_covered}
 use Rattle.co_program.specs.Advance.{tail_of}
 use Rattle.co_program.specs.Indexed.{cursor_as}
 use Rattle.co_program.proofs.action.does.Goals as goal
@@ -14,8 +15,8 @@ returns-in_default-clause-action c =
     rw (drop_some left (Does c.args.act.now) c.requires.next)
     (
     c.asks_call.ensures.action c.args.role
-    ∙ (rw c.cpu_of-in_default.ensures
-    (sym (begins_call s c.args.role (cursor_as s c.args.role c.args.cursor.now) (tail_of left) c.args.act.now c.in_default.not-Now c.in_default.not-Lock c.in_default.not-ReadLock c.in_default.not-Unlock c.in_default.not-Drain c.in_default.not-Tick)))
+    ∙ (ap (asks_covered s c.args.cursor.now.hold c.args.cursor.now.act) (c.here_of.ensures s.hz c.args.cursor.now.time 0)
+    ∙ sym (begins_call s c.args.role (cursor_as s c.args.role c.args.cursor.now) (tail_of left) c.args.act.now c.in_default.not-Now c.in_default.not-Lock c.in_default.not-ReadLock c.in_default.not-Unlock c.in_default.not-Drain c.in_default.not-Tick))
     )
 
 pub returns-in-Now-clause-counted : goal.returns-in-Now-clause-counted

@@ -1,13 +1,11 @@
-use Rattle.std.proofs.Common.{arith, rules, ◌≡◌, ◌<◌, ◌-◌, ◌^◌, ℕ, List, sym, subst, ap, ◌∙◌, length, get_or, set}
+use Rattle.std.proofs.Common.{◌≡◌, ◌<◌, sym, subst, ap, ◌∙◌, length}
 use Rattle.std.proofs.lemmas.List.{get_or_read}
 use Rattle.co_core.specs.contracts.books.Books.{the_view}
-use Rattle.co_core.specs.declared.books.holders.Holders.{Holders}
-use Rattle.co_core.specs.Holders.{AreHolders, no_holders, released, taken}
 use Rattle.co_core.specs.Written.{Written, IsNoted, first_place, with_list, place_at}
-use Rattle.co_program.specs.Indexed.{IsCounted, Counts, cursor_of}
+use Rattle.co_program.specs.Indexed.{Counts, cursor_of}
 use Rattle.co_program.specs.declared.cursor.Cursor.{Cursor as CursorAt}
 use Rattle.co_program.specs.Advance.{advance}
-use Rattle.co_core.proofs.Holders.{moved, few-left}
+use Rattle.co_core.proofs.Holders.{stayed}
 use Rattle.co_core.proofs.Noting.{noted_by, went}
 use Rattle.co_core.proofs.books.Books.write.Goals as goal
 
@@ -23,26 +21,6 @@ returns-clause-noted c =
     (subst (λ (p : CursorAt). cursor_of c.args.script.now a c.advance.new.cursor ≡ advance c.args.script.now (cursor_of c.args.script.now a p) c.args.listed c.args.note.now.place c.args.note.now.entry) from (c.advance.ensures.cursor a))
     (subst (λ (p : CursorAt). Counts p c.advance.new.cursor 1) from c.advance.ensures.counted) c.push.ensures.items)
 
-pub rehold-requires-clause-shared : goal.rehold-requires-clause-shared
-rehold-requires-clause-shared c =
-    let x : Written = the_view c.self.inside in
-    let a = c.args.hand.now.actor in
-    let there : a < length x.places = subst (λ (y : Written). a < length y.places) (sym c.self.view_is) c.requires.actor in
-    let from : c.index_mut-place.result.now ≡ place_at x a = get_or_read c.self.inside.places.items a c.index_mut-place.result.now there c.index_mut-place.ensures.value first_place in
-    let long : length c.self.inside.places.items < 2 ^ 64 = search rules in
-    subst (λ (p : CursorAt). (k : ℕ) → k < length (released p.hold c.self.inside.holders.items) → (get_or (released p.hold c.self.inside.holders.items) k no_holders).shared < 2 ^ 64 - 1) (sym from)
-    (λ k below. (let few = (few-left c.self.inside.holders.items c.self.inside.places.items a c.self.invariant there k below).0 in omega (arith, few, long)))
-
-pub rehold-requires-clause-exclusive : goal.rehold-requires-clause-exclusive
-rehold-requires-clause-exclusive c =
-    let x : Written = the_view c.self.inside in
-    let a = c.args.hand.now.actor in
-    let there : a < length x.places = subst (λ (y : Written). a < length y.places) (sym c.self.view_is) c.requires.actor in
-    let from : c.index_mut-place.result.now ≡ place_at x a = get_or_read c.self.inside.places.items a c.index_mut-place.result.now there c.index_mut-place.ensures.value first_place in
-    let long : length c.self.inside.places.items < 2 ^ 64 = search rules in
-    subst (λ (p : CursorAt). (k : ℕ) → k < length (released p.hold c.self.inside.holders.items) → (get_or (released p.hold c.self.inside.holders.items) k no_holders).exclusive < 2 ^ 64 - 1) (sym from)
-    (λ k below. (let few = (few-left c.self.inside.holders.items c.self.inside.places.items a c.self.invariant there k below).1 in omega (arith, few, long)))
-
 pub invariant_of-self : goal.invariant_of-self
 invariant_of-self c =
     let x : Written = the_view c.self.inside in
@@ -50,6 +28,4 @@ invariant_of-self c =
     let to = c.advance.new.cursor in
     let there : a < length x.places = subst (λ (y : Written). a < length y.places) (sym c.self.view_is) c.requires.actor in
     let from : c.index_mut-place.result.now ≡ place_at x a = get_or_read c.self.inside.places.items a c.index_mut-place.result.now there c.index_mut-place.ensures.value first_place in
-    let all : c.rehold.new.holders.items ≡ taken to.hold (released (place_at x a).hold c.self.inside.holders.items) =
-    c.rehold.ensures ∙ ap (λ (p : CursorAt). taken to.hold (released p.hold c.self.inside.holders.items)) from in
-    subst (λ (t : List Holders). AreHolders t (set c.self.inside.places.items a to)) (sym all) (moved c.self.inside.holders.items c.self.inside.places.items a to c.self.invariant there)
+    stayed c.self.inside.holders.items c.self.inside.places.items a to c.self.invariant there (c.advance.ensures.hold ∙ ap (λ (p : CursorAt). p.hold) from)
