@@ -98,6 +98,7 @@ impl Engine {
     }
 
     /// Why the actor's next step has to wait, if it has to.
+    #[inline(always)]
     pub(crate) fn blocked(
         &self,
         script: &Script,

@@ -41,7 +41,9 @@ impl Engine {
         self.books.into_lists()
     }
 
-    /// One step of an actor. After NoMemory all is as it was.
+    /// One step of an actor. After NoMemory all is as it was. Inlined, as are the parts that every step goes through: they are
+    /// short beside the cost of calling them.
+    #[inline(always)]
     pub(crate) fn step(&mut self, script: &Script, actor: u32) -> Result<Turn, NoMemory>
         requires script { IsScript script.now }
         requires actor { actor < actor_count script.now }

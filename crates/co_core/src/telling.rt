@@ -30,6 +30,7 @@ fn makes_notes(turn: Turn) -> bool
 
 impl Engine {
     /// One step of an actor, whose notes are told and let go.
+    #[inline(always)]
     fn tell_step<N: Notebook>(
         &mut self,
         script: &Script,

@@ -10,6 +10,7 @@ use crate::script::Script;
 use co_lock::Held;
 
 /// A step without a note, as `action_for` gives it: the cursor goes on. `act` rises only as `task` does.
+#[inline(always)]
 pub fn go(script: &Script, cursor: &mut Cursor, to: &Move)
     requires script { IsScript script.now }
     requires counted { MoveCounts cursor.old to.now }

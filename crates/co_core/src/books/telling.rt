@@ -23,6 +23,7 @@ fn tell_all<N: Notebook>(notebook: &mut N, actor: u32, notes: &[Note]) -> Result
 
 impl Books {
     /// Tells the actor's notes to a notebook, and lets them go.
+    #[inline(always)]
     pub(crate) fn tell<N: Notebook>(&mut self, actor: u32, notebook: &mut N) -> Result<(), NoMemory>
         requires list { actor < length self.old.lists }
         requires told { actor < length self.old.told }

@@ -18,8 +18,8 @@ use co_sbt::NoMemory;
 
 impl Engine {
     /// An action that nothing blocks, other than that of an actor that has finished. The answer is how many notes it makes.
-    /// After NoMemory all is as it was. Not inlined, since a step that is blocked would pay for its locals too.
-    #[inline(never)]
+    /// After NoMemory all is as it was.
+    #[inline(always)]
     pub(crate) fn act(
         &mut self,
         script: &Script,
@@ -49,7 +49,9 @@ impl Engine {
         }
     }
 
-    /// What is asked is done, and noted. After NoMemory all is as it was.
+    /// What is asked is done, and noted. After NoMemory all is as it was. Not inlined, since a step that notes nothing would pay
+    /// for its locals too.
+    #[inline(never)]
     fn note(
         &mut self,
         script: &Script,
