@@ -115,7 +115,9 @@ fn settle(script: &Script, actor: u32, cursor: &mut Cursor) -> Action
         }
     }
     let _over = cursor.task;
-    action_for(script, actor, cursor)
+    let mut action = Action::Nothing;
+    action_for(script, actor, cursor, &mut action);
+    action
 }
 
 /// Does a step without a note, if that is the next one. If not, the answer is what the program does instead.
@@ -126,7 +128,8 @@ fn quiet_step(script: &Script, actor: u32, cursor: &mut Cursor) -> Option<Action
     ensures counted { Counts cursor.old cursor.new 0 }
 {
     let _over = cursor.task;
-    let action = action_for(script, actor, cursor);
+    let mut action = Action::Nothing;
+    action_for(script, actor, cursor, &mut action);
     match &action {
         Action::Silent(to) => go(script, cursor, to),
         Action::Take { to, .. } => go(script, cursor, to),
