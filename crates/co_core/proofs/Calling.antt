@@ -26,11 +26,12 @@ use Rattle.co_core.specs.declared.turn.Why.TheVariants.{Moving, Serviced}
 use Rattle.co_core.specs.World.{World}
 use Rattle.co_core.specs.Blocked.{is_moving, is_waiting, waits_for}
 use Rattle.co_core.specs.Step.{callout_answers, queue_answers, removed_from, step}
-use Rattle.co_core.specs.Stored.{Stored, IsCalled, wheel_at, stand_at, with_bag, with_wheel}
+use Rattle.co_core.specs.Stored.{Stored, IsCalled, wheel_at, stand_at, bag_at, with_bag, with_wheel}
 use Rattle.co_core.specs.Written.{Written, place_at}
-use Rattle.co_core.specs.Stands.{StandsFor, IsDue, IsWritten, callout_in}
+use Rattle.co_core.specs.Stands.{StandsFor, IsBag, IsDue, IsWritten, callout_in}
 use Rattle.co_core.proofs.CallSection.{is_at_wheel, answer_reply, removed_world, IsDone, call_done, Tail, ends_there, one_more}
 use Rattle.co_core.proofs.Invariant.{states_of, places_of}
+use Rattle.co_core.proofs.HoldsKept.{callout_view}
 use Rattle.co_core.proofs.Naming.{NamesCpu, cursor_names, names_of, Names}
 use Rattle.co_core.proofs.Placing.{reached_after}
 use Rattle.co_core.proofs.Tables.{read, long}
@@ -54,6 +55,10 @@ module _ (s : Script) (ok : IsScript s) (books : Written) (depot : Stored) (w : 
 
   pub stand_there : i < length depot.stands
   stand_there = let l = long depot.stands (length s.timers) (stands_of w) stands.stored.each_stand in let k = known in omega (arith, l, k)
+
+  -- an actor that calls moves nothing
+  pub bag_empty : bag_at depot a ≡ None
+  bag_empty = subst (λ (o : Option Parcel). IsBag s w o (bag_at depot a)) (callout_view s a (places_of w a) act i (Call op) due.due).0 (stands.stored.each_bag a due.may)
 
   still : is_moving s w i ≡ false
   still = still_of s w a act i op due

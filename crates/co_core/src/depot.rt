@@ -15,7 +15,7 @@ use co_bucket::WheelQueue;
 use co_object::{CallOp, Reply};
 use co_queue::Looks;
 use co_sbt::Sbt;
-use co_wheel::{EndOut, NextOut, Parcel, Wheel};
+use co_wheel::{CallOut, EndOut, NextOut, Parcel, Wheel};
 use std::marker::Model;
 
 /// Where the callouts' records are: at the wheels of the CPUs, or on their way.
@@ -34,18 +34,6 @@ impl Model for Depot {
     ghost Value = { Stored };
 
     ghost view = { λ d. record { wheels = d.wheels.items; stands = d.stands.items; bags = d.bags.items } };
-}
-
-/// What a call answers.
-#[derive(Drop)]
-pub(crate) struct Called {
-    pub reply: Reply,
-    /// The queue had an arming of the callout, which the call took out.
-    pub removed: bool,
-    /// An accepted arming stands in the queue, or is on its way into another one.
-    pub listed: bool,
-    /// It stands in the queue, at this time.
-    pub inserted: Option<Sbt>,
 }
 
 impl Depot {
@@ -75,16 +63,26 @@ impl Depot {
         is_entry(wheel.serving(), i, n) || is_entry(wheel.directing(), i, n)
     }
 
-    /// A caller's operation on a callout that is at this CPU. Where its record leaves it goes into the actor's bag.
-    pub(crate) fn call(&mut self, cpu: u32, i: u32, op: &CallOp, actor: u32) -> Called
+    /// A caller's operation on a callout that is at this CPU, answered in `out`. Where its record leaves it goes into the
+    /// actor's bag, which is empty. The result is whether an accepted arming stands in the queue, or is on its way into
+    /// another one.
+    pub(crate) fn call(
+        &mut self,
+        cpu: u32,
+        i: u32,
+        op: &CallOp,
+        actor: u32,
+        out: &mut CallOut,
+    ) -> bool
         requires cpu { cpu < length self.old.wheels }
         requires actor { actor < length self.old.bags }
         requires here { is_here (wheel_at self.old cpu).callouts i ≡ true }
-        ensures { (after : Cpu) × (leaves : Option Travelling) × IsCalled (wheel_at self.old cpu) i op.now result.reply result.removed result.listed result.inserted leaves after × (self.new ≡ with_bag (with_wheel self.old cpu after) actor leaves) }
+        requires empty { bag_at self.old actor ≡ None }
+        ensures { (after : Cpu) × (leaves : Option Travelling) × IsCalled (wheel_at self.old cpu) i op.now out.new.reply out.new.removed result out.new.inserted leaves after × (self.new ≡ with_bag (with_wheel self.old cpu after) actor leaves) }
     {
         let wheel = &mut self.wheels[cpu as usize];
         let bag = &mut self.bags[actor as usize];
-        call(wheel, i, op, bag)
+        call(wheel, i, op, bag, out)
     }
 
     /// The lock of the callout that this CPU services is held.
@@ -161,19 +159,24 @@ fn scan(wheel: &mut Wheel<WheelQueue>, now: Sbt) -> u32
     wheel.scan(now, &mut looks)
 }
 
-fn call(wheel: &mut Wheel<WheelQueue>, i: u32, op: &CallOp, bag: &mut Option<Parcel>) -> Called
-    requires { is_here wheel.old.callouts i ≡ true }
-    ensures { IsCalled wheel.old i op.now result.reply result.removed result.listed result.inserted bag.new wheel.new }
+/// The bag is empty, and written only where the callout leaves, which is rare.
+fn call(
+    wheel: &mut Wheel<WheelQueue>,
+    i: u32,
+    op: &CallOp,
+    bag: &mut Option<Parcel>,
+    out: &mut CallOut,
+) -> bool
+    requires here { is_here wheel.old.callouts i ≡ true }
+    requires empty { bag.old ≡ None }
+    ensures { IsCalled wheel.old i op.now out.new.reply out.new.removed result out.new.inserted bag.new wheel.new }
 {
-    let out = wheel.call(i, op);
-    let listed = out.inserted.is_some() || out.leaves.is_some();
-    *bag = out.leaves;
-    Called {
-        reply: out.reply,
-        removed: out.removed,
-        listed,
-        inserted: out.inserted,
+    wheel.call_into(i, op, out);
+    if out.leaves.is_none() {
+        return out.inserted.is_some();
     }
+    *bag = std::mem::replace(&mut out.leaves, None);
+    true
 }
 
 fn end(wheel: &mut Wheel<WheelQueue>, direct: bool) -> EndOut

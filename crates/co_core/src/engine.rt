@@ -17,7 +17,7 @@ use crate::depot::Depot;
 use co_object::{CallOp, Op, OwnKind, QOp, QReply, RunOp};
 use co_program::{Asked, Move, Parcel, Script};
 use co_sbt::Sbt;
-use co_wheel::NextOut;
+use co_wheel::{CallOut, NextOut};
 
 /// What is written, and where the records are.
 #[derive(Drop)]
@@ -68,12 +68,13 @@ impl Engine {
         ensures count { length hand.new.notes.items ≡ length hand.old.notes.items + result }
     {
         let cpu = self.depot.stand(i);
-        let out = self.depot.call(cpu, i, op, hand.actor);
+        let mut out = CallOut::none();
+        let listed = self.depot.call(cpu, i, op, hand.actor, &mut out);
         let removed = self
             .books
             .write_removal(script, hand, act, cpu, i, out.removed);
         self.books
-            .write_callout(script, hand, act, i, Op::Call(*op), out.reply, out.listed);
+            .write_callout(script, hand, act, i, Op::Call(*op), out.reply, listed);
         let inserted = self.books.write_insertion(script, hand, out.inserted);
         removed + 1 + inserted
     }

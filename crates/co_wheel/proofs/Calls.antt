@@ -20,7 +20,7 @@ use Rattle.co_object.specs.Query.{answer}
 use Rattle.co_object.specs.Callout.{call, live_call, retired_call}
 use Rattle.co_object.specs.Entries.{is_armed}
 use Rattle.co_object.specs.Group.{off_of}
-use Rattle.co_object.specs.Stand.{Stand, stand_of, listed_cpu, is_free_at, off, is_idle, Deferred, Listed}
+use Rattle.co_object.specs.Stand.{stand_of, listed_cpu, is_free_at, off, is_idle, Deferred, Listed}
 use Rattle.co_object.proofs.Changes.{either_way}
 
 -- nothing of the queue changes, or the arming is taken away, or a new one stands in its place

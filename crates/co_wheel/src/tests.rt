@@ -7,7 +7,7 @@ ghost use Rattle.co_wheel.specs.Callouts.{empty_callouts};
 ghost use Rattle.co_wheel.specs.Cpu.{cpu_of};
 ghost use Rattle.co_wheel.specs.Worked.{moved_parcel};
 
-use crate::{NextOut, Parcel, Wheel};
+use crate::{CallOut, NextOut, Parcel, Wheel};
 use co_object::{CallOp, LockUse, Next, PlainOp, Reply, Spec};
 use co_queue::{ListQueue, Looks};
 use co_record::Record;
@@ -64,9 +64,10 @@ fn cancelled_while_it_waits(rt: HostRuntime) {
     wheel.put(Record::new(0, spec_with(LockUse::Mtx(0), false), 0));
     let second = Sbt::from_ticks(1, 1);
     let mut looks = Looks::new();
-    let armed = wheel.call(0, &reset_at(second, 0, None));
+    let mut out = CallOut::none();
+    wheel.call_into(0, &reset_at(second, 0, None), &mut out);
     assert_eq!(rt;
-        armed.reply,
+        out.reply,
         Reply::Armed {
             code: 0,
             n: 0,
@@ -74,22 +75,22 @@ fn cancelled_while_it_waits(rt: HostRuntime) {
             off: None,
         }
     );
-    assert_eq!(rt; armed.inserted, Some(second));
+    assert_eq!(rt; out.inserted, Some(second));
     assert_eq!(rt; wheel.scan(second, &mut looks), 1);
     let NextOut::Took { i, n, at, reply } = wheel.next() else {
         panic!(rt; "nothing has come due")
     };
     assert!(rt; i == 0 && n == 0 && at == second);
     assert_eq!(rt; reply, Reply::Hold);
-    let stopped = wheel.call(0, &STOP);
+    wheel.call_into(0, &STOP, &mut out);
     assert_eq!(rt;
-        stopped.reply,
+        out.reply,
         Reply::Stopped {
             code: 1,
             off: None,
         }
     );
-    assert!(rt; !stopped.removed);
+    assert!(rt; !out.removed && out.inserted.is_none());
     assert_eq!(rt; wheel.begin(), Reply::Skip);
     let ended = wheel.end();
     assert_eq!(rt; ended.reply, ended_at_rest());
