@@ -43,7 +43,7 @@ use Rattle.co_wheel.specs.Turns.{Shows, Takes, pop_of as lane_pop, free_of as la
 use Rattle.co_core.specs.World.{World}
 use Rattle.co_core.specs.Blocked.{moves}
 use Rattle.co_core.specs.Step.{are_direct, answered, goes_on, callout_answers, queue_answers, is_in_section, step}
-use Rattle.co_core.specs.Stored.{Stored, IsEnded, wheel_at, with_wheel, with_bag}
+use Rattle.co_core.specs.Stored.{Stored, IsEnded, wheel_at, bag_at, with_wheel, with_bag}
 use Rattle.co_core.specs.Written.{Written}
 use Rattle.co_core.specs.Stands.{StandsFor, IsDue, IsAtWheel, IsBag, IsPacked, IsStored, IsPlaced, IsSettled, IsWritten, alone_of, slot_of, in_slot, callout_in, entry_of}
 use Rattle.co_core.proofs.CallSection.{some_is, answered_so, goes_as}
@@ -182,6 +182,10 @@ module _ (s : Script) (ok : IsScript s) (books : Written) (depot : Stored) (w : 
 
   pub end_bag : a < length depot.bags
   end_bag = let l = stands.stored.bags_long in let m = due.may in omega (arith, l, m)
+
+  -- an actor whose service ends moves nothing
+  pub end_empty : bag_at depot a ≡ None
+  end_empty = subst (λ (o : Option Parcel). IsBag s w o (bag_at depot a)) view.empty (stands.stored.each_bag a due.may)
 
   here : callout before.callouts i ≡ Some (alone_of s w i)
   here = there s ok books depot w stands a i cpu due.may view.is_cpu about busy

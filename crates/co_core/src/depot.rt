@@ -95,17 +95,18 @@ impl Depot {
         wheel.begin()
     }
 
-    /// The service of this CPU is over, or of its interrupt where `direct`. Where a record leaves it goes into the actor's bag.
+    /// The service of this CPU is over, or of its interrupt where `direct`. Where a record leaves it goes into the actor's
+    /// bag, which is empty.
     pub(crate) fn end(&mut self, cpu: u32, direct: bool, actor: u32) -> Reply
         requires cpu { cpu < length self.old.wheels }
         requires actor { actor < length self.old.bags }
         requires possible { is_some (end_here direct (wheel_at self.old cpu).callouts) ≡ true }
+        requires empty { bag_at self.old actor ≡ None }
         ensures { (after : Cpu) × (leaves : Option Travelling) × IsEnded direct (wheel_at self.old cpu) result leaves after × (self.new ≡ with_bag (with_wheel self.old cpu after) actor leaves) }
     {
         let wheel = &mut self.wheels[cpu as usize];
-        let out = end(wheel, direct);
-        self.bags[actor as usize] = out.leaves;
-        out.reply
+        let bag = &mut self.bags[actor as usize];
+        end(wheel, direct, bag)
     }
 
     /// The first callout that has come due goes into service: of this CPU, or of its interrupt where `direct`.
@@ -179,15 +180,19 @@ fn call(
     true
 }
 
-fn end(wheel: &mut Wheel<WheelQueue>, direct: bool) -> EndOut
+/// The bag is empty, and written only where the callout leaves, which is rare.
+fn end(wheel: &mut Wheel<WheelQueue>, direct: bool, bag: &mut Option<Parcel>) -> Reply
     requires possible { is_some (end_here direct wheel.old.callouts) ≡ true }
-    ensures { IsEnded direct wheel.old result.reply result.leaves wheel.new }
+    requires empty { bag.old ≡ None }
+    ensures { IsEnded direct wheel.old result bag.new wheel.new }
 {
-    if direct {
-        wheel.end_direct()
-    } else {
-        wheel.end()
+    let mut out = EndOut::none();
+    wheel.end_into(direct, &mut out);
+    if out.leaves.is_none() {
+        return out.reply;
     }
+    *bag = out.leaves;
+    out.reply
 }
 
 fn next(wheel: &mut Wheel<WheelQueue>, direct: bool) -> NextOut

@@ -19,7 +19,7 @@ use Rattle.co_core.specs.Written.{Written, with_list}
 use Rattle.co_core.specs.Stands.{StandsFor, IsWritten, MayWrite}
 use Rattle.co_core.specs.Step.{callout_answers, queue_answers, step}
 use Rattle.co_core.proofs.Invariant.{states_of}
-use Rattle.co_core.proofs.EndSection.{end_there, end_known, ends_here, end_unarmed, stands_ended}
+use Rattle.co_core.proofs.EndSection.{end_there, end_known, end_empty, ends_here, end_unarmed, stands_ended}
 use Rattle.co_core.proofs.engine.Engine.end.Goals as goal
 
 -- the lane of the callout, as it was read
@@ -42,6 +42,11 @@ end-reply-requires-clause-possible c =
     let m = c.requires.may in
     ap (λ (timers : List Spec). is_some (end_here (lane_of timers c.args.i) (wheel_at c.args.self.now.depot c.args.cpu).callouts)) c.as_slice.ensures
     ∙ ends_here c.args.script.now c.requires.script (with_list c.args.self.now.books c.args.hand.now.actor c.args.hand.now.notes.items) c.args.self.now.depot m.world m.held c.args.hand.now.actor c.args.act c.args.i c.args.n c.args.cpu m.due
+
+pub end-reply-requires-clause-empty : goal.end-reply-requires-clause-empty
+end-reply-requires-clause-empty c =
+    let m = c.requires.may in
+    end_empty c.args.script.now c.requires.script (with_list c.args.self.now.books c.args.hand.now.actor c.args.hand.now.notes.items) c.args.self.now.depot m.world m.held c.args.hand.now.actor c.args.act c.args.i c.args.n c.args.cpu m.due
 
 pub write_callout-requires-clause-known : goal.write_callout-requires-clause-known
 write_callout-requires-clause-known c =
