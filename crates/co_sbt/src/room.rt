@@ -56,13 +56,6 @@ impl<T: Drop> Room<T> {
         }
     }
 
-    /// Lets all items go. The room that they took is the list's again, and its memory stays.
-    pub fn clear(&mut self)
-        ensures { self.new.items ≡ [] }
-    {
-        self.items.clear();
-    }
-
     /// How many items the list has, the room not counted.
     pub fn len(&self) -> usize
         ensures { result ≡ length self.now.items }
@@ -93,14 +86,5 @@ mod tests {
         room.push(8);
         assert_eq!(rt; room.len(), 3);
         assert_eq!(rt; room.into_seq().as_slice(), [3, 5, 8].as_slice());
-    }
-
-    #[test]
-    fn lets_its_items_go(rt: HostRuntime) {
-        let mut numbers = Seq::new(rt.alloc());
-        assert_eq!(rt; numbers.push(3_u64), Ok(()));
-        let mut room = Room::from_seq(numbers);
-        room.clear();
-        assert_eq!(rt; room.len(), 0);
     }
 }

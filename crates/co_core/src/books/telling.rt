@@ -7,7 +7,7 @@ ghost use Rattle.co_core.specs.Written.{let_go, list_at, told_at};
 use super::Books;
 use co_notebook::Notebook;
 use co_object::Note;
-use co_sbt::{NoMemory, Room, Seq};
+use co_sbt::NoMemory;
 
 /// Tells these notes of an actor, in their order.
 fn tell_all<N: Notebook>(notebook: &mut N, actor: u32, notes: &[Note]) -> Result<(), NoMemory>
@@ -33,14 +33,13 @@ impl Books {
         ensures actors { N.actors notebook.new ≡ N.actors notebook.old }
         ensures let_go { OnOk result (self.new ≡ let_go self.old actor) }
     {
-        let list = self.lists.replace(actor as usize, Seq::new(self.alloc));
-        let notes = list.as_slice();
-        self.told[actor as usize] += notes.len() as u64;
+        let index = actor as usize;
+        let notes = self.lists.as_slice()[index].as_slice();
+        let count = notes.len() as u64;
         tell_all(notebook, actor, notes)?;
+        self.told[index] += count;
         // The list's memory is kept for the notes to come.
-        let mut room = Room::from_seq(list);
-        room.clear();
-        self.lists.replace(actor as usize, room.into_seq());
+        self.lists.clear_at(index);
         Ok(())
     }
 }
