@@ -1,5 +1,5 @@
 -- The actors of a service, who leave one after the other.
-use Rattle.std.proofs.Common.{◌≡◌, ℕ, zero, suc, ◌+◌, ◌<◌, ◌≤◌, ◌++◌, Bool, List, [], ◌∷◌, length, refl, sym, ap, ◌∙◌, subst, arith, length-append, inl, inr, map, true, false}
+use Rattle.std.proofs.Common.{◌≡◌, ℕ, zero, suc, ◌+◌, ◌<◌, ◌++◌, Bool, List, [], ◌∷◌, length, refl, sym, ap, ◌∙◌, subst, arith, length-append, inl, inr, map, true, false}
 use Rattle.std.specs.Prelude.{slice_get, slice_index_or, if◌then◌else◌, ◌==◌}
 use Rattle.std.specs.List.{All}
 use Rattle.std.proofs.lemmas.List.Elements.{All-weaker, All-cons, All-head, All-map, All-nil, All-same, All-tail}
@@ -9,7 +9,7 @@ use Rattle.co_object.specs.Journal.{scanner}
 use Rattle.co_service.specs.declared.params.Params.{Params}
 use Rattle.co_service.specs.Booted.{booted}
 use Rattle.co_service.specs.Name.{ServiceName}
-use Rattle.co_service.specs.Params.{AreParams, IsSpec, actor_count, actors_of, no_spec, spec_at}
+use Rattle.co_service.specs.Params.{AreParams, IsSpec, actor_count, actors_of, no_spec}
 use Rattle.co_service.specs.Scenes.{IsFreeSpec, IsScene}
 use Rattle.co_service.specs.Services.{IsFree}
 use Rattle.co_service.specs.Closing.{AreAll}

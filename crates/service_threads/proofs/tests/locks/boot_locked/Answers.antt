@@ -1,7 +1,6 @@
 -- The service of one callout with a mutex.
-use Rattle.std.proofs.Common.{◌≡◌, List, [], ◌∷◌, ◌++◌, ◌∙◌}
+use Rattle.std.proofs.Common.{[], ◌∷◌, ◌++◌, ◌∙◌}
 use Rattle.std.proofs.lemmas.Result.{IfOk-weaker}
-use Rattle.co_object.specs.declared.spec.Spec.{Spec}
 use Rattle.co_service.proofs.Stages.{locked_allowed, locked_is}
 use Rattle.service_threads.proofs.tests.locks.boot_locked.Goals as goal
 
