@@ -1,5 +1,5 @@
 -- The actors of a service, who leave one after the other.
-use Rattle.std.proofs.Common.{◌≡◌, ℕ, zero, suc, ◌+◌, ◌<◌, ◌≤◌, ◌++◌, List, [], ◌∷◌, length, refl, sym, ap, ◌∙◌, subst, arith, length-append, inl, map, false}
+use Rattle.std.proofs.Common.{◌≡◌, ℕ, zero, suc, ◌+◌, ◌<◌, ◌++◌, Bool, List, [], ◌∷◌, length, refl, sym, ap, ◌∙◌, subst, arith, length-append, inl, inr, map, true, false}
 use Rattle.std.specs.Prelude.{slice_get, slice_index_or, if◌then◌else◌, ◌==◌}
 use Rattle.std.specs.List.{All}
 use Rattle.std.proofs.lemmas.List.Elements.{All-weaker, All-cons, All-head, All-map, All-nil, All-same, All-tail}
@@ -9,10 +9,13 @@ use Rattle.co_object.specs.Journal.{scanner}
 use Rattle.co_service.specs.declared.params.Params.{Params}
 use Rattle.co_service.specs.Booted.{booted}
 use Rattle.co_service.specs.Name.{ServiceName}
-use Rattle.co_service.specs.Params.{AreParams, IsSpec, actor_count, actors_of, no_spec, spec_at}
+use Rattle.co_service.specs.Params.{AreParams, IsSpec, actor_count, actors_of, no_spec}
+use Rattle.co_service.specs.Scenes.{IsFreeSpec, IsScene}
+use Rattle.co_service.specs.Services.{IsFree}
 use Rattle.co_service.specs.Closing.{AreAll}
 use Rattle.co_service.specs.Views.{AreOf, PassesView}
 use Rattle.co_service.proofs.Lasts.{booted_free}
+use Rattle.co_service.proofs.Stages.{cpu_free, interrupt_free, interrupt_scans}
 use Rattle.service_threads.specs.declared.crowd.Crowd.{Crowd}
 use Rattle.service_threads.specs.declared.played.Played.{Played}
 use Rattle.service_threads.specs.Crowd.{AreFirst, AreServers, IsBack, IsCrowd, IsPlain, IsWithin}
@@ -99,3 +102,28 @@ all_three name p a b c none one two all e₀ e₁ e₂ e₃ three of-a of-b of-c
 -- an actor that has seen nothing
 pub booted_of : (name : ServiceName) (p : Params) (a : ℕ) (q : PassesView) → q ≡ booted name p a → AreOf name p q
 booted_of name p a q e = subst (AreOf name p) (sym e) (record { name_is = refl; params_are = refl })
+
+-- ---- a direct callout and another one
+
+abbrev lane_spec : Bool → Spec
+lane_spec direct = record { lock = Free; returns_unlocked = false; direct = direct }
+
+pub lane_specs : (specs : List Spec) → specs ≡ lane_spec true ∷ lane_spec false ∷ [] → All (IsFreeSpec 2) specs
+lane_specs specs is = subst (All (IsFreeSpec 2)) (sym is) (All-cons (IsFreeSpec 2) (lane_spec true) (lane_spec false ∷ []) (free true) (All-cons (IsFreeSpec 2) (lane_spec false) [] (free false) (All-nil (IsFreeSpec 2)))) where
+  free : (direct : Bool) → IsFreeSpec 2 (lane_spec direct)
+  free direct = record { lock = refl; allowed = record { unlocked = λ _. refl; free = inr refl; later = λ two. absurd (omega arith) } }
+
+-- the CPU's actor and its interrupt have nothing in service at first
+pub lane_cpu : (name : ServiceName) (p : Params) (q : PassesView) → IsScene 2 1 2 3 p → q ≡ booted name p 1 → AreOf name p q × IsFree false q 0
+lane_cpu name p q scene e = (booted_of name p 1 q e, cpu_free name p q 1 0 e (let one = scene.clients in omega arith))
+
+pub lane_interrupt : (name : ServiceName) (p : Params) (q : PassesView) → IsScene 2 1 2 3 p → q ≡ booted name p 2 → AreOf name p q × (q.actor ≡ scanner (actors_of p) 0) × IsFree true q 0
+lane_interrupt name p q scene e =
+    let own : p.clients + p.cpus + 0 ≡ 2 = (let one = scene.clients in let wheels = scene.cpus_are in omega arith) in
+    (booted_of name p 2 q e, interrupt_scans name p q 2 0 e own scene.version_is, interrupt_free name p q 2 0 e own)
+
+-- the actor of the only CPU, after one client
+pub only_server : (name : ServiceName) (p : Params) (q : PassesView) → p.version ≡ 1 → p.clients ≡ 1 → q ≡ booted name p 1 → AreServers name p 0 q
+only_server name p q version one e =
+    let P : PassesView → Type 0 = AreServers name p 0 in
+    subst P (sym e) (first_server name p 0 1 version (omega arith))

@@ -29,7 +29,7 @@ pub struct Crowd {
 }
 
 /// So many callouts without a lock.
-fn plain_specs(alloc: Global, callouts: u32) -> Result<Seq<Spec>, NoMemory>
+pub(crate) fn plain_specs(alloc: Global, callouts: u32) -> Result<Seq<Spec>, NoMemory>
     ensures count { IfOk result (λ specs. length specs ≡ callouts) }
     ensures each { IfOk result (All IsPlain) }
 {

@@ -1,11 +1,12 @@
 //! Histories put together from what the actors were answered, and tried on the plain objects.
+ghost use Rattle.std.specs.Prelude.{length};
+ghost use Rattle.co_queue.specs.Timers.{IsSize};
 ghost use Rattle.service_threads.specs.Crowd.{IsWithin};
 
 use crate::Crowd;
 use crate::bench::Bench;
-use co_object::{
-    Alone, AnyEntry, Entry, Lists, LockUse, Note, Op, Place, QEntry, QOp, RunOp, Spec,
-};
+use crate::crowd::plain_specs;
+use co_object::{Alone, AnyEntry, Entry, Lists, Note, Op, Place, QEntry, QOp, RunOp, Spec};
 use co_sbt::NoMemory;
 use std::alloc::Global;
 
@@ -84,24 +85,36 @@ fn put_all(told: &mut Histories, actor: u32, notes: &[Note]) -> Result<bool, NoM
     Ok(true)
 }
 
-/// The clients call, and the server of a callout at a CPU is that CPU's actor.
-fn is_by_its_actor(crowd: &Crowd, entry: &Entry) -> bool {
+/// A CPU's actor.
+fn is_cpu(crowd: &Crowd, cpu: u32, actor: u32) -> bool {
+    actor.checked_sub(crowd.clients) == Some(cpu)
+}
+
+/// The actor of a CPU's interrupt, who comes after all CPUs.
+fn is_interrupt(crowd: &Crowd, cpu: u32, actor: u32) -> bool {
+    match actor.checked_sub(crowd.clients) {
+        Some(after) => after.checked_sub(crowd.cpus) == Some(cpu),
+        None => false,
+    }
+}
+
+/// The clients call. The server of a callout at a CPU is that CPU's actor, and of a direct one the CPU's interrupt.
+fn is_by_its_actor(crowd: &Crowd, spec: &Spec, entry: &Entry) -> bool {
     match entry.op {
         Op::Call(_) => entry.actor < crowd.clients,
         Op::Run(RunOp::Pick { cpu, .. } | RunOp::Begin { cpu, .. } | RunOp::End { cpu, .. }) => {
-            cpu < crowd.cpus && entry.actor.checked_sub(crowd.clients) == Some(cpu)
+            if spec.direct {
+                is_interrupt(crowd, cpu, entry.actor)
+            } else {
+                cpu < crowd.cpus && is_cpu(crowd, cpu, entry.actor)
+            }
         }
     }
 }
 
 /// Each entry has the answer of the callout alone.
-fn is_of_one_callout(crowd: &Crowd, history: &[Option<Note>]) -> bool {
-    let spec = Spec {
-        lock: LockUse::Free,
-        returns_unlocked: false,
-        direct: false,
-    };
-    let mut callout = Alone::open(spec, 0);
+fn is_of_one_callout(crowd: &Crowd, spec: &Spec, history: &[Option<Note>]) -> bool {
+    let mut callout = Alone::open(*spec, 0);
     for told in history {
         let Some(
             Note {
@@ -112,18 +125,20 @@ fn is_of_one_callout(crowd: &Crowd, history: &[Option<Note>]) -> bool {
         else {
             return false;
         };
-        if !is_by_its_actor(crowd, entry) || callout.step(&entry.op) != Some(entry.reply) {
+        if !is_by_its_actor(crowd, spec, entry) || callout.step(&entry.op) != Some(entry.reply) {
             return false;
         }
     }
     true
 }
 
-/// Anyone inserts and removes, and the CPU's actor does all else.
-fn is_of_its_actor(crowd: &Crowd, cpu: u32, entry: &QEntry) -> bool {
+/// Anyone inserts and removes. The CPU's actor takes and frees, in version 1 it scans too; all else its interrupt does.
+fn is_of_its_actor(crowd: &Crowd, version: u32, cpu: u32, entry: &QEntry) -> bool {
     match entry.op {
         QOp::Insert { .. } | QOp::Remove { .. } => true,
-        _ => entry.actor.checked_sub(crowd.clients) == Some(cpu),
+        QOp::Pop | QOp::Free => is_cpu(crowd, cpu, entry.actor),
+        QOp::Scan { .. } if version == 1 => is_cpu(crowd, cpu, entry.actor),
+        _ => is_interrupt(crowd, cpu, entry.actor),
     }
 }
 
@@ -131,12 +146,14 @@ fn is_of_its_actor(crowd: &Crowd, cpu: u32, entry: &QEntry) -> bool {
 fn is_of_one_queue(
     alloc: Global,
     crowd: &Crowd,
+    version: u32,
+    specs: &[Spec],
     cpu: u32,
     journal: &[Option<Note>],
 ) -> Result<bool, NoMemory>
-    requires { IsWithin crowd.now }
+    requires { IsSize (length specs.now) }
 {
-    let mut bench = Bench::new(alloc, crowd.callouts)?;
+    let mut bench = Bench::new(alloc, specs)?;
     for told in journal {
         let Some(
             Note {
@@ -147,7 +164,8 @@ fn is_of_one_queue(
         else {
             return Ok(false);
         };
-        if !is_of_its_actor(crowd, cpu, entry) || bench.answer(&entry.op) != Some(entry.reply) {
+        let own = is_of_its_actor(crowd, version, cpu, entry);
+        if !own || bench.answer(&entry.op) != Some(entry.reply) {
             return Ok(false);
         }
     }
@@ -155,17 +173,38 @@ fn is_of_one_queue(
 }
 
 /// Each journal has the answers of the plain list.
-fn are_of_queues(alloc: Global, crowd: &Crowd, journals: &[Told]) -> Result<bool, NoMemory>
-    requires { IsWithin crowd.now }
+fn are_of_queues(
+    alloc: Global,
+    crowd: &Crowd,
+    version: u32,
+    specs: &[Spec],
+    journals: &[Told],
+) -> Result<bool, NoMemory>
+    requires { IsSize (length specs.now) }
 {
     let mut cpu: u32 = 0;
     for journal in journals {
-        if !is_of_one_queue(alloc, crowd, cpu, journal.as_slice())? {
+        if !is_of_one_queue(alloc, crowd, version, specs, cpu, journal.as_slice())? {
             return Ok(false);
         }
         cpu = cpu.saturating_add(1);
     }
     Ok(true)
+}
+
+/// Each callout's history has the answers of the callout alone.
+fn are_of_callouts(crowd: &Crowd, specs: &[Spec], histories: &[Told]) -> bool {
+    let mut i: usize = 0;
+    for history in histories {
+        let Some(spec) = specs.get(i) else {
+            return false;
+        };
+        if !is_of_one_callout(crowd, spec, history.as_slice()) {
+            return false;
+        }
+        i = i.saturating_add(1);
+    }
+    true
 }
 
 /// The histories of which each actor tells its own entries: none stands where another does.
@@ -185,17 +224,30 @@ fn tell(alloc: Global, crowd: &Crowd, lists: &Lists) -> Result<Option<Histories>
 }
 
 /// What the actors were answered makes up whole histories: each position is told once, by the actor that made the entry, a
-/// callout's history has the answers of the callout alone, and a CPU's those of the plain list.
+/// callout's history has the answers of the callout alone, and a CPU's those of the plain list. The callouts have no locks,
+/// and the version is 1.
 pub fn is_one_history(alloc: Global, crowd: &Crowd, lists: &Lists) -> Result<bool, NoMemory>
     requires { IsWithin crowd.now }
+{
+    let specs = plain_specs(alloc, crowd.callouts)?;
+    is_one_history_of(alloc, crowd, 1, specs.as_slice(), lists)
+}
+
+/// The same of a service of this version, whose callouts are these.
+pub(crate) fn is_one_history_of(
+    alloc: Global,
+    crowd: &Crowd,
+    version: u32,
+    specs: &[Spec],
+    lists: &Lists,
+) -> Result<bool, NoMemory>
+    requires { IsSize (length specs.now) }
 {
     let Some(told) = tell(alloc, crowd, lists)? else {
         return Ok(false);
     };
-    for history in &told.callouts {
-        if !is_of_one_callout(crowd, history.as_slice()) {
-            return Ok(false);
-        }
+    if !are_of_callouts(crowd, specs, told.callouts.as_slice()) {
+        return Ok(false);
     }
-    are_of_queues(alloc, crowd, told.cpus.as_slice())
+    are_of_queues(alloc, crowd, version, specs, told.cpus.as_slice())
 }

@@ -1,4 +1,8 @@
 //! Services that threads share.
 mod crowds;
+mod drains;
 mod held;
+mod lanes;
+mod locks;
+mod pair;
 mod two;

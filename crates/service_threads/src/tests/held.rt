@@ -5,6 +5,7 @@ ghost use Rattle.co_service.specs.Views.{AreOf};
 ghost use Rattle.service_threads.specs.Crowd.{IsCrowd};
 ghost use denote.Param.Send.{IsSync};
 
+use super::pair::is_set_in_time;
 use crate::crowd::{Crowd, ask, boot_crowd, leave};
 use co_object::{PlainOp, Reply};
 use co_sbt::{NoMemory, Sbt, Seq};
@@ -15,10 +16,7 @@ use std::process::Abort;
 use std::sync::Wait;
 use std::sync::atomic::{AtomicU64, Ordering};
 use std::test::Fail;
-use std::thread::{Threads, join, yield_now};
-
-/// How often the first thread looks whether the second was answered.
-const LOOKS: u64 = 10_000_000;
+use std::thread::{Threads, join};
 
 const TWO_CPUS: Crowd = Crowd {
     clients: 2,
@@ -32,17 +30,6 @@ fn a_lock_for_each_cpu(rt: HostRuntime) -> Result<(), Fail> {
     let (fresh, passes) = boot_crowd(rt.alloc(), &TWO_CPUS)?;
     stops_beside_a_hold::<Brand, _>(&rt, rt.alloc(), fresh, passes)?;
     Ok(())
-}
-
-/// Looks until the word is set. False where it isn't after all looks.
-fn is_set_in_time(word: &AtomicU64) -> bool {
-    for _ in 0..LOOKS {
-        if word.load(Ordering::SeqCst) > 0 {
-            return true;
-        }
-        yield_now();
-    }
-    false
 }
 
 /// What the two threads tell each other.
