@@ -32,7 +32,7 @@ use Rattle.co_report.specs.declared.line.Line.{Line}
 use Rattle.co_report.specs.Histories.{Shown, shown_at, shown_history, all_numbered_of}
 use Rattle.co_report.specs.Origins.{note_at}
 use Rattle.co_report.proofs.Counted.{note-actor}
-use Rattle.co_report.proofs.Members.{Has, find-has}
+use Rattle.co_object.proofs.Members.{Has, find-has}
 use Rattle.co_report.proofs.ShownHistories.{histories_shown}
 use Rattle.co_check.specs.declared.verdict.Verdict.{Verdict}
 use Rattle.co_check.specs.declared.verdict.Verdict.TheVariants.{Legal}

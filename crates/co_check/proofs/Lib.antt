@@ -15,6 +15,9 @@ pub mod Showing
 pub mod SeenNotes
 pub mod RunsLegal
 pub mod Reported
+pub mod Sections
+pub mod LinesFit
+pub mod RunReports
 pub mod Walking
 pub mod Acts
 pub mod Taken

@@ -25,7 +25,7 @@ use Rattle.co_report.specs.declared.line.Line.{Line}
 use Rattle.co_report.specs.Histories.{Numbered, Shown, shown, shown_at, shown_history, all_numbered_of}
 use Rattle.co_report.specs.Origins.{note_at}
 use Rattle.co_report.proofs.Counted.{passing-numbered, pos-below, note-actor}
-use Rattle.co_report.proofs.Members.{find-has}
+use Rattle.co_object.proofs.Members.{find-has}
 use Rattle.co_report.proofs.Numbering.{numbered, has-note, found, Found, all-notes-of}
 use Rattle.co_report.proofs.ShownHistories.{histories_shown}
 use Rattle.co_check.specs.Runs.{IsLineOfNote, count_in, shown_line, lines_at, ReportsOfRunsAreLegal}

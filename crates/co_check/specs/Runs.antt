@@ -1,5 +1,5 @@
--- The report of a run is legal.
-use Rattle.std.specs.Prelude.{◌≡◌, ℕ, List, map, take, Some, slice_get}
+-- The report of a run is legal, and is read back as its script and its notes.
+use Rattle.std.specs.Prelude.{◌≡◌, ℕ, ◌≤◌, true, List, length, map, take, Some, Ok, slice_get}
 use Rattle.std.specs.List.{count_by, filter}
 use Rattle.co_object.specs.declared.Note.{Note}
 use Rattle.co_object.specs.declared.Place.{Place}
@@ -7,13 +7,18 @@ use Rattle.co_object.specs.Lists as lists_of
 use Rattle.co_object.specs.Lists.{same_place}
 use Rattle.co_program.specs.declared.script.Script.{Script}
 use Rattle.co_program.specs.Runs.{IsRunOf}
+use Rattle.co_script.specs.Fits.{fits}
 use Rattle.co_report.specs.declared.line.Line.{Line}
 use Rattle.co_report.specs.Histories.{Shown, shown_history}
+use Rattle.co_report.specs.Laws.{report_of_histories}
 use Rattle.co_report.specs.Origins.{note_at}
+use Rattle.co_report.specs.Reading.{report_read}
+use Rattle.co_report.specs.Reports.{report_of}
+use Rattle.co_report.specs.Typed.{ListsTyped}
 use Rattle.co_check.specs.declared.verdict.Verdict.TheVariants.{Legal}
 use Rattle.co_check.specs.Lines.{AreLinesOf}
 use Rattle.co_check.specs.Shown.{actor_of, callout_history, cpu_journal}
-use Rattle.co_check.specs.Verdict.{verdict_of}
+use Rattle.co_check.specs.Verdict.{verdict, verdict_of}
 
 -- how many of these lines stand in a place
 abbrev pub count_in : Place → List Line → ℕ
@@ -58,3 +63,15 @@ ReportsOfRunsAreLegal = (s : Script) (lists : List (List Note)) (lines : List Li
 abbrev pub LegalReportsAreOfRuns : Type 0
 LegalReportsAreOfRuns = (s : Script) (lines : List Line) (end : ℕ) → AreLinesOf s lines → verdict_of s lines end ≡ Legal →
     (lists : List (List Note)) × IsRunOf s lists × ((p : Place) → map shown_line (lines_at p lines) ≡ shown_history lists p)
+
+-- ---- the text of a report
+
+-- the text of these lists' report is read as the script and exactly the notes of the lists, and the verdict is Legal
+pub record IsReadAsLegal (s : Script) (lists : List (List Note)) : Type 0 where
+  pub read : report_read (report_of s lists) ≡ Ok (report_of_histories s (shown_history lists))
+  pub legal : verdict (report_of_histories s (shown_history lists)) ≡ Legal
+
+-- so it is with every run of a script that fits, where its notes have values that their types allow and the report has at most
+-- 268435456 bytes
+abbrev pub ReportsOfRunsAreReadAsLegal : Type 0
+ReportsOfRunsAreReadAsLegal = (s : Script) (lists : List (List Note)) → fits s ≡ true → IsRunOf s lists → ListsTyped lists → length (report_of s lists) ≤ 268435456 → IsReadAsLegal s lists

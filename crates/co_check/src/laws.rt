@@ -1,6 +1,6 @@
 //! What the verdict says of histories, each the contract of a function that does nothing.
 ghost use Rattle.co_check.specs.Programs.{FollowsWhereSeen};
-ghost use Rattle.co_check.specs.Runs.{LegalReportsAreOfRuns, ReportsOfRunsAreLegal, RunsAreLegal};
+ghost use Rattle.co_check.specs.Runs.{LegalReportsAreOfRuns, ReportsOfRunsAreLegal, ReportsOfRunsAreReadAsLegal, RunsAreLegal};
 ghost use Rattle.co_check.specs.Laws.{HistoriesOfLegalReports, LegalHistoriesFit};
 
 /// Where the verdict is Legal, each callout's history is one of that callout alone, and each CPU's journal one of a plain
@@ -27,6 +27,12 @@ pub fn runs_are_legal()
 /// So is a report whose lines are, place by place, the shown histories of a run's lists.
 pub fn reports_of_runs_are_legal()
     ensures { ReportsOfRunsAreLegal }
+{}
+
+/// And so is the text of a run's report, read again: of a script that fits, it is read as the script and exactly the notes of
+/// the run, and the verdict is Legal, where it has at most 268435456 bytes and the notes have values that their types allow.
+pub fn reports_of_runs_read_back_as_legal()
+    ensures { ReportsOfRunsAreReadAsLegal }
 {}
 
 /// And a report that is legal is of a run: there are lists of notes, one for each actor, that are a run of the script, and

@@ -47,11 +47,10 @@ use Rattle.co_core.proofs.Actions.{IsAction}
 use Rattle.co_core.proofs.CallEnds.{Ends, stays, lands, leaves, ends, took_out, runs_on_free, parcel_for}
 use Rattle.co_core.proofs.Deeds.{Did, did_call}
 use Rattle.co_core.proofs.HoldsKept.{callout_view}
-use Rattle.co_core.proofs.Homes.{CpusFit, fit_call}
+use Rattle.co_program.proofs.Homes.{CpusFit, fit_call, NamesCpu}
 use Rattle.co_core.proofs.Invariant.{states_of, queues_of, places_of}
 use Rattle.co_core.proofs.Moves.{decide}
 use Rattle.co_core.proofs.Moving.{IsOnly, moves_it, moving_none, parcels_of}
-use Rattle.co_core.proofs.Naming.{NamesCpu}
 use Rattle.co_core.proofs.Passages.{changed, serving_stays, directing_stays}
 use Rattle.co_core.proofs.Placing.{StageKept, IsRight, placed_after}
 use Rattle.co_core.proofs.RolesKept.{is_acting}

@@ -32,7 +32,8 @@ use Rattle.co_core.specs.Stands.{StandsFor, IsBag, IsDue, IsWritten, callout_in}
 use Rattle.co_core.proofs.CallSection.{is_at_wheel, answer_reply, removed_world, IsDone, call_done, Tail, ends_there, one_more}
 use Rattle.co_core.proofs.Invariant.{states_of, places_of}
 use Rattle.co_core.proofs.HoldsKept.{callout_view}
-use Rattle.co_core.proofs.Naming.{NamesCpu, cursor_names, names_of, Names}
+use Rattle.co_core.proofs.Naming.{cursor_names, names_of, Names}
+use Rattle.co_program.proofs.Homes.{NamesCpu}
 use Rattle.co_core.proofs.Placing.{reached_after}
 use Rattle.co_core.proofs.Tables.{read, long}
 use Rattle.co_core.proofs.Ways.{stands_of}

@@ -12,7 +12,8 @@ use Rattle.co_program.specs.declared.Script.{Script}
 use Rattle.co_program.specs.Actors.{actor_count}
 use Rattle.co_program.specs.Cursor.{Cursor}
 use Rattle.co_program.specs.declared.Parcel.{Parcel}
-use Rattle.co_core.proofs.Invariant.{IsListed, EntriesFit, IsCarried, carries}
+use Rattle.co_core.proofs.Invariant.{IsListed, IsCarried, carries}
+use Rattle.co_object.proofs.EntriesKept.{EntriesFit}
 use Rattle.co_core.proofs.Moves.{IsAt, decide, at_all}
 use Rattle.co_core.proofs.QueuesKept.{entries_all, entries_both, entries_stand}
 

@@ -5,7 +5,8 @@ use Rattle.co_object.specs.Queue.{Queue as TimerQueue, Due}
 use Rattle.co_object.proofs.Each.{Each}
 use Rattle.co_object.proofs.Passing.{passing}
 use Rattle.co_program.specs.declared.Script.{Script}
-use Rattle.co_core.proofs.Invariant.{IsLane, EntriesFit}
+use Rattle.co_core.proofs.Invariant.{IsLane}
+use Rattle.co_object.proofs.EntriesKept.{EntriesFit}
 use Rattle.co_core.proofs.Sums.{total, total_above, total_at, total_of_both, total_of_ones, total_of_zeros}
 use Rattle.co_core.proofs.QueueFalls.{crowd}
 use Rattle.co_core.proofs.Names.{Exists}

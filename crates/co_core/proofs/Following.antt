@@ -296,7 +296,7 @@ traced_open s H = record { states = λ i. refl; traces = λ a. record { next = t
 extends_itself : (w : World) → Extends (histories_of w) w
 extends_itself w = record { timers = λ i. begins_whole (w.timers i).history; cpus = λ cpu. begins_whole (w.cpus cpu).journal }
 
-traced_reached : (s : Script) (schedule : List ℕ) → NoneMissing s (reached s schedule) → IsTraced s (histories_of (reached s schedule)) (reached s schedule)
+pub traced_reached : (s : Script) (schedule : List ℕ) → NoneMissing s (reached s schedule) → IsTraced s (histories_of (reached s schedule)) (reached s schedule)
 traced_reached s schedule found =
     let w : World = reached s schedule in
     traced_run s (histories_of w) schedule (open_world s) found (λ a. refl) (traced_open s (histories_of w)) (extends_itself w)

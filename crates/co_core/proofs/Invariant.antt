@@ -27,6 +27,7 @@ use Rattle.co_program.specs.Cursor.{Cursor}
 use Rattle.co_program.specs.declared.Parcel.{Parcel}
 use Rattle.co_program.specs.Advance.{parcel_of}
 use Rattle.co_object.proofs.Each.{Each}
+use Rattle.co_object.proofs.EntriesKept.{EntriesFit}
 use Rattle.co_object.proofs.PassageOnce.{stands}
 use Rattle.co_program.specs.Action.{spec_at}
 use Rattle.co_program.specs.Follows.{scan_count}
@@ -219,12 +220,6 @@ pub record IsListed (state : State) (n cpu t : ℕ) : Type 0 where
   pub place : arming.cpu ≡ cpu
   pub due : arming.due ≤ t
   pub free : is_free_at state.run cpu ≡ true
-
--- each entry of a queue fits: its callout, its arming, and a time that it is not due after
-pub record EntriesFit (P : ℕ → ℕ → ℕ → Type 0) (q : TimerQueue) : Type 0 where
-  pub content : Each (λ w. P w.i w.n w.t) q.content
-  pub expired : Each (λ d. P d.i d.n q.last) q.expired
-  pub urgent : Each (λ d. P d.i d.n q.last) q.urgent
 
 -- the callout that an actor has in hand: on its way, just popped, or sent on its way by the end of its service
 abbrev pub in_stage : ℕ → Stage → Option Parcel

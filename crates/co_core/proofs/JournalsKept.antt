@@ -39,10 +39,11 @@ use Rattle.co_program.specs.Advance.{advance_queue, parcel_of, drain_acts, tail_
 use Rattle.co_program.specs.Follows.{scan_count, one_scan}
 use Rattle.co_core.specs.World.{Cpu as CpuState}
 use Rattle.co_core.specs.Step.{enters_journal, note_of_cpu, are_direct}
-use Rattle.co_core.proofs.Invariant.{IsBetween, RunFits, IsTaskOf, IsTicking, EntriesFit}
+use Rattle.co_core.proofs.Invariant.{IsBetween, RunFits, IsTaskOf, IsTicking}
+use Rattle.co_object.proofs.EntriesKept.{EntriesFit, entries_change, entries_got, max_left}
 use Rattle.co_core.proofs.Moves.{queue_at, states_landed, at_read}
 use Rattle.co_core.proofs.Passages.{scan_stands, insert_stands, got_stands, remove_stands, quiet_serving, is_quiet, other_lane, freed_by}
-use Rattle.co_core.proofs.QueuesKept.{lane_kept, lane_got, entries_change, entries_got}
+use Rattle.co_core.proofs.QueuesKept.{lane_kept, lane_got}
 use Rattle.co_core.proofs.CarriedKept.{elsewhere, no_out, listed_later, listed_off}
 use Rattle.co_core.proofs.RolesKept.{IsServer, first_task, free_advance}
 use Rattle.co_core.proofs.Roles.{same_role}
@@ -56,7 +57,6 @@ use Rattle.co_core.specs.Laws.{actors_of}
 use Rattle.co_core.proofs.Invariant.{cpu_of_run}
 use Rattle.co_core.proofs.Roles.{server_of_lane}
 use Rattle.co_core.proofs.CarriedKept.{stands_listed}
-use Rattle.co_core.proofs.QueuesKept.{max_left}
 
 scans_more : (J : List QEntry) (e : QEntry) → scan_count (J ++ e ∷ []) ≡ scan_count J + one_scan e.op
 scans_more [] e = omega arith

@@ -63,15 +63,11 @@ pub mod Naming
 pub mod Copies
 pub mod Booting
 pub mod Filling
-pub mod Homes
 pub mod Relisted
 pub mod CallEnds
 pub mod CallSection
 pub mod Rounding
-pub mod Replied
 pub mod Places
-pub mod FuncsNamed
-pub mod FuncsKept
 pub mod NotesNamed
 pub mod Runs
 pub mod Calling

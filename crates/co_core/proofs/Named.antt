@@ -33,10 +33,10 @@ use Rattle.co_program.specs.Scripts.{IsScript, is_tick, names_exist}
 use Rattle.co_core.specs.World.{World, open_world, with_cursor}
 use Rattle.co_core.specs.Step.{enters, note_of, callout_answers, enters_journal, note_of_cpu, queue_answers, note_of_own, own_note, are_direct, answered}
 use Rattle.co_core.specs.Laws.{reached}
-use Rattle.co_core.proofs.Invariant.{EntriesFit, states_of, queues_of, places_of}
+use Rattle.co_core.proofs.Invariant.{states_of, queues_of, places_of}
+use Rattle.co_object.proofs.EntriesKept.{EntriesFit, entries_change, entries_got}
 use Rattle.co_core.proofs.Lists.{cond_kept}
 use Rattle.co_core.proofs.Moves.{at_all, place_at, note_at, queue_at}
-use Rattle.co_core.proofs.QueuesKept.{entries_change, entries_got}
 use Rattle.co_core.proofs.Passages.{changed}
 use Rattle.co_core.proofs.DueSteps.{due_run}
 use Rattle.co_core.proofs.Names.{Exists, PlaceNames, ActionNames, ReplyNames, TasksName, ActsName, due_names, callout_names, queue_names, after_act}

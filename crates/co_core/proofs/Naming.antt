@@ -38,19 +38,10 @@ use Rattle.co_program.specs.Cursor.{Cursor}
 use Rattle.co_program.specs.Action.{Action, Nothing, Silent, Take, Asks, action_for, action_with, action_in, spec_at, asks_covered, asks_within, asks_drain, takes, begins, drained_of, over, locks}
 use Rattle.co_program.specs.Scripts.{IsScript, names_exist, who_exists, cpu_exists, is_tick}
 use Rattle.co_program.specs.Indexed.{cursor_of, stage_of}
+use Rattle.co_program.proofs.Homes.{IsBelow, NamesCpu}
 use Rattle.co_core.specs.Stands.{callout_in}
 use Rattle.co_core.proofs.Lists.{at_choice}
 use Rattle.co_core.proofs.Roles.{NumberFits, number_fits, interrupt_version}
-
--- a CPU that is named is one of so many
-abbrev pub IsBelow : ℕ → Option ℕ → Type 0
-IsBelow n None = ⊤
-IsBelow n (Some cpu) = cpu < n
-
-abbrev pub NamesCpu : ℕ → CallOp → Type 0
-NamesCpu n (Plain (op.Reset due prec func arg cpu)) = IsBelow n cpu
-NamesCpu n (Plain (op.Schedule due prec cpu)) = IsBelow n cpu
-NamesCpu n call = ⊤
 
 module _ (s : Script) where
   -- what a call names exists, and nothing is said of other actions

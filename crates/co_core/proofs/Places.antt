@@ -35,19 +35,19 @@ use Rattle.co_program.proofs.Existing.{start_in, action_exists, advance_exists}
 use Rattle.co_core.specs.World.{World, Actor, open_world, with_cursor, lists_of}
 use Rattle.co_core.specs.Step.{notes_down, enters, note_of, callout_answers, enters_journal, note_of_cpu, queue_answers, note_of_own, are_direct, answered}
 use Rattle.co_core.specs.Laws.{reached, IsSchedule}
-use Rattle.co_core.proofs.Invariant.{EntriesFit, states_of, queues_of, places_of}
+use Rattle.co_core.proofs.Invariant.{states_of, queues_of, places_of}
+use Rattle.co_object.proofs.EntriesKept.{EntriesFit, entries_change, entries_got}
 use Rattle.co_core.proofs.Moves.{IsAt, at_all, at_read, at_updated_is, place_at, note_at, state_at, queue_at, states_landed}
-use Rattle.co_core.proofs.QueuesKept.{entries_change, entries_got}
 use Rattle.co_core.proofs.Passages.{changed}
-use Rattle.co_core.proofs.Homes.{CpusFit}
-use Rattle.co_core.proofs.Replied.{AnswerFits, answer_fits}
+use Rattle.co_program.proofs.Homes.{CpusFit}
+use Rattle.co_program.proofs.Replied.{AnswerFits, answer_fits}
 use Rattle.co_core.proofs.DueSteps.{may_run}
 
 -- the notes of each actor
-abbrev pub notes_in : World → ℕ → List Note
+abbrev notes_in : World → ℕ → List Note
 notes_in w a = (w.actors a).notes
 
-pub notes_at : (s : Script) (w : World) (a : ℕ) (listed : Bool) (note : Note) → IsAt (notes_in w) a (notes_in w a ++ note ∷ []) (notes_in (notes_down s w a listed note))
+notes_at : (s : Script) (w : World) (a : ℕ) (listed : Bool) (note : Note) → IsAt (notes_in w) a (notes_in w a ++ note ∷ []) (notes_in (notes_down s w a listed note))
 notes_at s w a listed note =
     let new : Actor = record (w.actors a) { cursor = advance s (places_of w a) listed note.place note.entry; notes = notes_in w a ++ note ∷ [] } in
     at_read (λ (x : Actor). x.notes) w.actors a new (notes_down s w a listed note).actors (at_updated_is w.actors a new)
@@ -57,7 +57,7 @@ put_last s [] note have there = (there, tt)
 put_last s (x ∷ notes) note have there = (have.0, put_last s notes note have.1 there)
 
 -- what stands in the world exists in the script
-pub record IsPut (s : Script) (w : World) : Type 0 where
+record IsPut (s : Script) (w : World) : Type 0 where
   pub places : (a : ℕ) → a < actor_count s → IsIn s (places_of w a)
   pub states : (i : ℕ) → CpusFit s.cpus (states_of w i)
   pub queues : (cpu : ℕ) → EntriesFit (λ i n t. IsCallout s i) (queues_of w cpu)
@@ -67,7 +67,7 @@ module _ (s : Script) (ok : IsScript s) where
   abbrev Standing : ℕ → ℕ → ℕ → Type 0
   Standing i n t = IsCallout s i
 
-  pub due_at : (w : World) (a : ℕ) (due : Action) → a < actor_count s → action_for s a (places_of w a) ≡ due → IsPut s w → ActionExists s due
+  due_at : (w : World) (a : ℕ) (due : Action) → a < actor_count s → action_for s a (places_of w a) ≡ due → IsPut s w → ActionExists s due
   due_at w a due may is put = subst (ActionExists s) is (action_exists s ok a may (places_of w a) (put.places a may))
 
   -- ---- a note in a place that exists, and what it names exists
@@ -86,7 +86,7 @@ module _ (s : Script) (ok : IsScript s) where
 
   -- ---- a callout's answer
 
-  pub callout_put : (w : World) (a act i : ℕ) (op : Op) (o : Option (State × Reply)) → a < actor_count s → callout_step (spec_at s i) (states_of w i) op ≡ o → ActionExists s (Asks act (Callout i op)) → IsPut s w →
+  callout_put : (w : World) (a act i : ℕ) (op : Op) (o : Option (State × Reply)) → a < actor_count s → callout_step (spec_at s i) (states_of w i) op ≡ o → ActionExists s (Asks act (Callout i op)) → IsPut s w →
       IsPut s (callout_answers s w a act i op o)
   callout_put w a act i op None may is exists put = put
   callout_put w a act i op (Some o) may is exists put =
@@ -101,11 +101,11 @@ module _ (s : Script) (ok : IsScript s) where
 
   -- ---- a queue's answer
 
-  pub got_exists : (w : World) (cpu : ℕ) (op : QOp) (reply : QReply) (t : TimerQueue) → QChange s.buckets (are_direct s) (queues_of w cpu) op reply t → IsPut s w → QReplyExists s reply
+  got_exists : (w : World) (cpu : ℕ) (op : QOp) (reply : QReply) (t : TimerQueue) → QChange s.buckets (are_direct s) (queues_of w cpu) op reply t → IsPut s w → QReplyExists s reply
   got_exists w cpu op (Got i n time) t change put = entries_got Standing (λ i n t u later h. h) s.buckets (are_direct s) (queues_of w cpu) op (Got i n time) t i n time change refl (put.queues cpu)
   got_exists w cpu op reply t change put = tt
 
-  pub queue_put : (w : World) (a act cpu : ℕ) (op : QOp) (o : Option (TimerQueue × QReply)) → a < actor_count s → cpu < s.cpus → journal.step s.buckets (are_direct s) (queues_of w cpu) op ≡ o →
+  queue_put : (w : World) (a act cpu : ℕ) (op : QOp) (o : Option (TimerQueue × QReply)) → a < actor_count s → cpu < s.cpus → journal.step s.buckets (are_direct s) (queues_of w cpu) op ≡ o →
       ((i n t : ℕ) → op ≡ Insert i n t → IsCallout s i) → IsPut s w → IsPut s (queue_answers s w a act cpu op o)
   queue_put w a act cpu op None may on is new put = put
   queue_put w a act cpu op (Some o) may on is new put =
@@ -119,12 +119,12 @@ module _ (s : Script) (ok : IsScript s) where
         notes = notes_down_have (enters_journal w cpu o.0 made) a false (note_of_cpu w cpu made) may (lt-ltb cpu s.cpus on) put.notes;
       }
 
-  pub inserts : (act cpu : ℕ) (op : QOp) → ActionExists s (Asks act (Queue cpu op)) → (i n t : ℕ) → op ≡ Insert i n t → IsCallout s i
+  inserts : (act cpu : ℕ) (op : QOp) → ActionExists s (Asks act (Queue cpu op)) → (i n t : ℕ) → op ≡ Insert i n t → IsCallout s i
   inserts act cpu op exists i n t is = (subst (λ (x : QOp). ActionExists s (Asks act (Queue cpu x))) is exists).1
 
   -- ---- any answer, and steps without a note
 
-  pub answer_put : (w : World) (a act : ℕ) (asked : Asked) → a < actor_count s → action_for s a (places_of w a) ≡ Asks act asked → IsPut s w → IsPut s (answered s w a act asked)
+  answer_put : (w : World) (a act : ℕ) (asked : Asked) → a < actor_count s → action_for s a (places_of w a) ≡ Asks act asked → IsPut s w → IsPut s (answered s w a act asked)
   answer_put w a act (Callout i op) may is put = callout_put w a act i op (callout_step (spec_at s i) (states_of w i) op) may refl (due_at w a (Asks act (Callout i op)) may is put) put
   answer_put w a act (Queue cpu op) may is put =
       let exists : ActionExists s (Asks act (Queue cpu op)) = due_at w a (Asks act (Queue cpu op)) may is put in
@@ -136,7 +136,7 @@ module _ (s : Script) (ok : IsScript s) where
     notes = notes_down_have w a false (note_of_own s w a act kind) may (lt-ltb a (actor_count s) may) put.notes;
   }
 
-  pub remove_put : (w : World) (a act i cpu : ℕ) (op : CallOp) → a < actor_count s → action_for s a (places_of w a) ≡ Asks act (Callout i (Call op)) → off_of (call (states_of w i) op).1 ≡ Some cpu → IsPut s w →
+  remove_put : (w : World) (a act i cpu : ℕ) (op : CallOp) → a < actor_count s → action_for s a (places_of w a) ≡ Asks act (Callout i (Call op)) → off_of (call (states_of w i) op).1 ≡ Some cpu → IsPut s w →
       IsPut s (answered s w a act (Queue cpu (Remove i)))
   remove_put w a act i cpu op may is gone put =
       let exists : ActionExists s (Asks act (Callout i (Call op))) = due_at w a (Asks act (Callout i (Call op))) may is put in
@@ -144,7 +144,7 @@ module _ (s : Script) (ok : IsScript s) where
       let on : CpuExists s (Some cpu) = subst (CpuExists s) gone fits.reply.gone in
       queue_put w a act cpu (Remove i) (journal.step s.buckets (are_direct s) (queues_of w cpu) (Remove i)) may on refl (λ j n t is. cc) put
 
-  pub moved : (w : World) (a : ℕ) (to : Cursor) → IsIn s to → IsPut s w → IsPut s (with_cursor w a to)
+  moved : (w : World) (a : ℕ) (to : Cursor) → IsIn s to → IsPut s w → IsPut s (with_cursor w a to)
   moved w a to inside put = record {
     places = at_all (λ b (c : Cursor). b < actor_count s → IsIn s c) (places_of w) a to (places_of (with_cursor w a to)) (place_at w a to) (λ _. inside) (λ b other. put.places b);
     states = put.states;
@@ -153,7 +153,7 @@ module _ (s : Script) (ok : IsScript s) where
         (at_read (λ (x : Actor). x.notes) w.actors a (record (w.actors a) { cursor = to }) (with_cursor w a to).actors (at_updated_is w.actors a (record (w.actors a) { cursor = to }))) (put.notes a) (λ b other. put.notes b);
   }
 
-  pub open_put : IsPut s (open_world s)
+  open_put : IsPut s (open_world s)
   open_put = record {
     places = λ a may. start_in s ok a;
     states = λ i. record { home = (let h = ok.cpus.0 in omega arith); target = λ arming is. cc };
@@ -161,7 +161,7 @@ module _ (s : Script) (ok : IsScript s) where
     notes = λ a may. tt;
   }
 
-  pub reached_put : (schedule : List ℕ) → IsSchedule s schedule → IsPut s (reached s schedule)
+  reached_put : (schedule : List ℕ) → IsSchedule s schedule → IsPut s (reached s schedule)
   reached_put schedule may =
       may_run s (λ a. a < actor_count s) (IsPut s) answer_put remove_put
       (λ w a to may is put. moved w a to (due_at w a (Silent to) may is put) put)

@@ -31,7 +31,7 @@ use Rattle.co_core.proofs.WellFormed.{well_formed}
 same_function : {X : Type 0} (f g : ℕ → X) → ((n : ℕ) → f n ≡ g n) → f ≡ g
 same_function f g same = λ i n. same n i
 
-histories_shown : (s : Script) (w : World) → AreOfLists s w → histories_of w ≡ shown_histories (lists_of s w)
+pub histories_shown : (s : Script) (w : World) → AreOfLists s w → histories_of w ≡ shown_histories (lists_of s w)
 histories_shown s w are =
     both (λ i. (w.timers i).history) (λ i. callout_history i (lists_of s w)) (λ cpu. (w.cpus cpu).journal) (λ cpu. cpu_journal cpu (lists_of s w))
     (same_function (λ i. (w.timers i).history) (λ i. callout_history i (lists_of s w)) (λ i. sym (are.timers i)))
@@ -43,11 +43,11 @@ histories_shown s w are =
       both f g h k e d = ap (λ x. of x h) e ∙ ap (of g) d
 
 module _ (s : Script) (ok : IsScript s) (schedule : List ℕ) (may : IsSchedule s schedule) where
-  list_of : (a : ℕ) → a < actor_count s → notes_by (lists_of s (reached s schedule)) a ≡ ((reached s schedule).actors a).notes
+  pub list_of : (a : ℕ) → a < actor_count s → notes_by (lists_of s (reached s schedule)) a ≡ ((reached s schedule).actors a).notes
   list_of a within = get_or-map-range_with_len (λ b. ((reached s schedule).actors b).notes) 0 (actor_count s) a a [] within (omega arith)
 
   -- the notes at that moment
-  so_far_at : IsRunSoFar s (lists_of s (reached s schedule))
+  pub so_far_at : IsRunSoFar s (lists_of s (reached s schedule))
   so_far_at =
       let w : World = reached s schedule in
       let are : AreOfLists s w = lists_show s schedule may in

@@ -39,7 +39,8 @@ use Rattle.co_core.proofs.Actions.{IsAction, IsActionWith, inserts, goes_by, sca
 use Rattle.co_core.proofs.HoldsKept.{view_of, callout_view}
 use Rattle.co_core.proofs.RolesKept.{IsServer, is_server, servers_task, first_task}
 use Rattle.co_core.proofs.Passages.{changed}
-use Rattle.co_core.proofs.QueuesKept.{lane_kept, entries_change}
+use Rattle.co_core.proofs.QueuesKept.{lane_kept}
+use Rattle.co_object.proofs.EntriesKept.{entries_change}
 use Rattle.co_core.proofs.Possible.{insert_possible, pop_possible, begin_possible, end_possible}
 use Rattle.co_core.proofs.Sound.{IsSteady}
 use Rattle.co_core.proofs.DueSteps.{removed_due}

@@ -28,7 +28,7 @@ use Rattle.co_object.specs.declared.Note.{Note}
 use Rattle.co_program.specs.Scripts.{IsScript}
 use Rattle.co_program.specs.Places.{AllHavePlaces}
 use Rattle.co_program.specs.Runs.{IsRunOf}
-use Rattle.co_core.specs.Names.{FuncsExist, AllNotesName}
+use Rattle.co_program.specs.Names.{FuncsExist, AllNotesName}
 pub use Rattle.co_program.specs.Runs.{actors_of}
 
 -- the world after a schedule

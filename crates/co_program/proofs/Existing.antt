@@ -122,11 +122,11 @@ module _ (s : Script) (at : Scene) (here : IsCpu s at.here) (me : IsCallout s at
   where_in cpu_at.Here exists = here
 
   -- the callout and the CPU of a call
-  abbrev CallExists : Option (ℕ × PlainOp) → Type 0
+  abbrev pub CallExists : Option (ℕ × PlainOp) → Type 0
   CallExists None = Unit {0}
   CallExists (Some (i, op)) = IsCallout s i × PlainOpExists s op
 
-  call_in : (a : Act) (hz : ℕ) → names_exist s a ≡ true → CallExists (plain_op a hz at)
+  pub call_in : (a : Act) (hz : ℕ) → names_exist s a ≡ true → CallExists (plain_op a hz at)
   call_in (act.Reset who when func arg cpu prec) hz exists = let both = both_true (who_exists s who) (cpu_exists s cpu) exists in (who_in who both.0, where_in cpu both.1)
   call_in (act.Ticks who ticks func arg cpu) hz exists = let both = both_true (who_exists s who) (cpu_exists s cpu) exists in (who_in who both.0, where_in cpu both.1)
   call_in (act.Schedule who when cpu prec) hz exists = let both = both_true (who_exists s who) (cpu_exists s cpu) exists in (who_in who both.0, where_in cpu both.1)
@@ -155,11 +155,11 @@ module _ (s : Script) (at : Scene) (here : IsCpu s at.here) (me : IsCallout s at
 -- ---- what is left of a program and of a function
 
 module _ (s : Script) where
-  tail_in : (left : List Task) → AllByRecursion (TaskExists s) left → AllByRecursion (TaskExists s) (tail_of left)
+  pub tail_in : (left : List Task) → AllByRecursion (TaskExists s) left → AllByRecursion (TaskExists s) (tail_of left)
   tail_in [] exist = tt
   tail_in (task ∷ left) exist = exist.1
 
-  rest_in : (acts : List Act) → ActsExist s acts → ActsExist s (tail_of acts)
+  pub rest_in : (acts : List Act) → ActsExist s acts → ActsExist s (tail_of acts)
   rest_in [] exist = tt
   rest_in (a ∷ acts) exist = exist.1
 

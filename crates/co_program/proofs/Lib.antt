@@ -2,3 +2,9 @@ pub mod Remaining
 pub mod Others
 pub mod Existing
 pub mod Keeping
+pub mod Homes
+pub mod Replied
+pub mod FuncsNamed
+pub mod FuncsKept
+pub mod Asking
+pub mod RunsName

@@ -10,3 +10,5 @@ pub mod Indexed
 pub mod Existing
 pub mod Places
 pub mod Runs
+pub mod Names
+pub mod Laws

@@ -12,7 +12,7 @@ use Rattle.co_report.specs.Histories.{Numbered, all_numbered_of}
 use Rattle.co_report.specs.Origins.{note_at}
 use Rattle.co_report.specs.Order.{place_index, count_in, all_of, AreCounts}
 use Rattle.co_program.specs.Places.{place_exists, HavePlaces, AllHavePlaces}
-use Rattle.co_report.proofs.Members.{has-passing}
+use Rattle.co_object.proofs.Members.{has-passing}
 use Rattle.co_report.proofs.Numbering.{note_of, numbered, all-notes-of, has-note}
 use Rattle.co_report.proofs.Places.{index_below, same_index, same_itself}
 

@@ -2,7 +2,6 @@ mod Rows
 pub mod Spacing
 pub mod Places
 pub mod Counts
-pub mod Members
 pub mod Numbering
 pub mod ShownHistories
 pub mod Starts
@@ -26,6 +25,7 @@ pub mod OneSpelling
 pub mod ReadsBack
 pub mod WholeBack
 pub mod ShownFit
+pub mod NotesFit
 pub mod ReadFit
 mod ReadRows
 mod NoteHeads

@@ -8,7 +8,7 @@ use Rattle.co_object.specs.Lists.{same_place, notes_of, all_notes_of}
 use Rattle.co_object.proofs.Passing.{passing, passing-append}
 use Rattle.co_report.specs.Histories.{Numbered, numbered_from, numbered_of, all_numbered_of}
 use Rattle.co_report.specs.Origins.{note_at}
-use Rattle.co_report.proofs.Members.{Has, has-left, has-right, has-filter}
+use Rattle.co_object.proofs.Members.{Has, has-left, has-right, has-filter}
 
 abbrev pub note_of : Numbered → Note
 note_of x = x.note

@@ -15,7 +15,7 @@ use Rattle.co_report.specs.Origins.{note_at, note_from, entries_from, origin_lin
 use Rattle.co_report.specs.Order.{place_index, AreCounts, starts_from, location, note_behind, AreWritten, origins_in, ShowsHistories}
 use Rattle.co_report.specs.Reports.{shown_words}
 use Rattle.co_program.specs.Places.{place_exists, AllHavePlaces}
-use Rattle.co_report.proofs.Members.{find-has}
+use Rattle.co_object.proofs.Members.{find-has}
 use Rattle.co_report.proofs.ShownHistories.{histories_shown}
 use Rattle.co_report.proofs.Numbering.{note_of, numbered, all-notes-of, has-note, Found, found}
 use Rattle.co_report.proofs.Places.{index_below, same_index}

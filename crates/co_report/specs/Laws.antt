@@ -7,6 +7,7 @@ use Rattle.co_object.specs.Lists.{history}
 use Rattle.co_program.specs.declared.Script.{Script}
 use Rattle.co_script.specs.Fits.{fits}
 use Rattle.co_program.specs.Places.{place_exists}
+use Rattle.co_program.specs.Runs.{IsRunOf}
 use Rattle.co_text.specs.Lines.{lines_of}
 use Rattle.co_script.specs.Canonical.{canonical}
 use Rattle.co_report.specs.declared.line.Line.{Line}
@@ -16,6 +17,7 @@ use Rattle.co_report.specs.Reports.{places, shown_words, report_of}
 use Rattle.co_report.specs.NoteValues.{names_of}
 use Rattle.co_report.specs.NoteForms.{note_of}
 use Rattle.co_report.specs.NoteFits.{EntryFits, ShownFits, LineFits}
+use Rattle.co_report.specs.Typed.{ListsTyped}
 use Rattle.co_report.specs.Reading.{joined, report_read}
 
 abbrev pub EachHistoryIsShown : Type 0
@@ -61,6 +63,10 @@ pub record ListsFit (s : Script) (lists : List (List Note)) : Type 0 where
 -- the report of a script that fits is read as this script and exactly its notes, where it has at most 268435456 bytes
 abbrev pub ReportReadsBack : Type 0
 ReportReadsBack = (s : Script) (lists : List (List Note)) → fits s ≡ true → ListsFit s lists → length (report_of s lists) ≤ 268435456 → report_read (report_of s lists) ≡ Ok (report_of_histories s (shown_history lists))
+
+-- so is the report of a run, where its notes have values that their types allow: what they name exists
+abbrev pub RunReadsBack : Type 0
+RunReadsBack = (s : Script) (lists : List (List Note)) → fits s ≡ true → IsRunOf s lists → ListsTyped lists → length (report_of s lists) ≤ 268435456 → report_read (report_of s lists) ≡ Ok (report_of_histories s (shown_history lists))
 
 -- what a text stands for: a script that fits, and lines that stand in its places
 pub record ReportFits (r : Report) : Type 0 where

@@ -1,5 +1,5 @@
 //! The laws of reports, each the contract of a function that does nothing.
-ghost use Rattle.co_report.specs.Laws.{EachHistoryIsShown, NotesHaveOneSpelling, ReportReadsBack, ReadReportsFit};
+ghost use Rattle.co_report.specs.Laws.{EachHistoryIsShown, NotesHaveOneSpelling, ReportReadsBack, RunReadsBack, ReadReportsFit};
 
 /// What a report shows of a place, but for the numbers of the notes, is the place's history.
 pub fn histories_shown()
@@ -15,6 +15,11 @@ pub fn notes_have_one_spelling()
 /// by place with the numbers of their lines, where it has at most 268435456 bytes.
 pub fn reports_read_back()
     ensures { ReportReadsBack }
+{}
+
+/// So is the report of a run of a script that fits, whose notes have values that their types allow.
+pub fn reports_of_runs_read_back()
+    ensures { RunReadsBack }
 {}
 
 /// The script of a report that is read fits, and each of its lines stands in a place of it: the place exists, the entry is

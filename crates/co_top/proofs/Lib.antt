@@ -4,7 +4,4 @@ pub mod Completeness
 pub mod Generated
 pub mod ReadLines
 pub mod Judged
-pub mod FuncsFit
-pub mod NotesFit
-pub mod Sections
 pub mod Accepts

@@ -4,6 +4,7 @@ use Rattle.std.specs.List.{concat}
 use Rattle.co_notebook.specs.Made.{Made, IsInOrder, lists_by}
 use Rattle.co_program.specs.declared.script.Script.{Script}
 use Rattle.co_program.specs.Actors.{actor_count}
+use Rattle.co_program.specs.Runs.{IsRunOf}
 use Rattle.co_script.specs.Fits.{fits}
 use Rattle.co_script.proofs.Accepted.{fits-accepted}
 use Rattle.co_core.specs.Telling.{IsTelling}
@@ -13,7 +14,7 @@ use Rattle.co_report.specs.Sections.{Written, IsToldOf}
 use Rattle.co_report.specs.Typed.{ListsTyped}
 use Rattle.co_report.proofs.ToldPages.{told-typed}
 use Rattle.co_top.specs.Headline.{IsLegalReport, IsReportOf}
-use Rattle.co_top.proofs.Accepts.{walk_legal}
+use Rattle.co_top.proofs.Accepts.{run_legal}
 use Rattle.co_top.proofs.reading.report_told.Goals as goal
 
 as-many : (s t u : Script) → s ≡ t → u ≡ t → actor_count s ≤ actor_count u
@@ -34,11 +35,14 @@ reported : {E : Type 0} (s t : Script) (x : Written) (made : List Made) (r : Res
 reported s t x made (Ok pieces) same fit telling told shown = record {
   lists = lists_by (actor_count s) made;
   walk = telling.walk;
-  run = walks_are_runs s (fits-accepted s fit) (lists_by (actor_count s) made) telling.walk;
+  run = run;
   shown = is;
-  legal = λ short. subst IsLegalReport (sym is) (walk_legal s fit (lists_by (actor_count s) made) telling.walk typed (subst (λ (bytes : List ℕ). length bytes ≤ 268435456) is short));
+  legal = λ short. subst IsLegalReport (sym is) (run_legal s fit (lists_by (actor_count s) made) run typed (subst (λ (bytes : List ℕ). length bytes ≤ 268435456) is short));
 }
   where
+    run : IsRunOf s (lists_by (actor_count s) made)
+    run = walks_are_runs s (fits-accepted s fit) (lists_by (actor_count s) made) telling.walk
+
     is : concat pieces ≡ report_of s (lists_by (actor_count s) made)
     is = shown made told telling.order ∙ ap (λ (z : Script). report_of z (lists_by (actor_count z) made)) (sym same)
 

@@ -25,10 +25,9 @@ use Rattle.co_object.specs.Serve.{has_lock, taken, go, is_due, pick_armed, begin
 use Rattle.co_object.specs.Group.{off_of}
 use Rattle.co_object.specs.Callout.{live_call, retired_call, call, serve, step}
 use Rattle.co_object.proofs.Changes.{either_way}
-use Rattle.co_program.specs.declared.Script.{Script}
+use Rattle.co_program.specs.declared.script.Script.{Script}
 use Rattle.co_program.specs.Existing.{CpuExists, NextExists, OpExists, ReplyExists}
-use Rattle.co_core.proofs.Naming.{IsBelow, NamesCpu}
-use Rattle.co_core.proofs.Homes.{CpusFit, fit_call}
+use Rattle.co_program.proofs.Homes.{IsBelow, NamesCpu, CpusFit, fit_call}
 
 -- what a reply names exists, and the queue from which an arming went is one
 pub record RepliesFit (s : Script) (reply : Reply) : Type 0 where

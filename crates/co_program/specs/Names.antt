@@ -17,9 +17,9 @@ use Rattle.co_object.specs.declared.Note.{Note}
 use Rattle.co_object.specs.Group.{off_of}
 use Rattle.co_object.specs.Queue.{Queue}
 use Rattle.co_object.specs.Journal.{step, reply_of}
-use Rattle.co_program.specs.declared.Act.{Act}
-use Rattle.co_program.specs.declared.Act.TheVariants.{Reset, Ticks, AsyncDrain}
-use Rattle.co_program.specs.declared.Script.{Script}
+use Rattle.co_program.specs.declared.act.Act.{Act}
+use Rattle.co_program.specs.declared.act.Act.TheVariants.{Reset, Ticks, AsyncDrain}
+use Rattle.co_program.specs.declared.script.Script.{Script}
 use Rattle.co_program.specs.Actors.{actor_count, acts_at}
 use Rattle.co_program.specs.Existing.{CpuExists, OpExists, ReplyExists, QOpExists, QReplyExists}
 use Rattle.co_program.specs.Runs.{are_direct}

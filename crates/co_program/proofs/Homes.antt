@@ -1,6 +1,6 @@
 -- The CPUs that a callout names exist, before a call and after it.
 use Rattle.std.proofs.Common.{◌≡◌, ℕ, ◌≤◌, ◌<◌, Bool, false, not, ◌&&◌, ◌||◌, ◌==◌, refl, sym, ◌∙◌, arith, Option, Some, None}
-use Rattle.std.specs.Prelude.{is_some, unwrap_or}
+use Rattle.std.specs.Prelude.{⊤, is_some, unwrap_or}
 use Rattle.co_object.specs.declared.Arming.{Arming}
 use Rattle.co_object.specs.declared.State.{State}
 use Rattle.co_object.specs.declared.PlainOp.{PlainOp}
@@ -15,7 +15,16 @@ use Rattle.co_object.specs.Stop.{stop}
 use Rattle.co_object.specs.Drain.{serviced, drain_at, drain_later}
 use Rattle.co_object.specs.Callout.{live_call, retired_call, call}
 use Rattle.co_object.proofs.Changes.{either_way}
-use Rattle.co_core.proofs.Naming.{IsBelow, NamesCpu}
+
+-- a CPU that is named is one of so many
+abbrev pub IsBelow : ℕ → Option ℕ → Type 0
+IsBelow n None = ⊤
+IsBelow n (Some cpu) = cpu < n
+
+abbrev pub NamesCpu : ℕ → CallOp → Type 0
+NamesCpu n (Plain (Reset due prec func arg cpu)) = IsBelow n cpu
+NamesCpu n (Plain (Schedule due prec cpu)) = IsBelow n cpu
+NamesCpu n call = ⊤
 
 pub record CpusFit (n : ℕ) (state : State) : Type 0 where
   pub home : state.home < n

@@ -1,4 +1,4 @@
--- Notes that name what exists, with values that their types allow, are notes that a report may have.
+-- Notes that name what exists, with values that their types allow, are notes that a report may have; so are those of a run.
 use Rattle.std.proofs.Common.{◌≡◌, ℕ, Bool, true, false, cond, List, [], ◌∷◌, length, ◌<◌, ◌^◌, max, subst, refl}
 use Rattle.std.specs.Prelude.{Option, Some, None, IfSome}
 use Rattle.std.specs.List.{AllByRecursion}
@@ -23,8 +23,12 @@ use Rattle.co_object.specs.Queue.{Queue, Due, holds}
 use Rattle.co_object.specs.Journal.{step, reply_of, scan, pop_first, pop_unless, free_if, pop_urgent, pop_direct_unless, free_direct_if}
 use Rattle.co_program.specs.declared.Script.{Script}
 use Rattle.co_program.specs.Existing.{CpuExists, NextExists}
-use Rattle.co_program.specs.Runs.{are_direct}
-use Rattle.co_core.specs.Names.{FuncExists, OpNames, ReplyNames, JournalNames, EntryNames, NotesName, AllNotesName}
+use Rattle.co_program.specs.Names.{FuncExists, OpNames, ReplyNames, JournalNames, EntryNames, NotesName, AllNotesName}
+use Rattle.co_program.specs.Runs.{IsRunOf, are_direct}
+use Rattle.co_program.proofs.RunsName.{runs_name}
+use Rattle.co_script.specs.Fits.{fits}
+use Rattle.co_script.proofs.Accepted.{fits-accepted}
+use Rattle.co_script.proofs.FuncsFit.{funcs_exist}
 use Rattle.co_report.specs.NoteForms.{may_answer}
 use Rattle.co_report.specs.NoteFits.{IsCpu, IsFunc, IsLong, IsTime, OpFits, NextFits, ReplyFits, QueueFits, AnswerFits, EntryFits}
 use Rattle.co_report.specs.Laws.{ListsFit}
@@ -182,3 +186,7 @@ module _ (s : Script) where
 
   pub lists_fit : (lists : List (List Note)) → AllNotesName s lists → ListsTyped lists → ListsFit s lists
   lists_fit lists n t = record { notes = all_fit lists n t; short = all_short lists t }
+
+-- of a script that fits, what the notes of a run name exists
+pub run_fits : (s : Script) (lists : List (List Note)) → fits s ≡ true → IsRunOf s lists → ListsTyped lists → ListsFit s lists
+run_fits s lists f run typed = lists_fit s lists (runs_name s lists (fits-accepted s f) (funcs_exist s f) run) typed

@@ -20,18 +20,18 @@ use Rattle.co_object.specs.declared.QOp.{QOp}
 use Rattle.co_object.specs.declared.QOp.TheVariants.{Insert, Remove, Scan, Pop, PopDirect, Free as FreeSlot, FreeDirect}
 use Rattle.co_lock.specs.declared.Held.{Held}
 use Rattle.co_lock.specs.Covers.{covers}
-use Rattle.co_program.specs.declared.Act.{Act}
-use Rattle.co_program.specs.declared.Act.TheVariants as act
-use Rattle.co_program.specs.declared.Scene.{Scene}
-use Rattle.co_program.specs.declared.Script.{Script}
-use Rattle.co_program.specs.declared.Role.{Role}
-use Rattle.co_program.specs.declared.Role.TheVariants.{Client, Cpu, Interrupt}
-use Rattle.co_program.specs.declared.Task.{Task}
-use Rattle.co_program.specs.declared.Task.TheVariants.{Does, Soft}
-use Rattle.co_program.specs.declared.Service.{Service}
-use Rattle.co_program.specs.declared.Parcel.{Parcel}
-use Rattle.co_program.specs.declared.Asked.{Asked}
-use Rattle.co_program.specs.declared.Asked.TheVariants.{Callout, Queue, Itself}
+use Rattle.co_program.specs.declared.act.Act.{Act}
+use Rattle.co_program.specs.declared.act.Act.TheVariants as act
+use Rattle.co_program.specs.declared.act.Scene.{Scene}
+use Rattle.co_program.specs.declared.script.Script.{Script}
+use Rattle.co_program.specs.declared.role.Role.{Role}
+use Rattle.co_program.specs.declared.role.Role.TheVariants.{Client, Cpu, Interrupt}
+use Rattle.co_program.specs.declared.program.Task.{Task}
+use Rattle.co_program.specs.declared.program.Task.TheVariants.{Does, Soft}
+use Rattle.co_program.specs.declared.cursor.Service.{Service}
+use Rattle.co_program.specs.declared.cursor.Parcel.{Parcel}
+use Rattle.co_program.specs.declared.action.Asked.{Asked}
+use Rattle.co_program.specs.declared.action.Asked.TheVariants.{Callout, Queue, Itself}
 use Rattle.co_program.specs.Actors.{acts_at, program_of, role_of, cpu_of, softs}
 use Rattle.co_program.specs.Calls.{plain_op}
 use Rattle.co_program.specs.Stages.{Stage, Ready, Waiting, Popping, Picking, Locking, Beginning, Unlocking, Firing, Releasing, Ending, Freeing, Drained}
@@ -39,7 +39,7 @@ use Rattle.co_program.specs.Cursor.{Cursor, start_of}
 use Rattle.co_program.specs.Action.{Action, Nothing, Silent, Take, Asks, spec_at, asks_covered, asks_call, asks_within, takes, asks_drain, begins, drained_of, locks, firing, draining, action_in, action_with, action_for}
 use Rattle.co_program.specs.Advance.{tail_of, act_over, called, picked, begun, ended, advance_callout, drain_acts, freed, got, popped, advance_queue, advance}
 use Rattle.co_program.specs.Scripts.{IsScript, is_tick}
-use Rattle.co_core.specs.Names.{ActNamesFunc, ActsNameFuncs, FuncsExist, OpNamesFunc}
+use Rattle.co_program.specs.Names.{ActNamesFunc, ActsNameFuncs, FuncsExist, OpNamesFunc}
 
 -- ---- what a place in a program names
 

@@ -24,8 +24,8 @@ use Rattle.co_object.specs.Query.{answer}
 use Rattle.co_object.specs.Serve.{has_lock, taken, go, is_due, pick_armed, begin_run, ended, end_run}
 use Rattle.co_object.specs.Callout.{opening, live_call, retired_call, call, serve, step}
 use Rattle.co_object.proofs.Changes.{either_way}
-use Rattle.co_program.specs.declared.Script.{Script}
-use Rattle.co_core.specs.Names.{IsFunc, FuncExists, OpNamesFunc, ReplyNamesFunc}
+use Rattle.co_program.specs.declared.script.Script.{Script}
+use Rattle.co_program.specs.Names.{IsFunc, FuncExists, OpNamesFunc, ReplyNamesFunc}
 
 module _ (s : Script) where
   -- ---- what a state names
