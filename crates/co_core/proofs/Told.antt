@@ -24,7 +24,7 @@ use Rattle.co_object.specs.Stand.{off}
 use Rattle.co_object.specs.Callout.{step as callout_step}
 use Rattle.co_object.specs.Queue.{Queue as TimerQueue}
 use Rattle.co_object.specs.Journal.{step as queue_step}
-use Rattle.co_notebook.specs.Made.{Made, list_by, made_in, notes_made}
+use Rattle.co_listener.specs.Made.{Made, list_by, made_in, notes_made}
 use Rattle.co_program.specs.declared.Script.{Script}
 use Rattle.co_program.specs.declared.Asked.{Asked}
 use Rattle.co_program.specs.declared.Asked.TheVariants.{Callout, Queue, Itself}
@@ -330,7 +330,7 @@ none_made s = record { lists = λ a within. refl; order = order } where
   order (place.Cpu cpu) = refl
   order (place.Actor a) = refl
 
--- what is told of a walk to its end, from an empty notebook
+-- what is told of a walk to its end, from an empty listener
 pub walk_told : (s : Script) {B : Type 0} (has : B → List Made → Type 0) (e e' : Engine) (first old new : B) (number : ℕ) →
     GoesOn s has e first old (open_world s) (run s (open_world s) s.turns) → GoesOn s has e' old new (run s (open_world s) s.turns) (rounds s (run s (open_world s) s.turns) number) →
     AllFinished s (rounds s (run s (open_world s) s.turns) number) → has first [] → (made : List Made) × has new made × IsTelling s made

@@ -5,7 +5,7 @@ use Rattle.co_object.specs.declared.note.Note.{Note}
 use Rattle.co_object.specs.declared.note.Place.{Place}
 use Rattle.co_object.specs.declared.note.Place.TheVariants.{Actor, Cpu, Timer}
 use Rattle.co_object.specs.Lists.{notes_of}
-use Rattle.co_notebook.specs.Made.{IsInOrder, Made, list_by, lists_by, made_in}
+use Rattle.co_listener.specs.Made.{IsInOrder, Made, list_by, lists_by, made_in}
 use Rattle.co_program.specs.declared.script.Script.{Script}
 use Rattle.co_program.specs.Actors.{actor_count}
 use Rattle.co_core.specs.declared.engine.Engine.{Engine}
@@ -49,13 +49,13 @@ pub record HasTold (s : Script) (e : Engine) (w : World) : Type 0 where
   pub stands : StandsFor s e.books e.depot w
   pub told : (a : ℕ) → a < actor_count s → told_at e.books a ≡ length (w.actors a).notes
 
--- the notebook has the notes of this world
+-- the listener has the notes of this world
 pub record HasNotes (s : Script) {B : Type 0} (has : B → List Made → Type 0) (book : B) (w : World) : Type 0 where
   pub made : List Made
   pub holds : has book made
   pub are : AreMade s w made
 
--- the engine has come to this world, and a notebook that had the notes of the one before has those of this one
+-- the engine has come to this world, and a listener that had the notes of the one before has those of this one
 pub record GoesOn (s : Script) {B : Type 0} (has : B → List Made → Type 0) (e : Engine) (old new : B) (before after : World) : Type 0 where
   pub told : HasTold s e after
   pub notes : HasNotes s has old before → HasNotes s has new after

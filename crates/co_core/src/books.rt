@@ -49,7 +49,7 @@ pub(crate) struct Books {
     scans: Vec<u64>,
     /// By actor: how many notes of its own it has.
     own: Vec<u64>,
-    /// By actor: how many of its notes have been told to a notebook and let go; the list has those after them.
+    /// By actor: how many of its notes have been told to a listener and let go; the list has those after them.
     told: Vec<u64>,
     /// How many notes there are.
     made: u64,

@@ -1,6 +1,6 @@
 //! The walk of a script, told note by note.
 ghost use Rattle.std.specs.Prelude.{◌≡◌, ℕ, ◌<◌, ◌≤◌, List, [], true, OnOk, IfOk};
-ghost use Rattle.co_notebook.specs.Made.{Made};
+ghost use Rattle.co_listener.specs.Made.{Made};
 ghost use Rattle.co_program.specs.Actors.{actor_count};
 ghost use Rattle.co_program.specs.Scripts.{IsScript};
 ghost use Rattle.co_core.specs.Ended.{HaveEnded};
@@ -13,7 +13,7 @@ use crate::ended::Ended;
 use crate::engine::Engine;
 use crate::rounds::is_finished;
 use crate::turn::Turn;
-use co_notebook::Notebook;
+use co_listener::Listener;
 use co_program::{Script, actor_count};
 use co_sbt::NoMemory;
 use std::alloc::Global;
@@ -31,19 +31,19 @@ fn makes_notes(turn: Turn) -> bool
 impl Engine {
     /// One step of an actor, whose notes are told and let go.
     #[inline(always)]
-    fn tell_step<N: Notebook>(
+    fn tell_step<N: Listener>(
         &mut self,
         script: &Script,
         actor: u32,
-        notebook: &mut N,
+        listener: &mut N,
     ) -> Result<Turn, NoMemory>
         requires script { IsScript script.now }
         requires actor { actor < actor_count script.now }
-        requires room { actor_count script.now ≤ N.actors notebook.old }
+        requires room { actor_count script.now ≤ N.actors listener.old }
         requires world { (w : PlainWorld) × HasTold script.now self.old w }
-        ensures told { OnOk result ((w : PlainWorld) → HasTold script.now self.old w → GoesOn script.now N.has self.new notebook.old notebook.new w (step script.now w actor)) }
+        ensures told { OnOk result ((w : PlainWorld) → HasTold script.now self.old w → GoesOn script.now N.has self.new listener.old listener.new w (step script.now w actor)) }
         ensures turn { IfOk result (λ turn. (w : PlainWorld) → HasTold script.now self.old w → turn ≡ turn_of script.now w actor) }
-        ensures actors { N.actors notebook.new ≡ N.actors notebook.old }
+        ensures actors { N.actors listener.new ≡ N.actors listener.old }
     {
         let turn = self.step(script, actor)?;
         if !makes_notes(turn) {
@@ -52,47 +52,47 @@ impl Engine {
         if self.books.is_full() {
             return Err(NoMemory {});
         }
-        self.books.tell(actor, notebook)?;
+        self.books.tell(actor, listener)?;
         Ok(turn)
     }
 
     /// The script's turns, one step each.
-    fn tell_turns<N: Notebook>(&mut self, script: &Script, notebook: &mut N) -> Result<(), NoMemory>
+    fn tell_turns<N: Listener>(&mut self, script: &Script, listener: &mut N) -> Result<(), NoMemory>
         requires script { IsScript script.now }
-        requires room { actor_count script.now ≤ N.actors notebook.old }
+        requires room { actor_count script.now ≤ N.actors listener.old }
         requires world { (w : PlainWorld) × HasTold script.now self.old w }
-        ensures told { OnOk result ((w : PlainWorld) → HasTold script.now self.old w → GoesOn script.now N.has self.new notebook.old notebook.new w (run script.now w script.now.turns)) }
-        ensures actors { N.actors notebook.new ≡ N.actors notebook.old }
+        ensures told { OnOk result ((w : PlainWorld) → HasTold script.now self.old w → GoesOn script.now N.has self.new listener.old listener.new w (run script.now w script.now.turns)) }
+        ensures actors { N.actors listener.new ≡ N.actors listener.old }
     {
         for actor in script.turns.as_slice() {
-            self.tell_step(script, *actor, notebook)?;
+            self.tell_step(script, *actor, listener)?;
         }
         Ok(())
     }
 
     /// One step of an actor, unless it is known to have finished: then a step changes nothing. The answer is whether it has
     /// finished.
-    fn tell_unless_ended<N: Notebook>(
+    fn tell_unless_ended<N: Listener>(
         &mut self,
         script: &Script,
         actor: u32,
         ended: &mut Ended,
-        notebook: &mut N,
+        listener: &mut N,
     ) -> Result<bool, NoMemory>
         requires script { IsScript script.now }
         requires actor { actor < actor_count script.now }
-        requires room { actor_count script.now ≤ N.actors notebook.old }
+        requires room { actor_count script.now ≤ N.actors listener.old }
         requires world { (w : PlainWorld) × HasTold script.now self.old w }
         ensures world { OnOk result ((w : PlainWorld) × HasTold script.now self.new w) }
         ensures told { OnOk result ((w : PlainWorld) → HasTold script.now self.old w → HaveEnded script.now w ended.old.flags →
-            GoesOn script.now N.has self.new notebook.old notebook.new w (step script.now w actor) × HaveEnded script.now (step script.now w actor) ended.new.flags) }
+            GoesOn script.now N.has self.new listener.old listener.new w (step script.now w actor) × HaveEnded script.now (step script.now w actor) ended.new.flags) }
         ensures finished { IfOk result (λ finished. finished ≡ true → (w : PlainWorld) → HasTold script.now self.old w → HaveEnded script.now w ended.old.flags → HasFinished script.now w actor) }
-        ensures actors { N.actors notebook.new ≡ N.actors notebook.old }
+        ensures actors { N.actors listener.new ≡ N.actors listener.old }
     {
         if ended.knows(actor) {
             return Ok(true);
         }
-        let finished = is_finished(self.tell_step(script, actor, notebook)?);
+        let finished = is_finished(self.tell_step(script, actor, listener)?);
         if finished {
             ended.learn(actor);
         }
@@ -100,47 +100,47 @@ impl Engine {
     }
 
     /// A round: each actor steps once, in order of the actors' numbers. The answer is whether all had finished before.
-    fn tell_round<N: Notebook>(
+    fn tell_round<N: Listener>(
         &mut self,
         script: &Script,
         ended: &mut Ended,
-        notebook: &mut N,
+        listener: &mut N,
     ) -> Result<bool, NoMemory>
         requires script { IsScript script.now }
-        requires room { actor_count script.now ≤ N.actors notebook.old }
+        requires room { actor_count script.now ≤ N.actors listener.old }
         requires world { (w : PlainWorld) × HasTold script.now self.old w }
         ensures world { OnOk result ((w : PlainWorld) × HasTold script.now self.new w) }
         ensures told { OnOk result ((w : PlainWorld) → HasTold script.now self.old w → HaveEnded script.now w ended.old.flags →
-            GoesOn script.now N.has self.new notebook.old notebook.new w (round script.now w) × HaveEnded script.now (round script.now w) ended.new.flags) }
+            GoesOn script.now N.has self.new listener.old listener.new w (round script.now w) × HaveEnded script.now (round script.now w) ended.new.flags) }
         ensures finished { IfOk result (λ finished. finished ≡ true → (w : PlainWorld) → HasTold script.now self.old w → HaveEnded script.now w ended.old.flags →
             AllFinished script.now w × (round script.now w ≡ w)) }
-        ensures actors { N.actors notebook.new ≡ N.actors notebook.old }
+        ensures actors { N.actors listener.new ≡ N.actors listener.old }
     {
         let mut finished = true;
         for actor in 0..actor_count(script) {
-            let done = self.tell_unless_ended(script, actor, ended, notebook)?;
+            let done = self.tell_unless_ended(script, actor, ended, listener)?;
             finished = finished && done;
         }
         Ok(finished)
     }
 
     /// Round robin until all have finished.
-    fn tell_rounds<N: Notebook>(
+    fn tell_rounds<N: Listener>(
         &mut self,
         script: &Script,
-        notebook: &mut N,
+        listener: &mut N,
     ) -> Result<(), NoMemory>
         requires script { IsScript script.now }
-        requires room { actor_count script.now ≤ N.actors notebook.old }
+        requires room { actor_count script.now ≤ N.actors listener.old }
         requires world { (w : PlainWorld) × HasTold script.now self.old w }
         ensures ends { OnOk result ((w : PlainWorld) → HasTold script.now self.old w →
-            (number : ℕ) × GoesOn script.now N.has self.new notebook.old notebook.new w (rounds script.now w number) × AllFinished script.now (rounds script.now w number)) }
-        ensures actors { N.actors notebook.new ≡ N.actors notebook.old }
+            (number : ℕ) × GoesOn script.now N.has self.new listener.old listener.new w (rounds script.now w number) × AllFinished script.now (rounds script.now w number)) }
+        ensures actors { N.actors listener.new ≡ N.actors listener.old }
     {
         let mut ended = Ended::none();
         // What is left to do falls with every round, so it ends long before it has counted so far.
         for _round in 0..u64::MAX {
-            if self.tell_round(script, &mut ended, notebook)? {
+            if self.tell_round(script, &mut ended, listener)? {
                 return Ok(());
             }
         }
@@ -149,19 +149,19 @@ impl Engine {
 }
 
 /// Tells the notes of a script's walk, one after the other, as they are made, and keeps none: the notes that `run_steps`
-/// lists, in the order of the steps. Fails for want of memory alone, its own or the notebook's; what the notebook has after
+/// lists, in the order of the steps. Fails for want of memory alone, its own or the listener's; what the listener has after
 /// that is not told. Our own decision.
-pub fn tell_walk<N: Notebook>(
+pub fn tell_walk<N: Listener>(
     alloc: Global,
     script: &Script,
-    notebook: &mut N,
+    listener: &mut N,
 ) -> Result<(), NoMemory>
     requires script { IsScript script.now }
-    requires actors { actor_count script.now ≤ N.actors notebook.old }
-    ensures told { OnOk result (N.has notebook.old [] → (made : List Made) × N.has notebook.new made × IsTelling script.now made) }
-    ensures actors { N.actors notebook.new ≡ N.actors notebook.old }
+    requires actors { actor_count script.now ≤ N.actors listener.old }
+    ensures told { OnOk result (N.has listener.old [] → (made : List Made) × N.has listener.new made × IsTelling script.now made) }
+    ensures actors { N.actors listener.new ≡ N.actors listener.old }
 {
     let mut engine = Engine::boot(alloc, script)?;
-    engine.tell_turns(script, notebook)?;
-    engine.tell_rounds(script, notebook)
+    engine.tell_turns(script, listener)?;
+    engine.tell_rounds(script, listener)
 }

@@ -8,8 +8,8 @@ ghost use Rattle.co_program.specs.Scripts.{IsScript};
 ghost use Rattle.co_core.specs.Worked.{one_callout};
 
 use crate::{Turn, Why, World, run_steps, tell_walk};
+use co_listener::Listener;
 use co_lock::LockKind;
-use co_notebook::Notebook;
 use co_object::{
     AnyEntry, CallOp, Entry, Lists, LockUse, Note, Op, Place, PlainOp, QEntry, QOp, QReply, Reply,
     Spec,
@@ -290,7 +290,7 @@ struct Told {
     notes: Seq<(u32, u64)>,
 }
 
-impl Notebook for Told {
+impl Listener for Told {
     ghost actors = { λ x. 2 ^ 32 };
 
     ghost has = { λ x made. Unit {0} };

@@ -16,7 +16,7 @@ use Rattle.co_object.specs.History.{next, state, IsLegal}
 use Rattle.co_object.specs.Laws.OneFate.{is_fired}
 use Rattle.co_object.specs.Lists.{same_place, callout_history}
 use Rattle.co_object.proofs.Passing.{count-passing}
-use Rattle.co_notebook.specs.Made.{Made, IsInOrder, list_by, lists_by, notes_made, made_in}
+use Rattle.co_listener.specs.Made.{Made, IsInOrder, list_by, lists_by, notes_made, made_in}
 use Rattle.co_program.specs.declared.Script.{Script}
 use Rattle.co_program.specs.Action.{spec_at}
 use Rattle.co_program.specs.Actors.{actor_count}

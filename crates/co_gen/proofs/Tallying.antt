@@ -16,7 +16,7 @@ use Rattle.co_object.specs.declared.Place.TheVariants.{Timer}
 use Rattle.co_object.specs.Callout.{opening}
 use Rattle.co_object.specs.History.{next, state}
 use Rattle.co_object.specs.Lists.{same_place}
-use Rattle.co_notebook.specs.Made.{Made, made_in}
+use Rattle.co_listener.specs.Made.{Made, made_in}
 use Rattle.co_program.specs.declared.Script.{Script}
 use Rattle.co_program.specs.Action.{spec_at}
 use Rattle.co_program.specs.Actors.{actor_count}

@@ -1,7 +1,7 @@
-//! A notebook that counts: what becomes of the armings of a script's callouts, note by note as they are told.
+//! A listener that counts: what becomes of the armings of a script's callouts, note by note as they are told.
 ghost use Rattle.std.specs.Prelude.{◌≡◌, ℕ, ◌<◌, ◌++◌, ◌∷◌, [], List, length, map, slice_get, IfOk, OnOk};
 ghost use Rattle.std.specs.List.{range_with_len};
-ghost use Rattle.co_notebook.specs.Made.{Made, IsInOrder, lists_by};
+ghost use Rattle.co_listener.specs.Made.{Made, IsInOrder, lists_by};
 ghost use Rattle.co_program.specs.declared.script.Script.{Script};
 ghost use Rattle.co_program.specs.Actors.{actor_count};
 ghost use Rattle.co_program.specs.Runs.{actors_of};
@@ -11,7 +11,7 @@ ghost use Rattle.co_gen.specs.Tally.{HasCounted, IsEntryTaken, at_ends, callout_
 
 use crate::counts::Counts;
 use crate::replay::{count_entry, more, open_arming};
-use co_notebook::Notebook;
+use co_listener::Listener;
 use co_object::{Alone, AnyEntry, Arming, Entry, Note, Place, Run, State};
 use co_program::Script;
 use co_report::Subject;
@@ -139,7 +139,7 @@ impl<S: Subject> TallyOf<S> {
     }
 }
 
-impl<S: Subject> Notebook for TallyOf<S> {
+impl<S: Subject> Listener for TallyOf<S> {
     ghost use Rattle.co_program.specs.Actors.{actor_count};
     ghost use Rattle.co_gen.specs.Tally.{HasCounted};
 

@@ -6,7 +6,7 @@ use Rattle.std.proofs.lemmas.List.Elements.{filter-append}
 use Rattle.co_object.specs.declared.Note.{Note}
 use Rattle.co_object.specs.declared.Place.{Place}
 use Rattle.co_object.specs.Lists.{same_place}
-use Rattle.co_notebook.specs.Made.{Made, list_by, made_in}
+use Rattle.co_listener.specs.Made.{Made, list_by, made_in}
 use Rattle.co_program.specs.declared.Script.{Script}
 use Rattle.co_text.specs.Lines.{line_text, text}
 use Rattle.co_text.proofs.Spacing.{text_one, text_append}

@@ -12,7 +12,7 @@ use Rattle.co_object.specs.declared.Place.{Place}
 use Rattle.co_object.specs.declared.Place.TheVariants.{Timer, Cpu, Actor}
 use Rattle.co_object.specs.Lists.{same_place}
 use Rattle.co_object.proofs.ListsGrow.{same_place-eq}
-use Rattle.co_notebook.specs.Made.{Made, list_by, lists_by, notes_made, IsInOrder}
+use Rattle.co_listener.specs.Made.{Made, list_by, lists_by, notes_made, IsInOrder}
 use Rattle.co_program.specs.declared.Script.{Script}
 use Rattle.co_program.specs.Actors.{actor_count}
 use Rattle.co_program.specs.Places.{place_exists}

@@ -12,7 +12,7 @@ use Rattle.co_object.specs.declared.Note.{Note}
 use Rattle.co_object.specs.declared.Place.{Place}
 use Rattle.co_object.specs.Lists.{same_place}
 use Rattle.co_object.proofs.ListsGrow.{same_place-eq}
-use Rattle.co_notebook.specs.Made.{Made, list_by, lists_by, made_in, IsInOrder}
+use Rattle.co_listener.specs.Made.{Made, list_by, lists_by, made_in, IsInOrder}
 use Rattle.co_report.specs.Histories.{Numbered, Shown, shown, shown_at, numbered_from, numbered_of, all_numbered_of, shown_history}
 use Rattle.co_report.specs.Sections.{count_by, told_in}
 use Rattle.co_report.proofs.Numbering.{numbered}

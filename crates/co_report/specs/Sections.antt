@@ -3,7 +3,7 @@ use Rattle.std.specs.Prelude.{◌≡◌, ℕ, ◌<◌, ◌^◌, List, [], ◌∷
 use Rattle.std.specs.List.{AllByRecursion, filter, range_with_len}
 use Rattle.co_object.specs.declared.Place.{Place}
 use Rattle.co_object.specs.Lists.{same_place}
-use Rattle.co_notebook.specs.Made.{Made, list_by}
+use Rattle.co_listener.specs.Made.{Made, list_by}
 use Rattle.co_program.specs.declared.Script.{Script}
 use Rattle.co_program.specs.Actors.{actor_count}
 use Rattle.co_program.specs.Scripts.{IsScript}

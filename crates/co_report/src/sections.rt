@@ -1,10 +1,10 @@
-//! A notebook that prints: a report is written section by section, note by note as they are told.
+//! A listener that prints: a report is written section by section, note by note as they are told.
 ghost use Rattle.std.specs.Prelude.{◌≡◌, ◌<◌, ◌+◌, ◌^◌, ◌++◌, ◌∷◌, [], true, false, replicate, codes, List, map, OnOk, IfOk, MatchOption};
 ghost use Rattle.std.specs.List.{concat};
 ghost use Rattle.co_text.specs.Lines.{line_text};
 ghost use Rattle.co_grammar.specs.Spelling.{numbered};
 ghost use Rattle.co_script.specs.Canonical.{canonical};
-ghost use Rattle.co_notebook.specs.Made.{Made, IsInOrder, lists_by};
+ghost use Rattle.co_listener.specs.Made.{Made, IsInOrder, lists_by};
 ghost use Rattle.co_program.specs.Actors.{actor_count};
 ghost use Rattle.co_program.specs.Places.{place_exists};
 ghost use Rattle.co_program.specs.Scripts.{IsScript};
@@ -17,7 +17,7 @@ use crate::reading::places::places;
 use crate::report::print_word;
 use crate::typed::note_is_typed;
 use co_grammar::{actor_name, print_numbered};
-use co_notebook::Notebook;
+use co_listener::Listener;
 use co_object::{Note, Place};
 use co_program::{Script, actor_count};
 use co_sbt::{NoMemory, Seq};
@@ -172,7 +172,7 @@ impl<'a> Sections<'a> {
     }
 }
 
-impl<'a> Notebook for Sections<'a> {
+impl<'a> Listener for Sections<'a> {
     ghost use Rattle.co_program.specs.Actors.{actor_count};
     ghost use Rattle.co_report.specs.Sections.{HasTold};
 

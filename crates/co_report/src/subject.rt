@@ -1,14 +1,14 @@
-//! Sections by the script that they are of: whoever tells notes to a notebook knows the notebook by its type alone.
+//! Sections by the script that they are of: whoever tells notes to a listener knows the listener by its type alone.
 ghost use Rattle.std.specs.Prelude.{◌≡◌, [], List, IfOk};
 ghost use Rattle.std.specs.List.{concat};
-ghost use Rattle.co_notebook.specs.Made.{Made, IsInOrder, lists_by};
+ghost use Rattle.co_listener.specs.Made.{Made, IsInOrder, lists_by};
 ghost use Rattle.co_program.specs.Actors.{actor_count};
 ghost use Rattle.co_program.specs.Scripts.{IsScript};
 ghost use Rattle.co_report.specs.Reports.{report_of};
 ghost use Rattle.co_report.specs.Sections.{IsToldOf};
 
 use crate::sections::Sections;
-use co_notebook::Notebook;
+use co_listener::Listener;
 use co_object::Note;
 use co_program::Script;
 use co_sbt::{NoMemory, Seq};
@@ -58,7 +58,7 @@ impl<'a, S: Subject> SectionsOf<'a, S> {
     }
 }
 
-impl<'a, S: Subject> Notebook for SectionsOf<'a, S> {
+impl<'a, S: Subject> Listener for SectionsOf<'a, S> {
     ghost use Rattle.co_program.specs.Actors.{actor_count};
     ghost use Rattle.co_report.specs.Sections.{IsToldOf};
 

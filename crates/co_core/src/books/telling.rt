@@ -1,42 +1,42 @@
-//! Notes are told to a notebook, and let go.
+//! Notes are told to a listener, and let go.
 ghost use Rattle.std.specs.Prelude.{◌≡◌, ◌+◌, ◌<◌, ◌^◌, ◌++◌, List, length, OnOk};
-ghost use Rattle.co_notebook.specs.Made.{Made};
+ghost use Rattle.co_listener.specs.Made.{Made};
 ghost use Rattle.co_core.specs.Telling.{made_by};
 ghost use Rattle.co_core.specs.Written.{let_go, list_at, told_at};
 
 use super::Books;
-use co_notebook::Notebook;
+use co_listener::Listener;
 use co_object::Note;
 use co_sbt::NoMemory;
 
 /// Tells these notes of an actor, in their order.
-fn tell_all<N: Notebook>(notebook: &mut N, actor: u32, notes: &[Note]) -> Result<(), NoMemory>
-    requires { actor < N.actors notebook.old }
-    ensures has { OnOk result ((made : List Made) → N.has notebook.old made → N.has notebook.new (made ++ made_by actor notes.now)) }
-    ensures actors { N.actors notebook.new ≡ N.actors notebook.old }
+fn tell_all<N: Listener>(listener: &mut N, actor: u32, notes: &[Note]) -> Result<(), NoMemory>
+    requires { actor < N.actors listener.old }
+    ensures has { OnOk result ((made : List Made) → N.has listener.old made → N.has listener.new (made ++ made_by actor notes.now)) }
+    ensures actors { N.actors listener.new ≡ N.actors listener.old }
 {
     for note in notes {
-        notebook.write(actor, note)?;
+        listener.write(actor, note)?;
     }
     Ok(())
 }
 
 impl Books {
-    /// Tells the actor's notes to a notebook, and lets them go.
+    /// Tells the actor's notes to a listener, and lets them go.
     #[inline(always)]
-    pub(crate) fn tell<N: Notebook>(&mut self, actor: u32, notebook: &mut N) -> Result<(), NoMemory>
+    pub(crate) fn tell<N: Listener>(&mut self, actor: u32, listener: &mut N) -> Result<(), NoMemory>
         requires list { actor < length self.old.lists }
         requires told { actor < length self.old.told }
-        requires room { actor < N.actors notebook.old }
+        requires room { actor < N.actors listener.old }
         requires few { told_at self.old actor + length (list_at self.old actor) < 2 ^ 64 }
-        ensures has { OnOk result ((made : List Made) → N.has notebook.old made → N.has notebook.new (made ++ made_by actor (list_at self.old actor))) }
-        ensures actors { N.actors notebook.new ≡ N.actors notebook.old }
+        ensures has { OnOk result ((made : List Made) → N.has listener.old made → N.has listener.new (made ++ made_by actor (list_at self.old actor))) }
+        ensures actors { N.actors listener.new ≡ N.actors listener.old }
         ensures let_go { OnOk result (self.new ≡ let_go self.old actor) }
     {
         let index = actor as usize;
         let notes = self.lists.as_slice()[index].as_slice();
         let count = notes.len() as u64;
-        tell_all(notebook, actor, notes)?;
+        tell_all(listener, actor, notes)?;
         self.told[index] += count;
         // The list's memory is kept for the notes to come.
         self.lists.clear_at(index);

@@ -3,7 +3,7 @@ ghost use Rattle.std.specs.Prelude.{◌≡◌};
 ghost use Rattle.co_program.specs.Scripts.{IsScript};
 
 use crate::{SectionsOf, Subject};
-use co_notebook::Notebook;
+use co_listener::Listener;
 use co_object::{
     AnyEntry, CallOp, Entry, Note, Op, Place, PlainOp, QEntry, QOp, QReply, Reply, RunOp,
 };

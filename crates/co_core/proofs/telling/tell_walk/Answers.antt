@@ -16,5 +16,5 @@ returns-clause-told g c =
     let turns = c.in_ok-tell_turns.ensures.told (open_world s) (opening_told s c.in_ok-engine.engine c.in_ok-engine.ensures) in
     on_ok_weaker c.tell_rounds.result
     (λ ends empty. (let end = ends (run s (open_world s) s.turns) turns.told in
-    walk_told s g.N.Notebook.has c.tell_turns.new.self c.tell_rounds.new.self c.args.notebook.now c.tell_turns.new.notebook c.tell_rounds.new.notebook end.0 turns end.1 end.2 empty))
+    walk_told s g.N.Listener.has c.tell_turns.new.self c.tell_rounds.new.self c.args.listener.now c.tell_turns.new.listener c.tell_rounds.new.listener end.0 turns end.1 end.2 empty))
     c.tell_rounds.ensures.ends

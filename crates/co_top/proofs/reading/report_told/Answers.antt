@@ -1,7 +1,7 @@
--- The notebook has the notes of the script's walk, and prints their report.
+-- The listener has the notes of the script's walk, and prints their report.
 use Rattle.std.proofs.Common.{◌≡◌, ◌≤◌, ℕ, true, List, length, Result, Ok, Err, IfOk, ap, sym, subst, ◌∙◌, arith}
 use Rattle.std.specs.List.{concat}
-use Rattle.co_notebook.specs.Made.{Made, IsInOrder, lists_by}
+use Rattle.co_listener.specs.Made.{Made, IsInOrder, lists_by}
 use Rattle.co_program.specs.declared.script.Script.{Script}
 use Rattle.co_program.specs.Actors.{actor_count}
 use Rattle.co_program.specs.Runs.{IsRunOf}

@@ -16,7 +16,7 @@ use Rattle.co_core.proofs.engine.Engine.tell_round.Goals as goal
 pub loop-actor-init : goal.loop-actor-init
 loop-actor-init g c = record {
   world = c.requires.world;
-  told = λ w h have. (not_yet c.args.script.now g.N.Notebook.has c.args.self.now c.args.notebook.now w h, have);
+  told = λ w h have. (not_yet c.args.script.now g.N.Listener.has c.args.self.now c.args.listener.now w h, have);
   finished = λ all w h have. ((λ a below. absurd (let never : ⊥ = omega (arith, below) in never)), refl);
   actors = refl;
 }
@@ -25,15 +25,15 @@ pub loop-actor-preserved : goal.loop-actor-preserved
 loop-actor-preserved g c =
     let s = c.args.script.now in
     let i = c.loop-actor.actor in
-    let has = g.N.Notebook.has in
+    let has = g.N.Listener.has in
     let known = c.tell_unless_ended.new.ended.flags in record {
       world = c.in_ok-done.ensures.world;
       told = λ w h have.
           (let at = run s w (range_with_len 0 i) in
           let before = c.loop-actor.invariant.told w h have in
           let after = c.in_ok-done.ensures.told at before.0.told before.1 in
-          subst (λ (v : World). GoesOn s has c.tell_unless_ended.new.self c.args.notebook.now c.tell_unless_ended.new.notebook w v × HaveEnded s v known) (sym (run_more s w (range_with_len 0 i) i) ∙ ap (λ (xs : List ℕ). run s w xs) (range-more i))
-          (further s has c.loop-actor.self c.tell_unless_ended.new.self c.args.notebook.now c.loop-actor.notebook c.tell_unless_ended.new.notebook w at (step s at i) before.0 after.0, after.1));
+          subst (λ (v : World). GoesOn s has c.tell_unless_ended.new.self c.args.listener.now c.tell_unless_ended.new.listener w v × HaveEnded s v known) (sym (run_more s w (range_with_len 0 i) i) ∙ ap (λ (xs : List ℕ). run s w xs) (range-more i))
+          (further s has c.loop-actor.self c.tell_unless_ended.new.self c.args.listener.now c.loop-actor.listener c.tell_unless_ended.new.listener w at (step s at i) before.0 after.0, after.1));
       finished = elim c.if-finished.branch [
         | then-finished b ↦ (λ all w h have.
             let rest = c.loop-actor.invariant.finished b.if-finished.true w h have in
@@ -52,7 +52,7 @@ pub returns-clause-told : goal.returns-clause-told
 returns-clause-told g c w h have =
     let s = c.args.script.now in
     let whole : c.loop-actor.actor ≡ actor_count s = omega (arith, c.loop-actor.auto.actor-end, c.loop-actor-test.false, c.actor_count-actor-end.ensures) in
-    subst (λ (n : ℕ). GoesOn s g.N.Notebook.has c.loop-actor.self c.args.notebook.now c.loop-actor.notebook w (run s w (range_with_len 0 n)) × HaveEnded s (run s w (range_with_len 0 n)) c.loop-actor.ended.flags) whole (c.loop-actor.invariant.told w h have)
+    subst (λ (n : ℕ). GoesOn s g.N.Listener.has c.loop-actor.self c.args.listener.now c.loop-actor.listener w (run s w (range_with_len 0 n)) × HaveEnded s (run s w (range_with_len 0 n)) c.loop-actor.ended.flags) whole (c.loop-actor.invariant.told w h have)
 
 pub returns-clause-finished : goal.returns-clause-finished
 returns-clause-finished g c all w h have =

@@ -10,8 +10,8 @@ abbrev pub invariant-loop-actor : goal.invariant-loop-actor
 invariant-loop-actor g l = record {
   world : (w : PlainWorld) × HasTold l.script l.self w;
   told : (w : PlainWorld) → HasTold l.script l.fn.self w → HaveEnded l.script w l.fn.ended.flags →
-      GoesOn l.script g.N.Notebook.has l.self l.fn.notebook l.notebook w (run l.script w (range_with_len 0 l.actor)) × HaveEnded l.script (run l.script w (range_with_len 0 l.actor)) l.ended.flags;
+      GoesOn l.script g.N.Listener.has l.self l.fn.listener l.listener w (run l.script w (range_with_len 0 l.actor)) × HaveEnded l.script (run l.script w (range_with_len 0 l.actor)) l.ended.flags;
   finished : l.finished ≡ true → (w : PlainWorld) → HasTold l.script l.fn.self w → HaveEnded l.script w l.fn.ended.flags →
       ((a : ℕ) → a < l.actor → HasFinished l.script w a) × (run l.script w (range_with_len 0 l.actor) ≡ w);
-  actors : g.N.Notebook.actors l.notebook ≡ g.N.Notebook.actors l.fn.notebook;
+  actors : g.N.Listener.actors l.listener ≡ g.N.Listener.actors l.fn.listener;
 }

@@ -11,7 +11,7 @@ pub loop-round-init : goal.loop-round-init
 loop-round-init g c = record {
   world = c.requires.world;
   told = λ w h. (
-    not_yet c.args.script.now g.N.Notebook.has c.args.self.now c.args.notebook.now w h,
+    not_yet c.args.script.now g.N.Listener.has c.args.self.now c.args.listener.now w h,
     λ a said. (let never : false ≡ true = sym (c.none-ended.ensures a) ∙ said in cc),
     λ ok. inl (omega arith),
   );
@@ -25,8 +25,8 @@ returns-then-branch-clause-ends g c w h =
     let at = c.loop-round.invariant.told w h in
     let all = c.in_ok-tell_round.ensures.finished c.if-branch.true (rounds s w k) at.0.told at.1 in
     let after = c.in_ok-tell_round.ensures.told (rounds s w k) at.0.told at.1 in
-    let both = further s g.N.Notebook.has c.loop-round.self c.tell_round.new.self c.args.notebook.now c.loop-round.notebook c.tell_round.new.notebook w (rounds s w k) (round s (rounds s w k)) at.0 after.0 in
-    (k, subst (λ (v : World). GoesOn s g.N.Notebook.has c.tell_round.new.self c.args.notebook.now c.tell_round.new.notebook w v) all.1 both, all.0)
+    let both = further s g.N.Listener.has c.loop-round.self c.tell_round.new.self c.args.listener.now c.loop-round.listener c.tell_round.new.listener w (rounds s w k) (round s (rounds s w k)) at.0 after.0 in
+    (k, subst (λ (v : World). GoesOn s g.N.Listener.has c.tell_round.new.self c.args.listener.now c.tell_round.new.listener w v) all.1 both, all.0)
 
 pub loop-round-preserved : goal.loop-round-preserved
 loop-round-preserved g c =
@@ -36,8 +36,8 @@ loop-round-preserved g c =
       told = λ w h.
           (let before = c.loop-round.invariant.told w h in
           let after = c.in_ok-tell_round.ensures.told (rounds s w k) before.0.told before.1 in
-          let both = further s g.N.Notebook.has c.loop-round.self c.tell_round.new.self c.args.notebook.now c.loop-round.notebook c.tell_round.new.notebook w (rounds s w k) (round s (rounds s w k)) before.0 after.0 in (
-            subst (λ (v : World). GoesOn s g.N.Notebook.has c.tell_round.new.self c.args.notebook.now c.tell_round.new.notebook w v) (rounds-more s w k) both,
+          let both = further s g.N.Listener.has c.loop-round.self c.tell_round.new.self c.args.listener.now c.loop-round.listener c.tell_round.new.listener w (rounds s w k) (round s (rounds s w k)) before.0 after.0 in (
+            subst (λ (v : World). GoesOn s g.N.Listener.has c.tell_round.new.self c.args.listener.now c.tell_round.new.listener w v) (rounds-more s w k) both,
             subst (λ (v : World). HaveEnded s v c.tell_round.new.ended.flags) (rounds-more s w k) after.1,
             λ ok. counted-more s ok w k before.0.told.stands.reached (before.2 ok),
           ));

@@ -11,7 +11,7 @@ abbrev pub invariant-loop-round : goal.invariant-loop-round
 invariant-loop-round g l = record {
   world : (w : PlainWorld) × HasTold l.script l.self w;
   told : (w : PlainWorld) → HasTold l.script l.fn.self w →
-      GoesOn l.script g.N.Notebook.has l.self l.fn.notebook l.notebook w (rounds l.script w l._round) × HaveEnded l.script (rounds l.script w l._round) l.ended.flags
+      GoesOn l.script g.N.Listener.has l.self l.fn.listener l.listener w (rounds l.script w l._round) × HaveEnded l.script (rounds l.script w l._round) l.ended.flags
       × ((ok : IsScript l.script) → HasCounted l.script ok w l._round);
-  actors : g.N.Notebook.actors l.notebook ≡ g.N.Notebook.actors l.fn.notebook;
+  actors : g.N.Listener.actors l.listener ≡ g.N.Listener.actors l.fn.listener;
 }

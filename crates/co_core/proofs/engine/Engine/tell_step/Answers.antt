@@ -11,7 +11,7 @@ use Rattle.co_core.proofs.engine.Engine.tell_step.Goals as goal
 pub returns-then-not-makes_notes-clause-told : goal.returns-then-not-makes_notes-clause-told
 returns-then-not-makes_notes-clause-told g c w h =
     let none : c.makes_notes.result ≡ false = search rules in
-    quiet_told c.args.script.now g.N.Notebook.has c.args.self.now c.step.new.self c.args.notebook.now w c.args.actor c.in_ok-turn.turn h (c.in_ok-turn.ensures.stands w h.stands) c.step.ensures.told
+    quiet_told c.args.script.now g.N.Listener.has c.args.self.now c.step.new.self c.args.listener.now w c.args.actor c.in_ok-turn.turn h (c.in_ok-turn.ensures.stands w h.stands) c.step.ensures.told
     (c.in_ok-turn.ensures.turn w h.stands) (sym c.makes_notes.ensures ∙ none)
 
 pub tell-requires-clause-list : goal.tell-requires-clause-list
@@ -34,5 +34,5 @@ returns-clause-told g c w h =
     let s = c.args.script.now in
     let a = c.args.actor in
     let engine : Written → Engine = λ books. record { books = books; depot = c.step.new.self.depot } in
-    subst (λ (books : Written). GoesOn s g.N.Notebook.has (engine books) c.args.notebook.now c.tell.new.notebook w (step s w a)) (sym c.in_ok-tell.ensures.let_go)
-    (step_told s g.N.Notebook.has c.args.self.now c.step.new.self c.args.notebook.now c.tell.new.notebook w a c.requires.actor h (c.in_ok-turn.ensures.stands w h.stands) c.step.ensures.told c.in_ok-tell.ensures.has)
+    subst (λ (books : Written). GoesOn s g.N.Listener.has (engine books) c.args.listener.now c.tell.new.listener w (step s w a)) (sym c.in_ok-tell.ensures.let_go)
+    (step_told s g.N.Listener.has c.args.self.now c.step.new.self c.args.listener.now c.tell.new.listener w a c.requires.actor h (c.in_ok-turn.ensures.stands w h.stands) c.step.ensures.told c.in_ok-tell.ensures.has)

@@ -7,6 +7,6 @@ use Rattle.co_core.proofs.engine.Engine.tell_turns.Given as goal
 abbrev pub invariant-loop-actor : goal.invariant-loop-actor
 invariant-loop-actor g l = record {
   world : (w : PlainWorld) × HasTold l.script l.self w;
-  told : (w : PlainWorld) → HasTold l.script l.fn.self w → GoesOn l.script g.N.Notebook.has l.self l.fn.notebook l.notebook w (run l.script w (take l.actor-index l.actor-items));
-  actors : g.N.Notebook.actors l.notebook ≡ g.N.Notebook.actors l.fn.notebook;
+  told : (w : PlainWorld) → HasTold l.script l.fn.self w → GoesOn l.script g.N.Listener.has l.self l.fn.listener l.listener w (run l.script w (take l.actor-index l.actor-items));
+  actors : g.N.Listener.actors l.listener ≡ g.N.Listener.actors l.fn.listener;
 }

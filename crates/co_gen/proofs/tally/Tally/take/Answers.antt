@@ -2,7 +2,7 @@
 use Rattle.std.proofs.Common.{ℕ, ◌≡◌, ◌+◌, ap, refl}
 use Rattle.co_object.specs.declared.Place.TheVariants.{Timer}
 use Rattle.co_object.specs.Lists.{same_place}
-use Rattle.co_notebook.specs.Made.{Made}
+use Rattle.co_listener.specs.Made.{Made}
 use Rattle.co_gen.specs.declared.counts.Counts.{Counts}
 use Rattle.co_gen.specs.declared.tally.Tally.{Tally}
 use Rattle.co_gen.specs.Replay.{callout_entry}

@@ -1,14 +1,14 @@
-//! The notebook.
+//! The listener.
 
 use co_object::Note;
 use co_sbt::NoMemory;
 
 /// Takes the notes of a run's actors, one after the other, in the order in which they are made.
 ///
-/// What a notebook keeps of them is its own affair: their lists, or only what is wanted of them, as a text. Our own decision.
-pub trait Notebook {
+/// What a listener keeps of them is its own affair: their lists, or only what is wanted of them, as a text. Our own decision.
+pub trait Listener {
     ghost use Rattle.std.specs.Prelude.{◌≡◌, ◌<◌, ◌++◌, ◌∷◌, [], ℕ, List, OnOk};
-    ghost use Rattle.co_notebook.specs.Made.{Made};
+    ghost use Rattle.co_listener.specs.Made.{Made};
 
     /// It has room for the notes of actors below this number.
     ghost actors: { Self → ℕ };
@@ -16,7 +16,7 @@ pub trait Notebook {
     /// These are the notes that it has taken, in their order.
     ghost has: { Self → List Made → Type 0 };
 
-    /// Takes a note of this actor. Fails for want of memory alone; what the notebook has after that is not told.
+    /// Takes a note of this actor. Fails for want of memory alone; what the listener has after that is not told.
     fn write(&mut self, actor: u32, note: &Note) -> Result<(), NoMemory>
         requires actor { actor < actors self.old }
         ensures has { OnOk result ((made : List Made) → has self.old made → has self.new (made ++ record { actor = actor; note = note.now } ∷ [])) }

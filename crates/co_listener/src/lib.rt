@@ -1,6 +1,6 @@
 //! Notes that are told as they are made, to whoever keeps them.
 #![tactic(auto)]
 
-mod notebook;
+mod listener;
 
-pub use notebook::Notebook;
+pub use listener::Listener;
