@@ -8,7 +8,7 @@ use Rattle.co_object.specs.Callout.{opening}
 use Rattle.co_program.specs.declared.script.Script.{Script}
 use Rattle.co_queue.specs.Timers.{empty_timers}
 use Rattle.co_wheel.specs.Cpu.{Cpu, cpu_of}
-use Rattle.co_core.specs.Step.{are_direct}
+use Rattle.co_world.specs.Step.{are_direct}
 
 -- a callout as it is made
 abbrev pub new_callout : Spec → Option Alone

@@ -1,8 +1,8 @@
 -- What is known of the actors that have finished.
 use Rattle.std.specs.Prelude.{◌≡◌, ℕ, false, true, List, Bool, get_or}
 use Rattle.co_program.specs.declared.script.Script.{Script}
-use Rattle.co_core.specs.Walk.{HasFinished}
-use Rattle.co_core.specs.World.{World}
+use Rattle.co_world.specs.Walk.{HasFinished}
+use Rattle.co_world.specs.World.{World}
 
 -- those that are known to have finished have
 abbrev pub HaveEnded : Script → World → List Bool → Type 0

@@ -4,7 +4,7 @@ use Rattle.co_program.specs.declared.script.Script.{Script}
 use Rattle.co_program.specs.Scripts.{IsScript}
 use Rattle.co_core.specs.Stands.{StandsFor}
 use Rattle.co_core.specs.Stored.{Stored}
-use Rattle.co_core.specs.World.{World}
+use Rattle.co_world.specs.World.{World}
 use Rattle.co_core.specs.Written.{Written, told_at}
 use Rattle.co_core.specs.Seen.{Seen}
 

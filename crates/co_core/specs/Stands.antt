@@ -4,17 +4,11 @@ use Rattle.std.specs.declared.option.Option.{Option}
 use Rattle.std.specs.declared.option.Option.TheVariants.{Some, None}
 use Rattle.co_object.specs.declared.alone.Alone.{Alone}
 use Rattle.co_object.specs.declared.state.Arming.{Arming}
-use Rattle.co_object.specs.Stand.{is_idle, is_free_at, off}
-use Rattle.co_object.specs.Queue.{Queue, Due}
 use Rattle.co_object.specs.Lists.{notes_of}
 use Rattle.co_object.specs.declared.note.Note.{Note}
 use Rattle.co_object.specs.declared.note.Place.TheVariants.{Actor}
 use Rattle.co_program.specs.declared.script.Script.{Script}
-use Rattle.co_program.specs.declared.role.Role.{Role}
-use Rattle.co_program.specs.declared.role.Role.TheVariants.{Client, Cpu, Interrupt}
-use Rattle.co_program.specs.Actors.{actor_count, role_of, cpu_of}
-use Rattle.co_program.specs.declared.cursor.Service.{Service}
-use Rattle.co_program.specs.Stages.{Stage, Ready, Waiting, Popping, Picking, Locking, Beginning, Unlocking, Firing, Releasing, Ending, Freeing, Drained}
+use Rattle.co_program.specs.Actors.{actor_count}
 use Rattle.co_program.specs.declared.cursor.Parcel.{Parcel}
 use Rattle.co_program.specs.Action.{Action, action_for, spec_at}
 use Rattle.co_program.specs.Follows.{scan_count}
@@ -24,10 +18,11 @@ use Rattle.co_wheel.specs.Parcel.{Parcel as Travelling}
 use Rattle.co_wheel.specs.Turns.{Shows}
 use Rattle.co_core.specs.declared.books.Hand.{Hand}
 use Rattle.co_core.specs.declared.engine.Engine.{Engine}
-use Rattle.co_core.specs.World.{World}
-use Rattle.co_core.specs.Blocked.{blocked, is_moving}
-use Rattle.co_core.specs.Step.{are_direct}
-use Rattle.co_core.specs.Laws.{IsSchedule, reached}
+use Rattle.co_world.specs.World.{World}
+use Rattle.co_world.specs.Blocked.{blocked, is_moving}
+use Rattle.co_world.specs.Step.{are_direct}
+use Rattle.co_world.specs.Laws.{IsReached}
+use Rattle.co_world.specs.Placed.{IsPlaced}
 use Rattle.co_core.specs.Stored.{Stored, bag_at, wheel_at}
 use Rattle.co_core.specs.Table.{table}
 use Rattle.co_core.specs.Written.{Written, place_at, told_at, with_list}
@@ -100,75 +95,7 @@ pub record IsStored (s : Script) (x : Stored) (w : World) : Type 0 where
   pub bags_long : length x.bags ≡ actor_count s
   pub each_bag : (a : ℕ) → a < actor_count s → IsBag s w (w.actors a).cursor.parcel (bag_at x a)
 
--- ---- what holds between the records and the actors
-
--- what a queue's server has in its slot
-abbrev pub slot_of : Role → Queue → Option Due
-slot_of (Client c) q = None
-slot_of (Cpu x) q = q.serving
-slot_of (Interrupt x) q = q.directing
-
-abbrev pub entry_of : Service → Due
-entry_of v = record { i = v.i; n = v.n }
-
--- what a stage has in service, from the Pop to the Free
-abbrev pub in_slot : Stage → Option Due
-in_slot Ready = None
-in_slot (Waiting n took) = None
-in_slot (Popping act) = None
-in_slot (Picking v) = Some (entry_of v)
-in_slot (Locking v) = Some (entry_of v)
-in_slot (Beginning v) = Some (entry_of v)
-in_slot (Unlocking v acts) = Some (entry_of v)
-in_slot (Firing v acts) = Some (entry_of v)
-in_slot (Releasing v) = Some (entry_of v)
-in_slot (Ending v) = Some (entry_of v)
-in_slot (Freeing v drain next) = Some (entry_of v)
-in_slot (Drained v acts) = None
-
--- the callout that a stage is about
-abbrev pub callout_in : Stage → Option ℕ
-callout_in Ready = None
-callout_in (Waiting n took) = None
-callout_in (Popping act) = None
-callout_in (Picking v) = Some v.i
-callout_in (Locking v) = Some v.i
-callout_in (Beginning v) = Some v.i
-callout_in (Unlocking v acts) = Some v.i
-callout_in (Firing v acts) = Some v.i
-callout_in (Releasing v) = Some v.i
-callout_in (Ending v) = Some v.i
-callout_in (Freeing v drain next) = Some v.i
-callout_in (Drained v acts) = Some v.i
-
--- what an actor moves is in no service, and goes to a CPU
-pub record IsBound (s : Script) (w : World) (p : Parcel) : Type 0 where
-  pub idle : is_idle (w.timers p.i).state.run ≡ true
-  pub known : p.i < length s.timers
-  pub target : p.cpu < s.cpus
-
--- the CPUs that a callout names exist
-pub record IsSettled (s : Script) (w : World) (i : ℕ) : Type 0 where
-  pub home : (w.timers i).state.home < s.cpus
-  pub target : (arming : Arming) → (w.timers i).state.armed ≡ Some arming → arming.cpu < s.cpus
-  pub stand : (w.timers i).stand < s.cpus
-
-pub record IsPlaced (s : Script) (w : World) : Type 0 where
-  -- a service runs where its callout's record stands
-  pub runs : (i : ℕ) → is_free_at (w.timers i).state.run (w.timers i).stand ≡ true
-  -- and what is listed is so there, unless it is on its way
-  pub listed : (i cpu : ℕ) → is_moving s w i ≡ false → off (w.timers i).state ≡ Some cpu → (w.timers i).stand ≡ cpu
-  pub bound : (a : ℕ) (p : Parcel) → a < actor_count s → (w.actors a).cursor.parcel ≡ Some p → IsBound s w p
-  -- a server's slot has what it services
-  pub serves : (a : ℕ) → a < actor_count s → slot_of (role_of s a) (w.cpus (cpu_of s (role_of s a))).queue ≡ in_slot (w.actors a).cursor.stage
-  pub known : (a i : ℕ) → a < actor_count s → callout_in (w.actors a).cursor.stage ≡ Some i → i < length s.timers
-  pub settled : (i : ℕ) → i < length s.timers → IsSettled s w i
-
--- some schedule reaches it
-pub record IsReached (s : Script) (w : World) : Type 0 where
-  pub schedule : List ℕ
-  pub may : IsSchedule s schedule
-  pub world : w ≡ reached s schedule
+-- ---- the whole
 
 -- the books and the depot show a world that some schedule reaches
 pub record StandsFor (s : Script) (books : Written) (depot : Stored) (w : World) : Type 0 where

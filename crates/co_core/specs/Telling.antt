@@ -9,11 +9,11 @@ use Rattle.co_listener.specs.Made.{IsInOrder, Made, list_by, lists_by, made_in}
 use Rattle.co_program.specs.declared.script.Script.{Script}
 use Rattle.co_program.specs.Actors.{actor_count}
 use Rattle.co_core.specs.declared.engine.Engine.{Engine}
-use Rattle.co_core.specs.declared.turn.Turn.{Turn}
-use Rattle.co_core.specs.declared.turn.Turn.TheVariants.{Notes, Blocked, Finished}
+use Rattle.co_world.specs.declared.turn.Turn.{Turn}
+use Rattle.co_world.specs.declared.turn.Turn.TheVariants.{Notes, Blocked, Finished}
 use Rattle.co_core.specs.Stands.{StandsFor}
-use Rattle.co_core.specs.Walk.{IsWalk}
-use Rattle.co_core.specs.World.{World}
+use Rattle.co_world.specs.Walk.{IsWalk}
+use Rattle.co_world.specs.World.{World}
 use Rattle.co_core.specs.Written.{told_at}
 
 -- these notes, in this order, are those of the script's walk, and the positions of each place count in their order

@@ -13,7 +13,7 @@ use Rattle.co_core.specs.Seen.{Seen}
 use Rattle.co_core.specs.Shows.{Shows}
 use Rattle.co_core.specs.Stands.{alone_of}
 use Rattle.co_core.specs.Stored.{Stored, wheel_at, bag_at}
-use Rattle.co_core.specs.World.{World}
+use Rattle.co_world.specs.World.{World}
 
 -- ---- records
 

@@ -6,21 +6,21 @@ ghost use Rattle.co_program.specs.Actors.{actor_count};
 ghost use Rattle.co_program.specs.Follows.{scan_count};
 ghost use Rattle.co_program.specs.Indexed.{action_of, cursor_of, stage_of};
 ghost use Rattle.co_program.specs.Scripts.{IsScript};
-ghost use Rattle.co_core.specs.Blocked.{blocked, is_locked, is_moving, is_waiting};
+ghost use Rattle.co_world.specs.Blocked.{blocked, is_locked, is_moving, is_waiting};
 ghost use Rattle.co_core.specs.Stands.{IsWritten, StandsFor};
 ghost use Rattle.co_core.specs.Stored.{stand_at};
-ghost use Rattle.co_core.specs.Step.{step, turn_of};
-ghost use Rattle.co_core.specs.declared.turn.Turn.TheVariants.{Finished};
-ghost use Rattle.co_core.specs.World.{World as PlainWorld};
+ghost use Rattle.co_world.specs.Step.{step, turn_of};
+ghost use Rattle.co_world.specs.declared.turn.Turn.TheVariants.{Finished};
+ghost use Rattle.co_world.specs.World.{World as PlainWorld};
 ghost use Rattle.co_core.specs.Written.{place_at};
 
 mod taking;
 
 use crate::engine::Engine;
-use crate::turn::Why;
 use co_lock::Held;
 use co_object::Op;
 use co_program::{Action, Asked, Cursor, Script, Stage, scans_first};
+use co_world::Why;
 use taking::{has_ended, takes_next};
 
 impl Engine {

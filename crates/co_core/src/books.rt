@@ -12,9 +12,9 @@ ghost use Rattle.co_object.specs.Entries.{is_armed};
 ghost use Rattle.co_object.specs.Stand.{off};
 ghost use Rattle.co_object.specs.Queue.{Queue as TimerQueue};
 ghost use Rattle.co_program.specs.Follows.{one_scan};
-ghost use Rattle.co_core.specs.World.{World as PlainWorld};
+ghost use Rattle.co_world.specs.World.{World as PlainWorld};
 ghost use Rattle.co_core.specs.Stands.{IsWritten, MayWrite};
-ghost use Rattle.co_core.specs.Step.{callout_answers, own_note, queue_answers};
+ghost use Rattle.co_world.specs.Step.{callout_answers, own_note, queue_answers};
 ghost use Rattle.co_core.specs.Written.{IsMoved, IsNoted, list_at, place_at, with_list};
 
 mod boot;

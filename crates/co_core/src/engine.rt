@@ -5,9 +5,9 @@ ghost use Rattle.co_program.specs.Action.{Asks, Silent, Take};
 ghost use Rattle.co_program.specs.Scripts.{IsScript};
 ghost use Rattle.co_program.specs.Indexed.{MoveCounts, cursor_of, moved};
 ghost use Rattle.co_wheel.specs.Turns.{pop_of, free_of};
-ghost use Rattle.co_core.specs.World.{World as PlainWorld};
+ghost use Rattle.co_world.specs.World.{World as PlainWorld};
 ghost use Rattle.co_core.specs.Stands.{HeldBy, IsDue, MayAct, StandsFor};
-ghost use Rattle.co_core.specs.Step.{step};
+ghost use Rattle.co_world.specs.Step.{step};
 ghost use Rattle.co_core.specs.Written.{place_at};
 
 mod acting;

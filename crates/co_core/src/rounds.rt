@@ -4,16 +4,16 @@ ghost use Rattle.co_program.specs.Actors.{actor_count};
 ghost use Rattle.co_program.specs.Scripts.{IsScript};
 ghost use Rattle.co_core.specs.Shows.{Shows};
 ghost use Rattle.co_core.specs.Ended.{HaveEnded};
-ghost use Rattle.co_core.specs.Step.{step};
-ghost use Rattle.co_core.specs.Walk.{AllFinished, HasFinished, IsWalk, round, rounds, run};
-ghost use Rattle.co_core.specs.World.{World as PlainWorld};
+ghost use Rattle.co_world.specs.Step.{step};
+ghost use Rattle.co_world.specs.Walk.{AllFinished, HasFinished, IsWalk, round, rounds, run};
+ghost use Rattle.co_world.specs.World.{World as PlainWorld};
 
 use crate::ended::Ended;
-use crate::turn::Turn;
 use crate::world::World;
 use co_object::Lists;
 use co_program::{Script, actor_count};
 use co_sbt::NoMemory;
+use co_world::Turn;
 use std::alloc::Global;
 
 /// The step was none, since the actor had finished.

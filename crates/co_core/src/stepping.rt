@@ -4,16 +4,16 @@ ghost use Rattle.co_object.specs.declared.note.Note.{Note};
 ghost use Rattle.co_program.specs.Actors.{actor_count};
 ghost use Rattle.co_program.specs.Scripts.{IsScript};
 ghost use Rattle.co_core.specs.Stands.{StandsFor};
-ghost use Rattle.co_core.specs.Step.{step, turn_of};
-ghost use Rattle.co_core.specs.World.{World as PlainWorld, open_world};
+ghost use Rattle.co_world.specs.Step.{step, turn_of};
+ghost use Rattle.co_world.specs.World.{World as PlainWorld, open_world};
 
 use crate::books::Books;
 use crate::depot::Depot;
 use crate::engine::Engine;
-use crate::turn::Turn;
 use co_object::Lists;
 use co_program::{Action, Script, action_for};
 use co_sbt::NoMemory;
+use co_world::Turn;
 use std::alloc::Global;
 
 impl Engine {

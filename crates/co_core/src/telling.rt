@@ -4,18 +4,18 @@ ghost use Rattle.co_listener.specs.Made.{Made};
 ghost use Rattle.co_program.specs.Actors.{actor_count};
 ghost use Rattle.co_program.specs.Scripts.{IsScript};
 ghost use Rattle.co_core.specs.Ended.{HaveEnded};
-ghost use Rattle.co_core.specs.Step.{step, turn_of};
+ghost use Rattle.co_world.specs.Step.{step, turn_of};
 ghost use Rattle.co_core.specs.Telling.{GoesOn, HasTold, IsTelling, makes_notes};
-ghost use Rattle.co_core.specs.Walk.{AllFinished, HasFinished, round, rounds, run};
-ghost use Rattle.co_core.specs.World.{World as PlainWorld};
+ghost use Rattle.co_world.specs.Walk.{AllFinished, HasFinished, round, rounds, run};
+ghost use Rattle.co_world.specs.World.{World as PlainWorld};
 
 use crate::ended::Ended;
 use crate::engine::Engine;
 use crate::rounds::is_finished;
-use crate::turn::Turn;
 use co_listener::Listener;
 use co_program::{Script, actor_count};
 use co_sbt::NoMemory;
+use co_world::Turn;
 use std::alloc::Global;
 
 /// The step made notes.

@@ -5,7 +5,7 @@ ghost use Rattle.co_program.specs.declared.act.Act.TheVariants.{Reset};
 ghost use Rattle.co_program.specs.declared.act.When.TheVariants.{At};
 ghost use Rattle.co_program.specs.declared.act.Who.TheVariants.{Timer};
 ghost use Rattle.co_program.specs.Scripts.{IsScript};
-ghost use Rattle.co_core.specs.Worked.{one_callout};
+ghost use Rattle.co_world.specs.Worked.{one_callout};
 
 use crate::{Turn, Why, World, run_steps, tell_walk};
 use co_listener::Listener;

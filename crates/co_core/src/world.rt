@@ -3,15 +3,15 @@ ghost use Rattle.std.specs.Prelude.{◌≡◌, ◌<◌, OnOk, OnErr, IfOk};
 ghost use Rattle.co_program.specs.Actors.{actor_count};
 ghost use Rattle.co_program.specs.Scripts.{IsScript};
 ghost use Rattle.co_core.specs.Shows.{Shows};
-ghost use Rattle.co_core.specs.SoFar.{IsRunSoFar};
-ghost use Rattle.co_core.specs.Step.{step, turn_of};
-ghost use Rattle.co_core.specs.World.{World as PlainWorld, lists_of, open_world};
+ghost use Rattle.co_world.specs.SoFar.{IsRunSoFar};
+ghost use Rattle.co_world.specs.Step.{step, turn_of};
+ghost use Rattle.co_world.specs.World.{World as PlainWorld, lists_of, open_world};
 
 use crate::engine::Engine;
-use crate::turn::Turn;
 use co_object::Lists;
 use co_program::Script;
 use co_sbt::NoMemory;
+use co_world::Turn;
 use std::alloc::Global;
 use std::marker::Model;
 

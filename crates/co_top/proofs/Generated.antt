@@ -6,7 +6,7 @@ use Rattle.co_program.specs.Runs.{IsRunOf}
 use Rattle.co_program.specs.Scripts.{IsScript}
 use Rattle.co_script.specs.Fits.{fits}
 use Rattle.co_script.proofs.Accepted.{fits-accepted}
-use Rattle.co_core.specs.Walk.{IsWalk}
+use Rattle.co_world.specs.Walk.{IsWalk}
 use Rattle.co_gen.specs.Generator.{generated}
 use Rattle.co_gen.specs.Soak.{counts_of, soak_line}
 use Rattle.co_gen.specs.declared.counts.Counts.{Counts}

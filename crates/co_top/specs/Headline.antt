@@ -7,7 +7,7 @@ use Rattle.co_text.specs.Fallible.{Refusal}
 use Rattle.co_text.specs.Values.{Word}
 use Rattle.co_script.specs.Reading.{script_of}
 use Rattle.co_script.specs.Canonical.{canonical}
-use Rattle.co_core.specs.Walk.{IsWalk}
+use Rattle.co_world.specs.Walk.{IsWalk}
 use Rattle.co_report.specs.Reading.{report_read}
 use Rattle.co_report.specs.Reports.{report_of}
 use Rattle.co_report.specs.declared.line.Report.{Report}

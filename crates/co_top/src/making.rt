@@ -3,7 +3,7 @@ ghost use Rattle.std.specs.Prelude.{◌≡◌, List, IfOk};
 ghost use Rattle.co_object.specs.declared.note.Note.{Note};
 ghost use Rattle.co_program.specs.Scripts.{IsScript};
 ghost use Rattle.co_script.specs.Canonical.{canonical};
-ghost use Rattle.co_core.specs.Walk.{IsWalk};
+ghost use Rattle.co_world.specs.Walk.{IsWalk};
 ghost use Rattle.co_gen.specs.Generator.{generated};
 ghost use Rattle.co_gen.specs.Soak.{counts_of};
 ghost use Rattle.co_top.specs.Headline.{IsMadeOf, IsSoakOf};

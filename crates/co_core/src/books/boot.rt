@@ -3,7 +3,7 @@ ghost use Rattle.std.specs.Prelude.{◌≡◌, [], replicate, IfOk};
 ghost use Rattle.co_program.specs.Scripts.{IsScript};
 ghost use Rattle.co_core.specs.Holders.{no_holders};
 ghost use Rattle.co_core.specs.Stands.{IsWritten};
-ghost use Rattle.co_core.specs.World.{open_world};
+ghost use Rattle.co_world.specs.World.{open_world};
 ghost use Rattle.co_core.specs.Written.{first_place};
 ghost use Rattle.co_program.specs.Actors.{actor_count};
 

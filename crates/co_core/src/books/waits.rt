@@ -1,7 +1,7 @@
 //! What the books say of who holds a lock, and how many Scans a CPU has made.
 ghost use Rattle.std.specs.Prelude.{◌≡◌, ◌<◌, get_or, length};
 ghost use Rattle.std.specs.List.{list_any};
-ghost use Rattle.co_core.specs.Blocked.{excludes, is_excluded_by};
+ghost use Rattle.co_world.specs.Blocked.{excludes, is_excluded_by};
 
 use super::Books;
 use co_lock::Held;

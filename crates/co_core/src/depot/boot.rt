@@ -8,7 +8,7 @@ ghost use Rattle.co_wheel.specs.Cpu.{cpu_of};
 ghost use Rattle.co_core.specs.Booted.{first_wheel, new_callout};
 ghost use Rattle.co_core.specs.Stands.{IsStored};
 ghost use Rattle.co_core.specs.Table.{table};
-ghost use Rattle.co_core.specs.World.{open_world};
+ghost use Rattle.co_world.specs.World.{open_world};
 
 use super::Depot;
 use co_bucket::WheelQueue;

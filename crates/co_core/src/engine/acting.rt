@@ -6,8 +6,8 @@ ghost use Rattle.co_program.specs.Actors.{actor_count};
 ghost use Rattle.co_program.specs.Indexed.{ActionCounts, action_of};
 ghost use Rattle.co_program.specs.Scripts.{IsScript};
 ghost use Rattle.co_core.specs.Stands.{HeldBy, IsDue, MayAct, StandsFor};
-ghost use Rattle.co_core.specs.Step.{step};
-ghost use Rattle.co_core.specs.World.{World as PlainWorld};
+ghost use Rattle.co_world.specs.Step.{step};
+ghost use Rattle.co_world.specs.World.{World as PlainWorld};
 ghost use Rattle.co_core.specs.Written.{list_at, place_at};
 
 use super::Engine;

@@ -1,8 +1,8 @@
 -- The turns and then the rounds, from the opening to the end.
-use Rattle.co_core.specs.Walk.{run}
-use Rattle.co_core.specs.World.{open_world}
+use Rattle.co_world.specs.Walk.{run}
+use Rattle.co_world.specs.World.{open_world}
 use Rattle.std.proofs.lemmas.Result.{on_ok_weaker}
-use Rattle.co_core.proofs.Told.{opening_told, walk_told}
+use Rattle.co_core.proofs.walked.Told.{opening_told, walk_told}
 use Rattle.co_core.proofs.telling.tell_walk.Goals as goal
 
 pub tell_rounds-requires-clause-world : goal.tell_rounds-requires-clause-world

@@ -1,7 +1,7 @@
 use Rattle.co_object.specs.declared.LockUse.TheVariants.{Free}
 use Rattle.co_program.specs.Scripts.{IsScript}
-use Rattle.co_core.specs.Worked.{one_callout}
-use Rattle.co_core.proofs.WorkedScripts.{in_transit_accepted, sound_if}
+use Rattle.co_world.specs.Worked.{one_callout}
+use Rattle.co_world.proofs.Rows.SoundScripts.{in_transit_accepted, sound_if}
 use Rattle.co_core.proofs.tests.in_transit.Goals as goal
 
 pub returns : goal.returns

@@ -5,7 +5,7 @@ use Rattle.co_listener.specs.Made.{lists_by}
 use Rattle.co_program.specs.declared.script.Script.{Script}
 use Rattle.co_program.specs.Actors.{actor_count}
 use Rattle.co_program.specs.Runs.{actors_of}
-use Rattle.co_core.proofs.Runs.{walks_are_runs}
+use Rattle.co_world.proofs.legal.Runs.{walks_are_runs}
 use Rattle.co_gen.specs.Laws.{HaveLegalHistories}
 use Rattle.co_gen.specs.Soak.{counts_of}
 use Rattle.co_gen.proofs.Tallying.{if-ok}

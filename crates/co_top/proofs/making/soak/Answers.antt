@@ -1,4 +1,4 @@
-use Rattle.co_core.proofs.Runs.{walks_are_runs}
+use Rattle.co_world.proofs.legal.Runs.{walks_are_runs}
 use Rattle.co_top.proofs.Generated.{accepted, soaked}
 use Rattle.co_top.proofs.making.soak.Goals as goal
 

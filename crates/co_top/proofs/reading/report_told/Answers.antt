@@ -8,7 +8,7 @@ use Rattle.co_program.specs.Runs.{IsRunOf}
 use Rattle.co_script.specs.Fits.{fits}
 use Rattle.co_script.proofs.Accepted.{fits-accepted}
 use Rattle.co_core.specs.Telling.{IsTelling}
-use Rattle.co_core.proofs.Runs.{walks_are_runs}
+use Rattle.co_world.proofs.legal.Runs.{walks_are_runs}
 use Rattle.co_report.specs.Reports.{report_of}
 use Rattle.co_report.specs.Sections.{Written, IsToldOf}
 use Rattle.co_report.specs.Typed.{ListsTyped}

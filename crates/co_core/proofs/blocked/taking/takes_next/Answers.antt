@@ -1,6 +1,6 @@
 -- A client's next act, or the service under way, takes this lock, and so does the action.
 use Rattle.std.proofs.Common.{◌∙◌, sym}
-use Rattle.co_core.proofs.Taking.{client-takes, service-takes, none-there}
+use Rattle.co_core.proofs.steps.NextLock.{client-takes, service-takes, none-there}
 use Rattle.co_core.proofs.blocked.taking.takes_next.Goals as goal
 
 pub returns-else-is_some-2 : goal.returns-else-is_some-2

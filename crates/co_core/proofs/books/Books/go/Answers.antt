@@ -5,7 +5,7 @@ use Rattle.co_program.specs.declared.cursor.Cursor.{Cursor as CursorAt}
 use Rattle.co_core.specs.declared.books.holders.Holders.{Holders}
 use Rattle.co_core.specs.Holders.{AreHolders, no_holders, released, taken}
 use Rattle.co_core.specs.Written.{Written, first_place}
-use Rattle.co_core.proofs.Holders.{moved, few-left}
+use Rattle.co_core.proofs.written.LockHolders.{moved, few-left}
 use Rattle.co_core.proofs.books.Books.go.Goals as goal
 
 pub rehold-requires-clause-shared : goal.rehold-requires-clause-shared

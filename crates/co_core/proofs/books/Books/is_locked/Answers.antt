@@ -2,10 +2,10 @@
 use Rattle.std.proofs.Common.{rules, ◌≡◌, ◌<◌, length, get_or, ap, ◌∙◌}
 use Rattle.std.specs.List.{list_any}
 use Rattle.co_program.specs.declared.cursor.Cursor.{Cursor as CursorAt}
-use Rattle.co_core.specs.Blocked.{is_excluded_by}
+use Rattle.co_world.specs.Blocked.{is_excluded_by}
 use Rattle.co_core.specs.Holders.{no_holders}
 use Rattle.co_core.specs.Written.{Written}
-use Rattle.co_core.proofs.Holders.{locked}
+use Rattle.co_core.proofs.written.LockHolders.{locked}
 use Rattle.co_core.proofs.books.Books.is_locked.Goals as goal
 
 pub returns-in-Some : goal.returns-in-Some

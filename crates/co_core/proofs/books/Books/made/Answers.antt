@@ -1,7 +1,7 @@
 use Rattle.std.proofs.Common.{length, refl, ap}
 use Rattle.co_program.specs.Actors.{actor_count}
-use Rattle.co_core.proofs.Booting.{opening-written}
-use Rattle.co_core.proofs.Holders.{no-one}
+use Rattle.co_core.proofs.opening.Shown.{opening-written}
+use Rattle.co_core.proofs.written.LockHolders.{no-one}
 use Rattle.co_core.proofs.books.Books.made.Goals as goal
 
 pub returns : goal.returns

@@ -2,7 +2,7 @@ use Rattle.std.proofs.Common.{◌≡◌, ap, ◌∙◌, List}
 use Rattle.co_object.specs.declared.note.Note.{Note}
 use Rattle.co_core.specs.contracts.books.Books.{the_view}
 use Rattle.co_core.specs.Written.{Written}
-use Rattle.co_core.proofs.Listing.{put_back}
+use Rattle.co_core.proofs.tables.PutBack.{put_back}
 use Rattle.co_core.proofs.books.Books.open.Goals as goal
 
 abbrev with_lists : Written → List (List Note) → Written

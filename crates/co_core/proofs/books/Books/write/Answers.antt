@@ -5,8 +5,8 @@ use Rattle.co_core.specs.Written.{Written, IsNoted, first_place, with_list, plac
 use Rattle.co_program.specs.Indexed.{Counts, cursor_of}
 use Rattle.co_program.specs.declared.cursor.Cursor.{Cursor as CursorAt}
 use Rattle.co_program.specs.Advance.{advance}
-use Rattle.co_core.proofs.Holders.{stayed}
-use Rattle.co_core.proofs.Noting.{noted_by, went}
+use Rattle.co_core.proofs.written.LockHolders.{stayed}
+use Rattle.co_core.proofs.written.Notes.{noted_by, went}
 use Rattle.co_core.proofs.books.Books.write.Goals as goal
 
 pub returns-clause-noted : goal.returns-clause-noted

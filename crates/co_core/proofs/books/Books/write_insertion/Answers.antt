@@ -5,7 +5,7 @@ use Rattle.co_object.specs.declared.queue.QReply.TheVariants.{At}
 use Rattle.co_program.specs.declared.cursor.Parcel.{Parcel}
 use Rattle.co_program.specs.Cursor.{Cursor}
 use Rattle.co_core.specs.Stands.{IsWritten}
-use Rattle.co_core.specs.Step.{queue_answers}
+use Rattle.co_world.specs.Step.{queue_answers}
 use Rattle.co_core.specs.Written.{with_list}
 use Rattle.co_core.proofs.books.Books.write_insertion.Goals as goal
 

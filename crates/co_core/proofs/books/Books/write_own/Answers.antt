@@ -2,7 +2,7 @@
 use Rattle.std.proofs.Common.{rules, false, arith, ◌≡◌, ◌<◌, ◌≤◌, ◌+◌, sym, ap, subst, ◌∙◌, length, get_or, set, length-set}
 use Rattle.std.proofs.lemmas.List.{get_or_read}
 use Rattle.co_core.specs.Written.{Written, IsNoted, with_list}
-use Rattle.co_core.proofs.Writing.{written_own, own_there, list_there, own_entry}
+use Rattle.co_core.proofs.written.Entries.{written_own, own_there, list_there, own_entry}
 use Rattle.co_core.proofs.books.Books.write_own.Goals as goal
 
 pub index-pos-requires : goal.index-pos-requires

@@ -4,7 +4,7 @@ use Rattle.std.proofs.lemmas.List.{get_or_read}
 use Rattle.co_program.specs.Follows.{one_scan}
 use Rattle.co_core.specs.contracts.books.Books.{the_view}
 use Rattle.co_core.specs.Written.{Written, IsNoted, with_list}
-use Rattle.co_core.proofs.Writing.{written_queue, journal_there, scan_there, list_there, queue_note}
+use Rattle.co_core.proofs.written.Entries.{written_queue, journal_there, scan_there, list_there, queue_note}
 use Rattle.co_core.proofs.books.Books.write_queue.Goals as goal
 
 pub index-pos-requires : goal.index-pos-requires

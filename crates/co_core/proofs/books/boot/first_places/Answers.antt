@@ -1,6 +1,6 @@
 use Rattle.std.proofs.Common.{rules, ◌≡◌, ◌+◌, ◌<◌, ◌++◌, ◌∷◌, vec_len, replicate, [], ap, sym, ◌∙◌, arith}
 use Rattle.co_core.specs.Written.{first_place}
-use Rattle.co_core.proofs.Copies.{replicate-more}
+use Rattle.co_core.proofs.tables.Copies.{replicate-more}
 use Rattle.co_core.proofs.books.boot.first_places.Goals as goal
 
 pub loop-places-preserved : goal.loop-places-preserved

@@ -1,6 +1,6 @@
 use Rattle.std.proofs.Common.{length, refl, ap}
 use Rattle.co_program.specs.Actors.{actor_count}
-use Rattle.co_core.proofs.Booting.{opening-stored}
+use Rattle.co_core.proofs.opening.Shown.{opening-stored}
 use Rattle.co_core.proofs.depot.Depot.boot.Goals as goal
 
 pub returns : goal.returns

@@ -2,7 +2,7 @@ use Rattle.std.proofs.Common.{◌++◌, ◌∷◌, [], ◌∙◌, List, ap}
 use Rattle.co_wheel.specs.Cpu.{Cpu}
 use Rattle.co_core.specs.Booted.{first_wheel}
 use Rattle.co_core.specs.Table.{table}
-use Rattle.co_core.proofs.Copies.{table-more}
+use Rattle.co_core.proofs.tables.Copies.{table-more}
 use Rattle.co_core.proofs.depot.boot.first_wheels.Goals as goal
 
 pub loop-cpu-preserved : goal.loop-cpu-preserved

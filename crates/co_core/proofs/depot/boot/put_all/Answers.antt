@@ -1,6 +1,6 @@
 use Rattle.std.proofs.Common.{◌≡◌, ◌∙◌, Option, List, length, refl, ap, sym, arith}
 use Rattle.co_object.specs.declared.alone.Alone.{Alone}
-use Rattle.co_core.proofs.Filling.{partly, partly-none, partly-more, partly-all, partly-long, partly-absent}
+use Rattle.co_core.proofs.opening.Wheels.{partly, partly-none, partly-more, partly-all, partly-long, partly-absent}
 use Rattle.co_core.proofs.depot.boot.put_all.Goals as goal
 
 pub loop-i-init : goal.loop-i-init

@@ -1,5 +1,5 @@
 use Rattle.std.proofs.Common.{◌≡◌}
-use Rattle.co_core.proofs.Filling.{partly}
+use Rattle.co_core.proofs.opening.Wheels.{partly}
 use Rattle.co_core.proofs.depot.boot.put_all.Given as goal
 
 abbrev pub invariant-loop-i : goal.invariant-loop-i

@@ -1,4 +1,4 @@
-use Rattle.co_core.proofs.Ending.{none_known}
+use Rattle.co_core.proofs.walked.Finished.{none_known}
 use Rattle.co_core.proofs.ended.Ended.none.Goals as goal
 
 pub returns : goal.returns

@@ -7,8 +7,8 @@ use Rattle.co_object.specs.Entries.{is_armed}
 use Rattle.co_core.specs.Stored.{Stored}
 use Rattle.co_core.specs.Written.{Written, with_list}
 use Rattle.co_core.specs.Stands.{StandsFor, IsWritten}
-use Rattle.co_core.specs.Step.{callout_answers, step}
-use Rattle.co_core.proofs.BeginSection.{begin_there, begin_known, begins_here, begin_unarmed, stands_begun}
+use Rattle.co_world.specs.Step.{callout_answers, step}
+use Rattle.co_core.proofs.services.Begins.{begin_there, begin_known, begins_here, begin_unarmed, stands_begun}
 use Rattle.co_core.proofs.engine.Engine.begin.Goals as goal
 
 pub begin-reply-requires-clause-cpu : goal.begin-reply-requires-clause-cpu

@@ -1,5 +1,5 @@
 -- What an actor does next decides what it waits for, and all that it names exists.
-use Rattle.co_core.proofs.Waiting.{call_known, call_blocked, stand_below, queue_known, queue_blocked, scan_row}
+use Rattle.co_core.proofs.steps.Waits.{call_known, call_blocked, stand_below, queue_known, queue_blocked, scan_row}
 use Rattle.co_core.proofs.engine.Engine.blocked.Goals as goal
 
 pub call_waits-requires-clause-stand : goal.call_waits-requires-clause-stand

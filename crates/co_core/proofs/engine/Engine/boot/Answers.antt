@@ -1,5 +1,5 @@
 -- The books and the depot before the first step stand for the world that opens.
-use Rattle.co_core.proofs.Booting.{opening-stands}
+use Rattle.co_core.proofs.opening.Shown.{opening-stands}
 use Rattle.co_core.proofs.engine.Engine.boot.Goals as goal
 
 pub returns : goal.returns

@@ -9,12 +9,12 @@ use Rattle.co_object.specs.Queue.{Queue as TimerQueue}
 use Rattle.co_object.specs.Stand.{off}
 use Rattle.co_program.specs.declared.cursor.Parcel.{Parcel}
 use Rattle.co_object.specs.declared.op.Op.TheVariants.{Call}
-use Rattle.co_core.specs.World.{World}
-use Rattle.co_core.specs.Step.{callout_answers, queue_answers, step}
+use Rattle.co_world.specs.World.{World}
+use Rattle.co_world.specs.Step.{callout_answers, queue_answers, step}
 use Rattle.co_core.specs.Stored.{Stored}
 use Rattle.co_core.specs.Written.{with_list, place_at}
 use Rattle.co_core.specs.Stands.{StandsFor, IsWritten, MayWrite}
-use Rattle.co_core.proofs.Calling.{known, stand_there, cpu_there, cpu_below, here, bag_empty, first_world, second_world, parcel_there, stands_called}
+use Rattle.co_core.proofs.calls.Whole.{known, stand_there, cpu_there, cpu_below, here, bag_empty, first_world, second_world, parcel_there, stands_called}
 use Rattle.co_core.proofs.engine.Engine.call.Goals as goal
 
 pub stand-cpu-requires : goal.stand-cpu-requires

@@ -1,6 +1,6 @@
 -- A record that is not at its wheel is on its way, and one that is there may still be in a service that a drain waits for.
 use Rattle.std.proofs.Common.{sym, ◌∙◌, refl}
-use Rattle.co_core.proofs.Waiting.{stays, leaves}
+use Rattle.co_core.proofs.steps.Waits.{stays, leaves}
 use Rattle.co_core.proofs.engine.Engine.call_waits.Goals as goal
 
 pub returns-then-not-holds : goal.returns-then-not-holds

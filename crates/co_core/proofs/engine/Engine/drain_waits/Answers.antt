@@ -1,10 +1,10 @@
 -- A drain's next try waits while the slots of the callout's CPU have the service that its last one named.
 use Rattle.std.proofs.Common.{sym, ap, ◌∙◌, subst}
 use Rattle.co_program.specs.Indexed.{stage_of}
-use Rattle.co_core.specs.Blocked.{is_waiting}
-use Rattle.co_core.proofs.InSlots.{in-service}
-use Rattle.co_core.proofs.Opening.{reached_steady}
-use Rattle.co_core.proofs.Sound.{IsSteady}
+use Rattle.co_world.specs.Blocked.{is_waiting}
+use Rattle.co_core.proofs.stored.Services.{in-service}
+use Rattle.co_world.proofs.kept.BySchedules.{reached_steady}
+use Rattle.co_world.proofs.kept.BySteps.{IsSteady}
 use Rattle.co_core.proofs.engine.Engine.drain_waits.Goals as goal
 
 pub returns-in-Waiting : goal.returns-in-Waiting

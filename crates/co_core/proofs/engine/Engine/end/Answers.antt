@@ -13,13 +13,13 @@ use Rattle.co_object.specs.Queue.{Queue as TimerQueue}
 use Rattle.co_program.specs.Action.{spec_at}
 use Rattle.co_wheel.specs.Service.{end_here}
 use Rattle.co_wheel.specs.Turns.{free_of}
-use Rattle.co_core.specs.World.{World}
+use Rattle.co_world.specs.World.{World}
 use Rattle.co_core.specs.Stored.{Stored, IsEnded, wheel_at}
 use Rattle.co_core.specs.Written.{Written, with_list}
 use Rattle.co_core.specs.Stands.{StandsFor, IsWritten, MayWrite}
-use Rattle.co_core.specs.Step.{callout_answers, queue_answers, step}
-use Rattle.co_core.proofs.Invariant.{states_of}
-use Rattle.co_core.proofs.EndSection.{end_there, end_known, end_empty, ends_here, end_unarmed, stands_ended}
+use Rattle.co_world.specs.Step.{callout_answers, queue_answers, step}
+use Rattle.co_world.proofs.kept.Invariant.{states_of}
+use Rattle.co_core.proofs.services.Ends.{end_there, end_known, end_empty, ends_here, end_unarmed, stands_ended}
 use Rattle.co_core.proofs.engine.Engine.end.Goals as goal
 
 -- the lane of the callout, as it was read

@@ -4,8 +4,8 @@ use Rattle.co_program.specs.Action.{Silent, Take}
 use Rattle.co_program.specs.Cursor.{Cursor}
 use Rattle.co_core.specs.Written.{Written}
 use Rattle.co_core.specs.Stands.{IsDue, StandsFor}
-use Rattle.co_core.specs.Step.{step}
-use Rattle.co_core.proofs.Quietly.{stands_silent, stands_take}
+use Rattle.co_world.specs.Step.{step}
+use Rattle.co_core.proofs.steps.Silent.{stands_silent, stands_take}
 use Rattle.co_core.proofs.engine.Engine.go.Goals as goal
 
 pub returns-clause-silent : goal.returns-clause-silent

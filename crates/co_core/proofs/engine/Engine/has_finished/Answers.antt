@@ -1,5 +1,5 @@
 -- A client whose acts are over does nothing any more.
-use Rattle.co_core.proofs.Taking.{finished-is}
+use Rattle.co_core.proofs.steps.NextLock.{finished-is}
 use Rattle.co_core.proofs.engine.Engine.has_finished.Goals as goal
 
 pub returns : goal.returns

@@ -3,8 +3,8 @@ use Rattle.std.proofs.Common.{ℕ, sym, subst}
 use Rattle.co_core.specs.Stored.{Stored}
 use Rattle.co_core.specs.Written.{Written, with_list}
 use Rattle.co_core.specs.Stands.{StandsFor}
-use Rattle.co_core.specs.Step.{step}
-use Rattle.co_core.proofs.Landing.{cpu_there, cpu_below, may_land, stands_landed}
+use Rattle.co_world.specs.Step.{step}
+use Rattle.co_core.proofs.calls.Landing.{cpu_there, cpu_below, may_land, stands_landed}
 use Rattle.co_core.proofs.engine.Engine.land.Goals as goal
 
 pub land-at-requires-clause-cpu : goal.land-at-requires-clause-cpu

@@ -1,6 +1,6 @@
 -- A lock is held in the books where an actor of the world has it.
 use Rattle.std.proofs.Common.{sym, ◌∙◌, refl}
-use Rattle.co_core.proofs.Waiting.{locked-is}
+use Rattle.co_core.proofs.steps.Waits.{locked-is}
 use Rattle.co_core.proofs.engine.Engine.lock_waits.Goals as goal
 
 pub returns-then-is_locked : goal.returns-then-is_locked

@@ -10,13 +10,13 @@ use Rattle.co_object.specs.declared.queue.QOp.{QOp}
 use Rattle.co_object.specs.declared.queue.QReply.TheVariants.{Got, Empty}
 use Rattle.co_object.specs.Queue.{Queue as TimerQueue}
 use Rattle.co_wheel.specs.Turns.{pop_of}
-use Rattle.co_core.specs.World.{World}
+use Rattle.co_world.specs.World.{World}
 use Rattle.co_core.specs.Stored.{Stored}
 use Rattle.co_core.specs.Written.{Written, with_list}
 use Rattle.co_core.specs.Stands.{StandsFor, IsWritten, MayWrite}
-use Rattle.co_core.specs.Step.{queue_answers, callout_answers, step}
-use Rattle.co_core.proofs.Invariant.{queues_of}
-use Rattle.co_core.proofs.Picking.{pop_there, pop_below, lane_free, pick_known, unarmed, stands_none, stands_picked}
+use Rattle.co_world.specs.Step.{queue_answers, callout_answers, step}
+use Rattle.co_world.proofs.kept.Invariant.{queues_of}
+use Rattle.co_core.proofs.services.Picks.{pop_there, pop_below, lane_free, pick_known, unarmed, stands_none, stands_picked}
 use Rattle.co_core.proofs.engine.Engine.next.Goals as goal
 
 pub next-requires-clause-cpu : goal.next-requires-clause-cpu

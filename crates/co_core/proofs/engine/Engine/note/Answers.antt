@@ -1,6 +1,6 @@
 -- The actor's notes are taken in hand, lengthened and put back.
 use Rattle.co_program.specs.Action.{Asks}
-use Rattle.co_core.proofs.Undue.{list_row, hand_row, hand_count}
+use Rattle.co_core.proofs.steps.Undue.{list_row, hand_row, hand_count}
 use Rattle.co_core.proofs.engine.Engine.note.Goals as goal
 
 pub open-requires : goal.open-requires

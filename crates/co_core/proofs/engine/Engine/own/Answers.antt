@@ -1,8 +1,8 @@
 use Rattle.std.proofs.Common.{ℕ, sym, subst}
 use Rattle.co_core.specs.Written.{Written, with_list}
 use Rattle.co_core.specs.Stands.{StandsFor}
-use Rattle.co_core.specs.Step.{step}
-use Rattle.co_core.proofs.Quietly.{stands_own}
+use Rattle.co_world.specs.Step.{step}
+use Rattle.co_core.proofs.steps.Silent.{stands_own}
 use Rattle.co_core.proofs.engine.Engine.own.Goals as goal
 
 pub returns-clause-stands : goal.returns-clause-stands

@@ -5,7 +5,7 @@ use Rattle.co_program.specs.Action.{Asks}
 use Rattle.co_program.specs.declared.Asked.TheVariants.{Queue}
 use Rattle.co_core.specs.Stands.{IsDue}
 use Rattle.co_core.specs.Written.{with_list}
-use Rattle.co_core.proofs.Undue.{never_removes, never_frees, never_frees_direct}
+use Rattle.co_core.proofs.steps.Undue.{never_removes, never_frees, never_frees_direct}
 use Rattle.co_core.proofs.engine.Engine.queue.Goals as goal
 
 pub unreachable-requires : goal.unreachable-requires

@@ -3,8 +3,8 @@ use Rattle.std.proofs.Common.{ℕ, sym, subst}
 use Rattle.co_core.specs.Stored.{Stored}
 use Rattle.co_core.specs.Written.{Written, with_list}
 use Rattle.co_core.specs.Stands.{StandsFor}
-use Rattle.co_core.specs.Step.{step}
-use Rattle.co_core.proofs.Queueing.{scan_there, scan_below, stands_scanned}
+use Rattle.co_world.specs.Step.{step}
+use Rattle.co_core.proofs.services.Queues.{scan_there, scan_below, stands_scanned}
 use Rattle.co_core.proofs.engine.Engine.scan.Goals as goal
 
 pub scan-count-requires : goal.scan-count-requires

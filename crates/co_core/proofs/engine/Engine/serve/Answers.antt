@@ -6,7 +6,7 @@ use Rattle.co_program.specs.Action.{Asks}
 use Rattle.co_program.specs.declared.Asked.TheVariants.{Callout}
 use Rattle.co_core.specs.Stands.{IsDue}
 use Rattle.co_core.specs.Written.{with_list}
-use Rattle.co_core.proofs.Undue.{never_picks}
+use Rattle.co_core.proofs.steps.Undue.{never_picks}
 use Rattle.co_core.proofs.engine.Engine.serve.Goals as goal
 
 pub unreachable-requires : goal.unreachable-requires

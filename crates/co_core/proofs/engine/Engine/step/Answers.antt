@@ -3,8 +3,8 @@ use Rattle.std.proofs.Common.{rules, ◌<◌, ◌^◌, arith, subst, sym, ◌∙
 use Rattle.co_program.specs.declared.cursor.Cursor.{Cursor as CursorAt}
 use Rattle.co_program.specs.Indexed.{IsCounted}
 use Rattle.co_core.specs.Written.{place_at}
-use Rattle.co_core.proofs.Undue.{turn_is, not_some}
-use Rattle.co_core.proofs.Waiting.{due_of}
+use Rattle.co_core.proofs.steps.Undue.{turn_is, not_some}
+use Rattle.co_core.proofs.steps.Waits.{due_of}
 use Rattle.co_core.proofs.engine.Engine.step.Goals as goal
 
 -- the act's number is at most the number of notes, which is far below

@@ -2,14 +2,14 @@ use Rattle.std.proofs.Common.{◌≡◌, ℕ, List, ◌∙◌, ap, subst, sym, t
 use Rattle.std.specs.List.{range_with_len}
 use Rattle.co_program.specs.Actors.{actor_count}
 use Rattle.co_core.specs.Ended.{HaveEnded}
-use Rattle.co_core.specs.Step.{step}
+use Rattle.co_world.specs.Step.{step}
 use Rattle.co_core.specs.Telling.{GoesOn}
-use Rattle.co_core.specs.Walk.{run, HasFinished}
-use Rattle.co_core.specs.World.{World}
-use Rattle.co_core.proofs.Moves.{decide}
-use Rattle.co_core.proofs.Rounding.{last_finished, range-more}
-use Rattle.co_core.proofs.Told.{further, not_yet}
-use Rattle.co_core.proofs.Walks.{run_more, finished_step}
+use Rattle.co_world.specs.Walk.{run, HasFinished}
+use Rattle.co_world.specs.World.{World}
+use Rattle.co_world.proofs.basics.Changes.{decide}
+use Rattle.co_world.proofs.measure.Rounds.{last_finished, range-more}
+use Rattle.co_core.proofs.walked.Told.{further, not_yet}
+use Rattle.co_world.proofs.measure.Walks.{run_more, finished_step}
 use Rattle.co_core.proofs.engine.Engine.tell_round.Goals.{then-finished, else-finished}
 use Rattle.co_core.proofs.engine.Engine.tell_round.Goals as goal
 

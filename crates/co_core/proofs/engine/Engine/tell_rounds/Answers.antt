@@ -1,10 +1,10 @@
 use Rattle.std.proofs.Common.{◌≡◌, ◌∙◌, true, false, subst, sym, inl, refl, arith}
 use Rattle.co_core.specs.Ended.{HaveEnded}
 use Rattle.co_core.specs.Telling.{GoesOn}
-use Rattle.co_core.specs.Walk.{round, rounds}
-use Rattle.co_core.specs.World.{World}
-use Rattle.co_core.proofs.Rounding.{counted-more, counted-all, rounds-more}
-use Rattle.co_core.proofs.Told.{further, not_yet}
+use Rattle.co_world.specs.Walk.{round, rounds}
+use Rattle.co_world.specs.World.{World}
+use Rattle.co_world.proofs.measure.Rounds.{counted-more, counted-all, rounds-more}
+use Rattle.co_core.proofs.walked.Told.{further, not_yet}
 use Rattle.co_core.proofs.engine.Engine.tell_rounds.Goals as goal
 
 pub loop-round-init : goal.loop-round-init

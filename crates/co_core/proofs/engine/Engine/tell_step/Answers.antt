@@ -1,11 +1,11 @@
 -- The step is the plain world's, and what the actor's list has then are the step's notes.
 use Rattle.std.proofs.Common.{rules, ◌≡◌, false, ◌+◌, ◌<◌, ◌≤◌, ◌^◌, arith, length, subst, sym, ◌∙◌}
 use Rattle.co_core.specs.declared.engine.Engine.{Engine}
-use Rattle.co_core.specs.Step.{step}
+use Rattle.co_world.specs.Step.{step}
 use Rattle.co_core.specs.Telling.{GoesOn}
 use Rattle.co_core.specs.Written.{Written, list_at, told_at}
-use Rattle.co_core.proofs.Told.{quiet_told, step_told, told_few}
-use Rattle.co_core.proofs.Undue.{list_row}
+use Rattle.co_core.proofs.walked.Told.{quiet_told, step_told, told_few}
+use Rattle.co_core.proofs.steps.Undue.{list_row}
 use Rattle.co_core.proofs.engine.Engine.tell_step.Goals as goal
 
 pub returns-then-not-makes_notes-clause-told : goal.returns-then-not-makes_notes-clause-told

@@ -1,11 +1,11 @@
 use Rattle.std.proofs.Common.{◌≡◌, ℕ, List, ◌+◌, ◌∙◌, ◌++◌, ◌∷◌, [], ap, subst, sym, take, get_or, refl}
 use Rattle.std.proofs.lemmas.List.{take_more}
-use Rattle.co_core.specs.Step.{step}
+use Rattle.co_world.specs.Step.{step}
 use Rattle.co_core.specs.Telling.{GoesOn}
-use Rattle.co_core.specs.Walk.{run}
-use Rattle.co_core.specs.World.{World}
-use Rattle.co_core.proofs.Told.{further, not_yet}
-use Rattle.co_core.proofs.Walks.{run_more}
+use Rattle.co_world.specs.Walk.{run}
+use Rattle.co_world.specs.World.{World}
+use Rattle.co_core.proofs.walked.Told.{further, not_yet}
+use Rattle.co_world.proofs.measure.Walks.{run_more}
 use Rattle.co_core.proofs.engine.Engine.tell_turns.Goals as goal
 
 pub loop-actor-init : goal.loop-actor-init

@@ -1,7 +1,7 @@
 use Rattle.std.proofs.Common.{◌≡◌, take}
 use Rattle.co_core.specs.Telling.{GoesOn, HasTold}
-use Rattle.co_core.specs.Walk.{run}
-use Rattle.co_core.specs.World.{World as PlainWorld}
+use Rattle.co_world.specs.Walk.{run}
+use Rattle.co_world.specs.World.{World as PlainWorld}
 use Rattle.co_core.proofs.engine.Engine.tell_turns.Given as goal
 
 abbrev pub invariant-loop-actor : goal.invariant-loop-actor

@@ -1,7 +1,7 @@
 use Rattle.std.proofs.Common.{sym, ◌∙◌}
-use Rattle.co_core.specs.Step.{step}
-use Rattle.co_core.proofs.Ending.{ended_more, ended_still}
-use Rattle.co_core.proofs.Rounding.{turn-finished}
+use Rattle.co_world.specs.Step.{step}
+use Rattle.co_core.proofs.walked.Finished.{ended_more, ended_still}
+use Rattle.co_world.proofs.measure.Rounds.{turn-finished}
 use Rattle.co_core.proofs.engine.Engine.tell_unless_ended.Goals as goal
 
 pub returns-then-finished-clause-world : goal.returns-then-finished-clause-world

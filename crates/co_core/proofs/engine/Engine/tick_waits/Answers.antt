@@ -1,7 +1,7 @@
 -- The books have how many Scans a CPU's journal has.
 use Rattle.std.proofs.Common.{sym, ◌∙◌, refl, arith, lt-ltb, le-ltb}
 use Rattle.co_program.specs.Follows.{scan_count}
-use Rattle.co_core.proofs.Waiting.{scans-is}
+use Rattle.co_core.proofs.steps.Waits.{scans-is}
 use Rattle.co_core.proofs.engine.Engine.tick_waits.Goals as goal
 
 pub returns-then-scans-from : goal.returns-then-scans-from

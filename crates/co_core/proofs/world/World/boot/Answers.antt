@@ -1,6 +1,6 @@
 -- Nothing has been told before the first step.
-use Rattle.co_core.specs.World.{open_world}
-use Rattle.co_core.proofs.Worlds.{open_whole}
+use Rattle.co_world.specs.World.{open_world}
+use Rattle.co_core.proofs.steps.Standing.{open_whole}
 use Rattle.co_core.proofs.world.World.boot.Goals as goal
 
 pub invariant_of-result : goal.invariant_of-result

@@ -1,7 +1,7 @@
 use Rattle.std.proofs.Common.{◌∙◌, ap, subst}
 use Rattle.co_core.specs.Seen.{Seen}
 use Rattle.co_core.specs.Shows.{HasAll}
-use Rattle.co_core.proofs.Worlds.{lists_whole}
+use Rattle.co_core.proofs.steps.Standing.{lists_whole}
 use Rattle.co_core.proofs.world.World.into_lists.Goals as goal
 
 pub returns : goal.returns

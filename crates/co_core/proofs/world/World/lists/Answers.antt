@@ -2,8 +2,8 @@
 use Rattle.std.proofs.Common.{◌∙◌, ap, subst}
 use Rattle.co_core.specs.Seen.{Seen}
 use Rattle.co_core.specs.Shows.{HasAll}
-use Rattle.co_core.proofs.Runs.{so_far}
-use Rattle.co_core.proofs.Worlds.{lists_whole}
+use Rattle.co_world.proofs.legal.Runs.{so_far}
+use Rattle.co_core.proofs.steps.Standing.{lists_whole}
 use Rattle.co_core.proofs.world.World.lists.Goals as goal
 
 pub returns-clause-lists : goal.returns-clause-lists

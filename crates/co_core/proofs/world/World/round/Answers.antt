@@ -5,12 +5,12 @@ use Rattle.co_program.specs.Actors.{actor_count}
 use Rattle.co_core.specs.Ended.{HaveEnded}
 use Rattle.co_core.specs.Shows.{Shows}
 use Rattle.co_core.specs.Seen.{Seen}
-use Rattle.co_core.specs.Step.{step}
-use Rattle.co_core.specs.Walk.{run, HasFinished}
-use Rattle.co_core.specs.World.{World}
-use Rattle.co_core.proofs.Moves.{decide}
-use Rattle.co_core.proofs.Rounding.{last_finished, range-more}
-use Rattle.co_core.proofs.Walks.{run_more, finished_step}
+use Rattle.co_world.specs.Step.{step}
+use Rattle.co_world.specs.Walk.{run, HasFinished}
+use Rattle.co_world.specs.World.{World}
+use Rattle.co_world.proofs.basics.Changes.{decide}
+use Rattle.co_world.proofs.measure.Rounds.{last_finished, range-more}
+use Rattle.co_world.proofs.measure.Walks.{run_more, finished_step}
 use Rattle.co_core.proofs.world.World.round.Goals.{then-finished, else-finished}
 use Rattle.co_core.proofs.world.World.round.Goals as goal
 

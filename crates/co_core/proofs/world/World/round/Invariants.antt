@@ -2,8 +2,8 @@ use Rattle.std.proofs.Common.{◌≡◌, ℕ, ◌<◌, true}
 use Rattle.std.specs.List.{range_with_len}
 use Rattle.co_core.specs.Ended.{HaveEnded}
 use Rattle.co_core.specs.Shows.{Shows}
-use Rattle.co_core.specs.Walk.{run, HasFinished}
-use Rattle.co_core.specs.World.{World as PlainWorld}
+use Rattle.co_world.specs.Walk.{run, HasFinished}
+use Rattle.co_world.specs.World.{World as PlainWorld}
 use Rattle.co_core.proofs.world.World.round.Given as goal
 
 abbrev pub invariant-loop-actor : goal.invariant-loop-actor

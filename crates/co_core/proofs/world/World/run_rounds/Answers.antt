@@ -3,10 +3,10 @@ use Rattle.co_program.specs.declared.Script.{Script}
 use Rattle.co_core.specs.Ended.{HaveEnded}
 use Rattle.co_core.specs.Seen.{Seen}
 use Rattle.co_core.specs.Shows.{Shows}
-use Rattle.co_core.specs.Stands.{IsReached}
-use Rattle.co_core.specs.Walk.{AllFinished, round, rounds}
-use Rattle.co_core.specs.World.{World}
-use Rattle.co_core.proofs.Rounding.{counted-more, counted-all, rounds-more}
+use Rattle.co_world.specs.Laws.{IsReached}
+use Rattle.co_world.specs.Walk.{AllFinished, round, rounds}
+use Rattle.co_world.specs.World.{World}
+use Rattle.co_world.proofs.measure.Rounds.{counted-more, counted-all, rounds-more}
 use Rattle.co_core.proofs.world.World.run_rounds.Goals as goal
 
 -- what is shown and known, of a world

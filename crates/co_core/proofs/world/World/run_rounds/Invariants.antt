@@ -2,9 +2,9 @@ use Rattle.std.proofs.Common.{◌≡◌}
 use Rattle.co_program.specs.Scripts.{IsScript}
 use Rattle.co_core.specs.Ended.{HaveEnded}
 use Rattle.co_core.specs.Shows.{Shows}
-use Rattle.co_core.specs.Walk.{rounds}
-use Rattle.co_core.specs.World.{World as PlainWorld}
-use Rattle.co_core.proofs.Rounding.{HasCounted}
+use Rattle.co_world.specs.Walk.{rounds}
+use Rattle.co_world.specs.World.{World as PlainWorld}
+use Rattle.co_world.proofs.measure.Rounds.{HasCounted}
 use Rattle.co_core.proofs.world.World.run_rounds.Given as goal
 
 abbrev pub invariant-loop-round : goal.invariant-loop-round

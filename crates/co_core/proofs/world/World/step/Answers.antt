@@ -1,5 +1,5 @@
-use Rattle.co_core.specs.Step.{step}
-use Rattle.co_core.proofs.Worlds.{stays_world}
+use Rattle.co_world.specs.Step.{step}
+use Rattle.co_core.proofs.steps.Standing.{stays_world}
 use Rattle.co_core.proofs.world.World.step.Goals as goal
 
 pub invariant_of-self : goal.invariant_of-self

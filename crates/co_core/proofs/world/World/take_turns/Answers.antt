@@ -2,10 +2,10 @@ use Rattle.std.proofs.Common.{◌≡◌, ℕ, List, ◌+◌, ◌∙◌, ◌++◌
 use Rattle.std.proofs.lemmas.List.{take_more}
 use Rattle.co_program.specs.declared.Script.{Script}
 use Rattle.co_core.specs.Shows.{Shows}
-use Rattle.co_core.specs.Step.{step}
-use Rattle.co_core.specs.Walk.{run}
-use Rattle.co_core.specs.World.{World}
-use Rattle.co_core.proofs.Walks.{run_more}
+use Rattle.co_world.specs.Step.{step}
+use Rattle.co_world.specs.Walk.{run}
+use Rattle.co_world.specs.World.{World}
+use Rattle.co_world.proofs.measure.Walks.{run_more}
 use Rattle.co_core.proofs.world.World.take_turns.Goals as goal
 
 pub loop-actor-preserved : goal.loop-actor-preserved

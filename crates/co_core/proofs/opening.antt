@@ -1,0 +1,3 @@
+-- Before the first step.
+pub mod Shown
+pub mod Wheels

@@ -1,0 +1,156 @@
+-- What is never due to an actor: between two of its steps no section is open.
+use Rattle.std.proofs.Common.{◌≡◌, ℕ, ◌+◌, ◌-◌, ◌<◌, ◌≤◌, List, [], get_or, length, refl, sym, ap, ◌∙◌, subst, arith, Option, Some, None}
+use Rattle.std.proofs.lemmas.List.{get_or-set_same, length-drop, length-set}
+use Rattle.co_object.specs.declared.note.Note.{Note}
+use Rattle.co_object.specs.declared.Op.TheVariants.{Run}
+use Rattle.co_object.specs.declared.RunOp.TheVariants.{Pick}
+use Rattle.co_object.specs.declared.QOp.{QOp}
+use Rattle.co_object.specs.declared.QOp.TheVariants.{Insert, Remove, Scan, Free, FreeDirect}
+use Rattle.co_program.specs.declared.cursor.Cursor.{Cursor as CursorAt}
+use Rattle.co_program.specs.declared.Script.{Script}
+use Rattle.co_program.specs.declared.Role.{Role}
+use Rattle.co_program.specs.declared.Role.TheVariants.{Client, Cpu, Interrupt}
+use Rattle.co_program.specs.declared.Parcel.{Parcel}
+use Rattle.co_program.specs.declared.Asked.TheVariants.{Callout, Queue}
+use Rattle.co_program.specs.Actors.{actor_count, role_of}
+use Rattle.co_program.specs.Stages.{Stage}
+use Rattle.co_program.specs.Cursor.{Cursor}
+use Rattle.co_program.specs.Action.{Action, Asks, action_for, pop_of}
+use Rattle.co_program.specs.Scripts.{IsScript}
+use Rattle.co_world.specs.World.{World}
+use Rattle.co_core.specs.Stands.{IsWritten, StandsFor, IsDue, untold}
+use Rattle.co_world.specs.Blocked.{blocked}
+use Rattle.co_world.specs.Step.{step, turn_at, turn_of}
+use Rattle.co_world.specs.declared.turn.Why.{Why}
+use Rattle.co_world.specs.declared.turn.Turn.TheVariants.{Notes}
+use Rattle.co_program.specs.declared.Action.{Action as ActionAt}
+use Rattle.co_program.specs.declared.action.Action.TheVariants as action
+use Rattle.co_program.specs.Indexed.{action_of}
+use Rattle.co_core.proofs.tables.Values.{read, long}
+use Rattle.co_core.specs.Stored.{Stored}
+use Rattle.co_core.specs.Written.{Written, list_at, told_at, with_list}
+use Rattle.co_world.proofs.basics.Actions.{IsAction, IsActionWith, inserts, goes_by, scans, starts, pops, frees, picks}
+use Rattle.co_world.proofs.kept.ByOwnSteps.{view_of}
+use Rattle.co_world.proofs.kept.Invariant.{IsBetween, places_of}
+use Rattle.co_world.proofs.kept.BySchedules.{reached_steady}
+use Rattle.co_world.proofs.kept.BySteps.{IsSteady}
+
+picks_within : (s : Script) (r : Role) (c : Cursor) (x : Stage) (act i n cpu at : ℕ) → IsAction s r c x (Asks act (Callout i (Run (Pick n cpu at)))) → IsBetween x → ⊥
+picks_within s r c x act i n cpu at (picks v) between = between
+
+picked_within : (s : Script) (r : Role) (c : Cursor) (parcel : Option Parcel) (act i n cpu at : ℕ) → IsActionWith s r c parcel (Asks act (Callout i (Run (Pick n cpu at)))) → IsBetween c.stage → ⊥
+picked_within s r c parcel act i n cpu at (goes_by due view) between = picks_within s r c c.stage act i n cpu at view between
+
+-- a queue is asked for an Insert, a Scan or a Pop between two steps
+data IsOpen (r : Role) : QOp → Type 0 where
+  inserting : (i n t : ℕ) → IsOpen r (Insert i n t)
+  scanning : (now : ℕ) → IsOpen r (Scan now)
+  popping : IsOpen r (pop_of r)
+
+opens_queue : (s : Script) (r : Role) (c : Cursor) (x : Stage) (act cpu : ℕ) (op : QOp) → IsAction s r c x (Asks act (Queue cpu op)) → IsBetween x → IsOpen r op
+opens_queue s r c x act cpu op (scans time left own) between = scanning time
+opens_queue s r c x act cpu op (starts j left own) between = popping
+opens_queue s r c x act cpu op (pops act') between = popping
+opens_queue s r c x act cpu op (frees v drain next) between = absurd between
+
+opens : (s : Script) (r : Role) (c : Cursor) (parcel : Option Parcel) (act cpu : ℕ) (op : QOp) → IsActionWith s r c parcel (Asks act (Queue cpu op)) → IsBetween c.stage → IsOpen r op
+opens s r c parcel act cpu op (inserts p) between = inserting p.i p.n p.due
+opens s r c parcel act cpu op (goes_by due view) between = opens_queue s r c c.stage act cpu op view between
+
+abbrev IsAsked : QOp → Type 0
+IsAsked (Remove i) = ⊥
+IsAsked Free = ⊥
+IsAsked FreeDirect = ⊥
+IsAsked op = Unit {0}
+
+pops_asked : (r : Role) → IsAsked (pop_of r)
+pops_asked (Client c) = tt
+pops_asked (Cpu x) = tt
+pops_asked (Interrupt x) = tt
+
+open_asked : (r : Role) (op : QOp) → IsOpen r op → IsAsked op
+open_asked r op (inserting i n t) = tt
+open_asked r op (scanning now) = tt
+open_asked r op popping = pops_asked r
+
+module _ (s : Script) (ok : IsScript s) (books : Written) (depot : Stored) (w : World) (stands : StandsFor s books depot w) (a : ℕ) where
+  between : IsBetween (places_of w a).stage
+  between = steady.between a where
+    steady : IsSteady s w
+    steady = subst (IsSteady s) (sym stands.reached.world) (reached_steady s ok stands.reached.schedule stands.reached.may)
+
+  pub never_picks : (act i n cpu at : ℕ) → IsDue s w a (Asks act (Callout i (Run (Pick n cpu at)))) → ⊥
+  never_picks act i n cpu at due = picked_within s (role_of s a) (places_of w a) (places_of w a).parcel act i n cpu at (view_of s a (places_of w a) (Asks act (Callout i (Run (Pick n cpu at)))) due.due) between
+
+  asked : (act cpu : ℕ) (op : QOp) → IsDue s w a (Asks act (Queue cpu op)) → IsAsked op
+  asked act cpu op due = open_asked (role_of s a) op (opens s (role_of s a) (places_of w a) (places_of w a).parcel act cpu op (view_of s a (places_of w a) (Asks act (Queue cpu op)) due.due) between)
+
+  pub never_removes : (act cpu i : ℕ) → IsDue s w a (Asks act (Queue cpu (Remove i))) → ⊥
+  never_removes act cpu i due = asked act cpu (Remove i) due
+
+  pub never_frees : (act cpu : ℕ) → IsDue s w a (Asks act (Queue cpu Free)) → ⊥
+  never_frees act cpu due = asked act cpu Free due
+
+  pub never_frees_direct : (act cpu : ℕ) → IsDue s w a (Asks act (Queue cpu FreeDirect)) → ⊥
+  never_frees_direct act cpu due = asked act cpu FreeDirect due
+
+-- ---- what a step answers
+
+turn_notes : (s : Script) (w : World) (a : ℕ) (p : CursorAt) (x : ActionAt) → blocked s w a ≡ None → action_for s a (places_of w a) ≡ action_of s a p x → (x ≡ action.Nothing → ⊥) →
+    turn_of s w a ≡ Notes (length ((step s w a).actors a).notes - length (w.actors a).notes)
+turn_notes s w a p x free due some =
+    ap (λ (why : Option Why). turn_at s w a why (action_for s a (places_of w a))) free ∙ (ap (turn_at s w a None) due ∙ go x some) where
+      go : (x : ActionAt) → (x ≡ action.Nothing → ⊥) → turn_at s w a None (action_of s a p x) ≡ Notes (length ((step s w a).actors a).notes - length (w.actors a).notes)
+      go action.Nothing some = absurd (some refl)
+      go (action.Silent to) some = refl
+      go (action.Take held to) some = refl
+      go (action.Asks act asked) some = refl
+
+-- an actor's list in the books has its notes
+pub list_is : (s : Script) (x : Written) (w : World) → IsWritten s x w → (a : ℕ) → a < actor_count s → list_at x a ≡ untold x w a
+list_is s x w h a may = read x.lists (actor_count s) (untold x w) a [] h.each_list may
+
+-- how long it is
+list_long : (s : Script) (x : Written) (w : World) → IsWritten s x w → (a : ℕ) → a < actor_count s → length (list_at x a) ≡ length (w.actors a).notes - told_at x a
+list_long s x w h a may = ap length (list_is s x w h a may) ∙ length-drop (told_at x a) (w.actors a).notes
+
+pub list_row : (s : Script) (x : Written) (w : World) → IsWritten s x w → (a : ℕ) → a < actor_count s → a < length x.lists
+list_row s x w h a may = let l = long x.lists (actor_count s) (untold x w) h.each_list in omega (arith, l, may)
+
+pub open_row : (x : Written) (a : ℕ) (items : List Note) → a < length (with_list x a items).lists → a < length x.lists
+open_row x a items h = let l = length-set x.lists a items in omega (arith, l, h)
+
+pub put_at : (x : Written) (a b : ℕ) (items : List Note) → b ≡ a → b < length x.lists → list_at (with_list x b items) a ≡ items
+put_at x a b items same within = ap (list_at (with_list x b items)) (sym same) ∙ get_or-set_same x.lists b items [] within
+
+pub took_at : (x y : Written) (a : ℕ) (items : List Note) → with_list x a items ≡ y → a < length y.lists → list_at y a ≡ items
+took_at x y a items same within =
+    ap (λ (z : Written). list_at z a) (sym same) ∙ put_at x a a items refl (open_row x a items (subst (λ (z : Written). a < length z.lists) (sym same) within))
+
+pub turn_is : (s : Script) (x y : Written) (w : World) (a count : ℕ) (p : CursorAt) (act : ActionAt) → a < actor_count s → IsWritten s x w → IsWritten s y (step s w a) → blocked s w a ≡ None → action_for s a (places_of w a) ≡ action_of s a p act → (act ≡ action.Nothing → ⊥) →
+    y.told ≡ x.told → length (list_at y a) ≡ length (list_at x a) + count → Notes count ≡ turn_of s w a
+turn_is s x y w a count p act may before after free due some told counted =
+    ap Notes (close (length (list_at y a)) (length (list_at x a)) (length ((step s w a).actors a).notes) (length (w.actors a).notes) (told_at y a) (told_at x a) (list_long s y (step s w a) after a may) (list_long s x w before a may)
+    (ap (λ (l : List ℕ). get_or l a 0) told) (after.few_told a) (before.few_told a) counted)
+    ∙ sym (turn_notes s w a p act free due some) where
+      close : (m n m' n' k' k : ℕ) → m ≡ m' - k' → n ≡ n' - k → k' ≡ k → k' ≤ m' → k ≤ n' → m ≡ n + count → count ≡ m' - n'
+      close m n m' n' k' k e f same low' low g = omega (arith, e, f, same, low', low, g)
+
+-- the acting actor's notes are taken in hand, and after the step there is a list to put them back into
+module _ (s : Script) (books opened after : Written) (depot depot' : Stored) (w : World) (a b b' : ℕ) (items items' : List Note) (action : Action) (same : b ≡ a) (same' : b' ≡ b) (taken : with_list opened a items ≡ books) (stands : StandsFor s books depot w) (due : IsDue s w a action) where
+  pub hand_row : (StandsFor s (with_list opened b items) depot w → IsDue s w b action → StandsFor s (with_list after b' items') depot' (step s w b)) → b' < length after.lists
+  hand_row stepped = open_row after b' items' (list_row s (with_list after b' items') (step s w b) done.written b' (subst (λ (x : ℕ). x < actor_count s) (sym (same' ∙ same)) due.may)) where
+    held : StandsFor s (with_list opened b items) depot w
+    held = subst (λ (x : Written). StandsFor s x depot w) (sym (ap (λ (x : ℕ). with_list opened x items) same ∙ taken)) stands
+
+    done : StandsFor s (with_list after b' items') depot' (step s w b)
+    done = stepped held (subst (λ (x : ℕ). IsDue s w x action) (sym same) due)
+
+  pub hand_count : (StandsFor s (with_list opened b items) depot w → IsDue s w b action → StandsFor s (with_list after b' items') depot' (step s w b)) → (put : Written) (count : ℕ) → put ≡ with_list after b' items' → length items' ≡ length items + count → length (list_at put a) ≡ length (list_at books a) + count
+  hand_count stepped put count back counted =
+      ap length (ap (λ (x : Written). list_at x a) back ∙ put_at after a b' items' (same' ∙ same) (hand_row stepped))
+      ∙ (counted ∙ ap (λ (n : ℕ). n + count) (ap length (sym (took_at opened books a items taken (list_row s books w stands.written a due.may)))))
+
+pub not_some : (o : Option Why) → ((why : Why) → o ≡ Some why → ⊥) → o ≡ None
+not_some None h = refl
+not_some (Some why) h = absurd (h why refl)

@@ -1,0 +1,5 @@
+-- Where the records are after a section, and what the slots have.
+pub mod Sections
+pub mod Places
+pub mod Services
+pub mod OnePlace

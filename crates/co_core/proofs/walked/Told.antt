@@ -1,0 +1,358 @@
+-- The notes of a step are told: those of the world's actors, and the positions of each place count in their order.
+use Rattle.std.proofs.Common.{◌≡◌, ℕ, ◌+◌, ◌<◌, ◌≤◌, ◌⊎◌, inl, inr, Bool, true, false, cond, List, [], ◌∷◌, ◌++◌, length, drop, get_or, map, refl, sym, ap, subst, ◌∙◌, arith, append_assoc, length-append, length-set}
+use Rattle.std.specs.Prelude.{◌==◌, is_some, Option, Some, None}
+use Rattle.std.specs.List.{filter, range_with_len}
+use Rattle.std.proofs.lemmas.Bool.Decides.{eqb_tells, nat_tests}
+use Rattle.std.proofs.lemmas.List.{get_or-set_other, get_or-set_same, length-drop, length-map, map-append}
+use Rattle.std.proofs.lemmas.List.Elements.{filter-append}
+use Rattle.std.proofs.lemmas.List.FromFn.{length-map-range_with_len}
+use Rattle.std.proofs.Math.ListN.{drop_of_length-le}
+use Rattle.std.proofs.Math.Seq.{drop-append_seam}
+use Rattle.co_object.specs.declared.State.{State}
+use Rattle.co_object.specs.declared.Reply.{Reply}
+use Rattle.co_object.specs.declared.Op.{Op}
+use Rattle.co_object.specs.declared.QOp.{QOp}
+use Rattle.co_object.specs.declared.QReply.{QReply}
+use Rattle.co_object.specs.declared.Entry.{Entry}
+use Rattle.co_object.specs.declared.QEntry.{QEntry}
+use Rattle.co_object.specs.declared.Note.{Note}
+use Rattle.co_object.specs.declared.AnyEntry.TheVariants as of
+use Rattle.co_object.specs.declared.Place.{Place}
+use Rattle.co_object.specs.declared.Place.TheVariants as place
+use Rattle.co_object.specs.Lists.{notes_of, same_place}
+use Rattle.co_object.specs.Stand.{off}
+use Rattle.co_object.specs.Callout.{step as callout_step}
+use Rattle.co_object.specs.Queue.{Queue as TimerQueue}
+use Rattle.co_object.specs.Journal.{step as queue_step}
+use Rattle.co_listener.specs.Made.{Made, list_by, made_in, notes_made}
+use Rattle.co_program.specs.declared.Script.{Script}
+use Rattle.co_program.specs.declared.Asked.{Asked}
+use Rattle.co_program.specs.declared.Asked.TheVariants.{Callout, Queue, Itself}
+use Rattle.co_program.specs.Action.{spec_at}
+use Rattle.co_program.specs.Actors.{actor_count}
+use Rattle.co_program.specs.Cursor.{Cursor}
+use Rattle.co_core.specs.declared.engine.Engine.{Engine}
+use Rattle.co_world.specs.declared.turn.Turn.{Turn}
+use Rattle.co_world.specs.declared.turn.Turn.TheVariants.{Notes, Blocked, Finished}
+use Rattle.co_core.specs.Stands.{IsWritten, StandsFor, untold}
+use Rattle.co_world.specs.Step.{answered, are_direct, callout_answers, enters, enters_journal, note_of, note_of_cpu, note_of_own, notes_down, queue_answers, step, turn_of}
+use Rattle.co_core.specs.Telling.{AreMade, GoesOn, HasNotes, HasTold, IsTelling, entry_count, made_by, makes_notes}
+use Rattle.co_world.specs.Walk.{AllFinished, rounds, run}
+use Rattle.co_world.specs.World.{Actor, World, open_world, with_cursor}
+use Rattle.co_core.specs.Written.{Written, let_go, list_at, told_at}
+use Rattle.co_world.proofs.shown.Lists.{Tells, entries_at, placed_entries, placed_notes, tells_callout, tells_own, tells_queue}
+use Rattle.co_world.proofs.basics.Changes.{IsAt, decide}
+use Rattle.co_world.proofs.basics.Prefixes.{length_more}
+use Rattle.co_world.proofs.measure.Rounds.{range-more, turn-finished}
+use Rattle.co_world.proofs.shown.Histories.{append_none}
+use Rattle.co_world.proofs.schedules.AnyAnswers.{step_keeps}
+use Rattle.co_core.proofs.tables.Values.{put, same}
+use Rattle.co_world.proofs.schedules.TurnsTold.{turns_tell}
+use Rattle.co_core.proofs.steps.Undue.{list_is}
+use Rattle.co_world.proofs.measure.Walks.{idle_steps_stay}
+use Rattle.co_core.proofs.steps.Standing.{open_whole}
+use Rattle.co_core.proofs.written.Entries.{notes_at, notes_by}
+
+-- ---- one note more
+
+entries_long : (w : World) (here : Place) → length (entries_at w here) ≡ entry_count w here
+entries_long w (place.Timer i) = length-map (w.timers i).history of.Timer
+entries_long w (place.Cpu cpu) = length-map (w.cpus cpu).journal of.Cpu
+entries_long w (place.Actor a) = length-map (notes_of (place.Actor a) (w.actors a).notes) (λ (n : Note). n.entry)
+
+abbrev one : ℕ → Note → Made
+one a note = record { actor = a; note = note }
+
+list_more : (made : List Made) (a : ℕ) (note : Note) (b : ℕ) (is : Bool) → (a == b) ≡ is → list_by (made ++ one a note ∷ []) b ≡ list_by made b ++ cond is (note ∷ []) []
+list_more made a note b is h =
+    ap (map (λ (m : Made). m.note)) (filter-append (λ (m : Made). m.actor == b) made (one a note ∷ []) ∙ ap (λ (c : Bool). filter (λ (m : Made). m.actor == b) made ++ cond c (one a note ∷ []) []) h)
+    ∙ go is where
+      go : (c : Bool) → map (λ (m : Made). m.note) (filter (λ (m : Made). m.actor == b) made ++ cond c (one a note ∷ []) []) ≡ list_by made b ++ cond c (note ∷ []) []
+      go true = map-append (λ (m : Made). m.note) (filter (λ (m : Made). m.actor == b) made) (one a note ∷ [])
+      go false = map-append (λ (m : Made). m.note) (filter (λ (m : Made). m.actor == b) made) []
+
+place_more : (made : List Made) (a : ℕ) (note : Note) (here : Place) (is : Bool) → same_place note.place here ≡ is → made_in (made ++ one a note ∷ []) here ≡ made_in made here ++ cond is (note ∷ []) []
+place_more made a note here is h =
+    ap (notes_of here) (map-append (λ (m : Made). m.note) made (one a note ∷ []))
+    ∙ filter-append (λ (n : Note). same_place n.place here) (notes_made made) (note ∷ [])
+    ∙ ap (λ (c : Bool). made_in made here ++ cond c (note ∷ []) []) h
+
+module _ (s : Script) (old now : World) (made : List Made) (a : ℕ) (note : Note) (are : AreMade s old made)
+    (tells : Tells old now note) (notes : IsAt (notes_by old) a (notes_by old a ++ note ∷ []) (notes_by now)) where
+  lists : (b : ℕ) → b < actor_count s → list_by (made ++ one a note ∷ []) b ≡ notes_by now b
+  lists b within = go (eqb_tells a b) where
+    go : ((a == b) ≡ true) × (a ≡ b) ⊎ ((a == b) ≡ false) × (a ≡ b → ⊥) → list_by (made ++ one a note ∷ []) b ≡ notes_by now b
+    go (inl h) =
+        list_more made a note b true h.0 ∙ ap (λ (l : List Note). l ++ note ∷ []) (are.lists b within)
+        ∙ subst (λ (k : ℕ). notes_by old k ++ note ∷ [] ≡ notes_by now k) h.1 (sym notes.here)
+    go (inr h) = list_more made a note b false h.0 ∙ append_none (list_by made b) ∙ are.lists b within ∙ sym (notes.else b (λ e. h.1 (sym e)))
+
+  order : (here : Place) → map (λ (n : Note). n.pos) (made_in (made ++ one a note ∷ []) here) ≡ range_with_len 0 (entry_count now here)
+  order here = go (same_place note.place here) refl where
+    go : (is : Bool) → same_place note.place here ≡ is → map (λ (n : Note). n.pos) (made_in (made ++ one a note ∷ []) here) ≡ range_with_len 0 (entry_count now here)
+    go true is =
+        let told = tells.here here is in
+        let pos : note.pos ≡ entry_count old here = told.1 ∙ entries_long old here in
+        let more : entry_count now here ≡ entry_count old here + 1 = sym (entries_long now here) ∙ ap length told.0 ∙ length_more (entries_at old here) note.entry ∙ ap (λ (n : ℕ). n + 1) (entries_long old here) in
+        ap (map (λ (n : Note). n.pos)) (place_more made a note here true is)
+        ∙ map-append (λ (n : Note). n.pos) (made_in made here) (note ∷ [])
+        ∙ ap (λ (l : List ℕ). l ++ note.pos ∷ []) (are.order here)
+        ∙ ap (λ (k : ℕ). range_with_len 0 (entry_count old here) ++ k ∷ []) pos
+        ∙ range-more (entry_count old here)
+        ∙ ap (range_with_len 0) (sym more)
+    go false is =
+        ap (map (λ (n : Note). n.pos)) (place_more made a note here false is ∙ append_none (made_in made here))
+        ∙ are.order here
+        ∙ ap (range_with_len 0) (sym (entries_long old here) ∙ ap length (sym (tells.else here is)) ∙ entries_long now here)
+
+  made_more : AreMade s now (made ++ one a note ∷ [])
+  made_more = record { lists = lists; order = order }
+
+-- ---- a step
+
+-- an actor has made notes since, no other has, and they can be told
+record Grows (s : Script) (w : World) (a : ℕ) (now : World) : Type 0 where
+  notes : List Note
+  own : notes_by now a ≡ notes_by w a ++ notes
+  else : (b : ℕ) → (b ≡ a → ⊥) → notes_by now b ≡ notes_by w b
+  told : (made : List Made) → AreMade s w made → AreMade s now (made ++ made_by a notes)
+
+module _ (s : Script) (w : World) (a : ℕ) where
+  grows_not : Grows s w a w
+  grows_not = record {
+    notes = [];
+    own = sym (append_none (notes_by w a));
+    else = λ b other. refl;
+    told = λ made are. subst (AreMade s w) (sym (append_none made)) are;
+  }
+
+  -- a note more
+  note_grows : (v v' : World) (listed : Bool) (note : Note) → v'.actors ≡ v.actors → Tells v (notes_down s v' a listed note) note → Grows s w a v → Grows s w a (notes_down s v' a listed note)
+  note_grows v v' listed note same tells g = record {
+    notes = g.notes ++ note ∷ [];
+    own = at.here ∙ ap (λ (l : List Note). l ++ note ∷ []) g.own ∙ append_assoc (notes_by w a) g.notes (note ∷ []);
+    else = λ b other. at.else b other ∙ g.else b other;
+    told = λ made are.
+        (let more : made ++ made_by a (g.notes ++ note ∷ []) ≡ (made ++ made_by a g.notes) ++ one a note ∷ [] =
+        ap (λ (l : List Made). made ++ l) (map-append (one a) g.notes (note ∷ [])) ∙ sym (append_assoc made (made_by a g.notes) (one a note ∷ [])) in
+        subst (AreMade s (notes_down s v' a listed note)) (sym more) (made_more s v (notes_down s v' a listed note) (made ++ made_by a g.notes) a note (g.told made are) tells at));
+  } where
+    at : IsAt (notes_by v) a (notes_by v a ++ note ∷ []) (notes_by (notes_down s v' a listed note))
+    at = subst (λ (actors : ℕ → Actor). IsAt (λ b. (actors b).notes) a ((actors a).notes ++ note ∷ []) (notes_by (notes_down s v' a listed note))) same (notes_at s v' a listed note)
+
+  callout_grows : (v : World) (act i : ℕ) (op : Op) (outcome : Option (State × Reply)) → Grows s w a v → Grows s w a (callout_answers s v a act i op outcome)
+  callout_grows v act i op None g = g
+  callout_grows v act i op (Some outcome) g =
+      let e : Entry = record { actor = a; act = act; op = op; reply = outcome.1 } in
+      note_grows v (enters v i outcome.0 e) (is_some (off outcome.0)) (note_of v i e) refl (tells_callout s v a i outcome.0 e (is_some (off outcome.0))) g
+
+  queue_grows : (v : World) (act cpu : ℕ) (op : QOp) (outcome : Option (TimerQueue × QReply)) → Grows s w a v → Grows s w a (queue_answers s v a act cpu op outcome)
+  queue_grows v act cpu op None g = g
+  queue_grows v act cpu op (Some outcome) g =
+      let e : QEntry = record { actor = a; act = act; op = op; reply = outcome.1 } in
+      note_grows v (enters_journal v cpu outcome.0 e) false (note_of_cpu v cpu e) refl (tells_queue s v a cpu outcome.0 e false) g
+
+  answer_grows : (v : World) (act : ℕ) (asked : Asked) → Grows s w a v → Grows s w a (answered s v a act asked)
+  answer_grows v act (Callout i op) g = callout_grows v act i op (callout_step (spec_at s i) (v.timers i).state op) g
+  answer_grows v act (Queue cpu op) g = queue_grows v act cpu op (queue_step s.buckets (are_direct s) (v.cpus cpu).queue op) g
+  answer_grows v act (Itself kind) g = note_grows v v false (note_of_own s v a act kind) refl (tells_own s v a act kind false) g
+
+  count_placed : (v : World) (b : ℕ) (to : Cursor) (here : Place) → entry_count v here ≡ entry_count (with_cursor v b to) here
+  count_placed v b to here = sym (entries_long v here) ∙ ap length (sym (placed_entries v b to here)) ∙ entries_long (with_cursor v b to) here
+
+  place_grows : (v : World) (b : ℕ) (to : Cursor) → Grows s w a v → Grows s w a (with_cursor v b to)
+  place_grows v b to g = record {
+    notes = g.notes;
+    own = placed_notes v b to a ∙ g.own;
+    else = λ k other. placed_notes v b to k ∙ g.else k other;
+    told = λ made are.
+        (let before = g.told made are in
+        record {
+          lists = λ k within. before.lists k within ∙ sym (placed_notes v b to k);
+          order = λ here. before.order here ∙ ap (range_with_len 0) (count_placed v b to here);
+        });
+  }
+
+  step_grows : Grows s w a (step s w a)
+  step_grows =
+      step_keeps s (λ b. b ≡ a) (Grows s w a) (λ v b act asked is g. subst (λ (k : ℕ). Grows s w a (answered s v k act asked)) (sym is) (answer_grows v act asked g))
+      (λ v b to is g. place_grows v b to g) w a refl grows_not
+
+-- ---- what has been told is let go
+
+module _ (s : Script) (x : Written) (w : World) (a : ℕ) (written : IsWritten s x w) (may : a < actor_count s) where
+  inside : a < length x.told
+  inside = let l = written.told_long in omega (arith, l)
+
+  told_here : told_at (let_go x a) a ≡ length (notes_by w a)
+  told_here =
+      get_or-set_same x.told a (told_at x a + length (list_at x a)) 0 inside
+      ∙ (let few = written.few_told a in let long = ap length (list_is s x w written a may) ∙ length-drop (told_at x a) (notes_by w a) in omega (arith, few, long))
+
+  told_else : (b : ℕ) → (b ≡ a → ⊥) → told_at (let_go x a) b ≡ told_at x b
+  told_else b other = get_or-set_other x.told a b (told_at x a + length (list_at x a)) 0 other
+
+  none_left : IsAt (untold x w) a [] (untold (let_go x a) w)
+  none_left = record {
+    here = drop_of_length-le (notes_by w a) (let e = told_here in omega (arith, e));
+    else = λ b other. ap (λ (k : ℕ). drop k (notes_by w b)) (told_else b other);
+  }
+
+  few_after : (b : ℕ) → (b ≡ a) ⊎ (b ≡ a → ⊥) → told_at (let_go x a) b ≤ length (notes_by w b)
+  few_after b (inl same) = subst (λ (k : ℕ). told_at (let_go x a) k ≤ length (notes_by w k)) (sym same) (let e = told_here in omega (arith, e))
+  few_after b (inr other) = let e = told_else b other in let few = written.few_told b in omega (arith, e, few)
+
+  pub written_let_go : IsWritten s (let_go x a) w
+  written_let_go = record {
+    places_long = written.places_long;
+    each_place = written.each_place;
+    told_long = length-set x.told a (told_at x a + length (list_at x a)) ∙ written.told_long;
+    each_list = put x.lists (actor_count s) (untold x w) a [] (untold (let_go x a) w) written.each_list none_left;
+    each_history = written.each_history;
+    each_journal = written.each_journal;
+    each_scan = written.each_scan;
+    each_own = written.each_own;
+    few_told = λ b. few_after b (decide b a);
+    counted = written.counted;
+    few_entries = written.few_entries;
+    few_turns = written.few_turns;
+    few_notes = written.few_notes;
+    few_own = written.few_own;
+  }
+
+  -- an actor's notes are no more than all notes
+  pub told_few : told_at x a + length (list_at x a) ≤ x.made
+  told_few =
+      let told = written.few_told a in
+      let long = ap length (list_is s x w written a may) ∙ length-drop (told_at x a) (notes_by w a) in
+      let notes = written.few_notes a in
+      omega (arith, told, long, notes)
+
+-- a step, whose notes are told and let go
+module _ (s : Script) {B : Type 0} (has : B → List Made → Type 0) (before after : Engine) (old new : B) (w : World) (a : ℕ) (may : a < actor_count s)
+    (start : HasTold s before w) (stands : StandsFor s after.books after.depot (step s w a)) (same : after.books.told ≡ before.books.told)
+    (tells : (made : List Made) → has old made → has new (made ++ made_by a (list_at after.books a))) where
+  grown : Grows s w a (step s w a)
+  grown = step_grows s w a
+
+  -- what the step has told before is what there was
+  told_is : (b : ℕ) → b < actor_count s → told_at after.books b ≡ length (notes_by w b)
+  told_is b within = ap (λ (l : List ℕ). get_or l b 0) same ∙ start.told b within
+
+  list_new : list_at after.books a ≡ grown.notes
+  list_new =
+      list_is s after.books (step s w a) stands.written a may
+      ∙ ap (λ (k : ℕ). drop k (notes_by (step s w a) a)) (told_is a may)
+      ∙ ap (drop (length (notes_by w a))) grown.own
+      ∙ drop-append_seam (notes_by w a) grown.notes
+
+  told_all : (b : ℕ) → b < actor_count s → (b ≡ a) ⊎ (b ≡ a → ⊥) → told_at (let_go after.books a) b ≡ length (notes_by (step s w a) b)
+  told_all b within (inl is) = subst (λ (k : ℕ). told_at (let_go after.books a) k ≡ length (notes_by (step s w a) k)) (sym is) (told_here s after.books (step s w a) a stands.written may)
+  told_all b within (inr other) = told_else s after.books (step s w a) a stands.written may b other ∙ told_is b within ∙ ap length (sym (grown.else b other))
+
+  pub step_told : GoesOn s has (record after { books = let_go after.books a }) old new w (step s w a)
+  step_told = record {
+    told = record {
+      stands = record { written = written_let_go s after.books (step s w a) a stands.written may; stored = stands.stored; placed = stands.placed; reached = stands.reached };
+      told = λ b within. told_all b within (decide b a);
+    };
+    notes = λ notes.
+        record {
+          made = notes.made ++ made_by a grown.notes;
+          holds = subst (λ (l : List Note). has new (notes.made ++ made_by a l)) list_new (tells notes.made notes.holds);
+          are = grown.told notes.made notes.are;
+        };
+  }
+
+-- ---- a step without notes
+
+without : (s : Script) (w : World) (a : ℕ) (turn : Turn) → turn ≡ turn_of s w a → makes_notes turn ≡ false → length (notes_by (step s w a) a) ≡ length (notes_by w a)
+without s w a (Notes count) is none =
+    let long = ap length (step_grows s w a).own ∙ length-append (notes_by w a) (step_grows s w a).notes in
+    let made = ((turns_tell s w a).counts count (sym is)).1 in
+    let zero : count ≡ 0 = grind (arith, nat_tests, none) in
+    omega (arith, long, made, zero)
+without s w a (Blocked why) is none = ap (λ (v : World). length (notes_by v a)) (idle_steps_stay s w a (inr (why, ((turns_tell s w a).waits why).0 (sym is))))
+without s w a Finished is none = ap (λ (v : World). length (notes_by v a)) (idle_steps_stay s w a (inl (turn-finished s w a (sym is))))
+
+nothing_in : (notes : List Note) → length notes ≡ 0 → notes ≡ []
+nothing_in [] h = refl
+nothing_in (note ∷ notes) h = absurd (let never : ⊥ = omega (arith, h) in never)
+
+-- it tells none
+module _ (s : Script) {B : Type 0} (has : B → List Made → Type 0) (before after : Engine) (book : B) (w : World) (a : ℕ) (turn : Turn)
+    (start : HasTold s before w) (stands : StandsFor s after.books after.depot (step s w a)) (same : after.books.told ≡ before.books.told)
+    (is : turn ≡ turn_of s w a) (none : makes_notes turn ≡ false) where
+  unmade : Grows s w a (step s w a)
+  unmade = step_grows s w a
+
+  no_notes : unmade.notes ≡ []
+  no_notes =
+      let long = ap length unmade.own ∙ length-append (notes_by w a) unmade.notes in
+      let quiet = without s w a turn is none in
+      nothing_in unmade.notes (omega (arith, long, quiet))
+
+  as_long : (b : ℕ) → (b ≡ a) ⊎ (b ≡ a → ⊥) → length (notes_by (step s w a) b) ≡ length (notes_by w b)
+  as_long b (inl own) = subst (λ (k : ℕ). length (notes_by (step s w a) k) ≡ length (notes_by w k)) (sym own) (without s w a turn is none)
+  as_long b (inr other) = ap length (unmade.else b other)
+
+  pub quiet_told : GoesOn s has after book book w (step s w a)
+  quiet_told = record {
+    told = record {
+      stands = stands;
+      told = λ b within. ap (λ (l : List ℕ). get_or l b 0) same ∙ start.told b within ∙ sym (as_long b (decide b a));
+    };
+    notes = λ notes.
+        record {
+          made = notes.made;
+          holds = notes.holds;
+          are = subst (AreMade s (step s w a)) (ap (λ (l : List Note). notes.made ++ made_by a l) no_notes ∙ append_none notes.made) (unmade.told notes.made notes.are);
+        };
+  }
+
+-- ---- one step after another
+
+pub further : (s : Script) {B : Type 0} (has : B → List Made → Type 0) (e e' : Engine) (first old new : B) (w v u : World) → GoesOn s has e first old w v → GoesOn s has e' old new v u → GoesOn s has e' first new w u
+further s has e e' first old new w v u before after = record { told = after.told; notes = λ notes. after.notes (before.notes notes) }
+
+pub not_yet : (s : Script) {B : Type 0} (has : B → List Made → Type 0) (e : Engine) (book : B) (w : World) → HasTold s e w → GoesOn s has e book book w w
+not_yet s has e book w told = record { told = told; notes = λ notes. notes }
+
+-- ---- the whole walk
+
+pub opening_told : (s : Script) (e : Engine) → StandsFor s e.books e.depot (open_world s) → HasTold s e (open_world s)
+opening_told s e stands = record { stands = stands; told = λ a within. open_whole s e.books stands.written a }
+
+none_made : (s : Script) → AreMade s (open_world s) []
+none_made s = record { lists = λ a within. refl; order = order } where
+  order : (here : Place) → map (λ (n : Note). n.pos) (made_in [] here) ≡ range_with_len 0 (entry_count (open_world s) here)
+  order (place.Timer i) = refl
+  order (place.Cpu cpu) = refl
+  order (place.Actor a) = refl
+
+-- what is told of a walk to its end, from an empty listener
+pub walk_told : (s : Script) {B : Type 0} (has : B → List Made → Type 0) (e e' : Engine) (first old new : B) (number : ℕ) →
+    GoesOn s has e first old (open_world s) (run s (open_world s) s.turns) → GoesOn s has e' old new (run s (open_world s) s.turns) (rounds s (run s (open_world s) s.turns) number) →
+    AllFinished s (rounds s (run s (open_world s) s.turns) number) → has first [] → (made : List Made) × has new made × IsTelling s made
+walk_told s has e e' first old new number turns rest finished empty = (
+  all.made,
+  all.holds,
+  record {
+    walk = record {
+      number = number;
+      finished = finished;
+      written = same (actor_count s) (list_by all.made) (λ (a : ℕ). (end.actors a).notes) (λ a within. sym (all.are.lists a within));
+    };
+    order = λ here. all.are.order here ∙ ap (range_with_len 0) (sym (in_place here));
+  },
+) where
+  end : World
+  end = rounds s (run s (open_world s) s.turns) number
+
+  all : HasNotes s has new end
+  all = rest.notes (turns.notes (record { made = []; holds = empty; are = none_made s }))
+
+  in_place : (here : Place) → length (made_in all.made here) ≡ entry_count end here
+  in_place here =
+      sym (length-map (made_in all.made here) (λ (n : Note). n.pos)) ∙ ap length (all.are.order here)
+      ∙ sym (length-map (range_with_len 0 (entry_count end here)) (λ (k : ℕ). k)) ∙ length-map-range_with_len (λ (k : ℕ). k) 0 (entry_count end here)

@@ -1,0 +1,11 @@
+pub mod basics
+pub mod kept
+pub mod follows
+pub mod shown
+pub mod legal
+pub mod schedules
+pub mod stuck
+pub mod measure
+pub mod names
+pub mod sections
+pub mod Rows

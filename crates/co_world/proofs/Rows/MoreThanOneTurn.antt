@@ -1,0 +1,121 @@
+-- A worked row, evaluated.
+use Rattle.std.specs.Prelude.{◌≡◌, false, List, [], ◌∷◌, pos, None, refl, map}
+use Rattle.std.specs.List.{range_with_len}
+use Rattle.co_object.specs.declared.LockUse.TheVariants as lockuse
+use Rattle.co_object.specs.declared.Op.TheVariants as op
+use Rattle.co_object.specs.declared.CallOp.TheVariants as call
+use Rattle.co_object.specs.declared.PlainOp.TheVariants as plain
+use Rattle.co_object.specs.declared.RunOp.TheVariants as serve
+use Rattle.co_object.specs.declared.Reply.TheVariants as r
+use Rattle.co_object.specs.declared.QOp.TheVariants as q
+use Rattle.co_object.specs.declared.QReply.TheVariants as qr
+use Rattle.co_object.specs.declared.Place.TheVariants as place
+use Rattle.co_object.specs.declared.AnyEntry.TheVariants as of
+use Rattle.co_object.specs.declared.Note.{Note}
+use Rattle.co_program.specs.declared.Script.{Script}
+use Rattle.co_program.specs.declared.Act.TheVariants as act
+use Rattle.co_program.specs.declared.Who.TheVariants as who
+use Rattle.co_program.specs.declared.Who.TheVariants.{Me}
+use Rattle.co_program.specs.declared.When.TheVariants.{At}
+use Rattle.co_program.specs.declared.Where.TheVariants.{Home}
+use Rattle.co_world.specs.declared.turn.Turn.TheVariants.{Finished}
+use Rattle.co_world.specs.World.{World, open_world, lists_of}
+use Rattle.co_world.specs.Step.{turn_of}
+use Rattle.co_world.specs.Walk.{run, rounds}
+use Rattle.co_program.specs.Actors.{actor_count}
+use Rattle.co_program.specs.Follows.{Histories, Follows}
+use Rattle.co_world.proofs.Rows.Small.{small}
+use Rattle.co_object.specs.Actors.{Actors}
+use Rattle.co_object.specs.History.{IsLegal}
+use Rattle.co_object.specs.Journal.{IsLegalQueue}
+use Rattle.co_world.specs.Step.{are_direct}
+use Rattle.co_program.specs.Action.{spec_at}
+use Rattle.co_object.specs.Lists.{callout_history, cpu_journal}
+
+abbrev script : Script
+script = record {
+  version = 1;
+  hz = 1000;
+  cpus = 1;
+  buckets = 16;
+  locks = [];
+  timers = (record { lock = lockuse.Free; returns_unlocked = false; direct = false }) ∷
+      (record { lock = lockuse.Free; returns_unlocked = false; direct = false }) ∷
+      (record { lock = lockuse.Free; returns_unlocked = false; direct = false }) ∷
+      (record { lock = lockuse.Free; returns_unlocked = false; direct = false }) ∷ [];
+  funcs = ([]) ∷ [];
+  clients = (((act.Reset (who.Timer 0) (At 285212672) 0 0 Home 0) ∷
+      (act.Reset (who.Timer 1) (At 33554432) 0 0 Home 0) ∷
+      (act.Reset (who.Timer 2) (At 16777216) 0 0 Home 0) ∷
+      (act.Reset (who.Timer 3) (At 838860800) 0 0 Home 0) ∷ [])) ∷ [];
+  ticks = (((act.Tick 671088640) ∷ [])) ∷ [];
+  turns = (0) ∷
+      (0) ∷
+      (0) ∷
+      (0) ∷ [];
+}
+
+abbrev list0 : List Note
+list0 = (record { place = (place.Timer 0); pos = 0; entry = of.Timer (record { actor = 0; act = 0; op = (op.Call (call.Plain (plain.Reset 285212672 0 0 0 None))); reply = (r.Armed (pos 0) 0 0 None) }) }) ∷
+    (record { place = (place.Cpu 0); pos = 0; entry = of.Cpu (record { actor = 0; act = 0; op = (q.Insert 0 0 285212672); reply = (qr.At 285212672) }) }) ∷
+    (record { place = (place.Timer 1); pos = 0; entry = of.Timer (record { actor = 0; act = 1; op = (op.Call (call.Plain (plain.Reset 33554432 0 0 0 None))); reply = (r.Armed (pos 0) 0 0 None) }) }) ∷
+    (record { place = (place.Cpu 0); pos = 1; entry = of.Cpu (record { actor = 0; act = 1; op = (q.Insert 1 0 33554432); reply = (qr.At 33554432) }) }) ∷
+    (record { place = (place.Timer 2); pos = 0; entry = of.Timer (record { actor = 0; act = 2; op = (op.Call (call.Plain (plain.Reset 16777216 0 0 0 None))); reply = (r.Armed (pos 0) 0 0 None) }) }) ∷
+    (record { place = (place.Cpu 0); pos = 2; entry = of.Cpu (record { actor = 0; act = 2; op = (q.Insert 2 0 16777216); reply = (qr.At 16777216) }) }) ∷
+    (record { place = (place.Timer 3); pos = 0; entry = of.Timer (record { actor = 0; act = 3; op = (op.Call (call.Plain (plain.Reset 838860800 0 0 0 None))); reply = (r.Armed (pos 0) 0 0 None) }) }) ∷
+    (record { place = (place.Cpu 0); pos = 3; entry = of.Cpu (record { actor = 0; act = 3; op = (q.Insert 3 0 838860800); reply = (qr.At 838860800) }) }) ∷ []
+
+abbrev list1 : List Note
+list1 = (record { place = (place.Cpu 0); pos = 4; entry = of.Cpu (record { actor = 1; act = 0; op = (q.Scan 671088640); reply = (qr.Count 3) }) }) ∷
+    (record { place = (place.Cpu 0); pos = 5; entry = of.Cpu (record { actor = 1; act = 0; op = q.Pop; reply = (qr.Got 2 0 671088640) }) }) ∷
+    (record { place = (place.Timer 2); pos = 1; entry = of.Timer (record { actor = 1; act = 0; op = (op.Run (serve.Pick 0 0 671088640)); reply = (r.Go 0 0) }) }) ∷
+    (record { place = (place.Timer 2); pos = 2; entry = of.Timer (record { actor = 1; act = 0; op = (op.Run (serve.End 0 0)); reply = (r.Ended None None false) }) }) ∷
+    (record { place = (place.Cpu 0); pos = 6; entry = of.Cpu (record { actor = 1; act = 0; op = q.Free; reply = qr.Freed }) }) ∷
+    (record { place = (place.Cpu 0); pos = 7; entry = of.Cpu (record { actor = 1; act = 0; op = q.Pop; reply = (qr.Got 0 0 671088640) }) }) ∷
+    (record { place = (place.Timer 0); pos = 1; entry = of.Timer (record { actor = 1; act = 0; op = (op.Run (serve.Pick 0 0 671088640)); reply = (r.Go 0 0) }) }) ∷
+    (record { place = (place.Timer 0); pos = 2; entry = of.Timer (record { actor = 1; act = 0; op = (op.Run (serve.End 0 0)); reply = (r.Ended None None false) }) }) ∷
+    (record { place = (place.Cpu 0); pos = 8; entry = of.Cpu (record { actor = 1; act = 0; op = q.Free; reply = qr.Freed }) }) ∷
+    (record { place = (place.Cpu 0); pos = 9; entry = of.Cpu (record { actor = 1; act = 0; op = q.Pop; reply = (qr.Got 1 0 671088640) }) }) ∷
+    (record { place = (place.Timer 1); pos = 1; entry = of.Timer (record { actor = 1; act = 0; op = (op.Run (serve.Pick 0 0 671088640)); reply = (r.Go 0 0) }) }) ∷
+    (record { place = (place.Timer 1); pos = 2; entry = of.Timer (record { actor = 1; act = 0; op = (op.Run (serve.End 0 0)); reply = (r.Ended None None false) }) }) ∷
+    (record { place = (place.Cpu 0); pos = 10; entry = of.Cpu (record { actor = 1; act = 0; op = q.Free; reply = qr.Freed }) }) ∷
+    (record { place = (place.Cpu 0); pos = 11; entry = of.Cpu (record { actor = 1; act = 0; op = q.Pop; reply = qr.Empty }) }) ∷ []
+
+abbrev lists : List (List Note)
+lists = list0 ∷ list1 ∷ []
+
+abbrev final : World
+final = rounds script (run script (open_world script) script.turns) 20
+
+pub walk : lists_of script final ≡ lists
+walk = refl
+
+pub finished : map (turn_of script final) (range_with_len 0 (actor_count script)) ≡ Finished ∷ Finished ∷ []
+finished = refl
+
+abbrev histories : Histories
+histories = record { timers = λ i. callout_history i lists; cpus = λ cpu. cpu_journal cpu lists }
+
+pub follows0 : Follows script histories 0 list0
+follows0 = record { each = assumption (refl, tt, small.0, small.1, small.2, small.3, small.4, small.5, small.6, small.7); whole = refl }
+
+pub follows1 : Follows script histories 1 list1
+follows1 = record { each = assumption (refl, tt, small.0, small.1, small.2, small.3, small.4, small.5, small.6, small.7); whole = refl }
+
+abbrev actors : Actors
+actors = record { version = 1; clients = 1; cpus = 1 }
+
+pub legal0 : IsLegal actors (spec_at script 0) (callout_history 0 lists)
+legal0 = assumption (refl, tt)
+
+pub legal1 : IsLegal actors (spec_at script 1) (callout_history 1 lists)
+legal1 = assumption (refl, tt)
+
+pub legal2 : IsLegal actors (spec_at script 2) (callout_history 2 lists)
+legal2 = assumption (refl, tt)
+
+pub legal3 : IsLegal actors (spec_at script 3) (callout_history 3 lists)
+legal3 = assumption (refl, tt)
+
+pub legal_cpu0 : IsLegalQueue actors 0 script.buckets (are_direct script) (cpu_journal 0 lists)
+legal_cpu0 = assumption (refl, tt)

@@ -1,0 +1,7 @@
+-- What the proofs about the plain world stand on: changed functions, lists, sums, roles, and what may be due.
+pub mod Updates
+pub mod Prefixes
+pub mod Sums
+pub mod Actions
+pub mod Changes
+pub mod Roles

@@ -1,0 +1,19 @@
+-- What every step keeps of the world, between two steps and in the middle of one.
+pub mod Invariant
+pub mod Operations
+pub mod Stages
+pub mod Lanes
+pub mod Services
+pub mod Listed
+pub mod OutsideServices
+pub mod Passages
+pub mod ByOwnSteps
+pub mod ByCalls
+pub mod ByServices
+pub mod ByQueues
+pub mod ByAnswers
+pub mod AfterAnswers
+pub mod SectionEnds
+pub mod BySteps
+pub mod BySchedules
+pub mod OneMover

@@ -1,0 +1,9 @@
+pub mod World
+pub mod Blocked
+pub mod Step
+pub mod Walk
+pub mod SoFar
+pub mod Placed
+pub mod Worked
+pub mod Measure
+pub mod Laws
