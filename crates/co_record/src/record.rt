@@ -3,6 +3,7 @@ ghost use Rattle.std.specs.Prelude.{◌≡◌, false, is_some};
 ghost use Rattle.std.specs.declared.option.Option.TheVariants.{None};
 ghost use Rattle.co_object.specs.Arm.{is_picked, is_draining};
 ghost use Rattle.co_object.specs.Stand.{is_idle, off};
+ghost use Rattle.co_record.specs.Deferred.{deferred_of};
 ghost use Rattle.co_record.specs.Fresh.{fresh};
 ghost use Rattle.co_record.specs.Paired.{IsPaired};
 ghost use Rattle.co_record.specs.Same.{};
@@ -137,6 +138,18 @@ impl Record {
         ensures { result ≡ off (state_of self.now slot.now) }
     {
         if self.pending { Some(self.home) } else { None }
+    }
+
+    /// The arming that waits for the end of the service, as the slot has it, or None where none waits.
+    pub fn deferred(&self, slot: &Slot) -> Option<Move>
+        requires { IsPaired self.now slot.now }
+        ensures { result ≡ deferred_of (state_of self.now slot.now) }
+    {
+        if self.deferred {
+            Some(slot.moving)
+        } else {
+            None
+        }
     }
 
     /// The CPU of an arming that names none.
