@@ -3,4 +3,3 @@ pub mod Steps
 pub mod Rule
 pub mod Seen
 pub mod Views
-pub mod Cases

@@ -5,8 +5,6 @@ mod life;
 mod rule;
 mod shown;
 mod story;
-#[cfg(test)]
-mod tests;
 mod view;
 
 pub use life::{Closed, Keeper, Life, Pass};

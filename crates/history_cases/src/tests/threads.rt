@@ -1,13 +1,13 @@
 //! Two threads write through one keeper behind a lock.
 ghost use Rattle.std.specs.Prelude.{◌≡◌, ◌<◌, [], ◌∷◌, ◌++◌, IfOk};
 ghost use Rattle.std.specs.List.{All};
-ghost use Rattle.co_life.specs.Cases.{said_by, numbered};
+ghost use Rattle.history_cases.specs.Cases.{said_by, numbered};
 ghost use Rattle.co_life.specs.Seen.{own};
 ghost use Rattle.co_life.specs.Views.{pass_view};
 ghost use denote.Param.Send.{IsSync};
 
-use super::both;
-use crate::{Closed, Keeper, Life, Pass, Story};
+use super::actors::both;
+use co_life::{Closed, Keeper, Life, Pass, Story};
 use co_sbt::NoMemory;
 use std::alloc::Global;
 use std::marker::{Brand, PhantomData};
@@ -22,7 +22,7 @@ impl Story for Remarks {
     type Entry = (u32, u64);
 
     ghost use Rattle.std.specs.Prelude.{⊤};
-    ghost use Rattle.co_life.specs.Cases.{said_by};
+    ghost use Rattle.history_cases.specs.Cases.{said_by};
 
     ghost actor = { said_by };
 

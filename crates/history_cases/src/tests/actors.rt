@@ -1,11 +1,10 @@
+//! Two actors of one history, and of two.
 ghost use Rattle.std.specs.Prelude.{◌≡◌, [], ◌∷◌, ◌++◌, IfOk, OnOk};
-ghost use Rattle.co_life.specs.Cases.{said_by};
+ghost use Rattle.history_cases.specs.Cases.{said_by};
 ghost use Rattle.co_life.specs.Seen.{own};
 ghost use Rattle.co_life.specs.Views.{AreFresh, pass_view};
 
-mod threads;
-
-use super::*;
+use co_life::{Closed, Life, Pass, Story};
 use co_sbt::{NoMemory, Seq};
 use std::alloc::Global;
 use std::test::Fail;
@@ -16,7 +15,7 @@ struct Counting;
 impl Story for Counting {
     type Entry = (u32, u64);
 
-    ghost use Rattle.co_life.specs.Cases.{said_by, Counts, Counts-front};
+    ghost use Rattle.history_cases.specs.Cases.{said_by, Counts, Counts-front};
 
     ghost actor = { said_by };
 
@@ -28,7 +27,7 @@ impl Story for Counting {
 }
 
 // Takes the passes of two actors out, in the order of their numbers.
-fn both<S: Story>(life: &Life<S>, passes: Seq<Pass<S>>) -> (Pass<S>, Pass<S>)
+pub fn both<S: Story>(life: &Life<S>, passes: Seq<Pass<S>>) -> (Pass<S>, Pass<S>)
     requires { AreFresh life.now 2 passes }
     ensures { (result.0 ≡ pass_view life.now 0 []) × (result.1 ≡ pass_view life.now 1 []) }
 {
