@@ -34,13 +34,6 @@ impl Engine {
         self.books.lists()
     }
 
-    /// The notes at the end.
-    pub(crate) fn into_lists(self) -> Lists
-        ensures { result ≡ self.books.lists }
-    {
-        self.books.into_lists()
-    }
-
     /// One step of an actor. After NoMemory all is as it was. Inlined, as are the parts that every step goes through: they are
     /// short beside the cost of calling them.
     #[inline(always)]

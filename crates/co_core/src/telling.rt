@@ -1,4 +1,4 @@
-//! The walk of a script, told note by note.
+//! The walk of a script, its turns and then round robin until all have finished: told note by note.
 ghost use Rattle.std.specs.Prelude.{◌≡◌, ℕ, ◌<◌, ◌≤◌, List, [], true, OnOk, IfOk};
 ghost use Rattle.co_listener.specs.Made.{Made};
 ghost use Rattle.co_program.specs.Actors.{actor_count};
@@ -6,17 +6,27 @@ ghost use Rattle.co_program.specs.Scripts.{IsScript};
 ghost use Rattle.co_core.specs.Ended.{HaveEnded};
 ghost use Rattle.co_world.specs.Step.{step, turn_of};
 ghost use Rattle.co_core.specs.Telling.{GoesOn, HasTold, IsTelling, makes_notes};
-ghost use Rattle.co_world.specs.Walk.{AllFinished, HasFinished, round, rounds, run};
+ghost use Rattle.co_world.specs.Walk.{AllFinished, HasFinished, IsWalk, round, rounds, run};
 ghost use Rattle.co_world.specs.World.{World as PlainWorld};
 
 use crate::ended::Ended;
 use crate::engine::Engine;
-use crate::rounds::is_finished;
-use co_listener::Listener;
+use co_listener::{KeptLists, Listener};
+use co_object::Lists;
 use co_program::{Script, actor_count};
 use co_sbt::NoMemory;
 use co_world::Turn;
 use std::alloc::Global;
+
+/// The step was none, since the actor had finished.
+fn is_finished(turn: Turn) -> bool
+    ensures { result ≡ true → turn ≡ Turn.Finished }
+{
+    match turn {
+        Turn::Finished => true,
+        Turn::Notes(_) | Turn::Blocked(_) => false,
+    }
+}
 
 /// The step made notes.
 fn makes_notes(turn: Turn) -> bool
@@ -164,4 +174,15 @@ pub fn tell_walk<N: Listener>(
     let mut engine = Engine::boot(alloc, script)?;
     engine.tell_turns(script, listener)?;
     engine.tell_rounds(script, listener)
+}
+
+/// The lists of notes of a script's walk: the script's turns in order, then round robin until all actors have finished. Our
+/// own decision.
+pub fn run_steps(alloc: Global, script: &Script) -> Result<Lists, NoMemory>
+    requires { IsScript script.now }
+    ensures { IfOk result (IsWalk script.now) }
+{
+    let mut lists = KeptLists::new(alloc, actor_count(script))?;
+    tell_walk(alloc, script, &mut lists)?;
+    Ok(lists.into_lists())
 }

@@ -75,19 +75,4 @@ impl<'a> World<'a> {
     {
         self.engine.lists()
     }
-
-    /// The notes at the end.
-    pub(crate) fn into_lists(self) -> Lists
-        ensures { (w : PlainWorld) → Shows self.entry w → result ≡ lists_of self.entry.script w }
-    {
-        self.engine.into_lists()
-    }
-
-    /// The script that it runs.
-    pub(crate) fn script(&self) -> &'a Script
-        ensures same { result.now ≡ self.now.script }
-        ensures sound { IsScript result.now }
-    {
-        self.script
-    }
 }

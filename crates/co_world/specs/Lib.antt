@@ -4,6 +4,5 @@ pub mod Step
 pub mod Walk
 pub mod SoFar
 pub mod Placed
-pub mod Worked
 pub mod Measure
 pub mod Laws

@@ -3,8 +3,7 @@ use Rattle.std.proofs.Common.{◌≡◌, ℕ, ◌+◌, ◌<◌, ◌≤◌, ◌�
 use Rattle.std.specs.Prelude.{◌==◌, is_some, Option, Some, None}
 use Rattle.std.specs.List.{filter, range_with_len}
 use Rattle.std.proofs.lemmas.Bool.Decides.{eqb_tells, nat_tests}
-use Rattle.std.proofs.lemmas.List.{get_or-set_other, get_or-set_same, length-drop, length-map, map-append}
-use Rattle.std.proofs.lemmas.List.Elements.{filter-append}
+use Rattle.std.proofs.lemmas.List.{append-nil, get_or-set_other, get_or-set_same, length-drop, length-map, map-append}
 use Rattle.std.proofs.lemmas.List.FromFn.{length-map-range_with_len}
 use Rattle.std.proofs.Math.ListN.{drop_of_length-le}
 use Rattle.std.proofs.Math.Seq.{drop-append_seam}
@@ -25,6 +24,7 @@ use Rattle.co_object.specs.Callout.{step as callout_step}
 use Rattle.co_object.specs.Queue.{Queue as TimerQueue}
 use Rattle.co_object.specs.Journal.{step as queue_step}
 use Rattle.co_listener.specs.Made.{Made, list_by, made_in, notes_made}
+use Rattle.co_listener.proofs.OneMore.{list_more, one, place_more}
 use Rattle.co_program.specs.declared.Script.{Script}
 use Rattle.co_program.specs.declared.Asked.{Asked}
 use Rattle.co_program.specs.declared.Asked.TheVariants.{Callout, Queue, Itself}
@@ -44,7 +44,6 @@ use Rattle.co_world.proofs.shown.Lists.{Tells, entries_at, placed_entries, place
 use Rattle.co_world.proofs.basics.Changes.{IsAt, decide}
 use Rattle.co_world.proofs.basics.Prefixes.{length_more}
 use Rattle.co_world.proofs.measure.Rounds.{range-more, turn-finished}
-use Rattle.co_world.proofs.shown.Histories.{append_none}
 use Rattle.co_world.proofs.schedules.AnyAnswers.{step_keeps}
 use Rattle.co_core.proofs.tables.Values.{put, same}
 use Rattle.co_world.proofs.schedules.TurnsTold.{turns_tell}
@@ -60,23 +59,6 @@ entries_long w (place.Timer i) = length-map (w.timers i).history of.Timer
 entries_long w (place.Cpu cpu) = length-map (w.cpus cpu).journal of.Cpu
 entries_long w (place.Actor a) = length-map (notes_of (place.Actor a) (w.actors a).notes) (λ (n : Note). n.entry)
 
-abbrev one : ℕ → Note → Made
-one a note = record { actor = a; note = note }
-
-list_more : (made : List Made) (a : ℕ) (note : Note) (b : ℕ) (is : Bool) → (a == b) ≡ is → list_by (made ++ one a note ∷ []) b ≡ list_by made b ++ cond is (note ∷ []) []
-list_more made a note b is h =
-    ap (map (λ (m : Made). m.note)) (filter-append (λ (m : Made). m.actor == b) made (one a note ∷ []) ∙ ap (λ (c : Bool). filter (λ (m : Made). m.actor == b) made ++ cond c (one a note ∷ []) []) h)
-    ∙ go is where
-      go : (c : Bool) → map (λ (m : Made). m.note) (filter (λ (m : Made). m.actor == b) made ++ cond c (one a note ∷ []) []) ≡ list_by made b ++ cond c (note ∷ []) []
-      go true = map-append (λ (m : Made). m.note) (filter (λ (m : Made). m.actor == b) made) (one a note ∷ [])
-      go false = map-append (λ (m : Made). m.note) (filter (λ (m : Made). m.actor == b) made) []
-
-place_more : (made : List Made) (a : ℕ) (note : Note) (here : Place) (is : Bool) → same_place note.place here ≡ is → made_in (made ++ one a note ∷ []) here ≡ made_in made here ++ cond is (note ∷ []) []
-place_more made a note here is h =
-    ap (notes_of here) (map-append (λ (m : Made). m.note) made (one a note ∷ []))
-    ∙ filter-append (λ (n : Note). same_place n.place here) (notes_made made) (note ∷ [])
-    ∙ ap (λ (c : Bool). made_in made here ++ cond c (note ∷ []) []) h
-
 module _ (s : Script) (old now : World) (made : List Made) (a : ℕ) (note : Note) (are : AreMade s old made)
     (tells : Tells old now note) (notes : IsAt (notes_by old) a (notes_by old a ++ note ∷ []) (notes_by now)) where
   lists : (b : ℕ) → b < actor_count s → list_by (made ++ one a note ∷ []) b ≡ notes_by now b
@@ -85,7 +67,7 @@ module _ (s : Script) (old now : World) (made : List Made) (a : ℕ) (note : Not
     go (inl h) =
         list_more made a note b true h.0 ∙ ap (λ (l : List Note). l ++ note ∷ []) (are.lists b within)
         ∙ subst (λ (k : ℕ). notes_by old k ++ note ∷ [] ≡ notes_by now k) h.1 (sym notes.here)
-    go (inr h) = list_more made a note b false h.0 ∙ append_none (list_by made b) ∙ are.lists b within ∙ sym (notes.else b (λ e. h.1 (sym e)))
+    go (inr h) = list_more made a note b false h.0 ∙ append-nil (list_by made b) ∙ are.lists b within ∙ sym (notes.else b (λ e. h.1 (sym e)))
 
   order : (here : Place) → map (λ (n : Note). n.pos) (made_in (made ++ one a note ∷ []) here) ≡ range_with_len 0 (entry_count now here)
   order here = go (same_place note.place here) refl where
@@ -101,7 +83,7 @@ module _ (s : Script) (old now : World) (made : List Made) (a : ℕ) (note : Not
         ∙ range-more (entry_count old here)
         ∙ ap (range_with_len 0) (sym more)
     go false is =
-        ap (map (λ (n : Note). n.pos)) (place_more made a note here false is ∙ append_none (made_in made here))
+        ap (map (λ (n : Note). n.pos)) (place_more made a note here false is ∙ append-nil (made_in made here))
         ∙ are.order here
         ∙ ap (range_with_len 0) (sym (entries_long old here) ∙ ap length (sym (tells.else here is)) ∙ entries_long now here)
 
@@ -121,9 +103,9 @@ module _ (s : Script) (w : World) (a : ℕ) where
   grows_not : Grows s w a w
   grows_not = record {
     notes = [];
-    own = sym (append_none (notes_by w a));
+    own = sym (append-nil (notes_by w a));
     else = λ b other. refl;
-    told = λ made are. subst (AreMade s w) (sym (append_none made)) are;
+    told = λ made are. subst (AreMade s w) (sym (append-nil made)) are;
   }
 
   -- a note more
@@ -306,7 +288,7 @@ module _ (s : Script) {B : Type 0} (has : B → List Made → Type 0) (before af
         record {
           made = notes.made;
           holds = notes.holds;
-          are = subst (AreMade s (step s w a)) (ap (λ (l : List Note). notes.made ++ made_by a l) no_notes ∙ append_none notes.made) (unmade.told notes.made notes.are);
+          are = subst (AreMade s (step s w a)) (ap (λ (l : List Note). notes.made ++ made_by a l) no_notes ∙ append-nil notes.made) (unmade.told notes.made notes.are);
         };
   }
 

@@ -107,13 +107,6 @@ impl Books {
         })
     }
 
-    /// The notes at the end.
-    pub(crate) fn into_lists(self) -> Lists
-        ensures { result ≡ self.lists }
-    {
-        self.lists
-    }
-
     /// The notes so far.
     pub(crate) fn lists(&self) -> &Lists
         ensures { result.now ≡ self.now.lists }

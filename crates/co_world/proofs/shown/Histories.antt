@@ -1,4 +1,5 @@
 -- The lists of notes show the world's histories.
+use Rattle.std.proofs.lemmas.List.{append-nil}
 use Rattle.std.proofs.Common.{◌≡◌, ℕ, zero, suc, ◌+◌, ◌≤◌, ◌<◌, Bool, true, false, cond, List, [], ◌∷◌, ◌++◌, length, map, refl, sym, ap, subst, ◌∙◌, arith, ◌⊎◌, ◌≢◌, inl, inr, append_assoc, Option, Some, None}
 use Rattle.std.specs.Prelude.{slice_get, ◌==◌}
 use Rattle.std.specs.List.{find, filter_map, flat_map, range_with_len, cons_option}
@@ -109,10 +110,6 @@ history_shown place lists entries shown =
     ap (λ n. filter_map (entry_at (all_notes_of place lists)) (range_with_len 0 n)) shown.long
     ∙ shown_rest (entry_at (all_notes_of place lists)) entries [] entries 0 refl refl shown.at
 
-pub append_none : {X : Type 0} (xs : List X) → xs ++ [] ≡ xs
-append_none [] = refl
-append_none (x ∷ xs) = ap (λ k. x ∷ k) (append_none xs)
-
 -- ---- one actor makes a note
 
 module _ (place : Place) (L : ℕ → List Note) (a : ℕ) (note : Note) where
@@ -151,7 +148,7 @@ module _ (place : Place) (L : ℕ → List Note) (a : ℕ) (note : Note) where
       ]
 
   flat_same_at : (b : ℕ) → same_place note.place place ≡ false → notes_of place (L' b) ≡ notes_of place (L b)
-  flat_same_at b is = at_updated (λ j (x : List Note). notes_of place x ≡ notes_of place (L j)) L a (L a ++ note ∷ []) b (notes_here false is ∙ append_none (notes_of place (L a))) refl
+  flat_same_at b is = at_updated (λ j (x : List Note). notes_of place x ≡ notes_of place (L j)) L a (L a ++ note ∷ []) b (notes_here false is ∙ append-nil (notes_of place (L a))) refl
 
   pub flat_same : (k n : ℕ) → same_place note.place place ≡ false → flat_map (notes_of place) (map L' (range_with_len k n)) ≡ flat_map (notes_of place) (map L (range_with_len k n))
   flat_same k zero is = refl

@@ -2,7 +2,7 @@
 use Rattle.std.proofs.Common.{◌≡◌, ℕ, zero, suc, ◌+◌, ◌<◌, Bool, true, false, cond, List, [], ◌∷◌, ◌++◌, length, map, refl, sym, ap, subst, ◌∙◌, arith, eq-eqb, eqb-true, Option, Some, None}
 use Rattle.std.specs.Prelude.{is_some, ◌==◌}
 use Rattle.std.specs.List.{AllByRecursion, filter_map, flat_map, range_with_len, cons_option}
-use Rattle.std.proofs.lemmas.List.{length-map, map-append}
+use Rattle.std.proofs.lemmas.List.{append-nil, length-map, map-append}
 use Rattle.co_object.specs.declared.State.{State}
 use Rattle.co_object.specs.declared.Reply.{Reply}
 use Rattle.co_object.specs.declared.Op.{Op}
@@ -33,7 +33,7 @@ use Rattle.co_world.specs.World.{World, Actor, Timer, Cpu, open_world, lists_of,
 use Rattle.co_world.specs.Step.{notes_down, enters, enters_journal, landed, note_of, note_of_cpu, note_of_own, are_direct, callout_answers, queue_answers, answered}
 use Rattle.co_world.specs.Laws.{AreOfLists, reached}
 use Rattle.co_world.proofs.basics.Updates.{at_updated, updated_here, at_choice}
-use Rattle.co_world.proofs.shown.Histories.{OneMore, Shows, shows_more, history_shown, L', flat_more, flat_same, append_none, notes_here}
+use Rattle.co_world.proofs.shown.Histories.{OneMore, Shows, shows_more, history_shown, L', flat_more, flat_same, notes_here}
 use Rattle.co_world.proofs.schedules.AnyAnswers.{run_keeps}
 
 -- the world's history of a place, as entries of any kind
@@ -103,7 +103,7 @@ own_same : (w : World) (a : ℕ) (actor : Actor) (note : Note) (b : ℕ) → act
     notes_of (place.Actor b) (updated w.actors a actor b).notes ≡ notes_of (place.Actor b) (w.actors b).notes
 own_same w a actor note b is other =
     at_updated (λ k (x : Actor). same_place note.place (place.Actor k) ≡ false → notes_of (place.Actor k) x.notes ≡ notes_of (place.Actor k) (w.actors k).notes) w.actors a actor b
-    (λ h. ap (notes_of (place.Actor a)) is ∙ notes_here (place.Actor a) (λ k. (w.actors k).notes) a note false h ∙ append_none (notes_of (place.Actor a) (w.actors a).notes))
+    (λ h. ap (notes_of (place.Actor a)) is ∙ notes_here (place.Actor a) (λ k. (w.actors k).notes) a note false h ∙ append-nil (notes_of (place.Actor a) (w.actors a).notes))
     (λ h. refl) other
 
 pub tells_callout : (s : Script) (w : World) (a i : ℕ) (after : State) (e : Entry) (listed : Bool) → Tells w (notes_down s (enters w i after e) a listed (note_of w i e)) (note_of w i e)

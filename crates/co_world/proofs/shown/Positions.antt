@@ -2,7 +2,7 @@
 use Rattle.std.proofs.Common.{◌≡◌, ℕ, zero, suc, ◌+◌, ◌<◌, ◌≤◌, Bool, true, false, cond, List, [], ◌∷◌, ◌++◌, length, map, refl, sym, ap, subst, ◌∙◌, arith, Option, Some, None, lt-ltb, le-ltb}
 use Rattle.std.specs.Prelude.{is_some, ◌==◌, nat_lt}
 use Rattle.std.specs.List.{AllByRecursion, count_by, range_with_len}
-use Rattle.std.proofs.lemmas.List.{map-append}
+use Rattle.std.proofs.lemmas.List.{append-nil, map-append}
 use Rattle.std.proofs.lemmas.List.Sums.{sum_by-cons}
 use Rattle.std.proofs.lemmas.Bool.Decides.{nat_tests}
 use Rattle.co_object.specs.declared.State.{State}
@@ -32,7 +32,7 @@ use Rattle.co_world.specs.Step.{notes_down, enters, enters_journal, note_of, not
 use Rattle.co_world.specs.Laws.{reached}
 use Rattle.co_world.proofs.basics.Updates.{at_updated}
 use Rattle.co_world.proofs.basics.Prefixes.{length_more}
-use Rattle.co_world.proofs.shown.Histories.{OneMore, append_none, notes_here}
+use Rattle.co_world.proofs.shown.Histories.{OneMore, notes_here}
 use Rattle.co_world.proofs.shown.Lists.{entries_at, Tells, tells_callout, tells_queue, tells_own, all_more, all_same, placed_entries, placed_notes, map_alike, no_notes, no_entries, shown_reached}
 use Rattle.co_world.proofs.schedules.AnyAnswers.{run_keeps}
 
@@ -101,7 +101,7 @@ module _ (s : Script) (w w' : World) (a : ℕ) (listed : Bool) (note : Note) (ma
       )
   noted_new here false is =
       let all : notes_of here ((w.actors a).notes ++ note ∷ []) ≡ notes_of here (w.actors a).notes =
-      notes_here here (λ k. (w.actors k).notes) a note false is ∙ append_none (notes_of here (w.actors a).notes) in (
+      notes_here here (λ k. (w.actors k).notes) a note false is ∙ append-nil (notes_of here (w.actors a).notes) in (
         subst (λ (notes : List Note). IsRising (map (λ (n : Note). n.pos) notes)) (sym all) (ordered.up here a),
         subst (λ (n : ℕ). Below n (map (λ (n : Note). n.pos) (notes_of here ((w.actors a).notes ++ note ∷ [])))) (sym (same_now here is))
             (subst (λ (notes : List Note). Below (length (entries_at w here)) (map (λ (n : Note). n.pos) notes)) (sym all) (ordered.below here a)),
