@@ -8,8 +8,6 @@ mod handler;
 mod operation;
 mod port;
 mod port_call;
-#[cfg(test)]
-mod tests;
 
 pub use fire::Fire;
 pub use func_table::FuncTable;

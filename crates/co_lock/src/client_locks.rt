@@ -1,20 +1,12 @@
 //! The locks of clients.
 ghost use Rattle.std.specs.Prelude.{◌≡◌, ◌<◌, IfOk, Some, length, slice_get, true, false};
-ghost use Rattle.co_lock.specs.Locks.{kind_of};
 
-use crate::hold::Guard;
+use crate::client_lock::ClientLock;
 use crate::{Hold, LockKind};
-use co_sbt::NoMemory;
+use co_sbt::{NoMemory, Seq};
 use std::alloc::Global;
 use std::marker::Model;
-use std::sync::{Mutex, RwLock, Wait};
-
-/// One lock. It guards no data of its own: who holds it may make calls.
-#[derive(Drop)]
-enum ClientLock {
-    Mtx(Mutex<()>),
-    Rw(RwLock<()>),
-}
+use std::sync::Wait;
 
 /// The locks of clients, numbered from 0, which contracts see as the list of their kinds.
 #[derive(Drop)]
@@ -25,11 +17,13 @@ pub struct ClientLocks {
 impl Model for ClientLocks {
     ghost use Rattle.std.specs.Prelude.{List, map};
     ghost use Rattle.co_lock.specs.declared.lock_kind.LockKind.{LockKind};
-    ghost use Rattle.co_lock.specs.Locks.{kind_of};
+    ghost use Rattle.co_lock.specs.Locks.{kind_of, AreNumbered};
 
     ghost Value = { List LockKind };
 
     ghost view = { λ l. map kind_of l.locks.items };
+
+    ghost invariant = { λ l. AreNumbered 0 l.locks.items };
 }
 
 impl ClientLocks {
@@ -37,14 +31,14 @@ impl ClientLocks {
     pub fn new(alloc: Global, kinds: &[LockKind]) -> Result<ClientLocks, NoMemory>
         ensures { IfOk result (λ locks. locks ≡ kinds.now) }
     {
-        let mut locks = Vec::new(alloc);
+        let mut locks = Seq::new(alloc);
         for kind in kinds {
-            let lock = lock_of(*kind);
-            if locks.push(lock).is_err() {
-                return Err(NoMemory {});
-            }
+            let number = locks.as_slice().len();
+            locks.push(ClientLock::new(number, *kind))?;
         }
-        Ok(ClientLocks { locks })
+        Ok(ClientLocks {
+            locks: locks.into_vec(),
+        })
     }
 
     /// Takes lock `id`, which excludes all others; a reader-writer lock is taken in write mode, as by `rw_wlock`. It waits
@@ -53,11 +47,8 @@ impl ClientLocks {
         requires { id < length self.now }
         ensures { result ≡ record { id = id; exclusive = true } }
     {
-        let guard = match &self.locks[id as usize] {
-            ClientLock::Mtx(lock) => Guard::Mtx(lock.lock(rt)),
-            ClientLock::Rw(lock) => Guard::Write(lock.write(rt)),
-        };
-        Hold::new(id, guard)
+        let lock = &self.locks[id as usize];
+        lock.lock(rt)
     }
 
     /// Takes the reader-writer lock `id` in read mode, as by `rw_rlock`. It waits while another holds the lock in write
@@ -66,19 +57,7 @@ impl ClientLocks {
         requires { slice_get self.now id ≡ Some LockKind.Rw }
         ensures { result ≡ record { id = id; exclusive = false } }
     {
-        match &self.locks[id as usize] {
-            ClientLock::Rw(lock) => Hold::new(id, Guard::Read(lock.read(rt))),
-            ClientLock::Mtx(_) => unreachable!(),
-        }
-    }
-}
-
-/// A lock of the kind, which nobody holds.
-fn lock_of(kind: LockKind) -> ClientLock
-    ensures { kind_of result ≡ kind }
-{
-    match kind {
-        LockKind::Mtx => ClientLock::Mtx(Mutex::new(())),
-        LockKind::Rw => ClientLock::Rw(RwLock::new(())),
+        let shared = &self.locks[id as usize];
+        shared.read(rt)
     }
 }

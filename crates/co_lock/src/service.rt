@@ -18,29 +18,3 @@ pub fn hold_of(lock: LockUse) -> Option<Held>
     };
     Some(Held { id, exclusive })
 }
-
-#[cfg(test)]
-mod tests {
-    use super::hold_of;
-    use crate::Held;
-    use co_object::LockUse;
-
-    #[test]
-    fn shares_a_lock_that_the_callout_shares(rt: HostRuntime) {
-        assert_eq!(rt; hold_of(LockUse::Free), None);
-        assert_eq!(rt;
-            hold_of(LockUse::Rw(3)),
-            Some(Held {
-                id: 3,
-                exclusive: true
-            })
-        );
-        assert_eq!(rt;
-            hold_of(LockUse::RwShared(3)),
-            Some(Held {
-                id: 3,
-                exclusive: false
-            })
-        );
-    }
-}

@@ -70,21 +70,3 @@ impl<T: Drop> Room<T> {
         Seq::from_vec(self.items)
     }
 }
-
-#[cfg(test)]
-mod tests {
-    use super::Room;
-    use crate::Seq;
-
-    #[test]
-    fn takes_pushes_into_its_room(rt: HostRuntime) {
-        let mut numbers = Seq::new(rt.alloc());
-        assert_eq!(rt; numbers.push(3_u64), Ok(()));
-        let mut room = Room::from_seq(numbers);
-        assert_eq!(rt; room.reserve(2), Ok(()));
-        room.push(5);
-        room.push(8);
-        assert_eq!(rt; room.len(), 3);
-        assert_eq!(rt; room.into_seq().as_slice(), [3, 5, 8].as_slice());
-    }
-}

@@ -96,22 +96,3 @@ fn ticks_of(ticks: i32) -> u64
 {
     if ticks > 0 { ticks as u64 } else { 1 }
 }
-
-#[cfg(test)]
-mod tests {
-    use super::Sbt;
-
-    #[test]
-    fn has_a_last_time(rt: HostRuntime) {
-        assert_eq!(rt; Sbt::new(9223372036854775808), None);
-        let last = Sbt::new(9223372036854775807);
-        assert_eq!(rt; last.map(|time| time.sat_add(time)), last);
-    }
-
-    #[test]
-    fn counts_ticks(rt: HostRuntime) {
-        assert_eq!(rt; Sbt::from_ticks(1, 1000000).raw(), 4294);
-        assert_eq!(rt; Sbt::from_ticks(0, 1000).raw(), 4294967);
-        assert_eq!(rt; Sbt::from_ticks(-5, 1000).raw(), 4294967);
-    }
-}

@@ -1,6 +1,0 @@
--- The callout keeps its spec.
-use Rattle.std.proofs.Common.{◌≡◌}
-use Rattle.co_hand.proofs.tests.running.Given as goal
-
-abbrev pub invariant-loop-op : goal.invariant-loop-op
-invariant-loop-op l = l.callout.spec ≡ l.fn.spec

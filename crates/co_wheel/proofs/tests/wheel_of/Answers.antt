@@ -1,5 +1,0 @@
-use Rattle.std.proofs.Common.{refl, arith}
-use Rattle.co_wheel.proofs.tests.wheel_of.Goals as goal
-
-pub new-requires-clause-buckets : goal.new-requires-clause-buckets
-new-requires-clause-buckets c = (omega arith, omega arith, (4, refl))

@@ -1,0 +1,14 @@
+mod callouts;
+mod coverage;
+mod functions;
+mod gates;
+mod holds;
+mod lists;
+mod ports;
+mod programs;
+mod queues;
+mod records;
+mod releases;
+mod times;
+mod turns;
+mod wheels;

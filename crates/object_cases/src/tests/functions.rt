@@ -1,0 +1,296 @@
+//! A script's functions, run over callouts alone.
+ghost use Rattle.std.specs.Prelude.{◌≡◌, ◌≤◌, ◌<◌, ◌^◌, ℕ, ◌∷◌, [], IfOk, length, vec_len, false};
+ghost use Rattle.co_lock.specs.declared.lock_kind.LockKind.TheVariants as kind;
+ghost use Rattle.co_program.specs.Actors.{acts_at};
+ghost use Rattle.co_program.specs.Scripts.{IsScript};
+ghost use Rattle.co_hand.specs.Handlers.{Serves};
+
+use super::ports::AlonePort;
+use co_hand::{Fire, FuncTable, Handler, Port, PortCall, PortReply, plain_op};
+use co_lock::{ClientLocks, Held, Hold, LockKind};
+use co_object::{Alone, CallOp, LockUse, Op, PlainOp, Reply, RunOp, Spec};
+use co_program::{Act, Acts, Script, When, Where, Who};
+use co_sbt::{NoMemory, Sbt, Seq};
+use std::alloc::Global;
+use std::test::Fail;
+
+/// The time of so many seconds, of which there are few.
+fn seconds(count: u32) -> Sbt
+    requires { count < 2 ^ 31 }
+{
+    match Sbt::new(u64::from(count) * 0x1_0000_0000) {
+        Some(time) => time,
+        None => unreachable!(),
+    }
+}
+
+fn one<T: Drop>(alloc: Global, item: T) -> Result<Seq<T>, NoMemory>
+    ensures { IfOk result (λ list. list ≡ item ∷ []) }
+{
+    let mut list = Seq::new(alloc);
+    list.push(item)?;
+    Ok(list)
+}
+
+fn two<T: Drop>(alloc: Global, first: T, second: T) -> Result<Seq<T>, NoMemory>
+    ensures { IfOk result (λ list. list ≡ first ∷ second ∷ []) }
+{
+    let mut list = Seq::new(alloc);
+    list.push(first)?;
+    list.push(second)?;
+    Ok(list)
+}
+
+/// A callout on one CPU. Function 0 arms it again in a second and stops it, and function 1 asks whether it is active.
+fn worked_script(alloc: Global, spec: Spec) -> Result<Script, NoMemory>
+    requires { spec.direct ≡ false }
+    ensures { IfOk result (λ s. IsScript s × (length s.timers ≡ 1) × (s.cpus ≡ 1) × ((func : ℕ) → length (acts_at s.funcs func) ≤ 2)) }
+{
+    let again = Act::Reset {
+        who: Who::Me,
+        when: When::After(seconds(1)),
+        func: 0,
+        arg: 0,
+        cpu: Where::Home,
+        prec: Sbt::zero(),
+    };
+    let arms = two(alloc, again, Act::Stop(Who::Me))?;
+    let asks = one(alloc, Act::Active(Who::Me))?;
+    let funcs = two(alloc, arms, asks)?;
+    let timers = one(alloc, spec)?;
+    let ticks = one(alloc, Seq::new(alloc))?;
+    Ok(Script {
+        version: 1,
+        hz: 1000,
+        cpus: 1,
+        buckets: 256,
+        locks: Seq::new(alloc),
+        timers,
+        funcs,
+        clients: Seq::new(alloc),
+        ticks,
+        turns: Seq::new(alloc),
+    })
+}
+
+/// The functions of that script.
+pub fn worked_table(alloc: Global, spec: Spec) -> Result<FuncTable, NoMemory>
+    requires { spec.direct ≡ false }
+    ensures { IfOk result (λ t. (t.callouts ≡ 1) × (t.cpus ≡ 1) × ((func : ℕ) → length (acts_at t.funcs func) ≤ 2)) }
+{
+    let script = worked_script(alloc, spec)?;
+    FuncTable::new(alloc, &script)
+}
+
+pub fn spec_of(lock: LockUse, returns_unlocked: bool) -> Spec
+    ensures { result.direct ≡ false }
+{
+    Spec {
+        lock,
+        returns_unlocked,
+        direct: false,
+    }
+}
+
+/// The fire of the callout's first arming, due at one second, for function 0.
+pub fn first_fire() -> Fire
+    ensures { (result.i ≡ 0) × (result.cpu ≡ 0) }
+{
+    Fire {
+        i: 0,
+        n: 0,
+        func: 0,
+        arg: 0,
+        cpu: 0,
+        at: seconds(1),
+    }
+}
+
+/// A callout that was armed for one second, and whose function runs.
+pub fn running(spec: Spec) -> Alone
+    ensures { result.spec ≡ spec }
+{
+    let mut callout = Alone::open(spec, 0);
+    let reset = PlainOp::Reset {
+        due: seconds(1),
+        prec: Sbt::zero(),
+        func: 0,
+        arg: 0,
+        cpu: None,
+    };
+    let at = seconds(1);
+    for op in [
+        Op::Call(CallOp::Plain(reset)),
+        Op::Run(RunOp::Pick { n: 0, cpu: 0, at }),
+        Op::Run(RunOp::Begin { n: 0, cpu: 0 }),
+    ] {
+        let _ = callout.step(&op);
+    }
+    callout
+}
+
+/// Runs the function of the fire, as any handler does.
+fn serve<H: Handler, P: Port>(
+    handler: &mut H,
+    fire: &Fire,
+    hold: Option<&mut Hold<'_>>,
+    port: &mut P,
+)
+    requires { Serves (H.needs handler.old) (P.state port.old) fire.now fire.now.func }
+{
+    handler.run(fire, hold, port);
+}
+
+/// The calls that function 0 makes, under this hold, in the service of a callout of this spec.
+fn calls_of_run(
+    alloc: Global,
+    spec: Spec,
+    hold: Option<&mut Hold<'_>>,
+) -> Result<Seq<PortCall>, NoMemory>
+    requires { spec.direct ≡ false }
+{
+    let mut table = worked_table(alloc, spec)?;
+    let mut callouts = [running(spec)];
+    let mut port = AlonePort::new(alloc, &mut callouts, 5, 2)?;
+    serve(&mut table, &first_fire(), hold, &mut port);
+    Ok(port.into_calls())
+}
+
+/// The first act of function 0, at one second.
+pub fn again(answer: PortReply) -> PortCall {
+    PortCall {
+        i: 0,
+        op: PlainOp::Reset {
+            due: seconds(2),
+            prec: Sbt::zero(),
+            func: 0,
+            arg: 0,
+            cpu: None,
+        },
+        answer,
+    }
+}
+
+/// The second act of function 0.
+pub fn stop(answer: PortReply) -> PortCall {
+    PortCall {
+        i: 0,
+        op: PlainOp::Stop,
+        answer,
+    }
+}
+
+/// The function's reset arms the callout again, in its service.
+const ARMED: PortReply = PortReply::Reply(Reply::Armed {
+    code: 0,
+    n: 1,
+    cpu: 0,
+    off: None,
+});
+
+/// A stop after that takes the arming away, and not the service.
+const STOPPED: PortReply = PortReply::Reply(Reply::Stopped {
+    code: 0,
+    off: Some(0),
+});
+
+#[test]
+fn a_function_makes_its_acts_in_order(rt: HostRuntime) -> Result<(), Fail> {
+    let free = spec_of(LockUse::Free, false);
+    let calls = calls_of_run(rt.alloc(), free, None)?;
+    assert_eq!(rt; calls.as_slice(), [again(ARMED), stop(STOPPED)].as_slice());
+    Ok(())
+}
+
+/// A mutex and a reader-writer lock.
+fn two_locks(alloc: Global) -> Result<ClientLocks, NoMemory>
+    ensures { IfOk result (λ locks. locks ≡ kind.Mtx ∷ kind.Rw ∷ []) }
+{
+    ClientLocks::new(alloc, &[LockKind::Mtx, LockKind::Rw])
+}
+
+/// The calls that function 0 makes under this hold, and what is held after them.
+fn calls_under(
+    alloc: Global,
+    spec: Spec,
+    mut hold: Hold<'_>,
+) -> Result<(Seq<PortCall>, Held), NoMemory>
+    requires { spec.direct ≡ false }
+{
+    let calls = calls_of_run(alloc, spec, Some(&mut hold))?;
+    Ok((calls, hold.held()))
+}
+
+#[test]
+fn calls_are_made_under_the_hold(rt: HostRuntime) -> Result<(), Fail> {
+    let locks = two_locks(rt.alloc())?;
+    let locked = spec_of(LockUse::Mtx(0), false);
+    let (calls, _) = calls_under(rt.alloc(), locked, locks.lock(&rt, 0))?;
+    assert_eq!(rt; calls.as_slice(), [again(ARMED), stop(STOPPED)].as_slice());
+    let shared = spec_of(LockUse::RwShared(1), false);
+    let (calls, held) = calls_under(rt.alloc(), shared, locks.read(&rt, 1))?;
+    assert_eq!(rt;
+        calls.as_slice(),
+        [again(ARMED), stop(PortReply::NotHeld)].as_slice()
+    );
+    let reading = Held {
+        id: 1,
+        exclusive: false,
+    };
+    assert_eq!(rt; held, reading);
+    Ok(())
+}
+
+/// The calls that this function of an asynchronous drain makes.
+fn calls_of_drained(alloc: Global, func: u32) -> Result<Seq<PortCall>, NoMemory> {
+    let spec = spec_of(LockUse::Free, false);
+    let mut table = worked_table(alloc, spec)?;
+    let mut callouts = [Alone::open(spec, 0)];
+    let mut port = AlonePort::new(alloc, &mut callouts, 5, 2)?;
+    table.drained(&first_fire(), func, &mut port);
+    Ok(port.into_calls())
+}
+
+#[test]
+fn a_drain_function_makes_its_acts(rt: HostRuntime) -> Result<(), Fail> {
+    let calls = calls_of_drained(rt.alloc(), 1)?;
+    let asks = PortCall {
+        i: 0,
+        op: PlainOp::Active,
+        answer: PortReply::Reply(Reply::No),
+    };
+    assert_eq!(rt; calls.as_slice(), [asks].as_slice());
+    let calls = calls_of_drained(rt.alloc(), 7)?;
+    assert!(rt; calls.as_slice().is_empty());
+    Ok(())
+}
+
+#[test]
+fn acts_ask_for_operations(rt: HostRuntime) {
+    let ticks = Act::Ticks {
+        who: Who::Me,
+        ticks: 1,
+        func: 1,
+        arg: 7,
+        cpu: Where::Here,
+    };
+    let Some(tick) = Sbt::new(4294) else {
+        panic!(rt; "4294 is a time");
+    };
+    let reset = PlainOp::Reset {
+        due: tick,
+        prec: Sbt::zero(),
+        func: 1,
+        arg: 7,
+        cpu: Some(2),
+    };
+    assert_eq!(rt;
+        plain_op(&ticks, 1000000, Sbt::zero(), 2, Some(4)),
+        Some((4, reset))
+    );
+    assert_eq!(rt;
+        plain_op(&Act::Retire(Who::Timer(3)), 1000, seconds(1), 2, None),
+        Some((3, PlainOp::Retire))
+    );
+    assert_eq!(rt; plain_op(&Act::Drain(3), 1000, seconds(1), 2, None), None);
+}

@@ -1,0 +1,194 @@
+//! Client locks, taken by one thread and by two.
+ghost use Rattle.std.specs.Prelude.{◌≡◌, ◌<◌, IfOk, Some, length, slice_get, ◌∷◌, []};
+ghost use denote.Param.Send.{IsSync};
+
+use super::turns::comes_to;
+use co_lock::{ClientLocks, Held, LockKind};
+use co_sbt::NoMemory;
+use std::alloc::Global;
+use std::sync::atomic::{AtomicU64, Ordering};
+use std::sync::{Barrier, Wait};
+use std::test::Fail;
+use std::thread;
+use std::thread::{Threads, join};
+
+// A mutex and two reader-writer locks.
+fn three_locks(alloc: Global) -> Result<ClientLocks, NoMemory>
+    ensures { IfOk result (λ locks. locks ≡ LockKind.Mtx ∷ LockKind.Rw ∷ LockKind.Rw ∷ []) }
+{
+    ClientLocks::new(alloc, &[LockKind::Mtx, LockKind::Rw, LockKind::Rw])
+}
+
+#[test]
+fn a_drop_releases_each_lock(rt: HostRuntime) {
+    let Ok(locks) = three_locks(rt.alloc()) else {
+        panic!(rt; "too little memory");
+    };
+    for _ in 0..2 {
+        let mutex = locks.lock(&rt, 0);
+        assert_eq!(rt; mutex.id(), 0);
+        assert!(rt; mutex.exclusive());
+        let writing = locks.lock(&rt, 1);
+        assert_eq!(rt;
+            writing.held(),
+            Held {
+                id: 1,
+                exclusive: true
+            }
+        );
+        drop(writing);
+        let reading = locks.read(&rt, 1);
+        assert_eq!(rt;
+            reading.held(),
+            Held {
+                id: 1,
+                exclusive: false
+            }
+        );
+        assert_eq!(rt; reading.id(), 1);
+        assert!(rt; !reading.exclusive());
+    }
+}
+
+// Adds 1 so often, by a read and a write of which others may come between unless the lock keeps them out.
+fn count_up<R: Wait + Sync>(rt: &R, locks: &ClientLocks, id: u32, count: &AtomicU64)
+    requires { id < length locks.now }
+{
+    for _ in 0..1000 {
+        let _hold = locks.lock(rt, id);
+        let seen = count.load(Ordering::SeqCst);
+        thread::yield_now();
+        count.store(seen.wrapping_add(1), Ordering::SeqCst);
+    }
+}
+
+// The count after two threads have counted up under one lock.
+fn counted_by_two<R: Threads + Wait + Sync>(rt: &R, locks: &ClientLocks, id: u32) -> u64
+    requires { id < length locks.now }
+{
+    let count = AtomicU64::new(0);
+    join(
+        rt,
+        ||
+            requires { IsSync R.row × (id < length locks.now) }
+        { count_up(rt, locks, id, &count) },
+        ||
+            requires { IsSync R.row × (id < length locks.now) }
+        { count_up(rt, locks, id, &count) },
+    );
+    count.load(Ordering::SeqCst)
+}
+
+#[test]
+fn exclusive_holds_exclude_each_other(rt: HostRuntime) {
+    let Ok(locks) = three_locks(rt.alloc()) else {
+        panic!(rt; "too little memory");
+    };
+    assert_eq!(rt; counted_by_two(&rt, &locks, 0), 2000);
+    assert_eq!(rt; counted_by_two(&rt, &locks, 1), 2000);
+}
+
+// Takes the lock in read mode, and keeps it until another has it as well.
+fn read_beside<R: Wait + Sync>(rt: &R, locks: &ClientLocks, id: u32, met: &Barrier) -> Held
+    requires { slice_get locks.now id ≡ Some LockKind.Rw }
+{
+    let hold = locks.read(rt, id);
+    met.wait(rt);
+    hold.held()
+}
+
+// What two readers of one lock hold at once.
+fn read_by_two<R: Threads + Wait + Sync>(rt: &R, locks: &ClientLocks, id: u32) -> (Held, Held)
+    requires { slice_get locks.now id ≡ Some LockKind.Rw }
+{
+    let met = Barrier::new(2);
+    join(
+        rt,
+        || -> Held
+            requires { IsSync R.row × (slice_get locks.now id ≡ Some LockKind.Rw) }
+        { read_beside(rt, locks, id, &met) },
+        || -> Held
+            requires { IsSync R.row × (slice_get locks.now id ≡ Some LockKind.Rw) }
+        { read_beside(rt, locks, id, &met) },
+    )
+}
+
+#[test]
+fn readers_share_a_lock(rt: HostRuntime) {
+    let Ok(locks) = three_locks(rt.alloc()) else {
+        panic!(rt; "too little memory");
+    };
+    let reading = Held {
+        id: 1,
+        exclusive: false,
+    };
+    assert_eq!(rt; read_by_two(&rt, &locks, 1), (reading, reading));
+}
+
+// Takes the locks but `kept`, one after the other, once that one is kept.
+fn take_others<R: Wait + Sync>(
+    rt: &R,
+    locks: &ClientLocks,
+    kept: u32,
+    begun: &AtomicU64,
+    taken: &AtomicU64,
+)
+    requires { length locks.now ≡ 3 }
+{
+    if !comes_to(begun, 1) {
+        return;
+    }
+    for id in 0..3 {
+        if id != kept {
+            drop(locks.lock(rt, id));
+            taken.fetch_add(1, Ordering::SeqCst);
+        }
+    }
+}
+
+// Keeps a lock while another takes two. Whether it could before the wait for it was over.
+fn keep<R: Wait + Sync>(
+    rt: &R,
+    locks: &ClientLocks,
+    kept: u32,
+    begun: &AtomicU64,
+    taken: &AtomicU64,
+) -> bool
+    requires { kept < length locks.now }
+{
+    let _hold = locks.lock(rt, kept);
+    begun.store(1, Ordering::SeqCst);
+    comes_to(taken, 2)
+}
+
+// Whether the other locks are free while this one is kept.
+fn others_are_free<R: Threads + Wait + Sync>(rt: &R, locks: &ClientLocks, kept: u32) -> bool
+    requires three { length locks.now ≡ 3 }
+    requires kept { kept < 3 }
+{
+    let begun = AtomicU64::new(0);
+    let taken = AtomicU64::new(0);
+    let (free, ()) = join(
+        rt,
+        || -> bool
+            requires { IsSync R.row × (kept < length locks.now) }
+        { keep(rt, locks, kept, &begun, &taken) },
+        ||
+            requires { IsSync R.row × (length locks.now ≡ 3) }
+        { take_others(rt, locks, kept, &begun, &taken) },
+    );
+    free
+}
+
+#[test]
+fn each_lock_is_its_own(rt: HostRuntime) -> Result<(), Fail> {
+    let locks = three_locks(rt.alloc())?;
+    for kept in 0..3 {
+        assert!(rt; others_are_free(&rt, &locks, kept));
+    }
+    let mutex = locks.lock(&rt, 0);
+    let first = locks.read(&rt, 1);
+    let second = locks.lock(&rt, 2);
+    assert_eq!(rt; (mutex.id(), first.id(), second.id()), (0, 1, 2));
+    Ok(())
+}
