@@ -16,3 +16,5 @@ pub mod Groups
 pub mod Drains
 pub mod Known
 pub mod ListsLook
+pub mod Endings
+pub mod FunctionActs

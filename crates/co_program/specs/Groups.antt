@@ -1,25 +1,28 @@
 -- What stands in a list that follows, where its program makes a call, a drain or a round of services: the notes that come
 -- next, in order, told by the callout alone and the queue alone. All of an act's notes carry the actor and the act's number.
-use Rattle.std.specs.Prelude.{◌≡◌, ℕ, ◌+◌, Bool, List, [], ◌∷◌, ◌++◌, take, Option, Some}
+use Rattle.std.specs.Prelude.{◌≡◌, ℕ, ◌+◌, Bool, true, false, List, [], ◌∷◌, ◌++◌, take, Option, Some}
 use Rattle.std.specs.List.{slice_get}
 use Rattle.co_object.specs.declared.Note.{Note}
+use Rattle.co_object.specs.declared.Place.TheVariants as place
+use Rattle.co_object.specs.declared.AnyEntry.TheVariants as entry
+use Rattle.co_object.specs.declared.PlainOp.{PlainOp}
+use Rattle.co_object.specs.declared.OwnKind.TheVariants.{NotHeld}
 use Rattle.co_object.specs.declared.Entry.{Entry}
 use Rattle.co_object.specs.declared.Op.TheVariants.{Call}
 use Rattle.co_object.specs.declared.CallOp.{CallOp}
-use Rattle.co_object.specs.declared.CallOp.TheVariants.{DrainTry}
+use Rattle.co_object.specs.declared.CallOp.TheVariants.{Plain, DrainTry}
 use Rattle.co_object.specs.declared.Reply.{Reply}
 use Rattle.co_object.specs.declared.Reply.TheVariants.{Wait, Drained}
-use Rattle.co_object.specs.Group.{Placed, placed, IsGroup}
+use Rattle.co_object.specs.Group.{placed, IsGroup}
 use Rattle.co_object.specs.History.{state}
+use Rattle.co_lock.specs.declared.Held.{Held}
+use Rattle.co_lock.specs.Covers.{covers}
+use Rattle.co_program.specs.declared.act.Act.{Act}
 use Rattle.co_program.specs.declared.script.Script.{Script}
+use Rattle.co_program.specs.declared.cursor.Service.{Service}
+use Rattle.co_program.specs.Calls.{plain_op}
 use Rattle.co_program.specs.Action.{spec_at}
 use Rattle.co_program.specs.Follows.{Histories}
-
--- one note, wherever it stands in its history
-abbrev pub IsNote : Placed → List Note → Type 0
-IsNote at [] = ⊥
-IsNote at (note ∷ []) = placed note ≡ at
-IsNote at (note ∷ more ∷ notes) = ⊥
 
 -- the drain is over
 abbrev pub IsDone : Reply → Type 0
@@ -45,3 +48,13 @@ module _ (s : Script) (H : Histories) (a : ℕ) where
   pub data IsDrainOf (act i : ℕ) : Bool → List Note → Type 0 where
     done : (took : Bool) (reply : Reply) (notes : List Note) → IsDone reply → IsCallOf act i (DrainTry took) reply notes → IsDrainOf act i took notes
     waits : (took took' : Bool) (n : ℕ) (off : Option ℕ) (front rest : List Note) → IsCallOf act i (DrainTry took) (Wait n took' off) front → IsDrainOf act i took' rest → IsDrainOf act i took (front ++ rest)
+
+  -- ---- a function
+
+  -- the acts of a function in this service, under this hold: for each the group of its call, or NotHeld where that is not covered
+  pub data AreActsOf (cpu : ℕ) (v : Service) (hold : Option Held) : ℕ → List Act → List Note → Type 0 where
+    none : (act : ℕ) → AreActsOf cpu v hold act [] []
+    calls : (act i : ℕ) (x : Act) (acts : List Act) (op : PlainOp) (reply : Reply) (front rest : List Note) → plain_op x s.hz (record { time = v.at; here = cpu; me = v.i }) ≡ Some (i, op) → covers hold (spec_at s i) (Plain op) ≡ true →
+        IsCallOf act i (Plain op) reply front → AreActsOf cpu v hold (act + 1) acts rest → AreActsOf cpu v hold act (x ∷ acts) (front ++ rest)
+    not_held : (act i : ℕ) (x : Act) (acts : List Act) (op : PlainOp) (note : Note) (rest : List Note) → plain_op x s.hz (record { time = v.at; here = cpu; me = v.i }) ≡ Some (i, op) → covers hold (spec_at s i) (Plain op) ≡ false →
+        placed note ≡ (place.Actor a, entry.Own (record { actor = a; act = act; kind = NotHeld })) → AreActsOf cpu v hold (act + 1) acts rest → AreActsOf cpu v hold act (x ∷ acts) (note ∷ rest)
