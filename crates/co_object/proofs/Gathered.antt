@@ -56,6 +56,13 @@ module _ {X : Type 0} where
     go true h later = let e : y ≡ x = cc in inl e
     go false h later = inr (later h)
 
+  found-some : (p : X → Bool) (xs : List X) → 1 ≤ passing p xs → (x : X) × (find p xs ≡ Some x)
+  found-some p [] h = absurd (omega arith)
+  found-some p (y ∷ ys) h = go (p y) refl (λ later. found-some p ys later) where
+    go : (b : Bool) → p y ≡ b → (1 ≤ passing p ys → (x : X) × (find p ys ≡ Some x)) → (x : X) × (cond b (Some y) (find p ys) ≡ Some x)
+    go true is later = (y, refl)
+    go false is later = later (let first : cond {A = ℕ} (p y) 1 0 ≡ 0 = ap (λ (b : Bool). cond {A = ℕ} b 1 0) is in omega (arith, h, first))
+
 module _ {X Y : Type 0} (f : X → Option Y) where
   record Comes (y : Y) (xs : List X) : Type 0 where
     pub from : X
@@ -169,28 +176,56 @@ noted p e lists h =
           let same : n.entry ≡ e = cc in
           record { note = n; inside = st.inside; place = st.place; entry = same }
 
+-- a note is the one at its position
+pub record IsAtItsPlace (n : Note) (lists : List (List Note)) : Type 0 where
+  pub below : n.pos < length (all_notes_of n.place lists)
+  pub at : entry_at (all_notes_of n.place lists) n.pos ≡ Some n.entry
+
+pub at-its-place : (n : Note) (lists : List (List Note)) → IsWellFormed lists → HasNote n lists → IsAtItsPlace n lists
+at-its-place n lists formed inside = record {
+  below = below;
+  at = ap (option_map (λ (note : Note). note.entry)) (find-has is_at n notes (sym (count-passing is_at notes) ∙ formed.once n.place n.pos below) itself here);
+} where
+  notes : List Note
+  notes = all_notes_of n.place lists
+
+  is_at : Note → Bool
+  is_at note = note.pos == n.pos
+
+  itself : is_at n ≡ true
+  itself = number-itself n.pos
+
+  here : Has n notes
+  here = gathered n lists inside
+
+  some : 1 ≤ count_at n.pos notes
+  some = let one : 1 ≤ passing is_at notes = has-passing is_at n notes itself here in let same : count_at n.pos notes ≡ passing is_at notes = count-passing is_at notes in omega (arith, one, same)
+
+  below : n.pos < length notes
+  below = let none : length notes ≤ n.pos → count_at n.pos notes ≡ 0 = formed.others n.place n.pos in let one = some in grind arith
+
+-- each position is that of a note
+pub record IsTaken (p : Place) (pos : ℕ) (lists : List (List Note)) : Type 0 where
+  pub note : Note
+  pub inside : HasNote note lists
+  pub place : note.place ≡ p
+  pub at : entry_at (all_notes_of p lists) pos ≡ Some note.entry
+
+pub taken-at : (p : Place) (pos : ℕ) (lists : List (List Note)) → IsWellFormed lists → pos < length (all_notes_of p lists) → IsTaken p pos lists
+taken-at p pos lists formed below =
+    let one : count_at pos (all_notes_of p lists) ≡ 1 = formed.once p pos below in
+    let same : count_at pos (all_notes_of p lists) ≡ passing is_at (all_notes_of p lists) = count-passing is_at (all_notes_of p lists) in
+    let f = found-some is_at (all_notes_of p lists) (omega (arith, one, same)) in
+    let st : Stands p f.0 lists = stands p f.0 lists (found-in is_at f.0 (all_notes_of p lists) f.1) in
+    record { note = f.0; inside = st.inside; place = st.place; at = ap (option_map (λ (note : Note). note.entry)) f.1 } where
+      is_at : Note → Bool
+      is_at note = note.pos == pos
+
 entered : (n : Note) (lists : List (List Note)) → IsWellFormed lists → HasNote n lists → Has n.entry (history n.place lists)
 entered n lists formed inside =
-    comes-to (entry_at notes) n.pos n.entry (range_with_len 0 (length notes))
-    (ap (option_map (λ (note : Note). note.entry)) (find-has is_at n notes (sym (count-passing is_at notes) ∙ formed.once n.place n.pos below) itself here))
-    (in-range n.pos 0 (length notes) (omega arith) (omega (arith, below))) where
-      notes : List Note
-      notes = all_notes_of n.place lists
-
-      is_at : Note → Bool
-      is_at note = note.pos == n.pos
-
-      itself : is_at n ≡ true
-      itself = number-itself n.pos
-
-      here : Has n notes
-      here = gathered n lists inside
-
-      some : 1 ≤ count_at n.pos notes
-      some = let one : 1 ≤ passing is_at notes = has-passing is_at n notes itself here in let same : count_at n.pos notes ≡ passing is_at notes = count-passing is_at notes in omega (arith, one, same)
-
-      below : n.pos < length notes
-      below = let none : length notes ≤ n.pos → count_at n.pos notes ≡ 0 = formed.others n.place n.pos in let one = some in grind arith
+    let here : IsAtItsPlace n lists = at-its-place n lists formed inside in
+    comes-to (entry_at (all_notes_of n.place lists)) n.pos n.entry (range_with_len 0 (length (all_notes_of n.place lists))) here.at
+    (in-range n.pos 0 (length (all_notes_of n.place lists)) (omega arith) (omega (arith, here.below)))
 
 -- ---- of callouts and of CPUs
 

@@ -8,3 +8,13 @@ pub mod FuncsNamed
 pub mod FuncsKept
 pub mod Asking
 pub mod RunsName
+pub mod Removing
+pub mod Arming
+pub mod AskedCalls
+pub mod Rests
+pub mod Groups
+pub mod Drains
+pub mod Known
+pub mod ListsLook
+pub mod Endings
+pub mod FunctionActs

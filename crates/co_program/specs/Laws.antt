@@ -1,11 +1,94 @@
 -- What holds of every run of a script.
-use Rattle.std.specs.Prelude.{List}
+use Rattle.std.specs.Prelude.{◌≡◌, ◌⊎◌, ℕ, ◌<◌, Bool, true, List, [], ◌++◌, None}
 use Rattle.co_object.specs.declared.Note.{Note}
+use Rattle.co_object.specs.declared.Op.TheVariants.{Call}
+use Rattle.co_object.specs.declared.CallOp.{CallOp}
+use Rattle.co_object.specs.declared.CallOp.TheVariants.{DrainTry}
+use Rattle.co_object.specs.declared.Reply.{Reply}
+use Rattle.co_lock.specs.Covers.{covers}
+use Rattle.co_program.specs.declared.act.Act.{Act}
 use Rattle.co_program.specs.declared.script.Script.{Script}
+use Rattle.co_program.specs.declared.cursor.Service.{Service}
+use Rattle.co_program.specs.declared.action.Asked.{Asked}
+use Rattle.co_program.specs.declared.action.Asked.TheVariants.{Callout}
+use Rattle.co_program.specs.Action.{Nothing, Asks, action_for, spec_at}
+use Rattle.co_program.specs.Actors.{actor_count, cpu_of, role_of}
+use Rattle.co_program.specs.Cursor.{Cursor, start_of}
+use Rattle.co_program.specs.Follows.{cursor_after, settled}
+use Rattle.co_program.specs.Groups.{IsCallOf, IsDrainOf, AreActsOf}
 use Rattle.co_program.specs.Names.{FuncsExist, AllNotesName}
-use Rattle.co_program.specs.Runs.{IsRunOf}
+use Rattle.co_program.specs.Runs.{notes_by, shown_histories, IsRunOf}
 use Rattle.co_program.specs.Scripts.{IsScript}
+use Rattle.co_program.specs.Stages.{Ready, Firing, Drained}
 
 -- what the notes of a run name exists, where the functions that the script's acts name do
 abbrev pub RunsNameWhatExists : Type 0
 RunsNameWhatExists = (s : Script) (lists : List (List Note)) → IsScript s → FuncsExist s → IsRunOf s lists → AllNotesName s lists
+
+-- ---- what the list of an actor looks like
+
+-- the actor's place in its program after these notes, past the steps that make none
+abbrev pub place_after : Script → List (List Note) → ℕ → List Note → Cursor
+place_after s lists a notes = settled s a (cursor_after s (shown_histories lists) a (start_of s a) notes)
+
+-- nothing is left to do, no lock is held, no stage of an act is open and no callout is on its way
+pub record HasEnded (c : Cursor) : Type 0 where
+  pub left : c.left ≡ []
+  pub hold : c.hold ≡ None
+  pub stage : c.stage ≡ Ready
+  pub parcel : c.parcel ≡ None
+
+-- wherever the notes of its list lead, the actor's program has ended exactly where that is so; and so it is after all of them
+pub record EndsWhereNothingIsLeft (s : Script) (lists : List (List Note)) (a : ℕ) : Type 0 where
+  pub ends : (before after : List Note) → notes_by lists a ≡ before ++ after → action_for s a (place_after s lists a before) ≡ Nothing → HasEnded (place_after s lists a before)
+  pub only : (before : List Note) → HasEnded (place_after s lists a before) → action_for s a (place_after s lists a before) ≡ Nothing
+  pub ended : HasEnded (place_after s lists a (notes_by lists a))
+
+abbrev pub ProgramsEndWhereNothingIsLeft : Type 0
+ProgramsEndWhereNothingIsLeft = (s : Script) (lists : List (List Note)) (a : ℕ) → IsScript s → IsRunOf s lists → a < actor_count s → EndsWhereNothingIsLeft s lists a
+
+-- after these notes of its list, the actor's program asks this next
+pub record IsDueNext (s : Script) (lists : List (List Note)) (a : ℕ) (before after : List Note) (act : ℕ) (asked : Asked) : Type 0 where
+  pub run : IsRunOf s lists
+  pub actor : a < actor_count s
+  pub notes : notes_by lists a ≡ before ++ after
+  pub next : action_for s a (place_after s lists a before) ≡ Asks act asked
+  -- and no note of that has been made
+  pub begins : (place_after s lists a before).removed ≡ None
+
+-- the notes begin so
+pub record Begin (Is : List Note → Type 0) (notes : List Note) : Type 0 where
+  pub front : List Note
+  pub rest : List Note
+  pub split : notes ≡ front ++ rest
+  pub is : Is front
+
+-- where a call comes next, it is covered by what the actor holds, and the next notes are the call's group
+pub record IsCovered (s : Script) (lists : List (List Note)) (a : ℕ) (before after : List Note) (act i : ℕ) (op : CallOp) : Type 0 where
+  pub hold : covers (place_after s lists a before).hold (spec_at s i) op ≡ true
+  pub reply : Reply
+  pub notes : Begin (IsCallOf s (shown_histories lists) a act i op reply) after
+
+abbrev pub CallsAreGroups : Type 0
+CallsAreGroups = (s : Script) (lists : List (List Note)) (a : ℕ) (before after : List Note) (act i : ℕ) (op : CallOp) →
+    IsDueNext s lists a before after act (Callout i (Call op)) → IsCovered s lists a before after act i op
+
+-- where a drain comes next, the next notes are the groups of its tries: those that wait, and one that is done
+abbrev pub DrainsAreGroups : Type 0
+DrainsAreGroups = (s : Script) (lists : List (List Note)) (a : ℕ) (before after : List Note) (act i : ℕ) (took : Bool) →
+    IsDueNext s lists a before after act (Callout i (Call (DrainTry took))) → Begin (IsDrainOf s (shown_histories lists) a act i took) after
+
+-- after these notes of its list, these acts are left of the function, or of the drain function, that the actor makes in a service
+pub record IsInFunction (s : Script) (lists : List (List Note)) (a : ℕ) (before after : List Note) (v : Service) (acts : List Act) : Type 0 where
+  pub run : IsRunOf s lists
+  pub actor : a < actor_count s
+  pub notes : notes_by lists a ≡ before ++ after
+  pub stage : ((place_after s lists a before).stage ≡ Firing v acts) ⊎ ((place_after s lists a before).stage ≡ Drained v acts)
+  -- and no note of the first of them has been made, and no callout is on its way
+  pub begins : (place_after s lists a before).removed ≡ None
+  pub parcel : (place_after s lists a before).parcel ≡ None
+
+-- where these acts come next, the next notes are theirs: for each the group of its call, or NotHeld where that is not covered
+abbrev pub FunctionsMakeTheirActs : Type 0
+FunctionsMakeTheirActs = (s : Script) (lists : List (List Note)) (a : ℕ) (before after : List Note) (v : Service) (acts : List Act) → IsScript s → IsInFunction s lists a before after v acts →
+    Begin (AreActsOf s (shown_histories lists) a (cpu_of s (role_of s a)) v (place_after s lists a before).hold (place_after s lists a before).act acts) after

@@ -12,3 +12,4 @@ pub mod Places
 pub mod Runs
 pub mod Names
 pub mod Laws
+pub mod Groups

@@ -1,8 +1,33 @@
-//! What holds of every run of a script, the contract of a function that does nothing.
-ghost use Rattle.co_program.specs.Laws.{RunsNameWhatExists};
+//! What holds of every run of a script, each law the contract of a function that does nothing.
+ghost use Rattle.co_program.specs.Laws.{CallsAreGroups, DrainsAreGroups, FunctionsMakeTheirActs, ProgramsEndWhereNothingIsLeft, RunsNameWhatExists};
 
 /// What each note of a run names exists in the script, its actor, callouts, CPUs and functions, where the functions that the
 /// script's acts name do; each entry is of its place's kind, and the answer of each queue is one to its operation.
 pub fn runs_name_what_exists()
     ensures { RunsNameWhatExists }
+{}
+
+/// Where an actor's program makes a call, the actor holds what covers it, and its next notes are the call's group: a Remove
+/// from the CPU that the reply names, where it names one; the callout's entry, which stands in its history; and an Insert into
+/// the arming's CPU, where the call armed the callout and the arming is listed.
+pub fn calls_are_groups()
+    ensures { CallsAreGroups }
+{}
+
+/// Where it makes a drain, its next notes are the groups of any number of tries that wait, and then of one that is done. The
+/// first try took nothing, and each later one knows whether an earlier one took an arming away.
+pub fn drains_are_groups()
+    ensures { DrainsAreGroups }
+{}
+
+/// Wherever the notes of an actor's list lead, its program has ended exactly where nothing is left to do, no lock is held, no
+/// stage of an act is open and no callout is on its way; and so it is after all its notes.
+pub fn programs_end_where_nothing_is_left()
+    ensures { ProgramsEndWhereNothingIsLeft }
+{}
+
+/// Where the acts of a function, or of a drain function, come next in a service, the next notes are theirs, one act after the
+/// other with its number: the group of its call, or NotHeld where what the actor holds does not cover it.
+pub fn functions_make_their_acts()
+    ensures { FunctionsMakeTheirActs }
 {}
