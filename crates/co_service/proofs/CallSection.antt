@@ -1,9 +1,10 @@
 -- The section of a call on a desk: what its wheel, its books and its caller have after it.
-use Rattle.std.proofs.Common.{◌≡◌, ℕ, ◌≤◌, ◌==◌, Bool, true, false, cond, not, ◌&&◌, List, [], ◌∷◌, ◌++◌, map, refl, sym, ap, ◌∙◌, subst, append_assoc}
+use Rattle.std.proofs.Common.{◌≡◌, ℕ, ◌==◌, Bool, true, false, cond, not, ◌&&◌, List, [], ◌∷◌, ◌++◌, map, refl, sym, ap, ◌∙◌, subst, append_assoc}
 use Rattle.std.specs.Prelude.{is_some}
 use Rattle.std.specs.declared.option.Option.{Option}
 use Rattle.std.specs.declared.option.Option.TheVariants.{Some, None}
 use Rattle.std.proofs.lemmas.List.{get_or-set_same}
+use Rattle.co_life.specs.Rule.{capped}
 use Rattle.co_object.specs.declared.alone.Alone.{Alone}
 use Rattle.co_object.specs.declared.note.Entry.{Entry}
 use Rattle.co_object.specs.declared.note.Note.{Note}
@@ -154,7 +155,7 @@ module _ (w w' : Cpu) (b : BooksView) (scans i : ℕ) (op : CallOp) (out : CallO
     pub may_section : MayDepart b' (number_in out.reply) (due_in op) out.leaves
     may_section = may_depart w w' b scans i H entry now away out.leaves (number_in out.reply) (due_in op) (call_turns i op out.reply out.inserted) desk goes_now b' wrote
 
-    pub desk_section : Owes [] w' b' → scans ≤ scans_in b'.journal → IsDesk w' (departed b' out.leaves) scans
+    pub desk_section : Owes [] w' b' → scans ≡ capped (scans_in b'.journal) → IsDesk w' (departed b' out.leaves) scans
     desk_section = goes_desk w w' b scans i H entry now away out.leaves (number_in out.reply) (due_in op) (call_turns i op out.reply out.inserted) desk goes_now b' wrote
 
     pub service_section : (r : Params) → b.params ≡ r → IsOfService r i (moving_from b' (number_in out.reply) (due_in op) out.leaves)

@@ -1,8 +1,9 @@
 -- A callout after an operation that may let it leave the desk: the books without what leaves, and what leaves.
-use Rattle.std.proofs.Common.{◌≡◌, ℕ, ◌≤◌, ◌<◌, Bool, true, false, cond, List, [], ◌∷◌, ◌++◌, length, set, refl, sym, ap, ◌∙◌, subst}
+use Rattle.std.proofs.Common.{◌≡◌, ℕ, ◌<◌, Bool, true, false, cond, List, [], ◌∷◌, ◌++◌, length, set, refl, sym, ap, ◌∙◌, subst}
 use Rattle.std.specs.Prelude.{is_some, slice_set}
 use Rattle.std.specs.declared.option.Option.{Option}
 use Rattle.std.specs.declared.option.Option.TheVariants.{Some, None}
+use Rattle.co_life.specs.Rule.{capped}
 use Rattle.co_object.specs.declared.alone.Alone.{Alone}
 use Rattle.co_object.specs.declared.note.Entry.{Entry}
 use Rattle.co_object.specs.declared.state.Arming.{Arming}
@@ -28,9 +29,9 @@ owes_departed : (b : BooksView) (w : Cpu) (leaves : Option Parcel) → Owes [] w
 owes_departed b w None o = o
 owes_departed b w (Some q) o = record { takes = o.takes }
 
-scans_departed : (b : BooksView) (leaves : Option Parcel) (n : ℕ) → n ≤ scans_in b.journal → n ≤ scans_in (departed b leaves).journal
-scans_departed b None n le = le
-scans_departed b (Some q) n le = le
+scans_departed : (b : BooksView) (leaves : Option Parcel) (n : ℕ) → n ≡ capped (scans_in b.journal) → n ≡ capped (scans_in (departed b leaves).journal)
+scans_departed b None n is = is
+scans_departed b (Some q) n is = is
 
 of_service : (b : BooksView) (n due i : ℕ) (p : Params) (leaves : Option Parcel) → b.params ≡ p → ((q : Parcel) → leaves ≡ Some q → q.i ≡ i) → IsOfService p i (moving_from b n due leaves)
 of_service b n due i p None params here = tt
@@ -128,10 +129,10 @@ module _ (w w' : Cpu) (b : BooksView) (scans i : ℕ) (H : List Entry) (e : Entr
   here_if true h = tt
   here_if false h = is.stays_so h
 
-  pub goes_desk : Owes [] w' b' → scans ≤ scans_in b'.journal → IsDesk w' (departed b' leaves) scans
+  pub goes_desk : Owes [] w' b' → scans ≡ capped (scans_in b'.journal) → IsDesk w' (departed b' leaves) scans
   goes_desk owes counted = subst (λ (v : BooksView). IsDesk w' v scans) (sym departed_now) record {
     of = of_changed w w' b i desk.of desk.stand within (cond go None (Some now)) history_now b'.journal is.here turns is.turns_are is.cpu;
     stand = stand_after w w' b i desk.of desk.stand within (cond go None (Some now)) history_now b'.journal is.here (stands_if go) (here_if go refl);
     shown = subst (Owes [] w') departed_now (owes_departed b' w' leaves owes);
-    counted = subst (λ (v : BooksView). scans ≤ scans_in v.journal) departed_now (scans_departed b' leaves scans counted);
+    counted = subst (λ (v : BooksView). scans ≡ capped (scans_in v.journal)) departed_now (scans_departed b' leaves scans counted);
   }

@@ -1,6 +1,7 @@
 -- What stands behind a lock after its wheel has changed and its books have been written.
-use Rattle.std.proofs.Common.{◌≡◌, ℕ, ◌+◌, ◌≤◌, Bool, cond, List, [], ◌∷◌, ◌++◌, length, refl, sym, ap, ◌∙◌, subst, arith, length-append}
+use Rattle.std.proofs.Common.{◌≡◌, ℕ, ◌+◌, Bool, true, false, cond, List, [], ◌∷◌, ◌++◌, length, refl, sym, ap, ◌∙◌, subst, arith, length-append}
 use Rattle.std.proofs.lemmas.List.Sums.{sum_by-append}
+use Rattle.co_life.specs.Rule.{capped}
 use Rattle.co_object.specs.declared.note.QEntry.{QEntry}
 use Rattle.co_object.specs.declared.queue.QOp.{QOp}
 use Rattle.co_object.specs.declared.queue.QOp.TheVariants.{Scan}
@@ -9,7 +10,7 @@ use Rattle.co_object.specs.Queue.{Queue, empty_queue}
 use Rattle.co_object.proofs.Histories.{state-snoc}
 use Rattle.co_wheel.specs.Callouts.{Callouts, callout}
 use Rattle.co_wheel.specs.Cpu.{Cpu}
-use Rattle.co_wheel.specs.Turns.{Shows, Takes, Turn, Turns}
+use Rattle.co_wheel.specs.Turns.{Shows, Takes, Turn, Turns, free_of, pop_of}
 use Rattle.co_service.specs.Params.{directs}
 use Rattle.co_service.specs.Books.{BooksView, history_at}
 use Rattle.co_service.specs.May.{queue_of}
@@ -43,16 +44,27 @@ scan_weight e = cond (is_scan e.op) 1 0
 scans-append : (J : List QEntry) (e : QEntry) → scans_in (J ++ e ∷ []) ≡ scans_in J + scans_in (e ∷ [])
 scans-append J e = sum_by-append scan_weight J (e ∷ [])
 
--- an entry more takes no Scan away
-pub scans_more : (b : BooksView) (e : QEntry) → scans_in b.journal ≤ scans_in (with_turn b e).journal
-scans_more b e = let more = scans-append b.journal e in omega arith
+-- an entry that is no Scan leaves their number as it is
+pub scans_same : (b : BooksView) (e : QEntry) → is_scan e.op ≡ false → scans_in (with_turn b e).journal ≡ scans_in b.journal
+scans_same b e none =
+    let more = scans-append b.journal e in
+    let zero : scan_weight e ≡ 0 = ap (λ (x : Bool). cond x 1 0) none in
+    omega arith
+
+pub pops_no_scan : (direct : Bool) → is_scan (pop_of direct) ≡ false
+pops_no_scan false = refl
+pops_no_scan true = refl
+
+pub frees_no_scan : (direct : Bool) → is_scan (free_of direct) ≡ false
+frees_no_scan false = refl
+frees_no_scan true = refl
 
 one_scan : (e : QEntry) (now : ℕ) → e.op ≡ Scan now → scans_in (e ∷ []) ≡ 1
 one_scan e now is = let h : scan_weight e ≡ 1 = ap (λ (o : QOp). cond (is_scan o) 1 0) is in omega arith
 
 -- after a scan
-pub scanned_desk : (w w' : Cpu) (b : BooksView) (scans scans' : ℕ) (e : QEntry) (now : ℕ) → IsDesk w b scans → w'.callouts ≡ w.callouts → Turns w ((e.op, e.reply) ∷ []) w' → e.op ≡ Scan now → scans' ≤ scans + 1 → IsDesk w' (with_turn b e) scans'
-scanned_desk w w' b scans scans' e now desk same ts is few = record {
+pub scanned_desk : (w w' : Cpu) (b : BooksView) (scans scans' : ℕ) (e : QEntry) (now : ℕ) → IsDesk w b scans → w'.callouts ≡ w.callouts → Turns w ((e.op, e.reply) ∷ []) w' → e.op ≡ Scan now → scans' ≡ capped (scans + 1) → IsDesk w' (with_turn b e) scans'
+scanned_desk w w' b scans scans' e now desk same ts is one_more = record {
   of = (let of = of_after w w' b _ desk.of ts (ap (λ (c : Callouts). c.cpu) same) (ap (λ (c : Callouts). length c.here) same) in record { cpu = of.cpu; size = of.size; buckets = of.buckets; direct = of.direct });
   stand = record {
     each = λ i. subst (λ (c : Callouts). StandsAs b.params i (callout c i) (history_at b i)) (sym same) (desk.stand.each i);

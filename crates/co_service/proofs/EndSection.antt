@@ -1,8 +1,9 @@
 -- The section of an end on a desk: what its wheel, its books and its caller have after it.
-use Rattle.std.proofs.Common.{◌≡◌, ℕ, ◌≤◌, ◌==◌, Bool, true, false, cond, List, [], ◌∷◌, ◌++◌, refl, sym, ap, ◌∙◌, subst, arith}
+use Rattle.std.proofs.Common.{◌≡◌, ℕ, ◌==◌, Bool, true, false, cond, List, [], ◌∷◌, ◌++◌, refl, sym, ap, ◌∙◌, subst, arith}
 use Rattle.std.specs.Prelude.{is_some}
 use Rattle.std.specs.declared.option.Option.{Option}
 use Rattle.std.specs.declared.option.Option.TheVariants.{Some, None}
+use Rattle.co_life.specs.Rule.{capped}
 use Rattle.co_object.specs.declared.alone.Alone.{Alone}
 use Rattle.co_object.specs.declared.note.Entry.{Entry}
 use Rattle.co_object.specs.declared.note.QEntry.{QEntry}
@@ -37,7 +38,7 @@ use Rattle.co_service.specs.declared.params.Params.{Params}
 use Rattle.co_service.specs.Params.{directs, spec_at}
 use Rattle.co_service.specs.Books.{BooksView, entries_in, entries_at, with_history}
 use Rattle.co_service.specs.Call.{Target, notes_in, target_in}
-use Rattle.co_service.specs.Desk.{IsDesk, Owes, alone_after, scans_in}
+use Rattle.co_service.specs.Desk.{IsDesk, Owes, alone_after, is_scan, scans_in}
 use Rattle.co_service.specs.May.{MayHappen, queue_of}
 use Rattle.co_service.specs.Moving.{MayDepart, departed, moving_from, target_of, IsOfService}
 use Rattle.co_service.specs.Services.{IsEndedBut, next_due, next_number, next_target, run_entry, target_of_next}
@@ -46,7 +47,7 @@ use Rattle.co_service.specs.Serving.{Runs}
 use Rattle.co_service.specs.Views.{PassesView}
 use Rattle.co_service.specs.Writes.{WritesCpu, WritesTimer}
 use Rattle.co_service.proofs.CalledDesk.{alone_then}
-use Rattle.co_service.proofs.DeskKept.{owes_next, owes_turns, scans_more, with_turn}
+use Rattle.co_service.proofs.DeskKept.{owes_next, owes_turns, frees_no_scan, scans_same, with_turn}
 use Rattle.co_service.proofs.Noting.{cpu_noted, one_note, timer_noted}
 use Rattle.co_service.proofs.Departing.{Goes, IsLeaving, goes_desk, goes_of_service, may_depart, target_same}
 use Rattle.co_service.proofs.ServedDesk.{IsOver, at_over, changed_so, cpu_then, here_then, is_over, moved_to, one_of, some_of}
@@ -178,7 +179,7 @@ module _ (lane : Bool) (w w' : Cpu) (b : BooksView) (scans : ℕ) (p : PassesVie
       pub may_leave : MayDepart b' (next_number out.reply) (next_due out.reply) out.leaves
       may_leave = may_depart w w' b scans d.i H entry now go out.leaves (next_number out.reply) (next_due out.reply) ((free_of lane, Freed) ∷ []) is.desk goes_now b' wrote
 
-      pub ended_desk : Owes [] w' b' → scans ≤ scans_in b'.journal → IsDesk w' (departed b' out.leaves) scans
+      pub ended_desk : Owes [] w' b' → scans ≡ capped (scans_in b'.journal) → IsDesk w' (departed b' out.leaves) scans
       ended_desk = goes_desk w w' b scans d.i H entry now go out.leaves (next_number out.reply) (next_due out.reply) ((free_of lane, Freed) ∷ []) is.desk goes_now b' wrote
 
       pub ended_service : (r : Params) → b.params ≡ r → IsOfService r d.i (moving_from b' (next_number out.reply) (next_due out.reply) out.leaves)
@@ -203,10 +204,10 @@ module _ (lane : Bool) (w w' : Cpu) (b : BooksView) (scans : ℕ) (p : PassesVie
         owes_last : Owes [] w' b''
         owes_last = subst (Owes [] w') (sym second) (owes_next b' e [] w' (subst (λ (t : QOp × QReply). Owes (t ∷ []) w' b') (λ k. (sym op_is k, sym freed k)) owes_then))
 
-        counted_last : scans ≤ scans_in b''.journal
+        counted_last : scans ≡ capped (scans_in b''.journal)
         counted_last =
-            let few = is.desk.counted in
-            let more = scans_more b' e in
+            let before = is.desk.counted in
+            let kept = scans_same b' e (ap is_scan op_is ∙ frees_no_scan lane) in
             let same : scans_in b'.journal ≡ scans_in b.journal = ap (λ (v : BooksView). scans_in v.journal) first in
             let last : scans_in b''.journal ≡ scans_in (with_turn b' e).journal = ap (λ (v : BooksView). scans_in v.journal) second in
             omega arith

@@ -1,10 +1,11 @@
 -- A desk before the first call.
-use Rattle.std.proofs.Common.{◌≡◌, ℕ, ◌<◌, ◌≤◌, ◌⊎◌, inl, inr, true, false, List, length, refl, sym, ap, ◌∙◌, subst, arith}
+use Rattle.std.proofs.Common.{◌≡◌, ℕ, ◌<◌, ◌≤◌, ◌⊎◌, inl, inr, true, false, List, length, refl, sym, ap, ◌∙◌, subst}
 use Rattle.std.specs.Prelude.{nat_le, slice_index_or}
 use Rattle.std.specs.declared.option.Option.{Option}
 use Rattle.std.specs.declared.option.Option.TheVariants.{None}
 use Rattle.std.proofs.lemmas.Bool.Decides.{leb_tells}
 use Rattle.std.proofs.lemmas.List.{length-map}
+use Rattle.co_life.specs.Rule.{capped}
 use Rattle.co_life.specs.Views.{KeeperView}
 use Rattle.co_object.specs.declared.alone.Alone.{Alone}
 use Rattle.co_object.specs.declared.note.Entry.{Entry}
@@ -21,7 +22,7 @@ use Rattle.co_service.specs.declared.params.Params.{Params}
 use Rattle.co_service.specs.declared.line.Line.{Line}
 use Rattle.co_service.specs.Books.{BooksView, books_of, history_at, kept_of}
 use Rattle.co_service.specs.Booted.{IsBench, come_to}
-use Rattle.co_service.specs.Desk.{IsHere, IsDesk, StandsAs}
+use Rattle.co_service.specs.Desk.{IsHere, IsDesk, StandsAs, scans_in}
 use Rattle.co_service.specs.Name.{ServiceName}
 use Rattle.co_service.specs.Params.{directs}
 use Rattle.co_service.proofs.Writing.{index-map}
@@ -61,5 +62,5 @@ module _ (name : ServiceName) (p : Params) (cpu : ℕ) (w : Cpu) (ks : List (Opt
         directing = sym is.wheel.directing;
       };
     };
-    counted = omega arith;
+    counted = ap (λ (J : List QEntry). capped (scans_in J)) (sym is.nothing);
   }

@@ -16,11 +16,11 @@ use Rattle.co_wheel.specs.Cpu.{Cpu}
 use Rattle.co_wheel.specs.Parcel.{Parcel}
 use Rattle.co_wheel.specs.Sections.{IsLanding}
 use Rattle.co_service.specs.Books.{BooksView, is_kept}
-use Rattle.co_service.specs.Desk.{IsAt, IsDesk, Owes, alone_after}
+use Rattle.co_service.specs.Desk.{IsAt, IsDesk, Owes, alone_after, is_scan}
 use Rattle.co_service.proofs.CallJoined.{idle_free}
 use Rattle.co_service.proofs.CallKept.{some_off}
 use Rattle.co_service.proofs.CalledDesk.{of_changed, stand_after}
-use Rattle.co_service.proofs.DeskKept.{owes_next, owes_turns, scans_more}
+use Rattle.co_service.proofs.DeskKept.{owes_next, owes_turns, scans_same}
 
 -- what comes to a desk: its state is what its history gives, no service has it, and it is armed at this CPU
 pub record Comes (b : BooksView) (parcel : Parcel) (H : List Entry) (n due : ℕ) : Type 0 where
@@ -50,7 +50,7 @@ module _ (w : Cpu) (b : BooksView) (scans : ℕ) (parcel : Parcel) (H : List Ent
       of = of_changed w w' b parcel.i desk.of desk.stand is.below (Some parcel.callout) (Some H) (b.journal ++ e ∷ []) here_now _ lands.queue (ap (λ (c : Callouts). c.cpu) lands.callouts);
       stand = stand_after w w' b parcel.i desk.of desk.stand is.below (Some parcel.callout) (Some H) (b.journal ++ e ∷ []) here_now is.callout_is at_here;
       shown = record { takes = (owes_next b e [] w' (subst (λ (t : QOp × QReply). Owes (t ∷ []) w' b) (λ d. (sym op d, sym reply d)) owes_insert)).takes };
-      counted = let more = scans_more b e in let few = desk.counted in omega arith;
+      counted = let same = scans_same b e (ap is_scan op) in let before = desk.counted in omega arith;
     } where
       here_now : w'.callouts.here ≡ set w.callouts.here parcel.i (Some parcel.callout)
       here_now = ap (λ (c : Callouts). c.here) lands.callouts

@@ -1,6 +1,6 @@
 -- What an actor has in service after each call of a service.
 use Rattle.std.specs.Prelude.{slice_index_or}
-use Rattle.std.proofs.Common.{◌≡◌, ℕ, zero, suc, ℤ, ◌==◌, Bool, true, false, cond, List, [], ◌∷◌, ◌++◌, map, refl, sym, ap, ◌∙◌, subst}
+use Rattle.std.proofs.Common.{◌≡◌, ℕ, zero, suc, ℤ, ◌==◌, Bool, true, false, cond, List, [], ◌∷◌, map, refl, sym, ap, ◌∙◌, subst}
 use Rattle.std.specs.declared.option.Option.{Option}
 use Rattle.std.specs.declared.option.Option.TheVariants.{Some, None}
 use Rattle.co_life.specs.Identity.{LifeId}
@@ -11,8 +11,8 @@ use Rattle.co_object.specs.declared.note.Note.{Note}
 use Rattle.co_object.specs.declared.note.Place.TheVariants as at
 use Rattle.co_object.specs.declared.op.CallOp.{CallOp}
 use Rattle.co_object.specs.declared.op.Op.TheVariants.{Call}
-use Rattle.co_object.specs.declared.op.RunOp.TheVariants.{Begin, End, Pick}
-use Rattle.co_object.specs.declared.queue.QOp.TheVariants.{Insert, Remove, Scan, Pop, PopDirect, Free, FreeDirect}
+use Rattle.co_object.specs.declared.op.RunOp.TheVariants.{Pick}
+use Rattle.co_object.specs.declared.queue.QOp.TheVariants.{Insert, Remove, Scan}
 use Rattle.co_object.specs.declared.queue.QReply.TheVariants.{At, Count, Freed, Got, Off, Empty as Nothing}
 use Rattle.co_object.specs.declared.reply.Reply.{Reply}
 use Rattle.co_object.specs.declared.reply.Reply.TheVariants.{Armed, NotArmed, NoHandler, Worn, Stopped, Wait, Drained, Busy, Yes, No, Done, Go, Hold, Skip, Ended, Live, Retired, InUse}
@@ -30,7 +30,7 @@ use Rattle.co_service.specs.declared.outs.Taken.{Taken}
 use Rattle.co_service.specs.declared.outs.Taken.TheVariants.{Empty, Took}
 use Rattle.co_service.specs.declared.outs.Made.{Made}
 use Rattle.co_service.specs.Booted.{booted}
-use Rattle.co_service.specs.Call.{IsCalled, Target, call_entry, landing, notes_in, removal_notes}
+use Rattle.co_service.specs.Call.{IsCalled, Target, landing, notes_in, removal_notes}
 use Rattle.co_service.specs.Name.{ServiceName}
 use Rattle.co_service.specs.declared.params.Params.{Params}
 use Rattle.co_service.specs.Outcomes.{IsScan, turn}
@@ -39,7 +39,6 @@ use Rattle.co_service.specs.Services.{AreSame, HasNext, IsBegun, IsEnded, IsFree
 use Rattle.co_service.specs.Serving.{Runs, Service, Waits, begun, lane_actor, picked, served, served_in}
 use Rattle.co_service.specs.Stories.{queue_by}
 use Rattle.co_service.specs.Views.{PassesView, seen_of}
-use Rattle.co_service.specs.Writes.{Writes}
 use Rattle.co_service.proofs.CallGroup.{entry_of, group_listed, head, listed_notes, unarmed_group}
 use Rattle.co_service.proofs.Lasting.{AreQuiet, free_still, gone_by, goes, is_free, is_serving, quiet-append, quiet_turns, serving_still, turned_by, turns}
 use Rattle.co_service.proofs.WholeCall.{writes_keep}

@@ -27,7 +27,6 @@ pub mod MetDesk
 pub mod WholeCall
 pub mod Lasting
 pub mod Lasts
-pub mod Stages
 pub mod LandSection
 pub mod Signing
 pub mod Joined
@@ -36,3 +35,4 @@ pub mod FirstDesk
 pub mod SetUp
 pub mod Benches
 pub mod Ended
+pub mod Crews

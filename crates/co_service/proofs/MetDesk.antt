@@ -1,14 +1,18 @@
 -- A desk that the caller has met: what its own entries say is so behind the lock.
-use Rattle.std.proofs.Common.{◌≡◌, ℕ, Bool, true, List, sym, ap, ◌∙◌, subst}
+use Rattle.std.proofs.Common.{◌≡◌, ℕ, Bool, true, List, refl, sym, ap, ◌∙◌, subst}
+use Rattle.std.specs.Prelude.{is_some}
+use Rattle.std.specs.declared.option.Option.{Option}
 use Rattle.std.specs.declared.option.Option.TheVariants.{Some, None}
 use Rattle.co_life.specs.Seen.{own}
+use Rattle.co_object.specs.declared.alone.Alone.{Alone}
 use Rattle.co_object.specs.declared.note.Entry.{Entry}
 use Rattle.co_object.specs.Queue.{Due}
-use Rattle.co_wheel.specs.Callouts.{in_service}
+use Rattle.co_wheel.specs.Callouts.{callout, in_service, is_here}
 use Rattle.co_wheel.specs.Cpu.{Cpu}
+use Rattle.co_service.specs.declared.params.Params.{Params}
 use Rattle.co_service.specs.Params.{actors_of}
 use Rattle.co_service.specs.Books.{BooksView, history_at, entries_at, is_kept}
-use Rattle.co_service.specs.Desk.{IsDesk}
+use Rattle.co_service.specs.Desk.{IsDesk, StandsAs}
 use Rattle.co_service.specs.Seats.{IsShown}
 use Rattle.co_service.specs.Services.{IsFree, IsServing}
 use Rattle.co_service.specs.Serving.{Service, lane_actor, served_in}
@@ -42,6 +46,12 @@ module _ (w : Cpu) (b : BooksView) (scans cpu : ℕ) (p : PassesView) (m : Meets
   pub serves_one : (lane : Bool) (d e : Due) (far : Service) → IsServing lane p cpu d far → Some e ≡ in_service lane w.callouts → e ≡ d
   serves_one lane d e far is some = one_of e d (some ∙ (in_lane_now lane is.actor ∙ is.serves))
 
+  -- a lane that has something in service has it there
+  pub serves_some : (lane : Bool) (d : Due) (far : Service) → IsServing lane p cpu d far → None ≡ in_service lane w.callouts → ⊥
+  serves_some lane d far is none =
+      let never : None ≡ Some d = none ∙ (in_lane_now lane is.actor ∙ is.serves) in
+      cc
+
   pub served_now : (lane : Bool) (d e : Due) (far : ℕ → Service) → IsServing lane p cpu d (far d.n) → Some e ≡ in_service lane w.callouts → is_kept b e.i ≡ true → IsHistory b.params e.i (entries_at b e.i)
       → IsShown by p.actor (entries_at b e.i) (seen_of p e.i) → (H : List Entry) × IsServed lane w b scans p e (far e.n) H
   served_now lane d e far is some kept legal shown =
@@ -58,6 +68,16 @@ module _ (w : Cpu) (b : BooksView) (scans cpu : ℕ) (p : PassesView) (m : Meets
           kept = found.1;
         },
       )
+
+kept_there : (p : Params) (i : ℕ) (o : Option Alone) (h : Option (List Entry)) → StandsAs p i o h → is_some o ≡ true → is_some h ≡ true
+kept_there p i None h st here = absurd (cc)
+kept_there p i (Some a) None st here = absurd st
+kept_there p i (Some a) (Some H) st here = refl
+
+-- a record that is here has its history here
+pub here_kept : (w : Cpu) (b b' : BooksView) (scans i : ℕ) → IsDesk w b scans → b' ≡ b → is_here w.callouts i ≡ true → is_kept b' i ≡ true
+here_kept w b b' scans i desk kept here =
+    ap (λ (v : BooksView). is_kept v i) kept ∙ kept_there b.params i (callout w.callouts i) (history_at b i) (desk.stand.each i) here
 
 -- the same after a meeting, which changes nothing
 pub meets_then : (w : Cpu) (b b' : BooksView) (scans cpu : ℕ) (p p' : PassesView) → Meets w b scans cpu p → b' ≡ b → p' ≡ p → Meets w b' scans cpu p'

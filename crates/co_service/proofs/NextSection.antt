@@ -1,8 +1,9 @@
 -- The section of a pop on a desk: what its wheel and its books have after it.
-use Rattle.std.proofs.Common.{◌≡◌, ℕ, ◌≤◌, Bool, true, false, List, [], ◌∷◌, ◌++◌, length, set, refl, sym, ap, ◌∙◌, subst, arith}
+use Rattle.std.proofs.Common.{◌≡◌, ◌||◌, ℕ, Bool, true, false, List, [], ◌∷◌, ◌++◌, length, set, refl, sym, ap, ◌∙◌, subst, arith}
 use Rattle.std.specs.Prelude.{is_some, slice_set}
 use Rattle.std.specs.declared.option.Option.{Option}
 use Rattle.std.specs.declared.option.Option.TheVariants.{Some, None}
+use Rattle.co_life.specs.Rule.{capped}
 use Rattle.co_life.specs.Seen.{own}
 use Rattle.co_object.specs.declared.alone.Alone.{Alone}
 use Rattle.co_object.specs.declared.note.Entry.{Entry}
@@ -23,7 +24,7 @@ use Rattle.co_wheel.specs.Sections.{IsNext}
 use Rattle.co_wheel.specs.Service.{moved_on, pick_outcome, pick_it}
 use Rattle.co_service.specs.Params.{actors_of, directs, spec_at}
 use Rattle.co_service.specs.Books.{BooksView, history_at, entries_in}
-use Rattle.co_service.specs.Desk.{IsAt, IsHere, IsDesk, Owes, StandsAs, alone_after, scans_in}
+use Rattle.co_service.specs.Desk.{IsAt, IsHere, IsDesk, Owes, StandsAs, alone_after, is_entry, is_scan, scans_in, services}
 use Rattle.co_service.specs.May.{queue_of}
 use Rattle.co_service.specs.Seats.{IsShown}
 use Rattle.co_service.specs.Services.{MayPick, picked_histories, pop_entry, run_entry}
@@ -31,7 +32,7 @@ use Rattle.co_service.specs.Serving.{lane_actor, served_in, slot}
 use Rattle.co_service.specs.Stories.{IsJournal, queue_by}
 use Rattle.co_service.specs.Views.{PassesView}
 use Rattle.co_service.proofs.CalledDesk.{alone_then, of_changed, stand_after, within_history}
-use Rattle.co_service.proofs.DeskKept.{of_after, owes_next, owes_turns, scans_more}
+use Rattle.co_service.proofs.DeskKept.{of_after, owes_next, owes_turns, pops_no_scan, scans_same}
 use Rattle.co_service.proofs.Lanes.{direct_spec, popped_lane}
 use Rattle.co_service.proofs.ServedDesk.{at_picked, changed_so, cpu_then, here_then, history_of, lane_server, one_of}
 use Rattle.co_service.proofs.Serving.{slot_by_own}
@@ -40,6 +41,11 @@ use Rattle.co_service.proofs.Serving.{slot_by_own}
 pub slot_shown : (lane : Bool) (w : Cpu) (b : BooksView) → Owes [] w b → slot lane (queue_of b) ≡ in_service lane w.callouts
 slot_shown false w b o = o.takes.serving
 slot_shown true w b o = o.takes.directing
+
+-- whether a desk has an arming in service its journal says
+pub has_service : (w : Cpu) (b : BooksView) (i n : ℕ) (x : Bool) → Owes [] w b → false ≡ is_entry w.callouts.serving i n → x ≡ is_entry w.callouts.directing i n → x ≡ services (queue_of b) i n
+has_service w b i n x o none is =
+    is ∙ ((λ k. none k || is_entry w.callouts.directing i n) ∙ (λ k. is_entry (sym o.takes.serving k) i n || is_entry (sym o.takes.directing k) i n))
 
 pub service_is : (lane : Bool) (w : Cpu) (b : BooksView) (scans actor : ℕ) (seen : List QEntry) → IsDesk w b scans → IsJournal b.params b.cpu b.journal → actor ≡ lane_actor lane (actors_of b.params) b.cpu → IsShown queue_by actor b.journal seen
     → in_service lane w.callouts ≡ served_in lane (own queue_by actor seen)
@@ -78,8 +84,8 @@ module _ (w w' : Cpu) (b : BooksView) (scans : ℕ) (direct : Bool) (p : PassesV
   abbrev books_after : NextOut → BooksView
   books_after out = record b { timers = picked_histories b p act out; journal = b.journal ++ pop_entry direct p act out ∷ [] }
 
-  counted_after : (e : QEntry) → scans ≤ scans_in (b.journal ++ e ∷ [])
-  counted_after e = let more = scans_more b e in let few = desk.counted in omega arith
+  counted_after : (e : QEntry) → is_scan e.op ≡ false → scans ≡ capped (scans_in (b.journal ++ e ∷ []))
+  counted_after e none = let same = scans_same b e none in let before = desk.counted in omega arith
 
   desk_empty : IsNext direct w w' Empty → IsDesk w' (books_after Empty) scans
   desk_empty is = record {
@@ -89,7 +95,7 @@ module _ (w w' : Cpu) (b : BooksView) (scans : ℕ) (direct : Bool) (p : PassesV
       here = λ i. subst (λ (c : Callouts). IsHere b.cpu (callout c i)) (sym is.callouts) (desk.stand.here i);
     };
     shown = owes_next b (pop_entry direct p act Empty) [] w' (owes_pop Empty is);
-    counted = counted_after (pop_entry direct p act Empty);
+    counted = counted_after (pop_entry direct p act Empty) (pops_no_scan direct);
   }
 
   module _ (i n time : ℕ) (reply : Reply) (is : IsNext direct w w' (Took i n time reply)) where
@@ -143,7 +149,7 @@ module _ (w w' : Cpu) (b : BooksView) (scans : ℕ) (direct : Bool) (p : PassesV
         of = of_changed w w' b i desk.of desk.stand (within_history b.timers i H kept) (Some alone_now) (Some (H ++ entry ∷ [])) (b.journal ++ pop_entry direct p act (Took i n time reply) ∷ []) here_now (popping direct (Took i n time reply)) is.queue cpu_now;
         stand = stand_after w w' b i desk.of desk.stand (within_history b.timers i H kept) (Some alone_now) (Some (H ++ entry ∷ [])) (b.journal ++ pop_entry direct p act (Took i n time reply) ∷ []) here_now stands_now at_now;
         shown = record { takes = (owes_next b (pop_entry direct p act (Took i n time reply)) [] w' (owes_pop (Took i n time reply) is)).takes };
-        counted = counted_after (pop_entry direct p act (Took i n time reply));
+        counted = counted_after (pop_entry direct p act (Took i n time reply)) (pops_no_scan direct);
       }
 
       desk_took : IsDesk w' (books_after (Took i n time reply)) scans

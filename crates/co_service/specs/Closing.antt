@@ -1,7 +1,7 @@
 -- The end of a service: the final histories.
-use Rattle.std.specs.Prelude.{◌≡◌, ℕ, ◌<◌, ◌≤◌, List, [], length, slice_get}
+use Rattle.std.specs.Prelude.{◌≡◌, ◌==◌, ℕ, ◌<◌, ◌≤◌, List, [], length, slice_get}
 use Rattle.std.specs.declared.option.Option.TheVariants.{Some}
-use Rattle.std.specs.List.{All}
+use Rattle.std.specs.List.{All, count_by}
 use Rattle.co_life.specs.Views.{KeeperView}
 use Rattle.co_object.specs.declared.note.Entry.{Entry}
 use Rattle.co_object.specs.declared.note.QEntry.{QEntry}
@@ -51,6 +51,14 @@ ShowsCpu J cpu q = IsShown queue_by q.actor J (journal_seen q cpu)
 pub record AreAll (name : ServiceName) (p : Params) (all : List PassesView) : Type 0 where
   pub count : length all ≡ actor_count p
   pub of : All (AreOf name p) all
+
+-- how many of these passes are an actor's
+abbrev pub of_actor : List PassesView → ℕ → ℕ
+of_actor all actor = count_by (λ (q : PassesView). q.actor == actor) all
+
+-- each actor's passes are among these, once
+pub record HasEach (p : Params) (all : List PassesView) : Type 0 where
+  pub once : (actor : ℕ) → actor < actor_count p → of_actor all actor ≡ 1
 
 -- a final history of callout i, by one actor's passes
 pub record EndsTimer (H : List Entry) (i : ℕ) (q : PassesView) : Type 0 where

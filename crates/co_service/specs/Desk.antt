@@ -1,14 +1,16 @@
 -- What a desk keeps: its wheel is what its books say.
-use Rattle.std.specs.Prelude.{◌≡◌, ℕ, ◌≤◌, true, Bool, false, List, [], length}
+use Rattle.std.specs.Prelude.{◌≡◌, ℕ, ◌==◌, ◌&&◌, ◌||◌, true, Bool, false, List, [], length}
 use Rattle.std.specs.List.{count_by}
 use Rattle.std.specs.declared.option.Option.{Option}
 use Rattle.std.specs.declared.option.Option.TheVariants.{Some, None}
+use Rattle.co_life.specs.Rule.{capped}
 use Rattle.co_object.specs.declared.alone.Alone.{Alone}
 use Rattle.co_object.specs.declared.note.Entry.{Entry}
 use Rattle.co_object.specs.declared.note.QEntry.{QEntry}
 use Rattle.co_object.specs.declared.queue.QOp.{QOp}
 use Rattle.co_object.specs.declared.queue.QOp.TheVariants.{Scan}
 use Rattle.co_object.specs.History.{state}
+use Rattle.co_object.specs.Queue.{Due, Queue}
 use Rattle.co_object.specs.Stand.{is_free_at, off}
 use Rattle.co_wheel.specs.Callouts.{callout}
 use Rattle.co_wheel.specs.Cpu.{Cpu}
@@ -46,6 +48,14 @@ is_scan _ = false
 abbrev pub scans_in : List QEntry → ℕ
 scans_in J = count_by (λ e. is_scan e.op) J
 
+abbrev pub is_entry : Option Due → (i n : ℕ) → Bool
+is_entry None i n = false
+is_entry (Some d) i n = d.i == i && d.n == n
+
+-- a plain queue has callout i in service, for its arming n: the CPU's, or its interrupt's
+abbrev pub services : Queue → (i n : ℕ) → Bool
+services q i n = is_entry q.serving i n || is_entry q.directing i n
+
 -- the wheel's numbers are the books'
 pub record IsOf (w : Cpu) (b : BooksView) : Type 0 where
   pub cpu : w.callouts.cpu ≡ b.cpu
@@ -66,4 +76,4 @@ pub record IsDesk (w : Cpu) (b : BooksView) (scans : ℕ) : Type 0 where
   pub of : IsOf w b
   pub stand : Stand w b
   pub shown : Owes [] w b
-  pub counted : scans ≤ scans_in b.journal
+  pub counted : scans ≡ capped (scans_in b.journal)

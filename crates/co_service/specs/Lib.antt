@@ -16,4 +16,4 @@ pub mod Services
 pub mod Booted
 pub mod Fresh
 pub mod Closing
-pub mod Scenes
+pub mod Crew

@@ -1,5 +1,5 @@
 //! What a call writes in the books of a desk.
-ghost use Rattle.std.specs.Prelude.{◌≡◌, ◌≤◌, ℕ, [], ◌∷◌, ◌++◌, List, map, is_some, true, false};
+ghost use Rattle.std.specs.Prelude.{◌≡◌, ℕ, [], ◌∷◌, ◌++◌, List, map, is_some, true, false};
 ghost use Rattle.std.specs.declared.option.Option.TheVariants.{Some, None};
 ghost use Rattle.co_object.specs.declared.note.AnyEntry.TheVariants as of;
 ghost use Rattle.co_object.specs.declared.note.Entry.{Entry};
@@ -43,7 +43,7 @@ pub(crate) fn write_removal<N: Name>(
     ensures books { books.new ≡ record books.old { journal = books.new.journal } }
     ensures written { Writes passes.old (noted result) passes.new }
     ensures timers { passes.new.timers ≡ passes.old.timers }
-    ensures grows { scans_in books.old.journal ≤ scans_in books.new.journal }
+    ensures scans { scans_in books.new.journal ≡ scans_in books.old.journal }
     ensures placed { (e : Entry) → e.actor ≡ passes.old.actor → e.act ≡ act → map placed (noted result) ≡ removal_notes i e (off_of reply.now) }
     ensures goes_on { (turns : List Turn) (w : Cpu) → Owes (removal i (off_of reply.now) ++ turns) w books.old → Owes turns w books.new }
 {
@@ -100,7 +100,7 @@ pub(crate) fn write_insertion<N: Name>(
     ensures books { books.new ≡ record books.old { journal = books.new.journal } }
     ensures written { Writes passes.old (noted result) passes.new }
     ensures timers { passes.new.timers ≡ passes.old.timers }
-    ensures grows { scans_in books.old.journal ≤ scans_in books.new.journal }
+    ensures scans { scans_in books.new.journal ≡ scans_in books.old.journal }
     ensures none { inserted ≡ None → result ≡ None }
     ensures placed { map placed (noted result) ≡ insertion_notes passes.old act books.old.cpu i n due inserted }
     ensures goes_on { (w : Cpu) → Owes (insert_turns i n due inserted) w books.old → Owes [] w books.new }
@@ -155,7 +155,7 @@ pub(crate) fn write_group<N: Name>(
     ensures written { Writes passes.old (notes_in result) passes.new }
     ensures placed { map placed (notes_in result) ≡ section_notes passes.old act books.old.cpu i op.now out.now.reply out.now.inserted }
     ensures seen { seen_of passes.new i ≡ entries_at books.old i ++ call_entry passes.old act op.now out.now.reply ∷ [] }
-    ensures grows { scans_in books.old.journal ≤ scans_in books.new.journal }
+    ensures scans { scans_in books.new.journal ≡ scans_in books.old.journal }
     ensures room { out.now.inserted ≡ None → HasRoom result }
     ensures goes_on { (w : Cpu) → Owes (call_turns i op.now out.now.reply out.now.inserted) w books.old → Owes [] w books.new }
 {

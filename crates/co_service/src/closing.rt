@@ -1,9 +1,9 @@
 //! The end of a service.
-ghost use Rattle.std.specs.Prelude.{◌≡◌, ◌<◌, ◌≤◌, ◌^◌, [], IfOk, length, map, slice_get};
+ghost use Rattle.std.specs.Prelude.{◌≡◌, ◌<◌, ◌≤◌, ◌^◌, ℕ, [], IfOk, length, map, slice_get};
 ghost use Rattle.std.specs.List.{All};
 ghost use Rattle.std.specs.declared.option.Option.TheVariants.{Some};
 ghost use Rattle.co_service.specs.declared.params.Params.{Params};
-ghost use Rattle.co_service.specs.Closing.{EndCpus, EndTimers, EndsCpu, EndsTimer, MeetsCpu, MeetsTimer};
+ghost use Rattle.co_service.specs.Closing.{EndCpus, EndTimers, EndsCpu, EndsTimer, MeetsCpu, MeetsTimer, of_actor};
 ghost use Rattle.co_service.specs.Lines.{made, opening_of};
 ghost use Rattle.co_service.specs.Stories.{IsHistory, IsJournal};
 ghost use Rattle.co_service.specs.Views.{IsKeeperOf};
@@ -72,6 +72,40 @@ impl Model for Closing {
     ghost Value = { ClosingView };
 
     ghost view = { λ c. record { name = c.name.value; timers = map made c.timers; cpus = map made c.cpus } };
+}
+
+/// How many of these passes are an actor's.
+fn count_of(passes: &Vec<Passes>, actor: usize) -> usize
+    ensures { result ≡ of_actor passes.now.items actor }
+{
+    let mut count = 0;
+    for at in 0..passes.len() {
+        if passes[at].actor() as usize == actor {
+            count += 1;
+        }
+    }
+    count
+}
+
+/// An actor has one of these passes. It waits where the actor has none or two.
+fn check_one<R: Wait>(rt: &R, passes: &Vec<Passes>, actor: usize)
+    ensures { of_actor passes.now.items actor ≡ 1 }
+{
+    for _ in rt.forever() {
+        if count_of(passes, actor) == 1 {
+            return;
+        }
+    }
+    unreachable!()
+}
+
+/// Each actor below the number of these passes has one of them.
+pub(crate) fn check_each<R: Wait>(rt: &R, passes: &Vec<Passes>)
+    ensures { (actor : ℕ) → actor < length passes.now.items → of_actor passes.now.items actor ≡ 1 }
+{
+    for actor in 0..passes.len() {
+        check_one(rt, passes, actor);
+    }
 }
 
 /// Takes the keeper of callout `i` from the books where it is. It is asked for again where none has it.

@@ -1,7 +1,8 @@
 //! What one lock guards.
-ghost use Rattle.std.specs.Prelude.{◌≡◌, ◌<◌, ◌+◌, ◌^◌, [], ◌∷◌, ◌++◌, List, IfSome, IfNone, is_some, length, true};
+ghost use Rattle.std.specs.Prelude.{◌≡◌, ◌≢◌, ◌<◌, ◌+◌, ◌^◌, [], ◌∷◌, ◌++◌, List, IfSome, IfNone, false, is_some, length, true};
 ghost use Rattle.std.specs.declared.option.Option.TheVariants.{Some, None};
 ghost use Rattle.co_object.specs.Journal.{scanner, step, reply_of, IsOfItsActor};
+ghost use Rattle.co_service.specs.Books.{is_kept};
 ghost use Rattle.co_service.specs.Params.{actors_of, directs};
 ghost use Rattle.co_service.specs.Call.{HasRoom, IsAnswer, notes_in};
 ghost use Rattle.co_service.specs.May.{queue_of};
@@ -33,7 +34,7 @@ use std::marker::Model;
 pub(crate) struct Desk<N: Name> {
     pub(crate) wheel: Wheel<WheelQueue>,
     pub(crate) books: Books<N>,
-    /// At most as many Scans the journal has.
+    /// How many Scans the journal has. The count stands still at 2^64 - 1.
     pub(crate) scans: u64,
 }
 
@@ -77,12 +78,19 @@ pub(crate) fn write_turn<N: Name>(
 }
 
 impl<N: Name> Desk<N> {
+    /// The desk's CPU.
+    pub(crate) fn cpu(&self) -> u32
+        ensures { result ≡ self.now.cpu }
+    {
+        self.books.cpu()
+    }
+
     /// The books, where nothing else is wanted any more.
     pub(crate) fn into_books(self) -> Books<N> {
         self.books
     }
 
-    /// What is due at this CPU has come due. None where the desk is of another CPU.
+    /// What is due at this CPU has come due. None where the desk is of another CPU, and there alone.
     pub(crate) fn scan(
         &mut self,
         lives: &Lives<CpuStory>,
@@ -95,6 +103,7 @@ impl<N: Name> Desk<N> {
         requires name { passes.old.name ≡ N.name }
         requires scanner { passes.old.actor ≡ scanner (actors_of passes.old.params) cpu }
         ensures none { IfNone result (passes.new ≡ passes.old) }
+        ensures why { IfNone result (self.old.cpu ≢ cpu) }
         ensures some { IfSome result (λ out. IsScan passes.old cpu act now out passes.new) }
     {
         if self.books.cpu() != cpu {
@@ -121,7 +130,7 @@ impl<N: Name> Desk<N> {
     }
 
     /// A caller's operation on callout `i`: its answer, and the callout where it leaves for another CPU. None where it
-    /// isn't here.
+    /// isn't here, and there alone.
     pub(crate) fn call(
         &mut self,
         places: &Places,
@@ -133,6 +142,7 @@ impl<N: Name> Desk<N> {
         requires places { places.now ≡ N.name }
         requires name { passes.old.name ≡ N.name }
         ensures none { IfNone result (passes.new ≡ passes.old) }
+        ensures why { IfNone result (is_kept self.old i ≡ false) }
         ensures some { IfSome result (λ out. IsAnswer passes.old act i op.now out.0.reply (target_of out.1) (notes_in out.0.notes) passes.new) }
         ensures leaves { IfSome result (λ out. IsOfService passes.old.params i out.1) }
         ensures room { IfSome result (λ out. is_some out.1 ≡ true → HasRoom out.0.notes) }

@@ -1,6 +1,7 @@
 //! A service before its locks.
 ghost use Rattle.std.specs.Prelude.{◌≡◌, ◌≤◌, IfOk, length};
 ghost use Rattle.co_service.specs.Booted.{AreBooted, AreSetUp};
+ghost use Rattle.co_service.specs.Fresh.{AreNamed};
 ghost use Rattle.co_service.specs.Params.{AreParams, actor_count};
 ghost use Rattle.co_service.specs.Stories.{IsHistory, IsJournal};
 
@@ -87,6 +88,7 @@ fn make_fresh(alloc: Global, params: Params) -> Result<(Fresh, Seq<Passes>), NoM
     requires { AreParams params }
     ensures params { IfOk result (λ made. made.0.params ≡ params) }
     ensures passes { IfOk result (λ made. AreBooted made.0.name params made.1) }
+    ensures named { IfOk result (λ made. AreNamed made.0.name params) }
 {
     let actors = count_actors(&params);
     let (callouts, timers, callout_seats) = make_callouts(alloc, &params, actors)?;
@@ -120,6 +122,7 @@ impl Fresh {
         requires { AreParams (record { version = version; clients = clients; cpus = cpus; buckets = buckets; specs = specs.now }) }
         ensures params { IfOk result (λ made. made.0.params ≡ record { version = version; clients = clients; cpus = cpus; buckets = buckets; specs = specs.now }) }
         ensures passes { IfOk result (λ made. AreBooted made.0.name made.0.params made.1) }
+        ensures named { IfOk result (λ made. AreNamed made.0.name made.0.params) }
     {
         let params = Params {
             version,

@@ -7,6 +7,7 @@ mod books;
 mod boot;
 mod calling;
 mod closing;
+mod crew;
 mod desk;
 mod fresh;
 mod joining;
@@ -23,11 +24,10 @@ mod seats;
 mod service;
 mod services;
 mod stories;
-#[cfg(test)]
-mod tests;
 mod wheels;
 
 pub use closing::Closing;
+pub use crew::Crew;
 pub use fresh::Fresh;
 pub use laws::{begins_by_own, begins_free, ends_by_own, served_by_own};
 pub use line::Line;

@@ -1,5 +1,5 @@
 //! What a service writes in the books of a desk.
-ghost use Rattle.std.specs.Prelude.{◌≡◌, ◌≤◌, Bool, [], ◌∷◌, ◌++◌, List, true, is_some};
+ghost use Rattle.std.specs.Prelude.{◌≡◌, ◌≤◌, Bool, [], ◌∷◌, ◌++◌, List, IfSome, true, is_some};
 ghost use Rattle.std.specs.Option.{option_map};
 ghost use Rattle.std.specs.declared.option.Option.TheVariants.{Some, None};
 ghost use Rattle.co_object.specs.declared.note.AnyEntry.TheVariants as of;
@@ -14,7 +14,7 @@ ghost use Rattle.co_service.specs.Serving.{lane_actor};
 ghost use Rattle.co_service.specs.Views.{journal_seen};
 ghost use Rattle.co_service.specs.Writes.{WritesTimer};
 ghost use Rattle.co_wheel.specs.Cpu.{Cpu};
-ghost use Rattle.co_wheel.specs.Callouts.{in_service};
+ghost use Rattle.co_wheel.specs.Callouts.{in_service, is_here};
 ghost use Rattle.co_wheel.specs.Next.{popping};
 ghost use Rattle.co_wheel.specs.Sections.{IsEnding, IsNext};
 ghost use Rattle.co_wheel.specs.Service.{end_here};
@@ -151,9 +151,10 @@ pub(crate) fn free(direct: bool) -> QOp
     if direct { QOp::FreeDirect } else { QOp::Free }
 }
 
-/// What is in service, of the CPU or of its interrupt where `direct`.
+/// What is in service, of the CPU or of its interrupt where `direct`. Its record is here.
 pub(crate) fn serviced(wheel: &Wheel<WheelQueue>, direct: bool) -> Option<(u32, u64)>
-    ensures { option_map (λ d. record { i = d.0; n = d.1 }) result ≡ in_service direct wheel.now.callouts }
+    ensures which { option_map (λ d. record { i = d.0; n = d.1 }) result ≡ in_service direct wheel.now.callouts }
+    ensures here { IfSome result (λ d. is_here wheel.now.callouts d.0 ≡ true) }
 {
     if direct {
         wheel.directing()

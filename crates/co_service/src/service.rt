@@ -8,8 +8,8 @@ ghost use Rattle.co_lock.specs.Covers.{covers};
 ghost use Rattle.co_lock.specs.Service.{hold_of};
 ghost use Rattle.co_service.specs.Booted.{AreBooted};
 ghost use Rattle.co_service.specs.Call.{HasRoom, IsAnswer, IsCalled, NamesCpu, notes_in};
-ghost use Rattle.co_service.specs.Closing.{AreAll, AreEnded, AreEndedCpus};
-ghost use Rattle.co_service.specs.Fresh.{AreBenches};
+ghost use Rattle.co_service.specs.Closing.{AreAll, AreEnded, AreEndedCpus, HasEach};
+ghost use Rattle.co_service.specs.Fresh.{AreBenches, AreNamed};
 ghost use Rattle.co_service.specs.Moving.{IsOfService, target_of};
 ghost use Rattle.co_service.specs.Outcomes.{IsScan};
 ghost use Rattle.co_service.specs.Params.{AreParams, actors_of, spec_at};
@@ -20,7 +20,7 @@ ghost use Rattle.co_service.specs.Views.{AreOf, journal_seen};
 use crate::bench::Bench;
 use crate::books::Books;
 use crate::boot::push;
-use crate::closing::{Closing, Ending, end_all};
+use crate::closing::{Closing, Ending, check_each, end_all};
 use crate::desk::Desk;
 use crate::moving::Moving;
 use crate::places::Places;
@@ -42,10 +42,27 @@ struct Locked<N: Name> {
     changed: Condvar,
 }
 
-/// A desk's lock. It lends nothing.
+/// A desk's lock. It lends nothing. Contracts see the CPU of the desk that it locks.
 #[derive(Drop)]
 pub struct DeskHold<'a, N: Name> {
-    _desk: MutexGuard<'a, Desk<N>>,
+    desk: MutexGuard<'a, Desk<N>>,
+}
+
+impl<'a, N: Name> Model for DeskHold<'a, N> {
+    ghost use Rattle.std.specs.Prelude.{ℕ};
+
+    ghost Value = { ℕ };
+
+    ghost view = { λ h. h.desk.value.cpu };
+}
+
+impl<N: Name> DeskHold<'_, N> {
+    /// The CPU whose desk is locked.
+    pub fn cpu(&self) -> u32
+        ensures { result ≡ self.now }
+    {
+        self.desk.cpu()
+    }
 }
 
 /// The running service. Contracts see its parameters; its name is that of `N`.
@@ -131,6 +148,7 @@ impl Service<Brand> {
         requires { AreParams (record { version = version; clients = clients; cpus = cpus; buckets = buckets; specs = specs.now }) }
         ensures params { IfOk result (λ made. made.0.params ≡ record { version = version; clients = clients; cpus = cpus; buckets = buckets; specs = specs.now }) }
         ensures passes { IfOk result (λ made. AreBooted made.0.name made.0.params made.1) }
+        ensures named { IfOk result (λ made. AreNamed made.0.name made.0.params) }
     {
         Fresh::boot(alloc, version, cpus, buckets, clients, specs)
     }
@@ -363,7 +381,8 @@ impl<N: Name> Service<N> {
         unreachable!()
     }
 
-    /// The first callout that has come due goes into the CPU's service. It waits until the CPU's journal has so many Scans.
+    /// The first callout that has come due goes into the CPU's service. It waits until the CPU's journal has so many Scans,
+    /// which the desk counts. That they come no clause says.
     ///
     /// The passes are those of the CPU's actor, whose own entries have nothing in service.
     pub fn next<R: Wait>(
@@ -532,7 +551,8 @@ impl<N: Name> Service<N> {
         self.end_lane(rt, passes, cpu, act, true)
     }
 
-    /// Waits until the service of callout `i`'s arming `n` may have ended. It promises nothing.
+    /// Waits until no desk has callout `i`'s arming `n` in service. What a desk answers is decided by its books: whether its
+    /// journal's last word is that the CPU or its interrupt serves this arming. That the wait ends, and when, no clause says.
     pub fn drain_wait<R: Wait>(&self, rt: &R, i: u32, n: u64) {
         for locked in &self.desks {
             let _desk = locked
@@ -543,20 +563,28 @@ impl<N: Name> Service<N> {
         }
     }
 
-    /// Takes a desk's lock, which the drop of the answer releases.
+    /// Takes the lock of this CPU's desk, which the drop of the answer releases.
     pub fn hold_desk<R: Wait>(&self, rt: &R, cpu: u32) -> DeskHold<'_, N>
         requires { cpu < self.now.cpus }
+        ensures { result ≡ cpu }
     {
-        DeskHold {
-            _desk: self.desks[cpu as usize].desk.lock(rt),
+        for _ in rt.forever() {
+            let desk = self.desks[cpu as usize].desk.lock(rt);
+            if desk.cpu() == cpu {
+                return DeskHold { desk };
+            }
         }
+        unreachable!()
     }
 
-    /// Ends the service, with all actors' passes of it. It takes no memory, and waits where a history isn't found.
+    /// Ends the service, with all actors' passes of it. It takes no memory, and waits where a history or an actor's passes
+    /// aren't found.
     ///
-    /// What each actor had seen of a history begins it, and it has no more entries of the actor.
+    /// Each actor's passes are among those handed in, once. What each actor had seen of a history begins it, and it has no
+    /// more entries of the actor.
     pub fn close<R: Wait>(self, rt: &R, passes: Seq<Passes>) -> Closing
         requires { AreAll N.name self passes }
+        ensures each { HasEach self passes }
         ensures name { result.name ≡ N.name }
         ensures timers { AreEnded self passes result.timers }
         ensures cpus { AreEndedCpus self passes result.cpus }
@@ -574,6 +602,8 @@ impl<N: Name> Service<N> {
             cpus,
         } = ending.into_inner();
         let books = open_desks(desks, books);
-        end_all(rt, places, books, passes.into_vec(), timers, cpus)
+        let passes = passes.into_vec();
+        check_each(rt, &passes);
+        end_all(rt, places, books, passes, timers, cpus)
     }
 }

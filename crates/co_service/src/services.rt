@@ -1,8 +1,11 @@
 //! The sections of a desk in which a callout is serviced, and its landing.
-ghost use Rattle.std.specs.Prelude.{◌≡◌, ◌≤◌, IfErr, IfNone, IfOk, IfSome, false};
+ghost use Rattle.std.specs.Prelude.{◌≡◌, ◌≢◌, ◌<◌, ◌⊎◌, IfErr, IfNone, IfOk, IfSome, false, nat_lt};
+ghost use Rattle.std.specs.Option.{option_map};
 ghost use Rattle.std.specs.declared.option.Option.TheVariants.{Some, None};
 ghost use Rattle.co_object.specs.Queue.{Due};
 ghost use Rattle.co_service.specs.Call.{HasRoom, notes_in};
+ghost use Rattle.co_service.specs.Desk.{is_entry, scans_in, services};
+ghost use Rattle.co_service.specs.May.{queue_of};
 ghost use Rattle.co_service.specs.Moving.{IsOfService, target_of};
 ghost use Rattle.co_service.specs.Services.{FollowsScans, IsBegun, IsEndedBut, IsFree, IsLanded, IsServing, IsTaken};
 ghost use Rattle.co_service.specs.Serving.{Runs, Waits};
@@ -15,7 +18,9 @@ use crate::running::{finish, free, serviced, take, three, waited, write_run, wri
 use crate::{Made, Name, Passes, Taken};
 use co_object::{Note, QOp, QReply, RunOp};
 
-fn is_of(service: Option<(u32, u64)>, i: u32, n: u64) -> bool {
+fn is_of(service: Option<(u32, u64)>, i: u32, n: u64) -> bool
+    ensures { result ≡ is_entry (option_map (λ d. record { i = d.0; n = d.1 }) service) i n }
+{
     match service {
         Some((j, m)) => j == i && m == n,
         None => false,
@@ -23,18 +28,22 @@ fn is_of(service: Option<(u32, u64)>, i: u32, n: u64) -> bool {
 }
 
 impl<N: Name> Desk<N> {
-    /// Whether the journal may have fewer Scans.
-    pub(crate) fn lacks(&self, scans: u64) -> bool {
+    /// Whether the journal has fewer Scans.
+    pub(crate) fn lacks(&self, scans: u64) -> bool
+        ensures { result ≡ nat_lt (scans_in self.now.journal) scans }
+    {
         self.scans < scans
     }
 
-    /// Whether this CPU or its interrupt has this arming of callout `i` in service.
-    pub(crate) fn services(&self, i: u32, n: u64) -> bool {
+    /// Whether this CPU or its interrupt has this arming of callout `i` in service, by the journal.
+    pub(crate) fn services(&self, i: u32, n: u64) -> bool
+        ensures { result ≡ services (queue_of self.now) i n }
+    {
         is_of(serviced(&self.wheel, false), i, n) || is_of(serviced(&self.wheel, true), i, n)
     }
 
     /// The first callout that has come due goes into service: of this CPU, or of its interrupt where `direct`. None where
-    /// the desk is of another CPU, or its journal has fewer Scans yet.
+    /// the desk is of another CPU, or its journal has fewer Scans yet, and there alone.
     pub(crate) fn next(
         &mut self,
         places: &Places,
@@ -48,13 +57,14 @@ impl<N: Name> Desk<N> {
         requires name { passes.old.name ≡ N.name }
         requires free { IsFree direct passes.old cpu }
         ensures none { IfNone result (passes.new ≡ passes.old) }
+        ensures why { IfNone result ((self.old.cpu ≢ cpu) ⊎ (scans_in self.old.journal < scans)) }
         ensures some { IfSome result (λ out. IsTaken direct passes.old cpu act out passes.new) }
         ensures scans { IfSome result (λ _. FollowsScans scans (journal_seen passes.new cpu)) }
     {
         if self.books.cpu() != cpu {
             return None;
         }
-        if self.scans < scans {
+        if self.lacks(scans) {
             return None;
         }
         self.books.meet(places.cpus(), passes);
@@ -62,7 +72,8 @@ impl<N: Name> Desk<N> {
         Some(write_taken(&mut self.books, places, passes, act, direct, out))
     }
 
-    /// The lock of the callout that this CPU has in service is held. None where the desk is of another CPU.
+    /// The lock of the callout that this CPU has in service is held. None where the desk is of another CPU, and there
+    /// alone.
     pub(crate) fn begin(
         &mut self,
         places: &Places,
@@ -74,6 +85,7 @@ impl<N: Name> Desk<N> {
         requires name { passes.old.name ≡ N.name }
         requires serves { (d : Due) × IsServing false passes.old cpu d (Waits d.n) }
         ensures none { IfNone result (passes.new ≡ passes.old) }
+        ensures why { IfNone result (self.old.cpu ≢ cpu) }
         ensures some { IfSome result (λ out. (d : Due) → IsServing false passes.old cpu d (Waits d.n) → IsBegun passes.old cpu act d out passes.new) }
     {
         if self.books.cpu() != cpu {
@@ -81,11 +93,8 @@ impl<N: Name> Desk<N> {
         }
         self.books.meet(places.cpus(), passes);
         let Some((i, n)) = serviced(&self.wheel, false) else {
-            return None;
+            unreachable!()
         };
-        if !self.books.has(i) {
-            return None;
-        }
         self.books.meet_timer(places.timers(), passes, i);
         let reply = self.wheel.begin();
         let op = RunOp::Begin { n, cpu };
@@ -95,7 +104,7 @@ impl<N: Name> Desk<N> {
     }
 
     /// The service is over: of this CPU, or of its interrupt where `direct`. The callout where it leaves for another
-    /// CPU. None where the desk is of another CPU.
+    /// CPU. None where the desk is of another CPU, and there alone.
     pub(crate) fn end(
         &mut self,
         places: &Places,
@@ -108,6 +117,7 @@ impl<N: Name> Desk<N> {
         requires name { passes.old.name ≡ N.name }
         requires serves { (d : Due) × IsServing direct passes.old cpu d (Runs d.n) }
         ensures none { IfNone result (passes.new ≡ passes.old) }
+        ensures why { IfNone result (self.old.cpu ≢ cpu) }
         ensures some { IfSome result (λ out. (d : Due) → IsServing direct passes.old cpu d (Runs d.n) → IsEndedBut direct passes.old cpu act d out.0.reply (target_of out.1) (notes_in out.0.notes) passes.new × IsOfService passes.old.params d.i out.1) }
         ensures room { IfSome result (λ out. HasRoom out.0.notes) }
     {
@@ -116,11 +126,8 @@ impl<N: Name> Desk<N> {
         }
         self.books.meet(places.cpus(), passes);
         let Some((i, n)) = serviced(&self.wheel, direct) else {
-            return None;
+            unreachable!()
         };
-        if !self.books.has(i) {
-            return None;
-        }
         self.books.meet_timer(places.timers(), passes, i);
         let out = finish(&mut self.wheel, direct);
         let op = RunOp::End { n, cpu };

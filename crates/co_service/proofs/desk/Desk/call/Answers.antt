@@ -49,7 +49,7 @@ invariant_of-self g c =
     subst (λ b. IsDesk c.call-out.new.self b c.self.inside.scans) (sym c.depart-leaves.ensures.books)
     (desk_section c.self.inside.wheel c.call-out.new.self c.meet.new.self c.self.inside.scans c.args.i c.args.op.now c.call-out.result here.0 desk here.1 c.call-out.ensures c.meet.new.passes c.args.act c.write_group-notes.new.books c.write_group-notes.ensures.books
     (c.write_group-notes.ensures.goes_on c.call-out.new.self (owes_section c.self.inside.wheel c.call-out.new.self c.meet.new.self c.self.inside.scans c.args.i c.args.op.now c.call-out.result here.0 desk here.1 c.call-out.ensures))
-    (let few = desk.counted in let more = c.write_group-notes.ensures.grows in omega arith))
+    (let before = desk.counted in let same = c.write_group-notes.ensures.scans in omega arith))
 
 pub returns-clause-some : goal.returns-clause-some
 returns-clause-some g c =

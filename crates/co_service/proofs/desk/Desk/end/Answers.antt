@@ -19,7 +19,7 @@ use Rattle.co_service.specs.Serving.{Runs}
 use Rattle.co_service.specs.Views.{PassesView}
 use Rattle.co_service.specs.Writes.{WritesCpu}
 use Rattle.co_service.proofs.EndSection.{ended_told, freed_desk, freed_may, freed_possible, freed_service, freed_target, may_end_here, may_write_end}
-use Rattle.co_service.proofs.MetDesk.{Meets, served_after, serves_one}
+use Rattle.co_service.proofs.MetDesk.{Meets, here_kept, served_after, serves_one, serves_some}
 use Rattle.co_service.proofs.ServiceSection.{IsServed}
 use Rattle.co_service.proofs.desk.Desk.end.Goals as goal
 
@@ -27,7 +27,7 @@ pub finish-out-requires : goal.finish-out-requires
 finish-out-requires g c =
     let met : Meets c.self.inside.wheel c.self.inside.books c.self.inside.scans c.args.cpu c.args.passes.now = record { desk = c.self.invariant; legal = c.meet.ensures.legal; shown = c.meet.ensures.shown; params = c.meet.ensures.params; here = (let n = c.cpu.ensures in let f = c.if-cpu.false in omega arith) } in
     let e : Due = record { i = c.in-Some.i; n = c.in-Some.n } in
-    let s : (H : List Entry) × IsServed c.args.direct c.self.inside.wheel c.meet_timer.new.self c.self.inside.scans c.meet_timer.new.passes e (Runs c.in-Some.n) H = served_after c.args.direct c.self.inside.wheel c.self.inside.books c.meet.new.self c.meet_timer.new.self c.self.inside.scans c.args.cpu c.args.passes.now c.meet.new.passes c.meet_timer.new.passes c.requires.serves.0 e (λ n. Runs n) met c.meet.ensures.kept c.meet.ensures.passes c.meet_timer.ensures.kept c.meet_timer.ensures.passes c.requires.serves.1 c.in-Some.ensures (cc) c.meet_timer.ensures.legal c.meet_timer.ensures.shown in
+    let s : (H : List Entry) × IsServed c.args.direct c.self.inside.wheel c.meet_timer.new.self c.self.inside.scans c.meet_timer.new.passes e (Runs c.in-Some.n) H = served_after c.args.direct c.self.inside.wheel c.self.inside.books c.meet.new.self c.meet_timer.new.self c.self.inside.scans c.args.cpu c.args.passes.now c.meet.new.passes c.meet_timer.new.passes c.requires.serves.0 e (λ n. Runs n) met c.meet.ensures.kept c.meet.ensures.passes c.meet_timer.ensures.kept c.meet_timer.ensures.passes c.requires.serves.1 c.in-Some.ensures.which (here_kept c.self.inside.wheel c.self.inside.books c.meet.new.self c.self.inside.scans c.in-Some.i c.self.invariant c.meet.ensures.kept c.in-Some.ensures.here) c.meet_timer.ensures.legal c.meet_timer.ensures.shown in
     record { possible = may_end_here c.args.direct c.self.inside.wheel c.self.inside.wheel c.meet_timer.new.self c.self.inside.scans c.meet_timer.new.passes c.args.act e s.0 s.1 }
 
 pub write_run-ends-requires-clause-may : goal.write_run-ends-requires-clause-may
@@ -35,7 +35,7 @@ write_run-ends-requires-clause-may g c =
     let met : Meets c.self.inside.wheel c.self.inside.books c.self.inside.scans c.args.cpu c.args.passes.now = record { desk = c.self.invariant; legal = c.meet.ensures.legal; shown = c.meet.ensures.shown; params = c.meet.ensures.params; here = (let n = c.cpu.ensures in let f = c.if-cpu.false in omega arith) } in
     let here : c.meet_timer.new.self.cpu ≡ c.args.cpu = (let k = ap (λ (b : BooksView). b.cpu) c.meet.ensures.kept in let m = ap (λ (b : BooksView). b.cpu) c.meet_timer.ensures.kept in let n = c.cpu.ensures in let f = c.if-cpu.false in omega arith) in
     let e : Due = record { i = c.in-Some.i; n = c.in-Some.n } in
-    let s : (H : List Entry) × IsServed c.args.direct c.self.inside.wheel c.meet_timer.new.self c.self.inside.scans c.meet_timer.new.passes e (Runs c.in-Some.n) H = served_after c.args.direct c.self.inside.wheel c.self.inside.books c.meet.new.self c.meet_timer.new.self c.self.inside.scans c.args.cpu c.args.passes.now c.meet.new.passes c.meet_timer.new.passes c.requires.serves.0 e (λ n. Runs n) met c.meet.ensures.kept c.meet.ensures.passes c.meet_timer.ensures.kept c.meet_timer.ensures.passes c.requires.serves.1 c.in-Some.ensures (cc) c.meet_timer.ensures.legal c.meet_timer.ensures.shown in
+    let s : (H : List Entry) × IsServed c.args.direct c.self.inside.wheel c.meet_timer.new.self c.self.inside.scans c.meet_timer.new.passes e (Runs c.in-Some.n) H = served_after c.args.direct c.self.inside.wheel c.self.inside.books c.meet.new.self c.meet_timer.new.self c.self.inside.scans c.args.cpu c.args.passes.now c.meet.new.passes c.meet_timer.new.passes c.requires.serves.0 e (λ n. Runs n) met c.meet.ensures.kept c.meet.ensures.passes c.meet_timer.ensures.kept c.meet_timer.ensures.passes c.requires.serves.1 c.in-Some.ensures.which (here_kept c.self.inside.wheel c.self.inside.books c.meet.new.self c.self.inside.scans c.in-Some.i c.self.invariant c.meet.ensures.kept c.in-Some.ensures.here) c.meet_timer.ensures.legal c.meet_timer.ensures.shown in
     subst (λ (k : ℕ). MayHappen c.meet_timer.new.self e.i (run_entry c.meet_timer.new.passes c.args.act (End e.n k) c.finish-out.result.reply)) here
     (may_write_end c.args.direct c.self.inside.wheel c.finish-out.new.wheel c.meet_timer.new.self c.self.inside.scans c.meet_timer.new.passes c.args.act e s.0 s.1 c.finish-out.result c.finish-out.ensures)
 
@@ -44,7 +44,7 @@ write_turn-frees-requires-clause-possible g c =
     let met : Meets c.self.inside.wheel c.self.inside.books c.self.inside.scans c.args.cpu c.args.passes.now = record { desk = c.self.invariant; legal = c.meet.ensures.legal; shown = c.meet.ensures.shown; params = c.meet.ensures.params; here = (let n = c.cpu.ensures in let f = c.if-cpu.false in omega arith) } in
     let here : c.meet_timer.new.self.cpu ≡ c.args.cpu = (let k = ap (λ (b : BooksView). b.cpu) c.meet.ensures.kept in let m = ap (λ (b : BooksView). b.cpu) c.meet_timer.ensures.kept in let n = c.cpu.ensures in let f = c.if-cpu.false in omega arith) in
     let e : Due = record { i = c.in-Some.i; n = c.in-Some.n } in
-    let s : (H : List Entry) × IsServed c.args.direct c.self.inside.wheel c.meet_timer.new.self c.self.inside.scans c.meet_timer.new.passes e (Runs c.in-Some.n) H = served_after c.args.direct c.self.inside.wheel c.self.inside.books c.meet.new.self c.meet_timer.new.self c.self.inside.scans c.args.cpu c.args.passes.now c.meet.new.passes c.meet_timer.new.passes c.requires.serves.0 e (λ n. Runs n) met c.meet.ensures.kept c.meet.ensures.passes c.meet_timer.ensures.kept c.meet_timer.ensures.passes c.requires.serves.1 c.in-Some.ensures (cc) c.meet_timer.ensures.legal c.meet_timer.ensures.shown in
+    let s : (H : List Entry) × IsServed c.args.direct c.self.inside.wheel c.meet_timer.new.self c.self.inside.scans c.meet_timer.new.passes e (Runs c.in-Some.n) H = served_after c.args.direct c.self.inside.wheel c.self.inside.books c.meet.new.self c.meet_timer.new.self c.self.inside.scans c.args.cpu c.args.passes.now c.meet.new.passes c.meet_timer.new.passes c.requires.serves.0 e (λ n. Runs n) met c.meet.ensures.kept c.meet.ensures.passes c.meet_timer.ensures.kept c.meet_timer.ensures.passes c.requires.serves.1 c.in-Some.ensures.which (here_kept c.self.inside.wheel c.self.inside.books c.meet.new.self c.self.inside.scans c.in-Some.i c.self.invariant c.meet.ensures.kept c.in-Some.ensures.here) c.meet_timer.ensures.legal c.meet_timer.ensures.shown in
     ap (λ (o : QOp). reply_of (step c.write_run-ends.new.books.params.buckets (directs c.write_run-ends.new.books.params) (queue_of c.write_run-ends.new.books) o)) c.free.ensures
     ∙ freed_possible c.args.direct c.self.inside.wheel c.finish-out.new.wheel c.meet_timer.new.self c.self.inside.scans c.meet_timer.new.passes c.args.act e s.0 s.1 c.finish-out.result c.finish-out.ensures c.args.cpu here c.write_run-ends.new.books c.write_run-ends.ensures.books
 
@@ -53,16 +53,16 @@ depart-leaves-requires g c =
     let met : Meets c.self.inside.wheel c.self.inside.books c.self.inside.scans c.args.cpu c.args.passes.now = record { desk = c.self.invariant; legal = c.meet.ensures.legal; shown = c.meet.ensures.shown; params = c.meet.ensures.params; here = (let n = c.cpu.ensures in let f = c.if-cpu.false in omega arith) } in
     let here : c.meet_timer.new.self.cpu ≡ c.args.cpu = (let k = ap (λ (b : BooksView). b.cpu) c.meet.ensures.kept in let m = ap (λ (b : BooksView). b.cpu) c.meet_timer.ensures.kept in let n = c.cpu.ensures in let f = c.if-cpu.false in omega arith) in
     let e : Due = record { i = c.in-Some.i; n = c.in-Some.n } in
-    let s : (H : List Entry) × IsServed c.args.direct c.self.inside.wheel c.meet_timer.new.self c.self.inside.scans c.meet_timer.new.passes e (Runs c.in-Some.n) H = served_after c.args.direct c.self.inside.wheel c.self.inside.books c.meet.new.self c.meet_timer.new.self c.self.inside.scans c.args.cpu c.args.passes.now c.meet.new.passes c.meet_timer.new.passes c.requires.serves.0 e (λ n. Runs n) met c.meet.ensures.kept c.meet.ensures.passes c.meet_timer.ensures.kept c.meet_timer.ensures.passes c.requires.serves.1 c.in-Some.ensures (cc) c.meet_timer.ensures.legal c.meet_timer.ensures.shown in
+    let s : (H : List Entry) × IsServed c.args.direct c.self.inside.wheel c.meet_timer.new.self c.self.inside.scans c.meet_timer.new.passes e (Runs c.in-Some.n) H = served_after c.args.direct c.self.inside.wheel c.self.inside.books c.meet.new.self c.meet_timer.new.self c.self.inside.scans c.args.cpu c.args.passes.now c.meet.new.passes c.meet_timer.new.passes c.requires.serves.0 e (λ n. Runs n) met c.meet.ensures.kept c.meet.ensures.passes c.meet_timer.ensures.kept c.meet_timer.ensures.passes c.requires.serves.1 c.in-Some.ensures.which (here_kept c.self.inside.wheel c.self.inside.books c.meet.new.self c.self.inside.scans c.in-Some.i c.self.invariant c.meet.ensures.kept c.in-Some.ensures.here) c.meet_timer.ensures.legal c.meet_timer.ensures.shown in
     subst (λ (t : ℕ × ℕ). MayDepart c.write_turn-frees.new.books t.0 t.1 c.finish-out.result.leaves) (λ k. (sym c.waited-n.ensures.number k, sym c.waited-n.ensures.due k))
     (freed_may c.args.direct c.self.inside.wheel c.finish-out.new.wheel c.meet_timer.new.self c.self.inside.scans c.meet_timer.new.passes c.args.act e s.0 s.1 c.finish-out.result c.finish-out.ensures c.args.cpu here c.write_run-ends.new.books c.write_run-ends.ensures.books (turn c.write_run-ends.new.passes c.args.act c.free.result Freed) c.free.ensures refl c.write_turn-frees.new.books c.write_turn-frees.ensures.books)
 
-pub invariant_of-self-2 : goal.invariant_of-self-2
-invariant_of-self-2 g c =
+pub invariant_of-self : goal.invariant_of-self
+invariant_of-self g c =
     let met : Meets c.self.inside.wheel c.self.inside.books c.self.inside.scans c.args.cpu c.args.passes.now = record { desk = c.self.invariant; legal = c.meet.ensures.legal; shown = c.meet.ensures.shown; params = c.meet.ensures.params; here = (let n = c.cpu.ensures in let f = c.if-cpu.false in omega arith) } in
     let here : c.meet_timer.new.self.cpu ≡ c.args.cpu = (let k = ap (λ (b : BooksView). b.cpu) c.meet.ensures.kept in let m = ap (λ (b : BooksView). b.cpu) c.meet_timer.ensures.kept in let n = c.cpu.ensures in let f = c.if-cpu.false in omega arith) in
     let e : Due = record { i = c.in-Some.i; n = c.in-Some.n } in
-    let s : (H : List Entry) × IsServed c.args.direct c.self.inside.wheel c.meet_timer.new.self c.self.inside.scans c.meet_timer.new.passes e (Runs c.in-Some.n) H = served_after c.args.direct c.self.inside.wheel c.self.inside.books c.meet.new.self c.meet_timer.new.self c.self.inside.scans c.args.cpu c.args.passes.now c.meet.new.passes c.meet_timer.new.passes c.requires.serves.0 e (λ n. Runs n) met c.meet.ensures.kept c.meet.ensures.passes c.meet_timer.ensures.kept c.meet_timer.ensures.passes c.requires.serves.1 c.in-Some.ensures (cc) c.meet_timer.ensures.legal c.meet_timer.ensures.shown in
+    let s : (H : List Entry) × IsServed c.args.direct c.self.inside.wheel c.meet_timer.new.self c.self.inside.scans c.meet_timer.new.passes e (Runs c.in-Some.n) H = served_after c.args.direct c.self.inside.wheel c.self.inside.books c.meet.new.self c.meet_timer.new.self c.self.inside.scans c.args.cpu c.args.passes.now c.meet.new.passes c.meet_timer.new.passes c.requires.serves.0 e (λ n. Runs n) met c.meet.ensures.kept c.meet.ensures.passes c.meet_timer.ensures.kept c.meet_timer.ensures.passes c.requires.serves.1 c.in-Some.ensures.which (here_kept c.self.inside.wheel c.self.inside.books c.meet.new.self c.self.inside.scans c.in-Some.i c.self.invariant c.meet.ensures.kept c.in-Some.ensures.here) c.meet_timer.ensures.legal c.meet_timer.ensures.shown in
     subst (λ b. IsDesk c.finish-out.new.wheel b c.self.inside.scans) (sym c.depart-leaves.ensures.books)
     (freed_desk c.args.direct c.self.inside.wheel c.finish-out.new.wheel c.meet_timer.new.self c.self.inside.scans c.meet_timer.new.passes c.args.act e s.0 s.1 c.finish-out.result c.finish-out.ensures c.args.cpu here c.write_run-ends.new.books c.write_run-ends.ensures.books (turn c.write_run-ends.new.passes c.args.act c.free.result Freed) c.free.ensures refl c.write_turn-frees.new.books c.write_turn-frees.ensures.books)
 
@@ -71,8 +71,8 @@ returns-clause-some g c = λ d is.
     let met : Meets c.self.inside.wheel c.self.inside.books c.self.inside.scans c.args.cpu c.args.passes.now = record { desk = c.self.invariant; legal = c.meet.ensures.legal; shown = c.meet.ensures.shown; params = c.meet.ensures.params; here = (let n = c.cpu.ensures in let f = c.if-cpu.false in omega arith) } in
     let here : c.meet_timer.new.self.cpu ≡ c.args.cpu = (let k = ap (λ (b : BooksView). b.cpu) c.meet.ensures.kept in let m = ap (λ (b : BooksView). b.cpu) c.meet_timer.ensures.kept in let n = c.cpu.ensures in let f = c.if-cpu.false in omega arith) in
     let e : Due = record { i = c.in-Some.i; n = c.in-Some.n } in
-    let s : (H : List Entry) × IsServed c.args.direct c.self.inside.wheel c.meet_timer.new.self c.self.inside.scans c.meet_timer.new.passes e (Runs c.in-Some.n) H = served_after c.args.direct c.self.inside.wheel c.self.inside.books c.meet.new.self c.meet_timer.new.self c.self.inside.scans c.args.cpu c.args.passes.now c.meet.new.passes c.meet_timer.new.passes c.requires.serves.0 e (λ n. Runs n) met c.meet.ensures.kept c.meet.ensures.passes c.meet_timer.ensures.kept c.meet_timer.ensures.passes c.requires.serves.1 c.in-Some.ensures (cc) c.meet_timer.ensures.legal c.meet_timer.ensures.shown in
-    let one : e ≡ d = serves_one c.self.inside.wheel c.self.inside.books c.self.inside.scans c.args.cpu c.args.passes.now met c.args.direct d e (Runs d.n) is c.in-Some.ensures in
+    let s : (H : List Entry) × IsServed c.args.direct c.self.inside.wheel c.meet_timer.new.self c.self.inside.scans c.meet_timer.new.passes e (Runs c.in-Some.n) H = served_after c.args.direct c.self.inside.wheel c.self.inside.books c.meet.new.self c.meet_timer.new.self c.self.inside.scans c.args.cpu c.args.passes.now c.meet.new.passes c.meet_timer.new.passes c.requires.serves.0 e (λ n. Runs n) met c.meet.ensures.kept c.meet.ensures.passes c.meet_timer.ensures.kept c.meet_timer.ensures.passes c.requires.serves.1 c.in-Some.ensures.which (here_kept c.self.inside.wheel c.self.inside.books c.meet.new.self c.self.inside.scans c.in-Some.i c.self.invariant c.meet.ensures.kept c.in-Some.ensures.here) c.meet_timer.ensures.legal c.meet_timer.ensures.shown in
+    let one : e ≡ d = serves_one c.self.inside.wheel c.self.inside.books c.self.inside.scans c.args.cpu c.args.passes.now met c.args.direct d e (Runs d.n) is c.in-Some.ensures.which in
     let same : c.meet_timer.new.passes ≡ c.args.passes.now = c.meet_timer.ensures.passes ∙ c.meet.ensures.passes in
     let moves : c.depart-leaves.result ≡ moving_from c.write_turn-frees.new.books (next_number c.finish-out.result.reply) (next_due c.finish-out.result.reply) c.finish-out.result.leaves = c.depart-leaves.ensures.moving ∙ (λ k. moving_from c.write_turn-frees.new.books (c.waited-n.ensures.number k) (c.waited-n.ensures.due k) c.finish-out.result.leaves) in
     let books : c.write_run-ends.new.books.cpu ≡ c.args.cpu = ap (λ (b : BooksView). b.cpu) c.write_run-ends.ensures.books ∙ here in
@@ -91,3 +91,8 @@ returns-clause-some g c = λ d is.
 
 pub returns-clause-room : goal.returns-clause-room
 returns-clause-room g c = (Some c.write_run-ends.result, Some c.write_turn-frees.result, c.three-notes.ensures)
+
+pub unreachable-requires : goal.unreachable-requires
+unreachable-requires g c =
+    let met : Meets c.self.inside.wheel c.self.inside.books c.self.inside.scans c.args.cpu c.args.passes.now = record { desk = c.self.invariant; legal = c.meet.ensures.legal; shown = c.meet.ensures.shown; params = c.meet.ensures.params; here = (let n = c.cpu.ensures in let f = c.if-cpu.false in omega arith) } in
+    serves_some c.self.inside.wheel c.self.inside.books c.self.inside.scans c.args.cpu c.args.passes.now met c.args.direct c.requires.serves.0 (Runs c.requires.serves.0.n) c.requires.serves.1 c.in_default.ensures.which

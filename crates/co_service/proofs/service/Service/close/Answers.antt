@@ -1,6 +1,7 @@
-use Rattle.std.proofs.Common.{◌≤◌, length, ap, ◌∙◌, subst}
+use Rattle.std.proofs.Common.{◌≡◌, ◌<◌, ◌≤◌, ℕ, List, length, sym, ap, ◌∙◌, subst}
 use Rattle.co_service.specs.declared.params.Params.{Params}
-use Rattle.co_service.specs.Closing.{EndCpus, EndTimers}
+use Rattle.co_service.specs.Closing.{EndCpus, EndTimers, of_actor}
+use Rattle.co_service.specs.Views.{PassesView}
 use Rattle.co_service.proofs.Ended.{cpus_ended, timers_ended}
 use Rattle.co_service.proofs.service.Service.close.Goals as goal
 
@@ -10,7 +11,7 @@ returns-clause-timers g c =
     let out = c.end_all.result in
     timers_ended g.N.Name.name c.args.self c.args.passes c.requires (subst (λ (p : Params). 1 ≤ p.cpus) c.self.view_is is.some) out.timers
     (c.end_all.ensures.timers_count ∙ (is.named.timers ∙ ap (λ (p : Params). length p.specs) c.self.view_is))
-    (subst (λ l. EndTimers l out.timers) c.into_vec.ensures c.end_all.ensures.timers)
+    (subst (λ l. EndTimers l out.timers) c.into_vec-passes.ensures c.end_all.ensures.timers)
 
 pub returns-clause-cpus : goal.returns-clause-cpus
 returns-clause-cpus g c =
@@ -18,4 +19,9 @@ returns-clause-cpus g c =
     let out = c.end_all.result in
     cpus_ended g.N.Name.name c.args.self c.args.passes c.requires (subst (λ (p : Params). 1 ≤ p.cpus) c.self.view_is is.some) out.cpus
     (c.end_all.ensures.cpus_count ∙ (is.named.cpus ∙ ap (λ (p : Params). p.cpus) c.self.view_is))
-    (subst (λ l. EndCpus l out.cpus) c.into_vec.ensures c.end_all.ensures.cpus)
+    (subst (λ l. EndCpus l out.cpus) c.into_vec-passes.ensures c.end_all.ensures.cpus)
+
+pub returns-clause-each : goal.returns-clause-each
+returns-clause-each g c = record {
+  once = λ actor below. subst (λ (l : List PassesView). (a : ℕ) → a < length l → of_actor l a ≡ 1) c.into_vec-passes.ensures c.check_each.ensures actor (subst (λ (n : ℕ). actor < n) (sym c.requires.count) below);
+}

@@ -1,0 +1,29 @@
+-- The services that the tests play on: one client, and callouts without locks.
+use Rattle.std.specs.Prelude.{◌≡◌, ℕ, ◌<◌, List, length, slice_get}
+use Rattle.std.specs.declared.option.Option.TheVariants.{Some}
+use Rattle.co_object.specs.declared.spec.Spec.{Spec}
+use Rattle.co_object.specs.declared.spec.LockUse.TheVariants.{Free, Mtx}
+use Rattle.co_service.specs.declared.params.Params.{Params}
+use Rattle.co_service.specs.Params.{IsSpec, actor_count, spec_at}
+
+-- a callout without a lock
+pub record IsFreeSpec (version : ℕ) (spec : Spec) : Type 0 where
+  pub lock : spec.lock ≡ Free
+  pub allowed : IsSpec version spec
+
+pub record IsScene (version cpus callouts actors : ℕ) (p : Params) : Type 0 where
+  pub version_is : p.version ≡ version
+  pub clients : p.clients ≡ 1
+  pub cpus_are : p.cpus ≡ cpus
+  pub size : length p.specs ≡ callouts
+  pub free : (i : ℕ) → (spec_at p i).lock ≡ Free
+  pub actors_are : actor_count p ≡ actors
+
+-- one client, one CPU, and one callout with a mutex
+pub record IsLocked (p : Params) : Type 0 where
+  pub version_is : p.version ≡ 1
+  pub clients : p.clients ≡ 1
+  pub cpus_are : p.cpus ≡ 1
+  pub size : length p.specs ≡ 1
+  pub lock : (spec_at p 0).lock ≡ Mtx 0
+  pub actors_are : actor_count p ≡ 2

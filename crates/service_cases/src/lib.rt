@@ -1,0 +1,5 @@
+//! Services that are played by hand on one thread, call by call, through what `co_service` offers.
+#![tactic(auto)]
+
+#[cfg(test)]
+mod tests;

@@ -1,0 +1,72 @@
+//! A scan looks at what stands in the buckets that it visits.
+ghost use Rattle.std.specs.Prelude.{◌≡◌, ◌<◌};
+ghost use Rattle.co_object.specs.declared.spec.LockUse.TheVariants.{Free};
+ghost use Rattle.co_service.specs.Booted.{AreBooted};
+ghost use Rattle.co_service.specs.Params.{spec_at};
+ghost use Rattle.service_cases.specs.Scenes.{IsScene};
+ghost use Rattle.co_service.specs.Views.{AreOf};
+
+use super::cast::close_two;
+use super::stage::{arm, boot};
+use co_sbt::{NoMemory, Sbt, Seq};
+use co_service::{Fresh, Name, Passes, Service};
+use std::alloc::Global;
+use std::marker::Brand;
+use std::process::Abort;
+use std::sync::Wait;
+use std::test::Fail;
+
+/// The beginning of a bucket's time, as many buckets after the first.
+fn bucket(number: u32) -> Sbt
+    requires { number < 64 }
+{
+    if number == 0 {
+        return Sbt::zero();
+    }
+    Sbt::from_ticks(number as i32, 256)
+}
+
+/// Each of 64 callouts is due at the beginning of a bucket of its own number.
+fn play<N: Name, R: Wait + Abort>(
+    rt: &R,
+    alloc: Global,
+    fresh: Fresh,
+    passes: Seq<Passes>,
+) -> Result<(u32, u64), NoMemory>
+    requires name { fresh.name ≡ N.name }
+    requires scene { IsScene 1 1 64 2 fresh.params }
+    requires passes { AreBooted fresh.name fresh.params passes }
+{
+    let service = Service::<N>::open(alloc, fresh)?;
+    let mut all = passes.into_vec();
+    let mut cpu = service.leave_cpu(&mut all, 0);
+    let mut client = service.leave(&mut all, 0);
+    let mut log = Vec::new(alloc);
+    for i in 0u32..64 {
+        arm(
+            rt,
+            &service,
+            &mut log,
+            &mut client,
+            u64::from(i),
+            i,
+            bucket(i),
+            0,
+            None,
+        );
+    }
+    let scan = service.scan(rt, &mut cpu, 0, 0, bucket(2));
+    close_two(rt, alloc, service, client, cpu)?;
+    Ok((scan.count, scan.looks))
+}
+
+#[test]
+fn visited_buckets(rt: HostRuntime) -> Result<(), Fail> {
+    assert_eq!(rt; bucket(1).raw(), 16777216);
+    assert_eq!(rt; bucket(2).raw(), 33554432);
+    let (fresh, passes) = boot(rt.alloc(), 1, 1, 64, false)?;
+    let (count, looks) = play::<Brand, _>(&rt, rt.alloc(), fresh, passes)?;
+    assert_eq!(rt; count, 3);
+    assert_eq!(rt; looks, 12);
+    Ok(())
+}

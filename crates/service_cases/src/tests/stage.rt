@@ -1,0 +1,153 @@
+//! A service to play on, and calls on it.
+ghost use Rattle.std.specs.Prelude.{◌≡◌, ◌+◌, ◌==◌, ◌<◌, ◌≤◌, if◌then◌else◌, ℕ, Bool, IfOk, length, true, false};
+ghost use Rattle.std.specs.List.{All};
+ghost use Rattle.std.specs.declared.option.Option.{Option};
+ghost use Rattle.co_object.specs.Queue.{Due};
+ghost use Rattle.co_object.specs.declared.op.CallOp.TheVariants.{Plain};
+ghost use Rattle.co_object.specs.declared.op.PlainOp.TheVariants.{Reset};
+ghost use Rattle.co_object.specs.declared.spec.LockUse.TheVariants.{Free};
+ghost use Rattle.co_service.specs.Booted.{AreBooted};
+ghost use Rattle.co_service.specs.Call.{NamesCpu};
+ghost use Rattle.co_service.specs.Params.{actor_count, spec_at};
+ghost use Rattle.service_cases.specs.Scenes.{IsFreeSpec, IsScene};
+ghost use Rattle.co_service.specs.Services.{IsFree, IsServing};
+ghost use Rattle.co_service.specs.Serving.{Service as Progress};
+ghost use Rattle.co_service.specs.Views.{AreOf};
+
+use co_object::{CallOp, LockUse, Note, PlainOp, Spec};
+use co_sbt::{NoMemory, Sbt, Seq};
+use co_service::{Fresh, Name, Passes, Service};
+use std::alloc::Global;
+use std::process::Abort;
+use std::sync::Wait;
+
+/// So many seconds.
+pub(super) fn seconds(count: i32) -> Sbt {
+    Sbt::from_ticks(count, 1)
+}
+
+/// A callout without a lock.
+fn free_spec(direct: bool) -> Spec
+    ensures { result ≡ record { lock = Free; returns_unlocked = false; direct = direct } }
+{
+    Spec {
+        lock: LockUse::Free,
+        returns_unlocked: false,
+        direct,
+    }
+}
+
+/// Whether callout `i` is the first, and is to be direct.
+fn is_direct(direct: bool, i: u32) -> bool
+    ensures { direct ≡ false → result ≡ false }
+{
+    direct && i == 0
+}
+
+/// So many callouts without a lock. The first is direct where `direct`.
+fn free_specs(
+    alloc: Global,
+    version: u32,
+    callouts: u32,
+    direct: bool,
+) -> Result<Seq<Spec>, NoMemory>
+    requires { version ≡ 1 → direct ≡ false }
+    ensures count { IfOk result (λ specs. length specs ≡ callouts) }
+    ensures each { IfOk result (All (IsFreeSpec version)) }
+{
+    let mut specs = Seq::new(alloc);
+    for i in 0..callouts {
+        specs.push(free_spec(is_direct(direct, i)))?;
+    }
+    Ok(specs)
+}
+
+/// A service of one client and so many CPUs, with 16 buckets each, and callouts without locks. The first callout is direct
+/// where `direct`.
+pub(super) fn boot(
+    alloc: Global,
+    version: u32,
+    cpus: u32,
+    callouts: u32,
+    direct: bool,
+) -> Result<(Fresh, Seq<Passes>), NoMemory>
+    requires version { (1 ≤ version) × (version ≤ 2) }
+    requires cpus { (1 ≤ cpus) × (cpus ≤ 16) }
+    requires callouts { (1 ≤ callouts) × (callouts ≤ 1024) }
+    requires later { version ≡ 1 → direct ≡ false }
+    ensures scene { IfOk result (λ made. IsScene version cpus callouts (if version == 1 then 1 + cpus else 1 + (cpus + cpus)) made.0.params) }
+    ensures passes { IfOk result (λ made. AreBooted made.0.name made.0.params made.1) }
+{
+    let specs = free_specs(alloc, version, callouts, direct)?;
+    Service::boot(alloc, version, cpus, 16, 1, specs.as_slice())
+}
+
+/// Keeps a note.
+pub(super) fn keep<R: Abort>(rt: &R, log: &mut Vec<Note>, note: Note) {
+    assert!(rt; log.push(note).is_ok());
+}
+
+/// Keeps the notes of an answer.
+pub(super) fn keep_all<R: Abort>(rt: &R, log: &mut Vec<Note>, notes: [Option<Note>; 3]) {
+    let [first, second, third] = notes;
+    if let Some(note) = first {
+        keep(rt, log, note);
+    }
+    if let Some(note) = second {
+        keep(rt, log, note);
+    }
+    if let Some(note) = third {
+        keep(rt, log, note);
+    }
+}
+
+/// A call on callout `i`, which needs no hold.
+pub(super) fn ask<N: Name, R: Wait + Abort>(
+    rt: &R,
+    service: &Service<N>,
+    log: &mut Vec<Note>,
+    passes: &mut Passes,
+    act: u64,
+    i: u32,
+    op: PlainOp,
+)
+    requires free { (k : ℕ) → (spec_at service.now k).lock ≡ Free }
+    requires passes { AreOf N.name service.now passes.old }
+    requires callout { i < length service.now.specs }
+    requires cpu { NamesCpu service.now.cpus (Plain op) }
+    ensures of { AreOf N.name service.now passes.new }
+    ensures actor { passes.new.actor ≡ passes.old.actor }
+    ensures free { (direct : Bool) (cpu : ℕ) → IsFree direct passes.old cpu → IsFree direct passes.new cpu }
+    ensures serving { (direct : Bool) (cpu : ℕ) (d : Due) (far : Progress) → IsServing direct passes.old cpu d far → IsServing direct passes.new cpu d far }
+{
+    let made = service.call(rt, passes, act, i, &CallOp::Plain(op), None);
+    keep_all(rt, log, made.notes);
+}
+
+/// A reset of callout `i` to function 0, on this CPU or at home.
+pub(super) fn arm<N: Name, R: Wait + Abort>(
+    rt: &R,
+    service: &Service<N>,
+    log: &mut Vec<Note>,
+    passes: &mut Passes,
+    act: u64,
+    i: u32,
+    due: Sbt,
+    arg: u64,
+    cpu: Option<u32>,
+)
+    requires free { (k : ℕ) → (spec_at service.now k).lock ≡ Free }
+    requires passes { AreOf N.name service.now passes.old }
+    requires callout { i < length service.now.specs }
+    requires cpu { NamesCpu service.now.cpus (Plain (Reset due 0 0 arg cpu)) }
+    ensures of { AreOf N.name service.now passes.new }
+{
+    let op = PlainOp::Reset {
+        due,
+        prec: Sbt::zero(),
+        func: 0,
+        arg,
+        cpu,
+    };
+    ask(rt, service, log, passes, act, i, op);
+}
