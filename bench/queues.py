@@ -1,12 +1,12 @@
 #!/usr/bin/env python3
 """queues.py [PROGRAM]: what an operation of the two timer queues costs, as tables.
 
-PROGRAM is the built queue_bench (default crates/queue_bench/out/queue_bench, which `rt run` in crates/queue_bench
+PROGRAM is the built callout_bench (default crates/callout_bench/out/callout_bench, which `rt run` in crates/callout_bench
 makes). It prints counts alone; the times are the processor times of its processes, the least of RUNS (default 5)."""
 import os, re, subprocess, sys
 
 HERE = os.path.dirname(os.path.abspath(__file__))
-PROGRAM = sys.argv[1] if len(sys.argv) > 1 else os.path.join(HERE, "../crates/queue_bench/out/queue_bench")
+PROGRAM = sys.argv[1] if len(sys.argv) > 1 else os.path.join(HERE, "../crates/callout_bench/out/callout_bench")
 RUNS = int(os.environ.get("RUNS", 5))
 ARMINGS = {"list": 1_000_000, "wheel": 10_000_000}
 STEP, SECOND = 1 << 16, 1 << 32
@@ -14,7 +14,7 @@ STEP, SECOND = 1 << 16, 1 << 32
 
 def run(queue, callouts, buckets, armings, step=STEP):
     """The least processor time in seconds, and the counts by their names."""
-    words = [PROGRAM, queue, str(callouts), str(buckets), str(armings), str(step)]
+    words = [PROGRAM, "queues", queue, str(callouts), str(buckets), str(armings), str(step)]
     times = []
     for _ in range(RUNS):
         child = subprocess.Popen(words, stdout=subprocess.PIPE, text=True)

@@ -1,12 +1,12 @@
 #!/usr/bin/env python3
 """service.py [PROGRAM]: how many calls a second threads make on one running service, beside locks round counters, as a table.
 
-PROGRAM is the built service_bench (default crates/service_bench/out/service_bench, which `rt run` in crates/service_bench
+PROGRAM is the built callout_bench (default crates/callout_bench/out/callout_bench, which `rt run` in crates/callout_bench
 makes). It prints counts alone; the times are those of whole runs by the clock, the least of RUNS (default 5)."""
 import os, subprocess, sys, time
 
 HERE = os.path.dirname(os.path.abspath(__file__))
-PROGRAM = sys.argv[1] if len(sys.argv) > 1 else os.path.join(HERE, "../crates/service_bench/out/service_bench")
+PROGRAM = sys.argv[1] if len(sys.argv) > 1 else os.path.join(HERE, "../crates/callout_bench/out/callout_bench")
 RUNS = int(os.environ.get("RUNS", 5))
 CALLS = {"service": 500_000, "mutex": 5_000_000}
 
@@ -14,7 +14,7 @@ CALLS = {"service": 500_000, "mutex": 5_000_000}
 def rate(what, where, threads):
     """Millions of calls a second, of all threads together: each makes CALLS resets and as many stops, or additions."""
     calls = CALLS[what]
-    words = [PROGRAM, what, where, str(threads), str(calls)]
+    words = [PROGRAM, "service", what, where, str(threads), str(calls)]
     times = []
     for _ in range(RUNS):
         start = time.perf_counter()

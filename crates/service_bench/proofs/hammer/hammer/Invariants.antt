@@ -1,5 +1,0 @@
-use Rattle.co_service.specs.Views.{AreOf}
-use Rattle.service_bench.proofs.hammer.hammer.Given as goal
-
-abbrev pub invariant-loop-call : goal.invariant-loop-call
-invariant-loop-call g l = AreOf g.N.Name.name l.service l.passes
