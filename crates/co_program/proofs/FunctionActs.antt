@@ -210,7 +210,7 @@ module _ (s : Script) (H : Histories) (a : ℕ) (left : List Task) (now : ℕ) (
       at_op (Some (i, op)) is h again = at_cover i op is (covers hold (spec_at s i) (Plain op)) refl again
 
   -- an act of a function asks something
-  asks-some : (hold : Option Held) (n : ℕ) (o : Option (ℕ × PlainOp)) → is_some o ≡ true → (asked : Asked) × (asks_covered s hold n o ≡ Asks n asked)
+  pub asks-some : (hold : Option Held) (n : ℕ) (o : Option (ℕ × PlainOp)) → is_some o ≡ true → (asked : Asked) × (asks_covered s hold n o ≡ Asks n asked)
   asks-some hold n None h = absurd (no h) where
     no : is_some {T = ℕ × PlainOp} None ≡ true → ⊥
     no g = let e : false ≡ true = g in cc
