@@ -1,6 +1,5 @@
 -- The notes of a round of services that comes next, from the Pop that takes an arming to the acts of a drain function.
 use Rattle.std.proofs.Common.{◌≡◌, ℕ, ◌+◌, ◌⊎◌, inl, inr, Bool, true, false, cond, ◌&&◌, ◌==◌, List, [], ◌∷◌, ◌++◌, take, refl, sym, ap, subst, ◌∙◌, Option, Some, None, append_assoc}
-use Rattle.std.specs.Prelude.{is_some}
 use Rattle.co_object.specs.declared.LockUse.{LockUse}
 use Rattle.co_object.specs.declared.LockUse.TheVariants.{Free, Mtx, Rw, RwShared}
 use Rattle.co_object.specs.declared.state.Arming.{Arming}
@@ -22,11 +21,11 @@ use Rattle.co_object.specs.declared.RunOp.TheVariants.{Pick, Begin, End}
 use Rattle.co_object.specs.declared.QOp.{QOp}
 use Rattle.co_object.specs.declared.QOp.TheVariants.{Insert}
 use Rattle.co_object.specs.declared.QReply.{QReply}
-use Rattle.co_object.specs.declared.QReply.TheVariants.{At, Got, Empty, Freed}
+use Rattle.co_object.specs.declared.QReply.TheVariants.{Got, Empty, Freed}
 use Rattle.co_object.specs.declared.Reply.{Reply}
 use Rattle.co_object.specs.declared.Reply.TheVariants.{Go, Hold, Skip, Ended}
 use Rattle.co_object.specs.Callout.{step}
-use Rattle.co_object.specs.Group.{Placed, placed}
+use Rattle.co_object.specs.Group.{placed}
 use Rattle.co_object.specs.History.{state}
 use Rattle.co_object.specs.Journal as journal
 use Rattle.co_object.specs.Queue.{Queue, Due}
@@ -44,14 +43,14 @@ use Rattle.co_program.specs.declared.cursor.Service.{Service}
 use Rattle.co_program.specs.declared.action.Asked.{Asked}
 use Rattle.co_program.specs.declared.action.Asked.TheVariants.{Callout, Queue as IsQueue}
 use Rattle.co_program.specs.Actors.{role_of, cpu_of, acts_at}
-use Rattle.co_program.specs.Stages.{Stage, Popping, Picking, Locking, Beginning, Unlocking, Firing, Releasing, Ending, Freeing, Drained}
+use Rattle.co_program.specs.Stages.{Stage, Popping, Picking, Locking, Beginning, Unlocking, Releasing, Ending, Freeing}
 use Rattle.co_program.specs.Cursor.{Cursor}
-use Rattle.co_program.specs.Action.{Action, Nothing, Silent, Take, Asks, spec_at, firing, draining, locks, action_for, action_with, pop_of, free_of}
+use Rattle.co_program.specs.Action.{Take, Asks, spec_at, firing, draining, locks, action_for, pop_of, free_of}
 use Rattle.co_program.specs.Advance.{advance_callout, advance_queue, advance, picked, begun, drain_acts, popped, freed}
 use Rattle.co_program.specs.Follows.{Histories, FitsCallout, FitsQueue, goes_on, settled, listed_after}
 use Rattle.co_program.specs.Groups.{AreActsOf, serves, turns, IsRun, at_once, under_lock, skipped, IsSent, IsRoundOf}
 use Rattle.co_program.specs.Runs.{are_direct}
-use Rattle.co_program.specs.Scripts.{IsScript, is_call}
+use Rattle.co_program.specs.Scripts.{IsScript}
 use Rattle.co_program.proofs.Endings.{AreCalls, some-call, drain-calls}
 use Rattle.co_program.proofs.FunctionActs.{in_act, AreFirst, acts-first, asks-some}
 use Rattle.co_program.proofs.Groups.{inserted-at}

@@ -34,7 +34,6 @@ use Rattle.co_lock.specs.Service.{hold_of}
 use Rattle.co_program.specs.declared.role.Role.{Role}
 use Rattle.co_program.specs.Actors.{acts_at, cpu_of}
 use Rattle.co_program.specs.Advance.{drain_acts}
-use Rattle.co_program.specs.declared.act.Scene.{Scene}
 
 -- the drain is over
 abbrev pub IsDone : Reply → Type 0
