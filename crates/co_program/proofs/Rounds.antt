@@ -320,8 +320,8 @@ module _ (s : Script) (ok : IsScript s) (H : Histories) (a : ℕ) (left : List T
     runs : List Note
     rest : List Note
     split : notes ≡ runs ++ rest
-    ran : IsRun s H a at_cpu v idle n reply runs
     last : ℕ
+    ran : IsRun s H a at_cpu v idle n reply last runs
     later : IsRest s H a (settled s a (here None last (Ending v))) rest
 
   still-ending : (n : ℕ) (c : Cursor) (notes : List Note) → settled s a c ≡ here None n (Ending v) → IsRest s H a (settled s a c) notes → IsRest s H a (settled s a (here None n (Ending v))) notes
@@ -353,7 +353,7 @@ module _ (s : Script) (ok : IsScript s) (H : Histories) (a : ℕ) (left : List T
         runs = f.front;
         rest = f.rest;
         split = f.split;
-        ran = subst (λ (r : Reply). IsRun s H a at_cpu v idle n r f.front) (sym at_go.2) (at_once at_go.0 at_go.1 f.front f.are);
+        ran = subst (λ (r : Reply). IsRun s H a at_cpu v idle n r f.last f.front) (sym at_go.2) (subst (λ (k : ℕ). IsRun s H a at_cpu v idle n (Go at_go.0 at_go.1) k f.front) (sym f.last_is) (at_once at_go.0 at_go.1 f.front f.are));
         last = f.last;
         later = to-ending idle f.last f.rest f.later;
       }
@@ -372,7 +372,7 @@ module _ (s : Script) (ok : IsScript s) (H : Histories) (a : ℕ) (left : List T
               runs = b.note ∷ [];
               rest = b.rest;
               split = b.split;
-              ran = subst (λ (r : Reply). IsRun s H a at_cpu v idle n r (b.note ∷ [])) (sym waits.0) (skipped waits.1.0 b.note waits.1.1 (b.at ∙ ap (serves s H a v (Begin v.n at_cpu)) skip));
+              ran = subst (λ (r : Reply). IsRun s H a at_cpu v idle n r n (b.note ∷ [])) (sym waits.0) (skipped waits.1.0 b.note waits.1.1 (b.at ∙ ap (serves s H a v (Begin v.n at_cpu)) skip));
               last = n;
               later = still-ending n (here (Some waits.1.0) n (Releasing v)) b.rest (settled-silent s a (here (Some waits.1.0) n (Releasing v)) (here None n (Ending v)) v.act (Callout v.i (Run (End v.n at_cpu))) refl refl) on;
             }
@@ -389,8 +389,8 @@ module _ (s : Script) (ok : IsScript s) (H : Histories) (a : ℕ) (left : List T
                     runs = b.note ∷ f.front;
                     rest = f.rest;
                     split = b.split ∙ ap (λ (l : List Note). b.note ∷ l) f.split;
-                    ran = subst (λ (r : Reply). IsRun s H a at_cpu v idle n r (b.note ∷ f.front)) (sym waits.0) (under_lock waits.1.0 at_go.0 at_go.1 b.note f.front waits.1.1 (b.at ∙ ap (serves s H a v (Begin v.n at_cpu)) at_go.2)
-                        (subst (λ (u : Bool). AreActsOf s H a at_cpu v (cond u None (Some waits.1.0)) n (acts_at s.funcs at_go.0) f.front) (sym is) f.are));
+                    ran = subst (λ (r : Reply). IsRun s H a at_cpu v idle n r f.last (b.note ∷ f.front)) (sym waits.0) (subst (λ (k : ℕ). IsRun s H a at_cpu v idle n Hold k (b.note ∷ f.front)) (sym f.last_is) (under_lock waits.1.0 at_go.0 at_go.1 b.note f.front waits.1.1 (b.at ∙ ap (serves s H a v (Begin v.n at_cpu)) at_go.2)
+                        (subst (λ (u : Bool). AreActsOf s H a at_cpu v (cond u None (Some waits.1.0)) n (acts_at s.funcs at_go.0) f.front) (sym is) f.are)));
                     last = f.last;
                     later = to-ending None f.last f.rest f.later;
                   }
@@ -400,8 +400,8 @@ module _ (s : Script) (ok : IsScript s) (H : Histories) (a : ℕ) (left : List T
                     runs = b.note ∷ f.front;
                     rest = f.rest;
                     split = b.split ∙ ap (λ (l : List Note). b.note ∷ l) f.split;
-                    ran = subst (λ (r : Reply). IsRun s H a at_cpu v idle n r (b.note ∷ f.front)) (sym waits.0) (under_lock waits.1.0 at_go.0 at_go.1 b.note f.front waits.1.1 (b.at ∙ ap (serves s H a v (Begin v.n at_cpu)) at_go.2)
-                        (subst (λ (u : Bool). AreActsOf s H a at_cpu v (cond u None (Some waits.1.0)) n (acts_at s.funcs at_go.0) f.front) (sym is) f.are));
+                    ran = subst (λ (r : Reply). IsRun s H a at_cpu v idle n r f.last (b.note ∷ f.front)) (sym waits.0) (subst (λ (k : ℕ). IsRun s H a at_cpu v idle n Hold k (b.note ∷ f.front)) (sym f.last_is) (under_lock waits.1.0 at_go.0 at_go.1 b.note f.front waits.1.1 (b.at ∙ ap (serves s H a v (Begin v.n at_cpu)) at_go.2)
+                        (subst (λ (u : Bool). AreActsOf s H a at_cpu v (cond u None (Some waits.1.0)) n (acts_at s.funcs at_go.0) f.front) (sym is) f.are)));
                     last = f.last;
                     later = to-ending (Some waits.1.0) f.last f.rest f.later;
                   }

@@ -1,6 +1,6 @@
 -- What stands in a list that follows, where its program makes a call, a drain or a round of services: the notes that come
 -- next, in order, told by the callout alone and the queue alone. All of an act's notes carry the actor and the act's number.
-use Rattle.std.specs.Prelude.{◌≡◌, ℕ, ◌+◌, Bool, true, false, List, [], ◌∷◌, ◌++◌, take, Option, Some, None, if◌then◌else◌}
+use Rattle.std.specs.Prelude.{◌≡◌, ℕ, ◌+◌, Bool, true, false, List, [], ◌∷◌, ◌++◌, take, length, Option, Some, None, if◌then◌else◌}
 use Rattle.std.specs.List.{slice_get}
 use Rattle.co_object.specs.declared.Note.{Note}
 use Rattle.co_object.specs.declared.Place.TheVariants as place
@@ -84,12 +84,12 @@ module _ (s : Script) (H : Histories) (a : ℕ) where
   abbrev pub turns : ℕ → ℕ → QOp → QReply → Placed
   turns act cpu op reply = (place.Cpu cpu, entry.Cpu (record { actor = a; act = act; op = op; reply = reply }))
 
-  -- after a Pick: the function's acts, at once where the callout has no lock, and else after a Begin under it, which may skip them
-  pub data IsRun (cpu : ℕ) (v : Service) (idle : Option Held) (first : ℕ) : Reply → List Note → Type 0 where
-    at_once : (func arg : ℕ) (acts : List Note) → AreActsOf cpu v idle first (acts_at s.funcs func) acts → IsRun cpu v idle first (Go func arg) acts
+  -- after a Pick, up to the next act's number: the function's acts, at once where the callout has no lock, and else after a Begin under it, which may skip them
+  pub data IsRun (cpu : ℕ) (v : Service) (idle : Option Held) (first : ℕ) : Reply → ℕ → List Note → Type 0 where
+    at_once : (func arg : ℕ) (acts : List Note) → AreActsOf cpu v idle first (acts_at s.funcs func) acts → IsRun cpu v idle first (Go func arg) (first + length (acts_at s.funcs func)) acts
     under_lock : (held : Held) (func arg : ℕ) (begin : Note) (acts : List Note) → hold_of (spec_at s v.i).lock ≡ Some held → placed begin ≡ serves v (Begin v.n cpu) (Go func arg) →
-        AreActsOf cpu v (if (spec_at s v.i).returns_unlocked then None else Some held) first (acts_at s.funcs func) acts → IsRun cpu v idle first Hold (begin ∷ acts)
-    skipped : (held : Held) (begin : Note) → hold_of (spec_at s v.i).lock ≡ Some held → placed begin ≡ serves v (Begin v.n cpu) Skip → IsRun cpu v idle first Hold (begin ∷ [])
+        AreActsOf cpu v (if (spec_at s v.i).returns_unlocked then None else Some held) first (acts_at s.funcs func) acts → IsRun cpu v idle first Hold (first + length (acts_at s.funcs func)) (begin ∷ acts)
+    skipped : (held : Held) (begin : Note) → hold_of (spec_at s v.i).lock ≡ Some held → placed begin ≡ serves v (Begin v.n cpu) Skip → IsRun cpu v idle first Hold first (begin ∷ [])
 
   -- the Insert of the arming that the end of the service sends to its CPU
   abbrev pub IsSent : Service → Option Next → List Note → Type 0
@@ -112,12 +112,12 @@ module _ (s : Script) (H : Histories) (a : ℕ) where
     pub popped : placed pop ≡ turns act (cpu_of s role) (pop_of role) (Got service.i service.n service.at)
     pub reply : Reply
     pub picked : placed pick ≡ serves service (Pick service.n (cpu_of s role) service.at) reply
-    pub ran : IsRun (cpu_of s role) service idle first reply runs
+    pub last : ℕ
+    pub ran : IsRun (cpu_of s role) service idle first reply last runs
     pub drain : Option ℕ
     pub next : Option Next
     pub woke : Bool
     pub ended : placed end ≡ serves service (End service.n (cpu_of s role)) (Ended drain next woke)
     pub freed : placed free ≡ turns act (cpu_of s role) (free_of role) Freed
     pub sent_on : IsSent service next sent
-    pub last : ℕ
     pub drained : AreActsOf (cpu_of s role) service None last (drain_acts s drain) acts
