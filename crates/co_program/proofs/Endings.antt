@@ -216,7 +216,7 @@ module _ (s : Script) (ok : IsScript s) where
   popped-does c reply (Popping n) = got-does c n reply
   popped-does c reply stage = got-does (record c { act = c.act + 1 }) c.act reply
 
-  drain-calls : (drain : Option ℕ) → AreCalls (drain_acts s drain)
+  pub drain-calls : (drain : Option ℕ) → AreCalls (drain_acts s drain)
   drain-calls None = tt
   drain-calls (Some func) = ok.funcs func
 

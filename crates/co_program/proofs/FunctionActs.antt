@@ -1,5 +1,5 @@
 -- The notes of a function's acts that come next: for each the group of its call, or a note that it is not covered.
-use Rattle.std.proofs.Common.{◌≡◌, ℕ, ◌+◌, Bool, true, false, cond, ◌&&◌, ◌==◌, not, List, [], ◌∷◌, ◌++◌, refl, sym, ap, subst, ◌∙◌, Option, Some, None, append_assoc}
+use Rattle.std.proofs.Common.{◌≡◌, ℕ, ◌+◌, Bool, true, false, cond, ◌&&◌, ◌==◌, not, List, [], ◌∷◌, ◌++◌, refl, sym, ap, subst, ◌∙◌, Option, Some, None, append_assoc, arith, length}
 use Rattle.std.specs.Prelude.{⊤, is_some, unwrap_or, ◌||◌}
 use Rattle.co_object.specs.declared.State.{State}
 use Rattle.co_object.specs.declared.Note.{Note}
@@ -165,10 +165,11 @@ module _ (s : Script) (H : Histories) (a : ℕ) (left : List Task) (now : ℕ) (
       pub split : notes ≡ front ++ rest
       pub are : AreActsOf s H a cpu v hold n acts front
       pub last : ℕ
+      pub last_is : last ≡ n + length acts
       pub later : IsRest s H a (settled s a (in_act hold last (to []))) rest
 
     pub acts-first : (acts : List Act) (n : ℕ) (notes : List Note) → AreCalls acts → IsRest s H a (settled s a (in_act hold n (to acts))) notes → AreFirst acts n notes
-    acts-first [] n notes all rest = record { front = []; rest = notes; split = refl; are = none n; last = n; later = rest }
+    acts-first [] n notes all rest = record { front = []; rest = notes; split = refl; are = none n; last = n; last_is = omega arith; later = rest }
     acts-first (x ∷ acts) n notes all rest = at_op (plain_op x s.hz scene) refl (some-call x s.hz scene all.0) (λ notes' rest'. acts-first acts (n + 1) notes' all.1 rest') where
       d : Cursor
       d = in_act hold n (to (x ∷ acts))
@@ -186,6 +187,7 @@ module _ (s : Script) (H : Histories) (a : ℕ) (left : List Task) (now : ℕ) (
             split = f.split ∙ ap (λ (l : List Note). f.front ++ l) more.split ∙ sym (append_assoc f.front more.front more.rest);
             are = calls n i x acts op f.reply f.front more.front is cov f.call_is more.are;
             last = more.last;
+            last_is = omega (arith, more.last_is);
             later = more.later;
           }
       at_cover i op is false cov again =
@@ -199,6 +201,7 @@ module _ (s : Script) (H : Histories) (a : ℕ) (left : List Task) (now : ℕ) (
             split = f.split ∙ ap (λ (l : List Note). f.note ∷ l) more.split;
             are = not_held n i x acts op f.note more.front is cov f.at more.are;
             last = more.last;
+            last_is = omega (arith, more.last_is);
             later = more.later;
           }
 
@@ -210,7 +213,7 @@ module _ (s : Script) (H : Histories) (a : ℕ) (left : List Task) (now : ℕ) (
       at_op (Some (i, op)) is h again = at_cover i op is (covers hold (spec_at s i) (Plain op)) refl again
 
   -- an act of a function asks something
-  asks-some : (hold : Option Held) (n : ℕ) (o : Option (ℕ × PlainOp)) → is_some o ≡ true → (asked : Asked) × (asks_covered s hold n o ≡ Asks n asked)
+  pub asks-some : (hold : Option Held) (n : ℕ) (o : Option (ℕ × PlainOp)) → is_some o ≡ true → (asked : Asked) × (asks_covered s hold n o ≡ Asks n asked)
   asks-some hold n None h = absurd (no h) where
     no : is_some {T = ℕ × PlainOp} None ≡ true → ⊥
     no g = let e : false ≡ true = g in cc

@@ -121,7 +121,7 @@ off-is t m at armed is = go (is_free_at t.run m.cpu) (ap (λ (x : Option Arming)
   go false h = cc
 
 -- an Insert is answered with the time at which it stands
-inserted-at : (m : ℕ) (direct : List Bool) (q : Queue) (i n t : ℕ) (r : QReply) → journal.reply_of (journal.step m direct q (Insert i n t)) ≡ Some r → (time : ℕ) × (r ≡ At time)
+pub inserted-at : (m : ℕ) (direct : List Bool) (q : Queue) (i n t : ℕ) (r : QReply) → journal.reply_of (journal.step m direct q (Insert i n t)) ≡ Some r → (time : ℕ) × (r ≡ At time)
 inserted-at m direct q i n t r h = go (holds q i) _ _ h where
   go : (b : Bool) (after : Queue) (at : ℕ) → journal.reply_of (cond b None (Some (after, At at))) ≡ Some r → (time : ℕ) × (r ≡ At time)
   go true after at h = absurd (no h) where

@@ -18,3 +18,4 @@ pub mod Known
 pub mod ListsLook
 pub mod Endings
 pub mod FunctionActs
+pub mod Rounds

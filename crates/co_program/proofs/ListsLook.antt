@@ -1,16 +1,16 @@
 -- What comes next in the list of an actor: the rest of its notes, from its place in its program on.
-use Rattle.std.proofs.Common.{◌≡◌, ◌⊎◌, inl, inr, ◌<◌, ℕ, ◌++◌, List, ◌∷◌, [], length, subst, arith}
+use Rattle.std.proofs.Common.{◌≡◌, ◌⊎◌, inl, inr, ◌<◌, ℕ, ◌++◌, List, ◌∷◌, [], length, subst, arith, ap, ◌∙◌, Option}
 use Rattle.std.specs.List.{AllByRecursion}
 use Rattle.co_object.specs.declared.Note.{Note}
 use Rattle.co_program.specs.declared.script.Script.{Script}
-use Rattle.co_program.specs.Action.{Nothing, action_for}
+use Rattle.co_program.specs.Action.{Nothing, action_for, Asks, action_with, action_in, pop_of}
 use Rattle.co_program.specs.Cursor.{Cursor, start_of}
 use Rattle.co_program.specs.Follows.{Histories, AreNext, cursor_after, goes_on, settled}
-use Rattle.co_program.specs.Laws.{place_after, Begin, CallsAreGroups, DrainsAreGroups, FunctionsMakeTheirActs, ProgramsEndWhereNothingIsLeft}
-use Rattle.co_program.specs.Runs.{notes_by, shown_histories, IsRunOf}
+use Rattle.co_program.specs.Laws.{place_after, Begin, CallsAreGroups, DrainsAreGroups, FunctionsMakeTheirActs, ProgramsEndWhereNothingIsLeft, RoundsAreOfServices, IsRoundOrEmpty}
+use Rattle.co_program.specs.Runs.{notes_by, shown_histories, IsRunOf, are_direct}
 use Rattle.co_program.specs.Actors.{actor_count, cpu_of, role_of}
-use Rattle.co_program.specs.Groups.{AreActsOf}
-use Rattle.co_program.specs.Stages.{Firing, Drained}
+use Rattle.co_program.specs.Groups.{AreActsOf, turns}
+use Rattle.co_program.specs.Stages.{Firing, Drained, Stage}
 use Rattle.co_program.proofs.AskedCalls.{asked_call}
 use Rattle.co_program.proofs.Drains.{drain-first}
 use Rattle.co_program.proofs.Endings.{StageDoes, ended-there, nothing-there, does-after}
@@ -18,6 +18,9 @@ use Rattle.co_program.proofs.FunctionActs.{in-function, in-drain}
 use Rattle.co_program.proofs.Groups.{call-first}
 use Rattle.co_program.proofs.Known.{are-known}
 use Rattle.co_program.proofs.Rests.{IsKnown, IsRest, rest-of, next-after, cursor-after}
+use Rattle.co_program.specs.declared.cursor.Parcel.{Parcel}
+use Rattle.co_program.specs.declared.action.Asked.TheVariants.{Queue as IsQueue}
+use Rattle.co_program.proofs.Rounds.{IsTurnFirst, turn-first, Pops, pop-replies, round-first}
 
 all-rest : {X : Type 0} (P : X → Type 0) (xs ys : List X) → AllByRecursion P (xs ++ ys) → AllByRecursion P ys
 all-rest P [] ys h = h
@@ -88,3 +91,17 @@ functions s lists a before after v acts ok due =
       at_stage (inr is) does rest =
           let f = in-drain s (shown_histories lists) a (place_after s lists a before) v after rest due.parcel due.begins acts is (subst (StageDoes s) is does) in
           record { front = f.front; rest = f.later; split = f.split; is = f.are }
+
+pub rounds : RoundsAreOfServices
+rounds s lists a before after act ok due =
+    let d = place_after s lists a before in
+    let H = shown_histories lists in
+    let asks : action_for s a (place_after s lists a before) ≡ Asks act (IsQueue (cpu_of s (role_of s a)) (pop_of (role_of s a))) =
+    ap (λ (p : Option Parcel). action_with s (role_of s a) d p) due.parcel ∙ ap (λ (stage : Stage). action_in s (role_of s a) d stage) due.stage in
+    let t = turn-first s H a d act (cpu_of s (role_of s a)) (pop_of (role_of s a)) after (rest-is s lists a before after due.run due.actor due.notes) asks in
+    at_reply t (pop-replies s.buckets (are_direct s) (role_of s a) t.queue t.reply t.answers) where
+      at_reply : (t : IsTurnFirst s (shown_histories lists) a (place_after s lists a before) act (cpu_of s (role_of s a)) (pop_of (role_of s a)) after) → Pops t.reply → IsRoundOrEmpty s lists a before after act
+      at_reply t (inl none) = inr (record { front = t.note ∷ []; rest = t.rest; split = t.split; is = t.at ∙ ap (turns s (shown_histories lists) a act (cpu_of s (role_of s a)) (pop_of (role_of s a))) none })
+      at_reply t (inr got) =
+          let r = round-first s ok (shown_histories lists) a (place_after s lists a before) act got.0 got.1 got.2 after t got.3 due.stage due.parcel due.begins in
+          inl (record { front = r.front; rest = r.rest; split = r.split; is = r.round })

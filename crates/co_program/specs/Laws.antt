@@ -4,6 +4,7 @@ use Rattle.co_object.specs.declared.Note.{Note}
 use Rattle.co_object.specs.declared.Op.TheVariants.{Call}
 use Rattle.co_object.specs.declared.CallOp.{CallOp}
 use Rattle.co_object.specs.declared.CallOp.TheVariants.{DrainTry}
+use Rattle.co_object.specs.declared.QReply.TheVariants.{Empty}
 use Rattle.co_object.specs.declared.Reply.{Reply}
 use Rattle.co_lock.specs.Covers.{covers}
 use Rattle.co_program.specs.declared.act.Act.{Act}
@@ -11,15 +12,15 @@ use Rattle.co_program.specs.declared.script.Script.{Script}
 use Rattle.co_program.specs.declared.cursor.Service.{Service}
 use Rattle.co_program.specs.declared.action.Asked.{Asked}
 use Rattle.co_program.specs.declared.action.Asked.TheVariants.{Callout}
-use Rattle.co_program.specs.Action.{Nothing, Asks, action_for, spec_at}
+use Rattle.co_program.specs.Action.{Nothing, Asks, action_for, spec_at, pop_of}
 use Rattle.co_program.specs.Actors.{actor_count, cpu_of, role_of}
 use Rattle.co_program.specs.Cursor.{Cursor, start_of}
 use Rattle.co_program.specs.Follows.{cursor_after, settled}
-use Rattle.co_program.specs.Groups.{IsCallOf, IsDrainOf, AreActsOf}
+use Rattle.co_program.specs.Groups.{IsCallOf, IsDrainOf, AreActsOf, IsRoundOf, IsNote, turns}
 use Rattle.co_program.specs.Names.{FuncsExist, AllNotesName}
 use Rattle.co_program.specs.Runs.{notes_by, shown_histories, IsRunOf}
 use Rattle.co_program.specs.Scripts.{IsScript}
-use Rattle.co_program.specs.Stages.{Ready, Firing, Drained}
+use Rattle.co_program.specs.Stages.{Ready, Popping, Firing, Drained}
 
 -- what the notes of a run name exists, where the functions that the script's acts name do
 abbrev pub RunsNameWhatExists : Type 0
@@ -92,3 +93,21 @@ pub record IsInFunction (s : Script) (lists : List (List Note)) (a : ℕ) (befor
 abbrev pub FunctionsMakeTheirActs : Type 0
 FunctionsMakeTheirActs = (s : Script) (lists : List (List Note)) (a : ℕ) (before after : List Note) (v : Service) (acts : List Act) → IsScript s → IsInFunction s lists a before after v acts →
     Begin (AreActsOf s (shown_histories lists) a (cpu_of s (role_of s a)) v (place_after s lists a before).hold (place_after s lists a before).act acts) after
+
+-- after these notes of its list, the actor is about to take the next callout from its queue
+pub record IsPopping (s : Script) (lists : List (List Note)) (a : ℕ) (before after : List Note) (act : ℕ) : Type 0 where
+  pub run : IsRunOf s lists
+  pub actor : a < actor_count s
+  pub notes : notes_by lists a ≡ before ++ after
+  pub stage : (place_after s lists a before).stage ≡ Popping act
+  pub begins : (place_after s lists a before).removed ≡ None
+  pub parcel : (place_after s lists a before).parcel ≡ None
+
+-- the next notes are those of a round of services, or a Pop that finds nothing
+abbrev pub IsRoundOrEmpty : Script → List (List Note) → ℕ → List Note → List Note → ℕ → Type 0
+IsRoundOrEmpty s lists a before after act =
+    Begin (IsRoundOf s (shown_histories lists) a (role_of s a) act (place_after s lists a before).act (place_after s lists a before).hold) after
+    ⊎ Begin (IsNote (turns s (shown_histories lists) a act (cpu_of s (role_of s a)) (pop_of (role_of s a)) Empty)) after
+
+abbrev pub RoundsAreOfServices : Type 0
+RoundsAreOfServices = (s : Script) (lists : List (List Note)) (a : ℕ) (before after : List Note) (act : ℕ) → IsScript s → IsPopping s lists a before after act → IsRoundOrEmpty s lists a before after act

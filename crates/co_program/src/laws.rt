@@ -1,5 +1,5 @@
 //! What holds of every run of a script, each law the contract of a function that does nothing.
-ghost use Rattle.co_program.specs.Laws.{CallsAreGroups, DrainsAreGroups, FunctionsMakeTheirActs, ProgramsEndWhereNothingIsLeft, RunsNameWhatExists};
+ghost use Rattle.co_program.specs.Laws.{CallsAreGroups, DrainsAreGroups, FunctionsMakeTheirActs, ProgramsEndWhereNothingIsLeft, RoundsAreOfServices, RunsNameWhatExists};
 
 /// What each note of a run names exists in the script, its actor, callouts, CPUs and functions, where the functions that the
 /// script's acts name do; each entry is of its place's kind, and the answer of each queue is one to its operation.
@@ -30,4 +30,12 @@ pub fn programs_end_where_nothing_is_left()
 /// other with its number: the group of its call, or NotHeld where what the actor holds does not cover it.
 pub fn functions_make_their_acts()
     ensures { FunctionsMakeTheirActs }
+{}
+
+/// Where a CPU or its interrupt is about to take the next callout from its queue, its next notes are a Pop that finds nothing, or
+/// a round: the Pop that takes an arming; its Pick; the function's acts, after a Begin under the callout's lock where it has
+/// one, which may skip them; the End and the Free; the Insert of an arming that the end sends to its CPU; and the acts of the
+/// drain function that the end names.
+pub fn rounds_are_of_services()
+    ensures { RoundsAreOfServices }
 {}
