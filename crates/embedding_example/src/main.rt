@@ -8,12 +8,12 @@ mod parts;
 
 ghost use Rattle.std.specs.Prelude.{◌≡◌};
 ghost use Rattle.co_service.specs.Booted.{AreBooted};
-ghost use Rattle.co_service.specs.Scenes.{IsScene};
+ghost use Rattle.embedding_example.specs.Example.{IsExample};
 
-use crate::parts::{arm, boot, close, hand_out, serve};
+use crate::parts::{arm, boot, serve};
 use co_object::Reply;
 use co_sbt::{NoMemory, Sbt, Seq};
-use co_service::{Fresh, Name, Passes, Service};
+use co_service::{Crew, Fresh, Name, Passes, Service};
 use std::alloc::Global;
 use std::marker::Brand;
 use std::process::ExitCode;
@@ -30,15 +30,21 @@ fn run<N: Name, R: Wait>(
     passes: Seq<Passes>,
 ) -> Result<Story, NoMemory>
     requires name { fresh.name ≡ N.name }
-    requires scene { IsScene 1 1 1 2 fresh.params }
+    requires example { IsExample fresh.params }
     requires passes { AreBooted fresh.name fresh.params passes }
 {
     let service = Service::<N>::open(alloc, fresh)?;
-    let (mut client, mut cpu) = hand_out(&service, passes);
+    let mut crew = Crew::new(alloc, &service)?;
+    let mut all = passes.into_vec();
+    // The last actor leaves first: the CPU, then the client.
+    let mut cpu = service.leave_cpu(&mut all, 0);
+    let mut client = service.leave(&mut all, 0);
     let due = Sbt::from_ticks(3, 2);
     let armed = arm(rt, &service, &mut client, due);
     let called = serve(rt, &service, &mut cpu, due);
-    close(rt, alloc, service, client, cpu)?;
+    crew.back(client);
+    crew.back(cpu);
+    let _closing = service.close(rt, crew.into_all());
     Ok((armed, called))
 }
 

@@ -1,11 +1,11 @@
 //! The parts of the program: its service, the client's call, and what the CPU does.
-ghost use Rattle.std.specs.Prelude.{◌≡◌, ◌+◌, IfOk, false};
+ghost use Rattle.std.specs.Prelude.{◌≡◌, IfOk, false};
 ghost use Rattle.co_object.specs.Journal.{scanner};
-ghost use Rattle.co_service.specs.Booted.{AreBooted, booted};
+ghost use Rattle.co_service.specs.Booted.{AreBooted};
 ghost use Rattle.co_service.specs.Params.{actors_of};
-ghost use Rattle.co_service.specs.Scenes.{AreFirst, IsScene};
 ghost use Rattle.co_service.specs.Services.{IsFree};
 ghost use Rattle.co_service.specs.Views.{AreOf};
+ghost use Rattle.embedding_example.specs.Example.{IsExample};
 
 use co_object::{CallOp, LockUse, PlainOp, Reply, Spec};
 use co_sbt::{NoMemory, Sbt, Seq};
@@ -15,7 +15,7 @@ use std::sync::Wait;
 
 /// A service of version 1 with one CPU of 256 buckets, one client and one callout, which has no lock; and each actor's passes.
 pub fn boot(alloc: Global) -> Result<(Fresh, Seq<Passes>), NoMemory>
-    ensures scene { IfOk result (λ made. IsScene 1 1 1 2 made.0.params) }
+    ensures example { IfOk result (λ made. IsExample made.0.params) }
     ensures passes { IfOk result (λ made. AreBooted made.0.name made.0.params made.1) }
 {
     let callout = Spec {
@@ -26,35 +26,10 @@ pub fn boot(alloc: Global) -> Result<(Fresh, Seq<Passes>), NoMemory>
     Service::boot(alloc, 1, 1, 256, 1, &[callout])
 }
 
-/// The passes of the last of these actors, whose number this is.
-fn leave<N: Name>(service: &Service<N>, all: &mut Vec<Passes>, actor: u32) -> Passes
-    requires all { AreFirst N.name service.now (actor + 1) all.old.items }
-    ensures passes { result ≡ booted N.name service.now actor }
-    ensures rest { AreFirst N.name service.now actor all.new.items }
-{
-    let _ = service;
-    all.pop().unwrap()
-}
-
-/// The passes of the client and of the CPU, who are actors 0 and 1.
-pub fn hand_out<N: Name>(service: &Service<N>, passes: Seq<Passes>) -> (Passes, Passes)
-    requires scene { IsScene 1 1 1 2 service.now }
-    requires passes { AreBooted N.name service.now passes }
-    ensures client { AreOf N.name service.now result.0 }
-    ensures cpu { AreOf N.name service.now result.1 }
-    ensures scans { result.1.actor ≡ scanner (actors_of service.now) 0 }
-    ensures free { IsFree false result.1 0 }
-{
-    let mut all = passes.into_vec();
-    let cpu = leave(service, &mut all, 1);
-    let client = leave(service, &mut all, 0);
-    (client, cpu)
-}
-
 /// The client's first act: callout 0 is to call function 0 with argument 7 at this time, on the CPU where it is. The client
 /// holds no lock, and needs none.
 pub fn arm<N: Name, R: Wait>(rt: &R, service: &Service<N>, client: &mut Passes, due: Sbt) -> Reply
-    requires scene { IsScene 1 1 1 2 service.now }
+    requires example { IsExample service.now }
     requires passes { AreOf N.name service.now client.old }
     ensures { AreOf N.name service.now client.new }
 {
@@ -75,7 +50,7 @@ pub fn serve<N: Name, R: Wait>(
     cpu: &mut Passes,
     now: Sbt,
 ) -> Option<(u32, u64)>
-    requires scene { IsScene 1 1 1 2 service.now }
+    requires example { IsExample service.now }
     requires passes { AreOf N.name service.now cpu.old }
     requires scans { cpu.old.actor ≡ scanner (actors_of service.now) 0 }
     requires free { IsFree false cpu.old 0 }
@@ -93,23 +68,4 @@ pub fn serve<N: Name, R: Wait>(
         }
         _ => None,
     }
-}
-
-/// The end of the service, which takes all actors' passes.
-pub fn close<N: Name, R: Wait>(
-    rt: &R,
-    alloc: Global,
-    service: Service<N>,
-    client: Passes,
-    cpu: Passes,
-) -> Result<(), NoMemory>
-    requires scene { IsScene 1 1 1 2 service }
-    requires client { AreOf N.name service client }
-    requires cpu { AreOf N.name service cpu }
-{
-    let mut all = Seq::new(alloc);
-    all.push(client)?;
-    all.push(cpu)?;
-    let _closing = service.close(rt, all);
-    Ok(())
 }
