@@ -4,7 +4,6 @@ pub mod Ranges
 pub mod Fitting
 pub mod Replays
 pub mod Totals
-pub mod Entries
 pub mod Terms
-pub mod Tallying
-pub mod Tallied
+pub mod OneMoreCounted
+pub mod AllCounted

@@ -1,4 +1,4 @@
--- The counts of all callouts: one callout more, and that the fates add up to the accepted armings.
+-- The counts of all callouts: that the fates add up to the accepted armings.
 use Rattle.std.proofs.Common.{◌≡◌, ℕ, zero, suc, ◌+◌, ◌≤◌, Bool, List, length, refl, ap, sym, subst, ◌∙◌, arith}
 use Rattle.std.specs.Prelude.{sum_by}
 use Rattle.std.specs.List.{range_with_len}
@@ -15,10 +15,9 @@ use Rattle.co_program.specs.declared.Script.{Script}
 use Rattle.co_program.specs.Action.{spec_at}
 use Rattle.co_gen.specs.declared.counts.Counts.{Counts}
 use Rattle.co_gen.specs.Soak.{is_superseded, is_stopped, is_pending, armings, fates_of, with_fate, counts_of_first, counts_of}
-use Rattle.co_gen.specs.Replay.{replayed}
 use Rattle.co_gen.specs.Laws.{HaveLegalHistories, FatesAddUp}
 use Rattle.co_gen.proofs.Ranges.{sum-more}
-use Rattle.co_gen.proofs.Replays.{accepts, closings, adds-replayed, made-is, fates-met, fates-count, four-kinds}
+use Rattle.co_gen.proofs.Replays.{accepts, closings, made-is, fates-met, fates-count, four-kinds}
 
 abbrev made_of : ℕ → ℕ → ℕ → ℕ → ℕ → ℕ → Counts
 made_of n a f p s q = record { notes = n; armed = a; fired = f; superseded = p; stopped = s; pending = q }
@@ -39,23 +38,6 @@ module _ (actors : Actors) (s : Script) (lists : List (List Note)) (i : ℕ) (le
 
   pub met : (P : Fate → Bool) → with_fate P s lists i ≡ passing P (closings (spec_at s i) (opening 0) H)
   met P = count-passing P (fates_of s lists i) ∙ fates-met actors (spec_at s i) P H legal
-
-  -- one callout more
-  pub counts-more : (c d : Counts) → c ≡ counts_of_first s lists i → d ≡ replayed (spec_at s i) c (opening 0) H → d ≡ counts_of_first s lists (i + 1)
-  counts-more c d before is =
-      let a = adds-replayed (spec_at s i) c (opening 0) H in
-      is ∙ same-counts (replayed (spec_at s i) c (opening 0) H) (counts_of_first s lists (i + 1))
-      (a.notes ∙ ap (λ (x : Counts). x.notes) before)
-      (let was : c.armed ≡ sum_by (λ k. armings (callout_history k lists)) (range_with_len 0 i) = ap (λ (x : Counts). x.armed) before in
-      omega (arith, a.armed, was, count-passing accepts H, sum-more (λ k. armings (callout_history k lists)) i))
-      (let was : c.fired ≡ sum_by (with_fate is_fired s lists) (range_with_len 0 i) = ap (λ (x : Counts). x.fired) before in
-      omega (arith, a.fired, was, met is_fired, sum-more (with_fate is_fired s lists) i))
-      (let was : c.superseded ≡ sum_by (with_fate is_superseded s lists) (range_with_len 0 i) = ap (λ (x : Counts). x.superseded) before in
-      omega (arith, a.superseded, was, met is_superseded, sum-more (with_fate is_superseded s lists) i))
-      (let was : c.stopped ≡ sum_by (with_fate is_stopped s lists) (range_with_len 0 i) = ap (λ (x : Counts). x.stopped) before in
-      omega (arith, a.stopped, was, met is_stopped, sum-more (with_fate is_stopped s lists) i))
-      (let was : c.pending ≡ sum_by (with_fate is_pending s lists) (range_with_len 0 i) = ap (λ (x : Counts). x.pending) before in
-      omega (arith, a.pending, was, met is_pending, sum-more (with_fate is_pending s lists) i))
 
   -- each accepted arming has one fate
   callout-adds-up : armings H ≡ with_fate is_fired s lists i + with_fate is_superseded s lists i + with_fate is_stopped s lists i + with_fate is_pending s lists i

@@ -1,7 +1,6 @@
 -- The counts by one walk along each history: at most one arming of a callout is to fire yet, so that an entry decides at
 -- most one fate.
-use Rattle.std.specs.Prelude.{ℕ, ◌+◌, Bool, false, not, List, [], ◌∷◌, Option, Some, None, option_and_then, if◌then◌else◌}
-use Rattle.std.specs.List.{filter_map}
+use Rattle.std.specs.Prelude.{ℕ, ◌+◌, Bool, false, not, List, [], ◌∷◌, Option, Some, None, if◌then◌else◌}
 use Rattle.co_object.specs.declared.Spec.{Spec}
 use Rattle.co_object.specs.declared.Arming.{Arming}
 use Rattle.co_object.specs.declared.Run.{Run}
@@ -11,9 +10,6 @@ use Rattle.co_object.specs.declared.Reply.{Reply}
 use Rattle.co_object.specs.declared.Entry.{Entry}
 use Rattle.co_object.specs.declared.AnyEntry.{AnyEntry}
 use Rattle.co_object.specs.declared.AnyEntry.TheVariants as of
-use Rattle.co_object.specs.declared.Note.{Note}
-use Rattle.co_report.specs.declared.Origin.{Origin}
-use Rattle.co_report.specs.Origins.{entry_from}
 use Rattle.co_object.specs.Entries.{is_armed}
 use Rattle.co_object.specs.Fate.{Fate, Pending, Fired, Superseded, Stopped, is_open, fate_by}
 use Rattle.co_object.specs.History.{next}
@@ -67,16 +63,7 @@ abbrev pub replayed : Spec → Counts → State → List Entry → Counts
 replayed spec c s [] = at_end c (open_arming s)
 replayed spec c s (e ∷ es) = replayed spec (after_entry spec c s e) (next spec s e) es
 
--- ---- the entries of a callout
-
+-- the callout's entry, where it is one
 abbrev pub callout_entry : AnyEntry → Option Entry
 callout_entry (of.Timer e) = Some e
 callout_entry _ = None
-
--- the callout's entry of the note from an origin
-abbrev pub callout_entry_from : List (List Note) → Origin → Option Entry
-callout_entry_from lists origin = option_and_then callout_entry (entry_from lists origin)
-
--- the callout's entries of the notes from these origins
-abbrev pub callout_entries : List (List Note) → List Origin → List Entry
-callout_entries lists origins = filter_map (callout_entry_from lists) origins

@@ -4,7 +4,8 @@ ghost use Rattle.co_gen.specs.Generator.{draw_of, next_state};
 
 use std::marker::Model;
 
-/// A source of numbers that a seed decides. Contracts see its state.
+/// A source of numbers below 2^31 that a seed decides, one after the other. Each state follows from the one before by a
+/// linear congruence modulo 2^64, and a number is the upper 31 bits of its state. Our own decision. Contracts see the state.
 #[derive(Drop)]
 pub struct Draws {
     state: u64,

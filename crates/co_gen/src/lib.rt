@@ -9,12 +9,9 @@ mod draws;
 pub mod laws;
 mod replay;
 mod script;
-mod soak;
 mod tally;
-#[cfg(test)]
-mod tests;
 
 pub use counts::{Counts, print_soak};
+pub use draws::Draws;
 pub use script::gen_script;
-pub use soak::count_fates;
 pub use tally::TallyOf;

@@ -1,17 +1,13 @@
-//! The counts of a callout's notes, by one walk along them.
+//! What an entry of a callout's history adds to the counts.
 ghost use Rattle.std.specs.Prelude.{◌≡◌, ◌+◌, OnOk, IfOk};
-ghost use Rattle.co_object.specs.Callout.{opening};
 ghost use Rattle.co_object.specs.Fate.{fate_by, is_armed_with, is_arming, is_picked_with};
 ghost use Rattle.co_object.specs.History.{next};
 ghost use Rattle.co_object.specs.declared.Op.TheVariants.{Call as ByCaller};
-ghost use Rattle.co_gen.specs.Replay.{accepted, after_entry, callout_entries, callout_entry_from, counted, is_closed, open_arming, picked_arming, replayed};
+ghost use Rattle.co_gen.specs.Replay.{accepted, after_entry, counted, is_closed, open_arming, picked_arming};
 
 use crate::counts::Counts;
-use co_object::{
-    Alone, AnyEntry, Arming, CallOp, Entry, Note, Op, PlainOp, Reply, Run, Spec, State,
-};
-use co_report::{Origin, note_from};
-use co_sbt::{NoMemory, Seq};
+use co_object::{Alone, Arming, CallOp, Entry, Op, PlainOp, Reply, Run, State};
+use co_sbt::NoMemory;
 
 /// One more than a count.
 pub(crate) fn more(count: u64) -> Result<u64, NoMemory>
@@ -137,38 +133,4 @@ pub(crate) fn count_entry(
     } else {
         Ok(())
     }
-}
-
-/// The callout's entry of the note from an origin.
-fn entry_from(lists: &[Seq<Note>], origin: Origin) -> Option<Entry>
-    ensures { result ≡ callout_entry_from lists.now origin }
-{
-    match note_from(lists, origin) {
-        Some(note) => match note.entry {
-            AnyEntry::Timer(entry) => Some(entry),
-            AnyEntry::Cpu(_) | AnyEntry::Own(_) => None,
-        },
-        None => None,
-    }
-}
-
-/// Counts the armings of a callout, whose notes these origins give in order of their positions.
-pub fn count_callout(
-    counts: &mut Counts,
-    spec: Spec,
-    lists: &[Seq<Note>],
-    origins: &[Origin],
-) -> Result<(), NoMemory>
-    ensures { OnOk result (counts.new ≡ replayed spec counts.old (opening 0) (callout_entries lists.now origins.now)) }
-{
-    let mut callout = Alone::open(spec, 0);
-    for origin in origins {
-        if let Some(entry) = entry_from(lists, *origin) {
-            count_entry(counts, &mut callout, &entry)?;
-        }
-    }
-    if open_arming(&callout.state).is_some() {
-        counts.pending = more(counts.pending)?;
-    }
-    Ok(())
 }

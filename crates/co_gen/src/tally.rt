@@ -129,8 +129,9 @@ impl<S: Subject> TallyOf<S> {
         })
     }
 
-    /// The counts of the notes that were told, where each place's came in the order of their positions: those that
-    /// `count_fates` gives for their lists. NoMemory where a count is 2^64 or more.
+    /// The counts of the notes that were told, where each place's came in the order of their positions: of all notes, and
+    /// of the accepted armings by what became of them. What is counted is our own decision. NoMemory where a count is 2^64
+    /// or more.
     pub fn counts(self) -> Result<Counts, NoMemory>
         ensures { IfOk result (λ counts. (made : List Made) → HasCounted S.script self.tally made → IsInOrder made →
             HaveLegalHistories (actors_of S.script) S.script (lists_by (actor_count S.script) made) → counts ≡ counts_of S.script (lists_by (actor_count S.script) made)) }

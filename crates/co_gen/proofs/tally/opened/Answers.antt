@@ -1,12 +1,18 @@
 -- One callout more is made.
-use Rattle.std.proofs.Common.{[], ◌∷◌, ◌++◌, map, ap, sym, ◌∙◌}
+use Rattle.std.proofs.Common.{ℕ, false, List, [], ◌∷◌, ◌++◌, map, ap, sym, ◌∙◌}
+use Rattle.std.specs.Prelude.{slice_index_or}
 use Rattle.std.specs.List.{range_with_len}
+use Rattle.co_object.specs.declared.LockUse.TheVariants.{Free}
+use Rattle.co_object.specs.declared.Spec.{Spec}
 use Rattle.co_object.specs.declared.Alone.{Alone}
 use Rattle.co_object.specs.Callout.{opening}
 use Rattle.co_gen.specs.Tally.{callout_told}
-use Rattle.co_gen.proofs.Entries.{spec_in}
 use Rattle.co_gen.proofs.Ranges.{items-more}
 use Rattle.co_gen.proofs.tally.opened.Goals as goal
+
+-- the spec of this number
+abbrev spec_in : List Spec → ℕ → Spec
+spec_in specs i = slice_index_or specs i (record { lock = Free; returns_unlocked = false; direct = false })
 
 pub loop-timer-preserved : goal.loop-timer-preserved
 loop-timer-preserved c =

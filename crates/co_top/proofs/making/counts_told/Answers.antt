@@ -8,7 +8,7 @@ use Rattle.co_program.specs.Runs.{actors_of}
 use Rattle.co_world.proofs.legal.Runs.{walks_are_runs}
 use Rattle.co_gen.specs.Laws.{HaveLegalHistories}
 use Rattle.co_gen.specs.Soak.{counts_of}
-use Rattle.co_gen.proofs.Tallying.{if-ok}
+use Rattle.co_gen.proofs.OneMoreCounted.{if-ok}
 use Rattle.co_top.proofs.making.counts_told.Goals as goal
 
 as-many : (s t : Script) → s ≡ t → actor_count s ≤ actor_count t

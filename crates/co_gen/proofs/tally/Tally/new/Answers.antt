@@ -1,5 +1,5 @@
 -- No note is counted yet.
-use Rattle.co_gen.proofs.Tallied.{nothing-counted}
+use Rattle.co_gen.proofs.AllCounted.{nothing-counted}
 use Rattle.co_gen.proofs.tally.Tally.new.Goals as goal
 
 pub returns : goal.returns

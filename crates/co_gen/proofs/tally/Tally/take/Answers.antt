@@ -6,7 +6,7 @@ use Rattle.co_listener.specs.Made.{Made}
 use Rattle.co_gen.specs.declared.counts.Counts.{Counts}
 use Rattle.co_gen.specs.declared.tally.Tally.{Tally}
 use Rattle.co_gen.specs.Replay.{callout_entry}
-use Rattle.co_gen.proofs.Tallying.{entries-elsewhere, entries-none, told-entry, told-none, on-ok}
+use Rattle.co_gen.proofs.OneMoreCounted.{entries-elsewhere, entries-none, told-entry, told-none, on-ok}
 use Rattle.co_gen.proofs.tally.Tally.take.Goals as goal
 
 -- the note itself is counted

@@ -1,8 +1,8 @@
 -- The counts at the end are those of the lists.
 use Rattle.std.proofs.Common.{ap, ◌∙◌}
 use Rattle.co_gen.specs.Tally.{at_ends}
-use Rattle.co_gen.proofs.Tallied.{counted-all}
-use Rattle.co_gen.proofs.Tallying.{if-ok}
+use Rattle.co_gen.proofs.AllCounted.{counted-all}
+use Rattle.co_gen.proofs.OneMoreCounted.{if-ok}
 use Rattle.co_gen.proofs.tally.Tally.total.Goals as goal
 
 pub returns : goal.returns

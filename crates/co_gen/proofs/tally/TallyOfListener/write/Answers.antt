@@ -1,5 +1,5 @@
 -- One note more is counted.
-use Rattle.co_gen.proofs.Tallying.{on-ok}
+use Rattle.co_gen.proofs.OneMoreCounted.{on-ok}
 use Rattle.co_gen.proofs.tally.TallyOfListener.write.Goals as goal
 
 pub returns-clause-has : goal.returns-clause-has
