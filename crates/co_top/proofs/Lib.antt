@@ -2,6 +2,5 @@ pub mod Accepted
 pub mod Commanded
 pub mod Completeness
 pub mod Generated
-pub mod ReadLines
 pub mod Judged
 pub mod Accepts

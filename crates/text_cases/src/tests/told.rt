@@ -2,12 +2,12 @@
 ghost use Rattle.std.specs.Prelude.{◌≡◌};
 ghost use Rattle.co_program.specs.Scripts.{IsScript};
 
-use crate::{SectionsOf, Subject};
 use co_listener::Listener;
 use co_object::{
     AnyEntry, CallOp, Entry, Note, Op, Place, PlainOp, QEntry, QOp, QReply, Reply, RunOp,
 };
 use co_program::{Script, actor_count};
+use co_report::{SectionsOf, Subject};
 use co_sbt::{NoMemory, Sbt, Seq};
 use co_script::read_script;
 use co_text::ScriptFault;

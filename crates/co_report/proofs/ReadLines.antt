@@ -2,6 +2,7 @@
 use Rattle.std.proofs.Common.{◌≡◌, ℕ, ◌+◌, ◌≤◌, Bool, true, false, List, [], ◌∷◌, ◌++◌, length, refl, ap, subst, arith, length-append}
 use Rattle.std.specs.Prelude.{Option, Some, None, Result, Ok, Err, nat_le, bytes_eq, codes, if◌then◌else◌}
 use Rattle.std.specs.Option.{option_map}
+use Rattle.std.proofs.lemmas.Bool.Decides.{nat_tests}
 use Rattle.co_object.specs.declared.Place.{Place}
 use Rattle.co_program.specs.declared.Script.{Script}
 use Rattle.co_text.specs.Fallible.{◌>>=◌, unless, some_or, at_line}
@@ -117,3 +118,16 @@ notes_few bytes r e =
     let lines : length r.lines ≤ length (lines_of bytes) = lines-read-few (lines_of bytes) r a.2 in
     let bytes_of : length (lines_of bytes) ≤ length bytes = lines-few bytes in
     omega arith
+
+-- and so no more than a report may have bytes
+short-enough : (short : Bool) (u : Bool) → at_line 0 (unless short cause.Size) ≡ Ok u → short ≡ true
+short-enough true u e = refl
+short-enough false u e = cc
+
+pub lines_limited : (bytes : List ℕ) (r : Report) → report_read bytes ≡ Ok r → length r.lines ≤ 268435456
+unfolding report_read
+lines_limited bytes r e =
+    let a = bind-ok (at_line 0 (unless (nat_le (length bytes) 268435456) cause.Size)) (λ _. lines_report (lines_of bytes)) r e in
+    let short : nat_le (length bytes) 268435456 ≡ true = short-enough (nat_le (length bytes) 268435456) a.0 a.1 in
+    let few : length r.lines ≤ length bytes = notes_few bytes r e in
+    grind (arith, nat_tests)

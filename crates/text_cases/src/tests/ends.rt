@@ -1,7 +1,11 @@
+//! Sources and sinks, in memory and over readers and writers.
 ghost use Rattle.std.specs.Prelude.{◌≡◌, ◌≤◌, ◌<◌, ◌^◌, ◌++◌, length, IsTrue, IfSome, OnOk};
 ghost use Rattle.std.specs.Io.KnownBytes.{Appends};
 
-use super::*;
+use co_io::{
+    FileSink, FileSource, MemSink, MemSource, QuietSink, QuietSource, ReadEnd, Sink, Source,
+    WriteEnd, read_all, write_all, write_pieces,
+};
 use co_sbt::{NoMemory, Seq};
 use std::alloc::Global;
 use std::io::{self, ErrorKind, Read, Write};

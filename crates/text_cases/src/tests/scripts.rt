@@ -1,5 +1,5 @@
 //! Worked scripts.
-use crate::{fits, print_script, read_script};
+use co_script::{fits, print_script, read_script};
 use co_text::{Cause, ScriptFault};
 
 #[test]

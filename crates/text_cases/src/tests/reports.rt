@@ -1,10 +1,8 @@
 //! Worked reports.
 ghost use Rattle.std.specs.Prelude.{◌≡◌, ◌∷◌, [], IfOk};
 
-mod told;
-
-use crate::{print_report, read_report};
 use co_object::{AnyEntry, Lists, OwnEntry, OwnKind, Place};
+use co_report::{print_report, read_report};
 use co_sbt::{NoMemory, Seq};
 use co_script::read_script;
 use co_text::{Cause, ScriptFault};
