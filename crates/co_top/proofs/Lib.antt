@@ -1,4 +1,5 @@
 pub mod Accepted
+pub mod Writing
 pub mod Commanded
 pub mod Completeness
 pub mod Generated
