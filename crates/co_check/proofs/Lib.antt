@@ -1,5 +1,4 @@
 pub mod Rows
-pub mod Idle
 pub mod Along
 pub mod Opening
 pub mod Numbering
@@ -17,6 +16,7 @@ pub mod RunsLegal
 pub mod Reported
 pub mod Sections
 pub mod LinesFit
+pub mod ReadReports
 pub mod RunReports
 pub mod Walking
 pub mod Acts

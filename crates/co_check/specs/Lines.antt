@@ -1,5 +1,5 @@
 -- Lines of a report as they are read.
-use Rattle.std.specs.Prelude.{◌≡◌, ℕ, ◌<◌, ◌≤◌, true, List, length}
+use Rattle.std.specs.Prelude.{◌≡◌, ℕ, ◌<◌, ◌≤◌, true, List, length, Ok}
 use Rattle.std.specs.List.{AllByRecursion}
 use Rattle.co_object.specs.declared.Place.{Place}
 use Rattle.co_object.specs.declared.Place.TheVariants as place
@@ -11,6 +11,7 @@ use Rattle.co_program.specs.Places.{place_exists}
 use Rattle.co_program.specs.Scripts.{IsScript}
 use Rattle.co_report.specs.declared.line.Line.{Line}
 use Rattle.co_report.specs.declared.line.Report.{Report}
+use Rattle.co_report.specs.Reading.{report_read}
 use Rattle.co_check.specs.Cpu.{NamesCallout}
 use Rattle.co_check.specs.Shown.{actor_of}
 
@@ -44,3 +45,7 @@ pub record IsReport (report : Report) : Type 0 where
   pub script : IsScript report.script
   pub lines : AreLinesOf report.script report.lines
   pub few : length report.lines ≤ lines_max
+
+-- what is read of a text may be checked
+abbrev pub ReadReportsMayBeChecked : Type 0
+ReadReportsMayBeChecked = (bytes : List ℕ) (report : Report) → report_read bytes ≡ Ok report → IsReport report

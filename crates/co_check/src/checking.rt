@@ -22,7 +22,8 @@ use std::alloc::Global;
 /// First each timer's and each CPU's history is replayed, line by line; then the notes' numbers are looked at; then each actor's
 /// notes, beside its program; and at last whether each program has ended. The condition is that the script is an accepted one and
 /// has what the lines name, that each entry is of the kind of its place, and that there are no more lines than a report of
-/// 2^28 bytes can have. NoMemory comes for want of memory alone. The order and the causes are our own.
+/// 2^28 bytes can have: each report that `read_report` answers meets it (`laws::read_reports_may_be_checked`). NoMemory comes for
+/// want of memory alone. The order and the causes are our own.
 pub fn check(alloc: Global, report: &Report) -> Result<Verdict, NoMemory>
     requires { IsReport report.now }
     ensures { IfOk result (λ found. found ≡ verdict report.now) }

@@ -1,7 +1,15 @@
 //! What the verdict says of histories, each the contract of a function that does nothing.
+ghost use Rattle.co_check.specs.Lines.{ReadReportsMayBeChecked};
 ghost use Rattle.co_check.specs.Programs.{FollowsWhereSeen};
 ghost use Rattle.co_check.specs.Runs.{LegalReportsAreOfRuns, ReportsOfRunsAreLegal, ReportsOfRunsAreReadAsLegal, RunsAreLegal};
 ghost use Rattle.co_check.specs.Laws.{HistoriesOfLegalReports, LegalHistoriesFit};
+
+/// What `read_report` answers meets the condition of `check`: its script is accepted, each line stands in a place of that script,
+/// is of the kind of its place and of one of the script's actors, and names callouts that exist, and there are at most 268435456
+/// lines.
+pub fn read_reports_may_be_checked()
+    ensures { ReadReportsMayBeChecked }
+{}
 
 /// Where the verdict is Legal, each callout's history is one of that callout alone, and each CPU's journal one of a plain
 /// timer queue.

@@ -10,8 +10,6 @@ mod index;
 pub mod laws;
 mod replay;
 mod same;
-#[cfg(test)]
-mod tests;
 mod verdict;
 mod walk;
 

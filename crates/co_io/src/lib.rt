@@ -9,8 +9,6 @@ mod quiet;
 mod read;
 mod sink;
 mod source;
-#[cfg(test)]
-mod tests;
 mod write;
 
 pub use file::{FileSink, FileSource};

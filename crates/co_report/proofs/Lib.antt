@@ -27,6 +27,7 @@ pub mod WholeBack
 pub mod ShownFit
 pub mod NotesFit
 pub mod ReadFit
+pub mod ReadLines
 mod ReadRows
 mod NoteHeads
 mod LinesEnded

@@ -10,8 +10,6 @@ mod reading;
 mod report;
 mod sections;
 mod subject;
-#[cfg(test)]
-mod tests;
 mod typed;
 
 pub use line::{Line, Report};

@@ -14,8 +14,8 @@ use Rattle.co_top.specs.declared.command.Making.{Making}
 use Rattle.co_top.specs.declared.status.Status.{Status}
 use Rattle.co_top.specs.declared.status.Status.TheVariants.{Done, BadScript, Usage, ReadFault, WriteFault, NoMemory, NotLegal}
 use Rattle.co_top.specs.Commands.{command_of}
-use Rattle.co_top.specs.Headline.{Gives, IsJudged, Says, IsReadAnswered, IsAnswered, IsHeadline, IsComplete, limit_of, status_of, script_status, report_status, verdict_status}
-use Rattle.co_top.specs.Outside.{Outside, ReadsToEnd, Reads, HasNoFault}
+use Rattle.co_top.specs.Headline.{Gives, IsJudged, Says, IsReadAnswered, IsAnswered, IsHeadline, IsComplete, limit_of, status_of, script_status, report_status, verdict_status, HasNoFault}
+use Rattle.co_top.specs.Outside.{Outside, ReadsToEnd, Reads}
 use Rattle.co_top.proofs.Accepted.{long_refused, report_refused}
 
 -- ---- what a source that tells its bytes had
@@ -80,7 +80,7 @@ lacking reading None = tt
 lacking reading (Some content) = inr refl
 
 module _ (before after : Outside) where
-  read_answered : (reading : Reading) (status : Status) → Says before after (Some (Read reading)) status → HasNoFault before after → IsReadAnswered reading before status
+  read_answered : (reading : Reading) (status : Status) → Says before after (Some (Read reading)) status → HasNoFault before after (Read reading) → IsReadAnswered reading before status
   read_answered reading Done says sound = record {
     told = told reading before.input.left Done (λ content is. of_all before after reading says.1.0 says.0 content Done is says.1.1 says.1.2);
     untold = tt;
@@ -96,20 +96,20 @@ module _ (before after : Outside) where
   read_answered Steps NotLegal says sound = absurd says.1.2
   read_answered Steps Usage says sound = absurd says.1.2
   read_answered Check Usage says sound = absurd says.1.2
-  read_answered reading ReadFault says sound = absurd (sound.0 says.0)
-  read_answered reading WriteFault says sound = absurd (sound.1 says.3.cause)
+  read_answered reading ReadFault says sound = absurd (sound.reads says.0)
+  read_answered reading WriteFault says sound = absurd (sound.writes says.0 says.1 says.2 says.3.cause)
   read_answered reading NoMemory says sound = record { told = lacking reading before.input.left; untold = tt }
 
-  make_answered : (making : Making) (status : Status) → Says before after (Some (Make making)) status → HasNoFault before after → (status ≡ Done) ⊎ (status ≡ NoMemory)
+  make_answered : (making : Making) (status : Status) → Says before after (Some (Make making)) status → HasNoFault before after (Make making) → (status ≡ Done) ⊎ (status ≡ NoMemory)
   make_answered making Done says sound = inl refl
   make_answered making BadScript says sound = absurd says.1
   make_answered making NotLegal says sound = absurd says.1
   make_answered making Usage says sound = absurd says.1
   make_answered making ReadFault says sound = absurd says.0
-  make_answered making WriteFault says sound = absurd (sound.1 says.3.cause)
+  make_answered making WriteFault says sound = absurd (sound.writes says.0 says.1 says.2 says.3.cause)
   make_answered making NoMemory says sound = inr refl
 
-  answered : (command : Option Command) (status : Status) → Says before after command status → IfSome command (λ command. HasNoFault before after → IsAnswered command before status)
+  answered : (command : Option Command) (status : Status) → Says before after command status → IfSome command (λ command. HasNoFault before after command → IsAnswered command before status)
   answered None status says = tt
   answered (Some (Read reading)) status says = λ sound. read_answered reading status says sound
   answered (Some (Make making)) status says = λ sound. make_answered making status says sound

@@ -1,12 +1,8 @@
--- A report that is read meets the checker's condition, and what is said of its verdict.
-use Rattle.std.proofs.Common.{◌≡◌, ℕ, ◌≤◌, List, length, Ok, Err, Result, IfOk, refl, sym, subst, arith}
+-- What is said of a report's verdict.
+use Rattle.std.proofs.Common.{◌≡◌, ℕ, List, Ok, Err, Result, IfOk, refl, sym, subst}
 use Rattle.std.specs.List.{concat}
-use Rattle.co_script.proofs.Accepted.{fits-accepted}
 use Rattle.co_report.specs.declared.line.Report.{Report}
 use Rattle.co_report.specs.Reading.{report_read}
-use Rattle.co_report.proofs.ReadFit.{read_reports_fit}
-use Rattle.co_check.specs.Lines.{IsReport}
-use Rattle.co_check.proofs.LinesFit.{lines_of}
 use Rattle.co_check.specs.Verdict.{verdict}
 use Rattle.co_check.specs.declared.verdict.Verdict.{Verdict}
 use Rattle.co_check.specs.declared.verdict.Verdict.TheVariants.{Legal, Not}
@@ -15,19 +11,6 @@ use Rattle.co_top.specs.declared.command.Reading.TheVariants.{Check}
 use Rattle.co_top.specs.declared.status.Status.{Status}
 use Rattle.co_top.specs.declared.status.Status.TheVariants.{Done, NotLegal}
 use Rattle.co_top.specs.Headline.{Gives, IsJudged}
-use Rattle.co_top.proofs.Accepted.{report_short}
-use Rattle.co_top.proofs.ReadLines.{notes_few}
-
--- ---- the checker's condition
-
-pub may_check : (bytes : List ℕ) (r : Report) → report_read bytes ≡ Ok r → IsReport r
-may_check bytes r e =
-    let fit = read_reports_fit bytes r e in
-    let notes : length r.lines ≤ length bytes = notes_few bytes r e in
-    let short : length bytes ≤ 268435456 = report_short bytes r e in
-    record { script = fits-accepted r.script fit.script; lines = lines_of r.script r.lines fit.lines; few = omega arith }
-
--- ---- what is said of the verdict
 
 gives : (bytes : List ℕ) (report : Report) (found : Verdict) (status : Status) (text : List ℕ) → report_read bytes ≡ Ok report → found ≡ verdict report →
     IsJudged found status text → Gives Check bytes status text

@@ -1,7 +1,7 @@
 pub mod Accepted
+pub mod Writing
 pub mod Commanded
 pub mod Completeness
 pub mod Generated
-pub mod ReadLines
 pub mod Judged
 pub mod Accepts

@@ -25,7 +25,7 @@ use Rattle.co_top.specs.declared.command.Making.TheVariants.{Gen, Soak}
 use Rattle.co_top.specs.declared.status.Status.{Status}
 use Rattle.co_top.specs.declared.status.Status.TheVariants.{Done, BadScript, Usage, ReadFault, WriteFault, NoMemory, NotLegal}
 use Rattle.co_top.specs.Commands.{command_of, usage_text, legal_text, refusal_text, fault_text, unfit_word}
-use Rattle.co_top.specs.Outside.{Output, Outside, ReadsToEnd, Reads, ReadFails, Writes, WritesFront, HasNoFault}
+use Rattle.co_top.specs.Outside.{Output, Outside, ReadsToEnd, Reads, ReadFails, Writes, WriteFails, WritesFront}
 
 -- ---- `steps`
 
@@ -190,10 +190,16 @@ pub record IsReadAnswered (reading : Reading) (before : Outside) (status : Statu
   pub told : IfSome before.input.left (λ bytes. (status ≡ status_of reading bytes) ⊎ (status ≡ NoMemory))
   pub untold : IsWork reading status
 
+-- no read failed, and no write failed in a text that the command comes to: over a sink that counts no fault and tells room for
+-- each of them none does
+pub record HasNoFault (before after : Outside) (command : Command) : Type 0 where
+  pub reads : ¬ ReadFails before.input after.input
+  pub writes : (status : Status) (text : List ℕ) → ComesTo before after (Some command) status text → ¬ WriteFails before.output after.output text
+
 -- what a command answers, without a fault at either end
 abbrev pub IsAnswered : Command → Outside → Status → Type 0
 IsAnswered (Read reading) before status = IsReadAnswered reading before status
 IsAnswered (Make making) before status = (status ≡ Done) ⊎ (status ≡ NoMemory)
 
 abbrev pub IsComplete : List Word → Outside → Outside → Status → Type 0
-IsComplete words before after status = IfSome (command_of words) (λ command. HasNoFault before after → IsAnswered command before status)
+IsComplete words before after status = IfSome (command_of words) (λ command. HasNoFault before after command → IsAnswered command before status)

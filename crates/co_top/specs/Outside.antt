@@ -3,6 +3,7 @@
 use Rattle.std.specs.Prelude.{ℕ, ◌<◌, ◌⊎◌, Option, List, length}
 use Rattle.std.specs.Io.KnownBytes.{Appends, Consumes, IsAtEnd}
 use Rattle.co_io.specs.Counts.{Rose}
+use Rattle.co_io.specs.Room.{IsTooSmallFor}
 use Rattle.co_io.specs.Writing.{AppendsFront}
 
 -- a source at one moment: what is left of its bytes, and how many reads failed
@@ -10,9 +11,11 @@ pub record Input : Type 0 where
   pub left : Option (List ℕ)
   pub faults : ℕ
 
--- a sink at one moment: what it holds, how many writes failed, and how many took nothing of what was not empty
+-- a sink at one moment: what it holds and for how many more bytes it has room, where it tells them, how many writes failed, and how
+-- many took nothing of what was not empty
 pub record Output : Type 0 where
   pub held : Option (List ℕ)
+  pub room : Option ℕ
   pub faults : ℕ
   pub idle : ℕ
 
@@ -21,10 +24,10 @@ pub record Outside : Type 0 where
   pub input : Input
   pub output : Output
 
-abbrev pub outside : Option (List ℕ) → ℕ → Option (List ℕ) → ℕ → ℕ → Outside
-outside left read_faults held write_faults idle = record {
+abbrev pub outside : Option (List ℕ) → ℕ → Option (List ℕ) → Option ℕ → ℕ → ℕ → Outside
+outside left read_faults held room write_faults idle = record {
   input = record { left = left; faults = read_faults };
-  output = record { held = held; faults = write_faults; idle = idle };
+  output = record { held = held; room = room; faults = write_faults; idle = idle };
 }
 
 module _ (before after : Input) where
@@ -51,15 +54,11 @@ module _ (before after : Output) where
   abbrev pub Writes : List ℕ → Type 0
   Writes text = Appends before.held after.held text
 
-  -- a write failed, or took nothing
-  abbrev pub WriteFails : Type 0
-  WriteFails = Rose before.faults after.faults ⊎ Rose before.idle after.idle
+  -- a write failed, or took nothing, and the room that the sink told was too small for the text
+  abbrev pub WriteFails : List ℕ → Type 0
+  WriteFails text = Rose before.faults after.faults ⊎ (Rose before.idle after.idle × IsTooSmallFor (length text) before.room)
 
-  -- a write failed, and no more than a proper front of the text was written
+  -- a write failed so, and no more than a proper front of the text was written
   pub record WritesFront (text : List ℕ) : Type 0 where
     pub front : AppendsFront before.held after.held text
-    pub cause : WriteFails
-
--- no read and no write failed
-abbrev pub HasNoFault : Outside → Outside → Type 0
-HasNoFault before after = (¬ ReadFails before.input after.input) × (¬ WriteFails before.output after.output)
+    pub cause : WriteFails text

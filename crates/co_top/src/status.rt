@@ -13,7 +13,8 @@ pub enum Status {
     Usage,
     /// The source failed. Nothing was written.
     ReadFault,
-    /// The sink failed, or took nothing; a proper front of the text was written.
+    /// The sink failed, or took nothing, which a sink that tells room for the text never does; a proper front of the text was
+    /// written.
     WriteFault,
     /// There was not enough memory. Nothing was written.
     NoMemory,

@@ -37,8 +37,8 @@ fn told(status: Status, end: Result<(), WriteEnd>) -> Status
 
 /// Writes the text of a status: the answer is that status, or WriteFault where the sink failed.
 fn write_text<K: Sink>(sink: &mut K, status: Status, text: &[u8]) -> Status
-    ensures { let before : Output = record { held = K.held sink.old; faults = K.faults sink.old; idle = K.idle sink.old } in
-        let after : Output = record { held = K.held sink.new; faults = K.faults sink.new; idle = K.idle sink.new } in
+    ensures { let before : Output = record { held = K.held sink.old; room = K.room sink.old; faults = K.faults sink.old; idle = K.idle sink.old } in
+        let after : Output = record { held = K.held sink.new; room = K.room sink.new; faults = K.faults sink.new; idle = K.idle sink.new } in
         Tells status text.now before after result }
 {
     told(status, write_all(sink, text))
@@ -46,8 +46,8 @@ fn write_text<K: Sink>(sink: &mut K, status: Status, text: &[u8]) -> Status
 
 /// Writes an answer, piece by piece: the result is its status, or WriteFault where the sink failed.
 fn write_answer<K: Sink>(sink: &mut K, answer: &Answer) -> Status
-    ensures { let before : Output = record { held = K.held sink.old; faults = K.faults sink.old; idle = K.idle sink.old } in
-        let after : Output = record { held = K.held sink.new; faults = K.faults sink.new; idle = K.idle sink.new } in
+    ensures { let before : Output = record { held = K.held sink.old; room = K.room sink.old; faults = K.faults sink.old; idle = K.idle sink.old } in
+        let after : Output = record { held = K.held sink.new; room = K.room sink.new; faults = K.faults sink.new; idle = K.idle sink.new } in
         Tells answer.now.status (concat answer.now.pieces) before after result }
 {
     told(answer.status, write_pieces(sink, answer.pieces.as_slice()))
@@ -60,8 +60,8 @@ fn read_and_answer<S: Source, K: Sink>(
     source: &mut S,
     sink: &mut K,
 ) -> Status
-    ensures { let before = outside (S.left source.old) (S.faults source.old) (K.held sink.old) (K.faults sink.old) (K.idle sink.old) in
-        let after = outside (S.left source.new) (S.faults source.new) (K.held sink.new) (K.faults sink.new) (K.idle sink.new) in
+    ensures { let before = outside (S.left source.old) (S.faults source.old) (K.held sink.old) (K.room sink.old) (K.faults sink.old) (K.idle sink.old) in
+        let after = outside (S.left source.new) (S.faults source.new) (K.held sink.new) (K.room sink.new) (K.faults sink.new) (K.idle sink.new) in
         Says before after (Some (commands.Read reading)) result }
 {
     let input = match read_all(alloc, source, limit_of(reading)) {
@@ -78,7 +78,7 @@ fn read_and_answer<S: Source, K: Sink>(
 /// A command that makes its text, to the sink. It has no source.
 fn make<K: Sink>(alloc: Global, making: Making, sink: &mut K) -> Status
     ensures { (left : Option (List ℕ)) (faults : ℕ) →
-        Says (outside left faults (K.held sink.old) (K.faults sink.old) (K.idle sink.old)) (outside left faults (K.held sink.new) (K.faults sink.new) (K.idle sink.new)) (Some (commands.Make making)) result }
+        Says (outside left faults (K.held sink.old) (K.room sink.old) (K.faults sink.old) (K.idle sink.old)) (outside left faults (K.held sink.new) (K.room sink.new) (K.faults sink.new) (K.idle sink.new)) (Some (commands.Make making)) result }
 {
     match text_of(alloc, making) {
         Ok(text) => write_text(sink, Status::Done, text.as_slice()),
@@ -90,17 +90,18 @@ fn make<K: Sink>(alloc: Global, making: Making, sink: &mut K) -> Status
 ///
 /// Usage comes exactly where the words are no command. Of a command ReadFault comes before BadScript, and that before the
 /// work; nothing is written before the whole text is made. NoMemory may come at any command, and then nothing was written.
+/// WriteFault comes only where a write failed, or took nothing and the sink had told too little room for the text, if any.
 pub fn callout_main<S: Source, K: Sink>(
     alloc: Global,
     words: &[String],
     source: &mut S,
     sink: &mut K,
 ) -> Status
-    ensures headline { let before = outside (S.left source.old) (S.faults source.old) (K.held sink.old) (K.faults sink.old) (K.idle sink.old) in
-        let after = outside (S.left source.new) (S.faults source.new) (K.held sink.new) (K.faults sink.new) (K.idle sink.new) in
+    ensures headline { let before = outside (S.left source.old) (S.faults source.old) (K.held sink.old) (K.room sink.old) (K.faults sink.old) (K.idle sink.old) in
+        let after = outside (S.left source.new) (S.faults source.new) (K.held sink.new) (K.room sink.new) (K.faults sink.new) (K.idle sink.new) in
         IsHeadline (map string_bytes words.now) before after result }
-    ensures complete { let before = outside (S.left source.old) (S.faults source.old) (K.held sink.old) (K.faults sink.old) (K.idle sink.old) in
-        let after = outside (S.left source.new) (S.faults source.new) (K.held sink.new) (K.faults sink.new) (K.idle sink.new) in
+    ensures complete { let before = outside (S.left source.old) (S.faults source.old) (K.held sink.old) (K.room sink.old) (K.faults sink.old) (K.idle sink.old) in
+        let after = outside (S.left source.new) (S.faults source.new) (K.held sink.new) (K.room sink.new) (K.faults sink.new) (K.idle sink.new) in
         IsComplete (map string_bytes words.now) before after result }
 {
     match command_of(words) {

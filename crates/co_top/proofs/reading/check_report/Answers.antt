@@ -1,4 +1,5 @@
-use Rattle.co_top.proofs.Judged.{may_check, judged_gives}
+use Rattle.co_check.proofs.ReadReports.{may_check}
+use Rattle.co_top.proofs.Judged.{judged_gives}
 use Rattle.co_top.proofs.reading.check_report.Goals as goal
 
 pub judged-requires : goal.judged-requires

@@ -1,4 +1,0 @@
-use Rattle.co_report.proofs.tests.told.text_told.Given as goal
-
-abbrev pub ghosts-report_told : goal.ghosts-report_told
-ghosts-report_told a = record { script = a.script.now }

@@ -1,0 +1,6 @@
+mod ends;
+mod pages;
+mod reports;
+mod scripts;
+mod told;
+mod verdicts;

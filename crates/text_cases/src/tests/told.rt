@@ -1,0 +1,138 @@
+//! A worked report whose notes are told one by one.
+ghost use Rattle.std.specs.Prelude.{◌≡◌};
+ghost use Rattle.co_program.specs.Scripts.{IsScript};
+
+use co_listener::Listener;
+use co_object::{
+    AnyEntry, CallOp, Entry, Note, Op, Place, PlainOp, QEntry, QOp, QReply, Reply, RunOp,
+};
+use co_program::{Script, actor_count};
+use co_report::{SectionsOf, Subject};
+use co_sbt::{NoMemory, Sbt, Seq};
+use co_script::read_script;
+use co_text::ScriptFault;
+use std::alloc::Global;
+use std::marker::Brand;
+
+/// The report of a script after these notes, each with its actor.
+fn report_told<S: Subject>(
+    alloc: Global,
+    script: &Script,
+    told: &[(u32, Note)],
+) -> Result<Seq<u8>, NoMemory>
+    requires sound { IsScript script.now }
+    requires subject { script.now ≡ S.script }
+{
+    let actors = actor_count(script);
+    let mut sections = SectionsOf::<S>::new(alloc, script)?;
+    for (actor, note) in told {
+        if *actor < actors {
+            sections.write(*actor, note)?;
+        }
+    }
+    let mut text = Seq::new(alloc);
+    for piece in sections.pieces(alloc)?.as_slice() {
+        text.extend_from_slice(piece.as_slice())?;
+    }
+    Ok(text)
+}
+
+/// The same of the script that a text stands for.
+fn text_told(alloc: Global, text: &[u8], told: &[(u32, Note)]) -> Result<Seq<u8>, ScriptFault> {
+    let script = read_script(alloc, text)?;
+    match report_told::<Brand>(alloc, &script, told) {
+        Ok(report) => Ok(report),
+        Err(_) => Err(ScriptFault::NoMemory),
+    }
+}
+
+/// A note of callout 0.
+fn timer(actor: u32, pos: u64, op: Op, reply: Reply) -> (u32, Note) {
+    let entry = Entry {
+        actor,
+        act: 0,
+        op,
+        reply,
+    };
+    let note = Note {
+        place: Place::Timer(0),
+        pos,
+        entry: AnyEntry::Timer(entry),
+    };
+    (actor, note)
+}
+
+/// A note of CPU 0.
+fn cpu(actor: u32, pos: u64, op: QOp, reply: QReply) -> (u32, Note) {
+    let entry = QEntry {
+        actor,
+        act: 0,
+        op,
+        reply,
+    };
+    let note = Note {
+        place: Place::Cpu(0),
+        pos,
+        entry: AnyEntry::Cpu(entry),
+    };
+    (actor, note)
+}
+
+/// A reset of callout 0 to this time.
+fn reset(due: Sbt) -> Op {
+    Op::Call(CallOp::Plain(PlainOp::Reset {
+        due,
+        prec: due,
+        func: 0,
+        arg: 7,
+        cpu: None,
+    }))
+}
+
+#[test]
+fn notes_are_printed_as_they_are_told(rt: HostRuntime) {
+    let script =
+        b"callout 1\nfuncs 1\ntimer 0 mpsafe\nfunc 0\nclient 0\nreset 0 =u4294967296 f0 a7\ncpu 0\ntick u4294967296\n";
+    let wanted =
+        b"callout-report 1\ncallout 1\nhz 1000\ncpus 1\nwheel 256\nfuncs 1\ntimer 0 mpsafe\nfunc 0\nclient 0\n\
+        reset 0 =u4294967296 f0 a7\ncpu 0\ntick u4294967296\nhistories\ntimer 0\n0 c0/0 reset u4294967296 pr u4294967296 f0 a7 cpu - = armed 0 #0 p0 off -\n\
+        2 p0/0 pick #0 p0 u4294967296 = go f0 a7\nwheel 0\n1 c0/0 insert i0 #0 u4294967296 = at u4294967296\n0 p0/0 scan u4294967296 = count 1\n\
+        1 p0/0 pop = got i0 #0 u4294967296\n3 p0/0 free = freed\nactor c0\nactor p0\nend\n";
+    let due = Sbt::from_ticks(1, 1);
+    let armed = Reply::Armed {
+        code: 0,
+        n: 0,
+        cpu: 0,
+        off: None,
+    };
+    let told = [
+        timer(0, 0, reset(due), armed),
+        cpu(0, 0, QOp::Insert { i: 0, n: 0, t: due }, QReply::At(due)),
+        cpu(1, 1, QOp::Scan { now: due }, QReply::Count(1)),
+        cpu(
+            1,
+            2,
+            QOp::Pop,
+            QReply::Got {
+                i: 0,
+                n: 0,
+                at: due,
+            },
+        ),
+        timer(
+            1,
+            1,
+            Op::Run(RunOp::Pick {
+                n: 0,
+                cpu: 0,
+                at: due,
+            }),
+            Reply::Go { func: 0, arg: 7 },
+        ),
+        cpu(1, 3, QOp::Free, QReply::Freed),
+    ];
+    match text_told(rt.alloc(), script.as_slice(), told.as_slice()) {
+        Ok(report) => assert_eq!(rt; report.as_slice(), wanted.as_slice()),
+        Err(fault) => panic!(rt; "{fault:?}"),
+    }
+}

@@ -1,0 +1,37 @@
+//! Reports of a script in which nobody does anything.
+use co_check::laws::read_reports_may_be_checked;
+use co_check::{Unfit, Verdict, check};
+use co_report::read_report;
+use co_sbt::NoMemory;
+use co_text::ScriptFault;
+use std::alloc::Global;
+
+/// The verdict on the report that a text is.
+fn verdict_of(alloc: Global, text: &[u8]) -> Result<Verdict, ScriptFault> {
+    let report = read_report(alloc, text)?;
+    read_reports_may_be_checked();
+    match check(alloc, &report) {
+        Ok(verdict) => Ok(verdict),
+        Err(NoMemory {}) => Err(ScriptFault::NoMemory),
+    }
+}
+
+#[test]
+fn nothing_happens(rt: HostRuntime) {
+    let text =
+        b"callout-report 1\ncallout 1\nhz 1000\ncpus 1\nwheel 256\nfuncs 0\ntimer 0 mpsafe\ncpu 0\nhistories\n\
+        timer 0\nwheel 0\nactor p0\nend\n";
+    assert_eq!(rt; verdict_of(rt.alloc(), text.as_slice()), Ok(Verdict::Legal));
+}
+
+#[test]
+fn a_note_of_no_act(rt: HostRuntime) {
+    let text =
+        b"callout-report 1\ncallout 1\nhz 1000\ncpus 1\nwheel 256\nfuncs 0\ntimer 0 mpsafe\ncpu 0\nhistories\n\
+        timer 0\nwheel 0\nactor p0\n0 p0/0 notheld\nend\n";
+    let follows = Verdict::Not {
+        line: 13,
+        cause: Unfit::Follows,
+    };
+    assert_eq!(rt; verdict_of(rt.alloc(), text.as_slice()), Ok(follows));
+}
