@@ -1,0 +1,51 @@
+//! A worked script's walk, as lists and note by note.
+ghost use Rattle.std.specs.Prelude.{◌^◌};
+
+use super::{IN_TRANSIT, script_of};
+use co_core::{run_steps, tell_walk};
+use co_listener::Listener;
+use co_object::Note;
+use co_sbt::{NoMemory, Seq};
+use std::test::Fail;
+
+/// Keeps who makes each note, and at which position of its place.
+#[derive(Drop)]
+struct Told {
+    notes: Seq<(u32, u64)>,
+}
+
+impl Listener for Told {
+    ghost actors = { λ x. 2 ^ 32 };
+
+    ghost has = { λ x made. Unit {0} };
+
+    fn write(&mut self, actor: u32, note: &Note) -> Result<(), NoMemory> {
+        self.notes.push((actor, note.pos))
+    }
+}
+
+#[test]
+fn keeps_a_list_for_each_actor(rt: HostRuntime) -> Result<(), Fail> {
+    let script = script_of(rt.alloc(), IN_TRANSIT)?;
+    let lists = run_steps(rt.alloc(), &script)?;
+    let mut counts = Seq::new(rt.alloc());
+    for list in lists.as_slice() {
+        counts.push(list.as_slice().len())?;
+    }
+    assert_eq!(rt; counts.as_slice(), [2, 2, 0, 0].as_slice());
+    Ok(())
+}
+
+#[test]
+fn tells_as_it_walks(rt: HostRuntime) -> Result<(), Fail> {
+    let script = script_of(rt.alloc(), IN_TRANSIT)?;
+    let mut told = Told {
+        notes: Seq::new(rt.alloc()),
+    };
+    assert_eq!(rt; tell_walk(rt.alloc(), &script, &mut told), Ok(()));
+    assert_eq!(rt;
+        told.notes.as_slice(),
+        [(0, 0), (0, 0), (1, 1), (1, 1)].as_slice()
+    );
+    Ok(())
+}
