@@ -12,6 +12,7 @@ use co_object::{Alone, CallOp, LockUse, Op, PlainOp, Reply, RunOp, Spec};
 use co_program::{Act, Acts, Script, When, Where, Who};
 use co_sbt::{NoMemory, Sbt, Seq};
 use std::alloc::Global;
+use std::process::Abort;
 use std::test::Fail;
 
 /// The time of so many seconds, of which there are few.
@@ -194,11 +195,16 @@ const STOPPED: PortReply = PortReply::Reply(Reply::Stopped {
     off: Some(0),
 });
 
+/// The calls are these.
+pub fn are(rt: &impl Abort, calls: &Seq<PortCall>, expected: &[PortCall]) {
+    assert_eq!(rt; calls.as_slice(), expected);
+}
+
 #[test]
 fn a_function_makes_its_acts_in_order(rt: HostRuntime) -> Result<(), Fail> {
     let free = spec_of(LockUse::Free, false);
     let calls = calls_of_run(rt.alloc(), free, None)?;
-    assert_eq!(rt; calls.as_slice(), [again(ARMED), stop(STOPPED)].as_slice());
+    are(&rt, &calls, &[again(ARMED), stop(STOPPED)]);
     Ok(())
 }
 
@@ -226,13 +232,10 @@ fn calls_are_made_under_the_hold(rt: HostRuntime) -> Result<(), Fail> {
     let locks = two_locks(rt.alloc())?;
     let locked = spec_of(LockUse::Mtx(0), false);
     let (calls, _) = calls_under(rt.alloc(), locked, locks.lock(&rt, 0))?;
-    assert_eq!(rt; calls.as_slice(), [again(ARMED), stop(STOPPED)].as_slice());
+    are(&rt, &calls, &[again(ARMED), stop(STOPPED)]);
     let shared = spec_of(LockUse::RwShared(1), false);
     let (calls, held) = calls_under(rt.alloc(), shared, locks.read(&rt, 1))?;
-    assert_eq!(rt;
-        calls.as_slice(),
-        [again(ARMED), stop(PortReply::NotHeld)].as_slice()
-    );
+    are(&rt, &calls, &[again(ARMED), stop(PortReply::NotHeld)]);
     let reading = Held {
         id: 1,
         exclusive: false,
@@ -259,9 +262,9 @@ fn a_drain_function_makes_its_acts(rt: HostRuntime) -> Result<(), Fail> {
         op: PlainOp::Active,
         answer: PortReply::Reply(Reply::No),
     };
-    assert_eq!(rt; calls.as_slice(), [asks].as_slice());
+    are(&rt, &calls, &[asks]);
     let calls = calls_of_drained(rt.alloc(), 7)?;
-    assert!(rt; calls.as_slice().is_empty());
+    are(&rt, &calls, &[]);
     Ok(())
 }
 
@@ -284,13 +287,12 @@ fn acts_ask_for_operations(rt: HostRuntime) {
         arg: 7,
         cpu: Some(2),
     };
-    assert_eq!(rt;
-        plain_op(&ticks, 1000000, Sbt::zero(), 2, Some(4)),
-        Some((4, reset))
-    );
-    assert_eq!(rt;
-        plain_op(&Act::Retire(Who::Timer(3)), 1000, seconds(1), 2, None),
-        Some((3, PlainOp::Retire))
-    );
-    assert_eq!(rt; plain_op(&Act::Drain(3), 1000, seconds(1), 2, None), None);
+    let retire = Act::Retire(Who::Timer(3));
+    for (act, asked) in [
+        (ticks, Some((4, reset))),
+        (retire, Some((3, PlainOp::Retire))),
+        (Act::Drain(3), None),
+    ] {
+        assert_eq!(rt; plain_op(&act, 1000000, Sbt::zero(), 2, Some(4)), asked);
+    }
 }

@@ -3,9 +3,10 @@ ghost use Rattle.std.specs.Prelude.{◌≡◌, ◌<◌, IfOk, Some, length, slic
 ghost use denote.Param.Send.{IsSync};
 
 use super::turns::comes_to;
-use co_lock::{ClientLocks, Held, LockKind};
+use co_lock::{ClientLocks, Held, Hold, LockKind};
 use co_sbt::NoMemory;
 use std::alloc::Global;
+use std::process::Abort;
 use std::sync::atomic::{AtomicU64, Ordering};
 use std::sync::{Barrier, Wait};
 use std::test::Fail;
@@ -19,35 +20,22 @@ fn three_locks(alloc: Global) -> Result<ClientLocks, NoMemory>
     ClientLocks::new(alloc, &[LockKind::Mtx, LockKind::Rw, LockKind::Rw])
 }
 
+// The hold says that it is this one.
+fn is(rt: &impl Abort, hold: &Hold<'_>, id: u32, exclusive: bool) {
+    assert_eq!(rt; (hold.id(), hold.exclusive()), (id, exclusive));
+    assert_eq!(rt; hold.held(), Held { id, exclusive });
+}
+
 #[test]
-fn a_drop_releases_each_lock(rt: HostRuntime) {
-    let Ok(locks) = three_locks(rt.alloc()) else {
-        panic!(rt; "too little memory");
-    };
+fn a_drop_releases_each_lock(rt: HostRuntime) -> Result<(), Fail> {
+    let locks = three_locks(rt.alloc())?;
     for _ in 0..2 {
-        let mutex = locks.lock(&rt, 0);
-        assert_eq!(rt; mutex.id(), 0);
-        assert!(rt; mutex.exclusive());
-        let writing = locks.lock(&rt, 1);
-        assert_eq!(rt;
-            writing.held(),
-            Held {
-                id: 1,
-                exclusive: true
-            }
-        );
-        drop(writing);
-        let reading = locks.read(&rt, 1);
-        assert_eq!(rt;
-            reading.held(),
-            Held {
-                id: 1,
-                exclusive: false
-            }
-        );
-        assert_eq!(rt; reading.id(), 1);
-        assert!(rt; !reading.exclusive());
+        let _mutex = locks.lock(&rt, 0);
+        is(&rt, &locks.lock(&rt, 1), 1, true);
+        is(&rt, &locks.read(&rt, 1), 1, false);
     }
+    is(&rt, &locks.lock(&rt, 0), 0, true);
+    Ok(())
 }
 
 // Adds 1 so often, by a read and a write of which others may come between unless the lock keeps them out.
@@ -80,12 +68,11 @@ fn counted_by_two<R: Threads + Wait + Sync>(rt: &R, locks: &ClientLocks, id: u32
 }
 
 #[test]
-fn exclusive_holds_exclude_each_other(rt: HostRuntime) {
-    let Ok(locks) = three_locks(rt.alloc()) else {
-        panic!(rt; "too little memory");
-    };
+fn exclusive_holds_exclude_each_other(rt: HostRuntime) -> Result<(), Fail> {
+    let locks = three_locks(rt.alloc())?;
     assert_eq!(rt; counted_by_two(&rt, &locks, 0), 2000);
     assert_eq!(rt; counted_by_two(&rt, &locks, 1), 2000);
+    Ok(())
 }
 
 // Takes the lock in read mode, and keeps it until another has it as well.
@@ -114,15 +101,14 @@ fn read_by_two<R: Threads + Wait + Sync>(rt: &R, locks: &ClientLocks, id: u32) -
 }
 
 #[test]
-fn readers_share_a_lock(rt: HostRuntime) {
-    let Ok(locks) = three_locks(rt.alloc()) else {
-        panic!(rt; "too little memory");
-    };
+fn readers_share_a_lock(rt: HostRuntime) -> Result<(), Fail> {
+    let locks = three_locks(rt.alloc())?;
     let reading = Held {
         id: 1,
         exclusive: false,
     };
     assert_eq!(rt; read_by_two(&rt, &locks, 1), (reading, reading));
+    Ok(())
 }
 
 // Takes the locks but `kept`, one after the other, once that one is kept.

@@ -4,6 +4,7 @@ ghost use Rattle.std.specs.Prelude.{◌≡◌, ◌<◌, ◌≤◌, ◌^◌, leng
 use co_bucket::WheelQueue;
 use co_queue::{ListQueue, Looks, TimerQueue};
 use co_sbt::Sbt;
+use std::process::Abort;
 use std::test::Fail;
 
 /// The next number of a linear congruence modulo 2^31.
@@ -50,6 +51,42 @@ fn scan<Q: TimerQueue>(queue: &mut Q, now: Sbt) -> (u32, u64)
     (count, looks.count())
 }
 
+/// What an operation answered.
+#[derive(Clone, Copy, Debug, PartialEq, Eq)]
+enum Answer {
+    Put(bool, Sbt),
+    Taken(bool),
+    Count(u32),
+    Popped(Option<(u32, u64)>),
+}
+
+/// An operation by its kind, with the looks of it where it is a scan.
+fn operate<Q: TimerQueue>(
+    queue: &mut Q,
+    kind: u64,
+    i: u32,
+    n: u64,
+    t: Sbt,
+    now: Sbt,
+) -> (Answer, u64)
+    requires { i < (Q.state queue.old).size }
+    ensures { (Q.state queue.new).size ≡ (Q.state queue.old).size }
+{
+    match kind {
+        0 | 1 | 2 | 3 => {
+            let (found, at) = replace(queue, i, n, t);
+            (Answer::Put(found, at), 0)
+        }
+        4 => (Answer::Taken(queue.remove(i)), 0),
+        5 => {
+            let (count, looks) = scan(queue, now);
+            (Answer::Count(count), looks)
+        }
+        6 => (Answer::Popped(queue.pop()), 0),
+        _ => (Answer::Popped(queue.pop_direct()), 0),
+    }
+}
+
 #[test]
 fn answers_agree(rt: HostRuntime) -> Result<(), Fail> {
     let direct = [false, true, false, false, true, false, false, false];
@@ -61,43 +98,44 @@ fn answers_agree(rt: HostRuntime) -> Result<(), Fail> {
         let kind = x / 65536 % 8;
         let i = (x / 1024 % 8) as u32;
         x = next_number(x);
+        let now = time(round * 400_000);
         let t = time(round * 400_000 + x / 64);
-        if kind < 4 {
-            assert_eq!(rt;
-                replace(&mut list, i, round, t),
-                replace(&mut wheel, i, round, t)
-            );
-        } else if kind == 4 {
-            assert_eq!(rt; list.remove(i), wheel.remove(i));
-        } else if kind == 5 {
-            let (list_count, list_looks) = scan(&mut list, time(round * 400_000));
-            let (wheel_count, wheel_looks) = scan(&mut wheel, time(round * 400_000));
-            assert_eq!(rt; list_count, wheel_count);
-            assert!(rt; wheel_looks <= list_looks);
-        } else if kind == 6 {
-            assert_eq!(rt; list.pop(), wheel.pop());
-        } else {
-            assert_eq!(rt; list.pop_direct(), wheel.pop_direct());
-        }
+        let (listed, most) = operate(&mut list, kind, i, round, t, now);
+        let (wheeled, looks) = operate(&mut wheel, kind, i, round, t, now);
+        assert_eq!(rt; listed, wheeled);
+        assert!(rt; looks <= most);
         assert_eq!(rt; list.last(), wheel.last());
     }
     Ok(())
 }
 
+/// Arms callouts from 0 on, scans to this count with these looks, and takes out what has come due, in this order.
+fn plays<Q: TimerQueue>(
+    rt: &impl Abort,
+    queue: &mut Q,
+    times: &[u64],
+    now: u64,
+    counted: (u32, u64),
+    order: &[u32],
+)
+    requires size { length times.now ≤ (Q.state queue.old).size }
+    requires small { length times.now ≤ 1024 }
+{
+    arm(queue, times);
+    assert_eq!(rt; scan(queue, time(now)), counted);
+    for i in order {
+        assert_eq!(rt; queue.pop(), Some((*i, 0)));
+    }
+    assert_eq!(rt; queue.pop(), None);
+}
+
 #[test]
 fn order_in_a_bucket(rt: HostRuntime) -> Result<(), Fail> {
+    let times = [16777215, 16777216, 16777217];
     let mut list = ListQueue::new(rt.alloc(), 3, 256, &[false; 3])?;
     let mut wheel = WheelQueue::new(rt.alloc(), 3, 256, &[false; 3])?;
-    arm(&mut list, &[16777215, 16777216, 16777217]);
-    arm(&mut wheel, &[16777215, 16777216, 16777217]);
-    assert_eq!(rt; scan(&mut list, time(16777217)), (3, 3));
-    assert_eq!(rt; scan(&mut wheel, time(16777217)), (3, 3));
-    for i in [0, 2, 1] {
-        assert_eq!(rt; list.pop(), Some((i, 0)));
-        assert_eq!(rt; wheel.pop(), Some((i, 0)));
-    }
-    assert_eq!(rt; list.pop(), None);
-    assert_eq!(rt; wheel.pop(), None);
+    plays(&rt, &mut list, &times, 16777217, (3, 3), &[0, 2, 1]);
+    plays(&rt, &mut wheel, &times, 16777217, (3, 3), &[0, 2, 1]);
     Ok(())
 }
 
@@ -106,17 +144,10 @@ fn more_than_one_turn(rt: HostRuntime) -> Result<(), Fail> {
     let times = [285212672, 33554432, 16777216, 838860800];
     let mut list = ListQueue::new(rt.alloc(), 4, 16, &[false; 4])?;
     let mut wheel = WheelQueue::new(rt.alloc(), 4, 16, &[false; 4])?;
-    arm(&mut list, &times);
-    arm(&mut wheel, &times);
-    assert_eq!(rt; scan(&mut list, time(671088640)), (3, 4));
-    assert_eq!(rt; scan(&mut wheel, time(671088640)), (3, 4));
-    for i in [2, 0, 1] {
-        assert_eq!(rt; list.pop(), Some((i, 0)));
-        assert_eq!(rt; wheel.pop(), Some((i, 0)));
-    }
-    assert_eq!(rt; list.pop(), None);
-    assert_eq!(rt; wheel.pop(), None);
-    assert!(rt; wheel.remove(3));
+    plays(&rt, &mut list, &times, 671088640, (3, 4), &[2, 0, 1]);
+    plays(&rt, &mut wheel, &times, 671088640, (3, 4), &[2, 0, 1]);
+    plays(&rt, &mut list, &[], 838860800, (1, 1), &[3]);
+    plays(&rt, &mut wheel, &[], 838860800, (1, 1), &[3]);
     Ok(())
 }
 

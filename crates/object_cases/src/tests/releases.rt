@@ -2,7 +2,7 @@
 ghost use Rattle.std.specs.Prelude.{◌≡◌, ◌<◌, length};
 ghost use denote.Param.Send.{IsSync};
 
-use super::functions::{again, first_fire, running, spec_of, stop, worked_table};
+use super::functions::{again, are, first_fire, running, spec_of, stop, worked_table};
 use super::ports::AlonePort;
 use super::turns::comes_to;
 use co_hand::{Handler, Port, PortCall, PortReply};
@@ -117,9 +117,10 @@ fn the_hold_is_released_before_the_first_act(rt: HostRuntime) -> Result<(), Fail
     let locks = ClientLocks::new(rt.alloc(), &[LockKind::Mtx])?;
     let (calls, in_vain) = calls_beside_a_lock(&rt, rt.alloc(), &locks)?;
     assert_eq!(rt; in_vain, 0);
-    assert_eq!(rt;
-        calls.as_slice(),
-        [again(PortReply::NotHeld), stop(PortReply::NotHeld)].as_slice()
+    are(
+        &rt,
+        &calls,
+        &[again(PortReply::NotHeld), stop(PortReply::NotHeld)],
     );
     Ok(())
 }
