@@ -1,8 +1,9 @@
 //! Threads that call one service.
 ghost use Rattle.std.specs.Prelude.{◌≡◌, ◌<◌, ◌≤◌, ◌+◌, ◌*◌, vec_len, IfOk};
 ghost use Rattle.co_service.specs.Booted.{AreBooted, booted};
+ghost use Rattle.co_service.specs.Crew.{AreNew};
 ghost use Rattle.co_service.specs.Views.{AreOf};
-ghost use Rattle.service_threads.specs.Crowd.{AreFirst, IsCrowd};
+ghost use Rattle.service_threads.specs.Crowd.{IsCrowd};
 ghost use Rattle.callout_bench.specs.Team.{IsTeam};
 ghost use denote.Param.Send.{IsSync};
 
@@ -10,7 +11,7 @@ use crate::work::Work;
 use co_object::{PlainOp, Reply};
 use co_sbt::{NoMemory, Sbt, Seq};
 use co_service::{Fresh, Name, Passes, Service};
-use service_threads::{Crowd, ask, boot_crowd, leave};
+use service_threads::{Crowd, ask, boot_crowd};
 use std::alloc::Global;
 use std::marker::Brand;
 use std::sync::Wait;
@@ -66,17 +67,17 @@ fn hammer_all<N: Name + Send + Sync, R: Threads + Wait + Sync>(
     requires crowd { IsCrowd crowd.now service.now }
     requires team { IsTeam work.now crowd.now }
     requires few { threads ≤ work.now.threads }
-    requires all { AreFirst N.name service.now threads all.items }
+    requires all { AreNew N.name service.now threads all.items }
 {
     if threads == 0 {
         return 0;
     }
     let thread = threads - 1;
-    let last = leave(service, &mut all, thread);
+    let last = service.leave(&mut all, thread);
     let (rest, own) = join(
         rt,
         || -> u64
-            requires { IsSync R.row × IsCrowd crowd.now service.now × IsTeam work.now crowd.now × (thread ≤ work.now.threads) × AreFirst N.name service.now thread all.items }
+            requires { IsSync R.row × IsCrowd crowd.now service.now × IsTeam work.now crowd.now × (thread ≤ work.now.threads) × AreNew N.name service.now thread all.items }
         { hammer_all(rt, service, crowd, work, all, thread) },
         || -> u64
             requires { IsSync R.row × IsCrowd crowd.now service.now × IsTeam work.now crowd.now × (thread < work.now.threads) × AreOf N.name service.now last }
@@ -88,11 +89,11 @@ fn hammer_all<N: Name + Send + Sync, R: Threads + Wait + Sync>(
 /// The clients' passes, once those of the CPUs have left.
 fn leave_cpus<N: Name>(service: &Service<N>, crowd: &Crowd, mut all: Vec<Passes>) -> Vec<Passes>
     requires crowd { IsCrowd crowd.now service.now }
-    requires all { AreFirst N.name service.now (crowd.now.clients + crowd.now.cpus) all.items }
-    ensures { AreFirst N.name service.now crowd.now.clients result.items }
+    requires all { AreNew N.name service.now (crowd.now.clients + crowd.now.cpus) all.items }
+    ensures { AreNew N.name service.now crowd.now.clients result.items }
 {
     for gone in 0..crowd.cpus {
-        leave(service, &mut all, crowd.clients + (crowd.cpus - 1 - gone));
+        service.leave(&mut all, crowd.clients + (crowd.cpus - 1 - gone));
     }
     all
 }

@@ -1,6 +1,6 @@
--- The actors of a service, who leave one after the other.
-use Rattle.std.proofs.Common.{◌≡◌, ℕ, zero, suc, ◌+◌, ◌<◌, ◌++◌, Bool, List, [], ◌∷◌, length, refl, sym, ap, ◌∙◌, subst, arith, length-append, inl, inr, map, true, false}
-use Rattle.std.specs.Prelude.{slice_get, slice_index_or, if◌then◌else◌, ◌==◌}
+-- The actors of a service that threads share.
+use Rattle.std.proofs.Common.{◌≡◌, ℕ, zero, suc, ◌+◌, ◌++◌, Bool, List, [], ◌∷◌, length, refl, sym, ap, ◌∙◌, subst, arith, inl, inr, map, true, false}
+use Rattle.std.specs.Prelude.{slice_index_or, if◌then◌else◌, ◌==◌}
 use Rattle.std.specs.List.{All}
 use Rattle.std.proofs.lemmas.List.Elements.{All-weaker, All-cons, All-head, All-map, All-nil, All-same, All-tail}
 use Rattle.co_object.specs.declared.spec.Spec.{Spec}
@@ -10,30 +10,15 @@ use Rattle.co_service.specs.declared.params.Params.{Params}
 use Rattle.co_service.specs.Booted.{booted}
 use Rattle.co_service.specs.Name.{ServiceName}
 use Rattle.co_service.specs.Params.{AreParams, IsSpec, actor_count, actors_of, no_spec}
-use Rattle.co_service.specs.Scenes.{IsFreeSpec, IsScene}
+use Rattle.service_cases.specs.Scenes.{IsFreeSpec, IsScene}
 use Rattle.co_service.specs.Services.{IsFree}
 use Rattle.co_service.specs.Closing.{AreAll}
 use Rattle.co_service.specs.Views.{AreOf, PassesView}
 use Rattle.co_service.proofs.Lasts.{booted_free}
-use Rattle.co_service.proofs.Stages.{cpu_free, interrupt_free, interrupt_scans}
+use Rattle.co_service.proofs.Crews.{interrupt_scans, new_free, new_of}
 use Rattle.service_threads.specs.declared.crowd.Crowd.{Crowd}
 use Rattle.service_threads.specs.declared.played.Played.{Played}
-use Rattle.service_threads.specs.Crowd.{AreFirst, AreServers, IsBack, IsCrowd, IsPlain, IsWithin}
-
-module _ {A : Type 0} where
-  pub get_front : (xs ys : List A) (k : ℕ) → k < length xs → slice_get (xs ++ ys) k ≡ slice_get xs k
-  get_front [] ys k below = absurd (omega arith)
-  get_front (x ∷ xs) ys zero below = refl
-  get_front (x ∷ xs) ys (suc k) below = get_front xs ys k (omega arith)
-
--- all but the last
-pub first_rest : (name : ServiceName) (p : Params) (n : ℕ) (rest : List PassesView) (x : PassesView) → AreFirst name p (n + 1) (rest ++ x ∷ []) → AreFirst name p n rest
-first_rest name p n rest x are =
-    let count : length rest ≡ n = (let whole = are.count in let long = length-append rest (x ∷ []) in omega arith) in
-    record {
-      count = count;
-      each = λ j below. sym (get_front rest (x ∷ []) j (omega arith)) ∙ are.each j (omega arith);
-    }
+use Rattle.service_threads.specs.Crowd.{AreServers, IsBack, IsCrowd, IsPlain, IsWithin}
 
 -- a crowd's service is within the limits
 pub crowd_params : (c : Crowd) (specs : List Spec) → IsWithin c → length specs ≡ c.callouts → All IsPlain specs
@@ -115,12 +100,12 @@ lane_specs specs is = subst (All (IsFreeSpec 2)) (sym is) (All-cons (IsFreeSpec 
 
 -- the CPU's actor and its interrupt have nothing in service at first
 pub lane_cpu : (name : ServiceName) (p : Params) (q : PassesView) → IsScene 2 1 2 3 p → q ≡ booted name p 1 → AreOf name p q × IsFree false q 0
-lane_cpu name p q scene e = (booted_of name p 1 q e, cpu_free name p q 1 0 e (let one = scene.clients in omega arith))
+lane_cpu name p q scene e = (new_of name p q 1 e, new_free name p q 1 e false 0 (let one = scene.clients in omega arith))
 
 pub lane_interrupt : (name : ServiceName) (p : Params) (q : PassesView) → IsScene 2 1 2 3 p → q ≡ booted name p 2 → AreOf name p q × (q.actor ≡ scanner (actors_of p) 0) × IsFree true q 0
 lane_interrupt name p q scene e =
-    let own : p.clients + p.cpus + 0 ≡ 2 = (let one = scene.clients in let wheels = scene.cpus_are in omega arith) in
-    (booted_of name p 2 q e, interrupt_scans name p q 2 0 e own scene.version_is, interrupt_free name p q 2 0 e own)
+    let own : 2 ≡ p.clients + p.cpus + 0 = (let one = scene.clients in let wheels = scene.cpus_are in omega arith) in
+    (new_of name p q 2 e, interrupt_scans name p q 2 e 0 own scene.version_is, new_free name p q 2 e true 0 own)
 
 -- the actor of the only CPU, after one client
 pub only_server : (name : ServiceName) (p : Params) (q : PassesView) → p.version ≡ 1 → p.clients ≡ 1 → q ≡ booted name p 1 → AreServers name p 0 q

@@ -1,11 +1,9 @@
 -- The services that threads share.
-use Rattle.std.specs.Prelude.{◌≡◌, ℕ, ◌<◌, ◌≤◌, List, length, slice_get, false}
-use Rattle.std.specs.declared.option.Option.TheVariants.{Some}
+use Rattle.std.specs.Prelude.{◌≡◌, ℕ, ◌≤◌, length, false}
 use Rattle.co_object.specs.declared.spec.Spec.{Spec}
 use Rattle.co_object.specs.declared.spec.LockUse.TheVariants.{Free}
 use Rattle.co_object.specs.Journal.{scanner}
 use Rattle.co_service.specs.declared.params.Params.{Params}
-use Rattle.co_service.specs.Booted.{booted}
 use Rattle.co_service.specs.Name.{ServiceName}
 use Rattle.co_service.specs.Params.{IsSpec, actors_of, spec_at}
 use Rattle.co_service.specs.Services.{IsFree}
@@ -32,11 +30,6 @@ pub record IsCrowd (c : Crowd) (p : Params) : Type 0 where
   pub cpus_are : p.cpus ≡ c.cpus
   pub size : length p.specs ≡ c.callouts
   pub free : (i : ℕ) → (spec_at p i).lock ≡ Free
-
--- the passes of the first n actors, which have seen nothing
-pub record AreFirst (name : ServiceName) (p : Params) (n : ℕ) (all : List PassesView) : Type 0 where
-  pub count : length all ≡ n
-  pub each : (j : ℕ) → j < n → slice_get all j ≡ Some (booted name p j)
 
 -- the passes of a CPU's actor, who scans the CPU too and has nothing in service
 pub record AreServers (name : ServiceName) (p : Params) (cpu : ℕ) (q : PassesView) : Type 0 where

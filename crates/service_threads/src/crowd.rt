@@ -3,11 +3,11 @@ ghost use Rattle.std.specs.Prelude.{◌≡◌, ◌+◌, ◌<◌, ℕ, IfOk, leng
 ghost use Rattle.std.specs.List.{All};
 ghost use Rattle.co_object.specs.declared.op.CallOp.TheVariants.{Plain};
 ghost use Rattle.co_object.specs.declared.spec.LockUse.TheVariants.{Free};
-ghost use Rattle.co_service.specs.Booted.{AreBooted, booted};
+ghost use Rattle.co_service.specs.Booted.{AreBooted};
 ghost use Rattle.co_service.specs.Call.{NamesCpu};
 ghost use Rattle.co_service.specs.Params.{spec_at};
 ghost use Rattle.co_service.specs.Views.{AreOf};
-ghost use Rattle.service_threads.specs.Crowd.{AreFirst, IsCrowd, IsPlain, IsWithin};
+ghost use Rattle.service_threads.specs.Crowd.{IsCrowd, IsPlain, IsWithin};
 
 use co_object::{CallOp, LockUse, PlainOp, Spec};
 use co_sbt::{NoMemory, Seq};
@@ -53,16 +53,6 @@ pub fn boot_crowd(alloc: Global, crowd: &Crowd) -> Result<(Fresh, Seq<Passes>), 
 {
     let specs = plain_specs(alloc, crowd.callouts)?;
     Fresh::boot(alloc, 1, crowd.cpus, 16, crowd.clients, specs.as_slice())
-}
-
-/// The passes of the last of these actors, whose number this is.
-pub fn leave<N: Name>(service: &Service<N>, all: &mut Vec<Passes>, actor: u32) -> Passes
-    requires all { AreFirst N.name service.now (actor + 1) all.old.items }
-    ensures passes { result ≡ booted N.name service.now actor }
-    ensures rest { AreFirst N.name service.now actor all.new.items }
-{
-    let _ = service;
-    all.pop().unwrap()
 }
 
 /// A call on callout `i`, which needs no hold.

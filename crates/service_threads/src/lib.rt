@@ -12,7 +12,7 @@ mod replay;
 #[cfg(test)]
 mod tests;
 
-pub use crowd::{Crowd, ask, boot_crowd, leave};
+pub use crowd::{Crowd, ask, boot_crowd};
 pub use played::Failed;
 pub use playing::run_crowd;
 pub use replay::is_one_history;

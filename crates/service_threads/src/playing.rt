@@ -2,15 +2,16 @@
 ghost use Rattle.std.specs.Prelude.{◌≡◌, ◌<◌, ◌≤◌, IfOk, length, map};
 ghost use Rattle.std.specs.List.{All};
 ghost use Rattle.co_service.specs.Booted.{AreBooted, booted};
+ghost use Rattle.co_service.specs.Crew.{AreNew};
 ghost use Rattle.co_service.specs.Params.{actor_count};
-ghost use Rattle.service_threads.specs.Crowd.{AreFirst, IsBack, IsCrowd, IsWithin};
+ghost use Rattle.service_threads.specs.Crowd.{IsBack, IsCrowd, IsWithin};
 ghost use Rattle.service_threads.specs.declared.played.Played.{Played as PlayedOf};
 ghost use denote.Param.Send.{IsSync};
 
 use crate::clients::play_client;
 use crate::clock::Clock;
 use crate::cpus::play_cpu;
-use crate::crowd::{boot_crowd, leave};
+use crate::crowd::boot_crowd;
 use crate::played::Played;
 use crate::{Crowd, Failed};
 use co_object::Lists;
@@ -55,7 +56,7 @@ fn play_all<N: Name + Send + Sync, R: Threads + Wait + Sync>(
 ) -> Result<Seq<Played>, Failed>
     requires crowd { IsCrowd crowd.now service.now }
     requires few { actors ≤ actor_count service.now }
-    requires all { AreFirst N.name service.now actors all.items }
+    requires all { AreNew N.name service.now actors all.items }
     ensures count { IfOk result (λ played. length played ≡ actors) }
     ensures back { IfOk result (All (IsBack N.name service.now)) }
 {
@@ -63,18 +64,18 @@ fn play_all<N: Name + Send + Sync, R: Threads + Wait + Sync>(
         return Ok(Seq::new(alloc));
     }
     let actor = actors - 1;
-    let last = leave(service, &mut all, actor);
-    let (rest, last) = join(
+    let last = service.leave(&mut all, actor);
+    let (last, rest) = join(
         rt,
-        || -> Result<Seq<Played>, Failed>
-            requires { IsSync R.row × IsCrowd crowd.now service.now × (actor ≤ actor_count service.now) × AreFirst N.name service.now actor all.items }
-            ensures count { IfOk result (λ played. length played ≡ actor) }
-            ensures back { IfOk result (All (IsBack N.name service.entry.now)) }
-        { play_all(rt, alloc, service, crowd, clock, all, actor) },
         || -> Result<Played, Failed>
             requires { IsSync R.row × IsCrowd crowd.now service.now × (actor < actor_count service.now) × (last ≡ booted N.name service.now actor) }
             ensures { IfOk result (IsBack N.name service.entry.now) }
         { play(rt, alloc, service, crowd, clock, last, actor) },
+        || -> Result<Seq<Played>, Failed>
+            requires { IsSync R.row × IsCrowd crowd.now service.now × (actor ≤ actor_count service.now) × AreNew N.name service.now actor all.items }
+            ensures count { IfOk result (λ played. length played ≡ actor) }
+            ensures back { IfOk result (All (IsBack N.name service.entry.now)) }
+        { play_all(rt, alloc, service, crowd, clock, all, actor) },
     );
     let mut rest = rest?;
     rest.push(last?)?;

@@ -1,5 +1,6 @@
 //! Services that threads share.
 mod crowds;
+mod direct;
 mod drains;
 mod held;
 mod lanes;

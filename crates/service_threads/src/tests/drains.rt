@@ -1,6 +1,8 @@
 //! A client drains a callout whose function runs, and waits beside the CPU that ends it.
-ghost use Rattle.std.specs.Prelude.{◌≡◌, IfOk};
+ghost use Rattle.std.specs.Prelude.{◌≡◌, ◌<◌, ℕ, IfOk, length};
+ghost use Rattle.co_object.specs.declared.spec.LockUse.TheVariants.{Free};
 ghost use Rattle.co_service.specs.Booted.{AreBooted};
+ghost use Rattle.co_service.specs.Params.{spec_at};
 ghost use Rattle.co_service.specs.Views.{AreOf};
 ghost use Rattle.service_threads.specs.Crowd.{AreServers, IsCrowd};
 ghost use denote.Param.Send.{IsSync};
@@ -8,7 +10,7 @@ ghost use denote.Param.Send.{IsSync};
 use super::pair::{ONE_EACH, Words, begun, close_two, is_set_in_time, reset, set};
 use crate::Failed;
 use crate::clock::last;
-use crate::crowd::{ask, boot_crowd, leave};
+use crate::crowd::{ask, boot_crowd};
 use crate::played::{Played, note_all};
 use crate::replay::is_one_history;
 use co_object::{CallOp, Reply};
@@ -61,7 +63,8 @@ fn play_cpu<N: Name, R: Wait>(
 
 /// One try of the client's drain.
 fn try_drain<N: Name, R: Wait>(rt: &R, service: &Service<N>, passes: &mut Passes, act: u64) -> Made
-    requires crowd { IsCrowd ONE_EACH service.now }
+    requires free { (k : ℕ) → (spec_at service.now k).lock ≡ Free }
+    requires some { 0 < length service.now.specs }
     requires passes { AreOf N.name service.now passes.old }
     ensures { AreOf N.name service.now passes.new }
 {
@@ -70,13 +73,14 @@ fn try_drain<N: Name, R: Wait>(rt: &R, service: &Service<N>, passes: &mut Passes
 
 /// The client's thread: it drains while the function runs, and again once it waited. The answers are the first and the
 /// last reply.
-fn play_client<N: Name, R: Wait>(
+pub(super) fn play_client<N: Name, R: Wait>(
     rt: &R,
     service: &Service<N>,
     words: &Words,
     mut played: Played,
 ) -> Result<(Played, Reply, Reply), NoMemory>
-    requires crowd { IsCrowd ONE_EACH service.now }
+    requires free { (k : ℕ) → (spec_at service.now k).lock ≡ Free }
+    requires some { 0 < length service.now.specs }
     requires played { AreOf N.name service.now played.passes }
     ensures { IfOk result (λ out. AreOf N.name service.now out.0.passes) }
 {
@@ -144,14 +148,16 @@ fn drains_in_service<N: Name + Send + Sync, R: Threads + Wait + Abort + Sync>(
 {
     let service = Service::<N>::open(alloc, fresh)?;
     let mut all = passes.into_vec();
-    let cpu = leave(&service, &mut all, 1);
-    let mut passes = leave(&service, &mut all, 0);
+    let cpu = service.leave(&mut all, 1);
+    let mut passes = service.leave(&mut all, 0);
     let armed = ask(rt, &service, &mut passes, 0, 0, reset());
     let mut notes = Seq::new(alloc);
     note_all(&mut notes, armed.notes)?;
     let client = Played { passes, notes };
     let (cpu, client) = play_both(rt, alloc, &service, &Words::new(), cpu, client);
     let (client, first, last) = client?;
+    // The reset's two notes, the drain that is to wait, and the one that waited.
+    assert_eq!(rt; client.notes.as_slice().len(), 4);
     let lists = close_two(rt, alloc, service, client, cpu?)?;
     let waits = Reply::Wait {
         n: 0,

@@ -6,7 +6,7 @@ ghost use Rattle.service_threads.specs.Crowd.{IsCrowd};
 ghost use denote.Param.Send.{IsSync};
 
 use super::pair::is_set_in_time;
-use crate::crowd::{Crowd, ask, boot_crowd, leave};
+use crate::crowd::{Crowd, ask, boot_crowd};
 use co_object::{PlainOp, Reply};
 use co_sbt::{NoMemory, Sbt, Seq};
 use co_service::{Fresh, Made, Name, Passes, Service};
@@ -18,16 +18,16 @@ use std::sync::atomic::{AtomicU64, Ordering};
 use std::test::Fail;
 use std::thread::{Threads, join};
 
-const TWO_CPUS: Crowd = Crowd {
+const THREE_CPUS: Crowd = Crowd {
     clients: 2,
-    cpus: 2,
+    cpus: 3,
     callouts: 1,
     calls: 1,
 };
 
 #[test]
 fn a_lock_for_each_cpu(rt: HostRuntime) -> Result<(), Fail> {
-    let (fresh, passes) = boot_crowd(rt.alloc(), &TWO_CPUS)?;
+    let (fresh, passes) = boot_crowd(rt.alloc(), &THREE_CPUS)?;
     stops_beside_a_hold::<Brand, _>(&rt, rt.alloc(), fresh, passes)?;
     Ok(())
 }
@@ -48,7 +48,7 @@ fn stop_when_kept<N: Name, R: Wait>(
     mut passes: Passes,
     words: &Words,
 ) -> (Passes, Made)
-    requires crowd { IsCrowd TWO_CPUS service.now }
+    requires crowd { IsCrowd THREE_CPUS service.now }
     requires passes { AreOf N.name service.now passes }
     ensures { AreOf N.name service.now result.0 }
 {
@@ -58,41 +58,42 @@ fn stop_when_kept<N: Name, R: Wait>(
     (passes, made)
 }
 
-/// Keeps the first CPU's lock until the call was answered. False where it isn't in time.
+/// Keeps the second CPU's lock until the call was answered. False where it isn't in time, or the lock is another's.
 fn keep_until_answered<N: Name, R: Wait>(rt: &R, service: &Service<N>, words: &Words) -> bool
-    requires { IsCrowd TWO_CPUS service.now }
+    requires { IsCrowd THREE_CPUS service.now }
 {
-    let hold = service.hold_desk(rt, 0);
+    let hold = service.hold_desk(rt, 1);
+    let is_second = hold.cpu() == 1;
     words.kept.store(1, Ordering::SeqCst);
     let in_time = is_set_in_time(&words.answered);
     drop(hold);
-    in_time
+    is_second && in_time
 }
 
-/// A client stops the callout while another thread keeps the first CPU's lock.
+/// A client stops the callout while another thread keeps the second CPU's lock.
 fn stop_beside_a_hold<N: Name + Send + Sync, R: Threads + Wait + Sync>(
     rt: &R,
     service: &Service<N>,
     words: &Words,
     client: Passes,
 ) -> (bool, (Passes, Made))
-    requires crowd { IsCrowd TWO_CPUS service.now }
+    requires crowd { IsCrowd THREE_CPUS service.now }
     requires client { AreOf N.name service.now client }
     ensures { AreOf N.name service.now result.1.0 }
 {
     join(
         rt,
         || -> bool
-            requires { IsSync R.row × IsCrowd TWO_CPUS service.now }
+            requires { IsSync R.row × IsCrowd THREE_CPUS service.now }
         { keep_until_answered(rt, service, words) },
         || -> (Passes, Made)
-            requires { IsSync R.row × IsCrowd TWO_CPUS service.now × AreOf N.name service.now client }
+            requires { IsSync R.row × IsCrowd THREE_CPUS service.now × AreOf N.name service.now client }
             ensures { AreOf N.name service.entry.now result.0 }
         { stop_when_kept(rt, service, client, words) },
     )
 }
 
-/// A callout is armed at the second CPU, and stopped while the first CPU's lock is kept.
+/// A callout is armed at the third CPU, and stopped while the second CPU's lock is kept.
 fn stops_beside_a_hold<N: Name + Send + Sync, R: Threads + Wait + Abort + Sync>(
     rt: &R,
     alloc: Global,
@@ -100,22 +101,23 @@ fn stops_beside_a_hold<N: Name + Send + Sync, R: Threads + Wait + Abort + Sync>(
     passes: Seq<Passes>,
 ) -> Result<(), NoMemory>
     requires name { fresh.name ≡ N.name }
-    requires crowd { IsCrowd TWO_CPUS fresh.params }
+    requires crowd { IsCrowd THREE_CPUS fresh.params }
     requires passes { AreBooted fresh.name fresh.params passes }
 {
     let service = Service::<N>::open(alloc, fresh)?;
     let mut all = passes.into_vec();
-    let _second_cpu = leave(&service, &mut all, 3);
-    let _first_cpu = leave(&service, &mut all, 2);
-    let other = leave(&service, &mut all, 1);
-    let mut one = leave(&service, &mut all, 0);
+    let _third_cpu = service.leave(&mut all, 4);
+    let _second_cpu = service.leave(&mut all, 3);
+    let _first_cpu = service.leave(&mut all, 2);
+    let other = service.leave(&mut all, 1);
+    let mut one = service.leave(&mut all, 0);
     let second = Sbt::from_ticks(1, 1);
     let reset = PlainOp::Reset {
         due: second,
         prec: Sbt::zero(),
         func: 0,
         arg: 0,
-        cpu: Some(1),
+        cpu: Some(2),
     };
     let armed = ask(rt, &service, &mut one, 0, 0, reset);
     let words = Words {
@@ -124,10 +126,10 @@ fn stops_beside_a_hold<N: Name + Send + Sync, R: Threads + Wait + Abort + Sync>(
     };
     let (in_time, (_other, stopped)) = stop_beside_a_hold(rt, &service, &words, other);
     assert!(rt; in_time);
-    assert!(rt; matches!(armed.reply, Reply::Armed { cpu: 1, .. }));
+    assert!(rt; matches!(armed.reply, Reply::Armed { cpu: 2, .. }));
     let code = Reply::Stopped {
         code: 1,
-        off: Some(1),
+        off: Some(2),
     };
     assert_eq!(rt; stopped.reply, code);
     Ok(())

@@ -5,14 +5,14 @@ ghost use Rattle.co_object.specs.Journal.{scanner};
 ghost use Rattle.co_object.specs.declared.spec.LockUse.TheVariants.{Free};
 ghost use Rattle.co_service.specs.Booted.{AreBooted};
 ghost use Rattle.co_service.specs.Params.{actors_of};
-ghost use Rattle.co_service.specs.Scenes.{IsScene};
+ghost use Rattle.service_cases.specs.Scenes.{IsScene};
 ghost use Rattle.co_service.specs.Services.{IsFree};
 ghost use Rattle.co_service.specs.Views.{AreOf};
 ghost use denote.Param.Send.{IsSync};
 
 use super::pair::{begun, reset};
 use crate::clock::last;
-use crate::crowd::{ask, leave};
+use crate::crowd::ask;
 use crate::played::{Played, note_all};
 use crate::replay::is_one_history_of;
 use crate::{Crowd, Failed};
@@ -26,7 +26,7 @@ use std::sync::Wait;
 use std::test::Fail;
 use std::thread::{Threads, join};
 
-const TWO_CALLOUTS: Crowd = Crowd {
+pub(super) const TWO_CALLOUTS: Crowd = Crowd {
     clients: 1,
     cpus: 1,
     callouts: 2,
@@ -41,7 +41,7 @@ fn both_lanes(rt: HostRuntime) -> Result<(), Fail> {
 }
 
 /// A callout without a lock.
-fn free_spec(direct: bool) -> Spec
+pub(super) fn free_spec(direct: bool) -> Spec
     ensures { result ≡ record { lock = Free; returns_unlocked = false; direct = direct } }
 {
     Spec {
@@ -62,7 +62,7 @@ fn specs(alloc: Global) -> Result<Seq<Spec>, NoMemory>
 }
 
 /// A service of one client and one CPU with an interrupt, and these callouts.
-fn boot_lanes(alloc: Global) -> Result<(Fresh, Seq<Passes>), NoMemory>
+pub(super) fn boot_lanes(alloc: Global) -> Result<(Fresh, Seq<Passes>), NoMemory>
     ensures scene { IfOk result (λ made. IsScene 2 1 2 3 made.0.params) }
     ensures passes { IfOk result (λ made. AreBooted made.0.name made.0.params made.1) }
 {
@@ -169,7 +169,7 @@ fn play_both<N: Name + Send + Sync, R: Threads + Wait + Sync>(
 }
 
 /// Ends the service. The answer is what the client, the CPU and the interrupt were answered.
-fn close_three<N: Name, R: Wait>(
+pub(super) fn close_three<N: Name, R: Wait>(
     rt: &R,
     alloc: Global,
     service: Service<N>,
@@ -217,9 +217,9 @@ fn plays_both_lanes<N: Name + Send + Sync, R: Threads + Wait + Abort + Sync>(
 {
     let service = Service::<N>::open(alloc, fresh)?;
     let mut all = passes.into_vec();
-    let interrupt = leave(&service, &mut all, 2);
-    let cpu = leave(&service, &mut all, 1);
-    let client = leave(&service, &mut all, 0);
+    let interrupt = service.leave(&mut all, 2);
+    let cpu = service.leave(&mut all, 1);
+    let client = service.leave(&mut all, 0);
     let client = arm_both(rt, alloc, &service, client)?;
     let (cpu, interrupt) = play_both(rt, alloc, &service, cpu, interrupt);
     let (cpu, interrupt) = (cpu?, interrupt?);

@@ -5,7 +5,7 @@ ghost use Rattle.co_lock.specs.declared.lock_kind.LockKind.TheVariants as kind;
 ghost use Rattle.co_object.specs.Queue.{Due};
 ghost use Rattle.co_object.specs.declared.spec.LockUse.TheVariants.{Mtx};
 ghost use Rattle.co_service.specs.Booted.{AreBooted};
-ghost use Rattle.co_service.specs.Scenes.{IsLocked};
+ghost use Rattle.service_cases.specs.Scenes.{IsLocked};
 ghost use Rattle.co_service.specs.Services.{HasNext, IsServing};
 ghost use Rattle.co_service.specs.Serving.{Waits};
 ghost use Rattle.co_service.specs.Views.{AreOf, PassesView};
@@ -15,7 +15,6 @@ ghost use denote.Param.Send.{IsSync};
 use super::pair::{ONE_EACH, Words, close_two, is_set_in_time, set};
 use crate::Failed;
 use crate::clock::last;
-use crate::crowd::leave;
 use crate::played::{Played, note_all};
 use crate::replay::is_one_history_of;
 use co_lock::{ClientLocks, Hold, LockKind};
@@ -246,8 +245,8 @@ fn plays_locked<N: Name + Send + Sync, R: Threads + Wait + Abort + Sync>(
     let locks = ClientLocks::new(alloc, &[LockKind::Mtx])?;
     let service = Service::<N>::open(alloc, fresh)?;
     let mut all = passes.into_vec();
-    let cpu = leave(&service, &mut all, 1);
-    let client = leave(&service, &mut all, 0);
+    let cpu = service.leave(&mut all, 1);
+    let client = service.leave(&mut all, 0);
     let (client, cpu) = play_both(rt, alloc, &service, &locks, client, cpu, stops);
     let (cpu, reply) = cpu?;
     let wanted = if stops {

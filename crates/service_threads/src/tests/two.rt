@@ -5,7 +5,7 @@ ghost use Rattle.service_threads.specs.Crowd.{IsCrowd};
 ghost use denote.Param.Send.{IsSync};
 ghost use Rattle.co_service.specs.Views.{AreOf};
 
-use crate::crowd::{Crowd, ask, boot_crowd, leave};
+use crate::crowd::{Crowd, ask, boot_crowd};
 use co_object::{PlainOp, Reply};
 use co_sbt::{NoMemory, Seq};
 use co_service::{Fresh, Made, Name, Passes, Service};
@@ -79,9 +79,9 @@ fn stops_twice<N: Name + Send + Sync, R: Threads + Wait + Abort + Sync>(
 {
     let service = Service::<N>::open(alloc, fresh)?;
     let mut all = passes.into_vec();
-    let cpu = leave(&service, &mut all, 2);
-    let two = leave(&service, &mut all, 1);
-    let one = leave(&service, &mut all, 0);
+    let cpu = service.leave(&mut all, 2);
+    let two = service.leave(&mut all, 1);
+    let one = service.leave(&mut all, 0);
     let ((one, first), (two, second)) = stop_both(rt, &service, one, two);
     let none = Reply::Stopped {
         code: -1,

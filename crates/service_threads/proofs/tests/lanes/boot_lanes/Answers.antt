@@ -1,7 +1,7 @@
 -- The service of a direct callout and another one.
 use Rattle.std.proofs.Common.{length, ap, ◌∙◌, arith}
 use Rattle.std.proofs.lemmas.Result.{IfOk-weaker}
-use Rattle.co_service.proofs.Stages.{scene_allowed, scene_is}
+use Rattle.service_cases.proofs.Stages.{scene_allowed, scene_is}
 use Rattle.service_threads.proofs.Crowds.{lane_specs}
 use Rattle.service_threads.proofs.tests.lanes.boot_lanes.Goals as goal
 

@@ -1,7 +1,7 @@
 -- The CPU's actor and its interrupt begin with nothing in service.
 use Rattle.std.proofs.Common.{sym, subst}
 use Rattle.co_service.specs.declared.params.Params.{Params}
-use Rattle.co_service.specs.Scenes.{IsScene}
+use Rattle.service_cases.specs.Scenes.{IsScene}
 use Rattle.service_threads.proofs.Crowds.{lane_cpu, lane_interrupt}
 use Rattle.service_threads.proofs.tests.lanes.plays_both_lanes.Goals as goal
 

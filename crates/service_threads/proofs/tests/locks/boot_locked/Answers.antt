@@ -1,7 +1,7 @@
 -- The service of one callout with a mutex.
 use Rattle.std.proofs.Common.{[], ◌∷◌, ◌++◌, ◌∙◌}
 use Rattle.std.proofs.lemmas.Result.{IfOk-weaker}
-use Rattle.co_service.proofs.Stages.{locked_allowed, locked_is}
+use Rattle.service_cases.proofs.Stages.{locked_allowed, locked_is}
 use Rattle.service_threads.proofs.tests.locks.boot_locked.Goals as goal
 
 pub boot-requires : goal.boot-requires

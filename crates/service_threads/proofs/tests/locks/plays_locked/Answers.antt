@@ -1,7 +1,7 @@
 -- The CPU's actor begins with nothing in service.
 use Rattle.std.proofs.Common.{sym, subst}
 use Rattle.co_service.specs.declared.params.Params.{Params}
-use Rattle.co_service.specs.Scenes.{IsLocked}
+use Rattle.service_cases.specs.Scenes.{IsLocked}
 use Rattle.service_threads.proofs.Crowds.{only_server}
 use Rattle.service_threads.proofs.tests.locks.plays_locked.Goals as goal
 

@@ -5,7 +5,7 @@ use Rattle.co_lock.specs.Service.{hold_of}
 use Rattle.co_object.specs.Queue.{Due}
 use Rattle.co_service.specs.Params.{spec_at}
 use Rattle.co_service.specs.Serving.{Waits}
-use Rattle.co_service.proofs.Stages.{same_due}
+use Rattle.service_cases.proofs.Stages.{same_due}
 use Rattle.service_threads.proofs.tests.locks.serve_held.Goals as goal
 
 pub begin-begun-requires-clause-serves : goal.begin-begun-requires-clause-serves
