@@ -1,5 +1,6 @@
 //! Worked histories of callout 0, and their counts.
-ghost use Rattle.std.specs.Prelude.{◌≡◌};
+ghost use Rattle.std.specs.Prelude.{◌≡◌, IfOk};
+ghost use Rattle.co_program.specs.Scripts.{IsScript};
 
 use super::script_of;
 use co_gen::{Counts, TallyOf};
@@ -8,24 +9,41 @@ use co_object::{AnyEntry, CallOp, Entry, Note, Op, Place, PlainOp, Reply, RunOp}
 use co_program::{Script, actor_count};
 use co_report::Subject;
 use co_sbt::{NoMemory, Sbt};
+use co_text::ScriptFault;
 use std::alloc::Global;
 use std::marker::Brand;
 use std::test::Fail;
 
 /// A callout without a lock, and a client.
-const FREE: &[u8] = b"callout 1
+fn free(alloc: Global) -> Result<Script, ScriptFault>
+    ensures { IfOk result IsScript }
+{
+    script_of(
+        alloc,
+        b"callout 1
 funcs 1
 timer 0 mpsafe
 client 0
-";
+"
+            .as_slice(),
+    )
+}
 
 /// A callout with a mutex, and a client.
-const LOCKED: &[u8] = b"callout 1
+fn locked(alloc: Global) -> Result<Script, ScriptFault>
+    ensures { IfOk result IsScript }
+{
+    script_of(
+        alloc,
+        b"callout 1
 funcs 1
 lock 0 mtx
 timer 0 mtx 0
 client 0
-";
+"
+            .as_slice(),
+    )
+}
 
 const NOTHING: Counts = Counts {
     notes: 0,
@@ -113,7 +131,7 @@ fn counts_of(alloc: Global, script: &Script, history: &[(Op, Reply)]) -> Result<
 
 #[test]
 fn replaced(rt: HostRuntime) -> Result<(), Fail> {
-    let script = script_of(rt.alloc(), FREE)?;
+    let script = free(rt.alloc())?;
     let history = [
         (reset(seconds(1)), armed(0, 0, None)),
         (reset(seconds(2)), armed(1, 1, Some(0))),
@@ -136,7 +154,7 @@ fn replaced(rt: HostRuntime) -> Result<(), Fail> {
 
 #[test]
 fn cancelled_while_it_waits(rt: HostRuntime) -> Result<(), Fail> {
-    let script = script_of(rt.alloc(), LOCKED)?;
+    let script = locked(rt.alloc())?;
     let history = [
         (reset(seconds(1)), armed(0, 0, None)),
         (pick(0, seconds(1)), Reply::Hold),
@@ -159,7 +177,7 @@ fn cancelled_while_it_waits(rt: HostRuntime) -> Result<(), Fail> {
 
 #[test]
 fn stop_during_service(rt: HostRuntime) -> Result<(), Fail> {
-    let script = script_of(rt.alloc(), FREE)?;
+    let script = free(rt.alloc())?;
     let off = Some(0);
     let history = [
         (reset(seconds(1)), armed(0, 0, None)),
@@ -184,7 +202,7 @@ fn stop_during_service(rt: HostRuntime) -> Result<(), Fail> {
 
 #[test]
 fn still_armed(rt: HostRuntime) -> Result<(), Fail> {
-    let script = script_of(rt.alloc(), FREE)?;
+    let script = free(rt.alloc())?;
     let history = [(reset(seconds(1)), armed(0, 0, None))];
     let wanted = Counts {
         notes: 1,
@@ -201,7 +219,7 @@ fn still_armed(rt: HostRuntime) -> Result<(), Fail> {
 
 #[test]
 fn empty_run(rt: HostRuntime) -> Result<(), Fail> {
-    let script = script_of(rt.alloc(), FREE)?;
+    let script = free(rt.alloc())?;
     assert_eq!(rt; counts_of(rt.alloc(), &script, &[]), Ok(NOTHING));
     Ok(())
 }

@@ -1,7 +1,7 @@
 //! A worked script's walk, as lists and note by note.
 ghost use Rattle.std.specs.Prelude.{◌^◌};
 
-use super::{IN_TRANSIT, script_of};
+use super::in_transit;
 use co_core::{run_steps, tell_walk};
 use co_listener::Listener;
 use co_object::Note;
@@ -26,7 +26,7 @@ impl Listener for Told {
 
 #[test]
 fn keeps_a_list_for_each_actor(rt: HostRuntime) -> Result<(), Fail> {
-    let script = script_of(rt.alloc(), IN_TRANSIT)?;
+    let script = in_transit(rt.alloc())?;
     let lists = run_steps(rt.alloc(), &script)?;
     let mut counts = Seq::new(rt.alloc());
     for list in lists.as_slice() {
@@ -38,7 +38,7 @@ fn keeps_a_list_for_each_actor(rt: HostRuntime) -> Result<(), Fail> {
 
 #[test]
 fn tells_as_it_walks(rt: HostRuntime) -> Result<(), Fail> {
-    let script = script_of(rt.alloc(), IN_TRANSIT)?;
+    let script = in_transit(rt.alloc())?;
     let mut told = Told {
         notes: Seq::new(rt.alloc()),
     };

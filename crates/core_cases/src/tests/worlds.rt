@@ -1,17 +1,25 @@
 //! Worlds of worked scripts, stepped by hand.
-ghost use Rattle.std.specs.Prelude.{◌≡◌};
+ghost use Rattle.std.specs.Prelude.{◌≡◌, IfOk};
+ghost use Rattle.co_program.specs.Scripts.{IsScript};
 
-use super::{IN_TRANSIT, script_of};
+use super::{in_transit, script_of};
 use co_core::{Turn, Why, World};
 use co_object::{
     AnyEntry, CallOp, Entry, Lists, Note, Op, Place, PlainOp, QEntry, QOp, QReply, Reply,
 };
 use co_program::{Script, actor_count};
+use co_text::ScriptFault;
+use std::alloc::Global;
 use std::process::Abort;
 use std::test::Fail;
 
 /// A client arms the callout under its lock and stops it while the CPU's service waits for the lock.
-const CANCELLED: &[u8] = b"callout 1
+fn cancelled(alloc: Global) -> Result<Script, ScriptFault>
+    ensures { IfOk result IsScript }
+{
+    script_of(
+        alloc,
+        b"callout 1
 funcs 1
 lock 0 mtx
 timer 0 mtx 0
@@ -21,10 +29,18 @@ reset 0 =1 f0 a0
 stop 0
 cpu 0
 tick 1
-";
+"
+            .as_slice(),
+    )
+}
 
 /// A client drains the callout while it is serviced, and another tries to arm it meanwhile.
-const DRAINED: &[u8] = b"callout 1
+fn drained(alloc: Global) -> Result<Script, ScriptFault>
+    ensures { IfOk result IsScript }
+{
+    script_of(
+        alloc,
+        b"callout 1
 funcs 1
 timer 0 mpsafe
 client 0
@@ -35,10 +51,18 @@ client 1
 reset 0 =2 f0 a1
 cpu 0
 tick 1
-";
+"
+            .as_slice(),
+    )
+}
 
 /// A client drains the callout while its service waits for the lock that another client has taken.
-const DRAIN_BEHIND_A_CANCELLED_CALL: &[u8] = b"callout 1
+fn drain_behind_cancelled(alloc: Global) -> Result<Script, ScriptFault>
+    ensures { IfOk result IsScript }
+{
+    script_of(
+        alloc,
+        b"callout 1
 funcs 1
 lock 0 mtx
 timer 0 mtx 0
@@ -52,10 +76,18 @@ lock 0
 stop 0
 cpu 0
 tick 1
-";
+"
+            .as_slice(),
+    )
+}
 
 /// A direct callout and another one, which the CPU services only after its interrupt's tick.
-const SOFT_BEFORE_ITS_TICK: &[u8] = b"callout 2
+fn soft_before_tick(alloc: Global) -> Result<Script, ScriptFault>
+    ensures { IfOk result IsScript }
+{
+    script_of(
+        alloc,
+        b"callout 2
 funcs 1
 timer 0 mpsafe direct
 timer 1 mpsafe
@@ -64,7 +96,10 @@ reset 0 =1 f0 a0
 reset 1 =1 f0 a1
 cpu 0
 tick 1
-";
+"
+            .as_slice(),
+    )
+}
 
 /// The actors step in this order, with these answers.
 fn steps(rt: &impl Abort, script: &Script, world: &mut World, turns: &[(u32, Turn)])
@@ -112,7 +147,7 @@ fn tried(pos: u64, reply: Reply) -> Note {
 
 #[test]
 fn cancelled_while_it_waits(rt: HostRuntime) -> Result<(), Fail> {
-    let script = script_of(rt.alloc(), CANCELLED)?;
+    let script = cancelled(rt.alloc())?;
     let mut world = World::boot(rt.alloc(), &script)?;
     let turns = [
         (0, Turn::Notes(0)),
@@ -141,7 +176,7 @@ fn cancelled_while_it_waits(rt: HostRuntime) -> Result<(), Fail> {
 
 #[test]
 fn moving(rt: HostRuntime) -> Result<(), Fail> {
-    let script = script_of(rt.alloc(), IN_TRANSIT)?;
+    let script = in_transit(rt.alloc())?;
     let mut world = World::boot(rt.alloc(), &script)?;
     let turns = [
         (0, Turn::Notes(1)),
@@ -174,7 +209,7 @@ fn moving(rt: HostRuntime) -> Result<(), Fail> {
 
 #[test]
 fn drain_against_reset(rt: HostRuntime) -> Result<(), Fail> {
-    let script = script_of(rt.alloc(), DRAINED)?;
+    let script = drained(rt.alloc())?;
     let mut world = World::boot(rt.alloc(), &script)?;
     let turns = [
         (0, Turn::Notes(2)),
@@ -210,7 +245,7 @@ fn drain_against_reset(rt: HostRuntime) -> Result<(), Fail> {
 
 #[test]
 fn drain_behind_a_cancelled_call(rt: HostRuntime) -> Result<(), Fail> {
-    let script = script_of(rt.alloc(), DRAIN_BEHIND_A_CANCELLED_CALL)?;
+    let script = drain_behind_cancelled(rt.alloc())?;
     let mut world = World::boot(rt.alloc(), &script)?;
     let turns = [
         (0, Turn::Notes(0)),
@@ -228,7 +263,7 @@ fn drain_behind_a_cancelled_call(rt: HostRuntime) -> Result<(), Fail> {
 
 #[test]
 fn soft_before_its_tick(rt: HostRuntime) -> Result<(), Fail> {
-    let script = script_of(rt.alloc(), SOFT_BEFORE_ITS_TICK)?;
+    let script = soft_before_tick(rt.alloc())?;
     let mut world = World::boot(rt.alloc(), &script)?;
     steps(
         &rt,
