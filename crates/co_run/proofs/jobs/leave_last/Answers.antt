@@ -1,0 +1,34 @@
+-- The passes and the books are the rest and the last ones.
+use Rattle.std.proofs.Common.{◌≡◌, ℕ, ◌+◌, ◌<◌, ◌≤◌, ◌++◌, [], ◌∷◌, List, length, subst, ap, sym, ◌∙◌, arith, length-append}
+use Rattle.std.specs.Option.{option_to_list}
+use Rattle.co_program.specs.Actors.{actor_count}
+use Rattle.co_service.specs.Views.{PassesView}
+use Rattle.co_run.specs.Acting.{params_of}
+use Rattle.co_run.specs.Jobs.{AreEmpty, AreFirst}
+use Rattle.co_run.proofs.Dealing.{empty_front, empty_last, first_front, first_last}
+use Rattle.co_run.proofs.jobs.leave_last.Goals as goal
+
+pub returns : goal.returns
+returns g c =
+    let name = g.N.Name.name in
+    let p = params_of c.args.script.now in
+    let notes = g.B.Notebook.notes in
+    let spare = g.B.Notebook.spare in
+    let passes_are : c.args.passes.now.items ≡ c.pop.new.self.items ++ c.unwrap.result ∷ [] = c.pop.ensures.items ∙ ap (λ o. c.pop.new.self.items ++ option_to_list o) c.unwrap.ensures in
+    let books_are : c.args.books.now.items ≡ c.pop-2.new.self.items ++ c.unwrap-2.result ∷ [] = c.pop-2.ensures.items ∙ ap (λ o. c.pop-2.new.self.items ++ option_to_list o) c.unwrap-2.ensures in
+    let first = subst (AreFirst name p) passes_are c.requires.first in
+    let empty = subst (AreEmpty notes spare) books_are c.requires.empty in
+    let passes_long : length c.args.passes.now.items ≡ length c.pop.new.self.items + 1 = ap length passes_are ∙ length-append c.pop.new.self.items (c.unwrap.result ∷ []) in
+    let books_long : length c.args.books.now.items ≡ length c.pop-2.new.self.items + 1 = ap length books_are ∙ length-append c.pop-2.new.self.items (c.unwrap-2.result ∷ []) in
+    let few = c.requires.few in
+    record {
+      passes_left = sym passes_long;
+      books_left = sym books_long;
+      first = first_front name p c.pop.new.self.items c.unwrap.result first;
+      empty = empty_front notes spare c.pop-2.new.self.items c.unwrap-2.result empty;
+      job = record {
+        below = omega (arith, few, passes_long);
+        passes = first_last name p c.pop.new.self.items c.unwrap.result first;
+        empty = empty_last notes spare c.pop-2.new.self.items c.unwrap-2.result empty;
+      };
+    }

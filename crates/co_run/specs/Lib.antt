@@ -1,0 +1,10 @@
+pub mod Told
+pub mod Going
+pub mod Noted
+pub mod Shown
+pub mod Acting
+pub mod Counted
+pub mod Roomy
+pub mod Over
+pub mod Jobs
+pub mod Ran

@@ -1,0 +1,170 @@
+//! All actors of a run, each in a branch of nested joins.
+//!
+//! A join runs its second branch in the thread that calls it, and the first one in a new thread, or last where none can be
+//! had. So the clients come first, then the interrupts, then the CPUs: an actor waits only for actors that have begun.
+ghost use Rattle.std.specs.Prelude.{◌≡◌, ◌+◌, ◌<◌, IfOk, OnOk, length};
+ghost use Rattle.co_run.specs.Jobs.{AreJobs, CanPlay, HavePlayed, IsGroup, IsJob};
+ghost use Rattle.co_run.specs.Over.{IsOver};
+ghost use denote.Param.Send.{IsSend, IsSync};
+
+use crate::Notebook;
+use crate::actor::Shared;
+use crate::jobs::{Crew, Group, Job, Played, play_job};
+use co_hand::Gate;
+use co_program::Script;
+use co_sbt::{NoMemory, Seq};
+use co_service::Name;
+use std::alloc::Global;
+use std::sync::Wait;
+use std::thread::{Threads, join};
+
+/// The job of the first of these actors. The others' stay.
+fn leave_first<N: Name, B: Notebook>(
+    script: &Script,
+    jobs: &mut Vec<Job<B>>,
+    first: u32,
+    end: u32,
+) -> Job<B>
+    requires some { first < end }
+    requires jobs { IsGroup (AreJobs script.now N.name B.notes B.spare) first end jobs.old.items }
+    ensures rest { IsGroup (AreJobs script.now N.name B.notes B.spare) (first + 1) end jobs.new.items }
+    ensures job { IsJob script.now N.name first result.passes (B.notes result.book) (B.spare result.book) }
+    ensures less { length jobs.new.items + 1 ≡ length jobs.old.items }
+{
+    let _ = script;
+    let _ = (first, end);
+    jobs.pop().unwrap()
+}
+
+/// One more actor has played its program, before these.
+fn add<N: Name>(
+    script: &Script,
+    all: &mut Seq<Played>,
+    one: Played,
+    number: u32,
+    end: u32,
+) -> Result<(), NoMemory>
+    requires played { IsGroup (HavePlayed script.now N.name) (number + 1) end all.old }
+    requires over { IsOver script.now N.name number one.passes one.notes }
+    ensures { OnOk result (IsGroup (HavePlayed script.now N.name) number end all.new) }
+{
+    let _ = (number, end);
+    let _ = script;
+    all.push(one)
+}
+
+/// Plays all of these jobs at once, each in a thread of its own. What they bring back stands in their order: the first
+/// comes last.
+fn play_group<B: Notebook + Send, N: Name + Send + Sync, G: Gate + Sync, R: Threads + Wait + Sync>(
+    rt: &R,
+    alloc: Global,
+    shared: &Shared<'_, N, G>,
+    longest: u32,
+    group: Group<B>,
+) -> Result<Seq<Played>, NoMemory>
+    requires can { CanPlay shared.now.script.now shared.now.locks.now N.name shared.now.service.now longest }
+    requires group { IsGroup (AreJobs shared.now.script.now N.name B.notes B.spare) group.first group.end group.jobs.items }
+    ensures { IfOk result (IsGroup (HavePlayed shared.now.script.now N.name) group.first group.end) }
+{
+    let Group {
+        first,
+        end,
+        mut jobs,
+    } = group;
+    if first >= end {
+        return Ok(Seq::new(alloc));
+    }
+    let job = leave_first::<N, B>(shared.script, &mut jobs, first, end);
+    let later = Group {
+        first: first + 1,
+        end,
+        jobs,
+    };
+    let (rest, one) = join(
+        rt,
+        || -> Result<Seq<Played>, NoMemory>
+            requires { IsSync R.row × IsSync G.row × IsSend B.row × CanPlay shared.now.script.now shared.now.locks.now N.name shared.now.service.now longest × IsGroup (AreJobs shared.now.script.now N.name B.notes B.spare) later.first later.end later.jobs.items }
+            ensures { IfOk result (IsGroup (HavePlayed shared.entry.now.script.now N.name) later.first later.end) }
+        { play_group(rt, alloc, shared, longest, later) },
+        || -> Result<Played, NoMemory>
+            requires { IsSync R.row × IsSync G.row × IsSend B.row × CanPlay shared.now.script.now shared.now.locks.now N.name shared.now.service.now longest × IsJob shared.now.script.now N.name first job.passes (B.notes job.book) (B.spare job.book) }
+            ensures { IfOk result (λ played. IsOver shared.entry.now.script.now N.name first played.passes played.notes) }
+        { play_job(rt, shared, longest, first, job) },
+    );
+    let mut all = rest?;
+    add::<N>(shared.script, &mut all, one?, first, end)?;
+    Ok(all)
+}
+
+/// Plays the programs of all interrupts and of all CPUs at once. The interrupts begin first.
+fn play_cpus<B: Notebook + Send, N: Name + Send + Sync, G: Gate + Sync, R: Threads + Wait + Sync>(
+    rt: &R,
+    alloc: Global,
+    shared: &Shared<'_, N, G>,
+    longest: u32,
+    cpus: Group<B>,
+    interrupts: Group<B>,
+) -> Result<(Seq<Played>, Seq<Played>), NoMemory>
+    requires can { CanPlay shared.now.script.now shared.now.locks.now N.name shared.now.service.now longest }
+    requires cpus { IsGroup (AreJobs shared.now.script.now N.name B.notes B.spare) cpus.first cpus.end cpus.jobs.items }
+    requires interrupts { IsGroup (AreJobs shared.now.script.now N.name B.notes B.spare) interrupts.first interrupts.end interrupts.jobs.items }
+    ensures cpus { IfOk result (λ all. IsGroup (HavePlayed shared.now.script.now N.name) cpus.first cpus.end all.0) }
+    ensures interrupts { IfOk result (λ all. IsGroup (HavePlayed shared.now.script.now N.name) interrupts.first interrupts.end all.1) }
+{
+    let (second, first) = join(
+        rt,
+        || -> Result<Seq<Played>, NoMemory>
+            requires { IsSync R.row × IsSync G.row × IsSend B.row × CanPlay shared.now.script.now shared.now.locks.now N.name shared.now.service.now longest × IsGroup (AreJobs shared.now.script.now N.name B.notes B.spare) cpus.first cpus.end cpus.jobs.items }
+            ensures { IfOk result (IsGroup (HavePlayed shared.entry.now.script.now N.name) cpus.first cpus.end) }
+        { play_group(rt, alloc, shared, longest, cpus) },
+        || -> Result<Seq<Played>, NoMemory>
+            requires { IsSync R.row × IsSync G.row × IsSend B.row × CanPlay shared.now.script.now shared.now.locks.now N.name shared.now.service.now longest × IsGroup (AreJobs shared.now.script.now N.name B.notes B.spare) interrupts.first interrupts.end interrupts.jobs.items }
+            ensures { IfOk result (IsGroup (HavePlayed shared.entry.now.script.now N.name) interrupts.first interrupts.end) }
+        { play_group(rt, alloc, shared, longest, interrupts) },
+    );
+    Ok((second?, first?))
+}
+
+/// Plays the programs of all actors at once. The clients begin first.
+pub(crate) fn play_all<
+    B: Notebook + Send,
+    N: Name + Send + Sync,
+    G: Gate + Sync,
+    R: Threads + Wait + Sync,
+>(
+    rt: &R,
+    alloc: Global,
+    shared: &Shared<'_, N, G>,
+    longest: u32,
+    clients: Group<B>,
+    cpus: Group<B>,
+    interrupts: Group<B>,
+) -> Result<Crew<Seq<Played>>, NoMemory>
+    requires can { CanPlay shared.now.script.now shared.now.locks.now N.name shared.now.service.now longest }
+    requires clients { IsGroup (AreJobs shared.now.script.now N.name B.notes B.spare) clients.first clients.end clients.jobs.items }
+    requires cpus { IsGroup (AreJobs shared.now.script.now N.name B.notes B.spare) cpus.first cpus.end cpus.jobs.items }
+    requires interrupts { IsGroup (AreJobs shared.now.script.now N.name B.notes B.spare) interrupts.first interrupts.end interrupts.jobs.items }
+    ensures clients { IfOk result (λ all. IsGroup (HavePlayed shared.now.script.now N.name) clients.first clients.end all.clients) }
+    ensures cpus { IfOk result (λ all. IsGroup (HavePlayed shared.now.script.now N.name) cpus.first cpus.end all.cpus) }
+    ensures interrupts { IfOk result (λ all. IsGroup (HavePlayed shared.now.script.now N.name) interrupts.first interrupts.end all.interrupts) }
+{
+    let (others, first) = join(
+        rt,
+        || -> Result<(Seq<Played>, Seq<Played>), NoMemory>
+            requires { IsSync R.row × IsSync G.row × IsSend B.row × CanPlay shared.now.script.now shared.now.locks.now N.name shared.now.service.now longest × IsGroup (AreJobs shared.now.script.now N.name B.notes B.spare) cpus.first cpus.end cpus.jobs.items × IsGroup (AreJobs shared.now.script.now N.name B.notes B.spare) interrupts.first interrupts.end interrupts.jobs.items }
+            ensures cpus { IfOk result (λ all. IsGroup (HavePlayed shared.entry.now.script.now N.name) cpus.first cpus.end all.0) }
+            ensures interrupts { IfOk result (λ all. IsGroup (HavePlayed shared.entry.now.script.now N.name) interrupts.first interrupts.end all.1) }
+        { play_cpus(rt, alloc, shared, longest, cpus, interrupts) },
+        || -> Result<Seq<Played>, NoMemory>
+            requires { IsSync R.row × IsSync G.row × IsSend B.row × CanPlay shared.now.script.now shared.now.locks.now N.name shared.now.service.now longest × IsGroup (AreJobs shared.now.script.now N.name B.notes B.spare) clients.first clients.end clients.jobs.items }
+            ensures { IfOk result (IsGroup (HavePlayed shared.entry.now.script.now N.name) clients.first clients.end) }
+        { play_group(rt, alloc, shared, longest, clients) },
+    );
+    let clients = first?;
+    let (cpus, interrupts) = others?;
+    Ok(Crew {
+        clients,
+        cpus,
+        interrupts,
+    })
+}

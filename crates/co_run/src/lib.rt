@@ -1,0 +1,24 @@
+//! Runs on threads.
+#![tactic(auto)]
+
+mod actor;
+mod asking;
+mod book;
+mod by_itself;
+mod calls;
+mod jobs;
+mod joins;
+mod laws;
+mod longest;
+mod playing;
+mod port;
+mod rounds;
+mod runs;
+mod scans;
+mod services;
+mod stepping;
+
+pub use book::{Notebook, RoomBook, ShortBook};
+pub use laws::fitting_scripts_can_run;
+pub use port::{PortOrigin, ServicePort};
+pub use runs::{Ran, run_books, run_on, run_threads};

@@ -1,0 +1,258 @@
+//! A script's run on threads.
+ghost use Rattle.std.specs.Prelude.{◌≡◌, ◌+◌, ◌<◌, IfOk, OnOk, length};
+ghost use Rattle.co_program.specs.Actors.{actor_count};
+ghost use Rattle.co_program.specs.Scripts.{IsScript};
+ghost use Rattle.co_service.specs.Booted.{AreBooted};
+ghost use Rattle.co_service.specs.Fresh.{AreNamed};
+ghost use Rattle.co_service.specs.Params.{AreParams};
+ghost use Rattle.co_run.specs.Acting.{HasLocks, params_of};
+ghost use Rattle.co_run.specs.Jobs.{AreEmpty, HavePlayed, IsCrew, IsGroup};
+ghost use Rattle.co_run.specs.Over.{AreOver, IsOver};
+ghost use Rattle.co_run.specs.Ran.{IsRan};
+
+use crate::actor::Shared;
+use crate::jobs::{Crew, Played, deal_all};
+use crate::joins::play_all;
+use crate::longest::longest_of;
+use crate::{Notebook, RoomBook};
+use co_hand::Gate;
+use co_lock::ClientLocks;
+use co_object::{Lists, Note};
+use co_program::{Script, actor_count};
+use co_sbt::{NoMemory, Seq};
+use co_service::{Closing, Fresh, Name, Passes, Service};
+use std::alloc::Global;
+use std::marker::Brand;
+use std::sync::Wait;
+use std::thread::Threads;
+
+/// What a run on threads brings back.
+#[derive(Drop)]
+pub struct Ran {
+    /// The notes of each actor, in the order of the actors' numbers.
+    pub lists: Lists,
+    /// What is left of the service: its name, and the history of each callout and each CPU.
+    pub closing: Closing,
+}
+
+/// What all actors bring back: their passes, and the notes of each.
+#[derive(Drop)]
+struct Brought {
+    passes: Seq<Passes>,
+    lists: Lists,
+}
+
+/// What the next actor brings back goes to the others'.
+fn add<N: Name>(script: &Script, all: &mut Brought, one: Played) -> Result<(), NoMemory>
+    requires over { AreOver script.now N.name 0 all.old.passes all.old.lists }
+    requires one { IsOver script.now N.name (length all.old.lists) one.passes one.notes }
+    ensures over { OnOk result (AreOver script.now N.name 0 all.new.passes all.new.lists) }
+    ensures count { OnOk result (length all.new.lists ≡ length all.old.lists + 1) }
+{
+    let _ = script;
+    let Played { passes, notes } = one;
+    all.passes.push(passes)?;
+    all.lists.push(notes)
+}
+
+/// What the next actor brings back, which stands last. The others' stays.
+fn leave_next<N: Name>(script: &Script, group: &mut Vec<Played>, next: usize, end: u32) -> Played
+    requires some { next < end }
+    requires group { IsGroup (HavePlayed script.now N.name) next end group.old.items }
+    ensures rest { IsGroup (HavePlayed script.now N.name) (next + 1) end group.new.items }
+    ensures one { IsOver script.now N.name next result.passes result.notes }
+{
+    let _ = script;
+    let _ = (next, end);
+    group.pop().unwrap()
+}
+
+/// What the next actors bring back, the first of whom stands last, goes to the others'.
+fn add_group<N: Name>(
+    script: &Script,
+    all: &mut Brought,
+    group: Seq<Played>,
+    end: u32,
+) -> Result<(), NoMemory>
+    requires over { AreOver script.now N.name 0 all.old.passes all.old.lists }
+    requires group { IsGroup (HavePlayed script.now N.name) (length all.old.lists) end group }
+    ensures over { OnOk result (AreOver script.now N.name 0 all.new.passes all.new.lists) }
+    ensures count { OnOk result (length all.new.lists ≡ end) }
+{
+    let mut group = group.into_vec();
+    for next in all.lists.as_slice().len()..end as usize {
+        let one = leave_next::<N>(script, &mut group, next, end);
+        add::<N>(script, all, one)?;
+    }
+    Ok(())
+}
+
+/// The notes of all actors in the order of their numbers, and their passes.
+fn add_crew<N: Name>(
+    alloc: Global,
+    script: &Script,
+    crew: Crew<Seq<Played>>,
+) -> Result<Brought, NoMemory>
+    requires script { IsScript script.now }
+    requires crew { IsCrew script.now (HavePlayed script.now N.name) crew.clients crew.cpus crew.interrupts }
+    ensures over { IfOk result (λ all. AreOver script.now N.name 0 all.passes all.lists) }
+    ensures count { IfOk result (λ all. length all.lists ≡ actor_count script.now) }
+{
+    let clients = script.clients.as_slice().len() as u32;
+    let mut all = Brought {
+        passes: Seq::new(alloc),
+        lists: Seq::new(alloc),
+    };
+    add_group::<N>(script, &mut all, crew.clients, clients)?;
+    add_group::<N>(script, &mut all, crew.cpus, clients + script.cpus)?;
+    add_group::<N>(script, &mut all, crew.interrupts, actor_count(script))?;
+    Ok(all)
+}
+
+/// Ends the service once all programs are over.
+fn finish<N: Name, R: Wait>(rt: &R, script: &Script, service: Service<N>, all: Brought) -> Ran
+    requires script { IsScript script.now }
+    requires service { service ≡ params_of script.now }
+    requires over { AreOver script.now N.name 0 all.passes all.lists }
+    requires count { length all.lists ≡ actor_count script.now }
+    ensures name { result.closing.name ≡ N.name }
+    ensures run { IsRan script.now result }
+{
+    let _ = script;
+    let Brought { passes, lists } = all;
+    Ran {
+        lists,
+        closing: service.close(rt, passes),
+    }
+}
+
+/// Runs a script on threads over an open service, each actor in a branch of nested joins, and ends the service. Each actor
+/// notes into one of the books, in the order of the actors' numbers; all are empty.
+///
+/// The passes are those of the service's boot, by the script's version, CPUs, buckets, number of clients and callouts; they
+/// have seen nothing. The gate is called before each act of an actor, the acts of functions included.
+///
+/// `NoMemory` is the only refusal. An actor whose book is refused room lets go of its lock and stops between two services.
+/// The others play on, and the whole answers `NoMemory`.
+pub fn run_books<
+    N: Name + Send + Sync,
+    G: Gate + Sync,
+    B: Notebook + Send,
+    R: Threads + Wait + Sync,
+>(
+    rt: &R,
+    alloc: Global,
+    script: &Script,
+    gate: &G,
+    service: Service<N>,
+    passes: Seq<Passes>,
+    books: Seq<B>,
+) -> Result<Ran, NoMemory>
+    requires script { IsScript script.now }
+    requires locks { HasLocks script.now }
+    requires service { service ≡ params_of script.now }
+    requires named { AreNamed N.name (params_of script.now) }
+    requires passes { AreBooted N.name (params_of script.now) passes }
+    requires books { length books ≡ actor_count script.now }
+    requires empty { AreEmpty B.notes B.spare books }
+    ensures name { IfOk result (λ ran. ran.closing.name ≡ N.name) }
+    ensures run { IfOk result (IsRan script.now) }
+{
+    let longest = longest_of(script);
+    let locks = ClientLocks::new(alloc, script.locks.as_slice())?;
+    let Crew {
+        clients,
+        cpus,
+        interrupts,
+    } = deal_all::<N, B>(alloc, script, passes, books)?;
+    let shared = Shared {
+        script,
+        service: &service,
+        locks: &locks,
+        gate,
+    };
+    let crew = play_all(rt, alloc, &shared, longest, clients, cpus, interrupts)?;
+    let all = add_crew::<N>(alloc, script, crew)?;
+    Ok(finish(rt, script, service, all))
+}
+
+/// An empty book for each actor.
+fn empty_books(alloc: Global, script: &Script) -> Result<Seq<RoomBook>, NoMemory>
+    requires { IsScript script.now }
+    ensures count { IfOk result (λ books. length books ≡ actor_count script.now) }
+    ensures empty { IfOk result (λ books. AreEmpty (λ b. b.notes.items) (λ b. b.spare) books) }
+{
+    let mut books = Seq::new(alloc);
+    for made in 0..actor_count(script) {
+        let _ = made;
+        books.push(RoomBook::new(alloc))?;
+    }
+    Ok(books)
+}
+
+/// Runs a script on threads over an open service, as [`run_books`] does with a [`RoomBook`] for each actor.
+pub fn run_on<N: Name + Send + Sync, G: Gate + Sync, R: Threads + Wait + Sync>(
+    rt: &R,
+    alloc: Global,
+    script: &Script,
+    gate: &G,
+    service: Service<N>,
+    passes: Seq<Passes>,
+) -> Result<Ran, NoMemory>
+    requires script { IsScript script.now }
+    requires locks { HasLocks script.now }
+    requires service { service ≡ params_of script.now }
+    requires named { AreNamed N.name (params_of script.now) }
+    requires passes { AreBooted N.name (params_of script.now) passes }
+    ensures name { IfOk result (λ ran. ran.closing.name ≡ N.name) }
+    ensures run { IfOk result (IsRan script.now) }
+{
+    let books = empty_books(alloc, script)?;
+    run_books(rt, alloc, script, gate, service, passes, books)
+}
+
+/// Opens a service, and runs the script on it.
+fn run_fresh<N: Name + Send + Sync, G: Gate + Sync, R: Threads + Wait + Sync>(
+    rt: &R,
+    alloc: Global,
+    script: &Script,
+    gate: &G,
+    fresh: Fresh,
+    passes: Seq<Passes>,
+) -> Result<Ran, NoMemory>
+    requires script { IsScript script.now }
+    requires locks { HasLocks script.now }
+    requires name { fresh.name ≡ N.name }
+    requires params { fresh.params ≡ params_of script.now }
+    requires named { AreNamed fresh.name fresh.params }
+    requires passes { AreBooted fresh.name fresh.params passes }
+    ensures { IfOk result (IsRan script.now) }
+{
+    let service = Service::<N>::open(alloc, fresh)?;
+    run_on(rt, alloc, script, gate, service, passes)
+}
+
+/// Runs a script on threads over a service of its own, which is booted by the script's version, CPUs, buckets, number of
+/// clients and callouts. The gate is called before each act. `NoMemory` is the only refusal.
+pub fn run_threads<G: Gate + Sync, R: Threads + Wait + Sync>(
+    rt: &R,
+    alloc: Global,
+    script: &Script,
+    gate: &G,
+) -> Result<Ran, NoMemory>
+    requires script { IsScript script.now }
+    requires locks { HasLocks script.now }
+    requires params { AreParams (params_of script.now) }
+    ensures { IfOk result (IsRan script.now) }
+{
+    let clients = script.clients.as_slice().len() as u32;
+    let (fresh, passes) = Fresh::boot(
+        alloc,
+        script.version,
+        script.cpus,
+        script.buckets,
+        clients,
+        script.timers.as_slice(),
+    )?;
+    run_fresh::<Brand, G, R>(rt, alloc, script, gate, fresh, passes)
+}
