@@ -101,7 +101,8 @@ fn counts_told<S: Subject>(
     script: &Script,
     history: &[(Op, Reply)],
 ) -> Result<Counts, NoMemory>
-    requires { script.now ≡ S.script }
+    requires of { script.now ≡ S.script }
+    requires script { IsScript script.now }
 {
     let mut tally = TallyOf::<S>::new(alloc, script)?;
     let mut pos: u64 = 0;
@@ -125,7 +126,9 @@ fn counts_told<S: Subject>(
 }
 
 /// The counts of a script with this history.
-fn counts_of(alloc: Global, script: &Script, history: &[(Op, Reply)]) -> Result<Counts, NoMemory> {
+fn counts_of(alloc: Global, script: &Script, history: &[(Op, Reply)]) -> Result<Counts, NoMemory>
+    requires { IsScript script.now }
+{
     counts_told::<Brand>(alloc, script, history)
 }
 

@@ -103,7 +103,8 @@ tick 1
 
 /// The actors step in this order, with these answers.
 fn steps(rt: &impl Abort, script: &Script, world: &mut World, turns: &[(u32, Turn)])
-    requires { world.old.script ≡ script.now }
+    requires world { world.old.script ≡ script.now }
+    requires script { IsScript script.now }
 {
     for (actor, turn) in turns {
         assert!(rt; *actor < actor_count(script));
