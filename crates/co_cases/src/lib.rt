@@ -7,6 +7,7 @@ pub mod examples;
 mod ordinary;
 mod outcome;
 pub mod prefixes;
+mod quiet_ends;
 pub mod services;
 #[cfg(test)]
 mod tests;
@@ -16,3 +17,4 @@ pub mod versions;
 pub use case::Case;
 pub use ordinary::ordinary_script;
 pub use outcome::{Outcome, call, check, make, steps};
+pub use quiet_ends::quiet;

@@ -1,4 +1,5 @@
 mod checks;
 mod faults;
+mod quiet;
 mod refusals;
 mod reports;

@@ -4,13 +4,13 @@ use crate::examples::DRAIN;
 use crate::services::SERVICES;
 use crate::timers::TIMERS;
 use crate::versions::VERSIONS;
-use crate::{call, ordinary_script, steps};
+use crate::{call, check, ordinary_script, steps};
 use co_io::{MemSink, MemSource};
 use co_top::Status;
 use std::process::Abort;
 use std::test::Fail;
 
-fn check(rt: &(impl AllocGlobal + Abort), cases: &[Case]) -> Result<(), Fail> {
+fn are_written(rt: &(impl AllocGlobal + Abort), cases: &[Case]) -> Result<(), Fail> {
     for case in cases {
         let outcome = steps(rt.alloc(), case.script.as_bytes())?;
         assert_eq!(rt; outcome.status, Status::Done, "{}", case.name);
@@ -26,24 +26,25 @@ fn check(rt: &(impl AllocGlobal + Abort), cases: &[Case]) -> Result<(), Fail> {
 
 #[test]
 fn one_cpu_without_locks(rt: HostRuntime) -> Result<(), Fail> {
-    check(&rt, TIMERS.as_slice())
+    are_written(&rt, TIMERS.as_slice())
 }
 
 #[test]
 fn services_and_moves(rt: HostRuntime) -> Result<(), Fail> {
-    check(&rt, SERVICES.as_slice())
+    are_written(&rt, SERVICES.as_slice())
 }
 
 #[test]
 fn version_two(rt: HostRuntime) -> Result<(), Fail> {
-    check(&rt, VERSIONS.as_slice())
+    are_written(&rt, VERSIONS.as_slice())
 }
 
 #[test]
 fn readme(rt: HostRuntime) -> Result<(), Fail> {
-    check(&rt, [DRAIN].as_slice())
+    are_written(&rt, [DRAIN].as_slice())
 }
 
+// The report is legal.
 #[test]
 fn ordinary_use(rt: HostRuntime) -> Result<(), Fail> {
     let script = ordinary_script(rt.alloc())?;
@@ -53,5 +54,8 @@ fn ordinary_use(rt: HostRuntime) -> Result<(), Fail> {
     let outcome = call(rt.alloc(), ["steps"].as_slice(), source, sink)?;
     assert_eq!(rt; outcome.status, Status::Done);
     assert_eq!(rt; outcome.held.as_slice().len(), 434_782);
+    let verdict = check(rt.alloc(), outcome.held.as_slice())?;
+    assert_eq!(rt; verdict.status, Status::Done);
+    assert_eq!(rt; verdict.held.as_slice(), b"legal\n".as_slice());
     Ok(())
 }

@@ -1,0 +1,102 @@
+//! Each command over ends that never fail: with room for its text it is answered, and with a byte less the sink is full.
+use crate::quiet;
+use crate::timers::ONE_FIRING;
+use co_top::Status;
+use std::process::Abort;
+use std::test::Fail;
+
+// A call whose text is this one, and the same call with too little room.
+fn is_answered(
+    rt: &(impl AllocGlobal + Abort),
+    words: &[&str],
+    input: &[u8],
+    status: Status,
+    text: &[u8],
+) -> Result<(), Fail> {
+    let outcome = quiet(rt.alloc(), words, input, text.len())?;
+    assert_eq!(rt; outcome.status, status);
+    assert_eq!(rt; outcome.held.as_slice(), text);
+    let room = text.len().saturating_sub(1);
+    let short = quiet(rt.alloc(), words, input, room)?;
+    assert_eq!(rt; short.status, Status::WriteFault);
+    assert_eq!(rt; short.held.as_slice(), &text[..room]);
+    Ok(())
+}
+
+#[test]
+fn steps_is_answered(rt: HostRuntime) -> Result<(), Fail> {
+    let script = ONE_FIRING.script.as_bytes();
+    let report = ONE_FIRING.report.as_bytes();
+    let refusal = b"line 1: version\n".as_slice();
+    is_answered(&rt, ["steps"].as_slice(), script, Status::Done, report)?;
+    is_answered(
+        &rt,
+        ["steps"].as_slice(),
+        report,
+        Status::BadScript,
+        refusal,
+    )
+}
+
+#[test]
+fn check_is_answered(rt: HostRuntime) -> Result<(), Fail> {
+    let report = ONE_FIRING.report.as_bytes();
+    let idle =
+        b"callout-report 1\ncallout 1\nhz 1000\ncpus 1\nwheel 256\nfuncs 0\ntimer 0 mpsafe\ncpu 0\nhistories\n\
+        timer 0\nwheel 0\nactor p0\n0 p0/0 notheld\nend\n";
+    let legal = b"legal\n".as_slice();
+    let follows = b"line 13: follows\n".as_slice();
+    let refusal = b"line 0: version\n".as_slice();
+    is_answered(&rt, ["check"].as_slice(), report, Status::Done, legal)?;
+    is_answered(
+        &rt,
+        ["check"].as_slice(),
+        idle.as_slice(),
+        Status::NotLegal,
+        follows,
+    )?;
+    is_answered(
+        &rt,
+        ["check"].as_slice(),
+        b"".as_slice(),
+        Status::BadScript,
+        refusal,
+    )
+}
+
+#[test]
+fn gen_is_answered(rt: HostRuntime) -> Result<(), Fail> {
+    let script = quiet(rt.alloc(), ["gen", "1"].as_slice(), b"".as_slice(), 459_440)?;
+    assert_eq!(rt; script.held.as_slice().len(), 459_440);
+    is_answered(
+        &rt,
+        ["gen", "1"].as_slice(),
+        b"".as_slice(),
+        Status::Done,
+        script.held.as_slice(),
+    )
+}
+
+#[test]
+fn soak_is_answered(rt: HostRuntime) -> Result<(), Fail> {
+    let line = b"soak 1 notes 33295 armed 4447 fired 1324 superseded 1761 stopped 1357 pending 5\n";
+    is_answered(
+        &rt,
+        ["soak", "1"].as_slice(),
+        b"".as_slice(),
+        Status::Done,
+        line.as_slice(),
+    )
+}
+
+#[test]
+fn other_words_are_answered(rt: HostRuntime) -> Result<(), Fail> {
+    let usage = b"usage: callout steps | run | check | gen N | soak N\n".as_slice();
+    is_answered(
+        &rt,
+        ["stop"].as_slice(),
+        b"".as_slice(),
+        Status::Usage,
+        usage,
+    )
+}
