@@ -1,16 +1,24 @@
 -- What comes next in the list of an actor: the rest of its notes, from its place in its program on.
-use Rattle.std.proofs.Common.{◌≡◌, ◌⊎◌, inl, inr, ◌<◌, ℕ, ◌++◌, List, ◌∷◌, [], length, subst, arith, ap, ◌∙◌, Option}
+use Rattle.std.proofs.Common.{◌≡◌, ◌⊎◌, inl, inr, ◌<◌, ◌≤◌, ℕ, suc, ◌+◌, ◌++◌, List, ◌∷◌, [], length, take, subst, arith, ap, ◌∙◌, Option, None}
 use Rattle.std.specs.List.{AllByRecursion}
 use Rattle.co_object.specs.declared.Note.{Note}
+use Rattle.co_object.specs.declared.Place.{Place}
+use Rattle.co_object.specs.declared.Place.TheVariants as place
+use Rattle.co_object.specs.declared.QReply.TheVariants.{Got}
+use Rattle.co_object.specs.Group.{Placed}
+use Rattle.co_object.specs.Lists.{cpu_journal}
 use Rattle.co_program.specs.declared.script.Script.{Script}
-use Rattle.co_program.specs.Action.{Nothing, action_for, Asks, action_with, action_in, pop_of}
+use Rattle.co_program.specs.declared.program.Task.{Task}
+use Rattle.co_program.specs.Action.{Nothing, action_for, Asks, action_with, action_in, begins, pop_of, scans_first, scans_with, scans_at, scans_of}
+use Rattle.co_program.specs.Advance.{popped}
 use Rattle.co_program.specs.Cursor.{Cursor, start_of}
-use Rattle.co_program.specs.Follows.{Histories, AreNext, cursor_after, goes_on, settled}
-use Rattle.co_program.specs.Laws.{place_after, Begin, CallsAreGroups, DrainsAreGroups, FunctionsMakeTheirActs, ProgramsEndWhereNothingIsLeft, RoundsAreOfServices, IsRoundOrEmpty}
+use Rattle.co_program.specs.Follows.{Histories, AreNext, cursor_after, goes_on, scan_count, scans_before, settled}
+use Rattle.co_program.specs.Laws.{place_after, Begin, CallsAreGroups, DrainsAreGroups, FunctionsMakeTheirActs, ProgramsEndWhereNothingIsLeft, RoundsAreOfServices, IsRoundOrEmpty, SoftActsBeginWithRounds}
 use Rattle.co_program.specs.Runs.{notes_by, shown_histories, IsRunOf, are_direct}
 use Rattle.co_program.specs.Actors.{actor_count, cpu_of, role_of}
 use Rattle.co_program.specs.Groups.{AreActsOf, turns}
-use Rattle.co_program.specs.Stages.{Firing, Drained, Stage}
+use Rattle.co_program.specs.Scripts.{IsScript}
+use Rattle.co_program.specs.Stages.{Firing, Picking, Drained, Stage}
 use Rattle.co_program.proofs.AskedCalls.{asked_call}
 use Rattle.co_program.proofs.Drains.{drain-first}
 use Rattle.co_program.proofs.Endings.{StageDoes, ended-there, nothing-there, does-after}
@@ -92,16 +100,50 @@ functions s lists a before after v acts ok due =
           let f = in-drain s (shown_histories lists) a (place_after s lists a before) v after rest due.parcel due.begins acts is (subst (StageDoes s) is does) in
           record { front = f.front; rest = f.later; split = f.split; is = f.are }
 
+-- the actor takes the next callout from its queue, and what its Pop answers decides what comes
+module _ (s : Script) (lists : List (List Note)) (a : ℕ) (before after : List Note) (act first : ℕ) (ok : IsScript s) where
+  abbrev d : Cursor
+  d = place_after s lists a before
+
+  abbrev IsPop : Type 0
+  IsPop = IsTurnFirst s (shown_histories lists) a d act (cpu_of s (role_of s a)) (pop_of (role_of s a)) after
+
+  rounds-first : (t : IsPop) → ((i n at : ℕ) → popped d (Got i n at) d.stage ≡ record d { act = first; stage = Picking (record { act = act; i = i; n = n; at = at }) }) → d.parcel ≡ None → d.removed ≡ None →
+      IsRoundOrEmpty s lists a before after act first
+  rounds-first t taken unsent unmade = at_reply (pop-replies s.buckets (are_direct s) (role_of s a) t.queue t.reply t.answers) where
+    at_reply : Pops t.reply → IsRoundOrEmpty s lists a before after act first
+    at_reply (inl none) = inr (record { front = t.note ∷ []; rest = t.rest; split = t.split; is = t.at ∙ ap (turns s (shown_histories lists) a act (cpu_of s (role_of s a)) (pop_of (role_of s a))) none })
+    at_reply (inr got) =
+        let r = round-first s ok (shown_histories lists) a d act first got.0 got.1 got.2 after t got.3 (taken got.0 got.1 got.2) unsent unmade in
+        inl (record { front = r.front; rest = r.rest; split = r.split; is = r.round })
+
 pub rounds : RoundsAreOfServices
 rounds s lists a before after act ok due =
     let d = place_after s lists a before in
-    let H = shown_histories lists in
-    let asks : action_for s a (place_after s lists a before) ≡ Asks act (IsQueue (cpu_of s (role_of s a)) (pop_of (role_of s a))) =
+    let asks : action_for s a d ≡ Asks act (IsQueue (cpu_of s (role_of s a)) (pop_of (role_of s a))) =
     ap (λ (p : Option Parcel). action_with s (role_of s a) d p) due.parcel ∙ ap (λ (stage : Stage). action_in s (role_of s a) d stage) due.stage in
-    let t = turn-first s H a d act (cpu_of s (role_of s a)) (pop_of (role_of s a)) after (rest-is s lists a before after due.run due.actor due.notes) asks in
-    at_reply t (pop-replies s.buckets (are_direct s) (role_of s a) t.queue t.reply t.answers) where
-      at_reply : (t : IsTurnFirst s (shown_histories lists) a (place_after s lists a before) act (cpu_of s (role_of s a)) (pop_of (role_of s a)) after) → Pops t.reply → IsRoundOrEmpty s lists a before after act
-      at_reply t (inl none) = inr (record { front = t.note ∷ []; rest = t.rest; split = t.split; is = t.at ∙ ap (turns s (shown_histories lists) a act (cpu_of s (role_of s a)) (pop_of (role_of s a))) none })
-      at_reply t (inr got) =
-          let r = round-first s ok (shown_histories lists) a (place_after s lists a before) act got.0 got.1 got.2 after t got.3 due.stage due.parcel due.begins in
-          inl (record { front = r.front; rest = r.rest; split = r.split; is = r.round })
+    let t = turn-first s (shown_histories lists) a d act (cpu_of s (role_of s a)) (pop_of (role_of s a)) after (rest-is s lists a before after due.run due.actor due.notes) asks in
+    rounds-first s lists a before after act d.act ok t (λ i n at. ap (λ (stage : Stage). popped d (Got i n at) stage) due.stage) due.parcel due.begins
+
+pub softs : SoftActsBeginWithRounds
+softs s lists a before after j ok due =
+    let d = place_after s lists a before in
+    let H = shown_histories lists in
+    let cpu = cpu_of s (role_of s a) in
+    let asks : action_for s a d ≡ Asks d.act (IsQueue cpu (pop_of (role_of s a))) =
+    ap (λ (p : Option Parcel). action_with s (role_of s a) d p) due.parcel ∙ ap (λ (stage : Stage). action_in s (role_of s a) d stage) due.stage ∙ ap (λ (left : List Task). begins s (role_of s a) d left) due.left in
+    let waits : scans_first d ≡ suc j =
+    ap (λ (p : Option Parcel). scans_with d p) due.parcel ∙ ap (λ (stage : Stage). scans_at d stage) due.stage ∙ ap (λ (left : List Task). scans_of left) due.left in
+    let rest = rest-is s lists a before after due.run due.actor due.notes in
+    let t = turn-first s H a d d.act cpu (pop_of (role_of s a)) after rest asks in
+    let stands : t.note.place ≡ place.Cpu cpu = ap (λ (at : Placed). at.0) t.at in
+    let scanned = (subst (λ (l : List Note). IsRest s H a d l) t.split rest).0.scanned in
+    let enough : scans_first d ≤ scan_count (take t.note.pos (cpu_journal cpu lists)) = subst (λ (p : Place). scans_first d ≤ scans_before H p t.note.pos) stands scanned in
+    record {
+      pop = t.note;
+      rest = t.rest;
+      split = t.split;
+      stands = stands;
+      scanned = omega (arith, waits, enough);
+      round = rounds-first s lists a before after d.act (d.act + 1) ok t (λ i n at. ap (λ (stage : Stage). popped d (Got i n at) stage) due.stage) due.parcel due.begins;
+    }

@@ -43,7 +43,7 @@ use Rattle.co_program.specs.declared.cursor.Service.{Service}
 use Rattle.co_program.specs.declared.action.Asked.{Asked}
 use Rattle.co_program.specs.declared.action.Asked.TheVariants.{Callout, Queue as IsQueue}
 use Rattle.co_program.specs.Actors.{role_of, cpu_of, acts_at}
-use Rattle.co_program.specs.Stages.{Stage, Popping, Picking, Locking, Beginning, Unlocking, Releasing, Ending, Freeing}
+use Rattle.co_program.specs.Stages.{Stage, Picking, Locking, Beginning, Unlocking, Releasing, Ending, Freeing}
 use Rattle.co_program.specs.Cursor.{Cursor}
 use Rattle.co_program.specs.Action.{Take, Asks, spec_at, firing, draining, locks, action_for, pop_of, free_of}
 use Rattle.co_program.specs.Advance.{advance_callout, advance_queue, advance, picked, begun, drain_acts, popped, freed}
@@ -406,7 +406,7 @@ module _ (s : Script) (ok : IsScript s) (H : Histories) (a : ℕ) (left : List T
                     later = to-ending (Some waits.1.0) f.last f.rest f.later;
                   }
 
-module _ (s : Script) (ok : IsScript s) (H : Histories) (a : ℕ) (d : Cursor) (act i n at : ℕ) (notes : List Note) where
+module _ (s : Script) (ok : IsScript s) (H : Histories) (a : ℕ) (d : Cursor) (act first i n at : ℕ) (notes : List Note) where
   abbrev v : Service
   v = record { act = act; i = i; n = n; at = at }
 
@@ -417,16 +417,16 @@ module _ (s : Script) (ok : IsScript s) (H : Histories) (a : ℕ) (d : Cursor) (
     pub front : List Note
     pub rest : List Note
     pub split : notes ≡ front ++ rest
-    pub round : IsRoundOf s H a (role_of s a) act d.act d.hold front
+    pub round : IsRoundOf s H a (role_of s a) act first d.hold front
 
-  pub round-first : (t : IsTurnFirst s H a d act cpu_is (pop_of (role_of s a)) notes) → t.reply ≡ Got i n at → d.stage ≡ Popping act → d.parcel ≡ None → d.removed ≡ None → IsRoundFirst
-  round-first t got popping unsent unmade =
-      let c : Cursor = in_act s H a d.left d.now v d.hold d.act (Picking v) in
-      let same : record d { stage = Picking v } ≡ c = ap (λ (p : Option Parcel). record d { stage = Picking v; parcel = p }) unsent ∙ ap (λ (r : Option ℕ). record d { stage = Picking v; parcel = None; removed = r }) unmade in
-      let gone : advance_queue s d cpu_is (pop_of (role_of s a)) t.reply ≡ c = after-pop s d cpu_is (role_of s a) t.reply ∙ ap (λ (r : QReply). popped d r d.stage) got ∙ ap (λ (stage : Stage). popped d (Got i n at) stage) popping ∙ same in
+  pub round-first : (t : IsTurnFirst s H a d act cpu_is (pop_of (role_of s a)) notes) → t.reply ≡ Got i n at → popped d (Got i n at) d.stage ≡ record d { act = first; stage = Picking v } → d.parcel ≡ None → d.removed ≡ None → IsRoundFirst
+  round-first t got taken unsent unmade =
+      let c : Cursor = in_act s H a d.left d.now v d.hold first (Picking v) in
+      let same : record d { act = first; stage = Picking v } ≡ c = ap (λ (p : Option Parcel). record d { act = first; stage = Picking v; parcel = p }) unsent ∙ ap (λ (r : Option ℕ). record d { act = first; stage = Picking v; parcel = None; removed = r }) unmade in
+      let gone : advance_queue s d cpu_is (pop_of (role_of s a)) t.reply ≡ c = after-pop s d cpu_is (role_of s a) t.reply ∙ ap (λ (r : QReply). popped d r d.stage) got ∙ taken ∙ same in
       let rest = subst (λ (x : Cursor). IsRest s H a x t.rest) (ap (settled s a) gone ∙ settled-asks s a c act (Callout i (Run (Pick n cpu_is at))) refl) t.later in
       let k = serve-first s H a c v (Pick n cpu_is at) t.rest rest refl in
-      let b = body-first s ok H a d.left d.now v d.hold d.act k.reply k.rest (pick-replies (spec_at s i) k.before k.before.armed n cpu_is at k.after k.reply k.answers) k.later in
+      let b = body-first s ok H a d.left d.now v d.hold first k.reply k.rest (pick-replies (spec_at s i) k.before k.before.armed n cpu_is at k.after k.reply k.answers) k.later in
       let e = ending-first s ok H a d.left d.now v b.last b.rest b.later in
       let tail : List Note = e.end ∷ e.free ∷ e.sent ++ e.acts in
       let split-tail : b.rest ≡ tail ++ e.rest = e.split ∙ ap (λ (l : List Note). e.end ∷ e.free ∷ l) (sym (append_assoc e.sent e.acts e.rest)) in

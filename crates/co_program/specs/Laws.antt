@@ -1,21 +1,25 @@
 -- What holds of every run of a script.
-use Rattle.std.specs.Prelude.{◌≡◌, ◌⊎◌, ℕ, ◌<◌, Bool, true, List, [], ◌++◌, None}
+use Rattle.std.specs.Prelude.{◌≡◌, ◌⊎◌, ℕ, ◌+◌, ◌<◌, ◌≤◌, Bool, true, List, [], ◌∷◌, ◌++◌, take, None}
 use Rattle.co_object.specs.declared.Note.{Note}
+use Rattle.co_object.specs.declared.Place.TheVariants as place
 use Rattle.co_object.specs.declared.Op.TheVariants.{Call}
 use Rattle.co_object.specs.declared.CallOp.{CallOp}
 use Rattle.co_object.specs.declared.CallOp.TheVariants.{DrainTry}
 use Rattle.co_object.specs.declared.QReply.TheVariants.{Empty}
 use Rattle.co_object.specs.declared.Reply.{Reply}
+use Rattle.co_object.specs.Lists.{cpu_journal}
 use Rattle.co_lock.specs.Covers.{covers}
 use Rattle.co_program.specs.declared.act.Act.{Act}
 use Rattle.co_program.specs.declared.script.Script.{Script}
+use Rattle.co_program.specs.declared.program.Task.{Task}
+use Rattle.co_program.specs.declared.program.Task.TheVariants.{Soft}
 use Rattle.co_program.specs.declared.cursor.Service.{Service}
 use Rattle.co_program.specs.declared.action.Asked.{Asked}
 use Rattle.co_program.specs.declared.action.Asked.TheVariants.{Callout}
 use Rattle.co_program.specs.Action.{Nothing, Asks, action_for, spec_at, pop_of}
 use Rattle.co_program.specs.Actors.{actor_count, cpu_of, role_of}
 use Rattle.co_program.specs.Cursor.{Cursor, start_of}
-use Rattle.co_program.specs.Follows.{cursor_after, settled}
+use Rattle.co_program.specs.Follows.{cursor_after, scan_count, settled}
 use Rattle.co_program.specs.Groups.{IsCallOf, IsDrainOf, AreActsOf, IsRoundOf, IsNote, turns}
 use Rattle.co_program.specs.Names.{FuncsExist, AllNotesName}
 use Rattle.co_program.specs.Runs.{notes_by, shown_histories, IsRunOf}
@@ -103,11 +107,36 @@ pub record IsPopping (s : Script) (lists : List (List Note)) (a : ℕ) (before a
   pub begins : (place_after s lists a before).removed ≡ None
   pub parcel : (place_after s lists a before).parcel ≡ None
 
--- the next notes are those of a round of services, or a Pop that finds nothing
-abbrev pub IsRoundOrEmpty : Script → List (List Note) → ℕ → List Note → List Note → ℕ → Type 0
-IsRoundOrEmpty s lists a before after act =
-    Begin (IsRoundOf s (shown_histories lists) a (role_of s a) act (place_after s lists a before).act (place_after s lists a before).hold) after
+-- the next notes, in this act, are those of a round of services, whose function's acts are numbered from first on, or a Pop that finds nothing
+abbrev pub IsRoundOrEmpty : Script → List (List Note) → ℕ → List Note → List Note → ℕ → ℕ → Type 0
+IsRoundOrEmpty s lists a before after act first =
+    Begin (IsRoundOf s (shown_histories lists) a (role_of s a) act first (place_after s lists a before).hold) after
     ⊎ Begin (IsNote (turns s (shown_histories lists) a act (cpu_of s (role_of s a)) (pop_of (role_of s a)) Empty)) after
 
 abbrev pub RoundsAreOfServices : Type 0
-RoundsAreOfServices = (s : Script) (lists : List (List Note)) (a : ℕ) (before after : List Note) (act : ℕ) → IsScript s → IsPopping s lists a before after act → IsRoundOrEmpty s lists a before after act
+RoundsAreOfServices = (s : Script) (lists : List (List Note)) (a : ℕ) (before after : List Note) (act : ℕ) → IsScript s → IsPopping s lists a before after act →
+    IsRoundOrEmpty s lists a before after act (place_after s lists a before).act
+
+-- after these notes of its list, soft act j of the actor's program is due
+pub record IsSoftDue (s : Script) (lists : List (List Note)) (a : ℕ) (before after : List Note) (j : ℕ) : Type 0 where
+  pub run : IsRunOf s lists
+  pub actor : a < actor_count s
+  pub notes : notes_by lists a ≡ before ++ after
+  pub stage : (place_after s lists a before).stage ≡ Ready
+  pub later : List Task
+  pub left : (place_after s lists a before).left ≡ Soft j ∷ later
+  pub begins : (place_after s lists a before).removed ≡ None
+  pub parcel : (place_after s lists a before).parcel ≡ None
+
+-- it begins with a Pop, before which at least j + 1 Scans stand in the history of the actor's CPU; and that Pop, in the act of
+-- the next number, begins a round of services or finds nothing
+pub record IsSoftBegun (s : Script) (lists : List (List Note)) (a : ℕ) (before after : List Note) (j : ℕ) : Type 0 where
+  pub pop : Note
+  pub rest : List Note
+  pub split : after ≡ pop ∷ rest
+  pub stands : pop.place ≡ place.Cpu (cpu_of s (role_of s a))
+  pub scanned : j + 1 ≤ scan_count (take pop.pos (cpu_journal (cpu_of s (role_of s a)) lists))
+  pub round : IsRoundOrEmpty s lists a before after (place_after s lists a before).act ((place_after s lists a before).act + 1)
+
+abbrev pub SoftActsBeginWithRounds : Type 0
+SoftActsBeginWithRounds = (s : Script) (lists : List (List Note)) (a : ℕ) (before after : List Note) (j : ℕ) → IsScript s → IsSoftDue s lists a before after j → IsSoftBegun s lists a before after j

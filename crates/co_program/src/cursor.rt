@@ -12,7 +12,7 @@ use co_object::Next;
 use co_sbt::Sbt;
 
 /// The service of a callout in an act.
-#[derive(Clone, Copy, Debug, PartialEq, Eq)]
+#[derive(Clone, Copy)]
 pub struct Service {
     /// The number of the act.
     pub act: u64,
@@ -25,7 +25,7 @@ pub struct Service {
 }
 
 /// An Insert that is still to come: the callout is on its way into a CPU's queue.
-#[derive(Clone, Copy, Debug, PartialEq, Eq)]
+#[derive(Clone, Copy)]
 pub struct Parcel {
     /// The number of the act.
     pub act: u64,
@@ -39,7 +39,7 @@ pub struct Parcel {
 }
 
 /// What is left of a function's acts.
-#[derive(Clone, Copy, Debug, PartialEq, Eq)]
+#[derive(Clone, Copy)]
 pub struct ActsLeft {
     pub func: u32,
     /// How many of its acts are over.
@@ -47,7 +47,7 @@ pub struct ActsLeft {
 }
 
 /// The stage of the act under way.
-#[derive(Clone, Copy, Debug, PartialEq, Eq)]
+#[derive(Clone, Copy)]
 pub enum Stage {
     /// Between two acts.
     Ready,
@@ -87,7 +87,7 @@ pub enum Stage {
 }
 
 /// An actor's place in its program: what it has still to do, of which nothing is copied from the script.
-#[derive(Clone, Copy, Debug, PartialEq, Eq)]
+#[derive(Clone, Copy)]
 pub struct Cursor {
     /// How many acts of the program are over; the next one may be under way.
     pub task: u32,

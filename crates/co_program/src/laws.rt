@@ -1,5 +1,5 @@
 //! What holds of every run of a script, each law the contract of a function that does nothing.
-ghost use Rattle.co_program.specs.Laws.{CallsAreGroups, DrainsAreGroups, FunctionsMakeTheirActs, ProgramsEndWhereNothingIsLeft, RoundsAreOfServices, RunsNameWhatExists};
+ghost use Rattle.co_program.specs.Laws.{CallsAreGroups, DrainsAreGroups, FunctionsMakeTheirActs, ProgramsEndWhereNothingIsLeft, RoundsAreOfServices, RunsNameWhatExists, SoftActsBeginWithRounds};
 
 /// What each note of a run names exists in the script, its actor, callouts, CPUs and functions, where the functions that the
 /// script's acts name do; each entry is of its place's kind, and the answer of each queue is one to its operation.
@@ -38,4 +38,11 @@ pub fn functions_make_their_acts()
 /// drain function that the end names.
 pub fn rounds_are_of_services()
     ensures { RoundsAreOfServices }
+{}
+
+/// Where the j-th soft act comes next, which in version 2 is a CPU's for its interrupt's j-th tick, counted from 0, its first note
+/// is a Pop, before which at least j + 1 Scans stand in its CPU's history. That Pop finds nothing, or begins a round as above, in
+/// the act of the next number.
+pub fn soft_acts_begin_with_rounds()
+    ensures { SoftActsBeginWithRounds }
 {}

@@ -11,7 +11,7 @@ use crate::script::{Acts, Script};
 use co_sbt::Seq;
 
 /// One act of a program.
-#[derive(Clone, Copy, Debug, PartialEq, Eq)]
+#[derive(Clone, Copy)]
 pub enum Task {
     /// An act of the script.
     Does(Act),

@@ -15,7 +15,7 @@ use co_object::Spec;
 use co_sbt::Sbt;
 
 /// What a callout knows of itself, wherever it is: its flags, its last arming and the number of its armings.
-#[derive(Clone, Copy, Debug, PartialEq, Eq)]
+#[derive(Clone, Copy)]
 pub struct Record {
     pub(crate) i: u32,
     pub(crate) spec: Spec,

@@ -6,14 +6,14 @@ ghost use Rattle.co_record.specs.Standing.{served, holds};
 use co_sbt::Sbt;
 
 /// The arming in service: callout `i`'s arming `n`.
-#[derive(Clone, Copy, Debug, PartialEq, Eq)]
+#[derive(Clone, Copy)]
 pub struct Current {
     pub i: u32,
     pub n: u64,
 }
 
 /// An arming on another CPU that waits for the end of the service: its due time, precision, function, argument and CPU.
-#[derive(Clone, Copy, Debug, PartialEq, Eq)]
+#[derive(Clone, Copy)]
 pub struct Move {
     pub time: Sbt,
     pub prec: Sbt,
@@ -23,7 +23,7 @@ pub struct Move {
 }
 
 /// What a CPU knows of the callout that it has in service, if any.
-#[derive(Clone, Copy, Debug, PartialEq, Eq)]
+#[derive(Clone, Copy)]
 pub struct Slot {
     pub(crate) cpu: u32,
     pub(crate) current: Option<Current>,
