@@ -5,7 +5,7 @@ ghost use Rattle.co_core.specs.Holders.{excludes_any, fewer, more, no_holders, r
 use co_lock::Held;
 
 /// How many actors hold a lock.
-#[derive(Clone, Copy, Debug, PartialEq, Eq)]
+#[derive(Clone, Copy)]
 pub(crate) struct Holders {
     /// Those that share it.
     pub shared: u64,
