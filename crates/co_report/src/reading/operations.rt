@@ -110,6 +110,7 @@ fn plain(op: PlainOp) -> Op
 }
 
 /// The operation that a word begins.
+#[tactic(auto, unfolding(crate::specs::NoteForms::op_forms))]
 fn op_by(names: &Names, word: &[u8], parts: &mut Parts) -> Result<Op, Cause>
     ensures { Gives (λ x. (x, parts.new)) result (choice (op_forms names.now) word.now parts.old) }
 {
