@@ -32,7 +32,7 @@ use Rattle.co_report.specs.Histories.{Shown}
 use Rattle.co_report.specs.NoteTexts.{callout_word, arming_word, cpu_word, truth_word, cpu_or_dash, func_or_dash, off_words, next_words, op_words, reply_words, queue_words, answer_words, own_words, note_words}
 use Rattle.co_report.specs.Reports.{shown_words}
 use Rattle.co_report.specs.NoteValues.{names_of, IsSmall, count64, time_in_units, arming, given, callout_of, func_of, cpu_in, or_dash, code, maker, maker_is, own_kind}
-use Rattle.co_report.specs.NoteForms.{both, after, made, due_and_precision, target, arming_and_cpu, op_forms, op_form, off_form, later_form, next_form, drain_named, next_named, woke_form, valued_replies, reply_forms, reply_form, direct_or, queue_forms, queue_form, answer_forms, answer_form, may_answer, answered_form, call_form, journal_form, note_form}
+use Rattle.co_report.specs.NoteForms.{both, after, made, due_and_precision, target, arming_and_cpu, run_forms, op_forms, op_form, off_form, later_form, next_form, drain_named, next_named, woke_form, valued_replies, reply_forms, reply_form, direct_or, queue_forms, queue_form, answer_forms, answer_form, may_answer, answered_form, call_form, journal_form, note_form}
 use Rattle.co_report.specs.NoteFits.{IsTime, IsLong, IsCallout, IsFunc, IsCpu, MakerFits, ArmingFits, OpFits, NextFits, ReplyFits, QueueFits, AnswerFits, ShownFits}
 use Rattle.co_report.proofs.Exact.{IsSpelling, Exact, lit, same_word, same_pair, one, two, two_told, such_exact, behind, words-append, reword, made-back, made-told, Tells, tells-made, tells-nothing, EachTells, choice-told}
 use Rattle.co_report.proofs.ExactValues.{letters, times, armings, arguments, longs, counts, truths, codes-exact, or_dashes, kinds, kind_word}
@@ -83,7 +83,7 @@ module _ (s : Script) (small : IsSmall s) where
   picks x = Run (Pick x.0.0 x.0.1 x.1)
 
   op-tells : EachTells (OpFits s) op_words (op_forms names)
-  unfolding op_forms
+  unfolding op_forms run_forms
   op-tells = (
     tells-made (OpFits s) op_words (codes "reset") resets (two due_exact (two func_exact target_exact)) (λ a h. h) (λ a rest. refl),
     (
@@ -126,7 +126,7 @@ module _ (s : Script) (small : IsSmall s) where
   )
 
   op-back : (o : Op) (ws : List Word) → OpFits s o → op_form names (op_words o ++ ws) ≡ Ok (o, ws)
-  unfolding op_forms
+  unfolding op_forms run_forms
   op-back (Call (Plain (Reset due prec func arg cpu))) ws h = made-back resets (two due_exact (two func_exact target_exact)) ((due, prec), ((func, arg), cpu)) ws h
   op-back (Call (Plain (Schedule due prec cpu))) ws h = made-back schedules (two due_exact target_exact) ((due, prec), cpu) ws h
   op-back (Call (Plain Stop)) ws h = refl

@@ -107,6 +107,14 @@ adrain_form n = made (λ f. Call (Plain (AsyncDrain f))) (next (func_of n))
 abbrev pub drain_form : Reader Op
 drain_form = made (λ took. Call (DrainTry took)) (next truth)
 
+-- what a CPU does with a callout in service, and all. A table opens only where its words are told apart
+unfoldable pub run_forms : Names → List (Word × Reader Op)
+run_forms n =
+    (codes "pick", pick_form n)
+    ∷ (codes "begin", begin_form n)
+    ∷ (codes "end", end_form n)
+    ∷ []
+
 unfoldable pub op_forms : Names → List (Word × Reader Op)
 op_forms n =
     (codes "reset", reset_form n)
@@ -119,10 +127,7 @@ op_forms n =
     ∷ (codes "init", nothing (Call (Plain Init)))
     ∷ (codes "retire", nothing (Call (Plain Retire)))
     ∷ (codes "drain", drain_form)
-    ∷ (codes "pick", pick_form n)
-    ∷ (codes "begin", begin_form n)
-    ∷ (codes "end", end_form n)
-    ∷ []
+    ∷ run_forms n
 
 abbrev pub op_form : Names → Reader Op
 op_form n = one_of (op_forms n)
@@ -174,7 +179,7 @@ woke_form = after (codes "woke") (next truth)
 abbrev pub ended_form : Names → Reader Reply
 ended_form n = made (λ x. reply.Ended x.0 x.1.0 x.1.1) (both (drain_named n) (both (next_named n) woke_form))
 
--- the replies with values, and all. A table opens only where its words are told apart
+-- the replies with values, and all
 unfoldable pub valued_replies : Names → List (Word × Reader Reply)
 valued_replies n =
     (codes "armed", armed_form n)

@@ -1,6 +1,6 @@
 //! The values that words of a note carry, each in its one spelling: no zero stands before another digit. Each function takes
 //! the next part of a line; it answers `Form` where there is none, or where it is not spelled so.
-ghost use Rattle.std.specs.Prelude.{◌≡◌, ◌∷◌, ◌+◌, ◌≤◌, ◌<◌, ◌^◌, true, codes, length, IfOk};
+ghost use Rattle.std.specs.Prelude.{◌≡◌, ◌==◌, ◌∷◌, ◌+◌, ◌≤◌, ◌<◌, ◌^◌, true, codes, length, IfOk};
 ghost use Rattle.std.specs.List.{position_or_len};
 ghost use Rattle.co_text.specs.Fallible.{Gives};
 ghost use Rattle.co_text.specs.Values.{behind};
@@ -232,12 +232,18 @@ fn maker_of(names: &Names, word: &[u8]) -> Result<Maker, Cause>
     Ok(Maker { actor, act })
 }
 
+fn is_by(maker: &Maker, actor: u32) -> bool
+    ensures { result ≡ (maker.now.actor == actor) }
+{
+    maker.actor == actor
+}
+
 fn own_maker(names: &Names, actor: u32, word: &[u8]) -> Result<Maker, Cause>
     requires { HasFewActors names.now }
     ensures { Gives (λ m. m) result (maker_is names.now actor word.now) }
 {
     let maker = maker_of(names, word)?;
-    if maker.actor == actor {
+    if is_by(&maker, actor) {
         Ok(maker)
     } else {
         Err(Cause::Form)
