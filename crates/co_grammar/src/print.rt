@@ -5,4 +5,4 @@ mod frame;
 
 pub use act::print_act;
 pub use actor::actor_name;
-pub use frame::{print_lock, print_numbered, print_timer};
+pub use frame::{print_lock, print_lone, print_numbered, print_timer};

@@ -32,7 +32,7 @@ use Rattle.co_report.specs.Histories.{Shown}
 use Rattle.co_report.specs.NoteTexts.{callout_word, arming_word, cpu_word, truth_word, cpu_or_dash, func_or_dash, off_words, next_words, op_words, reply_words, queue_words, answer_words, own_words, note_words}
 use Rattle.co_report.specs.Reports.{shown_words}
 use Rattle.co_report.specs.NoteValues.{names_of, IsSmall, count64, time_in_units, arming, given, callout_of, func_of, cpu_in, or_dash, code, maker, maker_is, own_kind}
-use Rattle.co_report.specs.NoteForms.{both, after, made, due_and_precision, target, arming_and_cpu, op_forms, op_form, off_form, later_form, next_form, drain_named, next_named, woke_form, reply_forms, reply_form, direct_or, queue_forms, queue_form, answer_forms, answer_form, may_answer, answered_form, call_form, journal_form, note_form}
+use Rattle.co_report.specs.NoteForms.{both, after, made, due_and_precision, target, arming_and_cpu, run_forms, op_forms, op_form, off_form, later_form, next_form, drain_named, next_named, woke_form, valued_replies, reply_forms, reply_form, direct_or, queue_forms, queue_form, answer_forms, answer_form, may_answer, answered_form, call_form, journal_form, note_form}
 use Rattle.co_report.specs.NoteFits.{IsTime, IsLong, IsCallout, IsFunc, IsCpu, MakerFits, ArmingFits, OpFits, NextFits, ReplyFits, QueueFits, AnswerFits, ShownFits}
 use Rattle.co_report.proofs.Exact.{IsSpelling, Exact, lit, same_word, same_pair, one, two, two_told, such_exact, behind, words-append, reword, made-back, made-told, Tells, tells-made, tells-nothing, EachTells, choice-told}
 use Rattle.co_report.proofs.ExactValues.{letters, times, armings, arguments, longs, counts, truths, codes-exact, or_dashes, kinds, kind_word}
@@ -83,6 +83,7 @@ module _ (s : Script) (small : IsSmall s) where
   picks x = Run (Pick x.0.0 x.0.1 x.1)
 
   op-tells : EachTells (OpFits s) op_words (op_forms names)
+  unfolding op_forms run_forms
   op-tells = (
     tells-made (OpFits s) op_words (codes "reset") resets (two due_exact (two func_exact target_exact)) (λ a h. h) (λ a rest. refl),
     (
@@ -125,6 +126,7 @@ module _ (s : Script) (small : IsSmall s) where
   )
 
   op-back : (o : Op) (ws : List Word) → OpFits s o → op_form names (op_words o ++ ws) ≡ Ok (o, ws)
+  unfolding op_forms run_forms
   op-back (Call (Plain (Reset due prec func arg cpu))) ws h = made-back resets (two due_exact (two func_exact target_exact)) ((due, prec), ((func, arg), cpu)) ws h
   op-back (Call (Plain (Schedule due prec cpu))) ws h = made-back schedules (two due_exact target_exact) ((due, prec), cpu) ws h
   op-back (Call (Plain Stop)) ws h = refl
@@ -225,6 +227,7 @@ module _ (s : Script) (small : IsSmall s) where
   endeds x = reply.Ended x.0 x.1.0 x.1.1
 
   reply-tells : EachTells (ReplyFits s) reply_words (reply_forms names)
+  unfolding reply_forms valued_replies
   reply-tells = (
     tells-nothing (ReplyFits s) reply_words (codes "nohandler") reply.NoHandler tt (λ rest. refl),
     (
@@ -282,6 +285,7 @@ module _ (s : Script) (small : IsSmall s) where
   )
 
   reply-back : (r : Reply) (ws : List Word) → ReplyFits s r → reply_form names (reply_words r ++ ws) ≡ Ok (r, ws)
+  unfolding reply_forms valued_replies
   reply-back (reply.Armed code n cpu off) ws h = made-back armeds (two (one codes-exact) (two arming_exact off_exact)) (code, ((n, cpu), off)) ws h
   reply-back (reply.NotArmed code) ws h = made-back (λ c. reply.NotArmed c) (one codes-exact) code ws h
   reply-back reply.NoHandler ws h = refl
@@ -355,6 +359,7 @@ module _ (s : Script) (small : IsSmall s) where
         h
 
   queue-tells : EachTells (QueueFits s) queue_words (queue_forms names)
+  unfolding queue_forms
   queue-tells = (
     tells-made (QueueFits s) queue_words (codes "insert") inserts insert_exact (λ a h. h) (λ a rest. refl),
     (
@@ -374,6 +379,7 @@ module _ (s : Script) (small : IsSmall s) where
 
   -- before `=`
   queue-back : (o : QOp) (ws : List Word) → QueueFits s o → queue_form names (queue_words o ++ codes "=" ∷ ws) ≡ Ok (o, codes "=" ∷ ws)
+  unfolding queue_forms
   queue-back (queue.Insert i n t) ws h = made-back inserts insert_exact (i, (n, t)) (codes "=" ∷ ws) h
   queue-back (queue.Remove i) ws h = made-back (λ i. queue.Remove i) (one callouts) i (codes "=" ∷ ws) h
   queue-back (queue.Scan now) ws h = made-back (λ t. queue.Scan t) (one times) now (codes "=" ∷ ws) h
@@ -392,6 +398,7 @@ module _ (s : Script) (small : IsSmall s) where
   queue-ink queue.FreeDirect h = (lit (codes "free") refl, (lit (codes "direct") refl, tt))
 
   answer-tells : EachTells (AnswerFits s) answer_words (answer_forms names)
+  unfolding answer_forms
   answer-tells = (
     tells-made (AnswerFits s) answer_words (codes "at") (λ t. answer.At t) (one times) (λ a h. h) (λ a rest. refl),
     (
@@ -416,6 +423,7 @@ module _ (s : Script) (small : IsSmall s) where
   )
 
   answer-back : (a : QReply) (ws : List Word) → AnswerFits s a → answer_form names (answer_words a ++ ws) ≡ Ok (a, ws)
+  unfolding answer_forms
   answer-back (answer.At t) ws h = made-back (λ t. answer.At t) (one times) t ws h
   answer-back answer.Off ws h = refl
   answer-back answer.Missing ws h = refl

@@ -20,6 +20,7 @@ use Rattle.co_text.specs.declared.cause.Cause.TheVariants as cause
 use Rattle.co_script.specs.Reading.{script_of}
 use Rattle.co_script.specs.Canonical.{canonical, canonical_lines}
 use Rattle.co_report.specs.declared.line.Report.{Report}
+use Rattle.co_report.specs.NoteForms.{run_forms, op_forms, valued_replies, reply_forms, queue_forms, answer_forms}
 use Rattle.co_report.specs.Reading.{report_read}
 
 abbrev text_of : List String → List ℕ
@@ -76,11 +77,11 @@ unfolding report_read script_of canonical canonical_lines digits
 without_end = refl
 
 minus_zero : report_read (text_of (head ++ "timer 0" ∷ "0 p0/0 stop = stopped -1 off -" ∷ "1 p0/0 stop = stopped -0 off -" ∷ [])) ≡ refused 12 cause.Note
-unfolding report_read script_of canonical canonical_lines digits
+unfolding report_read script_of canonical canonical_lines digits run_forms op_forms valued_replies reply_forms queue_forms answer_forms
 minus_zero = refl
 
 no_callout : report_read (text_of (head ++ "timer 0" ∷ "wheel 0" ∷ "0 p0/0 remove i0 = off" ∷ "1 p0/0 remove i1 = off" ∷ [])) ≡ refused 13 cause.Note
-unfolding report_read script_of canonical canonical_lines digits
+unfolding report_read script_of canonical canonical_lines digits run_forms op_forms valued_replies reply_forms queue_forms answer_forms
 no_callout = refl
 
 -- a note of each kind of place
@@ -93,5 +94,5 @@ notes : report_read (text_of (head ++ "timer 0" ∷ "0 p0/0 retire = inuse 1 0" 
       ∷ [];
   end = 16;
 })
-unfolding report_read script_of canonical canonical_lines digits
+unfolding report_read script_of canonical canonical_lines digits run_forms op_forms valued_replies reply_forms queue_forms answer_forms
 notes = refl

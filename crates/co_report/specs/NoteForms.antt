@@ -107,7 +107,15 @@ adrain_form n = made (λ f. Call (Plain (AsyncDrain f))) (next (func_of n))
 abbrev pub drain_form : Reader Op
 drain_form = made (λ took. Call (DrainTry took)) (next truth)
 
-abbrev pub op_forms : Names → List (Word × Reader Op)
+-- what a CPU does with a callout in service, and all. A table opens only where its words are told apart
+unfoldable pub run_forms : Names → List (Word × Reader Op)
+run_forms n =
+    (codes "pick", pick_form n)
+    ∷ (codes "begin", begin_form n)
+    ∷ (codes "end", end_form n)
+    ∷ []
+
+unfoldable pub op_forms : Names → List (Word × Reader Op)
 op_forms n =
     (codes "reset", reset_form n)
     ∷ (codes "schedule", schedule_form n)
@@ -119,10 +127,7 @@ op_forms n =
     ∷ (codes "init", nothing (Call (Plain Init)))
     ∷ (codes "retire", nothing (Call (Plain Retire)))
     ∷ (codes "drain", drain_form)
-    ∷ (codes "pick", pick_form n)
-    ∷ (codes "begin", begin_form n)
-    ∷ (codes "end", end_form n)
-    ∷ []
+    ∷ run_forms n
 
 abbrev pub op_form : Names → Reader Op
 op_form n = one_of (op_forms n)
@@ -175,7 +180,7 @@ abbrev pub ended_form : Names → Reader Reply
 ended_form n = made (λ x. reply.Ended x.0 x.1.0 x.1.1) (both (drain_named n) (both (next_named n) woke_form))
 
 -- the replies with values, and all
-abbrev pub valued_replies : Names → List (Word × Reader Reply)
+unfoldable pub valued_replies : Names → List (Word × Reader Reply)
 valued_replies n =
     (codes "armed", armed_form n)
     ∷ (codes "notarmed", not_armed_form)
@@ -187,7 +192,7 @@ valued_replies n =
     ∷ (codes "ended", ended_form n)
     ∷ []
 
-abbrev pub reply_forms : Names → List (Word × Reader Reply)
+unfoldable pub reply_forms : Names → List (Word × Reader Reply)
 reply_forms n =
     (codes "nohandler", nothing reply.NoHandler)
     ∷ (codes "worn", nothing reply.Worn)
@@ -199,15 +204,7 @@ reply_forms n =
     ∷ (codes "retired", nothing reply.Retired)
     ∷ (codes "hold", nothing reply.Hold)
     ∷ (codes "skip", nothing reply.Skip)
-    ∷ (codes "armed", armed_form n)
-    ∷ (codes "notarmed", not_armed_form)
-    ∷ (codes "stopped", stopped_form n)
-    ∷ (codes "wait", wait_form n)
-    ∷ (codes "drained", drained_form n)
-    ∷ (codes "inuse", in_use_form)
-    ∷ (codes "go", go_form n)
-    ∷ (codes "ended", ended_form n)
-    ∷ []
+    ∷ valued_replies n
 
 abbrev pub reply_form : Names → Reader Reply
 reply_form n = one_of (reply_forms n)
@@ -236,7 +233,7 @@ at_form = made (λ t. answer.At t) (next time_in_units)
 abbrev pub count_form : Reader QReply
 count_form = made (λ k. answer.Count k) (next count32)
 
-abbrev pub queue_forms : Names → List (Word × Reader QOp)
+unfoldable pub queue_forms : Names → List (Word × Reader QOp)
 queue_forms n =
     (codes "insert", insert_form n)
     ∷ (codes "remove", remove_form n)
@@ -248,7 +245,7 @@ queue_forms n =
 abbrev pub queue_form : Names → Reader QOp
 queue_form n = one_of (queue_forms n)
 
-abbrev pub answer_forms : Names → List (Word × Reader QReply)
+unfoldable pub answer_forms : Names → List (Word × Reader QReply)
 answer_forms n =
     (codes "at", at_form)
     ∷ (codes "off", nothing answer.Off)

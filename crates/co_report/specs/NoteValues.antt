@@ -85,10 +85,14 @@ truth w = if is_word w (codes "1") then Ok true else (if is_word w (codes "0") t
 abbrev pub negative : ℕ → Result ℤ Cause
 negative n = unless (nat_lt 0 n) Form >> Ok (neg_ℤ (pos n))
 
+-- a number that a code without a sign may be
+abbrev pub positive : Word → Result ℤ Cause
+positive w = below (2 ^ 31) w >>= λ n. Ok (pos n)
+
 -- a code: a number of 32 bits, with a `-` where it's below 0
 abbrev pub code : Word → Result ℤ Cause
 code [] = Err Form
-code (c ∷ w) = if c == 45 then (below (2 ^ 31 + 1) w >>= negative) else (below (2 ^ 31) (c ∷ w) >>= λ n. Ok (pos n))
+code (c ∷ w) = if c == 45 then (below (2 ^ 31 + 1) w >>= negative) else positive (c ∷ w)
 
 -- the number of an actor, by its word: a client, a CPU or in version 2 an interrupt
 abbrev pub actor_in : Names → Word → Result ℕ Cause

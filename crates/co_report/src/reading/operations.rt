@@ -1,7 +1,7 @@
 //! Operations on a callout, read from the words of a note.
 ghost use Rattle.std.specs.Prelude.{◌≡◌};
 ghost use Rattle.co_text.specs.Fallible.{Gives};
-ghost use Rattle.co_report.specs.NoteForms.{due_and_precision, target, reset_form, schedule_form, arming_and_cpu, pick_form, op_form, drain_form, adrain_form, begin_form, end_form, choice, op_forms};
+ghost use Rattle.co_report.specs.NoteForms.{due_and_precision, target, reset_form, schedule_form, arming_and_cpu, pick_form, op_form, drain_form, adrain_form, begin_form, end_form, choice, run_forms, op_forms};
 ghost use Rattle.co_object.specs.declared.Op.TheVariants as ops;
 ghost use Rattle.co_object.specs.declared.CallOp.TheVariants as calls;
 
@@ -109,7 +109,24 @@ fn plain(op: PlainOp) -> Op
     Op::Call(CallOp::Plain(op))
 }
 
+/// What a CPU does with a callout in service, by the word that it begins with.
+#[tactic(auto, unfolding(crate::specs::NoteForms::run_forms))]
+fn run_by(names: &Names, word: &[u8], parts: &mut Parts) -> Result<Op, Cause>
+    ensures { Gives (λ x. (x, parts.new)) result (choice (run_forms names.now) word.now parts.old) }
+{
+    if word == b"pick".as_slice() {
+        pick(names, parts)
+    } else if word == b"begin".as_slice() {
+        begin(names, parts)
+    } else if word == b"end".as_slice() {
+        end(names, parts)
+    } else {
+        Err(Cause::Form)
+    }
+}
+
 /// The operation that a word begins.
+#[tactic(auto, unfolding(crate::specs::NoteForms::op_forms))]
 fn op_by(names: &Names, word: &[u8], parts: &mut Parts) -> Result<Op, Cause>
     ensures { Gives (λ x. (x, parts.new)) result (choice (op_forms names.now) word.now parts.old) }
 {
@@ -133,14 +150,8 @@ fn op_by(names: &Names, word: &[u8], parts: &mut Parts) -> Result<Op, Cause>
         Ok(plain(PlainOp::Retire))
     } else if word == b"drain".as_slice() {
         drain(parts)
-    } else if word == b"pick".as_slice() {
-        pick(names, parts)
-    } else if word == b"begin".as_slice() {
-        begin(names, parts)
-    } else if word == b"end".as_slice() {
-        end(names, parts)
     } else {
-        Err(Cause::Form)
+        run_by(names, word, parts)
     }
 }
 

@@ -2,7 +2,7 @@
 ghost use Rattle.std.specs.Prelude.{◌≡◌, ◌+◌, ◌^◌, ◌<◌, length, drop, OnOk, IfOk};
 ghost use Rattle.co_text.specs.Fallible.{LineGives, GivesOrNoMemory};
 ghost use Rattle.co_text.specs.Lines.{lines_of};
-ghost use Rattle.co_report.specs.Reading.{closed_by, note_read, line_after, histories_read, opening};
+ghost use Rattle.co_report.specs.Reading.{closed_by, note_read, goes_on, line_after, histories_read, opening};
 ghost use Rattle.co_report.specs.ReadingViews.{so_far, IsReady, IsSetting};
 
 use crate::line::Line;
@@ -37,6 +37,16 @@ pub struct Setting<'a> {
     pub script: &'a Script,
     pub names: Names,
     pub places: &'a [Place],
+}
+
+/// A line may follow: the line `end` has not come.
+fn goes_on(end: Option<u64>) -> bool
+    ensures { result ≡ goes_on end }
+{
+    match end {
+        Some(_) => false,
+        None => true,
+    }
 }
 
 impl Progress {
@@ -108,7 +118,7 @@ impl Progress {
         ensures value { LineGives (λ _. so_far setting.now self.new) result (line_after setting.now.script.now number (so_far setting.now self.old) line.now) }
         ensures spelled { OnOk result (IsReady setting.now self.new) }
     {
-        if self.end.is_some() {
+        if !goes_on(self.end) {
             return Err(LineFault::Bad(Cause::Note));
         }
         if line == self.closing.as_slice() {

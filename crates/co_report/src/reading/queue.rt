@@ -44,6 +44,7 @@ fn direct_or(direct: QOp, other: QOp, parts: &mut Parts) -> Result<QOp, Cause>
 }
 
 /// The operation that a word begins.
+#[tactic(auto, unfolding(crate::specs::NoteForms::queue_forms))]
 fn queue_op_by(names: &Names, word: &[u8], parts: &mut Parts) -> Result<QOp, Cause>
     ensures { Gives (λ x. (x, parts.new)) result (choice (queue_forms names.now) word.now parts.old) }
 {
@@ -92,6 +93,7 @@ fn got(names: &Names, parts: &mut Parts) -> Result<QReply, Cause>
 }
 
 /// The answer that a word begins.
+#[tactic(auto, unfolding(crate::specs::NoteForms::answer_forms))]
 fn answer_by(names: &Names, word: &[u8], parts: &mut Parts) -> Result<QReply, Cause>
     ensures { Gives (λ x. (x, parts.new)) result (choice (answer_forms names.now) word.now parts.old) }
 {

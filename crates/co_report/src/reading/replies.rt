@@ -132,6 +132,7 @@ fn ended(names: &Names, parts: &mut Parts) -> Result<Reply, Cause>
 }
 
 /// The reply that a word begins, where it has values.
+#[tactic(auto, unfolding(crate::specs::NoteForms::valued_replies))]
 fn valued(names: &Names, word: &[u8], parts: &mut Parts) -> Result<Reply, Cause>
     ensures { Gives (λ x. (x, parts.new)) result (choice (valued_replies names.now) word.now parts.old) }
 {
@@ -157,6 +158,7 @@ fn valued(names: &Names, word: &[u8], parts: &mut Parts) -> Result<Reply, Cause>
 }
 
 /// The reply that a word begins.
+#[tactic(auto, unfolding(crate::specs::NoteForms::reply_forms))]
 fn reply_by(names: &Names, word: &[u8], parts: &mut Parts) -> Result<Reply, Cause>
     ensures { Gives (λ x. (x, parts.new)) result (choice (reply_forms names.now) word.now parts.old) }
 {

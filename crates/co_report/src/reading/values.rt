@@ -1,11 +1,11 @@
 //! The values that words of a note carry, each in its one spelling: no zero stands before another digit. Each function takes
 //! the next part of a line; it answers `Form` where there is none, or where it is not spelled so.
-ghost use Rattle.std.specs.Prelude.{◌≡◌, ◌+◌, ◌≤◌, ◌<◌, ◌^◌, true, codes, length, IfOk};
+ghost use Rattle.std.specs.Prelude.{◌≡◌, ◌==◌, ◌∷◌, ◌+◌, ◌≤◌, ◌<◌, ◌^◌, true, codes, length, IfOk};
 ghost use Rattle.std.specs.List.{position_or_len};
 ghost use Rattle.co_text.specs.Fallible.{Gives};
 ghost use Rattle.co_text.specs.Values.{behind};
 ghost use Rattle.co_text.specs.Taking.{next, is_next, after_next};
-ghost use Rattle.co_report.specs.NoteValues.{is_shortest, below, lettered, count64, count32, time_in_units, arming, given, callout_of, func_of, cpu_in, or_dash, truth, negative, code, actor_in, is_slash, maker, maker_is, own_kind, HasFewActors};
+ghost use Rattle.co_report.specs.NoteValues.{is_shortest, below, lettered, count64, count32, time_in_units, arming, given, callout_of, func_of, cpu_in, or_dash, truth, negative, positive, code, actor_in, is_slash, maker, maker_is, own_kind, HasFewActors};
 ghost use Rattle.co_report.specs.NoteForms.{literal};
 
 use crate::reading::names::Names;
@@ -143,13 +143,27 @@ fn negative(size: u128) -> Result<i32, Cause>
     Ok((-(size as i64)) as i32)
 }
 
+/// A code below 0, by the digits behind its sign.
+fn negative_code(digits: &[u8]) -> Result<i32, Cause>
+    ensures { Gives (λ z. z) result (code (45 ∷ digits.now)) }
+{
+    negative(below(0x8000_0001, digits)?)
+}
+
+/// A code without a sign.
+fn positive_code(word: &[u8]) -> Result<i32, Cause>
+    ensures { Gives (λ z. z) result (positive word.now) }
+{
+    Ok(below(0x8000_0000, word)? as i32)
+}
+
 fn code_of(word: &[u8]) -> Result<i32, Cause>
     ensures { Gives (λ z. z) result (code word.now) }
 {
     match word {
         [] => Err(Cause::Form),
-        [b'-', rest @ ..] => negative(below(0x8000_0001, rest)?),
-        [_, ..] => Ok(below(0x8000_0000, word)? as i32),
+        [b'-', digits @ ..] => negative_code(digits),
+        [_, ..] => positive_code(word),
     }
 }
 
@@ -162,17 +176,32 @@ fn index(bound: u32, word: &[u8]) -> Result<u32, Cause>
     Ok(below(u128::from(bound), word)? as u32)
 }
 
+/// The number of a CPU's actor, by the digits behind its letter.
+fn cpu_actor(names: &Names, digits: &[u8]) -> Result<u32, Cause>
+    requires { HasFewActors names.now }
+    ensures { Gives (λ a. a) result (actor_in names.now (112 ∷ digits.now)) }
+{
+    Ok(names.clients + index(names.cpus, digits)?)
+}
+
+/// The number of an interrupt's actor, by the digits behind its letter.
+fn interrupt_actor(names: &Names, digits: &[u8]) -> Result<u32, Cause>
+    requires few { HasFewActors names.now }
+    requires version { names.now.version ≡ 2 }
+    ensures { Gives (λ a. a) result (actor_in names.now (104 ∷ digits.now)) }
+{
+    Ok(names.clients + names.cpus + index(names.cpus, digits)?)
+}
+
 /// The number of an actor, by its word.
 fn actor_in(names: &Names, word: &[u8]) -> Result<u32, Cause>
     requires { HasFewActors names.now }
     ensures { Gives (λ a. a) result (actor_in names.now word.now) }
 {
     match word {
-        [b'c', rest @ ..] => index(names.clients, rest),
-        [b'p', rest @ ..] => Ok(names.clients + index(names.cpus, rest)?),
-        [b'h', rest @ ..] if names.version == 2 => {
-            Ok(names.clients + names.cpus + index(names.cpus, rest)?)
-        }
+        [b'c', digits @ ..] => index(names.clients, digits),
+        [b'p', digits @ ..] => cpu_actor(names, digits),
+        [b'h', digits @ ..] if names.version == 2 => interrupt_actor(names, digits),
         _ => Err(Cause::Form),
     }
 }
@@ -203,12 +232,18 @@ fn maker_of(names: &Names, word: &[u8]) -> Result<Maker, Cause>
     Ok(Maker { actor, act })
 }
 
+fn is_by(maker: &Maker, actor: u32) -> bool
+    ensures { result ≡ (maker.now.actor == actor) }
+{
+    maker.actor == actor
+}
+
 fn own_maker(names: &Names, actor: u32, word: &[u8]) -> Result<Maker, Cause>
     requires { HasFewActors names.now }
     ensures { Gives (λ m. m) result (maker_is names.now actor word.now) }
 {
     let maker = maker_of(names, word)?;
-    if maker.actor == actor {
+    if is_by(&maker, actor) {
         Ok(maker)
     } else {
         Err(Cause::Form)
