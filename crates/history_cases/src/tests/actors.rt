@@ -78,19 +78,37 @@ fn hand_out(
     Ok(())
 }
 
-// The passes of two lives, a list for each of two actors: the identities stay known.
-#[test]
-fn passes_keep_their_lives(rt: HostRuntime) -> Result<(), Fail> {
-    let alloc = rt.alloc();
-    let (first, _, of_first) = Life::<Counting>::new(alloc, 2)?;
-    let (second, mut keeper, of_second) = Life::<Counting>::new(alloc, 2)?;
+// The passes of actor 1 of two lives, whose identities stay known.
+fn of_actor_one(
+    alloc: Global,
+    first: &Life<Counting>,
+    of_first: Seq<Pass<Counting>>,
+    second: &Life<Counting>,
+    of_second: Seq<Pass<Counting>>,
+) -> Result<Seq<Pass<Counting>>, NoMemory>
+    requires first { AreFresh first.now 2 of_first }
+    requires second { AreFresh second.now 2 of_second }
+    ensures { IfOk result (λ one. one ≡ pass_view first.now 1 [] ∷ pass_view second.now 1 [] ∷ []) }
+{
     let mut zero = Seq::new(alloc);
     let mut one = Seq::new(alloc);
-    hand_out(&first, of_first, &mut zero, &mut one)?;
-    hand_out(&second, of_second, &mut zero, &mut one)?;
-    if let Some(pass) = one.into_vec().pop() {
-        let (_, position) = second.write(&mut keeper, pass, (1, 0));
-        assert_eq!(rt; position, 0);
+    hand_out(first, of_first, &mut zero, &mut one)?;
+    hand_out(second, of_second, &mut zero, &mut one)?;
+    Ok(one)
+}
+
+// The position of what actor 1 of the second life writes, by the pass that stands last on its list.
+fn written_by_the_last(alloc: Global) -> Result<u64, NoMemory> {
+    let (first, _, of_first) = Life::<Counting>::new(alloc, 2)?;
+    let (second, mut keeper, of_second) = Life::<Counting>::new(alloc, 2)?;
+    let one = of_actor_one(alloc, &first, of_first, &second, of_second)?;
+    match one.into_vec().pop() {
+        Some(pass) => Ok(second.write(&mut keeper, pass, (1, 0)).1),
+        None => unreachable!(),
     }
-    Ok(())
+}
+
+#[test]
+fn passes_keep_their_lives(rt: HostRuntime) {
+    assert_eq!(rt; written_by_the_last(rt.alloc()), Ok(0));
 }
