@@ -1,10 +1,11 @@
 -- The books of a desk: a keeper at its number, and the books after it has changed.
-use Rattle.std.proofs.Common.{◌≡◌, ℕ, zero, suc, ◌<◌, true, List, [], ◌∷◌, length, map, set, sym, ap, ◌∙◌, subst, arith}
-use Rattle.std.specs.Prelude.{slice_index_or, is_some}
+use Rattle.std.proofs.Common.{◌≡◌, ℕ, zero, suc, ◌<◌, true, List, [], ◌∷◌, length, map, set, sym, ap, ◌∙◌, subst, arith, rules}
+use Rattle.std.specs.Prelude.{slice_get, slice_index_or, is_some, IsSome}
 use Rattle.std.specs.declared.option.Option.{Option}
 use Rattle.std.specs.declared.option.Option.TheVariants.{Some, None}
 use mathlib.Core.Logic.{dite}
 use native.Mathlib.Decide.{ℕ_discrete}
+use Rattle.co_life.specs.Identity.{LifeId}
 use Rattle.co_life.specs.Views.{KeeperView}
 use Rattle.co_object.specs.declared.note.Entry.{Entry}
 use Rattle.co_object.specs.declared.note.QEntry.{QEntry}
@@ -25,12 +26,26 @@ below_kept [] i h = absurd (cc)
 below_kept (k ∷ ks) zero h = omega arith
 below_kept (k ∷ ks) (suc i) h = let r = below_kept ks i h in omega arith
 
+kept_some : (k : Option (KeeperView (Line Entry))) → is_some (kept_of k) ≡ true → IsSome k
+kept_some None h = absurd (cc)
+kept_some (Some k) h = search rules
+
+-- two lives of one place
+pub same_life : (xs ys : List LifeId) (i : ℕ) (a b : LifeId) → xs ≡ ys → slice_get xs i ≡ Some a → slice_get ys i ≡ Some b → a ≡ b
+same_life xs ys i a b same l r = let e : slice_get xs i ≡ slice_get ys i = ap (λ (l : List LifeId). slice_get l i) same in cc
+
 module _ (name : ServiceName) (p : Params) (cpu : ℕ) (ks : List (Option (KeeperView (Line Entry)))) (j : KeeperView (Line QEntry)) (b : BooksView) (are : AreBooks name p cpu ks j) (view : books_of p cpu ks j ≡ b) (i : ℕ) where
   pub params_are : b.params ≡ p
   params_are = ap (λ (v : BooksView). v.params) (sym view)
 
   pub below_here : is_kept b i ≡ true → i < length ks
   below_here here = below_kept ks i (ap (λ (v : BooksView). is_kept v i) view ∙ here)
+
+  -- the keeper of a history that stands here is there
+  pub some_here : (x : Option (KeeperView (Line Entry))) → is_kept b i ≡ true → x ≡ slice_index_or ks i x → IsSome x
+  some_here x here at =
+      let there : slice_index_or ks i None ≡ x = get_or_of ks i None x (get_here ks i x (below_here here) at) in
+      kept_some x (ap (λ (o : Option (KeeperView (Line Entry))). is_some (kept_of o)) (sym there) ∙ (ap is_some (sym (index-map kept_of ks i None)) ∙ (ap (λ (v : BooksView). is_kept v i) view ∙ here)))
 
   module _ (x : Option (KeeperView (Line Entry))) (k : KeeperView (Line Entry)) (here : is_kept b i ≡ true) (at : x ≡ slice_index_or ks i x) (is : x ≡ Some k) where
     keeper_here : slice_index_or ks i None ≡ Some k

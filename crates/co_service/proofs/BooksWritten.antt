@@ -1,5 +1,5 @@
 -- The books of a desk after an entry.
-use Rattle.std.proofs.Common.{◌≡◌, ℕ, true, List, [], ◌∷◌, ◌++◌, set, sym, ap, ◌∙◌, subst}
+use Rattle.std.proofs.Common.{◌≡◌, ℕ, true, List, [], ◌∷◌, ◌++◌, map, set, sym, ap, ◌∙◌, subst}
 use Rattle.std.specs.Prelude.{slice_index_or}
 use Rattle.std.specs.declared.option.Option.{Option}
 use Rattle.std.specs.declared.option.Option.TheVariants.{Some}
@@ -20,7 +20,7 @@ use Rattle.co_service.specs.Lines.{made}
 use Rattle.co_service.specs.Stories.{IsHistory, IsJournal}
 use Rattle.co_service.specs.Views.{PassesView, IsKeeperOf}
 use Rattle.co_service.specs.Writes.{WritesTimer}
-use Rattle.co_service.specs.Books.{BooksView, books_of, entries_in, entries_at, is_kept, with_history, AreBooks}
+use Rattle.co_service.specs.Books.{BooksView, books_of, kept_of, entries_in, entries_at, is_kept, with_history, AreBooks}
 use Rattle.co_service.specs.May.{MayEnter, MayHappen}
 use Rattle.co_service.proofs.BooksKept.{keeper_of, history_here, kept_twice, below_here, set_twice}
 
@@ -44,6 +44,9 @@ module _ (name : ServiceName) (p : Params) (cpu : ℕ) (ks : List (Option (Keepe
       own = subst (λ (t : List LifeId × Params). IsKeeperOf IsJournal t.0 t.1 cpu j') (λ d. (lives_are d, sym p_is d)) at;
       each = are.each;
     }
+
+    pub journal_books : (j' : KeeperView (Line QEntry)) → made j'.history ≡ made j.history ++ e ∷ [] → books_of p cpu ks j' ≡ record b { journal = b.journal ++ e ∷ [] }
+    journal_books j' history = (λ d. record { params = p; cpu = cpu; timers = map kept_of ks; journal = history d }) ∙ ap (λ (v : BooksView). record v { journal = v.journal ++ e ∷ [] }) view
 
     pub journal_legal : MayEnter b e → IsJournal r cpu (made j.history ++ e ∷ [])
     journal_legal may =

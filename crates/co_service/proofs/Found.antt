@@ -1,11 +1,12 @@
 -- A pass at its place in an actor's list.
-use Rattle.std.proofs.Common.{◌≡◌, ℕ, List, [], map, set, Option, Some, sym, ap, ◌∙◌}
-use Rattle.std.specs.Prelude.{slice_get, slice_index_or}
+use Rattle.std.proofs.Common.{◌≡◌, ℕ, ◌<◌, List, [], length, map, set, Option, Some, None, sym, ap, ◌∙◌, subst, rules}
+use Rattle.std.specs.Prelude.{slice_get, slice_index_or, IsSome}
 use Rattle.std.specs.List.{All}
 use Rattle.co_life.specs.Identity.{LifeId}
 use Rattle.co_life.specs.Views.{PassView}
 use Rattle.co_service.specs.Seats.{life_in, seen_in, IsOwn}
-use Rattle.co_service.proofs.Items.{get_or_of, set_set, set_same, all_at, set_map, get_map, got_map}
+use Rattle.co_service.proofs.Items.{get_or_of, set_set, set_same, all_at, all_set, set_map, get_map, got_map}
+use Rattle.co_service.proofs.Writing.{below_get}
 
 module _ {E : Type 0} where
   -- the pass h of a life stands at i
@@ -37,3 +38,20 @@ module _ {E : Type 0} where
 
   pub same_all : (ps : List (Option (PassView E))) (i : ℕ) (life : LifeId) (h new : PassView E) (gone : Option (PassView E)) → Found ps i life h → new ≡ h → set (set ps i gone) i (Some new) ≡ ps
   same_all ps i life h new gone at is = set_set ps i gone (Some new) ∙ (ap (λ (t : PassView E). set ps i (Some t)) is ∙ set_same ps i (Some h) at.here)
+
+  pub within : (ps : List (Option (PassView E))) (i : ℕ) (life : LifeId) → slice_get (map life_in ps) i ≡ Some life → i < length ps
+  within ps i life named = let p = got_map life_in ps i life named in below_get ps i p.0 p.1
+
+  own_some : (a : ℕ) (x : Option (PassView E)) → IsOwn a x → IsSome x
+  own_some a None o = absurd o
+  own_some a (Some h) o = search rules
+
+  -- at the place of a life stands a pass
+  pub stands : (ps : List (Option (PassView E))) (i : ℕ) (life : LifeId) (x : Option (PassView E)) (a : ℕ) → slice_get (map life_in ps) i ≡ Some life → x ≡ slice_index_or ps i x → All (IsOwn a) ps → IsSome x
+  stands ps i life x a named at all =
+      let p = got_map life_in ps i life named in
+      subst IsSome (sym (at ∙ get_or_of ps i x p.0 p.1)) (own_some a p.0 (all_at (IsOwn a) ps i p.0 all p.1))
+
+  -- the actor's pass is put back
+  pub owned : (ps : List (Option (PassView E))) (i : ℕ) (gone : Option (PassView E)) (new : PassView E) (a : ℕ) → All (IsOwn a) ps → new.actor ≡ a → All (IsOwn a) (set (set ps i gone) i (Some new))
+  owned ps i gone new a all own = subst (All (IsOwn a)) (sym (set_set ps i gone (Some new))) (all_set (IsOwn a) ps i (Some new) all own)

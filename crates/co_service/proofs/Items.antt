@@ -31,6 +31,11 @@ module _ {A : Type 0} where
   all_at P (x ∷ xs) zero a all e = let same : x ≡ a = cc in subst P same (All-head P x xs all)
   all_at P (x ∷ xs) (suc k) a all e = all_at P xs k a (All-tail P x xs all) e
 
+  pub all_set : (P : A → Type 0) (xs : List A) (k : ℕ) (a : A) → All P xs → P a → All P (set xs k a)
+  all_set P [] k a all p = all
+  all_set P (x ∷ xs) zero a all p = All-cons P a xs p (All-tail P x xs all)
+  all_set P (x ∷ xs) (suc k) a all p = All-cons P x (set xs k a) (All-head P x xs all) (all_set P xs k a (All-tail P x xs all) p)
+
 module _ {A B : Type 0} (f : A → B) where
   pub set_map : (xs : List A) (k : ℕ) (a : A) → map f (set xs k a) ≡ set (map f xs) k (f a)
   set_map [] k a = refl

@@ -14,12 +14,14 @@ use Rattle.co_object.specs.declared.op.RunOp.TheVariants.{Begin}
 use Rattle.co_object.specs.declared.reply.Reply.{Reply}
 use Rattle.co_object.specs.declared.state.State.{State}
 use Rattle.co_object.specs.History as history
+use Rattle.co_object.specs.Journal.{IsOfItsActor}
+use Rattle.co_object.specs.declared.queue.QOp.{QOp}
 use Rattle.co_object.specs.Queue.{Due}
 use Rattle.co_object.specs.Serve.{begin, end}
 use Rattle.co_wheel.specs.Callouts.{Callouts, callout, in_service, with_callout}
 use Rattle.co_wheel.specs.Cpu.{Cpu}
 use Rattle.co_wheel.specs.Service.{moved_on, begin_outcome, begin_it, begin_served, begin_here}
-use Rattle.co_wheel.specs.Turns.{Turns}
+use Rattle.co_wheel.specs.Turns.{Turns, free_of}
 use Rattle.co_wheel.proofs.Turning.{no-turns}
 use Rattle.co_service.specs.declared.params.Params.{Params}
 use Rattle.co_service.specs.Params.{actors_of, directs, spec_at}
@@ -37,7 +39,7 @@ use Rattle.co_service.proofs.DeskKept.{owes_turns}
 use Rattle.co_service.proofs.Lanes.{direct_spec, serves_lane}
 use Rattle.co_service.proofs.Noting.{one_note, timer_noted}
 use Rattle.co_service.proofs.NextSection.{service_is, slot_shown}
-use Rattle.co_service.proofs.ServedDesk.{at_begun, changed_so, lane_server, one_of, some_of}
+use Rattle.co_service.proofs.ServedDesk.{at_begun, changed_so, lane_frees, lane_server, one_of, some_of}
 use Rattle.co_service.proofs.Serving.{may_begin, may_end}
 
 -- what a caller serves on a desk that it has met: the callout d.i is there, with this history
@@ -54,6 +56,10 @@ pub record IsServed (lane : Bool) (w : Cpu) (b : BooksView) (scans : ℕ) (p : P
 module _ (lane : Bool) (w : Cpu) (b : BooksView) (scans : ℕ) (p : PassesView) (d : Due) (far : Service) (H : List Entry) (is : IsServed lane w b scans p d far H) where
   actor_is : p.actor ≡ lane_actor lane (actors_of b.params) b.cpu
   actor_is = is.serving.actor ∙ ap (λ (r : Params). lane_actor lane (actors_of r) b.cpu) (sym is.same)
+
+  -- who serves the lane frees it
+  pub frees_actor : (b' : BooksView) (a : ℕ) (op : QOp) → b'.params ≡ b.params → b'.cpu ≡ b.cpu → a ≡ p.actor → op ≡ free_of lane → IsOfItsActor (actors_of b'.params) b'.cpu a op
+  frees_actor b' a op params cpu acted freed = subst (λ (t : Params × ℕ × ℕ × QOp). IsOfItsActor (actors_of t.0) t.1 t.2 t.3) (λ k. (sym params k, sym cpu k, sym acted k, sym freed k)) (lane_frees (actors_of b.params) b.cpu p.actor lane actor_is)
 
   pub in_lane : in_service lane w.callouts ≡ Some d
   in_lane = service_is lane w b scans p.actor (journal_seen p b.cpu) is.desk is.journal_legal actor_is is.journal_shown ∙ is.serving.serves

@@ -36,15 +36,21 @@ impl<N: Name> Model for Ending<N> {
     ghost invariant = { λ e. IsEnding (record { books = e.books; timers = e.timers; cpus = e.cpus }) };
 }
 
+/// Room for so many.
+fn room_for<T: Drop>(alloc: Global, count: usize) -> Result<Room<T>, NoMemory>
+    ensures { IfOk result (λ room. (room.items ≡ []) × (count ≤ room.spare)) }
+{
+    let mut room = Room::from_seq(Seq::new(alloc));
+    room.reserve(count)?;
+    Ok(room)
+}
+
 impl<N: Name> Ending<N> {
     /// Room for as many callouts and CPUs as a service may have.
     pub(crate) fn new(alloc: Global) -> Result<Ending<N>, NoMemory> {
-        let mut books = Room::from_seq(Seq::new(alloc));
-        let mut timers = Room::from_seq(Seq::new(alloc));
-        let mut cpus = Room::from_seq(Seq::new(alloc));
-        books.reserve(16)?;
-        timers.reserve(1024)?;
-        cpus.reserve(16)?;
+        let books = room_for(alloc, 16)?;
+        let timers = room_for(alloc, 1024)?;
+        let cpus = room_for(alloc, 16)?;
         Ok(Ending {
             books,
             timers,

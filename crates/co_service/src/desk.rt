@@ -85,6 +85,13 @@ impl<N: Name> Desk<N> {
         self.books.cpu()
     }
 
+    /// Whether callout `i` is here.
+    fn has(&self, i: u32) -> bool
+        ensures { result ≡ is_kept self.now i }
+    {
+        self.books.has(i)
+    }
+
     /// The books, where nothing else is wanted any more.
     pub(crate) fn into_books(self) -> Books<N> {
         self.books
@@ -147,7 +154,7 @@ impl<N: Name> Desk<N> {
         ensures leaves { IfSome result (λ out. IsOfService passes.old.params i out.1) }
         ensures room { IfSome result (λ out. is_some out.1 ≡ true → HasRoom out.0.notes) }
     {
-        if !self.books.has(i) {
+        if !self.has(i) {
             return None;
         }
         self.books.meet(places.cpus(), passes);

@@ -1,7 +1,7 @@
 //! A service before its locks.
 ghost use Rattle.std.specs.Prelude.{◌≡◌, ◌≤◌, IfOk, length};
 ghost use Rattle.co_service.specs.Booted.{AreBooted, AreSetUp};
-ghost use Rattle.co_service.specs.Fresh.{AreNamed};
+ghost use Rattle.co_service.specs.Fresh.{AreBenches, AreNamed};
 ghost use Rattle.co_service.specs.Params.{AreParams, actor_count};
 ghost use Rattle.co_service.specs.Stories.{IsHistory, IsJournal};
 
@@ -83,6 +83,34 @@ fn make_cpus(
     make_places(alloc, params, params.cpus, actors)
 }
 
+/// The places of a service, what each of its CPUs has before the locks, and each actor's passes.
+fn join_fresh(
+    alloc: Global,
+    params: &Params,
+    actors: u32,
+    callouts: (
+        Lives<TimerStory>,
+        Vec<Keeper<TimerStory>>,
+        Vec<Seats<TimerStory>>,
+    ),
+    cpus: (Lives<CpuStory>, Vec<Keeper<CpuStory>>, Vec<Seats<CpuStory>>),
+) -> Result<(Places, Vec<Bench>, Seq<Passes>), NoMemory>
+    requires params { AreParams params.now }
+    requires actors { actors ≡ actor_count params.now }
+    requires callouts { AreSetUp IsHistory params.now (length params.now.specs) callouts.0 callouts.1.items callouts.2.items }
+    requires cpus { AreSetUp IsJournal params.now params.now.cpus cpus.0 cpus.1.items cpus.2.items }
+    ensures benches { IfOk result (λ made. AreBenches made.0 params.now made.1.items) }
+    ensures passes { IfOk result (λ made. AreBooted made.0 params.now made.2) }
+    ensures named { IfOk result (λ made. AreNamed made.0 params.now) }
+{
+    let (lives, timers, timer_seats) = callouts;
+    let (wheels, journals, cpu_seats) = cpus;
+    let places = Places::new(lives, wheels);
+    let passes = join_all(alloc, params, &places, actors, timer_seats, cpu_seats)?;
+    let benches = make_benches(alloc, params, &places, timers, journals)?;
+    Ok((places, benches, passes))
+}
+
 /// A service of these parameters before its locks, and each actor's passes of it.
 fn make_fresh(alloc: Global, params: Params) -> Result<(Fresh, Seq<Passes>), NoMemory>
     requires { AreParams params }
@@ -91,11 +119,9 @@ fn make_fresh(alloc: Global, params: Params) -> Result<(Fresh, Seq<Passes>), NoM
     ensures named { IfOk result (λ made. AreNamed made.0.name params) }
 {
     let actors = count_actors(&params);
-    let (callouts, timers, callout_seats) = make_callouts(alloc, &params, actors)?;
-    let (cpus, journals, cpu_seats) = make_cpus(alloc, &params, actors)?;
-    let places = Places::new(callouts, cpus);
-    let passes = join_all(alloc, &params, &places, actors, callout_seats, cpu_seats)?;
-    let benches = make_benches(alloc, &params, &places, timers, journals)?;
+    let callouts = make_callouts(alloc, &params, actors)?;
+    let cpus = make_cpus(alloc, &params, actors)?;
+    let (places, benches, passes) = join_fresh(alloc, &params, actors, callouts, cpus)?;
     let fresh = Fresh {
         places,
         params,

@@ -154,6 +154,34 @@ impl Service<Brand> {
     }
 }
 
+/// What a service has beside its places and parameters.
+#[derive(Drop)]
+struct Inside<N: Name> {
+    desks: Vec<Locked<N>>,
+    hints: Vec<AtomicU32>,
+    ending: Mutex<Ending<N>>,
+}
+
+/// The desks behind their locks, the hints, and what the end needs.
+fn make_inside<N: Name>(
+    alloc: Global,
+    params: &Params,
+    benches: Vec<Bench>,
+) -> Result<Inside<N>, NoMemory>
+    requires few { params.now.cpus < 2 ^ 32 }
+    requires benches { AreBenches N.name params.now benches.items }
+    ensures { IfOk result (λ inside. vec_len inside.desks ≡ params.now.cpus) }
+{
+    let desks = lock_all(alloc, params, benches)?;
+    let hints = first_hints(alloc, params.specs.as_slice().len())?;
+    let ending = Mutex::new(Ending::new(alloc)?);
+    Ok(Inside {
+        desks,
+        hints,
+        ending,
+    })
+}
+
 impl<N: Name> Service<N> {
     /// The running service: the desks go behind their locks. It keeps the name and the parameters.
     pub fn open(alloc: Global, fresh: Fresh) -> Result<Service<N>, NoMemory>
@@ -165,14 +193,17 @@ impl<N: Name> Service<N> {
             params,
             benches,
         } = fresh;
-        let desks = lock_all(alloc, &params, benches)?;
-        let hints = first_hints(alloc, params.specs.as_slice().len())?;
+        let Inside {
+            desks,
+            hints,
+            ending,
+        } = make_inside(alloc, &params, benches)?;
         Ok(Service {
             places,
             params: Shown::of(&params),
             desks,
             hints,
-            ending: Mutex::new(Ending::new(alloc)?),
+            ending,
         })
     }
 
@@ -381,6 +412,37 @@ impl<N: Name> Service<N> {
         unreachable!()
     }
 
+    /// The first callout that has come due goes into service, of the CPU or of its interrupt where `direct`. It waits until the
+    /// CPU's journal has so many Scans.
+    fn next_lane<R: Wait>(
+        &self,
+        rt: &R,
+        passes: &mut Passes,
+        cpu: u32,
+        act: u64,
+        scans: u64,
+        direct: bool,
+    ) -> Taken
+        requires cpu { cpu < self.now.cpus }
+        requires passes { AreOf N.name self.now passes.old }
+        requires free { IsFree direct passes.old cpu }
+        ensures taken { IsTaken direct passes.old cpu act result passes.new }
+        ensures scans { FollowsScans scans (journal_seen passes.new cpu) }
+    {
+        for _ in rt.forever() {
+            let locked = &self.desks[cpu as usize];
+            let mut desk = locked
+                .changed
+                .wait_while(rt, locked.desk.lock(rt), |desk: &mut Desk<N>| -> bool {
+                    desk.lacks(scans)
+                });
+            if let Some(out) = desk.next(&self.places, passes, cpu, act, scans, direct) {
+                return out;
+            }
+        }
+        unreachable!()
+    }
+
     /// The first callout that has come due goes into the CPU's service. It waits until the CPU's journal has so many Scans,
     /// which the desk counts. That they come no clause says.
     ///
@@ -402,18 +464,7 @@ impl<N: Name> Service<N> {
         ensures actor { passes.new.actor ≡ passes.old.actor }
         ensures next { HasNext false passes.new cpu result }
     {
-        for _ in rt.forever() {
-            let locked = &self.desks[cpu as usize];
-            let mut desk = locked
-                .changed
-                .wait_while(rt, locked.desk.lock(rt), |desk: &mut Desk<N>| -> bool {
-                    desk.lacks(scans)
-                });
-            if let Some(out) = desk.next(&self.places, passes, cpu, act, scans, false) {
-                return out;
-            }
-        }
-        unreachable!()
+        self.next_lane(rt, passes, cpu, act, scans, false)
     }
 
     /// The first direct callout that has come due goes into the service of the CPU's interrupt.
@@ -428,17 +479,7 @@ impl<N: Name> Service<N> {
         ensures actor { passes.new.actor ≡ passes.old.actor }
         ensures next { HasNext true passes.new cpu result }
     {
-        for _ in rt.forever() {
-            let locked = &self.desks[cpu as usize];
-            let out = locked
-                .desk
-                .lock(rt)
-                .next(&self.places, passes, cpu, act, 0, true);
-            if let Some(out) = out {
-                return out;
-            }
-        }
-        unreachable!()
+        self.next_lane(rt, passes, cpu, act, 0, true)
     }
 
     /// The lock of the callout that the CPU has in service is held, in the mode that its spec wants.
@@ -515,10 +556,10 @@ impl<N: Name> Service<N> {
         requires serves { (d : Due) × IsServing direct passes.old cpu d (Runs d.n) }
         ensures { (d : Due) → IsServing direct passes.old cpu d (Runs d.n) → IsEnded direct passes.old cpu act d result.reply (notes_in result.notes) passes.new }
     {
-        let (made, leaves) = self.end_found(rt, passes, cpu, act, direct);
+        let (ended, leaves) = self.end_found(rt, passes, cpu, act, direct);
         match leaves {
-            None => made,
-            Some(moving) => with_last(made, self.land(rt, passes, act, moving)),
+            None => ended,
+            Some(moving) => with_last(ended, self.land(rt, passes, act, moving)),
         }
     }
 

@@ -1,22 +1,31 @@
 //! The sections of a desk in which a callout is serviced, and its landing.
-ghost use Rattle.std.specs.Prelude.{◌≡◌, ◌≢◌, ◌<◌, ◌⊎◌, IfErr, IfNone, IfOk, IfSome, false, nat_lt};
+ghost use Rattle.std.specs.Prelude.{◌≡◌, ◌≢◌, ◌<◌, ◌⊎◌, [], ◌∷◌, ◌++◌, IfErr, IfNone, IfOk, IfSome, false, nat_lt};
 ghost use Rattle.std.specs.Option.{option_map};
 ghost use Rattle.std.specs.declared.option.Option.TheVariants.{Some, None};
+ghost use Rattle.co_object.specs.declared.queue.QOp.TheVariants.{Insert};
+ghost use Rattle.co_object.specs.declared.queue.QReply.TheVariants.{At};
+ghost use Rattle.co_object.specs.Journal.{reply_of, step};
 ghost use Rattle.co_object.specs.Queue.{Due};
 ghost use Rattle.co_service.specs.Call.{HasRoom, notes_in};
 ghost use Rattle.co_service.specs.Desk.{is_entry, scans_in, services};
 ghost use Rattle.co_service.specs.May.{queue_of};
 ghost use Rattle.co_service.specs.Moving.{IsOfService, target_of};
+ghost use Rattle.co_service.specs.Outcomes.{IsTurn, turn};
+ghost use Rattle.co_service.specs.Params.{directs};
 ghost use Rattle.co_service.specs.Services.{FollowsScans, IsBegun, IsEndedBut, IsFree, IsLanded, IsServing, IsTaken};
 ghost use Rattle.co_service.specs.Serving.{Runs, Waits};
 ghost use Rattle.co_service.specs.Views.{journal_seen};
+ghost use Rattle.co_service.specs.Writes.{WritesCpu};
 
+use crate::books::Books;
 use crate::desk::{Desk, write_turn};
 use crate::moving::{Moving, depart};
 use crate::places::Places;
 use crate::running::{finish, free, serviced, take, three, waited, write_run, write_taken};
-use crate::{Made, Name, Passes, Taken};
+use crate::seats::Lives;
+use crate::{CpuStory, Made, Name, Passes, Taken};
 use co_object::{Note, QOp, QReply, RunOp};
+use co_sbt::Sbt;
 
 fn is_of(service: Option<(u32, u64)>, i: u32, n: u64) -> bool
     ensures { result ≡ is_entry (option_map (λ d. record { i = d.0; n = d.1 }) service) i n }
@@ -25,6 +34,29 @@ fn is_of(service: Option<(u32, u64)>, i: u32, n: u64) -> bool
         Some((j, m)) => j == i && m == n,
         None => false,
     }
+}
+
+/// Writes that arming `n` of callout `i` has come into the queue.
+fn write_landed<N: Name>(
+    books: &mut Books<N>,
+    lives: &Lives<CpuStory>,
+    passes: &mut Passes,
+    act: u64,
+    i: u32,
+    n: u64,
+    t: Sbt,
+    at: Sbt,
+) -> Note
+    requires lives { lives.now ≡ N.name.cpus }
+    requires name { passes.old.name ≡ N.name }
+    requires params { books.old.params ≡ passes.old.params }
+    requires possible { reply_of (step books.old.params.buckets (directs books.old.params) (queue_of books.old) (Insert i n t)) ≡ Some (At at) }
+    ensures books { books.new ≡ record books.old { journal = books.old.journal ++ turn passes.old act (Insert i n t) (At at) ∷ [] } }
+    ensures note { IsTurn books.old.cpu (turn passes.old act (Insert i n t) (At at)) result }
+    ensures written { WritesCpu passes.old books.old.cpu (turn passes.old act (Insert i n t) (At at)) result.pos books.new.journal passes.new }
+{
+    let op = QOp::Insert { i, n, t };
+    write_turn(books, lives, passes, act, op, QReply::At(at))
 }
 
 impl<N: Name> Desk<N> {
@@ -172,14 +204,7 @@ impl<N: Name> Desk<N> {
         let t = moving.due;
         let at = self.wheel.land(moving.parcel);
         self.books.put(i, moving.keeper);
-        let op = QOp::Insert { i, n, t };
-        Ok(write_turn(
-            &mut self.books,
-            places.cpus(),
-            passes,
-            act,
-            op,
-            QReply::At(at),
-        ))
+        let lives = places.cpus();
+        Ok(write_landed(&mut self.books, lives, passes, act, i, n, t, at))
     }
 }

@@ -34,3 +34,43 @@ loop-pass-preserved g c =
           (seated_more p lives life at.actor one c.add.new.self c.sign-signed.new.keeper.history was seated
           (c.in_ok-add.ensures ∙ (λ d. record one { name = one.name ++ ((ap (λ q. q.life) s.pass ∙ ap (λ q. q.life) fresh) d) ∷ []; seen = one.seen ++ (ap (λ q. q.seen) s.pass d) ∷ [] })));
     }
+
+pub sign-signed-requires-clause-keeper : goal.sign-signed-requires-clause-keeper
+sign-signed-requires-clause-keeper g c = ap (λ k. k.life) c.loop-pass.invariant.keeper ∙ c.requires.keeper.0
+
+pub sign-signed-requires-clause-pass : goal.sign-signed-requires-clause-pass
+sign-signed-requires-clause-pass g c =
+    let at = c.loop-pass in
+    let i = at.invariant in
+    let x = c.in-Some.pass in
+    let life = c.args.life.now in
+    let steps : into_iter_items at.pass-iterator ≡ x ∷ into_iter_items c.next.new.self = c.in-Some.ensures.steps.0 in
+    let few : at.actor < vec_len c.args.seats.now = (let was = ap length i.yields in let all = ap length c.into_iter-pass-iterator.ensures.into_iter_gives.0 in let n = c.requires.passes.count in let a = length-append at.yielded (into_iter_items at.pass-iterator) in let b = ap length steps in let d = i.at in omega arith) in
+    let fresh = item_at at.yielded x (pass_view life at.actor []) _ c.args.passes.items (ap (λ l. at.yielded ++ l) (sym steps) ∙ (i.yields ∙ c.into_iter-pass-iterator.ensures.into_iter_gives.0)) (ap (slice_get c.args.passes.items) (sym i.at) ∙ c.requires.passes.each at.actor few) in
+    (ap (λ q. q.life) fresh, ap (λ q. q.actor) fresh)
+
+pub sign-signed-requires-clause-opened : goal.sign-signed-requires-clause-opened
+sign-signed-requires-clause-opened g c = c.loop-pass.invariant.opened
+
+pub sign-signed-requires-clause-legal : goal.sign-signed-requires-clause-legal
+sign-signed-requires-clause-legal g c = c.requires.legal
+
+pub sign-signed-requires-clause-by : goal.sign-signed-requires-clause-by
+sign-signed-requires-clause-by g c = c.requires.by
+
+pub add-requires : goal.add-requires
+add-requires g c =
+    let at = c.loop-pass in
+    let i = at.invariant in
+    let x = c.in-Some.pass in
+    let p = c.args.params.now in
+    let lives = c.args.lives.now in
+    let life = c.args.life.now in
+    let steps : into_iter_items at.pass-iterator ≡ x ∷ into_iter_items c.next.new.self = c.in-Some.ensures.steps.0 in
+    let few : at.actor < vec_len c.args.seats.now = (let was = ap length i.yields in let all = ap length c.into_iter-pass-iterator.ensures.into_iter_gives.0 in let n = c.requires.passes.count in let a = length-append at.yielded (into_iter_items at.pass-iterator) in let b = ap length steps in let d = i.at in omega arith) in
+    let fresh = item_at at.yielded x (pass_view life at.actor []) _ c.args.passes.items (ap (λ l. at.yielded ++ l) (sym steps) ∙ (i.yields ∙ c.into_iter-pass-iterator.ensures.into_iter_gives.0)) (ap (slice_get c.args.passes.items) (sym i.at) ∙ c.requires.passes.each at.actor few) in
+    let s = c.sign-signed.ensures in
+    let one = c.index_mut-one.result.now in
+    let within : at.actor < length at.seats.items = (let n = i.seats.count in omega arith) in
+    let was : AreSeatedAt p lives at.actor one = subst (AreSeatedAt p lives at.actor) (get_or_of at.seats.items at.actor (fresh_seats [] 0) one (get_here at.seats.items at.actor one within c.index_mut-one.ensures.value)) (i.seats.behind at.actor (omega arith) few) in
+    ap (λ q. q.actor) s.pass ∙ (ap (λ q. q.actor) fresh ∙ sym was.actor_is)

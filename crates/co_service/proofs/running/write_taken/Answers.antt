@@ -1,15 +1,18 @@
-use Rattle.std.proofs.Common.{◌≡◌, [], ◌∷◌, ◌++◌, ap, ◌∙◌, subst}
+use Rattle.std.proofs.Common.{◌≡◌, [], ◌∷◌, ◌++◌, sym, ap, ◌∙◌, subst}
 use Rattle.co_object.specs.declared.note.Entry.{Entry}
 use Rattle.co_object.specs.declared.note.QEntry.{QEntry}
 use Rattle.co_object.specs.declared.note.AnyEntry.TheVariants as of
 use Rattle.co_object.specs.declared.op.RunOp.TheVariants.{Pick}
 use Rattle.co_object.specs.declared.queue.QReply.TheVariants.{Got}
 use Rattle.co_object.specs.declared.queue.QOp.{QOp}
+use Rattle.co_object.specs.Journal.{IsOfItsActor}
 use Rattle.co_service.specs.Books.{BooksView, entries_at}
 use Rattle.co_service.specs.Outcomes.{IsTurn, turn}
+use Rattle.co_service.specs.Params.{actors_of}
 use Rattle.co_service.specs.Services.{run_entry}
 use Rattle.co_service.specs.Views.{PassesView}
 use Rattle.co_service.proofs.Noting.{cpu_noted, one_note, timer_noted}
+use Rattle.co_service.proofs.ServedDesk.{lane_pops}
 use Rattle.co_service.proofs.running.write_taken.Goals as goal
 
 pub returns-in-Took-clause-told : goal.returns-in-Took-clause-told
@@ -31,3 +34,11 @@ returns-in-Took-clause-told g c =
         one_note q r c.write_run-pick.result (timer_noted q r c.write_run-pick.result c.in-Took.i e (entries_at c.write_turn-pop.new.books c.in-Took.i ++ e ∷ []) c.write_run-pick.ensures.note.0 c.write_run-pick.ensures.note.1 c.write_run-pick.ensures.written),
       );
     }
+
+pub write_turn-pop-requires-clause-actor : goal.write_turn-pop-requires-clause-actor
+write_turn-pop-requires-clause-actor g c =
+    subst (IsOfItsActor (actors_of c.args.books.now.params) c.args.books.now.cpu c.args.passes.now.actor) (sym c.pop-op.ensures) (lane_pops (actors_of c.args.books.now.params) c.args.books.now.cpu c.args.passes.now.actor c.args.direct c.requires.actor)
+
+pub write_turn-note-requires-clause-actor : goal.write_turn-note-requires-clause-actor
+write_turn-note-requires-clause-actor g c =
+    subst (IsOfItsActor (actors_of c.args.books.now.params) c.args.books.now.cpu c.args.passes.now.actor) (sym c.pop-op.ensures) (lane_pops (actors_of c.args.books.now.params) c.args.books.now.cpu c.args.passes.now.actor c.args.direct c.requires.actor)

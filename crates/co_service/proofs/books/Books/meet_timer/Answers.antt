@@ -1,11 +1,28 @@
-use Rattle.std.proofs.Common.{◌≡◌, sym, ◌∙◌, subst}
-use Rattle.std.specs.Prelude.{slice_get}
+use Rattle.std.proofs.Common.{◌≡◌, sym, ◌∙◌, subst, arith}
+use Rattle.std.specs.Prelude.{slice_get, IsSome}
 use Rattle.std.specs.declared.option.Option.TheVariants.{Some}
 use Rattle.co_service.specs.Stories.{IsHistory}
 use Rattle.co_service.specs.Views.{IsKeeperOf}
-use Rattle.co_service.proofs.BooksKept.{keeper_of, legal_here, same_books, kept_twice, below_here, of_params}
+use Rattle.co_service.proofs.BooksKept.{keeper_of, legal_here, same_books, same_life, some_here, kept_twice, below_here, of_params}
 use Rattle.co_service.proofs.Writing.{below_get}
 use Rattle.co_service.proofs.books.Books.meet_timer.Goals as goal
+
+pub index_mut-requires : goal.index_mut-requires
+index_mut-requires g c =
+    let here = below_here g.N.Name.name c.self.inside.params.value c.self.inside.cpu c.self.inside.keepers.items c.self.inside.journal c.args.self.now c.self.invariant c.self.view_is c.args.i c.requires.here in
+    let n = c.self.inside.keepers.ok.0 in
+    omega arith
+
+pub unwrap-keeper-requires : goal.unwrap-keeper-requires
+unwrap-keeper-requires g c = subst IsSome (sym c.take.ensures.value) (some_here g.N.Name.name c.self.inside.params.value c.self.inside.cpu c.self.inside.keepers.items c.self.inside.journal c.args.self.now c.self.invariant c.self.view_is c.args.i c.index_mut.result.now c.requires.here c.index_mut.ensures.value)
+
+pub meet_timer-requires-clause-at : goal.meet_timer-requires-clause-at
+meet_timer-requires-clause-at g c = (λ d. slice_get (c.requires.name d).timers c.args.i) ∙ ((λ d. slice_get (sym c.requires.lives d) c.args.i) ∙ c.get.ensures)
+
+pub meet_timer-requires-clause-life : goal.meet_timer-requires-clause-life
+meet_timer-requires-clause-life g c =
+    same_life g.N.Name.name.timers c.args.lives.now c.args.i c.unwrap-keeper.result.life c.get.result.now (sym c.requires.lives)
+    (keeper_of g.N.Name.name c.self.inside.params.value c.self.inside.cpu c.self.inside.keepers.items c.self.inside.journal c.args.self.now c.self.invariant c.self.view_is c.args.i c.index_mut.result.now c.unwrap-keeper.result c.requires.here c.index_mut.ensures.value (sym c.take.ensures.value ∙ c.unwrap-keeper.ensures)).life c.get.ensures
 
 pub get-requires : goal.get-requires
 get-requires g c =

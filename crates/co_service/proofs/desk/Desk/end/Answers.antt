@@ -20,7 +20,7 @@ use Rattle.co_service.specs.Views.{PassesView}
 use Rattle.co_service.specs.Writes.{WritesCpu}
 use Rattle.co_service.proofs.EndSection.{ended_told, freed_desk, freed_may, freed_possible, freed_service, freed_target, may_end_here, may_write_end}
 use Rattle.co_service.proofs.MetDesk.{Meets, here_kept, served_after, serves_one, serves_some}
-use Rattle.co_service.proofs.ServiceSection.{IsServed}
+use Rattle.co_service.proofs.ServiceSection.{IsServed, frees_actor}
 use Rattle.co_service.proofs.desk.Desk.end.Goals as goal
 
 pub finish-out-requires : goal.finish-out-requires
@@ -38,6 +38,14 @@ write_run-ends-requires-clause-may g c =
     let s : (H : List Entry) × IsServed c.args.direct c.self.inside.wheel c.meet_timer.new.self c.self.inside.scans c.meet_timer.new.passes e (Runs c.in-Some.n) H = served_after c.args.direct c.self.inside.wheel c.self.inside.books c.meet.new.self c.meet_timer.new.self c.self.inside.scans c.args.cpu c.args.passes.now c.meet.new.passes c.meet_timer.new.passes c.requires.serves.0 e (λ n. Runs n) met c.meet.ensures.kept c.meet.ensures.passes c.meet_timer.ensures.kept c.meet_timer.ensures.passes c.requires.serves.1 c.in-Some.ensures.which (here_kept c.self.inside.wheel c.self.inside.books c.meet.new.self c.self.inside.scans c.in-Some.i c.self.invariant c.meet.ensures.kept c.in-Some.ensures.here) c.meet_timer.ensures.legal c.meet_timer.ensures.shown in
     subst (λ (k : ℕ). MayHappen c.meet_timer.new.self e.i (run_entry c.meet_timer.new.passes c.args.act (End e.n k) c.finish-out.result.reply)) here
     (may_write_end c.args.direct c.self.inside.wheel c.finish-out.new.wheel c.meet_timer.new.self c.self.inside.scans c.meet_timer.new.passes c.args.act e s.0 s.1 c.finish-out.result c.finish-out.ensures)
+
+pub write_turn-frees-requires-clause-actor : goal.write_turn-frees-requires-clause-actor
+write_turn-frees-requires-clause-actor g c =
+    let met : Meets c.self.inside.wheel c.self.inside.books c.self.inside.scans c.args.cpu c.args.passes.now = record { desk = c.self.invariant; legal = c.meet.ensures.legal; shown = c.meet.ensures.shown; params = c.meet.ensures.params; here = (let n = c.cpu.ensures in let f = c.if-cpu.false in omega arith) } in
+    let e : Due = record { i = c.in-Some.i; n = c.in-Some.n } in
+    let s : (H : List Entry) × IsServed c.args.direct c.self.inside.wheel c.meet_timer.new.self c.self.inside.scans c.meet_timer.new.passes e (Runs c.in-Some.n) H = served_after c.args.direct c.self.inside.wheel c.self.inside.books c.meet.new.self c.meet_timer.new.self c.self.inside.scans c.args.cpu c.args.passes.now c.meet.new.passes c.meet_timer.new.passes c.requires.serves.0 e (λ n. Runs n) met c.meet.ensures.kept c.meet.ensures.passes c.meet_timer.ensures.kept c.meet_timer.ensures.passes c.requires.serves.1 c.in-Some.ensures.which (here_kept c.self.inside.wheel c.self.inside.books c.meet.new.self c.self.inside.scans c.in-Some.i c.self.invariant c.meet.ensures.kept c.in-Some.ensures.here) c.meet_timer.ensures.legal c.meet_timer.ensures.shown in
+    frees_actor c.args.direct c.self.inside.wheel c.meet_timer.new.self c.self.inside.scans c.meet_timer.new.passes e (Runs c.in-Some.n) s.0 s.1 c.write_run-ends.new.books c.write_run-ends.new.passes.actor c.free.result
+    (ap (λ (b : BooksView). b.params) c.write_run-ends.ensures.books) (ap (λ (b : BooksView). b.cpu) c.write_run-ends.ensures.books) (ap (λ (v : PassesView). v.actor) c.write_run-ends.ensures.written.passes) c.free.ensures
 
 pub write_turn-frees-requires-clause-possible : goal.write_turn-frees-requires-clause-possible
 write_turn-frees-requires-clause-possible g c =

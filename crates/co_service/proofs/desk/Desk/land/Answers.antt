@@ -37,8 +37,8 @@ invariant_of-self g c =
       due_is = c.moving.invariant.due_is;
     } in
     let put : c.put.new.self ≡ with_history b i (Some H) = c.put.ensures.books ∙ (λ d. with_history b (at_is d) (Some H)) in
-    let wrote : c.write_turn.new.books ≡ record b { timers = slice_set b.timers i (Some H); journal = b.journal ++ turn c.meet.new.passes c.args.act (Insert c.callout-i.result m.n m.due) (At c.land-at.result) ∷ [] } =
-    c.write_turn.ensures.books ∙ (λ d. record (put d) { journal = (put d).journal ++ turn c.meet.new.passes c.args.act (Insert c.callout-i.result m.n m.due) (At c.land-at.result) ∷ [] }) in
+    let wrote : c.write_landed.new.books ≡ record b { timers = slice_set b.timers i (Some H); journal = b.journal ++ turn c.meet.new.passes c.args.act (Insert c.callout-i.result m.n m.due) (At c.land-at.result) ∷ [] } =
+    c.write_landed.ensures.books ∙ (λ d. record (put d) { journal = (put d).journal ++ turn c.meet.new.passes c.args.act (Insert c.callout-i.result m.n m.due) (At c.land-at.result) ∷ [] }) in
     subst (λ v. IsDesk c.land-at.new.self v c.self.inside.scans) (sym wrote)
     (landed_desk c.self.inside.wheel b c.self.inside.scans m.parcel H m.n m.due desk comes c.land-at.new.self c.land-at.result c.land-at.ensures
     (turn c.meet.new.passes c.args.act (Insert c.callout-i.result m.n m.due) (At c.land-at.result)) (ap (λ (k : ℕ). Insert k m.n m.due) at_is) refl)

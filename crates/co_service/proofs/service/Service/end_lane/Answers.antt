@@ -10,13 +10,13 @@ use Rattle.co_service.proofs.service.Service.end_lane.Goals as goal
 
 pub returns-in-None : goal.returns-in-None
 returns-in-None g c = λ d is.
-    let out = c.end_found-made in
+    let out = c.end_found-ended in
     ended_here c.args.direct c.args.passes.now out.new.passes c.args.cpu c.args.act d out.result.0.reply (notes_in out.result.0.notes)
     (subst (λ (o : Option MovingView). IsEndedBut c.args.direct c.args.passes.now c.args.cpu c.args.act d out.result.0.reply (target_of o) (notes_in out.result.0.notes) out.new.passes) c.in-None.is (out.ensures.ended d is).0)
 
 pub returns-in-Some : goal.returns-in-Some
 returns-in-Some g c = λ d is.
-    let out = c.end_found-made in
+    let out = c.end_found-ended in
     let m = c.in-Some.moving in
     let both = out.ensures.ended d is in
     let here = subst (IsOfService c.args.passes.now.params d.i) c.in-Some.is both.1 in

@@ -1,11 +1,19 @@
-use Rattle.std.proofs.Common.{false, subst}
-use Rattle.co_service.specs.Services.{IsTaken}
-use Rattle.co_service.specs.Views.{PassesView}
-use Rattle.co_service.proofs.Lasts.{has_next}
+use Rattle.std.proofs.Common.{false}
+use Rattle.co_service.proofs.Lasting.{still_of}
+use Rattle.co_service.proofs.Lasts.{has_next, taken_same}
 use Rattle.co_service.proofs.service.Service.next.Goals as goal
 
-pub returns-in-Some-next-clause-next : goal.returns-in-Some-next-clause-next
-returns-in-Some-next-clause-next g c =
-    let out = c.next-in-loop.new.passes in
-    has_next false c.args.passes.now out c.args.cpu c.args.act c.in-Some-next.out c.requires.free
-    (subst (λ (p : PassesView). IsTaken false p c.args.cpu c.args.act c.in-Some-next.out out) c.loop.invariant c.in-Some-next.ensures.some)
+pub returns-clause-of : goal.returns-clause-of
+returns-clause-of g c =
+    let out = c.next_lane in
+    still_of g.N.Name.name c.args.self.now c.args.passes.now out.new.passes (taken_same false c.args.passes.now out.new.passes c.args.cpu c.args.act out.result out.ensures.taken) c.requires.passes
+
+pub returns-clause-actor : goal.returns-clause-actor
+returns-clause-actor g c =
+    let out = c.next_lane in
+    (taken_same false c.args.passes.now out.new.passes c.args.cpu c.args.act out.result out.ensures.taken).actor
+
+pub returns-clause-next : goal.returns-clause-next
+returns-clause-next g c =
+    let out = c.next_lane in
+    has_next false c.args.passes.now out.new.passes c.args.cpu c.args.act out.result c.requires.free out.ensures.taken

@@ -10,7 +10,7 @@ invariant_of-result g c =
     let is = c.fresh.invariant in
     let p = sym c.of.ensures in
     record {
-      same = c.places.view_is ∙ name;
+      same = name;
       count = c.in_ok-desks.ensures ∙ ap (λ (q : Params). q.cpus) p;
       some = subst (λ (q : Params). 1 ≤ q.cpus) p is.limits.cpus.0;
       limits = subst AreParams p is.limits;
