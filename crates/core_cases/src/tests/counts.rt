@@ -132,9 +132,20 @@ fn counts_of(alloc: Global, script: &Script, history: &[(Op, Reply)]) -> Result<
     counts_told::<Brand>(alloc, script, history)
 }
 
+/// Whether a callout without a lock has these counts after this history.
+fn of_free(alloc: Global, history: &[(Op, Reply)], wanted: Counts) -> Result<bool, ScriptFault> {
+    let script = free(alloc)?;
+    Ok(counts_of(alloc, &script, history) == Ok(wanted))
+}
+
+/// Whether a callout with a mutex has these counts after this history.
+fn of_locked(alloc: Global, history: &[(Op, Reply)], wanted: Counts) -> Result<bool, ScriptFault> {
+    let script = locked(alloc)?;
+    Ok(counts_of(alloc, &script, history) == Ok(wanted))
+}
+
 #[test]
 fn replaced(rt: HostRuntime) -> Result<(), Fail> {
-    let script = free(rt.alloc())?;
     let history = [
         (reset(seconds(1)), armed(0, 0, None)),
         (reset(seconds(2)), armed(1, 1, Some(0))),
@@ -148,16 +159,12 @@ fn replaced(rt: HostRuntime) -> Result<(), Fail> {
         superseded: 1,
         ..NOTHING
     };
-    assert_eq!(rt;
-        counts_of(rt.alloc(), &script, history.as_slice()),
-        Ok(wanted)
-    );
+    assert!(rt; of_free(rt.alloc(), &history, wanted)?);
     Ok(())
 }
 
 #[test]
 fn cancelled_while_it_waits(rt: HostRuntime) -> Result<(), Fail> {
-    let script = locked(rt.alloc())?;
     let history = [
         (reset(seconds(1)), armed(0, 0, None)),
         (pick(0, seconds(1)), Reply::Hold),
@@ -171,16 +178,12 @@ fn cancelled_while_it_waits(rt: HostRuntime) -> Result<(), Fail> {
         stopped: 1,
         ..NOTHING
     };
-    assert_eq!(rt;
-        counts_of(rt.alloc(), &script, history.as_slice()),
-        Ok(wanted)
-    );
+    assert!(rt; of_locked(rt.alloc(), &history, wanted)?);
     Ok(())
 }
 
 #[test]
 fn stop_during_service(rt: HostRuntime) -> Result<(), Fail> {
-    let script = free(rt.alloc())?;
     let off = Some(0);
     let history = [
         (reset(seconds(1)), armed(0, 0, None)),
@@ -196,16 +199,12 @@ fn stop_during_service(rt: HostRuntime) -> Result<(), Fail> {
         stopped: 1,
         ..NOTHING
     };
-    assert_eq!(rt;
-        counts_of(rt.alloc(), &script, history.as_slice()),
-        Ok(wanted)
-    );
+    assert!(rt; of_free(rt.alloc(), &history, wanted)?);
     Ok(())
 }
 
 #[test]
 fn still_armed(rt: HostRuntime) -> Result<(), Fail> {
-    let script = free(rt.alloc())?;
     let history = [(reset(seconds(1)), armed(0, 0, None))];
     let wanted = Counts {
         notes: 1,
@@ -213,16 +212,12 @@ fn still_armed(rt: HostRuntime) -> Result<(), Fail> {
         pending: 1,
         ..NOTHING
     };
-    assert_eq!(rt;
-        counts_of(rt.alloc(), &script, history.as_slice()),
-        Ok(wanted)
-    );
+    assert!(rt; of_free(rt.alloc(), &history, wanted)?);
     Ok(())
 }
 
 #[test]
 fn empty_run(rt: HostRuntime) -> Result<(), Fail> {
-    let script = free(rt.alloc())?;
-    assert_eq!(rt; counts_of(rt.alloc(), &script, &[]), Ok(NOTHING));
+    assert!(rt; of_free(rt.alloc(), &[], NOTHING)?);
     Ok(())
 }

@@ -28,11 +28,10 @@ impl Listener for Told {
 fn keeps_a_list_for_each_actor(rt: HostRuntime) -> Result<(), Fail> {
     let script = in_transit(rt.alloc())?;
     let lists = run_steps(rt.alloc(), &script)?;
-    let mut counts = Seq::new(rt.alloc());
-    for list in lists.as_slice() {
-        counts.push(list.as_slice().len())?;
-    }
-    assert_eq!(rt; counts.as_slice(), [2, 2, 0, 0].as_slice());
+    let lists = lists.as_slice();
+    assert!(rt; lists.len() == 4);
+    assert!(rt; lists[0].as_slice().len() == 2 && lists[1].as_slice().len() == 2);
+    assert!(rt; lists[2].as_slice().is_empty() && lists[3].as_slice().is_empty());
     Ok(())
 }
 
@@ -42,10 +41,7 @@ fn tells_as_it_walks(rt: HostRuntime) -> Result<(), Fail> {
     let mut told = Told {
         notes: Seq::new(rt.alloc()),
     };
-    assert_eq!(rt; tell_walk(rt.alloc(), &script, &mut told), Ok(()));
-    assert_eq!(rt;
-        told.notes.as_slice(),
-        [(0, 0), (0, 0), (1, 1), (1, 1)].as_slice()
-    );
+    assert!(rt; tell_walk(rt.alloc(), &script, &mut told).is_ok());
+    assert!(rt; told.notes.as_slice() == [(0, 0), (0, 0), (1, 1), (1, 1)].as_slice());
     Ok(())
 }

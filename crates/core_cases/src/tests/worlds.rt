@@ -4,10 +4,9 @@ ghost use Rattle.co_program.specs.Scripts.{IsScript};
 
 use super::{in_transit, script_of};
 use co_core::{Turn, Why, World};
-use co_object::{
-    AnyEntry, CallOp, Entry, Lists, Note, Op, Place, PlainOp, QEntry, QOp, QReply, Reply,
-};
+use co_object::{AnyEntry, CallOp, Entry, Note, Op, Place, PlainOp, QEntry, QOp, QReply, Reply};
 use co_program::{Script, actor_count};
+use co_sbt::NoMemory;
 use co_text::ScriptFault;
 use std::alloc::Global;
 use std::process::Abort;
@@ -101,6 +100,20 @@ tick 1
     )
 }
 
+/// The world of a script after its actors have stepped in this order, with these answers.
+fn walked<'s>(
+    rt: &impl Abort,
+    alloc: Global,
+    script: &'s Script,
+    turns: &[(u32, Turn)],
+) -> Result<World<'s>, NoMemory>
+    requires { IsScript script.now }
+{
+    let mut world = World::boot(alloc, script)?;
+    steps(rt, script, &mut world, turns);
+    Ok(world)
+}
+
 /// The actors step in this order, with these answers.
 fn steps(rt: &impl Abort, script: &Script, world: &mut World, turns: &[(u32, Turn)])
     requires world { world.old.script ≡ script.now }
@@ -108,12 +121,13 @@ fn steps(rt: &impl Abort, script: &Script, world: &mut World, turns: &[(u32, Tur
 {
     for (actor, turn) in turns {
         assert!(rt; *actor < actor_count(script));
-        assert_eq!(rt; world.step(*actor), Ok(*turn), "actor {actor}");
+        assert!(rt; world.step(*actor) == Ok(*turn), "actor {actor}");
     }
 }
 
 /// The notes of an actor.
-fn notes_of<'l>(rt: &impl Abort, lists: &'l Lists, actor: usize) -> &'l [Note] {
+fn notes_of<'w>(rt: &impl Abort, world: &'w World<'_>, actor: usize) -> &'w [Note] {
+    let lists = world.lists();
     assert!(rt; actor < lists.as_slice().len());
     lists.as_slice()[actor].as_slice()
 }
@@ -146,51 +160,49 @@ fn tried(pos: u64, reply: Reply) -> Note {
     }
 }
 
+const CANCELLED: [(u32, Turn); 15] = [
+    (0, Turn::Notes(0)),
+    (0, Turn::Notes(2)),
+    (1, Turn::Notes(1)),
+    (1, Turn::Notes(2)),
+    (1, Turn::Blocked(Why::Lock(0))),
+    (0, Turn::Notes(1)),
+    (1, Turn::Blocked(Why::Lock(0))),
+    (0, Turn::Notes(0)),
+    (0, Turn::Finished),
+    (1, Turn::Notes(0)),
+    (1, Turn::Notes(1)),
+    (1, Turn::Notes(0)),
+    (1, Turn::Notes(2)),
+    (1, Turn::Notes(1)),
+    (1, Turn::Finished),
+];
+
 #[test]
 fn cancelled_while_it_waits(rt: HostRuntime) -> Result<(), Fail> {
     let script = cancelled(rt.alloc())?;
-    let mut world = World::boot(rt.alloc(), &script)?;
-    let turns = [
-        (0, Turn::Notes(0)),
-        (0, Turn::Notes(2)),
-        (1, Turn::Notes(1)),
-        (1, Turn::Notes(2)),
-        (1, Turn::Blocked(Why::Lock(0))),
-        (0, Turn::Notes(1)),
-        (1, Turn::Blocked(Why::Lock(0))),
-        (0, Turn::Notes(0)),
-        (0, Turn::Finished),
-        (1, Turn::Notes(0)),
-        (1, Turn::Notes(1)),
-        (1, Turn::Notes(0)),
-        (1, Turn::Notes(2)),
-        (1, Turn::Notes(1)),
-        (1, Turn::Finished),
-    ];
-    steps(&rt, &script, &mut world, &turns);
-    let client = notes_of(&rt, world.lists(), 0);
-    assert_eq!(rt; client.len(), 3);
-    assert_eq!(rt; client[2], stopped(0, 2, 2, None));
-    assert_eq!(rt; notes_of(&rt, world.lists(), 1).len(), 7);
+    let world = walked(&rt, rt.alloc(), &script, &CANCELLED)?;
+    let client = notes_of(&rt, &world, 0);
+    assert!(rt; client.len() == 3);
+    assert!(rt; client[2] == stopped(0, 2, 2, None));
+    assert!(rt; notes_of(&rt, &world, 1).len() == 7);
     Ok(())
 }
 
-#[test]
-fn moving(rt: HostRuntime) -> Result<(), Fail> {
-    let script = in_transit(rt.alloc())?;
-    let mut world = World::boot(rt.alloc(), &script)?;
-    let turns = [
-        (0, Turn::Notes(1)),
-        (1, Turn::Blocked(Why::Moving(0))),
-        (0, Turn::Notes(1)),
-        (1, Turn::Notes(2)),
-        (0, Turn::Finished),
-        (1, Turn::Finished),
-        (2, Turn::Finished),
-        (3, Turn::Finished),
-    ];
-    steps(&rt, &script, &mut world, &turns);
-    let removed = Note {
+const MOVING: [(u32, Turn); 8] = [
+    (0, Turn::Notes(1)),
+    (1, Turn::Blocked(Why::Moving(0))),
+    (0, Turn::Notes(1)),
+    (1, Turn::Notes(2)),
+    (0, Turn::Finished),
+    (1, Turn::Finished),
+    (2, Turn::Finished),
+    (3, Turn::Finished),
+];
+
+/// A remove of callout 0 from the queue of CPU 1 by actor 1.
+fn removed() -> Note {
+    Note {
         place: Place::Cpu(1),
         pos: 1,
         entry: AnyEntry::Cpu(QEntry {
@@ -199,78 +211,84 @@ fn moving(rt: HostRuntime) -> Result<(), Fail> {
             op: QOp::Remove { i: 0 },
             reply: QReply::Off,
         }),
-    };
-    assert_eq!(rt; notes_of(&rt, world.lists(), 0).len(), 2);
-    assert_eq!(rt;
-        notes_of(&rt, world.lists(), 1),
-        [removed, stopped(1, 0, 1, Some(1))].as_slice()
-    );
+    }
+}
+
+#[test]
+fn moving(rt: HostRuntime) -> Result<(), Fail> {
+    let script = in_transit(rt.alloc())?;
+    let world = walked(&rt, rt.alloc(), &script, &MOVING)?;
+    assert!(rt; notes_of(&rt, &world, 0).len() == 2);
+    let second = notes_of(&rt, &world, 1);
+    assert!(rt; second.len() == 2);
+    assert!(rt; second[0] == removed());
+    assert!(rt; second[1] == stopped(1, 0, 1, Some(1)));
     Ok(())
 }
+
+const DRAINED: [(u32, Turn); 13] = [
+    (0, Turn::Notes(2)),
+    (2, Turn::Notes(1)),
+    (2, Turn::Notes(2)),
+    (0, Turn::Notes(1)),
+    (0, Turn::Blocked(Why::Serviced(0))),
+    (1, Turn::Notes(1)),
+    (2, Turn::Notes(2)),
+    (0, Turn::Notes(1)),
+    (0, Turn::Notes(2)),
+    (0, Turn::Finished),
+    (1, Turn::Finished),
+    (2, Turn::Notes(1)),
+    (2, Turn::Finished),
+];
+
+/// A drain's answer that it has to wait.
+const WAITS: Reply = Reply::Wait {
+    n: 0,
+    took: false,
+    off: None,
+};
+
+/// A drain's answer that it is over.
+const IS_OVER: Reply = Reply::Drained {
+    code: -1,
+    off: None,
+};
 
 #[test]
 fn drain_against_reset(rt: HostRuntime) -> Result<(), Fail> {
     let script = drained(rt.alloc())?;
-    let mut world = World::boot(rt.alloc(), &script)?;
-    let turns = [
-        (0, Turn::Notes(2)),
-        (2, Turn::Notes(1)),
-        (2, Turn::Notes(2)),
-        (0, Turn::Notes(1)),
-        (0, Turn::Blocked(Why::Serviced(0))),
-        (1, Turn::Notes(1)),
-        (2, Turn::Notes(2)),
-        (0, Turn::Notes(1)),
-        (0, Turn::Notes(2)),
-        (0, Turn::Finished),
-        (1, Turn::Finished),
-        (2, Turn::Notes(1)),
-        (2, Turn::Finished),
-    ];
-    steps(&rt, &script, &mut world, &turns);
-    let wait = Reply::Wait {
-        n: 0,
-        took: false,
-        off: None,
-    };
-    let drained = Reply::Drained {
-        code: -1,
-        off: None,
-    };
-    let client = notes_of(&rt, world.lists(), 0);
-    assert_eq!(rt; client.len(), 6);
-    assert_eq!(rt; client[2], tried(2, wait));
-    assert_eq!(rt; client[3], tried(5, drained));
+    let world = walked(&rt, rt.alloc(), &script, &DRAINED)?;
+    let client = notes_of(&rt, &world, 0);
+    assert!(rt; client.len() == 6);
+    assert!(rt; client[2] == tried(2, WAITS));
+    assert!(rt; client[3] == tried(5, IS_OVER));
     Ok(())
 }
+
+const BEHIND_CANCELLED: [(u32, Turn); 8] = [
+    (0, Turn::Notes(0)),
+    (0, Turn::Notes(2)),
+    (0, Turn::Notes(0)),
+    (2, Turn::Notes(1)),
+    (2, Turn::Notes(2)),
+    (1, Turn::Notes(0)),
+    (0, Turn::Notes(1)),
+    (2, Turn::Blocked(Why::Lock(0))),
+];
 
 #[test]
 fn drain_behind_a_cancelled_call(rt: HostRuntime) -> Result<(), Fail> {
     let script = drain_behind_cancelled(rt.alloc())?;
-    let mut world = World::boot(rt.alloc(), &script)?;
-    let turns = [
-        (0, Turn::Notes(0)),
-        (0, Turn::Notes(2)),
-        (0, Turn::Notes(0)),
-        (2, Turn::Notes(1)),
-        (2, Turn::Notes(2)),
-        (1, Turn::Notes(0)),
-        (0, Turn::Notes(1)),
-        (2, Turn::Blocked(Why::Lock(0))),
-    ];
-    steps(&rt, &script, &mut world, &turns);
+    walked(&rt, rt.alloc(), &script, &BEHIND_CANCELLED)?;
     Ok(())
 }
+
+const SOFT_FIRST: [(u32, Turn); 1] = [(1, Turn::Blocked(Why::Tick(0)))];
 
 #[test]
 fn soft_before_its_tick(rt: HostRuntime) -> Result<(), Fail> {
     let script = soft_before_tick(rt.alloc())?;
-    let mut world = World::boot(rt.alloc(), &script)?;
-    steps(
-        &rt,
-        &script,
-        &mut world,
-        &[(1, Turn::Blocked(Why::Tick(0)))],
-    );
+    walked(&rt, rt.alloc(), &script, &SOFT_FIRST)?;
     Ok(())
 }
