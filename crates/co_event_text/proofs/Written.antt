@@ -18,7 +18,7 @@ use Rattle.co_event.specs.StandsFor.{StandsFor, Answers}
 use Rattle.co_event.proofs.Standing.{sound-of}
 use Rattle.co_event_text.specs.declared.command.EventCommand.{EventCommand}
 use Rattle.co_event_text.specs.declared.command.EventCommand.TheVariants.{Arm, Stop}
-use Rattle.co_event_text.specs.Answers.{answered, answering, armed_words, comes_by, due_of, event_lines, events_by, settled, stopped_words, take_by, until, until_words}
+use Rattle.co_event_text.specs.Answers.{answered, answering, armed_words, comes_by, due_of, event_lines, events_by, stopped_words, take_by, until, until_words}
 use Rattle.co_event_text.specs.Written.{IsWritten}
 use Rattle.co_event_text.proofs.Until.{ended, fewer-by, with-some}
 

@@ -1,5 +1,5 @@
 -- One command more.
-use Rattle.std.proofs.Common.{◌∙◌, ◌≤◌, arith}
+use Rattle.std.proofs.Common.{◌∙◌, arith}
 use Rattle.co_event_text.proofs.Written.{so_far-more}
 use Rattle.co_event_text.proofs.answers.answer_all.Goals as goal
 

@@ -1,7 +1,7 @@
 -- One event more, and at the end none.
-use Rattle.std.proofs.Common.{◌≡◌, ◌≤◌, ◌∙◌, [], length, take, subst, arith}
+use Rattle.std.proofs.Common.{◌≡◌, ◌∙◌, [], take, subst, arith}
 use Rattle.std.specs.declared.option.Option.{Option}
-use Rattle.std.specs.declared.option.Option.TheVariants.{Some, None}
+use Rattle.std.specs.declared.option.Option.TheVariants.{None}
 use Rattle.co_event.specs.declared.Event.{Event}
 use Rattle.co_event.specs.StandsFor.{Answers, written}
 use Rattle.co_event_text.specs.Answers.{take_by}
