@@ -9,7 +9,7 @@ use Rattle.std.proofs.lemmas.List.Filters.{length-filter_both}
 use Rattle.co_object.proofs.Each.{Each, each-all, each-filter}
 use Rattle.co_object.proofs.Passing.{count-passing, passing-some}
 use Rattle.co_queue.proofs.Lists.{each-false}
-use Rattle.co_event.specs.Events.{Window, Events, deadline, next_moment}
+use Rattle.co_event.specs.Events.{Events, deadline, next_moment}
 use Rattle.co_event.specs.Calls.{take_at}
 use Rattle.co_event.proofs.Lists.{each-both}
 use Rattle.co_event.proofs.Moment.{moment-one}

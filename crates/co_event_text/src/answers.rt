@@ -160,6 +160,13 @@ fn answer_all(
     Ok(())
 }
 
+/// A place for each callout's number.
+fn places(alloc: Global, callouts: u32) -> Result<Vec<u32>, NoMemory>
+    ensures { IfOk result (λ places. length places.items ≡ callouts) }
+{
+    vec![in alloc; 0; callouts as usize].map_err(|_| NoMemory {})
+}
+
 /// The text that a batch is answered by.
 fn answer_batch(alloc: Global, batch: &Batch<EventCommand>) -> Result<Seq<u8>, NoMemory>
     requires { AllFit event_language batch.now }
@@ -167,7 +174,7 @@ fn answer_batch(alloc: Global, batch: &Batch<EventCommand>) -> Result<Seq<u8>, N
 {
     let mut page = Page::new(alloc);
     let mut queue = EventQueue::new(alloc, batch.count())?;
-    let mut out = vec![in alloc; 0; batch.count() as usize].map_err(|_| NoMemory {})?;
+    let mut out = places(alloc, batch.count())?;
     answer_all(&mut page, &mut queue, out.as_mut_slice(), batch.commands())?;
     Ok(page.done())
 }
