@@ -1,0 +1,12 @@
+pub mod Earlier
+pub mod Played
+pub mod Rows
+pub mod Popped
+pub mod Lists
+pub mod Windows
+pub mod Moment
+pub mod Standing
+pub mod Outcomes
+pub mod Later
+pub mod Takes
+pub mod LawsHold

@@ -1,0 +1,3 @@
+pub mod Until
+pub mod Written
+pub mod Rows
