@@ -20,7 +20,7 @@ use co_report::Line;
 use co_sbt::Seq;
 
 /// Where an actor's notes lead.
-#[derive(Clone, Copy, Debug, PartialEq, Eq)]
+#[derive(Clone, Copy)]
 pub(crate) enum Walked {
     /// The line of the first note that the program doesn't give.
     Astray(u64),
