@@ -14,7 +14,7 @@ use crate::fill::filled;
 use co_object::{AnyEntry, Place};
 use co_program::{Script, actor_count};
 use co_report::Line;
-use co_sbt::NoMemory;
+use co_sbt::{NoMemory, Seq};
 use std::alloc::Global;
 
 /// The notes of the lines so far, by actor and number.
@@ -141,15 +141,12 @@ pub(crate) fn count_line(counts: &mut Vec<u32>, line: &Line)
 fn rows_of<T: Copy + Drop>(alloc: Global, lengths: &[u32], item: T) -> Result<Vec<Vec<T>>, NoMemory>
     ensures { IfOk result (λ rows. map (λ row. row.items) rows.items ≡ map (λ n. replicate n item) lengths.now) }
 {
-    let mut rows = Vec::new(alloc);
+    let mut rows = Seq::new(alloc);
     for count in lengths {
         let row = filled(alloc, *count as usize, item)?;
-        match rows.push(row) {
-            Ok(()) => {}
-            Err(_) => return Err(NoMemory {}),
-        }
+        rows.push(row)?;
     }
-    Ok(rows)
+    Ok(rows.into_vec())
 }
 
 /// Puts a line where its number belongs, if nothing is there yet.

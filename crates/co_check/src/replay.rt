@@ -26,7 +26,7 @@ use co_sbt::{NoMemory, Seq};
 use std::alloc::Global;
 
 /// What the lines of its place say of a line, up to it.
-#[derive(Clone, Copy, Debug, PartialEq, Eq)]
+#[derive(Clone, Copy)]
 pub(crate) struct Fact {
     /// Its callout stands in a queue once the note is made.
     pub listed: bool,
@@ -72,26 +72,7 @@ pub(crate) fn replay_all(
     ensures { IfOk result (IsReplayed script.now lines.now) }
 {
     let mut replay = Replay::open(alloc, script)?;
-    let mut facts = Seq::new(alloc);
-    let mut counts = filled(alloc, actor_count(script) as usize, 0)?;
-    for line in lines {
-        match replay.take(script, line) {
-            Ok(fact) => {
-                facts.push(fact)?;
-                count_line(&mut counts, line);
-            }
-            Err(cause) => {
-                return Ok(Replayed::Bad {
-                    line: line.line,
-                    cause,
-                });
-            }
-        }
-    }
-    Ok(Replayed::Fits {
-        facts: facts.into_vec(),
-        counts,
-    })
+    replay.take_all(alloc, script, lines)
 }
 
 impl Replay {
@@ -107,6 +88,41 @@ impl Replay {
             callouts,
             cpus,
             scans,
+        })
+    }
+
+    /// Takes all lines, and counts them on the way. Then the replay is of no more use.
+    fn take_all(
+        &mut self,
+        alloc: Global,
+        script: &Script,
+        lines: &[Line],
+    ) -> Result<Replayed, NoMemory>
+        requires script { IsScript script.now }
+        requires lines { AreLinesOf script.now lines.now }
+        requires few { length lines.now ≤ lines_max }
+        requires before { IsAfter script.now [] self.old }
+        ensures { IfOk result (IsReplayed script.now lines.now) }
+    {
+        let mut facts = Seq::new(alloc);
+        let mut counts = filled(alloc, actor_count(script) as usize, 0)?;
+        for line in lines {
+            match self.take(script, line) {
+                Ok(fact) => {
+                    facts.push(fact)?;
+                    count_line(&mut counts, line);
+                }
+                Err(cause) => {
+                    return Ok(Replayed::Bad {
+                        line: line.line,
+                        cause,
+                    });
+                }
+            }
+        }
+        Ok(Replayed::Fits {
+            facts: facts.into_vec(),
+            counts,
         })
     }
 
@@ -181,11 +197,11 @@ fn callouts_of(alloc: Global, specs: &[Spec]) -> Result<Vec<Alone>, NoMemory>
 fn direct_of(alloc: Global, specs: &[Spec]) -> Result<Vec<bool>, NoMemory>
     ensures { IfOk result (λ direct. direct.items ≡ map (λ spec. spec.direct) specs.now) }
 {
-    let mut direct = Vec::new(alloc);
+    let mut direct = Seq::new(alloc);
     for spec in specs {
-        direct.push(spec.direct).map_err(|_| NoMemory {})?;
+        direct.push(spec.direct)?;
     }
-    Ok(direct)
+    Ok(direct.into_vec())
 }
 
 /// A queue for each CPU, in which nothing stands.
@@ -196,12 +212,12 @@ fn cpus_of(alloc: Global, script: &Script) -> Result<Vec<CpuQueue>, NoMemory>
     let timers = script.timers.as_slice();
     let direct = direct_of(alloc, timers)?;
     let callouts = timers.len() as u32;
-    let mut cpus = Vec::new(alloc);
+    let mut cpus = Seq::new(alloc);
     for _ in 0..script.cpus {
         let cpu = CpuQueue::open(alloc, callouts, script.buckets, direct.as_slice())?;
-        cpus.push(cpu).map_err(|_| NoMemory {})?;
+        cpus.push(cpu)?;
     }
-    Ok(cpus)
+    Ok(cpus.into_vec())
 }
 
 /// Takes the next entry of a callout. The answer is whether it stands in a queue then.

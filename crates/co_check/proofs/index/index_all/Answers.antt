@@ -25,3 +25,6 @@ loop-i-preserved c =
       after = subst (λ above. IsIndexed c.args.script.now lines above c.take.new.self) (sym (front lines c.loop-i.i c.index-lines-i.result here)) taken.1;
       rest = c.loop-i.invariant.rest ∙ first-on (number_at lines) lines c.loop-i.i c.index-lines-i.result here taken.0;
     }
+
+pub take-requires-clause-indexed : goal.take-requires-clause-indexed
+take-requires-clause-indexed c = (c.args.lines.now, take c.loop-i.i c.args.lines.now, c.loop-i.invariant.after, c.requires.few)

@@ -4,12 +4,12 @@ use Rattle.co_check.specs.Astray.{seen, seen_from}
 use Rattle.co_check.specs.Numbers.{AreCounts}
 use Rattle.co_check.specs.Replay.{first_bad, first_unfit, unfit_at}
 use Rattle.co_check.specs.Replayed.{IsAfter, fact_of}
-use Rattle.co_check.proofs.replay.replay_all.Given as goal
+use Rattle.co_check.proofs.replay.Replay.take_all.Given as goal
 
 -- the lines above are replayed and nothing is wrong with them; what is left decides
 abbrev pub invariant-loop-line : goal.invariant-loop-line
 invariant-loop-line l = record {
-  after : IsAfter l.script (take l.line-index l.lines) l.replay;
+  after : IsAfter l.script (take l.line-index l.lines) l.self;
   rest : first_unfit l.script l.lines ≡ first_bad (λ above x. unfit_at l.script above x.place x.entry) (take l.line-index l.lines) (drop l.line-index l.lines);
   counted : AreCounts (actor_count l.script) (take l.line-index l.lines) l.counts.items;
   facts : l.facts ++ map fact_of (seen_from l.script (take l.line-index l.lines) (drop l.line-index l.lines)) ≡ map fact_of (seen l.script l.lines);

@@ -1,5 +1,6 @@
 -- One line more is replayed and counted.
-use Rattle.std.proofs.Common.{ℕ, ◌+◌, List, [], ◌++◌, ◌∷◌, map, length, take, drop, refl, ap, sym, subst, ◌∙◌, append_assoc}
+use Rattle.std.proofs.Common.{ℕ, ◌+◌, ◌<◌, List, [], ◌++◌, ◌∷◌, map, length, take, drop, refl, ap, sym, subst, ◌∙◌, append_assoc, arith}
+use Rattle.std.proofs.lemmas.List.{length-take-le}
 use Rattle.std.proofs.lemmas.Option.{slice_get_read}
 use Rattle.co_program.specs.declared.script.Script.{Script}
 use Rattle.co_program.specs.Actors.{actor_count}
@@ -8,8 +9,9 @@ use Rattle.co_check.specs.Astray.{Seen, seen_from}
 use Rattle.co_check.specs.Numbers.{AreCounts}
 use Rattle.co_check.specs.Replay.{unfit_at}
 use Rattle.co_check.specs.Replayed.{IsAfter, fact_of}
-use Rattle.co_check.proofs.Along.{front, first-on, seen-on}
-use Rattle.co_check.proofs.replay.replay_all.Goals as goal
+use Rattle.co_check.specs.Lines.{lines_max}
+use Rattle.co_check.proofs.Along.{front, first-on, first-at, seen-on}
+use Rattle.co_check.proofs.replay.Replay.take_all.Goals as goal
 
 -- what is said of the lines after this one
 abbrev rest : Script → List Line → ℕ → List Seen
@@ -34,3 +36,16 @@ loop-line-preserved c =
           ∙ (ap (λ f. c.loop-line.facts ++ f ∷ map fact_of (rest s lines i)) taken.2
           ∙ (ap (λ xs. c.loop-line.facts ++ map fact_of xs) (sym (seen-on s lines i c.line-item.result here)) ∙ c.loop-line.invariant.facts)));
     }
+
+pub take-requires-clause-after : goal.take-requires-clause-after
+take-requires-clause-after c =
+    let few : length (take c.loop-line.line-index c.args.lines.now) < lines_max = omega (arith, length-take-le c.loop-line.line-index c.args.lines.now (omega arith)) in
+    (take c.loop-line.line-index c.args.lines.now, c.loop-line.invariant.after, few)
+
+pub returns-in-Err : goal.returns-in-Err
+returns-in-Err c =
+    let s = c.args.script.now in
+    let lines = c.args.lines.now in
+    let i = c.loop-line.line-index in
+    let here = slice_get_read lines (length lines) i c.line-item.result refl c.loop-line-test.true c.line-item.is in
+    c.loop-line.invariant.rest ∙ first-at (λ above x. unfit_at s above x.place x.entry) lines i c.line-item.result here c.in-Err.cause (c.in-Err.ensures (take i lines) c.loop-line.invariant.after)
