@@ -19,8 +19,5 @@ fn wears_out(rt: HostRuntime) {
         arg: 7,
         cpu: None,
     };
-    assert_eq!(rt;
-        callout.step(&Op::Call(CallOp::Plain(reset))),
-        Some(Reply::Worn)
-    );
+    assert!(rt; callout.step(&Op::Call(CallOp::Plain(reset))) == Some(Reply::Worn));
 }

@@ -58,19 +58,15 @@ fn covers_a_stop_by_an_exclusive_hold_alone(rt: HostRuntime) {
 
 #[test]
 fn shares_a_lock_that_the_callout_shares(rt: HostRuntime) {
-    assert_eq!(rt; hold_of(LockUse::Free), None);
-    assert_eq!(rt;
-        hold_of(LockUse::Rw(3)),
-        Some(Held {
-            id: 3,
-            exclusive: true
-        })
-    );
-    assert_eq!(rt;
-        hold_of(LockUse::RwShared(3)),
-        Some(Held {
-            id: 3,
-            exclusive: false
-        })
-    );
+    let reading = Held {
+        id: 3,
+        exclusive: false,
+    };
+    let writing = Held {
+        id: 3,
+        exclusive: true,
+    };
+    assert!(rt; hold_of(LockUse::Free).is_none());
+    assert!(rt; hold_of(LockUse::Rw(3)) == Some(writing));
+    assert!(rt; hold_of(LockUse::RwShared(3)) == Some(reading));
 }

@@ -4,6 +4,7 @@ ghost use Rattle.co_lock.specs.declared.lock_kind.LockKind.TheVariants as kind;
 ghost use Rattle.co_program.specs.Actors.{acts_at};
 ghost use Rattle.co_program.specs.Scripts.{IsScript};
 ghost use Rattle.co_hand.specs.Handlers.{Serves};
+ghost use Rattle.object_cases.specs.Tables.{IsWorked};
 
 use super::ports::AlonePort;
 use co_hand::{Fire, FuncTable, Handler, Port, PortCall, PortReply, plain_op};
@@ -12,7 +13,7 @@ use co_object::{Alone, CallOp, LockUse, Op, PlainOp, Reply, RunOp, Spec};
 use co_program::{Act, Acts, Script, When, Where, Who};
 use co_sbt::{NoMemory, Sbt, Seq};
 use std::alloc::Global;
-use std::process::Abort;
+use std::sync::Wait;
 use std::test::Fail;
 
 /// The time of so many seconds, of which there are few.
@@ -77,7 +78,7 @@ fn worked_script(alloc: Global, spec: Spec) -> Result<Script, NoMemory>
 /// The functions of that script.
 pub fn worked_table(alloc: Global, spec: Spec) -> Result<FuncTable, NoMemory>
     requires { spec.direct ≡ false }
-    ensures { IfOk result (λ t. (t.callouts ≡ 1) × (t.cpus ≡ 1) × ((func : ℕ) → length (acts_at t.funcs func) ≤ 2)) }
+    ensures { IfOk result IsWorked }
 {
     let script = worked_script(alloc, spec)?;
     FuncTable::new(alloc, &script)
@@ -142,6 +143,21 @@ fn serve<H: Handler, P: Port>(
     handler.run(fire, hold, port);
 }
 
+/// The calls that function 0 of that table makes, under this hold, in the service of a callout of this spec.
+fn calls_of_served(
+    alloc: Global,
+    spec: Spec,
+    table: &mut FuncTable,
+    hold: Option<&mut Hold<'_>>,
+) -> Result<Seq<PortCall>, NoMemory>
+    requires table { IsWorked table.old }
+{
+    let mut callouts = [running(spec)];
+    let mut port = AlonePort::new(alloc, &mut callouts, 5, 2)?;
+    serve(table, &first_fire(), hold, &mut port);
+    Ok(port.into_calls())
+}
+
 /// The calls that function 0 makes, under this hold, in the service of a callout of this spec.
 fn calls_of_run(
     alloc: Global,
@@ -151,10 +167,7 @@ fn calls_of_run(
     requires { spec.direct ≡ false }
 {
     let mut table = worked_table(alloc, spec)?;
-    let mut callouts = [running(spec)];
-    let mut port = AlonePort::new(alloc, &mut callouts, 5, 2)?;
-    serve(&mut table, &first_fire(), hold, &mut port);
-    Ok(port.into_calls())
+    calls_of_served(alloc, spec, &mut table, hold)
 }
 
 /// The first act of function 0, at one second.
@@ -195,16 +208,16 @@ const STOPPED: PortReply = PortReply::Reply(Reply::Stopped {
     off: Some(0),
 });
 
-/// The calls are these.
-pub fn are(rt: &impl Abort, calls: &Seq<PortCall>, expected: &[PortCall]) {
-    assert_eq!(rt; calls.as_slice(), expected);
+/// Whether the calls are these.
+pub fn are(calls: &Seq<PortCall>, expected: &[PortCall]) -> bool {
+    calls.as_slice() == expected
 }
 
 #[test]
 fn a_function_makes_its_acts_in_order(rt: HostRuntime) -> Result<(), Fail> {
     let free = spec_of(LockUse::Free, false);
     let calls = calls_of_run(rt.alloc(), free, None)?;
-    are(&rt, &calls, &[again(ARMED), stop(STOPPED)]);
+    assert!(rt; are(&calls, &[again(ARMED), stop(STOPPED)]));
     Ok(())
 }
 
@@ -227,44 +240,75 @@ fn calls_under(
     Ok((calls, hold.held()))
 }
 
-#[test]
-fn calls_are_made_under_the_hold(rt: HostRuntime) -> Result<(), Fail> {
-    let locks = two_locks(rt.alloc())?;
+/// Whether both calls are made under the mutex.
+fn are_made_under_the_mutex<R: Wait + Sync>(
+    rt: &R,
+    alloc: Global,
+    locks: &ClientLocks,
+) -> Result<bool, NoMemory>
+    requires { locks.now ≡ kind.Mtx ∷ kind.Rw ∷ [] }
+{
     let locked = spec_of(LockUse::Mtx(0), false);
-    let (calls, _) = calls_under(rt.alloc(), locked, locks.lock(&rt, 0))?;
-    are(&rt, &calls, &[again(ARMED), stop(STOPPED)]);
+    let (calls, _) = calls_under(alloc, locked, locks.lock(rt, 0))?;
+    Ok(are(&calls, &[again(ARMED), stop(STOPPED)]))
+}
+
+/// Whether the stop is refused under a hold in read mode, which stays.
+fn is_refused_under_a_read<R: Wait + Sync>(
+    rt: &R,
+    alloc: Global,
+    locks: &ClientLocks,
+) -> Result<bool, NoMemory>
+    requires { locks.now ≡ kind.Mtx ∷ kind.Rw ∷ [] }
+{
     let shared = spec_of(LockUse::RwShared(1), false);
-    let (calls, held) = calls_under(rt.alloc(), shared, locks.read(&rt, 1))?;
-    are(&rt, &calls, &[again(ARMED), stop(PortReply::NotHeld)]);
+    let (calls, held) = calls_under(alloc, shared, locks.read(rt, 1))?;
     let reading = Held {
         id: 1,
         exclusive: false,
     };
-    assert_eq!(rt; held, reading);
+    Ok(held == reading && are(&calls, &[again(ARMED), stop(PortReply::NotHeld)]))
+}
+
+#[test]
+fn calls_are_made_under_the_hold(rt: HostRuntime) -> Result<(), Fail> {
+    let locks = two_locks(rt.alloc())?;
+    assert!(rt; are_made_under_the_mutex(&rt, rt.alloc(), &locks)?);
+    assert!(rt; is_refused_under_a_read(&rt, rt.alloc(), &locks)?);
     Ok(())
 }
 
-/// The calls that this function of an asynchronous drain makes.
-fn calls_of_drained(alloc: Global, func: u32) -> Result<Seq<PortCall>, NoMemory> {
-    let spec = spec_of(LockUse::Free, false);
-    let mut table = worked_table(alloc, spec)?;
+/// The calls that this function of that table makes in an asynchronous drain.
+fn calls_of_drain_by(
+    alloc: Global,
+    spec: Spec,
+    table: &mut FuncTable,
+    func: u32,
+) -> Result<Seq<PortCall>, NoMemory>
+    requires { IsWorked table.old }
+{
     let mut callouts = [Alone::open(spec, 0)];
     let mut port = AlonePort::new(alloc, &mut callouts, 5, 2)?;
     table.drained(&first_fire(), func, &mut port);
     Ok(port.into_calls())
 }
 
+/// The calls that this function of an asynchronous drain makes.
+fn calls_of_drained(alloc: Global, func: u32) -> Result<Seq<PortCall>, NoMemory> {
+    let spec = spec_of(LockUse::Free, false);
+    let mut table = worked_table(alloc, spec)?;
+    calls_of_drain_by(alloc, spec, &mut table, func)
+}
+
 #[test]
 fn a_drain_function_makes_its_acts(rt: HostRuntime) -> Result<(), Fail> {
-    let calls = calls_of_drained(rt.alloc(), 1)?;
     let asks = PortCall {
         i: 0,
         op: PlainOp::Active,
         answer: PortReply::Reply(Reply::No),
     };
-    are(&rt, &calls, &[asks]);
-    let calls = calls_of_drained(rt.alloc(), 7)?;
-    are(&rt, &calls, &[]);
+    assert!(rt; are(&calls_of_drained(rt.alloc(), 1)?, &[asks]));
+    assert!(rt; are(&calls_of_drained(rt.alloc(), 7)?, &[]));
     Ok(())
 }
 
@@ -293,6 +337,6 @@ fn acts_ask_for_operations(rt: HostRuntime) {
         (retire, Some((3, PlainOp::Retire))),
         (Act::Drain(3), None),
     ] {
-        assert_eq!(rt; plain_op(&act, 1000000, Sbt::zero(), 2, Some(4)), asked);
+        assert!(rt; plain_op(&act, 1000000, Sbt::zero(), 2, Some(4)) == asked);
     }
 }

@@ -22,18 +22,24 @@ fn three_locks(alloc: Global) -> Result<ClientLocks, NoMemory>
 
 // The hold says that it is this one.
 fn is(rt: &impl Abort, hold: &Hold<'_>, id: u32, exclusive: bool) {
-    assert_eq!(rt; (hold.id(), hold.exclusive()), (id, exclusive));
-    assert_eq!(rt; hold.held(), Held { id, exclusive });
+    assert!(rt; hold.id() == id && hold.exclusive() == exclusive);
+    assert!(rt; hold.held() == Held { id, exclusive });
+}
+
+// Takes the mutex, and under it a reader-writer lock in each mode.
+fn take_each(rt: &(impl Abort + Wait + Sync), locks: &ClientLocks)
+    requires { locks.now ≡ LockKind.Mtx ∷ LockKind.Rw ∷ LockKind.Rw ∷ [] }
+{
+    let _mutex = locks.lock(rt, 0);
+    is(rt, &locks.lock(rt, 1), 1, true);
+    is(rt, &locks.read(rt, 1), 1, false);
 }
 
 #[test]
 fn a_drop_releases_each_lock(rt: HostRuntime) -> Result<(), Fail> {
     let locks = three_locks(rt.alloc())?;
-    for _ in 0..2 {
-        let _mutex = locks.lock(&rt, 0);
-        is(&rt, &locks.lock(&rt, 1), 1, true);
-        is(&rt, &locks.read(&rt, 1), 1, false);
-    }
+    take_each(&rt, &locks);
+    take_each(&rt, &locks);
     is(&rt, &locks.lock(&rt, 0), 0, true);
     Ok(())
 }
@@ -70,8 +76,8 @@ fn counted_by_two<R: Threads + Wait + Sync>(rt: &R, locks: &ClientLocks, id: u32
 #[test]
 fn exclusive_holds_exclude_each_other(rt: HostRuntime) -> Result<(), Fail> {
     let locks = three_locks(rt.alloc())?;
-    assert_eq!(rt; counted_by_two(&rt, &locks, 0), 2000);
-    assert_eq!(rt; counted_by_two(&rt, &locks, 1), 2000);
+    assert!(rt; counted_by_two(&rt, &locks, 0) == 2000);
+    assert!(rt; counted_by_two(&rt, &locks, 1) == 2000);
     Ok(())
 }
 
@@ -107,7 +113,7 @@ fn readers_share_a_lock(rt: HostRuntime) -> Result<(), Fail> {
         id: 1,
         exclusive: false,
     };
-    assert_eq!(rt; read_by_two(&rt, &locks, 1), (reading, reading));
+    assert!(rt; read_by_two(&rt, &locks, 1) == (reading, reading));
     Ok(())
 }
 
@@ -166,15 +172,22 @@ fn others_are_free<R: Threads + Wait + Sync>(rt: &R, locks: &ClientLocks, kept: 
     free
 }
 
+// Keeps the three locks at once.
+fn keep_each(rt: &(impl Abort + Wait + Sync), locks: &ClientLocks)
+    requires { locks.now ≡ LockKind.Mtx ∷ LockKind.Rw ∷ LockKind.Rw ∷ [] }
+{
+    let mutex = locks.lock(rt, 0);
+    let first = locks.read(rt, 1);
+    let second = locks.lock(rt, 2);
+    assert!(rt; mutex.id() == 0 && first.id() == 1 && second.id() == 2);
+}
+
 #[test]
 fn each_lock_is_its_own(rt: HostRuntime) -> Result<(), Fail> {
     let locks = three_locks(rt.alloc())?;
     for kept in 0..3 {
         assert!(rt; others_are_free(&rt, &locks, kept));
     }
-    let mutex = locks.lock(&rt, 0);
-    let first = locks.read(&rt, 1);
-    let second = locks.lock(&rt, 2);
-    assert_eq!(rt; (mutex.id(), first.id(), second.id()), (0, 1, 2));
+    keep_each(&rt, &locks);
     Ok(())
 }

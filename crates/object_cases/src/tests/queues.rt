@@ -52,7 +52,7 @@ fn scan<Q: TimerQueue>(queue: &mut Q, now: Sbt) -> (u32, u64)
 }
 
 /// What an operation answered.
-#[derive(Clone, Copy, Debug, PartialEq, Eq)]
+#[derive(Clone, Copy, PartialEq, Eq)]
 enum Answer {
     Put(bool, Sbt),
     Taken(bool),
@@ -87,25 +87,44 @@ fn operate<Q: TimerQueue>(
     }
 }
 
+/// Whether a list and a wheel answer an operation the same, the wheel with no more looks. The draw x picks the kind and the callout, and y the time.
+fn agree(list: &mut ListQueue, wheel: &mut WheelQueue, round: u64, x: u64, y: u64) -> bool
+    requires list { list.old.size ≡ 8 }
+    requires wheel { wheel.old.size ≡ 8 }
+    ensures list { list.new.size ≡ 8 }
+    ensures wheel { wheel.new.size ≡ 8 }
+{
+    let kind = x / 65536 % 8;
+    let i = (x / 1024 % 8) as u32;
+    let now = round % 4000 * 400_000;
+    let (listed, most) = operate(list, kind, i, round, time(now + y / 64), time(now));
+    let (wheeled, looks) = operate(wheel, kind, i, round, time(now + y / 64), time(now));
+    listed == wheeled && looks <= most && list.last() == wheel.last()
+}
+
+/// The round in which they first differ, or else the number of rounds.
+fn agree_for(list: &mut ListQueue, wheel: &mut WheelQueue, rounds: u64) -> u64
+    requires list { list.old.size ≡ 8 }
+    requires wheel { wheel.old.size ≡ 8 }
+{
+    let mut x = 1;
+    for round in 0..rounds {
+        x = next_number(x);
+        let y = next_number(x);
+        if !agree(list, wheel, round, x, y) {
+            return round;
+        }
+        x = y;
+    }
+    rounds
+}
+
 #[test]
 fn answers_agree(rt: HostRuntime) -> Result<(), Fail> {
     let direct = [false, true, false, false, true, false, false, false];
     let mut list = ListQueue::new(rt.alloc(), 8, 16, &direct)?;
     let mut wheel = WheelQueue::new(rt.alloc(), 8, 16, &direct)?;
-    let mut x = 1;
-    for round in 0..4000_u64 {
-        x = next_number(x);
-        let kind = x / 65536 % 8;
-        let i = (x / 1024 % 8) as u32;
-        x = next_number(x);
-        let now = time(round * 400_000);
-        let t = time(round * 400_000 + x / 64);
-        let (listed, most) = operate(&mut list, kind, i, round, t, now);
-        let (wheeled, looks) = operate(&mut wheel, kind, i, round, t, now);
-        assert_eq!(rt; listed, wheeled);
-        assert!(rt; looks <= most);
-        assert_eq!(rt; list.last(), wheel.last());
-    }
+    assert_eq!(rt; agree_for(&mut list, &mut wheel, 4000), 4000);
     Ok(())
 }
 
@@ -122,46 +141,61 @@ fn plays<Q: TimerQueue>(
     requires small { length times.now ≤ 1024 }
 {
     arm(queue, times);
-    assert_eq!(rt; scan(queue, time(now)), counted);
+    assert!(rt; scan(queue, time(now)) == counted);
     for i in order {
-        assert_eq!(rt; queue.pop(), Some((*i, 0)));
+        assert!(rt; queue.pop() == Some((*i, 0)));
     }
-    assert_eq!(rt; queue.pop(), None);
+    assert!(rt; queue.pop().is_none());
+}
+
+/// Three callouts at the border of two buckets, taken out bucket by bucket.
+fn takes_a_bucket_in_order<Q: TimerQueue + Drop>(rt: &impl Abort, mut queue: Q)
+    requires { (Q.state queue).size ≡ 3 }
+{
+    let times = [16777215, 16777216, 16777217];
+    plays(rt, &mut queue, &times, 16777217, (3, 3), &[0, 2, 1]);
 }
 
 #[test]
 fn order_in_a_bucket(rt: HostRuntime) -> Result<(), Fail> {
-    let times = [16777215, 16777216, 16777217];
-    let mut list = ListQueue::new(rt.alloc(), 3, 256, &[false; 3])?;
-    let mut wheel = WheelQueue::new(rt.alloc(), 3, 256, &[false; 3])?;
-    plays(&rt, &mut list, &times, 16777217, (3, 3), &[0, 2, 1]);
-    plays(&rt, &mut wheel, &times, 16777217, (3, 3), &[0, 2, 1]);
+    takes_a_bucket_in_order(&rt, ListQueue::new(rt.alloc(), 3, 256, &[false; 3])?);
+    takes_a_bucket_in_order(&rt, WheelQueue::new(rt.alloc(), 3, 256, &[false; 3])?);
     Ok(())
+}
+
+/// What is more than a turn away stays until the turn of its time.
+fn takes_in_two_turns<Q: TimerQueue + Drop>(rt: &impl Abort, mut queue: Q)
+    requires { (Q.state queue).size ≡ 4 }
+{
+    let times = [285212672, 33554432, 16777216, 838860800];
+    plays(rt, &mut queue, &times, 671088640, (3, 4), &[2, 0, 1]);
+    plays(rt, &mut queue, &[], 838860800, (1, 1), &[3]);
 }
 
 #[test]
 fn more_than_one_turn(rt: HostRuntime) -> Result<(), Fail> {
-    let times = [285212672, 33554432, 16777216, 838860800];
-    let mut list = ListQueue::new(rt.alloc(), 4, 16, &[false; 4])?;
-    let mut wheel = WheelQueue::new(rt.alloc(), 4, 16, &[false; 4])?;
-    plays(&rt, &mut list, &times, 671088640, (3, 4), &[2, 0, 1]);
-    plays(&rt, &mut wheel, &times, 671088640, (3, 4), &[2, 0, 1]);
-    plays(&rt, &mut list, &[], 838860800, (1, 1), &[3]);
-    plays(&rt, &mut wheel, &[], 838860800, (1, 1), &[3]);
+    takes_in_two_turns(&rt, ListQueue::new(rt.alloc(), 4, 16, &[false; 4])?);
+    takes_in_two_turns(&rt, WheelQueue::new(rt.alloc(), 4, 16, &[false; 4])?);
     Ok(())
 }
 
-#[test]
-fn looks_at_visited_buckets(rt: HostRuntime) -> Result<(), Fail> {
+/// The count and the looks of a scan that comes to the third of 64 buckets, with a callout in each.
+fn scan_of_three<Q: TimerQueue + Drop>(mut queue: Q) -> (u32, u64)
+    requires { (Q.state queue).size ≡ 64 }
+{
     let mut times = [0; 64];
     for (i, at) in times.iter_mut().enumerate() {
         *at = i as u64 * 16777216;
     }
-    let mut list = ListQueue::new(rt.alloc(), 64, 16, &[false; 64])?;
-    let mut wheel = WheelQueue::new(rt.alloc(), 64, 16, &[false; 64])?;
-    arm(&mut list, &times);
-    arm(&mut wheel, &times);
-    assert_eq!(rt; scan(&mut list, time(33554432)), (3, 64));
-    assert_eq!(rt; scan(&mut wheel, time(33554432)), (3, 12));
+    arm(&mut queue, &times);
+    scan(&mut queue, time(33554432))
+}
+
+#[test]
+fn looks_at_visited_buckets(rt: HostRuntime) -> Result<(), Fail> {
+    let listed = scan_of_three(ListQueue::new(rt.alloc(), 64, 16, &[false; 64])?);
+    assert!(rt; listed == (3, 64));
+    let wheeled = scan_of_three(WheelQueue::new(rt.alloc(), 64, 16, &[false; 64])?);
+    assert!(rt; wheeled == (3, 12));
     Ok(())
 }

@@ -1,13 +1,14 @@
 //! A function that begins after the release of its callout's lock, beside a thread that wants the lock.
 ghost use Rattle.std.specs.Prelude.{◌≡◌, ◌<◌, length};
 ghost use denote.Param.Send.{IsSync};
+ghost use Rattle.object_cases.specs.Tables.{IsWorked};
 
 use super::functions::{again, are, first_fire, running, spec_of, stop, worked_table};
 use super::ports::AlonePort;
 use super::turns::comes_to;
-use co_hand::{Handler, Port, PortCall, PortReply};
+use co_hand::{FuncTable, Handler, Port, PortCall, PortReply};
 use co_lock::{ClientLocks, Hold, LockKind};
-use co_object::{LockUse, PlainOp};
+use co_object::{LockUse, PlainOp, Spec};
 use co_sbt::{NoMemory, Seq};
 use std::alloc::Global;
 use std::sync::Wait;
@@ -56,6 +57,23 @@ impl<'a, P: Port> Port for NeedingPort<'a, P> {
     }
 }
 
+/// The calls that function 0 of that table makes after the release of this hold, in the service of a callout of this spec.
+fn calls_of_released(
+    alloc: Global,
+    spec: Spec,
+    table: &mut FuncTable,
+    hold: Hold<'_>,
+    needs: &Needs,
+) -> Result<Seq<PortCall>, NoMemory>
+    requires { IsWorked table.old }
+{
+    let mut callouts = [running(spec)];
+    let mut port = AlonePort::new(alloc, &mut callouts, 5, 2)?;
+    let mut needing = NeedingPort::new(needs, &mut port);
+    table.run_unlock(&first_fire(), hold, &mut needing);
+    Ok(port.into_calls())
+}
+
 /// The calls that function 0 makes after the release of lock 0.
 fn calls_of_run_unlock<R: Wait + Sync>(
     rt: &R,
@@ -67,12 +85,7 @@ fn calls_of_run_unlock<R: Wait + Sync>(
 {
     let spec = spec_of(LockUse::Mtx(0), true);
     let mut table = worked_table(alloc, spec)?;
-    let mut callouts = [running(spec)];
-    let mut port = AlonePort::new(alloc, &mut callouts, 5, 2)?;
-    let hold = locks.lock(rt, 0);
-    let mut needing = NeedingPort::new(needs, &mut port);
-    table.run_unlock(&first_fire(), hold, &mut needing);
-    Ok(port.into_calls())
+    calls_of_released(alloc, spec, &mut table, locks.lock(rt, 0), needs)
 }
 
 /// Takes lock 0 in each of two calls of another thread.
@@ -116,11 +129,12 @@ fn calls_beside_a_lock<R: Threads + Wait + Sync>(
 fn the_hold_is_released_before_the_first_act(rt: HostRuntime) -> Result<(), Fail> {
     let locks = ClientLocks::new(rt.alloc(), &[LockKind::Mtx])?;
     let (calls, in_vain) = calls_beside_a_lock(&rt, rt.alloc(), &locks)?;
-    assert_eq!(rt; in_vain, 0);
-    are(
-        &rt,
-        &calls,
-        &[again(PortReply::NotHeld), stop(PortReply::NotHeld)],
+    assert!(rt; in_vain == 0);
+    assert!(rt;
+        are(
+            &calls,
+            &[again(PortReply::NotHeld), stop(PortReply::NotHeld)]
+        )
     );
     Ok(())
 }

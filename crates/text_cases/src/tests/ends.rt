@@ -17,7 +17,7 @@ fn a_failed_read_leaves_the_rest(rt: HostRuntime) -> Result<(), Fail> {
     assert!(rt; matches!(read_all(rt.alloc(), &mut source, 9), Err(ReadEnd::Fault)));
     match read_all(rt.alloc(), &mut source, 9) {
         Ok(input) => {
-            assert_eq!(rt; input.bytes.as_slice(), b"bc".as_slice());
+            assert!(rt; input.bytes.as_slice() == b"bc".as_slice());
             assert!(rt; !input.over);
         }
         Err(_) => assert!(rt; false),
@@ -31,8 +31,8 @@ fn reads_one_byte_past_the_limit(rt: HostRuntime) -> Result<(), Fail> {
         let mut source = MemSource::new(rt.alloc(), b"abcde", 2, &[])?;
         match read_all(rt.alloc(), &mut source, limit) {
             Ok(input) => {
-                assert_eq!(rt; input.bytes.as_slice().len(), read, "at {limit}");
-                assert_eq!(rt; input.over, over, "at {limit}");
+                assert!(rt; input.bytes.as_slice().len() == read, "at {limit}");
+                assert!(rt; input.over == over, "at {limit}");
             }
             Err(_) => assert!(rt; false),
         }
@@ -43,10 +43,10 @@ fn reads_one_byte_past_the_limit(rt: HostRuntime) -> Result<(), Fail> {
 #[test]
 fn a_failed_write_leaves_a_front(rt: HostRuntime) -> Result<(), Fail> {
     let mut sink = MemSink::new(rt.alloc(), 2, 1, &[1])?;
-    assert_eq!(rt; write_all(&mut sink, b"abc"), Err(WriteEnd::Fault));
-    assert_eq!(rt; sink.bytes(), b"a".as_slice());
-    assert_eq!(rt; write_all(&mut sink, b"bc"), Err(WriteEnd::Stalled));
-    assert_eq!(rt; sink.bytes(), b"ab".as_slice());
+    assert!(rt; write_all(&mut sink, b"abc") == Err(WriteEnd::Fault));
+    assert!(rt; sink.bytes() == b"a".as_slice());
+    assert!(rt; write_all(&mut sink, b"bc") == Err(WriteEnd::Stalled));
+    assert!(rt; sink.bytes() == b"ab".as_slice());
     Ok(())
 }
 
@@ -57,14 +57,11 @@ fn pieces_are_written_in_order_up_to_a_failure(rt: HostRuntime) -> Result<(), Fa
         pieces.push(Seq::copy_of(rt.alloc(), text)?)?;
     }
     let mut sink = MemSink::new(rt.alloc(), 9, 9, &[])?;
-    assert_eq!(rt; write_pieces(&mut sink, pieces.as_slice()), Ok(()));
-    assert_eq!(rt; sink.bytes(), b"abcd".as_slice());
+    assert!(rt; write_pieces(&mut sink, pieces.as_slice()).is_ok());
+    assert!(rt; sink.bytes() == b"abcd".as_slice());
     let mut sink = MemSink::new(rt.alloc(), 3, 9, &[])?;
-    assert_eq!(rt;
-        write_pieces(&mut sink, pieces.as_slice()),
-        Err(WriteEnd::Stalled)
-    );
-    assert_eq!(rt; sink.bytes(), b"abc".as_slice());
+    assert!(rt; write_pieces(&mut sink, pieces.as_slice()) == Err(WriteEnd::Stalled));
+    assert!(rt; sink.bytes() == b"abc".as_slice());
     Ok(())
 }
 
@@ -100,10 +97,10 @@ fn quiet_ends_take_all(rt: HostRuntime) -> Result<(), Fail> {
     let mut source = QuietSource::new(rt.alloc(), b"abc")?;
     let mut sink = QuietSink::new(rt.alloc(), 6)?;
     pour(rt.alloc(), &mut source, &mut sink)?;
-    assert_eq!(rt; sink.bytes(), b"abc".as_slice());
+    assert!(rt; sink.bytes() == b"abc".as_slice());
     let mut source = MemSource::new(rt.alloc(), b"def", 1, &[])?;
     assert!(rt; copy(rt.alloc(), 3, &mut source, &mut sink));
-    assert_eq!(rt; sink.bytes(), b"abcdef".as_slice());
+    assert!(rt; sink.bytes() == b"abcdef".as_slice());
     Ok(())
 }
 
@@ -130,16 +127,16 @@ impl Write for Broken {
 #[test]
 fn readers_and_writers_are_ends(rt: HostRuntime) -> Result<(), Fail> {
     match read_all(rt.alloc(), &mut FileSource::new(b"abc".as_slice()), 9) {
-        Ok(input) => assert_eq!(rt; input.bytes.as_slice(), b"abc".as_slice()),
+        Ok(input) => assert!(rt; input.bytes.as_slice() == b"abc".as_slice()),
         Err(_) => assert!(rt; false),
     }
     let end = read_all(rt.alloc(), &mut FileSource::new(Broken), 9);
     assert!(rt; matches!(end, Err(ReadEnd::Fault)));
     let mut room = [0; 2];
     let end = write_all(&mut FileSink::new(room.as_mut_slice()), b"abc");
-    assert_eq!(rt; end, Err(WriteEnd::Stalled));
-    assert_eq!(rt; room, [b'a', b'b']);
+    assert!(rt; end == Err(WriteEnd::Stalled));
+    assert!(rt; room == [b'a', b'b']);
     let end = write_all(&mut FileSink::new(Broken), b"abc");
-    assert_eq!(rt; end, Err(WriteEnd::Fault));
+    assert!(rt; end == Err(WriteEnd::Fault));
     Ok(())
 }

@@ -15,10 +15,7 @@ fn writes_words(rt: HostRuntime) {
         page.line(&Token::Text(b"reset".as_slice()), words.as_slice())
             .is_ok()
     );
-    assert_eq!(rt;
-        page.done().as_slice(),
-        b"reset 3 =u5 f0 -1 c0*2\n".as_slice()
-    );
+    assert!(rt; page.done().as_slice() == b"reset 3 =u5 f0 -1 c0*2\n".as_slice());
 }
 
 #[test]
@@ -31,8 +28,8 @@ fn writes_numbers(rt: HostRuntime) {
         assert!(rt; page.text(b" ".as_slice()).is_ok());
         assert!(rt; page.signed(number).is_ok());
     }
-    assert_eq!(rt;
-        page.done().as_slice(),
-        b" u0 u10 u999 u1000 u9999 u10000 u18446744073709551615 -2147483648 -1 99".as_slice()
+    assert!(rt;
+        page.done().as_slice()
+            == b" u0 u10 u999 u1000 u9999 u10000 u18446744073709551615 -2147483648 -1 99".as_slice()
     );
 }

@@ -2,11 +2,13 @@
 ghost use Rattle.std.specs.Prelude.{◌≡◌, ◌∷◌, [], IfOk};
 
 use co_object::{AnyEntry, Lists, OwnEntry, OwnKind, Place};
-use co_report::{print_report, read_report};
+use co_program::Script;
+use co_report::{Report, print_report, read_report};
 use co_sbt::{NoMemory, Seq};
 use co_script::read_script;
 use co_text::{Cause, ScriptFault};
 use std::alloc::Global;
+use std::test::Fail;
 
 /// The lists of one actor that has no notes.
 fn no_notes(alloc: Global) -> Result<Lists, NoMemory>
@@ -17,31 +19,36 @@ fn no_notes(alloc: Global) -> Result<Lists, NoMemory>
     Ok(lists)
 }
 
+/// The report of a script of one actor that makes no notes.
+fn report_of_nobody(alloc: Global, script: &Script) -> Result<Seq<u8>, NoMemory> {
+    let lists = no_notes(alloc)?;
+    print_report(alloc, script, &lists)
+}
+
+/// The script that a text is.
+fn script_of(alloc: Global, text: &[u8]) -> Result<Script, ScriptFault> {
+    read_script(alloc, text)
+}
+
 #[test]
-fn empty_run(rt: HostRuntime) {
+fn empty_run(rt: HostRuntime) -> Result<(), Fail> {
     let wanted =
         b"callout-report 1\ncallout 1\nhz 1000\ncpus 1\nwheel 256\nfuncs 0\ntimer 0 mpsafe\ncpu 0\nhistories\n\
         timer 0\nwheel 0\nactor p0\nend\n";
-    match read_script(rt.alloc(), b"callout 1\ntimer 0 mpsafe\n".as_slice()) {
-        Ok(script) => match no_notes(rt.alloc()) {
-            Ok(lists) => match print_report(rt.alloc(), &script, &lists) {
-                Ok(report) => assert_eq!(rt; report.as_slice(), wanted.as_slice()),
-                Err(fault) => panic!(rt; "{fault:?}"),
-            },
-            Err(fault) => panic!(rt; "{fault:?}"),
-        },
-        Err(fault) => panic!(rt; "{fault:?}"),
-    }
+    let script = script_of(rt.alloc(), b"callout 1\ntimer 0 mpsafe\n".as_slice())?;
+    let report = report_of_nobody(rt.alloc(), &script)?;
+    assert!(rt; report.as_slice() == wanted.as_slice());
+    Ok(())
 }
 
-/// How many notes a report's text has, and the number of its line `end`; or its fault.
-fn counted(alloc: Global, text: &[u8]) -> Result<(usize, u64), ScriptFault> {
-    let report = read_report(alloc, text)?;
-    Ok((report.lines.as_slice().len(), report.end))
+/// The report that a text is.
+fn report_of(alloc: Global, text: &[u8]) -> Result<Report, ScriptFault> {
+    read_report(alloc, text)
 }
 
+/// Eight notes, and the line `end` behind them.
 #[test]
-fn one_firing_is_read(rt: HostRuntime) {
+fn one_firing_is_read(rt: HostRuntime) -> Result<(), Fail> {
     let text =
         b"callout-report 1\ncallout 1\nhz 1000\ncpus 1\nwheel 256\nfuncs 1\ntimer 0 mpsafe\nfunc 0\nclient 0\n\
         reset 0 =u6442450944 f0 a7\ncpu 0\ntick u6442450944\nhistories\ntimer 0\n\
@@ -49,31 +56,28 @@ fn one_firing_is_read(rt: HostRuntime) {
         2 p0/0 pick #0 p0 u6442450944 = go f0 a7\n3 p0/0 end #0 p0 = ended drain - next - woke 0\nwheel 0\n\
         1 c0/0 insert i0 #0 u6442450944 = at u6442450944\n0 p0/0 scan u6442450944 = count 1\n\
         1 p0/0 pop = got i0 #0 u6442450944\n4 p0/0 free = freed\n5 p0/0 pop = empty\nactor c0\nactor p0\nend\n";
-    assert_eq!(rt; counted(rt.alloc(), text.as_slice()), Ok((8, 26)));
+    let report = report_of(rt.alloc(), text.as_slice())?;
+    assert!(rt; report.lines.as_slice().len() == 8 && report.end == 26);
+    Ok(())
 }
 
 #[test]
-fn own_note_is_read(rt: HostRuntime) {
+fn own_note_is_read(rt: HostRuntime) -> Result<(), Fail> {
     let text =
         b"callout-report 1\ncallout 2\nhz 1000\ncpus 1\nwheel 256\nfuncs 0\nlock 0 mtx\ntimer 0 mtx 0\nclient 0\nstop 0\n\
         cpu 0\nhistories\ntimer 0\nwheel 0\nactor c0\n0 c0/0 notheld\nactor p0\nactor h0\nend\n";
-    match read_report(rt.alloc(), text.as_slice()) {
-        Ok(report) => match report.lines.as_slice() {
-            [line] => {
-                assert_eq!(rt; line.line, 16);
-                assert_eq!(rt; line.number, 0);
-                assert!(rt; line.place == Place::Actor(0));
-                let entry = OwnEntry {
-                    actor: 0,
-                    act: 0,
-                    kind: OwnKind::NotHeld,
-                };
-                assert!(rt; line.entry == AnyEntry::Own(entry));
-            }
-            _ => panic!(rt; "not one line"),
-        },
-        Err(fault) => panic!(rt; "{fault:?}"),
-    }
+    let report = report_of(rt.alloc(), text.as_slice())?;
+    let lines = report.lines.as_slice();
+    assert!(rt; lines.len() == 1);
+    assert!(rt; lines[0].line == 16 && lines[0].number == 0);
+    assert!(rt; lines[0].place == Place::Actor(0));
+    let entry = OwnEntry {
+        actor: 0,
+        act: 0,
+        kind: OwnKind::NotHeld,
+    };
+    assert!(rt; lines[0].entry == AnyEntry::Own(entry));
+    Ok(())
 }
 
 /// The fault of this text.
@@ -81,69 +85,71 @@ fn fault_of(alloc: Global, text: &[u8]) -> Option<ScriptFault> {
     read_report(alloc, text).err()
 }
 
-/// The fault of a report that has this text behind the line `histories`, which is line 9.
-fn fault_behind(alloc: Global, notes: &[u8]) -> Option<ScriptFault> {
+/// A report that has this text behind the line `histories`, which is line 9.
+fn behind_histories(alloc: Global, notes: &[u8]) -> Result<Seq<u8>, NoMemory> {
     let head =
         b"callout-report 1\ncallout 1\nhz 1000\ncpus 1\nwheel 256\nfuncs 0\ntimer 0 mpsafe\ncpu 0\nhistories\n";
-    match Seq::copy_of(alloc, head.as_slice()) {
-        Ok(mut text) => match text.extend_from_slice(notes) {
-            Ok(()) => fault_of(alloc, text.as_slice()),
-            Err(_) => Some(ScriptFault::NoMemory),
-        },
+    let mut text = Seq::copy_of(alloc, head.as_slice())?;
+    text.extend_from_slice(notes)?;
+    Ok(text)
+}
+
+/// The fault of that report.
+fn fault_behind(alloc: Global, notes: &[u8]) -> Option<ScriptFault> {
+    match behind_histories(alloc, notes) {
+        Ok(text) => fault_of(alloc, text.as_slice()),
         Err(_) => Some(ScriptFault::NoMemory),
     }
 }
 
-fn bad(line: u64, cause: Cause) -> Option<ScriptFault> {
-    Some(ScriptFault::Bad { line, cause })
+/// Whether the fault is at this line, for this cause.
+fn is_at(fault: Option<ScriptFault>, line: u64, cause: Cause) -> bool {
+    fault == Some(ScriptFault::Bad { line, cause })
+}
+
+/// Whether the first bad line of this text is this one, for this cause.
+fn is_bad(alloc: Global, text: &[u8], line: u64, cause: Cause) -> bool {
+    is_at(fault_of(alloc, text), line, cause)
+}
+
+/// The same of the report that has this text behind the line `histories`.
+fn is_bad_behind(alloc: Global, notes: &[u8], line: u64, cause: Cause) -> bool {
+    is_at(fault_behind(alloc, notes), line, cause)
 }
 
 #[test]
 fn first_bad_line_is_named(rt: HostRuntime) {
     let alloc = rt.alloc();
-    let one = b"callout-report 1\ncallout 1\nhz 0\nhistories\n".as_slice();
-    let two = b"callout-report 1\ncallout 1\ntimer 0 mpsafe\nhistories\n".as_slice();
-    assert_eq!(rt; fault_of(alloc, b"".as_slice()), bad(0, Cause::Version));
-    assert_eq!(rt;
-        fault_of(alloc, b"callout-report 2\nend".as_slice()),
-        bad(2, Cause::Cut)
-    );
-    assert_eq!(rt;
-        fault_of(alloc, b"callout-report 01\n".as_slice()),
-        bad(1, Cause::Version)
-    );
-    assert_eq!(rt;
-        fault_of(alloc, b"callout-report 1\nend\n".as_slice()),
-        bad(0, Cause::Note)
-    );
-    assert_eq!(rt; fault_of(alloc, one), bad(3, Cause::Number));
-    assert_eq!(rt; fault_of(alloc, two), bad(3, Cause::Form));
+    assert!(rt; is_bad(alloc, b"".as_slice(), 0, Cause::Version));
+    assert!(rt; is_bad(alloc, b"callout-report 2\nend".as_slice(), 2, Cause::Cut));
+    assert!(rt; is_bad(alloc, b"callout-report 01\n".as_slice(), 1, Cause::Version));
+    assert!(rt; is_bad(alloc, b"callout-report 1\nend\n".as_slice(), 0, Cause::Note));
+    let one = b"callout-report 1\ncallout 1\nhz 0\nhistories\n";
+    assert!(rt; is_bad(alloc, one.as_slice(), 3, Cause::Number));
+    let two = b"callout-report 1\ncallout 1\ntimer 0 mpsafe\nhistories\n";
+    assert!(rt; is_bad(alloc, two.as_slice(), 3, Cause::Form));
 }
 
 #[test]
 fn first_line_that_is_no_note_is_named(rt: HostRuntime) {
     let alloc = rt.alloc();
-    let twice = b"timer 0\nwheel 0\nactor p0\nend\nend\n".as_slice();
-    let stop =
-        b"timer 0\n0 p0/0 stop = stopped -1 off -\n0 p0/0 stop = stopped -0 off -\n".as_slice();
-    let zero = b"timer 0\n00 p0/0 stop = done\n".as_slice();
-    let callout = b"timer 0\nwheel 0\n0 p0/0 remove i0 = off\n0 p0/0 remove i1 = off\n".as_slice();
-    let interrupt = b"timer 0\nwheel 0\n0 p0/0 pop = empty\n0 h0/0 pop = empty\n".as_slice();
-    assert_eq!(rt;
-        fault_behind(alloc, b"timer 0\nwheel 0\nactor p0\nend\n".as_slice()),
-        None
-    );
-    assert_eq!(rt; fault_behind(alloc, twice), bad(14, Cause::Note));
-    assert_eq!(rt;
-        fault_behind(alloc, b"timer 0\n".as_slice()),
-        bad(11, Cause::Note)
-    );
-    assert_eq!(rt;
-        fault_behind(alloc, b"timer 0\nactor p0\n".as_slice()),
-        bad(11, Cause::Note)
-    );
-    assert_eq!(rt; fault_behind(alloc, stop), bad(12, Cause::Note));
-    assert_eq!(rt; fault_behind(alloc, zero), bad(11, Cause::Note));
-    assert_eq!(rt; fault_behind(alloc, callout), bad(13, Cause::Note));
-    assert_eq!(rt; fault_behind(alloc, interrupt), bad(13, Cause::Note));
+    let none = b"timer 0\nwheel 0\nactor p0\nend\n";
+    assert!(rt; fault_behind(alloc, none.as_slice()).is_none());
+    let twice = b"timer 0\nwheel 0\nactor p0\nend\nend\n";
+    assert!(rt; is_bad_behind(alloc, twice.as_slice(), 14, Cause::Note));
+    assert!(rt; is_bad_behind(alloc, b"timer 0\n".as_slice(), 11, Cause::Note));
+    assert!(rt; is_bad_behind(alloc, b"timer 0\nactor p0\n".as_slice(), 11, Cause::Note));
+}
+
+#[test]
+fn first_bad_note_is_named(rt: HostRuntime) {
+    let alloc = rt.alloc();
+    let stop = b"timer 0\n0 p0/0 stop = stopped -1 off -\n0 p0/0 stop = stopped -0 off -\n";
+    assert!(rt; is_bad_behind(alloc, stop.as_slice(), 12, Cause::Note));
+    let zero = b"timer 0\n00 p0/0 stop = done\n";
+    assert!(rt; is_bad_behind(alloc, zero.as_slice(), 11, Cause::Note));
+    let callout = b"timer 0\nwheel 0\n0 p0/0 remove i0 = off\n0 p0/0 remove i1 = off\n";
+    assert!(rt; is_bad_behind(alloc, callout.as_slice(), 13, Cause::Note));
+    let interrupt = b"timer 0\nwheel 0\n0 p0/0 pop = empty\n0 h0/0 pop = empty\n";
+    assert!(rt; is_bad_behind(alloc, interrupt.as_slice(), 13, Cause::Note));
 }

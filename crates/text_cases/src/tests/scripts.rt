@@ -1,24 +1,27 @@
 //! Worked scripts.
+use co_program::Script;
 use co_script::{fits, print_script, read_script};
 use co_text::{Cause, ScriptFault};
+use std::alloc::Global;
+use std::test::Fail;
+
+/// The script that a text is.
+fn script_of(alloc: Global, text: &[u8]) -> Result<Script, ScriptFault> {
+    read_script(alloc, text)
+}
 
 #[test]
-fn one_firing_is_read_and_printed(rt: HostRuntime) {
+fn one_firing_is_read_and_printed(rt: HostRuntime) -> Result<(), Fail> {
     let text =
         b"callout 1\nfuncs 1\ntimer 0 mpsafe\nclient 0\nreset 0 =1.5 f0 a7\ncpu 0\ntick 1.5\n";
     let wanted =
         b"callout 1\nhz 1000\ncpus 1\nwheel 256\nfuncs 1\ntimer 0 mpsafe\nfunc 0\nclient 0\n\
         reset 0 =u6442450944 f0 a7\ncpu 0\ntick u6442450944\n";
-    match read_script(rt.alloc(), text.as_slice()) {
-        Ok(script) => {
-            assert!(rt; fits(&script));
-            match print_script(rt.alloc(), &script) {
-                Ok(printed) => assert_eq!(rt; printed.as_slice(), wanted.as_slice()),
-                Err(fault) => panic!(rt; "{fault:?}"),
-            }
-        }
-        Err(fault) => panic!(rt; "{fault:?}"),
-    }
+    let script = script_of(rt.alloc(), text.as_slice())?;
+    assert!(rt; fits(&script));
+    let printed = print_script(rt.alloc(), &script)?;
+    assert!(rt; printed.as_slice() == wanted.as_slice());
+    Ok(())
 }
 
 #[test]
@@ -29,8 +32,5 @@ fn first_bad_line_is_named(rt: HostRuntime) {
         line: 8,
         cause: Cause::Falls,
     };
-    assert_eq!(rt;
-        read_script(rt.alloc(), text.as_slice()).err(),
-        Some(wanted)
-    );
+    assert!(rt; script_of(rt.alloc(), text.as_slice()).err() == Some(wanted));
 }

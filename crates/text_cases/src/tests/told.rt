@@ -13,6 +13,7 @@ use co_script::read_script;
 use co_text::ScriptFault;
 use std::alloc::Global;
 use std::marker::Brand;
+use std::test::Fail;
 
 /// The report of a script after these notes, each with its actor.
 fn report_told<S: Subject>(
@@ -89,23 +90,15 @@ fn reset(due: Sbt) -> Op {
     }))
 }
 
-#[test]
-fn notes_are_printed_as_they_are_told(rt: HostRuntime) {
-    let script =
-        b"callout 1\nfuncs 1\ntimer 0 mpsafe\nfunc 0\nclient 0\nreset 0 =u4294967296 f0 a7\ncpu 0\ntick u4294967296\n";
-    let wanted =
-        b"callout-report 1\ncallout 1\nhz 1000\ncpus 1\nwheel 256\nfuncs 1\ntimer 0 mpsafe\nfunc 0\nclient 0\n\
-        reset 0 =u4294967296 f0 a7\ncpu 0\ntick u4294967296\nhistories\ntimer 0\n0 c0/0 reset u4294967296 pr u4294967296 f0 a7 cpu - = armed 0 #0 p0 off -\n\
-        2 p0/0 pick #0 p0 u4294967296 = go f0 a7\nwheel 0\n1 c0/0 insert i0 #0 u4294967296 = at u4294967296\n0 p0/0 scan u4294967296 = count 1\n\
-        1 p0/0 pop = got i0 #0 u4294967296\n3 p0/0 free = freed\nactor c0\nactor p0\nend\n";
-    let due = Sbt::from_ticks(1, 1);
+/// What is told of the callout's first firing, due at this time.
+fn first_firing(due: Sbt) -> [(u32, Note); 6] {
     let armed = Reply::Armed {
         code: 0,
         n: 0,
         cpu: 0,
         off: None,
     };
-    let told = [
+    [
         timer(0, 0, reset(due), armed),
         cpu(0, 0, QOp::Insert { i: 0, n: 0, t: due }, QReply::At(due)),
         cpu(1, 1, QOp::Scan { now: due }, QReply::Count(1)),
@@ -130,9 +123,20 @@ fn notes_are_printed_as_they_are_told(rt: HostRuntime) {
             Reply::Go { func: 0, arg: 7 },
         ),
         cpu(1, 3, QOp::Free, QReply::Freed),
-    ];
-    match text_told(rt.alloc(), script.as_slice(), told.as_slice()) {
-        Ok(report) => assert_eq!(rt; report.as_slice(), wanted.as_slice()),
-        Err(fault) => panic!(rt; "{fault:?}"),
-    }
+    ]
+}
+
+#[test]
+fn notes_are_printed_as_they_are_told(rt: HostRuntime) -> Result<(), Fail> {
+    let script =
+        b"callout 1\nfuncs 1\ntimer 0 mpsafe\nfunc 0\nclient 0\nreset 0 =u4294967296 f0 a7\ncpu 0\ntick u4294967296\n";
+    let wanted =
+        b"callout-report 1\ncallout 1\nhz 1000\ncpus 1\nwheel 256\nfuncs 1\ntimer 0 mpsafe\nfunc 0\nclient 0\n\
+        reset 0 =u4294967296 f0 a7\ncpu 0\ntick u4294967296\nhistories\ntimer 0\n0 c0/0 reset u4294967296 pr u4294967296 f0 a7 cpu - = armed 0 #0 p0 off -\n\
+        2 p0/0 pick #0 p0 u4294967296 = go f0 a7\nwheel 0\n1 c0/0 insert i0 #0 u4294967296 = at u4294967296\n0 p0/0 scan u4294967296 = count 1\n\
+        1 p0/0 pop = got i0 #0 u4294967296\n3 p0/0 free = freed\nactor c0\nactor p0\nend\n";
+    let told = first_firing(Sbt::from_ticks(1, 1));
+    let report = text_told(rt.alloc(), script.as_slice(), told.as_slice())?;
+    assert!(rt; report.as_slice() == wanted.as_slice());
+    Ok(())
 }

@@ -21,7 +21,7 @@ fn nothing_happens(rt: HostRuntime) {
     let text =
         b"callout-report 1\ncallout 1\nhz 1000\ncpus 1\nwheel 256\nfuncs 0\ntimer 0 mpsafe\ncpu 0\nhistories\n\
         timer 0\nwheel 0\nactor p0\nend\n";
-    assert_eq!(rt; verdict_of(rt.alloc(), text.as_slice()), Ok(Verdict::Legal));
+    assert!(rt; verdict_of(rt.alloc(), text.as_slice()) == Ok(Verdict::Legal));
 }
 
 #[test]
@@ -33,5 +33,5 @@ fn a_note_of_no_act(rt: HostRuntime) {
         line: 13,
         cause: Unfit::Follows,
     };
-    assert_eq!(rt; verdict_of(rt.alloc(), text.as_slice()), Ok(follows));
+    assert!(rt; verdict_of(rt.alloc(), text.as_slice()) == Ok(follows));
 }
