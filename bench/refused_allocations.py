@@ -7,10 +7,13 @@ import os, subprocess, sys, tempfile
 
 REFUSER = r"""
 #include <stdlib.h>
+#include <unistd.h>
 static long made = -1, refused = -2;
 static int refuse(void) {
   if (refused == -2) refused = atol(getenv("REFUSED_ALLOCATION"));
-  return ++made == refused;
+  if (++made != refused) return 0;
+  if (write(2, "refused\n", 8) < 8) _exit(99);
+  return 1;
 }
 extern void *__libc_malloc(size_t), *__libc_calloc(size_t, size_t), *__libc_realloc(void *, size_t), *__libc_memalign(size_t, size_t);
 void *malloc(size_t n) { return refuse() ? NULL : __libc_malloc(n); }
@@ -20,10 +23,8 @@ void *aligned_alloc(size_t a, size_t n) { return refuse() ? NULL : __libc_memali
 """
 
 
-def main():
-    program, source, words = sys.argv[1], sys.argv[2], sys.argv[3:]
-    with open(source, "rb") as script:
-        given = script.read()
+def refusals(program, words, given):
+    """The runs of a program on an input, in each of which one more allocation is refused, up to the first that refuses none."""
     with tempfile.TemporaryDirectory() as folder:
         code, library = os.path.join(folder, "refuser.c"), os.path.join(folder, "refuser.so")
         with open(code, "w") as out:
@@ -33,12 +34,23 @@ def main():
         while True:
             outside = dict(os.environ, LD_PRELOAD=library, REFUSED_ALLOCATION=str(refused))
             run = subprocess.run([program] + words, input=given, capture_output=True, env=outside)
-            if run.returncode != 5:
-                break
-            if run.stdout:
-                sys.exit(f"allocation {refused} refused: {len(run.stdout)} bytes were written")
+            yield run
+            if b"refused" not in run.stderr:
+                return
             refused += 1
+
+
+def main():
+    program, source, words = sys.argv[1], sys.argv[2], sys.argv[3:]
+    with open(source, "rb") as script:
+        given = script.read()
+    for refused, run in enumerate(refusals(program, words, given)):
+        if run.returncode != 5:
+            break
+        if run.stdout:
+            sys.exit(f"allocation {refused} refused: {len(run.stdout)} bytes were written")
     print(f"{refused} allocations refused in turn: each run ended with status 5 and nothing written; then status {run.returncode}")
 
 
-main()
+if __name__ == "__main__":
+    main()
