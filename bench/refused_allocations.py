@@ -2,16 +2,16 @@
 """refused_allocations.py PROGRAM INPUT WORD ..: runs the program again and again, each time with one more allocation refused.
 
 Run number n refuses allocation n, counted from 0, until a run refuses none. A run with a refused allocation has to end with
-status 5 and nothing written. The library that refuses is compiled by gcc and loaded before the C library."""
+status 5 and nothing written; where the word is `run`, also with status 0 and a report that `PROGRAM check` calls legal, where the
+refused memory was a thread's. The library that refuses is compiled by gcc and loaded before the C library."""
 import os, subprocess, sys, tempfile
 
 REFUSER = r"""
 #include <stdlib.h>
 #include <unistd.h>
-static long made = -1, refused = -2;
+static long made = -1;
 static int refuse(void) {
-  if (refused == -2) refused = atol(getenv("REFUSED_ALLOCATION"));
-  if (++made != refused) return 0;
+  if (__atomic_add_fetch(&made, 1, __ATOMIC_SEQ_CST) != atol(getenv("REFUSED_ALLOCATION"))) return 0;
   if (write(2, "refused\n", 8) < 8) _exit(99);
   return 1;
 }
@@ -33,23 +33,32 @@ def refusals(program, words, given):
         refused = 0
         while True:
             outside = dict(os.environ, LD_PRELOAD=library, REFUSED_ALLOCATION=str(refused))
-            run = subprocess.run([program] + words, input=given, capture_output=True, env=outside)
+            run = subprocess.run([program] + words, input=given, capture_output=True, env=outside, timeout=60)
             yield run
             if b"refused" not in run.stderr:
                 return
             refused += 1
 
 
+def is_legal(program, report):
+    """Whether the program calls a report legal."""
+    return subprocess.run([program, "check"], input=report, capture_output=True).stdout == b"legal\n"
+
+
 def main():
     program, source, words = sys.argv[1], sys.argv[2], sys.argv[3:]
     with open(source, "rb") as script:
         given = script.read()
-    for refused, run in enumerate(refusals(program, words, given)):
-        if run.returncode != 5:
-            break
-        if run.stdout:
-            sys.exit(f"allocation {refused} refused: {len(run.stdout)} bytes were written")
-    print(f"{refused} allocations refused in turn: each run ended with status 5 and nothing written; then status {run.returncode}")
+    runs = list(refusals(program, words, given))
+    last, ended = runs.pop(), 0
+    for refused, run in enumerate(runs):
+        if (run.returncode, run.stdout) == (5, b""):
+            ended += 1
+        elif words != ["run"] or run.returncode != 0 or not is_legal(program, run.stdout):
+            sys.exit(f"allocation {refused} refused: status {run.returncode}, {len(run.stdout)} bytes were written")
+    others = f"; {len(runs) - ended} ended with status 0 and a legal report" if ended < len(runs) else ""
+    print(f"{len(runs)} allocations refused in turn: {ended} ended with status 5 and nothing written{others};"
+          f" with none refused: status {last.returncode}")
 
 
 if __name__ == "__main__":
