@@ -1,9 +1,20 @@
 -- Threads, with a client, a CPU and 16 callouts for each.
-use Rattle.std.specs.Prelude.{◌≡◌, ◌*◌}
+use Rattle.std.specs.Prelude.{◌≡◌, ℕ, ◌*◌, length}
+use Rattle.co_object.specs.declared.spec.Spec.{Spec}
+use Rattle.co_object.specs.declared.spec.LockUse.TheVariants.{Free}
+use Rattle.co_service.specs.declared.params.Params.{Params}
+use Rattle.co_service.specs.Params.{IsSpec, spec_at}
 use Rattle.callout_bench.specs.declared.work.Work.{Work}
-use Rattle.service_threads.specs.declared.crowd.Crowd.{Crowd}
 
-pub record IsTeam (work : Work) (crowd : Crowd) : Type 0 where
-  pub clients : crowd.clients ≡ work.threads
-  pub cpus : crowd.cpus ≡ work.threads
-  pub callouts : crowd.callouts ≡ work.threads * 16
+-- a callout without a lock, which no interrupt services
+pub record IsPlain (spec : Spec) : Type 0 where
+  pub lock : spec.lock ≡ Free
+  pub allowed : IsSpec 1 spec
+
+-- a service of version 1 for the threads
+pub record IsTeam (work : Work) (p : Params) : Type 0 where
+  pub version_is : p.version ≡ 1
+  pub clients : p.clients ≡ work.threads
+  pub cpus : p.cpus ≡ work.threads
+  pub size : length p.specs ≡ work.threads * 16
+  pub free : (i : ℕ) → (spec_at p i).lock ≡ Free

@@ -1,6 +1,7 @@
 //! The lines that say what was counted.
 use crate::queues::{Counts, Kind};
 use crate::work::{Where, Work};
+use crate::world::Walked;
 use co_sbt::NoMemory;
 use co_text::Page;
 
@@ -28,6 +29,13 @@ pub fn timers(page: &mut Page, timers: u64) -> Result<(), NoMemory> {
 pub fn notes(page: &mut Page, notes: u64) -> Result<(), NoMemory> {
     page.number(notes)?;
     page.text(b" notes\n".as_slice())
+}
+
+/// A world that was stepped.
+pub fn world(page: &mut Page, walked: &Walked) -> Result<(), NoMemory> {
+    page.number(walked.notes)?;
+    page.tagged(b" notes, ".as_slice(), walked.refused)?;
+    page.text(b" steps refused\n".as_slice())
 }
 
 /// A run of threads.

@@ -4,6 +4,8 @@
 //!   from one arming to the next.
 //! - `walk` reads a script from standard input and runs it as `callout steps` does, without a report. `walk read` only reads
 //!   it, so that the difference is the run.
+//! - `world` reads a script and steps its world by its turns and then by round robin. A step that is refused memory is made
+//!   again; it counts those steps too.
 //! - `service WHAT WHERE THREADS CALLS` lets threads call one running service, each its own callouts. WHAT is `service`, in
 //!   which each thread resets and stops its callouts in turn, CALLS of each, or `mutex`, in which it adds as often to a
 //!   counter behind a lock. WHERE is `apart`, each thread at a CPU or a lock of its own, or `one`, all at the same.
@@ -22,17 +24,21 @@ mod tasks;
 mod walk;
 mod words;
 mod work;
+mod world;
 
 use crate::failed::Failed;
 use crate::tasks::text_of;
 use co_io::{FileSink, FileSource, Sink, write_all};
 use std::env::{self, Env};
+use std::io::ErrorKind;
 use std::process::ExitCode;
 
-/// The words after the program's name.
+/// The words after the program's name. They are none where one of them is not UTF-8.
 fn arguments(rt: &(impl Env + AllocGlobal)) -> Result<Vec<String>, Failed> {
-    let Ok(args) = env::args(rt) else {
-        return Err(Failed::Words);
+    let args = match env::args(rt) {
+        Ok(args) => args,
+        Err(error) if error.kind() == ErrorKind::InvalidData => return Err(Failed::Words),
+        Err(_) => return Err(Failed::NoMemory),
     };
     let mut words = Vec::new(rt.alloc());
     for word in args.skip(1) {

@@ -7,7 +7,7 @@ use crate::failed::Failed;
 use crate::queues::{self, Kind};
 use crate::words::{buckets_of, count_of, kind_of, number_of, time_of, where_of};
 use crate::work::{Where, Work};
-use crate::{counter, hammer, input, lines, walk};
+use crate::{counter, hammer, input, lines, walk, world};
 use co_io::Source;
 use co_program::Script;
 use co_sbt::{Sbt, Seq};
@@ -49,6 +49,18 @@ fn measure_walk(alloc: Global, page: &mut Page, script: &Script) -> Result<(), F
     requires { IsScript script.now }
 {
     Ok(lines::notes(page, walk::walk(alloc, script)?)?)
+}
+
+/// The steps of a script's world.
+fn measure_world<R: Wait>(
+    rt: &R,
+    alloc: Global,
+    page: &mut Page,
+    script: &Script,
+) -> Result<(), Failed>
+    requires { IsScript script.now }
+{
+    Ok(lines::world(page, &world::walk(rt, alloc, script)?)?)
 }
 
 /// A run of threads: of calls, or where `what` is `mutex` of counters.
@@ -99,6 +111,7 @@ fn measure_all<R: Threads + Wait + Sync>(
     measure_briefly(alloc, page, Kind::List)?;
     measure_briefly(alloc, page, Kind::Wheel)?;
     measure_walk(alloc, page, script)?;
+    measure_world(rt, alloc, page, script)?;
     for at in [Where::Apart, Where::One] {
         let work = Work {
             at,
@@ -111,6 +124,63 @@ fn measure_all<R: Threads + Wait + Sync>(
     Ok(())
 }
 
+/// Measures the walk of the source's script, or its steps where `stepped`.
+fn measure_source<S: Source, R: Wait>(
+    rt: &R,
+    alloc: Global,
+    source: &mut S,
+    page: &mut Page,
+    stepped: bool,
+) -> Result<(), Failed> {
+    let script = input::read(alloc, source)?;
+    if stepped {
+        measure_world(rt, alloc, page, &script)
+    } else {
+        measure_walk(alloc, page, &script)
+    }
+}
+
+/// Reads the source's script and no more.
+fn measure_reading<S: Source>(
+    alloc: Global,
+    source: &mut S,
+    page: &mut Page,
+) -> Result<(), Failed> {
+    let script = input::read(alloc, source)?;
+    lines::timers(page, script.timers.as_slice().len() as u64)?;
+    Ok(())
+}
+
+/// Runs what a word and those after it ask for.
+fn measure<S: Source, R: Threads + Wait + Sync>(
+    rt: &R,
+    alloc: Global,
+    source: &mut S,
+    page: &mut Page,
+    what: &str,
+    others: &[String],
+) -> Result<(), Failed> {
+    match (what, others) {
+        ("queues", _) => measure_queue(alloc, page, others),
+        ("service", _) => measure_service(rt, alloc, page, others),
+        ("walk", []) => measure_source(rt, alloc, source, page, false),
+        ("walk", [_]) => measure_reading(alloc, source, page),
+        ("world", []) => measure_source(rt, alloc, source, page, true),
+        _ => Err(Failed::Words),
+    }
+}
+
+/// Runs all briefly, on the source's script.
+fn measure_script<S: Source, R: Threads + Wait + Sync>(
+    rt: &R,
+    alloc: Global,
+    source: &mut S,
+    page: &mut Page,
+) -> Result<(), Failed> {
+    let script = input::read(alloc, source)?;
+    measure_all(rt, alloc, page, &script)
+}
+
 /// Runs what the words ask for, on the script of the source where it takes one. The answer is the text of what was counted.
 pub fn text_of<S: Source, R: Threads + Wait + Sync>(
     rt: &R,
@@ -120,17 +190,8 @@ pub fn text_of<S: Source, R: Threads + Wait + Sync>(
 ) -> Result<Seq<u8>, Failed> {
     let mut page = Page::new(alloc);
     match words.split_first() {
-        None => measure_all(rt, alloc, &mut page, &input::read(alloc, source)?)?,
-        Some((what, others)) => match (what.as_str(), others) {
-            ("queues", _) => measure_queue(alloc, &mut page, others)?,
-            ("service", _) => measure_service(rt, alloc, &mut page, others)?,
-            ("walk", []) => measure_walk(alloc, &mut page, &input::read(alloc, source)?)?,
-            ("walk", [_]) => {
-                let script = input::read(alloc, source)?;
-                lines::timers(&mut page, script.timers.as_slice().len() as u64)?;
-            }
-            _ => return Err(Failed::Words),
-        },
+        None => measure_script(rt, alloc, source, &mut page)?,
+        Some((what, others)) => measure(rt, alloc, source, &mut page, what.as_str(), others)?,
     }
     Ok(page.done())
 }

@@ -1,0 +1,38 @@
+-- A service for threads is within the limits.
+use Rattle.std.proofs.Common.{◌≡◌, ℕ, zero, suc, ◌*◌, ◌≤◌, List, [], ◌∷◌, length, refl, sym, subst, arith, inl}
+use Rattle.std.specs.Prelude.{slice_index_or}
+use Rattle.std.specs.List.{All}
+use Rattle.std.proofs.lemmas.List.Elements.{All-weaker, All-head, All-tail}
+use Rattle.co_object.specs.declared.spec.Spec.{Spec}
+use Rattle.co_object.specs.declared.spec.LockUse.TheVariants.{Free}
+use Rattle.co_service.specs.declared.params.Params.{Params}
+use Rattle.co_service.specs.Params.{AreParams, IsSpec, no_spec}
+use Rattle.callout_bench.specs.declared.work.Work.{Work}
+use Rattle.callout_bench.specs.Team.{IsPlain, IsTeam}
+
+abbrev team : Work → List Spec → Params
+team work specs = record { version = 1; clients = work.threads; cpus = work.threads; buckets = 16; specs = specs }
+
+pub team_params : (work : Work) (specs : List Spec) → (1 ≤ work.threads) × (work.threads ≤ 16) → length specs ≡ work.threads * 16 → All IsPlain specs → AreParams (team work specs)
+team_params work specs some size plain = record {
+  version = inl refl;
+  clients = some.1;
+  cpus = some;
+  buckets = (omega arith, omega arith, (4, refl));
+  size = (let (least, most) = some in (omega arith, omega arith));
+  specs = All-weaker IsPlain (IsSpec 1) (λ spec is. is.allowed) specs plain;
+}
+
+plain_free : (specs : List Spec) (i : ℕ) → All IsPlain specs → (slice_index_or specs i no_spec).lock ≡ Free
+plain_free [] i plain = refl
+plain_free (x ∷ xs) zero plain = (All-head IsPlain x xs plain).lock
+plain_free (x ∷ xs) (suc i) plain = plain_free xs i (All-tail IsPlain x xs plain)
+
+pub team_is : (work : Work) (p : Params) (specs : List Spec) → length specs ≡ work.threads * 16 → All IsPlain specs → p ≡ team work specs → IsTeam work p
+team_is work p specs size plain e = subst (IsTeam work) (sym e) (record {
+  version_is = refl;
+  clients = refl;
+  cpus = refl;
+  size = size;
+  free = λ i. plain_free specs i plain;
+})

@@ -1,0 +1,174 @@
+//! Many clients reset, stop and move the same callouts, beside CPUs that service them.
+use super::running::{count_timers, notes_of, run_value};
+use super::waits::comes_to;
+use co_hand::Gate;
+use co_object::{Lists, LockUse, Spec};
+use co_program::{Act, Acts, Script, When, Where, Who};
+use co_sbt::{NoMemory, Sbt, Seq};
+use std::alloc::Global;
+use std::process::Abort;
+use std::sync::atomic::{AtomicU64, Ordering};
+use std::test::Fail;
+
+const CLIENTS: u32 = 8;
+
+const CPUS: u32 = 4;
+
+const CALLOUTS: u32 = 64;
+
+/// How many acts a client makes.
+const ACTS: u64 = 3000;
+
+/// How many acts the clients make from one tick of a CPU to the next.
+const BETWEEN: u64 = 80;
+
+/// How many acts lie at most between an arming and its time.
+const SPAN: u64 = 128;
+
+/// The units that go by from one act of the clients to the next: a sixteenth of a bucket.
+const UNITS: u64 = 0x10_0000;
+
+/// The time after so many acts of the clients.
+fn time_after(acts: u64) -> Sbt {
+    Sbt::new(acts.saturating_mul(UNITS)).unwrap_or(Sbt::zero())
+}
+
+/// The next number of a linear congruence modulo 2^64.
+fn next_draw(draw: u64) -> u64 {
+    draw.wrapping_mul(6364136223846793005)
+        .wrapping_add(1442695040888963407)
+}
+
+/// A client's act of this number: in turn a reset where the callout is, a stop, and a reset at the CPU that is drawn.
+fn choose(number: u64, draw: u64) -> Act {
+    let who = Who::Timer((draw >> 33) as u32 % CALLOUTS);
+    let begun = number.saturating_mul(u64::from(CLIENTS));
+    let cpu = match number % 3 {
+        0 => Where::Home,
+        1 => return Act::Stop(who),
+        _ => Where::Cpu((draw >> 43) as u32 % CPUS),
+    };
+    Act::Reset {
+        who,
+        when: When::At(time_after(begun.saturating_add(draw / 1024 % SPAN))),
+        func: 0,
+        arg: draw,
+        cpu,
+        prec: Sbt::zero(),
+    }
+}
+
+/// Adds an act to a program.
+fn add(acts: &mut Acts, act: Act) -> Result<(), NoMemory> {
+    // The check has to be told of the types of an act's parts.
+    let _parts: (Option<Who>, Option<When>, Option<Where>) = (None, None, None);
+    acts.push(act)
+}
+
+/// A client's program.
+fn acts_of(alloc: Global, client: u32) -> Result<Acts, NoMemory> {
+    let mut acts = Seq::new(alloc);
+    let mut draw = u64::from(client);
+    for number in 0..ACTS {
+        draw = next_draw(draw);
+        add(&mut acts, choose(number, draw))?;
+    }
+    Ok(acts)
+}
+
+/// A CPU's ticks: one whenever the clients have made some acts more, up to all.
+fn ticks(alloc: Global) -> Result<Acts, NoMemory> {
+    let mut acts = Seq::new(alloc);
+    let all = ACTS.saturating_mul(u64::from(CLIENTS));
+    for tick in 0..=all / BETWEEN {
+        add(
+            &mut acts,
+            Act::Tick(time_after(tick.saturating_mul(BETWEEN))),
+        )?;
+    }
+    Ok(acts)
+}
+
+/// Callouts without locks.
+fn timers(alloc: Global) -> Result<Seq<Spec>, NoMemory> {
+    let mut specs = Seq::new(alloc);
+    for _ in 0..CALLOUTS {
+        specs.push(Spec {
+            lock: LockUse::Free,
+            returns_unlocked: false,
+            direct: false,
+        })?;
+    }
+    Ok(specs)
+}
+
+/// The clients' programs, and those of the CPUs.
+fn programs(alloc: Global) -> Result<(Seq<Acts>, Seq<Acts>), NoMemory> {
+    let mut clients = Seq::new(alloc);
+    for client in 0..CLIENTS {
+        clients.push(acts_of(alloc, client)?)?;
+    }
+    let mut cpus = Seq::new(alloc);
+    for _ in 0..CPUS {
+        cpus.push(ticks(alloc)?)?;
+    }
+    Ok((clients, cpus))
+}
+
+/// The crowd's script.
+fn script(alloc: Global) -> Result<Script, NoMemory> {
+    let (clients, ticks) = programs(alloc)?;
+    let mut funcs = Seq::new(alloc);
+    funcs.push(Seq::new(alloc))?;
+    Ok(Script {
+        version: 1,
+        hz: 1000,
+        cpus: CPUS,
+        buckets: 16,
+        locks: Seq::new(alloc),
+        timers: timers(alloc)?,
+        funcs,
+        clients,
+        ticks,
+        turns: Seq::new(alloc),
+    })
+}
+
+/// A gate at which a CPU's tick waits until the clients have come as far.
+#[derive(Drop)]
+struct Pace {
+    /// How many acts of clients were announced.
+    acts: AtomicU64,
+    /// How many waits gave up.
+    faults: AtomicU64,
+}
+
+impl Gate for Pace {
+    fn at(&self, actor: u32, act: u64) {
+        if actor < CLIENTS {
+            self.acts.fetch_add(1, Ordering::SeqCst);
+        } else if !comes_to(&self.acts, act.saturating_mul(BETWEEN)) {
+            self.faults.fetch_add(1, Ordering::SeqCst);
+        }
+    }
+}
+
+/// Each client's calls are answered once.
+fn have_their_calls<R: Abort>(rt: &R, lists: &Lists) {
+    for client in 0..CLIENTS as usize {
+        assert_eq!(rt; count_timers(notes_of(rt, lists, client)), ACTS as usize);
+    }
+}
+
+#[test]
+fn eight_clients_and_four_cpus(rt: HostRuntime) -> Result<(), Fail> {
+    let script = script(rt.alloc())?;
+    let gate = Pace {
+        acts: AtomicU64::new(0),
+        faults: AtomicU64::new(0),
+    };
+    let lists = run_value(&rt, rt.alloc(), &script, &gate)?;
+    assert_eq!(rt; gate.faults.load(Ordering::SeqCst), 0);
+    have_their_calls(&rt, &lists);
+    Ok(())
+}

@@ -1,0 +1,238 @@
+//! The functions of a script, run through ports over one service, each on a thread of its own.
+ghost use Rattle.std.specs.Prelude.{◌≡◌, ◌<◌, ◌≤◌, length};
+ghost use Rattle.co_program.specs.Actors.{acts_at};
+ghost use Rattle.co_program.specs.Scripts.{IsScript};
+ghost use Rattle.co_service.specs.Booted.{AreBooted};
+ghost use Rattle.co_service.specs.Views.{AreOf};
+ghost use Rattle.run_cases.specs.Scenes.{two_clients};
+ghost use denote.Param.Send.{IsSync};
+
+use super::running::script_of;
+use super::scene::{SPECS, boot, leave_clients};
+use super::waits::{Waits, nothing_told};
+use co_hand::{Fire, FuncTable, Handler, PortCall, PortReply};
+use co_object::{PlainOp, Reply};
+use co_program::Script;
+use co_run::ServicePort;
+use co_sbt::{NoMemory, Sbt, Seq};
+use co_service::{Fresh, Name, Passes, Service};
+use std::alloc::Global;
+use std::marker::Brand;
+use std::process::Abort;
+use std::sync::Wait;
+use std::test::Fail;
+use std::thread::{Threads, join};
+
+/// Two functions over two callouts.
+const FUNCTIONS: &str = "callout 1
+cpus 3
+funcs 2
+timer 0 mpsafe
+timer 1 mpsafe
+func 0
+reset me +1 f0 a7
+pending me
+stop me
+func 1
+reset 1 =3 f1 a8 cpu here
+active 1
+stop 1
+";
+
+/// The most acts of a function.
+const MOST_ACTS: u32 = 65536;
+
+/// The service of callout `i` at one second, in which the function of this number runs.
+fn fire(i: u32, cpu: u32) -> Fire
+    ensures i { result.i ≡ i }
+    ensures cpu { result.cpu ≡ cpu }
+    ensures func { result.func ≡ i }
+{
+    Fire {
+        i,
+        n: 0,
+        func: i,
+        arg: 0,
+        cpu,
+        at: Sbt::from_ticks(1, 1),
+    }
+}
+
+/// The calls of a function, which runs in the service of callout `i`.
+fn calls_of<N: Name, R: Wait + Sync>(
+    rt: &R,
+    alloc: Global,
+    script: &Script,
+    service: &Service<N>,
+    gate: &Waits<'_>,
+    passes: Passes,
+    i: u32,
+) -> Result<Seq<PortCall>, NoMemory>
+    requires script { IsScript script.now }
+    requires callouts { length script.now.timers ≡ 2 }
+    requires cpus { script.now.cpus ≡ 3 }
+    requires scene { service.now ≡ two_clients }
+    requires passes { AreOf N.name service.now passes }
+    requires callout { i < 2 }
+{
+    let mut table = FuncTable::new(alloc, script)?;
+    let mut port = ServicePort::new(rt, alloc, gate, service, &SPECS, passes, 0, MOST_ACTS)?;
+    table.run(&fire(i, 2), None, &mut port);
+    Ok(port.into_parts().1)
+}
+
+/// What both functions' calls are answered.
+type Both = (
+    Result<Seq<PortCall>, NoMemory>,
+    Result<Seq<PortCall>, NoMemory>,
+);
+
+/// The calls of both functions, each in a thread of its own.
+fn calls_of_both<N: Name + Send + Sync, R: Threads + Wait + Sync>(
+    rt: &R,
+    alloc: Global,
+    script: &Script,
+    gate: &Waits<'_>,
+    service: &Service<N>,
+    one: Passes,
+    other: Passes,
+) -> Both
+    requires script { IsScript script.now }
+    requires callouts { length script.now.timers ≡ 2 }
+    requires cpus { script.now.cpus ≡ 3 }
+    requires scene { service.now ≡ two_clients }
+    requires one { AreOf N.name service.now one }
+    requires other { AreOf N.name service.now other }
+{
+    join(
+        rt,
+        || -> Result<Seq<PortCall>, NoMemory>
+            requires { IsSync R.row × IsScript script.now × (length script.now.timers ≡ 2) × (script.now.cpus ≡ 3) × (service.now ≡ two_clients) × AreOf N.name service.now one }
+        { calls_of(rt, alloc, script, service, gate, one, 0) },
+        || -> Result<Seq<PortCall>, NoMemory>
+            requires { IsSync R.row × IsScript script.now × (length script.now.timers ≡ 2) × (script.now.cpus ≡ 3) × (service.now ≡ two_clients) × AreOf N.name service.now other }
+        { calls_of(rt, alloc, script, service, gate, other, 1) },
+    )
+}
+
+/// Opens the service, and runs both functions on it.
+fn run_both<N: Name + Send + Sync, R: Threads + Wait + Sync>(
+    rt: &R,
+    alloc: Global,
+    script: &Script,
+    gate: &Waits<'_>,
+    fresh: Fresh,
+    passes: Seq<Passes>,
+) -> Result<(Seq<PortCall>, Seq<PortCall>), NoMemory>
+    requires script { IsScript script.now }
+    requires callouts { length script.now.timers ≡ 2 }
+    requires cpus { script.now.cpus ≡ 3 }
+    requires name { fresh.name ≡ N.name }
+    requires scene { fresh.params ≡ two_clients }
+    requires passes { AreBooted fresh.name fresh.params passes }
+{
+    let service = Service::<N>::open(alloc, fresh)?;
+    let (one, other) = leave_clients(&service, passes);
+    let (first, second) = calls_of_both(rt, alloc, script, gate, &service, one, other);
+    Ok((first?, second?))
+}
+
+/// A reset of function `i` to a time in seconds, at this CPU or at home.
+fn reset(seconds: i32, i: u32, arg: u64, cpu: Option<u32>) -> PlainOp {
+    PlainOp::Reset {
+        due: Sbt::from_ticks(seconds, 1),
+        prec: Sbt::zero(),
+        func: i,
+        arg,
+        cpu,
+    }
+}
+
+/// A call on callout `i` with this answer.
+fn call(i: u32, op: PlainOp, reply: Reply) -> PortCall {
+    PortCall {
+        i,
+        op,
+        answer: PortReply::Reply(reply),
+    }
+}
+
+/// An arming at a CPU.
+fn armed(cpu: u32) -> Reply {
+    Reply::Armed {
+        code: 0,
+        n: 0,
+        cpu,
+        off: None,
+    }
+}
+
+/// A stop that takes the arming away from a CPU.
+fn stopped(cpu: u32) -> Reply {
+    Reply::Stopped {
+        code: 1,
+        off: Some(cpu),
+    }
+}
+
+/// The calls of the first function.
+fn are_first<R: Abort>(rt: &R, calls: &Seq<PortCall>) {
+    let wanted = [
+        call(0, reset(2, 0, 7, None), armed(0)),
+        call(0, PlainOp::Pending, Reply::Yes),
+        call(0, PlainOp::Stop, stopped(0)),
+    ];
+    assert_eq!(rt; calls.as_slice(), wanted.as_slice());
+}
+
+/// The calls of the second function.
+fn are_second<R: Abort>(rt: &R, calls: &Seq<PortCall>) {
+    let wanted = [
+        call(1, reset(3, 1, 8, Some(2)), armed(2)),
+        call(1, PlainOp::Active, Reply::Yes),
+        call(1, PlainOp::Stop, stopped(2)),
+    ];
+    assert_eq!(rt; calls.as_slice(), wanted.as_slice());
+}
+
+/// Runs both functions on a service that is booted for them, and judges their calls.
+fn run_functions<R: Threads + Wait + Sync + Abort>(
+    rt: &R,
+    alloc: Global,
+    script: &Script,
+    gate: &Waits<'_>,
+) -> Result<(), NoMemory>
+    requires script { IsScript script.now }
+    requires callouts { length script.now.timers ≡ 2 }
+    requires cpus { script.now.cpus ≡ 3 }
+{
+    let (fresh, passes) = boot(alloc)?;
+    let (first, second) = run_both::<Brand, _>(rt, alloc, script, gate, fresh, passes)?;
+    are_first(rt, &first);
+    are_second(rt, &second);
+    Ok(())
+}
+
+/// Runs both functions. Each announces its acts.
+fn run_through_ports<R: Threads + Wait + Sync + Abort>(
+    rt: &R,
+    alloc: Global,
+    script: &Script,
+) -> Result<(), NoMemory>
+    requires { IsScript script.now }
+{
+    assert_eq!(rt; script.timers.as_slice().len(), 2);
+    assert_eq!(rt; script.cpus, 3);
+    let told = nothing_told(alloc, 2)?;
+    let gate = Waits::new(&[], told.as_slice());
+    run_functions(rt, alloc, script, &gate)?;
+    gate.check(rt, &[3, 3]);
+    Ok(())
+}
+
+#[test]
+fn functions_call_through_ports(rt: HostRuntime) -> Result<(), Fail> {
+    let script = script_of(rt.alloc(), FUNCTIONS.as_bytes())?;
+    run_through_ports(&rt, rt.alloc(), &script)?;
+    Ok(())
+}
