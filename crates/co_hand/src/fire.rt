@@ -2,7 +2,7 @@
 use co_sbt::Sbt;
 
 /// The service of a callout, in which its function is to run, or the function of an asynchronous drain.
-#[derive(Clone, Copy)]
+#[derive(Clone, Copy, Debug, PartialEq, Eq)]
 pub struct Fire {
     /// The callout.
     pub i: u32,

@@ -14,7 +14,7 @@ use crate::{CallOp, PlainOp, Reply, RunOp, Spec};
 use co_sbt::Sbt;
 
 /// An accepted reset or schedule, whose function is to be called.
-#[derive(Clone, Copy)]
+#[derive(Clone, Copy, Debug, PartialEq, Eq)]
 pub struct Arming {
     /// Its number: the callout's accepted armings are counted from 0.
     pub n: u64,
@@ -31,7 +31,7 @@ pub struct Arming {
 }
 
 /// What a CPU's service is doing with a callout.
-#[derive(Clone, Copy)]
+#[derive(Clone, Copy, Debug, PartialEq, Eq)]
 pub enum Run {
     /// No service has it.
     Idle,
@@ -44,7 +44,7 @@ pub enum Run {
 }
 
 /// What a callout alone is between two operations. That a callout has all of this, and no more, is our own decision.
-#[derive(Clone, Copy)]
+#[derive(Clone, Copy, Debug, PartialEq, Eq)]
 pub struct State {
     /// It is in use, and not retired.
     pub live: bool,
