@@ -21,12 +21,8 @@ fn script_of(alloc: Global, text: &[u8]) -> Result<Script, ScriptFault>
 }
 
 /// A client arms the callout for the other CPU, and another stops it.
-fn in_transit(alloc: Global) -> Result<Script, ScriptFault>
-    ensures { IfOk result IsScript }
-{
-    script_of(
-        alloc,
-        b"callout 1
+fn in_transit_text() -> &'static [u8] {
+    b"callout 1
 cpus 2
 funcs 1
 timer 0 mpsafe
@@ -35,6 +31,12 @@ reset 0 =1 f0 a0 cpu 1
 client 1
 stop 0
 "
-            .as_slice(),
-    )
+        .as_slice()
+}
+
+/// That script.
+fn in_transit(alloc: Global) -> Result<Script, ScriptFault>
+    ensures { IfOk result IsScript }
+{
+    script_of(alloc, in_transit_text())
 }

@@ -1,24 +1,20 @@
 //! Worlds of worked scripts, stepped by hand.
-ghost use Rattle.std.specs.Prelude.{◌≡◌, IfOk};
+ghost use Rattle.std.specs.Prelude.{◌≡◌};
 ghost use Rattle.co_program.specs.Scripts.{IsScript};
 
-use super::{in_transit, script_of};
+use super::{in_transit_text, script_of};
 use co_core::{Turn, Why, World};
 use co_object::{AnyEntry, CallOp, Entry, Note, Op, Place, PlainOp, QEntry, QOp, QReply, Reply};
 use co_program::{Script, actor_count};
-use co_sbt::NoMemory;
+use co_sbt::{NoMemory, Seq};
 use co_text::ScriptFault;
 use std::alloc::Global;
 use std::process::Abort;
 use std::test::Fail;
 
 /// A client arms the callout under its lock and stops it while the CPU's service waits for the lock.
-fn cancelled(alloc: Global) -> Result<Script, ScriptFault>
-    ensures { IfOk result IsScript }
-{
-    script_of(
-        alloc,
-        b"callout 1
+fn cancelled() -> &'static [u8] {
+    b"callout 1
 funcs 1
 lock 0 mtx
 timer 0 mtx 0
@@ -29,17 +25,12 @@ stop 0
 cpu 0
 tick 1
 "
-            .as_slice(),
-    )
+        .as_slice()
 }
 
 /// A client drains the callout while it is serviced, and another tries to arm it meanwhile.
-fn drained(alloc: Global) -> Result<Script, ScriptFault>
-    ensures { IfOk result IsScript }
-{
-    script_of(
-        alloc,
-        b"callout 1
+fn drained() -> &'static [u8] {
+    b"callout 1
 funcs 1
 timer 0 mpsafe
 client 0
@@ -51,17 +42,12 @@ reset 0 =2 f0 a1
 cpu 0
 tick 1
 "
-            .as_slice(),
-    )
+        .as_slice()
 }
 
 /// A client drains the callout while its service waits for the lock that another client has taken.
-fn drain_behind_cancelled(alloc: Global) -> Result<Script, ScriptFault>
-    ensures { IfOk result IsScript }
-{
-    script_of(
-        alloc,
-        b"callout 1
+fn drain_behind_cancelled() -> &'static [u8] {
+    b"callout 1
 funcs 1
 lock 0 mtx
 timer 0 mtx 0
@@ -76,17 +62,12 @@ stop 0
 cpu 0
 tick 1
 "
-            .as_slice(),
-    )
+        .as_slice()
 }
 
 /// A direct callout and another one, which the CPU services only after its interrupt's tick.
-fn soft_before_tick(alloc: Global) -> Result<Script, ScriptFault>
-    ensures { IfOk result IsScript }
-{
-    script_of(
-        alloc,
-        b"callout 2
+fn soft_before_tick() -> &'static [u8] {
+    b"callout 2
 funcs 1
 timer 0 mpsafe direct
 timer 1 mpsafe
@@ -96,22 +77,7 @@ reset 1 =1 f0 a1
 cpu 0
 tick 1
 "
-            .as_slice(),
-    )
-}
-
-/// The world of a script after its actors have stepped in this order, with these answers.
-fn walked<'s>(
-    rt: &impl Abort,
-    alloc: Global,
-    script: &'s Script,
-    turns: &[(u32, Turn)],
-) -> Result<World<'s>, NoMemory>
-    requires { IsScript script.now }
-{
-    let mut world = World::boot(alloc, script)?;
-    steps(rt, script, &mut world, turns);
-    Ok(world)
+        .as_slice()
 }
 
 /// The actors step in this order, with these answers.
@@ -125,11 +91,50 @@ fn steps(rt: &impl Abort, script: &Script, world: &mut World, turns: &[(u32, Tur
     }
 }
 
-/// The notes of an actor.
-fn notes_of<'w>(rt: &impl Abort, world: &'w World<'_>, actor: usize) -> &'w [Note] {
-    let lists = world.lists();
-    assert!(rt; actor < lists.as_slice().len());
-    lists.as_slice()[actor].as_slice()
+/// The notes of an actor in that world.
+fn copied_notes(alloc: Global, world: &World<'_>, actor: usize) -> Result<Seq<Note>, NoMemory> {
+    match world.lists().as_slice().get(actor) {
+        Some(list) => Seq::copy_of(alloc, list.as_slice()),
+        None => Ok(Seq::new(alloc)),
+    }
+}
+
+/// The notes of an actor after the script's actors have stepped in this order, with these answers.
+fn notes_after(
+    rt: &impl Abort,
+    alloc: Global,
+    script: &Script,
+    turns: &[(u32, Turn)],
+    actor: usize,
+) -> Result<Seq<Note>, NoMemory>
+    requires { IsScript script.now }
+{
+    let mut world = World::boot(alloc, script)?;
+    steps(rt, script, &mut world, turns);
+    copied_notes(alloc, &world, actor)
+}
+
+/// The same of the script that a text stands for.
+fn notes_of(
+    rt: &impl Abort,
+    alloc: Global,
+    text: &[u8],
+    turns: &[(u32, Turn)],
+    actor: usize,
+) -> Result<Seq<Note>, ScriptFault> {
+    let script = script_of(alloc, text)?;
+    match notes_after(rt, alloc, &script, turns, actor) {
+        Ok(notes) => Ok(notes),
+        Err(_) => Err(ScriptFault::NoMemory),
+    }
+}
+
+/// Whether so many notes are there, and this is the one behind the first `at`.
+fn is_at(notes: &Seq<Note>, count: usize, at: usize, note: &Note) -> bool {
+    match notes.as_slice().get(at) {
+        Some(found) => notes.as_slice().len() == count && *found == *note,
+        None => false,
+    }
 }
 
 /// A stop of callout 0.
@@ -180,12 +185,10 @@ const CANCELLED: [(u32, Turn); 15] = [
 
 #[test]
 fn cancelled_while_it_waits(rt: HostRuntime) -> Result<(), Fail> {
-    let script = cancelled(rt.alloc())?;
-    let world = walked(&rt, rt.alloc(), &script, &CANCELLED)?;
-    let client = notes_of(&rt, &world, 0);
-    assert!(rt; client.len() == 3);
-    assert!(rt; client[2] == stopped(0, 2, 2, None));
-    assert!(rt; notes_of(&rt, &world, 1).len() == 7);
+    let client = notes_of(&rt, rt.alloc(), cancelled(), &CANCELLED, 0)?;
+    assert!(rt; is_at(&client, 3, 2, &stopped(0, 2, 2, None)));
+    let cpu = notes_of(&rt, rt.alloc(), cancelled(), &CANCELLED, 1)?;
+    assert!(rt; cpu.as_slice().len() == 7);
     Ok(())
 }
 
@@ -216,13 +219,11 @@ fn removed() -> Note {
 
 #[test]
 fn moving(rt: HostRuntime) -> Result<(), Fail> {
-    let script = in_transit(rt.alloc())?;
-    let world = walked(&rt, rt.alloc(), &script, &MOVING)?;
-    assert!(rt; notes_of(&rt, &world, 0).len() == 2);
-    let second = notes_of(&rt, &world, 1);
-    assert!(rt; second.len() == 2);
-    assert!(rt; second[0] == removed());
-    assert!(rt; second[1] == stopped(1, 0, 1, Some(1)));
+    let first = notes_of(&rt, rt.alloc(), in_transit_text(), &MOVING, 0)?;
+    assert!(rt; first.as_slice().len() == 2);
+    let second = notes_of(&rt, rt.alloc(), in_transit_text(), &MOVING, 1)?;
+    assert!(rt; is_at(&second, 2, 0, &removed()));
+    assert!(rt; is_at(&second, 2, 1, &stopped(1, 0, 1, Some(1))));
     Ok(())
 }
 
@@ -257,12 +258,9 @@ const IS_OVER: Reply = Reply::Drained {
 
 #[test]
 fn drain_against_reset(rt: HostRuntime) -> Result<(), Fail> {
-    let script = drained(rt.alloc())?;
-    let world = walked(&rt, rt.alloc(), &script, &DRAINED)?;
-    let client = notes_of(&rt, &world, 0);
-    assert!(rt; client.len() == 6);
-    assert!(rt; client[2] == tried(2, WAITS));
-    assert!(rt; client[3] == tried(5, IS_OVER));
+    let client = notes_of(&rt, rt.alloc(), drained(), &DRAINED, 0)?;
+    assert!(rt; is_at(&client, 6, 2, &tried(2, WAITS)));
+    assert!(rt; is_at(&client, 6, 3, &tried(5, IS_OVER)));
     Ok(())
 }
 
@@ -279,8 +277,13 @@ const BEHIND_CANCELLED: [(u32, Turn); 8] = [
 
 #[test]
 fn drain_behind_a_cancelled_call(rt: HostRuntime) -> Result<(), Fail> {
-    let script = drain_behind_cancelled(rt.alloc())?;
-    walked(&rt, rt.alloc(), &script, &BEHIND_CANCELLED)?;
+    notes_of(
+        &rt,
+        rt.alloc(),
+        drain_behind_cancelled(),
+        &BEHIND_CANCELLED,
+        0,
+    )?;
     Ok(())
 }
 
@@ -288,7 +291,6 @@ const SOFT_FIRST: [(u32, Turn); 1] = [(1, Turn::Blocked(Why::Tick(0)))];
 
 #[test]
 fn soft_before_its_tick(rt: HostRuntime) -> Result<(), Fail> {
-    let script = soft_before_tick(rt.alloc())?;
-    walked(&rt, rt.alloc(), &script, &SOFT_FIRST)?;
+    notes_of(&rt, rt.alloc(), soft_before_tick(), &SOFT_FIRST, 0)?;
     Ok(())
 }
