@@ -5,7 +5,7 @@ use Rattle.co_program.specs.Actors.{actor_count}
 use Rattle.co_service.specs.Views.{PassesView}
 use Rattle.co_run.specs.Acting.{params_of}
 use Rattle.co_run.specs.Jobs.{AreEmpty, AreFirst}
-use Rattle.co_run.proofs.Dealing.{empty_front, empty_last, first_front, first_last}
+use Rattle.co_run.proofs.groups.Deals.{empty_front, empty_last, first_front, first_last}
 use Rattle.co_run.proofs.jobs.leave_last.Goals as goal
 
 pub returns : goal.returns
