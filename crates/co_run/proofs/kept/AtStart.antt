@@ -4,7 +4,6 @@ use Rattle.std.proofs.lemmas.Bool.Decides.{nat_tests}
 use Rattle.std.specs.Prelude.{slice_index_or}
 use Rattle.std.specs.List.{AllByRecursion}
 use Rattle.std.proofs.lemmas.List.{length-map}
-use Rattle.co_object.specs.declared.AnyEntry.{AnyEntry}
 use Rattle.co_object.specs.declared.AnyEntry.TheVariants as of
 use Rattle.co_object.specs.declared.note.Entry.{Entry}
 use Rattle.co_object.specs.declared.note.QEntry.{QEntry}
@@ -14,8 +13,7 @@ use Rattle.co_program.specs.declared.Act.{Act}
 use Rattle.co_program.specs.declared.Act.TheVariants.{Tick}
 use Rattle.co_program.specs.declared.Role.{Role}
 use Rattle.co_program.specs.declared.Role.TheVariants.{Client, Cpu, Interrupt}
-use Rattle.co_program.specs.declared.Task.{Task}
-use Rattle.co_program.specs.declared.Task.TheVariants.{Does, Soft}
+use Rattle.co_program.specs.declared.Task.TheVariants.{Does}
 use Rattle.co_program.specs.Actors.{acts_at, actor_count, client_count, program_of, role_of, softs}
 use Rattle.co_program.specs.Cursor.{start_of}
 use Rattle.co_program.specs.Scripts.{IsScript, is_tick}
@@ -28,7 +26,6 @@ use Rattle.co_service.specs.Fresh.{AreNamed}
 use Rattle.co_service.specs.Name.{ServiceName}
 use Rattle.co_service.specs.Params.{actors_of}
 use Rattle.co_service.specs.Services.{IsFree}
-use Rattle.co_service.specs.Serving.{lane_actor}
 use Rattle.co_service.specs.Views.{journal_seen, seen_of}
 use Rattle.co_service.proofs.Lasts.{booted_free}
 use Rattle.co_run.specs.Acting.{HasLocks, IsActing, Serves, TaskLocks, params_of}

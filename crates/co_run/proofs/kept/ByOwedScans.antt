@@ -1,5 +1,5 @@
 -- An interrupt that makes the Scans which it owes has scanned at each tick of its program, and has nothing in service still.
-use Rattle.std.proofs.Common.{◌≡◌, ℕ, ◌+◌, ◌≤◌, ◌-◌, Bool, true, false, List, map, drop, length, sym, ap, refl, subst, ◌∙◌, arith, length-drop}
+use Rattle.std.proofs.Common.{◌≡◌, ℕ, ◌+◌, ◌≤◌, ◌-◌, Bool, true, false, map, drop, length, sym, ap, refl, subst, ◌∙◌, arith, length-drop}
 use Rattle.std.proofs.lemmas.List.{length-map}
 use Rattle.co_object.specs.declared.QEntry.{QEntry}
 use Rattle.co_object.specs.declared.QOp.TheVariants.{Scan}

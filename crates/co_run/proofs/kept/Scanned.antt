@@ -1,6 +1,5 @@
 -- Of what is kept of an interrupt: its CPU's journal has a Scan for each tick that it has begun.
-use Rattle.std.proofs.Common.{◌≡◌, ℕ, ◌+◌, ◌≤◌, Bool, true, false, List, [], ◌∷◌, ◌++◌, map, length, refl, sym, ap, subst, ◌∙◌, Option, Some, None, arith}
-use Rattle.std.specs.List.{AllByRecursion}
+use Rattle.std.proofs.Common.{◌≡◌, ℕ, ◌+◌, ◌≤◌, false, List, [], ◌∷◌, ◌++◌, length, refl, sym, ap, subst, ◌∙◌, None, arith}
 use Rattle.std.proofs.lemmas.List.{length-map}
 use Rattle.co_object.specs.declared.Note.{Note}
 use Rattle.co_object.specs.declared.QEntry.{QEntry}
@@ -9,28 +8,26 @@ use Rattle.co_object.specs.declared.Place.TheVariants as place
 use Rattle.co_object.specs.declared.AnyEntry.TheVariants as entry
 use Rattle.co_object.specs.declared.Op.{Op}
 use Rattle.co_lock.specs.declared.Held.{Held}
-use Rattle.co_program.specs.declared.Act.{Act}
 use Rattle.co_program.specs.declared.Act.TheVariants.{Drain}
 use Rattle.co_program.specs.declared.Script.{Script}
 use Rattle.co_program.specs.declared.Task.{Task}
 use Rattle.co_program.specs.declared.Task.TheVariants.{Does, Soft}
 use Rattle.co_program.specs.declared.Role.{Role}
 use Rattle.co_program.specs.declared.Role.TheVariants.{Client, Cpu, Interrupt}
-use Rattle.co_program.specs.declared.Service.{Service}
-use Rattle.co_program.specs.Stages.{Stage, Ready, Waiting, Popping, Picking, Locking, Beginning, Unlocking, Firing, Releasing, Ending, Freeing, Drained}
+use Rattle.co_program.specs.Stages.{Stage, Ready, Waiting, Popping, Locking, Beginning, Unlocking, Firing, Releasing, Ending, Drained}
 use Rattle.co_program.specs.Cursor.{Cursor}
 use Rattle.co_program.specs.Action.{Action, Silent, Take, firing, draining}
 use Rattle.co_program.specs.Actors.{acts_at, cpu_of, program_of}
 use Rattle.co_program.specs.Advance.{act_over, called, tail_of}
 use Rattle.co_program.specs.Follows.{one_scan, scan_count}
-use Rattle.co_world.proofs.basics.Actions.{IsAction, is_clients, drops, passes, grabs, tells, asks, drains, enters, unlocks, releases}
+use Rattle.co_world.proofs.basics.Actions.{IsAction, drops, passes, grabs, tells, asks, drains, enters, unlocks, releases}
 use Rattle.co_world.proofs.basics.Prefixes.{Begins}
 use Rattle.co_world.proofs.kept.Invariant.{FitsRole, IsTaskOf, under_way}
 use Rattle.co_world.proofs.kept.Stages.{clients_act, first_task}
 use Rattle.co_service.specs.Views.{PassesView, journal_seen}
 use Rattle.co_service.specs.Writes.{Writes, WritesAt}
 use Rattle.co_service.proofs.Items.{index_set}
-use Rattle.co_run.specs.Acting.{HasAllScans, HasScanned}
+use Rattle.co_run.specs.Acting.{HasScanned}
 use Rattle.co_run.proofs.follows.GoesBack.{journals_back}
 use Rattle.co_run.proofs.places.AfterCalls.{IsSpoken, called_kinds}
 

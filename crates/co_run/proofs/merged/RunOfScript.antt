@@ -1,7 +1,7 @@
 -- Where the actors' programs are over and the service is closed, the notes are those of a run of the script.
 use Rattle.std.proofs.Common.{◌≡◌, ℕ, zero, suc, ◌+◌, ◌*◌, ◌^◌, ◌<◌, ◌≤◌, ◌==◌, ◌⊎◌, inl, inr, Bool, true, false, cond, List, [], ◌∷◌, ◌++◌, map, length, refl, sym, ap, subst, ◌∙◌, arith}
 use Rattle.std.specs.Prelude.{Option, Some, None, slice_get, slice_index_or}
-use Rattle.std.specs.List.{AllByRecursion, cons_option, filter, filter_map, find, range_with_len}
+use Rattle.std.specs.List.{AllByRecursion, cons_option, filter_map, find, range_with_len}
 use Rattle.std.specs.Option.{option_map}
 use Rattle.std.proofs.lemmas.Bool.Decides.{nat_tests}
 use Rattle.std.proofs.lemmas.List.{length-map}
@@ -18,7 +18,7 @@ use Rattle.co_object.specs.declared.note.QEntry.{QEntry}
 use Rattle.co_object.specs.declared.queue.QReply.TheVariants.{Missing}
 use Rattle.co_object.specs.History.{IsLegal}
 use Rattle.co_object.specs.Journal.{IsLegalQueue}
-use Rattle.co_object.specs.Lists.{IsWellFormed, all_notes_of, callout_history, count_at, cpu_journal, entry_at, history, notes_of}
+use Rattle.co_object.specs.Lists.{IsWellFormed, all_notes_of, callout_history, cpu_journal, entry_at, notes_of}
 use Rattle.co_program.specs.declared.script.Script.{Script}
 use Rattle.co_program.specs.Action.{Nothing, action_for, spec_at}
 use Rattle.co_program.specs.Actors.{actor_count, client_count}
@@ -40,7 +40,7 @@ use Rattle.co_run.specs.Acting.{params_of}
 use Rattle.co_run.specs.Going.{GoesOn}
 use Rattle.co_run.specs.Over.{AreOver, IsOver}
 use Rattle.co_run.specs.Ran.{shown_cpus, shown_timers}
-use Rattle.co_run.specs.Shown.{IsFound, any_by}
+use Rattle.co_run.specs.Shown.{IsFound}
 use Rattle.co_run.specs.Told.{IsGathered}
 use Rattle.co_run.proofs.merged.FinalPlaces.{all_filter, few_here, gathered_here, gathered_own, shown_here}
 

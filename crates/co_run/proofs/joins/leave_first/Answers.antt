@@ -1,5 +1,5 @@
 -- The jobs are the rest and the last one, which is the first actor's.
-use Rattle.std.proofs.Common.{◌≡◌, ◌+◌, ◌++◌, [], ◌∷◌, List, length, subst, ap, ◌∙◌}
+use Rattle.std.proofs.Common.{◌≡◌, ◌++◌, [], ◌∷◌, subst, ap, ◌∙◌}
 use Rattle.std.specs.Option.{option_to_list}
 use Rattle.co_run.specs.Jobs.{AreJobs, IsGroup}
 use Rattle.co_run.proofs.groups.Joins.{group_first, group_less}

@@ -1,5 +1,5 @@
 -- One Scan more has been seen.
-use Rattle.std.proofs.Common.{◌≡◌, ◌∙◌, arith}
+use Rattle.std.proofs.Common.{◌∙◌, arith}
 use Rattle.co_run.proofs.kept.ByOwedScans.{scan_counts}
 use Rattle.co_run.proofs.refused.scan_all.Goals as goal
 

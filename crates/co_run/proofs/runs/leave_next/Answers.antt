@@ -1,5 +1,5 @@
 -- What they bring back is the rest and the last one, which is the next actor's.
-use Rattle.std.proofs.Common.{◌≡◌, ◌+◌, ◌++◌, [], ◌∷◌, List, subst, ap, ◌∙◌}
+use Rattle.std.proofs.Common.{◌≡◌, ◌++◌, [], ◌∷◌, subst, ap, ◌∙◌}
 use Rattle.std.specs.Option.{option_to_list}
 use Rattle.co_run.specs.Jobs.{HavePlayed, IsGroup}
 use Rattle.co_run.proofs.groups.Joins.{played_first, played_less}
