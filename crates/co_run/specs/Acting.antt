@@ -1,5 +1,5 @@
 -- What is kept of an actor of a run, between two sections.
-use Rattle.std.specs.Prelude.{◌≡◌, ℕ, ◌<◌, Bool, true, false, List, Option, Some, None, length, slice_get}
+use Rattle.std.specs.Prelude.{◌≡◌, ℕ, ◌+◌, ◌<◌, ◌≤◌, Bool, true, false, List, Option, Some, None, length, slice_get}
 use Rattle.std.specs.List.{AllByRecursion}
 use Rattle.co_object.specs.declared.note.Note.{Note}
 use Rattle.co_object.specs.Queue.{Due}
@@ -17,16 +17,16 @@ use Rattle.co_program.specs.declared.cursor.Service.{Service}
 use Rattle.co_program.specs.Actors.{actor_count, acts_at, client_count, role_of}
 use Rattle.co_program.specs.Cursor.{Cursor}
 use Rattle.co_program.specs.Existing.{IsIn}
-use Rattle.co_program.specs.Follows.{Histories}
+use Rattle.co_program.specs.Follows.{Histories, scan_count}
 use Rattle.co_program.specs.Stages.{Stage, Ready, Waiting, Popping, Picking, Locking, Beginning, Unlocking, Firing, Releasing, Ending, Freeing, Drained}
-use Rattle.co_world.proofs.kept.Invariant.{IsBetween}
+use Rattle.co_world.proofs.kept.Invariant.{IsBetween, under_way}
 use Rattle.co_world.proofs.kept.Stages.{Fits}
 use Rattle.co_world.proofs.follows.Traces.{Trace}
 use Rattle.co_service.specs.declared.params.Params.{Params}
 use Rattle.co_service.specs.Name.{ServiceName}
 use Rattle.co_service.specs.Services.{IsFree, IsServing}
 use Rattle.co_service.specs.Serving.{Waits, Runs}
-use Rattle.co_service.specs.Views.{PassesView, AreOf}
+use Rattle.co_service.specs.Views.{PassesView, AreOf, journal_seen}
 use Rattle.co_run.specs.Going.{GoesOn}
 use Rattle.co_run.specs.Shown.{AreShown, AreSized}
 
@@ -86,6 +86,18 @@ Serves (Client k) q stage = Unit {0}
 Serves (Cpu x) q stage = ServesAt false q x stage
 Serves (Interrupt x) q stage = ServesAt true q x stage
 
+-- of an interrupt: its CPU's journal has a Scan for each tick that it has begun
+abbrev pub HasScanned : Script → Role → PassesView → List Task → Stage → Type 0
+HasScanned s (Client k) q left stage = Unit {0}
+HasScanned s (Cpu x) q left stage = Unit {0}
+HasScanned s (Interrupt x) q left stage = length (acts_at s.ticks x) + under_way stage ≤ scan_count (journal_seen q x) + length left
+
+-- and for each tick of its program
+abbrev pub HasAllScans : Script → Role → PassesView → Type 0
+HasAllScans s (Client k) q = Unit {0}
+HasAllScans s (Cpu x) q = Unit {0}
+HasAllScans s (Interrupt x) q = length (acts_at s.ticks x) ≤ scan_count (journal_seen q x)
+
 -- actor a of a service of this name, which has these passes and this hold, is here in its program, and has made these notes
 -- and so many of its own
 pub record IsActing (s : Script) (name : ServiceName) (a : ℕ) (q : PassesView) (c : Cursor) (hold : Option Held) (notes : List Note) (made : ℕ) : Type 0 where
@@ -96,5 +108,6 @@ pub record IsActing (s : Script) (name : ServiceName) (a : ℕ) (q : PassesView)
   pub held : hold ≡ c.hold
   pub place : IsPlaced s a c
   pub serves : Serves (role_of s a) q c.stage
+  pub scanned : HasScanned s (role_of s a) q c.left c.stage
   pub shown : AreShown s a q notes made
   pub leads : (H : Histories) → GoesOn H q → Trace s H a (record { cursor = c; notes = notes })

@@ -1,5 +1,5 @@
 -- What a run on threads brings back.
-use Rattle.std.specs.Prelude.{◌≡◌, ℕ, List, map, length}
+use Rattle.std.specs.Prelude.{◌≡◌, List, map, length}
 use Rattle.std.specs.List.{range_with_len}
 use Rattle.co_object.specs.declared.note.Entry.{Entry}
 use Rattle.co_object.specs.declared.note.Note.{Note}

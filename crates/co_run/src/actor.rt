@@ -35,6 +35,15 @@ pub struct Actor<'a, B: Notebook> {
     pub own: u64,
 }
 
+/// Notes into the room of the book.
+fn put<B: Notebook>(book: &mut B, note: &Note)
+    requires { 1 ≤ B.spare book.old }
+    ensures notes { B.notes book.new ≡ B.notes book.old ++ note.now ∷ [] }
+    ensures spare { B.spare book.new + 1 ≡ B.spare book.old }
+{
+    book.push(*note);
+}
+
 /// There is at least one of the two.
 fn either(note: &Option<Note>, other: &Option<Note>) -> bool
     ensures { result ≡ (is_some note.now || is_some other.now) }
@@ -42,63 +51,66 @@ fn either(note: &Option<Note>, other: &Option<Note>) -> bool
     note.is_some() || other.is_some()
 }
 
-impl<'a, B: Notebook> Actor<'a, B> {
-    /// Notes down one note of a section, and goes on in the program. `more` is whether another note of the section follows.
-    pub(crate) fn tell(&mut self, script: &Script, note: &Note, more: bool)
-        requires script { IsScript script.now }
-        requires room { 1 ≤ B.spare self.old.book }
-        requires count { HasNumbers self.old.cursor (B.notes self.old.book) (B.spare self.old.book) }
-        ensures cursor { (actor : ℕ) → cursor_of script.now actor self.new.cursor ≡ advance script.now (cursor_of script.now actor self.old.cursor) more note.now.place note.now.entry }
-        ensures notes { B.notes self.new.book ≡ B.notes self.old.book ++ note.now ∷ [] }
-        ensures spare { B.spare self.new.book + 1 ≡ B.spare self.old.book }
-        ensures count { HasNumbers self.new.cursor (B.notes self.new.book) (B.spare self.new.book) }
-        ensures passes { self.new.passes ≡ self.old.passes }
-        ensures hold { self.new.hold ≡ self.old.hold }
-        ensures number { self.new.number ≡ self.old.number }
-        ensures own { self.new.own ≡ self.old.own }
-    {
-        let _task = self.cursor.task;
-        self.book.push(*note);
-        advance(script, &mut self.cursor, more, note.place, &note.entry);
-        let _after = self.cursor.task;
-    }
+/// Notes down one note of a section, and goes on in the program. `more` is whether another note of the section follows.
+pub(crate) fn tell<B: Notebook>(
+    script: &Script,
+    cursor: &mut Cursor,
+    book: &mut B,
+    note: &Note,
+    more: bool,
+)
+    requires script { IsScript script.now }
+    requires room { 1 ≤ B.spare book.old }
+    requires count { HasNumbers cursor.old (B.notes book.old) (B.spare book.old) }
+    ensures cursor { (actor : ℕ) → cursor_of script.now actor cursor.new ≡ advance script.now (cursor_of script.now actor cursor.old) more note.now.place note.now.entry }
+    ensures notes { B.notes book.new ≡ B.notes book.old ++ note.now ∷ [] }
+    ensures spare { B.spare book.new + 1 ≡ B.spare book.old }
+    ensures count { HasNumbers cursor.new (B.notes book.new) (B.spare book.new) }
+{
+    let _task = cursor.task;
+    put(book, note);
+    advance(script, cursor, more, note.place, &note.entry);
+    let _after = cursor.task;
+}
 
-    /// Notes down one note of a section, if there is one.
-    fn tell_some(&mut self, script: &Script, note: &Option<Note>, more: bool)
-        requires script { IsScript script.now }
-        requires room { 1 ≤ B.spare self.old.book }
-        requires count { HasNumbers self.old.cursor (B.notes self.old.book) (B.spare self.old.book) }
-        ensures cursor { (actor : ℕ) → cursor_of script.now actor self.new.cursor ≡ gone_on_with script.now (cursor_of script.now actor self.old.cursor) more note.now }
-        ensures notes { B.notes self.new.book ≡ B.notes self.old.book ++ noted note.now }
-        ensures spare { B.spare self.new.book + length (noted note.now) ≡ B.spare self.old.book }
-        ensures count { HasNumbers self.new.cursor (B.notes self.new.book) (B.spare self.new.book) }
-        ensures passes { self.new.passes ≡ self.old.passes }
-        ensures hold { self.new.hold ≡ self.old.hold }
-        ensures number { self.new.number ≡ self.old.number }
-        ensures own { self.new.own ≡ self.old.own }
-    {
-        if let Some(note) = note {
-            self.tell(script, note, more);
-        }
+/// Notes down one note of a section, if there is one.
+fn tell_some<B: Notebook>(
+    script: &Script,
+    cursor: &mut Cursor,
+    book: &mut B,
+    note: &Option<Note>,
+    more: bool,
+)
+    requires script { IsScript script.now }
+    requires room { 1 ≤ B.spare book.old }
+    requires count { HasNumbers cursor.old (B.notes book.old) (B.spare book.old) }
+    ensures cursor { (actor : ℕ) → cursor_of script.now actor cursor.new ≡ gone_on_with script.now (cursor_of script.now actor cursor.old) more note.now }
+    ensures notes { B.notes book.new ≡ B.notes book.old ++ noted note.now }
+    ensures spare { B.spare book.new + length (noted note.now) ≡ B.spare book.old }
+    ensures count { HasNumbers cursor.new (B.notes book.new) (B.spare book.new) }
+{
+    if let Some(note) = note {
+        tell(script, cursor, book, note, more);
     }
+}
 
-    /// Notes down the notes of a section, and goes on in the program.
-    pub(crate) fn tell_all(&mut self, script: &Script, notes: &[Option<Note>; 3])
-        requires script { IsScript script.now }
-        requires room { 3 ≤ B.spare self.old.book }
-        requires count { HasNumbers self.old.cursor (B.notes self.old.book) (B.spare self.old.book) }
-        ensures cursor { (actor : ℕ) → cursor_of script.now actor self.new.cursor ≡ gone_on script.now (cursor_of script.now actor self.old.cursor) (notes_in notes.now) }
-        ensures notes { B.notes self.new.book ≡ B.notes self.old.book ++ notes_in notes.now }
-        ensures spare { B.spare self.old.book ≤ B.spare self.new.book + 3 }
-        ensures count { HasNumbers self.new.cursor (B.notes self.new.book) (B.spare self.new.book) }
-        ensures passes { self.new.passes ≡ self.old.passes }
-        ensures hold { self.new.hold ≡ self.old.hold }
-        ensures number { self.new.number ≡ self.old.number }
-        ensures own { self.new.own ≡ self.old.own }
-    {
-        let [first, second, third] = notes;
-        self.tell_some(script, first, either(second, third));
-        self.tell_some(script, second, third.is_some());
-        self.tell_some(script, third, false);
-    }
+/// Notes down the notes of a section, and goes on in the program.
+pub(crate) fn tell_all<B: Notebook>(
+    script: &Script,
+    cursor: &mut Cursor,
+    book: &mut B,
+    notes: &[Option<Note>; 3],
+)
+    requires script { IsScript script.now }
+    requires room { 3 ≤ B.spare book.old }
+    requires count { HasNumbers cursor.old (B.notes book.old) (B.spare book.old) }
+    ensures cursor { (actor : ℕ) → cursor_of script.now actor cursor.new ≡ gone_on script.now (cursor_of script.now actor cursor.old) (notes_in notes.now) }
+    ensures notes { B.notes book.new ≡ B.notes book.old ++ notes_in notes.now }
+    ensures spare { B.spare book.old ≤ B.spare book.new + 3 }
+    ensures count { HasNumbers cursor.new (B.notes book.new) (B.spare book.new) }
+{
+    let [first, second, third] = notes;
+    tell_some(script, cursor, book, first, either(second, third));
+    tell_some(script, cursor, book, second, third.is_some());
+    tell_some(script, cursor, book, third, false);
 }

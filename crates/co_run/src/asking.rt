@@ -20,27 +20,22 @@ use co_sbt::{NoMemory, Sbt};
 use co_service::{Name, Service};
 use std::sync::Wait;
 
-impl<'a, B: Notebook> Actor<'a, B> {
-    /// Makes room for so many notes. Within a function there is room already, and none is asked for.
-    fn make_room(&mut self, count: u32) -> Result<(), NoMemory>
-        ensures free { (s : Script) → is_serving (stage_of s self.old.cursor.stage) ≡ false → OnOk result (count ≤ B.spare self.new.book) }
-        ensures serving { (s : Script) → is_serving (stage_of s self.old.cursor.stage) ≡ true → B.spare self.new.book ≡ B.spare self.old.book }
-        ensures err { OnErr result (B.spare self.new.book ≡ B.spare self.old.book) }
-        ensures rests { OnErr result ((s : Script) → is_serving (stage_of s self.old.cursor.stage) ≡ false) }
-        ensures few { length (B.notes self.old.book) + B.spare self.old.book < 2 ^ 56 → length (B.notes self.new.book) + B.spare self.new.book < 2 ^ 56 }
-        ensures notes { B.notes self.new.book ≡ B.notes self.old.book }
-        ensures passes { self.new.passes ≡ self.old.passes }
-        ensures cursor { self.new.cursor ≡ self.old.cursor }
-        ensures hold { self.new.hold ≡ self.old.hold }
-        ensures own { self.new.own ≡ self.old.own }
-        ensures number { self.new.number ≡ self.old.number }
-    {
-        match self.cursor.stage {
-            Stage::Firing(_, _) | Stage::Drained(_, _) => Ok(()),
-            _ => self.book.reserve(count),
-        }
+/// Makes room for so many notes. Within a function there is room already, and none is asked for.
+fn make_room<B: Notebook>(stage: &Stage, book: &mut B, count: u32) -> Result<(), NoMemory>
+    ensures free { (s : Script) → is_serving (stage_of s stage.now) ≡ false → OnOk result (count ≤ B.spare book.new) }
+    ensures serving { (s : Script) → is_serving (stage_of s stage.now) ≡ true → B.spare book.new ≡ B.spare book.old }
+    ensures err { OnErr result (B.spare book.new ≡ B.spare book.old) }
+    ensures rests { OnErr result ((s : Script) → is_serving (stage_of s stage.now) ≡ false) }
+    ensures few { length (B.notes book.old) + B.spare book.old < 2 ^ 56 → length (B.notes book.new) + B.spare book.new < 2 ^ 56 }
+    ensures notes { B.notes book.new ≡ B.notes book.old }
+{
+    match *stage {
+        Stage::Firing(_, _) | Stage::Drained(_, _) => Ok(()),
+        _ => book.reserve(count),
     }
+}
 
+impl<'a, B: Notebook> Actor<'a, B> {
     /// A note of its own, which is due in the program, with the room for it. After `NoMemory` nothing is noted.
     pub(crate) fn ask_itself<N: Name>(
         &mut self,
@@ -54,13 +49,13 @@ impl<'a, B: Notebook> Actor<'a, B> {
         requires due { action_for script.now self.old.number (cursor_of script.now self.old.number self.old.cursor) ≡ Asks act (Itself kind) }
         requires count { HasNumbers self.old.cursor (B.notes self.old.book) (B.spare self.old.book) }
         requires room { let c = cursor_of script.now self.old.number self.old.cursor in room_at longest c.stage ≤ B.spare self.old.book }
-        ensures acting { IsActing script.now N.name self.old.number self.new.passes (cursor_of script.now self.old.number self.new.cursor) self.new.hold (B.notes self.new.book) self.new.own }
+        ensures acting { IsActing script.now N.name self.new.number self.new.passes (cursor_of script.now self.new.number self.new.cursor) self.new.hold (B.notes self.new.book) self.new.own }
         ensures count { HasNumbers self.new.cursor (B.notes self.new.book) (B.spare self.new.book) }
-        ensures room { let c = cursor_of script.now self.old.number self.new.cursor in room_at longest c.stage ≤ B.spare self.new.book }
+        ensures room { let c = cursor_of script.now self.new.number self.new.cursor in room_at longest c.stage ≤ B.spare self.new.book }
         ensures number { self.new.number ≡ self.old.number }
-        ensures rests { OnErr result (is_resting (cursor_of script.now self.old.number self.new.cursor).stage ≡ true) }
+        ensures rests { OnErr result (is_resting (cursor_of script.now self.new.number self.new.cursor).stage ≡ true) }
     {
-        self.make_room(1)?;
+        make_room(&self.cursor.stage, &mut self.book, 1)?;
         self.refuse::<N>(script, act, kind);
         Ok(())
     }
@@ -83,13 +78,13 @@ impl<'a, B: Notebook> Actor<'a, B> {
         requires due { action_for script.now self.old.number (cursor_of script.now self.old.number self.old.cursor) ≡ Asks act (Callout i (Call op.now)) }
         requires count { HasNumbers self.old.cursor (B.notes self.old.book) (B.spare self.old.book) }
         requires room { let c = cursor_of script.now self.old.number self.old.cursor in room_at longest c.stage ≤ B.spare self.old.book }
-        ensures acting { IsActing script.now N.name self.old.number self.new.passes (cursor_of script.now self.old.number self.new.cursor) self.new.hold (B.notes self.new.book) self.new.own }
+        ensures acting { IsActing script.now N.name self.new.number self.new.passes (cursor_of script.now self.new.number self.new.cursor) self.new.hold (B.notes self.new.book) self.new.own }
         ensures count { HasNumbers self.new.cursor (B.notes self.new.book) (B.spare self.new.book) }
-        ensures room { let c = cursor_of script.now self.old.number self.new.cursor in room_at longest c.stage ≤ B.spare self.new.book }
+        ensures room { let c = cursor_of script.now self.new.number self.new.cursor in room_at longest c.stage ≤ B.spare self.new.book }
         ensures number { self.new.number ≡ self.old.number }
-        ensures rests { OnErr result (is_resting (cursor_of script.now self.old.number self.new.cursor).stage ≡ true) }
+        ensures rests { OnErr result (is_resting (cursor_of script.now self.new.number self.new.cursor).stage ≡ true) }
     {
-        self.make_room(3)?;
+        make_room(&self.cursor.stage, &mut self.book, 3)?;
         if let Stage::Waiting { n, .. } = self.cursor.stage {
             service.drain_wait(rt, i, n);
         }
@@ -114,11 +109,11 @@ impl<'a, B: Notebook> Actor<'a, B> {
         requires due { action_for script.now self.old.number (cursor_of script.now self.old.number self.old.cursor) ≡ Asks act (Queue cpu (Scan now)) }
         requires count { HasNumbers self.old.cursor (B.notes self.old.book) (B.spare self.old.book) }
         requires room { let c = cursor_of script.now self.old.number self.old.cursor in room_at longest c.stage ≤ B.spare self.old.book }
-        ensures acting { IsActing script.now N.name self.old.number self.new.passes (cursor_of script.now self.old.number self.new.cursor) self.new.hold (B.notes self.new.book) self.new.own }
+        ensures acting { IsActing script.now N.name self.new.number self.new.passes (cursor_of script.now self.new.number self.new.cursor) self.new.hold (B.notes self.new.book) self.new.own }
         ensures count { HasNumbers self.new.cursor (B.notes self.new.book) (B.spare self.new.book) }
-        ensures room { let c = cursor_of script.now self.old.number self.new.cursor in room_at longest c.stage ≤ B.spare self.new.book }
+        ensures room { let c = cursor_of script.now self.new.number self.new.cursor in room_at longest c.stage ≤ B.spare self.new.book }
         ensures number { self.new.number ≡ self.old.number }
-        ensures rests { OnErr result (is_resting (cursor_of script.now self.old.number self.new.cursor).stage ≡ true) }
+        ensures rests { OnErr result (is_resting (cursor_of script.now self.new.number self.new.cursor).stage ≡ true) }
     {
         self.book.reserve(1)?;
         self.scan(rt, script, service, act, cpu, now);
@@ -145,11 +140,11 @@ impl<'a, B: Notebook> Actor<'a, B> {
         requires due { action_for script.now self.old.number (cursor_of script.now self.old.number self.old.cursor) ≡ Asks act (Queue cpu (lane_pop direct)) }
         requires count { HasNumbers self.old.cursor (B.notes self.old.book) (B.spare self.old.book) }
         requires room { let c = cursor_of script.now self.old.number self.old.cursor in room_at longest c.stage ≤ B.spare self.old.book }
-        ensures acting { IsActing script.now N.name self.old.number self.new.passes (cursor_of script.now self.old.number self.new.cursor) self.new.hold (B.notes self.new.book) self.new.own }
+        ensures acting { IsActing script.now N.name self.new.number self.new.passes (cursor_of script.now self.new.number self.new.cursor) self.new.hold (B.notes self.new.book) self.new.own }
         ensures count { HasNumbers self.new.cursor (B.notes self.new.book) (B.spare self.new.book) }
-        ensures room { let c = cursor_of script.now self.old.number self.new.cursor in room_at longest c.stage ≤ B.spare self.new.book }
+        ensures room { let c = cursor_of script.now self.new.number self.new.cursor in room_at longest c.stage ≤ B.spare self.new.book }
         ensures number { self.new.number ≡ self.old.number }
-        ensures rests { OnErr result (is_resting (cursor_of script.now self.old.number self.new.cursor).stage ≡ true) }
+        ensures rests { OnErr result (is_resting (cursor_of script.now self.new.number self.new.cursor).stage ≡ true) }
     {
         self.book.reserve(8 + 6 * longest)?;
         self.pop(rt, script, service, act, cpu, direct, longest);
@@ -175,11 +170,11 @@ impl<'a, B: Notebook> Actor<'a, B> {
         requires due { action_for script.now self.old.number (cursor_of script.now self.old.number self.old.cursor) ≡ Asks act (Queue cpu op.now) }
         requires count { HasNumbers self.old.cursor (B.notes self.old.book) (B.spare self.old.book) }
         requires room { let c = cursor_of script.now self.old.number self.old.cursor in room_at longest c.stage ≤ B.spare self.old.book }
-        ensures acting { IsActing script.now N.name self.old.number self.new.passes (cursor_of script.now self.old.number self.new.cursor) self.new.hold (B.notes self.new.book) self.new.own }
+        ensures acting { IsActing script.now N.name self.new.number self.new.passes (cursor_of script.now self.new.number self.new.cursor) self.new.hold (B.notes self.new.book) self.new.own }
         ensures count { HasNumbers self.new.cursor (B.notes self.new.book) (B.spare self.new.book) }
-        ensures room { let c = cursor_of script.now self.old.number self.new.cursor in room_at longest c.stage ≤ B.spare self.new.book }
+        ensures room { let c = cursor_of script.now self.new.number self.new.cursor in room_at longest c.stage ≤ B.spare self.new.book }
         ensures number { self.new.number ≡ self.old.number }
-        ensures rests { OnErr result (is_resting (cursor_of script.now self.old.number self.new.cursor).stage ≡ true) }
+        ensures rests { OnErr result (is_resting (cursor_of script.now self.new.number self.new.cursor).stage ≡ true) }
     {
         match *op {
             QOp::Scan { now } => self.ask_scan(rt, script, service, act, cpu, now, longest),
@@ -207,9 +202,9 @@ impl<'a, B: Notebook> Actor<'a, B> {
         requires due { action_for script.now self.old.number (cursor_of script.now self.old.number self.old.cursor) ≡ Asks act (Callout i (Run op.now)) }
         requires count { HasNumbers self.old.cursor (B.notes self.old.book) (B.spare self.old.book) }
         requires room { let c = cursor_of script.now self.old.number self.old.cursor in room_at longest c.stage ≤ B.spare self.old.book }
-        ensures acting { IsActing script.now N.name self.old.number self.new.passes (cursor_of script.now self.old.number self.new.cursor) self.new.hold (B.notes self.new.book) self.new.own }
+        ensures acting { IsActing script.now N.name self.new.number self.new.passes (cursor_of script.now self.new.number self.new.cursor) self.new.hold (B.notes self.new.book) self.new.own }
         ensures count { HasNumbers self.new.cursor (B.notes self.new.book) (B.spare self.new.book) }
-        ensures room { let c = cursor_of script.now self.old.number self.new.cursor in room_at longest c.stage ≤ B.spare self.new.book }
+        ensures room { let c = cursor_of script.now self.new.number self.new.cursor in room_at longest c.stage ≤ B.spare self.new.book }
         ensures number { self.new.number ≡ self.old.number }
     {
         match *op {

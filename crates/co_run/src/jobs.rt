@@ -107,7 +107,7 @@ pub(crate) struct Crew<T> {
 }
 
 /// The jobs of all actors.
-#[tactic(auto, using(crate::proofs::Dealing::booted_first, crate::proofs::Dealing::booted_count, crate::proofs::Dealing::most_named, crate::proofs::Finished::most_actors))]
+#[tactic(auto, using(crate::proofs::groups::Deals::booted_first, crate::proofs::groups::Deals::booted_count, crate::proofs::groups::Deals::most_named, crate::proofs::merged::RunOfScript::most_actors))]
 pub(crate) fn deal_all<N: Name, B: Notebook>(
     alloc: Global,
     script: &Script,
@@ -137,8 +137,7 @@ pub(crate) fn deal_all<N: Name, B: Notebook>(
     })
 }
 
-/// Plays the whole program of the actor of this number. An interrupt that is refused memory makes its remaining Scans, for
-/// which its CPU waits.
+/// Plays the whole program of the actor of this number.
 pub(crate) fn play_job<B: Notebook, N: Name, G: Gate, R: Wait + Sync>(
     rt: &R,
     shared: &Shared<'_, N, G>,
@@ -152,10 +151,7 @@ pub(crate) fn play_job<B: Notebook, N: Name, G: Gate, R: Wait + Sync>(
 {
     let Job { passes, book } = job;
     let mut actor = Actor::begins::<N>(shared.script, number, passes, book);
-    if let Err(refused) = actor.play(rt, shared, longest) {
-        actor.scan_rest(rt, shared.script, shared.service);
-        return Err(refused);
-    }
+    actor.play(rt, shared, longest)?;
     let Actor { passes, book, .. } = actor;
     Ok(Played {
         passes,

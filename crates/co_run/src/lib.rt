@@ -12,6 +12,7 @@ mod laws;
 mod longest;
 mod playing;
 mod port;
+mod refused;
 mod rounds;
 mod runs;
 mod scans;

@@ -1,5 +1,5 @@
 //! The whole program of an actor.
-ghost use Rattle.std.specs.Prelude.{◌≡◌, ◌<◌, ◌≤◌, ◌+◌, ◌^◌, [], ℕ, OnErr, OnOk, true};
+ghost use Rattle.std.specs.Prelude.{◌≡◌, ◌<◌, ◌≤◌, ◌+◌, ◌^◌, [], ℕ, None, OnErr, OnOk, true};
 ghost use Rattle.co_program.specs.Action.{Nothing, action_for};
 ghost use Rattle.co_program.specs.Actors.{actor_count, role_of};
 ghost use Rattle.co_program.specs.Indexed.{cursor_of};
@@ -7,16 +7,16 @@ ghost use Rattle.co_program.specs.Scripts.{IsScript};
 ghost use Rattle.co_program.specs.Stages.{Ready};
 ghost use Rattle.co_service.specs.Booted.{booted};
 ghost use Rattle.co_service.specs.Fresh.{AreNamed};
-ghost use Rattle.co_run.specs.Acting.{HasLocks, IsActing, Serves, params_of};
+ghost use Rattle.co_run.specs.Acting.{HasAllScans, HasLocks, IsActing, Serves, params_of};
 ghost use Rattle.co_run.specs.Counted.{HasNumbers};
 ghost use Rattle.co_run.specs.Roomy.{AreShort, is_resting, room_at};
 
 use crate::Notebook;
 use crate::actor::{Actor, Shared};
 use co_hand::Gate;
-use co_program::{Act, Cursor, Role, Script, Stage, role_of};
+use co_program::{Cursor, Script};
 use co_sbt::NoMemory;
-use co_service::{Name, Passes, Service};
+use co_service::{Name, Passes};
 use std::sync::Wait;
 
 impl<'a, B: Notebook> Actor<'a, B> {
@@ -50,8 +50,38 @@ impl<'a, B: Notebook> Actor<'a, B> {
         }
     }
 
-    /// Steps until nothing of the program is left. After `NoMemory` the actor is between two acts, or at the start of a round
-    /// of its services, and has nothing in service.
+    /// Steps until nothing of the program is left, or the actor is refused memory between two services.
+    fn play_on<N: Name, G: Gate, R: Wait + Sync>(
+        &mut self,
+        rt: &R,
+        shared: &Shared<'a, N, G>,
+        longest: u32,
+    ) -> Result<(), NoMemory>
+        requires script { IsScript shared.now.script.now }
+        requires locks { HasLocks shared.now.script.now }
+        requires kinds { shared.now.locks.now ≡ shared.now.script.now.locks }
+        requires service { shared.now.service.now ≡ params_of shared.now.script.now }
+        requires short { AreShort shared.now.script.now longest }
+        requires few { longest ≤ 2 ^ 16 }
+        requires acting { IsActing shared.now.script.now N.name self.old.number self.old.passes (cursor_of shared.now.script.now self.old.number self.old.cursor) self.old.hold (B.notes self.old.book) self.old.own }
+        requires count { HasNumbers self.old.cursor (B.notes self.old.book) (B.spare self.old.book) }
+        requires room { let c = cursor_of shared.now.script.now self.old.number self.old.cursor in room_at longest c.stage ≤ B.spare self.old.book }
+        ensures acting { IsActing shared.now.script.now N.name self.new.number self.new.passes (cursor_of shared.now.script.now self.new.number self.new.cursor) self.new.hold (B.notes self.new.book) self.new.own }
+        ensures count { HasNumbers self.new.cursor (B.notes self.new.book) (B.spare self.new.book) }
+        ensures number { self.new.number ≡ self.old.number }
+        ensures rests { OnErr result (is_resting (cursor_of shared.now.script.now self.new.number self.new.cursor).stage ≡ true) }
+        ensures over { OnOk result (action_for shared.now.script.now self.new.number (cursor_of shared.now.script.now self.new.number self.new.cursor) ≡ Nothing) }
+    {
+        for _ in rt.forever() {
+            if self.step(rt, shared, longest)? {
+                return Ok(());
+            }
+        }
+        unreachable!()
+    }
+
+    /// Plays its whole program. After `NoMemory` it has let go of its lock and has nothing in service, and as an interrupt it
+    /// has made all Scans of its program, for which its CPU waits.
     pub(crate) fn play<N: Name, G: Gate, R: Wait + Sync>(
         &mut self,
         rt: &R,
@@ -67,51 +97,19 @@ impl<'a, B: Notebook> Actor<'a, B> {
         requires acting { IsActing shared.now.script.now N.name self.old.number self.old.passes (cursor_of shared.now.script.now self.old.number self.old.cursor) self.old.hold (B.notes self.old.book) self.old.own }
         requires count { HasNumbers self.old.cursor (B.notes self.old.book) (B.spare self.old.book) }
         requires room { let c = cursor_of shared.now.script.now self.old.number self.old.cursor in room_at longest c.stage ≤ B.spare self.old.book }
-        ensures acting { IsActing shared.now.script.now N.name self.old.number self.new.passes (cursor_of shared.now.script.now self.old.number self.new.cursor) self.new.hold (B.notes self.new.book) self.new.own }
-        ensures count { HasNumbers self.new.cursor (B.notes self.new.book) (B.spare self.new.book) }
-        ensures number { self.new.number ≡ self.old.number }
-        ensures rests { OnErr result (is_resting (cursor_of shared.now.script.now self.old.number self.new.cursor).stage ≡ true) }
-        ensures free { OnErr result (Serves (role_of shared.now.script.now self.old.number) self.new.passes Ready) }
-        ensures over { OnOk result (action_for shared.now.script.now self.old.number (cursor_of shared.now.script.now self.old.number self.new.cursor) ≡ Nothing) }
-    {
-        for _ in rt.forever() {
-            if self.step(rt, shared, longest)? {
-                return Ok(());
-            }
-        }
-        unreachable!()
-    }
-
-    /// The Scans that an interrupt which was refused memory still owes its CPU, whose soft acts wait for them. Nothing is
-    /// noted.
-    pub(crate) fn scan_rest<N: Name, R: Wait>(
-        &mut self,
-        rt: &R,
-        script: &Script,
-        service: &Service<N>,
-    )
-        requires script { IsScript script.now }
-        requires service { service.now ≡ params_of script.now }
-        requires acting { IsActing script.now N.name self.old.number self.old.passes (cursor_of script.now self.old.number self.old.cursor) self.old.hold (B.notes self.old.book) self.old.own }
+        ensures acting { OnOk result (IsActing shared.now.script.now N.name self.new.number self.new.passes (cursor_of shared.now.script.now self.new.number self.new.cursor) self.new.hold (B.notes self.new.book) self.new.own) }
+        ensures count { OnOk result (HasNumbers self.new.cursor (B.notes self.new.book) (B.spare self.new.book)) }
+        ensures over { OnOk result (action_for shared.now.script.now self.new.number (cursor_of shared.now.script.now self.new.number self.new.cursor) ≡ Nothing) }
+        ensures hold { OnErr result (self.new.hold ≡ None) }
+        ensures free { OnErr result (Serves (role_of shared.now.script.now self.new.number) self.new.passes Ready) }
+        ensures scans { OnErr result (HasAllScans shared.now.script.now (role_of shared.now.script.now self.new.number) self.new.passes) }
         ensures number { self.new.number ≡ self.old.number }
     {
-        let Role::Interrupt(cpu) = role_of(script, self.number) else {
-            return;
-        };
-        let Some(acts) = script.ticks.as_slice().get(cpu as usize) else {
-            return;
-        };
-        // the Scan of a tick whose rounds have begun is made already
-        let made = match self.cursor.stage {
-            Stage::Popping { .. } => 1,
-            _ => 0,
-        };
-        let Some(left) = acts.as_slice().get(self.cursor.task as usize + made..) else {
-            return;
-        };
-        for act in left {
-            if let Act::Tick(now) = act {
-                let _scanned = service.scan(rt, &mut self.passes, cpu, self.cursor.act, *now);
+        match self.play_on(rt, shared, longest) {
+            Ok(()) => Ok(()),
+            Err(refused) => {
+                self.leave(rt, shared.script, shared.service);
+                Err(refused)
             }
         }
     }

@@ -130,10 +130,11 @@ fn finish<N: Name, R: Wait>(rt: &R, script: &Script, service: Service<N>, all: B
 /// notes into one of the books, in the order of the actors' numbers; all are empty.
 ///
 /// The passes are those of the service's boot, by the script's version, CPUs, buckets, number of clients and callouts; they
-/// have seen nothing. The gate is called before each act of an actor, the acts of functions included.
+/// have seen nothing. The gate is called before each act of an actor, the acts of functions included. It changes no value, so
+/// that no clause can speak of its calls.
 ///
-/// `NoMemory` is the only refusal. An actor whose book is refused room lets go of its lock and stops between two services.
-/// The others play on, and the whole answers `NoMemory`.
+/// `NoMemory` is the only refusal. An actor whose book is refused room lets go of its lock and stops between two services, an
+/// interrupt once all its Scans are made. The others play on, and the whole answers `NoMemory`.
 pub fn run_books<
     N: Name + Send + Sync,
     G: Gate + Sync,

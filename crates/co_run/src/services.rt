@@ -18,7 +18,7 @@ ghost use Rattle.co_run.specs.Counted.{HasNumbers};
 ghost use Rattle.co_run.specs.Roomy.{AreShort, room_at};
 
 use crate::Notebook;
-use crate::actor::Actor;
+use crate::actor::{Actor, tell_all};
 use co_program::Script;
 use co_service::{Made, Name, Passes, Service};
 use std::sync::Wait;
@@ -67,16 +67,16 @@ impl<'a, B: Notebook> Actor<'a, B> {
         requires due { action_for script.now self.old.number (cursor_of script.now self.old.number self.old.cursor) ≡ Asks act (Callout i (Run (Begin n cpu))) }
         requires count { HasNumbers self.old.cursor (B.notes self.old.book) (B.spare self.old.book) }
         requires room { 6 + 6 * longest ≤ B.spare self.old.book }
-        ensures acting { IsActing script.now N.name self.old.number self.new.passes (cursor_of script.now self.old.number self.new.cursor) self.new.hold (B.notes self.new.book) self.new.own }
+        ensures acting { IsActing script.now N.name self.new.number self.new.passes (cursor_of script.now self.new.number self.new.cursor) self.new.hold (B.notes self.new.book) self.new.own }
         ensures count { HasNumbers self.new.cursor (B.notes self.new.book) (B.spare self.new.book) }
-        ensures room { let c = cursor_of script.now self.old.number self.new.cursor in room_at longest c.stage ≤ B.spare self.new.book }
+        ensures room { let c = cursor_of script.now self.new.number self.new.cursor in room_at longest c.stage ≤ B.spare self.new.book }
         ensures number { self.new.number ≡ self.old.number }
     {
         let Some(hold) = &self.hold else {
             unreachable!();
         };
         let made = service.begin(rt, &mut self.passes, cpu, act, hold);
-        self.tell_all(script, &made.notes);
+        tell_all(script, &mut self.cursor, &mut self.book, &made.notes);
     }
 
     /// The service is over, as is due in the program: of the CPU, or of its interrupt where `direct`. There is room for the
@@ -101,12 +101,12 @@ impl<'a, B: Notebook> Actor<'a, B> {
         requires due { action_for script.now self.old.number (cursor_of script.now self.old.number self.old.cursor) ≡ Asks act (Callout i (Run (End n cpu))) }
         requires count { HasNumbers self.old.cursor (B.notes self.old.book) (B.spare self.old.book) }
         requires room { 3 + 3 * longest ≤ B.spare self.old.book }
-        ensures acting { IsActing script.now N.name self.old.number self.new.passes (cursor_of script.now self.old.number self.new.cursor) self.new.hold (B.notes self.new.book) self.new.own }
+        ensures acting { IsActing script.now N.name self.new.number self.new.passes (cursor_of script.now self.new.number self.new.cursor) self.new.hold (B.notes self.new.book) self.new.own }
         ensures count { HasNumbers self.new.cursor (B.notes self.new.book) (B.spare self.new.book) }
-        ensures room { let c = cursor_of script.now self.old.number self.new.cursor in room_at longest c.stage ≤ B.spare self.new.book }
+        ensures room { let c = cursor_of script.now self.new.number self.new.cursor in room_at longest c.stage ≤ B.spare self.new.book }
         ensures number { self.new.number ≡ self.old.number }
     {
         let made = finish(rt, service, &mut self.passes, cpu, act, direct);
-        self.tell_all(script, &made.notes);
+        tell_all(script, &mut self.cursor, &mut self.book, &made.notes);
     }
 }

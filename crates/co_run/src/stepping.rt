@@ -16,7 +16,8 @@ use co_sbt::NoMemory;
 use co_service::{Name, Service};
 use std::sync::Wait;
 
-/// The actor goes through the gate before each act, those of functions included.
+/// The actor goes through the gate before each act, those of functions included. The gate changes no value, so that no clause
+/// can speak of it: a test has to count its calls.
 fn stand<G: Gate>(gate: &G, actor: u32, cursor: &Cursor, next: &Action) {
     if let Action::Nothing | Action::Silent(Move::Ends) = next {
         return;
@@ -45,11 +46,11 @@ impl<'a, B: Notebook> Actor<'a, B> {
         requires due { action_for script.now self.old.number (cursor_of script.now self.old.number self.old.cursor) ≡ Asks act asked.now }
         requires count { HasNumbers self.old.cursor (B.notes self.old.book) (B.spare self.old.book) }
         requires room { let c = cursor_of script.now self.old.number self.old.cursor in room_at longest c.stage ≤ B.spare self.old.book }
-        ensures acting { IsActing script.now N.name self.old.number self.new.passes (cursor_of script.now self.old.number self.new.cursor) self.new.hold (B.notes self.new.book) self.new.own }
+        ensures acting { IsActing script.now N.name self.new.number self.new.passes (cursor_of script.now self.new.number self.new.cursor) self.new.hold (B.notes self.new.book) self.new.own }
         ensures count { HasNumbers self.new.cursor (B.notes self.new.book) (B.spare self.new.book) }
-        ensures room { let c = cursor_of script.now self.old.number self.new.cursor in room_at longest c.stage ≤ B.spare self.new.book }
+        ensures room { let c = cursor_of script.now self.new.number self.new.cursor in room_at longest c.stage ≤ B.spare self.new.book }
         ensures number { self.new.number ≡ self.old.number }
-        ensures rests { OnErr result (is_resting (cursor_of script.now self.old.number self.new.cursor).stage ≡ true) }
+        ensures rests { OnErr result (is_resting (cursor_of script.now self.new.number self.new.cursor).stage ≡ true) }
     {
         match asked {
             Asked::Itself(kind) => self.ask_itself::<N>(script, act, *kind, longest),
@@ -81,12 +82,12 @@ impl<'a, B: Notebook> Actor<'a, B> {
         requires acting { IsActing shared.now.script.now N.name self.old.number self.old.passes (cursor_of shared.now.script.now self.old.number self.old.cursor) self.old.hold (B.notes self.old.book) self.old.own }
         requires count { HasNumbers self.old.cursor (B.notes self.old.book) (B.spare self.old.book) }
         requires room { let c = cursor_of shared.now.script.now self.old.number self.old.cursor in room_at longest c.stage ≤ B.spare self.old.book }
-        ensures acting { IsActing shared.now.script.now N.name self.old.number self.new.passes (cursor_of shared.now.script.now self.old.number self.new.cursor) self.new.hold (B.notes self.new.book) self.new.own }
+        ensures acting { IsActing shared.now.script.now N.name self.new.number self.new.passes (cursor_of shared.now.script.now self.new.number self.new.cursor) self.new.hold (B.notes self.new.book) self.new.own }
         ensures count { HasNumbers self.new.cursor (B.notes self.new.book) (B.spare self.new.book) }
-        ensures room { let c = cursor_of shared.now.script.now self.old.number self.new.cursor in room_at longest c.stage ≤ B.spare self.new.book }
+        ensures room { let c = cursor_of shared.now.script.now self.new.number self.new.cursor in room_at longest c.stage ≤ B.spare self.new.book }
         ensures number { self.new.number ≡ self.old.number }
-        ensures rests { OnErr result (is_resting (cursor_of shared.now.script.now self.old.number self.new.cursor).stage ≡ true) }
-        ensures over { IfOk result (λ over. over ≡ true → action_for shared.now.script.now self.old.number (cursor_of shared.now.script.now self.old.number self.new.cursor) ≡ Nothing) }
+        ensures rests { OnErr result (is_resting (cursor_of shared.now.script.now self.new.number self.new.cursor).stage ≡ true) }
+        ensures over { IfOk result (λ over. over ≡ true → action_for shared.now.script.now self.new.number (cursor_of shared.now.script.now self.new.number self.new.cursor) ≡ Nothing) }
     {
         let script = shared.script;
         let mut next = Action::Nothing;
@@ -94,13 +95,19 @@ impl<'a, B: Notebook> Actor<'a, B> {
         action_for(script, self.number, &self.cursor, &mut next);
         stand(shared.gate, self.number, &self.cursor, &next);
         match &next {
-            Action::Nothing => return Ok(true),
-            Action::Silent(to) => self.pass::<N>(script, to),
-            Action::Take { held, to } => self.take::<N, R>(rt, script, shared.locks, held, to),
+            Action::Nothing => Ok(true),
+            Action::Silent(to) => {
+                self.pass::<N>(script, to);
+                Ok(false)
+            }
+            Action::Take { held, to } => {
+                self.take::<N, R>(rt, script, shared.locks, held, to);
+                Ok(false)
+            }
             Action::Asks { act, asked } => {
-                self.ask(rt, script, shared.service, *act, asked, longest)?
+                self.ask(rt, script, shared.service, *act, asked, longest)?;
+                Ok(false)
             }
         }
-        Ok(false)
     }
 }

@@ -1,7 +1,7 @@
 -- One job more, of the actor before.
 use Rattle.std.proofs.Common.{◌≡◌, ◌+◌, length, subst, sym, arith}
 use Rattle.co_run.specs.Jobs.{AreJobs, IsGroup}
-use Rattle.co_run.proofs.Dealing.{group_dealt}
+use Rattle.co_run.proofs.groups.Deals.{group_dealt}
 use Rattle.co_run.proofs.jobs.deal.Goals as goal
 
 pub loop-dealt-preserved : goal.loop-dealt-preserved

@@ -2,7 +2,7 @@
 use Rattle.std.proofs.Common.{◌≡◌, ◌+◌, ◌≤◌, length, subst, sym, ap, ◌∙◌, arith}
 use Rattle.co_program.specs.Actors.{actor_count, client_count}
 use Rattle.co_run.specs.Jobs.{AreEmpty}
-use Rattle.co_run.proofs.Dealing.{booted_count, most_named}
+use Rattle.co_run.proofs.groups.Deals.{booted_count, most_named}
 use Rattle.co_run.proofs.jobs.deal_all.Goals as goal
 
 pub deal-requires-clause-empty : goal.deal-requires-clause-empty

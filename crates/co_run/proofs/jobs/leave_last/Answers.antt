@@ -1,11 +1,9 @@
 -- The passes and the books are the rest and the last ones.
-use Rattle.std.proofs.Common.{◌≡◌, ℕ, ◌+◌, ◌<◌, ◌≤◌, ◌++◌, [], ◌∷◌, List, length, subst, ap, sym, ◌∙◌, arith, length-append}
+use Rattle.std.proofs.Common.{◌≡◌, ◌+◌, ◌++◌, [], ◌∷◌, length, subst, ap, sym, ◌∙◌, arith, length-append}
 use Rattle.std.specs.Option.{option_to_list}
-use Rattle.co_program.specs.Actors.{actor_count}
-use Rattle.co_service.specs.Views.{PassesView}
 use Rattle.co_run.specs.Acting.{params_of}
 use Rattle.co_run.specs.Jobs.{AreEmpty, AreFirst}
-use Rattle.co_run.proofs.Dealing.{empty_front, empty_last, first_front, first_last}
+use Rattle.co_run.proofs.groups.Deals.{empty_front, empty_last, first_front, first_last}
 use Rattle.co_run.proofs.jobs.leave_last.Goals as goal
 
 pub returns : goal.returns

@@ -2,7 +2,7 @@
 use Rattle.std.proofs.Common.{◌≡◌, ◌++◌, [], ◌∷◌, subst, sym}
 use Rattle.std.proofs.lemmas.Result.{on_ok_weaker}
 use Rattle.co_run.specs.Jobs.{HavePlayed, IsGroup}
-use Rattle.co_run.proofs.Joining.{group_more}
+use Rattle.co_run.proofs.groups.Joins.{group_more}
 use Rattle.co_run.proofs.joins.add.Goals as goal
 
 pub returns : goal.returns

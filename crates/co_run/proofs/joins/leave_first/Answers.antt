@@ -1,8 +1,8 @@
 -- The jobs are the rest and the last one, which is the first actor's.
-use Rattle.std.proofs.Common.{◌≡◌, ◌+◌, ◌++◌, [], ◌∷◌, List, length, subst, ap, ◌∙◌}
+use Rattle.std.proofs.Common.{◌≡◌, ◌++◌, [], ◌∷◌, subst, ap, ◌∙◌}
 use Rattle.std.specs.Option.{option_to_list}
 use Rattle.co_run.specs.Jobs.{AreJobs, IsGroup}
-use Rattle.co_run.proofs.Joining.{group_first, group_less}
+use Rattle.co_run.proofs.groups.Joins.{group_first, group_less}
 use Rattle.co_run.proofs.joins.leave_first.Goals as goal
 
 pub returns-clause-rest : goal.returns-clause-rest

@@ -4,7 +4,7 @@ use Rattle.std.proofs.lemmas.Result.{on_ok_weaker}
 use Rattle.co_object.specs.declared.note.Note.{Note}
 use Rattle.co_service.specs.Views.{PassesView}
 use Rattle.co_run.specs.Over.{AreOver}
-use Rattle.co_run.proofs.Joining.{over_next}
+use Rattle.co_run.proofs.groups.Joins.{over_next}
 use Rattle.co_run.proofs.runs.add.Goals as goal
 
 pub returns-clause-over : goal.returns-clause-over

@@ -1,5 +1,5 @@
 -- The actors before the next one are over, and what is left of the group is of those from it on.
-use Rattle.std.proofs.Common.{◌≡◌, ℕ, length}
+use Rattle.std.proofs.Common.{◌≡◌, length}
 use Rattle.co_run.specs.Jobs.{HavePlayed, IsGroup}
 use Rattle.co_run.specs.Over.{AreOver}
 use Rattle.co_run.proofs.runs.add_group.Given as goal

@@ -1,11 +1,9 @@
 -- The passes are all actors', and the histories of the end are those that the lists show.
-use Rattle.std.proofs.Common.{◌≡◌, List, subst, sym}
-use Rattle.co_object.specs.declared.note.Entry.{Entry}
-use Rattle.co_object.specs.declared.note.QEntry.{QEntry}
+use Rattle.std.proofs.Common.{subst, sym}
 use Rattle.co_service.specs.declared.params.Params.{Params}
 use Rattle.co_service.specs.Closing.{AreAll, AreEnded, AreEndedCpus}
 use Rattle.co_run.specs.Acting.{params_of}
-use Rattle.co_run.proofs.Finished.{all_brought, ran_cpus, ran_timers, run_is}
+use Rattle.co_run.proofs.merged.RunOfScript.{all_brought, ran_cpus, ran_timers, run_is}
 use Rattle.co_run.proofs.runs.finish.Goals as goal
 
 pub close-requires : goal.close-requires

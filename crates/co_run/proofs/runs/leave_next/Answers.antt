@@ -1,8 +1,8 @@
 -- What they bring back is the rest and the last one, which is the next actor's.
-use Rattle.std.proofs.Common.{◌≡◌, ◌+◌, ◌++◌, [], ◌∷◌, List, subst, ap, ◌∙◌}
+use Rattle.std.proofs.Common.{◌≡◌, ◌++◌, [], ◌∷◌, subst, ap, ◌∙◌}
 use Rattle.std.specs.Option.{option_to_list}
 use Rattle.co_run.specs.Jobs.{HavePlayed, IsGroup}
-use Rattle.co_run.proofs.Joining.{played_first, played_less}
+use Rattle.co_run.proofs.groups.Joins.{played_first, played_less}
 use Rattle.co_run.proofs.runs.leave_next.Goals as goal
 
 pub returns-clause-rest : goal.returns-clause-rest

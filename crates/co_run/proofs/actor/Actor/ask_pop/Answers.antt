@@ -1,7 +1,7 @@
 -- Who asks its CPU's queue is between two services.
 use Rattle.co_program.specs.Indexed.{cursor_of}
 use Rattle.co_wheel.specs.Turns.{pop_of as lane_pop}
-use Rattle.co_run.proofs.Resting.{on_err, queue_rests}
+use Rattle.co_run.proofs.room.BetweenServices.{on_err, queue_rests}
 use Rattle.co_run.proofs.actor.Actor.ask_pop.Goals as goal
 
 pub returns-in_err-reserve-clause-rests : goal.returns-in_err-reserve-clause-rests

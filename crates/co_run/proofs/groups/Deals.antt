@@ -1,0 +1,86 @@
+-- The jobs of the actors: passes that have seen nothing, and empty books, one after the other.
+use Rattle.std.proofs.Common.{◌≡◌, ℕ, zero, suc, ◌+◌, ◌<◌, ◌≤◌, ◌*◌, ◌==◌, ◌⊎◌, inl, inr, Bool, true, false, cond, List, [], ◌∷◌, ◌++◌, length, sym, subst, ◌∙◌, arith, length-append}
+use Rattle.std.specs.Prelude.{Some, slice_get}
+use Rattle.co_object.specs.declared.note.Note.{Note}
+use Rattle.co_program.specs.declared.script.Script.{Script}
+use Rattle.co_program.specs.Actors.{actor_count, client_count}
+use Rattle.co_program.specs.Scripts.{IsScript}
+use Rattle.co_service.specs.declared.params.Params.{Params}
+use Rattle.co_service.specs.Booted.{AreBooted, booted}
+use Rattle.co_service.specs.Name.{ServiceName}
+use Rattle.co_service.specs.Views.{PassesView}
+use Rattle.co_run.specs.declared.jobs.Job.{Job}
+use Rattle.co_run.specs.Acting.{params_of}
+use Rattle.co_run.specs.Jobs.{AreEmpty, AreFirst, AreJobs, IsEmpty, IsGroup, IsJob}
+use Rattle.co_run.proofs.merged.RunOfScript.{same_count}
+use Rattle.co_run.proofs.groups.LastItem.{get_front, get_last, get_snoc}
+
+-- ---- what stands in a list is within it
+
+below : {X : Type 0} (xs : List X) (x : X) (k : ℕ) → slice_get xs k ≡ Some x → k < length xs
+below [] x k is = cc
+below (y ∷ xs) x zero is = omega arith
+below (y ∷ xs) x (suc k) is = (let low = below xs x k is in omega (arith, low))
+
+some_same : {X : Type 0} (a b : X) → Some a ≡ Some b → a ≡ b
+some_same a b e = cc
+
+-- ---- passes
+
+pub booted_first : (s : Script) → IsScript s → (name : ServiceName) (qs : List PassesView) → AreBooted name (params_of s) qs → AreFirst name (params_of s) qs
+booted_first s ok name qs booted_are = λ k q is. some_same q (booted name (params_of s) k) (sym is ∙ booted_are.each k (let low = below qs q k is in let count = booted_are.count in omega (arith, low, count)))
+
+pub booted_count : (s : Script) → IsScript s → (name : ServiceName) (qs : List PassesView) → AreBooted name (params_of s) qs → length qs ≡ actor_count s
+booted_count s ok name qs booted_are = booted_are.count ∙ same_count s ok
+
+module _ (name : ServiceName) (p : Params) where
+  pub first_front : (qs : List PassesView) (q : PassesView) → AreFirst name p (qs ++ q ∷ []) → AreFirst name p qs
+  first_front qs q first = λ k x is. first k x (get_front qs q x k is)
+
+  pub first_last : (qs : List PassesView) (q : PassesView) → AreFirst name p (qs ++ q ∷ []) → q ≡ booted name p (length qs)
+  first_last qs q first = first (length qs) q (get_last qs q)
+
+-- ---- books
+
+module _ {B : Type 0} (notes : B → List Note) (spare : B → ℕ) where
+  pub empty_front : (books : List B) (book : B) → AreEmpty notes spare (books ++ book ∷ []) → AreEmpty notes spare books
+  empty_front books book empty = λ k x is. empty k x (get_front books book x k is)
+
+  pub empty_last : (books : List B) (book : B) → AreEmpty notes spare (books ++ book ∷ []) → IsEmpty (notes book) (spare book)
+  empty_last books book empty = empty (length books) book (get_last books book)
+
+  pub empty_more : (books : List B) (book : B) → AreEmpty notes spare books → IsEmpty (notes book) (spare book) → AreEmpty notes spare (books ++ book ∷ [])
+  empty_more books book empty one = λ k x is. at_either x (get_snoc books book x k is) where
+    at_either : {k : ℕ} (x : B) → (slice_get books k ≡ Some x) ⊎ ((k ≡ length books) × (x ≡ book)) → IsEmpty (notes x) (spare x)
+    at_either {k} x (inl here) = empty k x here
+    at_either x (inr there) = subst (λ (b : B). IsEmpty (notes b) (spare b)) (sym there.1) one
+
+-- ---- jobs
+
+module _ {B : Type 0} (s : Script) (name : ServiceName) (notes : B → List Note) (spare : B → ℕ) where
+  -- no job is dealt yet
+  pub group_none : (end : ℕ) → IsGroup (AreJobs s name notes spare) end end []
+  group_none end = record { count = (let e : end + 0 ≡ end = omega arith in e); each = λ k job is a at. absurd (no_more k job is) } where
+    no_more : (k : ℕ) (job : Job B) → slice_get [] k ≡ Some job → ⊥
+    no_more k job is = cc
+
+  -- the job of the actor before
+  pub group_dealt : (jobs : List (Job B)) (job : Job B) (first next end : ℕ) → first ≡ next + 1 → IsGroup (AreJobs s name notes spare) first end jobs → IsJob s name next job.passes (notes job.book) (spare job.book) → IsGroup (AreJobs s name notes spare) next end (jobs ++ job ∷ [])
+  group_dealt jobs job first next end one group ok = record {
+    count = (let long = length-append jobs (job ∷ []) in let count = group.count in omega (arith, count, long, one));
+    each = λ k x is a at. at_either k x a at (get_snoc jobs job x k is);
+  } where
+    at_either : (k : ℕ) (x : Job B) (a : ℕ) → a + k + 1 ≡ end → (slice_get jobs k ≡ Some x) ⊎ ((k ≡ length jobs) × (x ≡ job)) → IsJob s name a x.passes (notes x.book) (spare x.book)
+    at_either k x a at (inl here) = group.each k x here a at
+    at_either k x a at (inr there) =
+        let count = group.count in
+        let same : next ≡ a = (let is = there.0 in omega (arith, count, at, is, one)) in
+        subst (λ (y : Job B). IsJob s name a y.passes (notes y.book) (spare y.book)) (sym there.1) (subst (λ (b : ℕ). IsJob s name b job.passes (notes job.book) (spare job.book)) same ok)
+
+-- ---- how many actors
+
+pub most_named : (s : Script) → client_count s + s.cpus ≤ actor_count s
+most_named s = at_test (s.version == 2) where
+  at_test : (b : Bool) → client_count s + s.cpus ≤ cond b (client_count s + 2 * s.cpus) (client_count s + s.cpus)
+  at_test true = omega arith
+  at_test false = omega arith

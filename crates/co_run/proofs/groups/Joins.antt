@@ -1,0 +1,72 @@
+-- The jobs of a group of actors, and what they bring back: the first stands last.
+use Rattle.std.proofs.Common.{◌≡◌, ℕ, suc, ◌+◌, ◌⊎◌, inl, inr, List, [], ◌∷◌, ◌++◌, length, sym, subst, arith, length-append}
+use Rattle.std.specs.Prelude.{Some, slice_get}
+use Rattle.co_object.specs.declared.note.Note.{Note}
+use Rattle.co_program.specs.declared.script.Script.{Script}
+use Rattle.co_service.specs.Name.{ServiceName}
+use Rattle.co_service.specs.Views.{PassesView}
+use Rattle.co_run.specs.declared.jobs.Job.{Job}
+use Rattle.co_run.specs.declared.jobs.Played.{Played}
+use Rattle.co_run.specs.Jobs.{AreJobs, HavePlayed, IsGroup, IsJob}
+use Rattle.co_run.specs.Over.{AreOver, IsOver}
+use Rattle.co_run.proofs.groups.LastItem.{get_front, get_last, get_snoc}
+
+over_more : (s : Script) (name : ServiceName) (a : ℕ) (qs : List PassesView) (lists : List (List Note)) (q : PassesView) (ns : List Note) → AreOver s name a qs lists → IsOver s name (a + length lists) q ns → AreOver s name a (qs ++ q ∷ []) (lists ++ ns ∷ [])
+over_more s name a [] [] q ns over one = (subst (λ (b : ℕ). IsOver s name b q ns) (start a) one, tt) where
+  start : (n : ℕ) → n + 0 ≡ n
+  start n = omega arith
+over_more s name a (p ∷ qs) (ms ∷ lists) q ns over one = (over.0, over_more s name (a + 1) qs lists q ns over.1 (subst (λ (b : ℕ). IsOver s name b q ns) (shift a (length lists)) one)) where
+  shift : (m n : ℕ) → m + suc n ≡ m + 1 + n
+  shift m n = omega arith
+over_more s name a [] (ms ∷ lists) q ns over one = absurd over
+over_more s name a (p ∷ qs) [] q ns over one = absurd over
+
+-- what the next actor brings back goes to the others'
+pub over_next : (s : Script) (name : ServiceName) (qs : List PassesView) (lists : List (List Note)) (q : PassesView) (ns : List Note) → AreOver s name 0 qs lists → IsOver s name (length lists) q ns → AreOver s name 0 (qs ++ q ∷ []) (lists ++ ns ∷ [])
+over_next s name qs lists q ns over one = over_more s name 0 qs lists q ns over (subst (λ (b : ℕ). IsOver s name b q ns) (start (length lists)) one) where
+  start : (n : ℕ) → n ≡ 0 + n
+  start n = omega arith
+
+-- ---- a group of actors
+
+pub group_at : {X : Type 0} (Are : ℕ → List X → Type 0) (first from end to : ℕ) (xs : List X) → first ≡ from → end ≡ to → IsGroup Are first end xs → IsGroup Are from to xs
+group_at Are first from end to xs same also group = subst (λ (b : ℕ). IsGroup Are from b xs) also (subst (λ (b : ℕ). IsGroup Are b end xs) same group)
+
+module _ {B : Type 0} (s : Script) (name : ServiceName) (notes : B → List Note) (spare : B → ℕ) where
+  -- the first actor's job stands last
+  pub group_first : (xs : List (Job B)) (x : Job B) (first end : ℕ) → IsGroup (AreJobs s name notes spare) first end (xs ++ x ∷ []) → IsJob s name first x.passes (notes x.book) (spare x.book)
+  group_first xs x first end group =
+      let long = length-append xs (x ∷ []) in
+      group.each (length xs) x (get_last xs x) first (let count = group.count in omega (arith, count, long))
+
+  pub group_less : (xs : List (Job B)) (x : Job B) (first end : ℕ) → IsGroup (AreJobs s name notes spare) first end (xs ++ x ∷ []) → IsGroup (AreJobs s name notes spare) (first + 1) end xs
+  group_less xs x first end group = record {
+    count = (let long = length-append xs (x ∷ []) in let count = group.count in omega (arith, count, long));
+    each = λ k job is a at. group.each k job (get_front xs x job k is) a at;
+  }
+
+module _ (s : Script) (name : ServiceName) where
+  -- one more has played, before these
+  pub group_more : (all : List Played) (one : Played) (number end : ℕ) → IsGroup (HavePlayed s name) (number + 1) end all → IsOver s name number one.passes one.notes → IsGroup (HavePlayed s name) number end (all ++ one ∷ [])
+  group_more all one number end group over = record {
+    count = (let long = length-append all (one ∷ []) in let count = group.count in omega (arith, count, long));
+    each = λ k p is a at. at_either k p a at (get_snoc all one p k is);
+  } where
+    at_either : (k : ℕ) (p : Played) (a : ℕ) → a + k + 1 ≡ end → (slice_get all k ≡ Some p) ⊎ ((k ≡ length all) × (p ≡ one)) → IsOver s name a p.passes p.notes
+    at_either k p a at (inl here) = group.each k p here a at
+    at_either k p a at (inr there) =
+        let count = group.count in
+        let same : number ≡ a = (let is = there.0 in omega (arith, count, at, is)) in
+        subst (λ (x : Played). IsOver s name a x.passes x.notes) (sym there.1) (subst (λ (b : ℕ). IsOver s name b one.passes one.notes) same over)
+
+  -- the first of those that have played stands last
+  pub played_first : (all : List Played) (one : Played) (next end : ℕ) → IsGroup (HavePlayed s name) next end (all ++ one ∷ []) → IsOver s name next one.passes one.notes
+  played_first all one next end group =
+      let long = length-append all (one ∷ []) in
+      group.each (length all) one (get_last all one) next (let count = group.count in omega (arith, count, long))
+
+  pub played_less : (all : List Played) (one : Played) (next end : ℕ) → IsGroup (HavePlayed s name) next end (all ++ one ∷ []) → IsGroup (HavePlayed s name) (next + 1) end all
+  played_less all one next end group = record {
+    count = (let long = length-append all (one ∷ []) in let count = group.count in omega (arith, count, long));
+    each = λ k p is a at. group.each k p (get_front all one p k is) a at;
+  }

@@ -1,0 +1,121 @@
+//! What an actor still does that was refused memory.
+ghost use Rattle.std.specs.Prelude.{◌≡◌, ◌<◌, ◌≤◌, ◌+◌, ℕ, Bool, None, length, true};
+ghost use Rattle.std.specs.List.{All};
+ghost use Rattle.co_object.specs.Journal.{scanner};
+ghost use Rattle.co_program.specs.declared.Script.{Script};
+ghost use Rattle.co_program.specs.Actors.{actor_count, role_of};
+ghost use Rattle.co_program.specs.Follows.{scan_count};
+ghost use Rattle.co_program.specs.Indexed.{cursor_of, stage_of};
+ghost use Rattle.co_program.specs.Scripts.{IsScript, is_tick};
+ghost use Rattle.co_program.specs.Stages.{Ready};
+ghost use Rattle.co_service.specs.Params.{actors_of};
+ghost use Rattle.co_service.specs.Services.{IsFree};
+ghost use Rattle.co_service.specs.Views.{AreOf, journal_seen};
+ghost use Rattle.co_world.proofs.kept.Invariant.{under_way};
+ghost use Rattle.co_run.specs.Acting.{HasAllScans, HasScanned, IsActing, Serves, params_of};
+ghost use Rattle.co_run.specs.Roomy.{is_resting};
+
+use crate::Notebook;
+use crate::actor::Actor;
+use co_program::{Act, Cursor, Role, Script, Stage, role_of};
+use co_service::{Name, Passes, Service};
+use std::sync::Wait;
+
+/// How many of the ticks that are left have their Scan already: that of a tick whose rounds have begun.
+fn scanned_of(stage: &Stage) -> usize
+    ensures one { result ≤ 1 }
+    ensures begun { (s : Script) → result ≤ under_way (stage_of s stage.now) }
+{
+    match stage {
+        Stage::Popping { .. } => 1,
+        _ => 0,
+    }
+}
+
+/// The ticks among these acts of an interrupt that have no Scan yet.
+fn ticks_left<'s>(ticks: &'s [Act], cursor: &Cursor) -> &'s [Act]
+    requires ticks { All (λ act. is_tick act ≡ true) ticks.now }
+    ensures ticks { All (λ act. is_tick act ≡ true) result.now }
+    ensures enough { (s : Script) → length ticks.now ≤ length result.now + cursor.now.task + under_way (stage_of s cursor.now.stage) }
+{
+    let over = cursor.task as usize + scanned_of(&cursor.stage);
+    &ticks[ticks.len().min(over)..]
+}
+
+/// Scans a CPU at each of these ticks, as the actor that scans it.
+fn scan_all<N: Name, R: Wait>(
+    rt: &R,
+    service: &Service<N>,
+    passes: &mut Passes,
+    cpu: u32,
+    act: u64,
+    ticks: &[Act],
+)
+    requires cpu { cpu < service.now.cpus }
+    requires of { AreOf N.name service.now passes.old }
+    requires scanner { passes.old.actor ≡ scanner (actors_of service.now) cpu }
+    requires ticks { All (λ tick. is_tick tick ≡ true) ticks.now }
+    ensures scans { scan_count (journal_seen passes.old cpu) + length ticks.now ≤ scan_count (journal_seen passes.new cpu) }
+    ensures free { (direct : Bool) (x : ℕ) → IsFree direct passes.old x → IsFree direct passes.new x }
+{
+    for tick in ticks {
+        let Act::Tick(now) = tick else {
+            unreachable!();
+        };
+        let _scanned = service.scan(rt, passes, cpu, act, *now);
+    }
+}
+
+/// The Scans that an interrupt which was refused memory still owes its CPU, whose soft acts wait for them. Nothing is
+/// noted.
+fn scan_rest<N: Name, R: Wait>(
+    rt: &R,
+    script: &Script,
+    service: &Service<N>,
+    number: u32,
+    passes: &mut Passes,
+    cursor: &Cursor,
+)
+    requires script { IsScript script.now }
+    requires service { service.now ≡ params_of script.now }
+    requires below { number < actor_count script.now }
+    requires of { AreOf N.name service.now passes.old }
+    requires actor { passes.old.actor ≡ number }
+    requires scanned { let c = cursor_of script.now number cursor.now in HasScanned script.now (role_of script.now number) passes.old c.left c.stage }
+    ensures scans { HasAllScans script.now (role_of script.now number) passes.new }
+    ensures free { Serves (role_of script.now number) passes.old Ready → Serves (role_of script.now number) passes.new Ready }
+{
+    let Role::Interrupt(cpu) = role_of(script, number) else {
+        return;
+    };
+    let Some(ticks) = script.ticks.as_slice().get(cpu as usize) else {
+        return;
+    };
+    let left = ticks_left(ticks.as_slice(), cursor);
+    scan_all(rt, service, passes, cpu, cursor.act, left);
+}
+
+impl<'a, B: Notebook> Actor<'a, B> {
+    /// Leaves its program between two services: it lets go of its lock, has nothing in service, and as an interrupt makes the
+    /// Scans that its CPU still waits for.
+    pub(crate) fn leave<N: Name, R: Wait>(&mut self, rt: &R, script: &Script, service: &Service<N>)
+        requires script { IsScript script.now }
+        requires service { service.now ≡ params_of script.now }
+        requires acting { IsActing script.now N.name self.old.number self.old.passes (cursor_of script.now self.old.number self.old.cursor) self.old.hold (B.notes self.old.book) self.old.own }
+        requires rests { is_resting (cursor_of script.now self.old.number self.old.cursor).stage ≡ true }
+        ensures hold { self.new.hold ≡ None }
+        ensures scans { HasAllScans script.now (role_of script.now self.new.number) self.new.passes }
+        ensures free { Serves (role_of script.now self.new.number) self.new.passes Ready }
+        ensures number { self.new.number ≡ self.old.number }
+    {
+        self.hold = None;
+        scan_rest(
+            rt,
+            script,
+            service,
+            self.number,
+            &mut self.passes,
+            &self.cursor,
+        );
+    }
+}
