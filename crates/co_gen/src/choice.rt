@@ -5,7 +5,7 @@ ghost use Rattle.co_gen.specs.Generator.{choice_of, kind_of};
 use co_sbt::Sbt;
 
 /// The call of a group.
-#[derive(Clone, Copy, Debug, PartialEq, Eq)]
+#[derive(Clone, Copy)]
 pub enum Kind {
     Reset,
     Schedule,
@@ -16,7 +16,7 @@ pub enum Kind {
 }
 
 /// What a draw says of a group.
-#[derive(Clone, Copy, Debug, PartialEq, Eq)]
+#[derive(Clone, Copy)]
 pub struct Choice {
     /// The callout.
     pub timer: u32,
