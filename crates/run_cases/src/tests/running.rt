@@ -1,5 +1,5 @@
 //! Scripts that run on threads, and what is judged of their reports.
-ghost use Rattle.std.specs.Prelude.{◌≡◌, IfOk, length};
+ghost use Rattle.std.specs.Prelude.{◌≡◌, IfOk, length, true};
 ghost use Rattle.co_program.specs.Actors.{actor_count};
 ghost use Rattle.co_program.specs.Runs.{IsRunOf};
 ghost use Rattle.co_service.specs.Booted.{AreBooted};
@@ -93,6 +93,13 @@ pub(super) fn run_script<G: Gate + Sync, R: Threads + Wait + Sync + Abort>(
     Ok(ran.lists)
 }
 
+/// Whether a script fits, so that it can run.
+fn can_run(script: &Script) -> bool
+    ensures { result ≡ true → CanRun script.now }
+{
+    fits(script)
+}
+
 /// Runs a script that was made as a value, and fits. Its report is legal.
 pub(super) fn run_value<G: Gate + Sync, R: Threads + Wait + Sync + Abort>(
     rt: &R,
@@ -100,7 +107,7 @@ pub(super) fn run_value<G: Gate + Sync, R: Threads + Wait + Sync + Abort>(
     script: &Script,
     gate: &G,
 ) -> Result<Lists, Failed> {
-    assert!(rt; fits(script));
+    assert!(rt; can_run(script));
     run_script(rt, alloc, script, gate)
 }
 
