@@ -1,21 +1,23 @@
 -- A command without a fault at either end is answered: each status that the headline allows then fits the input.
-use Rattle.std.proofs.Common.{◌≡◌, ◌⊎◌, ℕ, ◌+◌, ◌<◌, List, ◌++◌, length, Option, Some, None, inl, inr, refl, sym, ap, subst, ◌∙◌, arith, length-append, append-nil}
+use Rattle.std.proofs.Common.{◌≡◌, ◌⊎◌, ℕ, ◌+◌, ◌<◌, List, ◌++◌, length, Option, Some, None, true, inl, inr, refl, sym, ap, subst, ◌∙◌, arith, length-append, append-nil}
 use Rattle.std.specs.Prelude.{IfSome}
 use Rattle.std.specs.Io.KnownBytes.{Consumes, IsAtEnd}
 use Rattle.co_text.specs.Values.{Word}
 use Rattle.co_check.specs.Verdict.{verdict}
 use Rattle.co_check.specs.declared.verdict.Verdict.{Verdict}
 use Rattle.co_check.specs.declared.verdict.Verdict.TheVariants.{Legal, Not}
+use Rattle.co_service.specs.Closing.{ClosingView}
 use Rattle.co_top.specs.declared.command.Command.{Command}
-use Rattle.co_top.specs.declared.command.Command.TheVariants.{Read, Make}
+use Rattle.co_top.specs.declared.command.Command.TheVariants.{Read, Run, Make}
 use Rattle.co_top.specs.declared.command.Reading.{Reading}
 use Rattle.co_top.specs.declared.command.Reading.TheVariants.{Steps, Check}
 use Rattle.co_top.specs.declared.command.Making.{Making}
 use Rattle.co_top.specs.declared.status.Status.{Status}
 use Rattle.co_top.specs.declared.status.Status.TheVariants.{Done, BadScript, Usage, ReadFault, WriteFault, NoMemory, NotLegal}
-use Rattle.co_top.specs.Commands.{command_of}
-use Rattle.co_top.specs.Headline.{Gives, IsJudged, Says, IsReadAnswered, IsAnswered, IsHeadline, IsComplete, limit_of, status_of, script_status, report_status, verdict_status, HasNoFault}
+use Rattle.co_top.specs.Commands.{command_of, is_run}
+use Rattle.co_top.specs.Headline.{Gives, GivesRun, IsJudged, Says, IsReadAnswered, IsAnswered, IsHeadline, IsComplete, limit_of, plain, status_of, script_status, report_status, verdict_status, HasNoFault}
 use Rattle.co_top.specs.Outside.{Outside, ReadsToEnd, Reads}
+use Rattle.co_top.proofs.Commanded.{is_run_of}
 use Rattle.co_top.proofs.Accepted.{long_refused, report_refused}
 
 -- ---- what a source that tells its bytes had
@@ -57,13 +59,24 @@ of_bytes Check bytes text ReadFault given = absurd given
 of_bytes Check bytes text WriteFault given = absurd given
 of_bytes Check bytes text NoMemory given = absurd given
 
-module _ (before after : Outside) (reading : Reading) (bytes text content : List ℕ) where
-  of_all : (status : Status) → before.input.left ≡ Some content → ReadsToEnd before.input after.input bytes → Gives reading bytes status text → status ≡ status_of reading content
+run_of_bytes : (bytes text : List ℕ) (status : Status) (closing : Option ClosingView) → GivesRun bytes status closing text → status ≡ status_of Steps bytes
+run_of_bytes bytes text Done (Some closing) given = sym (ap script_status given.read)
+run_of_bytes bytes text Done None given = absurd given
+run_of_bytes bytes text BadScript None given = sym (ap script_status given.refused)
+run_of_bytes bytes text BadScript (Some closing) given = absurd given
+run_of_bytes bytes text Usage closing given = absurd given
+run_of_bytes bytes text ReadFault closing given = absurd given
+run_of_bytes bytes text WriteFault closing given = absurd given
+run_of_bytes bytes text NoMemory closing given = absurd given
+run_of_bytes bytes text NotLegal closing given = absurd given
+
+module _ (before after : Outside) (reading : Reading) (bytes content : List ℕ) where
+  of_all : (status : Status) → before.input.left ≡ Some content → ReadsToEnd before.input after.input bytes → status ≡ status_of reading bytes → status ≡ status_of reading content
   of_all status is all given =
       let read : Consumes (Some content) after.input.left bytes = subst (λ (x : Option (List ℕ)). Consumes x after.input.left bytes) is all.read in
-      of_bytes reading bytes text status given ∙ ap (status_of reading) (sym (whole content bytes after.input.left read all.ended))
+      given ∙ ap (status_of reading) (sym (whole content bytes after.input.left read all.ended))
 
-  refused : before.input.left ≡ Some content → Reads before.input after.input (limit_of reading) bytes → Gives reading bytes BadScript text → BadScript ≡ status_of reading content
+  refused : before.input.left ≡ Some content → Reads before.input after.input (limit_of reading) bytes → BadScript ≡ status_of reading bytes → BadScript ≡ status_of reading content
   refused is (inl all) given = of_all BadScript is all given
   refused is (inr more) given =
       let read : Consumes (Some content) after.input.left bytes = subst (λ (x : Option (List ℕ)). Consumes x after.input.left bytes) is more.read in
@@ -80,39 +93,62 @@ lacking reading None = tt
 lacking reading (Some content) = inr refl
 
 module _ (before after : Outside) where
-  read_answered : (reading : Reading) (status : Status) → Says before after (Some (Read reading)) status → HasNoFault before after (Read reading) → IsReadAnswered reading before status
+  read_answered : (reading : Reading) (status : Status) → Says before after (Some (Read reading)) status None → HasNoFault before after (Read reading) → IsReadAnswered reading before status
   read_answered reading Done says sound = record {
-    told = told reading before.input.left Done (λ content is. of_all before after reading says.1.0 says.0 content Done is says.1.1 says.1.2);
+    told = told reading before.input.left Done (λ content is. of_all before after reading says.1.0 content Done is says.1.1 (of_bytes reading says.1.0 says.0 Done says.1.2));
     untold = tt;
   }
   read_answered reading BadScript says sound = record {
-    told = told reading before.input.left BadScript (λ content is. refused before after reading says.1.0 says.0 content is says.1.1 says.1.2);
+    told = told reading before.input.left BadScript (λ content is. refused before after reading says.1.0 content is says.1.1 (of_bytes reading says.1.0 says.0 BadScript says.1.2));
     untold = tt;
   }
   read_answered Check NotLegal says sound = record {
-    told = told Check before.input.left NotLegal (λ content is. of_all before after Check says.1.0 says.0 content NotLegal is says.1.1 says.1.2);
+    told = told Check before.input.left NotLegal (λ content is. of_all before after Check says.1.0 content NotLegal is says.1.1 (of_bytes Check says.1.0 says.0 NotLegal says.1.2));
     untold = tt;
   }
   read_answered Steps NotLegal says sound = absurd says.1.2
   read_answered Steps Usage says sound = absurd says.1.2
   read_answered Check Usage says sound = absurd says.1.2
   read_answered reading ReadFault says sound = absurd (sound.reads says.0)
-  read_answered reading WriteFault says sound = absurd (sound.writes says.0 says.1 says.2 says.3.cause)
+  read_answered reading WriteFault says sound = absurd (sound.writes says.0 says.1 says.2 says.3 says.4.cause)
   read_answered reading NoMemory says sound = record { told = lacking reading before.input.left; untold = tt }
 
-  make_answered : (making : Making) (status : Status) → Says before after (Some (Make making)) status → HasNoFault before after (Make making) → (status ≡ Done) ⊎ (status ≡ NoMemory)
+  make_answered : (making : Making) (status : Status) → Says before after (Some (Make making)) status None → HasNoFault before after (Make making) → (status ≡ Done) ⊎ (status ≡ NoMemory)
   make_answered making Done says sound = inl refl
   make_answered making BadScript says sound = absurd says.1
   make_answered making NotLegal says sound = absurd says.1
   make_answered making Usage says sound = absurd says.1
   make_answered making ReadFault says sound = absurd says.0
-  make_answered making WriteFault says sound = absurd (sound.writes says.0 says.1 says.2 says.3.cause)
+  make_answered making WriteFault says sound = absurd (sound.writes says.0 says.1 says.2 says.3 says.4.cause)
   make_answered making NoMemory says sound = inr refl
 
-  answered : (command : Option Command) (status : Status) → Says before after command status → IfSome command (λ command. HasNoFault before after command → IsAnswered command before status)
+  run_answered : (status : Status) (closing : Option ClosingView) → Says before after (Some Run) status closing → HasNoFault before after Run → IsReadAnswered Steps before status
+  run_answered Done closing says sound = record {
+    told = told Steps before.input.left Done (λ content is. of_all before after Steps says.1.0 content Done is says.1.1 (run_of_bytes says.1.0 says.0 Done closing says.1.2));
+    untold = tt;
+  }
+  run_answered BadScript closing says sound = record {
+    told = told Steps before.input.left BadScript (λ content is. refused before after Steps says.1.0 content is says.1.1 (run_of_bytes says.1.0 says.0 BadScript closing says.1.2));
+    untold = tt;
+  }
+  run_answered NotLegal closing says sound = absurd says.1.2
+  run_answered Usage closing says sound = absurd says.1.2
+  run_answered ReadFault None says sound = absurd (sound.reads says.0)
+  run_answered ReadFault (Some closing) says sound = absurd says
+  run_answered WriteFault None says sound = absurd (sound.writes says.0 says.1 says.2 says.3 says.4.cause)
+  run_answered WriteFault (Some closing) says sound = absurd says
+  run_answered NoMemory None says sound = record { told = lacking Steps before.input.left; untold = tt }
+  run_answered NoMemory (Some closing) says sound = absurd says
+
+  answered : (command : Option Command) (status : Status) → Says before after command status None → IfSome command (λ command. HasNoFault before after command → IsAnswered command before status)
   answered None status says = tt
   answered (Some (Read reading)) status says = λ sound. read_answered reading status says sound
+  answered (Some Run) status says = λ sound. run_answered status None says sound
   answered (Some (Make making)) status says = λ sound. make_answered making status says sound
 
-pub complete : (words : List Word) (before after : Outside) (status : Status) → IsHeadline words before after status → IsComplete words before after status
+pub complete : (words : List Word) (before after : Outside) (status : Status) → IsHeadline words before after (plain status) → IsComplete words before after status
 complete words before after status says = answered before after (command_of words) status says
+
+pub run_complete : (words : List Word) (before after : Outside) (status : Status) (closing : Option ClosingView) → is_run (command_of words) ≡ true → Says before after (Some Run) status closing → IsComplete words before after status
+run_complete words before after status closing is says =
+    subst (λ (asked : Option Command). IfSome asked (λ command. HasNoFault before after command → IsAnswered command before status)) (sym (is_run_of (command_of words) is)) (λ sound. run_answered before after status closing says sound)

@@ -10,7 +10,8 @@ use Rattle.co_top.specs.declared.answer.Answer.{Answer}
 use Rattle.co_top.specs.declared.command.Reading.TheVariants.{Check}
 use Rattle.co_top.specs.declared.status.Status.{Status}
 use Rattle.co_top.specs.declared.status.Status.TheVariants.{Done, NotLegal}
-use Rattle.co_top.specs.Headline.{Gives, IsJudged}
+use Rattle.co_top.specs.Commands.{legal_text}
+use Rattle.co_top.specs.Headline.{Gives, IsJudged, IsLegalReport}
 
 gives : (bytes : List ℕ) (report : Report) (found : Verdict) (status : Status) (text : List ℕ) → report_read bytes ≡ Ok report → found ≡ verdict report →
     IsJudged found status text → Gives Check bytes status text
@@ -23,3 +24,7 @@ pub judged_gives : {E : Type 0} (bytes : List ℕ) (report : Report) (r : Result
     IfOk r (λ a. Gives Check bytes a.status (concat a.pieces))
 judged_gives bytes report (Ok a) read judged = gives bytes report (verdict report) a.status (concat a.pieces) read refl judged
 judged_gives bytes report (Err e) read judged = tt
+
+-- a legal report is judged so
+pub legal_judged : (text : List ℕ) → IsLegalReport text → Gives Check text Done legal_text
+legal_judged text legal = record { report = legal.report; read = legal.read; judged = subst (λ (v : Verdict). IsJudged v Done legal_text) (sym legal.legal) (refl, refl) }

@@ -5,3 +5,4 @@ pub mod Completeness
 pub mod Generated
 pub mod Judged
 pub mod Accepts
+pub mod OneMore

@@ -1,5 +1,5 @@
 -- The words that are a command, and the texts that the program itself writes.
-use Rattle.std.specs.Prelude.{ℕ, ◌^◌, List, [], ◌∷◌, ◌++◌, Option, Some, None, Result, Ok, Err, codes, decimal, nat_lt, if◌then◌else◌}
+use Rattle.std.specs.Prelude.{◌≡◌, ℕ, ◌^◌, Bool, true, false, List, [], ◌∷◌, ◌++◌, Option, Some, None, Result, Ok, Err, codes, decimal, nat_lt, if◌then◌else◌}
 use Rattle.co_text.specs.Fallible.{Refusal}
 use Rattle.co_text.specs.Values.{Word, is_word, number}
 use Rattle.co_text.specs.declared.cause.Cause.{Cause}
@@ -7,7 +7,7 @@ use Rattle.co_text.specs.declared.cause.Cause.TheVariants as cause
 use Rattle.co_check.specs.declared.verdict.Unfit.{Unfit}
 use Rattle.co_check.specs.declared.verdict.Unfit.TheVariants as unfit
 use Rattle.co_top.specs.declared.command.Command.{Command}
-use Rattle.co_top.specs.declared.command.Command.TheVariants.{Read, Make}
+use Rattle.co_top.specs.declared.command.Command.TheVariants.{Read, Run, Make}
 use Rattle.co_top.specs.declared.command.Reading.{Reading}
 use Rattle.co_top.specs.declared.command.Reading.TheVariants.{Steps, Check}
 use Rattle.co_top.specs.declared.command.Making.{Making}
@@ -15,7 +15,7 @@ use Rattle.co_top.specs.declared.command.Making.TheVariants.{Gen, Soak}
 
 -- ---- commands
 
--- a command of one word
+-- a command of one word that reads and needs one thread alone
 abbrev pub reading_of : Word → Option Reading
 reading_of word = if is_word word (codes "steps") then Some Steps
     else (if is_word word (codes "check") then Some Check else None)
@@ -41,15 +41,28 @@ abbrev pub reads : Option Reading → Option Command
 reads None = None
 reads (Some reading) = Some (Read reading)
 
+-- a command of one word
+abbrev pub word_command : Word → Option Command
+word_command word = if is_word word (codes "run") then Some Run else reads (reading_of word)
+
 abbrev pub makes : Option Making → Option Command
 makes None = None
 makes (Some making) = Some (Make making)
 
--- `steps`, `check`, `gen N` and `soak N`
+-- `steps`, `run`, `check`, `gen N` and `soak N`
 abbrev pub command_of : List Word → Option Command
-command_of (word ∷ []) = reads (reading_of word)
+command_of (word ∷ []) = word_command word
 command_of (word ∷ n ∷ []) = makes (making_of word (seed_of n))
 command_of words = None
+
+-- the command is one that starts threads
+abbrev pub is_run : Option Command → Bool
+is_run (Some Run) = true
+is_run command = false
+
+-- the words are not those of such a command
+abbrev pub IsPlain : List Word → Type 0
+IsPlain words = is_run (command_of words) ≡ false
 
 -- ---- texts
 

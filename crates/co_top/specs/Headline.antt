@@ -14,20 +14,23 @@ use Rattle.co_report.specs.declared.line.Report.{Report}
 use Rattle.co_check.specs.Verdict.{verdict}
 use Rattle.co_check.specs.declared.verdict.Verdict.{Verdict}
 use Rattle.co_check.specs.declared.verdict.Verdict.TheVariants.{Legal, Not}
+use Rattle.co_service.specs.Closing.{ClosingView}
+use Rattle.co_run.specs.Ran.{shown_timers, shown_cpus}
 use Rattle.co_gen.specs.Generator.{generated}
 use Rattle.co_gen.specs.Soak.{counts_of, soak_line}
 use Rattle.co_top.specs.declared.command.Command.{Command}
-use Rattle.co_top.specs.declared.command.Command.TheVariants.{Read, Make}
+use Rattle.co_top.specs.declared.command.Command.TheVariants.{Read, Run, Make}
 use Rattle.co_top.specs.declared.command.Reading.{Reading}
 use Rattle.co_top.specs.declared.command.Reading.TheVariants.{Steps, Check}
 use Rattle.co_top.specs.declared.command.Making.{Making}
 use Rattle.co_top.specs.declared.command.Making.TheVariants.{Gen, Soak}
+use Rattle.co_top.specs.declared.status.Finish.{Finish}
 use Rattle.co_top.specs.declared.status.Status.{Status}
 use Rattle.co_top.specs.declared.status.Status.TheVariants.{Done, BadScript, Usage, ReadFault, WriteFault, NoMemory, NotLegal}
 use Rattle.co_top.specs.Commands.{command_of, usage_text, legal_text, refusal_text, fault_text, unfit_word}
 use Rattle.co_top.specs.Outside.{Output, Outside, ReadsToEnd, Reads, ReadFails, Writes, WriteFails, WritesFront}
 
--- ---- `steps`
+-- ---- `steps` and `run`
 
 -- the text is a report, and its verdict is Legal
 pub record IsLegalReport (text : List ℕ) : Type 0 where
@@ -35,21 +38,36 @@ pub record IsLegalReport (text : List ℕ) : Type 0 where
   pub read : report_read text ≡ Ok report
   pub legal : verdict report ≡ Legal
 
--- the text is the report of the script's walk, which is a run of it: every callout has one legal history of that callout alone
+-- the text is the report of these lists, which are a run of the script: every callout has one legal history of that callout alone
 -- and every CPU one of a plain timer queue, made of exactly the steps of the script's actors. It is legal, where it is not too
 -- long for a report
-pub record IsReportOf (script : Script) (text : List ℕ) : Type 0 where
-  pub lists : List (List Note)
-  pub walk : IsWalk script lists
+pub record IsReportOf (script : Script) (lists : List (List Note)) (text : List ℕ) : Type 0 where
   pub run : IsRunOf script lists
   pub shown : text ≡ report_of script lists
   pub legal : length text ≤ 268435456 → IsLegalReport text
 
--- the bytes are a script, and the text is its report
-pub record IsReport (bytes text : List ℕ) : Type 0 where
+-- the text is the report of the script's walk
+pub record IsReportOfWalk (script : Script) (text : List ℕ) : Type 0 where
+  pub lists : List (List Note)
+  pub walk : IsWalk script lists
+  pub report : IsReportOf script lists text
+
+-- the text is the report of whichever run the script's actors made on their threads, over the service that came to this closing
+pub record IsReportOfRun (script : Script) (closing : ClosingView) (text : List ℕ) : Type 0 where
+  -- the notes of each actor
+  pub lists : List (List Note)
+  -- the text is their report
+  pub report : IsReportOf script lists text
+  -- the callouts of the service have exactly the histories that the notes show
+  pub timers : closing.timers ≡ shown_timers script lists
+  -- and so have its CPUs
+  pub cpus : closing.cpus ≡ shown_cpus script lists
+
+-- the bytes are a script, of which this holds
+pub record IsScriptOf (bytes : List ℕ) (Holds : Script → Type 0) : Type 0 where
   pub script : Script
   pub read : script_of bytes ≡ Ok script
-  pub report : IsReportOf script text
+  pub holds : Holds script
 
 -- the bytes are no script, or no report, and the text says which line is bad, and why
 pub record IsRefused {X : Type 0} (meaning : Result X Refusal) (text : List ℕ) : Type 0 where
@@ -73,12 +91,18 @@ pub record IsVerdict (bytes : List ℕ) (status : Status) (text : List ℕ) : Ty
 -- ---- what is made of the bytes that are read: the status, and the text for it
 
 abbrev pub Gives : Reading → List ℕ → Status → List ℕ → Type 0
-Gives Steps bytes Done text = IsReport bytes text
+Gives Steps bytes Done text = IsScriptOf bytes (λ script. IsReportOfWalk script text)
 Gives Steps bytes BadScript text = IsRefused (script_of bytes) text
 Gives Check bytes Done text = IsVerdict bytes Done text
 Gives Check bytes NotLegal text = IsVerdict bytes NotLegal text
 Gives Check bytes BadScript text = IsRefused (report_read bytes) text
 Gives reading bytes status text = ⊥
+
+-- `run`, whose answer has a closing too
+abbrev pub GivesRun : List ℕ → Status → Option ClosingView → List ℕ → Type 0
+GivesRun bytes Done (Some closing) text = IsScriptOf bytes (λ script. IsReportOfRun script closing text)
+GivesRun bytes BadScript None text = IsRefused (script_of bytes) text
+GivesRun bytes status closing text = ⊥
 
 -- the most bytes that an input has
 abbrev pub limit_of : Reading → ℕ
@@ -114,49 +138,57 @@ module _ (before after : Outside) where
   HasRead reading BadScript bytes = Reads before.input after.input (limit_of reading) bytes
   HasRead reading status bytes = ReadsToEnd before.input after.input bytes
 
-  -- the words come to this status, for which this text is to be written
-  abbrev pub ComesTo : Option Command → Status → List ℕ → Type 0
-  ComesTo None Usage text = IsUnread × (text ≡ usage_text)
-  ComesTo (Some (Read reading)) status text = (bytes : List ℕ) × HasRead reading status bytes × Gives reading bytes status text
-  ComesTo (Some (Make making)) Done text = IsUnread × IsMadeOf making text
-  ComesTo command status text = ⊥
+  -- the words come to this status and this closing, for which this text is to be written. `run` reads what `steps` reads
+  abbrev pub ComesTo : Option Command → Status → Option ClosingView → List ℕ → Type 0
+  ComesTo None Usage None text = IsUnread × (text ≡ usage_text)
+  ComesTo (Some (Read reading)) status None text = (bytes : List ℕ) × HasRead reading status bytes × Gives reading bytes status text
+  ComesTo (Some Run) status closing text = (bytes : List ℕ) × HasRead Steps status bytes × GivesRun bytes status closing text
+  ComesTo (Some (Make making)) Done None text = IsUnread × IsMadeOf making text
+  ComesTo command status closing text = ⊥
 
   -- the text of this status was written
-  abbrev pub Answers : Option Command → Status → Type 0
-  Answers command status = (text : List ℕ) × ComesTo command status text × Writes before.output after.output text
+  abbrev pub Answers : Option Command → Status → Option ClosingView → Type 0
+  Answers command status closing = (text : List ℕ) × ComesTo command status closing text × Writes before.output after.output text
 
   -- the sink failed in the text of some status
   abbrev pub FailsIn : Option Command → Type 0
-  FailsIn command = (status : Status) × (text : List ℕ) × ComesTo command status text × WritesFront before.output after.output text
+  FailsIn command = (status : Status) × (closing : Option ClosingView) × (text : List ℕ) × ComesTo command status closing text × WritesFront before.output after.output text
 
   -- a read failed of a command that reads
   abbrev pub FailsToRead : Option Command → Type 0
   FailsToRead (Some (Read reading)) = ReadFails before.input after.input
+  FailsToRead (Some Run) = ReadFails before.input after.input
   FailsToRead command = ⊥
 
   -- there was too little memory for a command, and those that don't read have read nothing
   abbrev pub LacksMemory : Option Command → Type 0
   LacksMemory None = ⊥
   LacksMemory (Some (Read reading)) = Unit {0}
+  LacksMemory (Some Run) = Unit {0}
   LacksMemory (Some (Make making)) = IsUnread
 
   -- nothing was written
   abbrev pub IsUnwritten : Type 0
   IsUnwritten = after.output ≡ before.output
 
-  -- what a status says
-  abbrev pub Says : Option Command → Status → Type 0
-  Says command Done = Answers command Done
-  Says command BadScript = Answers command BadScript
-  Says command Usage = Answers command Usage
-  Says command ReadFault = FailsToRead command × IsUnwritten
-  Says command WriteFault = FailsIn command
-  Says command NoMemory = LacksMemory command × IsUnwritten
-  Says command NotLegal = Answers command NotLegal
+  -- what a status says, and that there is a closing exactly where `run` is done
+  abbrev pub Says : Option Command → Status → Option ClosingView → Type 0
+  Says command Done closing = Answers command Done closing
+  Says command BadScript closing = Answers command BadScript closing
+  Says command Usage closing = Answers command Usage closing
+  Says command NotLegal closing = Answers command NotLegal closing
+  Says command ReadFault None = FailsToRead command × IsUnwritten
+  Says command WriteFault None = FailsIn command
+  Says command NoMemory None = LacksMemory command × IsUnwritten
+  Says command status (Some closing) = ⊥
 
--- what a call with these words says by its status
-abbrev pub IsHeadline : List Word → Outside → Outside → Status → Type 0
-IsHeadline words before after status = Says before after (command_of words) status
+-- what a call with these words says by how it ends
+abbrev pub IsHeadline : List Word → Outside → Outside → Finish → Type 0
+IsHeadline words before after finish = Says before after (command_of words) finish.status finish.closing
+
+-- a call without threads ends with its status alone
+abbrev pub plain : Status → Finish
+plain status = record { status = status; closing = None }
 
 -- ---- completeness
 
@@ -194,11 +226,12 @@ pub record IsReadAnswered (reading : Reading) (before : Outside) (status : Statu
 -- each of them none does
 pub record HasNoFault (before after : Outside) (command : Command) : Type 0 where
   pub reads : ¬ ReadFails before.input after.input
-  pub writes : (status : Status) (text : List ℕ) → ComesTo before after (Some command) status text → ¬ WriteFails before.output after.output text
+  pub writes : (status : Status) (closing : Option ClosingView) (text : List ℕ) → ComesTo before after (Some command) status closing text → ¬ WriteFails before.output after.output text
 
--- what a command answers, without a fault at either end
+-- what a command answers, without a fault at either end: `run` what `steps` does
 abbrev pub IsAnswered : Command → Outside → Status → Type 0
 IsAnswered (Read reading) before status = IsReadAnswered reading before status
+IsAnswered Run before status = IsReadAnswered Steps before status
 IsAnswered (Make making) before status = (status ≡ Done) ⊎ (status ≡ NoMemory)
 
 abbrev pub IsComplete : List Word → Outside → Outside → Status → Type 0

@@ -1,10 +1,10 @@
 //! The words that are a command.
 ghost use Rattle.std.specs.Prelude.{◌≡◌, map, string_bytes};
-ghost use Rattle.co_top.specs.Commands.{command_of, making_of, reading_of, seed_of};
+ghost use Rattle.co_top.specs.Commands.{command_of, is_run, making_of, reading_of, seed_of, word_command};
 
 use co_text::number;
 
-/// A command that reads an input.
+/// A command that reads an input, and needs one thread alone.
 #[derive(Clone, Copy, Debug, PartialEq, Eq)]
 pub enum Reading {
     /// Reads a script and writes the report of its walk.
@@ -27,11 +27,13 @@ pub enum Making {
 pub enum Command {
     /// One that reads an input.
     Read(Reading),
+    /// Reads a script, runs its actors on threads and writes the report of whatever happened.
+    Run,
     /// One that makes its text from a seed.
     Make(Making),
 }
 
-/// The command of one word.
+/// The command of one word that needs one thread alone.
 fn reading_of(word: &[u8]) -> Option<Reading>
     ensures { result ≡ reading_of word.now }
 {
@@ -41,6 +43,19 @@ fn reading_of(word: &[u8]) -> Option<Reading>
         Some(Reading::Check)
     } else {
         None
+    }
+}
+
+/// The command of one word.
+fn word_command(word: &[u8]) -> Option<Command>
+    ensures { result ≡ word_command word.now }
+{
+    if word == b"run".as_slice() {
+        return Some(Command::Run);
+    }
+    match reading_of(word) {
+        Some(reading) => Some(Command::Read(reading)),
+        None => None,
     }
 }
 
@@ -68,19 +83,23 @@ fn making_of(word: &[u8], seed: Option<u64>) -> Option<Making>
     }
 }
 
-/// The command that the words are, if they are one: `steps`, `check`, `gen N` or `soak N`. Our own decision.
+/// The command that the words are, if they are one: `steps`, `run`, `check`, `gen N` or `soak N`. Our own decision.
 pub(crate) fn command_of(words: &[String]) -> Option<Command>
     ensures { result ≡ command_of (map string_bytes words.now) }
 {
     match words {
-        [word] => match reading_of(word.as_bytes()) {
-            Some(reading) => Some(Command::Read(reading)),
-            None => None,
-        },
+        [word] => word_command(word.as_bytes()),
         [word, seed] => match making_of(word.as_bytes(), seed_of(seed.as_bytes())) {
             Some(making) => Some(Command::Make(making)),
             None => None,
         },
         _ => None,
     }
+}
+
+/// Whether the words are the command `run`.
+pub(crate) fn is_run(words: &[String]) -> bool
+    ensures { result ≡ is_run (command_of (map string_bytes words.now)) }
+{
+    matches!(command_of(words), Some(Command::Run))
 }

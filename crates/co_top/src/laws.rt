@@ -1,8 +1,13 @@
 //! What the commands say of each other's texts, each law the contract of a function that does nothing.
-ghost use Rattle.co_top.specs.Laws.{ReportsOfStepsAreLegal};
+ghost use Rattle.co_top.specs.Laws.{ReportsOfRunsAreLegal, ReportsOfStepsAreLegal};
 
 /// What `steps` makes of a script is a report that `check` calls legal, where it has at most 268435456 bytes: more are no
 /// report.
 pub fn reports_of_steps_are_legal()
     ensures { ReportsOfStepsAreLegal }
+{}
+
+/// So is what `run` makes of it.
+pub fn reports_of_runs_are_legal()
+    ensures { ReportsOfRunsAreLegal }
 {}

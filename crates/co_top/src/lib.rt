@@ -6,10 +6,12 @@ mod command;
 pub mod laws;
 mod making;
 mod reading;
+mod running;
 mod status;
 mod texts;
 mod top;
+mod typed;
 
 pub use command::{Command, Making, Reading};
-pub use status::Status;
-pub use top::callout_main;
+pub use status::{Finish, Status};
+pub use top::{callout_main, plain_main};

@@ -4,7 +4,7 @@ ghost use Rattle.std.specs.List.{concat};
 ghost use Rattle.co_script.specs.Fits.{fits};
 ghost use Rattle.co_check.specs.Lines.{IsReport};
 ghost use Rattle.co_check.specs.Verdict.{verdict};
-ghost use Rattle.co_top.specs.Headline.{Gives, IsJudged, IsReportOf};
+ghost use Rattle.co_top.specs.Headline.{Gives, IsJudged, IsReportOfWalk};
 ghost use Rattle.co_top.specs.declared.command.Reading.TheVariants as readings;
 
 use crate::answer::{Answer, whole};
@@ -25,7 +25,7 @@ use std::marker::Brand;
 fn report_told<S: Subject>(alloc: Global, script: &Script) -> Result<Seq<Seq<u8>>, NoMemory>
     requires fits { fits script.now ≡ true }
     requires subject { script.now ≡ S.script }
-    ensures { IfOk result (λ pieces. IsReportOf script.now (concat pieces)) }
+    ensures { IfOk result (λ pieces. IsReportOfWalk script.now (concat pieces)) }
 {
     let mut sections = SectionsOf::<S>::new(alloc, script)?;
     tell_walk(alloc, script, &mut sections)?;
@@ -35,7 +35,7 @@ fn report_told<S: Subject>(alloc: Global, script: &Script) -> Result<Seq<Seq<u8>
 /// The report of a script's walk.
 fn report_of_walk(alloc: Global, script: &Script) -> Result<Seq<Seq<u8>>, NoMemory>
     requires { fits script.now ≡ true }
-    ensures { IfOk result (λ pieces. IsReportOf script.now (concat pieces)) }
+    ensures { IfOk result (λ pieces. IsReportOfWalk script.now (concat pieces)) }
 {
     report_told::<Brand>(alloc, script)
 }

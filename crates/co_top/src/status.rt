@@ -2,6 +2,8 @@
 ghost use Rattle.std.specs.Prelude.{◌≡◌};
 ghost use Rattle.co_top.specs.Statuses.{exit_status};
 
+use co_service::Closing;
+
 /// How a call of the program ends. Our own decision.
 #[derive(Clone, Copy, Debug, PartialEq, Eq)]
 pub enum Status {
@@ -20,6 +22,15 @@ pub enum Status {
     NoMemory,
     /// The report is not legal; its first bad line and the cause were written.
     NotLegal,
+}
+
+/// How a call of the program ends, with what is left of the service whose calls it wrote the report of: a closing is there
+/// exactly where the command `run` is done.
+#[derive(Drop)]
+pub struct Finish {
+    pub status: Status,
+    /// The histories of the callouts and CPUs that the report shows.
+    pub closing: Option<Closing>,
 }
 
 impl Status {

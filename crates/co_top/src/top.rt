@@ -1,19 +1,25 @@
 //! The top call.
-ghost use Rattle.std.specs.Prelude.{◌≡◌, ℕ, List, MatchResult, Option, Some, map, string_bytes};
+ghost use Rattle.std.specs.Prelude.{◌≡◌, ℕ, List, MatchResult, Option, Some, None, map, string_bytes};
 ghost use Rattle.std.specs.List.{concat};
 ghost use Rattle.co_top.specs.declared.command.Command.TheVariants as commands;
 ghost use Rattle.co_top.specs.declared.status.Status.TheVariants.{WriteFault};
-ghost use Rattle.co_top.specs.Headline.{IsHeadline, IsComplete, Says, Tells, limit_of};
+ghost use Rattle.co_top.specs.Commands.{IsPlain};
+ghost use Rattle.co_top.specs.Headline.{IsHeadline, IsComplete, Says, Tells, limit_of, plain};
 ghost use Rattle.co_top.specs.Outside.{Input, Output, outside};
 
 use crate::answer::Answer;
-use crate::command::{Command, Making, Reading, command_of};
+use crate::command::{Command, Making, Reading, command_of, is_run};
 use crate::making::text_of;
 use crate::reading::answer_to;
-use crate::status::Status;
+use crate::running::run;
+use crate::status::{Finish, Status};
 use crate::texts::usage_text;
+use co_hand::Gate;
 use co_io::{ReadEnd, Sink, Source, WriteEnd, read_all, write_all, write_pieces};
+use co_service::Closing;
 use std::alloc::Global;
+use std::sync::Wait;
+use std::thread::Threads;
 
 /// The most bytes of an input: of a script 64 MiB, of a report 256 MiB.
 fn limit_of(reading: Reading) -> usize
@@ -62,7 +68,7 @@ fn read_and_answer<S: Source, K: Sink>(
 ) -> Status
     ensures { let before = outside (S.left source.old) (S.faults source.old) (K.held sink.old) (K.room sink.old) (K.faults sink.old) (K.idle sink.old) in
         let after = outside (S.left source.new) (S.faults source.new) (K.held sink.new) (K.room sink.new) (K.faults sink.new) (K.idle sink.new) in
-        Says before after (Some (commands.Read reading)) result }
+        Says before after (Some (commands.Read reading)) result None }
 {
     let input = match read_all(alloc, source, limit_of(reading)) {
         Ok(input) => input,
@@ -78,7 +84,7 @@ fn read_and_answer<S: Source, K: Sink>(
 /// A command that makes its text, to the sink. It has no source.
 fn make<K: Sink>(alloc: Global, making: Making, sink: &mut K) -> Status
     ensures { (left : Option (List ℕ)) (faults : ℕ) →
-        Says (outside left faults (K.held sink.old) (K.room sink.old) (K.faults sink.old) (K.idle sink.old)) (outside left faults (K.held sink.new) (K.room sink.new) (K.faults sink.new) (K.idle sink.new)) (Some (commands.Make making)) result }
+        Says (outside left faults (K.held sink.old) (K.room sink.old) (K.faults sink.old) (K.idle sink.old)) (outside left faults (K.held sink.new) (K.room sink.new) (K.faults sink.new) (K.idle sink.new)) (Some (commands.Make making)) result None }
 {
     match text_of(alloc, making) {
         Ok(text) => write_text(sink, Status::Done, text.as_slice()),
@@ -86,20 +92,67 @@ fn make<K: Sink>(alloc: Global, making: Making, sink: &mut K) -> Status
     }
 }
 
-/// Does what the words say, from a source to a sink, and tells how it ended. Our own decision, the words and the texts too.
+/// The end of a call with this status alone.
+fn without_closing(status: Status) -> Finish
+    ensures { result ≡ plain status }
+{
+    Finish {
+        status,
+        closing: None,
+    }
+}
+
+/// How `run` ends that came to this closing: where the sink failed, there is none.
+fn finished(status: Status, closing: Option<Closing>) -> Finish
+    ensures status { result.status ≡ status }
+    ensures kept { (status ≡ WriteFault → ⊥) → result.closing ≡ closing }
+    ensures lost { status ≡ WriteFault → result.closing ≡ None }
+{
+    match status {
+        Status::WriteFault => without_closing(status),
+        _ => Finish { status, closing },
+    }
+}
+
+/// The command `run`, from the source to the sink.
+fn run_and_answer<S: Source, K: Sink, G: Gate + Sync, R: Threads + Wait + Sync>(
+    rt: &R,
+    alloc: Global,
+    source: &mut S,
+    sink: &mut K,
+    gate: &G,
+) -> Finish
+    ensures { let before = outside (S.left source.old) (S.faults source.old) (K.held sink.old) (K.room sink.old) (K.faults sink.old) (K.idle sink.old) in
+        let after = outside (S.left source.new) (S.faults source.new) (K.held sink.new) (K.room sink.new) (K.faults sink.new) (K.idle sink.new) in
+        Says before after (Some commands.Run) result.status result.closing }
+{
+    let bytes = match read_all(alloc, source, limit_of(Reading::Steps)) {
+        Ok(input) => input.bytes,
+        Err(ReadEnd::NoMemory) => return without_closing(Status::NoMemory),
+        Err(ReadEnd::Fault) => return without_closing(Status::ReadFault),
+    };
+    match run(rt, alloc, bytes.as_slice(), gate) {
+        Ok(ran) => finished(write_answer(sink, &ran.answer), ran.closing),
+        Err(_) => without_closing(Status::NoMemory),
+    }
+}
+
+/// Does what the words say, from a source to a sink, and tells how it ended, for all words but those of a command that starts
+/// threads. It returns. Our own decision, the words and the texts too.
 ///
 /// Usage comes exactly where the words are no command. Of a command ReadFault comes before BadScript, and that before the
 /// work; nothing is written before the whole text is made. NoMemory may come at any command, and then nothing was written.
 /// WriteFault comes only where a write failed, or took nothing and the sink had told too little room for the text, if any.
-pub fn callout_main<S: Source, K: Sink>(
+pub fn plain_main<S: Source, K: Sink>(
     alloc: Global,
     words: &[String],
     source: &mut S,
     sink: &mut K,
 ) -> Status
+    requires plain { IsPlain (map string_bytes words.now) }
     ensures headline { let before = outside (S.left source.old) (S.faults source.old) (K.held sink.old) (K.room sink.old) (K.faults sink.old) (K.idle sink.old) in
         let after = outside (S.left source.new) (S.faults source.new) (K.held sink.new) (K.room sink.new) (K.faults sink.new) (K.idle sink.new) in
-        IsHeadline (map string_bytes words.now) before after result }
+        IsHeadline (map string_bytes words.now) before after (plain result) }
     ensures complete { let before = outside (S.left source.old) (S.faults source.old) (K.held sink.old) (K.room sink.old) (K.faults sink.old) (K.idle sink.old) in
         let after = outside (S.left source.new) (S.faults source.new) (K.held sink.new) (K.room sink.new) (K.faults sink.new) (K.idle sink.new) in
         IsComplete (map string_bytes words.now) before after result }
@@ -107,6 +160,34 @@ pub fn callout_main<S: Source, K: Sink>(
     match command_of(words) {
         None => write_text(sink, Status::Usage, usage_text()),
         Some(Command::Read(reading)) => read_and_answer(alloc, reading, source, sink),
+        Some(Command::Run) => unreachable!(),
         Some(Command::Make(making)) => make(alloc, making, sink),
+    }
+}
+
+/// Does what the words say, from a source to a sink, and tells how it ended: `run` on threads of `rt`, and each other command
+/// as [`plain_main`] does.
+///
+/// Of `run` the gate is called before each act of an actor. It may wait, for as long as the gate and the actors' calls of the service do;
+/// the clauses hold if it returns. Its statuses come as those of `steps`, and a closing exactly where it is done.
+pub fn callout_main<S: Source, K: Sink, G: Gate + Sync, R: Threads + Wait + Sync>(
+    rt: &R,
+    alloc: Global,
+    words: &[String],
+    source: &mut S,
+    sink: &mut K,
+    gate: &G,
+) -> Finish
+    ensures headline { let before = outside (S.left source.old) (S.faults source.old) (K.held sink.old) (K.room sink.old) (K.faults sink.old) (K.idle sink.old) in
+        let after = outside (S.left source.new) (S.faults source.new) (K.held sink.new) (K.room sink.new) (K.faults sink.new) (K.idle sink.new) in
+        IsHeadline (map string_bytes words.now) before after result }
+    ensures complete { let before = outside (S.left source.old) (S.faults source.old) (K.held sink.old) (K.room sink.old) (K.faults sink.old) (K.idle sink.old) in
+        let after = outside (S.left source.new) (S.faults source.new) (K.held sink.new) (K.room sink.new) (K.faults sink.new) (K.idle sink.new) in
+        IsComplete (map string_bytes words.now) before after result.status }
+{
+    if is_run(words) {
+        run_and_answer(rt, alloc, source, sink, gate)
+    } else {
+        without_closing(plain_main(alloc, words, source, sink))
     }
 }

@@ -13,8 +13,8 @@ use Rattle.co_report.specs.Reports.{report_of}
 use Rattle.co_report.specs.Sections.{Written, IsToldOf}
 use Rattle.co_report.specs.Typed.{ListsTyped}
 use Rattle.co_report.proofs.ToldPages.{told-typed}
-use Rattle.co_top.specs.Headline.{IsLegalReport, IsReportOf}
-use Rattle.co_top.proofs.Accepts.{run_legal}
+use Rattle.co_top.specs.Headline.{IsReportOfWalk}
+use Rattle.co_top.proofs.Accepts.{reported_run}
 use Rattle.co_top.proofs.reading.report_told.Goals as goal
 
 as-many : (s t u : Script) → s ≡ t → u ≡ t → actor_count s ≤ actor_count u
@@ -31,13 +31,11 @@ tell_walk-requires-clause-script g c = fits-accepted c.args.script.now c.require
 
 -- the printed text is the report of the walk
 reported : {E : Type 0} (s t : Script) (x : Written) (made : List Made) (r : Result (List (List ℕ)) E) → s ≡ t → fits s ≡ true → IsTelling s made → IsToldOf t x made
-    → IfOk r (λ pieces. (all : List Made) → IsToldOf t x all → IsInOrder all → concat pieces ≡ report_of t (lists_by (actor_count t) all)) → IfOk r (λ pieces. IsReportOf s (concat pieces))
+    → IfOk r (λ pieces. (all : List Made) → IsToldOf t x all → IsInOrder all → concat pieces ≡ report_of t (lists_by (actor_count t) all)) → IfOk r (λ pieces. IsReportOfWalk s (concat pieces))
 reported s t x made (Ok pieces) same fit telling told shown = record {
   lists = lists_by (actor_count s) made;
   walk = telling.walk;
-  run = run;
-  shown = is;
-  legal = λ short. subst IsLegalReport (sym is) (run_legal s fit (lists_by (actor_count s) made) run typed (subst (λ (bytes : List ℕ). length bytes ≤ 268435456) is short));
+  report = reported_run s fit (lists_by (actor_count s) made) (concat pieces) run typed is;
 }
   where
     run : IsRunOf s (lists_by (actor_count s) made)

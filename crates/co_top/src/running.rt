@@ -1,0 +1,87 @@
+//! The command `run`: what it makes of the bytes that it read.
+ghost use Rattle.std.specs.Prelude.{◌≡◌, true, IfOk};
+ghost use Rattle.std.specs.List.{concat};
+ghost use Rattle.co_script.specs.Fits.{fits};
+ghost use Rattle.co_top.specs.Headline.{GivesRun, IsReportOfRun};
+
+use crate::answer::{Answer, whole};
+use crate::status::Status;
+use crate::texts::refusal_text;
+use crate::typed::lists_are_typed;
+use co_hand::Gate;
+use co_program::Script;
+use co_report::print_report;
+use co_run::{fitting_scripts_can_run, run_threads};
+use co_sbt::{NoMemory, Seq};
+use co_script::read_script;
+use co_service::Closing;
+use co_text::ScriptFault;
+use std::alloc::Global;
+use std::sync::Wait;
+use std::thread::Threads;
+
+/// The report of a run, in pieces, and what is left of the service that the run's actors called.
+#[derive(Drop)]
+struct Report {
+    pieces: Seq<Seq<u8>>,
+    closing: Closing,
+}
+
+/// What `run` comes to: its answer, and the closing where it is done.
+#[derive(Drop)]
+pub(crate) struct RunAnswer {
+    pub(crate) answer: Answer,
+    pub(crate) closing: Option<Closing>,
+}
+
+/// The report of a run of the script on threads.
+fn report_of_run<G: Gate + Sync, R: Threads + Wait + Sync>(
+    rt: &R,
+    alloc: Global,
+    script: &Script,
+    gate: &G,
+) -> Result<Report, NoMemory>
+    requires { fits script.now ≡ true }
+    ensures { IfOk result (λ report. IsReportOfRun script.now report.closing (concat report.pieces)) }
+{
+    fitting_scripts_can_run();
+    let ran = run_threads(rt, alloc, script, gate)?;
+    lists_are_typed(ran.lists.as_slice());
+    let text = print_report(alloc, script, &ran.lists)?;
+    let pieces = whole(alloc, text)?;
+    Ok(Report {
+        pieces,
+        closing: ran.closing,
+    })
+}
+
+/// What `run` makes of these bytes.
+pub(crate) fn run<G: Gate + Sync, R: Threads + Wait + Sync>(
+    rt: &R,
+    alloc: Global,
+    bytes: &[u8],
+    gate: &G,
+) -> Result<RunAnswer, NoMemory>
+    ensures { IfOk result (λ ran. GivesRun bytes.now ran.answer.status ran.closing (concat ran.answer.pieces)) }
+{
+    match read_script(alloc, bytes) {
+        Ok(script) => {
+            let report = report_of_run(rt, alloc, &script, gate)?;
+            Ok(RunAnswer {
+                answer: Answer {
+                    status: Status::Done,
+                    pieces: report.pieces,
+                },
+                closing: Some(report.closing),
+            })
+        }
+        Err(ScriptFault::Bad { line, cause }) => Ok(RunAnswer {
+            answer: Answer {
+                status: Status::BadScript,
+                pieces: whole(alloc, refusal_text(alloc, line, cause)?)?,
+            },
+            closing: None,
+        }),
+        Err(ScriptFault::NoMemory) => Err(NoMemory {}),
+    }
+}

@@ -1,0 +1,29 @@
+//! What their types say of the values of notes: numbers, times and codes are in range. Contracts know the range of a value
+//! that the code has read.
+ghost use Rattle.co_report.specs.Typed.{EntryTyped, ListsTyped, NotesTyped};
+
+use co_object::Note;
+use co_sbt::Seq;
+
+/// The values of the note are in the ranges of their types.
+fn note_is_typed(note: Note)
+    ensures { EntryTyped note.entry }
+{}
+
+/// So are those of an actor's notes.
+fn notes_are_typed(notes: &[Note])
+    ensures { NotesTyped notes.now }
+{
+    for note in notes {
+        note_is_typed(*note);
+    }
+}
+
+/// And those of all actors' notes.
+pub(crate) fn lists_are_typed(lists: &[Seq<Note>])
+    ensures { ListsTyped lists.now }
+{
+    for notes in lists {
+        notes_are_typed(notes.as_slice());
+    }
+}
