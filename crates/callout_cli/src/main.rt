@@ -1,6 +1,7 @@
 //! The program `callout`: the top call over standard input and standard output.
 #![tactic(auto)]
 
+use co_hand::OpenGate;
 use co_io::{FileSink, FileSource};
 use co_top::{Status, callout_main};
 use std::env::{self, Env};
@@ -31,7 +32,15 @@ fn main(rt: HostRuntime) -> ExitCode {
         Ok(words) => {
             let mut source = FileSource::new(rt.stdin());
             let mut sink = FileSink::new(rt.stdout());
-            callout_main(rt.alloc(), words.as_slice(), &mut source, &mut sink)
+            let finish = callout_main(
+                &rt,
+                rt.alloc(),
+                words.as_slice(),
+                &mut source,
+                &mut sink,
+                &OpenGate {},
+            );
+            finish.status
         }
         Err(_) => Status::NoMemory,
     };

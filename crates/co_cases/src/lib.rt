@@ -16,5 +16,5 @@ pub mod versions;
 
 pub use case::Case;
 pub use ordinary::ordinary_script;
-pub use outcome::{Outcome, call, check, make, steps};
+pub use outcome::{Outcome, call, call_through, check, make, run, steps};
 pub use quiet_ends::quiet;

@@ -1,14 +1,27 @@
 //! Calls of the program in memory.
+use co_hand::{Gate, OpenGate};
 use co_io::{MemSink, MemSource};
 use co_sbt::{NoMemory, Seq};
-use co_top::{Status, callout_main};
+use co_top::{Finish, Status, callout_main};
 use std::alloc::{AllocError, Global};
+use std::sync::Wait;
+use std::thread::Threads;
 
-/// What a call came to: its status, and the bytes that the sink holds then.
+/// What a call came to: its status, whether it has a closing, and the bytes that the sink holds then.
 #[derive(Drop)]
 pub struct Outcome {
     pub status: Status,
+    pub closed: bool,
     pub held: Seq<u8>,
+}
+
+/// The end of a call, after which the sink holds these bytes.
+pub(crate) fn outcome_of(alloc: Global, finish: Finish, held: &[u8]) -> Result<Outcome, NoMemory> {
+    Ok(Outcome {
+        status: finish.status,
+        closed: finish.closing.is_some(),
+        held: Seq::copy_of(alloc, held)?,
+    })
 }
 
 /// Words as a program gets them.
@@ -20,41 +33,77 @@ pub(crate) fn words_of(alloc: Global, words: &[&str]) -> Result<Vec<String>, All
     Ok(copies)
 }
 
-/// A call with these words.
-pub fn call(
-    alloc: Global,
+/// A call with these words, through a gate.
+pub fn call_through<R: AllocGlobal + Threads + Wait + Sync, G: Gate + Sync>(
+    rt: &R,
     words: &[&str],
     mut source: MemSource,
     mut sink: MemSink,
+    gate: &G,
 ) -> Result<Outcome, NoMemory> {
+    let alloc = rt.alloc();
     let Ok(words) = words_of(alloc, words) else {
         return Err(NoMemory {});
     };
-    let status = callout_main(alloc, words.as_slice(), &mut source, &mut sink);
-    let held = Seq::copy_of(alloc, sink.bytes())?;
-    Ok(Outcome { status, held })
+    let finish = callout_main(rt, alloc, words.as_slice(), &mut source, &mut sink, gate);
+    outcome_of(alloc, finish, sink.bytes())
+}
+
+/// A call with these words, whose gate is open.
+pub fn call<R: AllocGlobal + Threads + Wait + Sync>(
+    rt: &R,
+    words: &[&str],
+    source: MemSource,
+    sink: MemSink,
+) -> Result<Outcome, NoMemory> {
+    call_through(rt, words, source, sink, &OpenGate {})
 }
 
 // The most bytes of a report in the tables.
 const ROOM: usize = 4096;
 
+// A call of a command that reads, without a fault.
+fn read<R: AllocGlobal + Threads + Wait + Sync>(
+    rt: &R,
+    word: &str,
+    input: &[u8],
+) -> Result<Outcome, NoMemory> {
+    let source = MemSource::new(rt.alloc(), input, ROOM, &[])?;
+    let sink = MemSink::new(rt.alloc(), ROOM, ROOM, &[])?;
+    call(rt, [word].as_slice(), source, sink)
+}
+
 /// A call of `steps` without a fault.
-pub fn steps(alloc: Global, script: &[u8]) -> Result<Outcome, NoMemory> {
-    let source = MemSource::new(alloc, script, ROOM, &[])?;
-    let sink = MemSink::new(alloc, ROOM, ROOM, &[])?;
-    call(alloc, ["steps"].as_slice(), source, sink)
+pub fn steps<R: AllocGlobal + Threads + Wait + Sync>(
+    rt: &R,
+    script: &[u8],
+) -> Result<Outcome, NoMemory> {
+    read(rt, "steps", script)
+}
+
+/// A call of `run` without a fault.
+pub fn run<R: AllocGlobal + Threads + Wait + Sync>(
+    rt: &R,
+    script: &[u8],
+) -> Result<Outcome, NoMemory> {
+    read(rt, "run", script)
 }
 
 /// A call of `check` without a fault.
-pub fn check(alloc: Global, report: &[u8]) -> Result<Outcome, NoMemory> {
-    let source = MemSource::new(alloc, report, ROOM, &[])?;
-    let sink = MemSink::new(alloc, ROOM, ROOM, &[])?;
-    call(alloc, ["check"].as_slice(), source, sink)
+pub fn check<R: AllocGlobal + Threads + Wait + Sync>(
+    rt: &R,
+    report: &[u8],
+) -> Result<Outcome, NoMemory> {
+    read(rt, "check", report)
 }
 
 /// A call of a command that reads nothing, over a source that fails where it is read, into so many bytes.
-pub fn make(alloc: Global, words: &[&str], room: usize) -> Result<Outcome, NoMemory> {
-    let source = MemSource::new(alloc, b"unread".as_slice(), 1, &[0])?;
-    let sink = MemSink::new(alloc, room, ROOM, &[])?;
-    call(alloc, words, source, sink)
+pub fn make<R: AllocGlobal + Threads + Wait + Sync>(
+    rt: &R,
+    words: &[&str],
+    room: usize,
+) -> Result<Outcome, NoMemory> {
+    let source = MemSource::new(rt.alloc(), b"unread".as_slice(), 1, &[0])?;
+    let sink = MemSink::new(rt.alloc(), room, ROOM, &[])?;
+    call(rt, words, source, sink)
 }

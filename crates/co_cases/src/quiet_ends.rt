@@ -3,41 +3,45 @@ ghost use Rattle.std.specs.Prelude.{Some, map, string_bytes};
 ghost use Rattle.co_top.specs.Outside.{outside};
 ghost use Rattle.co_cases.specs.WithinRoom.{IsAnsweredWithin, IsUsageWithin};
 
-use crate::outcome::{Outcome, words_of};
+use crate::outcome::{Outcome, outcome_of, words_of};
+use co_hand::OpenGate;
 use co_io::{QuietSink, QuietSource};
-use co_sbt::{NoMemory, Seq};
-use co_top::{Status, callout_main};
+use co_sbt::NoMemory;
+use co_top::{Finish, callout_main};
 use std::alloc::Global;
+use std::sync::Wait;
+use std::thread::Threads;
 
 /// A call over a source and a sink that never fail: where the sink has room for what the words may come to, it is answered, and
 /// WriteFault does not come.
-fn quiet_call(
+fn quiet_call<R: Threads + Wait + Sync>(
+    rt: &R,
     alloc: Global,
     words: &[String],
     source: &mut QuietSource,
     sink: &mut QuietSink,
-) -> Status
+) -> Finish
     ensures answered { let before = outside (Some source.old) 0 (Some sink.old.held) (Some sink.old.room) 0 sink.old.idle in
         let after = outside (Some source.new) 0 (Some sink.new.held) (Some sink.new.room) 0 sink.new.idle in
-        IsAnsweredWithin sink.old.room (map string_bytes words.now) before after result }
-    ensures usage { IsUsageWithin sink.old.room (map string_bytes words.now) result }
+        IsAnsweredWithin sink.old.room (map string_bytes words.now) before after result.status }
+    ensures usage { IsUsageWithin sink.old.room (map string_bytes words.now) result.status }
 {
-    callout_main(alloc, words, source, sink)
+    callout_main(rt, alloc, words, source, sink, &OpenGate {})
 }
 
 /// A call with these words over these bytes, into so many bytes.
-pub fn quiet(
-    alloc: Global,
+pub fn quiet<R: AllocGlobal + Threads + Wait + Sync>(
+    rt: &R,
     words: &[&str],
     input: &[u8],
     room: usize,
 ) -> Result<Outcome, NoMemory> {
+    let alloc = rt.alloc();
     let Ok(words) = words_of(alloc, words) else {
         return Err(NoMemory {});
     };
     let mut source = QuietSource::new(alloc, input)?;
     let mut sink = QuietSink::new(alloc, room)?;
-    let status = quiet_call(alloc, words.as_slice(), &mut source, &mut sink);
-    let held = Seq::copy_of(alloc, sink.bytes())?;
-    Ok(Outcome { status, held })
+    let finish = quiet_call(rt, alloc, words.as_slice(), &mut source, &mut sink);
+    outcome_of(alloc, finish, sink.bytes())
 }

@@ -3,3 +3,5 @@ mod faults;
 mod quiet;
 mod refusals;
 mod reports;
+mod runs;
+mod turns;

@@ -449,7 +449,7 @@ end
 ",
 };
 
-const THE_CODES_OF_STOP: Case = Case {
+pub const THE_CODES_OF_STOP: Case = Case {
     name: "the codes of stop",
     script: r"callout 1
 funcs 1

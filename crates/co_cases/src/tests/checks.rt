@@ -12,11 +12,16 @@ use crate::{check, make, steps};
 use co_io::{MemSink, MemSource};
 use co_top::Status;
 use std::process::Abort;
+use std::sync::Wait;
 use std::test::Fail;
+use std::thread::Threads;
 
-fn are_legal(rt: &(impl AllocGlobal + Abort), cases: &[Case]) -> Result<(), Fail> {
+fn are_legal(
+    rt: &(impl AllocGlobal + Abort + Threads + Wait + Sync),
+    cases: &[Case],
+) -> Result<(), Fail> {
     for case in cases {
-        let outcome = check(rt.alloc(), case.report.as_bytes())?;
+        let outcome = check(rt, case.report.as_bytes())?;
         assert_eq!(rt; outcome.status, Status::Done, "{}", case.name);
         assert_eq!(rt;
             outcome.held.as_slice(),
@@ -44,13 +49,13 @@ fn reports_of_version_two(rt: HostRuntime) -> Result<(), Fail> {
 }
 
 fn are_judged(
-    rt: &(impl AllocGlobal + Abort),
+    rt: &(impl AllocGlobal + Abort + Threads + Wait + Sync),
     case: &Case,
     edits: &[(Edit, Status, &str)],
 ) -> Result<(), Fail> {
     for (edit, status, line) in edits {
         let report = edited(rt.alloc(), case.report.as_bytes(), *edit)?;
-        let outcome = check(rt.alloc(), report.as_slice())?;
+        let outcome = check(rt, report.as_slice())?;
         assert_eq!(rt; outcome.status, *status, "{line}");
         let wanted = format!(in rt.alloc(); "{line}\n")?;
         assert_eq!(rt; outcome.held.as_slice(), wanted.as_bytes());
@@ -96,7 +101,7 @@ fn changes_of_the_drain(rt: HostRuntime) -> Result<(), Fail> {
 #[test]
 fn soak_counts(rt: HostRuntime) -> Result<(), Fail> {
     for seed in ["1", "00001"] {
-        let outcome = make(rt.alloc(), ["soak", seed].as_slice(), 200)?;
+        let outcome = make(&rt, ["soak", seed].as_slice(), 200)?;
         assert_eq!(rt; outcome.status, Status::Done);
         assert_eq!(rt;
             outcome.held.as_slice(),
@@ -109,14 +114,14 @@ fn soak_counts(rt: HostRuntime) -> Result<(), Fail> {
 // The generated script runs, and its report is legal.
 #[test]
 fn generated(rt: HostRuntime) -> Result<(), Fail> {
-    let script = make(rt.alloc(), ["gen", "1"].as_slice(), 500_000)?;
+    let script = make(&rt, ["gen", "1"].as_slice(), 500_000)?;
     assert_eq!(rt; script.status, Status::Done);
     assert_eq!(rt; script.held.as_slice().len(), 459_440);
     let source = MemSource::new(rt.alloc(), script.held.as_slice(), 4096, &[])?;
     let sink = MemSink::new(rt.alloc(), 2_000_000, 2_000_000, &[])?;
-    let report = crate::call(rt.alloc(), ["steps"].as_slice(), source, sink)?;
+    let report = crate::call(&rt, ["steps"].as_slice(), source, sink)?;
     assert_eq!(rt; report.status, Status::Done);
-    let verdict = check(rt.alloc(), report.held.as_slice())?;
+    let verdict = check(&rt, report.held.as_slice())?;
     assert_eq!(rt; verdict.status, Status::Done);
     assert_eq!(rt; verdict.held.as_slice(), b"legal\n".as_slice());
     Ok(())
@@ -125,10 +130,10 @@ fn generated(rt: HostRuntime) -> Result<(), Fail> {
 // A script is no report.
 #[test]
 fn a_script_is_no_report(rt: HostRuntime) -> Result<(), Fail> {
-    let outcome = check(rt.alloc(), ONE_FIRING.script.as_bytes())?;
+    let outcome = check(&rt, ONE_FIRING.script.as_bytes())?;
     assert_eq!(rt; outcome.status, Status::BadScript);
     assert_eq!(rt; outcome.held.as_slice(), b"line 1: version\n".as_slice());
-    let outcome = steps(rt.alloc(), ONE_FIRING.report.as_bytes())?;
+    let outcome = steps(&rt, ONE_FIRING.report.as_bytes())?;
     assert_eq!(rt; outcome.status, Status::BadScript);
     Ok(())
 }

@@ -1,23 +1,25 @@
 //! Each command over ends that never fail: with room for its text it is answered, and with a byte less the sink is full.
 use crate::quiet;
-use crate::timers::ONE_FIRING;
+use crate::timers::{ONE_FIRING, THE_CODES_OF_STOP};
 use co_top::Status;
 use std::process::Abort;
+use std::sync::Wait;
 use std::test::Fail;
+use std::thread::Threads;
 
 // A call whose text is this one, and the same call with too little room.
 fn is_answered(
-    rt: &(impl AllocGlobal + Abort),
+    rt: &(impl AllocGlobal + Abort + Threads + Wait + Sync),
     words: &[&str],
     input: &[u8],
     status: Status,
     text: &[u8],
 ) -> Result<(), Fail> {
-    let outcome = quiet(rt.alloc(), words, input, text.len())?;
+    let outcome = quiet(rt, words, input, text.len())?;
     assert_eq!(rt; outcome.status, status);
     assert_eq!(rt; outcome.held.as_slice(), text);
     let room = text.len().saturating_sub(1);
-    let short = quiet(rt.alloc(), words, input, room)?;
+    let short = quiet(rt, words, input, room)?;
     assert_eq!(rt; short.status, Status::WriteFault);
     assert_eq!(rt; short.held.as_slice(), &text[..room]);
     Ok(())
@@ -36,6 +38,16 @@ fn steps_is_answered(rt: HostRuntime) -> Result<(), Fail> {
         Status::BadScript,
         refusal,
     )
+}
+
+// Only its one client acts, so each run of this script has the same report.
+#[test]
+fn run_is_answered(rt: HostRuntime) -> Result<(), Fail> {
+    let script = THE_CODES_OF_STOP.script.as_bytes();
+    let report = THE_CODES_OF_STOP.report.as_bytes();
+    let refusal = b"line 1: version\n".as_slice();
+    is_answered(&rt, ["run"].as_slice(), script, Status::Done, report)?;
+    is_answered(&rt, ["run"].as_slice(), report, Status::BadScript, refusal)
 }
 
 #[test]
@@ -66,7 +78,7 @@ fn check_is_answered(rt: HostRuntime) -> Result<(), Fail> {
 
 #[test]
 fn gen_is_answered(rt: HostRuntime) -> Result<(), Fail> {
-    let script = quiet(rt.alloc(), ["gen", "1"].as_slice(), b"".as_slice(), 459_440)?;
+    let script = quiet(&rt, ["gen", "1"].as_slice(), b"".as_slice(), 459_440)?;
     assert_eq!(rt; script.held.as_slice().len(), 459_440);
     is_answered(
         &rt,

@@ -5,7 +5,9 @@ use co_io::{MemSink, MemSource};
 use co_top::Status;
 use std::alloc::{AllocError, Global};
 use std::process::Abort;
+use std::sync::Wait;
 use std::test::Fail;
+use std::thread::Threads;
 
 // Scripts with the line that is written of each.
 const REFUSED: [(&str, &str); 6] = [
@@ -26,8 +28,12 @@ const REFUSED: [(&str, &str); 6] = [
     ("callout 1\n", "line 0: timer\n"),
 ];
 
-fn refuses(rt: &(impl AllocGlobal + Abort), script: &[u8], line: &str) -> Result<(), Fail> {
-    let outcome = steps(rt.alloc(), script)?;
+fn refuses(
+    rt: &(impl AllocGlobal + Abort + Threads + Wait + Sync),
+    script: &[u8],
+    line: &str,
+) -> Result<(), Fail> {
+    let outcome = steps(rt, script)?;
     assert_eq!(rt; outcome.status, Status::BadScript, "{line}");
     assert_eq!(rt; outcome.held.as_slice(), line.as_bytes());
     Ok(())
@@ -63,7 +69,7 @@ fn a_million_lines_cut_at_the_last(rt: HostRuntime) -> Result<(), Fail> {
     let mut script = million_lines(rt.alloc())?;
     refuses(&rt, script.as_slice(), "line 1000000: cut\n")?;
     script.push(b'\n')?;
-    let outcome = steps(rt.alloc(), script.as_slice())?;
+    let outcome = steps(&rt, script.as_slice())?;
     assert_eq!(rt; outcome.status, Status::Done);
     Ok(())
 }
@@ -84,7 +90,7 @@ fn words_that_are_no_command(rt: HostRuntime) -> Result<(), Fail> {
     for words in lists {
         let source = MemSource::new(rt.alloc(), b"callout 1\n", 1, &[0])?;
         let sink = MemSink::new(rt.alloc(), 100, 100, &[])?;
-        let outcome = call(rt.alloc(), words, source, sink)?;
+        let outcome = call(&rt, words, source, sink)?;
         assert_eq!(rt; outcome.status, Status::Usage);
         assert_eq!(rt;
             outcome.held.as_slice(),
@@ -114,7 +120,7 @@ fn beginnings_of_a_script(rt: HostRuntime) -> Result<(), Fail> {
             .find(|case| case.script.as_bytes() == prefix)
         {
             Some(case) => {
-                let outcome = steps(rt.alloc(), prefix)?;
+                let outcome = steps(&rt, prefix)?;
                 assert_eq!(rt; outcome.status, Status::Done, "{}", case.name);
                 assert_eq!(rt;
                     outcome.held.as_slice(),

@@ -8,11 +8,16 @@ use crate::{call, check, ordinary_script, steps};
 use co_io::{MemSink, MemSource};
 use co_top::Status;
 use std::process::Abort;
+use std::sync::Wait;
 use std::test::Fail;
+use std::thread::Threads;
 
-fn are_written(rt: &(impl AllocGlobal + Abort), cases: &[Case]) -> Result<(), Fail> {
+fn are_written(
+    rt: &(impl AllocGlobal + Abort + Threads + Wait + Sync),
+    cases: &[Case],
+) -> Result<(), Fail> {
     for case in cases {
-        let outcome = steps(rt.alloc(), case.script.as_bytes())?;
+        let outcome = steps(rt, case.script.as_bytes())?;
         assert_eq!(rt; outcome.status, Status::Done, "{}", case.name);
         assert_eq!(rt;
             outcome.held.as_slice(),
@@ -51,10 +56,10 @@ fn ordinary_use(rt: HostRuntime) -> Result<(), Fail> {
     assert_eq!(rt; script.len(), 44_317);
     let source = MemSource::new(rt.alloc(), script.as_bytes(), 4096, &[])?;
     let sink = MemSink::new(rt.alloc(), 500_000, 500_000, &[])?;
-    let outcome = call(rt.alloc(), ["steps"].as_slice(), source, sink)?;
+    let outcome = call(&rt, ["steps"].as_slice(), source, sink)?;
     assert_eq!(rt; outcome.status, Status::Done);
     assert_eq!(rt; outcome.held.as_slice().len(), 434_782);
-    let verdict = check(rt.alloc(), outcome.held.as_slice())?;
+    let verdict = check(&rt, outcome.held.as_slice())?;
     assert_eq!(rt; verdict.status, Status::Done);
     assert_eq!(rt; verdict.held.as_slice(), b"legal\n".as_slice());
     Ok(())

@@ -1,5 +1,5 @@
 -- The listener has the notes of the script's walk, and prints their report.
-use Rattle.std.proofs.Common.{◌≡◌, ◌≤◌, ℕ, true, List, length, Result, Ok, Err, IfOk, ap, sym, subst, ◌∙◌, arith}
+use Rattle.std.proofs.Common.{◌≡◌, ◌≤◌, ℕ, true, List, Result, Ok, Err, IfOk, ap, sym, subst, ◌∙◌, arith}
 use Rattle.std.specs.List.{concat}
 use Rattle.co_listener.specs.Made.{Made, IsInOrder, lists_by}
 use Rattle.co_program.specs.declared.script.Script.{Script}

@@ -1,7 +1,6 @@
 -- What fits can run. A run's notes are in their places, so they are printed, and their report is legal.
-use Rattle.std.proofs.Common.{List, subst, ◌∙◌}
+use Rattle.std.proofs.Common.{subst, ◌∙◌}
 use Rattle.std.specs.List.{concat}
-use Rattle.co_object.specs.declared.note.Note.{Note}
 use Rattle.co_script.proofs.Accepted.{fits-accepted}
 use Rattle.co_report.specs.Typed.{ListsTyped}
 use Rattle.co_top.proofs.Accepts.{reported_ran}

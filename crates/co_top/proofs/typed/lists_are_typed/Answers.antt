@@ -1,5 +1,4 @@
-use Rattle.std.proofs.Common.{List, arith, subst}
-use Rattle.co_object.specs.declared.note.Note.{Note}
+use Rattle.std.proofs.Common.{arith, subst}
 use Rattle.co_report.specs.Typed.{NotesTyped}
 use Rattle.co_top.proofs.OneMore.{one_more, all_taken}
 use Rattle.co_top.proofs.typed.lists_are_typed.Goals as goal

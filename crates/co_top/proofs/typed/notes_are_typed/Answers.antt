@@ -1,4 +1,4 @@
-use Rattle.std.proofs.Common.{List, arith}
+use Rattle.std.proofs.Common.{arith}
 use Rattle.co_object.specs.declared.note.Note.{Note}
 use Rattle.co_report.specs.Typed.{EntryTyped}
 use Rattle.co_top.proofs.OneMore.{one_more, all_taken}
