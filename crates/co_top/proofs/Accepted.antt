@@ -1,16 +1,23 @@
 -- Which inputs are accepted, by their length: a longer one than the limit is refused, so one that is accepted was read to its end.
-use Rattle.std.proofs.Common.{◌≡◌, ℕ, ◌<◌, ◌≤◌, Bool, true, false, List, length, refl, subst, sym, Ok, Err, Result, arith}
+use Rattle.std.proofs.Common.{◌≡◌, ℕ, ◌<◌, ◌≤◌, Bool, true, false, List, length, refl, ap, subst, sym, Ok, Err, Result, arith}
 use Rattle.std.specs.Prelude.{nat_le}
 use Rattle.std.proofs.lemmas.Bool.Decides.{nat_tests}
 use Rattle.co_program.specs.declared.script.Script.{Script}
-use Rattle.co_text.specs.Fallible.{Refusal, ◌>>◌, unless, at_line}
+use Rattle.co_text.specs.Fallible.{Refusal, ◌>>=◌, ◌>>◌, unless, at_line}
 use Rattle.co_text.specs.Lines.{lines_of}
 use Rattle.co_text.specs.declared.cause.Cause.TheVariants.{Size}
+use Rattle.co_batch.specs.Batches.{Batch}
+use Rattle.co_batch.specs.Reading.{batch_of, lines_batch}
+use Rattle.co_batch.specs.Answers.{batch_text}
+use Rattle.co_batch.proofs.Fit.{bind-ok}
+use Rattle.co_event_text.specs.declared.command.EventCommand.{EventCommand}
+use Rattle.co_event_text.specs.Commands.{event_language}
+use Rattle.co_event_text.specs.Answers.{answering, event_text}
 use Rattle.co_script.specs.Reading.{script_of, lines_script}
 use Rattle.co_report.specs.Reading.{report_read, lines_report}
 use Rattle.co_report.specs.declared.line.Report.{Report}
 use Rattle.co_top.specs.Headline.{limit_of}
-use Rattle.co_top.specs.declared.command.Reading.TheVariants.{Steps, Check}
+use Rattle.co_top.specs.declared.command.Reading.TheVariants.{Steps, Check, Event}
 
 abbrev pub too_long : Refusal
 too_long = record { line = 0; cause = Size }
@@ -48,3 +55,20 @@ report_short bytes r is = short (limit_of Check) bytes (lines_report (lines_of b
 pub report_refused : (bytes : List ℕ) → limit_of Check < length bytes → report_read bytes ≡ Err too_long
 unfolding report_read
 report_refused bytes over = long (limit_of Check) bytes (lines_report (lines_of bytes)) over
+
+batch_short : (bytes : List ℕ) (b : Batch EventCommand) → batch_of event_language bytes ≡ Ok b → length bytes ≤ limit_of Event
+unfolding batch_of
+batch_short bytes b is = short (limit_of Event) bytes (lines_batch event_language (lines_of bytes)) b (nat_le (length bytes) (limit_of Event)) refl is
+
+batch_refused : (bytes : List ℕ) → limit_of Event < length bytes → batch_of event_language bytes ≡ Err too_long
+unfolding batch_of
+batch_refused bytes over = long (limit_of Event) bytes (lines_batch event_language (lines_of bytes)) over
+
+abbrev told : Batch EventCommand → Result (List ℕ) Refusal
+told b = Ok (batch_text answering b)
+
+pub events_short : (bytes text : List ℕ) → event_text bytes ≡ Ok text → length bytes ≤ limit_of Event
+events_short bytes text is = let read = bind-ok (batch_of event_language bytes) told text is in batch_short bytes read.0 read.1
+
+pub events_refused : (bytes : List ℕ) → limit_of Event < length bytes → event_text bytes ≡ Err too_long
+events_refused bytes over = ap (λ r. r >>= told) (batch_refused bytes over)

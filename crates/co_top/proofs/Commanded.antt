@@ -6,14 +6,14 @@ use Rattle.co_service.specs.Closing.{ClosingView}
 use Rattle.co_top.specs.declared.command.Command.{Command}
 use Rattle.co_top.specs.declared.command.Command.TheVariants.{Read, Run, Make}
 use Rattle.co_top.specs.declared.command.Reading.{Reading}
-use Rattle.co_top.specs.declared.command.Reading.TheVariants.{Steps, Check}
+use Rattle.co_top.specs.declared.command.Reading.TheVariants.{Steps, Check, Event}
 use Rattle.co_top.specs.declared.command.Making.{Making}
 use Rattle.co_top.specs.declared.status.Status.{Status}
 use Rattle.co_top.specs.declared.status.Status.TheVariants.{Done, BadScript, Usage, ReadFault, WriteFault, NoMemory, NotLegal}
 use Rattle.co_top.specs.Commands.{is_run, usage_text}
 use Rattle.co_top.specs.Headline.{Gives, GivesRun, HasRead, Says, Tells, IsMadeOf, limit_of}
 use Rattle.co_top.specs.Outside.{Outside, Reads, ReadsToEnd, Writes}
-use Rattle.co_top.proofs.Accepted.{accepted_short, report_short}
+use Rattle.co_top.proofs.Accepted.{accepted_short, report_short, events_short}
 
 -- the bytes that a command read of the source, and whether there were more than its limit
 pub record WasRead (before after : Outside) (reading : Reading) (bytes : List ℕ) (over : Bool) : Type 0 where
@@ -53,6 +53,13 @@ module _ (before after : Outside) (bytes : List ℕ) where
   has_read Check over ReadFault text has given = absurd given
   has_read Check over WriteFault text has given = absurd given
   has_read Check over NoMemory text has given = absurd given
+  has_read Event over Done text has given = within Event over has (events_short bytes text given)
+  has_read Event over BadScript text has given = either Event over has
+  has_read Event over NotLegal text has given = absurd given
+  has_read Event over Usage text has given = absurd given
+  has_read Event over ReadFault text has given = absurd given
+  has_read Event over WriteFault text has given = absurd given
+  has_read Event over NoMemory text has given = absurd given
 
   written : (reading : Reading) (over : Bool) (status : Status) (text : List ℕ) → WasRead before after reading bytes over → Gives reading bytes status text →
       Writes before.output after.output text → Says before after (Some (Read reading)) status None
@@ -66,6 +73,9 @@ module _ (before after : Outside) (bytes : List ℕ) where
   written Check over ReadFault text has given wrote = absurd given
   written Check over WriteFault text has given wrote = absurd given
   written Check over NoMemory text has given wrote = absurd given
+  written Event over ReadFault text has given wrote = absurd given
+  written Event over WriteFault text has given wrote = absurd given
+  written Event over NoMemory text has given wrote = absurd given
 
   pub said : (reading : Reading) (over : Bool) (status result : Status) (text : List ℕ) → WasRead before after reading bytes over → Gives reading bytes status text →
       Tells status text before.output after.output result → Says before after (Some (Read reading)) result None

@@ -10,15 +10,15 @@ use Rattle.co_service.specs.Closing.{ClosingView}
 use Rattle.co_top.specs.declared.command.Command.{Command}
 use Rattle.co_top.specs.declared.command.Command.TheVariants.{Read, Run, Make}
 use Rattle.co_top.specs.declared.command.Reading.{Reading}
-use Rattle.co_top.specs.declared.command.Reading.TheVariants.{Steps, Check}
+use Rattle.co_top.specs.declared.command.Reading.TheVariants.{Steps, Check, Event}
 use Rattle.co_top.specs.declared.command.Making.{Making}
 use Rattle.co_top.specs.declared.status.Status.{Status}
 use Rattle.co_top.specs.declared.status.Status.TheVariants.{Done, BadScript, Usage, ReadFault, WriteFault, NoMemory, NotLegal}
 use Rattle.co_top.specs.Commands.{command_of, is_run}
-use Rattle.co_top.specs.Headline.{Gives, GivesRun, IsJudged, Says, IsReadAnswered, IsAnswered, IsHeadline, IsComplete, limit_of, plain, status_of, script_status, report_status, verdict_status, HasNoFault}
+use Rattle.co_top.specs.Headline.{Gives, GivesRun, IsJudged, Says, IsReadAnswered, IsAnswered, IsHeadline, IsComplete, limit_of, plain, status_of, script_status, report_status, event_status, verdict_status, HasNoFault}
 use Rattle.co_top.specs.Outside.{Outside, ReadsToEnd, Reads}
 use Rattle.co_top.proofs.Commanded.{is_run_of}
-use Rattle.co_top.proofs.Accepted.{long_refused, report_refused}
+use Rattle.co_top.proofs.Accepted.{long_refused, report_refused, events_refused}
 
 -- ---- what a source that tells its bytes had
 
@@ -36,6 +36,7 @@ longer limit content bytes None read over = absurd read
 over_limit : (reading : Reading) (content : List ℕ) → limit_of reading < length content → BadScript ≡ status_of reading content
 over_limit Steps content long = sym (ap script_status (long_refused content long))
 over_limit Check content long = sym (ap report_status (report_refused content long))
+over_limit Event content long = sym (ap event_status (events_refused content long))
 
 -- ---- the status is that of the bytes read
 
@@ -58,6 +59,13 @@ of_bytes Check bytes text Usage given = absurd given
 of_bytes Check bytes text ReadFault given = absurd given
 of_bytes Check bytes text WriteFault given = absurd given
 of_bytes Check bytes text NoMemory given = absurd given
+of_bytes Event bytes text Done given = sym (ap event_status given)
+of_bytes Event bytes text BadScript given = sym (ap event_status given.refused)
+of_bytes Event bytes text NotLegal given = absurd given
+of_bytes Event bytes text Usage given = absurd given
+of_bytes Event bytes text ReadFault given = absurd given
+of_bytes Event bytes text WriteFault given = absurd given
+of_bytes Event bytes text NoMemory given = absurd given
 
 run_of_bytes : (bytes text : List ℕ) (status : Status) (closing : Option ClosingView) → GivesRun bytes status closing text → status ≡ status_of Steps bytes
 run_of_bytes bytes text Done (Some closing) given = sym (ap script_status given.read)
@@ -109,6 +117,8 @@ module _ (before after : Outside) where
   read_answered Steps NotLegal says sound = absurd says.1.2
   read_answered Steps Usage says sound = absurd says.1.2
   read_answered Check Usage says sound = absurd says.1.2
+  read_answered Event NotLegal says sound = absurd says.1.2
+  read_answered Event Usage says sound = absurd says.1.2
   read_answered reading ReadFault says sound = absurd (sound.reads says.0)
   read_answered reading WriteFault says sound = absurd (sound.writes says.0 says.1 says.2 says.3 says.4.cause)
   read_answered reading NoMemory says sound = record { told = lacking reading before.input.left; untold = tt }

@@ -9,7 +9,7 @@ use Rattle.co_check.specs.declared.verdict.Unfit.TheVariants as unfit
 use Rattle.co_top.specs.declared.command.Command.{Command}
 use Rattle.co_top.specs.declared.command.Command.TheVariants.{Read, Run, Make}
 use Rattle.co_top.specs.declared.command.Reading.{Reading}
-use Rattle.co_top.specs.declared.command.Reading.TheVariants.{Steps, Check}
+use Rattle.co_top.specs.declared.command.Reading.TheVariants.{Steps, Check, Event}
 use Rattle.co_top.specs.declared.command.Making.{Making}
 use Rattle.co_top.specs.declared.command.Making.TheVariants.{Gen, Soak}
 
@@ -18,7 +18,8 @@ use Rattle.co_top.specs.declared.command.Making.TheVariants.{Gen, Soak}
 -- a command of one word that reads and needs one thread alone
 abbrev pub reading_of : Word → Option Reading
 reading_of word = if is_word word (codes "steps") then Some Steps
-    else (if is_word word (codes "check") then Some Check else None)
+    else (if is_word word (codes "check") then Some Check
+    else (if is_word word (codes "event") then Some Event else None))
 
 -- a seed: 1 to 20 digits, below 2 ^ 64
 abbrev pub small_seed : Result ℕ Cause → Option ℕ
@@ -49,7 +50,7 @@ abbrev pub makes : Option Making → Option Command
 makes None = None
 makes (Some making) = Some (Make making)
 
--- `steps`, `run`, `check`, `gen N` and `soak N`
+-- `steps`, `run`, `check`, `gen N`, `soak N` and `event`
 abbrev pub command_of : List Word → Option Command
 command_of (word ∷ []) = word_command word
 command_of (word ∷ n ∷ []) = makes (making_of word (seed_of n))
@@ -71,7 +72,7 @@ abbrev pub line : List ℕ → List ℕ
 line text = text ++ 10 ∷ []
 
 abbrev pub usage_text : List ℕ
-usage_text = line (codes "usage: callout steps | run | check | gen N | soak N")
+usage_text = line (codes "usage: callout steps | run | check | gen N | soak N | event")
 
 -- of a report whose verdict is Legal
 abbrev pub legal_text : List ℕ

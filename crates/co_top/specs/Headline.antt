@@ -16,12 +16,13 @@ use Rattle.co_check.specs.declared.verdict.Verdict.{Verdict}
 use Rattle.co_check.specs.declared.verdict.Verdict.TheVariants.{Legal, Not}
 use Rattle.co_service.specs.Closing.{ClosingView}
 use Rattle.co_run.specs.Ran.{shown_timers, shown_cpus}
+use Rattle.co_event_text.specs.Answers.{event_text}
 use Rattle.co_gen.specs.Generator.{generated}
 use Rattle.co_gen.specs.Soak.{counts_of, soak_line}
 use Rattle.co_top.specs.declared.command.Command.{Command}
 use Rattle.co_top.specs.declared.command.Command.TheVariants.{Read, Run, Make}
 use Rattle.co_top.specs.declared.command.Reading.{Reading}
-use Rattle.co_top.specs.declared.command.Reading.TheVariants.{Steps, Check}
+use Rattle.co_top.specs.declared.command.Reading.TheVariants.{Steps, Check, Event}
 use Rattle.co_top.specs.declared.command.Making.{Making}
 use Rattle.co_top.specs.declared.command.Making.TheVariants.{Gen, Soak}
 use Rattle.co_top.specs.declared.status.Finish.{Finish}
@@ -69,7 +70,7 @@ pub record IsScriptOf (bytes : List ℕ) (Holds : Script → Type 0) : Type 0 wh
   pub read : script_of bytes ≡ Ok script
   pub holds : Holds script
 
--- the bytes are no script, or no report, and the text says which line is bad, and why
+-- the bytes are no script, no report or no text of this command, and the text says which line is bad, and why
 pub record IsRefused {X : Type 0} (meaning : Result X Refusal) (text : List ℕ) : Type 0 where
   pub refusal : Refusal
   pub refused : meaning ≡ Err refusal
@@ -96,6 +97,8 @@ Gives Steps bytes BadScript text = IsRefused (script_of bytes) text
 Gives Check bytes Done text = IsVerdict bytes Done text
 Gives Check bytes NotLegal text = IsVerdict bytes NotLegal text
 Gives Check bytes BadScript text = IsRefused (report_read bytes) text
+Gives Event bytes Done text = event_text bytes ≡ Ok text
+Gives Event bytes BadScript text = IsRefused (event_text bytes) text
 Gives reading bytes status text = ⊥
 
 -- `run`, whose answer has a closing too
@@ -108,6 +111,7 @@ GivesRun bytes status closing text = ⊥
 abbrev pub limit_of : Reading → ℕ
 limit_of Steps = 67108864
 limit_of Check = 268435456
+limit_of Event = 16777216
 
 -- ---- `gen` and `soak`: the text of a seed
 
@@ -204,10 +208,16 @@ abbrev pub report_status : Result Report Refusal → Status
 report_status (Ok report) = verdict_status (verdict report)
 report_status (Err refusal) = BadScript
 
--- what an input comes to: a script is answered by its report, a report by its verdict, and another input by its refusal
+abbrev pub event_status : Result (List ℕ) Refusal → Status
+event_status (Ok text) = Done
+event_status (Err refusal) = BadScript
+
+-- what an input comes to: a script is answered by its report, a report by its verdict, a text of events by theirs, and another
+-- input by its refusal
 abbrev pub status_of : Reading → List ℕ → Status
 status_of Steps bytes = script_status (script_of bytes)
 status_of Check bytes = report_status (report_read bytes)
+status_of Event bytes = event_status (event_text bytes)
 
 -- the statuses of a command that reads, where neither end has a fault
 abbrev pub IsWork : Reading → Status → Type 0

@@ -11,6 +11,8 @@ pub enum Reading {
     Steps,
     /// Reads a report and writes whether it is legal.
     Check,
+    /// Reads a text of armings and writes its events: callouts that fire within their windows.
+    Event,
 }
 
 /// A command that makes its text from a seed, below 2^64, and leaves the input unread.
@@ -41,6 +43,8 @@ fn reading_of(word: &[u8]) -> Option<Reading>
         Some(Reading::Steps)
     } else if word == b"check".as_slice() {
         Some(Reading::Check)
+    } else if word == b"event".as_slice() {
+        Some(Reading::Event)
     } else {
         None
     }
@@ -83,7 +87,7 @@ fn making_of(word: &[u8], seed: Option<u64>) -> Option<Making>
     }
 }
 
-/// The command that the words are, if they are one: `steps`, `run`, `check`, `gen N` or `soak N`. Our own decision.
+/// The command that the words are, if they are one: `steps`, `run`, `check`, `gen N`, `soak N` or `event`. Our own decision.
 pub(crate) fn command_of(words: &[String]) -> Option<Command>
     ensures { result ≡ command_of (map string_bytes words.now) }
 {

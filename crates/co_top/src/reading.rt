@@ -13,6 +13,7 @@ use crate::status::Status;
 use crate::texts::{fault_text, legal_text, refusal_text, unfit_word};
 use co_check::{Verdict, check};
 use co_core::tell_walk;
+use co_event_text::run_event;
 use co_program::Script;
 use co_report::{Report, SectionsOf, Subject, read_report};
 use co_sbt::{NoMemory, Seq};
@@ -88,6 +89,23 @@ fn check_report(alloc: Global, bytes: &[u8]) -> Result<Answer, NoMemory>
     }
 }
 
+/// What `event` makes of these bytes.
+fn events(alloc: Global, bytes: &[u8]) -> Result<Answer, NoMemory>
+    ensures { IfOk result (λ answer. Gives readings.Event bytes.now answer.status (concat answer.pieces)) }
+{
+    match run_event(alloc, bytes) {
+        Ok(text) => Ok(Answer {
+            status: Status::Done,
+            pieces: whole(alloc, text)?,
+        }),
+        Err(ScriptFault::Bad { line, cause }) => Ok(Answer {
+            status: Status::BadScript,
+            pieces: whole(alloc, refusal_text(alloc, line, cause)?)?,
+        }),
+        Err(ScriptFault::NoMemory) => Err(NoMemory {}),
+    }
+}
+
 /// What a command makes of the bytes that it read.
 pub(crate) fn answer_to(alloc: Global, reading: Reading, bytes: &[u8]) -> Result<Answer, NoMemory>
     ensures { IfOk result (λ answer. Gives reading bytes.now answer.status (concat answer.pieces)) }
@@ -95,5 +113,6 @@ pub(crate) fn answer_to(alloc: Global, reading: Reading, bytes: &[u8]) -> Result
     match reading {
         Reading::Steps => steps(alloc, bytes),
         Reading::Check => check_report(alloc, bytes),
+        Reading::Event => events(alloc, bytes),
     }
 }

@@ -21,13 +21,14 @@ use std::alloc::Global;
 use std::sync::Wait;
 use std::thread::Threads;
 
-/// The most bytes of an input: of a script 64 MiB, of a report 256 MiB.
+/// The most bytes of an input: of a script 64 MiB, of a report 256 MiB, of a text of events 16 MiB.
 fn limit_of(reading: Reading) -> usize
     ensures { result ≡ limit_of reading }
 {
     match reading {
         Reading::Steps => 67_108_864,
         Reading::Check => 268_435_456,
+        Reading::Event => 16_777_216,
     }
 }
 

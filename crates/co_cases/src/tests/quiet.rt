@@ -103,12 +103,26 @@ fn soak_is_answered(rt: HostRuntime) -> Result<(), Fail> {
 
 #[test]
 fn other_words_are_answered(rt: HostRuntime) -> Result<(), Fail> {
-    let usage = b"usage: callout steps | run | check | gen N | soak N\n".as_slice();
+    let usage = b"usage: callout steps | run | check | gen N | soak N | event\n".as_slice();
     is_answered(
         &rt,
         ["stop"].as_slice(),
         b"".as_slice(),
         Status::Usage,
         usage,
+    )
+}
+
+#[test]
+fn event_is_answered(rt: HostRuntime) -> Result<(), Fail> {
+    let text = b"event 1\ntimers 2\narm 0 =1 pr 1\narm 1 =1.5 pr 2\nuntil 5\n";
+    let wanted =
+        b"armed 0 u4294967296\narmed 0 u6442450944\nevent u8589934592 2\nfired 0\nfired 1\nuntil u21474836480\n";
+    is_answered(
+        &rt,
+        ["event"].as_slice(),
+        text.as_slice(),
+        Status::Done,
+        wanted.as_slice(),
     )
 }

@@ -8,3 +8,6 @@ returns-in-Steps c = sym (ap limit_of c.in-Steps.is)
 
 pub returns-in-Check : goal.returns-in-Check
 returns-in-Check c = sym (ap limit_of c.in-Check.is)
+
+pub returns-in-Event : goal.returns-in-Event
+returns-in-Event c = sym (ap limit_of c.in-Event.is)
