@@ -1,5 +1,5 @@
 //! Many clients reset, stop and move the same callouts, beside CPUs that service them.
-use super::running::{count_timers, notes_of, run_value};
+use super::running::{count_timers, notes_of, run_printed};
 use super::waits::comes_to;
 use co_hand::Gate;
 use co_object::{Lists, LockUse, Spec};
@@ -167,7 +167,7 @@ fn eight_clients_and_four_cpus(rt: HostRuntime) -> Result<(), Fail> {
         acts: AtomicU64::new(0),
         faults: AtomicU64::new(0),
     };
-    let lists = run_value(&rt, rt.alloc(), &script, &gate)?;
+    let lists = run_printed(&rt, rt.alloc(), &script, &gate)?;
     assert_eq!(rt; gate.faults.load(Ordering::SeqCst), 0);
     have_their_calls(&rt, &lists);
     Ok(())

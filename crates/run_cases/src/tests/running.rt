@@ -1,5 +1,5 @@
 //! Scripts that run on threads, and what is judged of their reports.
-ghost use Rattle.std.specs.Prelude.{◌≡◌, IfOk, length, true};
+ghost use Rattle.std.specs.Prelude.{◌≡◌, IfOk, length};
 ghost use Rattle.co_program.specs.Actors.{actor_count};
 ghost use Rattle.co_program.specs.Runs.{IsRunOf};
 ghost use Rattle.co_service.specs.Booted.{AreBooted};
@@ -16,7 +16,7 @@ use co_program::Script;
 use co_report::{print_report, read_report};
 use co_run::{Notebook, Ran, run_books, run_threads};
 use co_sbt::{NoMemory, Seq};
-use co_script::{fits, read_script};
+use co_script::{print_script, read_script};
 use co_service::{Fresh, Name, Passes, Service};
 use co_text::ScriptFault;
 use std::alloc::Global;
@@ -93,22 +93,16 @@ pub(super) fn run_script<G: Gate + Sync, R: Threads + Wait + Sync + Abort>(
     Ok(ran.lists)
 }
 
-/// Whether a script fits, so that it can run.
-fn can_run(script: &Script) -> bool
-    ensures { result ≡ true → CanRun script.now }
-{
-    fits(script)
-}
-
-/// Runs a script that was made as a value, and fits. Its report is legal.
-pub(super) fn run_value<G: Gate + Sync, R: Threads + Wait + Sync + Abort>(
+/// Runs the script that the text of this one is. Its report is legal.
+pub(super) fn run_printed<G: Gate + Sync, R: Threads + Wait + Sync + Abort>(
     rt: &R,
     alloc: Global,
     script: &Script,
     gate: &G,
 ) -> Result<Lists, Failed> {
-    assert!(rt; can_run(script));
-    run_script(rt, alloc, script, gate)
+    let text = print_script(alloc, script)?;
+    let script = script_of(alloc, text.as_slice())?;
+    run_script(rt, alloc, &script, gate)
 }
 
 /// Runs the script of a text through an open gate. Its report is legal.
