@@ -11,57 +11,98 @@ use std::alloc::Global;
 use std::io::{self, ErrorKind, Read, Write};
 use std::test::Fail;
 
+// Whether a source fails before its end.
+fn fails<S: Source>(alloc: Global, source: &mut S) -> bool {
+    matches!(read_all(alloc, source, 9), Err(ReadEnd::Fault))
+}
+
+// Whether these bytes are read, over the limit or not.
+fn gives<S: Source>(alloc: Global, source: &mut S, limit: usize, bytes: &[u8], over: bool) -> bool
+    requires { limit < 2 ^ 62 }
+{
+    match read_all(alloc, source, limit) {
+        Ok(input) => input.over == over && input.bytes.as_slice() == bytes,
+        Err(_) => false,
+    }
+}
+
 #[test]
 fn a_failed_read_leaves_the_rest(rt: HostRuntime) -> Result<(), Fail> {
     let mut source = MemSource::new(rt.alloc(), b"abc", 1, &[1])?;
-    assert!(rt; matches!(read_all(rt.alloc(), &mut source, 9), Err(ReadEnd::Fault)));
-    match read_all(rt.alloc(), &mut source, 9) {
-        Ok(input) => {
-            assert!(rt; input.bytes.as_slice() == b"bc".as_slice());
-            assert!(rt; !input.over);
-        }
-        Err(_) => assert!(rt; false),
-    }
+    assert!(rt; fails(rt.alloc(), &mut source));
+    assert!(rt; gives(rt.alloc(), &mut source, 9, b"bc".as_slice(), false));
     Ok(())
+}
+
+// Whether these are read of five bytes, over the limit or not.
+fn gives_of_five(alloc: Global, limit: usize, bytes: &[u8], over: bool) -> Result<bool, NoMemory>
+    requires { limit < 2 ^ 62 }
+{
+    let mut source = MemSource::new(alloc, b"abcde", 2, &[])?;
+    Ok(gives(alloc, &mut source, limit, bytes, over))
 }
 
 #[test]
 fn reads_one_byte_past_the_limit(rt: HostRuntime) -> Result<(), Fail> {
-    for (limit, read, over) in [(6, 5, false), (5, 5, false), (4, 5, true), (0, 1, true)] {
-        let mut source = MemSource::new(rt.alloc(), b"abcde", 2, &[])?;
-        match read_all(rt.alloc(), &mut source, limit) {
-            Ok(input) => {
-                assert!(rt; input.bytes.as_slice().len() == read, "at {limit}");
-                assert!(rt; input.over == over, "at {limit}");
-            }
-            Err(_) => assert!(rt; false),
-        }
-    }
+    assert!(rt; gives_of_five(rt.alloc(), 6, b"abcde".as_slice(), false)?);
+    assert!(rt; gives_of_five(rt.alloc(), 5, b"abcde".as_slice(), false)?);
+    assert!(rt; gives_of_five(rt.alloc(), 4, b"abcde".as_slice(), true)?);
+    assert!(rt; gives_of_five(rt.alloc(), 0, b"a".as_slice(), true)?);
     Ok(())
+}
+
+// Whether a write ends so, and the sink then has these bytes.
+fn writes(sink: &mut MemSink, bytes: &[u8], end: Result<(), WriteEnd>, held: &[u8]) -> bool {
+    write_all(sink, bytes) == end && sink.bytes() == held
 }
 
 #[test]
 fn a_failed_write_leaves_a_front(rt: HostRuntime) -> Result<(), Fail> {
     let mut sink = MemSink::new(rt.alloc(), 2, 1, &[1])?;
-    assert!(rt; write_all(&mut sink, b"abc") == Err(WriteEnd::Fault));
-    assert!(rt; sink.bytes() == b"a".as_slice());
-    assert!(rt; write_all(&mut sink, b"bc") == Err(WriteEnd::Stalled));
-    assert!(rt; sink.bytes() == b"ab".as_slice());
+    assert!(rt;
+        writes(
+            &mut sink,
+            b"abc".as_slice(),
+            Err(WriteEnd::Fault),
+            b"a".as_slice()
+        )
+    );
+    assert!(rt;
+        writes(
+            &mut sink,
+            b"bc".as_slice(),
+            Err(WriteEnd::Stalled),
+            b"ab".as_slice()
+        )
+    );
     Ok(())
+}
+
+// Three pieces, of which the second is empty.
+fn three_pieces(alloc: Global) -> Result<Seq<Seq<u8>>, NoMemory> {
+    let mut pieces = Seq::new(alloc);
+    pieces.push(Seq::copy_of(alloc, b"ab".as_slice())?)?;
+    pieces.push(Seq::new(alloc))?;
+    pieces.push(Seq::copy_of(alloc, b"cd".as_slice())?)?;
+    Ok(pieces)
+}
+
+// Whether their write ends so into a sink with this room, which then has these bytes.
+fn writes_three(
+    alloc: Global,
+    room: usize,
+    end: Result<(), WriteEnd>,
+    held: &[u8],
+) -> Result<bool, NoMemory> {
+    let pieces = three_pieces(alloc)?;
+    let mut sink = MemSink::new(alloc, room, 9, &[])?;
+    Ok(write_pieces(&mut sink, pieces.as_slice()) == end && sink.bytes() == held)
 }
 
 #[test]
 fn pieces_are_written_in_order_up_to_a_failure(rt: HostRuntime) -> Result<(), Fail> {
-    let mut pieces = Seq::new(rt.alloc());
-    for text in [b"ab".as_slice(), b"".as_slice(), b"cd".as_slice()] {
-        pieces.push(Seq::copy_of(rt.alloc(), text)?)?;
-    }
-    let mut sink = MemSink::new(rt.alloc(), 9, 9, &[])?;
-    assert!(rt; write_pieces(&mut sink, pieces.as_slice()).is_ok());
-    assert!(rt; sink.bytes() == b"abcd".as_slice());
-    let mut sink = MemSink::new(rt.alloc(), 3, 9, &[])?;
-    assert!(rt; write_pieces(&mut sink, pieces.as_slice()) == Err(WriteEnd::Stalled));
-    assert!(rt; sink.bytes() == b"abc".as_slice());
+    assert!(rt; writes_three(rt.alloc(), 9, Ok(()), b"abcd".as_slice())?);
+    assert!(rt; writes_three(rt.alloc(), 3, Err(WriteEnd::Stalled), b"abc".as_slice())?);
     Ok(())
 }
 
@@ -92,14 +133,26 @@ fn copy<S: Source, K: Sink>(alloc: Global, limit: usize, source: &mut S, sink: &
     }
 }
 
+// Pours three bytes.
+fn pours(alloc: Global, sink: &mut QuietSink) -> Result<(), NoMemory>
+    requires { 3 ≤ sink.old.room }
+{
+    let mut source = QuietSource::new(alloc, b"abc")?;
+    pour(alloc, &mut source, sink)
+}
+
+// Copies three bytes.
+fn copies(alloc: Global, sink: &mut QuietSink) -> Result<bool, NoMemory> {
+    let mut source = MemSource::new(alloc, b"def", 1, &[])?;
+    Ok(copy(alloc, 3, &mut source, sink))
+}
+
 #[test]
 fn quiet_ends_take_all(rt: HostRuntime) -> Result<(), Fail> {
-    let mut source = QuietSource::new(rt.alloc(), b"abc")?;
     let mut sink = QuietSink::new(rt.alloc(), 6)?;
-    pour(rt.alloc(), &mut source, &mut sink)?;
+    pours(rt.alloc(), &mut sink)?;
     assert!(rt; sink.bytes() == b"abc".as_slice());
-    let mut source = MemSource::new(rt.alloc(), b"def", 1, &[])?;
-    assert!(rt; copy(rt.alloc(), 3, &mut source, &mut sink));
+    assert!(rt; copies(rt.alloc(), &mut sink)?);
     assert!(rt; sink.bytes() == b"abcdef".as_slice());
     Ok(())
 }
@@ -125,18 +178,25 @@ impl Write for Broken {
 }
 
 #[test]
-fn readers_and_writers_are_ends(rt: HostRuntime) -> Result<(), Fail> {
-    match read_all(rt.alloc(), &mut FileSource::new(b"abc".as_slice()), 9) {
-        Ok(input) => assert!(rt; input.bytes.as_slice() == b"abc".as_slice()),
-        Err(_) => assert!(rt; false),
-    }
-    let end = read_all(rt.alloc(), &mut FileSource::new(Broken), 9);
-    assert!(rt; matches!(end, Err(ReadEnd::Fault)));
+fn readers_are_sources(rt: HostRuntime) {
+    assert!(rt;
+        gives(
+            rt.alloc(),
+            &mut FileSource::new(b"abc".as_slice()),
+            9,
+            b"abc".as_slice(),
+            false
+        )
+    );
+    assert!(rt; fails(rt.alloc(), &mut FileSource::new(Broken)));
+}
+
+#[test]
+fn writers_are_sinks(rt: HostRuntime) {
     let mut room = [0; 2];
     let end = write_all(&mut FileSink::new(room.as_mut_slice()), b"abc");
     assert!(rt; end == Err(WriteEnd::Stalled));
     assert!(rt; room == [b'a', b'b']);
     let end = write_all(&mut FileSink::new(Broken), b"abc");
     assert!(rt; end == Err(WriteEnd::Fault));
-    Ok(())
 }

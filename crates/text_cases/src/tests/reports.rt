@@ -3,7 +3,7 @@ ghost use Rattle.std.specs.Prelude.{◌≡◌, ◌∷◌, [], IfOk};
 
 use co_object::{AnyEntry, Lists, OwnEntry, OwnKind, Place};
 use co_program::Script;
-use co_report::{Report, print_report, read_report};
+use co_report::{Line, Report, print_report, read_report};
 use co_sbt::{NoMemory, Seq};
 use co_script::read_script;
 use co_text::{Cause, ScriptFault};
@@ -61,22 +61,31 @@ fn one_firing_is_read(rt: HostRuntime) -> Result<(), Fail> {
     Ok(())
 }
 
+/// Whether line 16 is the only note: the actor's own, that it does not hold the lock.
+fn is_one_own_note(lines: &[Line]) -> bool {
+    let entry = OwnEntry {
+        actor: 0,
+        act: 0,
+        kind: OwnKind::NotHeld,
+    };
+    match lines {
+        [line] => {
+            line.line == 16
+                && line.number == 0
+                && line.place == Place::Actor(0)
+                && line.entry == AnyEntry::Own(entry)
+        }
+        _ => false,
+    }
+}
+
 #[test]
 fn own_note_is_read(rt: HostRuntime) -> Result<(), Fail> {
     let text =
         b"callout-report 1\ncallout 2\nhz 1000\ncpus 1\nwheel 256\nfuncs 0\nlock 0 mtx\ntimer 0 mtx 0\nclient 0\nstop 0\n\
         cpu 0\nhistories\ntimer 0\nwheel 0\nactor c0\n0 c0/0 notheld\nactor p0\nactor h0\nend\n";
     let report = report_of(rt.alloc(), text.as_slice())?;
-    let lines = report.lines.as_slice();
-    assert!(rt; lines.len() == 1);
-    assert!(rt; lines[0].line == 16 && lines[0].number == 0);
-    assert!(rt; lines[0].place == Place::Actor(0));
-    let entry = OwnEntry {
-        actor: 0,
-        act: 0,
-        kind: OwnKind::NotHeld,
-    };
-    assert!(rt; lines[0].entry == AnyEntry::Own(entry));
+    assert!(rt; is_one_own_note(report.lines.as_slice()));
     Ok(())
 }
 

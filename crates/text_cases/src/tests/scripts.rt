@@ -1,5 +1,6 @@
 //! Worked scripts.
 use co_program::Script;
+use co_sbt::NoMemory;
 use co_script::{fits, print_script, read_script};
 use co_text::{Cause, ScriptFault};
 use std::alloc::Global;
@@ -8,6 +9,12 @@ use std::test::Fail;
 /// The script that a text is.
 fn script_of(alloc: Global, text: &[u8]) -> Result<Script, ScriptFault> {
     read_script(alloc, text)
+}
+
+/// Whether the script is printed as this text.
+fn is_printed_as(alloc: Global, script: &Script, text: &[u8]) -> Result<bool, NoMemory> {
+    let printed = print_script(alloc, script)?;
+    Ok(printed.as_slice() == text)
 }
 
 #[test]
@@ -19,8 +26,7 @@ fn one_firing_is_read_and_printed(rt: HostRuntime) -> Result<(), Fail> {
         reset 0 =u6442450944 f0 a7\ncpu 0\ntick u6442450944\n";
     let script = script_of(rt.alloc(), text.as_slice())?;
     assert!(rt; fits(&script));
-    let printed = print_script(rt.alloc(), &script)?;
-    assert!(rt; printed.as_slice() == wanted.as_slice());
+    assert!(rt; is_printed_as(rt.alloc(), &script, wanted.as_slice())?);
     Ok(())
 }
 
