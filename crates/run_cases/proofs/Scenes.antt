@@ -7,7 +7,7 @@ use Rattle.co_script.specs.Fits.{fits}
 use Rattle.co_script.proofs.Accepted.{fits-accepted}
 use Rattle.co_service.specs.declared.params.Params.{Params}
 use Rattle.co_service.specs.Params.{AreParams, IsSpec}
-use Rattle.co_run.proofs.Fitting.{fits_locks, fits_params}
+use Rattle.co_run.proofs.FittingScripts.{fits_locks, fits_params}
 use Rattle.run_cases.specs.Scenes.{CanRun, free_spec, two_clients}
 
 -- a script that fits can run
