@@ -7,12 +7,14 @@ refused memory was a thread's. The library that refuses is compiled by gcc and l
 import os, subprocess, sys, tempfile
 
 REFUSER = r"""
+#include <errno.h>
 #include <stdlib.h>
 #include <unistd.h>
 static long made = -1;
 static int refuse(void) {
   if (__atomic_add_fetch(&made, 1, __ATOMIC_SEQ_CST) != atol(getenv("REFUSED_ALLOCATION"))) return 0;
   if (write(2, "refused\n", 8) < 8) _exit(99);
+  errno = ENOMEM; /* as the C library's own calls expect of a refusal */
   return 1;
 }
 extern void *__libc_malloc(size_t), *__libc_calloc(size_t, size_t), *__libc_realloc(void *, size_t), *__libc_memalign(size_t, size_t);
