@@ -1,20 +1,34 @@
 //! The worked examples of the program, as tables for tests of the top call in memory.
 #![tactic(auto)]
 
-pub mod broken;
+#[cfg(test)]
+mod broken;
+#[cfg(test)]
 mod case;
-pub mod examples;
+#[cfg(test)]
+mod examples;
+#[cfg(test)]
 mod ordinary;
+#[cfg(test)]
 mod outcome;
-pub mod prefixes;
+#[cfg(test)]
+mod prefixes;
+#[cfg(test)]
 mod quiet_ends;
-pub mod services;
+#[cfg(test)]
+mod services;
 #[cfg(test)]
 mod tests;
-pub mod timers;
-pub mod versions;
+#[cfg(test)]
+mod timers;
+#[cfg(test)]
+mod versions;
 
+#[cfg(test)]
 pub use case::Case;
+#[cfg(test)]
 pub use ordinary::ordinary_script;
+#[cfg(test)]
 pub use outcome::{Outcome, call, call_through, check, make, run, steps};
+#[cfg(test)]
 pub use quiet_ends::quiet;
