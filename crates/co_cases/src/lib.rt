@@ -16,13 +16,7 @@ mod prefixes;
 #[cfg(test)]
 mod quiet_ends;
 #[cfg(test)]
-mod services;
-#[cfg(test)]
 mod tests;
-#[cfg(test)]
-mod timers;
-#[cfg(test)]
-mod versions;
 
 #[cfg(test)]
 pub use case::Case;

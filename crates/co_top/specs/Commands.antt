@@ -7,9 +7,11 @@ use Rattle.co_text.specs.declared.cause.Cause.TheVariants as cause
 use Rattle.co_check.specs.declared.verdict.Unfit.{Unfit}
 use Rattle.co_check.specs.declared.verdict.Unfit.TheVariants as unfit
 use Rattle.co_top.specs.declared.command.Command.{Command}
-use Rattle.co_top.specs.declared.command.Command.TheVariants.{Read, Run, Make}
+use Rattle.co_top.specs.declared.command.Command.TheVariants.{Read, Serve, Make}
 use Rattle.co_top.specs.declared.command.Reading.{Reading}
 use Rattle.co_top.specs.declared.command.Reading.TheVariants.{Steps, Check, Event}
+use Rattle.co_top.specs.declared.command.Serving.{Serving}
+use Rattle.co_top.specs.declared.command.Serving.TheVariants.{Run, Kq, Sleep, Itimer}
 use Rattle.co_top.specs.declared.command.Making.{Making}
 use Rattle.co_top.specs.declared.command.Making.TheVariants.{Gen, Soak}
 
@@ -20,6 +22,13 @@ abbrev pub reading_of : Word → Option Reading
 reading_of word = if is_word word (codes "steps") then Some Steps
     else (if is_word word (codes "check") then Some Check
     else (if is_word word (codes "event") then Some Event else None))
+
+-- a command of one word that reads and works on a running service
+abbrev pub serving_of : Word → Option Serving
+serving_of word = if is_word word (codes "run") then Some Run
+    else (if is_word word (codes "kq") then Some Kq
+    else (if is_word word (codes "sleep") then Some Sleep
+    else (if is_word word (codes "itimer") then Some Itimer else None)))
 
 -- a seed: 1 to 20 digits, below 2 ^ 64
 abbrev pub small_seed : Result ℕ Cause → Option ℕ
@@ -42,28 +51,32 @@ abbrev pub reads : Option Reading → Option Command
 reads None = None
 reads (Some reading) = Some (Read reading)
 
+abbrev pub serves : Option Serving → Option Command → Option Command
+serves None other = other
+serves (Some serving) other = Some (Serve serving)
+
 -- a command of one word
 abbrev pub word_command : Word → Option Command
-word_command word = if is_word word (codes "run") then Some Run else reads (reading_of word)
+word_command word = serves (serving_of word) (reads (reading_of word))
 
 abbrev pub makes : Option Making → Option Command
 makes None = None
 makes (Some making) = Some (Make making)
 
--- `steps`, `run`, `check`, `gen N`, `soak N` and `event`
+-- `steps`, `run`, `check`, `gen N`, `soak N`, `kq`, `sleep`, `itimer` and `event`
 abbrev pub command_of : List Word → Option Command
 command_of (word ∷ []) = word_command word
 command_of (word ∷ n ∷ []) = makes (making_of word (seed_of n))
 command_of words = None
 
--- the command is one that starts threads
-abbrev pub is_run : Option Command → Bool
-is_run (Some Run) = true
-is_run command = false
+-- the command works on a running service
+abbrev pub is_serving : Option Command → Bool
+is_serving (Some (Serve serving)) = true
+is_serving command = false
 
 -- the words are not those of such a command
 abbrev pub IsPlain : List Word → Type 0
-IsPlain words = is_run (command_of words) ≡ false
+IsPlain words = is_serving (command_of words) ≡ false
 
 -- ---- texts
 
@@ -72,7 +85,7 @@ abbrev pub line : List ℕ → List ℕ
 line text = text ++ 10 ∷ []
 
 abbrev pub usage_text : List ℕ
-usage_text = line (codes "usage: callout steps | run | check | gen N | soak N | event")
+usage_text = line (codes "usage: callout steps | run | check | gen N | soak N | kq | sleep | itimer | event")
 
 -- of a report whose verdict is Legal
 abbrev pub legal_text : List ℕ

@@ -20,9 +20,11 @@ use Rattle.co_event_text.specs.Answers.{event_text}
 use Rattle.co_gen.specs.Generator.{generated}
 use Rattle.co_gen.specs.Soak.{counts_of, soak_line}
 use Rattle.co_top.specs.declared.command.Command.{Command}
-use Rattle.co_top.specs.declared.command.Command.TheVariants.{Read, Run, Make}
+use Rattle.co_top.specs.declared.command.Command.TheVariants.{Read, Serve, Make}
 use Rattle.co_top.specs.declared.command.Reading.{Reading}
 use Rattle.co_top.specs.declared.command.Reading.TheVariants.{Steps, Check, Event}
+use Rattle.co_top.specs.declared.command.Serving.{Serving}
+use Rattle.co_top.specs.declared.command.Serving.TheVariants.{Run, Kq, Sleep, Itimer}
 use Rattle.co_top.specs.declared.command.Making.{Making}
 use Rattle.co_top.specs.declared.command.Making.TheVariants.{Gen, Soak}
 use Rattle.co_top.specs.declared.status.Finish.{Finish}
@@ -101,17 +103,37 @@ Gives Event bytes Done text = event_text bytes ≡ Ok text
 Gives Event bytes BadScript text = IsRefused (event_text bytes) text
 Gives reading bytes status text = ⊥
 
--- `run`, whose answer has a closing too
-abbrev pub GivesRun : List ℕ → Status → Option ClosingView → List ℕ → Type 0
-GivesRun bytes Done (Some closing) text = IsScriptOf bytes (λ script. IsReportOfRun script closing text)
-GivesRun bytes BadScript None text = IsRefused (script_of bytes) text
-GivesRun bytes status closing text = ⊥
+-- what a command on a running service makes of an accepted input: its text, and the closing of the service
+abbrev pub Serves : Serving → List ℕ → ClosingView → List ℕ → Type 0
+Serves Run bytes closing text = IsScriptOf bytes (λ script. IsReportOfRun script closing text)
+Serves Kq bytes closing text = IsKqDone bytes closing text
+Serves Sleep bytes closing text = IsSleepDone bytes closing text
+Serves Itimer bytes closing text = IsItimerDone bytes closing text
 
--- the most bytes that an input has
+-- its text for one that it refuses
+abbrev pub Refuses : Serving → List ℕ → List ℕ → Type 0
+Refuses Run bytes text = IsRefused (script_of bytes) text
+Refuses Kq bytes text = IsRefused (kq_text bytes) text
+Refuses Sleep bytes text = IsRefused (sleep_text bytes) text
+Refuses Itimer bytes text = IsRefused (itimer_text bytes) text
+
+-- there is a closing exactly where it is done
+abbrev pub GivesServed : Serving → List ℕ → Status → Option ClosingView → List ℕ → Type 0
+GivesServed serving bytes Done (Some closing) text = Serves serving bytes closing text
+GivesServed serving bytes BadScript None text = Refuses serving bytes text
+GivesServed serving bytes status closing text = ⊥
+
+-- the most bytes that an input has: of a script 64 MiB, of a report 256 MiB, of a text of commands 16 MiB
 abbrev pub limit_of : Reading → ℕ
 limit_of Steps = 67108864
 limit_of Check = 268435456
 limit_of Event = 16777216
+
+abbrev pub served_limit : Serving → ℕ
+served_limit Run = 67108864
+served_limit Kq = 16777216
+served_limit Sleep = 16777216
+served_limit Itimer = 16777216
 
 -- ---- `gen` and `soak`: the text of a seed
 
@@ -138,15 +160,15 @@ module _ (before after : Outside) where
   IsUnread = after.input ≡ before.input
 
   -- of what was read: all of it where the text is of a script or a report; else all, or more than the limit
-  abbrev pub HasRead : Reading → Status → List ℕ → Type 0
-  HasRead reading BadScript bytes = Reads before.input after.input (limit_of reading) bytes
-  HasRead reading status bytes = ReadsToEnd before.input after.input bytes
+  abbrev pub HasRead : ℕ → Status → List ℕ → Type 0
+  HasRead limit BadScript bytes = Reads before.input after.input limit bytes
+  HasRead limit status bytes = ReadsToEnd before.input after.input bytes
 
-  -- the words come to this status and this closing, for which this text is to be written. `run` reads what `steps` reads
+  -- the words come to this status and this closing, for which this text is to be written
   abbrev pub ComesTo : Option Command → Status → Option ClosingView → List ℕ → Type 0
   ComesTo None Usage None text = IsUnread × (text ≡ usage_text)
-  ComesTo (Some (Read reading)) status None text = (bytes : List ℕ) × HasRead reading status bytes × Gives reading bytes status text
-  ComesTo (Some Run) status closing text = (bytes : List ℕ) × HasRead Steps status bytes × GivesRun bytes status closing text
+  ComesTo (Some (Read reading)) status None text = (bytes : List ℕ) × HasRead (limit_of reading) status bytes × Gives reading bytes status text
+  ComesTo (Some (Serve serving)) status closing text = (bytes : List ℕ) × HasRead (served_limit serving) status bytes × GivesServed serving bytes status closing text
   ComesTo (Some (Make making)) Done None text = IsUnread × IsMadeOf making text
   ComesTo command status closing text = ⊥
 
@@ -161,21 +183,21 @@ module _ (before after : Outside) where
   -- a read failed of a command that reads
   abbrev pub FailsToRead : Option Command → Type 0
   FailsToRead (Some (Read reading)) = ReadFails before.input after.input
-  FailsToRead (Some Run) = ReadFails before.input after.input
+  FailsToRead (Some (Serve serving)) = ReadFails before.input after.input
   FailsToRead command = ⊥
 
   -- there was too little memory for a command, and those that don't read have read nothing
   abbrev pub LacksMemory : Option Command → Type 0
   LacksMemory None = ⊥
   LacksMemory (Some (Read reading)) = Unit {0}
-  LacksMemory (Some Run) = Unit {0}
+  LacksMemory (Some (Serve serving)) = Unit {0}
   LacksMemory (Some (Make making)) = IsUnread
 
   -- nothing was written
   abbrev pub IsUnwritten : Type 0
   IsUnwritten = after.output ≡ before.output
 
-  -- what a status says, and that there is a closing exactly where `run` is done
+  -- what a status says, and that there is a closing exactly where a command on a running service is done
   abbrev pub Says : Option Command → Status → Option ClosingView → Type 0
   Says command Done closing = Answers command Done closing
   Says command BadScript closing = Answers command BadScript closing
@@ -190,7 +212,7 @@ module _ (before after : Outside) where
 abbrev pub IsHeadline : List Word → Outside → Outside → Finish → Type 0
 IsHeadline words before after finish = Says before after (command_of words) finish.status finish.closing
 
--- a call without threads ends with its status alone
+-- a call without a running service ends with its status alone
 abbrev pub plain : Status → Finish
 plain status = record { status = status; closing = None }
 
@@ -208,16 +230,22 @@ abbrev pub report_status : Result Report Refusal → Status
 report_status (Ok report) = verdict_status (verdict report)
 report_status (Err refusal) = BadScript
 
-abbrev pub event_status : Result (List ℕ) Refusal → Status
-event_status (Ok text) = Done
-event_status (Err refusal) = BadScript
+abbrev pub text_status : Result (List ℕ) Refusal → Status
+text_status (Ok text) = Done
+text_status (Err refusal) = BadScript
 
--- what an input comes to: a script is answered by its report, a report by its verdict, a text of events by theirs, and another
--- input by its refusal
+-- what an input comes to: a script is answered by its report, a report by its verdict, a text of commands by their answers, and
+-- another input by its refusal
 abbrev pub status_of : Reading → List ℕ → Status
 status_of Steps bytes = script_status (script_of bytes)
 status_of Check bytes = report_status (report_read bytes)
-status_of Event bytes = event_status (event_text bytes)
+status_of Event bytes = text_status (event_text bytes)
+
+abbrev pub served_status : Serving → List ℕ → Status
+served_status Run bytes = script_status (script_of bytes)
+served_status Kq bytes = text_status (kq_text bytes)
+served_status Sleep bytes = text_status (sleep_text bytes)
+served_status Itimer bytes = text_status (itimer_text bytes)
 
 -- the statuses of a command that reads, where neither end has a fault
 abbrev pub IsWork : Reading → Status → Type 0
@@ -232,16 +260,21 @@ pub record IsReadAnswered (reading : Reading) (before : Outside) (status : Statu
   pub told : IfSome before.input.left (λ bytes. (status ≡ status_of reading bytes) ⊎ (status ≡ NoMemory))
   pub untold : IsWork reading status
 
+-- and so does one that works on a running service
+pub record IsServedAnswered (serving : Serving) (before : Outside) (status : Status) : Type 0 where
+  pub told : IfSome before.input.left (λ bytes. (status ≡ served_status serving bytes) ⊎ (status ≡ NoMemory))
+  pub untold : IsWork Steps status
+
 -- no read failed, and no write failed in a text that the command comes to: over a sink that counts no fault and tells room for
 -- each of them none does
 pub record HasNoFault (before after : Outside) (command : Command) : Type 0 where
   pub reads : ¬ ReadFails before.input after.input
   pub writes : (status : Status) (closing : Option ClosingView) (text : List ℕ) → ComesTo before after (Some command) status closing text → ¬ WriteFails before.output after.output text
 
--- what a command answers, without a fault at either end: `run` what `steps` does
+-- what a command answers, without a fault at either end
 abbrev pub IsAnswered : Command → Outside → Status → Type 0
 IsAnswered (Read reading) before status = IsReadAnswered reading before status
-IsAnswered Run before status = IsReadAnswered Steps before status
+IsAnswered (Serve serving) before status = IsServedAnswered serving before status
 IsAnswered (Make making) before status = (status ≡ Done) ⊎ (status ≡ NoMemory)
 
 abbrev pub IsComplete : List Word → Outside → Outside → Status → Type 0

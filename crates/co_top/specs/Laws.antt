@@ -1,10 +1,11 @@
 -- What the texts of two commands say of each other.
-use Rattle.std.specs.Prelude.{ℕ, ◌≤◌, List, length, Some}
+use Rattle.std.specs.Prelude.{ℕ, ◌≤◌, List, length}
 use Rattle.co_service.specs.Closing.{ClosingView}
 use Rattle.co_top.specs.declared.command.Reading.TheVariants.{Steps, Check}
+use Rattle.co_top.specs.declared.command.Serving.TheVariants.{Run}
 use Rattle.co_top.specs.declared.status.Status.TheVariants.{Done}
 use Rattle.co_top.specs.Commands.{legal_text}
-use Rattle.co_top.specs.Headline.{Gives, GivesRun, limit_of}
+use Rattle.co_top.specs.Headline.{Gives, Serves, limit_of}
 
 -- what `steps` makes of a script is a report that `check` calls legal, where it is not too long for an input
 abbrev pub ReportsOfStepsAreLegal : Type 0
@@ -12,4 +13,4 @@ ReportsOfStepsAreLegal = (bytes text : List ℕ) → Gives Steps bytes Done text
 
 -- and so is what `run` makes of it
 abbrev pub ReportsOfRunsAreLegal : Type 0
-ReportsOfRunsAreLegal = (bytes text : List ℕ) (closing : ClosingView) → GivesRun bytes Done (Some closing) text → length text ≤ limit_of Check → Gives Check text Done legal_text
+ReportsOfRunsAreLegal = (bytes text : List ℕ) (closing : ClosingView) → Serves Run bytes closing text → length text ≤ limit_of Check → Gives Check text Done legal_text

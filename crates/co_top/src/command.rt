@@ -1,6 +1,7 @@
 //! The words that are a command.
-ghost use Rattle.std.specs.Prelude.{◌≡◌, map, string_bytes};
-ghost use Rattle.co_top.specs.Commands.{command_of, is_run, making_of, reading_of, seed_of, word_command};
+ghost use Rattle.std.specs.Prelude.{◌≡◌, IfNone, IfSome, Some, map, string_bytes};
+ghost use Rattle.co_top.specs.declared.command.Command.TheVariants.{Serve};
+ghost use Rattle.co_top.specs.Commands.{IsPlain, command_of, making_of, reading_of, seed_of, serving_of, word_command};
 
 use co_text::number;
 
@@ -13,6 +14,19 @@ pub enum Reading {
     Check,
     /// Reads a text of armings and writes its events: callouts that fire within their windows.
     Event,
+}
+
+/// A command that reads an input, works on a running service and leaves its closing.
+#[derive(Clone, Copy, Debug, PartialEq, Eq)]
+pub enum Serving {
+    /// Reads a script, runs its actors on threads and writes the report of whatever happened.
+    Run,
+    /// Reads calls on kevent timers and writes their answers.
+    Kq,
+    /// Reads timed sleeps and wakeups and writes their answers.
+    Sleep,
+    /// Reads calls on interval timers and writes their answers.
+    Itimer,
 }
 
 /// A command that makes its text from a seed, below 2^64, and leaves the input unread.
@@ -29,8 +43,8 @@ pub enum Making {
 pub enum Command {
     /// One that reads an input.
     Read(Reading),
-    /// Reads a script, runs its actors on threads and writes the report of whatever happened.
-    Run,
+    /// One that works on a running service.
+    Serve(Serving),
     /// One that makes its text from a seed.
     Make(Making),
 }
@@ -50,12 +64,29 @@ fn reading_of(word: &[u8]) -> Option<Reading>
     }
 }
 
+/// The command of one word that works on a running service.
+fn serving_of(word: &[u8]) -> Option<Serving>
+    ensures { result ≡ serving_of word.now }
+{
+    if word == b"run".as_slice() {
+        Some(Serving::Run)
+    } else if word == b"kq".as_slice() {
+        Some(Serving::Kq)
+    } else if word == b"sleep".as_slice() {
+        Some(Serving::Sleep)
+    } else if word == b"itimer".as_slice() {
+        Some(Serving::Itimer)
+    } else {
+        None
+    }
+}
+
 /// The command of one word.
 fn word_command(word: &[u8]) -> Option<Command>
     ensures { result ≡ word_command word.now }
 {
-    if word == b"run".as_slice() {
-        return Some(Command::Run);
+    if let Some(serving) = serving_of(word) {
+        return Some(Command::Serve(serving));
     }
     match reading_of(word) {
         Some(reading) => Some(Command::Read(reading)),
@@ -87,7 +118,8 @@ fn making_of(word: &[u8], seed: Option<u64>) -> Option<Making>
     }
 }
 
-/// The command that the words are, if they are one: `steps`, `run`, `check`, `gen N`, `soak N` or `event`. Our own decision.
+/// The command that the words are, if they are one: `steps`, `run`, `check`, `gen N`, `soak N`, `kq`, `sleep`,
+/// `itimer` or `event`. Our own decision.
 pub(crate) fn command_of(words: &[String]) -> Option<Command>
     ensures { result ≡ command_of (map string_bytes words.now) }
 {
@@ -101,9 +133,13 @@ pub(crate) fn command_of(words: &[String]) -> Option<Command>
     }
 }
 
-/// Whether the words are the command `run`.
-pub(crate) fn is_run(words: &[String]) -> bool
-    ensures { result ≡ is_run (command_of (map string_bytes words.now)) }
+/// The command on a running service that the words are, if they are one.
+pub(crate) fn served(words: &[String]) -> Option<Serving>
+    ensures some { IfSome result (λ serving. command_of (map string_bytes words.now) ≡ Some (Serve serving)) }
+    ensures none { IfNone result (IsPlain (map string_bytes words.now)) }
 {
-    matches!(command_of(words), Some(Command::Run))
+    match command_of(words) {
+        Some(Command::Serve(serving)) => Some(serving),
+        _ => None,
+    }
 }

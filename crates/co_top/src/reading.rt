@@ -7,10 +7,10 @@ ghost use Rattle.co_check.specs.Verdict.{verdict};
 ghost use Rattle.co_top.specs.Headline.{Gives, IsJudged, IsReportOfWalk};
 ghost use Rattle.co_top.specs.declared.command.Reading.TheVariants as readings;
 
-use crate::answer::{Answer, whole};
+use crate::answer::{Answer, refused, whole};
 use crate::command::Reading;
 use crate::status::Status;
-use crate::texts::{fault_text, legal_text, refusal_text, unfit_word};
+use crate::texts::{fault_text, legal_text, unfit_word};
 use co_check::{Verdict, check};
 use co_core::tell_walk;
 use co_event_text::run_event;
@@ -50,10 +50,7 @@ fn steps(alloc: Global, bytes: &[u8]) -> Result<Answer, NoMemory>
             status: Status::Done,
             pieces: report_of_walk(alloc, &script)?,
         }),
-        Err(ScriptFault::Bad { line, cause }) => Ok(Answer {
-            status: Status::BadScript,
-            pieces: whole(alloc, refusal_text(alloc, line, cause)?)?,
-        }),
+        Err(ScriptFault::Bad { line, cause }) => refused(alloc, line, cause),
         Err(ScriptFault::NoMemory) => Err(NoMemory {}),
     }
 }
@@ -81,10 +78,7 @@ fn check_report(alloc: Global, bytes: &[u8]) -> Result<Answer, NoMemory>
 {
     match read_report(alloc, bytes) {
         Ok(report) => judged(alloc, &report),
-        Err(ScriptFault::Bad { line, cause }) => Ok(Answer {
-            status: Status::BadScript,
-            pieces: whole(alloc, refusal_text(alloc, line, cause)?)?,
-        }),
+        Err(ScriptFault::Bad { line, cause }) => refused(alloc, line, cause),
         Err(ScriptFault::NoMemory) => Err(NoMemory {}),
     }
 }
@@ -98,10 +92,7 @@ fn events(alloc: Global, bytes: &[u8]) -> Result<Answer, NoMemory>
             status: Status::Done,
             pieces: whole(alloc, text)?,
         }),
-        Err(ScriptFault::Bad { line, cause }) => Ok(Answer {
-            status: Status::BadScript,
-            pieces: whole(alloc, refusal_text(alloc, line, cause)?)?,
-        }),
+        Err(ScriptFault::Bad { line, cause }) => refused(alloc, line, cause),
         Err(ScriptFault::NoMemory) => Err(NoMemory {}),
     }
 }

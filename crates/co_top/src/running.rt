@@ -2,11 +2,11 @@
 ghost use Rattle.std.specs.Prelude.{◌≡◌, true, IfOk};
 ghost use Rattle.std.specs.List.{concat};
 ghost use Rattle.co_script.specs.Fits.{fits};
-ghost use Rattle.co_top.specs.Headline.{GivesRun, IsReportOfRun};
+ghost use Rattle.co_top.specs.Headline.{GivesServed, IsReportOfRun};
+ghost use Rattle.co_top.specs.declared.command.Serving.TheVariants as servings;
 
-use crate::answer::{Answer, whole};
-use crate::status::Status;
-use crate::texts::refusal_text;
+use crate::answer::whole;
+use crate::served::Served;
 use crate::typed::lists_are_typed;
 use co_hand::Gate;
 use co_program::Script;
@@ -25,13 +25,6 @@ use std::thread::Threads;
 struct Report {
     pieces: Seq<Seq<u8>>,
     closing: Closing,
-}
-
-/// What `run` comes to: its answer, and the closing where it is done.
-#[derive(Drop)]
-pub(crate) struct RunAnswer {
-    pub(crate) answer: Answer,
-    pub(crate) closing: Option<Closing>,
 }
 
 /// The report of a run of the script on threads.
@@ -61,27 +54,15 @@ pub(crate) fn run<G: Gate + Sync, R: Threads + Wait + Sync>(
     alloc: Global,
     bytes: &[u8],
     gate: &G,
-) -> Result<RunAnswer, NoMemory>
-    ensures { IfOk result (λ ran. GivesRun bytes.now ran.answer.status ran.closing (concat ran.answer.pieces)) }
+) -> Result<Served, NoMemory>
+    ensures { IfOk result (λ served. GivesServed servings.Run bytes.now served.answer.status served.closing (concat served.answer.pieces)) }
 {
     match read_script(alloc, bytes) {
         Ok(script) => {
             let report = report_of_run(rt, alloc, &script, gate)?;
-            Ok(RunAnswer {
-                answer: Answer {
-                    status: Status::Done,
-                    pieces: report.pieces,
-                },
-                closing: Some(report.closing),
-            })
+            Ok(Served::done(report.pieces, report.closing))
         }
-        Err(ScriptFault::Bad { line, cause }) => Ok(RunAnswer {
-            answer: Answer {
-                status: Status::BadScript,
-                pieces: whole(alloc, refusal_text(alloc, line, cause)?)?,
-            },
-            closing: None,
-        }),
+        Err(ScriptFault::Bad { line, cause }) => Served::refused(alloc, line, cause),
         Err(ScriptFault::NoMemory) => Err(NoMemory {}),
     }
 }

@@ -24,12 +24,12 @@ pub enum Status {
     NotLegal,
 }
 
-/// How a call of the program ends, with what is left of the service whose calls it wrote the report of: a closing is there
-/// exactly where the command `run` is done.
+/// How a call of the program ends, with what is left of the service that its command worked on: a closing is there exactly where
+/// `run`, `kq`, `sleep` or `itimer` is done.
 #[derive(Drop)]
 pub struct Finish {
     pub status: Status,
-    /// The histories of the callouts and CPUs that the report shows.
+    /// The histories of the service's callouts and CPUs: of `run` those that the report shows.
     pub closing: Option<Closing>,
 }
 

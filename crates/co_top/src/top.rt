@@ -4,14 +4,14 @@ ghost use Rattle.std.specs.List.{concat};
 ghost use Rattle.co_top.specs.declared.command.Command.TheVariants as commands;
 ghost use Rattle.co_top.specs.declared.status.Status.TheVariants.{WriteFault};
 ghost use Rattle.co_top.specs.Commands.{IsPlain};
-ghost use Rattle.co_top.specs.Headline.{IsHeadline, IsComplete, Says, Tells, limit_of, plain};
+ghost use Rattle.co_top.specs.Headline.{IsHeadline, IsComplete, Says, Tells, limit_of, plain, served_limit};
 ghost use Rattle.co_top.specs.Outside.{Input, Output, outside};
 
 use crate::answer::Answer;
-use crate::command::{Command, Making, Reading, command_of, is_run};
+use crate::command::{Command, Making, Reading, Serving, command_of, served};
 use crate::making::text_of;
 use crate::reading::answer_to;
-use crate::running::run;
+use crate::serving::serve;
 use crate::status::{Finish, Status};
 use crate::texts::usage_text;
 use co_hand::Gate;
@@ -29,6 +29,18 @@ fn limit_of(reading: Reading) -> usize
         Reading::Steps => 67_108_864,
         Reading::Check => 268_435_456,
         Reading::Event => 16_777_216,
+    }
+}
+
+/// The most bytes of an input of a command on a running service: of a script 64 MiB, of a text of commands 16 MiB.
+fn served_limit(serving: Serving) -> usize
+    ensures { result ≡ served_limit serving }
+{
+    match serving {
+        Serving::Run => 67_108_864,
+        Serving::Kq => 16_777_216,
+        Serving::Sleep => 16_777_216,
+        Serving::Itimer => 16_777_216,
     }
 }
 
@@ -103,7 +115,7 @@ fn without_closing(status: Status) -> Finish
     }
 }
 
-/// How `run` ends that came to this closing: where the sink failed, there is none.
+/// How a command on a running service ends that came to this closing: where the sink failed, there is none.
 fn finished(status: Status, closing: Option<Closing>) -> Finish
     ensures status { result.status ≡ status }
     ensures kept { (status ≡ WriteFault → ⊥) → result.closing ≡ closing }
@@ -115,31 +127,32 @@ fn finished(status: Status, closing: Option<Closing>) -> Finish
     }
 }
 
-/// The command `run`, from the source to the sink.
-fn run_and_answer<S: Source, K: Sink, G: Gate + Sync, R: Threads + Wait + Sync>(
+/// A command on a running service, from the source to the sink.
+fn serve_and_answer<S: Source, K: Sink, G: Gate + Sync, R: Threads + Wait + Sync>(
     rt: &R,
     alloc: Global,
+    serving: Serving,
     source: &mut S,
     sink: &mut K,
     gate: &G,
 ) -> Finish
     ensures { let before = outside (S.left source.old) (S.faults source.old) (K.held sink.old) (K.room sink.old) (K.faults sink.old) (K.idle sink.old) in
         let after = outside (S.left source.new) (S.faults source.new) (K.held sink.new) (K.room sink.new) (K.faults sink.new) (K.idle sink.new) in
-        Says before after (Some commands.Run) result.status result.closing }
+        Says before after (Some (commands.Serve serving)) result.status result.closing }
 {
-    let bytes = match read_all(alloc, source, limit_of(Reading::Steps)) {
+    let bytes = match read_all(alloc, source, served_limit(serving)) {
         Ok(input) => input.bytes,
         Err(ReadEnd::NoMemory) => return without_closing(Status::NoMemory),
         Err(ReadEnd::Fault) => return without_closing(Status::ReadFault),
     };
-    match run(rt, alloc, bytes.as_slice(), gate) {
-        Ok(ran) => finished(write_answer(sink, &ran.answer), ran.closing),
+    match serve(rt, alloc, serving, bytes.as_slice(), gate) {
+        Ok(served) => finished(write_answer(sink, &served.answer), served.closing),
         Err(_) => without_closing(Status::NoMemory),
     }
 }
 
-/// Does what the words say, from a source to a sink, and tells how it ended, for all words but those of a command that starts
-/// threads. It returns. Our own decision, the words and the texts too.
+/// Does what the words say, from a source to a sink, and tells how it ended, for all words but those of a command that works
+/// on a running service. It returns. Our own decision, the words and the texts too.
 ///
 /// Usage comes exactly where the words are no command. Of a command ReadFault comes before BadScript, and that before the
 /// work; nothing is written before the whole text is made. NoMemory may come at any command, and then nothing was written.
@@ -161,16 +174,17 @@ pub fn plain_main<S: Source, K: Sink>(
     match command_of(words) {
         None => write_text(sink, Status::Usage, usage_text()),
         Some(Command::Read(reading)) => read_and_answer(alloc, reading, source, sink),
-        Some(Command::Run) => unreachable!(),
+        Some(Command::Serve(_)) => unreachable!(),
         Some(Command::Make(making)) => make(alloc, making, sink),
     }
 }
 
-/// Does what the words say, from a source to a sink, and tells how it ended: `run` on threads of `rt`, and each other command
-/// as [`plain_main`] does.
+/// Does what the words say, from a source to a sink, and tells how it ended: `run`, `kq`, `sleep` and `itimer` on a running
+/// service, `run` on threads of `rt`, and each other command as [`plain_main`] does.
 ///
-/// Of `run` the gate is called before each act of an actor. It may wait, for as long as the gate and the actors' calls of the service do;
-/// the clauses hold if it returns. Its statuses come as those of `steps`, and a closing exactly where it is done.
+/// Of `run` the gate is called before each act of an actor. It may wait, for as long as the gate and the actors' calls of the service
+/// do, and so may the others for a lock of their service; the clauses hold if it returns. A closing is there exactly where such a
+/// command is done.
 pub fn callout_main<S: Source, K: Sink, G: Gate + Sync, R: Threads + Wait + Sync>(
     rt: &R,
     alloc: Global,
@@ -186,9 +200,8 @@ pub fn callout_main<S: Source, K: Sink, G: Gate + Sync, R: Threads + Wait + Sync
         let after = outside (S.left source.new) (S.faults source.new) (K.held sink.new) (K.room sink.new) (K.faults sink.new) (K.idle sink.new) in
         IsComplete (map string_bytes words.now) before after result.status }
 {
-    if is_run(words) {
-        run_and_answer(rt, alloc, source, sink, gate)
-    } else {
-        without_closing(plain_main(alloc, words, source, sink))
+    match served(words) {
+        Some(serving) => serve_and_answer(rt, alloc, serving, source, sink, gate),
+        None => without_closing(plain_main(alloc, words, source, sink)),
     }
 }

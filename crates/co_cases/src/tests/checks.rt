@@ -4,10 +4,7 @@ use crate::broken::{
     FIRING_SWAPS, edited,
 };
 use crate::case::Case;
-use crate::examples::DRAIN;
-use crate::services::SERVICES;
-use crate::timers::{ONE_FIRING, TIMERS};
-use crate::versions::VERSIONS;
+use crate::examples::{DRAIN, ONE_FIRING};
 use crate::{check, make, steps};
 use co_io::{MemSink, MemSource};
 use co_top::Status;
@@ -15,38 +12,6 @@ use std::process::Abort;
 use std::sync::Wait;
 use std::test::Fail;
 use std::thread::Threads;
-
-fn are_legal(
-    rt: &(impl AllocGlobal + Abort + Threads + Wait + Sync),
-    cases: &[Case],
-) -> Result<(), Fail> {
-    for case in cases {
-        let outcome = check(rt, case.report.as_bytes())?;
-        assert_eq!(rt; outcome.status, Status::Done, "{}", case.name);
-        assert_eq!(rt;
-            outcome.held.as_slice(),
-            b"legal\n".as_slice(),
-            "{}",
-            case.name
-        );
-    }
-    Ok(())
-}
-
-#[test]
-fn reports_of_one_cpu(rt: HostRuntime) -> Result<(), Fail> {
-    are_legal(&rt, TIMERS.as_slice())
-}
-
-#[test]
-fn reports_of_services_and_moves(rt: HostRuntime) -> Result<(), Fail> {
-    are_legal(&rt, SERVICES.as_slice())
-}
-
-#[test]
-fn reports_of_version_two(rt: HostRuntime) -> Result<(), Fail> {
-    are_legal(&rt, VERSIONS.as_slice())
-}
 
 fn are_judged(
     rt: &(impl AllocGlobal + Abort + Threads + Wait + Sync),

@@ -1,5 +1,5 @@
 //! One firing over ends that fail.
-use crate::timers::ONE_FIRING;
+use crate::examples::ONE_FIRING;
 use crate::{Outcome, call};
 use co_io::{MemSink, MemSource};
 use co_sbt::NoMemory;

@@ -1,6 +1,6 @@
 //! Each command over ends that never fail: with room for its text it is answered, and with a byte less the sink is full.
 use crate::quiet;
-use crate::timers::{ONE_FIRING, THE_CODES_OF_STOP};
+use crate::examples::{ONE_FIRING, THE_CODES_OF_STOP};
 use co_top::Status;
 use std::process::Abort;
 use std::sync::Wait;
@@ -103,7 +103,7 @@ fn soak_is_answered(rt: HostRuntime) -> Result<(), Fail> {
 
 #[test]
 fn other_words_are_answered(rt: HostRuntime) -> Result<(), Fail> {
-    let usage = b"usage: callout steps | run | check | gen N | soak N | event\n".as_slice();
+    let usage = b"usage: callout steps | run | check | gen N | soak N | kq | sleep | itimer | event\n".as_slice();
     is_answered(
         &rt,
         ["stop"].as_slice(),

@@ -94,7 +94,7 @@ fn words_that_are_no_command(rt: HostRuntime) -> Result<(), Fail> {
         assert_eq!(rt; outcome.status, Status::Usage);
         assert_eq!(rt;
             outcome.held.as_slice(),
-            b"usage: callout steps | run | check | gen N | soak N | event\n".as_slice()
+            b"usage: callout steps | run | check | gen N | soak N | kq | sleep | itimer | event\n".as_slice()
         );
     }
     Ok(())

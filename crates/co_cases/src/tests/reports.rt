@@ -1,53 +1,8 @@
-//! Each script of the tables has its report.
-use crate::case::Case;
-use crate::examples::DRAIN;
-use crate::services::SERVICES;
-use crate::timers::TIMERS;
-use crate::versions::VERSIONS;
-use crate::{call, check, ordinary_script, steps};
+//! A script of ordinary use has a report, which is legal.
+use crate::{call, check, ordinary_script};
 use co_io::{MemSink, MemSource};
 use co_top::Status;
-use std::process::Abort;
-use std::sync::Wait;
 use std::test::Fail;
-use std::thread::Threads;
-
-fn are_written(
-    rt: &(impl AllocGlobal + Abort + Threads + Wait + Sync),
-    cases: &[Case],
-) -> Result<(), Fail> {
-    for case in cases {
-        let outcome = steps(rt, case.script.as_bytes())?;
-        assert_eq!(rt; outcome.status, Status::Done, "{}", case.name);
-        assert_eq!(rt;
-            outcome.held.as_slice(),
-            case.report.as_bytes(),
-            "{}",
-            case.name
-        );
-    }
-    Ok(())
-}
-
-#[test]
-fn one_cpu_without_locks(rt: HostRuntime) -> Result<(), Fail> {
-    are_written(&rt, TIMERS.as_slice())
-}
-
-#[test]
-fn services_and_moves(rt: HostRuntime) -> Result<(), Fail> {
-    are_written(&rt, SERVICES.as_slice())
-}
-
-#[test]
-fn version_two(rt: HostRuntime) -> Result<(), Fail> {
-    are_written(&rt, VERSIONS.as_slice())
-}
-
-#[test]
-fn readme(rt: HostRuntime) -> Result<(), Fail> {
-    are_written(&rt, [DRAIN].as_slice())
-}
 
 // The report is legal.
 #[test]

@@ -1,8 +1,5 @@
 //! Runs on threads: each is done and has a closing, and its report is legal.
-use crate::case::Case;
-use crate::examples::DRAIN;
 use crate::tests::turns::Turns;
-use crate::versions::VERSIONS;
 use crate::{Outcome, call, call_through, check, make, ordinary_script, run};
 use co_io::{MemSink, MemSource};
 use co_sbt::NoMemory;
@@ -24,26 +21,6 @@ fn is_done(
     assert!(rt; !verdict.closed);
     assert_eq!(rt; verdict.held.as_slice(), b"legal\n".as_slice());
     Ok(())
-}
-
-fn are_done(
-    rt: &(impl AllocGlobal + Abort + Threads + Wait + Sync),
-    cases: &[Case],
-) -> Result<(), Fail> {
-    for case in cases {
-        is_done(rt, &run(rt, case.script.as_bytes())?)?;
-    }
-    Ok(())
-}
-
-#[test]
-fn both_lanes(rt: HostRuntime) -> Result<(), Fail> {
-    are_done(&rt, VERSIONS.as_slice())
-}
-
-#[test]
-fn readme(rt: HostRuntime) -> Result<(), Fail> {
-    are_done(&rt, [DRAIN].as_slice())
 }
 
 const THREADS: &str = "callout 1

@@ -1,0 +1,40 @@
+//! The commands that work on a running service: what they make of the bytes that they read.
+ghost use Rattle.std.specs.Prelude.{◌≡◌, IfOk};
+ghost use Rattle.std.specs.List.{concat};
+ghost use Rattle.co_top.specs.Headline.{GivesServed};
+ghost use Rattle.co_top.specs.declared.command.Serving.TheVariants as servings;
+
+use crate::answer::whole;
+use crate::command::Serving;
+use crate::running::run;
+use crate::served::Served;
+use co_hand::Gate;
+use co_itimer_text::run_itimer;
+use co_kq_text::run_kq;
+use co_sbt::{NoMemory, Seq};
+use co_service::Closing;
+use co_sleepq_text::run_sleep;
+use co_text::ScriptFault;
+use std::alloc::Global;
+use std::sync::Wait;
+use std::thread::Threads;
+
+//KQ
+
+/// What a command makes of the bytes that it read. `run` calls the gate before each act of an actor.
+pub(crate) fn serve<G: Gate + Sync, R: Threads + Wait + Sync>(
+    rt: &R,
+    alloc: Global,
+    serving: Serving,
+    bytes: &[u8],
+    gate: &G,
+) -> Result<Served, NoMemory>
+    ensures { IfOk result (λ served. GivesServed serving bytes.now served.answer.status served.closing (concat served.answer.pieces)) }
+{
+    match serving {
+        Serving::Run => run(rt, alloc, bytes, gate),
+        Serving::Kq => kq(rt, alloc, bytes),
+        Serving::Sleep => sleep(rt, alloc, bytes),
+        Serving::Itimer => itimer(rt, alloc, bytes),
+    }
+}
