@@ -13,6 +13,12 @@ use Rattle.co_batch.specs.Answers.{Answering, answer_text, batch_text}
 use Rattle.co_batch.proofs.Fit.{bind-ok}
 use Rattle.co_event_text.specs.Commands.{event_language}
 use Rattle.co_event_text.specs.Answers.{event_text, answering as event_answering}
+use Rattle.co_kq_text.specs.Commands.{kq_language}
+use Rattle.co_kq_text.specs.Answers.{kq_text, answering as kq_answering}
+use Rattle.co_sleepq_text.specs.Commands.{sleep_language}
+use Rattle.co_sleepq_text.specs.Answers.{sleep_text, answering as sleep_answering}
+use Rattle.co_itimer_text.specs.Commands.{timer_language as itimer_language}
+use Rattle.co_itimer_text.specs.Answers.{itimer_text, answering as itimer_answering}
 use Rattle.co_script.specs.Reading.{script_of, lines_script}
 use Rattle.co_report.specs.Reading.{report_read, lines_report}
 use Rattle.co_report.specs.declared.line.Report.{Report}
@@ -95,6 +101,6 @@ itimer_refused bytes over = answered_refused itimer_language itimer_answering by
 
 pub served_short : (serving : Serving) (bytes : List ℕ) (closing : ClosingView) (text : List ℕ) → Serves serving bytes closing text → length bytes ≤ served_limit serving
 served_short Run bytes closing text given = accepted_short bytes given.script given.read
-served_short Kq bytes closing text given = answered_short kq_language kq_answering bytes text given.text
-served_short Sleep bytes closing text given = answered_short sleep_language sleep_answering bytes text given.text
-served_short Itimer bytes closing text given = answered_short itimer_language itimer_answering bytes text given.text
+served_short Kq bytes closing text given = answered_short kq_language kq_answering bytes text given.text_is
+served_short Sleep bytes closing text given = answered_short sleep_language sleep_answering bytes text given.text_is
+served_short Itimer bytes closing text given = answered_short itimer_language itimer_answering bytes text given.text_is

@@ -76,9 +76,9 @@ of_bytes Event bytes text NoMemory given = absurd given
 
 done_of_bytes : (serving : Serving) (bytes text : List ℕ) (closing : ClosingView) → Serves serving bytes closing text → Done ≡ served_status serving bytes
 done_of_bytes Run bytes text closing given = sym (ap script_status given.read)
-done_of_bytes Kq bytes text closing given = sym (ap text_status given.text)
-done_of_bytes Sleep bytes text closing given = sym (ap text_status given.text)
-done_of_bytes Itimer bytes text closing given = sym (ap text_status given.text)
+done_of_bytes Kq bytes text closing given = sym (ap text_status given.text_is)
+done_of_bytes Sleep bytes text closing given = sym (ap text_status given.text_is)
+done_of_bytes Itimer bytes text closing given = sym (ap text_status given.text_is)
 
 refused_of_bytes : (serving : Serving) (bytes text : List ℕ) → Refuses serving bytes text → BadScript ≡ served_status serving bytes
 refused_of_bytes Run bytes text given = sym (ap script_status given.refused)

@@ -17,6 +17,12 @@ use Rattle.co_check.specs.declared.verdict.Verdict.TheVariants.{Legal, Not}
 use Rattle.co_service.specs.Closing.{ClosingView}
 use Rattle.co_run.specs.Ran.{shown_timers, shown_cpus}
 use Rattle.co_event_text.specs.Answers.{event_text}
+use Rattle.co_kq_text.specs.Answers.{kq_text}
+use Rattle.co_kq_text.specs.Ends.{EndsRun as EndsKq}
+use Rattle.co_sleepq_text.specs.Answers.{sleep_text}
+use Rattle.co_sleepq_text.specs.Ends.{EndsRun as EndsSleep}
+use Rattle.co_itimer_text.specs.Answers.{itimer_text}
+use Rattle.co_itimer_text.specs.Ends.{EndsRun as EndsItimer}
 use Rattle.co_gen.specs.Generator.{generated}
 use Rattle.co_gen.specs.Soak.{counts_of, soak_line}
 use Rattle.co_top.specs.declared.command.Command.{Command}
@@ -103,12 +109,18 @@ Gives Event bytes Done text = event_text bytes ≡ Ok text
 Gives Event bytes BadScript text = IsRefused (event_text bytes) text
 Gives reading bytes status text = ⊥
 
+-- the text is what the bytes mean, and the service that the command worked on came to its end: its CPU scanned at the ticks, and its
+-- callouts were called as often as the answers count
+pub record IsDone (meaning : Result (List ℕ) Refusal) (Ends : Type 0) (text : List ℕ) : Type 0 where
+  pub text_is : meaning ≡ Ok text
+  pub ends : Ends
+
 -- what a command on a running service makes of an accepted input: its text, and the closing of the service
 abbrev pub Serves : Serving → List ℕ → ClosingView → List ℕ → Type 0
 Serves Run bytes closing text = IsScriptOf bytes (λ script. IsReportOfRun script closing text)
-Serves Kq bytes closing text = IsKqDone bytes closing text
-Serves Sleep bytes closing text = IsSleepDone bytes closing text
-Serves Itimer bytes closing text = IsItimerDone bytes closing text
+Serves Kq bytes closing text = IsDone (kq_text bytes) (EndsKq bytes closing) text
+Serves Sleep bytes closing text = IsDone (sleep_text bytes) (EndsSleep bytes closing) text
+Serves Itimer bytes closing text = IsDone (itimer_text bytes) (EndsItimer bytes closing) text
 
 -- its text for one that it refuses
 abbrev pub Refuses : Serving → List ℕ → List ℕ → Type 0

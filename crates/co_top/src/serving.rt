@@ -11,15 +11,45 @@ use crate::served::Served;
 use co_hand::Gate;
 use co_itimer_text::run_itimer;
 use co_kq_text::run_kq;
-use co_sbt::{NoMemory, Seq};
-use co_service::Closing;
+use co_sbt::NoMemory;
 use co_sleepq_text::run_sleep;
 use co_text::ScriptFault;
 use std::alloc::Global;
 use std::sync::Wait;
 use std::thread::Threads;
 
-//KQ
+/// What `kq` makes of these bytes.
+fn kq<R: Wait>(rt: &R, alloc: Global, bytes: &[u8]) -> Result<Served, NoMemory>
+    ensures { IfOk result (λ served. GivesServed servings.Kq bytes.now served.answer.status served.closing (concat served.answer.pieces)) }
+{
+    match run_kq(rt, alloc, bytes) {
+        Ok((text, closing)) => Ok(Served::done(whole(alloc, text)?, closing)),
+        Err(ScriptFault::Bad { line, cause }) => Served::refused(alloc, line, cause),
+        Err(ScriptFault::NoMemory) => Err(NoMemory {}),
+    }
+}
+
+/// What `sleep` makes of these bytes.
+fn sleep<R: Wait>(rt: &R, alloc: Global, bytes: &[u8]) -> Result<Served, NoMemory>
+    ensures { IfOk result (λ served. GivesServed servings.Sleep bytes.now served.answer.status served.closing (concat served.answer.pieces)) }
+{
+    match run_sleep(rt, alloc, bytes) {
+        Ok((text, closing)) => Ok(Served::done(whole(alloc, text)?, closing)),
+        Err(ScriptFault::Bad { line, cause }) => Served::refused(alloc, line, cause),
+        Err(ScriptFault::NoMemory) => Err(NoMemory {}),
+    }
+}
+
+/// What `itimer` makes of these bytes.
+fn itimer<R: Wait>(rt: &R, alloc: Global, bytes: &[u8]) -> Result<Served, NoMemory>
+    ensures { IfOk result (λ served. GivesServed servings.Itimer bytes.now served.answer.status served.closing (concat served.answer.pieces)) }
+{
+    match run_itimer(rt, alloc, bytes) {
+        Ok((text, closing)) => Ok(Served::done(whole(alloc, text)?, closing)),
+        Err(ScriptFault::Bad { line, cause }) => Served::refused(alloc, line, cause),
+        Err(ScriptFault::NoMemory) => Err(NoMemory {}),
+    }
+}
 
 /// What a command makes of the bytes that it read. `run` calls the gate before each act of an actor.
 pub(crate) fn serve<G: Gate + Sync, R: Threads + Wait + Sync>(

@@ -24,8 +24,8 @@ fn one_firing<R: AllocGlobal + Threads + Wait + Sync>(
 fn each_read_fails_in_turn(rt: HostRuntime) -> Result<(), Fail> {
     for turn in 0..ONE_FIRING.script.len() as u64 + 1 {
         let outcome = one_firing(&rt, &[turn], ONE_FIRING.report.len(), &[])?;
-        assert_eq!(rt; outcome.status, Status::ReadFault, "read {turn}");
-        assert_eq!(rt; outcome.held.as_slice().len(), 0, "read {turn}");
+        assert!(rt; outcome.status == Status::ReadFault, "read {turn}");
+        assert!(rt; outcome.held.as_slice().len() == 0, "read {turn}");
     }
     Ok(())
 }
@@ -34,10 +34,9 @@ fn each_read_fails_in_turn(rt: HostRuntime) -> Result<(), Fail> {
 fn each_write_fails_in_turn(rt: HostRuntime) -> Result<(), Fail> {
     for turn in 0..ONE_FIRING.report.len() {
         let outcome = one_firing(&rt, &[], ONE_FIRING.report.len(), &[turn as u64])?;
-        assert_eq!(rt; outcome.status, Status::WriteFault, "write {turn}");
-        assert_eq!(rt;
-            outcome.held.as_slice(),
-            &ONE_FIRING.report.as_bytes()[..turn],
+        assert!(rt; outcome.status == Status::WriteFault, "write {turn}");
+        assert!(rt;
+            outcome.held.as_slice() == &ONE_FIRING.report.as_bytes()[..turn],
             "write {turn}"
         );
     }
@@ -49,10 +48,9 @@ fn each_write_fails_in_turn(rt: HostRuntime) -> Result<(), Fail> {
 fn too_little_room(rt: HostRuntime) -> Result<(), Fail> {
     for room in 0..ONE_FIRING.report.len() {
         let outcome = one_firing(&rt, &[], room, &[])?;
-        assert_eq!(rt; outcome.status, Status::WriteFault, "room {room}");
-        assert_eq!(rt;
-            outcome.held.as_slice(),
-            &ONE_FIRING.report.as_bytes()[..room],
+        assert!(rt; outcome.status == Status::WriteFault, "room {room}");
+        assert!(rt;
+            outcome.held.as_slice() == &ONE_FIRING.report.as_bytes()[..room],
             "room {room}"
         );
     }

@@ -1,6 +1,6 @@
 //! Each command over ends that never fail: with room for its text it is answered, and with a byte less the sink is full.
-use crate::quiet;
 use crate::examples::{ONE_FIRING, THE_CODES_OF_STOP};
+use crate::quiet;
 use co_top::Status;
 use std::process::Abort;
 use std::sync::Wait;
@@ -16,12 +16,12 @@ fn is_answered(
     text: &[u8],
 ) -> Result<(), Fail> {
     let outcome = quiet(rt, words, input, text.len())?;
-    assert_eq!(rt; outcome.status, status);
-    assert_eq!(rt; outcome.held.as_slice(), text);
+    assert!(rt; outcome.status == status);
+    assert!(rt; outcome.held.as_slice() == text);
     let room = text.len().saturating_sub(1);
     let short = quiet(rt, words, input, room)?;
-    assert_eq!(rt; short.status, Status::WriteFault);
-    assert_eq!(rt; short.held.as_slice(), &text[..room]);
+    assert!(rt; short.status == Status::WriteFault);
+    assert!(rt; short.held.as_slice() == &text[..room]);
     Ok(())
 }
 
@@ -79,7 +79,7 @@ fn check_is_answered(rt: HostRuntime) -> Result<(), Fail> {
 #[test]
 fn gen_is_answered(rt: HostRuntime) -> Result<(), Fail> {
     let script = quiet(&rt, ["gen", "1"].as_slice(), b"".as_slice(), 459_440)?;
-    assert_eq!(rt; script.held.as_slice().len(), 459_440);
+    assert!(rt; script.held.as_slice().len() == 459_440);
     is_answered(
         &rt,
         ["gen", "1"].as_slice(),
@@ -103,7 +103,8 @@ fn soak_is_answered(rt: HostRuntime) -> Result<(), Fail> {
 
 #[test]
 fn other_words_are_answered(rt: HostRuntime) -> Result<(), Fail> {
-    let usage = b"usage: callout steps | run | check | gen N | soak N | kq | sleep | itimer | event\n".as_slice();
+    let usage =
+        b"usage: callout steps | run | check | gen N | soak N | kq | sleep | itimer | event\n".as_slice();
     is_answered(
         &rt,
         ["stop"].as_slice(),
@@ -125,4 +126,43 @@ fn event_is_answered(rt: HostRuntime) -> Result<(), Fail> {
         Status::Done,
         wanted.as_slice(),
     )
+}
+
+#[test]
+fn kq_is_answered(rt: HostRuntime) -> Result<(), Fail> {
+    let text =
+        b"kq 1\nknotes 2\nadd 7 1500 ms\ntick 1\ntick 1.5\ntick 9\nevents 4\nevents 4\n".as_slice();
+    let wanted = b"added\nticked 0\nticked 1\nticked 1\nevents 1\n7 2\nevents 0\n".as_slice();
+    is_answered(&rt, ["kq"].as_slice(), text, Status::Done, wanted)
+}
+
+#[test]
+fn sleep_is_answered(rt: HostRuntime) -> Result<(), Fail> {
+    let text =
+        b"sleep 1\nsleepers 2\nsleep 0 7 1000\nsleep 1 7 0\nwakeup1 7\ntick 1\nawake 0\nawake 1\n\
+        wakeup 7\nawake 1\n"
+            .as_slice();
+    let wanted = b"began 0\nbegan 1\none 0\nticked 0 1\nwoken\nasleep\nwoke 1\nwoken\n".as_slice();
+    is_answered(&rt, ["sleep"].as_slice(), text, Status::Done, wanted)
+}
+
+#[test]
+fn itimer_is_answered(rt: HostRuntime) -> Result<(), Fail> {
+    let text = b"itimer 1\nprocesses 1\nset 0 1 0\ntick 1\ntick 2\n".as_slice();
+    let wanted = b"was u0 u0\nticked 1\nticked 0\n".as_slice();
+    is_answered(&rt, ["itimer"].as_slice(), text, Status::Done, wanted)
+}
+
+// What is no text of calls is refused, and no service begins.
+#[test]
+fn calls_are_refused(rt: HostRuntime) -> Result<(), Fail> {
+    let refusal = b"line 2: form\n".as_slice();
+    for (word, text) in [
+        ("kq", b"kq 1\nknots 2\n".as_slice()),
+        ("sleep", b"sleep 1\nsleep 0 7 1\n".as_slice()),
+        ("itimer", b"itimer 1\nget 0\n".as_slice()),
+    ] {
+        is_answered(&rt, [word].as_slice(), text, Status::BadScript, refusal)?;
+    }
+    Ok(())
 }

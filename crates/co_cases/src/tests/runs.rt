@@ -14,12 +14,12 @@ fn is_done(
     rt: &(impl AllocGlobal + Abort + Threads + Wait + Sync),
     outcome: &Outcome,
 ) -> Result<(), Fail> {
-    assert_eq!(rt; outcome.status, Status::Done);
+    assert!(rt; outcome.status == Status::Done);
     assert!(rt; outcome.closed);
     let verdict = check(rt, outcome.held.as_slice())?;
-    assert_eq!(rt; verdict.status, Status::Done);
+    assert!(rt; verdict.status == Status::Done);
     assert!(rt; !verdict.closed);
-    assert_eq!(rt; verdict.held.as_slice(), b"legal\n".as_slice());
+    assert!(rt; verdict.held.as_slice() == b"legal\n".as_slice());
     Ok(())
 }
 
@@ -76,8 +76,8 @@ fn generated(rt: HostRuntime) -> Result<(), Fail> {
 #[test]
 fn a_bad_script(rt: HostRuntime) -> Result<(), Fail> {
     let outcome = run(&rt, b"callout 1\n".as_slice())?;
-    assert_eq!(rt; outcome.status, Status::BadScript);
+    assert!(rt; outcome.status == Status::BadScript);
     assert!(rt; !outcome.closed);
-    assert_eq!(rt; outcome.held.as_slice(), b"line 0: timer\n".as_slice());
+    assert!(rt; outcome.held.as_slice() == b"line 0: timer\n".as_slice());
     Ok(())
 }
