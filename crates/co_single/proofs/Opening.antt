@@ -24,7 +24,7 @@ use Rattle.co_single.specs.Rest.{IsAtRest, IsCalm, IsPlaced, nowhere}
 use Rattle.co_single.specs.Seen.{single_params, AreSingle}
 use Rattle.co_single.proofs.Queues.{numbers}
 
-nothing_at : {E : Type 0} (ls : List LifeId) (i : ℕ) → get_or (map (λ _. [] {A = E}) ls) i [] ≡ []
+nothing_at : {E : Type 0} (ls : List LifeId) (i : ℕ) → get_or (map {B = List E} (λ _. []) ls) i [] ≡ []
 nothing_at [] i = refl
 nothing_at (l ∷ ls) zero = refl
 nothing_at (l ∷ ls) (suc i) = nothing_at ls i

@@ -1,5 +1,4 @@
-use Rattle.std.proofs.Common.{◌≡◌, ◌≤◌, ◌<◌, false, length, sym, subst, ap, ◌∙◌, arith}
-use Rattle.co_service.specs.Booted.{booted}
+use Rattle.std.proofs.Common.{false, length, sym, subst, ap, ◌∙◌, arith}
 use Rattle.co_service.specs.Services.{IsFree}
 use Rattle.co_single.specs.Acts.{IsNew}
 use Rattle.co_single.specs.Rest.{IsAtRest}

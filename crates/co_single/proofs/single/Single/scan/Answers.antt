@@ -18,7 +18,7 @@ invariant_of-self g c =
       of = c.scan.ensures.of;
       single = written.1;
       free = c.scan.ensures.free false 0 c.self.invariant.free;
-      rest = rests_scanned n p q c.self.invariant.single written.1 c.self.invariant.rest c.args.act c.args.now out.count written.0 (subst (λ v. waiting_of v ≡ []) (sym c.self.view_is) c.requires);
+      rest = rests_scanned n p q c.self.invariant.single written.1 c.self.invariant.rest c.args.act c.args.now out.count written.0 (subst (λ v. waiting_of v ≡ []) (sym c.self.view_is) c.requires.served);
       nothing = c.self.invariant.nothing;
       room = c.self.invariant.room;
     }
@@ -32,4 +32,4 @@ returns g c =
     let scanned = c.scan.ensures.scanned in
     let written = written_is n p q (out.note ∷ []) (scan_entries p c.args.act c.args.now out.count) c.self.invariant.single (one_is out.note _ _ scanned.note.place scanned.note.entry) scanned.written in
     subst (λ v. IsScanned v c.args.now out.count q) c.self.view_is
-    (is_scanned_now n p q c.self.invariant.single written.1 c.self.invariant.rest c.args.act c.args.now out.count written.0 (subst (λ v. waiting_of v ≡ []) (sym c.self.view_is) c.requires))
+    (is_scanned_now n p q c.self.invariant.single written.1 c.self.invariant.rest c.args.act c.args.now out.count written.0 (subst (λ v. waiting_of v ≡ []) (sym c.self.view_is) c.requires.served))
