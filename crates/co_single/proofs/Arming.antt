@@ -1,5 +1,5 @@
 -- Arming and disarming: what a call leaves of the one actor's passes.
-use Rattle.std.proofs.Common.{◌≡◌, ◌≢◌, ℕ, ◌+◌, ◌<◌, ◌^◌, ℤ, Bool, true, false, cond, ◌||◌, max, List, [], ◌∷◌, ◌++◌, length, refl, ap, sym, subst, ◌∙◌, arith, fold, append-nil}
+use Rattle.std.proofs.Common.{◌≡◌, ℕ, ◌<◌, ◌^◌, ℤ, Bool, true, false, cond, ◌||◌, max, List, [], ◌∷◌, ◌++◌, length, refl, ap, sym, subst, ◌∙◌, arith, fold, append-nil}
 use Rattle.std.specs.Prelude.{is_some}
 use Rattle.std.specs.declared.option.Option.{Option}
 use Rattle.std.specs.declared.option.Option.TheVariants.{Some, None}
@@ -23,16 +23,16 @@ use Rattle.co_object.specs.Arm.{arm, code_of, is_picked}
 use Rattle.co_object.specs.Stop.{stop, stop_code}
 use Rattle.co_object.specs.Callout.{call}
 use Rattle.co_object.specs.Entries.{is_go}
-use Rattle.co_object.specs.Group.{Placed, group}
+use Rattle.co_object.specs.Group.{group}
 use Rattle.co_object.specs.History.{state}
 use Rattle.co_object.specs.Journal as journal
 use Rattle.co_object.specs.Machine.{IsLegalFrom}
 use Rattle.co_object.specs.Queue.{Queue, holds, without}
 use Rattle.co_object.specs.Stand.{off}
-use Rattle.co_object.proofs.CallGroups.{entry_of, removal, its_entry, insertion, unarmed_group, armed_group}
+use Rattle.co_object.proofs.CallGroups.{entry_of, removal, unarmed_group, armed_group}
 use Rattle.co_object.proofs.QueueChanges.{inserted}
 use Rattle.co_service.specs.Call.{call_entry}
-use Rattle.co_service.specs.Params.{spec_at, no_spec}
+use Rattle.co_service.specs.Params.{spec_at}
 use Rattle.co_service.specs.Views.{PassesView, seen_of, journal_seen}
 use Rattle.co_single.specs.Acts.{TimeStays, IsArmed, IsDisarmed}
 use Rattle.co_single.specs.Alarms.{alarm_of, callout_in, queue_in, gos, scan_times}

@@ -1,14 +1,12 @@
 -- What a caller's operation on a calm callout does, and what the one actor's passes are after it.
-use Rattle.std.proofs.Common.{◌≡◌, ◌≢◌, ℕ, ◌+◌, ◌<◌, ◌^◌, ◌-◌, ℤ, Bool, true, false, cond, not, ◌==◌, ◌||◌, ◌&&◌, List, [], ◌∷◌, ◌++◌, map, length, refl, ap, sym, subst, ◌∙◌, arith, set, get_or}
-use Rattle.std.specs.Prelude.{is_some, unwrap_or}
+use Rattle.std.proofs.Common.{◌≡◌, ◌≢◌, ℕ, ◌<◌, ◌^◌, ℤ, Bool, true, false, cond, not, ◌==◌, ◌||◌, ◌&&◌, List, [], ◌∷◌, ◌++◌, length, refl, ap, ◌∙◌, arith, set, get_or}
+use Rattle.std.specs.Prelude.{is_some}
 use Rattle.std.specs.declared.option.Option.{Option}
 use Rattle.std.specs.declared.option.Option.TheVariants.{Some, None}
 use Rattle.std.proofs.lemmas.List.{get_or-set_same, get_or-set_other, length-set}
-use Rattle.co_object.specs.declared.op.CallOp.{CallOp}
 use Rattle.co_object.specs.declared.op.CallOp.TheVariants.{Plain}
 use Rattle.co_object.specs.declared.op.PlainOp.TheVariants.{Reset, Stop}
 use Rattle.co_object.specs.declared.op.Op.{Op}
-use Rattle.co_object.specs.declared.op.Op.TheVariants.{Call}
 use Rattle.co_object.specs.declared.reply.Reply.{Reply}
 use Rattle.co_object.specs.declared.reply.Reply.TheVariants.{Armed, Worn}
 use Rattle.co_object.specs.declared.note.Entry.{Entry}
@@ -27,7 +25,7 @@ use Rattle.co_object.specs.Callout.{call, live_call, retired_call}
 use Rattle.co_object.specs.Entries.{is_armed}
 use Rattle.co_object.specs.Group.{Placed, group, off_of}
 use Rattle.co_object.specs.Stand.{off, is_idle, stand_of, listed_cpu}
-use Rattle.co_object.proofs.CallGroups.{entry_of, removal, its_entry, insertion, unarmed_group, armed_group}
+use Rattle.co_object.proofs.CallGroups.{entry_of, removal, insertion, unarmed_group, armed_group}
 use Rattle.co_object.proofs.Numbers.{same_number}
 use Rattle.co_service.specs.Views.{PassesView, seen_of, journal_seen}
 use Rattle.co_single.specs.Rest.{IsCalm, IsPlainArming}

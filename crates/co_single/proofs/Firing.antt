@@ -1,5 +1,5 @@
 -- A service, its taking and its end together: what it leaves of the one actor's passes.
-use Rattle.std.proofs.Common.{◌≡◌, ◌≢◌, ℕ, ◌+◌, ◌<◌, ◌≤◌, Bool, true, false, cond, ◌==◌, ◌&&◌, List, [], ◌∷◌, ◌++◌, map, length, nat_lt, refl, ap, sym, subst, ◌∙◌, arith, set, get_or, fold, append-nil}
+use Rattle.std.proofs.Common.{◌≡◌, ◌≢◌, ℕ, ◌+◌, ◌<◌, ◌≤◌, Bool, true, false, cond, ◌==◌, ◌&&◌, List, [], ◌∷◌, ◌++◌, length, nat_lt, refl, ap, sym, subst, ◌∙◌, arith, append-nil}
 use Rattle.std.specs.List.{filter}
 use Rattle.std.specs.declared.option.Option.{Option}
 use Rattle.std.specs.declared.option.Option.TheVariants.{Some, None}
@@ -9,10 +9,8 @@ use Rattle.co_object.specs.declared.note.Entry.{Entry}
 use Rattle.co_object.specs.declared.note.QEntry.{QEntry}
 use Rattle.co_object.specs.declared.note.AnyEntry.TheVariants as of
 use Rattle.co_object.specs.declared.note.Place.TheVariants as at
-use Rattle.co_object.specs.declared.op.Op.TheVariants.{Run}
 use Rattle.co_object.specs.declared.op.RunOp.TheVariants.{Pick, End}
 use Rattle.co_object.specs.declared.queue.QOp.TheVariants.{Pop, Free}
-use Rattle.co_object.specs.declared.queue.QReply.{QReply}
 use Rattle.co_object.specs.declared.queue.QReply.TheVariants.{Got, Empty, Freed}
 use Rattle.co_object.specs.declared.reply.Reply.{Reply}
 use Rattle.co_object.specs.declared.reply.Reply.TheVariants.{Go, Ended}
@@ -20,7 +18,6 @@ use Rattle.co_object.specs.declared.state.Arming.{Arming}
 use Rattle.co_object.specs.declared.state.Run.TheVariants.{Idle, Running}
 use Rattle.co_object.specs.declared.state.State.{State}
 use Rattle.co_object.specs.Entries.{is_go}
-use Rattle.co_object.specs.Group.{Placed}
 use Rattle.co_object.specs.History.{state, state_of, reply_of}
 use Rattle.co_object.specs.Journal as journal
 use Rattle.co_object.specs.Queue.{Due, Queue}
@@ -32,12 +29,12 @@ use Rattle.co_service.specs.Outcomes.{turn}
 use Rattle.co_service.specs.Params.{no_spec}
 use Rattle.co_service.specs.Services.{run_entry, next_target}
 use Rattle.co_service.specs.Views.{PassesView, seen_of, journal_seen}
-use Rattle.co_single.specs.Acts.{IsFired, IsIdle, TimeStays}
-use Rattle.co_single.specs.Alarms.{alarm_of, alarm_at, arg_in, callout_in, queue_in, gos, scan_times, waiting_of}
-use Rattle.co_single.specs.Rest.{HasCome, IsListed, IsAtRest, IsCalm, IsPlaced, nowhere, listed, due, come}
+use Rattle.co_single.specs.Acts.{IsFired, IsIdle}
+use Rattle.co_single.specs.Alarms.{alarm_of, arg_in, callout_in, queue_in, gos, scan_times}
+use Rattle.co_single.specs.Rest.{IsAtRest, IsCalm, IsPlaced, nowhere, listed, due, come}
 use Rattle.co_single.specs.Seen.{with_entry, with_entries, none_entries, taken_entries, ended_entries, AreSingle}
-use Rattle.co_single.proofs.Calls.{AreAtCpus, GoesOn, goes_on, cpus_keep, one_seen, HasOne, journal_on, cpus_still}
-use Rattle.co_single.proofs.Going.{gos-append, scans-append, others_of, all_of, state_after, turned, may_last, legal_turns, queue_after}
+use Rattle.co_single.proofs.Calls.{AreAtCpus, GoesOn, goes_on, one_seen, journal_on}
+use Rattle.co_single.proofs.Going.{gos-append, scans-append, others_of, all_of, state_after, may_last, legal_turns, queue_after}
 use Rattle.co_single.proofs.Queues.{differs, numbers, placed_still}
 use Rattle.co_single.proofs.Scanning.{callouts_stay, callout_still}
 

@@ -1,7 +1,5 @@
 -- How the lists that the one actor has seen go on, and what of it stays.
-use Rattle.std.proofs.Common.{◌≡◌, ◌≢◌, ℕ, ◌+◌, ◌<◌, Bool, true, false, cond, ◌⊎◌, inl, inr, List, [], ◌∷◌, ◌++◌, length, refl, ap, sym, subst, ◌∙◌, arith, get_or, fold}
-use Rattle.std.specs.declared.option.Option.{Option}
-use Rattle.std.specs.declared.option.Option.TheVariants.{Some, None}
+use Rattle.std.proofs.Common.{◌≡◌, ◌≢◌, ℕ, ◌+◌, inl, inr, List, [], ◌∷◌, ◌++◌, refl, ap, sym, subst, ◌∙◌, arith, fold}
 use Rattle.std.proofs.lemmas.Bool.{cases_eq}
 use Rattle.std.proofs.lemmas.List.Sums.{fold-append}
 use Rattle.co_object.proofs.Histories.{legal-last, legal-rest, state-snoc}
@@ -9,7 +7,6 @@ use Rattle.co_object.specs.declared.note.Entry.{Entry}
 use Rattle.co_object.specs.declared.note.QEntry.{QEntry}
 use Rattle.co_object.specs.declared.queue.QOp.{QOp}
 use Rattle.co_object.specs.declared.queue.QOp.TheVariants.{Insert, Remove, Scan, Pop, Free, PopDirect, FreeDirect}
-use Rattle.co_object.specs.declared.state.Arming.{Arming}
 use Rattle.co_object.specs.declared.state.State.{State}
 use Rattle.co_object.specs.Callout.{opening}
 use Rattle.co_object.specs.History.{state, next, May}
@@ -21,7 +18,6 @@ use Rattle.co_service.specs.Stories.{IsHistory, IsJournal}
 use Rattle.co_service.specs.Views.{PassesView, seen_of, journal_seen}
 use Rattle.co_single.specs.Acts.{OthersStay}
 use Rattle.co_single.specs.Alarms.{alarm_of, callout_in, queue_in, gos, scan_times, scanned_before}
-use Rattle.co_single.specs.Rest.{IsCalm}
 use Rattle.co_single.specs.Seen.{AreSingle}
 use Rattle.co_single.proofs.Calls.{GoesOn}
 use Rattle.co_single.proofs.Told.{no_lock}

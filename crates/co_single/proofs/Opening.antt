@@ -1,10 +1,7 @@
 -- What a service with one actor is before its first call.
-use Rattle.std.proofs.Common.{◌≡◌, ℕ, ◌+◌, ◌<◌, false, List, [], ◌∷◌, map, length, get_or, zero, suc, replicate, refl, ap, sym, subst, ◌∙◌, arith}
-use Rattle.std.specs.Prelude.{None}
+use Rattle.std.proofs.Common.{◌≡◌, ℕ, false, List, [], ◌∷◌, map, length, get_or, zero, suc, replicate, refl, ap, sym, subst, ◌∙◌}
 use Rattle.std.proofs.lemmas.List.{length-map}
 use Rattle.co_life.specs.Identity.{LifeId}
-use Rattle.co_object.specs.declared.note.Entry.{Entry}
-use Rattle.co_object.specs.declared.note.QEntry.{QEntry}
 use Rattle.co_object.specs.Callout.{opening}
 use Rattle.co_object.specs.History.{state}
 use Rattle.co_object.specs.Journal.{queue}

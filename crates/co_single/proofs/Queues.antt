@@ -1,5 +1,5 @@
 -- Where the armings stand in a timer queue: what a removal, an insert, a scan and a service leave of each callout's entries.
-use Rattle.std.proofs.Common.{◌≡◌, ◌≢◌, ℕ, ◌+◌, ◌<◌, ◌≤◌, Bool, true, false, cond, not, ◌==◌, List, [], ◌∷◌, ◌++◌, map, length, max, refl, ap, sym, subst, ◌∙◌, arith, nat_le, nat_lt}
+use Rattle.std.proofs.Common.{◌≡◌, ◌≢◌, ℕ, ◌+◌, ◌≤◌, Bool, true, false, cond, not, ◌==◌, List, [], ◌∷◌, ◌++◌, map, length, max, refl, ap, sym, ◌∙◌, arith}
 use Rattle.std.specs.List.{filter}
 use Rattle.std.specs.declared.option.Option.{Option}
 use Rattle.std.specs.declared.option.Option.TheVariants.{Some, None}
@@ -8,9 +8,9 @@ use Rattle.co_object.specs.declared.state.Arming.{Arming}
 use Rattle.co_object.specs.Queue.{Waiting, Due, Queue, without}
 use Rattle.co_object.proofs.Numbers.{same_number, same_itself}
 use Rattle.co_object.proofs.QueueChanges.{inserted}
-use Rattle.co_queue.proofs.Lists.{filter-filter, filter-map}
+use Rattle.co_queue.proofs.Lists.{filter-map}
 use Rattle.co_single.specs.Alarms.{but, times_in}
-use Rattle.co_single.specs.Rest.{IsListed, HasCome, IsPlaced, nowhere, listed, due, standing, come}
+use Rattle.co_single.specs.Rest.{IsPlaced, nowhere, listed, due, standing, come}
 
 pub differs : (a b : ℕ) → a ≢ b → (a == b) ≡ false
 differs a b h = go (a == b) refl where

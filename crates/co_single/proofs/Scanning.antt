@@ -1,24 +1,21 @@
 -- A scan: what it leaves of the one actor's passes.
-use Rattle.std.proofs.Common.{◌≡◌, ℕ, ◌+◌, ◌<◌, ◌≤◌, Bool, false, List, [], ◌∷◌, ◌++◌, map, length, max, replicate, zero, suc, get_or, refl, ap, sym, subst, ◌∙◌, arith}
-use Rattle.std.proofs.Math.Nat.{le-max_left}
+use Rattle.std.proofs.Common.{◌≡◌, ℕ, ◌≤◌, false, List, [], ◌∷◌, ◌++◌, map, length, max, replicate, zero, suc, get_or, refl, ap, sym, subst, ◌∙◌, arith}
 use Rattle.std.proofs.lemmas.List.{length-map}
 use Rattle.co_object.specs.declared.note.QEntry.{QEntry}
 use Rattle.co_object.specs.declared.queue.QOp.TheVariants.{Scan}
-use Rattle.co_object.specs.declared.queue.QReply.{QReply}
 use Rattle.co_object.specs.declared.queue.QReply.TheVariants.{Count}
 use Rattle.co_object.specs.declared.spec.Spec.{Spec}
 use Rattle.co_object.specs.History.{state}
-use Rattle.co_object.specs.Journal as journal
-use Rattle.co_object.specs.Queue.{Waiting, Due, Queue}
+use Rattle.co_object.specs.Queue.{Due, Queue}
 use Rattle.co_object.specs.Scan.{due_by, as_due, is_direct, scanned}
 use Rattle.co_object.proofs.EntriesKept.{max_left}
 use Rattle.co_service.specs.Outcomes.{turn}
 use Rattle.co_service.specs.Params.{no_spec, directs}
-use Rattle.co_service.specs.Views.{PassesView, seen_of, journal_seen}
+use Rattle.co_service.specs.Views.{PassesView, journal_seen}
 use Rattle.co_single.specs.Acts.{CalloutsStay, IsScanned}
-use Rattle.co_single.specs.Alarms.{alarm_of, alarm_at, callout_in, queue_in, clock_of, due_once, gos, scan_times, waiting_of}
+use Rattle.co_single.specs.Alarms.{alarm_of, alarm_at, callout_in, queue_in, due_once, gos, scan_times, waiting_of}
 use Rattle.co_single.specs.Rest.{IsAtRest, IsCalm, IsPlaced, come}
-use Rattle.co_single.specs.Seen.{single_params, with_entries, scan_entries, AreSingle}
+use Rattle.co_single.specs.Seen.{with_entries, scan_entries, AreSingle}
 use Rattle.co_single.proofs.Calls.{journal_on}
 use Rattle.co_single.proofs.Going.{scans-append, legal_turns, queue_after}
 use Rattle.co_single.proofs.Queues.{numbers, times_come}

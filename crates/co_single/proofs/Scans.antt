@@ -1,8 +1,8 @@
 -- What a scan leaves of each callout's entries in a queue whose expired list is empty: what is due has come due, once.
-use Rattle.std.proofs.Common.{◌≡◌, ℕ, ◌+◌, ◌<◌, ◌≤◌, Bool, true, false, cond, not, ◌==◌, List, [], ◌∷◌, ◌++◌, map, length, max, refl, ap, sym, subst, ◌∙◌, arith, nat_le, nat_lt}
+use Rattle.std.proofs.Common.{◌≡◌, ℕ, ◌≤◌, Bool, true, false, cond, not, ◌==◌, List, [], ◌∷◌, ◌++◌, map, length, max, refl, ap, sym, subst, ◌∙◌, arith, nat_le, nat_lt}
 use Rattle.std.specs.List.{filter}
 use Rattle.std.specs.declared.option.Option.{Option}
-use Rattle.std.specs.declared.option.Option.TheVariants.{Some, None}
+use Rattle.std.specs.declared.option.Option.TheVariants.{Some}
 use Rattle.std.proofs.lemmas.Bool.Decides.{nat_tests}
 use Rattle.co_object.specs.declared.state.Arming.{Arming}
 use Rattle.co_object.specs.Queue.{Waiting, Due, Queue}
@@ -11,7 +11,7 @@ use Rattle.co_object.proofs.EntriesKept.{max_left}
 use Rattle.co_object.proofs.PassageOnce.{later}
 use Rattle.co_queue.proofs.Lists.{filter-filter, filter-map}
 use Rattle.co_single.specs.Alarms.{alarm_of, due_once}
-use Rattle.co_single.specs.Rest.{IsListed, HasCome, IsPlaced, nowhere, listed, due, standing, come}
+use Rattle.co_single.specs.Rest.{IsListed, IsPlaced, nowhere, listed, due, standing, come}
 use Rattle.co_single.proofs.Queues.{filter-in, filter-out}
 
 module _ (m last : ℕ) (p : Waiting → Bool) where

@@ -1,5 +1,5 @@
 -- What each call leaves.
-use Rattle.std.specs.Prelude.{◌≡◌, ◌≢◌, ℕ, suc, ◌+◌, ◌<◌, List, [], ◌∷◌, ◌++◌, length, max}
+use Rattle.std.specs.Prelude.{◌≡◌, ◌≢◌, ℕ, ◌+◌, ◌<◌, [], ◌∷◌, ◌++◌, length, max}
 use Rattle.std.specs.declared.option.Option.TheVariants.{Some, None}
 use Rattle.co_service.specs.Views.{PassesView}
 use Rattle.co_single.specs.Alarms.{Alarm, count_of, alarm_at, made_at, fired_at, scans_of, clock_of, waiting_of, but, times_in, due_once}

@@ -1,5 +1,5 @@
 -- What the passes of a service's one actor say of its callouts and of its clock.
-use Rattle.std.specs.Prelude.{ℕ, ◌+◌, ◌==◌, List, [], ◌∷◌, length, map, sum, if◌then◌else◌}
+use Rattle.std.specs.Prelude.{ℕ, ◌+◌, ◌==◌, List, [], ◌∷◌, length, map, if◌then◌else◌}
 use Rattle.std.specs.List.{filter}
 use Rattle.std.specs.declared.option.Option.{Option}
 use Rattle.std.specs.declared.option.Option.TheVariants.{Some, None}
@@ -15,7 +15,7 @@ use Rattle.co_object.specs.declared.state.State.{State}
 use Rattle.co_object.specs.Entries.{is_go}
 use Rattle.co_object.specs.History.{state}
 use Rattle.co_object.specs.Journal.{queue}
-use Rattle.co_object.specs.Queue.{Due, Queue}
+use Rattle.co_object.specs.Queue.{Queue}
 use Rattle.co_service.specs.Params.{directs, no_spec}
 use Rattle.co_service.specs.Views.{PassesView, seen_of, journal_seen}
 

@@ -1,27 +1,21 @@
 -- What the one actor of a service sees: all that happens.
-use Rattle.std.specs.Prelude.{◌≡◌, ℕ, false, ◌<◌, List, [], ◌∷◌, ◌++◌, length, replicate, slice_set, fold}
-use Rattle.co_object.specs.declared.note.Entry.{Entry}
-use Rattle.co_object.specs.declared.note.QEntry.{QEntry}
+use Rattle.std.specs.Prelude.{◌≡◌, ℕ, List, [], ◌∷◌, ◌++◌, length, replicate, slice_set}
 use Rattle.co_object.specs.declared.note.AnyEntry.{AnyEntry}
 use Rattle.co_object.specs.declared.note.AnyEntry.TheVariants as of
 use Rattle.co_object.specs.declared.note.Place.{Place}
 use Rattle.co_object.specs.declared.note.Place.TheVariants as at
-use Rattle.co_object.specs.declared.op.CallOp.{CallOp}
 use Rattle.co_object.specs.declared.op.RunOp.TheVariants.{Pick, End}
 use Rattle.co_object.specs.declared.reply.Reply.{Reply}
 use Rattle.co_object.specs.declared.queue.QOp.TheVariants.{Scan, Pop, Free}
 use Rattle.co_object.specs.declared.queue.QReply.TheVariants.{Count, Got, Freed, Empty}
-use Rattle.co_object.specs.Group.{Placed, group}
-use Rattle.co_object.specs.History.{state}
-use Rattle.co_sbt.specs.RoomView.{RoomView}
-use Rattle.co_service.specs.Call.{call_entry, landing}
-use Rattle.co_service.specs.Name.{ServiceName}
+use Rattle.co_object.specs.Group.{Placed}
+use Rattle.co_service.specs.Call.{landing}
 use Rattle.co_service.specs.Outcomes.{turn}
-use Rattle.co_service.specs.Services.{IsFree, run_entry, next_target}
+use Rattle.co_service.specs.Services.{run_entry, next_target}
 use Rattle.co_service.specs.declared.params.Params.{Params}
-use Rattle.co_service.specs.Params.{no_spec, actor_count, spec_at}
+use Rattle.co_service.specs.Params.{no_spec}
 use Rattle.co_service.specs.Stories.{IsHistory, IsJournal}
-use Rattle.co_service.specs.Views.{PassesView, AreOf, seen_of, journal_seen}
+use Rattle.co_service.specs.Views.{PassesView, seen_of, journal_seen}
 
 -- a service of version 1 with one CPU, no client and so many callouts without a lock
 abbrev pub single_params : ℕ → Params
