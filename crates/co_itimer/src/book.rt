@@ -189,6 +189,14 @@ impl Book {
         }
     }
 
+    /// When a process's timer expires next.
+    pub(crate) fn next(&self, p: u32) -> Option<Sbt>
+        requires { p < length self.now.timers }
+        ensures { result ≡ (timer_of self.now p).next }
+    {
+        self.timer(p).next
+    }
+
     /// Sets a process's timer; the answer is what it had to come.
     pub(crate) fn set(&mut self, p: u32, to: Itimerval) -> Itimerval
         requires { p < length self.old.timers }

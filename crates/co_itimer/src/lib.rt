@@ -2,7 +2,12 @@
 #![tactic(auto)]
 
 mod book;
+mod fresh;
+mod itimers;
 pub mod laws;
+mod serving;
 mod timer;
 
+pub use fresh::ItimersFresh;
+pub use itimers::Itimers;
 pub use timer::Itimerval;
