@@ -1,0 +1,4 @@
+pub mod Seen
+pub mod Alarms
+pub mod Acts
+pub mod Rest
