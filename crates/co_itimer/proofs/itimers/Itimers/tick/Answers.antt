@@ -1,0 +1,34 @@
+use Rattle.std.proofs.Common.{◌≡◌, sym, subst, ◌∙◌, ap}
+use Rattle.co_itimer.proofs.Ticking.{all-wait, count-is, ticked-is, each-fires}
+use Rattle.co_itimer.specs.Itimers.{EachFires}
+use Rattle.co_itimer.specs.Serving.{AllWait, AreServed}
+use Rattle.co_itimer.specs.Timers.{clock_after, expirations, ticked}
+use Rattle.co_itimer.proofs.itimers.Itimers.tick.Goals as goal
+
+pub serve_all-requires-clause-wait : goal.serve_all-requires-clause-wait
+serve_all-requires-clause-wait g c =
+    let s = c.self.inside in
+    subst (λ t. AllWait c.scan-count.new.self t s.work) (sym c.advance.ensures)
+    (all-wait s.work c.args.now c.scan-count.result s.single c.scan-count.new.self s.book c.self.invariant c.scan-count.ensures)
+
+pub returns-clause-answer : goal.returns-clause-answer
+returns-clause-answer g c =
+    let s = c.self.inside in
+    subst (λ v. c.scan-count.result ≡ expirations v.alone c.args.now) c.self.view_is
+    (count-is s.work c.args.now c.scan-count.result s.single c.scan-count.new.self s.book c.self.invariant c.scan-count.ensures)
+
+pub returns-clause-alone : goal.returns-clause-alone
+returns-clause-alone g c =
+    let s = c.self.inside in
+    let q = c.scan-count.new.self in
+    let done = subst (λ t. AreServed s.work q t c.serve_all.new.single c.serve_all.new.book) c.advance.ensures c.serve_all.ensures in
+    ticked-is s.work c.args.now c.scan-count.result s.single q s.book c.self.invariant c.scan-count.ensures c.serve_all.new.single c.serve_all.new.book done
+    ∙ ap (λ v. ticked v.alone c.args.now) c.self.view_is
+
+pub returns-clause-seen : goal.returns-clause-seen
+returns-clause-seen g c =
+    let s = c.self.inside in
+    let q = c.scan-count.new.self in
+    let done = subst (λ t. AreServed s.work q t c.serve_all.new.single c.serve_all.new.book) c.advance.ensures c.serve_all.ensures in
+    subst (λ v. EachFires v.alone (clock_after v.alone c.args.now) c.args.now c.scan-count.result v.seen c.serve_all.new.single) c.self.view_is
+    (each-fires s.work c.args.now c.scan-count.result s.single q s.book c.self.invariant c.scan-count.ensures c.serve_all.new.single c.serve_all.new.book done)

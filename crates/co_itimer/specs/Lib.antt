@@ -1,0 +1,4 @@
+pub mod Timers
+pub mod Laws
+pub mod Itimers
+pub mod Serving

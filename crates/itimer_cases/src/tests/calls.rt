@@ -1,0 +1,65 @@
+//! Worked calls of interval timers.
+ghost use Rattle.std.specs.Prelude.{◌≡◌};
+
+use co_itimer::{Itimers, ItimersFresh, Itimerval};
+use co_sbt::{NoMemory, Sbt};
+use co_service::Name;
+use std::alloc::Global;
+use std::marker::Brand;
+use std::sync::Wait;
+
+/// So many halves of a second.
+fn halves(count: i32) -> Sbt {
+    Sbt::from_ticks(count, 2)
+}
+
+/// What a process's timer has to come, in halves of a second.
+fn timer(value: i32, interval: i32) -> Itimerval {
+    Itimerval {
+        value: halves(value),
+        interval: halves(interval),
+    }
+}
+
+/// A timer that has nothing to come.
+fn unset() -> Itimerval {
+    Itimerval {
+        value: Sbt::zero(),
+        interval: Sbt::zero(),
+    }
+}
+
+/// A timer with an interval of 2 seconds, and a tick that is late: each answer is as it should be.
+fn follows<N: Name, R: Wait>(
+    rt: &R,
+    alloc: Global,
+    fresh: ItimersFresh,
+) -> Result<bool, NoMemory>
+    requires name { fresh.name ≡ N.name }
+    requires one { fresh.processes ≡ 1 }
+{
+    let mut timers = Itimers::<N>::open(alloc, fresh)?;
+    let mut right = timers.set(rt, 0, timer(2, 4)) == unset();
+    right &= timers.tick(rt, halves(1)) == 0;
+    right &= timers.get(0) == timer(1, 4);
+    right &= timers.tick(rt, halves(12)) == 1;
+    right &= timers.get(0) == timer(2, 4);
+    right &= timers.alarm(0);
+    right &= !timers.alarm(0);
+    let off = Itimerval {
+        value: Sbt::zero(),
+        interval: halves(10),
+    };
+    right &= timers.set(rt, 0, off) == timer(2, 4);
+    right &= timers.get(0) == unset();
+    right &= timers.work() == 4;
+    let _closing = timers.close(rt);
+    Ok(right)
+}
+
+#[test]
+fn a_timer_follows_its_interval(rt: HostRuntime) -> Result<(), NoMemory> {
+    let fresh = Itimers::boot(rt.alloc(), 1)?;
+    assert!(&rt; follows::<Brand, _>(&rt, rt.alloc(), fresh)?);
+    Ok(())
+}
