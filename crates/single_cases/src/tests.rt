@@ -1,6 +1,5 @@
 //! Worked calls.
-ghost use Rattle.std.specs.Prelude.{◌≡◌, []};
-ghost use Rattle.co_single.specs.Alarms.{waiting_of};
+ghost use Rattle.std.specs.Prelude.{◌≡◌};
 
 use co_sbt::{NoMemory, Sbt};
 use co_service::Name;
@@ -13,7 +12,7 @@ use std::test::Fail;
 /// What the first two fires after a scan answered, and how many had come due.
 type Story = (u32, Option<Fired>, Option<Fired>);
 
-/// Two callouts are armed, the second for an earlier time; one is armed anew.
+/// Two callouts are armed, the second for an earlier time, which alone comes due; the first is disarmed.
 fn play<N: Name, R: Wait>(rt: &R, alloc: Global, fresh: SingleFresh) -> Result<Story, NoMemory>
     requires name { fresh.name ≡ N.name }
     requires two { fresh.callouts ≡ 2 }
