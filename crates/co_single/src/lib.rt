@@ -2,6 +2,7 @@
 #![tactic(auto)]
 
 mod fresh;
+pub mod laws;
 mod single;
 
 pub use fresh::SingleFresh;
