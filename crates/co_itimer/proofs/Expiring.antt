@@ -1,5 +1,5 @@
 -- One process more expires.
-use Rattle.std.proofs.Common.{◌≡◌, ◌≢◌, ℕ, ◌+◌, ◌<◌, ◌≤◌, Bool, true, false, cond, List, ◌∷◌, length, refl, ap, sym, subst, ◌∙◌, arith, inl, inr}
+use Rattle.std.proofs.Common.{◌≡◌, ◌≢◌, ℕ, ◌+◌, ◌<◌, ◌≤◌, ◌^◌, Bool, true, false, cond, List, ◌∷◌, length, refl, ap, sym, subst, ◌∙◌, arith, inl, inr}
 use Rattle.std.specs.declared.option.Option.{Option}
 use Rattle.std.specs.declared.option.Option.TheVariants.{Some, None}
 use Rattle.std.proofs.lemmas.Bool.{cases_eq}
@@ -138,3 +138,21 @@ module _ (work : ℕ) (p : PassesView) (s : Timers) (q : PassesView) (t : Timers
     };
     nothing = idle.waiting;
   }
+
+-- The first that waits has fired, its process's timer is b's, and its callout is armed for its next time.
+module _ (work : ℕ) (p : PassesView) (s : Timers) (q : PassesView) (t : Timers) (i arg : ℕ) (r u : PassesView) (b : Timers) (next : Option ℕ) (h : AreServing work p s q t) (f : IsFired q i arg r) where
+  pub may-arm : work < 2 ^ 62 → made_at r i < 2 ^ 62
+  may-arm few =
+      let e = head work p s q t i (waiting_of r) f.waiting h in
+      omega (arith, f.made, e.made, few)
+
+  is-served : IsArmedAgain r i next u → IsServedAt q i next u
+  is-served again = served-at q i arg next r u f (head work p s q t i (waiting_of r) f.waiting h).once_only again
+
+  pub fewer-wait : IsArmedAgain r i next u → length (waiting_of u) < length (waiting_of q)
+  fewer-wait again = let e = ap length (is-served again).waiting in omega (arith, e)
+
+  pub one-more : IsArmedAgain r i next u → b ≡ with_timer t i (expired t.clock (timer_of t i)) → next ≡ (timer_of b i).next → AreServing work p s u b
+  one-more again after is =
+      subst (AreServing work p s u) (sym after)
+      (serving-more work p s q t i u (subst (λ x. IsServedAt q i x u) (is ∙ ap (λ d. (timer_of d i).next) after) (is-served again)) h)

@@ -26,8 +26,8 @@ module _ (work now k : ℕ) (p q : PassesView) (s : Timers) (kept : IsKept p s w
   each-waits : (i : ℕ) → times_in i (waiting_of q) ≡ once (expires (clock_after s now) (timer_of s i))
   each-waits i = scan.waiting i ∙ (ap (λ c. due_once (alarm_at p i) c) clock-is ∙ due-once (alarm_at p i) (clock_after s now) (timer_of s i).next (kept.armed.armed i))
 
-  pub all-wait : AllWait q (advanced s now) work
-  all-wait = record {
+  behind-scan : AllWait q (advanced s now) work
+  behind-scan = record {
     armed = record {
       count = scan.callouts.count ∙ kept.armed.count;
       clock = clock-is;
@@ -36,6 +36,9 @@ module _ (work now k : ℕ) (p q : PassesView) (s : Timers) (kept : IsKept p s w
     made = λ i. omega (arith, scan.callouts.made i, kept.made i);
     waiting = each-waits;
   }
+
+  pub all-wait : (t : Timers) → t ≡ advanced s now → AllWait q t work
+  all-wait t is = subst (λ x. AllWait q x work) (sym is) behind-scan
 
   pub count-is : k ≡ expirations s now
   count-is = scan.count ∙ counted (expires (clock_after s now)) idle s.timers (waiting_of q) refl each-waits

@@ -30,11 +30,7 @@ fn unset() -> Itimerval {
 }
 
 /// A timer with an interval of 2 seconds, and a tick that is late: each answer is as it should be.
-fn follows<N: Name, R: Wait>(
-    rt: &R,
-    alloc: Global,
-    fresh: ItimersFresh,
-) -> Result<bool, NoMemory>
+fn follows<N: Name, R: Wait>(rt: &R, alloc: Global, fresh: ItimersFresh) -> Result<bool, NoMemory>
     requires name { fresh.name ≡ N.name }
     requires one { fresh.processes ≡ 1 }
 {

@@ -46,7 +46,11 @@ fn the_first_lines_and_the_clock_have_their_rules(rt: HostRuntime) {
         (b"itimer 1\n".as_slice(), 0, Cause::Form),
         (b"itimer 1\nprocesses 0\n".as_slice(), 2, Cause::Number),
         (b"itimer 1\nprocesses 1025\n".as_slice(), 2, Cause::Number),
-        (b"itimer 1\nprocesses 1\ntick 2\ntick 1\n".as_slice(), 4, Cause::Falls),
+        (
+            b"itimer 1\nprocesses 1\ntick 2\ntick 1\n".as_slice(),
+            4,
+            Cause::Falls,
+        ),
     ] {
         assert!(&rt; is_refused(&rt, rt.alloc(), text, line, cause));
     }

@@ -1,8 +1,6 @@
-use Rattle.std.proofs.Common.{length, ap, sym, subst, ◌∙◌, arith}
+use Rattle.std.proofs.Common.{arith}
 use Rattle.co_single.specs.Alarms.{waiting_of}
-use Rattle.co_itimer.proofs.Expiring.{IsServedAt, serving-begins, head, head-comes, served-at, serving-more, serving-ends}
-use Rattle.co_itimer.specs.Serving.{AreServing}
-use Rattle.co_itimer.specs.Timers.{timer_of}
+use Rattle.co_itimer.proofs.Expiring.{serving-begins, head-comes, may-arm, fewer-wait, one-more, serving-ends}
 use Rattle.co_itimer.proofs.serving.serve_all.Goals as goal
 
 pub loop-fired-init : goal.loop-fired-init
@@ -18,33 +16,18 @@ expire-next-requires-clause-come g c =
 
 pub arm_again-requires-clause-made : goal.arm_again-requires-clause-made
 arm_again-requires-clause-made g c =
-    let f = c.in-Some.ensures.some in
-    let h = head c.args.act c.args.single.now c.args.book.now c.loop-fired.single c.loop-fired.book c.in-Some.fired.i (waiting_of c.fire.new.self) f.waiting c.loop-fired.invariant in
-    omega (arith, f.made, h.made, c.requires.act)
+    may-arm c.args.act c.args.single.now c.args.book.now c.loop-fired.single c.loop-fired.book c.in-Some.fired.i c.in-Some.fired.arg c.fire.new.self c.fire.new.self c.expire-next.new.self c.expire-next.result c.loop-fired.invariant c.in-Some.ensures.some
+    c.requires.act
 
 pub loop-fired-preserved : goal.loop-fired-preserved
 loop-fired-preserved g c =
-    let f = c.in-Some.ensures.some in
-    let i = c.in-Some.fired.i in
-    let q = c.loop-fired.single in
-    let t = c.loop-fired.book in
-    let u = c.arm_again.new.single in
-    let e = c.expire-next.ensures in
-    let h = head c.args.act c.args.single.now c.args.book.now q t i (waiting_of c.fire.new.self) f.waiting c.loop-fired.invariant in
-    let served = served-at q i c.in-Some.fired.arg c.expire-next.result c.fire.new.self u f h.once_only c.arm_again.ensures in
-    subst (AreServing c.args.act c.args.single.now c.args.book.now u) (sym e.after)
-    (serving-more c.args.act c.args.single.now c.args.book.now q t i u (subst (λ x. IsServedAt q i x u) (e.next ∙ ap (λ b. (timer_of b i).next) e.after) served) c.loop-fired.invariant)
+    one-more c.args.act c.args.single.now c.args.book.now c.loop-fired.single c.loop-fired.book c.in-Some.fired.i c.in-Some.fired.arg c.fire.new.self c.arm_again.new.single c.expire-next.new.self c.expire-next.result c.loop-fired.invariant c.in-Some.ensures.some
+    c.arm_again.ensures c.expire-next.ensures.after c.expire-next.ensures.next
 
 pub loop-fired-smaller : goal.loop-fired-smaller
 loop-fired-smaller g c =
-    let f = c.in-Some.ensures.some in
-    let i = c.in-Some.fired.i in
-    let q = c.loop-fired.single in
-    let t = c.loop-fired.book in
-    let u = c.arm_again.new.single in
-    let h = head c.args.act c.args.single.now c.args.book.now q t i (waiting_of c.fire.new.self) f.waiting c.loop-fired.invariant in
-    let served = served-at q i c.in-Some.fired.arg c.expire-next.result c.fire.new.self u f h.once_only c.arm_again.ensures in
-    omega (arith, ap length served.waiting)
+    fewer-wait c.args.act c.args.single.now c.args.book.now c.loop-fired.single c.loop-fired.book c.in-Some.fired.i c.in-Some.fired.arg c.fire.new.self c.arm_again.new.single c.expire-next.new.self c.expire-next.result c.loop-fired.invariant c.in-Some.ensures.some
+    c.arm_again.ensures
 
 pub returns : goal.returns
 returns g c = serving-ends c.args.act c.args.single.now c.args.book.now c.loop-fired.single c.loop-fired.book c.fire.new.self c.in_default.ensures.none c.loop-fired.invariant

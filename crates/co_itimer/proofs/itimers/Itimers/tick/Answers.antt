@@ -1,15 +1,14 @@
-use Rattle.std.proofs.Common.{◌≡◌, sym, subst, ◌∙◌, ap}
+use Rattle.std.proofs.Common.{◌≡◌, subst, ◌∙◌, ap}
 use Rattle.co_itimer.proofs.Ticking.{all-wait, count-is, ticked-is, each-fires}
 use Rattle.co_itimer.specs.Itimers.{EachFires}
-use Rattle.co_itimer.specs.Serving.{AllWait, AreServed}
+use Rattle.co_itimer.specs.Serving.{AreServed}
 use Rattle.co_itimer.specs.Timers.{clock_after, expirations, ticked}
 use Rattle.co_itimer.proofs.itimers.Itimers.tick.Goals as goal
 
 pub serve_all-requires-clause-wait : goal.serve_all-requires-clause-wait
 serve_all-requires-clause-wait g c =
     let s = c.self.inside in
-    subst (λ t. AllWait c.scan-count.new.self t s.work) (sym c.advance.ensures)
-    (all-wait s.work c.args.now c.scan-count.result s.single c.scan-count.new.self s.book c.self.invariant c.scan-count.ensures)
+    all-wait s.work c.args.now c.scan-count.result s.single c.scan-count.new.self s.book c.self.invariant c.scan-count.ensures c.advance.new.self c.advance.ensures
 
 pub returns-clause-answer : goal.returns-clause-answer
 returns-clause-answer g c =
