@@ -1,0 +1,6 @@
+pub mod Placing
+pub mod InSlots
+pub mod Telling
+pub mod Ticking
+pub mod Adding
+pub mod Keeping
