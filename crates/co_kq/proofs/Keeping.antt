@@ -20,8 +20,8 @@ none-some : {A : Type 0} (a : A) → None ≡ Some a → ⊥
 none-some a h = cc
 
 -- one use is another, and the others stay
-pub record ChangesUse (old new : List Use) (number : ℕ) (use : Use) : Type 0 where
-  pub changed : use_at new number ≡ use
+pub record ChangesUse (old new : List Use) (number : ℕ) (to : Use) : Type 0 where
+  pub changed : use_at new number ≡ to
   pub others : (j : ℕ) → j ≢ number → use_at new j ≡ use_at old j
 
 -- no other knote has this callout

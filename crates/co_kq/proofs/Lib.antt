@@ -4,3 +4,7 @@ pub mod Telling
 pub mod Ticking
 pub mod Adding
 pub mod Keeping
+pub mod Counting
+pub mod Putting
+pub mod Opening
+pub mod Clearing

@@ -1,10 +1,11 @@
 //! The kevent list over a running service.
-ghost use Rattle.std.specs.Prelude.{◌≡◌, ◌≤◌, ◌<◌, ◌+◌, ◌^◌, ◌*◌, ℕ, Some, true, false, length, take, max, IfOk, IfSome, IfNone, MatchOption};
+ghost use Rattle.std.specs.Prelude.{◌≡◌, ◌≤◌, ◌<◌, ◌+◌, ◌^◌, ◌*◌, ℕ, [], Some, replicate, true, false, length, slice_set, take, max, IfOk, IfSome, IfNone, MatchOption};
 ghost use Rattle.co_single.specs.Alarms.{all_gos, scans_of};
 ghost use Rattle.co_kq.specs.Kevents.{opening, span_of, is_span, begun, add_answer, added, deleted_count, deleted, ticked, expirations, events, delivered, put};
 ghost use Rattle.co_kq.specs.Numbers.{AreKept, FiresCounted, IsOpened, IsPut, NothingFires, left_use};
 ghost use Rattle.co_kq.specs.Slots.{IsAbsent, IsAt, IsQuiet, Tells};
 ghost use Rattle.slab.specs.Slab.{slab_len};
+ghost use Rattle.co_kq.specs.declared.numbers.Use.TheVariants.{Free};
 
 use crate::fresh::KqFresh;
 use crate::kevent::{Add, Event, Unit};
@@ -78,14 +79,40 @@ fn later(a: Sbt, b: Sbt) -> Sbt
     if a < b { b } else { a }
 }
 
-/// What is left of a callout whose knote is gone.
-fn left_of(slot: &Slot) -> Use
-    ensures { result ≡ left_use slot.now }
+/// So many callouts, all of them in use for nothing.
+fn free_uses(alloc: Global, count: u32) -> Result<Vec<Use>, NoMemory>
+    ensures { IfOk result (λ uses. uses.items ≡ replicate count Free) }
 {
-    match slot.knote.next {
+    let mut uses = Vec::new(alloc);
+    for _ in 0..count {
+        match uses.push(Use::Free) {
+            Ok(()) => {}
+            Err(_) => return Err(NoMemory {}),
+        }
+    }
+    Ok(uses)
+}
+
+/// No knotes, with room for so many.
+fn no_knotes(alloc: Global, room: u32) -> Result<Slab<Slot>, NoMemory>
+    ensures empty { IfOk result (λ knotes. knotes.slots ≡ []) }
+    ensures capacity { IfOk result (λ knotes. room ≤ knotes.capacity) }
+{
+    match Slab::with_capacity(alloc, room as usize) {
+        Ok(knotes) => Ok(knotes),
+        Err(_) => Err(NoMemory {}),
+    }
+}
+
+/// A knote is gone: its callout is in use for nothing.
+fn release(uses: &mut [Use], slot: &Slot)
+    requires { slot.now.timer < length uses.old }
+    ensures { uses.new ≡ slice_set uses.old slot.now.timer (left_use slot.now) }
+{
+    uses[slot.timer as usize] = match slot.knote.next {
         Some(_) => Use::Stale,
         None => Use::Free,
-    }
+    };
 }
 
 /// A knote takes the place of the old one of its ident, at this key.
@@ -155,8 +182,8 @@ impl<N: Name> Kq<N> {
         ensures { IfOk result (IsOpened fresh.callouts) }
     {
         let KqFresh { single, room } = fresh;
-        let uses = vec![in alloc; Use::Free; room as usize].map_err(|_| NoMemory {})?;
-        let knotes = Slab::with_capacity(alloc, room as usize).map_err(|_| NoMemory {})?;
+        let uses = free_uses(alloc, room)?;
+        let knotes = no_knotes(alloc, room)?;
         let single = Single::open(alloc, single)?;
         Ok(Kq {
             single,
@@ -217,7 +244,7 @@ impl<N: Name> Kq<N> {
     {
         let key = find(&self.knotes, ident)?;
         let slot = remove(&mut self.knotes, key);
-        self.uses[slot.timer as usize] = left_of(&slot);
+        release(self.uses.as_mut_slice(), &slot);
         Some(slot.knote.count)
     }
 
@@ -233,7 +260,7 @@ impl<N: Name> Kq<N> {
         let key = first_ready(&self.knotes)?;
         if is_once(&self.knotes, key) {
             let slot = tell_once(&mut self.knotes, key);
-            self.uses[slot.timer as usize] = left_of(&slot);
+            release(self.uses.as_mut_slice(), &slot);
             return Some(Event {
                 ident: slot.knote.ident,
                 count: slot.knote.count,

@@ -5,7 +5,7 @@ use Rattle.co_kq.proofs.Telling.{events_zero, left_zero}
 use Rattle.co_kq.proofs.kq.Kq.events.Goals as goal
 
 pub returns-clause-told : goal.returns-clause-told
-returns-clause-told c =
+returns-clause-told g c =
     let done = take c.loop-count.count c.loop-count.out in
     let ks = c.loop-count.self.list.knotes in
     let none : length c.loop-count.out - c.loop-count.count ≡ 0 = omega (arith, c.loop-count-test.false) in
@@ -16,13 +16,13 @@ returns-clause-told c =
     ∙ ap (λ n. events_in n c.args.self.now.list.knotes) c.loop-count.auto.out)))
 
 pub returns-clause-count : goal.returns-clause-count
-returns-clause-count c =
-    let told : length (take c.loop-count.count c.loop-count.out) ≡ length (events c.args.self.now.list (length c.args.out.now)) = ap length (returns-clause-told c) in
+returns-clause-count g c =
+    let told : length (take c.loop-count.count c.loop-count.out) ≡ length (events c.args.self.now.list (length c.args.out.now)) = ap length (returns-clause-told g c) in
     let long = length-take c.loop-count.count c.loop-count.out in
     omega (arith, told, long, c.loop-count.invariant.within)
 
 pub returns-clause-list : goal.returns-clause-list
-returns-clause-list c =
+returns-clause-list g c =
     let ks = c.loop-count.self.list.knotes in
     let none : length c.loop-count.out - c.loop-count.count ≡ 0 = omega (arith, c.loop-count-test.false) in
     let left : ks ≡ left_in (length c.args.out.now) c.args.self.now.list.knotes =

@@ -3,7 +3,7 @@ use Rattle.co_kq.specs.Kevents.{events_in, left_in}
 use Rattle.co_kq.proofs.kq.Kq.events.Given as goal
 
 abbrev pub invariant-loop-count : goal.invariant-loop-count
-invariant-loop-count l = record {
+invariant-loop-count g l = record {
   room : l.self.room ≡ l.fn.self.room;
   work : l.self.work ≡ l.fn.self.work;
   passes : l.self.passes ≡ l.fn.self.passes;
@@ -14,4 +14,4 @@ invariant-loop-count l = record {
 }
 
 abbrev pub decreases-loop-count : goal.decreases-loop-count
-decreases-loop-count l = length l.out - l.count
+decreases-loop-count g l = length l.out - l.count
