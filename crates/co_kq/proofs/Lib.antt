@@ -8,3 +8,5 @@ pub mod Counting
 pub mod Putting
 pub mod Opening
 pub mod Clearing
+pub mod Serving
+pub mod Ending

@@ -45,6 +45,10 @@ abbrev pub part_ticked : ℕ → List ℕ → Option Slot → Option Slot
 part_ticked now ws None = None
 part_ticked now ws (Some s) = if waits ws s.timer then Some s else ticked_slot now (Some s)
 
+abbrev pub slot_waits : List ℕ → Option Slot → Bool
+slot_waits ws None = false
+slot_waits ws (Some s) = waits ws s.timer
+
 -- how far a tick has come
 pub record IsServing (now work : ℕ) (before : List (Option Slot)) (uses : List Use) (p : PassesView) (slots : List (Option Slot)) (q : PassesView) : Type 0 where
   pub same : length slots ≡ length before
@@ -55,6 +59,7 @@ pub record IsServing (now work : ℕ) (before : List (Option Slot)) (uses : List
   pub fired : (number : ℕ) → fired_at q number + times_in number (waiting_of q) ≡ fired_at p number + times_in number (waiting_of p)
   pub some : (number : ℕ) → times_in number (waiting_of q) ≤ times_in number (waiting_of p)
   pub all : all_gos q.timers + length (waiting_of q) ≡ all_gos p.timers + length (waiting_of p)
+  pub counted : length (waiting_of q) + count_by (slot_waits (waiting_of p)) before ≡ length (waiting_of p) + count_by (slot_waits (waiting_of q)) before
   pub count : count_of q ≡ count_of p
   pub time : TimeStays p q
 

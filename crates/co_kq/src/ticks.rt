@@ -1,8 +1,8 @@
 //! What a tick does with the callouts.
 ghost use Rattle.std.specs.Prelude.{◌≡◌, ◌≢◌, ◌<◌, ◌≤◌, ◌+◌, ◌^◌, ℕ, [], length, true, false, IfNone, IfSome};
 ghost use Rattle.co_single.specs.Alarms.{count_of, waiting_of};
-ghost use Rattle.co_kq.specs.declared.numbers.Use.TheVariants.{Stale};
-ghost use Rattle.co_kq.specs.Numbers.{use_at};
+ghost use Rattle.co_kq.specs.declared.numbers.Use.TheVariants.{Held, Stale};
+ghost use Rattle.co_kq.specs.Numbers.{is_held, use_at};
 ghost use Rattle.co_kq.specs.Ticks.{AreCleared, AreDue, CanServe, IsOver, IsServed, IsServing};
 
 use crate::knote::Slot;
@@ -46,6 +46,19 @@ pub fn clear_all<N: Name, R: Wait>(rt: &R, act: u64, single: &mut Single<N>, use
     }
 }
 
+/// The key of the knote that has a callout.
+fn key_of(uses: &[Use], number: u32) -> usize
+    requires below { number < length uses.now }
+    requires held { is_held (use_at uses.now number) ≡ true }
+    ensures { use_at uses.now number ≡ Held result }
+{
+    match uses[number as usize] {
+        Use::Held(key) => key,
+        Use::Free => unreachable!(),
+        Use::Stale => unreachable!(),
+    }
+}
+
 /// The first knote whose callout waits expires; the answer is whether there was one.
 fn serve_one<N: Name, R: Wait>(
     rt: &R,
@@ -63,9 +76,7 @@ fn serve_one<N: Name, R: Wait>(
     let Some(fired) = single.fire(rt, act) else {
         return false;
     };
-    let Use::Held(key) = uses[fired.i as usize] else {
-        unreachable!()
-    };
+    let key = key_of(uses, fired.i);
     if let Some(next) = expire_at(knotes, key, now) {
         single.arm(rt, act, fired.i, next, 0);
     }

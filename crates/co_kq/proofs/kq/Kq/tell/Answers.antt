@@ -5,6 +5,7 @@ use Rattle.co_kq.specs.Slots.{IsQuiet}
 use Rattle.co_kq.proofs.Telling.{is_quiet}
 use Rattle.std.proofs.lemmas.List.{length-set}
 use Rattle.co_kq.specs.Numbers.{AreKept, left_use}
+use Rattle.co_kq.proofs.Ending.{take_whole}
 use Rattle.co_kq.proofs.Putting.{is_below, gone_kept, told_kept}
 use Rattle.co_kq.proofs.kq.Kq.tell.Goals as goal
 
@@ -24,11 +25,14 @@ invariant_of-self g c =
     let x = c.tell_once-slot.result in
     let uses = c.self.inside.uses.items in
     let written : c.release.new.uses ≡ set uses x.timer (left_use x) = c.release.ensures ∙ ap (λ l. set l x.timer (left_use x)) c.as_mut_slice.ensures.value in
+    let all : length c.release.new.uses ≡ length uses = ap length written ∙ length-set uses x.timer (left_use x) in
+    let long : length uses ≡ c.self.inside.uses.len = ap length (sym c.as_mut_slice.ensures.value) ∙ c.as_mut_slice.ensures.len in
+    let whole = take_whole c.release.new.uses uses c.self.inside.uses.len long all in
     let kept : AreKept c.self.inside.work c.tell_once-slot.new.knotes.slots (set uses x.timer (left_use x)) c.self.inside.single =
     gone_kept c.self.inside.work c.self.inside.knotes c.tell_once-slot.new.knotes uses c.self.inside.single c.in_ok-key.key x c.self.invariant.kept e.was e.distinct e.len e.updates in
     record {
-      kept = subst (λ u. AreKept c.self.inside.work c.tell_once-slot.new.knotes.slots u c.self.inside.single) (sym written) kept;
-      all = ap length written ∙ (length-set uses x.timer (left_use x) ∙ c.self.invariant.all);
+      kept = subst (λ u. AreKept c.self.inside.work c.tell_once-slot.new.knotes.slots u c.self.inside.single) (sym (whole ∙ written)) kept;
+      all = ap length whole ∙ (all ∙ c.self.invariant.all);
       has = omega (arith, e.capacity, c.self.invariant.has);
       last = c.self.invariant.last;
     }
