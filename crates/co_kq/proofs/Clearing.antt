@@ -1,14 +1,12 @@
 -- Callouts whose knotes are gone are freed one by one.
-use Rattle.std.proofs.Common.{◌≡◌, ◌≢◌, ℕ, ◌+◌, ◌<◌, ◌≤◌, List, length, get_or, refl, ap, sym, subst, ◌∙◌, arith, None, inl, inr, is_some, count_by, Option}
-use Rattle.std.proofs.lemmas.Bool.{cases_eq, cases_lt}
+use Rattle.std.proofs.Common.{◌≡◌, ◌≢◌, ℕ, ◌≤◌, List, length, refl, ap, sym, ◌∙◌, arith, inl, inr, Option}
 use Rattle.std.proofs.lemmas.List.{get_or_past}
 use Rattle.co_service.specs.Views.{PassesView}
-use Rattle.co_single.specs.Acts.{TimeStays}
-use Rattle.co_single.specs.Alarms.{alarm_at, made_at, fired_at, count_of}
+use Rattle.co_single.specs.Alarms.{alarm_at}
 use Rattle.co_kq.specs.declared.knote.Slot.{Slot}
 use Rattle.co_kq.specs.declared.numbers.Use.{Use}
 use Rattle.co_kq.specs.declared.numbers.Use.TheVariants.{Free, Stale, Held}
-use Rattle.co_kq.specs.Numbers.{is_held, use_at, alarm_for, AreNumbered, AreArmed, HasTimer}
+use Rattle.co_kq.specs.Numbers.{is_held, use_at, AreNumbered, AreArmed}
 use Rattle.co_kq.specs.Ticks.{AreCleared, IsTurned}
 use Rattle.co_kq.proofs.Counting.{count_same}
 

@@ -1,18 +1,17 @@
 -- What a tick leaves.
-use Rattle.std.proofs.Common.{◌≡◌, ◌≢◌, ℕ, zero, suc, ◌+◌, ◌-◌, ◌<◌, ◌≤◌, ◌^◌, Bool, true, false, cond, List, [], ◌∷◌, ◌++◌, map, max, min, length, take, drop, get_or, refl, ap, sym, subst, ◌∙◌, arith, Option, Some, None, is_some, count_by, inl, inr, append-nil}
+use Rattle.std.proofs.Common.{◌≡◌, ◌≢◌, ℕ, suc, ◌+◌, ◌<◌, ◌≤◌, ◌^◌, Bool, true, false, cond, List, [], ◌∷◌, ◌++◌, map, max, length, take, drop, get_or, refl, ap, sym, subst, ◌∙◌, arith, Option, Some, None, is_some, count_by, append-nil}
 use Rattle.std.specs.Prelude.{◌==◌, nat_lt}
-use Rattle.std.proofs.lemmas.Bool.{cases_eq}
 use Rattle.std.proofs.lemmas.Bool.Decides.{nat_tests}
 use Rattle.std.proofs.lemmas.List.{take_all, drop_all}
 use Rattle.std.proofs.lemmas.List.Sums.{sum_by-cons}
 use Rattle.slab.specs.Slab.{Slab}
 use Rattle.co_service.specs.Views.{PassesView}
 use Rattle.co_single.specs.Acts.{IsScanned}
-use Rattle.co_single.specs.Alarms.{count_of, alarm_at, made_at, fired_at, all_gos, scans_of, clock_of, waiting_of, times_in, due_once}
+use Rattle.co_single.specs.Alarms.{alarm_at, all_gos, clock_of, waiting_of, times_in, due_once}
 use Rattle.co_kq.specs.declared.knote.Knote.{Knote}
 use Rattle.co_kq.specs.declared.knote.Slot.{Slot}
 use Rattle.co_kq.specs.declared.numbers.Use.{Use}
-use Rattle.co_kq.specs.declared.numbers.Use.TheVariants.{Free, Stale, Held}
+use Rattle.co_kq.specs.declared.numbers.Use.TheVariants.{Stale}
 use Rattle.co_kq.specs.Kevents.{knote_of, expires, expired, ticked, ticked_knote, expirations}
 use Rattle.co_kq.specs.Slots.{slot_at, knotes_in, ticked_slot, slot_expires, AreDistinct}
 use Rattle.co_kq.specs.Numbers.{use_at, is_held, AreNumbered, AreArmed, AreKept, IsKq, KqView, HasTimer, FiresCounted, list_of, callouts_in, callout_of}
@@ -83,8 +82,7 @@ none_wait (None ∷ ss) = let a = sum_by-cons (λ o. one_if (slot_waits [] o)) N
 none_wait (Some s ∷ ss) = let a = sum_by-cons (λ o. one_if (slot_waits [] o)) (Some s) ss in let b : one_if (slot_waits [] (Some s)) ≡ 0 = refl in omega (arith, a, b, none_wait ss)
 
 module _ (clock now after room work k : ℕ) (knotes : Slab Slot) (u v : List Use) (p q r : PassesView)
-  (kq : IsKq clock room work knotes u p) (low : work < 2 ^ 62) (cleared : AreCleared u p v q) (clear : (i : ℕ) → use_at v i ≢ Stale) (scan : IsScanned q now k r) (later : after ≡ max clock now) where
-
+    (kq : IsKq clock room work knotes u p) (low : work < 2 ^ 62) (cleared : AreCleared u p v q) (clear : (i : ℕ) → use_at v i ≢ Stale) (scan : IsScanned q now k r) (later : after ≡ max clock now) where
   clock_is : clock_of r ≡ after
   clock_is = scan.clock ∙ (ap (λ t. max t now) (cleared.time.clock ∙ kq.last) ∙ sym later)
 
@@ -222,8 +220,7 @@ module _ (clock now after room work k : ℕ) (knotes : Slab Slot) (u v : List Us
           let ident_is : t.knote.ident ≡ ident = ident_kept after s.knote ∙ c.1.2 in
           let times : times_in number (waiting_of r) ≡ one_if (expires after s.knote) = ap (λ i. times_in i (waiting_of r)) (sym c.1.3) ∙ wait_is after work knotes.slots v r are_due c.0 s there in
           let count : (ticked_knote after s.knote).count ≡ s.knote.count + one_if (expires after s.knote) = ticked_count after s.knote (count_low c.0 s there) in
-          let counted : s.knote.count ≡ before.count = ap (λ (n : Knote). n.count) is in
-          (
+          let counted : s.knote.count ≡ before.count = ap (λ (n : Knote). n.count) is in (
             t.knote,
             ap (λ i. knote_of i (knotes_in new.slots)) (sym ident_is) ∙ found new.slots c.0 t now_there (new_distinct c.0 t now_there),
             ap (callout_of ident) (ap callouts_in all_ticked ∙ callouts_ticked after knotes.slots) ∙ of,

@@ -1,5 +1,5 @@
 -- What is kept of a list as it is opened.
-use Rattle.std.proofs.Common.{◌≡◌, ℕ, zero, suc, ◌≤◌, ◌<◌, false, cond, List, [], ◌∷◌, replicate, length, get_or, refl, ap, sym, subst, ◌∙◌, arith, Option, Some, None, is_some, count_by, inl, inr}
+use Rattle.std.proofs.Common.{◌≡◌, ℕ, zero, suc, ◌≤◌, List, [], ◌∷◌, replicate, length, get_or, refl, ap, sym, subst, ◌∙◌, arith, Some, None, count_by, inl, inr}
 use Rattle.std.proofs.lemmas.Bool.{cases_lt}
 use Rattle.std.proofs.lemmas.List.{get_or-replicate, get_or_past, length-replicate}
 use Rattle.std.proofs.lemmas.List.Sums.{sum_by-cons}
@@ -10,9 +10,8 @@ use Rattle.co_single.specs.Acts.{IsNew}
 use Rattle.co_single.specs.Alarms.{fired_at, gos, all_gos}
 use Rattle.co_kq.specs.declared.knote.Slot.{Slot}
 use Rattle.co_kq.specs.declared.numbers.Use.{Use}
-use Rattle.co_kq.specs.declared.numbers.Use.TheVariants.{Free, Stale, Held}
-use Rattle.co_kq.specs.Slots.{AreDistinct}
-use Rattle.co_kq.specs.Numbers.{is_held, use_at, AreNumbered, AreArmed, AreKept, IsKq}
+use Rattle.co_kq.specs.declared.numbers.Use.TheVariants.{Free, Held}
+use Rattle.co_kq.specs.Numbers.{is_held, use_at, AreKept, IsKq}
 use Rattle.co_kq.proofs.Counting.{one_if}
 
 use_free : (room t : ℕ) → use_at (replicate room Free) t ≡ Free

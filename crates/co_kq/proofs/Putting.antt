@@ -1,18 +1,18 @@
 -- A knote is put into the list, or leaves it, and what is kept stays so.
-use Rattle.std.proofs.Common.{◌≡◌, ◌≢◌, ℕ, ◌+◌, ◌<◌, ◌≤◌, Bool, true, false, cond, List, length, get_or, set, refl, ap, sym, subst, ◌∙◌, arith, Option, Some, None, is_some, count_by, inl, inr}
+use Rattle.std.proofs.Common.{◌≡◌, ℕ, ◌+◌, ◌<◌, ◌≤◌, true, false, cond, List, length, get_or, set, refl, ap, sym, subst, ◌∙◌, arith, Option, Some, None, is_some, count_by, inl, inr}
 use Rattle.std.proofs.lemmas.Bool.{cases_eq, cases_lt}
 use Rattle.std.proofs.lemmas.List.{get_or-set_same, get_or-set_other, get_or_past, length-set}
 use Rattle.slab.specs.Slab.{Slab, Updates, get, slab_len}
 use Rattle.co_service.specs.Views.{PassesView}
 use Rattle.co_single.specs.Acts.{IsArmed}
-use Rattle.co_single.specs.Alarms.{alarm_at, made_at, fired_at, but, waiting_of}
+use Rattle.co_single.specs.Alarms.{fired_at, but}
 use Rattle.co_kq.specs.declared.knote.Knote.{Knote}
 use Rattle.co_kq.specs.declared.knote.Slot.{Slot}
 use Rattle.co_kq.specs.declared.numbers.Use.{Use}
-use Rattle.co_kq.specs.declared.numbers.Use.TheVariants.{Free, Stale, Held}
+use Rattle.co_kq.specs.declared.numbers.Use.TheVariants.{Free, Held}
 use Rattle.co_kq.specs.Kevents.{put}
 use Rattle.co_kq.specs.Slots.{knotes_in, AreDistinct}
-use Rattle.co_kq.specs.Numbers.{is_held, use_at, alarm_for, use_after, left_use, AreNumbered, AreArmed, AreKept, HasTimer, IsPut, NothingFires}
+use Rattle.co_kq.specs.Numbers.{is_held, use_at, alarm_for, use_after, left_use, AreKept, HasTimer, IsPut, NothingFires}
 use Rattle.co_kq.proofs.InSlots.{some_is}
 use Rattle.co_kq.proofs.Counting.{one_if, count_changed, gos_same}
 use Rattle.co_kq.proofs.Keeping.{ChangesUse, IsOwn, IsSole, held_is, numbered_put, armed_put, numbered_gone, armed_gone}

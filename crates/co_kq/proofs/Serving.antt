@@ -1,22 +1,22 @@
 -- The knotes whose callouts wait expire one by one.
-use Rattle.std.proofs.Common.{◌≡◌, ◌≢◌, ℕ, zero, suc, ◌+◌, ◌<◌, ◌≤◌, ◌^◌, Bool, true, false, cond, List, [], ◌∷◌, length, get_or, set, refl, ap, sym, subst, ◌∙◌, arith, Option, Some, None, is_some, count_by, inl, inr}
+use Rattle.std.proofs.Common.{◌≡◌, ◌≢◌, ℕ, ◌+◌, ◌<◌, ◌≤◌, Bool, true, false, cond, List, [], ◌∷◌, length, set, refl, ap, sym, subst, ◌∙◌, arith, Option, Some, None, count_by, inl, inr}
 use Rattle.std.specs.Prelude.{nat_lt, nat_le, ◌==◌, not}
-use Rattle.std.proofs.lemmas.Bool.{cases_eq, cases_lt, eq-eqb, ltb-true, lt-ltb}
+use Rattle.std.proofs.lemmas.Bool.{cases_eq, lt-ltb}
 use Rattle.std.proofs.lemmas.Bool.Decides.{nat_tests}
 use Rattle.std.proofs.lemmas.List.{get_or-set_same, get_or-set_other, length-set}
 use Rattle.co_service.specs.Views.{PassesView}
-use Rattle.co_single.specs.Acts.{IsArmed, IsFired, IsIdle, OthersStay, TimeStays}
-use Rattle.co_single.specs.Alarms.{Alarm, count_of, alarm_at, made_at, fired_at, all_gos, waiting_of, times_in, but, due_once}
+use Rattle.co_single.specs.Acts.{IsArmed, IsFired, OthersStay, TimeStays}
+use Rattle.co_single.specs.Alarms.{Alarm, alarm_at, made_at, fired_at, all_gos, waiting_of, times_in, but, due_once}
 use Rattle.co_kq.specs.declared.knote.Slot.{Slot}
 use Rattle.co_kq.specs.declared.numbers.Use.{Use}
 use Rattle.co_kq.specs.declared.numbers.Use.TheVariants.{Free, Stale, Held}
-use Rattle.co_kq.specs.Kevents.{expires, expired, has_come, ticked_knote}
-use Rattle.co_kq.specs.Slots.{slot_at, ticked_slot, slot_expires}
-use Rattle.co_kq.specs.Numbers.{use_at, is_held, alarm_for, next_of, AreNumbered, AreArmed, HasTimer}
+use Rattle.co_kq.specs.Kevents.{expires, expired, has_come}
+use Rattle.co_kq.specs.Slots.{slot_at, ticked_slot}
+use Rattle.co_kq.specs.Numbers.{use_at, is_held, alarm_for, next_of, HasTimer}
 use Rattle.co_kq.specs.Ticks.{AreDue, CanServe, IsReady, IsServed, IsServing, IsOver, part_ticked, slot_waits, waits}
 use Rattle.co_kq.proofs.InSlots.{some_is, is_within}
 use Rattle.co_kq.proofs.Keeping.{held_is}
-use Rattle.co_kq.proofs.Counting.{one_if, count_one_more, count_twice, gos_one_more, gos_same}
+use Rattle.co_kq.proofs.Counting.{one_if, count_one_more, gos_one_more, gos_same}
 
 -- how often a callout waits
 
@@ -203,8 +203,7 @@ module _ (now work : ℕ) (before : List (Option Slot)) (uses : List Use) (p : P
     slot_of : (i key : ℕ) → use_at uses i ≡ Held key → 0 < times_in i (waiting_of q) → (s : Slot) × (slot_at before key ≡ Some s) × (slot_at slots key ≡ Some s) × (s.timer ≡ i)
     slot_of i key held h =
         let had : HasTimer before key i = due.numbered.kept i key held in
-        let still : waits (waiting_of q) had.slot.timer ≡ true = lt-ltb 0 (times_in had.slot.timer (waiting_of q)) (subst (λ t. 0 < times_in t (waiting_of q)) (sym had.timer) h) in
-        (
+        let still : waits (waiting_of q) had.slot.timer ≡ true = lt-ltb 0 (times_in had.slot.timer (waiting_of q)) (subst (λ t. 0 < times_in t (waiting_of q)) (sym had.timer) h) in (
           had.slot,
           had.there,
           far.part key ∙ (ap (part_ticked now (waiting_of q)) had.there ∙ ap (λ b. cond b (Some had.slot) (ticked_slot now (Some had.slot))) still),
@@ -283,10 +282,10 @@ module _ (now work : ℕ) (before : List (Option Slot)) (uses : List Use) (p : P
         same = ap length one.written ∙ (length-set slots one.key (Some new_slot) ∙ far.same);
         part = λ key. elim (cases_eq key one.key) [
           | inl here ↦ subst (λ k. slot_at after k ≡ part_ticked now (waiting_of r) (slot_at before k)) (sym here) (
-            here_after
-            ∙ (sym (ticked_is now (Some one.slot) one.slot refl one.comes)
-            ∙ (sym (ap (λ b. cond b (Some one.slot) (ticked_slot now (Some one.slot))) waits_no_more)
-            ∙ ap (part_ticked now (waiting_of r)) (sym was))))
+              here_after
+              ∙ (sym (ticked_is now (Some one.slot) one.slot refl one.comes)
+              ∙ (sym (ap (λ b. cond b (Some one.slot) (ticked_slot now (Some one.slot))) waits_no_more)
+              ∙ ap (part_ticked now (waiting_of r)) (sym was))))
           | inr there ↦ there_after key there ∙ (far.part key ∙ same_part key (slot_at before key) refl there)
         ];
         alarms = λ key s at. elim (cases_eq key one.key) [

@@ -1,7 +1,7 @@
 -- Which callout each knote has.
 use Rattle.std.specs.Prelude.{◌≡◌, ℕ, ◌≤◌, ◌+◌, ◌==◌, Bool, true, false, List, [], ◌∷◌, ◌++◌, length, Option, Some, None, is_some, slice_index_or, if◌then◌else◌}
 use Rattle.std.specs.List.{count_by}
-use Rattle.slab.specs.Slab.{Slab, slab_len}
+use Rattle.slab.specs.Slab.{Slab}
 use Rattle.co_service.specs.Views.{PassesView}
 use Rattle.co_single.specs.Alarms.{Alarm, count_of, alarm_at, made_at, fired_at, all_gos, scans_of, clock_of, waiting_of}
 use Rattle.co_kq.specs.declared.knote.Slot.{Slot}

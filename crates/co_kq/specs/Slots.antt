@@ -1,10 +1,9 @@
 -- A kevent list whose knotes stand in slots.
 use Rattle.std.specs.Prelude.{◌≡◌, ◌≢◌, ℕ, ◌+◌, ◌<◌, ◌≤◌, Bool, false, List, [], ◌∷◌, Option, Some, None, slice_index_or}
-use Rattle.slab.specs.Slab.{Slab, slab_len}
 use Rattle.co_kq.specs.declared.knote.Knote.{Knote}
 use Rattle.co_kq.specs.declared.knote.Slot.{Slot}
 use Rattle.co_kq.specs.declared.kevent.Event.{Event}
-use Rattle.co_kq.specs.Kevents.{Kevents, placed, ticked_knote, expires, events_in, left_in}
+use Rattle.co_kq.specs.Kevents.{placed, ticked_knote, expires, events_in, left_in}
 
 -- the knotes of these slots, by rising ident
 abbrev pub knotes_in : List (Option Slot) → List Knote

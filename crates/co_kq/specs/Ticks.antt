@@ -8,7 +8,7 @@ use Rattle.co_kq.specs.declared.knote.Slot.{Slot}
 use Rattle.co_kq.specs.declared.numbers.Use.{Use}
 use Rattle.co_kq.specs.declared.numbers.Use.TheVariants.{Free, Stale, Held}
 use Rattle.co_kq.specs.Kevents.{expires, expired}
-use Rattle.co_kq.specs.Slots.{slot_at, ticked_slot, slot_expires}
+use Rattle.co_kq.specs.Slots.{slot_at, ticked_slot}
 use Rattle.co_kq.specs.Numbers.{use_at, is_held, alarm_for, AreNumbered, AreArmed}
 
 -- a callout stays as it is, or it was stale and is free

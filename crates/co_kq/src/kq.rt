@@ -196,14 +196,7 @@ impl<N: Name> Kq<N> {
     }
 
     /// Adds a knote that expires behind each span, or once alone, in the place of an old one of its ident.
-    pub fn add<R: Wait>(
-        &mut self,
-        rt: &R,
-        ident: u64,
-        value: u64,
-        unit: Unit,
-        oneshot: bool,
-    ) -> Add
+    pub fn add<R: Wait>(&mut self, rt: &R, ident: u64, value: u64, unit: Unit, oneshot: bool) -> Add
         requires work { self.old.work < 2 ^ 62 }
         ensures answer { result ≡ add_answer self.old.room self.old.list ident (span_of value unit) }
         ensures list { self.new.list ≡ added self.old.room self.old.list ident (span_of value unit) oneshot }
@@ -221,14 +214,31 @@ impl<N: Name> Kq<N> {
         match find(&self.knotes, ident) {
             Some(key) => {
                 let uses = self.uses.as_slice();
-                replace(rt, act, &mut self.single, &mut self.knotes, uses, key, knote, due);
+                replace(
+                    rt,
+                    act,
+                    &mut self.single,
+                    &mut self.knotes,
+                    uses,
+                    key,
+                    knote,
+                    due,
+                );
             }
             None => {
                 if self.knotes.len() >= self.room as usize {
                     return Add::Full;
                 }
                 let uses = self.uses.as_mut_slice();
-                place(rt, act, &mut self.single, &mut self.knotes, uses, knote, due);
+                place(
+                    rt,
+                    act,
+                    &mut self.single,
+                    &mut self.knotes,
+                    uses,
+                    knote,
+                    due,
+                );
             }
         }
         Add::Added

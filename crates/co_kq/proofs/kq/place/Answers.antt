@@ -1,4 +1,3 @@
-use Rattle.std.proofs.Common.{◌≡◌, ◌∙◌, ap, sym, subst, arith}
 use Rattle.co_kq.proofs.Putting.{put_new}
 use Rattle.co_kq.proofs.kq.place.Goals as goal
 

@@ -1,5 +1,4 @@
-use Rattle.std.proofs.Common.{◌≡◌, ◌∙◌, ap, sym, subst, arith}
-use Rattle.co_single.specs.Alarms.{count_of}
+use Rattle.std.proofs.Common.{◌≡◌, ◌∙◌, ap, sym, arith}
 use Rattle.co_kq.specs.Numbers.{use_at}
 use Rattle.co_kq.specs.declared.numbers.Use.TheVariants.{Held}
 use Rattle.co_kq.proofs.Putting.{is_below, put_old}
@@ -14,5 +13,7 @@ arm-requires-clause-callout g c =
 pub returns : goal.returns
 returns g c =
     let e = c.rewrite-timer.ensures in
-    record { put = put_old c.args.act c.args.knote c.args.due c.args.knotes.now c.rewrite-timer.new.knotes c.args.uses.now c.args.single.now c.arm.new.self c.args.key c.rewrite-timer.result c.requires.kept e.had
-    e.distinct e.list e.capacity e.len e.updates c.requires.due c.requires.fresh c.arm.ensures }
+    record {
+      put = put_old c.args.act c.args.knote c.args.due c.args.knotes.now c.rewrite-timer.new.knotes c.args.uses.now c.args.single.now c.arm.new.self c.args.key c.rewrite-timer.result c.requires.kept e.had
+          e.distinct e.list e.capacity e.len e.updates c.requires.due c.requires.fresh c.arm.ensures;
+    }

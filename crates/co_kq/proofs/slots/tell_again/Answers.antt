@@ -1,4 +1,4 @@
-use Rattle.std.proofs.Common.{◌≡◌, ◌<◌, ◌≤◌, ℕ, List, Option, ap, sym, subst, ◌∙◌, Some, None, set, true, false}
+use Rattle.std.proofs.Common.{◌≡◌, ◌<◌, ◌≤◌, ℕ, List, Option, ap, sym, subst, ◌∙◌, Some, None, set, false}
 use Rattle.slab.specs.Slab.{Updates}
 use Rattle.co_kq.specs.declared.knote.Slot.{Slot}
 use Rattle.co_kq.specs.declared.knote.Knote.{Knote}

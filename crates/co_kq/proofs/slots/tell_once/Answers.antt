@@ -1,10 +1,9 @@
-use Rattle.std.proofs.Common.{◌≡◌, ◌<◌, ◌≤◌, ℕ, List, Option, ap, sym, subst, ◌∙◌, Some, None, set, true, false}
-use Rattle.slab.specs.Slab.{Updates}
+use Rattle.std.proofs.Common.{◌≡◌, ◌<◌, ◌≤◌, ℕ, List, Option, ap, sym, subst, ◌∙◌, Some, None, set, true}
 use Rattle.co_kq.specs.declared.knote.Slot.{Slot}
 use Rattle.co_kq.specs.Kevents.{placed, event_of}
 use Rattle.co_kq.specs.Slots.{knotes_in, Tells, IsFirstReady, slot_at}
-use Rattle.co_kq.proofs.InSlots.{some_is, taken_out, written, updated}
-use Rattle.co_kq.proofs.Telling.{tells_first, behind_first, quieted}
+use Rattle.co_kq.proofs.InSlots.{some_is, taken_out}
+use Rattle.co_kq.proofs.Telling.{tells_first, behind_first}
 use Rattle.co_kq.proofs.slots.tell_once.Goals as goal
 
 abbrev first_at : (slots : List (Option Slot)) (key : ℕ) (x : Slot) → IsFirstReady slots key → slot_at slots key ≡ Some x → IsFirstReady slots key
@@ -27,4 +26,3 @@ returns-clause-tells c =
     let tells : Tells (placed x.knote rest) (event_of x.knote) rest = tells_first true x.knote rest (c.requires.once x there) (first_at old.slots c.args.key x c.requires.first there).ready (behind_first old.slots c.args.key (first_at old.slots c.args.key x c.requires.first there) c.requires.distinct) in
     subst (λ l. Tells l (event_of x.knote) (knotes_in c.remove.new.self.slots)) (sym base)
     (subst (λ l. Tells (placed x.knote rest) (event_of x.knote) l) (sym (ap knotes_in c.remove.ensures.slots)) tells)
-

@@ -1,4 +1,4 @@
-use Rattle.std.proofs.Common.{◌≡◌, ◌≢◌, ℕ, ◌<◌}
+use Rattle.std.proofs.Common.{◌≢◌, ℕ, ◌<◌}
 use Rattle.co_kq.specs.declared.numbers.Use.TheVariants.{Stale}
 use Rattle.co_kq.specs.Numbers.{use_at}
 use Rattle.co_kq.specs.Ticks.{AreCleared}

@@ -1,5 +1,4 @@
-use Rattle.std.proofs.Common.{◌≡◌, ◌∙◌, ap, sym, subst, refl, arith}
-use Rattle.co_kq.specs.Ticks.{IsServed, IsOver, CanServe}
+use Rattle.std.proofs.Common.{◌∙◌, refl, arith}
 use Rattle.co_kq.proofs.Serving.{begins, can_serve, serves_on, serves_last, fewer}
 use Rattle.co_kq.proofs.ticks.serve_all.Goals as goal
 
@@ -22,8 +21,11 @@ loop-now-preserved g c = record {
 
 pub loop-now-smaller : goal.loop-now-smaller
 loop-now-smaller g c =
-    omega (arith, fewer c.args.now c.args.act c.args.knotes.now.slots c.args.uses.now c.args.single.now c.requires c.loop-now.knotes.slots c.loop-now.single c.loop-now.invariant.serving
-    c.serve_one.new.knotes.slots c.serve_one.new.single (c.serve_one.ensures.served c.loop-now-test.true))
+    omega (
+      arith,
+      fewer c.args.now c.args.act c.args.knotes.now.slots c.args.uses.now c.args.single.now c.requires c.loop-now.knotes.slots c.loop-now.single c.loop-now.invariant.serving
+          c.serve_one.new.knotes.slots c.serve_one.new.single (c.serve_one.ensures.served c.loop-now-test.true),
+    )
 
 pub returns-clause-serving : goal.returns-clause-serving
 returns-clause-serving g c =

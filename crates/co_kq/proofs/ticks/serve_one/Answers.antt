@@ -1,4 +1,4 @@
-use Rattle.std.proofs.Common.{◌≡◌, ◌∙◌, ap, sym, subst, arith}
+use Rattle.std.proofs.Common.{◌∙◌, ap, sym, arith}
 use Rattle.co_kq.specs.Numbers.{is_held}
 use Rattle.co_kq.proofs.Serving.{first_ready, served_armed, served_bare}
 use Rattle.co_kq.proofs.ticks.serve_one.Goals as goal

@@ -1,6 +1,6 @@
 use Rattle.std.proofs.Common.{◌≡◌, ap, sym, subst, ◌∙◌, arith, refl, List}
 use Rattle.co_kq.specs.declared.kevent.Add.TheVariants.{Full}
-use Rattle.co_kq.specs.Kevents.{Kevents, add_answer, added, span_of, begun, put}
+use Rattle.co_kq.specs.Kevents.{add_answer, added, span_of, begun, put}
 use Rattle.co_kq.specs.Slots.{knotes_in}
 use Rattle.co_kq.specs.Numbers.{list_of}
 use Rattle.co_kq.specs.declared.knote.Knote.{Knote}

@@ -1,6 +1,5 @@
-use Rattle.std.proofs.Common.{◌≡◌, ap, sym, subst, ◌∙◌, arith, refl}
+use Rattle.std.proofs.Common.{ap, sym, subst, ◌∙◌, refl}
 use Rattle.co_single.specs.Acts.{IsNew}
-use Rattle.co_kq.specs.Kevents.{Kevents}
 use Rattle.co_kq.specs.Slots.{knotes_in}
 use Rattle.co_kq.proofs.Opening.{opened, none_fired}
 use Rattle.co_kq.proofs.kq.Kq.open.Goals as goal

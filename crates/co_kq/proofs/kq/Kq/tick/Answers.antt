@@ -1,7 +1,6 @@
-use Rattle.std.proofs.Common.{◌≡◌, ◌≢◌, ◌∙◌, ℕ, ◌+◌, ◌<◌, ◌^◌, ap, sym, subst, arith, length}
-use Rattle.co_kq.specs.declared.numbers.Use.TheVariants.{Stale}
+use Rattle.std.proofs.Common.{◌≡◌, ◌∙◌, ◌+◌, ◌<◌, ◌^◌, ap, sym, subst, length}
 use Rattle.co_kq.specs.Kevents.{ticked, expirations}
-use Rattle.co_kq.specs.Numbers.{use_at, list_of, callouts_in, FiresCounted}
+use Rattle.co_kq.specs.Numbers.{list_of, callouts_in, FiresCounted}
 use Rattle.co_kq.specs.Ticks.{AreCleared, AreDue, IsServing}
 use Rattle.co_kq.proofs.Ending.{take_whole, are_due, new_kq, new_list, new_answer, new_counts}
 use Rattle.co_kq.proofs.kq.Kq.tick.Goals as goal
