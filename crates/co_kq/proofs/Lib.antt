@@ -1,0 +1,12 @@
+pub mod Placing
+pub mod InSlots
+pub mod Telling
+pub mod Ticking
+pub mod Adding
+pub mod Keeping
+pub mod Counting
+pub mod Putting
+pub mod Opening
+pub mod Clearing
+pub mod Serving
+pub mod Ending

@@ -1,0 +1,4 @@
+pub mod Kevents
+pub mod Slots
+pub mod Numbers
+pub mod Ticks

@@ -1,0 +1,129 @@
+-- Which callout each knote has.
+use Rattle.std.specs.Prelude.{◌≡◌, ℕ, ◌≤◌, ◌+◌, ◌==◌, Bool, true, false, List, [], ◌∷◌, ◌++◌, length, Option, Some, None, is_some, slice_index_or, if◌then◌else◌}
+use Rattle.std.specs.List.{count_by}
+use Rattle.slab.specs.Slab.{Slab}
+use Rattle.co_service.specs.Views.{PassesView}
+use Rattle.co_single.specs.Alarms.{Alarm, count_of, alarm_at, made_at, fired_at, all_gos, scans_of, clock_of, waiting_of}
+use Rattle.co_kq.specs.declared.knote.Slot.{Slot}
+use Rattle.co_kq.specs.declared.numbers.Use.{Use}
+use Rattle.co_kq.specs.declared.numbers.Use.TheVariants.{Free, Stale, Held}
+use Rattle.co_kq.specs.declared.knote.Knote.{Knote}
+use Rattle.co_kq.specs.Kevents.{Kevents, opening, put, knote_of, expires, expired}
+use Rattle.co_kq.specs.Slots.{slot_at, knotes_in, AreDistinct}
+
+abbrev pub is_held : Use → Bool
+is_held Free = false
+is_held Stale = false
+is_held (Held key) = true
+
+-- what a number is in use for; for nothing past the last
+abbrev pub use_at : List Use → ℕ → Use
+use_at uses number = slice_index_or uses number Free
+
+-- the knote at this key has this callout
+pub record HasTimer (slots : List (Option Slot)) (key number : ℕ) : Type 0 where
+  pub slot : Slot
+  pub there : slot_at slots key ≡ Some slot
+  pub timer : slot.timer ≡ number
+
+-- each knote has a callout of its own, and each callout that is held has its knote
+pub record AreNumbered (room : ℕ) (slots : List (Option Slot)) (uses : List Use) : Type 0 where
+  pub all : length uses ≡ room
+  pub held : (key : ℕ) (s : Slot) → slot_at slots key ≡ Some s → use_at uses s.timer ≡ Held key
+  pub kept : (number key : ℕ) → use_at uses number ≡ Held key → HasTimer slots key number
+  pub many : count_by is_held uses ≡ count_by is_some slots
+
+-- the alarm of a knote's callout: for its next time
+abbrev pub alarm_for : Option ℕ → Option Alarm
+alarm_for None = None
+alarm_for (Some t) = Some (record { due = t; arg = 0 })
+
+-- a knote's callout is armed for its next time, and a free one is not armed. No count is higher than the work that was done
+pub record AreArmed (work : ℕ) (slots : List (Option Slot)) (uses : List Use) (p : PassesView) : Type 0 where
+  pub knotes : (key : ℕ) (s : Slot) → slot_at slots key ≡ Some s → alarm_at p s.timer ≡ alarm_for s.knote.next
+  pub counts : (key : ℕ) (s : Slot) → slot_at slots key ≡ Some s → s.knote.count ≤ work
+  pub free : (number : ℕ) → use_at uses number ≡ Free → alarm_at p number ≡ None
+  pub made : (number : ℕ) → made_at p number ≤ work
+
+-- what the knotes, the uses of the callouts and the service keep between two calls
+pub record AreKept (work : ℕ) (slots : List (Option Slot)) (uses : List Use) (p : PassesView) : Type 0 where
+  pub distinct : AreDistinct slots
+  pub numbered : AreNumbered (length uses) slots uses
+  pub armed : AreArmed work slots uses p
+  pub callouts : count_of p ≡ length uses
+  pub few : length uses ≤ 1024
+  pub nothing : waiting_of p ≡ []
+
+-- what every list over a service keeps between two calls
+pub record IsKq (clock room work : ℕ) (knotes : Slab Slot) (uses : List Use) (p : PassesView) : Type 0 where
+  pub kept : AreKept work knotes.slots uses p
+  pub all : length uses ≡ room
+  pub has : room ≤ knotes.capacity
+  pub last : clock_of p ≡ clock
+
+-- each knote's ident and its callout
+abbrev pub callouts_in : List (Option Slot) → List (ℕ × ℕ)
+callouts_in [] = []
+callouts_in (None ∷ ss) = callouts_in ss
+callouts_in (Some s ∷ ss) = (s.knote.ident, s.timer) ∷ callouts_in ss
+
+-- the callout of an ident's knote
+abbrev pub callout_of : ℕ → List (ℕ × ℕ) → Option ℕ
+callout_of ident [] = None
+callout_of ident (c ∷ cs) = if c.0 == ident then Some c.1 else callout_of ident cs
+
+abbrev pub list_of : ℕ → List (Option Slot) → Kevents
+list_of clock slots = record { clock = clock; knotes = knotes_in slots }
+
+-- when a slot's knote expires next, where it expires now
+abbrev pub next_of : ℕ → Option Slot → Option ℕ
+next_of now None = None
+next_of now (Some s) = if expires now s.knote then (expired s.knote).next else None
+
+-- no callout fires, and nothing is scanned
+pub record NothingFires (p q : PassesView) : Type 0 where
+  pub fired : (i : ℕ) → fired_at q i ≡ fired_at p i
+  pub all : all_gos q.timers ≡ all_gos p.timers
+  pub scans : scans_of q ≡ scans_of p
+
+-- a knote is put into the list, and its callout is armed
+pub record IsPut (work : ℕ) (knote : Knote) (old : Slab Slot) (p : PassesView) (new : Slab Slot) (uses : List Use) (q : PassesView) : Type 0 where
+  pub list : knotes_in new.slots ≡ put knote (knotes_in old.slots)
+  pub kept : AreKept (work + 1) new.slots uses q
+  pub fires : NothingFires p q
+  pub clock : clock_of q ≡ clock_of p
+  pub capacity : new.capacity ≡ old.capacity
+
+-- what is left of the callout of a knote that is gone
+abbrev pub use_after : Option ℕ → Use
+use_after None = Free
+use_after (Some t) = Stale
+
+abbrev pub left_use : Slot → Use
+left_use s = use_after s.knote.next
+
+-- what contracts see: for how many knotes there is room, how many adds and ticks there were, the kevent list, what the
+-- service's one actor has seen, and each knote's ident and callout
+pub record KqView : Type 0 where
+  pub room : ℕ
+  pub work : ℕ
+  pub list : Kevents
+  pub passes : PassesView
+  pub callouts : List (ℕ × ℕ)
+
+-- a tick: each knote keeps its callout, and its count rises by exactly how often that fires. In all so many fire, and the scan
+-- is the only one
+pub record FiresCounted (v : KqView) (now k : ℕ) (w : KqView) : Type 0 where
+  pub counts : (ident number : ℕ) (before : Knote) → knote_of ident v.list.knotes ≡ Some before → callout_of ident v.callouts ≡ Some number →
+      (after : Knote) × (knote_of ident w.list.knotes ≡ Some after) × (callout_of ident w.callouts ≡ Some number)
+      × (after.count + fired_at v.passes number ≡ before.count + fired_at w.passes number)
+  pub all : all_gos w.passes.timers ≡ all_gos v.passes.timers + k
+  pub scans : scans_of w.passes ≡ scans_of v.passes ++ now ∷ []
+
+-- the list as it is opened
+pub record IsOpened (knotes : ℕ) (v : KqView) : Type 0 where
+  pub room : v.room ≡ knotes
+  pub work : v.work ≡ 0
+  pub list : v.list ≡ opening
+  pub fired : all_gos v.passes.timers ≡ 0
+  pub scans : scans_of v.passes ≡ []

@@ -1,0 +1,101 @@
+//! What a tick does with the callouts.
+ghost use Rattle.std.specs.Prelude.{◌≡◌, ◌≢◌, ◌<◌, ◌≤◌, ◌+◌, ◌^◌, ℕ, [], length, true, false, IfNone, IfSome};
+ghost use Rattle.co_single.specs.Alarms.{count_of, waiting_of};
+ghost use Rattle.co_kq.specs.declared.numbers.Use.TheVariants.{Held, Stale};
+ghost use Rattle.co_kq.specs.Numbers.{is_held, use_at};
+ghost use Rattle.co_kq.specs.Ticks.{AreCleared, AreDue, CanServe, IsOver, IsServed, IsServing};
+
+use crate::knote::Slot;
+use crate::numbers::Use;
+use crate::slots::expire_at;
+use co_sbt::Sbt;
+use co_service::Name;
+use co_single::Single;
+use slab::Slab;
+use std::sync::Wait;
+
+/// A callout whose knote is gone is not armed any more, and is in use for nothing.
+fn clear<N: Name, R: Wait>(
+    rt: &R,
+    act: u64,
+    single: &mut Single<N>,
+    uses: &mut [Use],
+    number: usize,
+)
+    requires below { number < length uses.old }
+    requires callouts { count_of single.old ≡ length uses.old }
+    requires few { length uses.old ≤ 1024 }
+    ensures cleared { AreCleared uses.old single.old uses.new single.new }
+    ensures free { use_at uses.new number ≢ Stale }
+{
+    if let Use::Stale = uses[number] {
+        single.disarm(rt, act, number as u32);
+        uses[number] = Use::Free;
+    }
+}
+
+/// No callout whose knote is gone is armed any more.
+pub fn clear_all<N: Name, R: Wait>(rt: &R, act: u64, single: &mut Single<N>, uses: &mut [Use])
+    requires callouts { count_of single.old ≡ length uses.old }
+    requires few { length uses.old ≤ 1024 }
+    ensures cleared { AreCleared uses.old single.old uses.new single.new }
+    ensures none { (number : ℕ) → use_at uses.new number ≢ Stale }
+{
+    for number in 0..uses.len() {
+        clear(rt, act, single, uses, number);
+    }
+}
+
+/// The key of the knote that has a callout.
+fn key_of(uses: &[Use], number: u32) -> usize
+    requires below { number < length uses.now }
+    requires held { is_held (use_at uses.now number) ≡ true }
+    ensures { use_at uses.now number ≡ Held result }
+{
+    match uses[number as usize] {
+        Use::Held(key) => key,
+        Use::Free => unreachable!(),
+        Use::Stale => unreachable!(),
+    }
+}
+
+/// The first knote whose callout waits expires; the answer is whether there was one.
+fn serve_one<N: Name, R: Wait>(
+    rt: &R,
+    act: u64,
+    single: &mut Single<N>,
+    knotes: &mut Slab<Slot>,
+    uses: &[Use],
+    now: Sbt,
+) -> bool
+    requires { CanServe now knotes.old.slots uses.now single.old }
+    ensures served { result ≡ true → IsServed now knotes.old.slots uses.now single.old knotes.new.slots single.new }
+    ensures over { result ≡ false → IsOver knotes.old.slots single.old knotes.new.slots single.new }
+    ensures capacity { knotes.new.capacity ≡ knotes.old.capacity }
+{
+    let Some(fired) = single.fire(rt, act) else {
+        return false;
+    };
+    let key = key_of(uses, fired.i);
+    if let Some(next) = expire_at(knotes, key, now) {
+        single.arm(rt, act, fired.i, next, 0);
+    }
+    true
+}
+
+/// Each knote expires whose callout waits.
+pub fn serve_all<N: Name, R: Wait>(
+    rt: &R,
+    act: u64,
+    single: &mut Single<N>,
+    knotes: &mut Slab<Slot>,
+    uses: &[Use],
+    now: Sbt,
+)
+    requires { AreDue now act knotes.old.slots uses.now single.old }
+    ensures serving { IsServing now act knotes.old.slots uses.now single.old knotes.new.slots single.new }
+    ensures nothing { waiting_of single.new ≡ [] }
+    ensures capacity { knotes.new.capacity ≡ knotes.old.capacity }
+{
+    while serve_one(rt, act, single, knotes, uses, now) {}
+}
