@@ -1,5 +1,6 @@
 #!/usr/bin/env python3
-"""gate_time.py: runs the whole gate at the top of the repository, and says where its time went.
+"""gate_time.py [NAME ..]: runs the gate at the top of the repository, and says where its time went. With names it runs these crates alone and
+those below them, which is not the gate.
 
 The gate is the toolchain's own `rt ci`: nothing is left out or changed. Each of its tasks, the proof, the tests or the edits of a crate,
 is timed from its begin to its end, and each process that it starts tells when it ends what it took of the processors. A line for each
@@ -101,7 +102,7 @@ def main():
         gate.in_lanes = lambda tasks: in_lanes({
             task: (waits, lines, needs, times.timed(task, call)) for task, (waits, lines, needs, call) in tasks.items()
         })
-        status = gate.main(["ci"])
+        status = gate.main(["ci", *sys.argv[1:]])
         text = "\n".join(times.table())
         print(text)
         out.write(text + "\n")
