@@ -5,8 +5,8 @@ ghost use Rattle.co_text.specs.Fallible.{Gives};
 ghost use Rattle.co_text.specs.Taking.{next};
 ghost use Rattle.co_kq_text.specs.Commands.{kq_language, unit_of};
 
-use co_kq::Unit;
 use co_batch::Command;
+use co_kq::Unit;
 use co_sbt::Sbt;
 use co_text::{Cause, Words};
 
