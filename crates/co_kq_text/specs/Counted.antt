@@ -1,7 +1,6 @@
 -- What the service of the command `kq` has done at its end.
-use Rattle.std.specs.Prelude.{◌≡◌, ℕ, ◌+◌, ◌≤◌, ◌^◌, List, [], ◌∷◌, ◌++◌}
-use Rattle.co_service.specs.Views.{PassesView}
-use Rattle.co_single.specs.Alarms.{all_gos, scan_times, scans_of}
+use Rattle.std.specs.Prelude.{◌≡◌, ℕ, ◌+◌, List, [], ◌∷◌, ◌++◌}
+use Rattle.co_single.specs.Alarms.{all_gos, scans_of}
 use Rattle.co_kq.specs.Kevents.{Kevents, expirations}
 use Rattle.co_kq.specs.Numbers.{KqView}
 use Rattle.co_kq_text.specs.declared.command.KqCommand.{KqCommand}
