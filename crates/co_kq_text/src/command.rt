@@ -1,0 +1,95 @@
+//! The commands of a text.
+ghost use Rattle.std.specs.Prelude.{◌≡◌, ◌^◌, true, false, nat_lt, MatchResult};
+ghost use Rattle.co_text.specs.declared.Cause.TheVariants.{Number};
+ghost use Rattle.co_text.specs.Fallible.{Gives};
+ghost use Rattle.co_text.specs.Taking.{next};
+ghost use Rattle.co_kq_text.specs.Commands.{kq_language, unit_of};
+
+use co_batch::Command;
+use co_kq::Unit;
+use co_sbt::Sbt;
+use co_text::{Cause, Words};
+
+/// A line of a text for the kevent list.
+#[derive(Clone, Copy)]
+pub enum KqCommand {
+    /// Adds a knote: its ident, its value and the value's unit, and whether it expires once alone.
+    Add(u64, u64, Unit, bool),
+    /// Deletes the knote of an ident.
+    Delete(u64),
+    /// Brings the clock to a time.
+    Tick(Sbt),
+    /// Asks for so many events.
+    Events(u32),
+}
+
+/// A number of 64 bits, else `Number`.
+fn narrow(number: u128) -> Result<u64, Cause>
+    ensures { MatchResult result (λ n. (n ≡ number) × (nat_lt number (2 ^ 64) ≡ true)) (λ c. (c ≡ Number) × (nat_lt number (2 ^ 64) ≡ false)) }
+{
+    if number < 0x1_0000_0000_0000_0000 {
+        Ok(number as u64)
+    } else {
+        Err(Cause::Number)
+    }
+}
+
+/// The unit that a word names, else `Form`.
+fn unit_of(word: &[u8]) -> Result<Unit, Cause>
+    ensures { Gives (λ u. u) result (unit_of word.now) }
+{
+    if word == b"s".as_slice() {
+        Ok(Unit::Seconds)
+    } else if word == b"ms".as_slice() {
+        Ok(Unit::Milli)
+    } else if word == b"us".as_slice() {
+        Ok(Unit::Micro)
+    } else if word == b"ns".as_slice() {
+        Ok(Unit::Nano)
+    } else {
+        Err(Cause::Form)
+    }
+}
+
+impl Command for KqCommand {
+    ghost language = { kq_language };
+
+    fn name() -> &'static [u8] {
+        b"kq".as_slice()
+    }
+
+    fn counted() -> &'static [u8] {
+        b"knotes".as_slice()
+    }
+
+    fn read(_count: u32, first: &[u8], words: &mut Words) -> Result<KqCommand, Cause> {
+        if first == b"add".as_slice() {
+            let ident = words.number()?;
+            let value = words.number()?;
+            let unit = unit_of(words.word()?)?;
+            let oneshot = words.option(b"oneshot".as_slice());
+            words.end()?;
+            Ok(KqCommand::Add(narrow(ident)?, narrow(value)?, unit, oneshot))
+        } else if first == b"delete".as_slice() {
+            let ident = words.lone_number()?;
+            Ok(KqCommand::Delete(narrow(ident)?))
+        } else if first == b"tick".as_slice() {
+            Ok(KqCommand::Tick(words.lone_time()?))
+        } else if first == b"events".as_slice() {
+            let most = words.lone_number()?;
+            if most > 1024 {
+                return Err(Cause::Number);
+            }
+            Ok(KqCommand::Events(most as u32))
+        } else {
+            Err(Cause::Form)
+        }
+    }
+
+    fn moment(&self) -> Option<Sbt> {
+        match *self {
+            KqCommand::Tick(time) => Some(time),
+            _ => None,
+        }
+    }
+}

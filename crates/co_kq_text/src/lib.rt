@@ -1,0 +1,6 @@
+//! The text of the command `kq`: timers of a kevent list.
+#![tactic(auto)]
+
+mod command;
+
+pub use command::KqCommand;
