@@ -1,3 +1,3 @@
 pub mod Commands
 pub mod Answers
-pub mod Counted
+pub mod Ends

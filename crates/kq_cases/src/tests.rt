@@ -1,0 +1,3 @@
+mod calls;
+mod refusals;
+mod texts;
