@@ -1,0 +1,8 @@
+//! The text of the command `sleep`: sleepers with timers, who are woken or whose time is up, and a clock that its ticks move.
+#![tactic(auto)]
+
+mod command;
+mod print;
+
+pub use command::SleepCommand;
+pub use print::{print_reply, print_ticked};

@@ -1,0 +1,5 @@
+mod played;
+mod rows;
+mod stage;
+mod texts;
+mod threads;
