@@ -1,9 +1,9 @@
 #!/usr/bin/env python3
 """same_answers.py PROGRAM OTHER [COUNT [SEED]]: gives two built programs the same texts of calls, and compares what they write.
 
-Text number n, of `kq`, `sleep`, `itimer` or `event` in turn, is made from SEED + n (defaults: 10000 texts from seed 1): few timers,
-times that meet each other and the ends of their range, and now and then a bad line. The first text that is not answered alike, by
-the same bytes and the same exit status, is printed."""
+Text number n, of `kq`, `sleep`, `itimer` or `event` in turn, of those that both programs have, is made from SEED + n (defaults:
+10000 texts from seed 1): few timers, times that meet each other and the ends of their range, and now and then a bad line. The first
+text that is not answered alike, by the same bytes and the same exit status, is printed."""
 import random, subprocess, sys
 from concurrent.futures import ThreadPoolExecutor
 
@@ -11,6 +11,7 @@ PROGRAM, OTHER = sys.argv[1:3]
 COUNT = int(sys.argv[3]) if len(sys.argv) > 3 else 10_000
 SEED = int(sys.argv[4]) if len(sys.argv) > 4 else 1
 COUNTED = {"kq": "knotes", "sleep": "sleepers", "itimer": "processes", "event": "timers"}
+WORDS = []
 BAD = ("", "# a comment", "tick", "tick 0 0", "stop", "begin 1", "add 1 1 h", "get 1024", "until -1", "sleep 0 0 2147483648", "events 1025")
 
 
@@ -19,7 +20,7 @@ class Text:
 
     def __init__(self, seed):
         self.random = random.Random(seed)
-        self.word = list(COUNTED)[seed % len(COUNTED)]
+        self.word = WORDS[seed % len(WORDS)]
         self.count = self.random.randint(1, 6)
         self.clock = 0
 
@@ -76,6 +77,11 @@ def answer(program, text, word):
     return done.returncode, done.stdout
 
 
+def has(program, word):
+    """Whether the program has this command: it answers a text that asks nothing."""
+    return answer(program, f"{word} 1\n{COUNTED[word]} 1\n".encode(), word) == (0, b"")
+
+
 def differs(number):
     one = Text(SEED + number)
     text = one.text()
@@ -84,13 +90,14 @@ def differs(number):
 
 
 def main():
+    WORDS.extend(word for word in COUNTED if has(PROGRAM, word) and has(OTHER, word))
     with ThreadPoolExecutor(4) as pool:
         for found in pool.map(differs, range(COUNT)):
             if found:
                 number, word, text, ours, other = found
                 print(f"text {number} of {word}, seed {SEED + number}:\n{text.decode()}\n{ours}\n{other}")
                 return 1
-    print(f"{COUNT} texts: all are answered alike")
+    print(f"{COUNT} texts of {', '.join(WORDS)}: all are answered alike")
     return 0
 
 
