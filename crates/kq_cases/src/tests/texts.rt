@@ -62,3 +62,21 @@ fn no_command_has_no_answer(rt: HostRuntime) {
     let text = b"# none\nkq 1 # words\n\nknotes 1024\n".as_slice();
     assert!(&rt; is_answered(&rt, rt.alloc(), text, b"".as_slice()));
 }
+
+// The callout of a timer that was deleted is due with the new one's, and that alone counts.
+#[test]
+fn a_timer_in_the_place_of_a_deleted_one_counts_alone(rt: HostRuntime) {
+    let text =
+        b"kq 1\nknotes 2\nadd 1 1 s\ndelete 1\nadd 2 1 s\ntick 1\nevents 4\nadd 1 1 s\ntick 2\n".as_slice();
+    let wanted = b"added\ndeleted 0\nadded\nticked 1\nevents 1\n2 1\nadded\nticked 2\n".as_slice();
+    assert!(&rt; is_answered(&rt, rt.alloc(), text, wanted));
+}
+
+// A span is less than 2^31 seconds, and at least a unit of 2^-32 seconds.
+#[test]
+fn a_value_has_its_ends(rt: HostRuntime) {
+    let text =
+        b"kq 1\nknotes 1\nadd 1 2147483648 s\nadd 1 18446744073709551615 ns\nadd 1 2147483647 s\nadd 18446744073709551615 1 ns\ndelete 1\nadd 18446744073709551615 1 ns\n".as_slice();
+    let wanted = b"value\nvalue\nadded\nfull\ndeleted 0\nadded\n".as_slice();
+    assert!(&rt; is_answered(&rt, rt.alloc(), text, wanted));
+}
