@@ -15,6 +15,8 @@ use Rattle.co_event_text.specs.Commands.{event_language}
 use Rattle.co_event_text.specs.Answers.{event_text, answering as event_answering}
 use Rattle.co_kq_text.specs.Commands.{kq_language}
 use Rattle.co_kq_text.specs.Answers.{kq_text, answering as kq_answering}
+use Rattle.co_sleepq_text.specs.Commands.{sleep_language}
+use Rattle.co_sleepq_text.specs.Answers.{sleep_text, answering as sleep_answering}
 use Rattle.co_itimer_text.specs.Commands.{timer_language as itimer_language}
 use Rattle.co_itimer_text.specs.Answers.{itimer_text, answering as itimer_answering}
 use Rattle.co_script.specs.Reading.{script_of, lines_script}
@@ -23,7 +25,7 @@ use Rattle.co_report.specs.declared.line.Report.{Report}
 use Rattle.co_top.specs.Headline.{Serves, limit_of, served_limit}
 use Rattle.co_top.specs.declared.command.Reading.TheVariants.{Steps, Check, Event}
 use Rattle.co_top.specs.declared.command.Serving.{Serving}
-use Rattle.co_top.specs.declared.command.Serving.TheVariants.{Run, Kq, Itimer}
+use Rattle.co_top.specs.declared.command.Serving.TheVariants.{Run, Kq, Sleep, Itimer}
 use Rattle.co_service.specs.Closing.{ClosingView}
 
 abbrev pub too_long : Refusal
@@ -91,10 +93,14 @@ events_refused bytes over = answered_refused event_language event_answering byte
 pub kq_refused : (bytes : List ℕ) → served_limit Kq < length bytes → kq_text bytes ≡ Err too_long
 kq_refused bytes over = answered_refused kq_language kq_answering bytes over
 
+pub sleep_refused : (bytes : List ℕ) → served_limit Sleep < length bytes → sleep_text bytes ≡ Err too_long
+sleep_refused bytes over = answered_refused sleep_language sleep_answering bytes over
+
 pub itimer_refused : (bytes : List ℕ) → served_limit Itimer < length bytes → itimer_text bytes ≡ Err too_long
 itimer_refused bytes over = answered_refused itimer_language itimer_answering bytes over
 
 pub served_short : (serving : Serving) (bytes : List ℕ) (closing : ClosingView) (text : List ℕ) → Serves serving bytes closing text → length bytes ≤ served_limit serving
 served_short Run bytes closing text given = accepted_short bytes given.script given.read
 served_short Kq bytes closing text given = answered_short kq_language kq_answering bytes text given.text_is
+served_short Sleep bytes closing text given = answered_short sleep_language sleep_answering bytes text given.text_is
 served_short Itimer bytes closing text given = answered_short itimer_language itimer_answering bytes text given.text_is

@@ -12,14 +12,14 @@ use Rattle.co_top.specs.declared.command.Command.TheVariants.{Read, Serve, Make}
 use Rattle.co_top.specs.declared.command.Reading.{Reading}
 use Rattle.co_top.specs.declared.command.Reading.TheVariants.{Steps, Check, Event}
 use Rattle.co_top.specs.declared.command.Serving.{Serving}
-use Rattle.co_top.specs.declared.command.Serving.TheVariants.{Run, Kq, Itimer}
+use Rattle.co_top.specs.declared.command.Serving.TheVariants.{Run, Kq, Sleep, Itimer}
 use Rattle.co_top.specs.declared.command.Making.{Making}
 use Rattle.co_top.specs.declared.status.Status.{Status}
 use Rattle.co_top.specs.declared.status.Status.TheVariants.{Done, BadScript, Usage, ReadFault, WriteFault, NoMemory, NotLegal}
 use Rattle.co_top.specs.Commands.{command_of}
 use Rattle.co_top.specs.Headline.{Gives, GivesServed, Serves, Refuses, IsJudged, Says, IsReadAnswered, IsServedAnswered, IsAnswered, IsHeadline, IsComplete, limit_of, served_limit, plain, status_of, served_status, script_status, report_status, text_status, verdict_status, HasNoFault}
 use Rattle.co_top.specs.Outside.{Outside, ReadsToEnd, Reads}
-use Rattle.co_top.proofs.Accepted.{long_refused, report_refused, events_refused, kq_refused, itimer_refused}
+use Rattle.co_top.proofs.Accepted.{long_refused, report_refused, events_refused, kq_refused, sleep_refused, itimer_refused}
 
 -- ---- what a source that tells its bytes had
 
@@ -42,6 +42,7 @@ over_limit Event content long = sym (ap text_status (events_refused content long
 served_over : (serving : Serving) (content : List ℕ) → served_limit serving < length content → BadScript ≡ served_status serving content
 served_over Run content long = sym (ap script_status (long_refused content long))
 served_over Kq content long = sym (ap text_status (kq_refused content long))
+served_over Sleep content long = sym (ap text_status (sleep_refused content long))
 served_over Itimer content long = sym (ap text_status (itimer_refused content long))
 
 -- ---- the status is that of the bytes read
@@ -76,11 +77,13 @@ of_bytes Event bytes text NoMemory given = absurd given
 done_of_bytes : (serving : Serving) (bytes text : List ℕ) (closing : ClosingView) → Serves serving bytes closing text → Done ≡ served_status serving bytes
 done_of_bytes Run bytes text closing given = sym (ap script_status given.read)
 done_of_bytes Kq bytes text closing given = sym (ap text_status given.text_is)
+done_of_bytes Sleep bytes text closing given = sym (ap text_status given.text_is)
 done_of_bytes Itimer bytes text closing given = sym (ap text_status given.text_is)
 
 refused_of_bytes : (serving : Serving) (bytes text : List ℕ) → Refuses serving bytes text → BadScript ≡ served_status serving bytes
 refused_of_bytes Run bytes text given = sym (ap script_status given.refused)
 refused_of_bytes Kq bytes text given = sym (ap text_status given.refused)
+refused_of_bytes Sleep bytes text given = sym (ap text_status given.refused)
 refused_of_bytes Itimer bytes text given = sym (ap text_status given.refused)
 
 served_of_bytes : (serving : Serving) (bytes text : List ℕ) (status : Status) (closing : Option ClosingView) → GivesServed serving bytes status closing text → status ≡ served_status serving bytes

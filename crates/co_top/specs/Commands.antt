@@ -11,7 +11,7 @@ use Rattle.co_top.specs.declared.command.Command.TheVariants.{Read, Serve, Make}
 use Rattle.co_top.specs.declared.command.Reading.{Reading}
 use Rattle.co_top.specs.declared.command.Reading.TheVariants.{Steps, Check, Event}
 use Rattle.co_top.specs.declared.command.Serving.{Serving}
-use Rattle.co_top.specs.declared.command.Serving.TheVariants.{Run, Kq, Itimer}
+use Rattle.co_top.specs.declared.command.Serving.TheVariants.{Run, Kq, Sleep, Itimer}
 use Rattle.co_top.specs.declared.command.Making.{Making}
 use Rattle.co_top.specs.declared.command.Making.TheVariants.{Gen, Soak}
 
@@ -27,7 +27,8 @@ reading_of word = if is_word word (codes "steps") then Some Steps
 abbrev pub serving_of : Word → Option Serving
 serving_of word = if is_word word (codes "run") then Some Run
     else (if is_word word (codes "kq") then Some Kq
-    else (if is_word word (codes "itimer") then Some Itimer else None))
+    else (if is_word word (codes "sleep") then Some Sleep
+    else (if is_word word (codes "itimer") then Some Itimer else None)))
 
 -- a seed: 1 to 20 digits, below 2 ^ 64
 abbrev pub small_seed : Result ℕ Cause → Option ℕ
@@ -84,7 +85,7 @@ abbrev pub line : List ℕ → List ℕ
 line text = text ++ 10 ∷ []
 
 abbrev pub usage_text : List ℕ
-usage_text = line (codes "usage: callout steps | run | check | gen N | soak N | kq | itimer | event")
+usage_text = line (codes "usage: callout steps | run | check | gen N | soak N | kq | sleep | itimer | event")
 
 -- of a report whose verdict is Legal
 abbrev pub legal_text : List ℕ

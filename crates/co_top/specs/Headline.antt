@@ -19,6 +19,8 @@ use Rattle.co_run.specs.Ran.{shown_timers, shown_cpus}
 use Rattle.co_event_text.specs.Answers.{event_text}
 use Rattle.co_kq_text.specs.Answers.{kq_text}
 use Rattle.co_kq_text.specs.Ends.{EndsRun as EndsKq}
+use Rattle.co_sleepq_text.specs.Answers.{sleep_text}
+use Rattle.co_sleepq_text.specs.Ends.{EndsRun as EndsSleep}
 use Rattle.co_itimer_text.specs.Answers.{itimer_text}
 use Rattle.co_itimer_text.specs.Ends.{EndsRun as EndsItimer}
 use Rattle.co_gen.specs.Generator.{generated}
@@ -28,7 +30,7 @@ use Rattle.co_top.specs.declared.command.Command.TheVariants.{Read, Serve, Make}
 use Rattle.co_top.specs.declared.command.Reading.{Reading}
 use Rattle.co_top.specs.declared.command.Reading.TheVariants.{Steps, Check, Event}
 use Rattle.co_top.specs.declared.command.Serving.{Serving}
-use Rattle.co_top.specs.declared.command.Serving.TheVariants.{Run, Kq, Itimer}
+use Rattle.co_top.specs.declared.command.Serving.TheVariants.{Run, Kq, Sleep, Itimer}
 use Rattle.co_top.specs.declared.command.Making.{Making}
 use Rattle.co_top.specs.declared.command.Making.TheVariants.{Gen, Soak}
 use Rattle.co_top.specs.declared.status.Finish.{Finish}
@@ -117,12 +119,14 @@ pub record IsDone (meaning : Result (List ℕ) Refusal) (Ends : Type 0) (text : 
 abbrev pub Serves : Serving → List ℕ → ClosingView → List ℕ → Type 0
 Serves Run bytes closing text = IsScriptOf bytes (λ script. IsReportOfRun script closing text)
 Serves Kq bytes closing text = IsDone (kq_text bytes) (EndsKq bytes closing) text
+Serves Sleep bytes closing text = IsDone (sleep_text bytes) (EndsSleep bytes closing) text
 Serves Itimer bytes closing text = IsDone (itimer_text bytes) (EndsItimer bytes closing) text
 
 -- its text for one that it refuses
 abbrev pub Refuses : Serving → List ℕ → List ℕ → Type 0
 Refuses Run bytes text = IsRefused (script_of bytes) text
 Refuses Kq bytes text = IsRefused (kq_text bytes) text
+Refuses Sleep bytes text = IsRefused (sleep_text bytes) text
 Refuses Itimer bytes text = IsRefused (itimer_text bytes) text
 
 -- there is a closing exactly where it is done
@@ -140,6 +144,7 @@ limit_of Event = 16777216
 abbrev pub served_limit : Serving → ℕ
 served_limit Run = 67108864
 served_limit Kq = 16777216
+served_limit Sleep = 16777216
 served_limit Itimer = 16777216
 
 -- ---- `gen` and `soak`: the text of a seed
@@ -251,6 +256,7 @@ status_of Event bytes = text_status (event_text bytes)
 abbrev pub served_status : Serving → List ℕ → Status
 served_status Run bytes = script_status (script_of bytes)
 served_status Kq bytes = text_status (kq_text bytes)
+served_status Sleep bytes = text_status (sleep_text bytes)
 served_status Itimer bytes = text_status (itimer_text bytes)
 
 -- the statuses of a command that reads, where neither end has a fault

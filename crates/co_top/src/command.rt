@@ -23,6 +23,8 @@ pub enum Serving {
     Run,
     /// Reads calls on kevent timers and writes their answers.
     Kq,
+    /// Reads timed sleeps and wakeups and writes their answers.
+    Sleep,
     /// Reads calls on interval timers and writes their answers.
     Itimer,
 }
@@ -70,6 +72,8 @@ fn serving_of(word: &[u8]) -> Option<Serving>
         Some(Serving::Run)
     } else if word == b"kq".as_slice() {
         Some(Serving::Kq)
+    } else if word == b"sleep".as_slice() {
+        Some(Serving::Sleep)
     } else if word == b"itimer".as_slice() {
         Some(Serving::Itimer)
     } else {

@@ -12,6 +12,7 @@ use co_hand::Gate;
 use co_itimer_text::run_itimer;
 use co_kq_text::run_kq;
 use co_sbt::NoMemory;
+use co_sleepq_text::run_sleep;
 use co_text::ScriptFault;
 use std::alloc::Global;
 use std::sync::Wait;
@@ -22,6 +23,17 @@ fn kq<R: Wait>(rt: &R, alloc: Global, bytes: &[u8]) -> Result<Served, NoMemory>
     ensures { IfOk result (λ served. GivesServed servings.Kq bytes.now served.answer.status served.closing (concat served.answer.pieces)) }
 {
     match run_kq(rt, alloc, bytes) {
+        Ok((text, closing)) => Ok(Served::done(whole(alloc, text)?, closing)),
+        Err(ScriptFault::Bad { line, cause }) => Served::refused(alloc, line, cause),
+        Err(ScriptFault::NoMemory) => Err(NoMemory {}),
+    }
+}
+
+/// What `sleep` makes of these bytes.
+fn sleep<R: Wait>(rt: &R, alloc: Global, bytes: &[u8]) -> Result<Served, NoMemory>
+    ensures { IfOk result (λ served. GivesServed servings.Sleep bytes.now served.answer.status served.closing (concat served.answer.pieces)) }
+{
+    match run_sleep(rt, alloc, bytes) {
         Ok((text, closing)) => Ok(Served::done(whole(alloc, text)?, closing)),
         Err(ScriptFault::Bad { line, cause }) => Served::refused(alloc, line, cause),
         Err(ScriptFault::NoMemory) => Err(NoMemory {}),
@@ -52,6 +64,7 @@ pub(crate) fn serve<G: Gate + Sync, R: Threads + Wait + Sync>(
     match serving {
         Serving::Run => run(rt, alloc, bytes, gate),
         Serving::Kq => kq(rt, alloc, bytes),
+        Serving::Sleep => sleep(rt, alloc, bytes),
         Serving::Itimer => itimer(rt, alloc, bytes),
     }
 }

@@ -12,7 +12,7 @@ use std::alloc::Global;
 pub(crate) fn usage_text() -> &'static [u8]
     ensures { result.now ≡ usage_text }
 {
-    b"usage: callout steps | run | check | gen N | soak N | kq | itimer | event\n".as_slice()
+    b"usage: callout steps | run | check | gen N | soak N | kq | sleep | itimer | event\n".as_slice()
 }
 
 /// A cause as a word.

@@ -39,6 +39,7 @@ fn served_limit(serving: Serving) -> usize
     match serving {
         Serving::Run => 67_108_864,
         Serving::Kq => 16_777_216,
+        Serving::Sleep => 16_777_216,
         Serving::Itimer => 16_777_216,
     }
 }

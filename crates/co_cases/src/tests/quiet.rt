@@ -104,7 +104,7 @@ fn soak_is_answered(rt: HostRuntime) -> Result<(), Fail> {
 #[test]
 fn other_words_are_answered(rt: HostRuntime) -> Result<(), Fail> {
     let usage =
-        b"usage: callout steps | run | check | gen N | soak N | kq | itimer | event\n".as_slice();
+        b"usage: callout steps | run | check | gen N | soak N | kq | sleep | itimer | event\n".as_slice();
     is_answered(
         &rt,
         ["stop"].as_slice(),
@@ -137,6 +137,16 @@ fn kq_is_answered(rt: HostRuntime) -> Result<(), Fail> {
 }
 
 #[test]
+fn sleep_is_answered(rt: HostRuntime) -> Result<(), Fail> {
+    let text =
+        b"sleep 1\nsleepers 2\nsleep 0 7 1000\nsleep 1 7 0\nwakeup1 7\ntick 1\nawake 0\nawake 1\n\
+        wakeup 7\nawake 1\n"
+            .as_slice();
+    let wanted = b"began 0\nbegan 1\none 0\nticked 0 1\nwoken\nasleep\nwoke 1\nwoken\n".as_slice();
+    is_answered(&rt, ["sleep"].as_slice(), text, Status::Done, wanted)
+}
+
+#[test]
 fn itimer_is_answered(rt: HostRuntime) -> Result<(), Fail> {
     let text = b"itimer 1\nprocesses 1\nset 0 1 0\ntick 1\ntick 2\n".as_slice();
     let wanted = b"was u0 u0\nticked 1\nticked 0\n".as_slice();
@@ -149,6 +159,7 @@ fn calls_are_refused(rt: HostRuntime) -> Result<(), Fail> {
     let refusal = b"line 2: form\n".as_slice();
     for (word, text) in [
         ("kq", b"kq 1\nknots 2\n".as_slice()),
+        ("sleep", b"sleep 1\nsleep 0 7 1\n".as_slice()),
         ("itimer", b"itimer 1\nget 0\n".as_slice()),
     ] {
         is_answered(&rt, [word].as_slice(), text, Status::BadScript, refusal)?;

@@ -94,7 +94,7 @@ fn words_that_are_no_command(rt: HostRuntime) -> Result<(), Fail> {
         assert!(rt; outcome.status == Status::Usage);
         assert!(rt;
             outcome.held.as_slice()
-                == b"usage: callout steps | run | check | gen N | soak N | kq | itimer | event\n".as_slice()
+                == b"usage: callout steps | run | check | gen N | soak N | kq | sleep | itimer | event\n".as_slice()
         );
     }
     Ok(())
