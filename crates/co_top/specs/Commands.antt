@@ -63,7 +63,7 @@ abbrev pub makes : Option Making → Option Command
 makes None = None
 makes (Some making) = Some (Make making)
 
--- `steps`, `run`, `check`, `gen N`, `soak N`, `kq`, `itimer` and `event`
+-- `steps`, `run`, `check`, `gen N`, `soak N`, `kq`, `sleep`, `itimer` and `event`
 abbrev pub command_of : List Word → Option Command
 command_of (word ∷ []) = word_command word
 command_of (word ∷ n ∷ []) = makes (making_of word (seed_of n))

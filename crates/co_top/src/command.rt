@@ -118,8 +118,8 @@ fn making_of(word: &[u8], seed: Option<u64>) -> Option<Making>
     }
 }
 
-/// The command that the words are, if they are one: `steps`, `run`, `check`, `gen N`, `soak N`, `kq`, `itimer` or `event`. Our
-/// own decision.
+/// The command that the words are, if they are one: `steps`, `run`, `check`, `gen N`, `soak N`, `kq`, `sleep`,
+/// `itimer` or `event`. Our own decision.
 pub(crate) fn command_of(words: &[String]) -> Option<Command>
     ensures { result ≡ command_of (map string_bytes words.now) }
 {

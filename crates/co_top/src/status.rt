@@ -25,7 +25,7 @@ pub enum Status {
 }
 
 /// How a call of the program ends, with what is left of the service that its command worked on: a closing is there exactly where
-/// `run`, `kq` or `itimer` is done.
+/// `run`, `kq`, `sleep` or `itimer` is done.
 #[derive(Drop)]
 pub struct Finish {
     pub status: Status,

@@ -179,7 +179,7 @@ pub fn plain_main<S: Source, K: Sink>(
     }
 }
 
-/// Does what the words say, from a source to a sink, and tells how it ended: `run`, `kq` and `itimer` on a running
+/// Does what the words say, from a source to a sink, and tells how it ended: `run`, `kq`, `sleep` and `itimer` on a running
 /// service, `run` on threads of `rt`, and each other command as [`plain_main`] does.
 ///
 /// Of `run` the gate is called before each act of an actor. It may wait, for as long as the gate and the actors' calls of the service
