@@ -1,0 +1,5 @@
+pub mod Seen
+pub mod Alarms
+pub mod Acts
+pub mod Rest
+pub mod Laws

@@ -1,0 +1,136 @@
+//! A running service of one actor.
+ghost use Rattle.std.specs.Prelude.{◌≡◌, ◌<◌, ◌^◌, [], IfNone, IfOk, IfSome};
+ghost use Rattle.co_single.specs.Acts.{IsArmed, IsDisarmed, IsFired, IsIdle, IsNew, IsScanned};
+ghost use Rattle.co_single.specs.Alarms.{arg_in, count_of, made_at, waiting_of};
+
+use crate::SingleFresh;
+use co_object::{CallOp, PlainOp, Reply};
+use co_sbt::{NoMemory, Room, Sbt, Seq};
+use co_service::{Closing, Name, Passes, Service, Taken};
+use std::alloc::Global;
+use std::marker::Model;
+use std::sync::Wait;
+
+/// A running service and its one actor. Between two calls nothing is in service.
+///
+/// Contracts see what the actor has seen, which is all that happened. Its calls take no memory.
+#[derive(Drop)]
+pub struct Single<N: Name> {
+    service: Service<N>,
+    passes: Passes,
+    /// What the end needs.
+    ending: Room<Passes>,
+}
+
+impl<N: Name> Model for Single<N> {
+    ghost use Rattle.co_service.specs.Views.{PassesView};
+    ghost use Rattle.co_single.specs.Rest.{IsSingle};
+
+    ghost Value = { PassesView };
+
+    ghost view = { λ s. s.passes };
+
+    ghost invariant = { λ s. IsSingle N.name s.service s.passes s.ending };
+}
+
+/// A callout that fired, and its arming's argument.
+#[derive(Debug, Clone, Copy, PartialEq, Eq)]
+pub struct Fired {
+    pub i: u32,
+    pub arg: u64,
+}
+
+/// The argument with which a function is to run; 0 where none is.
+fn arg_of(reply: &Reply) -> u64
+    ensures { result ≡ arg_in reply.now }
+{
+    match *reply {
+        Reply::Go { arg, .. } => arg,
+        _ => 0,
+    }
+}
+
+impl<N: Name> Single<N> {
+    /// The running service.
+    pub fn open(alloc: Global, fresh: SingleFresh) -> Result<Single<N>, NoMemory>
+        requires { fresh.name ≡ N.name }
+        ensures { IfOk result (λ single. IsNew fresh.callouts single) }
+    {
+        let SingleFresh { fresh, passes } = fresh;
+        let service = Service::open(alloc, fresh)?;
+        let mut ending = Room::from_seq(Seq::new(alloc));
+        ending.reserve(1)?;
+        Ok(Single {
+            service,
+            passes,
+            ending,
+        })
+    }
+
+    /// Callout `i` is armed for this time, with this argument, in the place of any old arming. One that had come due and was
+    /// not served does not fire.
+    pub fn arm<R: Wait>(&mut self, rt: &R, act: u64, i: u32, due: Sbt, arg: u64)
+        requires callout { i < count_of self.old }
+        requires made { made_at self.old i < 2 ^ 62 }
+        ensures { IsArmed self.old i due arg self.new }
+    {
+        let op = CallOp::Plain(PlainOp::Reset {
+            due,
+            prec: Sbt::zero(),
+            func: 0,
+            arg,
+            cpu: None,
+        });
+        self.service.call(rt, &mut self.passes, act, i, &op, None);
+    }
+
+    /// Callout `i` is not armed any more. One that had come due and was not served does not fire.
+    pub fn disarm<R: Wait>(&mut self, rt: &R, act: u64, i: u32)
+        requires callout { i < count_of self.old }
+        ensures { IsDisarmed self.old i self.new }
+    {
+        let op = CallOp::Plain(PlainOp::Stop);
+        self.service.call(rt, &mut self.passes, act, i, &op, None);
+    }
+
+    /// The clock shows this time, or where it was later stays: what is due has come due. The answer is how many callouts these
+    /// are, none of which waited before.
+    pub fn scan<R: Wait>(&mut self, rt: &R, act: u64, now: Sbt) -> u32
+        requires served { waiting_of self.old ≡ [] }
+        ensures { IsScanned self.old now result self.new }
+    {
+        self.service.scan(rt, &mut self.passes, 0, act, now).count
+    }
+
+    /// The first callout that waits fires, and its service is over. None where nothing waits.
+    pub fn fire<R: Wait>(&mut self, rt: &R, act: u64) -> Option<Fired>
+        ensures none { IfNone result (IsIdle self.old self.new) }
+        ensures some { IfSome result (λ fired. IsFired self.old fired.i fired.arg self.new) }
+    {
+        match self.service.next(rt, &mut self.passes, 0, act, 0) {
+            Taken::Empty { .. } => None,
+            Taken::Took { i, reply, .. } => {
+                self.service.end(rt, &mut self.passes, 0, act);
+                Some(Fired {
+                    i,
+                    arg: arg_of(&reply),
+                })
+            }
+        }
+    }
+
+    /// Ends the service. The final histories are what the actor has seen.
+    pub fn close<R: Wait>(self, rt: &R) -> Closing
+        ensures name { result.name ≡ N.name }
+        ensures timers { result.timers ≡ self.timers }
+        ensures cpus { result.cpus ≡ self.cpus }
+    {
+        let Single {
+            service,
+            passes,
+            mut ending,
+        } = self;
+        ending.push(passes);
+        service.close(rt, ending.into_seq())
+    }
+}
