@@ -60,7 +60,7 @@ reply-is q t (Some x) = refl
 
 -- ---- a sleep is found though another has left
 
-found-at : (a b : ℕ) → (a == b) ≡ true → a ≡ b
+pub found-at : (a b : ℕ) → (a == b) ≡ true → a ≡ b
 found-at a b h = grind (arith, nat_tests)
 
 found-after : (s t : ℕ) (x : Sleep) (xs : List Sleep) (b : Bool) → (t ≡ s → ⊥) → (x.s == s) ≡ b → find (is_timed t) (without s xs) ≡ find (is_timed t) xs → find (is_timed t) (without s (x ∷ xs)) ≡ find (is_timed t) (x ∷ xs)
@@ -119,7 +119,7 @@ pub record AreAlike (a b : Sleepers × List SleepReply) : Type 0 where
   pub queue : a.0 ≡ b.0
   pub counts : (test : SleepReply → Bool) → count_by test a.1 ≡ count_by test b.1
 
-abbrev one_of : Bool → ℕ
+abbrev pub one_of : Bool → ℕ
 one_of b = if b then 1 else 0
 
 count-first : (test : SleepReply → Bool) (r : SleepReply) (rs : List SleepReply) → count_by test (r ∷ rs) ≡ one_of (test r) + count_by test rs
@@ -154,12 +154,11 @@ swapped q s t xs non = record {
 }
 
 -- a list without the first s
-less : ℕ → List ℕ → List ℕ
+abbrev pub less : ℕ → List ℕ → List ℕ
 less s [] = []
 less s (y ∷ ys) = if y == s then ys else y ∷ less s ys
 
-times-less : (k s : ℕ) (ys : List ℕ) → 0 < times_in s ys → times_in k ys ≡ one_of (s == k) + times_in k (less s ys)
-unfolding less
+pub times-less : (k s : ℕ) (ys : List ℕ) → 0 < times_in s ys → times_in k ys ≡ one_of (s == k) + times_in k (less s ys)
 times-less k s [] h = absurd (omega (arith, h))
 times-less k s (y ∷ ys) h = go (y == s) refl (times-less k s ys) where
   go : (b : Bool) → (y == s) ≡ b → (0 < times_in s ys → times_in k ys ≡ one_of (s == k) + times_in k (less s ys)) → one_of (y == k) + times_in k ys ≡ one_of (s == k) + times_in k (if b then ys else y ∷ less s ys)
@@ -171,7 +170,6 @@ times-less k s (y ∷ ys) h = go (y == s) refl (times-less k s ys) where
 
 -- a timeout of the list may come first
 to-front : (s : ℕ) (ys : List ℕ) (q : Sleepers) → 0 < times_in s ys → AreAlike (time_outs q ys) (time_outs q (s ∷ less s ys))
-unfolding less
 to-front s [] q h = absurd (omega (arith, h))
 to-front s (y ∷ ys) q h = go (y == s) refl (to-front s ys (after q y)) where
   go : (b : Bool) → (y == s) ≡ b → (0 < times_in s ys → AreAlike (time_outs (after q y) ys) (time_outs (after q y) (s ∷ less s ys))) → AreAlike (time_outs q (y ∷ ys)) (time_outs q (s ∷ (if b then ys else y ∷ less s ys)))
@@ -181,7 +179,7 @@ to-front s (y ∷ ys) q h = go (y == s) refl (to-front s ys (after q y)) where
       let differ : s ≡ y → ⊥ = λ (is : s ≡ y). absurd (grind (arith, nat_tests)) in
       alike-trans _ _ _ (alike-more q y ys (s ∷ less s ys) (more (omega (arith, g, h)))) (swapped q y s (less s ys) differ)
 
-times-head : (s : ℕ) (ys : List ℕ) → 0 < times_in s (s ∷ ys)
+pub times-head : (s : ℕ) (ys : List ℕ) → 0 < times_in s (s ∷ ys)
 times-head s ys = (let e : (s == s) ≡ true = grind (arith, nat_tests) in let g : one_of (s == s) ≡ 1 = ap one_of e in omega (arith, g))
 
 -- two lists in which each number stands equally often
