@@ -22,7 +22,7 @@ pub times-apart : (w i : ℕ) (ws : List ℕ) → i ≢ w → times_in i (w ∷ 
 times-apart w i ws non = (let e : (w == i) ≡ false = grind (arith, nat_tests) in let g : one_of (w == i) ≡ 0 = ap one_of e in omega (arith, g))
 
 -- a list of which two functions say the same
-map-same : (f g : ℕ → ℕ) (ws : List ℕ) → ((i : ℕ) → 0 < times_in i ws → f i ≡ g i) → map f ws ≡ map g ws
+pub map-same : (f g : ℕ → ℕ) (ws : List ℕ) → ((i : ℕ) → 0 < times_in i ws → f i ≡ g i) → map f ws ≡ map g ws
 map-same f g [] h = refl
 map-same f g (w ∷ ws) h =
     ap (λ (a : ℕ). a ∷ map f ws) (h w (times-head w ws))
@@ -72,11 +72,11 @@ pub record IsServed (p : PassesView) (args ws : List ℕ) (q : PassesView) : Typ
   pub many : length args ≡ length ws
   pub args_are : ((i : ℕ) → times_in i ws ≤ 1) → args ≡ map (arg_at p) ws
 
-data Is (a b : ℕ) : Type 0 where
+pub data Is (a b : ℕ) : Type 0 where
   same : a ≡ b → Is a b
   apart : a ≢ b → Is a b
 
-which : (a b : ℕ) → Is a b
+pub which : (a b : ℕ) → Is a b
 which a b = go (a == b) refl where
   go : (c : Bool) → (a == b) ≡ c → Is a b
   go true e = same (found-at a b e)
