@@ -1,3 +1,4 @@
 pub mod Commands
 pub mod Clock
 pub mod Answers
+pub mod Ends
