@@ -1,5 +1,5 @@
 -- What the calls of a sleep queue with one actor leave of its timers and of its book.
-use Rattle.std.proofs.Common.{◌≡◌, ℕ, ◌<◌, ◌^◌, false, List, [], ◌∷◌, map, refl, sym, ap, ◌∙◌, subst}
+use Rattle.std.proofs.Common.{◌≡◌, ℕ, ◌<◌, ◌^◌, List, [], ◌∷◌, sym, ap, ◌∙◌, subst}
 use Rattle.std.specs.declared.option.Option.TheVariants.{None}
 use Rattle.co_object.specs.declared.note.Note.{Note}
 use Rattle.co_object.specs.declared.op.CallOp.TheVariants.{Plain}
@@ -19,13 +19,11 @@ use Rattle.co_single.proofs.Arming.{is_armed_now, rests_armed, is_disarmed_now, 
 use Rattle.co_single.proofs.Firing.{is_fired_now, is_idle_now, rests_fired, rests_idle}
 use Rattle.co_single.proofs.Scanning.{is_scanned_now, rests_scanned}
 use Rattle.co_single.proofs.Told.{written_is, one_is, two_are}
-use Rattle.co_sleepq.specs.declared.op.SleepOp.{SleepOp}
 use Rattle.co_sleepq.specs.declared.op.SleepOp.TheVariants.{Timeout}
 use Rattle.co_sleepq.specs.declared.reply.SleepReply.{SleepReply}
 use Rattle.co_sleepq.specs.Sleepers.{Sleepers}
 use Rattle.co_sleepq.specs.Queue.{step}
 use Rattle.co_sleepq.specs.History.{state}
-use Rattle.co_sleepq.specs.Shared.{Tells}
 use Rattle.co_sleepq.specs.Ticks.{AreFired, IsOver}
 use Rattle.co_sleepq.specs.Ticks as ticks
 use Rattle.co_sleepq.specs.Views.{SleepPassesView}
@@ -42,21 +40,24 @@ pub record IsQuiet (n : ℕ) (p : PassesView) : Type 0 where
 module _ (n : ℕ) (p q : PassesView) (quiet : IsQuiet n p) (act : ℕ) where
   pub arms : (i due arg : ℕ) (reply : Reply) (notes : List Note) → i < count_of p → made_at p i < 2 ^ 62 → IsCalled p act i (Plain (Reset due 0 0 arg None)) reply notes q → IsArmed p i due arg q × IsQuiet n q
   arms i due arg reply notes low fresh called =
-      let written = written_is n p q notes _ quiet.single called.group_is called.written in
-      (is_armed_now n p q quiet.single written.1 quiet.rest i act called.time low due _ arg fresh reply written.0,
-      record { single = written.1; rest = rests_armed n p q quiet.single written.1 quiet.rest i act called.time low due _ arg fresh reply written.0 })
+      let written = written_is n p q notes _ quiet.single called.group_is called.written in (
+        is_armed_now n p q quiet.single written.1 quiet.rest i act called.time low due _ arg fresh reply written.0,
+        record { single = written.1; rest = rests_armed n p q quiet.single written.1 quiet.rest i act called.time low due _ arg fresh reply written.0 },
+      )
 
   pub disarms : (i : ℕ) (reply : Reply) (notes : List Note) → i < count_of p → IsCalled p act i (Plain Stop) reply notes q → IsDisarmed p i q × IsQuiet n q
   disarms i reply notes low called =
-      let written = written_is n p q notes _ quiet.single called.group_is called.written in
-      (is_disarmed_now n p q quiet.single written.1 quiet.rest i act called.time low reply written.0,
-      record { single = written.1; rest = rests_disarmed n p q quiet.single written.1 quiet.rest i act called.time low reply written.0 })
+      let written = written_is n p q notes _ quiet.single called.group_is called.written in (
+        is_disarmed_now n p q quiet.single written.1 quiet.rest i act called.time low reply written.0,
+        record { single = written.1; rest = rests_disarmed n p q quiet.single written.1 quiet.rest i act called.time low reply written.0 },
+      )
 
   pub scans : (now : ℕ) (out : Scanned) → waiting_of p ≡ [] → IsScan p 0 act now out q → IsScanned p now out.count q × IsQuiet n q
   scans now out served scanned =
-      let written = written_is n p q (out.note ∷ []) (scan_entries p act now out.count) quiet.single (one_is out.note _ _ scanned.note.place scanned.note.entry) scanned.written in
-      (is_scanned_now n p q quiet.single written.1 quiet.rest act now out.count written.0 served,
-      record { single = written.1; rest = rests_scanned n p q quiet.single written.1 quiet.rest act now out.count written.0 served })
+      let written = written_is n p q (out.note ∷ []) (scan_entries p act now out.count) quiet.single (one_is out.note _ _ scanned.note.place scanned.note.entry) scanned.written in (
+        is_scanned_now n p q quiet.single written.1 quiet.rest act now out.count written.0 served,
+        record { single = written.1; rest = rests_scanned n p q quiet.single written.1 quiet.rest act now out.count written.0 served },
+      )
 
 -- ---- one timer
 
@@ -91,9 +92,10 @@ fires n p act s reply q quiet f =
 pub idles : (n : ℕ) (p : SleepPassesView) (act : ℕ) (q : SleepPassesView) → IsQuiet n p.service → IsOver p act q → IsIdle p.service q.service × IsQuiet n q.service
 idles n p act q quiet o =
     let taken = o.nothing in
-    let written = written_is n p.service q.service (o.note ∷ []) (none_entries p.service act) quiet.single (one_is o.note _ _ taken.popped.place taken.popped.entry) taken.written in
-    (is_idle_now n p.service q.service quiet.single written.1 quiet.rest act written.0,
-    record { single = written.1; rest = rests_idle n p.service q.service quiet.single written.1 quiet.rest act written.0 })
+    let written = written_is n p.service q.service (o.note ∷ []) (none_entries p.service act) quiet.single (one_is o.note _ _ taken.popped.place taken.popped.entry) taken.written in (
+      is_idle_now n p.service q.service quiet.single written.1 quiet.rest act written.0,
+      record { single = written.1; rest = rests_idle n p.service q.service quiet.single written.1 quiet.rest act written.0 },
+    )
 
 -- ---- all timers of a tick
 
@@ -110,6 +112,8 @@ pub book_after : (n act : ℕ) (fs : List (ℕ × SleepReply)) (p q : SleepPasse
 book_after n act [] p q quiet is = (ap (λ (v : SleepPassesView). (state v.seen, [])) (sym is), subst (λ (v : SleepPassesView). IsQuiet n v.service) (sym is) quiet)
 book_after n act (f ∷ fs) p q quiet is =
     let one = fires n p act f.0 f.1 is.0 quiet is.1 in
-    let rest = book_after n act fs is.0 q one.quiet is.2 in
-    (ap (λ (m : Sleepers × SleepReply). ((time_outs m.0 (numbers fs)).0, m.1 ∷ (time_outs m.0 (numbers fs)).1)) one.book
-    ∙ ap (λ (m : Sleepers × List SleepReply). (m.0, f.1 ∷ m.1)) rest.0, rest.1)
+    let rest = book_after n act fs is.0 q one.quiet is.2 in (
+      ap (λ (m : Sleepers × SleepReply). ((time_outs m.0 (numbers fs)).0, m.1 ∷ (time_outs m.0 (numbers fs)).1)) one.book
+          ∙ ap (λ (m : Sleepers × List SleepReply). (m.0, f.1 ∷ m.1)) rest.0,
+      rest.1,
+    )

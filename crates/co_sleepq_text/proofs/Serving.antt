@@ -1,5 +1,5 @@
 -- The timers that a tick serves: what is left of them, and with which arguments their functions were called.
-use Rattle.std.proofs.Common.{◌≡◌, ◌≢◌, ℕ, zero, suc, ◌+◌, ◌<◌, ◌≤◌, ◌==◌, Bool, true, false, List, [], ◌∷◌, ◌++◌, length, map, refl, sym, ap, ◌∙◌, subst, arith}
+use Rattle.std.proofs.Common.{◌≡◌, ◌≢◌, ℕ, zero, suc, ◌+◌, ◌<◌, ◌≤◌, ◌==◌, Bool, true, false, List, [], ◌∷◌, ◌++◌, length, map, refl, sym, ap, ◌∙◌, arith}
 use Rattle.std.specs.Prelude.{if◌then◌else◌}
 use Rattle.std.specs.declared.option.Option.{Option}
 use Rattle.std.specs.declared.option.Option.TheVariants.{Some, None}
@@ -107,31 +107,35 @@ serves n act (f ∷ fs) p q quiet is =
     let r = rest.1 in
     let b = is.0.service in
     let counted = each_counted p.service w f.0 b one.fired in
-    let unlike : (i : ℕ) → times_in i (w ∷ ws) ≡ 0 → i ≢ w = λ i h e. absurd (let t = times-here w i ws (sym e) in omega (arith, t, h)) in
-    (w ∷ ws, record {
-      waiting = one.fired.waiting ∙ ap (λ (l : List ℕ). w ∷ l) r.waiting;
-      stay = λ i h. r.stay i (omega (arith, h)) ∙ one.fired.others.alarms i (unlike i h);
-      gone = λ i h. gone-by w i ws b p.service q.service one.fired.alarm r (which i w) h;
-      made = λ i. made-by i w (made_at q.service) (made_at b) (made_at p.service) r.made one.fired.made one.fired.others.made (which i w);
-      count = r.count ∙ one.fired.others.count;
-      scans = r.scans ∙ one.fired.time.scans;
-      clock = r.clock ∙ one.fired.time.clock;
-      gos = (let g = r.gos in omega (arith, g, counted));
-      many = (let m = r.many in omega (arith, m));
-      args_are = λ once.
-        let alone : times_in w ws ≡ 0 = (let o = once w in let t = times-here w w ws refl in omega (arith, o, t)) in
-        let others : (i : ℕ) → times_in i ws ≤ 1 = λ i. (let o = once i in omega (arith, o)) in
-        let head : f.0 ≡ arg_at p.service w = sym (ap arg_of one.fired.before ∙ one.fired.arg_is) in
-        let far : (i : ℕ) → 0 < times_in i ws → i ≢ w = λ i h e. absurd (let t = ap (λ (j : ℕ). times_in j ws) e in omega (arith, t, h, alone)) in
-        let tail : numbers fs ≡ map (arg_at p.service) ws = r.args_are others ∙ map-same (arg_at b) (arg_at p.service) ws (λ i h. ap arg_of (one.fired.others.alarms i (far i h))) in
-        ap (λ (a : ℕ). a ∷ numbers fs) head ∙ ap (λ (l : List ℕ). arg_at p.service w ∷ l) tail;
-    }) where
-  made-by : (i w : ℕ) (after between before : ℕ → ℕ) → ((j : ℕ) → after j ≡ between j) → between w ≡ before w → ((j : ℕ) → j ≢ w → between j ≡ before j) → Is i w → after i ≡ before i
-  made-by i w after between before last here others (same e) = last i ∙ (ap between e ∙ (here ∙ ap before (sym e)))
-  made-by i w after between before last here others (apart non) = last i ∙ others i non
-  past : (n i : ℕ) (ws : List ℕ) (b z : PassesView) (args : List ℕ) → IsServed b args ws z → alarm_at b i ≡ None → times_in i ws ≡ n → alarm_at z i ≡ None
-  past zero i ws b z args r none t = r.stay i t ∙ none
-  past (suc n) i ws b z args r none t = r.gone i (omega (arith, t))
-  gone-by : (w i : ℕ) (ws : List ℕ) (b p z : PassesView) → alarm_at b w ≡ None → IsServed b (numbers fs) ws z → Is i w → 0 < times_in i (w ∷ ws) → alarm_at z i ≡ None
-  gone-by w i ws b p z none r (same e) h = past (times_in i ws) i ws b z (numbers fs) r (ap (alarm_at b) e ∙ none) refl
-  gone-by w i ws b p z none r (apart non) h = r.gone i (let t = times-apart w i ws non in omega (arith, t, h))
+    let unlike : (i : ℕ) → times_in i (w ∷ ws) ≡ 0 → i ≢ w = λ i h e. absurd (let t = times-here w i ws (sym e) in omega (arith, t, h)) in (
+      w ∷ ws,
+      record {
+        waiting = one.fired.waiting ∙ ap (λ (l : List ℕ). w ∷ l) r.waiting;
+        stay = λ i h. r.stay i (omega (arith, h)) ∙ one.fired.others.alarms i (unlike i h);
+        gone = λ i h. gone-by w i ws b p.service q.service one.fired.alarm r (which i w) h;
+        made = λ i. made-by i w (made_at q.service) (made_at b) (made_at p.service) r.made one.fired.made one.fired.others.made (which i w);
+        count = r.count ∙ one.fired.others.count;
+        scans = r.scans ∙ one.fired.time.scans;
+        clock = r.clock ∙ one.fired.time.clock;
+        gos = (let g = r.gos in omega (arith, g, counted));
+        many = (let m = r.many in omega (arith, m));
+        args_are = λ once.
+            let alone : times_in w ws ≡ 0 = (let o = once w in let t = times-here w w ws refl in omega (arith, o, t)) in
+            let others : (i : ℕ) → times_in i ws ≤ 1 = λ i. (let o = once i in omega (arith, o)) in
+            let head : f.0 ≡ arg_at p.service w = sym (ap arg_of one.fired.before ∙ one.fired.arg_is) in
+            let far : (i : ℕ) → 0 < times_in i ws → i ≢ w = λ i h e. absurd (let t = ap (λ (j : ℕ). times_in j ws) e in omega (arith, t, h, alone)) in
+            let tail : numbers fs ≡ map (arg_at p.service) ws = r.args_are others ∙ map-same (arg_at b) (arg_at p.service) ws (λ i h. ap arg_of (one.fired.others.alarms i (far i h))) in
+            ap (λ (a : ℕ). a ∷ numbers fs) head ∙ ap (λ (l : List ℕ). arg_at p.service w ∷ l) tail;
+      },
+    ) where
+      made-by : (i w : ℕ) (after between before : ℕ → ℕ) → ((j : ℕ) → after j ≡ between j) → between w ≡ before w → ((j : ℕ) → j ≢ w → between j ≡ before j) → Is i w → after i ≡ before i
+      made-by i w after between before last here others (same e) = last i ∙ (ap between e ∙ (here ∙ ap before (sym e)))
+      made-by i w after between before last here others (apart non) = last i ∙ others i non
+
+      past : (n i : ℕ) (ws : List ℕ) (b z : PassesView) (args : List ℕ) → IsServed b args ws z → alarm_at b i ≡ None → times_in i ws ≡ n → alarm_at z i ≡ None
+      past zero i ws b z args r none t = r.stay i t ∙ none
+      past (suc n) i ws b z args r none t = r.gone i (omega (arith, t))
+
+      gone-by : (w i : ℕ) (ws : List ℕ) (b p z : PassesView) → alarm_at b w ≡ None → IsServed b (numbers fs) ws z → Is i w → 0 < times_in i (w ∷ ws) → alarm_at z i ≡ None
+      gone-by w i ws b p z none r (same e) h = past (times_in i ws) i ws b z (numbers fs) r (ap (alarm_at b) e ∙ none) refl
+      gone-by w i ws b p z none r (apart non) h = r.gone i (let t = times-apart w i ws non in omega (arith, t, h))

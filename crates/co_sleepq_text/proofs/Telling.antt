@@ -1,5 +1,5 @@
 -- A wakeup leaves what the sleep queue with a clock leaves, and is answered as it.
-use Rattle.std.proofs.Common.{◌≡◌, ℕ, refl, sym, ap, ◌∙◌, subst}
+use Rattle.std.proofs.Common.{◌≡◌, ℕ, sym, ap, ◌∙◌, subst}
 use Rattle.co_service.specs.Views.{PassesView}
 use Rattle.co_single.specs.Alarms.{alarm_at, clock_of, waiting_of}
 use Rattle.co_sleepq.specs.declared.op.SleepOp.{SleepOp}
@@ -29,14 +29,17 @@ module _ (n : ℕ) (c : Clocked) (o : SleepOp) (r : SleepReply) (p q : SleepPass
   book_told =
       let one = alone p q o r m.quiet.single.actor t in
       let out : step c.queue o ≡ (state q.seen, r) = ap (λ (s : Sleepers). step s o) (sym m.queue) ∙ one.outcome in
-      let stays : q.service ≡ p.service = ap (λ (v : SleepPassesView). v.service) t.rest in
-      (record {
-        quiet = subst (IsQuiet n) (sym stays) m.quiet;
-        none = ap waiting_of stays ∙ m.none;
-        queue = sym (ap (λ (x : Sleepers × SleepReply). x.0) out);
-        clock = ap clock_of stays ∙ m.clock;
-        alarms = λ i. ap (λ (v : PassesView). alarm_at v i) stays ∙ m.alarms i;
-      }, sym (ap (λ (x : Sleepers × SleepReply). x.1) out), stays)
+      let stays : q.service ≡ p.service = ap (λ (v : SleepPassesView). v.service) t.rest in (
+        record {
+          quiet = subst (IsQuiet n) (sym stays) m.quiet;
+          none = ap waiting_of stays ∙ m.none;
+          queue = sym (ap (λ (x : Sleepers × SleepReply). x.0) out);
+          clock = ap clock_of stays ∙ m.clock;
+          alarms = λ i. ap (λ (v : PassesView). alarm_at v i) stays ∙ m.alarms i;
+        },
+        sym (ap (λ (x : Sleepers × SleepReply). x.1) out),
+        stays,
+      )
 
 pub wakeup_done : (n : ℕ) (c : Clocked) (chan : ℕ) (r : SleepReply) (p q : SleepPassesView) → IsMatched n c p → Tells 1 p (op.Wakeup chan) r q → IsTold n c (Wakeup chan) r p q
 wakeup_done n c chan r p q m t = let b = book_told n c (op.Wakeup chan) r p q m t in record { matched = b.0; answer = ap Told b.1; service = b.2 }

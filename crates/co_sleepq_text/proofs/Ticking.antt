@@ -1,5 +1,5 @@
 -- A tick leaves what the sleep queue with a clock leaves, and is answered as it.
-use Rattle.std.proofs.Common.{◌≡◌, ◌≢◌, ℕ, zero, suc, ◌+◌, ◌<◌, ◌≤◌, ◌==◌, ◌&&◌, Bool, true, false, List, [], ◌∷◌, ◌++◌, length, map, max, refl, sym, ap, ◌∙◌, subst, arith, append-nil}
+use Rattle.std.proofs.Common.{◌≡◌, ◌≢◌, ℕ, zero, suc, ◌+◌, ◌<◌, ◌≤◌, ◌==◌, ◌&&◌, Bool, true, false, List, [], ◌∷◌, length, map, refl, sym, ap, ◌∙◌, subst, arith}
 use Rattle.std.specs.Prelude.{if◌then◌else◌, nat_le}
 use Rattle.std.specs.List.{cons_option, count_by, filter_map, find, range_with_len}
 use Rattle.std.specs.declared.option.Option.{Option}
@@ -8,21 +8,18 @@ use Rattle.std.proofs.lemmas.Bool.Decides.{nat_tests}
 use Rattle.std.proofs.lemmas.List.Sums.{sum_by-cons}
 use Rattle.co_single.specs.Alarms.{alarm_at, all_gos, clock_of, count_of, due_once, made_at, scans_of, times_in, waiting_of}
 use Rattle.co_single.specs.Alarms as single
-use Rattle.co_single.proofs.LawsHold.{none_counted, none_past}
-use Rattle.co_sleepq.specs.declared.outs.Ticked.{Ticked}
 use Rattle.co_sleepq.specs.declared.op.SleepOp.TheVariants as op
 use Rattle.co_sleepq.specs.declared.reply.SleepReply.{SleepReply}
 use Rattle.co_sleepq.specs.declared.sleep.Sleep.{Sleep}
 use Rattle.co_sleepq.specs.Sleepers.{Sleepers}
 use Rattle.co_sleepq.specs.Queue.{step, time_out}
 use Rattle.co_sleepq.specs.History.{state}
-use Rattle.co_sleepq.specs.Ticks.{IsTicked, is_late, is_out}
+use Rattle.co_sleepq.specs.Ticks.{is_late, is_out}
 use Rattle.co_sleepq.specs.Views.{SleepPassesView}
-use Rattle.co_sleepq_text.specs.Clock.{Alarm, Answer, Clocked, due_in, left_in, tick, time_outs}
-use Rattle.co_sleepq_text.specs.Clock as clock
-use Rattle.co_sleepq_text.proofs.Played.{IsQuiet, book_after, idles, numbers, replies, scans}
-use Rattle.co_sleepq_text.proofs.Serving.{Is, apart, same, arg_at, arg_of, map-alike, map-same, serves, times-apart, times-here, which}
-use Rattle.co_sleepq_text.proofs.Timeouts.{any-order, one_of}
+use Rattle.co_sleepq_text.specs.Clock.{Alarm, Clocked, due_in, left_in, time_outs}
+use Rattle.co_sleepq_text.proofs.Played.{IsQuiet, replies}
+use Rattle.co_sleepq_text.proofs.Serving.{Is, apart, same, arg_of, times-apart, times-here, which}
+use Rattle.co_sleepq_text.proofs.Timeouts.{one_of}
 
 -- a sleeper's timer as the service keeps it
 abbrev pub as_alarm : Option Alarm → Option single.Alarm

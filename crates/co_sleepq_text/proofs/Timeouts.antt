@@ -99,7 +99,6 @@ after q s = (step q (op.Timeout s)).0
 abbrev pub reply : Sleepers → ℕ → SleepReply
 reply q s = (step q (op.Timeout s)).1
 
-
 after-both : (q : Sleepers) (s t : ℕ) → (t ≡ s → ⊥) → step (after q s) (op.Timeout t) ≡ time_out (time_out q (find (is_timed s) q.sleeps)).0 (find (is_timed t) q.sleeps)
 after-both q s t non = ap (λ (o : Option Sleep). time_out (time_out q (find (is_timed s) q.sleeps)).0 o) (timed-after q s t (find (is_timed s) q.sleeps) non refl)
 
@@ -145,12 +144,12 @@ swapped : (q : Sleepers) (s t : ℕ) (xs : List ℕ) → (t ≡ s → ⊥) → A
 swapped q s t xs non = record {
   queue = ap (λ (m : Sleepers). (time_outs m xs).0) (either-first q s t non);
   counts = λ test.
-    let here = count-two test (reply q s) (reply (after q s) t) (time_outs (after (after q s) t) xs).1 in
-    let there = count-two test (reply q t) (reply (after q t) s) (time_outs (after (after q t) s) xs).1 in
-    let rest = ap (λ (m : Sleepers). count_by test (time_outs m xs).1) (either-first q s t non) in
-    let second = ap (λ (r : SleepReply). one_of (test r)) (reply-stays q s t non) in
-    let first = ap (λ (r : SleepReply). one_of (test r)) (reply-stays q t s (λ e. non (sym e))) in
-    omega (arith, here, there, rest, first, second);
+      let here = count-two test (reply q s) (reply (after q s) t) (time_outs (after (after q s) t) xs).1 in
+      let there = count-two test (reply q t) (reply (after q t) s) (time_outs (after (after q t) s) xs).1 in
+      let rest = ap (λ (m : Sleepers). count_by test (time_outs m xs).1) (either-first q s t non) in
+      let second = ap (λ (r : SleepReply). one_of (test r)) (reply-stays q s t non) in
+      let first = ap (λ (r : SleepReply). one_of (test r)) (reply-stays q t s (λ e. non (sym e))) in
+      omega (arith, here, there, rest, first, second);
 }
 
 -- a list without the first s

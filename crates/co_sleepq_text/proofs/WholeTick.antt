@@ -1,7 +1,7 @@
 -- A whole tick.
-use Rattle.std.proofs.Common.{◌≡◌, ℕ, ◌+◌, ◌<◌, ◌≤◌, Bool, List, [], ◌∷◌, ◌++◌, length, map, max, refl, sym, ap, ◌∙◌, subst, arith, append-nil}
+use Rattle.std.proofs.Common.{◌≡◌, ℕ, ◌+◌, ◌≤◌, Bool, List, [], ◌∷◌, ◌++◌, map, max, sym, ap, ◌∙◌, arith, append-nil}
 use Rattle.std.specs.List.{count_by, filter_map, range_with_len}
-use Rattle.co_single.specs.Alarms.{alarm_at, all_gos, clock_of, count_of, due_once, made_at, scans_of, times_in, waiting_of}
+use Rattle.co_single.specs.Alarms.{alarm_at, all_gos, clock_of, due_once, made_at, scans_of, times_in, waiting_of}
 use Rattle.co_single.proofs.LawsHold.{none_counted, none_past}
 use Rattle.co_sleepq.specs.declared.outs.Ticked.{Ticked}
 use Rattle.co_sleepq.specs.declared.reply.SleepReply.{SleepReply}
@@ -40,19 +40,19 @@ module _ (n : ℕ) (c : Clocked) (act time : ℕ) (out : Ticked) (p q : SleepPas
       let wait : waiting_of k.scanned ≡ ws = r.waiting ∙ (ap (λ (l : List ℕ). ws ++ l) over.0.nothing ∙ append-nil ws) in
       let at : clock_of k.scanned ≡ now = scan.0.clock ∙ ap (λ (x : ℕ). max x time) m.clock in
       let often : (i : ℕ) → times_in i ws ≡ due_once (as_alarm (c.alarms i)) now = λ i.
-          ap (times_in i) (sym wait) ∙ (scan.0.waiting i ∙ (ap (λ a. due_once a (clock_of k.scanned)) (m.alarms i) ∙ ap (due_once (as_alarm (c.alarms i))) at)) in
+      ap (times_in i) (sym wait) ∙ (scan.0.waiting i ∙ (ap (λ a. due_once a (clock_of k.scanned)) (m.alarms i) ∙ ap (due_once (as_alarm (c.alarms i))) at)) in
       let once : (i : ℕ) → times_in i ws ≤ 1 = λ i. (let o = often i in let d = due-most (as_alarm (c.alarms i)) now in omega (arith, o, d)) in
       let alarms : (i : ℕ) → alarm_at k.scanned i ≡ as_alarm (c.alarms i) = λ i. scan.0.callouts.alarms i ∙ m.alarms i in
       let args : numbers k.fired ≡ map (λ i. arg_of (as_alarm (c.alarms i))) ws = r.args_are once ∙ map-same (arg_at k.scanned) (λ i. arg_of (as_alarm (c.alarms i))) ws (λ i h. ap arg_of (alarms i)) in
       let past : (j : ℕ) → 0 + n ≤ j → due_once (as_alarm (c.alarms j)) now ≡ 0 = λ j h.
-          ap (λ a. due_once a now) (sym (m.alarms j) ∙ none_past p.service j (let s = m.quiet.single.timers in omega (arith, s, h))) in
+      ap (λ a. due_once a now) (sym (m.alarms j) ∙ none_past p.service j (let s = m.quiet.single.timers in omega (arith, s, h))) in
       let due : List ℕ = filter_map (λ i. due_in (c.alarms i) now) (range_with_len 0 n) in
       let order : (x : ℕ) → times_in x (numbers k.fired) ≡ times_in x due = λ x.
-          ap (times_in x) args ∙ (map-alike (λ i. arg_of (as_alarm (c.alarms i))) ws (dues c.alarms now (range_with_len 0 n)) (λ i. often i ∙ sym (dues-once c.alarms now n 0 i past (omega arith))) x ∙ ap (times_in x) (sym (dues-map c.alarms now (range_with_len 0 n)))) in
+      ap (times_in x) args ∙ (map-alike (λ i. arg_of (as_alarm (c.alarms i))) ws (dues c.alarms now (range_with_len 0 n)) (λ i. often i ∙ sym (dues-once c.alarms now n 0 i past (omega arith))) x ∙ ap (times_in x) (sym (dues-map c.alarms now (range_with_len 0 n)))) in
       let alike = any-order (numbers k.fired) due c.queue order in
       let told : time_outs c.queue (numbers k.fired) ≡ (state t.last.seen, replies k.fired) = ap (λ (s : Sleepers). time_outs s (numbers k.fired)) (sym m.queue) ∙ book.0 in
       let counted : (test : SleepReply → Bool) → count_by (λ f. test f.1) k.fired ≡ count_by test (time_outs c.queue due).1 = λ test.
-          count-replies test k.fired ∙ (ap (λ (x : Sleepers × List SleepReply). count_by test x.1) (sym told) ∙ alike.counts test) in
+      count-replies test k.fired ∙ (ap (λ (x : Sleepers × List SleepReply). count_by test x.1) (sym told) ∙ alike.counts test) in
       let outs : out.out ≡ count_by is_out (time_outs c.queue due).1 = k.counts.out_is ∙ counted is_out in
       let lates : out.late ≡ count_by is_late (time_outs c.queue due).1 = k.counts.late_is ∙ counted is_late in
       let sum = all-counted (numbers k.fired) c.queue in
