@@ -13,7 +13,6 @@ use Rattle.co_service.specs.Views.{PassesView}
 use Rattle.co_single.specs.Acts.{IsArmed, IsDisarmed, IsScanned, IsIdle}
 use Rattle.co_single.specs.Acts as acts
 use Rattle.co_single.specs.Alarms.{count_of, made_at, waiting_of}
-use Rattle.co_single.specs.Rest.{IsAtRest}
 use Rattle.co_single.specs.Seen.{AreSingle, none_entries, scan_entries, taken_entries}
 use Rattle.co_single.proofs.Arming.{is_armed_now, rests_armed, is_disarmed_now, rests_disarmed}
 use Rattle.co_single.proofs.Firing.{is_fired_now, is_idle_now, rests_fired, rests_idle}
@@ -29,11 +28,7 @@ use Rattle.co_sleepq.specs.Ticks as ticks
 use Rattle.co_sleepq.specs.Views.{SleepPassesView}
 use Rattle.co_sleepq.proofs.Alone.{alone}
 use Rattle.co_sleepq_text.specs.Clock.{time_outs}
-
--- the passes of the one actor of a service of so many timers, between two calls
-pub record IsQuiet (n : ℕ) (p : PassesView) : Type 0 where
-  pub single : AreSingle n p
-  pub rest : IsAtRest p
+use Rattle.co_sleepq_text.specs.Matching.{IsQuiet}
 
 -- ---- the service
 

@@ -10,7 +10,8 @@ use Rattle.co_single.proofs.LawsHold.{each_counted}
 use Rattle.co_sleepq.specs.declared.reply.SleepReply.{SleepReply}
 use Rattle.co_sleepq.specs.Ticks.{AreFired}
 use Rattle.co_sleepq.specs.Views.{SleepPassesView}
-use Rattle.co_sleepq_text.proofs.Played.{IsQuiet, fires, numbers}
+use Rattle.co_sleepq_text.specs.Matching.{IsQuiet}
+use Rattle.co_sleepq_text.proofs.Played.{fires, numbers}
 use Rattle.co_sleepq_text.proofs.Timeouts.{found-at, less, one_of, times-head, times-less}
 
 -- ---- lists of numbers

@@ -14,8 +14,7 @@ use Rattle.co_sleepq.proofs.Alone.{alone}
 use Rattle.co_sleepq_text.specs.Clock.{Clocked, Told, obey}
 use Rattle.co_sleepq_text.specs.declared.command.SleepCommand.{SleepCommand}
 use Rattle.co_sleepq_text.specs.declared.command.SleepCommand.TheVariants.{Wakeup, WakeupOne}
-use Rattle.co_sleepq_text.proofs.Played.{IsQuiet}
-use Rattle.co_sleepq_text.proofs.Ticking.{IsMatched}
+use Rattle.co_sleepq_text.specs.Matching.{IsMatched, IsQuiet}
 
 -- a command is answered by the book's reply as the definition says, and leaves what it leaves. The timers stay
 pub record IsTold (n : ℕ) (c : Clocked) (x : SleepCommand) (r : SleepReply) (p q : SleepPassesView) : Type 0 where

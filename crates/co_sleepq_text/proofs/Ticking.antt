@@ -13,26 +13,12 @@ use Rattle.co_sleepq.specs.declared.reply.SleepReply.{SleepReply}
 use Rattle.co_sleepq.specs.declared.sleep.Sleep.{Sleep}
 use Rattle.co_sleepq.specs.Sleepers.{Sleepers}
 use Rattle.co_sleepq.specs.Queue.{step, time_out}
-use Rattle.co_sleepq.specs.History.{state}
 use Rattle.co_sleepq.specs.Ticks.{is_late, is_out}
-use Rattle.co_sleepq.specs.Views.{SleepPassesView}
-use Rattle.co_sleepq_text.specs.Clock.{Alarm, Clocked, due_in, left_in, time_outs}
-use Rattle.co_sleepq_text.proofs.Played.{IsQuiet, replies}
+use Rattle.co_sleepq_text.specs.Clock.{Alarm, due_in, left_in, time_outs}
+use Rattle.co_sleepq_text.specs.Matching.{as_alarm}
+use Rattle.co_sleepq_text.proofs.Played.{replies}
 use Rattle.co_sleepq_text.proofs.Serving.{Is, apart, same, arg_of, times-apart, times-here, which}
 use Rattle.co_sleepq_text.proofs.Timeouts.{one_of}
-
--- a sleeper's timer as the service keeps it
-abbrev pub as_alarm : Option Alarm → Option single.Alarm
-as_alarm None = None
-as_alarm (Some a) = Some (record { due = a.due; arg = a.s })
-
--- the passes of the one actor stand for this sleep queue with a clock, of n sleepers
-pub record IsMatched (n : ℕ) (c : Clocked) (p : SleepPassesView) : Type 0 where
-  pub quiet : IsQuiet n p.service
-  pub none : waiting_of p.service ≡ []
-  pub queue : state p.seen ≡ c.queue
-  pub clock : clock_of p.service ≡ c.now
-  pub alarms : (i : ℕ) → alarm_at p.service i ≡ as_alarm (c.alarms i)
 
 -- ---- the sleepers whose timers are due
 

@@ -18,9 +18,9 @@ use Rattle.co_sleepq.specs.History.{state}
 use Rattle.co_sleepq.specs.Timers.{Calls, hz, reset_for}
 use Rattle.co_sleepq.specs.Views.{SleepPassesView}
 use Rattle.co_sleepq_text.specs.Clock.{Alarm, Clocked, armed_by, with_alarm}
-use Rattle.co_sleepq_text.proofs.Played.{IsQuiet, arms, disarms}
+use Rattle.co_sleepq_text.proofs.Played.{arms, disarms}
 use Rattle.co_sleepq_text.proofs.Serving.{Is, apart, same, which}
-use Rattle.co_sleepq_text.proofs.Ticking.{IsMatched, as_alarm}
+use Rattle.co_sleepq_text.specs.Matching.{IsMatched, IsQuiet, as_alarm}
 
 module _ (n : ℕ) (c : Clocked) (p q : SleepPassesView) (m : IsMatched n c p) (seen : q.seen ≡ p.seen) (i : ℕ) where
   alarms-are : (a : Option Alarm) → alarm_at q.service i ≡ as_alarm a → OthersStay p.service i q.service → (j : ℕ) → Is j i → alarm_at q.service j ≡ as_alarm (with_alarm i a c.alarms j)

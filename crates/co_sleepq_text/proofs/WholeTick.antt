@@ -13,7 +13,8 @@ use Rattle.co_sleepq_text.specs.Clock.{Clocked, due_in, tick, time_outs}
 use Rattle.co_sleepq_text.specs.Clock as clock
 use Rattle.co_sleepq_text.proofs.Played.{book_after, idles, numbers, replies, scans}
 use Rattle.co_sleepq_text.proofs.Serving.{arg_at, arg_of, map-alike, map-same, serves}
-use Rattle.co_sleepq_text.proofs.Ticking.{IsMatched, all-counted, as_alarm, count-replies, due-most, dues, dues-map, dues-once, left-is}
+use Rattle.co_sleepq_text.specs.Matching.{IsMatched, as_alarm}
+use Rattle.co_sleepq_text.proofs.Ticking.{all-counted, count-replies, due-most, dues, dues-map, dues-once, left-is}
 use Rattle.co_sleepq_text.proofs.Timeouts.{any-order}
 
 -- a tick is answered as the definition says, and leaves what it leaves
