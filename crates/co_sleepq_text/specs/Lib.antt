@@ -1,3 +1,5 @@
 pub mod Commands
 pub mod Clock
 pub mod Answers
+pub mod Ends
+pub mod Matching
