@@ -12,10 +12,12 @@ use Rattle.co_sleepq.specs.Views.{SleepPassesView}
 use Rattle.co_text.specs.Lines.{text}
 use Rattle.co_batch.specs.Answers.{answers}
 use Rattle.co_sleepq_text.specs.Answers.{answering}
-use Rattle.co_sleepq_text.specs.Clock.{Alarm, Clocked, clock_opening, obey}
+use Rattle.co_sleepq_text.specs.Clock.{Alarm, Answer, Told, Ticked, Clocked, clock_opening, obey}
 use Rattle.co_sleepq_text.specs.Ends.{all_calls, calls_in, tick_before, tick_times}
 use Rattle.co_sleepq_text.specs.declared.command.SleepCommand.{SleepCommand}
 use Rattle.co_sleepq_text.specs.declared.command.SleepCommand.TheVariants.{Sleep, Wakeup, WakeupOne, Awake, Tick}
+use Rattle.co_sleepq_text.specs.declared.said.Said.{Said}
+use Rattle.co_sleepq_text.specs.declared.said.Said.TheVariants as said
 
 -- the passes of the one actor of a service of so many timers, between two calls
 pub record IsQuiet (n : ℕ) (p : PassesView) : Type 0 where
@@ -41,6 +43,11 @@ pub record IsObeyed (n : ℕ) (c : Clocked) (x : SleepCommand) (p q : SleepPasse
   pub scans : scans_of q.service ≡ scans_of p.service ++ tick_before x []
   pub gos : all_gos q.service.timers ≡ all_gos p.service.timers + calls_in (obey n c x).1
   pub made : (i : ℕ) → made_at q.service i ≤ made_at p.service i + 1
+
+-- what a command came to, as an answer
+abbrev pub answer_of : Said → Answer
+answer_of (said.Told r) = Told r
+answer_of (said.Ticked t) = Ticked t.out t.late
 
 -- what the clock shows after a command
 abbrev pub now_after : ℕ → SleepCommand → ℕ
