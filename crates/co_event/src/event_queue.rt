@@ -2,7 +2,7 @@
 ghost use Rattle.std.specs.Prelude.{◌≡◌, ℕ, ◌<◌, ◌≤◌, All, length, map, take as list_take, IfOk, IfSome};
 ghost use Rattle.std.specs.Option.{option_map};
 ghost use Rattle.co_sbt.specs.Time.{sat_add};
-ghost use Rattle.co_queue.specs.Timers.{IsSize};
+ghost use Rattle.co_event.specs.Queue.{IsSize};
 ghost use Rattle.co_event.specs.Calls.{arm, stop, take, settle};
 ghost use Rattle.co_event.specs.EventTimers.{first_deadline};
 ghost use Rattle.co_event.specs.Events.{Events, next_moment};

@@ -105,7 +105,7 @@ impl Record {
     }
 
     /// Whether an arming stands in a queue, or waits for the end of a service.
-    pub(crate) fn is_armed(&self, slot: &Slot) -> bool
+    pub fn is_armed(&self, slot: &Slot) -> bool
         ensures { result ≡ is_some (state_of self.now slot.now).armed }
     {
         self.pending || self.deferred

@@ -4,8 +4,12 @@ use Rattle.std.specs.List.{All}
 use Rattle.co_object.specs.declared.spec.Spec.{Spec}
 use Rattle.co_object.specs.declared.spec.LockUse.TheVariants.{Free}
 use Rattle.co_object.specs.Actors.{Actors}
-use Rattle.co_queue.specs.Timers.{IsSize, IsWheel}
+use Rattle.co_queue.specs.Timers.{IsWheel}
 use Rattle.co_service.specs.declared.params.Params.{Params}
+
+-- how many callouts a service may have
+abbrev pub IsServiceSize : ℕ → Type 0
+IsServiceSize size = (1 ≤ size) × (size ≤ 1024)
 
 abbrev pub actors_of : Params → Actors
 actors_of p = record { version = p.version; clients = p.clients; cpus = p.cpus }
@@ -37,7 +41,7 @@ pub record AreParams (p : Params) : Type 0 where
   pub clients : p.clients ≤ 16
   pub cpus : (1 ≤ p.cpus) × (p.cpus ≤ 16)
   pub buckets : IsWheel p.buckets
-  pub size : IsSize (length p.specs)
+  pub size : IsServiceSize (length p.specs)
   pub specs : All (IsSpec p.version) p.specs
 
 abbrev pub nothing : Params

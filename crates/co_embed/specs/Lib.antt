@@ -1,0 +1,9 @@
+pub mod Refusals
+pub mod Sizes
+pub mod Times
+pub mod Told
+pub mod Embedded
+pub mod Carrying
+pub mod Calls
+pub mod Serving
+pub mod Lives
