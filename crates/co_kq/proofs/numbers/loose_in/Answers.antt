@@ -2,7 +2,7 @@ use Rattle.std.proofs.Common.{◌≡◌, ◌∙◌, ap, sym, arith}
 use Rattle.std.specs.List.{count_by}
 use Rattle.std.proofs.lemmas.List.{take_all}
 use Rattle.co_kq.specs.Numbers.{is_held}
-use Rattle.co_kq.proofs.numbers.first_loose.Goals as goal
+use Rattle.co_kq.proofs.numbers.loose_in.Goals as goal
 
 pub unreachable-requires : goal.unreachable-requires
 unreachable-requires c =
