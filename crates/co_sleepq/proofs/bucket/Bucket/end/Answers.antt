@@ -1,4 +1,4 @@
-use Rattle.std.proofs.Common.{◌≡◌, not, ◌==◌, ap, ◌∙◌, rules}
+use Rattle.std.proofs.Common.{not, ◌==◌, ap, ◌∙◌, rules}
 use Rattle.std.proofs.lemmas.Fn.{filter_same}
 use Rattle.co_sleepq.specs.declared.sleep.Sleep.{Sleep}
 use Rattle.co_sleepq.specs.Sleepers.{without}
