@@ -18,6 +18,6 @@ mod words;
 pub use embed::Embed;
 pub use life::CalloutAttr;
 pub use parcel::CalloutParcel;
-pub use refusal::Refusal;
+pub use refusal::{Refusal, status};
 pub use reply::CalloutReply;
 pub use times::When;

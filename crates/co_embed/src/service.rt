@@ -56,7 +56,7 @@ impl Embed {
     }
 
     /// Whether the CPU has a callout in service, or its interrupt where `direct`.
-    fn is_serving(&self, direct: bool) -> bool
+    pub fn is_serving(&self, direct: bool) -> bool
         ensures { result ≡ is_some (in_service direct self.now.cpu.callouts) }
     {
         if direct {
