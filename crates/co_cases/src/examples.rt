@@ -1,72 +1,7 @@
 //! Scripts with their reports, for tests that change one or the other. The crate worked_cases has all worked scripts.
 use crate::case::Case;
 
-/// A drain that waits for a service on another CPU.
-pub const DRAIN: Case = Case {
-    name: "a drain waits for a service on another CPU",
-    script: r"callout 1
-cpus 2
-funcs 1
-lock 0 mtx
-timer 0 mtx 0
-
-client 0              # arms the timer on CPU 1, under its lock
-lock 0
-reset 0 =1 f0 a7 cpu 1
-unlock
-
-client 1              # waits until the timer is gone for good
-drain 0
-
-cpu 1
-tick 1
-
-turns c0*4 p1*3 c1*2  # the drain comes while CPU 1 has the timer in service
-",
-    report: r"callout-report 1
-callout 1
-hz 1000
-cpus 2
-wheel 256
-funcs 1
-lock 0 mtx
-timer 0 mtx 0
-func 0
-client 0
-lock 0
-reset 0 =u4294967296 f0 a7 cpu 1
-unlock
-client 1
-drain 0
-cpu 0
-cpu 1
-tick u4294967296
-turns c0*4
-turns p1*3
-turns c1*2
-histories
-timer 0
-0 c0/1 reset u4294967296 pr u0 f0 a7 cpu p1 = armed 0 #0 p1 off -
-2 p1/0 pick #0 p1 u4294967296 = hold
-0 c1/0 drain 0 = wait #0 0 off -
-3 p1/0 begin #0 p1 = go f0 a7
-4 p1/0 end #0 p1 = ended drain - next - woke 1
-1 c1/0 drain 0 = drained -1 off -
-wheel 0
-wheel 1
-1 c0/1 insert i0 #0 u4294967296 = at u4294967296
-0 p1/0 scan u4294967296 = count 1
-1 p1/0 pop = got i0 #0 u4294967296
-5 p1/0 free = freed
-6 p1/0 pop = empty
-actor c0
-actor c1
-actor p0
-actor p1
-end
-",
-};
-
+/// One firing on one CPU.
 pub const ONE_FIRING: Case = Case {
     name: "one firing",
     script: r"callout 1

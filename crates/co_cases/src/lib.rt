@@ -2,8 +2,6 @@
 #![tactic(auto)]
 
 #[cfg(test)]
-mod broken;
-#[cfg(test)]
 mod case;
 #[cfg(test)]
 mod examples;
@@ -11,8 +9,6 @@ mod examples;
 mod ordinary;
 #[cfg(test)]
 mod outcome;
-#[cfg(test)]
-mod prefixes;
 #[cfg(test)]
 mod quiet_ends;
 #[cfg(test)]

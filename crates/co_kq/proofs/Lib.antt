@@ -1,3 +1,4 @@
+pub mod Indexing
 pub mod Placing
 pub mod InSlots
 pub mod Telling
@@ -10,3 +11,4 @@ pub mod Opening
 pub mod Clearing
 pub mod Serving
 pub mod Ending
+pub mod Listing

@@ -1,5 +1,5 @@
 -- Which callout each knote has.
-use Rattle.std.specs.Prelude.{◌≡◌, ℕ, ◌≤◌, ◌+◌, ◌==◌, Bool, true, false, List, [], ◌∷◌, ◌++◌, length, Option, Some, None, is_some, slice_index_or, if◌then◌else◌}
+use Rattle.std.specs.Prelude.{◌≡◌, ◌≢◌, ℕ, ◌≤◌, ◌+◌, ◌==◌, Bool, true, false, List, [], ◌∷◌, ◌++◌, length, Option, Some, None, is_some, slice_index_or, if◌then◌else◌}
 use Rattle.std.specs.List.{count_by}
 use Rattle.slab.specs.Slab.{Slab}
 use Rattle.co_service.specs.Views.{PassesView}
@@ -19,6 +19,10 @@ is_held (Held key) = true
 -- what a number is in use for; for nothing past the last
 abbrev pub use_at : List Use → ℕ → Use
 use_at uses number = slice_index_or uses number Free
+
+-- where no callout may be stale, none is
+pub record IsMarked (stale : Bool) (uses : List Use) : Type 0 where
+  pub none : stale ≡ false → (number : ℕ) → use_at uses number ≢ Stale
 
 -- the knote at this key has this callout
 pub record HasTimer (slots : List (Option Slot)) (key number : ℕ) : Type 0 where

@@ -62,13 +62,3 @@ pub record Tells (before : List Knote) (e : Event) (after : List Knote) : Type 0
 pub record IsQuiet (ks : List Knote) : Type 0 where
   pub told : (n : ℕ) → events_in n ks ≡ []
   pub left : (n : ℕ) → left_in n ks ≡ ks
-
--- a key and its ident come before another ident, or have it
-abbrev pub Leads : Option (ℕ × ℕ) → ℕ → Type 0
-Leads None ident = ⊥
-Leads (Some f) ident = f.1 ≤ ident
-
--- the key has a knote of the ident, with expirations
-abbrev pub IsReadyAt : List (Option Slot) → Option (ℕ × ℕ) → Type 0
-IsReadyAt slots None = Unit {0}
-IsReadyAt slots (Some f) = (s : Slot) × (slot_at slots f.0 ≡ Some s) × (0 < s.knote.count) × (s.knote.ident ≡ f.1)

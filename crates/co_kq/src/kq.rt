@@ -9,14 +9,13 @@ ghost use Rattle.co_kq.specs.declared.numbers.Use.TheVariants.{Free};
 
 use crate::fresh::KqFresh;
 use crate::kevent::{Add, Event, Unit};
-use crate::knote::{Knote, Slot};
-use crate::numbers::{Use, first_loose};
-use crate::slots::{find, first_ready, insert, is_once, remove, rewrite, tell_again, tell_once};
-use crate::ticks::{clear_all, serve_all};
+use crate::knote::Knote;
+use crate::knotes::Knotes;
+use crate::numbers::Uses;
+use crate::ticks::{clear_stale, serve_all};
 use co_sbt::{NoMemory, Sbt};
 use co_service::{Closing, Name};
 use co_single::Single;
-use slab::Slab;
 use std::alloc::Global;
 use std::marker::{Brand, Model};
 use std::sync::Wait;
@@ -31,10 +30,9 @@ pub struct Kq<N: Name> {
     /// 1 to 1024.
     room: u32,
     work: u64,
-    /// No two knotes have one ident.
-    knotes: Slab<Slot>,
+    knotes: Knotes,
     /// By callout.
-    uses: Vec<Use>,
+    uses: Uses,
 }
 
 impl<N: Name> Model for Kq<N> {
@@ -44,7 +42,7 @@ impl<N: Name> Model for Kq<N> {
 
     ghost view = { λ k. record { room = k.room; work = k.work; list = list_of k.clock k.knotes.slots; passes = k.single; callouts = callouts_in k.knotes.slots } };
 
-    ghost invariant = { λ k. IsKq k.clock k.room k.work k.knotes k.uses.items k.single };
+    ghost invariant = { λ k. IsKq k.clock k.room k.work k.knotes k.uses k.single };
 }
 
 /// The span of a value, or None where it is 0, or 2^63 units or more.
@@ -79,49 +77,13 @@ fn later(a: Sbt, b: Sbt) -> Sbt
     if a < b { b } else { a }
 }
 
-/// So many callouts, all of them in use for nothing.
-fn free_uses(alloc: Global, count: u32) -> Result<Vec<Use>, NoMemory>
-    ensures { IfOk result (λ uses. uses.items ≡ replicate count Free) }
-{
-    let mut uses = Vec::new(alloc);
-    for _ in 0..count {
-        match uses.push(Use::Free) {
-            Ok(()) => {}
-            Err(_) => return Err(NoMemory {}),
-        }
-    }
-    Ok(uses)
-}
-
-/// No knotes, with room for so many.
-fn no_knotes(alloc: Global, room: u32) -> Result<Slab<Slot>, NoMemory>
-    ensures empty { IfOk result (λ knotes. knotes.slots ≡ []) }
-    ensures capacity { IfOk result (λ knotes. room ≤ knotes.capacity) }
-{
-    match Slab::with_capacity(alloc, room as usize) {
-        Ok(knotes) => Ok(knotes),
-        Err(_) => Err(NoMemory {}),
-    }
-}
-
-/// A knote is gone: its callout is in use for nothing.
-fn release(uses: &mut [Use], slot: &Slot)
-    requires { slot.now.timer < length uses.old }
-    ensures { uses.new ≡ slice_set uses.old slot.now.timer (left_use slot.now) }
-{
-    uses[slot.timer as usize] = match slot.knote.next {
-        Some(_) => Use::Stale,
-        None => Use::Free,
-    };
-}
-
 /// A knote takes the place of the old one of its ident, at this key.
 fn replace<N: Name, R: Wait>(
     rt: &R,
     act: u64,
     single: &mut Single<N>,
-    knotes: &mut Slab<Slot>,
-    uses: &[Use],
+    knotes: &mut Knotes,
+    uses: &Uses,
     key: usize,
     knote: Knote,
     due: Sbt,
@@ -133,7 +95,7 @@ fn replace<N: Name, R: Wait>(
     requires fresh { knote.count ≡ 0 }
     ensures put { IsPut act knote knotes.old single.old knotes.new uses.now single.new }
 {
-    let timer = rewrite(knotes, key, knote);
+    let timer = knotes.rewrite(key, knote);
     single.arm(rt, act, timer, due, 0);
 }
 
@@ -142,8 +104,8 @@ fn place<N: Name, R: Wait>(
     rt: &R,
     act: u64,
     single: &mut Single<N>,
-    knotes: &mut Slab<Slot>,
-    uses: &mut [Use],
+    knotes: &mut Knotes,
+    uses: &mut Uses,
     knote: Knote,
     due: Sbt,
 )
@@ -157,9 +119,9 @@ fn place<N: Name, R: Wait>(
     ensures put { IsPut act knote knotes.old single.old knotes.new uses.new single.new }
     ensures all { length uses.new ≡ length uses.old }
 {
-    let timer = first_loose(uses);
-    let key = insert(knotes, knote, timer);
-    uses[timer as usize] = Use::Held(key);
+    let timer = uses.first_loose();
+    let key = knotes.insert(knote, timer);
+    uses.hold(timer, key);
     single.arm(rt, act, timer, due, 0);
 }
 
@@ -182,8 +144,8 @@ impl<N: Name> Kq<N> {
         ensures { IfOk result (IsOpened fresh.callouts) }
     {
         let KqFresh { single, room } = fresh;
-        let uses = free_uses(alloc, room)?;
-        let knotes = no_knotes(alloc, room)?;
+        let uses = Uses::new(alloc, room)?;
+        let knotes = Knotes::new(alloc, room)?;
         let single = Single::open(alloc, single)?;
         Ok(Kq {
             single,
@@ -211,15 +173,14 @@ impl<N: Name> Kq<N> {
         };
         let knote = begun(self.clock, ident, span, oneshot);
         let due = self.clock.sat_add(span);
-        match find(&self.knotes, ident) {
+        match self.knotes.find(ident) {
             Some(key) => {
-                let uses = self.uses.as_slice();
                 replace(
                     rt,
                     act,
                     &mut self.single,
                     &mut self.knotes,
-                    uses,
+                    &self.uses,
                     key,
                     knote,
                     due,
@@ -229,13 +190,12 @@ impl<N: Name> Kq<N> {
                 if self.knotes.len() >= self.room as usize {
                     return Add::Full;
                 }
-                let uses = self.uses.as_mut_slice();
                 place(
                     rt,
                     act,
                     &mut self.single,
                     &mut self.knotes,
-                    uses,
+                    &mut self.uses,
                     knote,
                     due,
                 );
@@ -252,9 +212,9 @@ impl<N: Name> Kq<N> {
         ensures work { self.new.work ≡ self.old.work }
         ensures passes { self.new.passes ≡ self.old.passes }
     {
-        let key = find(&self.knotes, ident)?;
-        let slot = remove(&mut self.knotes, key);
-        release(self.uses.as_mut_slice(), &slot);
+        let key = self.knotes.find(ident)?;
+        let slot = self.knotes.remove(key);
+        self.uses.release(&slot);
         Some(slot.knote.count)
     }
 
@@ -267,16 +227,16 @@ impl<N: Name> Kq<N> {
         ensures some { IfSome result (λ event. Tells self.old.list.knotes event self.new.list.knotes) }
         ensures none { IfNone result ((self.new.list ≡ self.old.list) × IsQuiet self.old.list.knotes) }
     {
-        let key = first_ready(&self.knotes)?;
-        if is_once(&self.knotes, key) {
-            let slot = tell_once(&mut self.knotes, key);
-            release(self.uses.as_mut_slice(), &slot);
+        let key = self.knotes.first_ready()?;
+        if self.knotes.is_once(key) {
+            let slot = self.knotes.tell_once(key);
+            self.uses.release(&slot);
             return Some(Event {
                 ident: slot.knote.ident,
                 count: slot.knote.count,
             });
         }
-        Some(tell_again(&mut self.knotes, key))
+        Some(self.knotes.tell_again(key))
     }
 
     /// Writes the knotes with expirations, by rising ident, as many as there is room for; the answer is how many. Each
@@ -311,7 +271,7 @@ impl<N: Name> Kq<N> {
     {
         let act = self.work;
         self.work += 1;
-        clear_all(rt, act, &mut self.single, self.uses.as_mut_slice());
+        clear_stale(rt, act, &mut self.single, &mut self.uses);
         let count = self.single.scan(rt, act, now);
         self.clock = later(self.clock, now);
         serve_all(
@@ -319,7 +279,7 @@ impl<N: Name> Kq<N> {
             act,
             &mut self.single,
             &mut self.knotes,
-            self.uses.as_slice(),
+            &self.uses,
             self.clock,
         );
         count

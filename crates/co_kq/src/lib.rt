@@ -2,11 +2,12 @@
 #![tactic(auto)]
 
 mod fresh;
+mod index;
 mod kevent;
 mod knote;
+mod knotes;
 mod kq;
 mod numbers;
-mod slots;
 mod ticks;
 
 pub use fresh::KqFresh;

@@ -1,17 +1,15 @@
 //! What a tick does with the callouts.
 ghost use Rattle.std.specs.Prelude.{◌≡◌, ◌≢◌, ◌<◌, ◌≤◌, ◌+◌, ◌^◌, ℕ, [], length, true, false, IfNone, IfSome};
 ghost use Rattle.co_single.specs.Alarms.{count_of, waiting_of};
-ghost use Rattle.co_kq.specs.declared.numbers.Use.TheVariants.{Held, Stale};
-ghost use Rattle.co_kq.specs.Numbers.{is_held, use_at};
+ghost use Rattle.co_kq.specs.declared.numbers.Use.TheVariants.{Stale};
+ghost use Rattle.co_kq.specs.Numbers.{use_at};
 ghost use Rattle.co_kq.specs.Ticks.{AreCleared, AreDue, CanServe, IsOver, IsServed, IsServing};
 
-use crate::knote::Slot;
-use crate::numbers::Use;
-use crate::slots::expire_at;
+use crate::knotes::Knotes;
+use crate::numbers::{Use, Uses};
 use co_sbt::Sbt;
 use co_service::Name;
 use co_single::Single;
-use slab::Slab;
 use std::sync::Wait;
 
 /// A callout whose knote is gone is not armed any more, and is in use for nothing.
@@ -34,8 +32,8 @@ fn clear<N: Name, R: Wait>(
     }
 }
 
-/// No callout whose knote is gone is armed any more.
-pub fn clear_all<N: Name, R: Wait>(rt: &R, act: u64, single: &mut Single<N>, uses: &mut [Use])
+/// No callout of these whose knote is gone is armed any more.
+fn clear_all<N: Name, R: Wait>(rt: &R, act: u64, single: &mut Single<N>, uses: &mut [Use])
     requires callouts { count_of single.old ≡ length uses.old }
     requires few { length uses.old ≤ 1024 }
     ensures cleared { AreCleared uses.old single.old uses.new single.new }
@@ -46,17 +44,18 @@ pub fn clear_all<N: Name, R: Wait>(rt: &R, act: u64, single: &mut Single<N>, use
     }
 }
 
-/// The key of the knote that has a callout.
-fn key_of(uses: &[Use], number: u32) -> usize
-    requires below { number < length uses.now }
-    requires held { is_held (use_at uses.now number) ≡ true }
-    ensures { use_at uses.now number ≡ Held result }
+/// No callout whose knote is gone is armed any more. Where none may be stale, nothing is done.
+pub fn clear_stale<N: Name, R: Wait>(rt: &R, act: u64, single: &mut Single<N>, uses: &mut Uses)
+    requires callouts { count_of single.old ≡ length uses.old }
+    requires few { length uses.old ≤ 1024 }
+    ensures cleared { AreCleared uses.old single.old uses.new single.new }
+    ensures none { (number : ℕ) → use_at uses.new number ≢ Stale }
 {
-    match uses[number as usize] {
-        Use::Held(key) => key,
-        Use::Free => unreachable!(),
-        Use::Stale => unreachable!(),
+    if !uses.stale {
+        return;
     }
+    clear_all(rt, act, single, uses.list.as_mut_slice());
+    uses.stale = false;
 }
 
 /// The first knote whose callout waits expires; the answer is whether there was one.
@@ -64,8 +63,8 @@ fn serve_one<N: Name, R: Wait>(
     rt: &R,
     act: u64,
     single: &mut Single<N>,
-    knotes: &mut Slab<Slot>,
-    uses: &[Use],
+    knotes: &mut Knotes,
+    uses: &Uses,
     now: Sbt,
 ) -> bool
     requires { CanServe now knotes.old.slots uses.now single.old }
@@ -76,8 +75,8 @@ fn serve_one<N: Name, R: Wait>(
     let Some(fired) = single.fire(rt, act) else {
         return false;
     };
-    let key = key_of(uses, fired.i);
-    if let Some(next) = expire_at(knotes, key, now) {
+    let key = uses.key_of(fired.i);
+    if let Some(next) = knotes.expire_at(key, now) {
         single.arm(rt, act, fired.i, next, 0);
     }
     true
@@ -88,8 +87,8 @@ pub fn serve_all<N: Name, R: Wait>(
     rt: &R,
     act: u64,
     single: &mut Single<N>,
-    knotes: &mut Slab<Slot>,
-    uses: &[Use],
+    knotes: &mut Knotes,
+    uses: &Uses,
     now: Sbt,
 )
     requires { AreDue now act knotes.old.slots uses.now single.old }

@@ -1,21 +1,23 @@
 -- A callout on its way to the CPU at which it is armed, with its history.
-use Rattle.std.specs.Prelude.{◌≡◌, ℕ, true, List}
+use Rattle.std.specs.Prelude.{◌≡◌, ℕ, Bool, true, false, List, is_some}
 use Rattle.std.specs.declared.option.Option.{Option}
 use Rattle.std.specs.declared.option.Option.TheVariants.{Some, None}
 use Rattle.co_life.specs.Views.{KeeperView}
 use Rattle.co_object.specs.declared.note.Entry.{Entry}
+use Rattle.co_object.specs.declared.op.CallOp.{CallOp}
 use Rattle.co_object.specs.Stand.{is_idle}
 use Rattle.co_wheel.specs.Parcel.{Parcel}
+use Rattle.co_service.specs.declared.outs.Made.{Made}
 use Rattle.co_service.specs.declared.params.Params.{Params}
 use Rattle.co_service.specs.declared.line.Line.{Line}
 use Rattle.co_service.specs.Name.{ServiceName}
 use Rattle.co_service.specs.Params.{nothing}
 use Rattle.co_service.specs.Lines.{made, opening_of}
 use Rattle.co_service.specs.Stories.{IsHistory}
-use Rattle.co_service.specs.Views.{IsKeeperOf}
+use Rattle.co_service.specs.Views.{IsKeeperOf, PassesView}
 use Rattle.co_service.specs.Books.{BooksView, entries_at, is_kept, with_history}
 use Rattle.co_service.specs.Desk.{alone_after}
-use Rattle.co_service.specs.Call.{Target}
+use Rattle.co_service.specs.Call.{HasRoom, IsAnswer, Target, notes_in}
 
 abbrev pub params_in : Option (Params × ℕ) → Params
 params_in None = nothing
@@ -75,3 +77,11 @@ target_of (Some m) = Some m.target
 abbrev pub IsOfService : Params → ℕ → Option MovingView → Type 0
 IsOfService p i None = Unit {0}
 IsOfService p i (Some m) = (m.params ≡ p) × (m.i ≡ i)
+
+-- a call was tried at a desk: nothing has changed where the callout isn't there; else its answer stands in its place, with the callout where
+-- it leaves, whose landing then has room for its note
+pub record IsTried (p : PassesView) (act i : ℕ) (op : CallOp) (here : Bool) (made : Made) (leaves : Option MovingView) (q : PassesView) : Type 0 where
+  pub none : here ≡ false → q ≡ p
+  pub answer : here ≡ true → IsAnswer p act i op made.reply (target_of leaves) (notes_in made.notes) q
+  pub leaving : here ≡ true → IsOfService p.params i leaves
+  pub room : here ≡ true → is_some leaves ≡ true → HasRoom made.notes

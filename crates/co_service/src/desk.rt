@@ -6,7 +6,7 @@ ghost use Rattle.co_service.specs.Books.{is_kept};
 ghost use Rattle.co_service.specs.Params.{actors_of, directs};
 ghost use Rattle.co_service.specs.Call.{HasRoom, IsAnswer, notes_in};
 ghost use Rattle.co_service.specs.May.{queue_of};
-ghost use Rattle.co_service.specs.Moving.{IsOfService, target_of};
+ghost use Rattle.co_service.specs.Moving.{IsTried};
 ghost use Rattle.co_service.specs.Desk.{Owes, IsOf};
 ghost use Rattle.co_service.specs.Outcomes.{IsScan, IsTurn, turn};
 ghost use Rattle.co_service.specs.Writes.{WritesCpu};
@@ -136,8 +136,8 @@ impl<N: Name> Desk<N> {
         })
     }
 
-    /// A caller's operation on callout `i`: its answer, and the callout where it leaves for another CPU. None where it
-    /// isn't here, and there alone.
+    /// A caller's operation on callout `i`. The answer goes to its place, and so does the callout where it leaves for another CPU.
+    /// False where it isn't here, and there alone.
     pub(crate) fn call(
         &mut self,
         places: &Places,
@@ -145,17 +145,16 @@ impl<N: Name> Desk<N> {
         act: u64,
         i: u32,
         op: &CallOp,
-    ) -> Option<(Made, Option<Moving<N>>)>
+        made: &mut Made,
+        gone: &mut Option<Moving<N>>,
+    ) -> bool
         requires places { places.now ≡ N.name }
         requires name { passes.old.name ≡ N.name }
-        ensures none { IfNone result (passes.new ≡ passes.old) }
-        ensures why { IfNone result (is_kept self.old i ≡ false) }
-        ensures some { IfSome result (λ out. IsAnswer passes.old act i op.now out.0.reply (target_of out.1) (notes_in out.0.notes) passes.new) }
-        ensures leaves { IfSome result (λ out. IsOfService passes.old.params i out.1) }
-        ensures room { IfSome result (λ out. is_some out.1 ≡ true → HasRoom out.0.notes) }
+        ensures why { result ≡ false → is_kept self.old i ≡ false }
+        ensures tried { IsTried passes.old act i op.now result made.new gone.new passes.new }
     {
         if !self.has(i) {
-            return None;
+            return false;
         }
         self.books.meet(places.cpus(), passes);
         let out = self.wheel.call(i, op);
@@ -163,6 +162,9 @@ impl<N: Name> Desk<N> {
         let reply = out.reply;
         let n = number(&reply);
         let leaves = depart(&mut self.books, out.leaves, n, time(op));
-        Some((Made { reply, notes }, leaves))
+        made.reply = reply;
+        made.notes = notes;
+        *gone = leaves;
+        true
     }
 }

@@ -69,16 +69,14 @@ pub(crate) fn three(
     [first, second, third]
 }
 
-/// An answer whose last note is still free, with this one.
-pub(crate) fn with_last(made: Made, last: Note) -> Made
-    requires { HasRoom made.notes }
-    ensures reply { result.reply ≡ made.reply }
-    ensures notes { notes_in result.notes ≡ notes_in made.notes ++ last ∷ [] }
+/// The last note of an answer, where it is still free.
+pub(crate) fn add_last(made: &mut Made, last: Note)
+    requires { HasRoom made.old.notes }
+    ensures reply { made.new.reply ≡ made.old.reply }
+    ensures notes { notes_in made.new.notes ≡ notes_in made.old.notes ++ last ∷ [] }
 {
-    let reply = made.reply;
-    let [first, second, _] = made.notes;
-    let notes = three(first, second, Some(last));
-    Made { reply, notes }
+    let [_, _, third] = &mut made.notes;
+    *third = Some(last);
 }
 
 /// The queue's operation that takes from a lane.

@@ -10,7 +10,7 @@ ghost use Rattle.co_service.specs.Booted.{AreBooted};
 ghost use Rattle.co_service.specs.Call.{HasRoom, IsAnswer, IsCalled, NamesCpu, notes_in};
 ghost use Rattle.co_service.specs.Closing.{AreAll, AreEnded, AreEndedCpus, HasEach};
 ghost use Rattle.co_service.specs.Fresh.{AreBenches, AreNamed};
-ghost use Rattle.co_service.specs.Moving.{IsOfService, target_of};
+ghost use Rattle.co_service.specs.Moving.{IsOfService, IsTried, target_of};
 ghost use Rattle.co_service.specs.Outcomes.{IsScan};
 ghost use Rattle.co_service.specs.Params.{AreParams, actors_of, spec_at};
 ghost use Rattle.co_service.specs.Services.{FollowsScans, HasNext, IsBegun, IsEnded, IsEndedBut, IsFree, IsLanded, IsServing, IsTaken};
@@ -24,7 +24,7 @@ use crate::closing::{Closing, Ending, check_each, end_all};
 use crate::desk::Desk;
 use crate::moving::Moving;
 use crate::places::Places;
-use crate::running::with_last;
+use crate::running::add_last;
 use crate::{Fresh, Made, Name, Params, Passes, Scanned, Taken};
 use co_life::Shown;
 use co_lock::Hold;
@@ -218,7 +218,7 @@ impl<N: Name> Service<N> {
         if cpu < self.desks.len() { cpu } else { 0 }
     }
 
-    /// A call on one desk.
+    /// A call on one desk. The answer and what leaves go to their places. False where the callout isn't there.
     fn call_at<R: Wait>(
         &self,
         rt: &R,
@@ -227,19 +227,22 @@ impl<N: Name> Service<N> {
         i: u32,
         op: &CallOp,
         cpu: usize,
-    ) -> Option<(Made, Option<Moving<N>>)>
+        made: &mut Made,
+        gone: &mut Option<Moving<N>>,
+    ) -> bool
         requires cpu { cpu < self.now.cpus }
         requires passes { AreOf N.name self.now passes.old }
-        ensures none { IfNone result (passes.new ≡ passes.old) }
-        ensures some { IfSome result (λ out. IsAnswer passes.old act i op.now out.0.reply (target_of out.1) (notes_in out.0.notes) passes.new) }
-        ensures leaves { IfSome result (λ out. IsOfService passes.old.params i out.1) }
-        ensures room { IfSome result (λ out. is_some out.1 ≡ true → HasRoom out.0.notes) }
+        ensures { IsTried passes.old act i op.now result made.new gone.new passes.new }
     {
         let locked = &self.desks[cpu];
-        locked.desk.lock(rt).call(&self.places, passes, act, i, op)
+        locked
+            .desk
+            .lock(rt)
+            .call(&self.places, passes, act, i, op, made, gone)
     }
 
-    /// A call on the desk that the callout's hint names, and where it isn't there on the others in rising order.
+    /// A call on the desk that the callout's hint names, and where it isn't there on the others in rising order. False where it is on
+    /// none of them.
     fn call_once<R: Wait>(
         &self,
         rt: &R,
@@ -247,25 +250,22 @@ impl<N: Name> Service<N> {
         act: u64,
         i: u32,
         op: &CallOp,
-    ) -> Option<(Made, Option<Moving<N>>)>
+        made: &mut Made,
+        gone: &mut Option<Moving<N>>,
+    ) -> bool
         requires passes { AreOf N.name self.now passes.old }
-        ensures none { IfNone result (passes.new ≡ passes.old) }
-        ensures some { IfSome result (λ out. IsAnswer passes.old act i op.now out.0.reply (target_of out.1) (notes_in out.0.notes) passes.new) }
-        ensures leaves { IfSome result (λ out. IsOfService passes.old.params i out.1) }
-        ensures room { IfSome result (λ out. is_some out.1 ≡ true → HasRoom out.0.notes) }
+        ensures { IsTried passes.old act i op.now result made.new gone.new passes.new }
     {
         let first = self.hint(i);
-        if let Some(out) = self.call_at(rt, passes, act, i, op, first) {
-            return Some(out);
+        if self.call_at(rt, passes, act, i, op, first, made, gone) {
+            return true;
         }
         for cpu in 0..self.desks.len() {
-            if cpu != first {
-                if let Some(out) = self.call_at(rt, passes, act, i, op, cpu) {
-                    return Some(out);
-                }
+            if cpu != first && self.call_at(rt, passes, act, i, op, cpu, made, gone) {
+                return true;
             }
         }
-        None
+        false
     }
 
     /// A callout comes to the desk of the CPU at which it is armed.
@@ -310,7 +310,7 @@ impl<N: Name> Service<N> {
         unreachable!()
     }
 
-    /// A call, where the record stands.
+    /// A call, where the record stands. The answer and what leaves go to their places.
     fn call_found<R: Wait>(
         &self,
         rt: &R,
@@ -318,21 +318,21 @@ impl<N: Name> Service<N> {
         act: u64,
         i: u32,
         op: &CallOp,
-    ) -> (Made, Option<Moving<N>>)
+        made: &mut Made,
+        gone: &mut Option<Moving<N>>,
+    )
         requires passes { AreOf N.name self.now passes.old }
-        ensures answer { IsAnswer passes.old act i op.now result.0.reply (target_of result.1) (notes_in result.0.notes) passes.new }
-        ensures leaves { IsOfService passes.old.params i result.1 }
-        ensures room { is_some result.1 ≡ true → HasRoom result.0.notes }
+        ensures { IsTried passes.old act i op.now true made.new gone.new passes.new }
     {
         for _ in rt.forever() {
-            if let Some(out) = self.call_once(rt, passes, act, i, op) {
-                return out;
+            if self.call_once(rt, passes, act, i, op, made, gone) {
+                return;
             }
         }
         unreachable!()
     }
 
-    /// A call, the landing of what leaves included.
+    /// A call, the landing of what leaves included. The answer goes to its place: it is large, and so made where it is wanted.
     fn call_landed<R: Wait>(
         &self,
         rt: &R,
@@ -340,14 +340,16 @@ impl<N: Name> Service<N> {
         act: u64,
         i: u32,
         op: &CallOp,
-    ) -> Made
+        made: &mut Made,
+    )
         requires passes { AreOf N.name self.now passes.old }
-        ensures { IsCalled passes.old act i op.now result.reply (notes_in result.notes) passes.new }
+        ensures { IsCalled passes.old act i op.now made.new.reply (notes_in made.new.notes) passes.new }
     {
-        let (made, leaves) = self.call_found(rt, passes, act, i, op);
-        match leaves {
-            None => made,
-            Some(moving) => with_last(made, self.land(rt, passes, act, moving)),
+        let mut leaves = None;
+        self.call_found(rt, passes, act, i, op, made, &mut leaves);
+        if let Some(moving) = leaves {
+            let last = self.land(rt, passes, act, moving);
+            add_last(made, last);
         }
     }
 
@@ -374,7 +376,9 @@ impl<N: Name> Service<N> {
         ensures serving { (direct : Bool) (cpu : ℕ) (d : Due) (far : Progress) → IsServing direct passes.old cpu d far → IsServing direct passes.new cpu d far }
     {
         let _ = hold;
-        self.call_landed(rt, passes, act, i, op)
+        let mut made = Made::none();
+        self.call_landed(rt, passes, act, i, op, &mut made);
+        made
     }
 
     /// What is due at this CPU has come due. It waits for the desk's lock.
@@ -513,7 +517,7 @@ impl<N: Name> Service<N> {
         unreachable!()
     }
 
-    /// The end of a service on its desk, of the CPU or of its interrupt where `direct`.
+    /// The end of a service on its desk, of the CPU or of its interrupt where `direct`. The answer and what leaves go to their places.
     fn end_found<R: Wait>(
         &self,
         rt: &R,
@@ -521,28 +525,30 @@ impl<N: Name> Service<N> {
         cpu: u32,
         act: u64,
         direct: bool,
-    ) -> (Made, Option<Moving<N>>)
+        made: &mut Made,
+        gone: &mut Option<Moving<N>>,
+    )
         requires cpu { cpu < self.now.cpus }
         requires passes { AreOf N.name self.now passes.old }
         requires serves { (d : Due) × IsServing direct passes.old cpu d (Runs d.n) }
-        ensures ended { (d : Due) → IsServing direct passes.old cpu d (Runs d.n) → IsEndedBut direct passes.old cpu act d result.0.reply (target_of result.1) (notes_in result.0.notes) passes.new × IsOfService passes.old.params d.i result.1 }
-        ensures room { HasRoom result.0.notes }
+        ensures ended { (d : Due) → IsServing direct passes.old cpu d (Runs d.n) → IsEndedBut direct passes.old cpu act d made.new.reply (target_of gone.new) (notes_in made.new.notes) passes.new × IsOfService passes.old.params d.i gone.new }
+        ensures room { HasRoom made.new.notes }
     {
         for _ in rt.forever() {
             let locked = &self.desks[cpu as usize];
-            let out = locked
+            let ended = locked
                 .desk
                 .lock(rt)
-                .end(&self.places, passes, cpu, act, direct);
-            if let Some(out) = out {
+                .end(&self.places, passes, cpu, act, direct, made, gone);
+            if ended {
                 locked.changed.notify_all();
-                return out;
+                return;
             }
         }
         unreachable!()
     }
 
-    /// The end of a service, the landing of what leaves included.
+    /// The end of a service, the landing of what leaves included. The answer goes to its place.
     fn end_lane<R: Wait>(
         &self,
         rt: &R,
@@ -550,16 +556,18 @@ impl<N: Name> Service<N> {
         cpu: u32,
         act: u64,
         direct: bool,
-    ) -> Made
+        made: &mut Made,
+    )
         requires cpu { cpu < self.now.cpus }
         requires passes { AreOf N.name self.now passes.old }
         requires serves { (d : Due) × IsServing direct passes.old cpu d (Runs d.n) }
-        ensures { (d : Due) → IsServing direct passes.old cpu d (Runs d.n) → IsEnded direct passes.old cpu act d result.reply (notes_in result.notes) passes.new }
+        ensures { (d : Due) → IsServing direct passes.old cpu d (Runs d.n) → IsEnded direct passes.old cpu act d made.new.reply (notes_in made.new.notes) passes.new }
     {
-        let (ended, leaves) = self.end_found(rt, passes, cpu, act, direct);
-        match leaves {
-            None => ended,
-            Some(moving) => with_last(ended, self.land(rt, passes, act, moving)),
+        let mut leaves = None;
+        self.end_found(rt, passes, cpu, act, direct, made, &mut leaves);
+        if let Some(moving) = leaves {
+            let last = self.land(rt, passes, act, moving);
+            add_last(made, last);
         }
     }
 
@@ -576,7 +584,9 @@ impl<N: Name> Service<N> {
         ensures actor { passes.new.actor ≡ passes.old.actor }
         ensures free { IsFree false passes.new cpu }
     {
-        self.end_lane(rt, passes, cpu, act, false)
+        let mut made = Made::none();
+        self.end_lane(rt, passes, cpu, act, false, &mut made);
+        made
     }
 
     /// The same for the CPU's interrupt, whose passes these are.
@@ -589,7 +599,9 @@ impl<N: Name> Service<N> {
         ensures actor { passes.new.actor ≡ passes.old.actor }
         ensures free { IsFree true passes.new cpu }
     {
-        self.end_lane(rt, passes, cpu, act, true)
+        let mut made = Made::none();
+        self.end_lane(rt, passes, cpu, act, true, &mut made);
+        made
     }
 
     /// Waits until no desk has callout `i`'s arming `n` in service. What a desk answers is decided by its books: whether its

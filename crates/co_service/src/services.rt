@@ -1,5 +1,5 @@
 //! The sections of a desk in which a callout is serviced, and its landing.
-ghost use Rattle.std.specs.Prelude.{◌≡◌, ◌≢◌, ◌<◌, ◌⊎◌, [], ◌∷◌, ◌++◌, IfErr, IfNone, IfOk, IfSome, false, nat_lt};
+ghost use Rattle.std.specs.Prelude.{◌≡◌, ◌≢◌, ◌<◌, ◌⊎◌, [], ◌∷◌, ◌++◌, IfErr, IfNone, IfOk, IfSome, false, nat_lt, true};
 ghost use Rattle.std.specs.Option.{option_map};
 ghost use Rattle.std.specs.declared.option.Option.TheVariants.{Some, None};
 ghost use Rattle.co_object.specs.declared.queue.QOp.TheVariants.{Insert};
@@ -135,8 +135,8 @@ impl<N: Name> Desk<N> {
         Some(Made { reply, notes })
     }
 
-    /// The service is over: of this CPU, or of its interrupt where `direct`. The callout where it leaves for another
-    /// CPU. None where the desk is of another CPU, and there alone.
+    /// The service is over: of this CPU, or of its interrupt where `direct`. The answer goes to its place, and so does the callout where
+    /// it leaves for another CPU. False where the desk is of another CPU, and there alone.
     pub(crate) fn end(
         &mut self,
         places: &Places,
@@ -144,17 +144,19 @@ impl<N: Name> Desk<N> {
         cpu: u32,
         act: u64,
         direct: bool,
-    ) -> Option<(Made, Option<Moving<N>>)>
+        made: &mut Made,
+        gone: &mut Option<Moving<N>>,
+    ) -> bool
         requires places { places.now ≡ N.name }
         requires name { passes.old.name ≡ N.name }
         requires serves { (d : Due) × IsServing direct passes.old cpu d (Runs d.n) }
-        ensures none { IfNone result (passes.new ≡ passes.old) }
-        ensures why { IfNone result (self.old.cpu ≢ cpu) }
-        ensures some { IfSome result (λ out. (d : Due) → IsServing direct passes.old cpu d (Runs d.n) → IsEndedBut direct passes.old cpu act d out.0.reply (target_of out.1) (notes_in out.0.notes) passes.new × IsOfService passes.old.params d.i out.1) }
-        ensures room { IfSome result (λ out. HasRoom out.0.notes) }
+        ensures none { result ≡ false → passes.new ≡ passes.old }
+        ensures why { result ≡ false → self.old.cpu ≢ cpu }
+        ensures some { result ≡ true → (d : Due) → IsServing direct passes.old cpu d (Runs d.n) → IsEndedBut direct passes.old cpu act d made.new.reply (target_of gone.new) (notes_in made.new.notes) passes.new × IsOfService passes.old.params d.i gone.new }
+        ensures room { result ≡ true → HasRoom made.new.notes }
     {
         if self.books.cpu() != cpu {
-            return None;
+            return false;
         }
         self.books.meet(places.cpus(), passes);
         let Some((i, n)) = serviced(&self.wheel, direct) else {
@@ -176,7 +178,10 @@ impl<N: Name> Desk<N> {
         let (n, due) = waited(&reply);
         let leaves = depart(&mut self.books, out.leaves, n, due);
         let notes = three(Some(ends), Some(frees), None);
-        Some((Made { reply, notes }, leaves))
+        made.reply = reply;
+        made.notes = notes;
+        *gone = leaves;
+        true
     }
 
     /// A callout comes here that is armed at this CPU. It is handed back where the desk is another CPU's, or has no such

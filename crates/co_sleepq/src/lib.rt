@@ -5,6 +5,7 @@
 #![tactic(auto)]
 
 mod book;
+mod bucket;
 mod ending;
 mod entry;
 mod fresh;

@@ -32,6 +32,6 @@ fn play<N: Name, R: Wait>(rt: &R, alloc: Global, fresh: SingleFresh) -> Result<S
 fn fires_what_is_due(rt: HostRuntime) -> Result<(), Fail> {
     let fresh = SingleFresh::boot(rt.alloc(), 2)?;
     let story = play::<Brand, _>(&rt, rt.alloc(), fresh)?;
-    assert_eq!(rt; story, (1, Some(Fired { i: 1, arg: 8 }), None));
+    assert!(rt; story == (1, Some(Fired { i: 1, arg: 8 }), None));
     Ok(())
 }

@@ -22,20 +22,29 @@ fn one_word(alloc: Global, word: &str) -> Result<Vec<String>, NoMemory> {
     }
 }
 
-/// What a command of one word writes for an input, where it is done.
-pub fn output<R: AllocGlobal + Threads + Wait + Sync>(
+/// How a command of one word ends for an input, and what it writes.
+pub fn answer<R: AllocGlobal + Threads + Wait + Sync>(
     rt: &R,
     word: &str,
     input: &[u8],
-) -> Result<Option<Seq<u8>>, NoMemory> {
+) -> Result<(Status, Seq<u8>), NoMemory> {
     let alloc = rt.alloc();
     let words = one_word(alloc, word)?;
     let mut source = MemSource::new(alloc, input, ROOM, &[])?;
     let mut sink = MemSink::new(alloc, ROOM, ROOM, &[])?;
     let gate = OpenGate {};
     let finish = callout_main(rt, alloc, words.as_slice(), &mut source, &mut sink, &gate);
-    match finish.status {
-        Status::Done => Ok(Some(Seq::copy_of(alloc, sink.bytes())?)),
+    Ok((finish.status, Seq::copy_of(alloc, sink.bytes())?))
+}
+
+/// What a command of one word writes for an input, where it is done.
+pub fn output<R: AllocGlobal + Threads + Wait + Sync>(
+    rt: &R,
+    word: &str,
+    input: &[u8],
+) -> Result<Option<Seq<u8>>, NoMemory> {
+    match answer(rt, word, input)? {
+        (Status::Done, text) => Ok(Some(text)),
         _ => Ok(None),
     }
 }

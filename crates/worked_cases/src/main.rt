@@ -1,14 +1,17 @@
 //! The worked scripts, each with its report: those of data/cases, whose reports are worked out by hand, and those of examples/.
 //!
 //! `steps` of a script has to write exactly its report, `check` to call the report legal, and `run` to write a report that `check`
-//! calls legal. A script for which all of this holds is named in a line.
+//! calls legal. A script for which all of this holds is named in a line. Of the tables of data/broken each line changes a report in one place, and
+//! `check` has to say of it what the line says; a table for which this holds is named with the number of its changes.
 #![tactic(auto)]
 
 mod call;
+mod changes;
 mod names;
 
 use crate::call::{is_legal, output};
-use crate::names::{CASES, EXAMPLES};
+use crate::changes::count_judged;
+use crate::names::{BROKEN, CASES, EXAMPLES};
 use co_sbt::NoMemory;
 use std::fs::{self, Files};
 use std::io;
@@ -61,11 +64,39 @@ fn are_worked<R: AllocGlobal + Files + Print + Threads + Wait + Sync>(
     Ok(all)
 }
 
+/// How many changes of the report of this name are judged as its table says.
+fn count_judged_at<R: AllocGlobal + Files + Threads + Wait + Sync>(
+    rt: &R,
+    name: &str,
+) -> io::Result<i64> {
+    let report = fs::read_to_string(rt, format!(in rt.alloc(); "cases/{name}.report")?.as_str())?;
+    let table = fs::read_to_string(
+        rt,
+        format!(in rt.alloc(); "broken/{name}.changes")?.as_str(),
+    )?;
+    match count_judged(rt, report.as_bytes(), table.as_bytes()) {
+        Ok(count) => Ok(count),
+        Err(_) => Ok(0),
+    }
+}
+
+/// Goes through the tables of changes. Where a change is judged in another way, the number of its line is printed below 0.
+fn are_judged<R: AllocGlobal + Files + Print + Threads + Wait + Sync>(rt: &R) -> io::Result<bool> {
+    let mut all = true;
+    for name in BROKEN {
+        let count = count_judged_at(rt, name)?;
+        println!(rt; "broken/{name} {count}")?;
+        all = all && count > 0;
+    }
+    Ok(all)
+}
+
 fn main(rt: HostRuntime) -> ExitCode {
     let cases = are_worked(&rt, "cases", CASES.as_slice());
     let examples = are_worked(&rt, "examples", EXAMPLES.as_slice());
-    match (cases, examples) {
-        (Ok(true), Ok(true)) => ExitCode::SUCCESS,
+    let broken = are_judged(&rt);
+    match (cases, examples, broken) {
+        (Ok(true), Ok(true), Ok(true)) => ExitCode::SUCCESS,
         _ => ExitCode::FAILURE,
     }
 }

@@ -1,7 +1,7 @@
 //! The names of the worked scripts.
 
-/// One CPU without locks, services and moves, version 2, and a drain that waits: by what they show.
-pub const CASES: [&str; 28] = [
+/// One CPU without locks, services and moves, version 2, a drain that waits, and the beginnings of a script that are scripts: by what they show.
+pub const CASES: [&str; 35] = [
     "empty",
     "one-firing",
     "a-tick-that-is-early",
@@ -30,6 +30,13 @@ pub const CASES: [&str; 28] = [
     "retire-during-service",
     "init-and-retire-at-rest",
     "a-drain-waits-for-a-service-on-another-CPU",
+    "beginning-to-the-timer",
+    "beginning-to-the-client",
+    "beginning-to-the-lock",
+    "beginning-to-the-reset",
+    "beginning-to-the-stop",
+    "beginning-to-the-CPU",
+    "beginning-to-the-tick",
 ];
 
 /// By the order in which the README and docs/RACES.md tell of them.
@@ -48,3 +55,6 @@ pub const EXAMPLES: [&str; 13] = [
     "return-unlocked",
     "shared-lock",
 ];
+
+/// The worked scripts whose reports are changed.
+pub const BROKEN: [&str; 2] = ["one-firing", "a-drain-waits-for-a-service-on-another-CPU"];

@@ -1,67 +1,9 @@
 //! Reports are judged.
-use crate::broken::{
-    DRAIN_EDITS, Edit, FIRING_DOUBLES, FIRING_DROPS, FIRING_OTHERS, FIRING_RESETS, FIRING_SERVICES,
-    FIRING_SWAPS, edited,
-};
-use crate::case::Case;
-use crate::examples::{DRAIN, ONE_FIRING};
+use crate::examples::ONE_FIRING;
 use crate::{check, make, steps};
 use co_io::{MemSink, MemSource};
 use co_top::Status;
-use std::process::Abort;
-use std::sync::Wait;
 use std::test::Fail;
-use std::thread::Threads;
-
-fn are_judged(
-    rt: &(impl AllocGlobal + Abort + Threads + Wait + Sync),
-    case: &Case,
-    edits: &[(Edit, Status, &str)],
-) -> Result<(), Fail> {
-    for (edit, status, line) in edits {
-        let report = edited(rt.alloc(), case.report.as_bytes(), *edit)?;
-        let outcome = check(rt, report.as_slice())?;
-        assert!(rt; outcome.status == *status, "{line}");
-        let wanted = format!(in rt.alloc(); "{line}\n")?;
-        assert!(rt; outcome.held.as_slice() == wanted.as_bytes());
-    }
-    Ok(())
-}
-
-#[test]
-fn lines_left_out(rt: HostRuntime) -> Result<(), Fail> {
-    are_judged(&rt, &ONE_FIRING, FIRING_DROPS.as_slice())
-}
-
-#[test]
-fn lines_twice(rt: HostRuntime) -> Result<(), Fail> {
-    are_judged(&rt, &ONE_FIRING, FIRING_DOUBLES.as_slice())
-}
-
-#[test]
-fn lines_in_another_order(rt: HostRuntime) -> Result<(), Fail> {
-    are_judged(&rt, &ONE_FIRING, FIRING_SWAPS.as_slice())
-}
-
-#[test]
-fn other_resets(rt: HostRuntime) -> Result<(), Fail> {
-    are_judged(&rt, &ONE_FIRING, FIRING_RESETS.as_slice())
-}
-
-#[test]
-fn other_services(rt: HostRuntime) -> Result<(), Fail> {
-    are_judged(&rt, &ONE_FIRING, FIRING_SERVICES.as_slice())
-}
-
-#[test]
-fn other_headings(rt: HostRuntime) -> Result<(), Fail> {
-    are_judged(&rt, &ONE_FIRING, FIRING_OTHERS.as_slice())
-}
-
-#[test]
-fn changes_of_the_drain(rt: HostRuntime) -> Result<(), Fail> {
-    are_judged(&rt, &DRAIN, DRAIN_EDITS.as_slice())
-}
 
 #[test]
 fn soak_counts(rt: HostRuntime) -> Result<(), Fail> {

@@ -1,5 +1,4 @@
 //! What is refused, and how.
-use crate::prefixes::PREFIXES;
 use crate::{call, steps};
 use co_io::{MemSink, MemSource};
 use co_top::Status;
@@ -27,6 +26,23 @@ const REFUSED: [(&str, &str); 6] = [
     ("", "line 0: version\n"),
     ("callout 1\n", "line 0: timer\n"),
 ];
+
+// A script whose beginnings are scripts too where they end behind a line, from the timer's on. Their reports are among those of worked_cases.
+const CANCELLED_WHILE_IT_WAITS: &str = r"callout 1
+funcs 1
+lock 0 mtx
+timer 0 mtx 0
+client 0
+lock 0
+reset 0 =1 f0 a0
+stop 0
+cpu 0
+tick 1
+turns c0*2 p0*3 c0
+";
+
+// How many bytes the lines up to the timer's have.
+const TO_THE_TIMER: usize = 43;
 
 fn refuses(
     rt: &(impl AllocGlobal + Abort + Threads + Wait + Sync),
@@ -112,23 +128,14 @@ fn refusal(alloc: Global, prefix: &[u8]) -> Result<String, AllocError> {
 
 #[test]
 fn beginnings_of_a_script(rt: HostRuntime) -> Result<(), Fail> {
-    let script = PREFIXES[7].script.as_bytes();
+    let script = CANCELLED_WHILE_IT_WAITS.as_bytes();
     for end in 0..script.len() {
         let prefix = &script[..end];
-        match PREFIXES
-            .iter()
-            .find(|case| case.script.as_bytes() == prefix)
-        {
-            Some(case) => {
-                let outcome = steps(&rt, prefix)?;
-                assert!(rt; outcome.status == Status::Done, "{}", case.name);
-                assert!(rt;
-                    outcome.held.as_slice() == case.report.as_bytes(),
-                    "{}",
-                    case.name
-                );
-            }
-            None => refuses(&rt, prefix, refusal(rt.alloc(), prefix)?.as_str())?,
+        if end >= TO_THE_TIMER && prefix.last() == Some(&b'\n') {
+            let outcome = steps(&rt, prefix)?;
+            assert!(rt; outcome.status == Status::Done);
+        } else {
+            refuses(&rt, prefix, refusal(rt.alloc(), prefix)?.as_str())?;
         }
     }
     Ok(())

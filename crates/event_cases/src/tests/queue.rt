@@ -26,23 +26,23 @@ fn waits_for_the_end_of_a_window(rt: HostRuntime) -> Result<(), Fail> {
     let five = two.sat_add(two).sat_add(second);
     let mut queue = EventQueue::new(rt.alloc(), 2)?;
     let mut out = [9; 2];
-    assert_eq!(rt; queue.next_event(), None);
-    assert_eq!(rt;
-        queue.arm(1, second, second),
-        Armed {
-            code: 0,
-            due: second
-        }
+    assert!(rt; queue.next_event() == None);
+    assert!(rt;
+        queue.arm(1, second, second)
+            == Armed {
+                code: 0,
+                due: second
+            }
     );
-    assert_eq!(rt; queue.arm(0, two, Sbt::zero()), Armed { code: 0, due: two });
-    assert_eq!(rt; queue.next_event(), Some(two));
+    assert!(rt; queue.arm(0, two, Sbt::zero()) == Armed { code: 0, due: two });
+    assert!(rt; queue.next_event() == Some(two));
     assert!(rt; !settles(&mut queue, five));
-    assert_eq!(rt; queue.take(&mut out), Some(Event { at: two, count: 2 }));
+    assert!(rt; queue.take(&mut out) == Some(Event { at: two, count: 2 }));
     // of one bucket the newest is the first
-    assert_eq!(rt; out, [0, 1]);
-    assert_eq!(rt; queue.take(&mut out), None);
+    assert!(rt; out == [0, 1]);
+    assert!(rt; queue.take(&mut out) == None);
     assert!(rt; settles(&mut queue, five));
-    assert_eq!(rt; queue.now(), five);
-    assert_eq!(rt; queue.stop(0), -1);
+    assert!(rt; queue.now() == five);
+    assert!(rt; queue.stop(0) == -1);
     Ok(())
 }

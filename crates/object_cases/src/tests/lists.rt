@@ -6,7 +6,7 @@ use std::test::Fail;
 
 /// The list has these numbers.
 fn has(rt: &impl Abort, numbers: &[u64], expected: &[u64]) {
-    assert_eq!(rt; numbers, expected);
+    assert!(rt; numbers == expected);
 }
 
 #[test]
@@ -19,7 +19,7 @@ fn grows_at_its_end(rt: HostRuntime) -> Result<(), Fail> {
     room.reserve(2)?;
     room.push(8);
     room.push(13);
-    assert_eq!(rt; room.len(), 4);
+    assert!(rt; room.len() == 4);
     has(&rt, room.into_seq().as_slice(), &[3, 5, 8, 13]);
     Ok(())
 }
@@ -28,7 +28,7 @@ fn grows_at_its_end(rt: HostRuntime) -> Result<(), Fail> {
 fn copies_and_replaces(rt: HostRuntime) -> Result<(), Fail> {
     let mut numbers = Seq::copy_of(rt.alloc(), &[3_u64, 5])?;
     numbers.extend_from_slice(&[8])?;
-    assert_eq!(rt; numbers.replace(1, 7), 5);
+    assert!(rt; numbers.replace(1, 7) == 5);
     has(&rt, numbers.as_slice(), &[3, 7, 8]);
     Ok(())
 }

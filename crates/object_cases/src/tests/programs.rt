@@ -91,12 +91,12 @@ fn callout_says(
     requires { IsScript script.now }
 {
     assert!(rt; cursor.act < 10);
-    assert_eq!(rt;
-        action_at(script, actor, cursor),
-        Action::Asks {
-            act: 0,
-            asked: Asked::Callout { i: 0, op: *op },
-        }
+    assert!(rt;
+        action_at(script, actor, cursor)
+            == Action::Asks {
+                act: 0,
+                asked: Asked::Callout { i: 0, op: *op },
+            }
     );
     let entry = AnyEntry::Timer(Entry {
         actor,
@@ -119,12 +119,12 @@ fn queue_says(
     requires { IsScript script.now }
 {
     assert!(rt; cursor.act < 10);
-    assert_eq!(rt;
-        action_at(script, actor, cursor),
-        Action::Asks {
-            act: 0,
-            asked: Asked::Queue { cpu: 0, op: *op },
-        }
+    assert!(rt;
+        action_at(script, actor, cursor)
+            == Action::Asks {
+                act: 0,
+                asked: Asked::Queue { cpu: 0, op: *op },
+            }
     );
     let entry = AnyEntry::Cpu(QEntry {
         actor,
@@ -140,7 +140,7 @@ fn ends(rt: &impl Abort, script: &Script, actor: u32, cursor: &Cursor)
     requires { IsScript script.now }
 {
     assert!(rt; cursor.act < 10);
-    assert_eq!(rt; action_at(script, actor, cursor), Action::Nothing);
+    assert!(rt; action_at(script, actor, cursor) == Action::Nothing);
 }
 
 #[test]
@@ -175,10 +175,10 @@ fn client_arms(rt: HostRuntime) -> Result<(), Fail> {
 #[test]
 fn cpu_serves(rt: HostRuntime) -> Result<(), Fail> {
     let script = one_firing(rt.alloc())?;
-    assert_eq!(rt; actor_count(&script), 2);
-    assert_eq!(rt; role_of(&script, 1), Role::Cpu(0));
+    assert!(rt; actor_count(&script) == 2);
+    assert!(rt; role_of(&script, 1) == Role::Cpu(0));
     let mut at = Cursor::start();
-    assert_eq!(rt; scans_first(&script, 1, &at), 0);
+    assert!(rt; scans_first(&script, 1, &at) == 0);
     let scan = QOp::Scan { now: due() };
     queue_says(&rt, &script, 1, &mut at, &scan, QReply::Count(1));
     let got = QReply::Got {
@@ -211,7 +211,7 @@ fn cpu_serves(rt: HostRuntime) -> Result<(), Fail> {
 fn clients_go_round_the_cpus(rt: HostRuntime) -> Result<(), Fail> {
     let mut script = one_firing(rt.alloc())?;
     script.cpus = 2;
-    assert_eq!(rt; cpu_of(&script, Role::Client(3)), 1);
-    assert_eq!(rt; cpu_of(&script, Role::Client(2)), 0);
+    assert!(rt; cpu_of(&script, Role::Client(3)) == 1);
+    assert!(rt; cpu_of(&script, Role::Client(2)) == 0);
     Ok(())
 }

@@ -66,34 +66,34 @@ fn cancelled_while_it_waits(rt: HostRuntime) {
     let mut looks = Looks::new();
     let mut out = CallOut::none();
     wheel.call_into(0, &reset_at(second, 0, None), &mut out);
-    assert_eq!(rt;
-        out.reply,
-        Reply::Armed {
-            code: 0,
-            n: 0,
-            cpu: 0,
-            off: None,
-        }
+    assert!(rt;
+        out.reply
+            == Reply::Armed {
+                code: 0,
+                n: 0,
+                cpu: 0,
+                off: None,
+            }
     );
-    assert_eq!(rt; out.inserted, Some(second));
-    assert_eq!(rt; wheel.scan(second, &mut looks), 1);
+    assert!(rt; out.inserted == Some(second));
+    assert!(rt; wheel.scan(second, &mut looks) == 1);
     let NextOut::Took { i, n, at, reply } = wheel.next() else {
         panic!(rt; "nothing has come due")
     };
     assert!(rt; i == 0 && n == 0 && at == second);
-    assert_eq!(rt; reply, Reply::Hold);
+    assert!(rt; reply == Reply::Hold);
     wheel.call_into(0, &STOP, &mut out);
-    assert_eq!(rt;
-        out.reply,
-        Reply::Stopped {
-            code: 1,
-            off: None,
-        }
+    assert!(rt;
+        out.reply
+            == Reply::Stopped {
+                code: 1,
+                off: None,
+            }
     );
     assert!(rt; !out.removed && out.inserted.is_none());
-    assert_eq!(rt; wheel.begin(), Reply::Skip);
+    assert!(rt; wheel.begin() == Reply::Skip);
     let ended = wheel.end();
-    assert_eq!(rt; ended.reply, ended_at_rest());
+    assert!(rt; ended.reply == ended_at_rest());
     assert!(rt; matches!(wheel.next(), NextOut::Empty));
 }
 
@@ -107,13 +107,13 @@ fn moved_at_its_end(rt: &impl Abort, alloc: Global) -> Option<Parcel>
     wheel.put(Record::new(0, spec_with(LockUse::Free, false), 0));
     let mut looks = Looks::new();
     let armed = wheel.call(0, &reset_at(Sbt::from_ticks(1, 1), 0, None));
-    assert_eq!(rt; armed.inserted, Some(Sbt::from_ticks(1, 1)));
-    assert_eq!(rt; wheel.scan(Sbt::from_ticks(1, 1), &mut looks), 1);
+    assert!(rt; armed.inserted == Some(Sbt::from_ticks(1, 1)));
+    assert!(rt; wheel.scan(Sbt::from_ticks(1, 1), &mut looks) == 1);
     let NextOut::Took { i, n, at, reply } = wheel.next() else {
         return None;
     };
     assert!(rt; i == 0 && n == 0 && at == Sbt::from_ticks(1, 1));
-    assert_eq!(rt; reply, Reply::Go { func: 0, arg: 0 });
+    assert!(rt; reply == Reply::Go { func: 0, arg: 0 });
     let moved = wheel.call(0, &reset_at(Sbt::from_ticks(2, 1), 1, Some(1)));
     assert!(rt; !moved.removed && moved.inserted.is_none() && moved.leaves.is_none());
     let ended = wheel.end();
@@ -130,19 +130,19 @@ fn deferred_move(rt: HostRuntime) {
         panic!(rt; "the callout stays")
     };
     let later = Sbt::from_ticks(2, 1);
-    assert_eq!(rt; (parcel.cpu(), parcel.callout()), (1, 0));
-    assert_eq!(rt; wheel.land(parcel), later);
+    assert!(rt; (parcel.cpu(), parcel.callout()) == (1, 0));
+    assert!(rt; wheel.land(parcel) == later);
     let mut looks = Looks::new();
-    assert_eq!(rt; wheel.scan(later, &mut looks), 1);
-    assert_eq!(rt; wheel.last(), later);
+    assert!(rt; wheel.scan(later, &mut looks) == 1);
+    assert!(rt; wheel.last() == later);
     let NextOut::Took { i, n, at, reply } = wheel.next() else {
         panic!(rt; "nothing has come due")
     };
     assert!(rt; i == 0 && n == 1 && at == later);
-    assert_eq!(rt; reply, Reply::Go { func: 0, arg: 1 });
-    assert_eq!(rt; wheel.serving(), Some((0, 1)));
+    assert!(rt; reply == Reply::Go { func: 0, arg: 1 });
+    assert!(rt; wheel.serving() == Some((0, 1)));
     let ended = wheel.end();
-    assert_eq!(rt; ended.reply, ended_at_rest());
+    assert!(rt; ended.reply == ended_at_rest());
     assert!(rt; matches!(wheel.next(), NextOut::Empty));
 }
 
@@ -157,26 +157,23 @@ fn both_lanes(rt: HostRuntime) {
     let mut looks = Looks::new();
     wheel.call(0, &reset_at(soon, 0, None));
     wheel.call(1, &reset_at(soon, 1, None));
-    assert_eq!(rt; wheel.scan(soon, &mut looks), 2);
+    assert!(rt; wheel.scan(soon, &mut looks) == 2);
     let NextOut::Took { i, n, at, reply } = wheel.next_direct() else {
         panic!(rt; "nothing has come due for the interrupt")
     };
     assert!(rt; i == 1 && n == 0 && at == soon);
-    assert_eq!(rt; reply, Reply::Go { func: 0, arg: 1 });
+    assert!(rt; reply == Reply::Go { func: 0, arg: 1 });
     let NextOut::Took { i, n, at, reply } = wheel.next() else {
         panic!(rt; "nothing has come due")
     };
     assert!(rt; i == 0 && n == 0 && at == soon);
-    assert_eq!(rt; reply, Reply::Go { func: 0, arg: 0 });
-    assert_eq!(rt;
-        (wheel.serving(), wheel.directing()),
-        (Some((0, 0)), Some((1, 0)))
-    );
+    assert!(rt; reply == Reply::Go { func: 0, arg: 0 });
+    assert!(rt; (wheel.serving(), wheel.directing()) == (Some((0, 0)), Some((1, 0))));
     let ended = wheel.end();
-    assert_eq!(rt; ended.reply, ended_at_rest());
-    assert_eq!(rt; (wheel.serving(), wheel.directing()), (None, Some((1, 0))));
+    assert!(rt; ended.reply == ended_at_rest());
+    assert!(rt; (wheel.serving(), wheel.directing()) == (None, Some((1, 0))));
     let ended = wheel.end_direct();
-    assert_eq!(rt; ended.reply, ended_at_rest());
+    assert!(rt; ended.reply == ended_at_rest());
     assert!(rt; wheel.directing().is_none());
     assert!(rt; matches!(wheel.next_direct(), NextOut::Empty));
 }

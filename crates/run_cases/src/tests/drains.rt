@@ -38,7 +38,7 @@ fn drain<R: Threads + Wait + Sync + Abort>(
     ];
     let lists = run_in_order(rt, alloc, text, &after, acts)?;
     // The reset's two notes, the drain that is to wait, and the one that waited.
-    assert_eq!(rt; notes_of(rt, &lists, 0).len(), 4);
+    assert!(rt; notes_of(rt, &lists, 0).len() == 4);
     Ok(())
 }
 

@@ -130,6 +130,6 @@ fn a_lock_for_each_cpu(rt: HostRuntime) -> Result<(), Fail> {
         code: 1,
         off: Some(2),
     };
-    assert_eq!(rt; stopped, PortReply::Reply(code));
+    assert!(rt; stopped == PortReply::Reply(code));
     Ok(())
 }

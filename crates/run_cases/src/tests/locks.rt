@@ -65,7 +65,7 @@ cpu 0
 tick 1
 ";
     let reply = reply_to_begin(&rt, rt.alloc(), text.as_slice(), &[3, 1])?;
-    assert_eq!(rt; reply, Some(Reply::Go { func: 0, arg: 5 }));
+    assert!(rt; reply == Some(Reply::Go { func: 0, arg: 5 }));
     Ok(())
 }
 
@@ -84,7 +84,7 @@ cpu 0
 tick 1
 ";
     let reply = reply_to_begin(&rt, rt.alloc(), text.as_slice(), &[4, 1])?;
-    assert_eq!(rt; reply, Some(Reply::Skip));
+    assert!(rt; reply == Some(Reply::Skip));
     Ok(())
 }
 

@@ -182,7 +182,7 @@ fn are_first<R: Abort>(rt: &R, calls: &Seq<PortCall>) {
         call(0, PlainOp::Pending, Reply::Yes),
         call(0, PlainOp::Stop, stopped(0)),
     ];
-    assert_eq!(rt; calls.as_slice(), wanted.as_slice());
+    assert!(rt; calls.as_slice() == wanted.as_slice());
 }
 
 /// The calls of the second function.
@@ -192,7 +192,7 @@ fn are_second<R: Abort>(rt: &R, calls: &Seq<PortCall>) {
         call(1, PlainOp::Active, Reply::Yes),
         call(1, PlainOp::Stop, stopped(2)),
     ];
-    assert_eq!(rt; calls.as_slice(), wanted.as_slice());
+    assert!(rt; calls.as_slice() == wanted.as_slice());
 }
 
 /// Runs both functions on a service that is booted for them, and judges their calls.
@@ -221,8 +221,8 @@ fn run_through_ports<R: Threads + Wait + Sync + Abort>(
 ) -> Result<(), NoMemory>
     requires { IsScript script.now }
 {
-    assert_eq!(rt; script.timers.as_slice().len(), 2);
-    assert_eq!(rt; script.cpus, 3);
+    assert!(rt; script.timers.as_slice().len() == 2);
+    assert!(rt; script.cpus == 3);
     let told = nothing_told(alloc, 2)?;
     let gate = Waits::new(&[], told.as_slice());
     run_functions(rt, alloc, script, &gate)?;

@@ -75,7 +75,7 @@ pub(super) fn are_legal<R: Abort>(
 ) -> Result<(), Failed>
     requires { IsRunOf script.now lists.now }
 {
-    assert_eq!(rt; verdict_of(alloc, script, lists)?, Verdict::Legal);
+    assert!(rt; verdict_of(alloc, script, lists)? == Verdict::Legal);
     Ok(())
 }
 

@@ -121,10 +121,10 @@ impl<'a> Waits<'a> {
 
     /// Each act was announced once and in its order, so many of each actor, and no wait gave up.
     pub(super) fn check<R: Abort>(&self, rt: &R, acts: &[u64]) {
-        assert_eq!(rt; self.faults.load(Ordering::SeqCst), 0);
-        assert_eq!(rt; self.told.len(), acts.len());
+        assert!(rt; self.faults.load(Ordering::SeqCst) == 0);
+        assert!(rt; self.told.len() == acts.len());
         for actor in 0..acts.len() {
-            assert_eq!(rt; self.announced(actor), Some(acts[actor]));
+            assert!(rt; self.announced(actor) == Some(acts[actor]));
         }
     }
 }

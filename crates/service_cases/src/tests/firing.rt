@@ -61,6 +61,6 @@ fn one_firing(rt: HostRuntime) -> Result<(), Fail> {
         turn(0, 3, p, QOp::Free, QReply::Freed),
         turn(0, 4, p, QOp::Pop, QReply::Empty),
     ];
-    assert_eq!(rt; notes.as_slice(), wanted.as_slice());
+    assert!(rt; notes.as_slice() == wanted.as_slice());
     Ok(())
 }

@@ -200,6 +200,6 @@ fn cancelled_while_it_waits(rt: HostRuntime) -> Result<(), Fail> {
         turn(0, 3, p, QOp::Free, QReply::Freed),
         turn(0, 4, p, QOp::Pop, QReply::Empty),
     ];
-    assert_eq!(rt; notes.as_slice(), wanted.as_slice());
+    assert!(rt; notes.as_slice() == wanted.as_slice());
     Ok(())
 }

@@ -62,11 +62,11 @@ fn play<N: Name, R: Wait + Abort>(
 
 #[test]
 fn visited_buckets(rt: HostRuntime) -> Result<(), Fail> {
-    assert_eq!(rt; bucket(1).raw(), 16777216);
-    assert_eq!(rt; bucket(2).raw(), 33554432);
+    assert!(rt; bucket(1).raw() == 16777216);
+    assert!(rt; bucket(2).raw() == 33554432);
     let (fresh, passes) = boot(rt.alloc(), 1, 1, 64, false)?;
     let (count, looks) = play::<Brand, _>(&rt, rt.alloc(), fresh, passes)?;
-    assert_eq!(rt; count, 3);
-    assert_eq!(rt; looks, 12);
+    assert!(rt; count == 3);
+    assert!(rt; looks == 12);
     Ok(())
 }

@@ -95,6 +95,6 @@ fn deferred_move(rt: HostRuntime) -> Result<(), Fail> {
         turn(1, 3, q, QOp::Free, QReply::Freed),
         turn(1, 4, q, QOp::Pop, QReply::Empty),
     ];
-    assert_eq!(rt; notes.as_slice(), wanted.as_slice());
+    assert!(rt; notes.as_slice() == wanted.as_slice());
     Ok(())
 }

@@ -108,6 +108,6 @@ fn retire_during_service(rt: HostRuntime) -> Result<(), Fail> {
         called(0, 8, who(0, 5), schedule(), Reply::NoHandler),
         turn(0, 5, h, QOp::PopDirect, QReply::Empty),
     ];
-    assert_eq!(rt; notes.as_slice(), wanted.as_slice());
+    assert!(rt; notes.as_slice() == wanted.as_slice());
     Ok(())
 }

@@ -58,8 +58,8 @@ fn a_timer_comes_late(rt: HostRuntime) -> Result<(), Fail> {
         SleepReply::Woke(1),
         SleepReply::Was(End::Woken),
     ];
-    assert_eq!(rt; replies, expected);
-    assert_eq!(rt; ticked, Ticked { out: 0, late: 1 });
+    assert!(rt; replies == expected);
+    assert!(rt; ticked == Ticked { out: 0, late: 1 });
     Ok(())
 }
 
@@ -127,10 +127,7 @@ fn a_sleep_times_out_at_its_very_time(rt: HostRuntime) -> Result<(), Fail> {
         SleepReply::Began(2),
         SleepReply::Was(End::TimedOut),
     ];
-    assert_eq!(rt; replies, expected);
-    assert_eq!(rt;
-        ticks,
-        [Ticked { out: 0, late: 0 }, Ticked { out: 1, late: 0 }]
-    );
+    assert!(rt; replies == expected);
+    assert!(rt; ticks == [Ticked { out: 0, late: 0 }, Ticked { out: 1, late: 0 }]);
     Ok(())
 }

@@ -194,10 +194,10 @@ fn play_all<N: SleepName + Send + Sync, R: Threads + Wait + Sync>(
 fn each_sleep_is_ended_once(rt: HostRuntime) -> Result<(), Fail> {
     let (fresh, passes) = SleepQueue::boot(rt.alloc(), 1, 2)?;
     let (slept, (woken, ticked)) = play_all::<Brand, HostRuntime>(&rt, rt.alloc(), fresh, passes)?;
-    assert_eq!(rt; slept.other, 0);
-    assert_eq!(rt; slept.woken.wrapping_add(slept.timed_out), 64);
-    assert_eq!(rt; slept.woken, woken);
-    assert_eq!(rt; slept.timed_out, ticked.out);
+    assert!(rt; slept.other == 0);
+    assert!(rt; slept.woken.wrapping_add(slept.timed_out) == 64);
+    assert!(rt; slept.woken == woken);
+    assert!(rt; slept.timed_out == ticked.out);
     assert!(rt; ticked.late <= woken);
     Ok(())
 }

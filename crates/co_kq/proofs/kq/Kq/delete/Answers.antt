@@ -1,9 +1,8 @@
-use Rattle.std.proofs.Common.{◌≡◌, ◌<◌, ap, sym, subst, ◌∙◌, arith, length, set}
+use Rattle.std.proofs.Common.{◌≡◌, ap, sym, subst, ◌∙◌, arith, length, set}
 use Rattle.co_kq.specs.Kevents.{deleted_count, deleted}
 use Rattle.co_kq.proofs.Adding.{none_deleted}
 use Rattle.std.proofs.lemmas.List.{length-set}
 use Rattle.co_kq.specs.Numbers.{AreKept, left_use}
-use Rattle.co_kq.proofs.Ending.{take_whole}
 use Rattle.co_kq.proofs.Putting.{is_below, gone_kept}
 use Rattle.co_kq.proofs.kq.Kq.delete.Goals as goal
 
@@ -20,23 +19,19 @@ returns-in_err-key-clause-list g c =
 
 pub release-requires : goal.release-requires
 release-requires g c =
-    subst (λ l. c.remove-slot.result.timer < length l) (sym c.as_mut_slice.ensures.value)
-    (is_below c.self.inside.uses.items c.remove-slot.result.timer c.in_ok-key.key (c.self.invariant.kept.numbered.held c.in_ok-key.key c.remove-slot.result c.remove-slot.ensures.was))
+    is_below c.self.inside.uses c.remove-slot.result.timer c.in_ok-key.key (c.self.invariant.kept.numbered.held c.in_ok-key.key c.remove-slot.result c.remove-slot.ensures.was)
 
 pub invariant_of-self : goal.invariant_of-self
 invariant_of-self g c =
     let e = c.remove-slot.ensures in
     let x = c.remove-slot.result in
-    let uses = c.self.inside.uses.items in
-    let written : c.release.new.uses ≡ set uses x.timer (left_use x) = c.release.ensures ∙ ap (λ l. set l x.timer (left_use x)) c.as_mut_slice.ensures.value in
-    let all : length c.release.new.uses ≡ length uses = ap length written ∙ length-set uses x.timer (left_use x) in
-    let long : length uses ≡ c.self.inside.uses.len = ap length (sym c.as_mut_slice.ensures.value) ∙ c.as_mut_slice.ensures.len in
-    let whole = take_whole c.release.new.uses uses c.self.inside.uses.len long all in
-    let kept : AreKept c.self.inside.work c.remove-slot.new.knotes.slots (set uses x.timer (left_use x)) c.self.inside.single =
-    gone_kept c.self.inside.work c.self.inside.knotes c.remove-slot.new.knotes uses c.self.inside.single c.in_ok-key.key x c.self.invariant.kept e.was e.distinct e.len e.updates in
+    let uses = c.self.inside.uses in
+    let all : length c.release.new.self ≡ length uses = ap length c.release.ensures ∙ length-set uses x.timer (left_use x) in
+    let kept : AreKept c.self.inside.work c.remove-slot.new.self.slots (set uses x.timer (left_use x)) c.self.inside.single =
+    gone_kept c.self.inside.work c.self.inside.knotes c.remove-slot.new.self uses c.self.inside.single c.in_ok-key.key x c.self.invariant.kept e.was e.distinct e.len e.updates in
     record {
-      kept = subst (λ u. AreKept c.self.inside.work c.remove-slot.new.knotes.slots u c.self.inside.single) (sym (whole ∙ written)) kept;
-      all = ap length whole ∙ (all ∙ c.self.invariant.all);
+      kept = subst (λ u. AreKept c.self.inside.work c.remove-slot.new.self.slots u c.self.inside.single) (sym c.release.ensures) kept;
+      all = all ∙ c.self.invariant.all;
       has = omega (arith, e.capacity, c.self.invariant.has);
       last = c.self.invariant.last;
     }

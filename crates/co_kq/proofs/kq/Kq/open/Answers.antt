@@ -7,7 +7,7 @@ use Rattle.co_kq.proofs.kq.Kq.open.Goals as goal
 pub invariant_of-result : goal.invariant_of-result
 invariant_of-result g c =
     let new : IsNew c.fresh.inside.room c.in_ok-single.single = subst (λ n. IsNew n c.in_ok-single.single) (sym c.fresh.invariant.0) c.in_ok-single.ensures in
-    opened c.zero.result c.fresh.inside.room c.in_ok-knotes.knotes c.in_ok-uses.uses.items c.in_ok-single.single c.zero.ensures new c.in_ok-knotes.ensures.empty c.in_ok-uses.ensures c.in_ok-knotes.ensures.capacity c.fresh.invariant.1
+    opened c.zero.result c.fresh.inside.room c.in_ok-knotes.knotes c.in_ok-uses.uses c.in_ok-single.single c.zero.ensures new c.in_ok-knotes.ensures.empty c.in_ok-uses.ensures c.in_ok-knotes.ensures.capacity c.fresh.invariant.1
 
 pub returns : goal.returns
 returns g c =

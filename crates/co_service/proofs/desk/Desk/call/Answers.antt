@@ -1,4 +1,4 @@
-use Rattle.std.proofs.Common.{◌≡◌, ℕ, List, sym, ap, ◌∙◌, subst, arith}
+use Rattle.std.proofs.Common.{◌≡◌, ℕ, List, sym, ap, ◌∙◌, subst, arith, true≢false}
 use Rattle.std.specs.Prelude.{is_some}
 use Rattle.std.specs.declared.option.Option.{Option}
 use Rattle.std.specs.declared.option.Option.TheVariants.{Some}
@@ -51,31 +51,30 @@ invariant_of-self g c =
     (c.write_group-notes.ensures.goes_on c.call-out.new.self (owes_section c.self.inside.wheel c.call-out.new.self c.meet.new.self c.self.inside.scans c.args.i c.args.op.now c.call-out.result here.0 desk here.1 c.call-out.ensures))
     (let before = desk.counted in let same = c.write_group-notes.ensures.scans in omega arith))
 
-pub returns-clause-some : goal.returns-clause-some
-returns-clause-some g c =
-    let desk : IsDesk c.self.inside.wheel c.meet.new.self c.self.inside.scans = subst (λ b. IsDesk c.self.inside.wheel b c.self.inside.scans) (sym c.meet.ensures.kept) c.self.invariant in
-    let same : is_kept c.meet.new.self c.args.i ≡ is_kept c.self.inside.books c.args.i = ap (λ (b : BooksView). is_kept b c.args.i) c.meet.ensures.kept in
-    let here : (H : List Entry) × (history_at c.meet.new.self c.args.i ≡ Some H) = some_of (history_at c.meet.new.self c.args.i) (cc) in
-    let params : c.meet.new.self.params ≡ c.meet.new.passes.params = ap (λ (b : BooksView). b.params) c.meet.ensures.kept ∙ (c.meet.ensures.params ∙ ap (λ (p : PassesView). p.params) (sym c.meet.ensures.passes)) in
-    let moves = c.depart-leaves.ensures.moving ∙ (λ d. moving_from c.write_group-notes.new.books (c.number-n.ensures d) (c.time.ensures d) c.call-out.result.leaves) in
-    subst (λ (t : PassesView × Option MovingView). IsAnswer t.0 c.args.act c.args.i c.args.op.now c.call-out.result.reply (target_of t.1) (notes_in c.write_group-notes.result) c.write_group-notes.new.passes) (λ d. (c.meet.ensures.passes d, sym moves d))
-    (answer_section c.self.inside.wheel c.call-out.new.self c.meet.new.self c.self.inside.scans c.args.i c.args.op.now c.call-out.result here.0 desk here.1 c.call-out.ensures c.meet.new.passes c.args.act c.write_group-notes.new.books c.write_group-notes.ensures.books
-    c.write_group-notes.new.passes (notes_in c.write_group-notes.result) params c.write_group-notes.ensures.placed c.write_group-notes.ensures.seen c.write_group-notes.ensures.written)
-
-pub returns-clause-leaves : goal.returns-clause-leaves
-returns-clause-leaves g c =
-    let desk : IsDesk c.self.inside.wheel c.meet.new.self c.self.inside.scans = subst (λ b. IsDesk c.self.inside.wheel b c.self.inside.scans) (sym c.meet.ensures.kept) c.self.invariant in
-    let same : is_kept c.meet.new.self c.args.i ≡ is_kept c.self.inside.books c.args.i = ap (λ (b : BooksView). is_kept b c.args.i) c.meet.ensures.kept in
-    let here : (H : List Entry) × (history_at c.meet.new.self c.args.i ≡ Some H) = some_of (history_at c.meet.new.self c.args.i) (cc) in
-    let params : c.meet.new.self.params ≡ c.args.passes.now.params = ap (λ (b : BooksView). b.params) c.meet.ensures.kept ∙ c.meet.ensures.params in
-    let moves = c.depart-leaves.ensures.moving ∙ (λ d. moving_from c.write_group-notes.new.books (c.number-n.ensures d) (c.time.ensures d) c.call-out.result.leaves) in
-    subst (λ (m : Option MovingView). IsOfService c.args.passes.now.params c.args.i m) (sym moves)
-    (service_section c.self.inside.wheel c.call-out.new.self c.meet.new.self c.self.inside.scans c.args.i c.args.op.now c.call-out.result here.0 desk here.1 c.call-out.ensures c.meet.new.passes c.args.act c.write_group-notes.new.books c.write_group-notes.ensures.books c.args.passes.now.params params)
-
-pub returns-clause-room : goal.returns-clause-room
-returns-clause-room g c = λ some.
-    let desk : IsDesk c.self.inside.wheel c.meet.new.self c.self.inside.scans = subst (λ b. IsDesk c.self.inside.wheel b c.self.inside.scans) (sym c.meet.ensures.kept) c.self.invariant in
-    let same : is_kept c.meet.new.self c.args.i ≡ is_kept c.self.inside.books c.args.i = ap (λ (b : BooksView). is_kept b c.args.i) c.meet.ensures.kept in
-    let here : (H : List Entry) × (history_at c.meet.new.self c.args.i ≡ Some H) = some_of (history_at c.meet.new.self c.args.i) (cc) in
-    c.write_group-notes.ensures.room (leaves_nothing c.self.inside.wheel c.call-out.new.self c.meet.new.self c.self.inside.scans c.args.i c.args.op.now c.call-out.result here.0 desk here.1 c.call-out.ensures
-    c.write_group-notes.new.books c.number-n.result c.time.result (ap is_some (sym c.depart-leaves.ensures.moving) ∙ some))
+pub returns-clause-tried : goal.returns-clause-tried
+returns-clause-tried g c = record {
+  none = λ gone. absurd (true≢false gone);
+  answer = λ _.
+      let desk : IsDesk c.self.inside.wheel c.meet.new.self c.self.inside.scans = subst (λ b. IsDesk c.self.inside.wheel b c.self.inside.scans) (sym c.meet.ensures.kept) c.self.invariant in
+      let same : is_kept c.meet.new.self c.args.i ≡ is_kept c.self.inside.books c.args.i = ap (λ (b : BooksView). is_kept b c.args.i) c.meet.ensures.kept in
+      let here : (H : List Entry) × (history_at c.meet.new.self c.args.i ≡ Some H) = some_of (history_at c.meet.new.self c.args.i) (cc) in
+      let params : c.meet.new.self.params ≡ c.meet.new.passes.params = ap (λ (b : BooksView). b.params) c.meet.ensures.kept ∙ (c.meet.ensures.params ∙ ap (λ (p : PassesView). p.params) (sym c.meet.ensures.passes)) in
+      let moves = c.depart-leaves.ensures.moving ∙ (λ d. moving_from c.write_group-notes.new.books (c.number-n.ensures d) (c.time.ensures d) c.call-out.result.leaves) in
+      subst (λ (t : PassesView × Option MovingView). IsAnswer t.0 c.args.act c.args.i c.args.op.now c.call-out.result.reply (target_of t.1) (notes_in c.write_group-notes.result) c.write_group-notes.new.passes) (λ d. (c.meet.ensures.passes d, sym moves d))
+      (answer_section c.self.inside.wheel c.call-out.new.self c.meet.new.self c.self.inside.scans c.args.i c.args.op.now c.call-out.result here.0 desk here.1 c.call-out.ensures c.meet.new.passes c.args.act c.write_group-notes.new.books c.write_group-notes.ensures.books
+      c.write_group-notes.new.passes (notes_in c.write_group-notes.result) params c.write_group-notes.ensures.placed c.write_group-notes.ensures.seen c.write_group-notes.ensures.written);
+  leaving = λ _.
+      let desk : IsDesk c.self.inside.wheel c.meet.new.self c.self.inside.scans = subst (λ b. IsDesk c.self.inside.wheel b c.self.inside.scans) (sym c.meet.ensures.kept) c.self.invariant in
+      let same : is_kept c.meet.new.self c.args.i ≡ is_kept c.self.inside.books c.args.i = ap (λ (b : BooksView). is_kept b c.args.i) c.meet.ensures.kept in
+      let here : (H : List Entry) × (history_at c.meet.new.self c.args.i ≡ Some H) = some_of (history_at c.meet.new.self c.args.i) (cc) in
+      let params : c.meet.new.self.params ≡ c.args.passes.now.params = ap (λ (b : BooksView). b.params) c.meet.ensures.kept ∙ c.meet.ensures.params in
+      let moves = c.depart-leaves.ensures.moving ∙ (λ d. moving_from c.write_group-notes.new.books (c.number-n.ensures d) (c.time.ensures d) c.call-out.result.leaves) in
+      subst (λ (m : Option MovingView). IsOfService c.args.passes.now.params c.args.i m) (sym moves)
+      (service_section c.self.inside.wheel c.call-out.new.self c.meet.new.self c.self.inside.scans c.args.i c.args.op.now c.call-out.result here.0 desk here.1 c.call-out.ensures c.meet.new.passes c.args.act c.write_group-notes.new.books c.write_group-notes.ensures.books c.args.passes.now.params params);
+  room = λ _ some.
+      let desk : IsDesk c.self.inside.wheel c.meet.new.self c.self.inside.scans = subst (λ b. IsDesk c.self.inside.wheel b c.self.inside.scans) (sym c.meet.ensures.kept) c.self.invariant in
+      let same : is_kept c.meet.new.self c.args.i ≡ is_kept c.self.inside.books c.args.i = ap (λ (b : BooksView). is_kept b c.args.i) c.meet.ensures.kept in
+      let here : (H : List Entry) × (history_at c.meet.new.self c.args.i ≡ Some H) = some_of (history_at c.meet.new.self c.args.i) (cc) in
+      c.write_group-notes.ensures.room (leaves_nothing c.self.inside.wheel c.call-out.new.self c.meet.new.self c.self.inside.scans c.args.i c.args.op.now c.call-out.result here.0 desk here.1 c.call-out.ensures
+      c.write_group-notes.new.books c.number-n.result c.time.result (ap is_some (sym c.depart-leaves.ensures.moving) ∙ some));
+}

@@ -75,7 +75,7 @@ invariant_of-self g c =
     (freed_desk c.args.direct c.self.inside.wheel c.finish-out.new.wheel c.meet_timer.new.self c.self.inside.scans c.meet_timer.new.passes c.args.act e s.0 s.1 c.finish-out.result c.finish-out.ensures c.args.cpu here c.write_run-ends.new.books c.write_run-ends.ensures.books (turn c.write_run-ends.new.passes c.args.act c.free.result Freed) c.free.ensures refl c.write_turn-frees.new.books c.write_turn-frees.ensures.books)
 
 pub returns-clause-some : goal.returns-clause-some
-returns-clause-some g c = λ d is.
+returns-clause-some g c = λ _ d is.
     let met : Meets c.self.inside.wheel c.self.inside.books c.self.inside.scans c.args.cpu c.args.passes.now = record { desk = c.self.invariant; legal = c.meet.ensures.legal; shown = c.meet.ensures.shown; params = c.meet.ensures.params; here = (let n = c.cpu.ensures in let f = c.if-cpu.false in omega arith) } in
     let here : c.meet_timer.new.self.cpu ≡ c.args.cpu = (let k = ap (λ (b : BooksView). b.cpu) c.meet.ensures.kept in let m = ap (λ (b : BooksView). b.cpu) c.meet_timer.ensures.kept in let n = c.cpu.ensures in let f = c.if-cpu.false in omega arith) in
     let e : Due = record { i = c.in-Some.i; n = c.in-Some.n } in
@@ -98,7 +98,7 @@ returns-clause-some g c = λ d is.
     )
 
 pub returns-clause-room : goal.returns-clause-room
-returns-clause-room g c = (Some c.write_run-ends.result, Some c.write_turn-frees.result, c.three-notes.ensures)
+returns-clause-room g c = λ _. (Some c.write_run-ends.result, Some c.write_turn-frees.result, c.three-notes.ensures)
 
 pub unreachable-requires : goal.unreachable-requires
 unreachable-requires g c =

@@ -8,16 +8,16 @@ pub returns-clause-of : goal.returns-clause-of
 returns-clause-of g c =
     let out = c.end_lane in
     let s = c.requires.serves in
-    still_of g.N.Name.name c.args.self.now c.args.passes.now out.new.passes (ended_same true c.args.passes.now out.new.passes c.args.cpu c.args.act s.0 out.result.reply (notes_in out.result.notes) (out.ensures s.0 s.1)) c.requires.passes
+    still_of g.N.Name.name c.args.self.now c.args.passes.now out.new.passes (ended_same true c.args.passes.now out.new.passes c.args.cpu c.args.act s.0 out.new.made.reply (notes_in out.new.made.notes) (out.ensures s.0 s.1)) c.requires.passes
 
 pub returns-clause-actor : goal.returns-clause-actor
 returns-clause-actor g c =
     let out = c.end_lane in
     let s = c.requires.serves in
-    (ended_same true c.args.passes.now out.new.passes c.args.cpu c.args.act s.0 out.result.reply (notes_in out.result.notes) (out.ensures s.0 s.1)).actor
+    (ended_same true c.args.passes.now out.new.passes c.args.cpu c.args.act s.0 out.new.made.reply (notes_in out.new.made.notes) (out.ensures s.0 s.1)).actor
 
 pub returns-clause-free : goal.returns-clause-free
 returns-clause-free g c =
     let out = c.end_lane in
     let s = c.requires.serves in
-    ended_free true c.args.passes.now out.new.passes c.args.cpu c.args.act s.0 out.result.reply (notes_in out.result.notes) (out.ensures s.0 s.1) s.1
+    ended_free true c.args.passes.now out.new.passes c.args.cpu c.args.act s.0 out.new.made.reply (notes_in out.new.made.notes) (out.ensures s.0 s.1) s.1

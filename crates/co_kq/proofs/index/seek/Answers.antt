@@ -1,0 +1,37 @@
+use Rattle.std.proofs.Common.{ℕ, ◌+◌, ◌-◌, ◌/◌, ◌<◌, ◌≤◌, subst, sym, arith, inl, inr}
+use Rattle.std.proofs.lemmas.Bool.{cases_eq}
+use Rattle.co_kq.specs.Index.{place_at}
+use Rattle.co_kq.proofs.Indexing.{falling_at}
+use Rattle.co_kq.proofs.index.seek.Goals as goal
+
+pub loop-low-preserved-then-ident-places : goal.loop-low-preserved-then-ident-places
+loop-low-preserved-then-ident-places c =
+    let ps = c.args.places.now in
+    let middle : ℕ = c.loop-low.low + (c.loop-low.high - c.loop-low.low) / 2 in
+    let inside : middle < c.loop-low.high = omega arith in
+    let test : c.args.ident < (place_at ps middle).ident = c.if-ident-places.true in
+    record {
+      order = omega arith;
+      within = c.loop-low.invariant.within;
+      above = λ j low. elim (cases_eq j middle) [
+        | inl here ↦ subst (λ k. c.args.ident < (place_at ps k).ident) (sym here) test
+        | inr there ↦ let less = falling_at ps j middle c.requires (omega (arith, low, there)) (omega (arith, inside, c.loop-low.invariant.within)) in omega (arith, less, test)
+      ];
+      below = c.loop-low.invariant.below;
+    }
+
+pub loop-low-preserved : goal.loop-low-preserved
+loop-low-preserved c =
+    let ps = c.args.places.now in
+    let middle : ℕ = c.loop-low.low + (c.loop-low.high - c.loop-low.low) / 2 in
+    let inside : middle < c.loop-low.high = omega arith in
+    let test : (place_at ps middle).ident ≤ c.args.ident = c.if-ident-places.false in
+    record {
+      order = omega arith;
+      within = omega (arith, inside, c.loop-low.invariant.within);
+      above = c.loop-low.invariant.above;
+      below = λ j high low. elim (cases_eq j middle) [
+        | inl here ↦ subst (λ k. (place_at ps k).ident ≤ c.args.ident) (sym here) test
+        | inr there ↦ let less = falling_at ps middle j c.requires (omega (arith, high, there)) low in omega (arith, less, test)
+      ];
+    }

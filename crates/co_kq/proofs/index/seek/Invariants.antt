@@ -1,0 +1,15 @@
+use Rattle.std.proofs.Common.{◌-◌, ℕ, ◌≤◌, ◌<◌, length}
+use Rattle.co_kq.specs.Index.{place_at}
+use Rattle.co_kq.proofs.index.seek.Given as goal
+
+-- the place lies between the two
+abbrev pub invariant-loop-low : goal.invariant-loop-low
+invariant-loop-low l = record {
+  order : l.low ≤ l.high;
+  within : l.high ≤ length l.places;
+  above : (j : ℕ) → j < l.low → l.ident < (place_at l.places j).ident;
+  below : (j : ℕ) → l.high ≤ j → j < length l.places → (place_at l.places j).ident ≤ l.ident;
+}
+
+abbrev pub decreases-loop-low : goal.decreases-loop-low
+decreases-loop-low l = l.high - l.low

@@ -1,0 +1,124 @@
+//! Keys by ident.
+ghost use Rattle.std.specs.Prelude.{◌≢◌, true, false, ◌≡◌, ℕ, ◌≤◌, ◌<◌, None, Some, [], length, slice_index_or, IfOk, IfNone, IfSome};
+ghost use Rattle.co_kq.specs.Index.{AreFalling, IsChanged, IsFirst, key_of, place_at};
+
+use co_sbt::NoMemory;
+use std::alloc::Global;
+use std::marker::Model;
+
+/// An ident and its key.
+#[derive(Clone, Copy)]
+pub struct Place {
+    pub ident: u64,
+    pub key: usize,
+}
+
+/// Keys by ident, with room that is taken once: finding one takes a binary search, and putting one in or taking one out moves
+/// those of lower idents.
+#[derive(Drop)]
+pub struct Index {
+    /// The highest ident first.
+    places: Vec<Place>,
+}
+
+impl Model for Index {
+    ghost use Rattle.std.specs.Prelude.{◌≢◌, true, false, vec_capacity};
+    ghost use Rattle.co_kq.specs.Index.{AreFalling, IndexView};
+
+    ghost Value = { IndexView };
+
+    ghost view = { λ x. record { places = x.places.items; room = vec_capacity x.places } };
+
+    ghost invariant = { λ x. AreFalling x.places.items };
+}
+
+/// How many idents are higher than this.
+fn seek(places: &[Place], ident: u64) -> usize
+    requires { AreFalling places.now }
+    ensures within { result ≤ length places.now }
+    ensures above { (j : ℕ) → j < result → ident < (place_at places.now j).ident }
+    ensures below { (j : ℕ) → result ≤ j → j < length places.now → (place_at places.now j).ident ≤ ident }
+{
+    let mut low = 0;
+    let mut high = places.len();
+    while low < high {
+        let middle = low + (high - low) / 2;
+        if ident < places[middle].ident {
+            low = middle + 1;
+        } else {
+            high = middle;
+        }
+    }
+    low
+}
+
+/// Whether an ident stands at this place.
+fn is_at(places: &[Place], at: usize, ident: u64) -> bool
+    ensures yes { result ≡ true → (at < length places.now) × ((place_at places.now at).ident ≡ ident) }
+    ensures no { result ≡ false → at < length places.now → (place_at places.now at).ident ≢ ident }
+{
+    at < places.len() && places[at].ident == ident
+}
+
+impl Index {
+    /// No keys, with room for so many. This alone takes memory.
+    pub fn new(alloc: Global, room: usize) -> Result<Index, NoMemory>
+        ensures empty { IfOk result (λ index. index.places ≡ []) }
+        ensures room { IfOk result (λ index. room ≤ index.room) }
+    {
+        match Vec::with_capacity(alloc, room) {
+            Ok(places) => Ok(Index { places }),
+            Err(_) => Err(NoMemory {}),
+        }
+    }
+
+    /// The key of an ident.
+    pub fn find(&self, ident: u64) -> Option<usize>
+        ensures { result ≡ key_of ident self.now.places }
+    {
+        let places = self.places.as_slice();
+        let at = seek(places, ident);
+        if is_at(places, at, ident) {
+            Some(places[at].key)
+        } else {
+            None
+        }
+    }
+
+    /// Puts in the key of an ident that has none, where there is room.
+    pub fn insert(&mut self, ident: u64, key: usize)
+        requires absent { key_of ident self.old.places ≡ None }
+        requires room { length self.old.places < self.old.room }
+        ensures changed { IsChanged self.old.places ident (Some key) self.new.places }
+        ensures room { self.new.room ≡ self.old.room }
+    {
+        let at = seek(self.places.as_slice(), ident);
+        match self.places.insert(at, Place { ident, key }) {
+            Ok(()) => {}
+            Err(_) => unreachable!(),
+        }
+    }
+
+    /// Takes out the key of an ident, if it has one.
+    pub fn remove(&mut self, ident: u64)
+        ensures changed { IsChanged self.old.places ident None self.new.places }
+        ensures room { self.new.room ≡ self.old.room }
+    {
+        let at = seek(self.places.as_slice(), ident);
+        if is_at(self.places.as_slice(), at, ident) {
+            self.places.remove(at);
+        }
+    }
+
+    /// The key of the lowest ident.
+    pub fn first(&self) -> Option<usize>
+        ensures some { IfSome result (IsFirst self.now.places) }
+        ensures none { IfNone result (self.now.places ≡ []) }
+    {
+        if self.places.is_empty() {
+            return None;
+        }
+        let last = self.places.len() - 1;
+        Some(self.places[last].key)
+    }
+}
