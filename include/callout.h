@@ -2,8 +2,8 @@
  *
  * The library has no clock, no thread, no lock and no call back: the program says what time it is, asks what is to be
  * called, and calls it. No call but callout_wheel_new takes memory, and none waits. Each answers 0 (or what its line says)
- * or a negative errno, and then neither the wheel nor what a pointer leads to has changed. Any value is safe. Of what is
- * behind the pointers C owes three things:
+ * or a negative errno, by Linux's numbers, and then neither the wheel nor what a pointer leads to has changed. Any value is
+ * safe. Of what is behind the pointers C owes three things:
  *   - a handle is all zero or as these calls left it, and is not copied;
  *   - no two pointers of one call lead to the same or to nothing;
  *   - one lock of the program's, or one thread, is round all calls on one handle.
