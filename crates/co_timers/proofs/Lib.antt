@@ -1,0 +1,4 @@
+pub mod Replies
+pub mod Groups
+pub mod Told
+pub mod Asked
