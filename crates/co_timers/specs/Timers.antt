@@ -22,7 +22,8 @@ pub record HaveLocks (kinds : List LockKind) (p : Params) : Type 0 where
   pub each : (i : ℕ) (held : Held) → hold_of (spec_at p i).lock ≡ Some held → MayTake kinds held.exclusive held.id
 
 -- the service has these parameters, which are within the limits, and all locks that its callouts name are there
-pub record AreTimers (service params : Params) (kinds : List LockKind) : Type 0 where
+pub record AreTimers (service params : Params) (locks kinds : List LockKind) : Type 0 where
   pub same : service ≡ params
+  pub kinds_are : kinds ≡ locks
   pub limits : AreParams params
-  pub locks : HaveLocks kinds params
+  pub locks_are : HaveLocks locks params

@@ -4,6 +4,8 @@ ghost use Rattle.std.specs.Option.{option_copied};
 ghost use Rattle.std.specs.declared.option.Option.TheVariants.{Some};
 ghost use Rattle.co_object.specs.declared.op.CallOp.TheVariants.{Plain};
 ghost use Rattle.co_object.specs.declared.op.PlainOp.TheVariants.{AsyncDrain, Reset as ResetOp, Schedule, Stop};
+ghost use Rattle.co_service.specs.Views.{AreOf};
+ghost use Rattle.co_timers.specs.Handles.{IsHandle};
 ghost use Rattle.co_timers.specs.Answers.{IsAnswer, async_word, reset_word, stop_word};
 ghost use Rattle.co_timers.specs.Drains.{IsDrained};
 
@@ -95,6 +97,26 @@ fn async_word(reply: &Reply) -> AsyncDrained
 }
 
 impl<'a, N: Name> Client<'a, N> {
+    /// The handle of an actor that has these passes, before its first act.
+    pub(crate) fn new(timers: &'a Timers<N>, passes: Passes) -> Client<'a, N>
+        requires { IsHandle N.name timers.now.params passes }
+        ensures { result ≡ record { passes = passes; act = 0 } }
+    {
+        Client {
+            timers,
+            passes,
+            act: 0,
+        }
+    }
+
+    /// What it has seen.
+    pub(crate) fn into_passes(self) -> Passes
+        ensures passes { result ≡ self.entry.passes }
+        ensures of { AreOf N.name self.entry.passes.params result }
+    {
+        self.passes
+    }
+
     /// A call on callout `i`, with the callout's reply. `hold` is the client lock that the caller holds, if it holds one.
     ///
     /// The reply is that of the callout alone after what the client has seen of it and what others did since.

@@ -3,8 +3,12 @@
 
 mod answers;
 mod client;
+mod fresh;
+mod posts;
 mod timers;
 
 pub use answers::{AsyncDrained, Drained, Refused, Reset, Stopped};
 pub use client::Client;
+pub use fresh::TimersFresh;
+pub use posts::Posts;
 pub use timers::Timers;

@@ -1,9 +1,9 @@
 //! The open service with its client locks.
-ghost use Rattle.std.specs.Prelude.{◌≡◌, ◌<◌, ℕ, Bool, IfErr, IfOk, false, true};
+ghost use Rattle.std.specs.Prelude.{◌≡◌, ◌≢◌, ◌≤◌, [], ℕ, Bool, IfErr, IfNone, IfOk, IfSome, false, length, replicate, slice_get, true};
 ghost use Rattle.std.specs.Option.{option_copied};
 ghost use Rattle.std.specs.declared.option.Option.TheVariants.{Some, None};
 ghost use Rattle.co_object.specs.Queue.{Due};
-ghost use Rattle.co_service.specs.Params.{spec_at};
+ghost use Rattle.co_service.specs.Params.{actor_count, spec_at};
 ghost use Rattle.co_service.specs.Services.{IsFree, IsServing};
 ghost use Rattle.co_service.specs.Serving.{Service as Progress};
 ghost use Rattle.co_object.specs.declared.op.CallOp.TheVariants.{DrainTry};
@@ -12,10 +12,13 @@ ghost use Rattle.co_timers.specs.Drains.{IsDrainOf, SaysTry, is_try};
 ghost use Rattle.co_timers.specs.Answers.{is_cpu, names_cpu, refusal, uncovered};
 ghost use Rattle.co_timers.specs.Handles.{IsHandle};
 
-use crate::{Drained, Refused};
-use co_lock::{ClientLocks, Held, Hold, covers};
+use crate::posts::open_posts;
+use crate::{Drained, Posts, Refused, TimersFresh};
+use co_lock::{ClientLocks, Held, Hold, LockKind, covers};
 use co_object::{CallOp, LockUse, PlainOp, Reply, Spec};
+use co_sbt::{NoMemory, Seq};
 use co_service::{Name, Params, Passes, Service};
+use std::alloc::Global;
 use std::marker::Model;
 use std::sync::Wait;
 
@@ -27,6 +30,8 @@ pub struct Timers<N: Name> {
     pub(crate) service: Service<N>,
     pub(crate) locks: ClientLocks,
     pub(crate) params: Params,
+    /// By number: the kinds of the client locks.
+    pub(crate) kinds: Seq<LockKind>,
 }
 
 impl<N: Name> Model for Timers<N> {
@@ -36,7 +41,7 @@ impl<N: Name> Model for Timers<N> {
 
     ghost view = { λ t. record { params = t.params; locks = t.locks } };
 
-    ghost invariant = { λ t. AreTimers t.service t.params t.locks };
+    ghost invariant = { λ t. AreTimers t.service t.params t.locks t.kinds };
 }
 
 /// A CPU of this number exists, where one is named.
@@ -210,6 +215,56 @@ impl<N: Name> Timers<N> {
         match self.refusal(held, i, &CallOp::DrainTry { took: false }) {
             Some(why) => Err(why),
             None => Ok(self.drain_on(rt, passes, act, i, hold)),
+        }
+    }
+
+    /// The open service, with the posts of its actors. It keeps the name, the parameters and the locks.
+    pub fn open(alloc: Global, fresh: TimersFresh) -> Result<(Timers<N>, Posts<N>), NoMemory>
+        requires { fresh.name ≡ N.name }
+        ensures timers { IfOk result (λ made. made.0 ≡ record { params = fresh.params; locks = fresh.locks }) }
+        ensures params { IfOk result (λ made. made.1.params ≡ fresh.params) }
+        ensures here { IfOk result (λ made. made.1.here ≡ replicate (actor_count fresh.params) true) }
+        ensures back { IfOk result (λ made. made.1.back ≡ []) }
+    {
+        let TimersFresh {
+            fresh,
+            passes,
+            params,
+            locks,
+            kinds,
+        } = fresh;
+        let posts = open_posts(alloc, &params, passes)?;
+        let service = Service::open(alloc, fresh)?;
+        let timers = Timers {
+            service,
+            locks,
+            params,
+            kinds,
+        };
+        Ok((timers, posts))
+    }
+
+    /// Takes the client lock `id`, which excludes all others: a reader-writer lock in write mode. It waits while another
+    /// holds it. `None` where there is no such lock.
+    pub fn lock<R: Wait + Sync>(&self, rt: &R, id: u32) -> Option<Hold<'_>>
+        ensures none { IfNone result (length self.now.locks ≤ id) }
+        ensures some { IfSome result (λ hold. hold ≡ record { id = id; exclusive = true }) }
+    {
+        if id as usize >= self.kinds.as_slice().len() {
+            return None;
+        }
+        Some(self.locks.lock(rt, id))
+    }
+
+    /// Takes the reader-writer lock `id` in read mode. It waits while another holds it in write mode. `None` where there is
+    /// no such lock.
+    pub fn read<R: Wait + Sync>(&self, rt: &R, id: u32) -> Option<Hold<'_>>
+        ensures none { IfNone result (slice_get self.now.locks id ≢ Some LockKind.Rw) }
+        ensures some { IfSome result (λ hold. hold ≡ record { id = id; exclusive = false }) }
+    {
+        match self.kinds.as_slice().get(id as usize) {
+            Some(LockKind::Rw) => Some(self.locks.read(rt, id)),
+            _ => None,
         }
     }
 }
