@@ -51,8 +51,8 @@ is_client p k = nat_lt k p.params.clients && is_here p k
 
 -- actor j leaves, where it does
 abbrev pub leaves : PostsView → ℕ → Bool → PostsView
-leaves p j b = if b then record p { here = slice_set p.here j false } else p
+leaves p j b = record p { here = if b then slice_set p.here j false else p.here }
 
 -- an actor's passes are back, unless as many are as there are actors
 abbrev pub back_with : PostsView → PassesView → PostsView
-back_with p q = if nat_lt (length p.back) (length p.here) then record p { back = p.back ++ q ∷ [] } else p
+back_with p q = record p { back = if nat_lt (length p.back) (length p.here) then p.back ++ q ∷ [] else p.back }

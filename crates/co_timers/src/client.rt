@@ -127,7 +127,8 @@ impl<'a, N: Name> Client<'a, N> {
         op: &PlainOp,
         hold: Option<&Hold<'_>>,
     ) -> Result<Reply, Refused>
-        ensures { IsAnswer Some self.old (option_copied hold.entry) i (Plain op.now) result self.new }
+        ensures answer { IsAnswer Some self.old (option_copied hold.entry) i (Plain op.now) result self.new }
+        ensures params { self.new.passes.params ≡ self.old.passes.params }
     {
         let op = CallOp::Plain(*op);
         let reply = self
@@ -150,7 +151,8 @@ impl<'a, N: Name> Client<'a, N> {
         cpu: Option<u32>,
         hold: Option<&Hold<'_>>,
     ) -> Result<Reset, Refused>
-        ensures { IsAnswer reset_word self.old (option_copied hold.entry) i (Plain (ResetOp due prec func arg cpu)) result self.new }
+        ensures answer { IsAnswer reset_word self.old (option_copied hold.entry) i (Plain (ResetOp due prec func arg cpu)) result self.new }
+        ensures params { self.new.passes.params ≡ self.old.passes.params }
     {
         let op = PlainOp::Reset {
             due,
@@ -173,7 +175,8 @@ impl<'a, N: Name> Client<'a, N> {
         cpu: Option<u32>,
         hold: Option<&Hold<'_>>,
     ) -> Result<Reset, Refused>
-        ensures { IsAnswer reset_word self.old (option_copied hold.entry) i (Plain (Schedule due prec cpu)) result self.new }
+        ensures answer { IsAnswer reset_word self.old (option_copied hold.entry) i (Plain (Schedule due prec cpu)) result self.new }
+        ensures params { self.new.passes.params ≡ self.old.passes.params }
     {
         let op = PlainOp::Schedule { due, prec, cpu };
         let reply = self.call(rt, i, &op, hold)?;
@@ -187,7 +190,8 @@ impl<'a, N: Name> Client<'a, N> {
         i: u32,
         hold: Option<&Hold<'_>>,
     ) -> Result<Stopped, Refused>
-        ensures { IsAnswer stop_word self.old (option_copied hold.entry) i (Plain Stop) result self.new }
+        ensures answer { IsAnswer stop_word self.old (option_copied hold.entry) i (Plain Stop) result self.new }
+        ensures params { self.new.passes.params ≡ self.old.passes.params }
     {
         let reply = self.call(rt, i, &PlainOp::Stop, hold)?;
         Ok(stop_word(&reply))
@@ -202,7 +206,8 @@ impl<'a, N: Name> Client<'a, N> {
         func: u32,
         hold: Option<&Hold<'_>>,
     ) -> Result<AsyncDrained, Refused>
-        ensures { IsAnswer async_word self.old (option_copied hold.entry) i (Plain (AsyncDrain func)) result self.new }
+        ensures answer { IsAnswer async_word self.old (option_copied hold.entry) i (Plain (AsyncDrain func)) result self.new }
+        ensures params { self.new.passes.params ≡ self.old.passes.params }
     {
         let reply = self.call(rt, i, &PlainOp::AsyncDrain { func }, hold)?;
         Ok(async_word(&reply))
@@ -217,7 +222,8 @@ impl<'a, N: Name> Client<'a, N> {
         i: u32,
         hold: Option<&Hold<'_>>,
     ) -> Result<Drained, Refused>
-        ensures { IsDrained self.old (option_copied hold.entry) i result self.new }
+        ensures answer { IsDrained self.old (option_copied hold.entry) i result self.new }
+        ensures params { self.new.passes.params ≡ self.old.passes.params }
     {
         let said = self.timers.drain(rt, &mut self.passes, self.act, i, hold)?;
         self.act = self.act.saturating_add(1);

@@ -1,10 +1,11 @@
 //! The posts of a service: its actors leave with handles, and bring them back.
-ghost use Rattle.std.specs.Prelude.{◌≡◌, [], IfOk, IfSome, false, is_some, map, replicate, slice_index_or, slice_set, true};
+ghost use Rattle.std.specs.Prelude.{◌≡◌, [], IfOk, IfSome, false, is_some, map, replicate, slice_index_or, slice_set, true, ◌==◌, length};
 ghost use Rattle.std.specs.List.{All};
 ghost use Rattle.std.specs.declared.option.Option.TheVariants.{Some};
 ghost use Rattle.co_service.specs.Booted.{AreBooted, booted};
 ghost use Rattle.co_service.specs.Fresh.{AreNamed};
-ghost use Rattle.co_service.specs.Params.{actor_count};
+ghost use Rattle.co_object.specs.Actors.{cpu_actor, interrupt_actor};
+ghost use Rattle.co_service.specs.Params.{actor_count, actors_of};
 ghost use Rattle.co_service.specs.Views.{AreOf};
 ghost use Rattle.co_timers.specs.Handles.{IsHandle};
 ghost use Rattle.co_timers.specs.Posts.{back_with, is_client, leaves};
@@ -89,8 +90,40 @@ impl<N: Name> Posts<N> {
         self.bring(client.into_passes());
     }
 
+    /// CPU `k` leaves with its passes, for whoever serves it through the service. `None` where there is no such CPU, or it has left
+    /// already.
+    pub fn cpu(&mut self, timers: &Timers<N>, k: u32) -> Option<Passes>
+        requires { timers.now.params ≡ self.old.params }
+        ensures some { IfSome result (λ passes. passes ≡ booted N.name self.old.params (cpu_actor (actors_of self.old.params) k)) }
+        ensures stays { (self.new.params ≡ self.old.params) × (self.new.back ≡ self.old.back) }
+    {
+        if k >= timers.params.cpus {
+            return None;
+        }
+        self.leave(timers.params.clients + k)
+    }
+
+    /// The same of CPU `k`'s interrupt.
+    pub fn interrupt(&mut self, timers: &Timers<N>, k: u32) -> Option<Passes>
+        requires { timers.now.params ≡ self.old.params }
+        ensures some { IfSome result (λ passes. passes ≡ booted N.name self.old.params (interrupt_actor (actors_of self.old.params) k)) }
+        ensures stays { (self.new.params ≡ self.old.params) × (self.new.back ≡ self.old.back) }
+    {
+        if k >= timers.params.cpus {
+            return None;
+        }
+        self.leave(timers.params.clients + timers.params.cpus + k)
+    }
+
+    /// Whether all actors are back.
+    pub fn all_back(&self) -> bool
+        ensures { result ≡ (length self.now.back == actor_count self.now.params) }
+    {
+        self.back.len() == self.seats.len()
+    }
+
     /// An actor's passes are back. Those that were more than there are actors would be let go.
-    fn bring(&mut self, passes: Passes)
+    pub fn bring(&mut self, passes: Passes)
         requires { AreOf N.name self.old.params passes }
         ensures { self.new ≡ back_with self.old passes }
     {
@@ -100,11 +133,11 @@ impl<N: Name> Posts<N> {
     }
 
     /// The passes that are back.
-    pub(crate) fn into_back(self) -> Room<Passes>
-        ensures back { result.items ≡ self.back }
-        ensures of { All (AreOf N.name self.params) result.items }
+    pub(crate) fn into_back(self) -> Seq<Passes>
+        ensures back { result ≡ self.back }
+        ensures of { All (AreOf N.name self.params) result }
     {
-        self.back
+        self.back.into_seq()
     }
 }
 

@@ -3,6 +3,7 @@ ghost use Rattle.std.specs.Prelude.{◌≡◌, ◌≢◌, ◌≤◌, [], ℕ, Bo
 ghost use Rattle.std.specs.Option.{option_copied};
 ghost use Rattle.std.specs.declared.option.Option.TheVariants.{Some, None};
 ghost use Rattle.co_object.specs.Queue.{Due};
+ghost use Rattle.co_service.specs.Closing.{AreEnded, AreEndedCpus, HasEach};
 ghost use Rattle.co_service.specs.Params.{actor_count, spec_at};
 ghost use Rattle.co_service.specs.Services.{IsFree, IsServing};
 ghost use Rattle.co_service.specs.Serving.{Service as Progress};
@@ -17,7 +18,7 @@ use crate::{Drained, Posts, Refused, TimersFresh};
 use co_lock::{ClientLocks, Held, Hold, LockKind, covers};
 use co_object::{CallOp, LockUse, PlainOp, Reply, Spec};
 use co_sbt::{NoMemory, Seq};
-use co_service::{Name, Params, Passes, Service};
+use co_service::{Closing, Name, Params, Passes, Service};
 use std::alloc::Global;
 use std::marker::Model;
 use std::sync::Wait;
@@ -242,6 +243,31 @@ impl<N: Name> Timers<N> {
             kinds,
         };
         Ok((timers, posts))
+    }
+
+    /// Ends the service, once all its actors are back. It takes no memory. Where someone is still away nothing has ended.
+    ///
+    /// What each actor had seen of a history begins it, and it has no more entries of the actor.
+    pub fn close<R: Wait>(self, rt: &R, posts: Posts<N>) -> Result<Closing, (Timers<N>, Posts<N>)>
+        requires { posts.params ≡ self.params }
+        ensures away { IfErr result (λ both. (both.0 ≡ self) × (both.1 ≡ posts) × (length posts.back ≢ actor_count self.params)) }
+        ensures each { IfOk result (λ _. HasEach self.params posts.back) }
+        ensures name { IfOk result (λ closing. closing.name ≡ N.name) }
+        ensures timers { IfOk result (λ closing. AreEnded self.params posts.back closing.timers) }
+        ensures cpus { IfOk result (λ closing. AreEndedCpus self.params posts.back closing.cpus) }
+    {
+        if !posts.all_back() {
+            return Err((self, posts));
+        }
+        let Timers { service, .. } = self;
+        Ok(service.close(rt, posts.into_back()))
+    }
+
+    /// The service, for whoever serves its CPUs.
+    pub fn service(&self) -> &Service<N>
+        ensures { result.now ≡ self.now.params }
+    {
+        &self.service
     }
 
     /// Takes the client lock `id`, which excludes all others: a reader-writer lock in write mode. It waits while another
