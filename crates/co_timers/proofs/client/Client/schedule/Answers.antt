@@ -1,0 +1,11 @@
+use Rattle.co_object.specs.declared.op.CallOp.TheVariants.{Plain}
+use Rattle.co_object.specs.declared.op.PlainOp.TheVariants.{Schedule}
+use Rattle.co_timers.specs.Answers.{reset_word}
+use Rattle.co_timers.proofs.Asked.{said_by}
+use Rattle.co_timers.proofs.Replies.{schedule_said}
+use Rattle.co_timers.proofs.client.Client.schedule.Goals as goal
+
+pub reset_word-requires : goal.reset_word-requires
+reset_word-requires g c =
+    let h = c.in_ok-reply.ensures.answer in
+    said_by reset_word c.args.self.now c.call.new.self c.args.i (Plain (Schedule c.args.due c.args.prec c.args.cpu)) c.in_ok-reply.reply h.1.0 (λ s. schedule_said s c.args.due c.args.prec c.args.cpu) h.1.1 h.1.2
