@@ -1,0 +1,6 @@
+pub mod Counts
+pub mod Pieces
+pub mod Merges
+pub mod Stuck
+pub mod Boards
+pub mod Rows
