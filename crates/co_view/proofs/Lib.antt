@@ -4,3 +4,4 @@ pub mod Merges
 pub mod Stuck
 pub mod Boards
 pub mod Rows
+pub mod Stories

@@ -4,3 +4,7 @@ pub mod Rolls
 pub mod Seconds
 pub mod Words
 pub mod Lanes
+pub mod Scenes
+pub mod Trace
+pub mod Svg
+pub mod Pictures

@@ -4,9 +4,14 @@
 mod actors;
 mod lanes;
 mod order;
+mod picture;
 mod roll;
+mod scene;
 mod seconds;
+mod svg;
+mod trace;
 mod words;
 
 pub use lanes::{Focus, print_lanes};
 pub use order::{Ordered, order_of};
+pub use picture::{Picture, print_picture};

@@ -17,7 +17,7 @@ use co_io::{ReadEnd, Sink, Source, WriteEnd, read_all, write_all, write_pieces};
 use co_report::{Report, read_report};
 use co_sbt::{NoMemory, Seq};
 use co_text::ScriptFault;
-use co_view::{Ordered, order_of, print_lanes};
+use co_view::{Ordered, order_of, print_lanes, print_picture};
 use std::alloc::Global;
 
 /// The status that a view comes to, and the text for it, in pieces.
@@ -52,6 +52,7 @@ fn text_of(
 {
     match view {
         View::Lanes(focus) => print_lanes(alloc, focus, report, order),
+        View::Picture(picture) => print_picture(alloc, picture, report, order),
     }
 }
 

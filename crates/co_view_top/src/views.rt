@@ -4,13 +4,15 @@ ghost use Rattle.co_view_top.specs.Views.{lone_view, object_view, small_number, 
 ghost use Rattle.co_text.specs.Values.{number};
 
 use co_text::number;
-use co_view::Focus;
+use co_view::{Focus, Picture};
 
 /// A view of a report.
 #[derive(Clone, Copy, Debug, PartialEq, Eq)]
 pub enum View {
     /// A column for each actor and a row for each note.
     Lanes(Focus),
+    /// A picture.
+    Picture(Picture),
 }
 
 /// The view of one word.
@@ -19,6 +21,10 @@ fn lone_view(word: &[u8]) -> Option<View>
 {
     if word == b"lanes".as_slice() {
         Some(View::Lanes(Focus::All))
+    } else if word == b"trace".as_slice() {
+        Some(View::Picture(Picture::Trace))
+    } else if word == b"svg".as_slice() {
+        Some(View::Picture(Picture::Svg))
     } else {
         None
     }
@@ -48,7 +54,7 @@ fn object_view(word: &[u8], number: Option<u32>) -> Option<View>
     }
 }
 
-/// The view that the words are, if they are one: `lanes`, which may be left out, `timer N` or `cpu N`. Our own decision.
+/// The view that the words are, if they are one: `lanes`, which may be left out, `timer N`, `cpu N`, `trace` or `svg`. Our own decision.
 pub(crate) fn view_of(words: &[String]) -> Option<View>
     ensures { result ≡ view_of (map string_bytes words.now) }
 {
