@@ -1,0 +1,61 @@
+-- Words of which the last is a time, and further words behind first ones.
+use Rattle.std.proofs.Common.{◌≡◌, ℕ, codes, decimal, List, [], ◌∷◌, ◌++◌, ap, subst, Result, ◌∙◌, append_assoc, append-nil}
+use Rattle.std.specs.Prelude.{OnOk}
+use Rattle.co_text.specs.Lines.{spaced}
+use Rattle.co_text.specs.Values.{Word}
+use Rattle.co_text.proofs.Spacing.{spaced-append}
+use Rattle.co_report.specs.Reading.{joined}
+
+at_end : (ws : List Word) (t : Word) → spaced (ws ++ codes "at" ∷ t ∷ []) ≡ spaced ws ++ (codes " at " ++ t)
+at_end ws t = spaced-append ws (codes "at" ∷ t ∷ []) ∙ ap (λ u. spaced ws ++ (codes " at " ++ u)) (append-nil t)
+
+pub more_at : (old p1 p2 p3 t : List ℕ) (ws : List Word) → p1 ≡ old ++ spaced ws → p2 ≡ p1 ++ codes " at " → p3 ≡ p2 ++ t → p3 ≡ old ++ spaced (ws ++ codes "at" ∷ t ∷ [])
+more_at old p1 p2 p3 t ws e1 e2 e3 = rw (e3, e2, e1, at_end ws t) (pieces old (spaced ws) (codes " at ") t)
+  where
+    pieces : (a b m c : List ℕ) → ((a ++ b) ++ m) ++ c ≡ a ++ (b ++ (m ++ c))
+    pieces a b m c = append_assoc (a ++ b) m c ∙ append_assoc a b (m ++ c)
+
+pub begun_at : (old p1 p2 p3 t : List ℕ) (w : Word) (ws : List Word) → p1 ≡ old ++ (w ++ spaced ws) → p2 ≡ p1 ++ codes " at " → p3 ≡ p2 ++ t → p3 ≡ old ++ joined (w ∷ (ws ++ codes "at" ∷ t ∷ []))
+begun_at old p1 p2 p3 t w ws e1 e2 e3 = rw (e3, e2, e1, at_end ws t) (pieces old w (spaced ws) (codes " at ") t)
+  where
+    pieces : (o a b m c : List ℕ) → ((o ++ (a ++ b)) ++ m) ++ c ≡ o ++ (a ++ (b ++ (m ++ c)))
+    pieces o a b m c = append_assoc (o ++ (a ++ b)) m c ∙ (append_assoc o (a ++ b) (m ++ c) ∙ ap (λ u. o ++ u) (append_assoc a b (m ++ c)))
+
+pub begun_more : (old p1 p2 : List ℕ) (w : Word) (ws vs : List Word) → p1 ≡ old ++ joined (w ∷ ws) → p2 ≡ p1 ++ spaced vs → p2 ≡ old ++ joined (w ∷ (ws ++ vs))
+begun_more old p1 p2 w ws vs e1 e2 = rw (e2, e1, spaced-append ws vs) (append_assoc old (w ++ spaced ws) (spaced vs) ∙ ap (λ u. old ++ u) (append_assoc w (spaced ws) (spaced vs)))
+
+-- the same of words that are equal
+
+pub begun_is : {X E : Type 0} (r : Result X E) (old new : List ℕ) (ws vs : List Word) → ws ≡ vs → OnOk r (new ≡ old ++ joined ws) → OnOk r (new ≡ old ++ joined vs)
+begun_is r old new ws vs e h = subst (λ (us : List Word). OnOk r (new ≡ old ++ joined us)) e h
+
+pub more_is : {X E : Type 0} (r : Result X E) (old new : List ℕ) (ws vs : List Word) → ws ≡ vs → OnOk r (new ≡ old ++ spaced ws) → OnOk r (new ≡ old ++ spaced vs)
+more_is r old new ws vs e h = subst (λ (us : List Word). OnOk r (new ≡ old ++ spaced us)) e h
+
+-- ---- texts that are written piece by piece
+
+pub two_texts : (old p1 p2 a b : List ℕ) → p1 ≡ old ++ a → p2 ≡ p1 ++ b → p2 ≡ old ++ (a ++ b)
+two_texts old p1 p2 a b e1 e2 = rw (e2, e1) (append_assoc old a b)
+
+pub three_texts : (old p1 p2 p3 a b c : List ℕ) → p1 ≡ old ++ a → p2 ≡ p1 ++ b → p3 ≡ p2 ++ c → p3 ≡ old ++ (a ++ (b ++ c))
+three_texts old p1 p2 p3 a b c e1 e2 e3 = rw (e3, e2, e1) (simp append_assoc)
+
+pub four_texts : (old p1 p2 p3 p4 a b c d : List ℕ) → p1 ≡ old ++ a → p2 ≡ p1 ++ b → p3 ≡ p2 ++ c → p4 ≡ p3 ++ d → p4 ≡ old ++ (a ++ (b ++ (c ++ d)))
+four_texts old p1 p2 p3 p4 a b c d e1 e2 e3 e4 = rw (e4, e3, e2, e1) (simp append_assoc)
+
+pub five_texts : (old p1 p2 p3 p4 p5 a b c d e : List ℕ) → p1 ≡ old ++ a → p2 ≡ p1 ++ b → p3 ≡ p2 ++ c → p4 ≡ p3 ++ d → p5 ≡ p4 ++ e → p5 ≡ old ++ (a ++ (b ++ (c ++ (d ++ e))))
+five_texts old p1 p2 p3 p4 p5 a b c d e e1 e2 e3 e4 e5 = rw (e5, e4, e3, e2, e1) (simp append_assoc)
+
+pub six_texts : (old p1 p2 p3 p4 p5 p6 a b c d e f : List ℕ) → p1 ≡ old ++ a → p2 ≡ p1 ++ b → p3 ≡ p2 ++ c → p4 ≡ p3 ++ d → p5 ≡ p4 ++ e → p6 ≡ p5 ++ f → p6 ≡ old ++ (a ++ (b ++ (c ++ (d ++ (e ++ f)))))
+six_texts old p1 p2 p3 p4 p5 p6 a b c d e f e1 e2 e3 e4 e5 e6 = rw (e6, e5, e4, e3, e2, e1) (simp append_assoc)
+
+-- a tag and a number, and a text alone, by what they are equal to
+pub tagged_is : (p q t u : List ℕ) (n m : ℕ) → q ≡ p ++ (t ++ decimal n) → t ≡ u → n ≡ m → q ≡ p ++ (u ++ decimal m)
+tagged_is p q t u n m e f g = e ∙ (ap (λ v. p ++ (v ++ decimal n)) f ∙ ap (λ k. p ++ (u ++ decimal k)) g)
+
+pub text_is : (p q t u : List ℕ) → q ≡ p ++ t → t ≡ u → q ≡ p ++ u
+text_is p q t u e f = e ∙ ap (λ v. p ++ v) f
+
+-- an actor's name
+pub named_is : (p q t w : List ℕ) (l n : ℕ) → q ≡ p ++ (t ++ decimal n) → t ≡ l ∷ [] → l ∷ decimal n ≡ w → q ≡ p ++ w
+named_is p q t w l n e f g = e ∙ (ap (λ v. p ++ (v ++ decimal n)) f ∙ ap (λ v. p ++ v) g)

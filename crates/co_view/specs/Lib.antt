@@ -1,0 +1,10 @@
+pub mod Order
+pub mod Merging
+pub mod Rolls
+pub mod Seconds
+pub mod Words
+pub mod Lanes
+pub mod Scenes
+pub mod Trace
+pub mod Svg
+pub mod Pictures

@@ -1,0 +1,188 @@
+//! One order of all notes of a report, which keeps each actor's numbers and each place's positions.
+ghost use Rattle.std.specs.Prelude.{◌≡◌, ◌≤◌, ◌<◌, length, slice_index, MatchOption, OnOk, IfOk};
+ghost use Rattle.co_check.specs.Lines.{IsReport};
+ghost use Rattle.co_view.specs.Merging.{FirstNext, FirstZero, IsBoard, IsMerging, left_of};
+ghost use Rattle.co_view.specs.Order.{IsOrdered, MayCome};
+
+mod board;
+pub(crate) mod counts;
+mod hints;
+mod merge;
+
+use board::Board;
+use co_report::Report;
+use co_sbt::{NoMemory, Seq};
+use hints::Hints;
+use merge::Merge;
+use std::alloc::Global;
+
+/// What the merge of a report's notes comes to.
+#[derive(Drop, Debug)]
+pub enum Ordered {
+    /// The indices of all note lines, in an order that keeps the numbers and the positions.
+    Whole(Seq<usize>),
+    /// There is none: the number of the first line whose note is left where nothing more may come.
+    Stuck { line: u64 },
+}
+
+/// Takes a note, and tells where the next one of its actor likely is. What comes into reach by this at the front of its place goes
+/// to the woken ones.
+fn step(
+    board: &Board,
+    hints: &Hints,
+    merge: &mut Merge,
+    woken: &mut Vec<usize>,
+    at: usize,
+) -> Result<usize, NoMemory>
+    requires board { IsBoard board.now }
+    requires merge { IsMerging board.now.script.now board.now.lines.now merge.old }
+    requires next { MayCome board.now.script.now board.now.lines.now merge.old.order at }
+    ensures merge { OnOk result (IsMerging board.now.script.now board.now.lines.now merge.new) }
+    ensures left { OnOk result (left_of merge.new < left_of merge.old) }
+{
+    merge.take(board, at)?;
+    let below = at.saturating_add(1);
+    let next = hints.after(board.lines, at);
+    if below != next && merge.may_come(board, below) {
+        wake(woken, below)?;
+    }
+    Ok(next)
+}
+
+/// Takes a note, if it may come next, and goes on with its actor as long as that may.
+fn follow(
+    board: &Board,
+    hints: &Hints,
+    merge: &mut Merge,
+    woken: &mut Vec<usize>,
+    first: usize,
+) -> Result<(), NoMemory>
+    requires board { IsBoard board.now }
+    requires merge { IsMerging board.now.script.now board.now.lines.now merge.old }
+    ensures merge { OnOk result (IsMerging board.now.script.now board.now.lines.now merge.new) }
+    ensures left { OnOk result (left_of merge.new ≤ left_of merge.old) }
+{
+    let mut at = first;
+    for _ in 0..board.lines.len() {
+        if !merge.may_come(board, at) {
+            return Ok(());
+        }
+        at = step(board, hints, merge, woken, at)?;
+    }
+    Ok(())
+}
+
+/// Keeps a note for later.
+fn wake(woken: &mut Vec<usize>, index: usize) -> Result<(), NoMemory> {
+    match woken.push(index) {
+        Ok(()) => Ok(()),
+        Err(_) => Err(NoMemory {}),
+    }
+}
+
+/// Goes on with what was woken, as long as something is.
+fn follow_woken(
+    board: &Board,
+    hints: &Hints,
+    merge: &mut Merge,
+    woken: &mut Vec<usize>,
+) -> Result<(), NoMemory>
+    requires board { IsBoard board.now }
+    requires merge { IsMerging board.now.script.now board.now.lines.now merge.old }
+    ensures merge { OnOk result (IsMerging board.now.script.now board.now.lines.now merge.new) }
+    ensures left { OnOk result (left_of merge.new ≤ left_of merge.old) }
+{
+    for _ in 0..u64::MAX {
+        match woken.pop() {
+            Some(index) => follow(board, hints, merge, woken, index)?,
+            None => return Ok(()),
+        }
+    }
+    Ok(())
+}
+
+/// The first note that may come next.
+fn first_next(board: &Board, merge: &Merge) -> Option<usize>
+    requires board { IsBoard board.now }
+    requires merge { IsMerging board.now.script.now board.now.lines.now merge.now }
+    ensures { FirstNext board.now.script.now board.now.lines.now merge.now.order result }
+{
+    for i in 0..board.lines.len() {
+        if merge.may_come(board, i) {
+            return Some(i);
+        }
+    }
+    None
+}
+
+/// All notes that may come at first, the last of them first.
+fn openings(alloc: Global, board: &Board, merge: &Merge) -> Result<Vec<usize>, NoMemory>
+    requires board { IsBoard board.now }
+    requires merge { IsMerging board.now.script.now board.now.lines.now merge.now }
+{
+    let mut woken = Vec::new(alloc);
+    for i in 0..board.lines.len() {
+        let at = board.lines.len() - 1 - i;
+        if merge.may_come(board, at) {
+            wake(&mut woken, at)?;
+        }
+    }
+    Ok(woken)
+}
+
+/// Where the first 0 stands.
+fn first_zero(come: &[u64]) -> Option<usize>
+    ensures { FirstZero come.now result }
+{
+    for (i, times) in come.iter().enumerate() {
+        if *times == 0 {
+            return Some(i);
+        }
+    }
+    None
+}
+
+/// What a merge comes to that is at its end.
+fn ended(board: &Board, merge: Merge) -> Ordered
+    requires board { IsBoard board.now }
+    requires merge { IsMerging board.now.script.now board.now.lines.now merge }
+    requires nothing { FirstNext board.now.script.now board.now.lines.now merge.order None }
+    ensures { IsOrdered board.now.script.now board.now.lines.now result }
+{
+    match first_zero(merge.come.as_slice()) {
+        Some(i) => Ordered::Stuck {
+            line: board.lines[i].line,
+        },
+        None => Ordered::Whole(merge.order),
+    }
+}
+
+/// Merges the notes of a board.
+fn merged(alloc: Global, board: &Board, hints: &Hints) -> Result<Ordered, NoMemory>
+    requires { IsBoard board.now }
+    ensures { IfOk result (IsOrdered board.now.script.now board.now.lines.now) }
+{
+    let mut merge = Merge::open(alloc, board)?;
+    let mut woken = openings(alloc, board, &merge)?;
+    follow_woken(board, hints, &mut merge, &mut woken)?;
+    while let Some(first) = first_next(board, &merge) {
+        let next = step(board, hints, &mut merge, &mut woken, first)?;
+        wake(&mut woken, next)?;
+        follow_woken(board, hints, &mut merge, &mut woken)?;
+    }
+    Ok(ended(board, merge))
+}
+
+/// The indices of a report's note lines in one order in which the numbers of each actor are 0, 1, 2 and so on, and the notes of
+/// each place come as they stand in the report; or, where it has no such order, the number of the first line whose note is left
+/// when notes have come as long as one could. Each note comes once. An actor goes on as long as it can, so that what it makes in
+/// one section stays together. It takes time and memory in proportion to the notes. The order is our own.
+pub fn order_of(alloc: Global, report: &Report) -> Result<Ordered, NoMemory>
+    requires { IsReport report.now }
+    ensures { IfOk result (IsOrdered report.now.script report.now.lines) }
+{
+    let lines = report.lines.as_slice();
+    let board = Board::new(alloc, &report.script, lines)?;
+    let hints = Hints::new(alloc, &report.script, lines)?;
+    merged(alloc, &board, &hints)
+}

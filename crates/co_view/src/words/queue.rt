@@ -1,0 +1,99 @@
+//! Operations on a timer queue, and its answers.
+ghost use Rattle.std.specs.Prelude.{◌≡◌, ◌++◌, ◌∷◌, [], codes, decimal, OnOk};
+ghost use Rattle.co_object.specs.declared.QOp.TheVariants.{Insert, Remove};
+ghost use Rattle.co_object.specs.declared.QReply.TheVariants.{Count, Got};
+ghost use Rattle.co_text.specs.Lines.{spaced};
+ghost use Rattle.co_report.specs.Reading.{joined};
+ghost use Rattle.co_view.specs.Words.{answer_words, queue_words};
+
+use crate::words::{begin_at, print_at};
+use co_object::{QOp, QReply};
+use co_sbt::{NoMemory, Sbt};
+use co_text::{Page, Token};
+
+fn begin_word(page: &mut Page, word: &[u8]) -> Result<(), NoMemory>
+    ensures { OnOk result (page.new ≡ page.old ++ joined (word.now ∷ [])) }
+{
+    page.begin(&Token::Text(word), [].as_slice())
+}
+
+fn print_insert(page: &mut Page, i: u32, n: u64, t: Sbt) -> Result<(), NoMemory>
+    ensures { OnOk result (page.new ≡ page.old ++ joined (queue_words (Insert i n t))) }
+{
+    begin_at(
+        page,
+        &Token::Text(b"insert timer".as_slice()),
+        [Token::Number(u64::from(i)), Token::Lettered(b'#', n)].as_slice(),
+        t,
+    )
+}
+
+fn print_remove(page: &mut Page, i: u32) -> Result<(), NoMemory>
+    ensures { OnOk result (page.new ≡ page.old ++ joined (queue_words (Remove i))) }
+{
+    page.begin(
+        &Token::Text(b"remove timer".as_slice()),
+        [Token::Number(u64::from(i))].as_slice(),
+    )
+}
+
+/// An operation on a CPU's queue.
+pub(crate) fn print_queue_op(page: &mut Page, op: &QOp) -> Result<(), NoMemory>
+    ensures { OnOk result (page.new ≡ page.old ++ joined (queue_words op.now)) }
+{
+    match *op {
+        QOp::Insert { i, n, t } => print_insert(page, i, n, t),
+        QOp::Remove { i } => print_remove(page, i),
+        QOp::Scan { now } => begin_at(page, &Token::Text(b"tick".as_slice()), [].as_slice(), now),
+        QOp::Pop => begin_word(page, b"next due".as_slice()),
+        QOp::Free => begin_word(page, b"free".as_slice()),
+        QOp::PopDirect => begin_word(page, b"next due direct".as_slice()),
+        QOp::FreeDirect => begin_word(page, b"free direct".as_slice()),
+    }
+}
+
+fn print_word(page: &mut Page, word: &[u8]) -> Result<(), NoMemory>
+    ensures { OnOk result (page.new ≡ page.old ++ spaced (word.now ∷ [])) }
+{
+    page.more([Token::Text(word)].as_slice())
+}
+
+fn print_got(page: &mut Page, i: u32, n: u64, at: Sbt) -> Result<(), NoMemory>
+    ensures { OnOk result (page.new ≡ page.old ++ spaced (answer_words (Got i n at))) }
+{
+    let before = [
+        Token::Text(b"-> timer".as_slice()),
+        Token::Number(u64::from(i)),
+        Token::Lettered(b'#', n),
+    ];
+    print_at(page, before.as_slice(), at)
+}
+
+fn print_count(page: &mut Page, count: u32) -> Result<(), NoMemory>
+    ensures { OnOk result (page.new ≡ page.old ++ spaced (answer_words (Count count))) }
+{
+    page.more([
+        Token::Text(b"-> due:".as_slice()),
+        Token::Number(u64::from(count)),
+    ]
+    .as_slice())
+}
+
+/// An answer of a CPU's queue.
+pub(crate) fn print_answer(page: &mut Page, answer: &QReply) -> Result<(), NoMemory>
+    ensures { OnOk result (page.new ≡ page.old ++ spaced (answer_words answer.now)) }
+{
+    match *answer {
+        QReply::At(time) => print_at(
+            page,
+            [Token::Text(b"-> in the queue".as_slice())].as_slice(),
+            time,
+        ),
+        QReply::Off => print_word(page, b"-> out of the queue".as_slice()),
+        QReply::Missing => print_word(page, b"-> not in the queue".as_slice()),
+        QReply::Count(count) => print_count(page, count),
+        QReply::Got { i, n, at } => print_got(page, i, n, at),
+        QReply::Empty => print_word(page, b"-> none".as_slice()),
+        QReply::Freed => print_word(page, b"-> done".as_slice()),
+    }
+}

@@ -1,0 +1,4 @@
+pub mod Accepted
+pub mod Writing
+pub mod Shown
+pub mod Said

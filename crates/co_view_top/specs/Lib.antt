@@ -1,0 +1,5 @@
+pub mod Outside
+pub mod Statuses
+pub mod Texts
+pub mod Views
+pub mod Headline
