@@ -5,3 +5,4 @@ pub mod Stuck
 pub mod Boards
 pub mod Rows
 pub mod Stories
+pub mod Tallies

@@ -8,3 +8,4 @@ pub mod Scenes
 pub mod Trace
 pub mod Svg
 pub mod Pictures
+pub mod Summary

@@ -137,7 +137,7 @@ fn waited_by(was: usize, now: usize, reply: &Reply) -> usize
 }
 
 /// A callout behind an entry.
-fn watched(step: usize, watch: Watch, entry: &Entry) -> Watch
+pub(crate) fn watched(step: usize, watch: Watch, entry: &Entry) -> Watch
     ensures { result ≡ watched step watch entry.now }
 {
     Watch {

@@ -10,7 +10,7 @@ abbrev pub line : List ℕ → List ℕ
 line text = text ++ 10 ∷ []
 
 abbrev pub usage_text : List ℕ
-usage_text = line (codes "usage: callout_view [lanes] | timer N | cpu N | trace | svg")
+usage_text = line (codes "usage: callout_view [lanes] | timer N | cpu N | summary | trace | svg")
 
 abbrev pub cause_word : Cause → Word
 cause_word cause.Size = codes "size"

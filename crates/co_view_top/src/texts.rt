@@ -10,7 +10,7 @@ use std::alloc::Global;
 pub(crate) fn usage_text() -> &'static [u8]
     ensures { result.now ≡ usage_text }
 {
-    b"usage: callout_view [lanes] | timer N | cpu N | trace | svg\n".as_slice()
+    b"usage: callout_view [lanes] | timer N | cpu N | summary | trace | svg\n".as_slice()
 }
 
 /// A cause as a word.

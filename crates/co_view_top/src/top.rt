@@ -17,7 +17,7 @@ use co_io::{ReadEnd, Sink, Source, WriteEnd, read_all, write_all, write_pieces};
 use co_report::{Report, read_report};
 use co_sbt::{NoMemory, Seq};
 use co_text::ScriptFault;
-use co_view::{Ordered, order_of, print_lanes, print_picture};
+use co_view::{Ordered, order_of, print_lanes, print_picture, print_summary};
 use std::alloc::Global;
 
 /// The status that a view comes to, and the text for it, in pieces.
@@ -35,9 +35,20 @@ fn faulty(alloc: Global, status: Status, line: u64, cause: &[u8]) -> Result<Answ
     ensures status { IfOk result (λ answer. answer.status ≡ status) }
     ensures text { IfOk result (λ answer. concat answer.pieces ≡ fault_text line cause.now) }
 {
+    let text = fault_text(alloc, line, cause)?;
+    Ok(Answer {
+        status,
+        pieces: whole(alloc, text)?,
+    })
+}
+
+/// A text in one piece.
+fn whole(alloc: Global, text: Seq<u8>) -> Result<Seq<Seq<u8>>, NoMemory>
+    ensures { IfOk result (λ pieces. concat pieces ≡ text) }
+{
     let mut pieces = Seq::new(alloc);
-    pieces.push(fault_text(alloc, line, cause)?)?;
-    Ok(Answer { status, pieces })
+    pieces.push(text)?;
+    Ok(pieces)
 }
 
 /// The text of a view, in pieces.
@@ -52,6 +63,7 @@ fn text_of(
 {
     match view {
         View::Lanes(focus) => print_lanes(alloc, focus, report, order),
+        View::Summary => whole(alloc, print_summary(alloc, report)?),
         View::Picture(picture) => print_picture(alloc, picture, report, order),
     }
 }

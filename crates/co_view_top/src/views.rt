@@ -11,6 +11,8 @@ use co_view::{Focus, Picture};
 pub enum View {
     /// A column for each actor and a row for each note.
     Lanes(Focus),
+    /// A row for each callout: its armings and its replies.
+    Summary,
     /// A picture.
     Picture(Picture),
 }
@@ -21,6 +23,8 @@ fn lone_view(word: &[u8]) -> Option<View>
 {
     if word == b"lanes".as_slice() {
         Some(View::Lanes(Focus::All))
+    } else if word == b"summary".as_slice() {
+        Some(View::Summary)
     } else if word == b"trace".as_slice() {
         Some(View::Picture(Picture::Trace))
     } else if word == b"svg".as_slice() {
@@ -54,7 +58,7 @@ fn object_view(word: &[u8], number: Option<u32>) -> Option<View>
     }
 }
 
-/// The view that the words are, if they are one: `lanes`, which may be left out, `timer N`, `cpu N`, `trace` or `svg`. Our own decision.
+/// The view that the words are, if they are one: `lanes`, which may be left out, `timer N`, `cpu N`, `summary`, `trace` or `svg`. Our own decision.
 pub(crate) fn view_of(words: &[String]) -> Option<View>
     ensures { result ≡ view_of (map string_bytes words.now) }
 {
