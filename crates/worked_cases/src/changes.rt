@@ -18,17 +18,20 @@ const MOST_LINES: usize = 1000;
 #[derive(Drop)]
 struct Changed<'a> {
     change: &'a [u8],
-    at: u128,
-    status: u128,
-    line: u128,
+    at: u64,
+    status: u64,
+    line: u64,
     cause: &'a [u8],
     text: &'a [u8],
 }
 
 /// The next word as a number.
-fn next_number(text: &[u8]) -> Option<(u128, &[u8])> {
+fn next_number(text: &[u8]) -> Option<(u64, &[u8])> {
     let (word, rest) = next_word(text)?;
-    match number(word) {
+    let Ok(number) = number(word) else {
+        return None;
+    };
+    match u64::try_from(number) {
         Ok(number) => Some((number, rest)),
         Err(_) => None,
     }
@@ -92,7 +95,7 @@ fn with_change(alloc: Global, report: &[u8], changed: &Changed<'_>) -> Result<Se
         let Some((line, _, after)) = next_line(rest) else {
             break;
         };
-        if changed.at == number as u128 {
+        if changed.at == number as u64 {
             rest = push_changed(&mut text, changed, line, after)?;
         } else {
             push_line(&mut text, line)?;
@@ -107,7 +110,7 @@ fn verdict(alloc: Global, changed: &Changed<'_>) -> Result<Seq<u8>, NoMemory> {
     let mut page = Page::new(alloc);
     if changed.status != 0 {
         page.text(b"line ".as_slice())?;
-        page.number(changed.line as u64)?;
+        page.number(changed.line)?;
         page.text(b": ".as_slice())?;
     }
     page.text(changed.cause)?;
@@ -116,7 +119,7 @@ fn verdict(alloc: Global, changed: &Changed<'_>) -> Result<Seq<u8>, NoMemory> {
 }
 
 /// Whether a status is the one with this number.
-fn is_status(status: Status, number: u128) -> bool {
+fn is_status(status: Status, number: u64) -> bool {
     match status {
         Status::Done => number == 0,
         Status::BadScript => number == 1,
@@ -140,22 +143,22 @@ fn is_judged<R: AllocGlobal + Threads + Wait + Sync>(
     Ok(is_status(status, changed.status) && said.as_slice() == wanted.as_slice())
 }
 
-/// How many changes of a table are judged as it says, where all are. Else the number of the first line that isn't, below 0.
+/// How many changes of a table are judged as it says, where all are. Else 0.
 pub fn count_judged<R: AllocGlobal + Threads + Wait + Sync>(
     rt: &R,
     report: &[u8],
     table: &[u8],
-) -> Result<i64, NoMemory> {
+) -> Result<u64, NoMemory> {
     let mut rest = table;
-    let mut judged: i64 = 0;
-    for number in 1..MOST_LINES {
+    let mut judged: u64 = 0;
+    for _number in 1..MOST_LINES {
         let Some((line, _, after)) = next_line(rest) else {
             break;
         };
         rest = after;
         if line.first() != Some(&b'#') {
             if !is_judged(rt, report, line)? {
-                return Ok(-(number as i64));
+                return Ok(0);
             }
             judged = judged.saturating_add(1);
         }

@@ -68,7 +68,7 @@ fn are_worked<R: AllocGlobal + Files + Print + Threads + Wait + Sync>(
 fn count_judged_at<R: AllocGlobal + Files + Threads + Wait + Sync>(
     rt: &R,
     name: &str,
-) -> io::Result<i64> {
+) -> io::Result<u64> {
     let report = fs::read_to_string(rt, format!(in rt.alloc(); "cases/{name}.report")?.as_str())?;
     let table = fs::read_to_string(
         rt,
@@ -80,7 +80,7 @@ fn count_judged_at<R: AllocGlobal + Files + Threads + Wait + Sync>(
     }
 }
 
-/// Goes through the tables of changes. Where a change is judged in another way, the number of its line is printed below 0.
+/// Goes through the tables of changes, and names each with how many there are. None are counted where one is judged in another way.
 fn are_judged<R: AllocGlobal + Files + Print + Threads + Wait + Sync>(rt: &R) -> io::Result<bool> {
     let mut all = true;
     for name in BROKEN {
