@@ -16,6 +16,7 @@ use co_wheel::CallOut;
 
 impl Embed {
     /// An operation on a callout that is here.
+    #[inline(always)]
     fn call(&mut self, id: u32, op: &CallOp, out: &mut CallOut) -> Result<(), Refusal>
         ensures { IsCalled result self.old self.new id op.now out.new }
     {
@@ -27,6 +28,7 @@ impl Embed {
     }
 
     /// An operation that may arm a callout: it has the function's word then, where there is one.
+    #[inline(always)]
     fn arm(
         &mut self,
         id: u32,
@@ -161,6 +163,7 @@ impl Embed {
     }
 
     /// An operation whose whole answer is the reply.
+    #[inline(always)]
     fn answer(&mut self, id: u32, op: &CallOp, reply: &mut CalloutReply) -> Result<(), Refusal>
         ensures { Answers result self.old self.new id op.now reply.old reply.new }
     {
@@ -185,6 +188,7 @@ impl Embed {
 }
 
 /// Whether it is `Yes`.
+#[inline(always)]
 fn is_yes(reply: &Reply) -> bool
     ensures { result ≡ is_yes reply.now }
 {
@@ -195,6 +199,7 @@ fn is_yes(reply: &Reply) -> bool
 }
 
 /// An accepted arming has the function's word, where there is one.
+#[inline(always)]
 fn keep_func(funcs: &mut [u64], id: u32, func: Option<u64>, reply: &Reply)
     ensures { funcs.new ≡ kept_func funcs.old id func reply.now }
 {

@@ -96,6 +96,7 @@ fn send(parcel: &Parcel, func: u64) -> CalloutParcel
 }
 
 /// A callout that leaves is in the parcel then, with its function.
+#[inline(always)]
 pub(crate) fn send_if(leaves: &Option<Parcel>, func: u64, parcel: &mut CalloutParcel)
     ensures { IsSent leaves.now func parcel.old parcel.new }
 {

@@ -40,6 +40,7 @@ pub struct CalloutReply {
 }
 
 /// No answer yet, but of this callout.
+#[inline(always)]
 pub(crate) fn blank(id: u32) -> CalloutReply
     ensures { result ≡ blank id }
 {
@@ -60,6 +61,7 @@ pub(crate) fn blank(id: u32) -> CalloutReply
 }
 
 /// A reply of the callout, whose function and drain function have these words.
+#[inline(always)]
 pub(crate) fn told(id: u32, func: u64, drain: u64, reply: &Reply) -> CalloutReply
     ensures { result ≡ told id func drain reply.now }
 {
@@ -125,6 +127,7 @@ pub(crate) fn told(id: u32, func: u64, drain: u64, reply: &Reply) -> CalloutRepl
 }
 
 /// What a call on a callout answers.
+#[inline(always)]
 pub(crate) fn told_call(id: u32, out: &CallOut) -> CalloutReply
     ensures { result ≡ told_call id out.now }
 {
@@ -139,6 +142,7 @@ pub(crate) fn told_call(id: u32, out: &CallOut) -> CalloutReply
 }
 
 /// What a service's step answers.
+#[inline(always)]
 pub(crate) fn told_service(id: u32, func: u64, reply: &Reply) -> CalloutReply
     ensures { result ≡ told_service id func reply.now }
 {
@@ -146,6 +150,7 @@ pub(crate) fn told_service(id: u32, func: u64, reply: &Reply) -> CalloutReply
 }
 
 /// What the start of a service answers: arming `n` is taken into it at this time.
+#[inline(always)]
 pub(crate) fn told_next(id: u32, func: u64, n: u64, at: Sbt, reply: &Reply) -> CalloutReply
     ensures { result ≡ told_next id func n at reply.now }
 {
@@ -156,6 +161,7 @@ pub(crate) fn told_next(id: u32, func: u64, n: u64, at: Sbt, reply: &Reply) -> C
 }
 
 /// What the end of a service answers.
+#[inline(always)]
 pub(crate) fn told_end(id: u32, drain: u64, out: &EndOut) -> CalloutReply
     ensures { result ≡ told_end id drain out.now }
 {

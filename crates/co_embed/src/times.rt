@@ -15,6 +15,7 @@ pub struct When {
 }
 
 /// The two times, where both are times.
+#[inline(always)]
 pub(crate) fn times_of(when: When) -> Option<(Sbt, Sbt)>
     ensures times { IfSome result (λ p. (p.0 ≡ when.due) × (p.1 ≡ when.prec) × (are_times when ≡ true)) }
     ensures none { IfNone result (are_times when ≡ false) }
@@ -25,6 +26,7 @@ pub(crate) fn times_of(when: When) -> Option<(Sbt, Sbt)>
 }
 
 /// The CPU that is meant, at CPU `here`.
+#[inline(always)]
 pub(crate) fn cpu_meant(cpu: u32, here: u32) -> Option<u32>
     ensures { result ≡ cpu_meant here cpu }
 {

@@ -2,6 +2,7 @@
 ghost use Rattle.std.specs.Prelude.{◌≡◌, get_or, set};
 
 /// The word of callout `i`, or 0 where it has none.
+#[inline(always)]
 pub(crate) fn word_at(words: &[u64], i: u32) -> u64
     ensures { result ≡ get_or words.now i 0 }
 {
@@ -12,6 +13,7 @@ pub(crate) fn word_at(words: &[u64], i: u32) -> u64
 }
 
 /// Callout `i` has this word now, where it has one.
+#[inline(always)]
 pub(crate) fn set_word(words: &mut [u64], i: u32, word: u64)
     ensures { words.new ≡ set words.old i word }
 {

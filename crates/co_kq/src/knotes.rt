@@ -18,7 +18,7 @@ use std::marker::Model;
 
 /// The knotes of a list, each with its callout. Contracts see the slab in which they stand.
 ///
-/// No call but `new` takes memory. An ident is found by a binary search, and so is the first knote with expirations.
+/// No call but `new` takes memory. An ident is found by a binary search; the first knote with expirations stands at an end.
 #[derive(Drop)]
 pub struct Knotes {
     slab: Slab<Slot>,

@@ -13,6 +13,7 @@ use crate::{Record, Slot};
 use co_object::{CallOp, PlainOp, Reply};
 
 /// Yes or No.
+#[inline(always)]
 fn answer(yes: bool) -> Reply
     ensures { result ≡ answer yes }
 {
@@ -25,6 +26,7 @@ fn answer(yes: bool) -> Reply
 /// the rule that a call which is cancelled under its lock is not made, the codes of a stop, reset or schedule of a
 /// callout that is not being serviced, and that of a stop of a running function that is not armed again. Every other
 /// reply is our own decision.
+#[inline(always)]
 pub fn call(rec: &mut Record, slot: &mut Slot, op: &CallOp) -> Reply
     requires paired { IsPaired rec.old slot.old }
     ensures outcome { (state_of rec.new slot.new, result) ≡ call (state_of rec.old slot.old) op.now }
@@ -43,6 +45,7 @@ pub fn call(rec: &mut Record, slot: &mut Slot, op: &CallOp) -> Reply
 }
 
 /// A caller's operation on a live callout.
+#[inline(always)]
 fn live_call(rec: &mut Record, slot: &mut Slot, op: &PlainOp) -> Reply
     requires paired { IsPaired rec.old slot.old }
     requires live { rec.old.live ≡ true }
