@@ -12,6 +12,7 @@ ghost use Rattle.co_program.specs.Indexed.{ActionCounts, action_as, action_of, a
 ghost use Rattle.co_program.specs.Scripts.{IsScript};
 
 use crate::act::{Act, Scene};
+use crate::asks::{asks_callout, asks_itself, asks_queue, asks_run};
 use crate::call::{call_of, names_here};
 use crate::cursor::{ActsLeft, Cursor, Service, Stage};
 use crate::program::{Task, acts_of, is_soft, next_of, task_after};
@@ -470,40 +471,5 @@ fn free_of(role: Role) -> QOp
     match role {
         Role::Client(_) | Role::Cpu(_) => QOp::Free,
         Role::Interrupt(_) => QOp::FreeDirect,
-    }
-}
-
-// ---- what is asked
-
-fn asks_run(v: &Service, op: RunOp) -> Action
-    ensures { result ≡ Action.Asks v.now.act (Asked.Callout v.now.i (Op.Run op)) }
-{
-    asks_callout(v.act, v.i, Op::Run(op))
-}
-
-fn asks_callout(act: u64, i: u32, op: Op) -> Action
-    ensures { result ≡ Action.Asks act (Asked.Callout i op) }
-{
-    Action::Asks {
-        act,
-        asked: Asked::Callout { i, op },
-    }
-}
-
-fn asks_queue(act: u64, cpu: u32, op: QOp) -> Action
-    ensures { result ≡ Action.Asks act (Asked.Queue cpu op) }
-{
-    Action::Asks {
-        act,
-        asked: Asked::Queue { cpu, op },
-    }
-}
-
-fn asks_itself(act: u64, kind: OwnKind) -> Action
-    ensures { result ≡ Action.Asks act (Asked.Itself kind) }
-{
-    Action::Asks {
-        act,
-        asked: Asked::Itself(kind),
     }
 }
