@@ -2,8 +2,8 @@
 //! In specs/, what a call of a program may do to its source and its sink.
 #![tactic(auto)]
 
+mod command_line;
 mod texts;
-mod words;
 
+pub use command_line::words;
 pub use texts::{cause_word, fault_text, refusal_text};
-pub use words::words;
