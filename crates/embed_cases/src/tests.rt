@@ -1,0 +1,12 @@
+mod bench;
+mod directs;
+mod drains;
+mod errors;
+mod flags;
+mod limits;
+mod lives;
+mod moves;
+mod replies;
+mod rounds;
+mod schedules;
+mod stops;
