@@ -1,0 +1,12 @@
+//! Views of worked reports, as `docs/VIEW.md` shows and tells them, in memory.
+#![tactic(auto)]
+
+#[cfg(test)]
+mod outcome;
+#[cfg(test)]
+mod reports;
+#[cfg(test)]
+mod tests;
+
+#[cfg(test)]
+pub use outcome::{Outcome, shown, view};

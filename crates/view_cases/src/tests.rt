@@ -1,0 +1,6 @@
+mod ends;
+mod lanes;
+mod parts;
+mod pictures;
+mod statuses;
+mod summary;
