@@ -120,7 +120,8 @@ int32_t callout_deactivate(callout_wheel *, uint32_t id); /* 0 */
 
 /* What is due by now comes due; *due is how many. EINVAL. */
 int32_t callout_advance(callout_wheel *, uint64_t now, uint32_t *due);
-/* The first that came due, or where direct the first direct one, goes into service: GO or HOLD. EBUSY one is; EAGAIN none. */
+/* The first that came due, or where direct the first direct one, goes into service: GO or HOLD. EBUSY one is; EAGAIN none.
+   An advance takes the buckets from the last time to the new one in their order, and of one bucket the newest arming first. */
 int32_t callout_next(callout_wheel *, bool direct, callout_reply *);
 /* After HOLD, under the lock: GO or SKIP. EPERM none waits for its lock. */
 int32_t callout_begin(callout_wheel *, callout_reply *);
