@@ -1,30 +1,11 @@
 //! The program `callout`: the top call over standard input and standard output.
 #![tactic(auto)]
 
+use co_front::words;
 use co_hand::OpenGate;
 use co_io::{FileSink, FileSource};
 use co_top::{Status, callout_main};
-use std::env::{self, Env};
-use std::io::{self, ErrorKind};
 use std::process::ExitCode;
-
-/// The words after the program's name. Where one is not UTF-8, std gives none of them, and what stands here is the empty
-/// word, which is in no command: the words as they are would be none either.
-fn words(rt: &(impl Env + AllocGlobal)) -> io::Result<Vec<String>> {
-    let mut words = Vec::new(rt.alloc());
-    match env::args(rt) {
-        Ok(args) => {
-            for word in args.skip(1) {
-                words.push(word)?;
-            }
-        }
-        Err(error) if error.kind() == ErrorKind::InvalidData => words.push(String::new(
-            rt.alloc(),
-        ))?,
-        Err(error) => return Err(error),
-    }
-    Ok(words)
-}
 
 /// Where there is no memory for the words, nothing is written.
 fn main(rt: HostRuntime) -> ExitCode {

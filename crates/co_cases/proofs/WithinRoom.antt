@@ -6,7 +6,7 @@ use Rattle.co_service.specs.Closing.{ClosingView}
 use Rattle.co_text.specs.Values.{Word}
 use Rattle.co_top.specs.Commands.{command_of, usage_text}
 use Rattle.co_top.specs.Headline.{ComesTo, HasNoFault, IsAnswered, IsComplete, IsHeadline, Says}
-use Rattle.co_top.specs.Outside.{Outside, outside, WriteFails}
+use Rattle.co_front.specs.Outside.{Outside, outside, WriteFails}
 use Rattle.co_top.specs.declared.command.Command.{Command}
 use Rattle.co_top.specs.declared.status.Finish.{Finish}
 use Rattle.co_top.specs.declared.status.Status.{Status}

@@ -4,7 +4,7 @@ use Rattle.co_service.specs.Closing.{ClosingView}
 use Rattle.co_text.specs.Values.{Word}
 use Rattle.co_top.specs.Commands.{command_of, usage_text}
 use Rattle.co_top.specs.Headline.{ComesTo, IsAnswered}
-use Rattle.co_top.specs.Outside.{Outside}
+use Rattle.co_front.specs.Outside.{Outside}
 use Rattle.co_top.specs.declared.status.Status.{Status}
 use Rattle.co_top.specs.declared.status.Status.TheVariants.{Usage}
 

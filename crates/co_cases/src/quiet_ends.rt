@@ -1,6 +1,6 @@
 //! Calls over ends that never fail.
 ghost use Rattle.std.specs.Prelude.{Some, map, string_bytes};
-ghost use Rattle.co_top.specs.Outside.{outside};
+ghost use Rattle.co_front.specs.Outside.{outside};
 ghost use Rattle.co_cases.specs.WithinRoom.{IsAnsweredWithin, IsUsageWithin};
 
 use crate::outcome::{Outcome, outcome_of, words_of};

@@ -140,6 +140,7 @@ impl<S: Story> Life<S> {
     }
 
     // Takes a pass into the keeper's seat, and looks at the length.
+    #[inline(always)]
     fn let_in(&self, seat: &mut Seat<S::Entry, SeatView<S::Entry>>, pass: Pass<S>) -> u64
         requires seat { (seat.old.table_id ≡ self.now) × IsKeeper seat.old.me }
         requires pass { pass.life ≡ self.now }
@@ -154,6 +155,7 @@ impl<S: Story> Life<S> {
     /// Compares a pass with the keeper's history. Nothing changes, and it takes no memory.
     ///
     /// What the pass has seen begins the history, and the entries of its actor in the history are those that it has seen.
+    #[inline(always)]
     pub fn meet(&self, keeper: &mut Keeper<S>, pass: Pass<S>) -> Pass<S>
         requires keeper { keeper.old.life ≡ self.now }
         requires pass { pass.life ≡ self.now }
@@ -174,6 +176,7 @@ impl<S: Story> Life<S> {
 
     /// Adds an entry of the pass's actor to the keeper's history, all of which the pass has then seen. The number is the
     /// entry's position, from 0, or 2^64 - 1 where that is higher. It takes no memory.
+    #[inline(always)]
     pub fn write(&self, keeper: &mut Keeper<S>, pass: Pass<S>, entry: S::Entry) -> (Pass<S>, u64)
         requires keeper { keeper.old.life ≡ self.now }
         requires pass { pass.life ≡ self.now }

@@ -43,6 +43,7 @@ impl<N: Name> Model for Books<N> {
 
 impl<N: Name> Books<N> {
     /// The desk's CPU.
+    #[inline(always)]
     pub(crate) fn cpu(&self) -> u32
         ensures { result ≡ self.now.cpu }
     {
@@ -50,6 +51,7 @@ impl<N: Name> Books<N> {
     }
 
     /// For how many callouts there is room.
+    #[inline(always)]
     pub(crate) fn size(&self) -> usize
         ensures { result ≡ length self.now.timers }
     {
@@ -57,6 +59,7 @@ impl<N: Name> Books<N> {
     }
 
     /// Whether a callout's history stands here.
+    #[inline(always)]
     pub(crate) fn has(&self, i: u32) -> bool
         ensures { result ≡ is_kept self.now i }
     {
@@ -67,6 +70,7 @@ impl<N: Name> Books<N> {
     }
 
     /// Compares the actor's pass of the CPU with the journal. Nothing changes.
+    #[inline(always)]
     pub(crate) fn meet(&mut self, lives: &Lives<CpuStory>, passes: &mut Passes)
         requires lives { lives.now ≡ N.name.cpus }
         requires name { passes.old.name ≡ N.name }
@@ -80,6 +84,7 @@ impl<N: Name> Books<N> {
     }
 
     /// Compares the actor's pass of callout `i` with its history. Nothing changes.
+    #[inline(always)]
     pub(crate) fn meet_timer(&mut self, lives: &Lives<TimerStory>, passes: &mut Passes, i: u32)
         requires lives { lives.now ≡ N.name.timers }
         requires name { passes.old.name ≡ N.name }
@@ -95,6 +100,7 @@ impl<N: Name> Books<N> {
     }
 
     /// Writes an entry of the CPU's journal.
+    #[inline(always)]
     pub(crate) fn write(
         &mut self,
         lives: &Lives<CpuStory>,
@@ -119,6 +125,7 @@ impl<N: Name> Books<N> {
     }
 
     /// Writes an entry of the history of callout `i`.
+    #[inline(always)]
     pub(crate) fn write_timer(
         &mut self,
         lives: &Lives<TimerStory>,
@@ -147,6 +154,7 @@ impl<N: Name> Books<N> {
     }
 
     /// Takes the keeper of callout `i` out.
+    #[inline(always)]
     pub(crate) fn take(&mut self, i: u32) -> Keeper<TimerStory>
         requires { is_kept self.old i ≡ true }
         ensures keeper { IsKeeperOf IsHistory N.name.timers self.old.params i result }
@@ -157,6 +165,7 @@ impl<N: Name> Books<N> {
     }
 
     /// Puts the keeper of callout `i` in, where none is.
+    #[inline(always)]
     pub(crate) fn put(&mut self, i: u32, keeper: Keeper<TimerStory>)
         requires below { i < length self.old.timers }
         requires keeper { IsKeeperOf IsHistory N.name.timers self.old.params i keeper }

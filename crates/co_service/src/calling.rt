@@ -25,6 +25,7 @@ use co_sbt::Sbt;
 use co_wheel::CallOut;
 
 /// Where a call took an arming out of the queue, the Remove before its entry.
+#[inline(always)]
 pub(crate) fn write_removal<N: Name>(
     books: &mut Books<N>,
     lives: &Lives<CpuStory>,
@@ -55,6 +56,7 @@ pub(crate) fn write_removal<N: Name>(
 }
 
 /// The entry of a call.
+#[inline(always)]
 pub(crate) fn write_call<N: Name>(
     books: &mut Books<N>,
     lives: &Lives<TimerStory>,
@@ -83,6 +85,7 @@ pub(crate) fn write_call<N: Name>(
 }
 
 /// Where the queue has an accepted arming, the Insert after its entry.
+#[inline(always)]
 pub(crate) fn write_insertion<N: Name>(
     books: &mut Books<N>,
     lives: &Lives<CpuStory>,
@@ -113,6 +116,7 @@ pub(crate) fn write_insertion<N: Name>(
 }
 
 /// The number of the arming that a reply accepts.
+#[inline(always)]
 pub(crate) fn number(reply: &Reply) -> u64
     ensures { result ≡ number_in reply.now }
 {
@@ -123,6 +127,7 @@ pub(crate) fn number(reply: &Reply) -> u64
 }
 
 /// The due time that an operation names.
+#[inline(always)]
 pub(crate) fn time(op: &CallOp) -> Sbt
     ensures { result ≡ due_in op.now }
 {
@@ -134,6 +139,7 @@ pub(crate) fn time(op: &CallOp) -> Sbt
 }
 
 /// What a call did, note after note: what it took out of the queue, its entry, and what it put in.
+#[inline(always)]
 pub(crate) fn write_group<N: Name>(
     books: &mut Books<N>,
     places: &Places,

@@ -50,6 +50,7 @@ impl<N: Name> Model for Desk<N> {
 }
 
 /// Writes what the queue did next.
+#[inline(always)]
 pub(crate) fn write_turn<N: Name>(
     books: &mut Books<N>,
     lives: &Lives<CpuStory>,
@@ -79,6 +80,7 @@ pub(crate) fn write_turn<N: Name>(
 
 impl<N: Name> Desk<N> {
     /// The desk's CPU.
+    #[inline(always)]
     pub(crate) fn cpu(&self) -> u32
         ensures { result ≡ self.now.cpu }
     {
@@ -86,6 +88,7 @@ impl<N: Name> Desk<N> {
     }
 
     /// Whether callout `i` is here.
+    #[inline(always)]
     fn has(&self, i: u32) -> bool
         ensures { result ≡ is_kept self.now i }
     {
@@ -98,6 +101,7 @@ impl<N: Name> Desk<N> {
     }
 
     /// What is due at this CPU has come due. None where the desk is of another CPU, and there alone.
+    #[inline(always)]
     pub(crate) fn scan(
         &mut self,
         lives: &Lives<CpuStory>,
@@ -138,6 +142,7 @@ impl<N: Name> Desk<N> {
 
     /// A caller's operation on callout `i`. The answer goes to its place, and so does the callout where it leaves for another CPU.
     /// False where it isn't here, and there alone.
+    #[inline(always)]
     pub(crate) fn call(
         &mut self,
         places: &Places,

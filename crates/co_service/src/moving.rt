@@ -35,6 +35,7 @@ impl<N: Name> Model for Moving<N> {
 
 impl<N: Name> Moving<N> {
     /// The CPU that it goes to.
+    #[inline(always)]
     pub(crate) fn cpu(&self) -> u32
         ensures { result ≡ self.now.target.cpu }
     {
@@ -42,6 +43,7 @@ impl<N: Name> Moving<N> {
     }
 
     /// The callout's number.
+    #[inline(always)]
     pub(crate) fn callout(&self) -> u32
         ensures { result ≡ self.now.i }
     {
@@ -50,6 +52,7 @@ impl<N: Name> Moving<N> {
 }
 
 /// What leaves a desk takes its history along.
+#[inline(always)]
 pub(crate) fn depart<N: Name>(
     books: &mut Books<N>,
     leaves: Option<Parcel>,

@@ -14,6 +14,7 @@ pub struct Made {
 
 impl Made {
     /// A place for an answer, where no call has been answered yet.
+    #[inline(always)]
     pub(crate) fn none() -> Made {
         Made {
             reply: Reply::Done,

@@ -40,6 +40,7 @@ impl Model for Passes {
 
 impl Passes {
     /// The actor's number.
+    #[inline(always)]
     pub fn actor(&self) -> u32
         ensures { result ≡ self.now.actor }
     {
@@ -47,6 +48,7 @@ impl Passes {
     }
 
     /// Writes an entry of callout `i`, and gives its position.
+    #[inline(always)]
     pub(crate) fn write_timer(
         &mut self,
         lives: &Lives<TimerStory>,
@@ -69,6 +71,7 @@ impl Passes {
     }
 
     /// Writes an entry of a CPU's journal, and gives its position.
+    #[inline(always)]
     pub(crate) fn write_cpu(
         &mut self,
         lives: &Lives<CpuStory>,
@@ -91,6 +94,7 @@ impl Passes {
     }
 
     /// Compares the pass of callout `i` with its history. Nothing changes.
+    #[inline(always)]
     pub(crate) fn meet_timer(
         &mut self,
         life: &Life<TimerStory>,
@@ -108,6 +112,7 @@ impl Passes {
     }
 
     /// Compares the pass of a CPU with its journal. Nothing changes.
+    #[inline(always)]
     pub(crate) fn meet_cpu(
         &mut self,
         life: &Life<CpuStory>,

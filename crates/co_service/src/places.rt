@@ -29,6 +29,7 @@ impl Places {
     }
 
     /// The lives of the callouts.
+    #[inline(always)]
     pub(crate) fn timers(&self) -> &Lives<TimerStory>
         ensures { result.now ≡ self.now.timers }
     {
@@ -36,6 +37,7 @@ impl Places {
     }
 
     /// The lives of the CPUs.
+    #[inline(always)]
     pub(crate) fn cpus(&self) -> &Lives<CpuStory>
         ensures { result.now ≡ self.now.cpus }
     {

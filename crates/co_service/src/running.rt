@@ -31,6 +31,7 @@ use co_sbt::Sbt;
 use co_wheel::{EndOut, NextOut, Wheel};
 
 /// The entry of a service's operation.
+#[inline(always)]
 pub(crate) fn write_run<N: Name>(
     books: &mut Books<N>,
     lives: &Lives<TimerStory>,
@@ -59,6 +60,7 @@ pub(crate) fn write_run<N: Name>(
 }
 
 /// Up to three notes, in their order.
+#[inline(always)]
 pub(crate) fn three(
     first: Option<Note>,
     second: Option<Note>,
@@ -70,6 +72,7 @@ pub(crate) fn three(
 }
 
 /// The last note of an answer, where it is still free.
+#[inline(always)]
 pub(crate) fn add_last(made: &mut Made, last: Note)
     requires { HasRoom made.old.notes }
     ensures reply { made.new.reply ≡ made.old.reply }
@@ -80,6 +83,7 @@ pub(crate) fn add_last(made: &mut Made, last: Note)
 }
 
 /// The queue's operation that takes from a lane.
+#[inline(always)]
 fn pop(direct: bool) -> QOp
     ensures { result ≡ pop_of direct }
 {
@@ -87,6 +91,7 @@ fn pop(direct: bool) -> QOp
 }
 
 /// The first callout that has come due goes into service: of the CPU, or of its interrupt where `direct`.
+#[inline(always)]
 pub(crate) fn take(wheel: &mut Wheel<WheelQueue>, direct: bool) -> NextOut
     requires free { in_service direct wheel.old.callouts ≡ None }
     ensures { IsNext direct wheel.old wheel.new result }
@@ -99,6 +104,7 @@ pub(crate) fn take(wheel: &mut Wheel<WheelQueue>, direct: bool) -> NextOut
 }
 
 /// What a wheel took into service: the Pop, and the Pick of an arming.
+#[inline(always)]
 pub(crate) fn write_taken<N: Name>(
     books: &mut Books<N>,
     places: &Places,
@@ -143,6 +149,7 @@ pub(crate) fn write_taken<N: Name>(
 }
 
 /// The queue's operation that frees a lane.
+#[inline(always)]
 pub(crate) fn free(direct: bool) -> QOp
     ensures { result ≡ free_of direct }
 {
@@ -150,6 +157,7 @@ pub(crate) fn free(direct: bool) -> QOp
 }
 
 /// What is in service, of the CPU or of its interrupt where `direct`. Its record is here.
+#[inline(always)]
 pub(crate) fn serviced(wheel: &Wheel<WheelQueue>, direct: bool) -> Option<(u32, u64)>
     ensures which { option_map (λ d. record { i = d.0; n = d.1 }) result ≡ in_service direct wheel.now.callouts }
     ensures here { IfSome result (λ d. is_here wheel.now.callouts d.0 ≡ true) }
@@ -162,6 +170,7 @@ pub(crate) fn serviced(wheel: &Wheel<WheelQueue>, direct: bool) -> Option<(u32, 
 }
 
 /// The service is over, of the CPU or of its interrupt where `direct`.
+#[inline(always)]
 pub(crate) fn finish(wheel: &mut Wheel<WheelQueue>, direct: bool) -> EndOut
     requires possible { is_some (end_here direct wheel.old.callouts) ≡ true }
     ensures { IsEnding direct wheel.old wheel.new result }
@@ -174,6 +183,7 @@ pub(crate) fn finish(wheel: &mut Wheel<WheelQueue>, direct: bool) -> EndOut
 }
 
 /// The number and the due time of the arming that waited for an end.
+#[inline(always)]
 pub(crate) fn waited(reply: &Reply) -> (u64, Sbt)
     ensures number { result.0 ≡ next_number reply.now }
     ensures due { result.1 ≡ next_due reply.now }

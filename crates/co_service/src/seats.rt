@@ -64,6 +64,7 @@ impl<S: Story> Lives<S> {
     }
 
     /// The life of a place.
+    #[inline(always)]
     pub(crate) fn get(&self, i: u32) -> &Life<S>
         requires { i < length self.now }
         ensures { slice_get self.now i ≡ Some result.now }
@@ -115,6 +116,7 @@ impl<S: Story> Seats<S> {
     }
 
     /// Writes an entry of the actor at a place, with its pass of that place. The other passes stay.
+    #[inline(always)]
     pub(crate) fn write(
         &mut self,
         life: &Life<S>,
@@ -141,6 +143,7 @@ impl<S: Story> Seats<S> {
     }
 
     /// Shows the history of a place to the actor's pass of it. Nothing changes.
+    #[inline(always)]
     pub(crate) fn meet(&mut self, life: &Life<S>, keeper: &mut Keeper<S>, i: u32)
         requires at { slice_get self.old.name i ≡ Some life.now }
         requires keeper { keeper.old.life ≡ life.now }

@@ -1,5 +1,5 @@
 //! The running service: each CPU's desk behind a lock of its own.
-ghost use Rattle.std.specs.Prelude.{◌≡◌, ◌<◌, ◌≤◌, ◌^◌, ℕ, Bool, IfErr, IfNone, IfOk, IfSome, false, is_some, length, true, vec_len};
+ghost use Rattle.std.specs.Prelude.{◌≡◌, ◌<◌, ◌≤◌, ◌^◌, ℕ, Bool, IfErr, IfOk, false, length, true, vec_len};
 ghost use Rattle.std.specs.declared.option.Option.TheVariants.{Some, None};
 ghost use Rattle.co_object.specs.Queue.{Due};
 ghost use Rattle.co_object.specs.Journal.{scanner};
@@ -7,21 +7,19 @@ ghost use Rattle.std.specs.Option.{option_copied};
 ghost use Rattle.co_lock.specs.Covers.{covers};
 ghost use Rattle.co_lock.specs.Service.{hold_of};
 ghost use Rattle.co_service.specs.Booted.{AreBooted};
-ghost use Rattle.co_service.specs.Call.{HasRoom, IsAnswer, IsCalled, NamesCpu, notes_in};
+ghost use Rattle.co_service.specs.Call.{IsCalled, NamesCpu, notes_in};
 ghost use Rattle.co_service.specs.Closing.{AreAll, AreEnded, AreEndedCpus, HasEach};
-ghost use Rattle.co_service.specs.Fresh.{AreBenches, AreNamed};
-ghost use Rattle.co_service.specs.Moving.{IsOfService, IsTried, target_of};
+ghost use Rattle.co_service.specs.Fresh.{AreNamed};
+ghost use Rattle.co_service.specs.Moving.{IsTried};
 ghost use Rattle.co_service.specs.Outcomes.{IsScan};
 ghost use Rattle.co_service.specs.Params.{AreParams, actors_of, spec_at};
-ghost use Rattle.co_service.specs.Services.{FollowsScans, HasNext, IsBegun, IsEnded, IsEndedBut, IsFree, IsLanded, IsServing, IsTaken};
+ghost use Rattle.co_service.specs.Services.{FollowsScans, HasNext, IsBegun, IsFree, IsLanded, IsServing, IsTaken};
 ghost use Rattle.co_service.specs.Serving.{Runs, Service as Progress, Waits};
 ghost use Rattle.co_service.specs.Views.{AreOf, journal_seen};
 
-use crate::bench::Bench;
-use crate::books::Books;
-use crate::boot::push;
 use crate::closing::{Closing, Ending, check_each, end_all};
 use crate::desk::Desk;
+use crate::locked::{DeskHold, Inside, Locked, make_inside, open_desks};
 use crate::moving::Moving;
 use crate::places::Places;
 use crate::running::add_last;
@@ -29,49 +27,19 @@ use crate::{Fresh, Made, Name, Params, Passes, Scanned, Taken};
 use co_life::Shown;
 use co_lock::Hold;
 use co_object::{CallOp, Note, Spec};
-use co_sbt::{NoMemory, Room, Sbt, Seq};
+use co_sbt::{NoMemory, Sbt, Seq};
 use std::alloc::Global;
 use std::marker::{Brand, Model};
 use std::sync::atomic::{AtomicU32, Ordering};
-use std::sync::{Condvar, Mutex, MutexGuard, Wait};
-
-/// A desk behind its lock, with what is told of its changes.
-#[derive(Drop)]
-struct Locked<N: Name> {
-    desk: Mutex<Desk<N>>,
-    changed: Condvar,
-}
-
-/// A desk's lock. It lends nothing. Contracts see the CPU of the desk that it locks.
-#[derive(Drop)]
-pub struct DeskHold<'a, N: Name> {
-    desk: MutexGuard<'a, Desk<N>>,
-}
-
-impl<'a, N: Name> Model for DeskHold<'a, N> {
-    ghost use Rattle.std.specs.Prelude.{ℕ};
-
-    ghost Value = { ℕ };
-
-    ghost view = { λ h. h.desk.value.cpu };
-}
-
-impl<N: Name> DeskHold<'_, N> {
-    /// The CPU whose desk is locked.
-    pub fn cpu(&self) -> u32
-        ensures { result ≡ self.now }
-    {
-        self.desk.cpu()
-    }
-}
+use std::sync::{Mutex, Wait};
 
 /// The running service. Contracts see its parameters; its name is that of `N`.
 #[derive(Drop)]
 pub struct Service<N: Name> {
-    places: Places,
+    pub(crate) places: Places,
     params: Shown<Params>,
     /// By CPU.
-    desks: Vec<Locked<N>>,
+    pub(crate) desks: Vec<Locked<N>>,
     /// By callout: the CPU whose desk is asked first. No clause rests on it.
     hints: Vec<AtomicU32>,
     /// What the end needs. The lock is for the type alone: nothing of it is shared before the end.
@@ -88,50 +56,6 @@ impl<N: Name> Model for Service<N> {
     ghost view = { λ s. s.params.value };
 
     ghost invariant = { λ s. IsService N.name s.places s.params.value (vec_len s.desks) };
-}
-
-/// The desks behind their locks.
-fn lock_all<N: Name>(
-    alloc: Global,
-    params: &Params,
-    benches: Vec<Bench>,
-) -> Result<Vec<Locked<N>>, NoMemory>
-    requires few { params.now.cpus < 2 ^ 32 }
-    requires benches { AreBenches N.name params.now benches.items }
-    ensures { IfOk result (λ desks. vec_len desks ≡ params.now.cpus) }
-{
-    let mut desks = Vec::new(alloc);
-    let mut cpu = 0;
-    for bench in benches {
-        let locked = Locked {
-            desk: Mutex::new(Desk::new(cpu, params, bench)),
-            changed: Condvar::new(),
-        };
-        push(&mut desks, locked)?;
-        cpu += 1;
-    }
-    Ok(desks)
-}
-
-/// The books of the desks, which nothing locks any more.
-fn open_desks<N: Name>(desks: Vec<Locked<N>>, room: Room<Books<N>>) -> Vec<Books<N>>
-    requires { vec_len desks ≤ room.spare }
-{
-    let mut room = room;
-    for locked in desks {
-        let Locked { desk, changed: _ } = locked;
-        room.push(desk.into_inner().into_books());
-    }
-    room.into_seq().into_vec()
-}
-
-/// The hints of so many callouts, all of which begin at the first CPU.
-fn first_hints(alloc: Global, callouts: usize) -> Result<Vec<AtomicU32>, NoMemory> {
-    let mut hints = Vec::new(alloc);
-    for _ in 0..callouts {
-        push(&mut hints, AtomicU32::new(0))?;
-    }
-    Ok(hints)
 }
 
 impl Service<Brand> {
@@ -152,34 +76,6 @@ impl Service<Brand> {
     {
         Fresh::boot(alloc, version, cpus, buckets, clients, specs)
     }
-}
-
-/// What a service has beside its places and parameters.
-#[derive(Drop)]
-struct Inside<N: Name> {
-    desks: Vec<Locked<N>>,
-    hints: Vec<AtomicU32>,
-    ending: Mutex<Ending<N>>,
-}
-
-/// The desks behind their locks, the hints, and what the end needs.
-fn make_inside<N: Name>(
-    alloc: Global,
-    params: &Params,
-    benches: Vec<Bench>,
-) -> Result<Inside<N>, NoMemory>
-    requires few { params.now.cpus < 2 ^ 32 }
-    requires benches { AreBenches N.name params.now benches.items }
-    ensures { IfOk result (λ inside. vec_len inside.desks ≡ params.now.cpus) }
-{
-    let desks = lock_all(alloc, params, benches)?;
-    let hints = first_hints(alloc, params.specs.as_slice().len())?;
-    let ending = Mutex::new(Ending::new(alloc)?);
-    Ok(Inside {
-        desks,
-        hints,
-        ending,
-    })
 }
 
 impl<N: Name> Service<N> {
@@ -208,6 +104,7 @@ impl<N: Name> Service<N> {
     }
 
     /// The CPU whose desk is asked first for a callout.
+    #[inline(always)]
     fn hint(&self, i: u32) -> usize
         ensures { result < self.now.cpus }
     {
@@ -219,6 +116,7 @@ impl<N: Name> Service<N> {
     }
 
     /// A call on one desk. The answer and what leaves go to their places. False where the callout isn't there.
+    #[inline(always)]
     fn call_at<R: Wait>(
         &self,
         rt: &R,
@@ -243,6 +141,7 @@ impl<N: Name> Service<N> {
 
     /// A call on the desk that the callout's hint names, and where it isn't there on the others in rising order. False where it is on
     /// none of them.
+    #[inline(always)]
     fn call_once<R: Wait>(
         &self,
         rt: &R,
@@ -269,6 +168,7 @@ impl<N: Name> Service<N> {
     }
 
     /// A callout comes to the desk of the CPU at which it is armed.
+    #[inline(always)]
     fn land_once<R: Wait>(
         &self,
         rt: &R,
@@ -295,7 +195,13 @@ impl<N: Name> Service<N> {
     }
 
     /// A callout comes to its CPU. It is tried again where that desk can't take it.
-    fn land<R: Wait>(&self, rt: &R, passes: &mut Passes, act: u64, moving: Moving<N>) -> Note
+    pub(crate) fn land<R: Wait>(
+        &self,
+        rt: &R,
+        passes: &mut Passes,
+        act: u64,
+        moving: Moving<N>,
+    ) -> Note
         requires passes { AreOf N.name self.now passes.old }
         requires params { moving.params ≡ passes.old.params }
         ensures { IsLanded passes.old act moving.i moving.target result passes.new }
@@ -311,6 +217,7 @@ impl<N: Name> Service<N> {
     }
 
     /// A call, where the record stands. The answer and what leaves go to their places.
+    #[inline(always)]
     fn call_found<R: Wait>(
         &self,
         rt: &R,
@@ -333,6 +240,7 @@ impl<N: Name> Service<N> {
     }
 
     /// A call, the landing of what leaves included. The answer goes to its place: it is large, and so made where it is wanted.
+    #[inline(always)]
     fn call_landed<R: Wait>(
         &self,
         rt: &R,
@@ -418,6 +326,7 @@ impl<N: Name> Service<N> {
 
     /// The first callout that has come due goes into service, of the CPU or of its interrupt where `direct`. It waits until the
     /// CPU's journal has so many Scans.
+    #[inline(always)]
     fn next_lane<R: Wait>(
         &self,
         rt: &R,
@@ -515,93 +424,6 @@ impl<N: Name> Service<N> {
             }
         }
         unreachable!()
-    }
-
-    /// The end of a service on its desk, of the CPU or of its interrupt where `direct`. The answer and what leaves go to their places.
-    fn end_found<R: Wait>(
-        &self,
-        rt: &R,
-        passes: &mut Passes,
-        cpu: u32,
-        act: u64,
-        direct: bool,
-        made: &mut Made,
-        gone: &mut Option<Moving<N>>,
-    )
-        requires cpu { cpu < self.now.cpus }
-        requires passes { AreOf N.name self.now passes.old }
-        requires serves { (d : Due) × IsServing direct passes.old cpu d (Runs d.n) }
-        ensures ended { (d : Due) → IsServing direct passes.old cpu d (Runs d.n) → IsEndedBut direct passes.old cpu act d made.new.reply (target_of gone.new) (notes_in made.new.notes) passes.new × IsOfService passes.old.params d.i gone.new }
-        ensures room { HasRoom made.new.notes }
-    {
-        for _ in rt.forever() {
-            let locked = &self.desks[cpu as usize];
-            let ended = locked
-                .desk
-                .lock(rt)
-                .end(&self.places, passes, cpu, act, direct, made, gone);
-            if ended {
-                locked.changed.notify_all();
-                return;
-            }
-        }
-        unreachable!()
-    }
-
-    /// The end of a service, the landing of what leaves included. The answer goes to its place.
-    fn end_lane<R: Wait>(
-        &self,
-        rt: &R,
-        passes: &mut Passes,
-        cpu: u32,
-        act: u64,
-        direct: bool,
-        made: &mut Made,
-    )
-        requires cpu { cpu < self.now.cpus }
-        requires passes { AreOf N.name self.now passes.old }
-        requires serves { (d : Due) × IsServing direct passes.old cpu d (Runs d.n) }
-        ensures { (d : Due) → IsServing direct passes.old cpu d (Runs d.n) → IsEnded direct passes.old cpu act d made.new.reply (notes_in made.new.notes) passes.new }
-    {
-        let mut leaves = None;
-        self.end_found(rt, passes, cpu, act, direct, made, &mut leaves);
-        if let Some(moving) = leaves {
-            let last = self.land(rt, passes, act, moving);
-            add_last(made, last);
-        }
-    }
-
-    /// The CPU's service is over: the function has returned, or was skipped. Where an arming at another CPU waited for this
-    /// end, the callout lands there.
-    ///
-    /// The passes are those of the CPU's actor, whose own entries have a callout in service that doesn't wait for its lock.
-    pub fn end<R: Wait>(&self, rt: &R, passes: &mut Passes, cpu: u32, act: u64) -> Made
-        requires cpu { cpu < self.now.cpus }
-        requires passes { AreOf N.name self.now passes.old }
-        requires serves { (d : Due) × IsServing false passes.old cpu d (Runs d.n) }
-        ensures ended { (d : Due) → IsServing false passes.old cpu d (Runs d.n) → IsEnded false passes.old cpu act d result.reply (notes_in result.notes) passes.new }
-        ensures of { AreOf N.name self.now passes.new }
-        ensures actor { passes.new.actor ≡ passes.old.actor }
-        ensures free { IsFree false passes.new cpu }
-    {
-        let mut made = Made::none();
-        self.end_lane(rt, passes, cpu, act, false, &mut made);
-        made
-    }
-
-    /// The same for the CPU's interrupt, whose passes these are.
-    pub fn end_direct<R: Wait>(&self, rt: &R, passes: &mut Passes, cpu: u32, act: u64) -> Made
-        requires cpu { cpu < self.now.cpus }
-        requires passes { AreOf N.name self.now passes.old }
-        requires serves { (d : Due) × IsServing true passes.old cpu d (Runs d.n) }
-        ensures ended { (d : Due) → IsServing true passes.old cpu d (Runs d.n) → IsEnded true passes.old cpu act d result.reply (notes_in result.notes) passes.new }
-        ensures of { AreOf N.name self.now passes.new }
-        ensures actor { passes.new.actor ≡ passes.old.actor }
-        ensures free { IsFree true passes.new cpu }
-    {
-        let mut made = Made::none();
-        self.end_lane(rt, passes, cpu, act, true, &mut made);
-        made
     }
 
     /// Waits until no desk has callout `i`'s arming `n` in service. What a desk answers is decided by its books: whether its

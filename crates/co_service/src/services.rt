@@ -37,6 +37,7 @@ fn is_of(service: Option<(u32, u64)>, i: u32, n: u64) -> bool
 }
 
 /// Writes that arming `n` of callout `i` has come into the queue.
+#[inline(always)]
 fn write_landed<N: Name>(
     books: &mut Books<N>,
     lives: &Lives<CpuStory>,
@@ -61,6 +62,7 @@ fn write_landed<N: Name>(
 
 impl<N: Name> Desk<N> {
     /// Whether the journal has fewer Scans.
+    #[inline(always)]
     pub(crate) fn lacks(&self, scans: u64) -> bool
         ensures { result ≡ nat_lt (scans_in self.now.journal) scans }
     {
@@ -68,6 +70,7 @@ impl<N: Name> Desk<N> {
     }
 
     /// Whether this CPU or its interrupt has this arming of callout `i` in service, by the journal.
+    #[inline(always)]
     pub(crate) fn services(&self, i: u32, n: u64) -> bool
         ensures { result ≡ services (queue_of self.now) i n }
     {
@@ -76,6 +79,7 @@ impl<N: Name> Desk<N> {
 
     /// The first callout that has come due goes into service: of this CPU, or of its interrupt where `direct`. None where
     /// the desk is of another CPU, or its journal has fewer Scans yet, and there alone.
+    #[inline(always)]
     pub(crate) fn next(
         &mut self,
         places: &Places,
@@ -106,6 +110,7 @@ impl<N: Name> Desk<N> {
 
     /// The lock of the callout that this CPU has in service is held. None where the desk is of another CPU, and there
     /// alone.
+    #[inline(always)]
     pub(crate) fn begin(
         &mut self,
         places: &Places,
@@ -137,6 +142,7 @@ impl<N: Name> Desk<N> {
 
     /// The service is over: of this CPU, or of its interrupt where `direct`. The answer goes to its place, and so does the callout where
     /// it leaves for another CPU. False where the desk is of another CPU, and there alone.
+    #[inline(always)]
     pub(crate) fn end(
         &mut self,
         places: &Places,

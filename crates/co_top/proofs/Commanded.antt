@@ -13,7 +13,7 @@ use Rattle.co_top.specs.declared.status.Status.{Status}
 use Rattle.co_top.specs.declared.status.Status.TheVariants.{Done, BadScript, Usage, ReadFault, WriteFault, NoMemory, NotLegal}
 use Rattle.co_top.specs.Commands.{usage_text}
 use Rattle.co_top.specs.Headline.{Gives, GivesServed, HasRead, Says, Tells, IsMadeOf, limit_of, served_limit}
-use Rattle.co_top.specs.Outside.{Outside, Reads, ReadsToEnd, Writes}
+use Rattle.co_front.specs.Outside.{Outside, Reads, ReadsToEnd, Writes}
 use Rattle.co_top.proofs.Accepted.{accepted_short, report_short, events_short, served_short}
 
 -- the bytes that a command read of the source, and whether there were more than its limit

@@ -18,7 +18,7 @@ use Rattle.co_top.specs.declared.status.Status.{Status}
 use Rattle.co_top.specs.declared.status.Status.TheVariants.{Done, BadScript, Usage, ReadFault, WriteFault, NoMemory, NotLegal}
 use Rattle.co_top.specs.Commands.{command_of}
 use Rattle.co_top.specs.Headline.{Gives, GivesServed, Serves, Refuses, IsJudged, Says, IsReadAnswered, IsServedAnswered, IsAnswered, IsHeadline, IsComplete, limit_of, served_limit, plain, status_of, served_status, script_status, report_status, text_status, verdict_status, HasNoFault}
-use Rattle.co_top.specs.Outside.{Outside, ReadsToEnd, Reads}
+use Rattle.co_front.specs.Outside.{Outside, ReadsToEnd, Reads}
 use Rattle.co_top.proofs.Accepted.{long_refused, report_refused, events_refused, kq_refused, sleep_refused, itimer_refused}
 
 -- ---- what a source that tells its bytes had

@@ -1,9 +1,8 @@
 -- The words that are a command, and the texts that the program itself writes.
 use Rattle.std.specs.Prelude.{◌≡◌, ℕ, ◌^◌, Bool, true, false, List, [], ◌∷◌, ◌++◌, Option, Some, None, Result, Ok, Err, codes, decimal, nat_lt, if◌then◌else◌}
-use Rattle.co_text.specs.Fallible.{Refusal}
 use Rattle.co_text.specs.Values.{Word, is_word, number}
 use Rattle.co_text.specs.declared.cause.Cause.{Cause}
-use Rattle.co_text.specs.declared.cause.Cause.TheVariants as cause
+use Rattle.co_front.specs.Texts.{line}
 use Rattle.co_check.specs.declared.verdict.Unfit.{Unfit}
 use Rattle.co_check.specs.declared.verdict.Unfit.TheVariants as unfit
 use Rattle.co_top.specs.declared.command.Command.{Command}
@@ -80,10 +79,6 @@ IsPlain words = is_serving (command_of words) ≡ false
 
 -- ---- texts
 
--- a text and a line feed
-abbrev pub line : List ℕ → List ℕ
-line text = text ++ 10 ∷ []
-
 abbrev pub usage_text : List ℕ
 usage_text = line (codes "usage: callout steps | run | check | gen N | soak N | kq | sleep | itimer | event")
 
@@ -91,32 +86,9 @@ usage_text = line (codes "usage: callout steps | run | check | gen N | soak N | 
 abbrev pub legal_text : List ℕ
 legal_text = line (codes "legal")
 
-abbrev pub cause_word : Cause → Word
-cause_word cause.Size = codes "size"
-cause_word cause.Cut = codes "cut"
-cause_word cause.Byte = codes "byte"
-cause_word cause.Version = codes "version"
-cause_word cause.Word = codes "word"
-cause_word cause.Order = codes "order"
-cause_word cause.Form = codes "form"
-cause_word cause.Number = codes "number"
-cause_word cause.Kind = codes "kind"
-cause_word cause.Falls = codes "falls"
-cause_word cause.Many = codes "many"
-cause_word cause.Timer = codes "timer"
-cause_word cause.Note = codes "note"
-
 abbrev pub unfit_word : Unfit → Word
 unfit_word unfit.Actor = codes "actor"
 unfit_word unfit.Illegal = codes "illegal"
 unfit_word unfit.Number = codes "number"
 unfit_word unfit.Follows = codes "follows"
 unfit_word unfit.Missing = codes "missing"
-
--- `line N: cause`
-abbrev pub fault_text : ℕ → Word → List ℕ
-fault_text number word = line (codes "line " ++ decimal number ++ codes ": " ++ word)
-
--- of an input that is no script, or no report
-abbrev pub refusal_text : Refusal → List ℕ
-refusal_text refusal = fault_text refusal.line (cause_word refusal.cause)

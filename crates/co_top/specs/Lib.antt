@@ -1,5 +1,4 @@
 pub mod Statuses
 pub mod Commands
-pub mod Outside
 pub mod Headline
 pub mod Laws

@@ -2,10 +2,10 @@
 ghost use Rattle.std.specs.Prelude.{◌≡◌, IfOk};
 ghost use Rattle.std.specs.List.{concat};
 ghost use Rattle.co_top.specs.declared.status.Status.TheVariants.{BadScript};
-ghost use Rattle.co_top.specs.Commands.{refusal_text};
+ghost use Rattle.co_front.specs.Texts.{refusal_text};
 
 use crate::status::Status;
-use crate::texts::refusal_text;
+use co_front::refusal_text;
 use co_sbt::{NoMemory, Seq};
 use co_text::Cause;
 use std::alloc::Global;

@@ -2,7 +2,7 @@
 ghost use Rattle.std.specs.Prelude.{◌≡◌, IfOk, Some, None};
 ghost use Rattle.std.specs.List.{concat};
 ghost use Rattle.co_top.specs.declared.status.Status.TheVariants.{Done, BadScript};
-ghost use Rattle.co_top.specs.Commands.{refusal_text};
+ghost use Rattle.co_front.specs.Texts.{refusal_text};
 
 use crate::answer::{Answer, refused};
 use crate::status::Status;

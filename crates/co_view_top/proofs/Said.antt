@@ -7,7 +7,7 @@ use Rattle.co_view_top.specs.declared.status.Status.{Status}
 use Rattle.co_view_top.specs.declared.status.Status.TheVariants.{Done, BadReport, Usage, ReadFault, WriteFault, NoMemory, NoOrder}
 use Rattle.co_view_top.specs.Texts.{usage_text}
 use Rattle.co_view_top.specs.Headline.{Gives, HasRead, Says, Tells, limit}
-use Rattle.co_view_top.specs.Outside.{Outside, Reads, ReadsToEnd, Writes}
+use Rattle.co_front.specs.Outside.{Outside, Reads, ReadsToEnd, Writes}
 use Rattle.co_view_top.proofs.Accepted.{report_short}
 
 -- the bytes that were read of the source, and whether there were more than the limit

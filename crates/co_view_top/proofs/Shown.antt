@@ -10,7 +10,7 @@ use Rattle.co_view_top.specs.declared.status.Status.TheVariants.{Done, NoOrder}
 use Rattle.co_view_top.specs.declared.top.Answer.{Answer}
 use Rattle.co_view_top.specs.declared.views.View.{View}
 use Rattle.co_view_top.specs.Headline.{Gives}
-use Rattle.co_view_top.specs.Texts.{fault_text}
+use Rattle.co_front.specs.Texts.{fault_text}
 use Rattle.co_view_top.specs.Views.{view_text}
 
 -- the text of a view, in an order

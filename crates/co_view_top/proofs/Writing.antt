@@ -10,7 +10,7 @@ use Rattle.co_io.specs.declared.write.WriteEnd.TheVariants.{Fault, Stalled}
 use Rattle.co_view_top.specs.declared.status.Status.{Status}
 use Rattle.co_view_top.specs.declared.status.Status.TheVariants.{WriteFault}
 use Rattle.co_view_top.specs.Headline.{Tells}
-use Rattle.co_view_top.specs.Outside.{Output}
+use Rattle.co_front.specs.Outside.{Output}
 
 pub tells : {X : Type 0} (status result : Status) (text : List ℕ) (before after : Output) (end : Result X WriteEnd) →
     MatchResult end (λ _. result ≡ status) (λ _. result ≡ WriteFault) →

@@ -6,8 +6,9 @@ use Rattle.co_report.specs.declared.line.Report.{Report}
 use Rattle.co_text.specs.Fallible.{Refusal}
 use Rattle.co_view_top.specs.declared.status.Status.{Status}
 use Rattle.co_view_top.specs.declared.status.Status.TheVariants.{Done, BadReport, Usage, ReadFault, WriteFault, NoMemory, NoOrder}
-use Rattle.co_view_top.specs.Outside.{Output, Outside, ReadsToEnd, Reads, ReadFails, Writes, WritesFront}
-use Rattle.co_view_top.specs.Texts.{fault_text, refusal_text, usage_text}
+use Rattle.co_front.specs.Outside.{Output, Outside, ReadsToEnd, Reads, ReadFails, Writes, WritesFront}
+use Rattle.co_front.specs.Texts.{fault_text, refusal_text}
+use Rattle.co_view_top.specs.Texts.{usage_text}
 use Rattle.co_view.specs.Order.{IsOrder, IsStuck}
 use Rattle.co_view_top.specs.Views.{IsShown, view_of}
 use Rattle.co_view_top.specs.declared.views.View.{View}

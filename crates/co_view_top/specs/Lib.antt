@@ -1,4 +1,3 @@
-pub mod Outside
 pub mod Statuses
 pub mod Texts
 pub mod Views

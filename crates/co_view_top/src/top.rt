@@ -3,16 +3,18 @@ ghost use Rattle.std.specs.Prelude.{◌≡◌, ℕ, List, IfOk, MatchResult, Ok,
 ghost use Rattle.std.specs.List.{concat};
 ghost use Rattle.co_check.specs.Lines.{IsReport};
 ghost use Rattle.co_view_top.specs.declared.status.Status.TheVariants.{NoOrder, Usage, WriteFault, BadReport};
-ghost use Rattle.co_view_top.specs.Outside.{Output, outside};
-ghost use Rattle.co_view_top.specs.Texts.{cause_word, fault_text, usage_text};
+ghost use Rattle.co_front.specs.Outside.{Output, outside};
+ghost use Rattle.co_front.specs.Texts.{cause_word, fault_text};
+ghost use Rattle.co_view_top.specs.Texts.{usage_text};
 ghost use Rattle.co_report.specs.Reading.{report_read};
 ghost use Rattle.co_view_top.specs.Headline.{Gives, IsHeadline, Says, Tells};
 ghost use Rattle.co_view_top.specs.Views.{view_text};
 
 use crate::status::Status;
-use crate::texts::{cause_word, fault_text, usage_text};
+use crate::texts::usage_text;
 use crate::views::{View, view_of};
 use co_check::laws::read_reports_may_be_checked;
+use co_front::{cause_word, fault_text};
 use co_io::{ReadEnd, Sink, Source, WriteEnd, read_all, write_all, write_pieces};
 use co_report::{Report, read_report};
 use co_sbt::{NoMemory, Seq};

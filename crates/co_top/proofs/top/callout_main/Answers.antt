@@ -1,6 +1,6 @@
 use Rattle.std.proofs.Common.{map, string_bytes}
 use Rattle.co_top.specs.Commands.{command_of}
-use Rattle.co_top.specs.Outside.{outside}
+use Rattle.co_front.specs.Outside.{outside}
 use Rattle.co_top.proofs.Commanded.{served_words}
 use Rattle.co_top.proofs.Completeness.{served_complete}
 use Rattle.co_top.proofs.top.callout_main.Goals as goal

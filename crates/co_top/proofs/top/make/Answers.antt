@@ -1,6 +1,6 @@
 use Rattle.std.proofs.Common.{refl, sym, subst}
 use Rattle.co_top.specs.Headline.{IsMadeOf}
-use Rattle.co_top.specs.Outside.{outside}
+use Rattle.co_front.specs.Outside.{outside}
 use Rattle.co_top.proofs.Commanded.{made}
 use Rattle.co_top.proofs.top.make.Goals as goal
 

@@ -3,7 +3,7 @@ use Rattle.co_top.specs.declared.command.Command.{Command}
 use Rattle.co_top.specs.declared.command.Command.TheVariants.{Read, Make}
 use Rattle.co_top.specs.Commands.{command_of}
 use Rattle.co_top.specs.Headline.{Says}
-use Rattle.co_top.specs.Outside.{Outside, outside}
+use Rattle.co_front.specs.Outside.{Outside, outside}
 use Rattle.co_top.proofs.Commanded.{unknown, of_words}
 use Rattle.co_top.proofs.Completeness.{complete}
 use Rattle.co_top.proofs.top.plain_main.Goals as goal

@@ -2,7 +2,7 @@ use Rattle.std.proofs.Common.{ℕ, ◌<◌, List, length, subst}
 use Rattle.std.specs.Prelude.{◌↔◌, IsTrue}
 use Rattle.std.specs.List.{concat}
 use Rattle.co_top.specs.Headline.{Gives}
-use Rattle.co_top.specs.Outside.{outside}
+use Rattle.co_front.specs.Outside.{outside}
 use Rattle.co_top.proofs.Commanded.{said}
 use Rattle.co_top.proofs.top.read_and_answer.Goals as goal
 

@@ -4,7 +4,7 @@ use Rattle.std.specs.List.{concat}
 use Rattle.co_top.specs.declared.command.Command.TheVariants.{Serve}
 use Rattle.co_top.specs.declared.status.Status.{Status}
 use Rattle.co_top.specs.Headline.{GivesServed, Says, served_limit}
-use Rattle.co_top.specs.Outside.{Outside, outside}
+use Rattle.co_front.specs.Outside.{Outside, outside}
 use Rattle.co_top.proofs.Commanded.{WasRead, served_said}
 use Rattle.co_top.proofs.top.serve_and_answer.Goals as goal
 

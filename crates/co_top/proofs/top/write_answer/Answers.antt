@@ -1,7 +1,7 @@
 use Rattle.std.proofs.Common.{ℕ, List, subst}
 use Rattle.std.specs.List.{concat}
 use Rattle.co_top.specs.Headline.{Tells}
-use Rattle.co_top.specs.Outside.{Output}
+use Rattle.co_front.specs.Outside.{Output}
 use Rattle.co_top.proofs.Writing.{tells}
 use Rattle.co_top.proofs.top.write_answer.Goals as goal
 

@@ -1,4 +1,4 @@
-use Rattle.co_top.specs.Outside.{Output}
+use Rattle.co_front.specs.Outside.{Output}
 use Rattle.co_top.proofs.Writing.{tells}
 use Rattle.co_top.proofs.top.write_text.Goals as goal
 

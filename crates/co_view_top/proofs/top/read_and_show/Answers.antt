@@ -1,7 +1,7 @@
 use Rattle.std.proofs.Common.{ℕ, List, subst}
 use Rattle.std.specs.List.{concat}
 use Rattle.co_view_top.specs.Headline.{Gives}
-use Rattle.co_view_top.specs.Outside.{outside}
+use Rattle.co_front.specs.Outside.{outside}
 use Rattle.co_view_top.proofs.Said.{said}
 use Rattle.co_view_top.proofs.top.read_and_show.Goals as goal
 

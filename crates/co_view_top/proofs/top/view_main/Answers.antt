@@ -1,6 +1,6 @@
 use Rattle.std.proofs.Common.{map, string_bytes, refl}
 use Rattle.co_view_top.specs.Views.{view_of}
-use Rattle.co_view_top.specs.Outside.{Outside, outside}
+use Rattle.co_front.specs.Outside.{Outside, outside}
 use Rattle.co_view_top.proofs.Said.{no_words, of_words, unknown}
 use Rattle.co_view_top.proofs.top.view_main.Goals as goal
 

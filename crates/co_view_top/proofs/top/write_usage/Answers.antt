@@ -1,7 +1,7 @@
 use Rattle.std.proofs.Common.{ℕ, List, subst}
 use Rattle.co_view_top.specs.declared.status.Status.TheVariants.{Usage}
 use Rattle.co_view_top.specs.Headline.{Tells}
-use Rattle.co_view_top.specs.Outside.{Output}
+use Rattle.co_front.specs.Outside.{Output}
 use Rattle.co_view_top.proofs.Writing.{tells}
 use Rattle.co_view_top.proofs.top.write_usage.Goals as goal
 

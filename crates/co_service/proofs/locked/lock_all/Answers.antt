@@ -3,7 +3,7 @@ use Rattle.std.specs.Prelude.{slice_get}
 use Rattle.std.specs.declared.option.Option.TheVariants.{Some}
 use Rattle.std.specs.Vec.Iter.{into_iter_items}
 use Rattle.co_service.proofs.Items.{get_mid}
-use Rattle.co_service.proofs.service.lock_all.Goals as goal
+use Rattle.co_service.proofs.locked.lock_all.Goals as goal
 
 pub new-requires : goal.new-requires
 new-requires g c =

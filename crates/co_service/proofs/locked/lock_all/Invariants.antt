@@ -1,6 +1,6 @@
 use Rattle.std.proofs.Common.{◌≡◌, ◌++◌, length, vec_len}
 use Rattle.std.specs.Vec.Iter.{into_iter_items, into_iter_len}
-use Rattle.co_service.proofs.service.lock_all.Given as goal
+use Rattle.co_service.proofs.locked.lock_all.Given as goal
 
 abbrev pub invariant-loop-bench : goal.invariant-loop-bench
 invariant-loop-bench g l =
