@@ -1,5 +1,5 @@
 -- A call of a function that its hold covers is refused for no cause.
-use Rattle.std.proofs.Common.{◌≡◌, ℕ, ◌<◌, Bool, true, false, cond, length, refl, ap, ◌∙◌, arith}
+use Rattle.std.proofs.Common.{◌≡◌, ℕ, ◌<◌, ◌≤◌, Bool, true, false, cond, length, refl, ap, ◌∙◌, arith}
 use Rattle.std.proofs.lemmas.Bool.Decides.{nat_tests}
 use Rattle.std.specs.Prelude.{nat_lt}
 use Rattle.std.specs.declared.option.Option.{Option}
@@ -20,7 +20,7 @@ below_true : (i n : ℕ) → i < n → nat_lt i n ≡ true
 below_true i n low = go (nat_lt i n) refl where
   go : (b : Bool) → nat_lt i n ≡ b → nat_lt i n ≡ true
   go true h = h
-  go false h = absurd (grind (arith, nat_tests, h))
+  go false h = let past : n ≤ i = grind (arith, nat_tests, h) in absurd (omega arith)
 
 named_cpu : (cpus : ℕ) (op : PlainOp) → NamesCpuBelow cpus op → names_cpu cpus (Plain op) ≡ true
 named_cpu cpus (Reset due prec func arg None) h = refl

@@ -6,7 +6,6 @@ pub mod Posted
 pub mod Kept
 pub mod Picks
 pub mod Allowed
-pub mod Scanners
 pub mod Whole
 pub mod Fires
 pub mod Begins

@@ -1,5 +1,5 @@
 -- What is taken into service is a callout of the service. It waits for its lock only where it has one, and a direct one has none.
-use Rattle.std.proofs.Common.{◌≡◌, ℕ, ◌+◌, ◌<◌, ◌≤◌, Bool, true, false, cond, ◌&&◌, List, [], ◌∷◌, ◌++◌, length, refl, sym, ap, ◌∙◌, subst, arith, inl, inr}
+use Rattle.std.proofs.Common.{◌≡◌, ℕ, ◌+◌, ◌<◌, ◌≤◌, Bool, true, false, cond, ◌&&◌, List, [], ◌∷◌, ◌++◌, length, refl, sym, ap, ◌∙◌, subst, arith, ◌⊎◌, inl, inr}
 use Rattle.std.specs.Prelude.{slice_index_or}
 use Rattle.std.specs.List.{All}
 use Rattle.std.proofs.lemmas.List.Elements.{All-get_or}
@@ -14,7 +14,7 @@ use Rattle.co_object.specs.declared.note.Place.TheVariants as at
 use Rattle.co_object.specs.declared.op.RunOp.TheVariants.{Pick}
 use Rattle.co_object.specs.declared.queue.QReply.TheVariants.{Got}
 use Rattle.co_object.specs.declared.reply.Reply.{Reply}
-use Rattle.co_object.specs.declared.reply.Reply.TheVariants.{Hold}
+use Rattle.co_object.specs.declared.reply.Reply.TheVariants.{Go, Hold}
 use Rattle.co_object.specs.declared.spec.LockUse.{LockUse}
 use Rattle.co_object.specs.declared.spec.LockUse.TheVariants.{Free, Mtx, Rw, RwShared}
 use Rattle.co_object.specs.declared.spec.Spec.{Spec}
@@ -23,7 +23,8 @@ use Rattle.co_object.specs.declared.state.State.{State}
 use Rattle.co_object.specs.Actors.{Actors, cpu_actor, interrupt_actor}
 use Rattle.co_object.specs.Callout.{opening}
 use Rattle.co_object.specs.History.{May, next, reply_of, server, state}
-use Rattle.co_object.specs.Serve.{has_lock, is_due, pick, pick_armed, taken}
+use Rattle.co_object.specs.declared.state.Run.TheVariants.{Picked}
+use Rattle.co_object.specs.Serve.{go, has_lock, is_due, pick_armed, taken}
 use Rattle.co_object.specs.Stand.{is_idle}
 use Rattle.co_object.proofs.Histories.{legal-last}
 use Rattle.co_service.specs.declared.outs.Taken.{Taken}
@@ -44,14 +45,20 @@ use Rattle.co_timers.specs.Rounds.{MayServe, waits}
 -- ---- the callout alone
 
 -- a Pick that waits is of a callout with a lock
-waits_armed : (spec : Spec) (s : State) (a : Arming) (b l : Bool) (reply : Reply) → has_lock spec.lock ≡ l → reply_of (cond b (Some (taken spec s a)) None) ≡ Some reply → waits reply ≡ true → l ≡ true
-waits_armed spec s a true true reply lock h w = refl
-waits_armed spec s a true false reply lock h w = absurd (cc)
-waits_armed spec s a false l reply lock h w = absurd (cc)
+waits_taken : (lock : Bool) (s : State) (a : Arming) (reply : Reply) → reply_of (Some (cond lock (record s { armed = None; run = Picked a }, Hold) (go (record s { armed = None }) a))) ≡ Some reply → waits reply ≡ true → lock ≡ true
+waits_taken true s a reply h w = refl
+waits_taken false s a reply h w =
+    let e : Go a.func a.arg ≡ reply = cc in
+    let f : waits (Go a.func a.arg) ≡ true = subst (λ (r : Reply). waits r ≡ true) (sym e) w in
+    absurd (cc)
+
+waits_armed : (spec : Spec) (s : State) (a : Arming) (b : Bool) (reply : Reply) → reply_of (cond b (Some (taken spec s a)) None) ≡ Some reply → waits reply ≡ true → has_lock spec.lock ≡ true
+waits_armed spec s a true reply h w = waits_taken (has_lock spec.lock) s a reply h w
+waits_armed spec s a false reply h w = absurd (cc)
 
 waits_locked : (spec : Spec) (s : State) (o : Option Arming) (n cpu time : ℕ) (reply : Reply) → reply_of (pick_armed spec s o n cpu time) ≡ Some reply → waits reply ≡ true → has_lock spec.lock ≡ true
 waits_locked spec s None n cpu time reply h w = absurd (cc)
-waits_locked spec s (Some a) n cpu time reply h w = waits_armed spec s a (is_due a n cpu time && is_idle s.run) (has_lock spec.lock) reply refl h w
+waits_locked spec s (Some a) n cpu time reply h w = waits_armed spec s a (is_due a n cpu time && is_idle s.run) reply h w
 
 -- ---- the note of the Pick
 
@@ -61,13 +68,13 @@ record IsPick (p : PassesView) (cpu i n time act : ℕ) (reply : Reply) : Type 0
   may : May (actors_of p.params) (spec_at p.params i) before (run_entry p act (Pick n cpu time) reply)
 
 module _ (direct : Bool) (p q : PassesView) (cpu act i n time : ℕ) (reply : Reply) (pop note : Note) (is : IsTaking direct p cpu act i n time reply pop note q) where
-  between : PassesView
+  abbrev between : PassesView
   between = is.written.0
 
   pop_written : WritesAt p (at.Cpu cpu) (of.Cpu (turn p act (pop_of direct) (Got i n time))) pop.pos between
   pop_written = subst (λ (x : Place × AnyEntry). WritesAt p x.0 x.1 pop.pos between) (λ d. (is.popped.place d, is.popped.entry d)) is.written.1
 
-  last : PassesView
+  abbrev last : PassesView
   last = is.written.2.0
 
   pick_written : WritesAt between (at.Timer i) (of.Timer (run_entry p act (Pick n cpu time) reply)) note.pos last
@@ -117,10 +124,12 @@ module _ (name : ServiceName) (params : Params) (limits : AreParams params) (dir
   may_take i n time reply pop note is =
       let one = is_pick direct p q cpu act i n time reply pop note is in
       let here : i < length params.specs = (let b = one.below in let s = handle.sized in omega arith) in
-      let may : May (actors_of params) (spec_at params i) one.before (run_entry p act (Pick n cpu time) reply) = subst (λ (r : Params). May (actors_of r) (spec_at r i) one.before (run_entry p act (Pick n cpu time) reply)) handle.of.params_are one.may in
-      (here, λ w.
-        let lock = waits_locked (spec_at params i) one.before one.before.armed n cpu time reply may.0 w in
-        (lane direct refl here may.1 lock, lock)) where
+      let may : May (actors_of params) (spec_at params i) one.before (run_entry p act (Pick n cpu time) reply) = subst (λ (r : Params). May (actors_of r) (spec_at r i) one.before (run_entry p act (Pick n cpu time) reply)) handle.of.params_are one.may in (
+        here,
+        λ w.
+            let lock = waits_locked (spec_at params i) one.before one.before.armed n cpu time reply may.0 w in
+            (lane direct refl here may.1 lock, lock),
+      ) where
         lane : (b : Bool) → direct ≡ b → i < length params.specs → p.actor ≡ server (actors_of params) (spec_at params i) cpu → has_lock (spec_at params i).lock ≡ true → b ≡ false
         lane false is here at lock = refl
         lane true is here at lock =

@@ -29,7 +29,7 @@ whole p k is =
 -- the interrupt is still here where the CPU's own actor has left
 pub still_here : (p : PostsView) (k : ℕ) → Whole p k → slice_index_or (slice_set p.here (cpu_actor (actors_of p.params) k) false) (interrupt_actor (actors_of p.params) k) false ≡ true
 still_here p k w =
-    let a = p.params.clients + k in let b = (p.params.clients + p.params.cpus) + k in
+    let a : ℕ = p.params.clients + k in let b : ℕ = (p.params.clients + p.params.cpus) + k in
     get_or-set_other p.here a b false false (λ same. let low = w.below in omega arith) ∙ w.interrupt
 
 -- both actors that have seen nothing are a CPU's

@@ -7,10 +7,10 @@ ghost use Rattle.co_timers.specs.Handles.{IsHandle, next_act};
 ghost use Rattle.co_timers.specs.Ports.{handle_of};
 ghost use Rattle.co_timers.specs.Rounds.{IsFor, IsServed};
 
+use crate::Timers;
 use crate::lane::Lane;
 use crate::rounds::serve_all;
 use crate::turned::{Served, Turned};
-use crate::Timers;
 use co_hand::Handler;
 use co_sbt::Sbt;
 use co_service::{Name, Passes, Scanned};
@@ -205,12 +205,7 @@ impl<'a, N: Name> Cpu<'a, N> {
     ///
     /// It waits for the locks of callouts and CPUs. Afterwards neither actor has anything in service, and the last that each asked for
     /// was answered that nothing is left.
-    pub fn turn<R: Wait + Sync, H: Handler>(
-        &mut self,
-        rt: &R,
-        now: Sbt,
-        handler: &mut H,
-    ) -> Turned
+    pub fn turn<R: Wait + Sync, H: Handler>(&mut self, rt: &R, now: Sbt, handler: &mut H) -> Turned
         requires { IsFor (H.needs handler.old) self.old.others.passes.params }
         ensures turned { IsTurned (H.needs handler.old) self.old now result self.new }
         ensures params { self.new.others.passes.params ≡ self.old.others.passes.params }

@@ -75,7 +75,7 @@ impl<'a, N: Name, R: Wait, H: Handler> CpuPort<'a, N, R, H> {
 
     /// The actor after the calls.
     pub(crate) fn into_lane(self) -> Lane
-        ensures { AreCalls self.start self.calls (handle_of result) }
+        ensures { AreCalls self.entry.start self.entry.calls (handle_of result) }
     {
         self.lane
     }

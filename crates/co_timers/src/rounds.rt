@@ -70,7 +70,11 @@ fn fire_after(taken: &Picked, cpu: u32, call: Option<(u32, u64)>, drain: Option<
 fn count(more: bool, so_far: u64) -> u64
     ensures { result ≡ counted more so_far }
 {
-    if more { so_far.saturating_add(1) } else { so_far }
+    if more {
+        so_far.saturating_add(1)
+    } else {
+        so_far
+    }
 }
 
 /// The counts after one more round.
@@ -108,7 +112,16 @@ fn serve<'a, N: Name, R: Wait + Sync, H: Handler>(
 {
     let mut begun = lane;
     let (i, n) = (taken.i, taken.n);
-    let (said, hold) = timers.begin_lane(rt, &mut begun.passes, cpu, act, direct, i, n, taken.reply);
+    let (said, hold) = timers.begin_lane(
+        rt,
+        &mut begun.passes,
+        cpu,
+        act,
+        direct,
+        i,
+        n,
+        taken.reply,
+    );
     let call = called_by(&said);
     let fire = fire_of(taken, cpu, call);
     let mut ran = run_if(rt, timers, begun, &fire, hold, handler);
@@ -147,7 +160,13 @@ fn round<'a, N: Name, R: Wait + Sync, H: Handler>(
     let mut here = lane;
     match timers.take(rt, &mut here.passes, cpu, act, scans, direct) {
         Taken::Empty { .. } => (here, None),
-        Taken::Took { i, n, at, reply, .. } => {
+        Taken::Took {
+            i,
+            n,
+            at,
+            reply,
+            ..
+        } => {
             let taken = Picked { i, n, at, reply };
             let (next, one) = serve(rt, timers, cpu, act, direct, here, &taken, handler);
             (next, Some(one))

@@ -1,6 +1,6 @@
 -- The parts of a service, one after the other: each keeps the actor's handle, and its arming is in service until the end.
 use Rattle.std.proofs.Common.{◌≡◌, ℕ, sym, ap, subst, ◌∙◌}
-use Rattle.std.specs.Prelude.{is_some}
+use Rattle.std.specs.Prelude.{is_some, length}
 use Rattle.std.specs.declared.option.Option.{Option}
 use Rattle.co_hand.specs.declared.fire.Fire.{Fire}
 use Rattle.co_hand.specs.Handlers.{Needs}
@@ -9,7 +9,7 @@ use Rattle.co_service.specs.Call.{notes_in}
 use Rattle.co_service.specs.Serving.{Runs}
 use Rattle.co_timers.specs.Handles.{HandleView}
 use Rattle.co_timers.specs.Ports.{handle_of}
-use Rattle.co_timers.specs.Rounds.{IsFor, RunsIf, fire_of, func_in}
+use Rattle.co_timers.specs.Rounds.{IsFor, RunsIf, drain_of, fire_of, func_in}
 use Rattle.co_timers.proofs.Fires.{fire_exists}
 use Rattle.co_timers.proofs.Kept.{runs_about, runs_free}
 use Rattle.co_timers.proofs.rounds.serve.Goals as goal
@@ -17,7 +17,7 @@ use Rattle.co_timers.proofs.rounds.serve.Goals as goal
 pub run_if-ran-requires-clause-fire : goal.run_if-ran-requires-clause-fire
 run_if-ran-requires-clause-fire g c =
     let d : Due = record { i = c.args.taken.now.i; n = c.args.taken.now.n } in
-    fire_exists d c.args.cpu c.args.taken.now.at _ _ c.called_by-call.result c.fire_of-fire.result c.fire_of-fire.ensures c.requires.callout c.requires.cpu
+    fire_exists d c.args.cpu c.args.taken.now.at (length c.args.timers.now.params.specs) c.args.timers.now.params.cpus c.called_by-call.result c.fire_of-fire.result c.fire_of-fire.ensures c.requires.callout c.requires.cpu
 
 pub finish-made-requires-clause-handle : goal.finish-made-requires-clause-handle
 finish-made-requires-clause-handle g c =
@@ -52,7 +52,7 @@ returns-clause-service g c =
       notes = notes_in c.finish-made.result.notes;
       over = c.finish-made.new.passes;
       ends = c.finish-made.ensures.ended;
-      drains = subst (λ (n : Needs). RunsIf n _ (record { passes = c.finish-made.new.passes; act = c.run_if-ran.result.act }) over) c.run_if-ran.ensures.needs
+      drains = subst (λ (n : Needs). RunsIf n (drain_of c.finish-made.result.reply) (record { passes = c.finish-made.new.passes; act = c.run_if-ran.result.act }) over) c.run_if-ran.ensures.needs
           (subst (λ (o : Option ℕ). RunsIf (g.H.Handler.needs c.run_if-ran.new.handler) o (record { passes = c.finish-made.new.passes; act = c.run_if-ran.result.act }) over) c.drain_of-drain.ensures c.drained_if-over.ensures.runs);
       called = c.is_some.ensures ∙ ap is_some c.called_by-call.ensures;
       drained = c.is_some-2.ensures ∙ ap is_some c.drain_of-drain.ensures;

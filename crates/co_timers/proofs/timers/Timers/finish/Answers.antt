@@ -1,14 +1,7 @@
-use Rattle.std.proofs.Common.{◌≡◌}
 use Rattle.co_object.specs.Queue.{Due}
 use Rattle.co_service.specs.Call.{notes_in}
 use Rattle.co_timers.proofs.Kept.{handle_after}
-use Rattle.co_timers.proofs.serving.Timers.finish.Goals as goal
-
-pub end_in-requires-clause-serves : goal.end_in-requires-clause-serves
-end_in-requires-clause-serves g c = (record { i = c.args.i; n = c.args.n }, c.requires.serving)
-
-pub returns-clause-ended : goal.returns-clause-ended
-returns-clause-ended g c = c.end_in.ensures.ended (record { i = c.args.i; n = c.args.n }) c.requires.serving
+use Rattle.co_timers.proofs.timers.Timers.finish.Goals as goal
 
 pub returns-clause-handle : goal.returns-clause-handle
 returns-clause-handle g c =
