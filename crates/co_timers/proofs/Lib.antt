@@ -3,3 +3,9 @@ pub mod Groups
 pub mod Told
 pub mod Asked
 pub mod Posted
+pub mod Kept
+pub mod Picks
+pub mod Allowed
+pub mod Whole
+pub mod Fires
+pub mod Begins

@@ -1,5 +1,5 @@
 -- A drain: its tries, one after the other, all of them one act.
-use Rattle.std.specs.Prelude.{◌≡◌, ℕ, Bool, true, false, Result, Ok, Err}
+use Rattle.std.specs.Prelude.{◌≡◌, ◌==◌, ℕ, Bool, true, false, Result, Ok, Err}
 use Rattle.std.specs.declared.option.Option.{Option}
 use Rattle.std.specs.declared.option.Option.TheVariants.{Some, None}
 use Rattle.co_lock.specs.declared.held.Held.{Held}
@@ -10,6 +10,7 @@ use Rattle.co_object.specs.declared.reply.Reply.TheVariants as reply
 use Rattle.co_service.specs.Views.{PassesView}
 use Rattle.co_timers.specs.declared.answers.Drained.{Drained}
 use Rattle.co_timers.specs.declared.answers.Refused.{Refused}
+use Rattle.co_timers.specs.declared.answers.Refused.TheVariants.{DrainsItself}
 use Rattle.co_timers.specs.declared.timers.Tried.{Tried}
 use Rattle.co_timers.specs.declared.timers.Tried.TheVariants.{Over, Waits}
 use Rattle.co_timers.specs.Acts.{IsMade}
@@ -40,6 +41,14 @@ pub record IsDrain (p : HandleView) (i : ℕ) (said : Drained) (q : HandleView) 
 abbrev pub IsDrained : HandleView → Option Held → ℕ → Result Drained Refused → HandleView → Type 0
 IsDrained p hold i (Ok said) q = (refusal p.passes.params hold i (DrainTry false) ≡ None) × IsDrain p i said q
 IsDrained p hold i (Err why) q = (refusal p.passes.params hold i (DrainTry false) ≡ Some why) × (q ≡ p)
+
+abbrev pub IsDrainedIf : Bool → HandleView → Option Held → ℕ → Result Drained Refused → HandleView → Type 0
+IsDrainedIf true p hold i said q = (said ≡ Err DrainsItself) × (q ≡ p)
+IsDrainedIf false p hold i said q = IsDrained p hold i said q
+
+-- in the service of callout `own` a drain of that one is refused by name, and then nothing has changed. Else it is a drain
+abbrev pub IsDrainedWithin : (own : ℕ) → HandleView → Option Held → ℕ → Result Drained Refused → HandleView → Type 0
+IsDrainedWithin own p hold i said q = IsDrainedIf (i == own) p hold i said q
 
 -- ---- what one try says
 

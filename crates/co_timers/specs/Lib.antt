@@ -4,3 +4,6 @@ pub mod Posts
 pub mod Acts
 pub mod Answers
 pub mod Drains
+pub mod Ports
+pub mod Rounds
+pub mod Turns

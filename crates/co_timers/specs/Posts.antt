@@ -4,12 +4,13 @@ use Rattle.std.specs.declared.option.Option.{Option}
 use Rattle.std.specs.declared.option.Option.TheVariants.{Some, None}
 use Rattle.std.specs.List.{All}
 use Rattle.co_lock.specs.declared.lock_kind.LockKind.{LockKind}
+use Rattle.co_object.specs.Actors.{cpu_actor, interrupt_actor}
 use Rattle.co_sbt.specs.RoomView.{RoomView}
 use Rattle.co_service.specs.declared.params.Params.{Params}
 use Rattle.co_service.specs.Booted.{AreBooted, booted}
 use Rattle.co_service.specs.Fresh.{AreNamed, FreshView}
 use Rattle.co_service.specs.Name.{ServiceName}
-use Rattle.co_service.specs.Params.{AreParams, actor_count}
+use Rattle.co_service.specs.Params.{AreParams, actor_count, actors_of}
 use Rattle.co_service.specs.Views.{AreOf, PassesView}
 use Rattle.co_timers.specs.Timers.{HaveLocks}
 
@@ -22,6 +23,7 @@ pub record AreFreshTimers (fresh : FreshView) (passes : List PassesView) (p : Pa
   pub same : fresh.params ≡ p
   pub booted : AreBooted fresh.name p passes
   pub limits : AreParams p
+  pub version : p.version ≡ 2
   pub named : AreNamed fresh.name p
   pub locks_are : HaveLocks locks p
   pub kinds_are : kinds ≡ locks
@@ -49,9 +51,17 @@ is_here p j = slice_index_or p.here j false
 abbrev pub is_client : PostsView → ℕ → Bool
 is_client p k = nat_lt k p.params.clients && is_here p k
 
+-- CPU k exists, and both its actors are here
+abbrev pub is_whole : PostsView → ℕ → Bool
+is_whole p k = nat_lt k p.params.cpus && (is_here p (cpu_actor (actors_of p.params) k) && is_here p (interrupt_actor (actors_of p.params) k))
+
 -- actor j leaves, where it does
 abbrev pub leaves : PostsView → ℕ → Bool → PostsView
 leaves p j b = record p { here = if b then slice_set p.here j false else p.here }
+
+-- both actors of CPU k leave, where they do
+abbrev pub both_leave : PostsView → ℕ → Bool → PostsView
+both_leave p k b = leaves (leaves p (cpu_actor (actors_of p.params) k) b) (interrupt_actor (actors_of p.params) k) b
 
 -- an actor's passes are back, unless as many are as there are actors
 abbrev pub back_with : PostsView → PassesView → PostsView

@@ -26,4 +26,5 @@ pub record AreTimers (service params : Params) (locks kinds : List LockKind) : T
   pub same : service ≡ params
   pub kinds_are : kinds ≡ locks
   pub limits : AreParams params
+  pub version : params.version ≡ 2
   pub locks_are : HaveLocks locks params

@@ -12,6 +12,8 @@ pub enum Refused {
     NotHeld,
     /// The caller of a drain, which waits, holds a lock.
     HoldsLock,
+    /// A function drains the callout in whose service it runs: it would wait for its own end for ever.
+    DrainsItself,
 }
 
 /// What a reset or a schedule answers.

@@ -7,9 +7,10 @@ ghost use Rattle.co_object.specs.declared.op.PlainOp.TheVariants.{AsyncDrain, Re
 ghost use Rattle.co_service.specs.Views.{AreOf};
 ghost use Rattle.co_timers.specs.Handles.{IsHandle};
 ghost use Rattle.co_timers.specs.Answers.{IsAnswer, async_word, reset_word, stop_word};
-ghost use Rattle.co_timers.specs.Drains.{IsDrained};
+ghost use Rattle.co_timers.specs.Drains.{IsDrained, IsDrainedWithin};
 
 use crate::{AsyncDrained, Drained, Refused, Reset, Stopped, Timers};
+use co_hand::Fire;
 use co_lock::Hold;
 use co_object::{CallOp, PlainOp, Reply};
 use co_sbt::Sbt;
@@ -214,8 +215,7 @@ impl<'a, N: Name> Client<'a, N> {
     }
 
     /// Takes callout `i`'s arming away and waits until no service has the callout, as `callout_drain`. The caller holds no
-    /// client lock. That the wait ends no clause says: a CPU has to end the service, so no function may drain the callout in
-    /// whose service it runs.
+    /// client lock. That the wait ends no clause says: a CPU has to end the service, so a function calls [`Client::drain_within`].
     pub fn drain<R: Wait>(
         &mut self,
         rt: &R,
@@ -228,5 +228,23 @@ impl<'a, N: Name> Client<'a, N> {
         let said = self.timers.drain(rt, &mut self.passes, self.act, i, hold)?;
         self.act = self.act.saturating_add(1);
         Ok(said)
+    }
+
+    /// The same from within a function, which is told of its service as `fire`. A drain of the callout in whose service it runs is refused: it
+    /// would wait for its own end for ever.
+    pub fn drain_within<R: Wait>(
+        &mut self,
+        rt: &R,
+        i: u32,
+        fire: &Fire,
+        hold: Option<&Hold<'_>>,
+    ) -> Result<Drained, Refused>
+        ensures answer { IsDrainedWithin fire.now.i self.old (option_copied hold.entry) i result self.new }
+        ensures params { self.new.passes.params ≡ self.old.passes.params }
+    {
+        if i == fire.i {
+            return Err(Refused::DrainsItself);
+        }
+        self.drain(rt, i, hold)
     }
 }

@@ -34,7 +34,7 @@ impl Model for TimersFresh {
 
 impl TimersFresh {
     /// A service of 1 to 16 CPUs with so many buckets each, up to 16 clients, these callouts and these client locks. It and
-    /// the opening take all memory that the service ever takes, but for the room of the CPUs' handles.
+    /// the opening take all memory that the service and its handles ever take.
     ///
     /// Each CPU has an interrupt, which scans and serves the direct callouts. Buckets are a power of two; there are 1 to
     /// 1024 callouts, and the lock that one names exists.

@@ -8,9 +8,10 @@ ghost use Rattle.co_object.specs.Actors.{cpu_actor, interrupt_actor};
 ghost use Rattle.co_service.specs.Params.{actor_count, actors_of};
 ghost use Rattle.co_service.specs.Views.{AreOf};
 ghost use Rattle.co_timers.specs.Handles.{IsHandle};
-ghost use Rattle.co_timers.specs.Posts.{back_with, is_client, leaves};
+ghost use Rattle.co_timers.specs.Posts.{back_with, both_leave, is_client, is_here, is_whole, leaves};
+ghost use Rattle.co_timers.specs.Turns.{first_cpu};
 
-use crate::{Client, Timers};
+use crate::{Client, Cpu, Timers};
 use co_life::Shown;
 use co_sbt::{NoMemory, Room, Seq};
 use co_service::{Name, Params, Passes};
@@ -113,6 +114,59 @@ impl<N: Name> Posts<N> {
             return None;
         }
         self.leave(timers.params.clients + timers.params.cpus + k)
+    }
+
+    /// Whether this actor is here.
+    fn is_here(&self, actor: u32) -> bool
+        ensures { result ≡ is_here self.now actor }
+    {
+        match self.seats.get(actor as usize) {
+            Some(seat) => seat.is_some(),
+            None => false,
+        }
+    }
+
+    /// Whether CPU `k` exists and both its actors are here.
+    fn is_whole(&self, timers: &Timers<N>, k: u32) -> bool
+        requires { timers.now.params ≡ self.now.params }
+        ensures { result ≡ is_whole self.now k }
+    {
+        if k >= timers.params.cpus {
+            return false;
+        }
+        let own = timers.params.clients + k;
+        let interrupt = timers.params.clients + timers.params.cpus + k;
+        self.is_here(own) && self.is_here(interrupt)
+    }
+
+    /// CPU `k` leaves with its handle, which has both its actors. `None` where there is no such CPU, or one of its actors has left already;
+    /// then nobody leaves.
+    pub fn cpu_handle<'a>(&mut self, timers: &'a Timers<N>, k: u32) -> Option<Cpu<'a, N>>
+        requires { timers.now.params ≡ self.old.params }
+        ensures here { is_some result ≡ is_whole self.old k }
+        ensures some { IfSome result (λ cpu. cpu ≡ first_cpu N.name self.old.params k) }
+        ensures stays { self.new ≡ both_leave self.old k (is_whole self.old k) }
+    {
+        if !self.is_whole(timers, k) {
+            return None;
+        }
+        let Some(others) = self.leave(timers.params.clients + k) else {
+            unreachable!()
+        };
+        let Some(direct) = self.leave(timers.params.clients + timers.params.cpus + k) else {
+            unreachable!()
+        };
+        Some(Cpu::new(timers, k, direct, others))
+    }
+
+    /// A CPU brings its handle back.
+    pub fn cpu_back(&mut self, cpu: Cpu<'_, N>)
+        requires { cpu.others.passes.params ≡ self.old.params }
+        ensures { self.new ≡ back_with (back_with self.old cpu.entry.direct.passes) cpu.entry.others.passes }
+    {
+        let (direct, others) = cpu.into_passes();
+        self.bring(direct);
+        self.bring(others);
     }
 
     /// Whether all actors are back.

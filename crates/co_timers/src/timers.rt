@@ -127,7 +127,7 @@ impl<N: Name> Timers<N> {
     }
 
     /// An actor's call on callout `i` under this hold, which nothing refuses. It still has in service what it had.
-    fn make<R: Wait>(
+    pub(crate) fn make<R: Wait>(
         &self,
         rt: &R,
         passes: &mut Passes,

@@ -1,71 +1,63 @@
-//! The parts of the program: its service, the client's call, and what the CPU does.
-ghost use Rattle.std.specs.Prelude.{◌≡◌, IfOk, false};
-ghost use Rattle.co_object.specs.Journal.{scanner};
-ghost use Rattle.co_service.specs.Booted.{AreBooted};
-ghost use Rattle.co_service.specs.Params.{actors_of};
-ghost use Rattle.co_service.specs.Services.{IsFree};
-ghost use Rattle.co_service.specs.Views.{AreOf};
-ghost use Rattle.embedding_example.specs.Example.{IsExample};
+//! The parts of the program: its service, and the functions of its callouts.
+ghost use Rattle.std.specs.Prelude.{◌≡◌, [], IfOk};
+ghost use Rattle.embedding_example.specs.Example.{example};
 
-use co_object::{CallOp, LockUse, PlainOp, Reply, Spec};
-use co_sbt::{NoMemory, Sbt, Seq};
-use co_service::{Fresh, Name, Passes, Service, Taken};
+use co_hand::{Fire, Handler, Port};
+use co_lock::Hold;
+use co_object::{LockUse, PlainOp, Spec};
+use co_sbt::{NoMemory, Sbt};
+use co_timers::TimersFresh;
 use std::alloc::Global;
-use std::sync::Wait;
 
-/// A service of version 1 with one CPU of 256 buckets, one client and one callout, which has no lock; and each actor's passes.
-pub fn boot(alloc: Global) -> Result<(Fresh, Seq<Passes>), NoMemory>
-    ensures example { IfOk result (λ made. IsExample made.0.params) }
-    ensures passes { IfOk result (λ made. AreBooted made.0.name made.0.params made.1) }
+/// A service with one CPU of 256 buckets, one client and one callout, which has no lock.
+pub fn boot(alloc: Global) -> Result<TimersFresh, NoMemory>
+    ensures { IfOk result (λ fresh. fresh.params ≡ example) }
 {
     let callout = Spec {
         lock: LockUse::Free,
         returns_unlocked: false,
         direct: false,
     };
-    Service::boot(alloc, 1, 1, 256, 1, &[callout])
+    TimersFresh::boot(alloc, 1, 1, 256, &[callout], &[])
 }
 
-/// The client's first act: callout 0 is to call function 0 with argument 7 at this time, on the CPU where it is. The client
-/// holds no lock, and needs none.
-pub fn arm<N: Name, R: Wait>(rt: &R, service: &Service<N>, client: &mut Passes, due: Sbt) -> Reply
-    requires example { IsExample service.now }
-    requires passes { AreOf N.name service.now client.old }
-    ensures { AreOf N.name service.now client.new }
-{
-    let op = CallOp::Plain(PlainOp::Reset {
-        due,
-        prec: Sbt::zero(),
-        func: 0,
-        arg: 7,
-        cpu: None,
-    });
-    service.call(rt, client, 0, 0, &op, None).reply
+/// The functions of the program's callouts: a heart that beats once a second.
+#[derive(Drop)]
+pub struct Heart {
+    /// How often it has beaten.
+    pub beats: u64,
+    /// The argument of the last beat.
+    pub arg: u64,
 }
 
-/// The CPU's first act: its clock shows this time. What has come due first is served; the answer is its function and argument.
-pub fn serve<N: Name, R: Wait>(
-    rt: &R,
-    service: &Service<N>,
-    cpu: &mut Passes,
-    now: Sbt,
-) -> Option<(u32, u64)>
-    requires example { IsExample service.now }
-    requires passes { AreOf N.name service.now cpu.old }
-    requires scans { cpu.old.actor ≡ scanner (actors_of service.now) 0 }
-    requires free { IsFree false cpu.old 0 }
-    ensures { AreOf N.name service.now cpu.new }
-{
-    service.scan(rt, cpu, 0, 0, now);
-    match service.next(rt, cpu, 0, 0, 1) {
-        Taken::Took {
-            reply: Reply::Go { func, arg },
-            ..
-        } => {
-            // Here a program calls its function.
-            service.end(rt, cpu, 0, 0);
-            Some((func, arg))
-        }
-        _ => None,
+impl Handler for Heart {
+    ghost use Rattle.embedding_example.specs.Example.{example_needs};
+
+    ghost needs = { λ _. example_needs };
+
+    /// Counts, and arms its callout again for a second later.
+    fn run<P: Port>(&mut self, fire: &Fire, hold: Option<&mut Hold<'_>>, port: &mut P) {
+        let _ = hold;
+        self.beats = self.beats.saturating_add(1);
+        self.arg = fire.arg;
+        let due = fire.at.sat_add(Sbt::from_ticks(1, 1));
+        let again = PlainOp::Reset {
+            due,
+            prec: Sbt::zero(),
+            func: fire.func,
+            arg: fire.arg,
+            cpu: None,
+        };
+        port.call(fire.i, &again, None);
+    }
+
+    fn run_unlock<P: Port>(&mut self, fire: &Fire, hold: Hold<'_>, port: &mut P) {
+        drop(hold);
+        self.run(fire, None, port);
+    }
+
+    /// Nobody drains without a wait here.
+    fn drained<P: Port>(&mut self, fire: &Fire, func: u32, port: &mut P) {
+        let _ = (fire, func, port);
     }
 }

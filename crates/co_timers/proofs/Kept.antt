@@ -1,0 +1,93 @@
+-- What the calls of a function keep: the actor's handle, and what it has in service.
+use Rattle.std.proofs.Common.{◌≡◌, ℕ, Bool, List, [], ◌∷◌, ◌++◌, length, refl, sym, ap, ◌∙◌, subst}
+use Rattle.co_hand.specs.declared.port_call.PortCall.{PortCall}
+use Rattle.co_hand.specs.declared.port_call.PortReply.{PortReply}
+use Rattle.co_hand.specs.declared.port_call.PortReply.TheVariants.{NotHeld, Reply as Answered}
+use Rattle.co_lock.specs.declared.held.Held.{Held}
+use Rattle.co_object.specs.declared.note.Note.{Note}
+use Rattle.co_object.specs.declared.op.CallOp.TheVariants.{Plain}
+use Rattle.co_object.specs.declared.op.PlainOp.{PlainOp}
+use Rattle.co_object.specs.Queue.{Due}
+use Rattle.co_service.specs.Name.{ServiceName}
+use Rattle.co_service.specs.declared.outs.Taken.{Taken}
+use Rattle.co_service.specs.declared.outs.Taken.TheVariants.{Empty, Took}
+use Rattle.co_service.specs.Services.{IsFree, IsServing, IsTaken}
+use Rattle.co_service.specs.Serving.{Service}
+use Rattle.co_service.specs.Views.{AreOf, PassesView}
+use Rattle.co_service.specs.Writes.{Writes}
+use Rattle.co_service.specs.declared.params.Params.{Params}
+use Rattle.co_service.proofs.Lasts.{called_free, called_serving}
+use Rattle.co_service.proofs.WholeCall.{writes_keep}
+use Rattle.std.specs.declared.option.Option.{Option}
+use Rattle.co_hand.specs.Handlers.{Needs}
+use Rattle.std.specs.declared.option.Option.TheVariants.{Some, None}
+use Rattle.co_timers.specs.Handles.{HandleView, IsHandle}
+use Rattle.co_timers.specs.Ports.{AreCalls, CameTo, IsPortCall}
+use Rattle.co_timers.specs.Rounds.{HasRun, RunsIf}
+use Rattle.co_timers.proofs.Told.{all_sized}
+
+-- the same actor's passes of the same service, after entries
+pub handle_after : (name : ServiceName) (params : Params) (p q : PassesView) (notes : List Note) → IsHandle name params p → Writes p notes q → IsHandle name params q
+handle_after name params p q notes h w =
+    let same = writes_keep p q notes w in record {
+      of = record { name_is = same.name ∙ h.of.name_is; params_are = same.params ∙ h.of.params_are };
+      sized = all_sized p q notes w ∙ h.sized;
+    }
+
+-- a function's calls with one more
+pub calls_more : (p q r : HandleView) (calls : List PortCall) (call : PortCall) → AreCalls p calls q → IsPortCall q call r → AreCalls p (calls ++ call ∷ []) r
+calls_more p q r [] call are one = (r, subst (λ (x : HandleView). IsPortCall x call r) are one, refl)
+calls_more p q r (c ∷ calls) call are one = (are.0, are.1, calls_more are.0 q r calls call are.2 one)
+
+module _ (name : ServiceName) (params : Params) (direct : Bool) (cpu : ℕ) (d : Due) (far : Service) where
+  -- of the service, with this arming in service
+  pub record IsAbout (p : PassesView) : Type 0 where
+    pub handle : IsHandle name params p
+    pub serving : IsServing direct p cpu d far
+
+  came_about : (p q : HandleView) (hold : Option Held) (i : ℕ) (op : PlainOp) (answer : PortReply) → CameTo p hold i op answer q → IsAbout p.passes → IsAbout q.passes
+  came_about p q hold i op NotHeld came is = subst (λ (x : HandleView). IsAbout x.passes) (sym came.1) is
+  came_about p q hold i op (Answered reply) came is =
+      let made = came.1.made in record {
+        handle = handle_after name params p.passes q.passes made.notes is.handle made.called.written;
+        serving = called_serving p.passes q.passes p.act i (Plain op) reply made.notes made.called direct cpu d far is.serving;
+      }
+
+  pub calls_about : (p q : HandleView) (calls : List PortCall) → AreCalls p calls q → IsAbout p.passes → IsAbout q.passes
+  calls_about p q [] are is = subst (λ (x : HandleView). IsAbout x.passes) (sym are) is
+  calls_about p q (c ∷ calls) are is = calls_about are.0 q calls are.2 (came_about p are.0 are.1.hold c.i c.op c.answer are.1.came is)
+
+  pub runs_about : (needs : Needs) (func : Option ℕ) (p q : HandleView) → RunsIf needs func p q → IsAbout p.passes → IsAbout q.passes
+  runs_about needs None p q runs is = subst (λ (x : HandleView). IsAbout x.passes) (sym runs) is
+  runs_about needs (Some func) p q runs is = calls_about p q runs.calls runs.are is
+
+module _ (name : ServiceName) (params : Params) (direct : Bool) (cpu : ℕ) where
+  -- of the service, with nothing in service
+  pub record IsAtEase (p : PassesView) : Type 0 where
+    pub handle : IsHandle name params p
+    pub free : IsFree direct p cpu
+
+  came_free : (p q : HandleView) (hold : Option Held) (i : ℕ) (op : PlainOp) (answer : PortReply) → CameTo p hold i op answer q → IsAtEase p.passes → IsAtEase q.passes
+  came_free p q hold i op NotHeld came is = subst (λ (x : HandleView). IsAtEase x.passes) (sym came.1) is
+  came_free p q hold i op (Answered reply) came is =
+      let made = came.1.made in record {
+        handle = handle_after name params p.passes q.passes made.notes is.handle made.called.written;
+        free = called_free p.passes q.passes p.act i (Plain op) reply made.notes made.called direct cpu is.free;
+      }
+
+  calls_free : (p q : HandleView) (calls : List PortCall) → AreCalls p calls q → IsAtEase p.passes → IsAtEase q.passes
+  calls_free p q [] are is = subst (λ (x : HandleView). IsAtEase x.passes) (sym are) is
+  calls_free p q (c ∷ calls) are is = calls_free are.0 q calls are.2 (came_free p are.0 are.1.hold c.i c.op c.answer are.1.came is)
+
+  pub runs_free : (needs : Needs) (func : Option ℕ) (p q : HandleView) → RunsIf needs func p q → IsAtEase p.passes → IsAtEase q.passes
+  runs_free needs None p q runs is = subst (λ (x : HandleView). IsAtEase x.passes) (sym runs) is
+  runs_free needs (Some func) p q runs is = calls_free p q runs.calls runs.are is
+
+-- what is taken leaves the actor's handle
+pub taken_after : (name : ServiceName) (params : Params) (direct : Bool) (p q : PassesView) (cpu act : ℕ) (taken : Taken) → IsHandle name params p → IsTaken direct p cpu act taken q → IsHandle name params q
+taken_after name params direct p q cpu act (Empty note) h is = handle_after name params p q (note ∷ []) h is.written
+taken_after name params direct p q cpu act (Took i n time reply pop pick) h is = handle_after name params p q (pop ∷ pick ∷ []) h is.written
+
+-- one arming is in service
+pub served_once : (direct : Bool) (p : PassesView) (cpu : ℕ) (d e : Due) (far on : Service) → IsServing direct p cpu d far → IsServing direct p cpu e on → d ≡ e
+served_once direct p cpu d e far on s t = let h : Some d ≡ Some e = sym s.serves ∙ t.serves in cc

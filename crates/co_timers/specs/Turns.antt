@@ -1,0 +1,71 @@
+-- A CPU's handle, and its turns.
+use Rattle.std.specs.Prelude.{◌≡◌, ◌<◌, ℕ, Bool, true, false, []}
+use Rattle.std.specs.declared.option.Option.{Option}
+use Rattle.std.specs.declared.option.Option.TheVariants.{Some, None}
+use Rattle.co_hand.specs.Handlers.{Needs}
+use Rattle.co_object.specs.Actors.{cpu_actor, interrupt_actor}
+use Rattle.co_service.specs.declared.outs.Scanned.{Scanned}
+use Rattle.co_service.specs.declared.params.Params.{Params}
+use Rattle.co_service.specs.Booted.{booted}
+use Rattle.co_service.specs.Name.{ServiceName}
+use Rattle.co_service.specs.Outcomes.{IsScan}
+use Rattle.co_service.specs.Params.{actors_of, nothing}
+use Rattle.co_service.specs.Services.{IsFree}
+use Rattle.co_service.specs.Views.{PassesView}
+use Rattle.co_timers.specs.declared.cpu.Lanes.{Lanes}
+use Rattle.co_timers.specs.declared.turned.Turned.{Turned}
+use Rattle.co_timers.specs.Handles.{HandleView, IsHandle, next_act}
+use Rattle.co_timers.specs.Ports.{handle_of}
+use Rattle.co_timers.specs.Rounds.{IsServed}
+
+pub record CpuView : Type 0 where
+  pub cpu : ℕ
+  -- its interrupt, which scans, and serves the direct callouts
+  pub direct : HandleView
+  -- its own actor, which serves all others
+  pub others : HandleView
+  -- how many turns it has made
+  pub turns : ℕ
+
+-- the handle of an existing CPU: both its actors are of the service, and neither has anything in service
+pub record IsCpu (name : ServiceName) (params : Params) (c : CpuView) : Type 0 where
+  pub below : c.cpu < params.cpus
+  pub direct : IsHandle name params c.direct.passes
+  pub others : IsHandle name params c.others.passes
+  pub direct_free : IsFree true c.direct.passes c.cpu
+  pub others_free : IsFree false c.others.passes c.cpu
+
+abbrev pub cpu_of : ℕ → Lanes → CpuView
+cpu_of k l = record { cpu = k; direct = handle_of l.direct; others = handle_of l.others; turns = l.turns }
+
+abbrev pub nobody : HandleView
+nobody = record { passes = record { name = record { timers = []; cpus = [] }; params = nothing; actor = 0; timers = []; cpus = [] }; act = 0 }
+
+-- a handle has both its actors but while it turns
+abbrev pub cpu_with : ℕ → Option Lanes → CpuView
+cpu_with k None = record { cpu = k; direct = nobody; others = nobody; turns = 0 }
+cpu_with k (Some l) = cpu_of k l
+
+abbrev pub IsCpuWith : ServiceName → Params → ℕ → Option Lanes → Type 0
+IsCpuWith name params k None = ⊥
+IsCpuWith name params k (Some l) = IsCpu name params (cpu_of k l)
+
+-- one act of each actor: a scan, then all that has come due for the interrupt, then all that has for the CPU, after a Scan for each turn
+pub record IsTurned (needs : Needs) (p : CpuView) (now : ℕ) (turned : Turned) (q : CpuView) : Type 0 where
+  pub out : Scanned
+  pub scanned : PassesView
+  pub scan : IsScan p.direct.passes p.cpu p.direct.act now out scanned
+  pub count : turned.scanned ≡ out.count
+  pub direct : IsServed true needs 0 p.cpu p.direct.act (record { passes = scanned; act = next_act p.direct.act }) turned.direct q.direct
+  pub others : IsServed false needs q.turns p.cpu p.others.act (record { passes = p.others.passes; act = next_act p.others.act }) turned.others q.others
+  pub turns : q.turns ≡ next_act p.turns
+  pub same : q.cpu ≡ p.cpu
+
+-- a CPU before its first turn
+abbrev pub first_cpu : ServiceName → Params → ℕ → CpuView
+first_cpu name p k = record {
+  cpu = k;
+  direct = record { passes = booted name p (interrupt_actor (actors_of p) k); act = 0 };
+  others = record { passes = booted name p (cpu_actor (actors_of p) k); act = 0 };
+  turns = 0;
+}

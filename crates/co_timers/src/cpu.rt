@@ -1,0 +1,221 @@
+//! A CPU's handle.
+ghost use Rattle.std.specs.Prelude.{◌≡◌, ◌<◌, false, true};
+ghost use Rattle.co_service.specs.Outcomes.{IsScan};
+ghost use Rattle.co_service.specs.Services.{IsFree};
+ghost use Rattle.co_service.specs.Views.{AreOf, PassesView};
+ghost use Rattle.co_timers.specs.Handles.{IsHandle, next_act};
+ghost use Rattle.co_timers.specs.Ports.{handle_of};
+ghost use Rattle.co_timers.specs.Rounds.{IsFor, IsServed};
+
+use crate::Timers;
+use crate::lane::Lane;
+use crate::rounds::serve_all;
+use crate::turned::{Served, Turned};
+use co_hand::Handler;
+use co_sbt::Sbt;
+use co_service::{Name, Passes, Scanned};
+use std::marker::Model;
+use std::sync::Wait;
+
+/// Both actors of a CPU.
+#[derive(Drop)]
+pub struct Lanes {
+    /// Its interrupt, which scans, and serves the direct callouts.
+    pub(crate) direct: Lane,
+    /// Its own actor, which serves all others.
+    pub(crate) others: Lane,
+    /// How many turns it has made, for each of which its interrupt has scanned.
+    pub(crate) turns: u64,
+}
+
+/// A CPU's handle: the passes of both its actors, and the number of each one's next act, which no caller has to keep. It goes into the
+/// CPU's thread. Acts are counted as a [`Client`](crate::Client)'s are.
+///
+/// Contracts see the CPU's number, and what each of its actors has seen and will do next. Between turns nothing is in service.
+#[derive(Drop)]
+pub struct Cpu<'a, N: Name> {
+    timers: &'a Timers<N>,
+    number: u32,
+    /// None while it turns.
+    lanes: Option<Lanes>,
+}
+
+impl<'a, N: Name> Model for Cpu<'a, N> {
+    ghost use Rattle.co_timers.specs.Turns.{CpuView, IsCpuWith, cpu_with};
+
+    ghost Value = { CpuView };
+
+    ghost view = { λ c. cpu_with c.number c.lanes };
+
+    ghost invariant = { λ c. IsCpuWith N.name c.timers.now.params c.number c.lanes };
+}
+
+impl Lanes {
+    ghost use Rattle.co_timers.specs.Turns.{IsCpu, IsTurned, cpu_of};
+
+    /// The whole tick of a CPU: an act of its interrupt, and an act of its own.
+    fn turn<'a, N: Name, R: Wait + Sync, H: Handler>(
+        self,
+        rt: &'a R,
+        timers: &'a Timers<N>,
+        cpu: u32,
+        now: Sbt,
+        handler: &mut H,
+    ) -> (Lanes, Turned)
+        requires cpu { IsCpu N.name timers.now.params (cpu_of cpu self) }
+        requires needs { IsFor (H.needs handler.old) timers.now.params }
+        ensures turned { IsTurned (H.needs handler.old) (cpu_of cpu self) now result.1 (cpu_of cpu result.0) }
+        ensures cpu { IsCpu N.name timers.now.params (cpu_of cpu result.0) }
+        ensures needs { H.needs handler.new ≡ H.needs handler.old }
+    {
+        let Lanes {
+            direct,
+            others,
+            turns,
+        } = self;
+        let turns = turns.saturating_add(1);
+        let (direct, scanned, first) = turn_direct(rt, timers, cpu, direct, now, handler);
+        let (others, second) = turn_others(rt, timers, cpu, turns, others, handler);
+        let turned = Turned {
+            scanned: scanned.count,
+            direct: first,
+            others: second,
+        };
+        let after = Lanes {
+            direct,
+            others,
+            turns,
+        };
+        (after, turned)
+    }
+}
+
+/// An act of a CPU's interrupt: its scan, and the services of all direct callouts that have come due.
+fn turn_direct<'a, N: Name, R: Wait + Sync, H: Handler>(
+    rt: &'a R,
+    timers: &'a Timers<N>,
+    cpu: u32,
+    lane: Lane,
+    now: Sbt,
+    handler: &mut H,
+) -> (Lane, Scanned, Served)
+    requires cpu { cpu < timers.now.params.cpus }
+    requires handle { IsHandle N.name timers.now.params lane.passes }
+    requires needs { IsFor (H.needs handler.old) timers.now.params }
+    requires free { IsFree true lane.passes cpu }
+    ensures scan { (scanned : PassesView) × IsScan lane.passes cpu lane.act now result.1 scanned × IsServed true (H.needs handler.old) 0 cpu lane.act (record { passes = scanned; act = next_act lane.act }) result.2 (handle_of result.0) }
+    ensures handle { IsHandle N.name timers.now.params result.0.passes }
+    ensures free { IsFree true result.0.passes cpu }
+    ensures needs { H.needs handler.new ≡ H.needs handler.old }
+{
+    let mut here = lane;
+    let act = here.act;
+    here.act = act.saturating_add(1);
+    let scanned = timers.scan_cpu(rt, &mut here.passes, cpu, act, now);
+    let (after, served) = serve_all(rt, timers, cpu, act, 0, true, here, handler);
+    (after, scanned, served)
+}
+
+/// An act of a CPU: the services of all other callouts that have come due, once its journal has so many Scans.
+fn turn_others<'a, N: Name, R: Wait + Sync, H: Handler>(
+    rt: &'a R,
+    timers: &'a Timers<N>,
+    cpu: u32,
+    scans: u64,
+    lane: Lane,
+    handler: &mut H,
+) -> (Lane, Served)
+    requires cpu { cpu < timers.now.params.cpus }
+    requires handle { IsHandle N.name timers.now.params lane.passes }
+    requires needs { IsFor (H.needs handler.old) timers.now.params }
+    requires free { IsFree false lane.passes cpu }
+    ensures served { IsServed false (H.needs handler.old) scans cpu lane.act (record { passes = lane.passes; act = next_act lane.act }) result.1 (handle_of result.0) }
+    ensures handle { IsHandle N.name timers.now.params result.0.passes }
+    ensures free { IsFree false result.0.passes cpu }
+    ensures needs { H.needs handler.new ≡ H.needs handler.old }
+{
+    let mut here = lane;
+    let act = here.act;
+    here.act = act.saturating_add(1);
+    serve_all(rt, timers, cpu, act, scans, false, here, handler)
+}
+
+impl<'a, N: Name> Cpu<'a, N> {
+    ghost use Rattle.co_timers.specs.Turns.{IsTurned, IsCpu, cpu_of};
+
+    /// The handle of a CPU whose actors have these passes, before their first acts.
+    pub(crate) fn new(
+        timers: &'a Timers<N>,
+        number: u32,
+        direct: Passes,
+        others: Passes,
+    ) -> Cpu<'a, N>
+        requires { IsCpu N.name timers.now.params (record { cpu = number; direct = record { passes = direct; act = 0 }; others = record { passes = others; act = 0 }; turns = 0 }) }
+        ensures { result ≡ record { cpu = number; direct = record { passes = direct; act = 0 }; others = record { passes = others; act = 0 }; turns = 0 } }
+    {
+        let lanes = Lanes {
+            direct: Lane {
+                passes: direct,
+                act: 0,
+            },
+            others: Lane {
+                passes: others,
+                act: 0,
+            },
+            turns: 0,
+        };
+        Cpu {
+            timers,
+            number,
+            lanes: Some(lanes),
+        }
+    }
+
+    /// What its interrupt and its own actor have seen.
+    pub(crate) fn into_passes(self) -> (Passes, Passes)
+        ensures direct { result.0 ≡ self.entry.direct.passes }
+        ensures others { result.1 ≡ self.entry.others.passes }
+        ensures of { AreOf N.name self.entry.others.passes.params result.0 }
+        ensures of_others { AreOf N.name self.entry.others.passes.params result.1 }
+    {
+        match self.lanes {
+            Some(lanes) => {
+                let Lanes { direct, others, .. } = lanes;
+                (direct.passes, others.passes)
+            }
+            None => unreachable!(),
+        }
+    }
+
+    /// The number of the CPU.
+    pub fn number(&self) -> u32
+        ensures { result ≡ self.now.cpu }
+    {
+        self.number
+    }
+
+    /// The whole tick of the CPU at the time `now`, or at that of its last scan where it is later. What is due comes due; then the interrupt
+    /// serves all direct callouts that have come due, and after that the CPU all others, one after the other.
+    ///
+    /// A service takes the callout's lock first, where it has one; then the handler runs the function, unless a stop has cancelled
+    /// the arming meanwhile; the lock is released and the service ends; and where an asynchronous drain awaited that, the handler runs
+    /// the drain's function, which is told of the service too: where the callout's own function was skipped, with the drain's function and argument
+    /// 0. What a function calls through its port is an act of the actor that serves. The handler has the service's callouts and
+    /// CPUs.
+    ///
+    /// It waits for the locks of callouts and CPUs. Afterwards neither actor has anything in service, and the last that each asked for
+    /// was answered that nothing is left.
+    pub fn turn<R: Wait + Sync, H: Handler>(&mut self, rt: &R, now: Sbt, handler: &mut H) -> Turned
+        requires { IsFor (H.needs handler.old) self.old.others.passes.params }
+        ensures turned { IsTurned (H.needs handler.old) self.old now result self.new }
+        ensures params { self.new.others.passes.params ≡ self.old.others.passes.params }
+        ensures needs { H.needs handler.new ≡ H.needs handler.old }
+    {
+        let Some(lanes) = self.lanes.take() else {
+            unreachable!()
+        };
+        let (lanes, turned) = lanes.turn(rt, self.timers, self.number, now, handler);
+        self.lanes = Some(lanes);
+        turned
+    }
+}

@@ -1,0 +1,216 @@
+//! The rounds of a turn: one for each callout that has come due.
+ghost use Rattle.std.specs.Prelude.{◌≡◌, ◌<◌, false, is_some, length, true};
+ghost use Rattle.co_object.specs.Serve.{has_lock};
+ghost use Rattle.co_service.specs.Params.{spec_at};
+ghost use Rattle.co_service.specs.Services.{IsFree, IsServing};
+ghost use Rattle.co_service.specs.Serving.{picked};
+ghost use Rattle.co_timers.specs.Handles.{IsHandle};
+ghost use Rattle.co_timers.specs.Ports.{handle_of};
+ghost use Rattle.co_timers.specs.Rounds.{IsFor, IsNext, IsServed, IsService, counted, fire_of, served_after, waits};
+
+use crate::Timers;
+use crate::lane::Lane;
+use crate::running::{drained_if, run_if};
+use crate::serving::{called_by, drain_of};
+use crate::turned::{Round, Served};
+use co_hand::{Fire, Handler};
+use co_object::Reply;
+use co_sbt::Sbt;
+use co_service::{Name, Taken};
+use std::sync::Wait;
+
+/// What was taken into service.
+#[derive(Clone, Copy)]
+pub(crate) struct Picked {
+    /// The callout.
+    i: u32,
+    /// The number of its arming.
+    n: u64,
+    /// The time of the last scan.
+    at: Sbt,
+    /// The reply to the Pick.
+    reply: Reply,
+}
+
+/// What the function is told, where one is called.
+fn fire_of(taken: &Picked, cpu: u32, call: Option<(u32, u64)>) -> Option<Fire>
+    ensures { result ≡ fire_of (record { i = taken.now.i; n = taken.now.n }) cpu taken.now.at call }
+{
+    let (func, arg) = call?;
+    Some(Fire {
+        i: taken.i,
+        n: taken.n,
+        func,
+        arg,
+        cpu,
+        at: taken.at,
+    })
+}
+
+/// What the function `func` of a drain is told. Where the callout's own function was skipped, it is the one that is named, with argument 0.
+fn fire_after(taken: &Picked, cpu: u32, call: Option<(u32, u64)>, drain: Option<u32>) -> Fire
+    ensures i { result.i ≡ taken.now.i }
+    ensures cpu { result.cpu ≡ cpu }
+{
+    let (func, arg) = match call {
+        Some(call) => call,
+        None => (drain.unwrap_or(0), 0),
+    };
+    Fire {
+        i: taken.i,
+        n: taken.n,
+        func,
+        arg,
+        cpu,
+        at: taken.at,
+    }
+}
+
+/// Counts one more, up to 2^64 - 1.
+fn count(more: bool, so_far: u64) -> u64
+    ensures { result ≡ counted more so_far }
+{
+    if more {
+        so_far.saturating_add(1)
+    } else {
+        so_far
+    }
+}
+
+/// The counts after one more round.
+fn served_after(served: Served, one: Round) -> Served
+    ensures { result ≡ served_after served one }
+{
+    Served {
+        called: count(one.called, served.called),
+        skipped: count(!one.called, served.skipped),
+        drained: count(one.drained, served.drained),
+    }
+}
+
+/// Serves what was taken, from the lock to the function of a drain that awaited the end.
+fn serve<'a, N: Name, R: Wait + Sync, H: Handler>(
+    rt: &'a R,
+    timers: &'a Timers<N>,
+    cpu: u32,
+    act: u64,
+    direct: bool,
+    lane: Lane,
+    taken: &Picked,
+    handler: &mut H,
+) -> (Lane, Round)
+    requires cpu { cpu < timers.now.params.cpus }
+    requires handle { IsHandle N.name timers.now.params lane.passes }
+    requires needs { IsFor (H.needs handler.old) timers.now.params }
+    requires callout { taken.now.i < length timers.now.params.specs }
+    requires lock { waits taken.now.reply ≡ true → (direct ≡ false) × (has_lock (spec_at timers.now.params taken.now.i).lock ≡ true) }
+    requires serving { IsServing direct lane.passes cpu (record { i = taken.now.i; n = taken.now.n }) (picked taken.now.n taken.now.reply) }
+    ensures service { IsService direct (H.needs handler.old) cpu act (record { i = taken.now.i; n = taken.now.n }) taken.now.at taken.now.reply (handle_of lane) result.1 (handle_of result.0) }
+    ensures handle { IsHandle N.name timers.now.params result.0.passes }
+    ensures free { IsFree direct result.0.passes cpu }
+    ensures needs { H.needs handler.new ≡ H.needs handler.old }
+{
+    let mut begun = lane;
+    let (i, n) = (taken.i, taken.n);
+    let (said, hold) = timers.begin_lane(
+        rt,
+        &mut begun.passes,
+        cpu,
+        act,
+        direct,
+        i,
+        n,
+        taken.reply,
+    );
+    let call = called_by(&said);
+    let fire = fire_of(taken, cpu, call);
+    let mut ran = run_if(rt, timers, begun, &fire, hold, handler);
+    let made = timers.finish(rt, &mut ran.passes, cpu, act, direct, i, n);
+    let drain = drain_of(&made.reply);
+    let after = fire_after(taken, cpu, call, drain);
+    let over = drained_if(rt, timers, ran, &after, drain, handler);
+    let one = Round {
+        called: call.is_some(),
+        drained: drain.is_some(),
+    };
+    (over, one)
+}
+
+/// The first callout that has come due is taken and served, once the CPU's journal has so many Scans. `None` where none has.
+fn round<'a, N: Name, R: Wait + Sync, H: Handler>(
+    rt: &'a R,
+    timers: &'a Timers<N>,
+    cpu: u32,
+    act: u64,
+    scans: u64,
+    direct: bool,
+    lane: Lane,
+    handler: &mut H,
+) -> (Lane, Option<Round>)
+    requires cpu { cpu < timers.now.params.cpus }
+    requires handle { IsHandle N.name timers.now.params lane.passes }
+    requires needs { IsFor (H.needs handler.old) timers.now.params }
+    requires free { IsFree direct lane.passes cpu }
+    requires none { direct ≡ true → scans ≡ 0 }
+    ensures next { IsNext direct (H.needs handler.old) scans cpu act (handle_of lane) result.1 (handle_of result.0) }
+    ensures handle { IsHandle N.name timers.now.params result.0.passes }
+    ensures free { IsFree direct result.0.passes cpu }
+    ensures needs { H.needs handler.new ≡ H.needs handler.old }
+{
+    let mut here = lane;
+    match timers.take(rt, &mut here.passes, cpu, act, scans, direct) {
+        Taken::Empty { .. } => (here, None),
+        Taken::Took {
+            i,
+            n,
+            at,
+            reply,
+            ..
+        } => {
+            let taken = Picked { i, n, at, reply };
+            let (next, one) = serve(rt, timers, cpu, act, direct, here, &taken, handler);
+            (next, Some(one))
+        }
+    }
+}
+
+/// All that has come due for the CPU, or for its interrupt where `direct`, is served, until nothing is left. It waits until the CPU's journal has so
+/// many Scans.
+pub(crate) fn serve_all<'a, N: Name, R: Wait + Sync, H: Handler>(
+    rt: &'a R,
+    timers: &'a Timers<N>,
+    cpu: u32,
+    act: u64,
+    scans: u64,
+    direct: bool,
+    lane: Lane,
+    handler: &mut H,
+) -> (Lane, Served)
+    requires cpu { cpu < timers.now.params.cpus }
+    requires handle { IsHandle N.name timers.now.params lane.passes }
+    requires needs { IsFor (H.needs handler.old) timers.now.params }
+    requires free { IsFree direct lane.passes cpu }
+    requires none { direct ≡ true → scans ≡ 0 }
+    ensures served { IsServed direct (H.needs handler.old) scans cpu act (handle_of lane) result.1 (handle_of result.0) }
+    ensures handle { IsHandle N.name timers.now.params result.0.passes }
+    ensures free { IsFree direct result.0.passes cpu }
+    ensures needs { H.needs handler.new ≡ H.needs handler.old }
+{
+    let mut here = lane;
+    let mut served = Served {
+        called: 0,
+        skipped: 0,
+        drained: 0,
+    };
+    for _ in rt.forever() {
+        let (next, one) = round(rt, timers, cpu, act, scans, direct, here, handler);
+        match one {
+            Some(one) => {
+                here = next;
+                served = served_after(served, one);
+            }
+            None => return (next, served),
+        }
+    }
+    unreachable!()
+}

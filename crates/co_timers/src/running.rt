@@ -1,0 +1,124 @@
+//! The functions that a CPU runs in its services, each through a port.
+ghost use Rattle.std.specs.Prelude.{◌≡◌, ◌<◌, IfSome, length};
+ghost use Rattle.co_hand.specs.Handlers.{GoesOn, Serves};
+ghost use Rattle.co_timers.specs.Handles.{IsHandle};
+ghost use Rattle.co_timers.specs.Ports.{handle_of};
+ghost use Rattle.co_timers.specs.Rounds.{HasRun, IsFor, RunsIf, func_in};
+
+use crate::Timers;
+use crate::lane::Lane;
+use crate::port::CpuPort;
+use co_hand::{Fire, Handler, Port};
+use co_lock::Hold;
+use co_service::Name;
+use std::sync::Wait;
+
+/// Runs the function of the service. `unlocked` is whether the hold, where there is one, is released first.
+fn hand_over<P: Port, H: Handler>(
+    handler: &mut H,
+    fire: &Fire,
+    hold: Option<Hold<'_>>,
+    unlocked: bool,
+    port: &mut P,
+)
+    requires { Serves (H.needs handler.old) (P.state port.old) fire.now fire.now.func }
+    ensures port { GoesOn (P.state port.old) (P.state port.new) ((H.needs handler.old).calls fire.now.func) }
+    ensures needs { H.needs handler.new ≡ H.needs handler.old }
+{
+    match hold {
+        Some(mut hold) => {
+            if unlocked {
+                handler.run_unlock(fire, hold, port)
+            } else {
+                handler.run(fire, Some(&mut hold), port)
+            }
+        }
+        None => handler.run(fire, None, port),
+    }
+}
+
+/// The actor after the acts of the function of the service, which begins under this hold.
+fn run<'a, N: Name, R: Wait, H: Handler>(
+    rt: &'a R,
+    timers: &'a Timers<N>,
+    lane: Lane,
+    fire: &Fire,
+    hold: Option<Hold<'_>>,
+    handler: &mut H,
+) -> Lane
+    requires handle { IsHandle N.name timers.now.params lane.passes }
+    requires needs { IsFor (H.needs handler.old) timers.now.params }
+    requires callout { fire.now.i < length timers.now.params.specs }
+    requires cpu { fire.now.cpu < timers.now.params.cpus }
+    ensures run { HasRun ((H.needs handler.old).calls fire.now.func) (handle_of lane) (handle_of result) }
+    ensures needs { H.needs handler.new ≡ H.needs handler.old }
+{
+    let unlocked = timers.spec(fire.i).returns_unlocked;
+    let mut port = CpuPort::new(rt, timers, lane, &*handler, fire.func);
+    hand_over(handler, fire, hold, unlocked, &mut port);
+    port.into_lane()
+}
+
+/// The actor after the acts of the function, where one is called.
+pub(crate) fn run_if<'a, N: Name, R: Wait, H: Handler>(
+    rt: &'a R,
+    timers: &'a Timers<N>,
+    lane: Lane,
+    fire: &Option<Fire>,
+    hold: Option<Hold<'_>>,
+    handler: &mut H,
+) -> Lane
+    requires handle { IsHandle N.name timers.now.params lane.passes }
+    requires needs { IsFor (H.needs handler.old) timers.now.params }
+    requires fire { IfSome fire.now (λ f. (f.i < length timers.now.params.specs) × (f.cpu < timers.now.params.cpus)) }
+    ensures runs { RunsIf (H.needs handler.old) (func_in fire.now) (handle_of lane) (handle_of result) }
+    ensures needs { H.needs handler.new ≡ H.needs handler.old }
+{
+    match fire {
+        Some(fire) => run(rt, timers, lane, fire, hold, handler),
+        None => lane,
+    }
+}
+
+/// The actor after the acts of the function of a drain.
+fn run_drained<'a, N: Name, R: Wait, H: Handler>(
+    rt: &'a R,
+    timers: &'a Timers<N>,
+    lane: Lane,
+    fire: &Fire,
+    func: u32,
+    handler: &mut H,
+) -> Lane
+    requires handle { IsHandle N.name timers.now.params lane.passes }
+    requires needs { IsFor (H.needs handler.old) timers.now.params }
+    requires callout { fire.now.i < length timers.now.params.specs }
+    requires cpu { fire.now.cpu < timers.now.params.cpus }
+    ensures run { HasRun ((H.needs handler.old).calls func) (handle_of lane) (handle_of result) }
+    ensures needs { H.needs handler.new ≡ H.needs handler.old }
+{
+    let mut port = CpuPort::new(rt, timers, lane, &*handler, func);
+    handler.drained(fire, func, &mut port);
+    port.into_lane()
+}
+
+/// The actor after the acts of the function of the drain that awaited the end, if one did.
+pub(crate) fn drained_if<'a, N: Name, R: Wait, H: Handler>(
+    rt: &'a R,
+    timers: &'a Timers<N>,
+    lane: Lane,
+    fire: &Fire,
+    drain: Option<u32>,
+    handler: &mut H,
+) -> Lane
+    requires handle { IsHandle N.name timers.now.params lane.passes }
+    requires needs { IsFor (H.needs handler.old) timers.now.params }
+    requires callout { fire.now.i < length timers.now.params.specs }
+    requires cpu { fire.now.cpu < timers.now.params.cpus }
+    ensures runs { RunsIf (H.needs handler.old) drain (handle_of lane) (handle_of result) }
+    ensures needs { H.needs handler.new ≡ H.needs handler.old }
+{
+    match drain {
+        Some(func) => run_drained(rt, timers, lane, fire, func, handler),
+        None => lane,
+    }
+}

@@ -1,0 +1,250 @@
+//! The parts of a service, each one call of the service for an actor of a CPU.
+ghost use Rattle.std.specs.Prelude.{◌≡◌, ◌≢◌, ◌<◌, false, length, true};
+ghost use Rattle.std.specs.declared.option.Option.TheVariants.{Some};
+ghost use Rattle.co_lock.specs.Service.{hold_of};
+ghost use Rattle.co_object.specs.Queue.{Due};
+ghost use Rattle.co_object.specs.Serve.{has_lock};
+ghost use Rattle.co_service.specs.Call.{notes_in};
+ghost use Rattle.co_service.specs.Outcomes.{IsScan};
+ghost use Rattle.co_service.specs.Params.{spec_at};
+ghost use Rattle.co_service.specs.Services.{FollowsScans, HasNext, IsBegun, IsEnded, IsFree, IsServing, IsTaken};
+ghost use Rattle.co_service.specs.Serving.{Runs, Waits, picked};
+ghost use Rattle.co_service.specs.Views.{AreOf, journal_seen};
+ghost use Rattle.co_timers.specs.Handles.{IsHandle};
+ghost use Rattle.co_timers.specs.Rounds.{IsBegin, MayServe, called_by, drain_of, waits};
+
+use crate::Timers;
+use co_lock::{Hold, hold_of};
+use co_object::Reply;
+use co_sbt::Sbt;
+use co_service::{Made, Name, Passes, Scanned, Service, Taken};
+use std::sync::Wait;
+
+/// The function waits for the callout's lock.
+pub(crate) fn waits(reply: &Reply) -> bool
+    ensures { result ≡ waits reply.now }
+{
+    match reply {
+        Reply::Hold => true,
+        _ => false,
+    }
+}
+
+/// The function that is to be called now, with its argument.
+pub(crate) fn called_by(reply: &Reply) -> Option<(u32, u64)>
+    ensures { result ≡ called_by reply.now }
+{
+    match reply {
+        Reply::Go { func, arg } => Some((*func, *arg)),
+        _ => None,
+    }
+}
+
+/// The function of the asynchronous drain that awaited the end.
+pub(crate) fn drain_of(reply: &Reply) -> Option<u32>
+    ensures { result ≡ drain_of reply.now }
+{
+    match reply {
+        Reply::Ended { drain, .. } => *drain,
+        _ => None,
+    }
+}
+
+/// The first callout that has come due goes into the service of the CPU, or of its interrupt where `direct`, once the CPU's journal has so
+/// many Scans, of which an interrupt wants none.
+fn next_in<N: Name, R: Wait>(
+    rt: &R,
+    service: &Service<N>,
+    passes: &mut Passes,
+    cpu: u32,
+    act: u64,
+    scans: u64,
+    direct: bool,
+) -> Taken
+    requires cpu { cpu < service.now.cpus }
+    requires of { AreOf N.name service.now passes.old }
+    requires free { IsFree direct passes.old cpu }
+    requires none { direct ≡ true → scans ≡ 0 }
+    ensures taken { IsTaken direct passes.old cpu act result passes.new }
+    ensures scans { FollowsScans scans (journal_seen passes.new cpu) }
+    ensures next { HasNext direct passes.new cpu result }
+{
+    match direct {
+        true => service.next_direct(rt, passes, cpu, act),
+        false => service.next(rt, passes, cpu, act, scans),
+    }
+}
+
+/// The service of the CPU is over, or that of its interrupt where `direct`.
+fn end_in<N: Name, R: Wait>(
+    rt: &R,
+    service: &Service<N>,
+    passes: &mut Passes,
+    cpu: u32,
+    act: u64,
+    direct: bool,
+) -> Made
+    requires cpu { cpu < service.now.cpus }
+    requires of { AreOf N.name service.now passes.old }
+    requires serves { (d : Due) × IsServing direct passes.old cpu d (Runs d.n) }
+    ensures ended { (d : Due) → IsServing direct passes.old cpu d (Runs d.n) → IsEnded direct passes.old cpu act d result.reply (notes_in result.notes) passes.new }
+    ensures free { IsFree direct passes.new cpu }
+{
+    match direct {
+        true => service.end_direct(rt, passes, cpu, act),
+        false => service.end(rt, passes, cpu, act),
+    }
+}
+
+impl<N: Name> Timers<N> {
+    /// What is due at this CPU comes due. The passes are those of its interrupt.
+    pub(crate) fn scan_cpu<R: Wait>(
+        &self,
+        rt: &R,
+        passes: &mut Passes,
+        cpu: u32,
+        act: u64,
+        now: Sbt,
+    ) -> Scanned
+        requires cpu { cpu < self.now.params.cpus }
+        requires handle { IsHandle N.name self.now.params passes.old }
+        requires free { IsFree true passes.old cpu }
+        ensures scanned { IsScan passes.old cpu act now result passes.new }
+        ensures handle { IsHandle N.name self.now.params passes.new }
+        ensures free { IsFree true passes.new cpu }
+    {
+        self.service.scan(rt, passes, cpu, act, now)
+    }
+
+    /// The first callout that has come due goes into the service of the CPU, or of its interrupt where `direct`. It is a callout of the service, and
+    /// waits for its lock only where it has one.
+    pub(crate) fn take<R: Wait>(
+        &self,
+        rt: &R,
+        passes: &mut Passes,
+        cpu: u32,
+        act: u64,
+        scans: u64,
+        direct: bool,
+    ) -> Taken
+        requires cpu { cpu < self.now.params.cpus }
+        requires handle { IsHandle N.name self.now.params passes.old }
+        requires free { IsFree direct passes.old cpu }
+        requires none { direct ≡ true → scans ≡ 0 }
+        ensures taken { IsTaken direct passes.old cpu act result passes.new }
+        ensures scans { FollowsScans scans (journal_seen passes.new cpu) }
+        ensures may { MayServe direct self.now.params result }
+        ensures handle { IsHandle N.name self.now.params passes.new }
+        ensures next { HasNext direct passes.new cpu result }
+    {
+        next_in(rt, &self.service, passes, cpu, act, scans, direct)
+    }
+
+    /// Takes the lock of callout `i`, in the mode that its spec wants. It waits for the lock.
+    fn lock_of<R: Wait + Sync>(&self, rt: &R, i: u32) -> Hold<'_>
+        requires { has_lock (spec_at self.now.params i).lock ≡ true }
+        ensures { hold_of (spec_at self.now.params i).lock ≡ Some result }
+    {
+        let Some(held) = hold_of(self.spec(i).lock) else {
+            unreachable!()
+        };
+        if held.exclusive {
+            self.locks.lock(rt, held.id)
+        } else {
+            self.locks.read(rt, held.id)
+        }
+    }
+
+    /// The callout in the CPU's service begins under this hold of its lock.
+    fn begin<R: Wait>(
+        &self,
+        rt: &R,
+        passes: &mut Passes,
+        cpu: u32,
+        act: u64,
+        i: u32,
+        n: u64,
+        hold: &Hold<'_>,
+    ) -> Made
+        requires cpu { cpu < self.now.params.cpus }
+        requires handle { IsHandle N.name self.now.params passes.old }
+        requires serving { IsServing false passes.old cpu (record { i = i; n = n }) (Waits n) }
+        requires held { hold_of (spec_at self.now.params i).lock ≡ Some hold.now }
+        ensures begun { IsBegun passes.old cpu act (record { i = i; n = n }) result passes.new }
+        ensures handle { IsHandle N.name self.now.params passes.new }
+        ensures serving { IsServing false passes.new cpu (record { i = i; n = n }) (Runs n) }
+    {
+        self.service.begin(rt, passes, cpu, act, hold)
+    }
+
+    /// Takes the lock of the callout that waits for it in the CPU's service, and begins.
+    fn begin_locked<R: Wait + Sync>(
+        &self,
+        rt: &R,
+        passes: &mut Passes,
+        cpu: u32,
+        act: u64,
+        i: u32,
+        n: u64,
+    ) -> (Reply, Hold<'_>)
+        requires cpu { cpu < self.now.params.cpus }
+        requires handle { IsHandle N.name self.now.params passes.old }
+        requires serving { IsServing false passes.old cpu (record { i = i; n = n }) (Waits n) }
+        requires lock { has_lock (spec_at self.now.params i).lock ≡ true }
+        ensures begins { (out : Made) × (out.reply ≡ result.0) × IsBegun passes.old cpu act (record { i = i; n = n }) out passes.new }
+        ensures handle { IsHandle N.name self.now.params passes.new }
+        ensures serving { IsServing false passes.new cpu (record { i = i; n = n }) (Runs n) }
+    {
+        let hold = self.lock_of(rt, i);
+        let made = self.begin(rt, passes, cpu, act, i, n, &hold);
+        (made.reply, hold)
+    }
+
+    /// What the service of what was taken begins with: where it waits for the callout's lock, that is taken first.
+    pub(crate) fn begin_lane<R: Wait + Sync>(
+        &self,
+        rt: &R,
+        passes: &mut Passes,
+        cpu: u32,
+        act: u64,
+        direct: bool,
+        i: u32,
+        n: u64,
+        reply: Reply,
+    ) -> (Reply, Option<Hold<'_>>)
+        requires cpu { cpu < self.now.params.cpus }
+        requires handle { IsHandle N.name self.now.params passes.old }
+        requires serving { IsServing direct passes.old cpu (record { i = i; n = n }) (picked n reply) }
+        requires lock { waits reply ≡ true → (direct ≡ false) × (has_lock (spec_at self.now.params i).lock ≡ true) }
+        ensures begins { IsBegin (waits reply) passes.old cpu act (record { i = i; n = n }) reply result.0 passes.new }
+        ensures handle { IsHandle N.name self.now.params passes.new }
+        ensures serving { IsServing direct passes.new cpu (record { i = i; n = n }) (Runs n) }
+    {
+        if !waits(&reply) {
+            return (reply, None);
+        }
+        let (said, hold) = self.begin_locked(rt, passes, cpu, act, i, n);
+        (said, Some(hold))
+    }
+
+    /// The service is over: of the CPU, or of its interrupt where `direct`.
+    pub(crate) fn finish<R: Wait>(
+        &self,
+        rt: &R,
+        passes: &mut Passes,
+        cpu: u32,
+        act: u64,
+        direct: bool,
+        i: u32,
+        n: u64,
+    ) -> Made
+        requires cpu { cpu < self.now.params.cpus }
+        requires handle { IsHandle N.name self.now.params passes.old }
+        requires serving { IsServing direct passes.old cpu (record { i = i; n = n }) (Runs n) }
+        ensures ended { IsEnded direct passes.old cpu act (record { i = i; n = n }) result.reply (notes_in result.notes) passes.new }
+        ensures handle { IsHandle N.name self.now.params passes.new }
+        ensures free { IsFree direct passes.new cpu }
+    {
+        end_in(rt, &self.service, passes, cpu, act, direct)
+    }
+}

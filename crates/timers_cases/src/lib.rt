@@ -1,0 +1,5 @@
+//! Timers with handles, through what `co_timers` offers.
+#![tactic(auto)]
+
+#[cfg(test)]
+mod tests;

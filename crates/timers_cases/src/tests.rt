@@ -1,0 +1,9 @@
+//! Worked calls of clients and CPUs.
+
+mod inside;
+mod posts;
+mod refusals;
+mod services;
+mod stage;
+mod threads;
+mod words;

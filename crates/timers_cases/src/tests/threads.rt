@@ -1,0 +1,93 @@
+//! A client and a CPU, each in a thread of its own.
+ghost use Rattle.std.specs.Prelude.{◌≡◌};
+ghost use Rattle.timers_cases.specs.Scenes.{scene};
+ghost use denote.Param.Send.{IsSync};
+
+use super::stage::{Counts, arm, boot, seconds};
+use co_sbt::NoMemory;
+use co_service::Name;
+use co_timers::{Client, Cpu, Stopped, Timers, TimersFresh};
+use std::alloc::Global;
+use std::marker::Brand;
+use std::process::Abort;
+use std::sync::Wait;
+use std::sync::atomic::{AtomicBool, Ordering};
+use std::test::Fail;
+use std::thread::{Threads, join};
+
+/// How often callout 0 is armed.
+const ARMINGS: u64 = 64;
+
+/// Arms callout 0 and stops it, again and again. The answer is how many armings it cancelled.
+fn arm_often<N: Name, R: Wait>(rt: &R, mut client: Client<'_, N>, over: &AtomicBool) -> u64 {
+    let mut cancelled: u64 = 0;
+    for _ in 0..ARMINGS {
+        let _armed = arm(rt, &mut client, 0, 0, None);
+        if client.stop(rt, 0, None) == Ok(Stopped::Cancelled) {
+            cancelled = cancelled.wrapping_add(1);
+        }
+    }
+    over.store(true, Ordering::SeqCst);
+    cancelled
+}
+
+/// Turns until all is over, and once more. The answer is how many functions it called.
+fn turn_often<N: Name, R: Wait + Sync>(rt: &R, mut cpu: Cpu<'_, N>, over: &AtomicBool) -> u64
+    requires { cpu.others.passes.params ≡ scene }
+{
+    let mut counts = Counts::new();
+    let mut called: u64 = 0;
+    for _ in rt.forever() {
+        let last = over.load(Ordering::SeqCst);
+        let turned = cpu.turn(rt, seconds(1), &mut counts);
+        called = called.wrapping_add(turned.others.called);
+        if last {
+            return called;
+        }
+    }
+    unreachable!()
+}
+
+/// Both at once: how many armings were cancelled, and how many functions were called.
+fn both<N: Name + Send + Sync, R: Threads + Wait + Sync>(
+    rt: &R,
+    client: Client<'_, N>,
+    cpu: Cpu<'_, N>,
+) -> (u64, u64)
+    requires { cpu.others.passes.params ≡ scene }
+{
+    let over = AtomicBool::new(false);
+    join(
+        rt,
+        || -> u64
+            requires { IsSync R.row }
+        { arm_often(rt, client, &over) },
+        || -> u64
+            requires { IsSync R.row × (cpu.others.passes.params ≡ scene) }
+        { turn_often(rt, cpu, &over) },
+    )
+}
+
+/// The calls on an open service.
+fn play<N: Name + Send + Sync, R: Threads + Wait + Sync + Abort>(
+    rt: &R,
+    alloc: Global,
+    fresh: TimersFresh,
+) -> Result<(), NoMemory>
+    requires name { fresh.name ≡ N.name }
+    requires scene { fresh.params ≡ scene }
+{
+    let (timers, mut posts) = Timers::<N>::open(alloc, fresh)?;
+    let client = posts.client(&timers, 0).expect(rt, "client 0 is here");
+    let cpu = posts.cpu_handle(&timers, 0).expect(rt, "CPU 0 is here");
+    let (cancelled, called) = both(rt, client, cpu);
+    assert!(rt; cancelled.wrapping_add(called) == ARMINGS);
+    Ok(())
+}
+
+#[test]
+fn each_arming_is_called_or_cancelled(rt: HostRuntime) -> Result<(), Fail> {
+    let fresh = boot(rt.alloc())?;
+    play::<Brand, _>(&rt, rt.alloc(), fresh)?;
+    Ok(())
+}
