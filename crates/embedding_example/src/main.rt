@@ -28,11 +28,7 @@ struct Story {
 }
 
 /// The client arms its callout for 1.5 seconds. The CPU turns at 1.5, 2 and 2.5 seconds, and then the client drains the callout.
-fn play<N: Name, R: Wait + Sync>(
-    rt: &R,
-    client: &mut Client<'_, N>,
-    cpu: &mut Cpu<'_, N>,
-) -> Story
+fn play<N: Name, R: Wait + Sync>(rt: &R, client: &mut Client<'_, N>, cpu: &mut Cpu<'_, N>) -> Story
     requires example { cpu.old.others.passes.params ≡ example }
     ensures client { client.new.passes.params ≡ client.old.passes.params }
     ensures cpu { cpu.new.others.passes.params ≡ cpu.old.others.passes.params }
@@ -98,7 +94,9 @@ fn main(rt: HostRuntime) -> ExitCode {
         beats,
         ..
     } = story;
-    match println!(&rt; "armed: {armed:?}\ncalled: {first} at 1.5 s, {second} at 2 s, {third} at 2.5 s\ndrained: {drained:?}\nbeats: {beats}") {
+    match println!(&rt;
+        "armed: {armed:?}\ncalled: {first} at 1.5 s, {second} at 2 s, {third} at 2.5 s\ndrained: {drained:?}\nbeats: {beats}"
+    ) {
         Ok(()) => ExitCode::SUCCESS,
         Err(_) => ExitCode::FAILURE,
     }

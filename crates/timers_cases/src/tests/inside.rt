@@ -85,11 +85,7 @@ fn wanted() -> Told {
 }
 
 /// The function of callout 0 runs, and then that of the drain which it began.
-fn turn<N: Name, R: Wait + Sync + Abort>(
-    rt: &R,
-    cpu: &mut Cpu<'_, N>,
-    asks: &mut Asks<'_, N, R>,
-)
+fn turn<N: Name, R: Wait + Sync + Abort>(rt: &R, cpu: &mut Cpu<'_, N>, asks: &mut Asks<'_, N, R>)
     requires { cpu.old.others.passes.params ≡ scene }
 {
     let _armed = arm(rt, &mut asks.client, 0, 1, None);

@@ -26,11 +26,7 @@ fn arm_all<N: Name, R: Wait + Sync + Abort>(
 }
 
 /// What has come due is served in its lane, each once.
-fn turn_all<N: Name, R: Wait + Sync + Abort>(
-    rt: &R,
-    cpu: &mut Cpu<'_, N>,
-    counts: &mut Counts,
-)
+fn turn_all<N: Name, R: Wait + Sync + Abort>(rt: &R, cpu: &mut Cpu<'_, N>, counts: &mut Counts)
     requires { cpu.old.others.passes.params ≡ scene }
     ensures { cpu.new.others.passes.params ≡ cpu.old.others.passes.params }
 {
