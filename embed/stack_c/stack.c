@@ -145,17 +145,17 @@ static int check(void)
     for (uint32_t i = 0; i < stack.conns; i++)
         for (enum timer t = 0; t < TIMERS; t++)
             sum.left_armed += callout_pending(&stack.cpus[stack.conn[i].at[t]].wheel, id_of(&stack.conn[i], t)) == 1;
-    int bad = say("armed", sum.armed, "removed + picked + still armed", sum.removed + sum.picked + sum.left_armed);
+    int bad = say("armed", sum.armed, "removed + recalled + picked + still armed", sum.removed + sum.recalled + sum.picked + sum.left_armed);
     bad += say("picked", sum.picked, "fired + skipped", sum.fired + sum.skipped);
     bad += say("skipped", sum.skipped, "cancelled in service", sum.cancelled);
     bad += say("drains", sum.drains, "done at once + done at an end", sum.drained_at_once + sum.drained_later);
     bad += say("left", sum.left, "landed", sum.landed);
     bad += say("opened", sum.opened, "closed + open", sum.closed + stack.conns);
     bad += say("wrong answers", stack.wrong, "early", sum.early);
-    printf("armed %" PRIu64 ", removed %" PRIu64 ", fired %" PRIu64 " (retransmit %" PRIu64 ", delayed ack %" PRIu64 ", persist %" PRIu64
+    printf("armed %" PRIu64 ", removed %" PRIu64 ", recalled %" PRIu64 ", fired %" PRIu64 " (retransmit %" PRIu64 ", delayed ack %" PRIu64 ", persist %" PRIu64
            ", keepalive %" PRIu64 ", 2msl %" PRIu64 "), skipped %" PRIu64 ", drained later %" PRIu64 ", landed %" PRIu64 " (%" PRIu64
            " after a service), migrated %" PRIu64 ", closed %" PRIu64 ", slept %" PRIu64 "\n",
-           sum.armed, sum.removed, sum.fired, sum.by_timer[REXMT], sum.by_timer[DELACK], sum.by_timer[PERSIST], sum.by_timer[KEEP],
+           sum.armed, sum.removed, sum.recalled, sum.fired, sum.by_timer[REXMT], sum.by_timer[DELACK], sum.by_timer[PERSIST], sum.by_timer[KEEP],
            sum.by_timer[MSL2], sum.skipped, sum.drained_later, sum.landed, sum.deferred, sum.migrated, sum.closed, sum.slept);
     return bad || stack.wrong;
 }

@@ -13,9 +13,10 @@ enum { CPUS = 2, CONNS_MAX = 1 << 16 };
 enum timer { REXMT, DELACK, PERSIST, KEEP, MSL2, TIMERS };
 enum state { OPEN, TIME_WAIT, CLOSING };
 
-/* All that was counted. Each arming ends once: taken out of a queue by a call, picked by a CPU, or still armed at the end. */
+/* All that was counted. Each arming ends once: taken out of a queue by a call, taken back before a queue had it, picked by a CPU,
+ * or still armed at the end. */
 struct counts {
-    uint64_t armed, removed, picked, left_armed;
+    uint64_t armed, removed, recalled, picked, left_armed;
     uint64_t fired, skipped, cancelled;         /* a pick is called or skipped; a skip was cancelled by a call */
     uint64_t drains, drained_later, drained_at_once;
     uint64_t left, landed, deferred;            /* callouts that went from CPU to CPU */
@@ -29,6 +30,7 @@ struct conn {
     enum state state;
     uint32_t cpu;          /* where its next timers are armed */
     uint32_t at[TIMERS];   /* the CPU at which each of its callouts is */
+    bool waits[TIMERS];    /* it is armed at another CPU, and goes there at the end of its service here */
     uint32_t draining;     /* asynchronous drains that are not done */
     uint32_t rexmts, unacked;
 };

@@ -11,16 +11,19 @@
     } while (0)
 
 /* What a reply says of the armings that were. */
-static void count(struct cpu *self, const callout_reply *r)
+static void count(struct cpu *self, struct conn *c, enum timer t, const callout_reply *r)
 {
     if (r->removed)
         self->counts.removed++;
+    else if (c->waits[t])
+        self->counts.recalled++; /* one that no queue had yet */
     else if (r->code == 1)
         self->counts.cancelled++; /* one that waited for its lock */
     if (r->answer == CALLOUT_ARMED)
         self->counts.armed++;
     if (r->leaves)
         self->counts.left++;
+    c->waits[t] = r->answer == CALLOUT_ARMED && !r->leaves && r->cpu != c->at[t];
 }
 
 /* A callout that left one CPU comes to another. */
@@ -34,6 +37,7 @@ void land(struct cpu *self, const callout_parcel *p)
         return;
     }
     stack.conn[p->id / TIMERS].at[p->id % TIMERS] = p->cpu;
+    stack.conn[p->id / TIMERS].waits[p->id % TIMERS] = false;
     self->counts.landed++;
 }
 
@@ -48,10 +52,10 @@ void timer_arm(struct cpu *self, struct conn *c, enum timer t, uint64_t after)
         wrong("reset", status);
         return;
     }
-    count(self, &r);
+    count(self, c, t, &r);
     if (r.leaves)
         land(self, &p);
-    else if (r.answer == CALLOUT_ARMED && r.cpu != c->at[t])
+    else if (c->waits[t])
         self->counts.deferred++; /* it leaves at the end of its service */
 }
 
@@ -63,7 +67,7 @@ void timer_stop(struct cpu *self, struct conn *c, enum timer t)
     if (status || r.answer != CALLOUT_STOPPED)
         wrong("stop", status);
     else
-        count(self, &r);
+        count(self, c, t, &r);
 }
 
 static void drained(uint64_t arg, struct cpu *self) { conn_drained(self, &stack.conn[arg / TIMERS]); }
@@ -78,7 +82,7 @@ void timer_drain(struct cpu *self, struct conn *c, enum timer t)
         wrong("async drain", status);
         return;
     }
-    count(self, &r);
+    count(self, c, t, &r);
     self->counts.drains++;
     if (r.code == 0)
         c->draining++;
@@ -92,6 +96,7 @@ void timers_init(struct conn *c)
     for (enum timer t = 0; t < TIMERS; t++) {
         int32_t status;
         c->at[t] = c->cpu;
+        c->waits[t] = false;
         ON_WHEEL(c->cpu, status, callout_init(&on->wheel, id_of(c, t), &attr));
         if (status)
             wrong("init", status);
