@@ -37,7 +37,6 @@ impl Handler for Heart {
 
     /// Counts, and arms its callout again for a second later.
     fn run<P: Port>(&mut self, fire: &Fire, hold: Option<&mut Hold<'_>>, port: &mut P) {
-        let _ = hold;
         self.beats = self.beats.saturating_add(1);
         self.arg = fire.arg;
         let due = fire.at.sat_add(Sbt::from_ticks(1, 1));
@@ -48,7 +47,10 @@ impl Handler for Heart {
             arg: fire.arg,
             cpu: None,
         };
-        port.call(fire.i, &again, None);
+        match hold {
+            Some(hold) => port.call(fire.i, &again, Some(hold)),
+            None => port.call(fire.i, &again, None),
+        };
     }
 
     fn run_unlock<P: Port>(&mut self, fire: &Fire, hold: Hold<'_>, port: &mut P) {
@@ -56,8 +58,8 @@ impl Handler for Heart {
         self.run(fire, None, port);
     }
 
-    /// Nobody drains without a wait here.
-    fn drained<P: Port>(&mut self, fire: &Fire, func: u32, port: &mut P) {
-        let _ = (fire, func, port);
+    /// Here no drain is asynchronous; one would be told whether the callout is armed again.
+    fn drained<P: Port>(&mut self, fire: &Fire, _func: u32, port: &mut P) {
+        port.call(fire.i, &PlainOp::Pending, None);
     }
 }
