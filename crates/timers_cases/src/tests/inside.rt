@@ -30,8 +30,8 @@ struct Told {
 
 /// A function that asks by a client's handle.
 #[derive(Drop)]
-struct Asks<'a, N: Name, R: Wait> {
-    rt: &'a R,
+struct Asks<'r, 'a, N: Name, R: Wait> {
+    rt: &'r R,
     client: Client<'a, N>,
     told: Option<Told>,
     asked: Option<PortReply>,
@@ -50,15 +50,17 @@ fn ask<N: Name, R: Wait>(rt: &R, client: &mut Client<'_, N>, fire: &Fire) -> Tol
     }
 }
 
-impl<'a, N: Name, R: Wait> Handler for Asks<'a, N, R> {
+impl<'r, 'a, N: Name, R: Wait> Handler for Asks<'r, 'a, N, R> {
     ghost use Rattle.timers_cases.specs.Scenes.{scene_needs};
 
     ghost needs = { λ _. scene_needs };
 
     fn run<P: Port>(&mut self, fire: &Fire, hold: Option<&mut Hold<'_>>, port: &mut P) {
-        let _ = hold;
         self.told = Some(ask(self.rt, &mut self.client, fire));
-        self.asked = Some(port.call(fire.i, &PlainOp::Stop, None));
+        match hold {
+            Some(hold) => port.call(fire.i, &PlainOp::Stop, Some(hold)),
+            None => port.call(fire.i, &PlainOp::Stop, None),
+        };
     }
 
     fn run_unlock<P: Port>(&mut self, fire: &Fire, hold: Hold<'_>, port: &mut P) {
@@ -85,7 +87,11 @@ fn wanted() -> Told {
 }
 
 /// The function of callout 0 runs, and then that of the drain which it began.
-fn turn<N: Name, R: Wait + Sync + Abort>(rt: &R, cpu: &mut Cpu<'_, N>, asks: &mut Asks<'_, N, R>)
+fn turn<N: Name, R: Wait + Sync + Abort>(
+    rt: &R,
+    cpu: &mut Cpu<'_, N>,
+    asks: &mut Asks<'_, '_, N, R>,
+)
     requires { cpu.old.others.passes.params ≡ scene }
 {
     let _armed = arm(rt, &mut asks.client, 0, 1, None);

@@ -3,6 +3,7 @@ ghost use Rattle.std.specs.Prelude.{◌≡◌};
 ghost use Rattle.timers_cases.specs.Scenes.{scene, scene_locks};
 
 use super::stage::{Counts, arm, boot, seconds, served};
+use co_lock::Hold;
 use co_sbt::{NoMemory, Sbt};
 use co_service::Name;
 use co_timers::{Client, Cpu, Reset, Timers, TimersFresh, Turned};
@@ -12,17 +13,18 @@ use std::process::Abort;
 use std::sync::Wait;
 use std::test::Fail;
 
-/// Arms all three callouts, the one with a lock for a second later.
-fn arm_all<N: Name, R: Wait + Sync + Abort>(
-    rt: &R,
-    timers: &Timers<N>,
-    client: &mut Client<'_, N>,
-) {
-    let armed = Ok(Reset::Armed { replaced: false });
-    assert!(rt; arm(rt, client, 0, 1, None) == armed);
-    assert!(rt; arm(rt, client, 2, 1, None) == armed);
-    let hold = timers.lock(rt, 0).expect(rt, "lock 0 exists");
-    assert!(rt; arm(rt, client, 1, 2, Some(&hold)) == armed);
+/// Arms both callouts without a lock.
+fn arm_free<N: Name, R: Wait + Abort>(rt: &R, client: &mut Client<'_, N>) {
+    let first = arm(rt, client, 0, 1, None);
+    assert!(rt; first == Ok(Reset::Armed { replaced: false }));
+    let second = arm(rt, client, 2, 1, None);
+    assert!(rt; second == Ok(Reset::Armed { replaced: false }));
+}
+
+/// Arms the callout with a lock, for a second later.
+fn arm_held<N: Name, R: Wait + Abort>(rt: &R, client: &mut Client<'_, N>, hold: &Hold<'_>) {
+    let armed = arm(rt, client, 1, 2, Some(hold));
+    assert!(rt; armed == Ok(Reset::Armed { replaced: false }));
 }
 
 /// What has come due is served in its lane, each once.
@@ -77,7 +79,10 @@ fn play<N: Name, R: Wait + Sync + Abort>(
     let mut first = posts.cpu_handle(&timers, 0).expect(rt, "CPU 0 is here");
     let mut second = posts.cpu_handle(&timers, 1).expect(rt, "CPU 1 is here");
     let mut counts = Counts::new();
-    arm_all(rt, &timers, &mut client);
+    arm_free(rt, &mut client);
+    let hold = timers.lock(rt, 0).expect(rt, "lock 0 exists");
+    arm_held(rt, &mut client, &hold);
+    drop(hold);
     turn_all(rt, &mut first, &mut counts);
     turn_other(rt, &mut client, &mut second, &mut counts);
     assert!(rt; counts.called == 4 && counts.held == 1);

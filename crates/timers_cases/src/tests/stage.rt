@@ -88,10 +88,13 @@ impl Handler for Counts {
 
     fn run<P: Port>(&mut self, fire: &Fire, hold: Option<&mut Hold<'_>>, port: &mut P) {
         self.called = self.called.wrapping_add(1);
-        if hold.is_some() {
-            self.held = self.held.wrapping_add(1);
-        }
-        port.call(fire.i, &PlainOp::Active, None);
+        match hold {
+            Some(hold) => {
+                self.held = self.held.wrapping_add(1);
+                port.call(fire.i, &PlainOp::Active, Some(hold))
+            }
+            None => port.call(fire.i, &PlainOp::Active, None),
+        };
     }
 
     fn run_unlock<P: Port>(&mut self, fire: &Fire, hold: Hold<'_>, port: &mut P) {
