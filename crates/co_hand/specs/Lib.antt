@@ -1,4 +1,10 @@
+-- Handlers, which are a service's functions, and ports, through which a function makes its calls.
+
+-- a port: its callouts, the calls so far, how many more it takes; how a call is answered
 pub mod Ports
+-- what a handler needs of a port (callouts, CPUs, room), and what it leaves of it
 pub mod Handlers
+-- what an act asks for, and whether it is about the callout in service
 pub mod Operations
+-- a script's functions as a handler: the calls are the function's acts, in order
 pub mod Functions
