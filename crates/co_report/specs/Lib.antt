@@ -1,14 +1,30 @@
+-- The text of a report, both ways: how lists of notes are written, and which notes a text stands for.
+
+-- the words of each operation, reply and note, such as `pop direct`, `go fF aA`, `K A/M X`
 pub mod NoteTexts
+-- what a report shows: the history of each place, each entry with its number in its actor's list
 pub mod Histories
+-- the text of a report: its places in order, their headings and lines
 pub mod Reports
+-- where notes stand in the lists: the entry and the line of actor a's note k
 pub mod Origins
+-- the notes of all lists in the report's order, as the code sorts them: by place and position
 pub mod Order
-pub mod Parts
-pub mod NoteValues
-pub mod NoteForms
-pub mod NoteFits
-pub mod Reading
-pub mod ReadingViews
+-- the sections of a report while its notes are told one by one
 pub mod Sections
-pub mod Laws
+-- the parts of a line between its spaces
+pub mod Parts
+-- words of notes as values, each in one spelling: `#N`, `iN`, `pN`, `uN`, codes, `A/M`
+pub mod NoteValues
+-- the note that a line shows: NoteTexts read the other way
+pub mod NoteForms
+-- which notes a report of a script may have: values in range, and names that exist
+pub mod NoteFits
+-- what the code's types say already of a note's values
 pub mod Typed
+-- the report that bytes stand for, or the first bad line and its cause
+pub mod Reading
+-- what the reader's own types stand for
+pub mod ReadingViews
+-- each history is shown; a note has one spelling; a report reads back as its script and notes
+pub mod Laws

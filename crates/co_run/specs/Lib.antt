@@ -1,10 +1,22 @@
-pub mod Told
-pub mod Going
-pub mod Noted
-pub mod Shown
-pub mod Acting
-pub mod Counted
-pub mod Roomy
-pub mod Over
-pub mod Jobs
+-- A script's actors on threads over one running service, each with its passes and its list of notes.
+
+-- what a run brings back: lists that are a run of the script, and show the service's final histories
 pub mod Ran
+-- an actor's notes of a place are its entries of the history, each at its position
+pub mod Told
+-- what an actor's notes show, by its passes: each entry that it made, place by place
+pub mod Shown
+-- histories that go on from what an actor has seen
+pub mod Going
+-- how an actor's cursor goes on after the notes of one section
+pub mod Noted
+-- what is kept of an actor between two sections: cursor, passes, hold, what it serves, its notes
+pub mod Acting
+-- how many notes a stage may still make before its actor can ask for room
+pub mod Roomy
+-- the next act and the next notes have numbers left
+pub mod Counted
+-- actors whose programs are over
+pub mod Over
+-- what the actors begin with and bring back, in groups: clients, CPUs, interrupts
+pub mod Jobs

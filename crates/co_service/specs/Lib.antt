@@ -1,19 +1,41 @@
-pub mod Name
+-- A running service: each CPU has a desk, with its wheel and the histories of the callouts there.
+-- Each actor has passes: what it has seen of every callout and CPU, to which each of its calls adds.
+
+-- what is fixed of a service: version, clients, CPUs, buckets, each callout's spec; the limits
 pub mod Params
-pub mod Lines
-pub mod Stories
-pub mod Seats
+-- a service's name: the identities of the lives of its callouts and of its CPUs
+pub mod Name
+-- an actor's passes as contracts see them: what it has seen of each callout and each CPU
 pub mod Views
+-- what an entry, or the notes of a section, add to the passes of the actor that makes them
 pub mod Writes
-pub mod Books
-pub mod May
-pub mod Serving
-pub mod Desk
-pub mod Outcomes
+-- a caller's operation section by section: its reply, its notes, and what leaves for another CPU
 pub mod Call
-pub mod Moving
+-- what a scan tells: its count, and how many entries it looks at
+pub mod Outcomes
+-- what an actor has in service and how far that is, told by its own entries alone
+pub mod Serving
+-- the sections of a service: take the next that is due, begin, end, land what the end sends on
 pub mod Services
+-- a shared history with its opening entries, which say of which service and place it is
+pub mod Lines
+-- what a shared history may be: a legal history of its callout, a legal journal of its CPU
+pub mod Stories
+-- one actor's passes of many places, with the lives of these places
+pub mod Seats
+-- a desk's books: the journal of its CPU, and the histories of the callouts that stand there
+pub mod Books
+-- which entry may stand next at a desk, by the queue after the journal and each callout's state
+pub mod May
+-- how the journal ties to the desk: its wheel shows the queue after it, its records the histories
+pub mod Desk
+-- a callout on its way from desk to desk, by value, with its history
+pub mod Moving
+-- what boot makes of each place: its life, its keeper, and passes that have seen nothing
 pub mod Booted
+-- a service before its locks: a bench for each CPU; and a running one, with its desks
 pub mod Fresh
-pub mod Closing
+-- whose passes are still in the boot's list, and whose are back
 pub mod Crew
+-- the end of a service: the final histories, and what each actor had seen of them
+pub mod Closing
