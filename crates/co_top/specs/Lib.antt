@@ -1,4 +1,10 @@
-pub mod Statuses
-pub mod Commands
+-- The program `callout`: which words are a command, and what each exit status promises.
+
+-- for each status what was read, what was written, and what that text is
 pub mod Headline
+-- the words that are a command, and the texts of the program itself
+pub mod Commands
+-- the exit status by its number
+pub mod Statuses
+-- `check` calls legal what `steps` and `run` write
 pub mod Laws

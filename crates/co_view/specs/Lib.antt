@@ -1,11 +1,24 @@
+-- Views of a report: one order of all its notes, and what is written of them in that order.
+
+-- an order of all notes that keeps numbers and positions, or that there is none
 pub mod Order
+-- what the code keeps of an order while it makes it
 pub mod Merging
-pub mod Rolls
-pub mod Seconds
+-- a note in words, as views say it
 pub mod Words
-pub mod Lanes
+-- a time as seconds in decimals, rounded to a microsecond
+pub mod Seconds
+-- what is known of each callout so far: armed, waiting for its lock, in service
 pub mod Scenes
-pub mod Trace
-pub mod Svg
-pub mod Pictures
+-- the text of `lanes`: a column for each actor, a row for each note
+pub mod Lanes
+-- the text of `summary`: how often each reply came, and what became of the armings
 pub mod Summary
+-- the text of `trace`: events in Chrome's trace format, a microsecond a step
+pub mod Trace
+-- the text of `svg`: points, words, bars of services, arrows of drains
+pub mod Svg
+-- what `trace` and `svg` share: a text before, one for each note, and one behind
+pub mod Pictures
+-- a text that grows in pieces
+pub mod Rolls
