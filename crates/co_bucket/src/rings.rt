@@ -14,7 +14,9 @@ pub struct Rings {
     pub size: u32,
     /// The lists are the numbers below it.
     pub count: u32,
+    /// The number behind each callout and each head, in its ring.
     pub next: Vec<u32>,
+    /// The number before each callout and each head, in its ring.
     pub prev: Vec<u32>,
     /// The list in which a callout stands, or `count` where it stands in none.
     pub place: Vec<u32>,

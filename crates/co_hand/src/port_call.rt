@@ -13,10 +13,10 @@ pub enum PortReply {
 /// A call that was made through a port.
 #[derive(Clone, Copy, Debug, PartialEq, Eq)]
 pub struct PortCall {
-    /// The callout.
+    /// The callout, by its number.
     pub i: u32,
     /// What was asked of it.
     pub op: PlainOp,
-    /// What was answered.
+    /// What was answered: a reply, or that the call was not made.
     pub answer: PortReply,
 }

@@ -54,7 +54,7 @@ fn put_timer(timers: &mut Seq<Timer>, p: usize, timer: Timer)
     timers.replace(p, timer);
 }
 
-/// So many timers that aren't set.
+/// `processes` timers, none of which is set. `NoMemory` where there is no room for them.
 fn idle_timers(alloc: Global, processes: u32) -> Result<Seq<Timer>, NoMemory>
     ensures { IfOk result (λ timers. timers ≡ replicate processes idle) }
 {
@@ -158,7 +158,8 @@ fn expires(now: Sbt, timer: Timer) -> bool
 }
 
 impl Book {
-    /// So many processes, whose timers aren't set, at time 0.
+    /// A book of `processes` processes, at most 1024, none of whose timers is set, at time 0. `NoMemory` where there
+    /// is no room.
     pub(crate) fn new(alloc: Global, processes: u32) -> Result<Book, NoMemory>
         requires { processes ≤ 1024 }
         ensures { IfOk result (λ book. book ≡ opening processes) }

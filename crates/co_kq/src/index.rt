@@ -6,10 +6,12 @@ use co_sbt::NoMemory;
 use std::alloc::Global;
 use std::marker::Model;
 
-/// An ident and its key.
+/// A knote, by its ident.
 #[derive(Clone, Copy)]
 pub struct Place {
+    /// Its ident, any 64 bits.
     pub ident: u64,
+    /// The key of its slot in the slab.
     pub key: usize,
 }
 

@@ -27,11 +27,11 @@ use std::sync::Wait;
 pub struct Kq<N: Name> {
     single: Single<N>,
     clock: Sbt,
-    /// 1 to 1024.
+    /// For how many knotes there is room, 1 to 1024.
     room: u32,
     work: u64,
     knotes: Knotes,
-    /// By callout.
+    /// By callout: what it is in use for.
     uses: Uses,
 }
 

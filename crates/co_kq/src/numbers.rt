@@ -68,7 +68,7 @@ fn loose_in(uses: &[Use]) -> u32
 }
 
 impl Uses {
-    /// So many callouts, all of them in use for nothing.
+    /// `count` callouts, none of which is in use for anything. `NoMemory` where there is no room for their list.
     pub fn new(alloc: Global, count: u32) -> Result<Uses, NoMemory>
         ensures { IfOk result (λ uses. uses ≡ replicate count Free) }
     {

@@ -16,17 +16,17 @@ use co_sbt::Sbt;
 /// An accepted reset or schedule, whose function is to be called.
 #[derive(Clone, Copy, Debug, PartialEq, Eq)]
 pub struct Arming {
-    /// Its number: the callout's accepted armings are counted from 0.
+    /// Its number: the callout's accepted armings are counted from 0, up to 2^64 - 2.
     pub n: u64,
-    /// The time from which on it may be picked.
+    /// The time from which on it may be picked, in units of 2^-32 s.
     pub due: Sbt,
-    /// The precision that its caller gave, which changes nothing here.
+    /// The precision that its caller gave, in units of 2^-32 s. It changes nothing here (our own decision).
     pub prec: Sbt,
     /// The function to call, by its number.
     pub func: u32,
-    /// The function's argument.
+    /// The function's argument, of which nothing is read here.
     pub arg: u64,
-    /// The CPU that is to service it.
+    /// The CPU that is to service it, by its number.
     pub cpu: u32,
 }
 
@@ -48,7 +48,7 @@ pub enum Run {
 pub struct State {
     /// It is in use, and not retired.
     pub live: bool,
-    /// The arming that is pending.
+    /// The arming that is pending, which `callout_pending` tells of. One that was picked for service is so no longer.
     pub armed: Option<Arming>,
     /// What a service is doing with it.
     pub run: Run,
@@ -58,15 +58,16 @@ pub struct State {
     pub waiting: bool,
     /// The function of an asynchronous drain, which the end of the service will name.
     pub adrain: Option<u32>,
-    /// The function and argument of the last arming: those of a schedule.
+    /// The function and argument of the last arming: those of a schedule. None before the first since it was made
+    /// live.
     pub last: Option<(u32, u64)>,
-    /// The CPU of the last arming, or 0: that of an arming that names none.
+    /// The CPU of the last arming, or 0 before the first since it was made live: that of an arming that names none.
     pub home: u32,
-    /// The number of accepted armings.
+    /// The number of accepted armings, which is the number of the next. At 2^64 - 1 the callout is worn.
     pub made: u64,
 }
 
-/// Yes or No.
+/// The reply to a query.
 pub(crate) fn answer(yes: bool) -> Reply
     ensures { result ≡ answer yes }
 {
@@ -91,7 +92,7 @@ impl State {
         }
     }
 
-    /// A caller's operation.
+    /// Answers a caller's operation, which is possible in every state.
     pub(crate) fn call(&mut self, op: &CallOp) -> Reply
         ensures { (self.new, result) ≡ call self.old op.now }
     {

@@ -25,9 +25,9 @@ use co_sbt::Sbt;
 /// Whom an actor asks, and what.
 #[derive(Clone, Copy, Debug, PartialEq, Eq)]
 pub enum Asked {
-    /// Callout `i`.
+    /// Callout `i`, by an operation in its history.
     Callout { i: u32, op: Op },
-    /// The timer queue of a CPU.
+    /// The timer queue of a CPU, by an operation in its journal.
     Queue { cpu: u32, op: QOp },
     /// Nobody: a note of the actor's own.
     Itself(OwnKind),
@@ -36,7 +36,7 @@ pub enum Asked {
 /// What a step without a note does to the actor's place.
 #[derive(Clone, Copy, Debug, PartialEq, Eq)]
 pub enum Move {
-    /// The act is over. This is the client's time then, and what it holds.
+    /// The act is over. This is the client's now then, in units of 2^-32 s, and the lock that it holds.
     Over { time: Sbt, hold: Option<Held> },
     /// The act goes on to its next stage, with this hold.
     Within { hold: Option<Held> },
@@ -51,7 +51,8 @@ pub enum Action {
     Nothing,
     /// A step without a note, which `go` makes.
     Silent(Move),
-    /// The same, once this lock can be taken.
+    /// A step without a note that takes this lock. It waits while another actor holds the lock in a mode that excludes
+    /// this one.
     Take { held: Held, to: Move },
     /// A note of what is asked, in the act of this number.
     Asks { act: u64, asked: Asked },
@@ -108,7 +109,8 @@ pub fn scans_first(script: &Script, actor: u32, cursor: &Cursor) -> u32
     }
 }
 
-/// The same, of the act that begins next.
+/// How many Scans must stand before the act that begins next, once `over` acts of the role are over: j + 1 for the
+/// j-th soft act, and none for all else.
 fn scans_of(script: &Script, role: Role, over: u32) -> u32
     requires { IsScript script.now }
     ensures { result ≡ scans_of (drop over (program_of script.now role)) }

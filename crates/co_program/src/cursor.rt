@@ -20,7 +20,7 @@ pub struct Service {
     pub i: u32,
     /// The number of its arming.
     pub n: u64,
-    /// The time of the CPU's last scan, which is the function's time.
+    /// The time of the CPU's last scan before its Pop, in units of 2^-32 s: the function's now.
     pub at: Sbt,
 }
 
@@ -33,6 +33,7 @@ pub struct Parcel {
     pub i: u32,
     /// The number of its arming.
     pub n: u64,
+    /// When that is due, in units of 2^-32 s.
     pub due: Sbt,
     /// The CPU into whose queue it goes.
     pub cpu: u32,
@@ -41,6 +42,7 @@ pub struct Parcel {
 /// What is left of a function's acts.
 #[derive(Clone, Copy)]
 pub struct ActsLeft {
+    /// The function, by its number. One that the script does not have has no acts.
     pub func: u32,
     /// How many of its acts are over.
     pub done: u32,
@@ -93,10 +95,11 @@ pub struct Cursor {
     pub task: u32,
     /// The number of the next act to begin, where the acts of functions count too.
     pub act: u64,
-    /// The client's time, which its acts `now` tell.
+    /// The client's now, in units of 2^-32 s: the time of its last act `now`, 0 before the first.
     pub time: Sbt,
-    /// The client lock that the actor holds.
+    /// The client lock that the actor holds, and in which mode.
     pub hold: Option<Held>,
+    /// How far the act under way is.
     pub stage: Stage,
     /// The CPU from whose queue the call under way has just removed its callout.
     pub removed: Option<u32>,

@@ -17,19 +17,28 @@ use co_service::{Name, Passes, Service};
 /// What all actors of a run share.
 #[derive(Drop)]
 pub struct Shared<'a, N: Name, G: Gate> {
+    /// The script that is played.
     pub script: &'a Script,
+    /// The running service, on which all calls are made.
     pub service: &'a Service<N>,
+    /// The client locks that the script declares.
     pub locks: &'a ClientLocks,
+    /// Through which an actor goes before each of its acts.
     pub gate: &'a G,
 }
 
 /// An actor: its place in its program, what it has seen of the service, what it holds and what it has noted.
 #[derive(Drop)]
 pub struct Actor<'a, B: Notebook> {
+    /// Its number: clients first, then CPUs, then in version 2 interrupts.
     pub number: u32,
+    /// What it has seen of each callout and of each CPU.
     pub passes: Passes,
+    /// Its place in its program.
     pub cursor: Cursor,
+    /// The client lock that it holds, if any.
     pub hold: Option<Hold<'a>>,
+    /// Its notes, in the order in which it made them.
     pub book: B,
     /// How many notes of its own it has made.
     pub own: u64,

@@ -16,10 +16,12 @@ use co_service::{Name, Passes, Service};
 use std::alloc::Global;
 use std::sync::Wait;
 
-/// With what a port was made: the actor that makes its calls, and the number of the act that comes next.
+/// With what a port was made.
 #[derive(Clone, Copy, Debug, PartialEq, Eq)]
 pub struct PortOrigin {
+    /// The actor that makes the calls.
     pub actor: u32,
+    /// The number of the act that comes next.
     pub act: u64,
 }
 

@@ -69,7 +69,7 @@ fn add_place<E: Drop, S: Story<Entry = Line<E>>>(
     Ok(())
 }
 
-/// So many actors with no place yet.
+/// The passes of each of the actors, which have no place yet. `NoMemory` where there is no room for them.
 fn empty_seats<E: Drop, S: Story<Entry = Line<E>>>(
     alloc: Global,
     actors: u32,

@@ -59,8 +59,8 @@ impl<N: Name> Ending<N> {
     }
 }
 
-/// What is left of a service after its end: the final history of each callout and each CPU, which stand in the proofs
-/// alone.
+/// What is left of a service after its end: the final history of each callout and of each CPU, by their numbers. These
+/// stand in the proofs alone (our own decision).
 ///
 /// Contracts see the service's name and these histories.
 #[derive(Drop)]

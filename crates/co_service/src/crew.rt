@@ -94,7 +94,8 @@ impl<N: Name> Model for Crew<N> {
 }
 
 impl<N: Name> Crew<N> {
-    /// Nobody is back yet.
+    /// Nobody is back yet. `NoMemory` where there is no room for the passes of 48 actors, the most that a service may
+    /// have.
     pub fn new(alloc: Global, service: &Service<N>) -> Result<Crew<N>, NoMemory>
         ensures { IfOk result (λ crew. crew ≡ record { params = service.now; count = 0 }) }
     {

@@ -8,7 +8,7 @@ use co_life::Shown;
 pub enum Line<E> {
     /// An actor's opening entry. What it carries stands in the proofs alone.
     Opening {
-        /// Whose it is.
+        /// The number of the actor whose it is.
         actor: u32,
         /// The number of the callout, or of the CPU.
         place: u32,

@@ -30,7 +30,7 @@ impl<S: Story> Model for Lives<S> {
 }
 
 impl<S: Story> Lives<S> {
-    /// No place yet.
+    /// The lives of no place yet.
     pub(crate) fn new(alloc: Global) -> Lives<S>
         ensures { result ≡ [] }
     {
@@ -39,7 +39,7 @@ impl<S: Story> Lives<S> {
         }
     }
 
-    /// One place more.
+    /// The life of one place more, behind the others. `NoMemory` where there is no room for it.
     pub(crate) fn push(&mut self, life: Life<S>) -> Result<(), NoMemory>
         ensures { OnOk result (self.new ≡ self.old ++ life ∷ []) }
     {

@@ -28,7 +28,8 @@ impl Model for SingleFresh {
     ghost invariant = { λ s. IsSingleFresh s.fresh s.passes };
 }
 
-/// So many callouts without a lock, none of them direct.
+/// What is fixed of `callouts` callouts: none has a lock, and none is direct. `NoMemory` where there is no room for
+/// them.
 fn plain_specs(alloc: Global, callouts: u32) -> Result<Seq<Spec>, NoMemory>
     ensures { IfOk result (λ specs. specs ≡ replicate callouts no_spec) }
 {

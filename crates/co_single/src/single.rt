@@ -33,10 +33,12 @@ impl<N: Name> Model for Single<N> {
     ghost invariant = { λ s. IsSingle N.name s.service s.passes s.ending };
 }
 
-/// A callout that fired, and its arming's argument.
+/// A callout that fired.
 #[derive(Debug, Clone, Copy, PartialEq, Eq)]
 pub struct Fired {
+    /// The callout.
     pub i: u32,
+    /// The argument of its arming.
     pub arg: u64,
 }
 
@@ -51,7 +53,7 @@ fn arg_of(reply: &Reply) -> u64
 }
 
 impl<N: Name> Single<N> {
-    /// The running service.
+    /// The running service, at time 0. `NoMemory` where its opening finds no room; no later call takes any.
     pub fn open(alloc: Global, fresh: SingleFresh) -> Result<Single<N>, NoMemory>
         requires { fresh.name ≡ N.name }
         ensures { IfOk result (λ single. IsNew fresh.callouts single) }

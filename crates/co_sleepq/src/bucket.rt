@@ -47,7 +47,7 @@ impl Bucket {
         }
     }
 
-    /// The sleeps.
+    /// The sleeps of the bucket, in the order in which they began.
     pub fn as_slice(&self) -> &[Sleep]
         ensures { result.now ≡ self.now.sleeps }
     {

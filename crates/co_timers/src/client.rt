@@ -118,7 +118,8 @@ impl<'a, N: Name> Client<'a, N> {
         self.passes
     }
 
-    /// A call on callout `i`, with the callout's reply. `hold` is the client lock that the caller holds, if it holds one.
+    /// A call on callout `i`, with the callout's reply. `hold` is the client lock that the caller holds, if it holds
+    /// one. Refused as the call of that name is: then nothing has changed, and no act is used up.
     ///
     /// The reply is that of the callout alone after what the client has seen of it and what others did since.
     pub fn call<R: Wait>(
@@ -139,8 +140,12 @@ impl<'a, N: Name> Client<'a, N> {
         Ok(reply)
     }
 
-    /// Arms callout `i` for the time `due`, as `callout_reset_sbt_on`: then `func` is called with `arg`, on `cpu`, or on the CPU
-    /// of its last arming where none is given. `prec` is the precision, which changes nothing here.
+    /// Arms callout `i` for the time `due`, as `callout_reset_sbt_on`: then `func` is called with `arg`, on `cpu`, or
+    /// on the CPU of its last arming where none is given. `due` and the precision `prec`, which changes nothing here,
+    /// are in units of 2^-32 s.
+    ///
+    /// Refused with `NoCallout` or `NoCpu` where there is none of that number, and `NotHeld` where the callout has a
+    /// lock and `hold` is not of it, in either mode (our own decision).
     pub fn reset<R: Wait>(
         &mut self,
         rt: &R,
@@ -166,7 +171,8 @@ impl<'a, N: Name> Client<'a, N> {
         Ok(reset_word(&reply))
     }
 
-    /// Arms callout `i` again with the function and argument of its last arming, as `callout_schedule_sbt_on`.
+    /// Arms callout `i` again with the function and argument of its last arming, as `callout_schedule_sbt_on`, and
+    /// else as [`Client::reset`]. `NoHandler` where there was none.
     pub fn schedule<R: Wait>(
         &mut self,
         rt: &R,
@@ -185,6 +191,9 @@ impl<'a, N: Name> Client<'a, N> {
     }
 
     /// Takes callout `i`'s arming away, as `callout_stop`, and cancels one that waits for the callout's lock.
+    ///
+    /// Refused with `NoCallout` where there is none of that number, and `NotHeld` where the callout has a lock and
+    /// `hold` is not of it exclusively (our own decision).
     pub fn stop<R: Wait>(
         &mut self,
         rt: &R,
@@ -198,8 +207,8 @@ impl<'a, N: Name> Client<'a, N> {
         Ok(stop_word(&reply))
     }
 
-    /// Takes callout `i`'s arming away without a wait, as `callout_async_drain`: where a service has the callout, its end calls
-    /// the function `func`.
+    /// Takes callout `i`'s arming away without a wait, as `callout_async_drain`: where a service has the callout, its
+    /// end calls the function `func`; else this is a stop, and `func` is not called. Refused as [`Client::stop`] is.
     pub fn async_drain<R: Wait>(
         &mut self,
         rt: &R,
@@ -214,8 +223,11 @@ impl<'a, N: Name> Client<'a, N> {
         Ok(async_word(&reply))
     }
 
-    /// Takes callout `i`'s arming away and waits until no service has the callout, as `callout_drain`. The caller holds no
-    /// client lock. That the wait ends no clause says: a CPU has to end the service, so a function calls [`Client::drain_within`].
+    /// Takes callout `i`'s arming away and waits until no service has the callout, as `callout_drain`. That the wait
+    /// ends no clause says: a CPU has to end the service, so a function calls [`Client::drain_within`].
+    ///
+    /// Refused with `NoCallout` where there is none of that number, and `HoldsLock` where the caller holds any client
+    /// lock (our own decision).
     pub fn drain<R: Wait>(
         &mut self,
         rt: &R,
@@ -230,8 +242,11 @@ impl<'a, N: Name> Client<'a, N> {
         Ok(said)
     }
 
-    /// The same from within a function, which is told of its service as `fire`. A drain of the callout in whose service it runs is refused: it
-    /// would wait for its own end for ever.
+    /// Takes callout `i`'s arming away and waits until no service has the callout, as [`Client::drain`] does, from
+    /// within a function, which is told of its service as `fire`.
+    ///
+    /// Refused with `DrainsItself` where `i` is the callout in whose service the function runs, since it would wait
+    /// for its own end for ever; else as `drain` is (our own decisions).
     pub fn drain_within<R: Wait>(
         &mut self,
         rt: &R,

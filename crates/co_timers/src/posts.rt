@@ -24,7 +24,7 @@ use std::marker::{Model, PhantomData};
 #[derive(Drop)]
 pub struct Posts<N: Name> {
     params: Shown<Params>,
-    /// By actor.
+    /// By actor: its passes, until it leaves.
     seats: Vec<Option<Passes>>,
     back: Room<Passes>,
     of: PhantomData<N>,
@@ -41,7 +41,7 @@ impl<N: Name> Model for Posts<N> {
     ghost invariant = { λ p. ArePosts N.name p.params.value p.seats.items p.back };
 }
 
-/// All are here.
+/// The passes of all actors, each in its seat: all are here. `NoMemory` where there is no room for the seats.
 fn seated(alloc: Global, passes: Seq<Passes>) -> Result<Vec<Option<Passes>>, NoMemory>
     ensures { IfOk result (λ seats. seats.items ≡ map Some passes) }
 {
@@ -104,7 +104,8 @@ impl<N: Name> Posts<N> {
         self.leave(timers.params.clients + k)
     }
 
-    /// The same of CPU `k`'s interrupt.
+    /// CPU `k`'s interrupt leaves with its passes, for whoever scans the CPU and serves its direct callouts through
+    /// the service. `None` where there is no such CPU, or its interrupt has left already.
     pub fn interrupt(&mut self, timers: &Timers<N>, k: u32) -> Option<Passes>
         requires { timers.now.params ≡ self.old.params }
         ensures some { IfSome result (λ passes. passes ≡ booted N.name self.old.params (interrupt_actor (actors_of self.old.params) k)) }
