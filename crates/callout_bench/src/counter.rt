@@ -22,7 +22,7 @@ fn add<R: Wait>(rt: &R, counters: &[Mutex<u64>], work: &Work, thread: u32) {
     }
 }
 
-/// So many threads, each in a branch of its own.
+/// Counts on as many threads as `threads` says, each in a branch of its own.
 fn add_all<R: Threads + Wait + Sync>(rt: &R, counters: &[Mutex<u64>], work: &Work, threads: u32) {
     if threads == 0 {
         return;

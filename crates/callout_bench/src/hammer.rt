@@ -21,7 +21,7 @@ use std::thread::{Threads, join};
 /// How many callouts each thread has.
 const OWN: u32 = 16;
 
-/// So many callouts without a lock.
+/// What is fixed of `callouts` callouts without a lock. `NoMemory` where there is no room for them.
 fn plain_specs(alloc: Global, callouts: u32) -> Result<Seq<Spec>, NoMemory>
     ensures count { IfOk result (λ specs. length specs ≡ callouts) }
     ensures each { IfOk result (All IsPlain) }

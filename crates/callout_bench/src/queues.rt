@@ -11,22 +11,23 @@ use std::alloc::Global;
 /// The armings between two scans.
 const SCAN_EVERY: u64 = 256;
 
-/// Which queue.
+/// Which of the two timer queues is measured.
 #[derive(Clone, Copy, Drop)]
 pub enum Kind {
-    /// The plain list.
+    /// The plain list, `ListQueue`.
     List,
-    /// The wheel of buckets.
+    /// The wheel of buckets, `WheelQueue`.
     Wheel,
 }
 
 /// What a run is to do.
 #[derive(Clone, Copy, Drop)]
 pub struct Work {
-    /// 1 to 1024.
+    /// How many callouts the queue has, 1 to 1024.
     pub callouts: u32,
+    /// How many armings are made.
     pub armings: u64,
-    /// How far time goes on from one arming to the next.
+    /// How far time goes on from one arming to the next, in units of 2^-32 s.
     pub step: Sbt,
 }
 
@@ -35,9 +36,13 @@ pub struct Work {
 pub struct Counts {
     /// Armings that took the place of one that had not fired.
     pub replaced: u64,
+    /// Armings that were taken out before they fired.
     pub stopped: u64,
+    /// Armings that a scan gave out.
     pub fired: u64,
+    /// How many scans were made.
     pub scans: u64,
+    /// How many entries the scans looked at.
     pub looks: u64,
 }
 

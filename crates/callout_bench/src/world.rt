@@ -15,6 +15,7 @@ const TRIES: u32 = 3;
 /// What came of a walk.
 #[derive(Clone, Copy)]
 pub struct Walked {
+    /// How many notes the steps made.
     pub notes: u64,
     /// How many steps were refused memory.
     pub refused: u64,

@@ -12,10 +12,13 @@ use crate::CalloutWheel;
 use co_embed::{CalloutParcel, CalloutReply, Refusal, When, status};
 use std::alloc::Global;
 
-/// No callouts: `EBADF`.
+/// `EBADF`, which every call on a handle without callouts answers (our own decision).
 pub(crate) const NO_WHEEL: i32 = -9;
 
-/// `callout_reset_sbt_on`.
+/// `callout_reset_sbt_on`: from `due` on `func` is to be called with `arg`, at `cpu`. `due` and `prec` are in units of
+/// 2^-32 s. The reply is armed, not armed or worn; where it says that the callout leaves, the parcel is written.
+///
+/// 0, or a negative errno: `EBADF`, `ENOENT` where callout `id` is not here, `EINVAL` where a time is 2^63 or more.
 #[unsafe(no_mangle)]
 pub extern "C" fn callout_reset(
     alloc: Global,
@@ -44,7 +47,8 @@ pub extern "C" fn callout_reset(
     status(answer)
 }
 
-/// `callout_schedule_sbt_on`.
+/// `callout_schedule_sbt_on`: as `callout_reset`, with the function and argument of the last reset; the reply may be
+/// that there was none.
 #[unsafe(no_mangle)]
 pub extern "C" fn callout_schedule(
     alloc: Global,
@@ -71,7 +75,8 @@ pub extern "C" fn callout_schedule(
     status(answer)
 }
 
-/// `callout_stop`.
+/// `callout_stop`: the callout is armed no more, and one that waits for its lock is cancelled. 0, or a negative errno:
+/// `EBADF`, `ENOENT` where callout `id` is not here.
 #[unsafe(no_mangle)]
 pub extern "C" fn callout_stop(
     alloc: Global,
@@ -90,7 +95,8 @@ pub extern "C" fn callout_stop(
     status(answer)
 }
 
-/// One try of `callout_drain`.
+/// One try of `callout_drain`: the callout is armed no more; the reply is drained where no service has it, else wait.
+/// `took` is false at first, and then what the last reply said. The errors are those of `callout_stop`.
 #[unsafe(no_mangle)]
 pub extern "C" fn callout_drain_try(
     alloc: Global,
@@ -110,7 +116,8 @@ pub extern "C" fn callout_drain_try(
     status(answer)
 }
 
-/// `callout_async_drain`.
+/// `callout_async_drain`: the callout is armed no more; where it is in service the end names `func`. The errors are
+/// those of `callout_stop`.
 #[unsafe(no_mangle)]
 pub extern "C" fn callout_async_drain(
     alloc: Global,
@@ -140,7 +147,7 @@ fn yes_or(answer: Result<bool, Refusal>) -> i32
     }
 }
 
-/// `callout_pending`.
+/// `callout_pending`: 1 where callout `id` is armed, 0 where it is not, or the errors of `callout_stop`.
 #[unsafe(no_mangle)]
 pub extern "C" fn callout_pending(alloc: Global, w: &mut CalloutWheel, id: u32) -> i32
     ensures { OnWheel yes_or result w.old.held.value w.new.held.value (Unit {0})
@@ -154,7 +161,8 @@ pub extern "C" fn callout_pending(alloc: Global, w: &mut CalloutWheel, id: u32) 
     yes_or(answer)
 }
 
-/// `callout_active`.
+/// `callout_active`: 1 where callout `id` was armed, and neither stopped, drained nor deactivated since; else 0, or
+/// the errors of `callout_stop`.
 #[unsafe(no_mangle)]
 pub extern "C" fn callout_active(alloc: Global, w: &mut CalloutWheel, id: u32) -> i32
     ensures { OnWheel yes_or result w.old.held.value w.new.held.value (Unit {0})
@@ -168,7 +176,7 @@ pub extern "C" fn callout_active(alloc: Global, w: &mut CalloutWheel, id: u32) -
     yes_or(answer)
 }
 
-/// `callout_deactivate`: 0.
+/// `callout_deactivate`: callout `id` is not active any more. 0, or the errors of `callout_stop`.
 #[unsafe(no_mangle)]
 pub extern "C" fn callout_deactivate(alloc: Global, w: &mut CalloutWheel, id: u32) -> i32
     ensures { OnWheel yes_or result w.old.held.value w.new.held.value (Unit {0})

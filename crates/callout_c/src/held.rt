@@ -55,18 +55,21 @@ fn blank(alloc: Global) -> Held
 }
 
 impl Held {
+    /// No box: a null pointer.
     pub fn none(alloc: Global) -> Held
         ensures { result.value ≡ None }
     {
         blank(alloc)
     }
 
+    /// This box, which the pointer owns from now on.
     pub fn of(value: Box<Inner>) -> Held
         ensures { result.value ≡ Some value.value }
     {
         hide(Loose::of(value))
     }
 
+    /// The box that it has, which owns itself again.
     pub fn into_box(self) -> Box<Inner>
         requires { is_some self.value ≡ true }
         ensures { Some result.value ≡ self.value }

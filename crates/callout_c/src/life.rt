@@ -9,7 +9,11 @@ use crate::{CalloutWheel, Inner};
 use co_embed::{CalloutAttr, CalloutParcel, Embed, Refusal, status};
 use std::alloc::Global;
 
-/// A handle's callouts, for a CPU: none yet.
+/// A handle gets a CPU's wheel with room for `callouts` ids, 1 to 2^20, of which the last `direct` are for direct
+/// callouts, and with a power of two of buckets, 16 to 65536. No id has a callout yet.
+///
+/// 0, or a negative errno: `EEXIST` where the handle has a wheel, `EINVAL` where a size is out of its range or `cpu`
+/// is one of the words for home and here, `ENOMEM`. Our own decisions.
 #[unsafe(no_mangle)]
 pub extern "C" fn callout_wheel_new(
     alloc: Global,
@@ -35,7 +39,8 @@ pub extern "C" fn callout_wheel_new(
     0
 }
 
-/// The memory of a handle's callouts is given back.
+/// The memory of a handle's wheel is given back; what is armed is forgotten. 0, or a negative errno: `EBADF`, `EBUSY`
+/// where a callout is in service.
 #[unsafe(no_mangle)]
 pub extern "C" fn callout_wheel_free(alloc: Global, w: &mut CalloutWheel) -> i32
     ensures { FreeAnswers result w.old.held.value w.new.held.value }
@@ -50,7 +55,8 @@ pub extern "C" fn callout_wheel_free(alloc: Global, w: &mut CalloutWheel) -> i32
     0
 }
 
-/// A callout comes as it is made.
+/// Id `id` gets a callout as `callout_init` makes one, not armed. 0, or a negative errno: `EBADF`, `EINVAL` where the
+/// id or the attributes are out of their ranges, `EEXIST` where the id has a callout here.
 #[unsafe(no_mangle)]
 pub extern "C" fn callout_init(
     alloc: Global,
@@ -69,7 +75,8 @@ pub extern "C" fn callout_init(
     status(answer)
 }
 
-/// A callout goes.
+/// Callout `id` goes, and its id is free. 0, or a negative errno: `EBADF`, `ENOENT` where it is not here, `EBUSY`
+/// where it is armed or in service.
 #[unsafe(no_mangle)]
 pub extern "C" fn callout_fini(alloc: Global, w: &mut CalloutWheel, id: u32) -> i32
     ensures { OnWheel status_of result w.old.held.value w.new.held.value (Unit {0})
@@ -97,7 +104,11 @@ pub(crate) fn put_or_u64(answer: Result<u64, Refusal>, place: &mut u64) -> i32
     }
 }
 
-/// A callout comes that left another CPU.
+/// A callout that left another CPU for this one is here, and armed; `at` is the time at which it stands in the queue,
+/// in units of 2^-32 s.
+///
+/// 0, or a negative errno: `EBADF`, `EINVAL` where the parcel is not for this CPU, no callout of it or not of its
+/// lane, `EEXIST` where the id has a callout here.
 #[unsafe(no_mangle)]
 pub extern "C" fn callout_land(
     alloc: Global,

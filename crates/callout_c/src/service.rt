@@ -24,7 +24,8 @@ fn put_or_u32(answer: Result<u32, Refusal>, place: &mut u32) -> i32
     }
 }
 
-/// What is due by `now` comes due; `due` is how many that are.
+/// What is due by `now` comes due; `due` is how many armings that are. `now` is in units of 2^-32 s. 0, or a negative
+/// errno: `EBADF`, `EINVAL` where `now` is 2^63 or more.
 #[unsafe(no_mangle)]
 pub extern "C" fn callout_advance(
     alloc: Global,
@@ -43,7 +44,9 @@ pub extern "C" fn callout_advance(
     put_or_u32(answer, due)
 }
 
-/// The first callout that has come due goes into service, of the CPU or of its interrupt where `direct`.
+/// The first callout that has come due goes into service, of the CPU or of its interrupt where `direct`: the reply is
+/// go, or hold where it waits for its lock. 0, or a negative errno: `EBADF`, `EBUSY` where that has one in service,
+/// `EAGAIN` where nothing has come due.
 #[unsafe(no_mangle)]
 pub extern "C" fn callout_next(
     alloc: Global,
@@ -62,7 +65,8 @@ pub extern "C" fn callout_next(
     status(answer)
 }
 
-/// The lock of the callout in service is held.
+/// The lock of the callout in service is held: the reply is go, or skip where a call cancelled it. 0, or a negative
+/// errno: `EBADF`, `EPERM` where none waits for its lock.
 #[unsafe(no_mangle)]
 pub extern "C" fn callout_begin(
     alloc: Global,
@@ -80,7 +84,8 @@ pub extern "C" fn callout_begin(
     status(answer)
 }
 
-/// The service is over.
+/// The service is over, of the CPU or of its interrupt where `direct`; where the reply says that the callout leaves,
+/// the parcel is written. 0, or a negative errno: `EBADF`, `EPERM` where no call is under way that can end.
 #[unsafe(no_mangle)]
 pub extern "C" fn callout_end(
     alloc: Global,
@@ -101,7 +106,8 @@ pub extern "C" fn callout_end(
     status(answer)
 }
 
-/// The first time at which there is something to service.
+/// The first time at which there is something to service, in units of 2^-32 s: that of the last advance where
+/// something has come due already. 0, or a negative errno: `EBADF`, `EAGAIN` where nothing is armed here.
 #[unsafe(no_mangle)]
 pub extern "C" fn callout_earliest(alloc: Global, w: &mut CalloutWheel, at: &mut u64) -> i32
     ensures { OnWheel done_or result w.old.held.value w.new.held.value (at.new ≡ at.old)

@@ -29,7 +29,7 @@ pub(crate) struct Index {
 /// What the numbers of a report's lines come to.
 #[derive(Drop)]
 pub(crate) enum Indexed {
-    /// They are right.
+    /// They are right: where each note is.
     Fits(Index),
     /// The first line of which the number is wrong.
     Bad { line: u64 },

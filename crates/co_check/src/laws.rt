@@ -32,7 +32,7 @@ pub fn runs_are_legal()
     ensures { RunsAreLegal }
 {}
 
-/// So is a report whose lines are, place by place, the shown histories of a run's lists.
+/// A report whose lines are, place by place, the shown histories of a run's lists is legal.
 pub fn reports_of_runs_are_legal()
     ensures { ReportsOfRunsAreLegal }
 {}

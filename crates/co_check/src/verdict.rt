@@ -20,7 +20,7 @@ pub enum Unfit {
 pub enum Verdict {
     /// It is the report of a run.
     Legal,
-    /// It is not.
+    /// It is not the report of a run.
     Not {
         /// The first line that is wrong, numbered from 1.
         line: u64,

@@ -74,7 +74,7 @@ pub(crate) struct Hand {
     pub notes: Room<Note>,
 }
 
-/// So many notes never fit into memory.
+/// A number of notes that never fits into memory, so no count reaches it: 2^63.
 const MOST: u64 = 0x8000_0000_0000_0000;
 
 impl Books {

@@ -16,17 +16,21 @@ use co_sbt::{NoMemory, Sbt};
 use std::alloc::Global;
 use std::marker::Model;
 
-/// The answer to an arming: code 1 where the callout was pending, else 0, and the time from which it may fire.
+/// The answer to an arming.
 #[derive(Clone, Copy, Debug, PartialEq, Eq)]
 pub struct Armed {
+    /// 1 where the callout was pending, else 0, after `callout_reset`.
     pub code: i32,
+    /// The time from which it may fire, in units of 2^-32 s: never before now (our own decision).
     pub due: Sbt,
 }
 
-/// An event of the clock: its moment, and how many callouts fire at it.
+/// An event of the clock.
 #[derive(Clone, Copy, Debug, PartialEq, Eq)]
 pub struct Event {
+    /// The moment for which the clock was programmed, in units of 2^-32 s.
     pub at: Sbt,
+    /// How many callouts fire at it, at least 1.
     pub count: u32,
 }
 

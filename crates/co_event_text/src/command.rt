@@ -13,11 +13,11 @@ use co_text::{Cause, Words};
 /// A command line of a text for `event`.
 #[derive(Clone, Copy)]
 pub enum EventCommand {
-    /// `arm I +T pr T`, or `=T`: arms a callout, from when it may fire, with the precision.
+    /// `arm I +T pr T`, or `=T`: arms a callout, from when it may fire, with the precision in units of 2^-32 s.
     Arm(u32, When, Sbt),
     /// `stop I`: takes a callout out of what is pending.
     Stop(u32),
-    /// `until T`: takes the events that come by a time, and settles then.
+    /// `until T`: takes the events that come by a time, in units of 2^-32 s, and settles then.
     Until(Sbt),
 }
 

@@ -7,28 +7,34 @@ use co_sbt::Sbt;
 /// The call of a group.
 #[derive(Clone, Copy)]
 pub enum Kind {
+    /// A reset, which three draws of eight give.
     Reset,
+    /// A schedule, one of eight.
     Schedule,
+    /// A stop, one of eight.
     Stop,
+    /// An asynchronous drain, one of eight.
     AsyncDrain,
+    /// The query whether it is armed, one of eight.
     Pending,
+    /// A drain that waits, one of eight; under no lock.
     Drain,
 }
 
 /// What a draw says of a group.
 #[derive(Clone, Copy)]
 pub struct Choice {
-    /// The callout.
+    /// The callout that the group is about, below 64.
     pub timer: u32,
     /// The call on it.
     pub kind: Kind,
-    /// How long after the group's time a reset or schedule is due.
+    /// How long after the group's time a reset or schedule is due, in units of 2^-32 s.
     pub span: Sbt,
     /// Below 4 the CPU that a reset names; else it names none.
     pub cpu: u32,
 }
 
-/// A time of so many units.
+/// The time of `units` units of 2^-32 s.
 pub fn time(units: u64) -> Sbt
     requires { units < 2 ^ 63 }
     ensures { result ≡ units }

@@ -9,17 +9,17 @@ use std::alloc::Global;
 /// How many notes a run made, and what became of its armings. All numbers are counts.
 #[derive(Clone, Copy, Debug, PartialEq, Eq)]
 pub struct Counts {
-    /// All notes.
+    /// How many notes all actors made.
     pub notes: u64,
     /// The accepted armings of all callouts.
     pub armed: u64,
-    /// Those whose function ran.
+    /// The armings of them whose function ran.
     pub fired: u64,
-    /// Those whose place a later reset or schedule took.
+    /// The armings whose place a later reset or schedule took.
     pub superseded: u64,
-    /// Those that a stop or a drain took away.
+    /// The armings that a stop or a drain of either kind took away.
     pub stopped: u64,
-    /// Those that are to fire yet.
+    /// The armings that are to fire yet: pending, or waiting for their lock.
     pub pending: u64,
 }
 

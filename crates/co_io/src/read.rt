@@ -7,10 +7,12 @@ use crate::source::{Failed, Source};
 use co_sbt::{NoMemory, Seq};
 use std::alloc::Global;
 
-/// The bytes that were read, and whether there are more than were asked for.
+/// What was read of a source.
 #[derive(Drop, Debug)]
 pub struct Input {
+    /// The bytes, at most one more than the limit.
     pub bytes: Seq<u8>,
+    /// Whether the source had more than the limit; what follows these bytes was not read.
     pub over: bool,
 }
 
@@ -19,7 +21,7 @@ pub struct Input {
 pub enum ReadEnd {
     /// There was not enough memory for the bytes.
     NoMemory,
-    /// The source failed.
+    /// A read of the source failed.
     Fault,
 }
 

@@ -13,7 +13,7 @@ use co_sbt::Seq;
 /// Why not all was written.
 #[derive(Clone, Copy, Debug, PartialEq, Eq, Drop)]
 pub enum WriteEnd {
-    /// The sink failed.
+    /// A write to the sink failed.
     Fault,
     /// The sink took none of a piece that was not empty.
     Stalled,

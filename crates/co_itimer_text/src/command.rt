@@ -12,11 +12,11 @@ use co_text::{Cause, Words};
 /// A command line of a text for `itimer`.
 #[derive(Clone, Copy)]
 pub enum TimerCommand {
-    /// `set P T T`: sets a process's timer, to a value and an interval.
+    /// `set P T T`: sets a process's timer, to a value and an interval, both in units of 2^-32 s.
     Set(u32, Itimerval),
     /// `get P`: asks for what a process's timer has to come.
     Get(u32),
-    /// `tick T`: brings the clock to a time.
+    /// `tick T`: brings the clock to a time, in units of 2^-32 s.
     Tick(Sbt),
     /// `alarm P`: asks for a process's alarm, and clears it.
     Alarm(u32),

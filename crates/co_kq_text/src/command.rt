@@ -13,13 +13,14 @@ use co_text::{Cause, Words};
 /// A line of a text for the kevent list.
 #[derive(Clone, Copy)]
 pub enum KqCommand {
-    /// Adds a knote: its ident, its value and the value's unit, and whether it expires once alone.
+    /// `add I V U [oneshot]`: adds a knote with its ident, its value and the value's unit, and whether it expires once
+    /// alone.
     Add(u64, u64, Unit, bool),
-    /// Deletes the knote of an ident.
+    /// `delete I`: deletes the knote of an ident.
     Delete(u64),
-    /// Brings the clock to a time.
+    /// `tick T`: brings the clock to a time, in units of 2^-32 s.
     Tick(Sbt),
-    /// Asks for so many events.
+    /// `events N`: asks for up to N events, at most 1024.
     Events(u32),
 }
 

@@ -3,7 +3,9 @@ use std::collections::LinkedList;
 
 /// An actor, and what it has seen of the history.
 pub struct Glance<E> {
+    /// The actor's number.
     pub actor: u64,
+    /// The front of the history that it has seen.
     pub seen: LinkedList<E>,
 }
 
@@ -15,7 +17,7 @@ pub enum SeatView<E> {
         made: u64,
         inside: Option<Glance<E>>,
     },
-    /// A pass's.
+    /// That of a seat with a pass: its actor, and what that has seen.
     Has(Glance<E>),
     /// That of a seat whose pass went inside: nothing any more.
     Spent,

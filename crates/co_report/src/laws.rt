@@ -17,7 +17,8 @@ pub fn reports_read_back()
     ensures { ReportReadsBack }
 {}
 
-/// So is the report of a run of a script that fits, whose notes have values that their types allow.
+/// The report of a run of a script that fits, whose notes have values that their types allow, is read back as that
+/// script and exactly its notes.
 pub fn reports_of_runs_read_back()
     ensures { RunReadsBack }
 {}

@@ -35,7 +35,8 @@ fn print_notes(
     print_from(page, script, lists, order.of_place(place))
 }
 
-/// A timer's part.
+/// Appends a timer's part: the line `timer I`, and the lines of its notes in order. `NoMemory` where the page finds no
+/// room.
 fn print_timer(
     page: &mut Page,
     script: &Script,

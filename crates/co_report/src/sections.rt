@@ -86,7 +86,7 @@ fn all_opened(alloc: Global, script: &Script) -> Result<Vec<Page>, NoMemory>
     Ok(pages.into_vec())
 }
 
-/// As many counts, each 0.
+/// `count` counts, each 0. `NoMemory` where there is no room for them.
 fn zeros(alloc: Global, count: u32) -> Result<Vec<u64>, NoMemory>
     ensures { IfOk result (λ counts. counts.items ≡ replicate count 0) }
 {

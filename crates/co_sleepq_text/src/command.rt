@@ -21,7 +21,7 @@ pub enum SleepCommand {
     WakeupOne(u64),
     /// `awake I`: asks how the sleeper's last sleep ended.
     Awake(u32),
-    /// `tick T`: the clock comes to this time.
+    /// `tick T`: the clock comes to this time, in units of 2^-32 s.
     Tick(Sbt),
 }
 

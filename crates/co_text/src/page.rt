@@ -35,7 +35,7 @@ impl Model for Page {
 }
 
 impl Page {
-    /// The empty text.
+    /// The empty text, which takes no memory.
     pub fn new(alloc: Global) -> Page
         ensures { result ≡ [] }
     {
@@ -58,7 +58,7 @@ impl Page {
         self.bytes.push(byte)
     }
 
-    /// Appends these bytes.
+    /// Appends these bytes. `NoMemory` where there is no room: then a part of them may be there.
     // Most texts are literals: inlined, a few bytes are stored with no call.
     #[inline(always)]
     pub fn text(&mut self, text: &[u8]) -> Result<(), NoMemory>

@@ -7,7 +7,7 @@ pub fn reports_of_steps_are_legal()
     ensures { ReportsOfStepsAreLegal }
 {}
 
-/// So is what `run` makes of it.
+/// What `run` makes of a script is a report that `check` calls legal, where it is not too long for an input.
 pub fn reports_of_runs_are_legal()
     ensures { ReportsOfRunsAreLegal }
 {}

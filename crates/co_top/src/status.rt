@@ -28,6 +28,7 @@ pub enum Status {
 /// `run`, `kq`, `sleep` or `itimer` is done.
 #[derive(Drop)]
 pub struct Finish {
+    /// How it ends.
     pub status: Status,
     /// The histories of the service's callouts and CPUs: of `run` those that the report shows.
     pub closing: Option<Closing>,

@@ -10,7 +10,7 @@ fn note_is_typed(note: Note)
     ensures { EntryTyped note.entry }
 {}
 
-/// So are those of an actor's notes.
+/// The values of all notes of an actor are in the ranges of their types.
 fn notes_are_typed(notes: &[Note])
     ensures { NotesTyped notes.now }
 {
@@ -19,7 +19,7 @@ fn notes_are_typed(notes: &[Note])
     }
 }
 
-/// And those of all actors' notes.
+/// The values of all actors' notes are in the ranges of their types.
 pub(crate) fn lists_are_typed(lists: &[Seq<Note>])
     ensures { ListsTyped lists.now }
 {

@@ -23,7 +23,7 @@ use std::alloc::Global;
 /// Which notes are shown.
 #[derive(Clone, Copy, Debug, PartialEq, Eq)]
 pub enum Focus {
-    /// All.
+    /// All notes of the report.
     All,
     /// Those of a callout, and those of the queues that name it.
     Timer(u32),

@@ -56,7 +56,7 @@ pub fn notes_name_what_exists()
     ensures { NotesNameWhatExists }
 {}
 
-/// So it is with the notes of a script's walk.
+/// What each note of a script's walk names exists in the script, where the functions that the script's acts name do.
 pub fn walks_name_what_exists()
     ensures { WalksNameWhatExists }
 {}

@@ -15,7 +15,7 @@ use co_program::{Cursor, Parcel, Script, Stage, actor_count};
 use co_sbt::{NoMemory, Sbt, Seq};
 use std::alloc::{AllocError, Global};
 
-/// So many counts, all 0.
+/// `count` counts, all 0. `AllocError` where there is no room for them.
 fn zeros(alloc: Global, count: usize) -> Result<Vec<u64>, AllocError>
     ensures { IfOk result (λ counts. counts.items ≡ replicate count 0) }
 {
@@ -38,7 +38,7 @@ fn first_place() -> Cursor
     }
 }
 
-/// So many actors before their first act.
+/// The places of `count` actors, before their first acts. `AllocError` where there is no room for them.
 fn first_places(alloc: Global, count: usize) -> Result<Vec<Cursor>, AllocError>
     ensures { IfOk result (λ places. places.items ≡ replicate count first_place) }
 {
@@ -52,7 +52,7 @@ fn first_places(alloc: Global, count: usize) -> Result<Vec<Cursor>, AllocError>
     Ok(places)
 }
 
-/// So many locks that nobody holds.
+/// The holders of `locks` locks: nobody holds one. `AllocError` where there is no room for them.
 fn nobody(alloc: Global, locks: usize) -> Result<Vec<Holders>, AllocError>
     ensures { IfOk result (λ holders. holders.items ≡ replicate locks no_holders) }
 {
@@ -60,7 +60,7 @@ fn nobody(alloc: Global, locks: usize) -> Result<Vec<Holders>, AllocError>
     Ok(holders)
 }
 
-/// So many empty lists of notes.
+/// `count` empty lists of notes, one for each actor. `NoMemory` where there is no room for them.
 fn empty_lists(alloc: Global, count: usize) -> Result<Lists, NoMemory>
     ensures { IfOk result (λ lists. lists ≡ replicate count []) }
 {

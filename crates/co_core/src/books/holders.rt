@@ -7,9 +7,9 @@ use co_lock::Held;
 /// How many actors hold a lock.
 #[derive(Clone, Copy)]
 pub(crate) struct Holders {
-    /// Those that share it.
+    /// How many hold it in read mode.
     pub shared: u64,
-    /// Those that have it alone.
+    /// How many hold it so that it excludes all others: a mutex, or in write mode.
     pub exclusive: u64,
 }
 

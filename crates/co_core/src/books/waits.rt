@@ -34,7 +34,7 @@ impl Books {
         }
     }
 
-    /// The same, by the places of all actors.
+    /// Whether an actor has a hold that excludes this one, by the places of all actors in their programs.
     fn is_held(&self, held: &Held) -> bool
         ensures { result ≡ list_any (λ place. is_excluded_by held.now place.hold) self.now.places }
     {

@@ -106,7 +106,7 @@ fn first_wheels(
     Ok(wheels)
 }
 
-/// So many bags with nothing in them.
+/// `count` bags with nothing in them, one for each actor. `NoMemory` where there is no room for them.
 fn empty_bags(alloc: Global, count: usize) -> Result<Vec<Option<Parcel>>, NoMemory>
     ensures { IfOk result (λ bags. bags.items ≡ replicate count None) }
 {

@@ -118,6 +118,8 @@ fn print_run(page: &mut Page, op: &RunOp) -> Result<(), NoMemory>
     }
 }
 
+/// Appends the words of an operation on a callout, each behind a space, as `reset`, `pick` or `end`. `NoMemory` where
+/// the page finds no room.
 pub fn print_op(page: &mut Page, op: &Op) -> Result<(), NoMemory>
     ensures { OnOk result (page.new ≡ page.old ++ spaced (op_words op.now)) }
 {

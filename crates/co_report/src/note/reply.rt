@@ -131,6 +131,7 @@ fn print_go(page: &mut Page, func: u32, arg: u64) -> Result<(), NoMemory>
     Ok(())
 }
 
+/// Appends the words of a callout's reply, each behind a space. `NoMemory` where the page finds no room.
 pub fn print_reply(page: &mut Page, reply: &Reply) -> Result<(), NoMemory>
     ensures { OnOk result (page.new ≡ page.old ++ spaced (reply_words reply.now)) }
 {

@@ -4,13 +4,18 @@ ghost use Rattle.co_report.specs.NoteValues.{names_of, IsSmall, HasFewActors};
 
 use co_program::Script;
 
-/// How many callouts, CPUs, functions and clients a script has, and its version.
+/// Below which numbers the names of notes are, in a script.
 #[derive(Clone, Copy)]
 pub struct Names {
+    /// The number of callouts: `iN` is below it.
     pub timers: u32,
+    /// The number of CPUs: `pN` is below it, and so is `hN`.
     pub cpus: u32,
+    /// The number of functions: `fN` is below it.
     pub funcs: u32,
+    /// The number of clients: `cN` is below it.
     pub clients: u32,
+    /// The version, 1 or 2: `hN` is of version 2.
     pub version: u32,
 }
 

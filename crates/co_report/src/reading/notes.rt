@@ -13,10 +13,12 @@ use crate::reading::values::{Maker, literal, made_by, made_by_actor, number64, o
 use co_object::{AnyEntry, Entry, Op, OwnEntry, Place, QEntry, QOp, QReply, Reply};
 use co_text::Cause;
 
-/// What a note line says: the note's number in its actor's list, and its entry.
+/// What a note line says.
 #[derive(Clone, Copy)]
 pub struct Shown {
+    /// The note's number in its actor's list, from 0.
     pub number: u64,
+    /// Its entry.
     pub entry: AnyEntry,
 }
 
@@ -55,7 +57,7 @@ fn head(names: &Names, parts: &mut Parts) -> Result<(u64, Maker), Cause>
     Ok((number, maker))
 }
 
-/// The same of this actor alone.
+/// A note's number, and who made it, which is this actor: `Form` where it is another.
 fn own_head(names: &Names, actor: u32, parts: &mut Parts) -> Result<(u64, Maker), Cause>
     requires { HasFewActors names.now }
     ensures { Gives (λ x. (x, parts.new)) result (head_form (maker_is names.now actor) parts.old) }

@@ -34,8 +34,11 @@ pub struct Progress {
 /// What the histories are read by: a script, what notes may name in it, and its places.
 #[derive(Drop)]
 pub struct Setting<'a> {
+    /// The script.
     pub script: &'a Script,
+    /// What notes may name in it.
     pub names: Names,
+    /// Its places, in the order of a report.
     pub places: &'a [Place],
 }
 

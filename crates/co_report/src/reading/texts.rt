@@ -9,11 +9,14 @@ ghost use Rattle.co_report.specs.ReadingViews.{halves_view, AreAtMost};
 use co_sbt::NoMemory;
 use co_text::{Cause, ScriptFault, next_line};
 
-/// The text before the first line `histories`, the number of its lines, and the text behind that line.
+/// A report behind its first line, in two at the first line `histories`.
 #[derive(Clone, Copy)]
 pub struct Halves<'a> {
+    /// The text before that line, which is to be a script.
     pub script: &'a [u8],
+    /// How many lines that has.
     pub count: u64,
+    /// The text behind that line.
     pub notes: &'a [u8],
 }
 
@@ -24,14 +27,14 @@ pub fn bad(line: u64, cause: Cause) -> ScriptFault
     ScriptFault::Bad { line, cause }
 }
 
-/// Want of memory.
+/// Want of memory, as a fault of the text.
 pub fn no_memory(_fault: NoMemory) -> ScriptFault
     ensures { result ≡ fault.NoMemory }
 {
     ScriptFault::NoMemory
 }
 
-/// The same, line by line.
+/// `Cut` at the last line where it has no line feed. Goes over all lines, whose last byte is not looked at beforehand.
 fn none_cut_by_line(text: &[u8]) -> Result<(), ScriptFault>
     requires { length text.now ≤ 268435456 }
     ensures { GivesOrNoMemory (λ _. true) result (none_cut 1 (lines_of text.now)) }

@@ -206,10 +206,12 @@ fn actor_in(names: &Names, word: &[u8]) -> Result<u32, Cause>
     }
 }
 
-/// Who made a note, at which act.
+/// Who made a note: `A/M`.
 #[derive(Clone, Copy)]
 pub struct Maker {
+    /// The actor's number.
     pub actor: u32,
+    /// The number of its act, from 0.
     pub act: u64,
 }
 
@@ -281,21 +283,21 @@ pub fn number32(parts: &mut Parts) -> Result<u32, Cause>
     count32(parts.word()?)
 }
 
-/// `uN`.
+/// `uN`: a time in units of 2^-32 s, below 2^63. `Form` where the next word is none.
 pub fn time(parts: &mut Parts) -> Result<Sbt, Cause>
     ensures { Gives (λ x. (x, parts.new)) result (next time_in_units parts.old) }
 {
     time_in_units(parts.word()?)
 }
 
-/// `#N`.
+/// `#N`: the number of an arming, below 2^64. `Form` where the next word is none.
 pub fn arming(parts: &mut Parts) -> Result<u64, Cause>
     ensures { Gives (λ x. (x, parts.new)) result (next arming parts.old) }
 {
     lettered64(b'#', parts.word()?)
 }
 
-/// `aN`.
+/// `aN`: a function's argument, below 2^64. `Form` where the next word is none.
 pub fn argument(parts: &mut Parts) -> Result<u64, Cause>
     ensures { Gives (λ x. (x, parts.new)) result (next given parts.old) }
 {
@@ -337,7 +339,7 @@ pub fn func_or_none(names: &Names, parts: &mut Parts) -> Result<Option<u32>, Cau
     func_or_dash(names, parts.word()?)
 }
 
-/// `1` or `0`.
+/// `1` for true, `0` for false. `Form` where the next word is neither.
 pub fn truth(parts: &mut Parts) -> Result<bool, Cause>
     ensures { Gives (λ x. (x, parts.new)) result (next truth parts.old) }
 {
@@ -351,7 +353,7 @@ pub fn code(parts: &mut Parts) -> Result<i32, Cause>
     code_of(parts.word()?)
 }
 
-/// `A/M`.
+/// `A/M`: an actor of the script, and the number of its act. `Form` where the next word is none.
 #[inline(always)]
 pub fn made_by(names: &Names, parts: &mut Parts) -> Result<Maker, Cause>
     requires { HasFewActors names.now }
