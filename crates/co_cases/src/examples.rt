@@ -41,6 +41,7 @@ end
 ",
 };
 
+/// Stops before an arming, of the one that is pending, and after it, with codes -1, 1 and -1; then the query whether it is active.
 pub const THE_CODES_OF_STOP: Case = Case {
     name: "the codes of stop",
     script: r"callout 1

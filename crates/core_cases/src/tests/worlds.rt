@@ -114,7 +114,8 @@ fn notes_after(
     copied_notes(alloc, &world, actor)
 }
 
-/// The same of the script that a text stands for.
+/// The notes of an actor after the actors of a text's script have stepped in this order, with these answers; the fault
+/// of a text that is no script.
 fn notes_of(
     rt: &impl Abort,
     alloc: Global,

@@ -8,7 +8,7 @@ use std::alloc::Global;
 use std::marker::Brand;
 use std::sync::Wait;
 
-/// So many halves of a second.
+/// The time of `count` halves of a second.
 fn halves(count: i32) -> Sbt {
     Sbt::from_ticks(count, 2)
 }

@@ -61,7 +61,7 @@ pub(super) fn nothing_told(alloc: Global, actors: u32) -> Result<Vec<Told>, NoMe
 /// How far an actor has come.
 #[derive(Clone, Copy)]
 pub(super) enum Far {
-    /// So many of its acts were announced.
+    /// It has announced this many of its acts.
     Acts(u64),
     /// It has made so many notes.
     Notes(u64),

@@ -21,7 +21,7 @@ use std::alloc::Global;
 use std::process::Abort;
 use std::sync::Wait;
 
-/// So many seconds.
+/// The time of `count` seconds; one second where that is not positive.
 pub(super) fn seconds(count: i32) -> Sbt {
     Sbt::from_ticks(count, 1)
 }
@@ -44,7 +44,7 @@ fn is_direct(direct: bool, i: u32) -> bool
     direct && i == 0
 }
 
-/// So many callouts without a lock. The first is direct where `direct`.
+/// What is fixed of `callouts` callouts without a lock, of which the first is direct where `direct`.
 fn free_specs(
     alloc: Global,
     version: u32,

@@ -121,7 +121,8 @@ fn is_bad(alloc: Global, text: &[u8], line: u64, cause: Cause) -> bool {
     is_at(fault_of(alloc, text), line, cause)
 }
 
-/// The same of the report that has this text behind the line `histories`.
+/// Whether the first bad line of the report that has this text behind the line `histories`, its line 9, is this one,
+/// for this cause.
 fn is_bad_behind(alloc: Global, notes: &[u8], line: u64, cause: Cause) -> bool {
     is_at(fault_behind(alloc, notes), line, cause)
 }

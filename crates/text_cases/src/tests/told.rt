@@ -38,7 +38,7 @@ fn report_told<S: Subject>(
     Ok(text)
 }
 
-/// The same of the script that a text stands for.
+/// The report of a text's script of which these notes were told; the fault of a text that is no script.
 fn text_told(alloc: Global, text: &[u8], told: &[(u32, Note)]) -> Result<Seq<u8>, ScriptFault> {
     let script = read_script(alloc, text)?;
     match report_told::<Brand>(alloc, &script, told) {
