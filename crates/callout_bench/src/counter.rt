@@ -50,7 +50,8 @@ fn counters(alloc: Global, threads: u32) -> Result<Vec<Mutex<u64>>, NoMemory> {
     Ok(all)
 }
 
-/// Lets the threads add, and gives half of what stands in the counters then.
+/// Lets the threads add, and gives half of what stands in the counters then. `NoMemory` where there is no room for the
+/// counters.
 pub fn run<R: Threads + Wait + Sync>(rt: &R, alloc: Global, work: &Work) -> Result<u64, NoMemory> {
     let all = counters(alloc, work.threads)?;
     add_all(rt, all.as_slice(), work, work.threads);

@@ -161,7 +161,8 @@ fn run_open<N: Name + Send + Sync, R: Threads + Wait + Sync>(
     Ok(hammer_all(rt, &service, work, clients, work.threads))
 }
 
-/// Boots a service with a CPU for each thread, and lets the threads call it. The answer is how many stops took an arming away.
+/// Boots a service with a CPU for each thread, and lets the threads call it. The answer is how many stops took an
+/// arming away. `NoMemory` where there is no room for the service.
 pub fn run<R: Threads + Wait + Sync>(rt: &R, alloc: Global, work: &Work) -> Result<u64, NoMemory>
     requires threads { (1 ≤ work.now.threads) × (work.now.threads ≤ 16) }
 {

@@ -116,7 +116,7 @@ fn arm_all<Q: TimerQueue>(queue: &mut Q, work: &Work) -> Counts
     counts
 }
 
-/// Runs a new queue.
+/// Runs a new queue. `NoMemory` where there is no room for it.
 pub fn run(alloc: Global, kind: Kind, buckets: u32, work: &Work) -> Result<Counts, NoMemory>
     requires some { 1 ≤ work.now.callouts }
     requires few { work.now.callouts ≤ 1024 }

@@ -6,7 +6,7 @@ use co_program::Script;
 use co_sbt::NoMemory;
 use std::alloc::Global;
 
-/// Runs the script: how many notes that makes.
+/// Runs the script: how many notes that makes. `NoMemory` where there is no room for the world or a note.
 pub fn walk(alloc: Global, script: &Script) -> Result<u64, NoMemory>
     requires { IsScript script.now }
 {

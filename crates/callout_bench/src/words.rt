@@ -8,7 +8,7 @@ use crate::work::Where;
 use co_sbt::Sbt;
 use co_text::number;
 
-/// A whole number below 2^64.
+/// A whole number below 2^64. `Words` where the word says none.
 pub fn number_of(word: &str) -> Result<u64, Failed> {
     let Ok(value) = number(word.as_bytes()) else {
         return Err(Failed::Words);
@@ -30,12 +30,12 @@ pub fn count_of(word: &str, most: u32) -> Result<u32, Failed>
     Ok(value as u32)
 }
 
-/// A time in units.
+/// A time in units of 2^-32 s. `Words` where the word says none.
 pub fn time_of(word: &str) -> Result<Sbt, Failed> {
     Sbt::new(number_of(word)?).ok_or(Failed::Words)
 }
 
-/// Which queue.
+/// Which queue. `Words` where the word says none.
 pub fn kind_of(word: &str) -> Result<Kind, Failed> {
     match word {
         "list" => Ok(Kind::List),
@@ -44,7 +44,7 @@ pub fn kind_of(word: &str) -> Result<Kind, Failed> {
     }
 }
 
-/// A number of buckets that a wheel may have.
+/// A number of buckets that a wheel may have. `Words` where the word says none.
 pub fn buckets_of(word: &str) -> Result<u32, Failed>
     ensures { IfOk result IsWheel }
 {
@@ -57,7 +57,7 @@ pub fn buckets_of(word: &str) -> Result<u32, Failed>
     }
 }
 
-/// Where threads meet.
+/// Where threads meet. `Words` where the word says none.
 pub fn where_of(word: &str) -> Result<Where, Failed> {
     match word {
         "apart" => Ok(Where::Apart),

@@ -70,7 +70,8 @@ fn count_notes(world: &World<'_>) -> u64 {
     notes
 }
 
-/// Steps the script's world by its turns, and then by round robin until all have finished.
+/// Steps the script's world by its turns, and then by round robin until all have finished. `NoMemory` where a step was
+/// refused memory three times, or the world at its boot.
 pub fn walk<R: Wait>(rt: &R, alloc: Global, script: &Script) -> Result<Walked, NoMemory>
     requires { IsScript script.now }
 {

@@ -49,7 +49,7 @@ impl Rings {
         i < self.size && self.place[i as usize] < self.count
     }
 
-    /// The first callout of a list.
+    /// The first callout of a list. None where nothing stands in it.
     pub fn first(&self, list: u32) -> Option<u32>
         requires linked { AreLinked self.now }
         requires list { list < self.now.count }
@@ -58,7 +58,7 @@ impl Rings {
         self.callout(self.next[(self.size + list) as usize])
     }
 
-    /// The callout after `i` in its list.
+    /// The callout after `i` in its list. None where it is the last.
     pub fn after(&self, i: u32) -> Option<u32>
         requires linked { AreLinked self.now }
         requires callout { i < self.now.size }

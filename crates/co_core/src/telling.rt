@@ -176,8 +176,8 @@ pub fn tell_walk<N: Listener>(
     engine.tell_rounds(script, listener)
 }
 
-/// The lists of notes of a script's walk: the script's turns in order, then round robin until all actors have finished. Our
-/// own decision.
+/// The lists of notes of a script's walk: the script's turns in order, then round robin until all actors have
+/// finished. Our own decision. `NoMemory` where there is no room for the world or for a note.
 pub fn run_steps(alloc: Global, script: &Script) -> Result<Lists, NoMemory>
     requires { IsScript script.now }
     ensures { IfOk result (IsWalk script.now) }

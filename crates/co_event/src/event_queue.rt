@@ -79,8 +79,8 @@ impl EventQueue {
         })
     }
 
-    /// Arms callout `i`, below the size, anew: it may fire from `due` to `due` plus `prec`. A due time in the past is moved to
-    /// now (our own decision).
+    /// Arms callout `i`, below the size, anew: it may fire from `due` to `due` plus `prec`, in units of 2^-32 s, or
+    /// the last time where that is earlier. A due time in the past is moved to now (our own decision).
     pub fn arm(&mut self, i: u32, due: Sbt, prec: Sbt) -> Armed
         requires { i < self.old.timers.size }
         ensures { Answers self.old self.new (λ e. arm e i due prec) result }
@@ -104,8 +104,8 @@ impl EventQueue {
         if found { 1 } else { -1 }
     }
 
-    /// The moment for which the clock is programmed: the latest that misses no pending window, and never before now. None
-    /// exactly where nothing is pending.
+    /// The moment for which the clock is programmed, in units of 2^-32 s: the latest that misses no pending window,
+    /// and never before now. None exactly where nothing is pending.
     pub fn next_event(&self) -> Option<Sbt>
         ensures deadline { result ≡ first_deadline self.now }
         ensures moment { (e : Events) → StandsFor self.now e → result ≡ next_moment e }
@@ -131,7 +131,8 @@ impl EventQueue {
         Some(Event { at, count })
     }
 
-    /// Runs the clock on to `now`, where it is not there yet. Nothing fires; no pending window ends at or before `now`.
+    /// Runs the clock on to `now`, in units of 2^-32 s, where it is not there yet. Nothing fires; no pending window
+    /// ends at or before `now`.
     pub fn settle(&mut self, now: Sbt)
         requires { IfSome (first_deadline self.old) (λ moment. now < moment) }
         ensures { Answers {R = Unit {0}} self.old self.new (λ e. settle e now) tt }
@@ -139,7 +140,7 @@ impl EventQueue {
         self.clock = self.clock.max(now);
     }
 
-    /// The time up to which the clock has run.
+    /// The time up to which the clock has run, in units of 2^-32 s.
     pub fn now(&self) -> Sbt
         ensures { result ≡ self.now.clock }
     {

@@ -93,7 +93,7 @@ fn call_of(choice: &Choice) -> Act
     }
 }
 
-/// Appends an act.
+/// Appends an act. `NoMemory` where there is no room for it.
 pub fn push_act(acts: &mut Acts, act: Act) -> Result<(), NoMemory>
     ensures { OnOk result (acts.new ≡ acts.old ++ act ∷ []) }
 {
@@ -133,7 +133,7 @@ fn acts_for(alloc: Global, count: usize) -> Result<Acts, NoMemory>
     Ok(room.into_seq())
 }
 
-/// The acts of a client: 1024 groups, and a draw for each.
+/// The acts of a client: 1024 groups, and a draw for each. `NoMemory` where there is no room for them.
 pub fn client_acts(alloc: Global, draws: &mut Draws) -> Result<Acts, NoMemory>
     ensures acts { IfOk result (λ acts. acts ≡ client_acts draws.old) }
     ensures draws { OnOk result (draws.new ≡ state_after draws.old 1024) }
@@ -146,7 +146,7 @@ pub fn client_acts(alloc: Global, draws: &mut Draws) -> Result<Acts, NoMemory>
     Ok(acts)
 }
 
-/// The ticks of a CPU: 1280, as far apart as the groups.
+/// The ticks of a CPU: 1280, as far apart as the groups. `NoMemory` where there is no room for them.
 pub fn tick_acts(alloc: Global) -> Result<Acts, NoMemory>
     ensures { IfOk result (λ acts. acts ≡ tick_acts) }
 {

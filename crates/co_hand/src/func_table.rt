@@ -38,7 +38,7 @@ impl Model for FuncTable {
 }
 
 impl FuncTable {
-    /// The functions of the script, which are copied.
+    /// The functions of the script, which are copied. `NoMemory` where there is no room for the copies.
     pub fn new(alloc: Global, script: &Script) -> Result<FuncTable, NoMemory>
         requires { IsScript script.now }
         ensures { IfOk result (λ table. table ≡ functions_of script.now) }

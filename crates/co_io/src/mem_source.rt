@@ -32,7 +32,7 @@ impl Model for MemSource {
 
 impl MemSource {
     /// A source of its own with these bytes, of which a call gives `piece` at most. The calls whose numbers, from 0,
-    /// stand in `fails` fail.
+    /// stand in `fails` fail. `NoMemory` where there is no room for the bytes or the numbers.
     pub fn new(
         alloc: Global,
         bytes: &[u8],

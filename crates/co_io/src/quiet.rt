@@ -27,7 +27,7 @@ impl Model for QuietSource {
 }
 
 impl QuietSource {
-    /// A source of its own with these bytes.
+    /// A source of its own with these bytes. `NoMemory` where there is no room for them.
     pub fn new(alloc: Global, bytes: &[u8]) -> Result<QuietSource, NoMemory>
         ensures { IfOk result (λ source. source ≡ bytes.now) }
     {
@@ -81,7 +81,7 @@ impl Model for QuietSink {
 }
 
 impl QuietSink {
-    /// An empty sink with room for so many bytes.
+    /// An empty sink with room for so many bytes. `NoMemory` where there is none for these.
     pub fn new(alloc: Global, room: usize) -> Result<QuietSink, NoMemory>
         ensures { IfOk result (λ sink. sink ≡ record { held = []; room = room; idle = 0 }) }
     {

@@ -48,7 +48,8 @@ impl Itimers<Brand> {
 }
 
 impl<N: Name> Itimers<N> {
-    /// Opens the service. The clock shows 0.
+    /// Opens the service. The clock shows 0. `NoMemory` where its opening or the timers find no room; no later call
+    /// takes any.
     pub fn open(alloc: Global, fresh: ItimersFresh) -> Result<Itimers<N>, NoMemory>
         requires { fresh.name ≡ N.name }
         ensures { IfOk result (λ timers. IsOpened fresh.processes timers) }
@@ -90,9 +91,10 @@ impl<N: Name> Itimers<N> {
         self.book.get(p)
     }
 
-    /// Brings the clock to a time, if that is later. Each timer whose time has come expires once: it raises its process's alarm,
-    /// and where it has an interval it is armed again, for the least whole number of intervals behind its old time, at least
-    /// one, that lies above the clock. The answer is the number of expirations; no other timer is looked at.
+    /// Brings the clock to the time `now`, in units of 2^-32 s, if that is later. Each timer whose time has come
+    /// expires once: it raises its process's alarm, and where it has an interval it is armed again, for the least
+    /// whole number of intervals behind its old time, at least one, that lies above the clock. The answer is the
+    /// number of expirations; no other timer is looked at.
     pub fn tick<R: Wait>(&mut self, rt: &R, now: Sbt) -> u32
         requires { self.old.work < 2 ^ 62 }
         ensures answer { result ≡ expirations self.old.alone now }

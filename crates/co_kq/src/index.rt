@@ -74,7 +74,7 @@ impl Index {
         }
     }
 
-    /// The key of an ident.
+    /// The key of an ident. None exactly where no knote has it.
     pub fn find(&self, ident: u64) -> Option<usize>
         ensures { result ≡ key_of ident self.now.places }
     {
@@ -112,7 +112,7 @@ impl Index {
         }
     }
 
-    /// The key of the lowest ident.
+    /// The key of the lowest ident. None exactly where there is none.
     pub fn first(&self) -> Option<usize>
         ensures some { IfSome result (IsFirst self.now.places) }
         ensures none { IfNone result (self.now.places ≡ []) }

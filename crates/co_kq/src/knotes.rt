@@ -41,7 +41,7 @@ impl Model for Knotes {
 }
 
 impl Knotes {
-    /// No knotes, with room for so many.
+    /// No knotes, with room for so many. `NoMemory` where there is no room for their slots and keys.
     pub fn new(alloc: Global, room: u32) -> Result<Knotes, NoMemory>
         ensures empty { IfOk result (λ knotes. knotes.slots ≡ []) }
         ensures capacity { IfOk result (λ knotes. room ≤ knotes.capacity) }
@@ -185,8 +185,8 @@ impl Knotes {
         event
     }
 
-    /// The knote at a key expires where its time has come; the answer is its next time then, None where it has none or where
-    /// its time has not come.
+    /// The knote at a key expires where its time has come; the answer is its next time then, None where it has none or
+    /// where its time has not come. Times are in units of 2^-32 s.
     pub fn expire_at(&mut self, key: usize, now: Sbt) -> Option<Sbt>
         ensures next { result ≡ next_of now (slot_at self.old.slots key) }
         ensures slots { self.new.slots ≡ slice_set self.old.slots key (ticked_slot now (slot_at self.old.slots key)) }

@@ -138,7 +138,7 @@ impl Kq<Brand> {
 }
 
 impl<N: Name> Kq<N> {
-    /// The empty list at time 0, over a running service.
+    /// The empty list at time 0, over a running service. `NoMemory` where its opening finds no room.
     pub fn open(alloc: Global, fresh: KqFresh) -> Result<Kq<N>, NoMemory>
         requires { fresh.name ≡ N.name }
         ensures { IfOk result (IsOpened fresh.callouts) }
@@ -260,7 +260,8 @@ impl<N: Name> Kq<N> {
         count
     }
 
-    /// Brings the clock to a time, if that is later. Each knote whose time has come expires once; the answer is their number.
+    /// Brings the clock to the time `now`, in units of 2^-32 s, if that is later. Each knote whose time has come
+    /// expires once; the answer is their number.
     pub fn tick<R: Wait>(&mut self, rt: &R, now: Sbt) -> u32
         requires work { self.old.work < 2 ^ 62 }
         ensures answer { result ≡ expirations self.old.list now }

@@ -27,7 +27,7 @@ impl Model for ClientLocks {
 }
 
 impl ClientLocks {
-    /// Locks of these kinds, in this order, which nobody holds.
+    /// Locks of these kinds, in this order, which nobody holds. `NoMemory` where there is no room for them.
     pub fn new(alloc: Global, kinds: &[LockKind]) -> Result<ClientLocks, NoMemory>
         ensures { IfOk result (λ locks. locks ≡ kinds.now) }
     {

@@ -115,7 +115,8 @@ fn print_head(page: &mut Page, number: u64, letter: u8, name: u64, act: u64) -> 
     Ok(())
 }
 
-/// A note as a line: its number in its actor's list, who made it at which act, and what it says.
+/// A note as a line: its number in its actor's list, who made it at which act, and what it says. `NoMemory` where the
+/// page finds no room.
 #[tactic(auto, using(co_text::proofs::Spacing::one_more))]
 pub fn print_note(
     page: &mut Page,

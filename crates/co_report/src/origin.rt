@@ -42,7 +42,7 @@ fn print_origin(
     }
 }
 
-/// The lines of the notes from some origins.
+/// The lines of the notes from some origins. `NoMemory` where the page finds no room.
 pub fn print_from(
     page: &mut Page,
     script: &Script,

@@ -146,7 +146,7 @@ fn print_actors(
     Ok(())
 }
 
-/// A line of one word.
+/// A line of one word. `NoMemory` where the page finds no room.
 pub fn print_word(page: &mut Page, word: &[u8]) -> Result<(), NoMemory>
     ensures { OnOk result (page.new ≡ page.old ++ line_text (word.now ∷ [])) }
 {

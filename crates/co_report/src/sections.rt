@@ -141,7 +141,7 @@ fn append_all(pieces: &mut Seq<Seq<u8>>, pages: Vec<Page>) -> Result<(), NoMemor
 }
 
 impl<'a> Sections<'a> {
-    /// The sections before the first note.
+    /// The sections before the first note. `NoMemory` where there is no room for their headings.
     pub fn new(alloc: Global, script: &'a Script) -> Result<Sections<'a>, NoMemory>
         requires { IsScript script.now }
         ensures script { IfOk result (λ sections. sections.script ≡ script.now) }
@@ -156,8 +156,9 @@ impl<'a> Sections<'a> {
         })
     }
 
-    /// The whole report in pieces, where the notes of each place were told in the order of their positions: the canonical
-    /// text of the script, the sections, and the last line. Joined they are the report.
+    /// The whole report in pieces, where the notes of each place were told in the order of their positions: the
+    /// canonical text of the script, the sections, and the last line. Joined they are the report. `NoMemory` where
+    /// there is no room for the pieces.
     pub fn pieces(self, alloc: Global) -> Result<Seq<Seq<u8>>, NoMemory>
         ensures { IfOk result (λ pieces. (made : List Made) → HasTold self.entry made → IsInOrder made → concat pieces ≡ report_of self.entry.script (lists_by (actor_count self.entry.script) made)) }
     {

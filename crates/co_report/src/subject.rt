@@ -36,7 +36,7 @@ pub struct SectionsOf<'a, S: Subject> {
 }
 
 impl<'a, S: Subject> SectionsOf<'a, S> {
-    /// The sections before the first note.
+    /// The sections before the first note. `NoMemory` where there is no room for their headings.
     pub fn new(alloc: Global, script: &'a Script) -> Result<SectionsOf<'a, S>, NoMemory>
         requires sound { IsScript script.now }
         requires subject { script.now ≡ S.script }
@@ -49,8 +49,8 @@ impl<'a, S: Subject> SectionsOf<'a, S> {
         })
     }
 
-    /// The whole report in pieces, where the notes of each place were told in the order of their positions. Joined they are
-    /// the report.
+    /// The whole report in pieces, where the notes of each place were told in the order of their positions. Joined
+    /// they are the report. `NoMemory` where there is no room for the pieces.
     pub fn pieces(self, alloc: Global) -> Result<Seq<Seq<u8>>, NoMemory>
         ensures { IfOk result (λ pieces. (made : List Made) → IsToldOf S.script self.entry.sections made → IsInOrder made → concat pieces ≡ report_of S.script (lists_by (actor_count S.script) made)) }
     {

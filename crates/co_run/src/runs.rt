@@ -191,7 +191,8 @@ fn empty_books(alloc: Global, script: &Script) -> Result<Seq<RoomBook>, NoMemory
     Ok(books)
 }
 
-/// Runs a script on threads over an open service, as [`run_books`] does with a [`RoomBook`] for each actor.
+/// Runs a script on threads over an open service, as [`run_books`] does with a [`RoomBook`] for each actor. `NoMemory`
+/// is the only refusal.
 pub fn run_on<N: Name + Send + Sync, G: Gate + Sync, R: Threads + Wait + Sync>(
     rt: &R,
     alloc: Global,

@@ -134,9 +134,10 @@ impl Fresh {
     /// A service before its locks, and each actor's passes of it, in the order of the actors' numbers: the clients, the
     /// CPUs, and from version 2 on the CPUs' interrupts. The passes have seen nothing.
     ///
-    /// The version is 1 or 2. There are 1 to 16 CPUs, 0 to 16 clients and 1 to 1024 callouts, and each CPU's wheel has a power
-    /// of two of buckets, from 16 to 65536. A callout that has no lock doesn't release it, a direct one has none, and version 1 has no direct one. All
-    /// callouts begin at CPU 0. Our own decisions.
+    /// The version is 1 or 2. There are 1 to 16 CPUs, 0 to 16 clients and 1 to 1024 callouts, and each CPU's wheel has
+    /// a power of two of buckets, from 16 to 65536. A callout that has no lock doesn't release it, a direct one has
+    /// none, and version 1 has no direct one. All callouts begin at CPU 0. Our own decisions. `NoMemory` where there
+    /// is no room for the histories, the passes or the wheels.
     pub fn boot(
         alloc: Global,
         version: u32,

@@ -69,8 +69,8 @@ impl<N: Name> Single<N> {
         })
     }
 
-    /// Callout `i` is armed for this time, with this argument, in the place of any old arming. One that had come due and was
-    /// not served does not fire.
+    /// Callout `i` is armed for the time `due`, in units of 2^-32 s, with this argument, in the place of any old
+    /// arming. One that had come due and was not served does not fire.
     pub fn arm<R: Wait>(&mut self, rt: &R, act: u64, i: u32, due: Sbt, arg: u64)
         requires callout { i < count_of self.old }
         requires made { made_at self.old i < 2 ^ 62 }
@@ -95,8 +95,8 @@ impl<N: Name> Single<N> {
         self.service.call(rt, &mut self.passes, act, i, &op, None);
     }
 
-    /// The clock shows this time, or where it was later stays: what is due has come due. The answer is how many callouts these
-    /// are, none of which waited before.
+    /// The clock shows the time `now`, in units of 2^-32 s, or where it was later stays: what is due has come due. The
+    /// answer is how many callouts these are, none of which waited before.
     pub fn scan<R: Wait>(&mut self, rt: &R, act: u64, now: Sbt) -> u32
         requires served { waiting_of self.old ≡ [] }
         ensures { IsScanned self.old now result self.new }

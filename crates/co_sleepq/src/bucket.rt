@@ -36,7 +36,7 @@ impl Model for Bucket {
 }
 
 impl Bucket {
-    /// No sleeps, with room for so many.
+    /// No sleeps, with room for so many. `NoMemory` where there is none for these.
     pub fn new(alloc: Global, room: u32) -> Result<Bucket, NoMemory>
         ensures empty { IfOk result (λ bucket. bucket.sleeps ≡ []) }
         ensures room { IfOk result (λ bucket. room ≤ bucket.room) }
@@ -54,7 +54,7 @@ impl Bucket {
         self.sleeps.as_slice()
     }
 
-    /// The first sleep on a channel.
+    /// The first sleep on a channel. None exactly where there is none.
     pub fn first_on(&self, chan: u64) -> Option<Sleep>
         ensures { result ≡ find (λ x. x.chan == chan) self.now.sleeps }
     {

@@ -32,7 +32,7 @@ fn print_end(page: &mut Page, end: End) -> Result<(), NoMemory>
     }
 }
 
-/// The line of a reply, at the end of the page.
+/// The line of a reply, at the end of the page. `NoMemory` where the page finds no room.
 pub fn print_reply(page: &mut Page, reply: SleepReply) -> Result<(), NoMemory>
     ensures { OnOk result (page.new ≡ page.old ++ line_text (reply_words reply)) }
 {
@@ -50,7 +50,7 @@ pub fn print_reply(page: &mut Page, reply: SleepReply) -> Result<(), NoMemory>
     }
 }
 
-/// The line of a tick, at the end of the page.
+/// The line of a tick, at the end of the page. `NoMemory` where the page finds no room.
 pub fn print_ticked(page: &mut Page, ticked: Ticked) -> Result<(), NoMemory>
     ensures { OnOk result (page.new ≡ page.old ++ line_text (ticked_words ticked.out ticked.late)) }
 {

@@ -112,7 +112,7 @@ impl Page {
         self.text(buffer.format(number).as_bytes())
     }
 
-    /// Appends a number, without leading zeros.
+    /// Appends a number, without leading zeros. `NoMemory` where there is no room.
     #[tactic(auto, using(std::proofs::lemmas::Fmt::decimal_digit))]
     pub fn number(&mut self, number: u64) -> Result<(), NoMemory>
         ensures { OnOk result (self.new ≡ self.old ++ decimal number) }
@@ -130,7 +130,7 @@ impl Page {
         }
     }
 
-    /// Appends a number, with a `-` where it is below 0.
+    /// Appends a number, with a `-` where it is below 0. `NoMemory` where there is no room.
     pub fn signed(&mut self, number: i32) -> Result<(), NoMemory>
         ensures { OnOk result (self.new ≡ self.old ++ signed_decimal number) }
     {
@@ -141,7 +141,7 @@ impl Page {
         self.text(buffer.format(number).as_bytes())
     }
 
-    /// Appends these bytes and a number.
+    /// Appends these bytes and a number. `NoMemory` where there is no room.
     #[inline(always)]
     pub fn tagged(&mut self, tag: &[u8], number: u64) -> Result<(), NoMemory>
         ensures { OnOk result (self.new ≡ self.old ++ (tag.now ++ decimal number)) }
@@ -176,7 +176,7 @@ impl Page {
         }
     }
 
-    /// Appends further words of a line, each behind a space.
+    /// Appends further words of a line, each behind a space. `NoMemory` where there is no room.
     pub fn more(&mut self, tokens: &[Token]) -> Result<(), NoMemory>
         ensures { OnOk result (self.new ≡ self.old ++ spaced (token_words tokens.now)) }
     {
@@ -187,7 +187,7 @@ impl Page {
         Ok(())
     }
 
-    /// Appends the first words of a line, with one space between two.
+    /// Appends the first words of a line, with one space between two. `NoMemory` where there is no room.
     pub fn begin(&mut self, first: &Token, others: &[Token]) -> Result<(), NoMemory>
         ensures { OnOk result (self.new ≡ self.old ++ (token_word first.now ++ spaced (token_words others.now))) }
     {
@@ -195,14 +195,14 @@ impl Page {
         self.more(others)
     }
 
-    /// Appends a line feed.
+    /// Appends a line feed. `NoMemory` where there is no room.
     pub fn end(&mut self) -> Result<(), NoMemory>
         ensures { OnOk result (self.new ≡ self.old ++ 10 ∷ []) }
     {
         self.push(b'\n')
     }
 
-    /// Appends a line of words, with one space between two and a line feed.
+    /// Appends a line of words, with one space between two and a line feed. `NoMemory` where there is no room.
     pub fn line(&mut self, first: &Token, others: &[Token]) -> Result<(), NoMemory>
         ensures { OnOk result (self.new ≡ self.old ++ line_text (token_word first.now ∷ token_words others.now)) }
     {

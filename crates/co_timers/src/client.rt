@@ -171,8 +171,9 @@ impl<'a, N: Name> Client<'a, N> {
         Ok(reset_word(&reply))
     }
 
-    /// Arms callout `i` again with the function and argument of its last arming, as `callout_schedule_sbt_on`, and
-    /// else as [`Client::reset`]. `NoHandler` where there was none.
+    /// Arms callout `i` again with the function and argument of its last arming, as `callout_schedule_sbt_on`, for the
+    /// time `due` with the precision `prec`, both in units of 2^-32 s, and else as [`Client::reset`]. `NoHandler`
+    /// where there was none.
     pub fn schedule<R: Wait>(
         &mut self,
         rt: &R,

@@ -194,8 +194,9 @@ impl<'a, N: Name> Cpu<'a, N> {
         self.number
     }
 
-    /// The whole tick of the CPU at the time `now`, or at that of its last scan where it is later. What is due comes due; then the interrupt
-    /// serves all direct callouts that have come due, and after that the CPU all others, one after the other.
+    /// The whole tick of the CPU at the time `now`, in units of 2^-32 s, or at that of its last scan where it is
+    /// later. What is due comes due; then the interrupt serves all direct callouts that have come due, and after that
+    /// the CPU all others, one after the other.
     ///
     /// A service takes the callout's lock first, where it has one; then the handler runs the function, unless a stop has cancelled
     /// the arming meanwhile; the lock is released and the service ends; and where an asynchronous drain awaited that, the handler runs

@@ -33,11 +33,12 @@ impl Model for TimersFresh {
 }
 
 impl TimersFresh {
-    /// A service of 1 to 16 CPUs with so many buckets each, up to 16 clients, these callouts and these client locks. It and
-    /// the opening take all memory that the service and its handles ever take.
+    /// A service of 1 to 16 CPUs with `buckets` buckets each, up to 16 clients, these callouts and these client locks.
+    /// It and the opening take all memory that the service and its handles ever take.
     ///
-    /// Each CPU has an interrupt, which scans and serves the direct callouts. Buckets are a power of two; there are 1 to
-    /// 1024 callouts, and the lock that one names exists.
+    /// Each CPU has an interrupt, which scans and serves the direct callouts. Buckets are a power of two from 16 to
+    /// 65536; there are 1 to 1024 callouts, and the lock that one names exists. `NoMemory` where there is no room for
+    /// the service or the locks.
     pub fn boot(
         alloc: Global,
         cpus: u32,

@@ -219,7 +219,8 @@ impl<N: Name> Timers<N> {
         }
     }
 
-    /// The open service, with the posts of its actors. It keeps the name, the parameters and the locks.
+    /// The open service, with the posts of its actors. It keeps the name, the parameters and the locks. `NoMemory`
+    /// where the desks or the posts find no room; no later call takes any.
     pub fn open(alloc: Global, fresh: TimersFresh) -> Result<(Timers<N>, Posts<N>), NoMemory>
         requires { fresh.name ≡ N.name }
         ensures timers { IfOk result (λ made. made.0 ≡ record { params = fresh.params; locks = fresh.locks }) }

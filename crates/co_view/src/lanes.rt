@@ -191,8 +191,9 @@ fn print_rows(
     Ok(())
 }
 
-/// The text of `lanes`, in pieces: a row with the names of the actors, and a row for each note of this order that is shown, with
-/// the number of its line in the report and the note in words, in the column of its actor. The layout is our own.
+/// The text of `lanes`, in pieces: a row with the names of the actors, and a row for each note of this order that is
+/// shown, with the number of its line in the report and the note in words, in the column of its actor. The layout is
+/// our own. `NoMemory` where there is no room for it.
 pub fn print_lanes(
     alloc: Global,
     focus: Focus,

@@ -109,9 +109,10 @@ fn print_back(page: &mut Page, picture: Picture) -> Result<(), NoMemory>
     }
 }
 
-/// The text of a picture, in pieces. In a trace a step of this order is a microsecond: each note is an event in its actor's lane,
-/// and each callout has the lanes *armed* and *in service*; an arrow goes from a drain's wait to the end that wakes it. In SVG
-/// each actor has a column and each step a row, and a bar is a service. The layout is our own.
+/// The text of a picture, in pieces. In a trace a step of this order is a microsecond: each note is an event in its
+/// actor's lane, and each callout has the lanes *armed* and *in service*; an arrow goes from a drain's wait to the end
+/// that wakes it. In SVG each actor has a column and each step a row, and a bar is a service. The layout is our own.
+/// `NoMemory` where there is no room for it.
 pub fn print_picture(
     alloc: Global,
     picture: Picture,

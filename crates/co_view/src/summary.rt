@@ -342,8 +342,9 @@ fn print_total(page: &mut Page, tally: &Tally, timers: usize) -> Result<(), NoMe
     )
 }
 
-/// The text of `summary`: for each callout a row with its armings and what became of them, and how often each reply came; and a
-/// row for all. It takes no order: the notes of each callout stand in theirs. The layout is our own.
+/// The text of `summary`: for each callout a row with its armings and what became of them, and how often each reply
+/// came; and a row for all. It takes no order: the notes of each callout stand in theirs. The layout is our own.
+/// `NoMemory` where there is no room for it.
 pub fn print_summary(alloc: Global, report: &Report) -> Result<Seq<u8>, NoMemory>
     requires { IsReport report.now }
     ensures { IfOk result (λ text. text ≡ summary_text report.now.script report.now.lines) }

@@ -9,7 +9,8 @@ use co_sbt::{NoMemory, Sbt};
 use co_timers::TimersFresh;
 use std::alloc::Global;
 
-/// A service with one CPU of 256 buckets, one client and one callout, which has no lock.
+/// A service with one CPU of 256 buckets, one client and one callout, which has no lock. `NoMemory` where there is no
+/// room for it.
 pub fn boot(alloc: Global) -> Result<TimersFresh, NoMemory>
     ensures { IfOk result (λ fresh. fresh.params ≡ example) }
 {

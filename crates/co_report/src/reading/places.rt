@@ -40,7 +40,7 @@ fn add_actors(all: &mut Seq<Place>, count: u32) -> Result<(), NoMemory>
     Ok(())
 }
 
-/// The places of a report, in order.
+/// The places of a report, in order. `NoMemory` where there is no room for the list.
 pub fn places(alloc: Global, script: &Script) -> Result<Seq<Place>, NoMemory>
     requires { IsScript script.now }
     ensures { IfOk result (λ all. all ≡ places script.now) }
@@ -77,7 +77,8 @@ fn heading(alloc: Global, script: &Script, place: Place) -> Result<Seq<u8>, NoMe
     Ok(page.done())
 }
 
-/// The line behind the notes of a place: the first line of the next place, or behind the last `end`.
+/// The line behind the notes of a place: the first line of the next place, or behind the last `end`. `NoMemory` where
+/// there is no room for it.
 pub fn closing(
     alloc: Global,
     script: &Script,

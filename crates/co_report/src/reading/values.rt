@@ -268,7 +268,7 @@ fn own_kind_of(word: &[u8]) -> Result<OwnKind, Cause>
     }
 }
 
-/// A number of 64 bits.
+/// A number of 64 bits. `Form` where the next word is none.
 #[inline(always)]
 pub fn number64(parts: &mut Parts) -> Result<u64, Cause>
     ensures { Gives (λ x. (x, parts.new)) result (next count64 parts.old) }
@@ -276,7 +276,7 @@ pub fn number64(parts: &mut Parts) -> Result<u64, Cause>
     count64(parts.word()?)
 }
 
-/// A number of 32 bits.
+/// A number of 32 bits. `Form` where the next word is none.
 pub fn number32(parts: &mut Parts) -> Result<u32, Cause>
     ensures { Gives (λ x. (x, parts.new)) result (next count32 parts.old) }
 {
@@ -346,7 +346,7 @@ pub fn truth(parts: &mut Parts) -> Result<bool, Cause>
     truth_of(parts.word()?)
 }
 
-/// A number of 32 bits with a sign.
+/// A number of 32 bits with a sign. `Form` where the next word is none.
 pub fn code(parts: &mut Parts) -> Result<i32, Cause>
     ensures { Gives (λ x. (x, parts.new)) result (next code parts.old) }
 {
@@ -370,14 +370,14 @@ pub fn made_by_actor(names: &Names, actor: u32, parts: &mut Parts) -> Result<Mak
     own_maker(names, actor, parts.word()?)
 }
 
-/// What an own note says.
+/// What an own note says. `Form` where the next word is none.
 pub fn own_kind(parts: &mut Parts) -> Result<OwnKind, Cause>
     ensures { Gives (λ x. (x, parts.new)) result (next own_kind parts.old) }
 {
     own_kind_of(parts.word()?)
 }
 
-/// This very word.
+/// This very word. `Form` where the next word is another.
 pub fn literal(wanted: &[u8], parts: &mut Parts) -> Result<(), Cause>
     ensures { Gives (λ _. (true, parts.new)) result (literal wanted.now parts.old) }
 {
