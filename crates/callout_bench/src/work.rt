@@ -6,7 +6,7 @@ ghost use Rattle.std.specs.Prelude.{◌≤◌};
 pub enum Where {
     /// Each thread at a CPU, or a lock, of its own.
     Apart,
-    /// All at the same.
+    /// All threads at one CPU, or at one lock.
     One,
 }
 

@@ -124,7 +124,7 @@ fn push_group(acts: &mut Acts, number: u32, choice: &Choice) -> Result<(), NoMem
     push_under(acts, lock_of(choice), call_of(choice))
 }
 
-/// No acts yet, with memory for so many.
+/// No acts yet, with room for `count` of them. `NoMemory` where there is none for these.
 fn acts_for(alloc: Global, count: usize) -> Result<Acts, NoMemory>
     ensures { IfOk result (λ acts. acts ≡ []) }
 {

@@ -33,7 +33,7 @@ impl Model for MemSink {
 }
 
 impl MemSink {
-    /// An empty sink with room for so many bytes, of which a call takes `piece` at most. The calls whose numbers, from
+    /// An empty sink with room for `room` bytes, of which a call takes `piece` at most. The calls whose numbers, from
     /// 0, stand in `fails` fail. `NoMemory` where there is no room for the bytes or the numbers.
     pub fn new(alloc: Global, room: usize, piece: usize, fails: &[u64]) -> Result<MemSink, NoMemory>
         requires { 1 ≤ piece }

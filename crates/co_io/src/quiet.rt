@@ -81,7 +81,7 @@ impl Model for QuietSink {
 }
 
 impl QuietSink {
-    /// An empty sink with room for so many bytes. `NoMemory` where there is none for these.
+    /// An empty sink with room for `room` bytes. `NoMemory` where there is none for these.
     pub fn new(alloc: Global, room: usize) -> Result<QuietSink, NoMemory>
         ensures { IfOk result (λ sink. sink ≡ record { held = []; room = room; idle = 0 }) }
     {

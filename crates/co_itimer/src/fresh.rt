@@ -23,7 +23,7 @@ impl Model for ItimersFresh {
     ghost invariant = { λ f. AreFresh f.single.callouts f.processes };
 }
 
-/// Interval timers of so many processes, and their service.
+/// Interval timers of `processes` processes, 1 to 1024, and their service. `NoMemory` where this finds no room.
 pub(crate) fn boot(alloc: Global, processes: u32) -> Result<ItimersFresh, NoMemory>
     requires some { 1 ≤ processes }
     requires limit { processes ≤ 1024 }

@@ -63,7 +63,7 @@ fn is_at(places: &[Place], at: usize, ident: u64) -> bool
 }
 
 impl Index {
-    /// No keys, with room for so many. This alone takes memory.
+    /// No keys, with room for `room` of them. This alone takes memory; `NoMemory` where there is none for these.
     pub fn new(alloc: Global, room: usize) -> Result<Index, NoMemory>
         ensures empty { IfOk result (λ index. index.places ≡ []) }
         ensures room { IfOk result (λ index. room ≤ index.room) }

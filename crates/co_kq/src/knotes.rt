@@ -41,7 +41,7 @@ impl Model for Knotes {
 }
 
 impl Knotes {
-    /// No knotes, with room for so many. `NoMemory` where there is no room for their slots and keys.
+    /// No knotes, with room for `room` of them. `NoMemory` where there is no room for their slots and keys.
     pub fn new(alloc: Global, room: u32) -> Result<Knotes, NoMemory>
         ensures empty { IfOk result (λ knotes. knotes.slots ≡ []) }
         ensures capacity { IfOk result (λ knotes. room ≤ knotes.capacity) }

@@ -20,7 +20,8 @@ use co_sbt::{NoMemory, Sbt};
 use co_service::{Name, Service};
 use std::sync::Wait;
 
-/// Makes room for so many notes. Within a function there is room already, and none is asked for.
+/// Makes room for `count` notes. Within a function there is room already, and none is asked for. After `NoMemory` the
+/// room is as before.
 fn make_room<B: Notebook>(stage: &Stage, book: &mut B, count: u32) -> Result<(), NoMemory>
     ensures free { (s : Script) → is_serving (stage_of s stage.now) ≡ false → OnOk result (count ≤ B.spare book.new) }
     ensures serving { (s : Script) → is_serving (stage_of s stage.now) ≡ true → B.spare book.new ≡ B.spare book.old }

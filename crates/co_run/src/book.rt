@@ -17,7 +17,8 @@ pub trait Notebook: Drop {
 
     ghost spare: { Self → ℕ };
 
-    /// Makes room for so many notes, fewer than 2^56 with those that are there. After `NoMemory` the room is as before.
+    /// Makes room for `count` notes more, fewer than 2^56 with those that are there. After `NoMemory` the room is as
+    /// before.
     fn reserve(&mut self, count: u32) -> Result<(), NoMemory>
         ensures notes { notes self.new ≡ notes self.old }
         ensures ok { OnOk result (count ≤ spare self.new) }

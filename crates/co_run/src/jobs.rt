@@ -63,7 +63,7 @@ fn leave_last<N: Name, B: Notebook>(
     }
 }
 
-/// The jobs of so many actors, the last ones that have none.
+/// The jobs of `count` actors, the last ones that have none. `NoMemory` where there is no room for them.
 fn deal<N: Name, B: Notebook>(
     alloc: Global,
     script: &Script,

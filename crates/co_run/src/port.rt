@@ -46,8 +46,8 @@ pub struct ServicePort<'a, N: Name, G: Gate, R: Wait> {
 }
 
 impl<'a, N: Name, G: Gate, R: Wait> ServicePort<'a, N, G, R> {
-    /// A port with room for so many calls, the first of which has this act's number. `specs` are those of the
-    /// service's callouts. `NoMemory` where there is no room for the calls.
+    /// A port with room for `room` calls, the first of which has the number `act`. `specs` are those of the service's
+    /// callouts. `NoMemory` where there is no room for the calls.
     pub fn new(
         rt: &'a R,
         alloc: Global,

@@ -36,7 +36,7 @@ impl<N: Name> Model for Ending<N> {
     ghost invariant = { λ e. IsEnding (record { books = e.books; timers = e.timers; cpus = e.cpus }) };
 }
 
-/// Room for so many.
+/// An empty list with room for `count` items. `NoMemory` where there is none for these.
 fn room_for<T: Drop>(alloc: Global, count: usize) -> Result<Room<T>, NoMemory>
     ensures { IfOk result (λ room. (room.items ≡ []) × (count ≤ room.spare)) }
 {
@@ -46,7 +46,8 @@ fn room_for<T: Drop>(alloc: Global, count: usize) -> Result<Room<T>, NoMemory>
 }
 
 impl<N: Name> Ending<N> {
-    /// Room for as many callouts and CPUs as a service may have.
+    /// Room for as many callouts and CPUs as a service may have, 1024 and 16. `NoMemory` where there is none for
+    /// these.
     pub(crate) fn new(alloc: Global) -> Result<Ending<N>, NoMemory> {
         let books = room_for(alloc, 16)?;
         let timers = room_for(alloc, 1024)?;

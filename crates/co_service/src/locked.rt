@@ -79,7 +79,7 @@ pub(crate) fn open_desks<N: Name>(desks: Vec<Locked<N>>, room: Room<Books<N>>) -
     room.into_seq().into_vec()
 }
 
-/// The hints of so many callouts, all of which begin at the first CPU.
+/// The hints of `callouts` callouts, all of which begin at CPU 0. `NoMemory` where there is no room for them.
 fn first_hints(alloc: Global, callouts: usize) -> Result<Vec<AtomicU32>, NoMemory> {
     let mut hints = Vec::new(alloc);
     for _ in 0..callouts {

@@ -36,7 +36,7 @@ impl Model for Bucket {
 }
 
 impl Bucket {
-    /// No sleeps, with room for so many. `NoMemory` where there is none for these.
+    /// No sleeps, with room for `room` of them. `NoMemory` where there is none for these.
     pub fn new(alloc: Global, room: u32) -> Result<Bucket, NoMemory>
         ensures empty { IfOk result (λ bucket. bucket.sleeps ≡ []) }
         ensures room { IfOk result (λ bucket. room ≤ bucket.room) }
