@@ -9,7 +9,7 @@ ghost use Rattle.co_embed.specs.Times.{reset_op, schedule_op};
 use crate::parcel::send_if;
 use crate::reply::told_call;
 use crate::times::{cpu_meant, times_of};
-use crate::words::{set_word, word_at};
+use crate::words::set_word;
 use crate::{CalloutParcel, CalloutReply, Embed, Refusal, When};
 use co_object::{CallOp, PlainOp, Reply};
 use co_wheel::CallOut;
@@ -45,7 +45,7 @@ impl Embed {
         }
         keep_func(&mut self.funcs, id, func, &out.reply);
         *reply = told_call(id, &out);
-        send_if(&out.leaves, word_at(&self.funcs, id), parcel);
+        send_if(&out.leaves, &self.funcs, id, parcel);
         Ok(())
     }
 

@@ -1,8 +1,9 @@
 //! A callout on its way, as plain numbers.
-ghost use Rattle.std.specs.Prelude.{◌≡◌};
+ghost use Rattle.std.specs.Prelude.{◌≡◌, get_or};
 ghost use Rattle.co_embed.specs.Calls.{IsSent};
 ghost use Rattle.co_embed.specs.Carrying.{kind_of, lock_of, number_of, packed, unpacked, IsParcelOf};
 
+use crate::words::word_at;
 use co_object::{LockUse, Spec};
 use co_record::Carried;
 use co_sbt::Sbt;
@@ -95,13 +96,13 @@ fn send(parcel: &Parcel, func: u64) -> CalloutParcel
     pack(&parcel.carried(), func)
 }
 
-/// A callout that leaves is in the parcel then, with its function.
+/// Callout `i` is in the parcel then, where it leaves, with its function of all these.
 #[inline(always)]
-pub(crate) fn send_if(leaves: &Option<Parcel>, func: u64, parcel: &mut CalloutParcel)
-    ensures { IsSent leaves.now func parcel.old parcel.new }
+pub(crate) fn send_if(leaves: &Option<Parcel>, funcs: &[u64], i: u32, parcel: &mut CalloutParcel)
+    ensures { IsSent leaves.now (get_or funcs.now i 0) parcel.old parcel.new }
 {
     if let Some(leaves) = leaves {
-        *parcel = send(leaves, func);
+        *parcel = send(leaves, word_at(funcs, i));
     }
 }
 

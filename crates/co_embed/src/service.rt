@@ -116,7 +116,7 @@ impl Embed {
         let mut out = EndOut::none();
         self.wheel.end_into(direct, &mut out);
         *reply = told_end(i, word_at(&self.drains, i), &out);
-        send_if(&out.leaves, word_at(&self.funcs, i), parcel);
+        send_if(&out.leaves, &self.funcs, i, parcel);
         Ok(())
     }
 

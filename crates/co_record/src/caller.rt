@@ -13,7 +13,7 @@ use crate::{Record, Slot};
 use co_object::{CallOp, PlainOp, Reply};
 
 /// Yes or No.
-#[inline(always)]
+#[inline]
 fn answer(yes: bool) -> Reply
     ensures { result ≡ answer yes }
 {

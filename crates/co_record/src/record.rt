@@ -105,7 +105,7 @@ impl Record {
     }
 
     /// Whether an arming stands in a queue, or waits for the end of a service.
-    #[inline(always)]
+    #[inline]
     pub fn is_armed(&self, slot: &Slot) -> bool
         ensures { result ≡ is_some (state_of self.now slot.now).armed }
     {
@@ -113,7 +113,7 @@ impl Record {
     }
 
     /// Whether no service has it.
-    #[inline(always)]
+    #[inline]
     pub fn is_idle(&self, slot: &Slot) -> bool
         ensures { result ≡ is_idle (state_of self.now slot.now).run }
     {
@@ -121,7 +121,7 @@ impl Record {
     }
 
     /// Whether its service waits for its lock.
-    #[inline(always)]
+    #[inline]
     pub(crate) fn is_picked(&self, slot: &Slot) -> bool
         ensures { result ≡ is_picked (state_of self.now slot.now).run }
     {
@@ -129,7 +129,7 @@ impl Record {
     }
 
     /// Whether a drain waits for the end of the service that has it.
-    #[inline(always)]
+    #[inline]
     pub(crate) fn is_draining(&self, slot: &Slot) -> bool
         ensures { result ≡ is_draining (state_of self.now slot.now) }
     {
@@ -137,7 +137,7 @@ impl Record {
     }
 
     /// The CPU in whose queue it stands, or None where it stands in none.
-    #[inline(always)]
+    #[inline]
     pub(crate) fn off(&self, slot: &Slot) -> Option<u32>
         requires { IsPaired self.now slot.now }
         ensures { result ≡ off (state_of self.now slot.now) }
@@ -158,7 +158,7 @@ impl Record {
     }
 
     /// The CPU of an arming that names none.
-    #[inline(always)]
+    #[inline]
     pub(crate) fn base(&self, slot: &Slot) -> u32
         ensures { result ≡ (state_of self.now slot.now).home }
     {
@@ -184,7 +184,7 @@ impl Record {
     }
 
     /// The arming of a move becomes the record's own.
-    #[inline(always)]
+    #[inline]
     pub(crate) fn take_up(&mut self, to: &Move)
         ensures { self.new ≡ moved self.old to.now }
     {
@@ -198,7 +198,7 @@ impl Record {
     }
 
     /// A move that waits for the end of the service counts as made.
-    #[inline(always)]
+    #[inline]
     pub(crate) fn settle(&mut self, slot: &Slot)
         ensures { self.new ≡ settled self.old slot.now }
     {
@@ -208,7 +208,7 @@ impl Record {
     }
 
     /// Nothing is armed any more.
-    #[inline(always)]
+    #[inline]
     pub(crate) fn disarm(&mut self, slot: &Slot)
         requires paired { IsPaired self.old slot.now }
         ensures outcome { state_of self.new slot.now

@@ -74,7 +74,7 @@ impl Slot {
     }
 
     /// The arming of callout `i` in service.
-    #[inline(always)]
+    #[inline]
     pub(crate) fn served(&self, i: u32) -> Option<u64>
         ensures { result ≡ served self.now i }
     {
@@ -91,7 +91,7 @@ impl Slot {
     }
 
     /// Whether callout `i` is in service.
-    #[inline(always)]
+    #[inline]
     pub(crate) fn holds(&self, i: u32) -> bool
         ensures { result ≡ holds self.now i }
     {
