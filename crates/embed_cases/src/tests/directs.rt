@@ -1,47 +1,63 @@
 //! The lane of callouts that the clock interrupt runs.
 
-use crate::tests::bench::{Bench, EAGAIN, EINVAL, MPSAFE, MUTEX};
-use crate::tests::replies::{SECOND, ended, go};
-use co_embed::{CalloutReply, status};
+use crate::tests::bench::{EAGAIN, EINVAL, ENOENT, EPERM, MPSAFE, MUTEX, Row, Step, play};
+use crate::tests::replies::{BLANK, SECOND, Told};
+use co_embed::CalloutReply;
 
 /// A direct callout has no lock.
-#[test]
-fn no_lock(rt: HostRuntime) {
-    let mut bench = Bench::new(&rt, rt.alloc(), 0, MPSAFE);
-    assert!(rt; bench.init(3, MUTEX) == EINVAL && bench.pending(3) == -2);
-    assert!(rt; bench.init(3, MPSAFE) == 0 && bench.pending(3) == 0);
-}
+const NO_LOCK: [Row; 4] = [
+    (Step::Init(3, MUTEX), EINVAL, Told::Any),
+    (Step::Pending(3), ENOENT, Told::Any),
+    (Step::Init(3, MPSAFE), 0, Told::Any),
+    (Step::Pending(3), 0, Told::Any),
+];
+
+const CALLS_DIRECT: CalloutReply = CalloutReply {
+    answer: 12,
+    func: 70,
+    arg: 9,
+    at: SECOND,
+    id: 3,
+    ..BLANK
+};
 
 /// The interrupt services callout 3 beside the CPU, which has callout 0 in service.
-#[test]
-fn beside_the_cpu(rt: HostRuntime) {
-    let mut bench = Bench::new(&rt, rt.alloc(), 0, MPSAFE);
-    assert!(rt; bench.init(3, MPSAFE) == 0);
-    assert!(rt; bench.reset(0, SECOND, 8) == 0 && bench.reset(3, SECOND, 9) == 0);
-    assert!(rt; bench.advance(&rt, SECOND) == 2);
-    assert!(rt; bench.next() == 0 && bench.reply == go(0, 8, SECOND));
-    assert!(rt; status(bench.wheel.next(true, &mut bench.reply)) == 0);
-    let direct = CalloutReply {
-        id: 3,
-        ..go(0, 9, SECOND)
-    };
-    assert!(rt; bench.reply == direct);
-    assert!(rt; bench.wheel.is_serving(false) && bench.wheel.is_serving(true));
-}
+const BESIDE_THE_CPU: [Row; 9] = [
+    (Step::Init(0, MPSAFE), 0, Told::Any),
+    (Step::Init(3, MPSAFE), 0, Told::Any),
+    (Step::Reset(0, SECOND, 8), 0, Told::Any),
+    (Step::Reset(3, SECOND, 9), 0, Told::Any),
+    (Step::Advance(SECOND), 2, Told::Any),
+    (Step::Next, 0, Told::Go(0, 8, SECOND)),
+    (Step::NextDirect, 0, Told::Is(CALLS_DIRECT)),
+    (Step::IsServing(false), 1, Told::Any),
+    (Step::IsServing(true), 1, Told::Any),
+];
+
+const ENDED_DIRECT: CalloutReply = CalloutReply {
+    answer: 15,
+    id: 3,
+    ..BLANK
+};
 
 /// Each end is of its own lane.
+const OF_ITS_OWN: [Row; 8] = [
+    (Step::Init(3, MPSAFE), 0, Told::Any),
+    (Step::Reset(3, SECOND, 9), 0, Told::Any),
+    (Step::Advance(SECOND), 1, Told::Any),
+    (Step::Next, EAGAIN, Told::Any),
+    (Step::NextDirect, 0, Told::Any),
+    (Step::End, EPERM, Told::Any),
+    (Step::EndDirect, 0, Told::Is(ENDED_DIRECT)),
+    (Step::NextDirect, EAGAIN, Told::Any),
+];
+
 #[test]
-fn ends_of_its_own(rt: HostRuntime) {
-    let mut bench = Bench::new(&rt, rt.alloc(), 0, MPSAFE);
-    assert!(rt; bench.init(3, MPSAFE) == 0 && bench.reset(3, SECOND, 9) == 0);
-    assert!(rt; bench.advance(&rt, SECOND) == 1 && bench.next() == EAGAIN);
-    assert!(rt; status(bench.wheel.next(true, &mut bench.reply)) == 0);
-    assert!(rt; bench.end() == -1);
-    let answer = bench.wheel.end(true, &mut bench.reply, &mut bench.parcel);
-    let over = CalloutReply {
-        id: 3,
-        ..ended(0, 0)
-    };
-    assert!(rt; status(answer) == 0 && bench.reply == over);
-    assert!(rt; status(bench.wheel.next(true, &mut bench.reply)) == EAGAIN);
+fn directs(rt: HostRuntime) {
+    let lists = [
+        NO_LOCK.as_slice(),
+        BESIDE_THE_CPU.as_slice(),
+        OF_ITS_OWN.as_slice(),
+    ];
+    play(&rt, rt.alloc(), 0, &lists);
 }

@@ -1,75 +1,88 @@
 //! Drains, and asynchronous ones.
 
-use crate::tests::bench::{Bench, MPSAFE, MUTEX};
-use crate::tests::replies::{SECOND, busy, drained, ended, go_on, not_armed, stopped, wait};
+use crate::tests::bench::{MPSAFE, MUTEX, Row, Step, play};
+use crate::tests::replies::{SECOND, Told};
 
-#[test]
-fn a_drain_at_rest(rt: HostRuntime) {
-    let mut bench = Bench::new(&rt, rt.alloc(), 0, MPSAFE);
-    assert!(rt; bench.drain_try(0, false) == 0 && bench.reply == drained(-1, 0));
-    assert!(rt; bench.reset(0, SECOND, 8) == 0);
-    assert!(rt; bench.drain_try(0, false) == 0 && bench.reply == drained(1, 1));
-    assert!(rt; bench.advance(&rt, SECOND) == 0);
-}
+const AT_REST: [Row; 5] = [
+    (Step::Init(0, MPSAFE), 0, Told::Any),
+    (Step::DrainTry(0, false), 0, Told::Drained(-1, 0)),
+    (Step::Reset(0, SECOND, 8), 0, Told::Any),
+    (Step::DrainTry(0, false), 0, Told::Drained(1, 1)),
+    (Step::Advance(SECOND), 0, Told::Any),
+];
 
 /// It takes away what is armed, waits for the end of the service, which says so, and its code is 1 then.
-#[test]
-fn a_drain_waits(rt: HostRuntime) {
-    let mut bench = Bench::new(&rt, rt.alloc(), 0, MPSAFE);
-    assert!(rt; bench.reset(0, SECOND, 8) == 0);
-    bench.serve(&rt, SECOND);
-    assert!(rt; bench.reset(0, 2 * SECOND, 8) == 0);
-    assert!(rt; bench.drain_try(0, false) == 0 && bench.reply == wait(1));
-    assert!(rt; bench.reset(0, 3 * SECOND, 8) == 0 && bench.reply == not_armed());
-    assert!(rt; bench.end() == 0 && bench.reply == ended(0, 1));
-    assert!(rt; bench.drain_try(0, true) == 0 && bench.reply == drained(1, 0));
-}
+const WAITS: [Row; 9] = [
+    (Step::Init(0, MPSAFE), 0, Told::Any),
+    (Step::Reset(0, SECOND, 8), 0, Told::Any),
+    (Step::Advance(SECOND), 1, Told::Any),
+    (Step::Next, 0, Told::Any),
+    (Step::Reset(0, 2 * SECOND, 8), 0, Told::Any),
+    (Step::DrainTry(0, false), 0, Told::Wait(1)),
+    (Step::Reset(0, 3 * SECOND, 8), 0, Told::NotArmed),
+    (Step::End, 0, Told::Ended(0, 1)),
+    (Step::DrainTry(0, true), 0, Told::Drained(1, 0)),
+];
 
 /// Its code is -1 where there was nothing to take away, and nothing is armed after it.
-#[test]
-fn a_drain_waits_for_the_function_alone(rt: HostRuntime) {
-    let mut bench = Bench::new(&rt, rt.alloc(), 0, MPSAFE);
-    assert!(rt; bench.reset(0, SECOND, 8) == 0);
-    bench.serve(&rt, SECOND);
-    assert!(rt; bench.drain_try(0, false) == 0 && bench.reply == wait(0));
-    assert!(rt; bench.end() == 0 && bench.reply == ended(0, 1));
-    assert!(rt; bench.drain_try(0, false) == 0 && bench.reply == drained(-1, 0));
-}
+const WAITS_FOR_THE_FUNCTION_ALONE: [Row; 7] = [
+    (Step::Init(0, MPSAFE), 0, Told::Any),
+    (Step::Reset(0, SECOND, 8), 0, Told::Any),
+    (Step::Advance(SECOND), 1, Told::Any),
+    (Step::Next, 0, Told::Any),
+    (Step::DrainTry(0, false), 0, Told::Wait(0)),
+    (Step::End, 0, Told::Ended(0, 1)),
+    (Step::DrainTry(0, false), 0, Told::Drained(-1, 0)),
+];
 
 /// At rest it is a stop, and no end names its function.
-#[test]
-fn an_asynchronous_drain_at_rest(rt: HostRuntime) {
-    let mut bench = Bench::new(&rt, rt.alloc(), 0, MPSAFE);
-    assert!(rt; bench.async_drain(0, 600) == 0 && bench.reply == stopped(-1, 0));
-    assert!(rt; bench.reset(0, SECOND, 8) == 0);
-    assert!(rt; bench.async_drain(0, 600) == 0 && bench.reply == stopped(1, 1));
-    assert!(rt; bench.reset(0, SECOND, 8) == 0);
-    bench.serve(&rt, SECOND);
-    assert!(rt; bench.end() == 0 && bench.reply == ended(0, 0));
-}
+const ASYNCHRONOUS_AT_REST: [Row; 8] = [
+    (Step::Init(0, MPSAFE), 0, Told::Any),
+    (Step::AsyncDrain(0, 600), 0, Told::Stopped(-1, 0)),
+    (Step::Reset(0, SECOND, 8), 0, Told::Any),
+    (Step::AsyncDrain(0, 600), 0, Told::Stopped(1, 1)),
+    (Step::Reset(0, SECOND, 8), 0, Told::Any),
+    (Step::Advance(SECOND), 1, Told::Any),
+    (Step::Next, 0, Told::Any),
+    (Step::End, 0, Told::Ended(0, 0)),
+];
 
 /// Where its function runs the answer is 0, and the end of that service names the function, once.
-#[test]
-fn an_asynchronous_drain_of_a_call_that_runs(rt: HostRuntime) {
-    let mut bench = Bench::new(&rt, rt.alloc(), 0, MPSAFE);
-    assert!(rt; bench.reset(0, SECOND, 8) == 0);
-    bench.serve(&rt, SECOND);
-    assert!(rt; bench.async_drain(0, 600) == 0 && bench.reply == stopped(0, 0));
-    assert!(rt; bench.async_drain(0, 700) == 0 && bench.reply == busy());
-    assert!(rt; bench.reset(0, 2 * SECOND, 8) == 0 && bench.reply == not_armed());
-    assert!(rt; bench.end() == 0 && bench.reply == ended(600, 0));
-    assert!(rt; bench.reset(0, 2 * SECOND, 8) == 0);
-    bench.serve(&rt, 2 * SECOND);
-    assert!(rt; bench.end() == 0 && bench.reply == ended(0, 0));
-}
+const ASYNCHRONOUS_OF_A_CALL_THAT_RUNS: [Row; 12] = [
+    (Step::Init(0, MPSAFE), 0, Told::Any),
+    (Step::Reset(0, SECOND, 8), 0, Told::Any),
+    (Step::Advance(SECOND), 1, Told::Any),
+    (Step::Next, 0, Told::Any),
+    (Step::AsyncDrain(0, 600), 0, Told::Stopped(0, 0)),
+    (Step::AsyncDrain(0, 700), 0, Told::Busy),
+    (Step::Reset(0, 2 * SECOND, 8), 0, Told::NotArmed),
+    (Step::End, 0, Told::Ended(600, 0)),
+    (Step::Reset(0, 2 * SECOND, 8), 0, Told::Any),
+    (Step::Advance(2 * SECOND), 1, Told::Any),
+    (Step::Next, 0, Told::Any),
+    (Step::End, 0, Told::Ended(0, 0)),
+];
 
 /// A call that waits for its lock is not cancelled by it.
+const ASYNCHRONOUS_OF_A_CALL_THAT_WAITS: [Row; 7] = [
+    (Step::Init(0, MUTEX), 0, Told::Any),
+    (Step::Reset(0, SECOND, 8), 0, Told::Any),
+    (Step::Advance(SECOND), 1, Told::Any),
+    (Step::Next, 0, Told::Any),
+    (Step::AsyncDrain(0, 600), 0, Told::Stopped(0, 0)),
+    (Step::Begin, 0, Told::GoOn(8)),
+    (Step::End, 0, Told::Ended(600, 0)),
+];
+
 #[test]
-fn an_asynchronous_drain_of_a_call_that_waits(rt: HostRuntime) {
-    let mut bench = Bench::new(&rt, rt.alloc(), 0, MUTEX);
-    assert!(rt; bench.reset(0, SECOND, 8) == 0);
-    bench.serve(&rt, SECOND);
-    assert!(rt; bench.async_drain(0, 600) == 0 && bench.reply == stopped(0, 0));
-    assert!(rt; bench.begin() == 0 && bench.reply == go_on(8));
-    assert!(rt; bench.end() == 0 && bench.reply == ended(600, 0));
+fn drains(rt: HostRuntime) {
+    let lists = [
+        AT_REST.as_slice(),
+        WAITS.as_slice(),
+        WAITS_FOR_THE_FUNCTION_ALONE.as_slice(),
+        ASYNCHRONOUS_AT_REST.as_slice(),
+        ASYNCHRONOUS_OF_A_CALL_THAT_RUNS.as_slice(),
+        ASYNCHRONOUS_OF_A_CALL_THAT_WAITS.as_slice(),
+    ];
+    play(&rt, rt.alloc(), 0, &lists);
 }

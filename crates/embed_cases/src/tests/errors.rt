@@ -1,70 +1,96 @@
 //! Each errno with its cause: then neither the wheel nor what a pointer leads to has changed.
 
 use crate::tests::bench::{
-    Bench, EBUSY, EINVAL, ENOENT, ENOMEM, EPERM, HERE, MPSAFE, MUTEX, NOTHING,
+    EBUSY, EINVAL, ENOENT, ENOMEM, EPERM, HERE, MPSAFE, MUTEX, NEVER, NOTHING, Row, Step, play,
 };
-use crate::tests::replies::{SECOND, answer, go, hold};
-use co_embed::{Refusal, When, status};
+use crate::tests::replies::{BLANK, SECOND, Told};
+use co_embed::{CalloutReply, Refusal, When, status};
 
 /// Callout 1 is not here, nor is there a callout 4.
-#[test]
-fn what_is_not_here(rt: HostRuntime) {
-    let mut bench = Bench::new(&rt, rt.alloc(), 0, MPSAFE);
-    assert!(rt; bench.reset(1, SECOND, 8) == ENOENT && bench.schedule(1, SECOND) == ENOENT);
-    assert!(rt; bench.stop(1) == ENOENT && bench.drain_try(4, true) == ENOENT);
-    assert!(rt; bench.async_drain(1, 600) == ENOENT && bench.pending(u32::MAX) == ENOENT);
-    assert!(rt; bench.active(1) == ENOENT && bench.deactivate(4) == ENOENT);
-    assert!(rt; bench.reply == answer(99, 99) && bench.parcel == NOTHING);
-    assert!(rt; bench.wheel.earliest().is_none());
-}
+const WHAT_IS_NOT_HERE: [Row; 11] = [
+    (Step::Init(0, MPSAFE), 0, Told::Any),
+    (Step::Reset(1, SECOND, 8), ENOENT, Told::Untouched),
+    (Step::Schedule(1, SECOND), ENOENT, Told::Untouched),
+    (Step::Stop(1), ENOENT, Told::Untouched),
+    (Step::DrainTry(4, true), ENOENT, Told::Untouched),
+    (Step::AsyncDrain(1, 600), ENOENT, Told::Untouched),
+    (Step::Pending(0xffff_ffff), ENOENT, Told::Untouched),
+    (Step::Active(1), ENOENT, Told::Untouched),
+    (Step::Deactivate(4), ENOENT, Told::Untouched),
+    (Step::HasParcel(NOTHING), 1, Told::Untouched),
+    (Step::Earliest, NEVER, Told::Untouched),
+];
 
-/// 2^63 is no time, and that comes first.
-#[test]
-fn what_is_no_time(rt: HostRuntime) {
-    let mut bench = Bench::new(&rt, rt.alloc(), 0, MPSAFE);
-    let late = 0x8000_0000_0000_0000;
-    let precise = When {
-        due: 0,
-        prec: late,
-        cpu: HERE,
-    };
-    assert!(rt; bench.reset(0, late, 8) == EINVAL && bench.reset(1, late, 8) == EINVAL);
-    let answered = bench
-        .wheel
-        .schedule(0, precise, &mut bench.reply, &mut bench.parcel);
-    assert!(rt; status(answered) == EINVAL);
-    assert!(rt; bench.wheel.advance(late) == Err(Refusal::Invalid));
-    assert!(rt; bench.reply == answer(99, 99) && bench.parcel == NOTHING);
-    assert!(rt; bench.pending(0) == 0 && bench.active(0) == 0);
-    assert!(rt; bench.reset(0, late - 1, 8) == 0 && bench.reply.at == late - 1);
-}
+/// 2^63, which is no time.
+const LATE: u64 = 0x8000_0000_0000_0000;
+
+const PRECISE: When = When {
+    due: 0,
+    prec: LATE,
+    cpu: HERE,
+};
+
+/// The last time.
+const LAST: CalloutReply = CalloutReply {
+    answer: 1,
+    at: 0x7fff_ffff_ffff_ffff,
+    ..BLANK
+};
+
+/// That comes before all else.
+const WHAT_IS_NO_TIME: [Row; 9] = [
+    (Step::Init(0, MPSAFE), 0, Told::Any),
+    (Step::Reset(0, LATE, 8), EINVAL, Told::Untouched),
+    (Step::Reset(1, LATE, 8), EINVAL, Told::Untouched),
+    (Step::ScheduleTo(0, PRECISE), EINVAL, Told::Untouched),
+    (Step::Advance(LATE), EINVAL, Told::Untouched),
+    (Step::HasParcel(NOTHING), 1, Told::Untouched),
+    (Step::Pending(0), 0, Told::Untouched),
+    (Step::Active(0), 0, Told::Untouched),
+    (Step::Reset(0, LATE - 1, 8), 0, Told::Is(LAST)),
+];
 
 /// No service is there that could go on, or end.
-#[test]
-fn no_service(rt: HostRuntime) {
-    let mut bench = Bench::new(&rt, rt.alloc(), 0, MPSAFE);
-    assert!(rt; bench.begin() == EPERM && bench.end() == EPERM);
-    assert!(rt; bench.reply == answer(99, 99) && bench.parcel == NOTHING);
-    assert!(rt; bench.reset(0, SECOND, 8) == 0);
-    bench.serve(&rt, SECOND);
-    assert!(rt; bench.begin() == EPERM && bench.next() == EBUSY);
-    assert!(rt; bench.reply == go(0, 8, SECOND));
-    assert!(rt; bench.end() == 0);
-}
+const NO_SERVICE: [Row; 10] = [
+    (Step::Init(0, MPSAFE), 0, Told::Any),
+    (Step::Begin, EPERM, Told::Untouched),
+    (Step::End, EPERM, Told::Untouched),
+    (Step::HasParcel(NOTHING), 1, Told::Untouched),
+    (Step::Reset(0, SECOND, 8), 0, Told::Any),
+    (Step::Advance(SECOND), 1, Told::Any),
+    (Step::Next, 0, Told::Any),
+    (Step::Begin, EPERM, Told::Go(0, 8, SECOND)),
+    (Step::Next, EBUSY, Told::Go(0, 8, SECOND)),
+    (Step::End, 0, Told::Any),
+];
 
 /// A call that waits for its lock can't end, and keeps the others waiting.
+const A_SERVICE_THAT_WAITS: [Row; 9] = [
+    (Step::Init(0, MUTEX), 0, Told::Any),
+    (Step::Reset(0, SECOND, 8), 0, Told::Any),
+    (Step::Advance(SECOND), 1, Told::Any),
+    (Step::Next, 0, Told::Any),
+    (Step::End, EPERM, Told::Hold(SECOND)),
+    (Step::Next, EBUSY, Told::Hold(SECOND)),
+    (Step::HasParcel(NOTHING), 1, Told::Hold(SECOND)),
+    (Step::Begin, 0, Told::Any),
+    (Step::Begin, EPERM, Told::Any),
+];
+
 #[test]
-fn a_service_that_waits(rt: HostRuntime) {
-    let mut bench = Bench::new(&rt, rt.alloc(), 0, MUTEX);
-    assert!(rt; bench.reset(0, SECOND, 8) == 0);
-    bench.serve(&rt, SECOND);
-    assert!(rt; bench.end() == EPERM && bench.next() == EBUSY);
-    assert!(rt; bench.reply == hold(SECOND) && bench.parcel == NOTHING);
-    assert!(rt; bench.begin() == 0 && bench.begin() == EPERM);
+fn errors(rt: HostRuntime) {
+    let lists = [
+        WHAT_IS_NOT_HERE.as_slice(),
+        WHAT_IS_NO_TIME.as_slice(),
+        NO_SERVICE.as_slice(),
+        A_SERVICE_THAT_WAITS.as_slice(),
+    ];
+    play(&rt, rt.alloc(), 0, &lists);
 }
 
 /// The one that needs a heap that is full, by its number.
 #[test]
 fn no_memory(rt: HostRuntime) {
-    assert!(rt; status(Err(Refusal::NoMemory)) == ENOMEM && status(Ok(())) == 0);
+    let full = i64::from(status(Err(Refusal::NoMemory)));
+    assert!(rt; full == ENOMEM && status(Ok(())) == 0);
 }

@@ -1,48 +1,68 @@
 //! How large a wheel may be.
 
-use crate::tests::bench::{Bench, EINVAL, HERE, HOME, MPSAFE, NOTHING};
-use crate::tests::replies::{SECOND, answer, go};
+use crate::tests::bench::{Bench, EINVAL, HERE, HOME, MPSAFE, Row, Step};
+use crate::tests::replies::{BLANK, SECOND, Told};
 use co_embed::{CalloutReply, Embed};
 use std::alloc::Global;
 
+/// CPU, buckets, callouts and direct ones of wheels that there are not.
+const NONE: [(u32, u32, u32, u32); 8] = [
+    (0, 16, 0, 0),
+    (0, 16, 1_048_577, 0),
+    (0, 8, 4, 0),
+    (0, 24, 4, 0),
+    (0, 131_072, 4, 0),
+    (0, 16, 4, 5),
+    (HERE, 16, 4, 0),
+    (HOME, 16, 4, 0),
+];
+
 /// 0 where there is a wheel of these sizes, or why not.
-fn made(alloc: Global, cpu: u32, buckets: u32, callouts: u32, direct: u32) -> i32 {
+fn made(alloc: Global, sizes: (u32, u32, u32, u32)) -> i64 {
+    let (cpu, buckets, callouts, direct) = sizes;
     match Embed::new(alloc, cpu, buckets, callouts, direct) {
         Ok(_) => 0,
-        Err(refusal) => refusal.errno(),
+        Err(refusal) => i64::from(refusal.errno()),
     }
 }
 
 #[test]
-fn sizes_that_are_none(rt: HostRuntime) {
-    assert!(rt; made(rt.alloc(), 0, 16, 0, 0) == EINVAL);
-    assert!(rt; made(rt.alloc(), 0, 16, 1_048_577, 0) == EINVAL);
-    assert!(rt; made(rt.alloc(), 0, 8, 4, 0) == EINVAL);
-    assert!(rt; made(rt.alloc(), 0, 24, 4, 0) == EINVAL);
-    assert!(rt; made(rt.alloc(), 0, 131_072, 4, 0) == EINVAL);
-    assert!(rt; made(rt.alloc(), 0, 16, 4, 5) == EINVAL);
-    assert!(rt; made(rt.alloc(), HERE, 16, 4, 0) == EINVAL);
-    assert!(rt; made(rt.alloc(), HOME, 16, 4, 0) == EINVAL);
+fn sizes(rt: HostRuntime) {
+    for sizes in NONE {
+        assert!(rt; made(rt.alloc(), sizes) == EINVAL);
+    }
+    // The least wheel.
+    assert!(rt; made(rt.alloc(), (HERE - 1, 16, 1, 1)) == 0);
 }
 
-/// The least wheel, and the largest, where there is memory enough: its last callout fires.
+const CALLS_LAST: CalloutReply = CalloutReply {
+    answer: 12,
+    func: 70,
+    arg: 8,
+    at: SECOND,
+    id: 1_048_575,
+    ..BLANK
+};
+
+/// The last callout of the largest wheel fires.
+const LAST: [Row; 6] = [
+    (Step::Init(1_048_576, MPSAFE), EINVAL, Told::Any),
+    (Step::Init(1_048_575, MPSAFE), 0, Told::Any),
+    (Step::Reset(1_048_575, SECOND, 8), 0, Told::Any),
+    (Step::Advance(SECOND), 1, Told::Any),
+    (Step::Next, 0, Told::Is(CALLS_LAST)),
+    (Step::End, 0, Told::Any),
+];
+
+/// The first row that is not as it has to be on the largest wheel, where there is memory enough.
+fn wrong_on_the_largest(alloc: Global) -> Option<Option<usize>> {
+    match Embed::new(alloc, 0, 65536, 1_048_576, 0) {
+        Ok(wheel) => Some(Bench::new(wheel).first_wrong(&LAST)),
+        Err(_) => None,
+    }
+}
+
 #[test]
-fn sizes_that_are_some(rt: HostRuntime) {
-    assert!(rt; made(rt.alloc(), HERE - 1, 16, 1, 1) == 0);
-    let Ok(wheel) = Embed::new(rt.alloc(), 0, 65536, 1_048_576, 0) else {
-        panic!(rt; "no memory")
-    };
-    let mut bench = Bench {
-        wheel,
-        reply: answer(99, 99),
-        parcel: NOTHING,
-    };
-    assert!(rt; bench.init(1_048_576, MPSAFE) == EINVAL && bench.init(1_048_575, MPSAFE) == 0);
-    assert!(rt; bench.reset(1_048_575, SECOND, 8) == 0);
-    bench.serve(&rt, SECOND);
-    let last = CalloutReply {
-        id: 1_048_575,
-        ..go(0, 8, SECOND)
-    };
-    assert!(rt; bench.reply == last && bench.end() == 0);
+fn the_largest(rt: HostRuntime) {
+    assert!(rt; wrong_on_the_largest(rt.alloc()) == Some(None));
 }

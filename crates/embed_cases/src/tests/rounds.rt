@@ -1,52 +1,68 @@
 //! A callout is armed, comes due, and is serviced.
 
-use crate::tests::bench::{Bench, EAGAIN, MPSAFE, MUTEX};
-use crate::tests::replies::{SECOND, armed, ended, go, go_on, hold};
+use crate::tests::bench::{EAGAIN, MPSAFE, MUTEX, Row, Step, play};
+use crate::tests::replies::{BLANK, SECOND, Told};
+use co_embed::CalloutReply;
 
-#[test]
-fn fires_once(rt: HostRuntime) {
-    let mut bench = Bench::new(&rt, rt.alloc(), 0, MPSAFE);
-    assert!(rt; bench.reset(0, SECOND, 8) == 0 && bench.reply == armed(0, SECOND));
-    assert!(rt; bench.advance(&rt, SECOND - 1) == 0 && bench.next() == EAGAIN);
-    assert!(rt; bench.advance(&rt, SECOND + 5) == 1);
-    assert!(rt; bench.next() == 0 && bench.reply == go(0, 8, SECOND + 5));
-    assert!(rt; bench.end() == 0 && bench.reply == ended(0, 0));
-    assert!(rt; bench.next() == EAGAIN);
-    assert!(rt; bench.advance(&rt, 9 * SECOND) == 0 && bench.next() == EAGAIN);
-}
+const FIRES_ONCE: [Row; 11] = [
+    (Step::Init(0, MPSAFE), 0, Told::Any),
+    (Step::Reset(0, SECOND, 8), 0, Told::Armed(0, SECOND)),
+    (Step::Advance(SECOND - 1), 0, Told::Any),
+    (Step::Next, EAGAIN, Told::Any),
+    (Step::Advance(SECOND + 5), 1, Told::Any),
+    (Step::Next, 0, Told::Go(0, 8, SECOND + 5)),
+    (Step::End, 0, Told::Ended(0, 0)),
+    (Step::Next, EAGAIN, Told::Any),
+    (Step::Advance(9 * SECOND), 0, Told::Any),
+    (Step::Next, EAGAIN, Told::Any),
+    (Step::Cpu, 0, Told::Any),
+];
 
 /// A function that is reset before it was called is called once, by the last reset.
-#[test]
-fn fires_as_it_was_last_reset(rt: HostRuntime) {
-    let mut bench = Bench::new(&rt, rt.alloc(), 0, MPSAFE);
-    assert!(rt; bench.reset(0, SECOND, 8) == 0);
-    assert!(rt; bench.reset(0, 2 * SECOND, 9) == 0);
-    let mut replaced = armed(1, 2 * SECOND);
-    replaced.code = 1;
-    replaced.removed = 1;
-    assert!(rt; bench.reply == replaced);
-    assert!(rt; bench.advance(&rt, SECOND) == 0);
-    bench.serve(&rt, 2 * SECOND);
-    assert!(rt; bench.reply == go(1, 9, 2 * SECOND));
-}
+const AS_IT_WAS_LAST_RESET: [Row; 6] = [
+    (Step::Init(0, MPSAFE), 0, Told::Any),
+    (Step::Reset(0, SECOND, 8), 0, Told::Any),
+    (Step::Reset(0, 2 * SECOND, 9), 0, Told::Is(REPLACED)),
+    (Step::Advance(SECOND), 0, Told::Any),
+    (Step::Advance(2 * SECOND), 1, Told::Any),
+    (Step::Next, 0, Told::Go(1, 9, 2 * SECOND)),
+];
+
+const REPLACED: CalloutReply = CalloutReply {
+    answer: 1,
+    code: 1,
+    n: 1,
+    at: 2 * SECOND,
+    removed: 1,
+    ..BLANK
+};
 
 /// A time in the past is moved to the present.
-#[test]
-fn a_time_in_the_past(rt: HostRuntime) {
-    let mut bench = Bench::new(&rt, rt.alloc(), 0, MPSAFE);
-    assert!(rt; bench.advance(&rt, 5 * SECOND) == 0);
-    assert!(rt; bench.reset(0, SECOND, 8) == 0 && bench.reply == armed(0, 5 * SECOND));
-    bench.serve(&rt, 5 * SECOND);
-    assert!(rt; bench.reply == go(0, 8, 5 * SECOND));
-}
+const IN_THE_PAST: [Row; 5] = [
+    (Step::Init(0, MPSAFE), 0, Told::Any),
+    (Step::Advance(5 * SECOND), 0, Told::Any),
+    (Step::Reset(0, SECOND, 8), 0, Told::Armed(0, 5 * SECOND)),
+    (Step::Advance(5 * SECOND), 1, Told::Any),
+    (Step::Next, 0, Told::Go(0, 8, 5 * SECOND)),
+];
 
 /// Its lock is taken between `next` and `begin`.
+const UNDER_ITS_LOCK: [Row; 6] = [
+    (Step::Init(0, MUTEX), 0, Told::Any),
+    (Step::Reset(0, SECOND, 8), 0, Told::Any),
+    (Step::Advance(SECOND), 1, Told::Any),
+    (Step::Next, 0, Told::Hold(SECOND)),
+    (Step::Begin, 0, Told::GoOn(8)),
+    (Step::End, 0, Told::Ended(0, 0)),
+];
+
 #[test]
-fn fires_under_its_lock(rt: HostRuntime) {
-    let mut bench = Bench::new(&rt, rt.alloc(), 0, MUTEX);
-    assert!(rt; bench.reset(0, SECOND, 8) == 0);
-    bench.serve(&rt, SECOND);
-    assert!(rt; bench.reply == hold(SECOND));
-    assert!(rt; bench.begin() == 0 && bench.reply == go_on(8));
-    assert!(rt; bench.end() == 0 && bench.reply == ended(0, 0));
+fn rounds(rt: HostRuntime) {
+    let lists = [
+        FIRES_ONCE.as_slice(),
+        AS_IT_WAS_LAST_RESET.as_slice(),
+        IN_THE_PAST.as_slice(),
+        UNDER_ITS_LOCK.as_slice(),
+    ];
+    play(&rt, rt.alloc(), 0, &lists);
 }

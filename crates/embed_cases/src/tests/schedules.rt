@@ -1,42 +1,59 @@
 //! Schedules: the function and the argument of the last reset.
 
-use crate::tests::bench::{Bench, HERE, MPSAFE};
-use crate::tests::replies::{SECOND, armed, go, no_handler};
-use co_embed::{CalloutReply, When, status};
+use crate::tests::bench::{HERE, MPSAFE, NEVER, Row, Step, play};
+use crate::tests::replies::{BLANK, SECOND, Told};
+use co_embed::{CalloutReply, When};
+
+const WITHOUT_A_HANDLER: [Row; 4] = [
+    (Step::Init(0, MPSAFE), 0, Told::Any),
+    (Step::Schedule(0, SECOND), 0, Told::NoHandler),
+    (Step::Pending(0), 0, Told::Any),
+    (Step::Earliest, NEVER, Told::Any),
+];
+
+const WITH_THE_LAST_HANDLER: [Row; 7] = [
+    (Step::Init(0, MPSAFE), 0, Told::Any),
+    (Step::Reset(0, SECOND, 8), 0, Told::Any),
+    (Step::Reset(0, SECOND, 9), 0, Told::Any),
+    (Step::Stop(0), 0, Told::Any),
+    (Step::Schedule(0, 2 * SECOND), 0, Told::Armed(2, 2 * SECOND)),
+    (Step::Advance(2 * SECOND), 1, Told::Any),
+    (Step::Next, 0, Told::Go(2, 9, 2 * SECOND)),
+];
+
+const IN_A_SECOND: When = When {
+    due: SECOND,
+    prec: 0,
+    cpu: HERE,
+};
+
+const WIDE: u64 = 0xffff_ffff_ffff_fff0;
+
+const CALLS_WIDE: CalloutReply = CalloutReply {
+    answer: 12,
+    func: WIDE,
+    arg: 0xffff_ffff_ffff_ffff,
+    at: SECOND,
+    ..BLANK
+};
+
+const OF_64_BITS: [Row; 4] = [
+    (Step::Init(0, MPSAFE), 0, Told::Any),
+    (
+        Step::ResetTo(0, IN_A_SECOND, WIDE, 0xffff_ffff_ffff_ffff),
+        0,
+        Told::Any,
+    ),
+    (Step::Advance(SECOND), 1, Told::Any),
+    (Step::Next, 0, Told::Is(CALLS_WIDE)),
+];
 
 #[test]
-fn without_a_handler(rt: HostRuntime) {
-    let mut bench = Bench::new(&rt, rt.alloc(), 0, MPSAFE);
-    assert!(rt; bench.schedule(0, SECOND) == 0 && bench.reply == no_handler());
-    assert!(rt; bench.pending(0) == 0 && bench.wheel.earliest().is_none());
-}
-
-#[test]
-fn with_the_last_handler(rt: HostRuntime) {
-    let mut bench = Bench::new(&rt, rt.alloc(), 0, MPSAFE);
-    assert!(rt; bench.reset(0, SECOND, 8) == 0 && bench.reset(0, SECOND, 9) == 0);
-    assert!(rt; bench.stop(0) == 0);
-    assert!(rt; bench.schedule(0, 2 * SECOND) == 0 && bench.reply == armed(2, 2 * SECOND));
-    bench.serve(&rt, 2 * SECOND);
-    assert!(rt; bench.reply == go(2, 9, 2 * SECOND));
-}
-
-/// The function is the last accepted reset's, also where the callout is armed again while it runs.
-#[test]
-fn a_function_of_64_bits(rt: HostRuntime) {
-    let mut bench = Bench::new(&rt, rt.alloc(), 0, MPSAFE);
-    let when = When {
-        due: SECOND,
-        prec: 0,
-        cpu: HERE,
-    };
-    let func = 0xffff_ffff_ffff_fff0;
-    let answer = bench.wheel.reset(0, when, func, u64::MAX, &mut bench.reply, &mut bench.parcel);
-    assert!(rt; status(answer) == 0);
-    bench.serve(&rt, SECOND);
-    let wide = CalloutReply {
-        func,
-        ..go(0, u64::MAX, SECOND)
-    };
-    assert!(rt; bench.reply == wide);
+fn schedules(rt: HostRuntime) {
+    let lists = [
+        WITHOUT_A_HANDLER.as_slice(),
+        WITH_THE_LAST_HANDLER.as_slice(),
+        OF_64_BITS.as_slice(),
+    ];
+    play(&rt, rt.alloc(), 0, &lists);
 }

@@ -1,40 +1,50 @@
 //! A stop, with each code that callout(9) has for it.
 
-use crate::tests::bench::{Bench, EAGAIN, MPSAFE, MUTEX};
-use crate::tests::replies::{SECOND, armed, ended, skip, stopped};
+use crate::tests::bench::{EAGAIN, MPSAFE, MUTEX, Row, Step, play};
+use crate::tests::replies::{SECOND, Told};
 
 /// 1: it was pending. -1: it was not set, or serviced already.
-#[test]
-fn codes_at_rest(rt: HostRuntime) {
-    let mut bench = Bench::new(&rt, rt.alloc(), 0, MPSAFE);
-    assert!(rt; bench.stop(0) == 0 && bench.reply == stopped(-1, 0));
-    assert!(rt; bench.reset(0, SECOND, 8) == 0);
-    assert!(rt; bench.stop(0) == 0 && bench.reply == stopped(1, 1));
-    assert!(rt; bench.stop(0) == 0 && bench.reply == stopped(-1, 0));
-    assert!(rt; bench.advance(&rt, SECOND) == 0 && bench.next() == EAGAIN);
-}
+const AT_REST: [Row; 7] = [
+    (Step::Init(0, MPSAFE), 0, Told::Any),
+    (Step::Stop(0), 0, Told::Stopped(-1, 0)),
+    (Step::Reset(0, SECOND, 8), 0, Told::Any),
+    (Step::Stop(0), 0, Told::Stopped(1, 1)),
+    (Step::Stop(0), 0, Told::Stopped(-1, 0)),
+    (Step::Advance(SECOND), 0, Told::Any),
+    (Step::Next, EAGAIN, Told::Any),
+];
 
 /// 0: its function runs. What was armed meanwhile is taken away all the same.
-#[test]
-fn code_of_a_call_that_runs(rt: HostRuntime) {
-    let mut bench = Bench::new(&rt, rt.alloc(), 0, MPSAFE);
-    assert!(rt; bench.reset(0, SECOND, 8) == 0);
-    bench.serve(&rt, SECOND);
-    assert!(rt; bench.stop(0) == 0 && bench.reply == stopped(0, 0));
-    assert!(rt; bench.reset(0, 2 * SECOND, 8) == 0 && bench.reply == armed(1, 2 * SECOND));
-    assert!(rt; bench.stop(0) == 0 && bench.reply == stopped(0, 1));
-    assert!(rt; bench.end() == 0 && bench.reply == ended(0, 0));
-    assert!(rt; bench.advance(&rt, 2 * SECOND) == 0);
-}
+const OF_A_CALL_THAT_RUNS: [Row; 9] = [
+    (Step::Init(0, MPSAFE), 0, Told::Any),
+    (Step::Reset(0, SECOND, 8), 0, Told::Any),
+    (Step::Advance(SECOND), 1, Told::Any),
+    (Step::Next, 0, Told::Any),
+    (Step::Stop(0), 0, Told::Stopped(0, 0)),
+    (Step::Reset(0, 2 * SECOND, 8), 0, Told::Armed(1, 2 * SECOND)),
+    (Step::Stop(0), 0, Told::Stopped(0, 1)),
+    (Step::End, 0, Told::Ended(0, 0)),
+    (Step::Advance(2 * SECOND), 0, Told::Any),
+];
 
 /// 1: the call that waits for the callout's lock is cancelled.
+const OF_A_CALL_THAT_WAITS: [Row; 8] = [
+    (Step::Init(0, MUTEX), 0, Told::Any),
+    (Step::Reset(0, SECOND, 8), 0, Told::Any),
+    (Step::Advance(SECOND), 1, Told::Any),
+    (Step::Next, 0, Told::Any),
+    (Step::Stop(0), 0, Told::Stopped(1, 0)),
+    (Step::Begin, 0, Told::Skip),
+    (Step::End, 0, Told::Ended(0, 0)),
+    (Step::Stop(0), 0, Told::Stopped(-1, 0)),
+];
+
 #[test]
-fn code_of_a_call_that_waits(rt: HostRuntime) {
-    let mut bench = Bench::new(&rt, rt.alloc(), 0, MUTEX);
-    assert!(rt; bench.reset(0, SECOND, 8) == 0);
-    bench.serve(&rt, SECOND);
-    assert!(rt; bench.stop(0) == 0 && bench.reply == stopped(1, 0));
-    assert!(rt; bench.begin() == 0 && bench.reply == skip());
-    assert!(rt; bench.end() == 0 && bench.reply == ended(0, 0));
-    assert!(rt; bench.stop(0) == 0 && bench.reply == stopped(-1, 0));
+fn stops(rt: HostRuntime) {
+    let lists = [
+        AT_REST.as_slice(),
+        OF_A_CALL_THAT_RUNS.as_slice(),
+        OF_A_CALL_THAT_WAITS.as_slice(),
+    ];
+    play(&rt, rt.alloc(), 0, &lists);
 }

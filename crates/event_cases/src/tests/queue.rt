@@ -19,30 +19,36 @@ fn settles(queue: &mut EventQueue, now: Sbt) -> bool
     clear
 }
 
+/// The calls on a queue of two timers, whose windows end at two seconds: whether each is answered so.
+fn waits(queue: &mut EventQueue, second: Sbt) -> bool
+    requires { queue.old.timers.size ≡ 2 }
+{
+    let two = second.sat_add(second);
+    let five = two.sat_add(two).sat_add(second);
+    let mut out = [9; 2];
+    let mut right = queue.next_event() == None;
+    let first = queue.arm(1, second, second);
+    let other = queue.arm(0, two, Sbt::zero());
+    right &= first
+        == Armed {
+            code: 0,
+            due: second,
+        }
+        && other == Armed { code: 0, due: two };
+    right &= queue.next_event() == Some(two);
+    right &= !settles(queue, five);
+    right &= queue.take(&mut out) == Some(Event { at: two, count: 2 });
+    // of one bucket the newest is the first
+    right &= out == [0, 1];
+    right &= queue.take(&mut out) == None;
+    right &= settles(queue, five) && queue.now() == five;
+    right && queue.stop(0) == -1
+}
+
 #[test]
 fn waits_for_the_end_of_a_window(rt: HostRuntime) -> Result<(), Fail> {
     let second = Sbt::new(4294967296).ok_or("a time")?;
-    let two = second.sat_add(second);
-    let five = two.sat_add(two).sat_add(second);
     let mut queue = EventQueue::new(rt.alloc(), 2)?;
-    let mut out = [9; 2];
-    assert!(rt; queue.next_event() == None);
-    assert!(rt;
-        queue.arm(1, second, second)
-            == Armed {
-                code: 0,
-                due: second
-            }
-    );
-    assert!(rt; queue.arm(0, two, Sbt::zero()) == Armed { code: 0, due: two });
-    assert!(rt; queue.next_event() == Some(two));
-    assert!(rt; !settles(&mut queue, five));
-    assert!(rt; queue.take(&mut out) == Some(Event { at: two, count: 2 }));
-    // of one bucket the newest is the first
-    assert!(rt; out == [0, 1]);
-    assert!(rt; queue.take(&mut out) == None);
-    assert!(rt; settles(&mut queue, five));
-    assert!(rt; queue.now() == five);
-    assert!(rt; queue.stop(0) == -1);
+    assert!(rt; waits(&mut queue, second));
     Ok(())
 }

@@ -1,5 +1,5 @@
 //! Two actors of one history, and of two.
-ghost use Rattle.std.specs.Prelude.{◌≡◌, [], ◌∷◌, ◌++◌, IfOk, OnOk};
+ghost use Rattle.std.specs.Prelude.{◌≡◌, [], ◌∷◌, IfOk};
 ghost use Rattle.history_cases.specs.Cases.{said_by};
 ghost use Rattle.co_life.specs.Seen.{own};
 ghost use Rattle.co_life.specs.Views.{AreFresh, pass_view};
@@ -59,56 +59,4 @@ fn entries_have_their_positions(rt: HostRuntime) -> Result<(), Fail> {
     let (_closed, positions) = two_actors(rt.alloc())?;
     assert!(rt; positions == [0, 1, 2]);
     Ok(())
-}
-
-// Puts a life's passes onto one list for each actor.
-fn hand_out(
-    life: &Life<Counting>,
-    passes: Seq<Pass<Counting>>,
-    zero: &mut Seq<Pass<Counting>>,
-    one: &mut Seq<Pass<Counting>>,
-) -> Result<(), NoMemory>
-    requires { AreFresh life.now 2 passes }
-    ensures zero { OnOk result (zero.new ≡ zero.old ++ pass_view life.now 0 [] ∷ []) }
-    ensures one { OnOk result (one.new ≡ one.old ++ pass_view life.now 1 [] ∷ []) }
-{
-    let (of_zero, of_one) = both(life, passes);
-    zero.push(of_zero)?;
-    one.push(of_one)?;
-    Ok(())
-}
-
-// The passes of actor 1 of two lives, whose identities stay known.
-fn of_actor_one(
-    alloc: Global,
-    first: &Life<Counting>,
-    of_first: Seq<Pass<Counting>>,
-    second: &Life<Counting>,
-    of_second: Seq<Pass<Counting>>,
-) -> Result<Seq<Pass<Counting>>, NoMemory>
-    requires first { AreFresh first.now 2 of_first }
-    requires second { AreFresh second.now 2 of_second }
-    ensures { IfOk result (λ one. one ≡ pass_view first.now 1 [] ∷ pass_view second.now 1 [] ∷ []) }
-{
-    let mut zero = Seq::new(alloc);
-    let mut one = Seq::new(alloc);
-    hand_out(first, of_first, &mut zero, &mut one)?;
-    hand_out(second, of_second, &mut zero, &mut one)?;
-    Ok(one)
-}
-
-// The position of what actor 1 of the second life writes, by the pass that stands last on its list.
-fn written_by_the_last(alloc: Global) -> Result<u64, NoMemory> {
-    let (first, _, of_first) = Life::<Counting>::new(alloc, 2)?;
-    let (second, mut keeper, of_second) = Life::<Counting>::new(alloc, 2)?;
-    let one = of_actor_one(alloc, &first, of_first, &second, of_second)?;
-    match one.into_vec().pop() {
-        Some(pass) => Ok(second.write(&mut keeper, pass, (1, 0)).1),
-        None => unreachable!(),
-    }
-}
-
-#[test]
-fn passes_keep_their_lives(rt: HostRuntime) {
-    assert!(rt; written_by_the_last(rt.alloc()) == Ok(0));
 }

@@ -10,63 +10,72 @@ const STOP: CallOp = CallOp::Plain(PlainOp::Stop);
 
 const PENDING: CallOp = CallOp::Plain(PlainOp::Pending);
 
-fn spec_of(lock: LockUse) -> Spec {
-    Spec {
+const READING: Held = Held {
+    id: 3,
+    exclusive: false,
+};
+
+const WRITING: Held = Held {
+    id: 3,
+    exclusive: true,
+};
+
+/// A lock that has nothing to do with the callout.
+const OTHER: Held = Held {
+    id: 4,
+    exclusive: false,
+};
+
+/// What is held, the callout's lock, the call, and whether the hold covers it: a drain without a hold alone, and a stop by an
+/// exclusive hold alone, where the callout shares its lock.
+const COVERED: [(Option<Held>, LockUse, CallOp, bool); 6] = [
+    (None, LockUse::Free, DRAIN, true),
+    (Some(OTHER), LockUse::Free, DRAIN, false),
+    (Some(OTHER), LockUse::Free, STOP, true),
+    (Some(READING), LockUse::RwShared(3), STOP, false),
+    (Some(WRITING), LockUse::RwShared(3), STOP, true),
+    (None, LockUse::RwShared(3), PENDING, true),
+];
+
+/// Whether the hold covers the call on a callout with this lock.
+fn is_covered(held: Option<Held>, lock: LockUse, call: &CallOp) -> bool {
+    let spec = Spec {
         lock,
         returns_unlocked: false,
         direct: false,
+    };
+    covers(held, &spec, call)
+}
+
+#[test]
+fn covers_calls(rt: HostRuntime) {
+    for (held, lock, call, covered) in COVERED {
+        assert!(rt; is_covered(held, lock, &call) == covered);
     }
 }
 
-fn schedule() -> CallOp {
-    CallOp::Plain(PlainOp::Schedule {
+#[test]
+fn shares_a_schedule(rt: HostRuntime) {
+    let schedule = CallOp::Plain(PlainOp::Schedule {
         due: Sbt::zero(),
         prec: Sbt::zero(),
         cpu: None,
-    })
+    });
+    let shared = LockUse::RwShared(3);
+    let covered = is_covered(Some(READING), shared, &schedule);
+    assert!(rt; covered && !is_covered(None, shared, &schedule));
 }
 
-#[test]
-fn covers_a_drain_without_a_hold_alone(rt: HostRuntime) {
-    let free = spec_of(LockUse::Free);
-    let other = Some(Held {
-        id: 4,
-        exclusive: false,
-    });
-    assert!(rt; covers(None, &free, &DRAIN));
-    assert!(rt; !covers(other, &free, &DRAIN));
-    assert!(rt; covers(other, &free, &STOP));
-}
-
-#[test]
-fn covers_a_stop_by_an_exclusive_hold_alone(rt: HostRuntime) {
-    let shared = spec_of(LockUse::RwShared(3));
-    let reading = Some(Held {
-        id: 3,
-        exclusive: false,
-    });
-    let writing = Some(Held {
-        id: 3,
-        exclusive: true,
-    });
-    assert!(rt; covers(reading, &shared, &schedule()));
-    assert!(rt; !covers(reading, &shared, &STOP));
-    assert!(rt; covers(writing, &shared, &STOP));
-    assert!(rt; !covers(None, &shared, &schedule()));
-    assert!(rt; covers(None, &shared, &PENDING));
-}
+/// The hold under which the service of a callout with this lock begins.
+const HOLDS: [(LockUse, Option<Held>); 3] = [
+    (LockUse::Free, None),
+    (LockUse::Rw(3), Some(WRITING)),
+    (LockUse::RwShared(3), Some(READING)),
+];
 
 #[test]
 fn shares_a_lock_that_the_callout_shares(rt: HostRuntime) {
-    let reading = Held {
-        id: 3,
-        exclusive: false,
-    };
-    let writing = Held {
-        id: 3,
-        exclusive: true,
-    };
-    assert!(rt; hold_of(LockUse::Free).is_none());
-    assert!(rt; hold_of(LockUse::Rw(3)) == Some(writing));
-    assert!(rt; hold_of(LockUse::RwShared(3)) == Some(reading));
+    for (lock, held) in HOLDS {
+        assert!(rt; hold_of(lock) == held);
+    }
 }

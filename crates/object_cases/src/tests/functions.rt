@@ -44,7 +44,7 @@ fn two<T: Drop>(alloc: Global, first: T, second: T) -> Result<Seq<T>, NoMemory>
 }
 
 /// A callout on one CPU. Function 0 arms it again in a second and stops it, and function 1 asks whether it is active.
-fn worked_script(alloc: Global, spec: Spec) -> Result<Script, NoMemory>
+pub fn worked_script(alloc: Global, spec: Spec) -> Result<Script, NoMemory>
     requires { spec.direct ≡ false }
     ensures { IfOk result (λ s. IsScript s × (length s.timers ≡ 1) × (s.cpus ≡ 1) × ((func : ℕ) → length (acts_at s.funcs func) ≤ 2)) }
 {

@@ -6,7 +6,6 @@ use super::turns::comes_to;
 use co_lock::{ClientLocks, Held, Hold, LockKind};
 use co_sbt::NoMemory;
 use std::alloc::Global;
-use std::process::Abort;
 use std::sync::atomic::{AtomicU64, Ordering};
 use std::sync::{Barrier, Wait};
 use std::test::Fail;
@@ -20,27 +19,26 @@ fn three_locks(alloc: Global) -> Result<ClientLocks, NoMemory>
     ClientLocks::new(alloc, &[LockKind::Mtx, LockKind::Rw, LockKind::Rw])
 }
 
-// The hold says that it is this one.
-fn is(rt: &impl Abort, hold: &Hold<'_>, id: u32, exclusive: bool) {
-    assert!(rt; hold.id() == id && hold.exclusive() == exclusive);
-    assert!(rt; hold.held() == Held { id, exclusive });
+// Whether the hold says that it is this one.
+fn is(hold: &Hold<'_>, id: u32, exclusive: bool) -> bool {
+    let says = hold.id() == id && hold.exclusive() == exclusive;
+    says && hold.held() == Held { id, exclusive }
 }
 
-// Takes the mutex, and under it a reader-writer lock in each mode.
-fn take_each(rt: &(impl Abort + Wait + Sync), locks: &ClientLocks)
+// Takes the mutex, and under it a reader-writer lock in each mode. Whether each hold says so.
+fn take_each<R: Wait + Sync>(rt: &R, locks: &ClientLocks) -> bool
     requires { locks.now ≡ LockKind.Mtx ∷ LockKind.Rw ∷ LockKind.Rw ∷ [] }
 {
-    let _mutex = locks.lock(rt, 0);
-    is(rt, &locks.lock(rt, 1), 1, true);
-    is(rt, &locks.read(rt, 1), 1, false);
+    let mutex = locks.lock(rt, 0);
+    let writes = is(&locks.lock(rt, 1), 1, true);
+    let reads = is(&locks.read(rt, 1), 1, false);
+    writes && reads && is(&mutex, 0, true)
 }
 
 #[test]
 fn a_drop_releases_each_lock(rt: HostRuntime) -> Result<(), Fail> {
     let locks = three_locks(rt.alloc())?;
-    take_each(&rt, &locks);
-    take_each(&rt, &locks);
-    is(&rt, &locks.lock(&rt, 0), 0, true);
+    assert!(rt; take_each(&rt, &locks) && take_each(&rt, &locks));
     Ok(())
 }
 
@@ -172,14 +170,14 @@ fn others_are_free<R: Threads + Wait + Sync>(rt: &R, locks: &ClientLocks, kept: 
     free
 }
 
-// Keeps the three locks at once.
-fn keep_each(rt: &(impl Abort + Wait + Sync), locks: &ClientLocks)
+// Keeps the three locks at once. Whether each hold is of its own.
+fn keep_each<R: Wait + Sync>(rt: &R, locks: &ClientLocks) -> bool
     requires { locks.now ≡ LockKind.Mtx ∷ LockKind.Rw ∷ LockKind.Rw ∷ [] }
 {
     let mutex = locks.lock(rt, 0);
     let first = locks.read(rt, 1);
     let second = locks.lock(rt, 2);
-    assert!(rt; mutex.id() == 0 && first.id() == 1 && second.id() == 2);
+    mutex.id() == 0 && first.id() == 1 && second.id() == 2
 }
 
 #[test]
@@ -188,6 +186,6 @@ fn each_lock_is_its_own(rt: HostRuntime) -> Result<(), Fail> {
     for kept in 0..3 {
         assert!(rt; others_are_free(&rt, &locks, kept));
     }
-    keep_each(&rt, &locks);
+    assert!(rt; keep_each(&rt, &locks));
     Ok(())
 }

@@ -128,54 +128,51 @@ fn answers_agree(rt: HostRuntime) -> Result<(), Fail> {
     Ok(())
 }
 
-/// Arms callouts from 0 on, scans to this count with these looks, and takes out what has come due, in this order.
-fn plays<Q: TimerQueue>(
-    rt: &impl Abort,
-    queue: &mut Q,
-    times: &[u64],
-    now: u64,
-    counted: (u32, u64),
-    order: &[u32],
-)
+/// Whether the callouts come due in this order, and no others.
+fn pops<Q: TimerQueue>(queue: &mut Q, order: &[u32]) -> bool {
+    for i in order {
+        if queue.pop() != Some((*i, 0)) {
+            return false;
+        }
+    }
+    queue.pop().is_none()
+}
+
+/// Arms callouts from 0 on at these times, and scans: the count and the looks, and whether they then come in this order.
+fn plays<Q: TimerQueue>(queue: &mut Q, times: &[u64], now: u64, order: &[u32]) -> ((u32, u64), bool)
     requires size { length times.now ≤ (Q.state queue.old).size }
     requires small { length times.now ≤ 1024 }
 {
     arm(queue, times);
-    assert!(rt; scan(queue, time(now)) == counted);
-    for i in order {
-        assert!(rt; queue.pop() == Some((*i, 0)));
-    }
-    assert!(rt; queue.pop().is_none());
+    let counted = scan(queue, time(now));
+    (counted, pops(queue, order))
 }
 
 /// Three callouts at the border of two buckets, taken out bucket by bucket.
-fn takes_a_bucket_in_order<Q: TimerQueue + Drop>(rt: &impl Abort, mut queue: Q)
+fn takes_a_bucket_in_order<Q: TimerQueue + Drop>(mut queue: Q) -> bool
     requires { (Q.state queue).size ≡ 3 }
 {
     let times = [16777215, 16777216, 16777217];
-    plays(rt, &mut queue, &times, 16777217, (3, 3), &[0, 2, 1]);
-}
-
-#[test]
-fn order_in_a_bucket(rt: HostRuntime) -> Result<(), Fail> {
-    takes_a_bucket_in_order(&rt, ListQueue::new(rt.alloc(), 3, 256, &[false; 3])?);
-    takes_a_bucket_in_order(&rt, WheelQueue::new(rt.alloc(), 3, 256, &[false; 3])?);
-    Ok(())
+    plays(&mut queue, &times, 16777217, &[0, 2, 1]) == ((3, 3), true)
 }
 
 /// What is more than a turn away stays until the turn of its time.
-fn takes_in_two_turns<Q: TimerQueue + Drop>(rt: &impl Abort, mut queue: Q)
+fn takes_in_two_turns<Q: TimerQueue + Drop>(mut queue: Q) -> bool
     requires { (Q.state queue).size ≡ 4 }
 {
     let times = [285212672, 33554432, 16777216, 838860800];
-    plays(rt, &mut queue, &times, 671088640, (3, 4), &[2, 0, 1]);
-    plays(rt, &mut queue, &[], 838860800, (1, 1), &[3]);
+    let first = plays(&mut queue, &times, 671088640, &[2, 0, 1]);
+    let other = plays(&mut queue, &[], 838860800, &[3]);
+    first == ((3, 4), true) && other == ((1, 1), true)
 }
 
 #[test]
-fn more_than_one_turn(rt: HostRuntime) -> Result<(), Fail> {
-    takes_in_two_turns(&rt, ListQueue::new(rt.alloc(), 4, 16, &[false; 4])?);
-    takes_in_two_turns(&rt, WheelQueue::new(rt.alloc(), 4, 16, &[false; 4])?);
+fn order_in_a_bucket_and_in_two_turns(rt: HostRuntime) -> Result<(), Fail> {
+    let alloc = rt.alloc();
+    assert!(rt; takes_a_bucket_in_order(ListQueue::new(alloc, 3, 256, &[false; 3])?));
+    assert!(rt; takes_a_bucket_in_order(WheelQueue::new(alloc, 3, 256, &[false; 3])?));
+    assert!(rt; takes_in_two_turns(ListQueue::new(alloc, 4, 16, &[false; 4])?));
+    assert!(rt; takes_in_two_turns(WheelQueue::new(alloc, 4, 16, &[false; 4])?));
     Ok(())
 }
 

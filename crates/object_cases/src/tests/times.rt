@@ -2,31 +2,36 @@
 
 use co_sbt::{Sbt, read_seconds};
 
-#[test]
-fn has_a_last_time(rt: HostRuntime) {
-    assert!(rt; Sbt::new(9223372036854775808).is_none());
-    let last = Sbt::new(9223372036854775807);
-    assert!(rt; last.map(|time| time.sat_add(time)) == last);
-}
+/// Ticks at a rate, and the time of so many.
+const TICKS: [(i32, u32, u64); 3] = [(1, 1000000, 4294), (0, 1000, 4294967), (-5, 1000, 4294967)];
 
 #[test]
 fn counts_ticks(rt: HostRuntime) {
-    assert!(rt; Sbt::from_ticks(1, 1000000).raw() == 4294);
-    assert!(rt; Sbt::from_ticks(0, 1000).raw() == 4294967);
-    assert!(rt; Sbt::from_ticks(-5, 1000).raw() == 4294967);
+    for (ticks, hz, raw) in TICKS {
+        assert!(rt; Some(Sbt::from_ticks(ticks, hz)) == Sbt::new(raw), "{raw}");
+    }
 }
 
-/// Whether the text is read as the time of this number.
-fn reads(text: &[u8], raw: u64) -> bool {
-    read_seconds(text) == Sbt::new(raw)
-}
+/// Texts, and the number of the time that each is read as, if it is one. 2^63 is no time.
+const SECONDS: [(&str, u64); 6] = [
+    ("0.000000001", 4),
+    ("2147483647.999999999", 9223372036854775803),
+    ("2147483648", 9223372036854775808),
+    ("1.", 9223372036854775808),
+    (".5", 9223372036854775808),
+    ("", 9223372036854775808),
+];
 
 #[test]
 fn reads_seconds(rt: HostRuntime) {
-    assert!(rt; reads(b"0.000000001".as_slice(), 4));
-    assert!(rt; reads(b"2147483647.999999999".as_slice(), 9223372036854775803));
-    assert!(rt; read_seconds(b"2147483648".as_slice()).is_none());
-    assert!(rt; read_seconds(b"1.".as_slice()).is_none());
-    assert!(rt; read_seconds(b".5".as_slice()).is_none());
-    assert!(rt; read_seconds(b"".as_slice()).is_none());
+    for (text, raw) in SECONDS {
+        assert!(rt; read_seconds(text.as_bytes()) == Sbt::new(raw), "{text}");
+    }
+}
+
+#[test]
+fn has_a_last_time(rt: HostRuntime) {
+    let last = Sbt::new(9223372036854775807);
+    let saturates = last.map(|time| time.sat_add(time)) == last;
+    assert!(rt; saturates && last.is_some() && Sbt::new(9223372036854775808).is_none());
 }

@@ -1,9 +1,0 @@
--- There are 16 buckets, a power of two.
-use Rattle.std.proofs.Common.{arith, refl}
-use Rattle.object_cases.proofs.tests.queues.more_than_one_turn.Goals as goal
-
-pub new-requires-clause-buckets : goal.new-requires-clause-buckets
-new-requires-clause-buckets g c = (omega arith, omega arith, (4, refl))
-
-pub new-requires-2-clause-buckets : goal.new-requires-2-clause-buckets
-new-requires-2-clause-buckets g c = (omega arith, omega arith, (4, refl))
