@@ -5,8 +5,11 @@ use Rattle.co_object.specs.declared.note.QEntry.{QEntry}
 use Rattle.co_object.specs.declared.note.AnyEntry.{AnyEntry}
 use Rattle.co_object.specs.declared.note.Place.{Place}
 use Rattle.co_object.specs.declared.note.Note.{Note}
+use Rattle.co_object.specs.declared.queue.QOp.{QOp}
+use Rattle.co_object.specs.declared.queue.QReply.{QReply}
 use Rattle.co_object.specs.declared.note.Place.TheVariants as at
 use Rattle.co_object.specs.declared.note.AnyEntry.TheVariants as of
+use Rattle.co_service.specs.Outcomes.{noted_turn, turn}
 use Rattle.co_service.specs.Views.{PassesView}
 use Rattle.co_service.specs.Writes.{WritesTimer, WritesCpu, WritesAt, Writes}
 
@@ -19,6 +22,10 @@ module _ (p q : PassesView) (note : Note) where
 
   pub one_note : WritesAt p note.place note.entry note.pos q → Writes p (note ∷ []) q
   one_note w = (q, w, refl)
+
+-- an entry of a journal, as it is noted
+pub turn_written : (p q : PassesView) (act cpu place : ℕ) (op : QOp) (reply : QReply) (pos : ℕ) (after : List QEntry) → place ≡ cpu → WritesCpu p cpu (turn p act op reply) pos after q → Writes p (noted_turn p.actor act place op reply pos ∷ []) q
+turn_written p q act cpu place op reply pos after here w = (q, (after, subst (λ (k : ℕ). WritesCpu p k (turn p act op reply) pos after q) (sym here) w), refl)
 
 -- notes and then more notes
 pub writes-append : (p q r : PassesView) (ns ms : List Note) → Writes p ns q → Writes q ms r → Writes p (ns ++ ms) r

@@ -18,6 +18,9 @@ use Rattle.co_object.specs.Group.{Placed, placed, off_of, group}
 use Rattle.co_object.specs.History.{state}
 use Rattle.co_wheel.specs.Parcel.{Parcel}
 use Rattle.co_wheel.specs.Turns.{Turn, removal}
+use Rattle.co_service.specs.declared.told.Inserted.{Inserted}
+use Rattle.co_service.specs.declared.told.Told.{Told}
+use Rattle.co_service.specs.Outcomes.{noted_entry, noted_turn}
 use Rattle.co_service.specs.Params.{spec_at}
 use Rattle.co_service.specs.Views.{PassesView, seen_of}
 use Rattle.co_service.specs.Writes.{Writes}
@@ -107,6 +110,21 @@ insert_turns i n due (Some time) = (Insert i n due, At time) ∷ []
 abbrev pub insertion_notes : PassesView → (act cpu i n due : ℕ) → Option ℕ → List Placed
 insertion_notes p act cpu i n due None = []
 insertion_notes p act cpu i n due (Some time) = (at.Cpu cpu, of.Cpu (record { actor = p.actor; act = act; op = Insert i n due; reply = At time })) ∷ []
+
+-- the notes of what a call told that it did: what it took out of a queue, its entry, and what it put in
+abbrev pub removal_told : (actor act i : ℕ) → Option ℕ → (pos : ℕ) → List Note
+removal_told actor act i None pos = []
+removal_told actor act i (Some cpu) pos = noted_turn actor act cpu (Remove i) Off pos ∷ []
+
+abbrev pub insertion_told : (actor act i n due : ℕ) → Option Inserted → List Note
+insertion_told actor act i n due None = []
+insertion_told actor act i n due (Some x) = noted_turn actor act x.cpu (Insert i n due) (At x.at) x.pos ∷ []
+
+abbrev pub told_notes : (actor act i : ℕ) → CallOp → Told → List Note
+told_notes actor act i op t =
+    removal_told actor act i (off_of t.reply) t.removal
+    ++ noted_entry i (record { actor = actor; act = act; op = Call op; reply = t.reply }) t.entry
+    ∷ insertion_told actor act i (number_in t.reply) (due_in op) t.insertion
 
 -- what a call asks of the queue
 abbrev pub call_turns : ℕ → CallOp → Reply → Option ℕ → List Turn

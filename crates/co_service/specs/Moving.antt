@@ -7,7 +7,7 @@ use Rattle.co_object.specs.declared.note.Entry.{Entry}
 use Rattle.co_object.specs.declared.op.CallOp.{CallOp}
 use Rattle.co_object.specs.Stand.{is_idle}
 use Rattle.co_wheel.specs.Parcel.{Parcel}
-use Rattle.co_service.specs.declared.outs.Made.{Made}
+use Rattle.co_service.specs.declared.told.Told.{Told}
 use Rattle.co_service.specs.declared.params.Params.{Params}
 use Rattle.co_service.specs.declared.line.Line.{Line}
 use Rattle.co_service.specs.Name.{ServiceName}
@@ -17,7 +17,7 @@ use Rattle.co_service.specs.Stories.{IsHistory}
 use Rattle.co_service.specs.Views.{IsKeeperOf, PassesView}
 use Rattle.co_service.specs.Books.{BooksView, entries_at, is_kept, with_history}
 use Rattle.co_service.specs.Desk.{alone_after}
-use Rattle.co_service.specs.Call.{HasRoom, IsAnswer, Target, notes_in}
+use Rattle.co_service.specs.Call.{IsAnswer, Target, told_notes}
 
 abbrev pub params_in : Option (Params × ℕ) → Params
 params_in None = nothing
@@ -78,10 +78,10 @@ abbrev pub IsOfService : Params → ℕ → Option MovingView → Type 0
 IsOfService p i None = Unit {0}
 IsOfService p i (Some m) = (m.params ≡ p) × (m.i ≡ i)
 
--- a call was tried at a desk: nothing has changed where the callout isn't there; else its answer stands in its place, with the callout where
--- it leaves, whose landing then has room for its note
-pub record IsTried (p : PassesView) (act i : ℕ) (op : CallOp) (here : Bool) (made : Made) (leaves : Option MovingView) (q : PassesView) : Type 0 where
-  pub none : here ≡ false → q ≡ p
-  pub answer : here ≡ true → IsAnswer p act i op made.reply (target_of leaves) (notes_in made.notes) q
+-- a call was tried at a desk: nothing has changed where the callout isn't there; else what it did stands in its place, with the callout where
+-- it leaves, which then was put in no queue
+pub record IsTried (p : PassesView) (act i : ℕ) (op : CallOp) (here : Bool) (told : Told) (leaves : Option MovingView) (q : PassesView) : Type 0 where
+  pub none : here ≡ false → (q ≡ p) × (leaves ≡ None)
+  pub answer : here ≡ true → IsAnswer p act i op told.reply (target_of leaves) (told_notes p.actor act i op told) q
   pub leaving : here ≡ true → IsOfService p.params i leaves
-  pub room : here ≡ true → is_some leaves ≡ true → HasRoom made.notes
+  pub room : here ≡ true → is_some leaves ≡ true → told.insertion ≡ None

@@ -1,5 +1,6 @@
 -- What each section tells the caller, by its passes before and after.
 use Rattle.std.specs.Prelude.{◌≡◌, ℕ, max, List, [], ◌∷◌, ◌++◌, length, map}
+use Rattle.co_object.specs.declared.note.Entry.{Entry}
 use Rattle.co_object.specs.declared.note.QEntry.{QEntry}
 use Rattle.co_object.specs.declared.note.Note.{Note}
 use Rattle.co_object.specs.declared.note.Place.TheVariants as at
@@ -20,6 +21,14 @@ use Rattle.co_service.specs.Writes.{Writes}
 -- an actor's entry in a CPU's journal
 abbrev pub turn : PassesView → ℕ → QOp → QReply → QEntry
 turn p act op reply = record { actor = p.actor; act = act; op = op; reply = reply }
+
+-- the note of an entry in the journal of this CPU
+abbrev pub noted_turn : (actor act cpu : ℕ) → QOp → QReply → (pos : ℕ) → Note
+noted_turn actor act cpu op reply pos = record { place = at.Cpu cpu; pos = pos; entry = of.Cpu (record { actor = actor; act = act; op = op; reply = reply }) }
+
+-- the note of an entry in callout i's history
+abbrev pub noted_entry : ℕ → Entry → (pos : ℕ) → Note
+noted_entry i e pos = record { place = at.Timer i; pos = pos; entry = of.Timer e }
 
 -- the note is of this entry in the journal of this CPU
 pub record IsTurn (cpu : ℕ) (e : QEntry) (note : Note) : Type 0 where

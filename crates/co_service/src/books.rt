@@ -1,8 +1,6 @@
 //! The histories that stand at a desk.
 ghost use Rattle.std.specs.Prelude.{◌≡◌, ◌<◌, [], ◌∷◌, ◌++◌, List, true, false, length, is_some, slice_get};
 ghost use Rattle.std.specs.declared.option.Option.TheVariants.{Some, None};
-ghost use Rattle.co_object.specs.declared.note.Place.TheVariants as at;
-ghost use Rattle.co_object.specs.declared.note.AnyEntry.TheVariants as of;
 ghost use Rattle.co_service.specs.Books.{entries_at, history_at, is_kept, with_history};
 ghost use Rattle.co_service.specs.Lines.{made};
 ghost use Rattle.co_service.specs.May.{MayEnter, MayHappen};
@@ -14,7 +12,7 @@ ghost use Rattle.co_service.specs.Writes.{WritesCpu, WritesTimer};
 use crate::seats::Lives;
 use crate::{CpuStory, Name, Params, Passes, TimerStory};
 use co_life::{Keeper, Shown};
-use co_object::{AnyEntry, Entry, Note, Place, QEntry};
+use co_object::{Entry, QEntry};
 use std::marker::{Model, PhantomData};
 
 /// The histories that stand at a desk: the journal of its CPU, and those of the callouts there.
@@ -99,32 +97,26 @@ impl<N: Name> Books<N> {
         self.keepers[i as usize] = Some(keeper);
     }
 
-    /// Writes an entry of the CPU's journal.
+    /// Writes an entry of the CPU's journal, and gives its position.
     #[inline(always)]
     pub(crate) fn write(
         &mut self,
         lives: &Lives<CpuStory>,
         passes: &mut Passes,
         entry: &QEntry,
-    ) -> Note
+    ) -> u64
         requires lives { lives.now ≡ N.name.cpus }
         requires name { passes.old.name ≡ N.name }
         requires params { self.old.params ≡ passes.old.params }
         requires may { MayEnter self.old entry.now }
         requires own { entry.now.actor ≡ passes.old.actor }
         ensures books { self.new ≡ record self.old { journal = self.old.journal ++ entry.now ∷ [] } }
-        ensures note { (result.place ≡ at.Cpu self.old.cpu) × (result.entry ≡ of.Cpu entry.now) }
-        ensures written { WritesCpu passes.old self.old.cpu entry.now result.pos self.new.journal passes.new }
+        ensures written { WritesCpu passes.old self.old.cpu entry.now result self.new.journal passes.new }
     {
-        let pos = passes.write_cpu(lives, &mut self.journal, self.cpu, *entry);
-        Note {
-            place: Place::Cpu(self.cpu),
-            pos,
-            entry: AnyEntry::Cpu(*entry),
-        }
+        passes.write_cpu(lives, &mut self.journal, self.cpu, *entry)
     }
 
-    /// Writes an entry of the history of callout `i`.
+    /// Writes an entry of the history of callout `i`, and gives its position.
     #[inline(always)]
     pub(crate) fn write_timer(
         &mut self,
@@ -132,7 +124,7 @@ impl<N: Name> Books<N> {
         passes: &mut Passes,
         i: u32,
         entry: &Entry,
-    ) -> Note
+    ) -> u64
         requires lives { lives.now ≡ N.name.timers }
         requires name { passes.old.name ≡ N.name }
         requires params { self.old.params ≡ passes.old.params }
@@ -140,17 +132,12 @@ impl<N: Name> Books<N> {
         requires may { MayHappen self.old i entry.now }
         requires own { entry.now.actor ≡ passes.old.actor }
         ensures books { self.new ≡ with_history self.old i (Some (entries_at self.old i ++ entry.now ∷ [])) }
-        ensures note { (result.place ≡ at.Timer i) × (result.entry ≡ of.Timer entry.now) }
-        ensures written { WritesTimer passes.old i entry.now result.pos (entries_at self.old i ++ entry.now ∷ []) passes.new }
+        ensures written { WritesTimer passes.old i entry.now result (entries_at self.old i ++ entry.now ∷ []) passes.new }
     {
         let mut keeper = self.keepers[i as usize].take().unwrap();
         let pos = passes.write_timer(lives, &mut keeper, i, *entry);
         self.keepers[i as usize] = Some(keeper);
-        Note {
-            place: Place::Timer(i),
-            pos,
-            entry: AnyEntry::Timer(*entry),
-        }
+        pos
     }
 
     /// Takes the keeper of callout `i` out.

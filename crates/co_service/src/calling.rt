@@ -1,13 +1,10 @@
 //! What a call writes in the books of a desk.
 ghost use Rattle.std.specs.Prelude.{◌≡◌, ℕ, [], ◌∷◌, ◌++◌, List, map, is_some, true, false};
 ghost use Rattle.std.specs.declared.option.Option.TheVariants.{Some, None};
-ghost use Rattle.co_object.specs.declared.note.AnyEntry.TheVariants as of;
-ghost use Rattle.co_object.specs.declared.note.Entry.{Entry};
-ghost use Rattle.co_object.specs.declared.note.Place.TheVariants as at;
 ghost use Rattle.co_object.specs.Callout.{call};
 ghost use Rattle.co_object.specs.Group.{off_of, placed};
 ghost use Rattle.co_service.specs.Books.{entries_at, is_kept, with_history};
-ghost use Rattle.co_service.specs.Call.{HasRoom, call_entry, call_turns, due_in, insert_turns, insertion_notes, noted, notes_in, number_in, removal_notes, section_notes};
+ghost use Rattle.co_service.specs.Call.{call_entry, call_turns, due_in, insert_turns, insertion_notes, insertion_told, number_in, removal_told, section_notes, told_notes};
 ghost use Rattle.co_service.specs.Desk.{Owes, scans_in};
 ghost use Rattle.co_service.specs.May.{MayHappen, state_at};
 ghost use Rattle.co_service.specs.Views.{seen_of};
@@ -19,12 +16,13 @@ use crate::books::Books;
 use crate::desk::write_turn;
 use crate::places::Places;
 use crate::seats::Lives;
+use crate::told::{Inserted, Told, number, time};
 use crate::{CpuStory, Name, Passes, TimerStory};
-use co_object::{CallOp, Entry, Note, Op, PlainOp, QOp, QReply, Reply};
+use co_object::{CallOp, Entry, Op, QOp, QReply, Reply};
 use co_sbt::Sbt;
 use co_wheel::CallOut;
 
-/// Where a call took an arming out of the queue, the Remove before its entry.
+/// Where a call took an arming out of the queue, the Remove before its entry. It gives its position.
 #[inline(always)]
 pub(crate) fn write_removal<N: Name>(
     books: &mut Books<N>,
@@ -34,7 +32,7 @@ pub(crate) fn write_removal<N: Name>(
     i: u32,
     reply: &Reply,
     removed: bool,
-) -> Option<Note>
+) -> u64
     requires lives { lives.now ≡ N.name.cpus }
     requires name { passes.old.name ≡ N.name }
     requires params { books.old.params ≡ passes.old.params }
@@ -42,20 +40,19 @@ pub(crate) fn write_removal<N: Name>(
     requires here { (x : ℕ) → off_of reply.now ≡ Some x → x ≡ books.old.cpu }
     requires owes { (turns : List Turn) × (w : Cpu) × Owes (removal i (off_of reply.now) ++ turns) w books.old }
     ensures books { books.new ≡ record books.old { journal = books.new.journal } }
-    ensures written { Writes passes.old (noted result) passes.new }
+    ensures written { Writes passes.old (removal_told passes.old.actor act i (off_of reply.now) result) passes.new }
     ensures timers { passes.new.timers ≡ passes.old.timers }
     ensures scans { scans_in books.new.journal ≡ scans_in books.old.journal }
-    ensures placed { (e : Entry) → e.actor ≡ passes.old.actor → e.act ≡ act → map placed (noted result) ≡ removal_notes i e (off_of reply.now) }
     ensures goes_on { (turns : List Turn) (w : Cpu) → Owes (removal i (off_of reply.now) ++ turns) w books.old → Owes turns w books.new }
 {
     if !removed {
-        return None;
+        return 0;
     }
     let op = QOp::Remove { i };
-    Some(write_turn(books, lives, passes, act, op, QReply::Off))
+    write_turn(books, lives, passes, act, op, QReply::Off)
 }
 
-/// The entry of a call.
+/// The entry of a call. It gives its position.
 #[inline(always)]
 pub(crate) fn write_call<N: Name>(
     books: &mut Books<N>,
@@ -65,15 +62,14 @@ pub(crate) fn write_call<N: Name>(
     i: u32,
     op: &CallOp,
     reply: &Reply,
-) -> Note
+) -> u64
     requires lives { lives.now ≡ N.name.timers }
     requires name { passes.old.name ≡ N.name }
     requires params { books.old.params ≡ passes.old.params }
     requires here { is_kept books.old i ≡ true }
     requires reply { reply.now ≡ (call (state_at books.old i) op.now).1 }
     ensures books { books.new ≡ with_history books.old i (Some (entries_at books.old i ++ call_entry passes.old act op.now reply.now ∷ [])) }
-    ensures note { (result.place ≡ at.Timer i) × (result.entry ≡ of.Timer (call_entry passes.old act op.now reply.now)) }
-    ensures written { WritesTimer passes.old i (call_entry passes.old act op.now reply.now) result.pos (entries_at books.old i ++ call_entry passes.old act op.now reply.now ∷ []) passes.new }
+    ensures written { WritesTimer passes.old i (call_entry passes.old act op.now reply.now) result (entries_at books.old i ++ call_entry passes.old act op.now reply.now ∷ []) passes.new }
 {
     let entry = Entry {
         actor: passes.actor(),
@@ -95,50 +91,29 @@ pub(crate) fn write_insertion<N: Name>(
     n: u64,
     due: Sbt,
     inserted: Option<Sbt>,
-) -> Option<Note>
+) -> Option<Inserted>
     requires lives { lives.now ≡ N.name.cpus }
     requires name { passes.old.name ≡ N.name }
     requires params { books.old.params ≡ passes.old.params }
     requires owes { (w : Cpu) × Owes (insert_turns i n due inserted) w books.old }
     ensures books { books.new ≡ record books.old { journal = books.new.journal } }
-    ensures written { Writes passes.old (noted result) passes.new }
+    ensures written { Writes passes.old (insertion_told passes.old.actor act i n due result) passes.new }
     ensures timers { passes.new.timers ≡ passes.old.timers }
     ensures scans { scans_in books.new.journal ≡ scans_in books.old.journal }
     ensures none { inserted ≡ None → result ≡ None }
-    ensures placed { map placed (noted result) ≡ insertion_notes passes.old act books.old.cpu i n due inserted }
+    ensures placed { map placed (insertion_told passes.old.actor act i n due result) ≡ insertion_notes passes.old act books.old.cpu i n due inserted }
     ensures goes_on { (w : Cpu) → Owes (insert_turns i n due inserted) w books.old → Owes [] w books.new }
 {
     let Some(at) = inserted else {
         return None;
     };
+    let cpu = books.cpu();
     let op = QOp::Insert { i, n, t: due };
-    Some(write_turn(books, lives, passes, act, op, QReply::At(at)))
+    let pos = write_turn(books, lives, passes, act, op, QReply::At(at));
+    Some(Inserted { cpu, at, pos })
 }
 
-/// The number of the arming that a reply accepts.
-#[inline(always)]
-pub(crate) fn number(reply: &Reply) -> u64
-    ensures { result ≡ number_in reply.now }
-{
-    match *reply {
-        Reply::Armed { n, .. } => n,
-        _ => 0,
-    }
-}
-
-/// The due time that an operation names.
-#[inline(always)]
-pub(crate) fn time(op: &CallOp) -> Sbt
-    ensures { result ≡ due_in op.now }
-{
-    match *op {
-        CallOp::Plain(PlainOp::Reset { due, .. }) => due,
-        CallOp::Plain(PlainOp::Schedule { due, .. }) => due,
-        _ => Sbt::zero(),
-    }
-}
-
-/// What a call did, note after note: what it took out of the queue, its entry, and what it put in.
+/// What a call did, entry after entry: what it took out of the queue, its own, and what it put in.
 #[inline(always)]
 pub(crate) fn write_group<N: Name>(
     books: &mut Books<N>,
@@ -148,7 +123,7 @@ pub(crate) fn write_group<N: Name>(
     i: u32,
     op: &CallOp,
     out: &CallOut,
-) -> [Option<Note>; 3]
+) -> Told
     requires places { places.now ≡ N.name }
     requires name { passes.old.name ≡ N.name }
     requires params { books.old.params ≡ passes.old.params }
@@ -157,26 +132,25 @@ pub(crate) fn write_group<N: Name>(
     requires removed { out.now.removed ≡ is_some (off_of out.now.reply) }
     requires off { (x : ℕ) → off_of out.now.reply ≡ Some x → x ≡ books.old.cpu }
     requires owes { (w : Cpu) × Owes (call_turns i op.now out.now.reply out.now.inserted) w books.old }
+    ensures reply { result.reply ≡ out.now.reply }
     ensures books { books.new ≡ record (with_history books.old i (Some (entries_at books.old i ++ call_entry passes.old act op.now out.now.reply ∷ []))) { journal = books.new.journal } }
-    ensures written { Writes passes.old (notes_in result) passes.new }
-    ensures placed { map placed (notes_in result) ≡ section_notes passes.old act books.old.cpu i op.now out.now.reply out.now.inserted }
+    ensures written { Writes passes.old (told_notes passes.old.actor act i op.now result) passes.new }
+    ensures placed { map placed (told_notes passes.old.actor act i op.now result) ≡ section_notes passes.old act books.old.cpu i op.now out.now.reply out.now.inserted }
     ensures seen { seen_of passes.new i ≡ entries_at books.old i ++ call_entry passes.old act op.now out.now.reply ∷ [] }
     ensures scans { scans_in books.new.journal ≡ scans_in books.old.journal }
-    ensures room { out.now.inserted ≡ None → HasRoom result }
+    ensures room { out.now.inserted ≡ None → result.insertion ≡ None }
     ensures goes_on { (w : Cpu) → Owes (call_turns i op.now out.now.reply out.now.inserted) w books.old → Owes [] w books.new }
 {
-    let removal = write_removal(
-        books,
-        places.cpus(),
-        passes,
-        act,
-        i,
-        &out.reply,
-        out.removed,
-    );
+    let lives = places.cpus();
+    let removal = write_removal(books, lives, passes, act, i, &out.reply, out.removed);
     let entry = write_call(books, places.timers(), passes, act, i, op, &out.reply);
     let n = number(&out.reply);
     let due = time(op);
-    let insertion = write_insertion(books, places.cpus(), passes, act, i, n, due, out.inserted);
-    [removal, Some(entry), insertion]
+    let insertion = write_insertion(books, lives, passes, act, i, n, due, out.inserted);
+    Told {
+        reply: out.reply,
+        removal,
+        entry,
+        insertion,
+    }
 }

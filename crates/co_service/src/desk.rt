@@ -4,7 +4,7 @@ ghost use Rattle.std.specs.declared.option.Option.TheVariants.{Some, None};
 ghost use Rattle.co_object.specs.Journal.{scanner, step, reply_of, IsOfItsActor};
 ghost use Rattle.co_service.specs.Books.{is_kept};
 ghost use Rattle.co_service.specs.Params.{actors_of, directs};
-ghost use Rattle.co_service.specs.Call.{HasRoom, IsAnswer, notes_in};
+ghost use Rattle.co_service.specs.Call.{IsAnswer, told_notes};
 ghost use Rattle.co_service.specs.May.{queue_of};
 ghost use Rattle.co_service.specs.Moving.{IsTried};
 ghost use Rattle.co_service.specs.Desk.{Owes, IsOf};
@@ -14,13 +14,14 @@ ghost use Rattle.co_wheel.specs.Cpu.{Cpu};
 ghost use Rattle.co_wheel.specs.Turns.{Turn};
 
 use crate::books::Books;
-use crate::calling::{number, time, write_group};
+use crate::calling::write_group;
 use crate::moving::{Moving, depart};
 use crate::places::Places;
 use crate::seats::Lives;
-use crate::{CpuStory, Made, Name, Passes, Scanned};
+use crate::told::{Told, number, time};
+use crate::{CpuStory, Name, Passes, Scanned};
 use co_bucket::WheelQueue;
-use co_object::{CallOp, Note, QEntry, QOp, QReply};
+use co_object::{AnyEntry, CallOp, Note, Place, QEntry, QOp, QReply};
 use co_queue::Looks;
 use co_sbt::Sbt;
 use co_wheel::Wheel;
@@ -49,9 +50,37 @@ impl<N: Name> Model for Desk<N> {
     ghost invariant = { λ d. IsDesk d.wheel d.books d.scans };
 }
 
-/// Writes what the queue did next.
+/// Writes what the queue did next, and gives its position.
 #[inline(always)]
 pub(crate) fn write_turn<N: Name>(
+    books: &mut Books<N>,
+    lives: &Lives<CpuStory>,
+    passes: &mut Passes,
+    act: u64,
+    op: QOp,
+    reply: QReply,
+) -> u64
+    requires lives { lives.now ≡ N.name.cpus }
+    requires name { passes.old.name ≡ N.name }
+    requires params { books.old.params ≡ passes.old.params }
+    requires possible { reply_of (step books.old.params.buckets (directs books.old.params) (queue_of books.old) op) ≡ Some reply }
+    requires actor { IsOfItsActor (actors_of books.old.params) books.old.cpu passes.old.actor op }
+    ensures books { books.new ≡ record books.old { journal = books.old.journal ++ turn passes.old act op reply ∷ [] } }
+    ensures written { WritesCpu passes.old books.old.cpu (turn passes.old act op reply) result books.new.journal passes.new }
+    ensures goes_on { (turns : List Turn) (w : Cpu) → Owes ((op, reply) ∷ turns) w books.old → Owes turns w books.new }
+{
+    let entry = QEntry {
+        actor: passes.actor(),
+        act,
+        op,
+        reply,
+    };
+    books.write(lives, passes, &entry)
+}
+
+/// Writes what the queue did next, and notes it.
+#[inline(always)]
+pub(crate) fn note_turn<N: Name>(
     books: &mut Books<N>,
     lives: &Lives<CpuStory>,
     passes: &mut Passes,
@@ -69,13 +98,19 @@ pub(crate) fn write_turn<N: Name>(
     ensures written { WritesCpu passes.old books.old.cpu (turn passes.old act op reply) result.pos books.new.journal passes.new }
     ensures goes_on { (turns : List Turn) (w : Cpu) → Owes ((op, reply) ∷ turns) w books.old → Owes turns w books.new }
 {
+    let place = Place::Cpu(books.cpu());
     let entry = QEntry {
         actor: passes.actor(),
         act,
         op,
         reply,
     };
-    books.write(lives, passes, &entry)
+    let pos = books.write(lives, passes, &entry);
+    Note {
+        place,
+        pos,
+        entry: AnyEntry::Cpu(entry),
+    }
 }
 
 impl<N: Name> Desk<N> {
@@ -124,7 +159,7 @@ impl<N: Name> Desk<N> {
         let mut looks = Looks::new();
         let count = self.wheel.scan(now, &mut looks);
         let op = QOp::Scan { now };
-        let note = write_turn(
+        let note = note_turn(
             &mut self.books,
             lives,
             passes,
@@ -140,7 +175,7 @@ impl<N: Name> Desk<N> {
         })
     }
 
-    /// A caller's operation on callout `i`. The answer goes to its place, and so does the callout where it leaves for another CPU.
+    /// A caller's operation on callout `i`. What it did goes to its place, and so does the callout where it leaves for another CPU.
     /// False where it isn't here, and there alone.
     #[inline(always)]
     pub(crate) fn call(
@@ -150,26 +185,24 @@ impl<N: Name> Desk<N> {
         act: u64,
         i: u32,
         op: &CallOp,
-        made: &mut Made,
+        told: &mut Told,
         gone: &mut Option<Moving<N>>,
     ) -> bool
         requires places { places.now ≡ N.name }
         requires name { passes.old.name ≡ N.name }
+        requires none { gone.old ≡ None }
         ensures why { result ≡ false → is_kept self.old i ≡ false }
-        ensures tried { IsTried passes.old act i op.now result made.new gone.new passes.new }
+        ensures tried { IsTried passes.old act i op.now result told.new gone.new passes.new }
     {
         if !self.has(i) {
             return false;
         }
         self.books.meet(places.cpus(), passes);
         let out = self.wheel.call(i, op);
-        let notes = write_group(&mut self.books, places, passes, act, i, op, &out);
-        let reply = out.reply;
-        let n = number(&reply);
-        let leaves = depart(&mut self.books, out.leaves, n, time(op));
-        made.reply = reply;
-        made.notes = notes;
-        *gone = leaves;
+        let wrote = write_group(&mut self.books, places, passes, act, i, op, &out);
+        let n = number(&out.reply);
+        depart(&mut self.books, out.leaves, n, time(op), gone);
+        *told = wrote;
         true
     }
 }

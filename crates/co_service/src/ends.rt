@@ -1,5 +1,6 @@
 //! The end of a service, of the CPU or of its interrupt.
 ghost use Rattle.std.specs.Prelude.{◌≡◌, ◌<◌, false, true};
+ghost use Rattle.std.specs.declared.option.Option.TheVariants.{None};
 ghost use Rattle.co_object.specs.Queue.{Due};
 ghost use Rattle.co_service.specs.Call.{HasRoom, notes_in};
 ghost use Rattle.co_service.specs.Moving.{IsOfService, target_of};
@@ -28,6 +29,7 @@ impl<N: Name> Service<N> {
         requires cpu { cpu < self.now.cpus }
         requires passes { AreOf N.name self.now passes.old }
         requires serves { (d : Due) × IsServing direct passes.old cpu d (Runs d.n) }
+        requires none { gone.old ≡ None }
         ensures ended { (d : Due) → IsServing direct passes.old cpu d (Runs d.n) → IsEndedBut direct passes.old cpu act d made.new.reply (target_of gone.new) (notes_in made.new.notes) passes.new × IsOfService passes.old.params d.i gone.new }
         ensures room { HasRoom made.new.notes }
     {

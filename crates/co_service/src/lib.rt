@@ -26,6 +26,7 @@ mod seats;
 mod service;
 mod services;
 mod stories;
+mod told;
 mod wheels;
 
 pub use closing::Closing;

@@ -1,5 +1,6 @@
 //! A callout on its way from one desk to another.
 ghost use Rattle.std.specs.Prelude.{◌≡◌};
+ghost use Rattle.std.specs.declared.option.Option.TheVariants.{None};
 ghost use Rattle.co_service.specs.Moving.{MayDepart, departed, moving_from};
 
 use crate::books::Books;
@@ -51,29 +52,28 @@ impl<N: Name> Moving<N> {
     }
 }
 
-/// What leaves a desk takes its history along.
+/// What leaves a desk takes its history along, and goes to its place.
 #[inline(always)]
 pub(crate) fn depart<N: Name>(
     books: &mut Books<N>,
     leaves: Option<Parcel>,
     n: u64,
     due: Sbt,
-) -> Option<Moving<N>>
-    requires { MayDepart books.old n due leaves }
+    gone: &mut Option<Moving<N>>,
+)
+    requires may { MayDepart books.old n due leaves }
+    requires none { gone.old ≡ None }
     ensures books { books.new ≡ departed books.old leaves }
-    ensures moving { result ≡ moving_from books.old n due leaves }
+    ensures moving { gone.new ≡ moving_from books.old n due leaves }
 {
-    match leaves {
-        None => None,
-        Some(parcel) => {
-            let keeper = books.take(parcel.callout());
-            Some(Moving {
-                parcel,
-                keeper,
-                n,
-                due,
-                of: PhantomData,
-            })
-        }
+    if let Some(parcel) = leaves {
+        let keeper = books.take(parcel.callout());
+        *gone = Some(Moving {
+            parcel,
+            keeper,
+            n,
+            due,
+            of: PhantomData,
+        });
     }
 }

@@ -21,12 +21,12 @@ ghost use Rattle.co_wheel.specs.Service.{end_here};
 ghost use Rattle.co_wheel.specs.Turns.{free_of, pop_of};
 
 use crate::books::Books;
-use crate::desk::write_turn;
+use crate::desk::note_turn;
 use crate::places::Places;
 use crate::seats::Lives;
 use crate::{Made, Name, Passes, Taken, TimerStory};
 use co_bucket::WheelQueue;
-use co_object::{Entry, Note, Op, QOp, QReply, Reply, RunOp};
+use co_object::{AnyEntry, Entry, Note, Op, Place, QOp, QReply, Reply, RunOp};
 use co_sbt::Sbt;
 use co_wheel::{EndOut, NextOut, Wheel};
 
@@ -56,7 +56,12 @@ pub(crate) fn write_run<N: Name>(
         op: Op::Run(op),
         reply: *reply,
     };
-    books.write_timer(lives, passes, i, &entry)
+    let pos = books.write_timer(lives, passes, i, &entry);
+    Note {
+        place: Place::Timer(i),
+        pos,
+        entry: AnyEntry::Timer(entry),
+    }
 }
 
 /// Up to three notes, in their order.
@@ -127,12 +132,12 @@ pub(crate) fn write_taken<N: Name>(
     match out {
         NextOut::Empty => {
             let reply = QReply::Empty;
-            let note = write_turn(books, places.cpus(), passes, act, op, reply);
+            let note = note_turn(books, places.cpus(), passes, act, op, reply);
             Taken::Empty { note }
         }
         NextOut::Took { i, n, at, reply } => {
             let got = QReply::Got { i, n, at };
-            let pop = write_turn(books, places.cpus(), passes, act, op, got);
+            let pop = note_turn(books, places.cpus(), passes, act, op, got);
             let cpu = books.cpu();
             let picks = RunOp::Pick { n, cpu, at };
             let pick = write_run(books, places.timers(), passes, act, i, picks, &reply);

@@ -23,6 +23,7 @@ use crate::locked::{DeskHold, Inside, Locked, make_inside, open_desks};
 use crate::moving::Moving;
 use crate::places::Places;
 use crate::running::add_last;
+use crate::told::Told;
 use crate::{Fresh, Made, Name, Params, Passes, Scanned, Taken};
 use co_life::Shown;
 use co_lock::Hold;
@@ -115,7 +116,7 @@ impl<N: Name> Service<N> {
         if cpu < self.desks.len() { cpu } else { 0 }
     }
 
-    /// A call on one desk. The answer and what leaves go to their places. False where the callout isn't there.
+    /// A call on one desk. What it did and what leaves go to their places. False where the callout isn't there.
     #[inline(always)]
     fn call_at<R: Wait>(
         &self,
@@ -125,18 +126,46 @@ impl<N: Name> Service<N> {
         i: u32,
         op: &CallOp,
         cpu: usize,
-        made: &mut Made,
+        told: &mut Told,
         gone: &mut Option<Moving<N>>,
     ) -> bool
         requires cpu { cpu < self.now.cpus }
         requires passes { AreOf N.name self.now passes.old }
-        ensures { IsTried passes.old act i op.now result made.new gone.new passes.new }
+        requires none { gone.old ≡ None }
+        ensures { IsTried passes.old act i op.now result told.new gone.new passes.new }
     {
         let locked = &self.desks[cpu];
         locked
             .desk
             .lock(rt)
-            .call(&self.places, passes, act, i, op, made, gone)
+            .call(&self.places, passes, act, i, op, told, gone)
+    }
+
+    /// A call on the desks but this one, in rising order. False where the callout is on none of them.
+    ///
+    /// It stands apart, since a callout is seldom elsewhere than where its hint says.
+    #[inline(never)]
+    fn call_elsewhere<R: Wait>(
+        &self,
+        rt: &R,
+        passes: &mut Passes,
+        act: u64,
+        i: u32,
+        op: &CallOp,
+        but: usize,
+        told: &mut Told,
+        gone: &mut Option<Moving<N>>,
+    ) -> bool
+        requires passes { AreOf N.name self.now passes.old }
+        requires none { gone.old ≡ None }
+        ensures { IsTried passes.old act i op.now result told.new gone.new passes.new }
+    {
+        for cpu in 0..self.desks.len() {
+            if cpu != but && self.call_at(rt, passes, act, i, op, cpu, told, gone) {
+                return true;
+            }
+        }
+        false
     }
 
     /// A call on the desk that the callout's hint names, and where it isn't there on the others in rising order. False where it is on
@@ -149,22 +178,18 @@ impl<N: Name> Service<N> {
         act: u64,
         i: u32,
         op: &CallOp,
-        made: &mut Made,
+        told: &mut Told,
         gone: &mut Option<Moving<N>>,
     ) -> bool
         requires passes { AreOf N.name self.now passes.old }
-        ensures { IsTried passes.old act i op.now result made.new gone.new passes.new }
+        requires none { gone.old ≡ None }
+        ensures { IsTried passes.old act i op.now result told.new gone.new passes.new }
     {
         let first = self.hint(i);
-        if self.call_at(rt, passes, act, i, op, first, made, gone) {
+        if self.call_at(rt, passes, act, i, op, first, told, gone) {
             return true;
         }
-        for cpu in 0..self.desks.len() {
-            if cpu != first && self.call_at(rt, passes, act, i, op, cpu, made, gone) {
-                return true;
-            }
-        }
-        false
+        self.call_elsewhere(rt, passes, act, i, op, first, told, gone)
     }
 
     /// A callout comes to the desk of the CPU at which it is armed.
@@ -216,7 +241,7 @@ impl<N: Name> Service<N> {
         unreachable!()
     }
 
-    /// A call, where the record stands. The answer and what leaves go to their places.
+    /// A call, where the record stands. What it did and what leaves go to their places.
     #[inline(always)]
     fn call_found<R: Wait>(
         &self,
@@ -225,21 +250,22 @@ impl<N: Name> Service<N> {
         act: u64,
         i: u32,
         op: &CallOp,
-        made: &mut Made,
+        told: &mut Told,
         gone: &mut Option<Moving<N>>,
     )
         requires passes { AreOf N.name self.now passes.old }
-        ensures { IsTried passes.old act i op.now true made.new gone.new passes.new }
+        requires none { gone.old ≡ None }
+        ensures { IsTried passes.old act i op.now true told.new gone.new passes.new }
     {
         for _ in rt.forever() {
-            if self.call_once(rt, passes, act, i, op, made, gone) {
+            if self.call_once(rt, passes, act, i, op, told, gone) {
                 return;
             }
         }
         unreachable!()
     }
 
-    /// A call, the landing of what leaves included. The answer goes to its place: it is large, and so made where it is wanted.
+    /// A call, the landing of what leaves included. Its notes are made once no desk is locked any more.
     #[inline(always)]
     fn call_landed<R: Wait>(
         &self,
@@ -248,17 +274,21 @@ impl<N: Name> Service<N> {
         act: u64,
         i: u32,
         op: &CallOp,
-        made: &mut Made,
-    )
+    ) -> Made
         requires passes { AreOf N.name self.now passes.old }
-        ensures { IsCalled passes.old act i op.now made.new.reply (notes_in made.new.notes) passes.new }
+        ensures { IsCalled passes.old act i op.now result.reply (notes_in result.notes) passes.new }
     {
+        let mut told = Told::none();
         let mut leaves = None;
-        self.call_found(rt, passes, act, i, op, made, &mut leaves);
-        if let Some(moving) = leaves {
-            let last = self.land(rt, passes, act, moving);
-            add_last(made, last);
-        }
+        self.call_found(rt, passes, act, i, op, &mut told, &mut leaves);
+        let actor = passes.actor();
+        let Some(moving) = leaves else {
+            return told.into_made(actor, act, i, op);
+        };
+        let mut made = told.into_made(actor, act, i, op);
+        let last = self.land(rt, passes, act, moving);
+        add_last(&mut made, last);
+        made
     }
 
     /// A call on callout `i`, the landing of its record at another CPU included. The caller's hold covers it.
@@ -284,9 +314,7 @@ impl<N: Name> Service<N> {
         ensures serving { (direct : Bool) (cpu : ℕ) (d : Due) (far : Progress) → IsServing direct passes.old cpu d far → IsServing direct passes.new cpu d far }
     {
         let _ = hold;
-        let mut made = Made::none();
-        self.call_landed(rt, passes, act, i, op, &mut made);
-        made
+        self.call_landed(rt, passes, act, i, op)
     }
 
     /// What is due at this CPU has come due. It waits for the desk's lock.

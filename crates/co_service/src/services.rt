@@ -18,7 +18,7 @@ ghost use Rattle.co_service.specs.Views.{journal_seen};
 ghost use Rattle.co_service.specs.Writes.{WritesCpu};
 
 use crate::books::Books;
-use crate::desk::{Desk, write_turn};
+use crate::desk::{Desk, note_turn};
 use crate::moving::{Moving, depart};
 use crate::places::Places;
 use crate::running::{finish, free, serviced, take, three, waited, write_run, write_taken};
@@ -57,7 +57,7 @@ fn write_landed<N: Name>(
     ensures written { WritesCpu passes.old books.old.cpu (turn passes.old act (Insert i n t) (At at)) result.pos books.new.journal passes.new }
 {
     let op = QOp::Insert { i, n, t };
-    write_turn(books, lives, passes, act, op, QReply::At(at))
+    note_turn(books, lives, passes, act, op, QReply::At(at))
 }
 
 impl<N: Name> Desk<N> {
@@ -156,7 +156,8 @@ impl<N: Name> Desk<N> {
         requires places { places.now ≡ N.name }
         requires name { passes.old.name ≡ N.name }
         requires serves { (d : Due) × IsServing direct passes.old cpu d (Runs d.n) }
-        ensures none { result ≡ false → passes.new ≡ passes.old }
+        requires none { gone.old ≡ None }
+        ensures none { result ≡ false → (passes.new ≡ passes.old) × (gone.new ≡ None) }
         ensures why { result ≡ false → self.old.cpu ≢ cpu }
         ensures some { result ≡ true → (d : Due) → IsServing direct passes.old cpu d (Runs d.n) → IsEndedBut direct passes.old cpu act d made.new.reply (target_of gone.new) (notes_in made.new.notes) passes.new × IsOfService passes.old.params d.i gone.new }
         ensures room { result ≡ true → HasRoom made.new.notes }
@@ -173,7 +174,7 @@ impl<N: Name> Desk<N> {
         let op = RunOp::End { n, cpu };
         let reply = out.reply;
         let ends = write_run(&mut self.books, places.timers(), passes, act, i, op, &reply);
-        let frees = write_turn(
+        let frees = note_turn(
             &mut self.books,
             places.cpus(),
             passes,
@@ -182,11 +183,10 @@ impl<N: Name> Desk<N> {
             QReply::Freed,
         );
         let (n, due) = waited(&reply);
-        let leaves = depart(&mut self.books, out.leaves, n, due);
+        depart(&mut self.books, out.leaves, n, due, gone);
         let notes = three(Some(ends), Some(frees), None);
         made.reply = reply;
         made.notes = notes;
-        *gone = leaves;
         true
     }
 

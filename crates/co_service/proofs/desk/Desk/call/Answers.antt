@@ -3,8 +3,9 @@ use Rattle.std.specs.Prelude.{is_some}
 use Rattle.std.specs.declared.option.Option.{Option}
 use Rattle.std.specs.declared.option.Option.TheVariants.{Some}
 use Rattle.co_object.specs.declared.note.Entry.{Entry}
+use Rattle.co_object.specs.declared.reply.Reply.{Reply}
 use Rattle.co_service.specs.Books.{BooksView, history_at, is_kept}
-use Rattle.co_service.specs.Call.{IsAnswer, notes_in}
+use Rattle.co_service.specs.Call.{IsAnswer, told_notes}
 use Rattle.co_service.specs.Desk.{IsDesk}
 use Rattle.co_service.specs.Moving.{IsOfService, MayDepart, MovingView, moving_from, target_of}
 use Rattle.co_service.specs.Views.{PassesView}
@@ -12,44 +13,44 @@ use Rattle.co_service.proofs.CallSection.{answer_section, desk_section, leaves_n
 use Rattle.co_service.proofs.ServedDesk.{some_of}
 use Rattle.co_service.proofs.desk.Desk.call.Goals as goal
 
-pub write_group-notes-requires-clause-reply : goal.write_group-notes-requires-clause-reply
-write_group-notes-requires-clause-reply g c =
+pub write_group-wrote-requires-clause-reply : goal.write_group-wrote-requires-clause-reply
+write_group-wrote-requires-clause-reply g c =
     let desk : IsDesk c.self.inside.wheel c.meet.new.self c.self.inside.scans = subst (λ b. IsDesk c.self.inside.wheel b c.self.inside.scans) (sym c.meet.ensures.kept) c.self.invariant in
     let same : is_kept c.meet.new.self c.args.i ≡ is_kept c.self.inside.books c.args.i = ap (λ (b : BooksView). is_kept b c.args.i) c.meet.ensures.kept in
     let here : (H : List Entry) × (history_at c.meet.new.self c.args.i ≡ Some H) = some_of (history_at c.meet.new.self c.args.i) (cc) in
     reply_here c.self.inside.wheel c.call-out.new.self c.meet.new.self c.self.inside.scans c.args.i c.args.op.now c.call-out.result here.0 desk here.1 c.call-out.ensures
 
-pub write_group-notes-requires-clause-off : goal.write_group-notes-requires-clause-off
-write_group-notes-requires-clause-off g c =
+pub write_group-wrote-requires-clause-off : goal.write_group-wrote-requires-clause-off
+write_group-wrote-requires-clause-off g c =
     let desk : IsDesk c.self.inside.wheel c.meet.new.self c.self.inside.scans = subst (λ b. IsDesk c.self.inside.wheel b c.self.inside.scans) (sym c.meet.ensures.kept) c.self.invariant in
     let same : is_kept c.meet.new.self c.args.i ≡ is_kept c.self.inside.books c.args.i = ap (λ (b : BooksView). is_kept b c.args.i) c.meet.ensures.kept in
     let here : (H : List Entry) × (history_at c.meet.new.self c.args.i ≡ Some H) = some_of (history_at c.meet.new.self c.args.i) (cc) in
     off_here c.self.inside.wheel c.call-out.new.self c.meet.new.self c.self.inside.scans c.args.i c.args.op.now c.call-out.result here.0 desk here.1 c.call-out.ensures
 
-pub write_group-notes-requires-clause-owes : goal.write_group-notes-requires-clause-owes
-write_group-notes-requires-clause-owes g c =
+pub write_group-wrote-requires-clause-owes : goal.write_group-wrote-requires-clause-owes
+write_group-wrote-requires-clause-owes g c =
     let desk : IsDesk c.self.inside.wheel c.meet.new.self c.self.inside.scans = subst (λ b. IsDesk c.self.inside.wheel b c.self.inside.scans) (sym c.meet.ensures.kept) c.self.invariant in
     let same : is_kept c.meet.new.self c.args.i ≡ is_kept c.self.inside.books c.args.i = ap (λ (b : BooksView). is_kept b c.args.i) c.meet.ensures.kept in
     let here : (H : List Entry) × (history_at c.meet.new.self c.args.i ≡ Some H) = some_of (history_at c.meet.new.self c.args.i) (cc) in
     (c.call-out.new.self, owes_section c.self.inside.wheel c.call-out.new.self c.meet.new.self c.self.inside.scans c.args.i c.args.op.now c.call-out.result here.0 desk here.1 c.call-out.ensures)
 
-pub depart-leaves-requires : goal.depart-leaves-requires
-depart-leaves-requires g c =
+pub depart-requires-clause-may : goal.depart-requires-clause-may
+depart-requires-clause-may g c =
     let desk : IsDesk c.self.inside.wheel c.meet.new.self c.self.inside.scans = subst (λ b. IsDesk c.self.inside.wheel b c.self.inside.scans) (sym c.meet.ensures.kept) c.self.invariant in
     let same : is_kept c.meet.new.self c.args.i ≡ is_kept c.self.inside.books c.args.i = ap (λ (b : BooksView). is_kept b c.args.i) c.meet.ensures.kept in
     let here : (H : List Entry) × (history_at c.meet.new.self c.args.i ≡ Some H) = some_of (history_at c.meet.new.self c.args.i) (cc) in
-    subst (λ (t : ℕ × ℕ). MayDepart c.write_group-notes.new.books t.0 t.1 c.call-out.result.leaves) (λ d. (sym c.number-n.ensures d, sym c.time.ensures d))
-    (may_section c.self.inside.wheel c.call-out.new.self c.meet.new.self c.self.inside.scans c.args.i c.args.op.now c.call-out.result here.0 desk here.1 c.call-out.ensures c.meet.new.passes c.args.act c.write_group-notes.new.books c.write_group-notes.ensures.books)
+    subst (λ (t : ℕ × ℕ). MayDepart c.write_group-wrote.new.books t.0 t.1 c.call-out.result.leaves) (λ d. (sym c.number-n.ensures d, sym c.time.ensures d))
+    (may_section c.self.inside.wheel c.call-out.new.self c.meet.new.self c.self.inside.scans c.args.i c.args.op.now c.call-out.result here.0 desk here.1 c.call-out.ensures c.meet.new.passes c.args.act c.write_group-wrote.new.books c.write_group-wrote.ensures.books)
 
 pub invariant_of-self : goal.invariant_of-self
 invariant_of-self g c =
     let desk : IsDesk c.self.inside.wheel c.meet.new.self c.self.inside.scans = subst (λ b. IsDesk c.self.inside.wheel b c.self.inside.scans) (sym c.meet.ensures.kept) c.self.invariant in
     let same : is_kept c.meet.new.self c.args.i ≡ is_kept c.self.inside.books c.args.i = ap (λ (b : BooksView). is_kept b c.args.i) c.meet.ensures.kept in
     let here : (H : List Entry) × (history_at c.meet.new.self c.args.i ≡ Some H) = some_of (history_at c.meet.new.self c.args.i) (cc) in
-    subst (λ b. IsDesk c.call-out.new.self b c.self.inside.scans) (sym c.depart-leaves.ensures.books)
-    (desk_section c.self.inside.wheel c.call-out.new.self c.meet.new.self c.self.inside.scans c.args.i c.args.op.now c.call-out.result here.0 desk here.1 c.call-out.ensures c.meet.new.passes c.args.act c.write_group-notes.new.books c.write_group-notes.ensures.books
-    (c.write_group-notes.ensures.goes_on c.call-out.new.self (owes_section c.self.inside.wheel c.call-out.new.self c.meet.new.self c.self.inside.scans c.args.i c.args.op.now c.call-out.result here.0 desk here.1 c.call-out.ensures))
-    (let before = desk.counted in let same = c.write_group-notes.ensures.scans in omega arith))
+    subst (λ b. IsDesk c.call-out.new.self b c.self.inside.scans) (sym c.depart.ensures.books)
+    (desk_section c.self.inside.wheel c.call-out.new.self c.meet.new.self c.self.inside.scans c.args.i c.args.op.now c.call-out.result here.0 desk here.1 c.call-out.ensures c.meet.new.passes c.args.act c.write_group-wrote.new.books c.write_group-wrote.ensures.books
+    (c.write_group-wrote.ensures.goes_on c.call-out.new.self (owes_section c.self.inside.wheel c.call-out.new.self c.meet.new.self c.self.inside.scans c.args.i c.args.op.now c.call-out.result here.0 desk here.1 c.call-out.ensures))
+    (let before = desk.counted in let same = c.write_group-wrote.ensures.scans in omega arith))
 
 pub returns-clause-tried : goal.returns-clause-tried
 returns-clause-tried g c = record {
@@ -59,22 +60,22 @@ returns-clause-tried g c = record {
       let same : is_kept c.meet.new.self c.args.i ≡ is_kept c.self.inside.books c.args.i = ap (λ (b : BooksView). is_kept b c.args.i) c.meet.ensures.kept in
       let here : (H : List Entry) × (history_at c.meet.new.self c.args.i ≡ Some H) = some_of (history_at c.meet.new.self c.args.i) (cc) in
       let params : c.meet.new.self.params ≡ c.meet.new.passes.params = ap (λ (b : BooksView). b.params) c.meet.ensures.kept ∙ (c.meet.ensures.params ∙ ap (λ (p : PassesView). p.params) (sym c.meet.ensures.passes)) in
-      let moves = c.depart-leaves.ensures.moving ∙ (λ d. moving_from c.write_group-notes.new.books (c.number-n.ensures d) (c.time.ensures d) c.call-out.result.leaves) in
-      subst (λ (t : PassesView × Option MovingView). IsAnswer t.0 c.args.act c.args.i c.args.op.now c.call-out.result.reply (target_of t.1) (notes_in c.write_group-notes.result) c.write_group-notes.new.passes) (λ d. (c.meet.ensures.passes d, sym moves d))
-      (answer_section c.self.inside.wheel c.call-out.new.self c.meet.new.self c.self.inside.scans c.args.i c.args.op.now c.call-out.result here.0 desk here.1 c.call-out.ensures c.meet.new.passes c.args.act c.write_group-notes.new.books c.write_group-notes.ensures.books
-      c.write_group-notes.new.passes (notes_in c.write_group-notes.result) params c.write_group-notes.ensures.placed c.write_group-notes.ensures.seen c.write_group-notes.ensures.written);
+      let moves = c.depart.ensures.moving ∙ (λ d. moving_from c.write_group-wrote.new.books (c.number-n.ensures d) (c.time.ensures d) c.call-out.result.leaves) in
+      subst (λ (t : PassesView × Option MovingView × Reply). IsAnswer t.0 c.args.act c.args.i c.args.op.now t.2 (target_of t.1) (told_notes t.0.actor c.args.act c.args.i c.args.op.now c.write_group-wrote.result) c.write_group-wrote.new.passes) (λ d. (c.meet.ensures.passes d, sym moves d, sym c.write_group-wrote.ensures.reply d))
+      (answer_section c.self.inside.wheel c.call-out.new.self c.meet.new.self c.self.inside.scans c.args.i c.args.op.now c.call-out.result here.0 desk here.1 c.call-out.ensures c.meet.new.passes c.args.act c.write_group-wrote.new.books c.write_group-wrote.ensures.books
+      c.write_group-wrote.new.passes (told_notes c.meet.new.passes.actor c.args.act c.args.i c.args.op.now c.write_group-wrote.result) params c.write_group-wrote.ensures.placed c.write_group-wrote.ensures.seen c.write_group-wrote.ensures.written);
   leaving = λ _.
       let desk : IsDesk c.self.inside.wheel c.meet.new.self c.self.inside.scans = subst (λ b. IsDesk c.self.inside.wheel b c.self.inside.scans) (sym c.meet.ensures.kept) c.self.invariant in
       let same : is_kept c.meet.new.self c.args.i ≡ is_kept c.self.inside.books c.args.i = ap (λ (b : BooksView). is_kept b c.args.i) c.meet.ensures.kept in
       let here : (H : List Entry) × (history_at c.meet.new.self c.args.i ≡ Some H) = some_of (history_at c.meet.new.self c.args.i) (cc) in
       let params : c.meet.new.self.params ≡ c.args.passes.now.params = ap (λ (b : BooksView). b.params) c.meet.ensures.kept ∙ c.meet.ensures.params in
-      let moves = c.depart-leaves.ensures.moving ∙ (λ d. moving_from c.write_group-notes.new.books (c.number-n.ensures d) (c.time.ensures d) c.call-out.result.leaves) in
+      let moves = c.depart.ensures.moving ∙ (λ d. moving_from c.write_group-wrote.new.books (c.number-n.ensures d) (c.time.ensures d) c.call-out.result.leaves) in
       subst (λ (m : Option MovingView). IsOfService c.args.passes.now.params c.args.i m) (sym moves)
-      (service_section c.self.inside.wheel c.call-out.new.self c.meet.new.self c.self.inside.scans c.args.i c.args.op.now c.call-out.result here.0 desk here.1 c.call-out.ensures c.meet.new.passes c.args.act c.write_group-notes.new.books c.write_group-notes.ensures.books c.args.passes.now.params params);
+      (service_section c.self.inside.wheel c.call-out.new.self c.meet.new.self c.self.inside.scans c.args.i c.args.op.now c.call-out.result here.0 desk here.1 c.call-out.ensures c.meet.new.passes c.args.act c.write_group-wrote.new.books c.write_group-wrote.ensures.books c.args.passes.now.params params);
   room = λ _ some.
       let desk : IsDesk c.self.inside.wheel c.meet.new.self c.self.inside.scans = subst (λ b. IsDesk c.self.inside.wheel b c.self.inside.scans) (sym c.meet.ensures.kept) c.self.invariant in
       let same : is_kept c.meet.new.self c.args.i ≡ is_kept c.self.inside.books c.args.i = ap (λ (b : BooksView). is_kept b c.args.i) c.meet.ensures.kept in
       let here : (H : List Entry) × (history_at c.meet.new.self c.args.i ≡ Some H) = some_of (history_at c.meet.new.self c.args.i) (cc) in
-      c.write_group-notes.ensures.room (leaves_nothing c.self.inside.wheel c.call-out.new.self c.meet.new.self c.self.inside.scans c.args.i c.args.op.now c.call-out.result here.0 desk here.1 c.call-out.ensures
-      c.write_group-notes.new.books c.number-n.result c.time.result (ap is_some (sym c.depart-leaves.ensures.moving) ∙ some));
+      c.write_group-wrote.ensures.room (leaves_nothing c.self.inside.wheel c.call-out.new.self c.meet.new.self c.self.inside.scans c.args.i c.args.op.now c.call-out.result here.0 desk here.1 c.call-out.ensures
+      c.write_group-wrote.new.books c.number-n.result c.time.result (ap is_some (sym c.depart.ensures.moving) ∙ some));
 }

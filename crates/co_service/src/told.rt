@@ -1,0 +1,169 @@
+//! What a call did, and the notes of it.
+ghost use Rattle.std.specs.Prelude.{◌≡◌, ℕ, [], ◌∷◌};
+ghost use Rattle.std.specs.declared.option.Option.TheVariants.{Some, None};
+ghost use Rattle.co_object.specs.declared.op.Op.TheVariants.{Call};
+ghost use Rattle.co_object.specs.Group.{off_of};
+ghost use Rattle.co_service.specs.Call.{HasRoom, due_in, insertion_told, noted, notes_in, number_in, removal_told, told_notes};
+ghost use Rattle.co_service.specs.Outcomes.{noted_entry, noted_turn};
+
+use crate::Made;
+use co_object::{AnyEntry, CallOp, Entry, Note, Op, Place, PlainOp, QEntry, QOp, QReply, Reply};
+use co_sbt::Sbt;
+
+/// An Insert that was written.
+#[derive(Drop)]
+pub(crate) struct Inserted {
+    /// In whose queue the arming stands.
+    pub(crate) cpu: u32,
+    /// The time at which it stands there.
+    pub(crate) at: Sbt,
+    /// Where the Insert stands in the journal.
+    pub(crate) pos: u64,
+}
+
+/// What a call did, in few words: each note of it is made once, where the caller wants it.
+#[derive(Drop)]
+pub(crate) struct Told {
+    /// The callout's reply, which names the queue that had an arming.
+    pub(crate) reply: Reply,
+    /// Where the Remove of that arming stands in the journal.
+    pub(crate) removal: u64,
+    /// Where the call's entry stands in the callout's history.
+    pub(crate) entry: u64,
+    /// The Insert of the new arming, where that stands in a queue.
+    pub(crate) insertion: Option<Inserted>,
+}
+
+/// The number of the arming that a reply accepts.
+#[inline(always)]
+pub(crate) fn number(reply: &Reply) -> u64
+    ensures { result ≡ number_in reply.now }
+{
+    match *reply {
+        Reply::Armed { n, .. } => n,
+        _ => 0,
+    }
+}
+
+/// The due time that an operation names.
+#[inline(always)]
+pub(crate) fn time(op: &CallOp) -> Sbt
+    ensures { result ≡ due_in op.now }
+{
+    match *op {
+        CallOp::Plain(PlainOp::Reset { due, .. }) => due,
+        CallOp::Plain(PlainOp::Schedule { due, .. }) => due,
+        _ => Sbt::zero(),
+    }
+}
+
+/// The CPU from whose queue an arming went, by the reply.
+#[inline(always)]
+fn off(reply: &Reply) -> Option<u32>
+    ensures { result ≡ off_of reply.now }
+{
+    match *reply {
+        Reply::Armed { off, .. } => off,
+        Reply::Stopped { off, .. } => off,
+        Reply::Wait { off, .. } => off,
+        Reply::Drained { off, .. } => off,
+        _ => None,
+    }
+}
+
+/// The note of an entry of a CPU's journal.
+#[inline(always)]
+fn turn_note(actor: u32, act: u64, cpu: u32, op: QOp, reply: QReply, pos: u64) -> Note
+    ensures { result ≡ noted_turn actor act cpu op reply pos }
+{
+    Note {
+        place: Place::Cpu(cpu),
+        pos,
+        entry: AnyEntry::Cpu(QEntry {
+            actor,
+            act,
+            op,
+            reply,
+        }),
+    }
+}
+
+/// The note of a call's entry.
+#[inline(always)]
+fn call_note(actor: u32, act: u64, i: u32, op: &CallOp, reply: &Reply, pos: u64) -> Note
+    ensures { result ≡ noted_entry i (record { actor = actor; act = act; op = Call op.now; reply = reply.now }) pos }
+{
+    Note {
+        place: Place::Timer(i),
+        pos,
+        entry: AnyEntry::Timer(Entry {
+            actor,
+            act,
+            op: Op::Call(*op),
+            reply: *reply,
+        }),
+    }
+}
+
+/// The note of what a call took out of a queue.
+#[inline(always)]
+fn removal_note(actor: u32, act: u64, i: u32, reply: &Reply, pos: u64) -> Option<Note>
+    ensures { noted result ≡ removal_told actor act i (off_of reply.now) pos }
+{
+    let Some(cpu) = off(reply) else {
+        return None;
+    };
+    let op = QOp::Remove { i };
+    Some(turn_note(actor, act, cpu, op, QReply::Off, pos))
+}
+
+/// The note of what a call put in a queue.
+#[inline(always)]
+fn insertion_note(
+    actor: u32,
+    act: u64,
+    i: u32,
+    n: u64,
+    t: Sbt,
+    insertion: &Option<Inserted>,
+) -> Option<Note>
+    ensures notes { noted result ≡ insertion_told actor act i n t insertion.now }
+    ensures none { insertion.now ≡ None → result ≡ None }
+{
+    let Some(Inserted { cpu, at, pos }) = *insertion else {
+        return None;
+    };
+    let op = QOp::Insert { i, n, t };
+    Some(turn_note(actor, act, cpu, op, QReply::At(at), pos))
+}
+
+impl Told {
+    /// A place for what a call did, before it has done anything.
+    #[inline(always)]
+    pub(crate) fn none() -> Told {
+        Told {
+            reply: Reply::Done,
+            removal: 0,
+            entry: 0,
+            insertion: None,
+        }
+    }
+
+    /// The answer of the call, note after note: what it took out of the queue, its entry, and what it put in.
+    #[inline(always)]
+    pub(crate) fn into_made(self, actor: u32, act: u64, i: u32, op: &CallOp) -> Made
+        ensures reply { result.reply ≡ self.reply }
+        ensures notes { notes_in result.notes ≡ told_notes actor act i op.now self }
+        ensures room { self.insertion ≡ None → HasRoom result.notes }
+    {
+        let reply = self.reply;
+        let removal = removal_note(actor, act, i, &reply, self.removal);
+        let entry = call_note(actor, act, i, op, &reply, self.entry);
+        let n = number(&reply);
+        let insertion = insertion_note(actor, act, i, n, time(op), &self.insertion);
+        Made {
+            reply,
+            notes: [removal, Some(entry), insertion],
+        }
+    }
+}
