@@ -26,12 +26,10 @@ fn gives<S: Source>(alloc: Global, source: &mut S, limit: usize, bytes: &[u8], o
     }
 }
 
-#[test]
-fn a_failed_read_leaves_the_rest(rt: HostRuntime) -> Result<(), Fail> {
-    let mut source = MemSource::new(rt.alloc(), b"abc", 1, &[1])?;
-    assert!(rt; fails(rt.alloc(), &mut source));
-    assert!(rt; gives(rt.alloc(), &mut source, 9, b"bc".as_slice(), false));
-    Ok(())
+// Whether a source of three bytes fails at its second read, and then gives the rest.
+fn fails_once(alloc: Global) -> Result<bool, NoMemory> {
+    let mut source = MemSource::new(alloc, b"abc", 1, &[1])?;
+    Ok(fails(alloc, &mut source) && gives(alloc, &mut source, 9, b"bc".as_slice(), false))
 }
 
 // Whether these are read of five bytes, over the limit or not.
@@ -42,13 +40,19 @@ fn gives_of_five(alloc: Global, limit: usize, bytes: &[u8], over: bool) -> Resul
     Ok(gives(alloc, &mut source, limit, bytes, over))
 }
 
+// A source is read up to one byte past the limit.
 #[test]
-fn reads_one_byte_past_the_limit(rt: HostRuntime) -> Result<(), Fail> {
-    assert!(rt; gives_of_five(rt.alloc(), 6, b"abcde".as_slice(), false)?);
-    assert!(rt; gives_of_five(rt.alloc(), 5, b"abcde".as_slice(), false)?);
-    assert!(rt; gives_of_five(rt.alloc(), 4, b"abcde".as_slice(), true)?);
-    assert!(rt; gives_of_five(rt.alloc(), 0, b"a".as_slice(), true)?);
-    Ok(())
+fn sources_give_up_to_a_failure_and_the_limit(rt: HostRuntime) {
+    let alloc = rt.alloc();
+    assert!(rt; fails_once(alloc) == Ok(true));
+    for (limit, bytes, over) in [
+        (6_u8, b"abcde".as_slice(), false),
+        (5, b"abcde".as_slice(), false),
+        (4, b"abcde".as_slice(), true),
+        (0, b"a".as_slice(), true),
+    ] {
+        assert!(rt; gives_of_five(alloc, usize::from(limit), bytes, over) == Ok(true));
+    }
 }
 
 // Whether a write ends so, and the sink then has these bytes.
@@ -56,26 +60,11 @@ fn writes(sink: &mut MemSink, bytes: &[u8], end: Result<(), WriteEnd>, held: &[u
     write_all(sink, bytes) == end && sink.bytes() == held
 }
 
-#[test]
-fn a_failed_write_leaves_a_front(rt: HostRuntime) -> Result<(), Fail> {
-    let mut sink = MemSink::new(rt.alloc(), 2, 1, &[1])?;
-    assert!(rt;
-        writes(
-            &mut sink,
-            b"abc".as_slice(),
-            Err(WriteEnd::Fault),
-            b"a".as_slice()
-        )
-    );
-    assert!(rt;
-        writes(
-            &mut sink,
-            b"bc".as_slice(),
-            Err(WriteEnd::Stalled),
-            b"ab".as_slice()
-        )
-    );
-    Ok(())
+// Whether a sink with room for two bytes fails at its second write, and is full then.
+fn fails_and_is_full(alloc: Global) -> Result<bool, NoMemory> {
+    let mut sink = MemSink::new(alloc, 2, 1, &[1])?;
+    let failed = writes(&mut sink, b"abc", Err(WriteEnd::Fault), b"a");
+    Ok(failed && writes(&mut sink, b"bc", Err(WriteEnd::Stalled), b"ab"))
 }
 
 // Three pieces, of which the second is empty.
@@ -100,10 +89,11 @@ fn writes_three(
 }
 
 #[test]
-fn pieces_are_written_in_order_up_to_a_failure(rt: HostRuntime) -> Result<(), Fail> {
-    assert!(rt; writes_three(rt.alloc(), 9, Ok(()), b"abcd".as_slice())?);
-    assert!(rt; writes_three(rt.alloc(), 3, Err(WriteEnd::Stalled), b"abc".as_slice())?);
-    Ok(())
+fn sinks_take_up_to_a_failure_and_their_room(rt: HostRuntime) {
+    let alloc = rt.alloc();
+    assert!(rt; fails_and_is_full(alloc) == Ok(true));
+    assert!(rt; writes_three(alloc, 9, Ok(()), b"abcd") == Ok(true));
+    assert!(rt; writes_three(alloc, 3, Err(WriteEnd::Stalled), b"abc") == Ok(true));
 }
 
 // Pours a source of three bytes at most into a sink that has room for it: no fault comes between.
@@ -133,27 +123,21 @@ fn copy<S: Source, K: Sink>(alloc: Global, limit: usize, source: &mut S, sink: &
     }
 }
 
-// Pours three bytes.
-fn pours(alloc: Global, sink: &mut QuietSink) -> Result<(), NoMemory>
+// Pours three bytes into a sink, and copies three more: whether it has them all then.
+fn takes_all(alloc: Global, sink: &mut QuietSink) -> Result<bool, NoMemory>
     requires { 3 ≤ sink.old.room }
 {
-    let mut source = QuietSource::new(alloc, b"abc")?;
-    pour(alloc, &mut source, sink)
-}
-
-// Copies three bytes.
-fn copies(alloc: Global, sink: &mut QuietSink) -> Result<bool, NoMemory> {
+    let mut quiet = QuietSource::new(alloc, b"abc")?;
+    pour(alloc, &mut quiet, sink)?;
+    let poured = sink.bytes() == b"abc".as_slice();
     let mut source = MemSource::new(alloc, b"def", 1, &[])?;
-    Ok(copy(alloc, 3, &mut source, sink))
+    Ok(poured && copy(alloc, 3, &mut source, sink) && sink.bytes() == b"abcdef".as_slice())
 }
 
 #[test]
 fn quiet_ends_take_all(rt: HostRuntime) -> Result<(), Fail> {
     let mut sink = QuietSink::new(rt.alloc(), 6)?;
-    pours(rt.alloc(), &mut sink)?;
-    assert!(rt; sink.bytes() == b"abc".as_slice());
-    assert!(rt; copies(rt.alloc(), &mut sink)?);
-    assert!(rt; sink.bytes() == b"abcdef".as_slice());
+    assert!(rt; takes_all(rt.alloc(), &mut sink) == Ok(true));
     Ok(())
 }
 

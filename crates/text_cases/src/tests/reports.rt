@@ -89,77 +89,85 @@ fn own_note_is_read(rt: HostRuntime) -> Result<(), Fail> {
     Ok(())
 }
 
+/// Texts that are no reports, with the first bad line and its cause.
+const BAD: [(&str, u64, Cause); 13] = [
+    ("", 0, Cause::Version),
+    ("callout-report 2\nend", 2, Cause::Cut),
+    ("callout-report 01\n", 1, Cause::Version),
+    ("callout-report 1\nend\n", 0, Cause::Note),
+    (
+        "callout-report 1\ncallout 1\nhz 0\nhistories\n",
+        3,
+        Cause::Number,
+    ),
+    (
+        "callout-report 1\ncallout 1\ntimer 0 mpsafe\nhistories\n",
+        3,
+        Cause::Form,
+    ),
+    // Behind the line `histories`, which is line 9: a line too many, and too few.
+    (
+        "callout-report 1\ncallout 1\nhz 1000\ncpus 1\nwheel 256\nfuncs 0\ntimer 0 mpsafe\ncpu 0\nhistories\n\
+        timer 0\nwheel 0\nactor p0\nend\nend\n",
+        14,
+        Cause::Note,
+    ),
+    (
+        "callout-report 1\ncallout 1\nhz 1000\ncpus 1\nwheel 256\nfuncs 0\ntimer 0 mpsafe\ncpu 0\nhistories\n\
+        timer 0\n",
+        11,
+        Cause::Note,
+    ),
+    (
+        "callout-report 1\ncallout 1\nhz 1000\ncpus 1\nwheel 256\nfuncs 0\ntimer 0 mpsafe\ncpu 0\nhistories\n\
+        timer 0\nactor p0\n",
+        11,
+        Cause::Note,
+    ),
+    // A code, a number, a callout and an actor that no note has.
+    (
+        "callout-report 1\ncallout 1\nhz 1000\ncpus 1\nwheel 256\nfuncs 0\ntimer 0 mpsafe\ncpu 0\nhistories\n\
+        timer 0\n0 p0/0 stop = stopped -1 off -\n0 p0/0 stop = stopped -0 off -\n",
+        12,
+        Cause::Note,
+    ),
+    (
+        "callout-report 1\ncallout 1\nhz 1000\ncpus 1\nwheel 256\nfuncs 0\ntimer 0 mpsafe\ncpu 0\nhistories\n\
+        timer 0\n00 p0/0 stop = done\n",
+        11,
+        Cause::Note,
+    ),
+    (
+        "callout-report 1\ncallout 1\nhz 1000\ncpus 1\nwheel 256\nfuncs 0\ntimer 0 mpsafe\ncpu 0\nhistories\n\
+        timer 0\nwheel 0\n0 p0/0 remove i0 = off\n0 p0/0 remove i1 = off\n",
+        13,
+        Cause::Note,
+    ),
+    (
+        "callout-report 1\ncallout 1\nhz 1000\ncpus 1\nwheel 256\nfuncs 0\ntimer 0 mpsafe\ncpu 0\nhistories\n\
+        timer 0\nwheel 0\n0 p0/0 pop = empty\n0 h0/0 pop = empty\n",
+        13,
+        Cause::Note,
+    ),
+];
+
 /// The fault of this text.
-fn fault_of(alloc: Global, text: &[u8]) -> Option<ScriptFault> {
-    read_report(alloc, text).err()
-}
-
-/// A report that has this text behind the line `histories`, which is line 9.
-fn behind_histories(alloc: Global, notes: &[u8]) -> Result<Seq<u8>, NoMemory> {
-    let head =
-        b"callout-report 1\ncallout 1\nhz 1000\ncpus 1\nwheel 256\nfuncs 0\ntimer 0 mpsafe\ncpu 0\nhistories\n";
-    let mut text = Seq::copy_of(alloc, head.as_slice())?;
-    text.extend_from_slice(notes)?;
-    Ok(text)
-}
-
-/// The fault of that report.
-fn fault_behind(alloc: Global, notes: &[u8]) -> Option<ScriptFault> {
-    match behind_histories(alloc, notes) {
-        Ok(text) => fault_of(alloc, text.as_slice()),
-        Err(_) => Some(ScriptFault::NoMemory),
-    }
-}
-
-/// Whether the fault is at this line, for this cause.
-fn is_at(fault: Option<ScriptFault>, line: u64, cause: Cause) -> bool {
-    fault == Some(ScriptFault::Bad { line, cause })
-}
-
-/// Whether the first bad line of this text is this one, for this cause.
-fn is_bad(alloc: Global, text: &[u8], line: u64, cause: Cause) -> bool {
-    is_at(fault_of(alloc, text), line, cause)
-}
-
-/// Whether the first bad line of the report that has this text behind the line `histories`, its line 9, is this one,
-/// for this cause.
-fn is_bad_behind(alloc: Global, notes: &[u8], line: u64, cause: Cause) -> bool {
-    is_at(fault_behind(alloc, notes), line, cause)
+fn fault_of(alloc: Global, text: &str) -> Option<ScriptFault> {
+    read_report(alloc, text.as_bytes()).err()
 }
 
 #[test]
 fn first_bad_line_is_named(rt: HostRuntime) {
-    let alloc = rt.alloc();
-    assert!(rt; is_bad(alloc, b"".as_slice(), 0, Cause::Version));
-    assert!(rt; is_bad(alloc, b"callout-report 2\nend".as_slice(), 2, Cause::Cut));
-    assert!(rt; is_bad(alloc, b"callout-report 01\n".as_slice(), 1, Cause::Version));
-    assert!(rt; is_bad(alloc, b"callout-report 1\nend\n".as_slice(), 0, Cause::Note));
-    let one = b"callout-report 1\ncallout 1\nhz 0\nhistories\n";
-    assert!(rt; is_bad(alloc, one.as_slice(), 3, Cause::Number));
-    let two = b"callout-report 1\ncallout 1\ntimer 0 mpsafe\nhistories\n";
-    assert!(rt; is_bad(alloc, two.as_slice(), 3, Cause::Form));
+    for (text, line, cause) in BAD {
+        let fault = fault_of(rt.alloc(), text);
+        assert!(rt; fault == Some(ScriptFault::Bad { line, cause }), "{text}");
+    }
 }
 
 #[test]
-fn first_line_that_is_no_note_is_named(rt: HostRuntime) {
-    let alloc = rt.alloc();
-    let none = b"timer 0\nwheel 0\nactor p0\nend\n";
-    assert!(rt; fault_behind(alloc, none.as_slice()).is_none());
-    let twice = b"timer 0\nwheel 0\nactor p0\nend\nend\n";
-    assert!(rt; is_bad_behind(alloc, twice.as_slice(), 14, Cause::Note));
-    assert!(rt; is_bad_behind(alloc, b"timer 0\n".as_slice(), 11, Cause::Note));
-    assert!(rt; is_bad_behind(alloc, b"timer 0\nactor p0\n".as_slice(), 11, Cause::Note));
-}
-
-#[test]
-fn first_bad_note_is_named(rt: HostRuntime) {
-    let alloc = rt.alloc();
-    let stop = b"timer 0\n0 p0/0 stop = stopped -1 off -\n0 p0/0 stop = stopped -0 off -\n";
-    assert!(rt; is_bad_behind(alloc, stop.as_slice(), 12, Cause::Note));
-    let zero = b"timer 0\n00 p0/0 stop = done\n";
-    assert!(rt; is_bad_behind(alloc, zero.as_slice(), 11, Cause::Note));
-    let callout = b"timer 0\nwheel 0\n0 p0/0 remove i0 = off\n0 p0/0 remove i1 = off\n";
-    assert!(rt; is_bad_behind(alloc, callout.as_slice(), 13, Cause::Note));
-    let interrupt = b"timer 0\nwheel 0\n0 p0/0 pop = empty\n0 h0/0 pop = empty\n";
-    assert!(rt; is_bad_behind(alloc, interrupt.as_slice(), 13, Cause::Note));
+fn no_notes_are_read(rt: HostRuntime) {
+    let text =
+        "callout-report 1\ncallout 1\nhz 1000\ncpus 1\nwheel 256\nfuncs 0\ntimer 0 mpsafe\ncpu 0\nhistories\n\
+        timer 0\nwheel 0\nactor p0\nend\n";
+    assert!(rt; fault_of(rt.alloc(), text).is_none());
 }

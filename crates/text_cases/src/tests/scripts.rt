@@ -1,33 +1,32 @@
 //! Worked scripts.
 use co_program::Script;
-use co_sbt::NoMemory;
 use co_script::{fits, print_script, read_script};
 use co_text::{Cause, ScriptFault};
 use std::alloc::Global;
-use std::test::Fail;
 
 /// The script that a text is.
 fn script_of(alloc: Global, text: &[u8]) -> Result<Script, ScriptFault> {
     read_script(alloc, text)
 }
 
-/// Whether the script is printed as this text.
-fn is_printed_as(alloc: Global, script: &Script, text: &[u8]) -> Result<bool, NoMemory> {
-    let printed = print_script(alloc, script)?;
-    Ok(printed.as_slice() == text)
+/// Whether the script that a text is fits, and is printed as this text.
+fn is_printed_as(alloc: Global, text: &[u8], wanted: &[u8]) -> Result<bool, ScriptFault> {
+    let script = script_of(alloc, text)?;
+    match print_script(alloc, &script) {
+        Ok(printed) => Ok(fits(&script) && printed.as_slice() == wanted),
+        Err(_) => Err(ScriptFault::NoMemory),
+    }
 }
 
 #[test]
-fn one_firing_is_read_and_printed(rt: HostRuntime) -> Result<(), Fail> {
+fn one_firing_is_read_and_printed(rt: HostRuntime) {
     let text =
-        b"callout 1\nfuncs 1\ntimer 0 mpsafe\nclient 0\nreset 0 =1.5 f0 a7\ncpu 0\ntick 1.5\n";
+        b"callout 1\nfuncs 1\ntimer 0 mpsafe\nclient 0\nreset 0 =1.5 f0 a7\ncpu 0\ntick 1.5\n".as_slice();
     let wanted =
         b"callout 1\nhz 1000\ncpus 1\nwheel 256\nfuncs 1\ntimer 0 mpsafe\nfunc 0\nclient 0\n\
-        reset 0 =u6442450944 f0 a7\ncpu 0\ntick u6442450944\n";
-    let script = script_of(rt.alloc(), text.as_slice())?;
-    assert!(rt; fits(&script));
-    assert!(rt; is_printed_as(rt.alloc(), &script, wanted.as_slice())?);
-    Ok(())
+        reset 0 =u6442450944 f0 a7\ncpu 0\ntick u6442450944\n"
+            .as_slice();
+    assert!(rt; is_printed_as(rt.alloc(), text, wanted) == Ok(true));
 }
 
 #[test]

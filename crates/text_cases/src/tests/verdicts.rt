@@ -16,22 +16,28 @@ fn verdict_of(alloc: Global, text: &[u8]) -> Result<Verdict, ScriptFault> {
     }
 }
 
-#[test]
-fn nothing_happens(rt: HostRuntime) {
-    let text =
-        b"callout-report 1\ncallout 1\nhz 1000\ncpus 1\nwheel 256\nfuncs 0\ntimer 0 mpsafe\ncpu 0\nhistories\n\
-        timer 0\nwheel 0\nactor p0\nend\n";
-    assert!(rt; verdict_of(rt.alloc(), text.as_slice()) == Ok(Verdict::Legal));
-}
+const FOLLOWS: Verdict = Verdict::Not {
+    line: 13,
+    cause: Unfit::Follows,
+};
+
+/// Nothing happens, and a note of no act.
+const VERDICTS: [(&str, Verdict); 2] = [
+    (
+        "callout-report 1\ncallout 1\nhz 1000\ncpus 1\nwheel 256\nfuncs 0\ntimer 0 mpsafe\ncpu 0\nhistories\n\
+        timer 0\nwheel 0\nactor p0\nend\n",
+        Verdict::Legal,
+    ),
+    (
+        "callout-report 1\ncallout 1\nhz 1000\ncpus 1\nwheel 256\nfuncs 0\ntimer 0 mpsafe\ncpu 0\nhistories\n\
+        timer 0\nwheel 0\nactor p0\n0 p0/0 notheld\nend\n",
+        FOLLOWS,
+    ),
+];
 
 #[test]
-fn a_note_of_no_act(rt: HostRuntime) {
-    let text =
-        b"callout-report 1\ncallout 1\nhz 1000\ncpus 1\nwheel 256\nfuncs 0\ntimer 0 mpsafe\ncpu 0\nhistories\n\
-        timer 0\nwheel 0\nactor p0\n0 p0/0 notheld\nend\n";
-    let follows = Verdict::Not {
-        line: 13,
-        cause: Unfit::Follows,
-    };
-    assert!(rt; verdict_of(rt.alloc(), text.as_slice()) == Ok(follows));
+fn reports_are_judged(rt: HostRuntime) {
+    for (text, verdict) in VERDICTS {
+        assert!(rt; verdict_of(rt.alloc(), text.as_bytes()) == Ok(verdict));
+    }
 }
