@@ -50,7 +50,7 @@ removal_unwritten p act i None pos none = refl
 removal_unwritten p act i (Some x) pos none = absurd (cc)
 
 pub insertion_placed : (p : PassesView) (act cpu place i n due time pos : ℕ) (o : Option ℕ) → place ≡ cpu → o ≡ Some time
-    → map placed (insertion_told p.actor act i n due (Some (record { cpu = place; at = time; pos = pos }))) ≡ insertion_notes p act cpu i n due o
+    → map placed (insertion_told p.actor act i (Some (record { cpu = place; n = n; due = due; at = time; pos = pos }))) ≡ insertion_notes p act cpu i n due o
 insertion_placed p act cpu place i n due time pos o here is =
     (λ d. (at.Cpu (here d), of.Cpu (record { actor = p.actor; act = act; op = Insert i n due; reply = At time })) ∷ []) ∙ ap (insertion_notes p act cpu i n due) (sym is)
 
@@ -64,7 +64,7 @@ module _ (p : PassesView) (act cpu i : ℕ) (op : CallOp) (t : Told) (inserted :
   entry = call_entry p act op t.reply
 
   abbrev put : List Note
-  put = insertion_told p.actor act i (number_in t.reply) (due_in op) t.insertion
+  put = insertion_told p.actor act i t.insertion
 
   -- the notes of a section are what it told
   pub told_placed : map placed put ≡ insertion_notes p act cpu i (number_in t.reply) (due_in op) inserted → map placed (told_notes p.actor act i op t) ≡ section_notes p act cpu i op t.reply inserted
@@ -76,9 +76,9 @@ module _ (p : PassesView) (act cpu i : ℕ) (op : CallOp) (t : Told) (inserted :
 
   -- a section, entry after entry
   pub told_written : (q r s : PassesView) (after : List Entry) → q.actor ≡ p.actor → r.actor ≡ p.actor → Writes p (removal_told p.actor act i (off_of t.reply) t.removal) q
-      → WritesTimer q i (call_entry q act op t.reply) t.entry after r → Writes r (insertion_told r.actor act i (number_in t.reply) (due_in op) t.insertion) s → Writes p (told_notes p.actor act i op t) s
+      → WritesTimer q i (call_entry q act op t.reply) t.entry after r → Writes r (insertion_told r.actor act i t.insertion) s → Writes p (told_notes p.actor act i op t) s
   told_written q r s after mine still a w b = writes-append p q s (removal_told p.actor act i (off_of t.reply) t.removal) (noted_entry i entry t.entry ∷ put) a (
     r,
     (after, subst (λ (n : ℕ). WritesTimer q i (record { actor = n; act = act; op = Call op; reply = t.reply }) t.entry after r) mine w),
-    subst (λ (n : ℕ). Writes r (insertion_told n act i (number_in t.reply) (due_in op) t.insertion) s) still b,
+    subst (λ (n : ℕ). Writes r (insertion_told n act i t.insertion) s) still b,
   )

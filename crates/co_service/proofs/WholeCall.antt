@@ -1,5 +1,5 @@
 -- A call with its landing: its notes are its group.
-use Rattle.std.proofs.Common.{◌≡◌, ℕ, Bool, List, [], ◌∷◌, ◌++◌, map, refl, sym, ap, ◌∙◌, subst}
+use Rattle.std.proofs.Common.{◌≡◌, ℕ, Bool, List, [], ◌∷◌, ◌++◌, append_assoc, map, refl, sym, ap, ◌∙◌, subst}
 use Rattle.std.specs.declared.option.Option.{Option}
 use Rattle.std.specs.declared.option.Option.TheVariants.{Some, None}
 use Rattle.co_object.specs.declared.note.Entry.{Entry}
@@ -15,13 +15,16 @@ use Rattle.co_object.specs.declared.op.CallOp.{CallOp}
 use Rattle.co_object.specs.declared.queue.QOp.TheVariants.{Insert}
 use Rattle.co_object.specs.declared.queue.QReply.TheVariants.{At, Freed}
 use Rattle.co_object.specs.declared.reply.Reply.{Reply}
-use Rattle.co_object.specs.Group.{Placed, placed, group}
+use Rattle.co_object.specs.declared.op.Op.TheVariants.{Call}
+use Rattle.co_object.specs.Group.{Placed, placed, group, off_of}
 use Rattle.co_object.specs.History.{state}
 use Rattle.co_object.specs.Queue.{Due}
 use Rattle.co_wheel.specs.Turns.{free_of}
 use Rattle.co_service.specs.Params.{spec_at}
-use Rattle.co_service.specs.Call.{IsAnswer, IsCalled, Target, call_entry, landing}
-use Rattle.co_service.specs.Outcomes.{turn}
+use Rattle.co_service.specs.declared.told.Inserted.{Inserted}
+use Rattle.co_service.specs.declared.told.Told.{Told}
+use Rattle.co_service.specs.Call.{IsAnswer, IsCalled, Target, call_entry, landing, noted_insert, removal_told, told_notes}
+use Rattle.co_service.specs.Outcomes.{noted_entry, turn}
 use Rattle.co_service.specs.Services.{AreSame, IsEnded, IsEndedBut, IsLanded, run_entry}
 use Rattle.co_service.specs.Views.{PassesView, seen_of}
 use Rattle.co_service.specs.Writes.{WritesAt, Writes}
@@ -47,11 +50,12 @@ writes_keep p q (n ∷ ns) w =
 cpu_apart : (p q : PassesView) (cpu : ℕ) (e : QEntry) (pos i : ℕ) → WritesAt p (Cpu cpu) (of.Cpu e) pos q → seen_of q i ≡ seen_of p i
 cpu_apart p q cpu e pos i w = ap (λ (v : PassesView). seen_of v i) w.1.passes
 
-landed_apart : (p q : PassesView) (act i : ℕ) (t : Target) (note : Note) (l : IsLanded p act i t note q) → seen_of q i ≡ seen_of p i
-landed_apart p q act i t note l =
-    let e : QEntry = record { actor = p.actor; act = act; op = Insert i t.n t.due; reply = At l.time } in
-    let first = subst (λ (x : Place × AnyEntry). WritesAt p x.0 x.1 note.pos l.written.0) (λ d. (l.inserted.place d, l.inserted.entry d)) l.written.1 in
-    ap (λ (v : PassesView). seen_of v i) l.written.2 ∙ cpu_apart p l.written.0 t.cpu e note.pos i first
+landed_apart : (p q : PassesView) (act i : ℕ) (t : Target) (x : Inserted) (l : IsLanded p act i t x q) → seen_of q i ≡ seen_of p i
+landed_apart p q act i t x l = ap (λ (v : PassesView). seen_of v i) l.written.2 ∙ cpu_apart p l.written.0 x.cpu (turn p act (Insert i x.n x.due) (At x.at)) x.pos i l.written.1
+
+-- the note of what has landed is as its target says
+landed_placed : (p q r : PassesView) (act i : ℕ) (t : Target) (x : Inserted) → q.actor ≡ p.actor → IsLanded q act i t x r → placed (noted_insert p.actor act i x) ∷ [] ≡ landing p act i (Some t) x.at
+landed_placed p q r act i t x actor l = λ d. (at.Cpu (l.cpu d), of.Cpu (turn p act (Insert i (l.number d) (l.due_is d)) (At x.at))) ∷ []
 
 map_both : {A B : Type 0} (f : A → B) (xs ys : List A) → map f (xs ++ ys) ≡ map f xs ++ map f ys
 map_both f [] ys = refl
@@ -66,17 +70,18 @@ module _ (p q : PassesView) (act i : ℕ) (op : CallOp) (reply : Reply) (notes :
     no_more (x ∷ xs) = ap (λ (l : List Placed). x ∷ l) (no_more xs)
 
   -- what leaves lands
-  pub whole_landed : (t : Target) (note : Note) (r : PassesView) → IsAnswer p act i op reply (Some t) notes q → IsLanded q act i t note r → IsCalled p act i op reply (notes ++ note ∷ []) r
-  whole_landed t note r a l = record {
-    time = l.time;
-    group_is =
-        map_both placed notes (note ∷ [])
-        ∙ (ap (λ (x : Placed). map placed notes ++ x ∷ []) (λ d. (l.inserted.place d, l.inserted.entry d))
-        ∙ (ap (λ (a : ℕ). map placed notes ++ landing (record p { actor = a }) act i (Some t) l.time) (writes_keep p q notes a.written).actor
-        ∙ (a.group_but.group_is l.time
-        ∙ ap (λ (H : List Entry). group i (call_entry p act op reply) (state (spec_at p.params i) H) l.time) (sym (landed_apart q r act i t note l)))));
-    written = writes-append p q r notes (note ∷ []) a.written l.written;
-  }
+  pub whole_landed : (t : Target) (x : Inserted) (r : PassesView) → IsAnswer p act i op reply (Some t) notes q → IsLanded q act i t x r → IsCalled p act i op reply (notes ++ noted_insert p.actor act i x ∷ []) r
+  whole_landed t x r a l =
+      let actor = (writes_keep p q notes a.written).actor in
+      record {
+        time = x.at;
+        group_is =
+            map_both placed notes (noted_insert p.actor act i x ∷ [])
+            ∙ (ap (λ (ns : List Placed). map placed notes ++ ns) (landed_placed p q r act i t x actor l)
+            ∙ (a.group_but.group_is x.at
+            ∙ ap (λ (H : List Entry). group i (call_entry p act op reply) (state (spec_at p.params i) H) x.at) (sym (landed_apart q r act i t x l))));
+        written = writes-append p q r notes (noted_insert p.actor act i x ∷ []) a.written (subst (λ (n : ℕ). Writes q (noted_insert n act i x ∷ []) r) actor l.written);
+      }
 
 module _ (lane : Bool) (p q : PassesView) (cpu act : ℕ) (d : Due) (reply : Reply) (notes : List Note) where
   -- an end from which nothing leaves
@@ -88,14 +93,21 @@ module _ (lane : Bool) (p q : PassesView) (cpu act : ℕ) (d : Due) (reply : Rep
   }
 
   -- what leaves lands
-  pub ended_landed : (t : Target) (note : Note) (r : PassesView) → IsEndedBut lane p cpu act d reply (Some t) notes q → IsLanded q act d.i t note r → IsEnded lane p cpu act d reply (notes ++ note ∷ []) r
-  ended_landed t note r e l = record {
-    time = l.time;
-    notes_are =
-        map_both placed notes (note ∷ [])
-        ∙ (ap (λ (x : Placed). map placed notes ++ x ∷ []) (λ k. (l.inserted.place k, l.inserted.entry k))
-        ∙ (ap (λ (a : ℕ). map placed notes ++ landing (record p { actor = a }) act d.i (Some t) l.time) (writes_keep p q notes e.written).actor
-        ∙ (ap (λ (ns : List Placed). ns ++ landing p act d.i (Some t) l.time) e.notes_are
-        ∙ ap (λ (o : Option Target). (at.Timer d.i, of.Timer (run_entry p act (End d.n cpu) reply)) ∷ (at.Cpu cpu, of.Cpu (turn p act (free_of lane) Freed)) ∷ landing p act d.i o l.time) e.leaves_is)));
-    written = writes-append p q r notes (note ∷ []) e.written l.written;
-  }
+  pub ended_landed : (t : Target) (x : Inserted) (r : PassesView) → IsEndedBut lane p cpu act d reply (Some t) notes q → IsLanded q act d.i t x r → IsEnded lane p cpu act d reply (notes ++ noted_insert p.actor act d.i x ∷ []) r
+  ended_landed t x r e l =
+      let actor = (writes_keep p q notes e.written).actor in
+      record {
+        time = x.at;
+        notes_are =
+            map_both placed notes (noted_insert p.actor act d.i x ∷ [])
+            ∙ (ap (λ (ns : List Placed). map placed notes ++ ns) (landed_placed p q r act d.i t x actor l)
+            ∙ (ap (λ (ns : List Placed). ns ++ landing p act d.i (Some t) x.at) e.notes_are
+            ∙ ap (λ (o : Option Target). (at.Timer d.i, of.Timer (run_entry p act (End d.n cpu) reply)) ∷ (at.Cpu cpu, of.Cpu (turn p act (free_of lane) Freed)) ∷ landing p act d.i o x.at) e.leaves_is));
+        written = writes-append p q r notes (noted_insert p.actor act d.i x ∷ []) e.written (subst (λ (n : ℕ). Writes q (noted_insert n act d.i x ∷ []) r) actor l.written);
+      }
+
+-- what a call told, with the Insert of what has landed
+pub told_landed : (actor act i : ℕ) (op : CallOp) (t : Told) (x : Inserted) → t.insertion ≡ None → told_notes actor act i op t ++ noted_insert actor act i x ∷ [] ≡ told_notes actor act i op (record t { insertion = Some x })
+told_landed actor act i op t x none =
+    ap (λ (o : Option Inserted). told_notes actor act i op (record t { insertion = o }) ++ noted_insert actor act i x ∷ []) none
+    ∙ append_assoc (removal_told actor act i (off_of t.reply) t.removal) (noted_entry i (record { actor = actor; act = act; op = Call op; reply = t.reply }) t.entry ∷ []) (noted_insert actor act i x ∷ [])

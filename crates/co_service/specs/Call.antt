@@ -116,15 +116,18 @@ abbrev pub removal_told : (actor act i : ℕ) → Option ℕ → (pos : ℕ) →
 removal_told actor act i None pos = []
 removal_told actor act i (Some cpu) pos = noted_turn actor act cpu (Remove i) Off pos ∷ []
 
-abbrev pub insertion_told : (actor act i n due : ℕ) → Option Inserted → List Note
-insertion_told actor act i n due None = []
-insertion_told actor act i n due (Some x) = noted_turn actor act x.cpu (Insert i n due) (At x.at) x.pos ∷ []
+abbrev pub noted_insert : (actor act i : ℕ) → Inserted → Note
+noted_insert actor act i x = noted_turn actor act x.cpu (Insert i x.n x.due) (At x.at) x.pos
+
+abbrev pub insertion_told : (actor act i : ℕ) → Option Inserted → List Note
+insertion_told actor act i None = []
+insertion_told actor act i (Some x) = noted_insert actor act i x ∷ []
 
 abbrev pub told_notes : (actor act i : ℕ) → CallOp → Told → List Note
 told_notes actor act i op t =
     removal_told actor act i (off_of t.reply) t.removal
     ++ noted_entry i (record { actor = actor; act = act; op = Call op; reply = t.reply }) t.entry
-    ∷ insertion_told actor act i (number_in t.reply) (due_in op) t.insertion
+    ∷ insertion_told actor act i t.insertion
 
 -- what a call asks of the queue
 abbrev pub call_turns : ℕ → CallOp → Reply → Option ℕ → List Turn

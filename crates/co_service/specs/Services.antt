@@ -25,7 +25,8 @@ use Rattle.co_service.specs.declared.outs.Taken.{Taken}
 use Rattle.co_service.specs.declared.outs.Taken.TheVariants.{Empty, Took}
 use Rattle.co_service.specs.declared.outs.Made.{Made}
 use Rattle.co_service.specs.Books.{BooksView, entries_at, is_kept}
-use Rattle.co_service.specs.Call.{Target, landing, notes_in}
+use Rattle.co_service.specs.declared.told.Inserted.{Inserted}
+use Rattle.co_service.specs.Call.{Target, landing, noted_insert, notes_in}
 use Rattle.co_service.specs.Desk.{scans_in}
 use Rattle.co_service.specs.May.{MayHappen}
 use Rattle.co_service.specs.Outcomes.{turn, IsTurn}
@@ -140,7 +141,8 @@ pub record IsEnded (direct : Bool) (p : PassesView) (cpu act : ℕ) (d : Due) (r
   pub written : Writes p notes q
 
 -- callout i has come to its target's queue
-pub record IsLanded (p : PassesView) (act i : ℕ) (t : Target) (note : Note) (q : PassesView) : Type 0 where
-  pub time : ℕ
-  pub inserted : IsTurn t.cpu (turn p act (Insert i t.n t.due) (At time)) note
-  pub written : Writes p (note ∷ []) q
+pub record IsLanded (p : PassesView) (act i : ℕ) (t : Target) (x : Inserted) (q : PassesView) : Type 0 where
+  pub cpu : x.cpu ≡ t.cpu
+  pub number : x.n ≡ t.n
+  pub due_is : x.due ≡ t.due
+  pub written : Writes p (noted_insert p.actor act i x ∷ []) q

@@ -97,11 +97,11 @@ pub(crate) fn write_insertion<N: Name>(
     requires params { books.old.params ≡ passes.old.params }
     requires owes { (w : Cpu) × Owes (insert_turns i n due inserted) w books.old }
     ensures books { books.new ≡ record books.old { journal = books.new.journal } }
-    ensures written { Writes passes.old (insertion_told passes.old.actor act i n due result) passes.new }
+    ensures written { Writes passes.old (insertion_told passes.old.actor act i result) passes.new }
     ensures timers { passes.new.timers ≡ passes.old.timers }
     ensures scans { scans_in books.new.journal ≡ scans_in books.old.journal }
     ensures none { inserted ≡ None → result ≡ None }
-    ensures placed { map placed (insertion_told passes.old.actor act i n due result) ≡ insertion_notes passes.old act books.old.cpu i n due inserted }
+    ensures placed { map placed (insertion_told passes.old.actor act i result) ≡ insertion_notes passes.old act books.old.cpu i n due inserted }
     ensures goes_on { (w : Cpu) → Owes (insert_turns i n due inserted) w books.old → Owes [] w books.new }
 {
     let Some(at) = inserted else {
@@ -110,7 +110,13 @@ pub(crate) fn write_insertion<N: Name>(
     let cpu = books.cpu();
     let op = QOp::Insert { i, n, t: due };
     let pos = write_turn(books, lives, passes, act, op, QReply::At(at));
-    Some(Inserted { cpu, at, pos })
+    Some(Inserted {
+        cpu,
+        n,
+        due,
+        at,
+        pos,
+    })
 }
 
 /// What a call did, entry after entry: what it took out of the queue, its own, and what it put in.

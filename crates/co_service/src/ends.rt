@@ -66,8 +66,10 @@ impl<N: Name> Service<N> {
         let mut leaves = None;
         self.end_found(rt, passes, cpu, act, direct, made, &mut leaves);
         if let Some(moving) = leaves {
+            let i = moving.callout();
+            let actor = passes.actor();
             let last = self.land(rt, passes, act, moving);
-            add_last(made, last);
+            add_last(made, last.note(actor, act, i));
         }
     }
 

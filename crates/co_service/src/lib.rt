@@ -6,6 +6,7 @@ mod bench;
 mod books;
 mod boot;
 mod calling;
+mod calls;
 mod closing;
 mod crew;
 mod desk;

@@ -10,7 +10,6 @@ ghost use Rattle.co_service.specs.Booted.{AreBooted};
 ghost use Rattle.co_service.specs.Call.{IsCalled, NamesCpu, notes_in};
 ghost use Rattle.co_service.specs.Closing.{AreAll, AreEnded, AreEndedCpus, HasEach};
 ghost use Rattle.co_service.specs.Fresh.{AreNamed};
-ghost use Rattle.co_service.specs.Moving.{IsTried};
 ghost use Rattle.co_service.specs.Outcomes.{IsScan};
 ghost use Rattle.co_service.specs.Params.{AreParams, actors_of, spec_at};
 ghost use Rattle.co_service.specs.Services.{FollowsScans, HasNext, IsBegun, IsFree, IsLanded, IsServing, IsTaken};
@@ -22,12 +21,11 @@ use crate::desk::Desk;
 use crate::locked::{DeskHold, Inside, Locked, make_inside, open_desks};
 use crate::moving::Moving;
 use crate::places::Places;
-use crate::running::add_last;
-use crate::told::Told;
+use crate::told::Inserted;
 use crate::{Fresh, Made, Name, Params, Passes, Scanned, Taken};
 use co_life::Shown;
 use co_lock::Hold;
-use co_object::{CallOp, Note, Spec};
+use co_object::{CallOp, Spec};
 use co_sbt::{NoMemory, Sbt, Seq};
 use std::alloc::Global;
 use std::marker::{Brand, Model};
@@ -42,7 +40,7 @@ pub struct Service<N: Name> {
     /// By CPU.
     pub(crate) desks: Vec<Locked<N>>,
     /// By callout: the CPU whose desk is asked first. No clause rests on it.
-    hints: Vec<AtomicU32>,
+    pub(crate) hints: Vec<AtomicU32>,
     /// What the end needs. The lock is for the type alone: nothing of it is shared before the end.
     ending: Mutex<Ending<N>>,
 }
@@ -104,94 +102,6 @@ impl<N: Name> Service<N> {
         })
     }
 
-    /// The CPU whose desk is asked first for a callout.
-    #[inline(always)]
-    fn hint(&self, i: u32) -> usize
-        ensures { result < self.now.cpus }
-    {
-        let Some(word) = self.hints.get(i as usize) else {
-            return 0;
-        };
-        let cpu = word.load(Ordering::SeqCst) as usize;
-        if cpu < self.desks.len() { cpu } else { 0 }
-    }
-
-    /// A call on one desk. What it did and what leaves go to their places. False where the callout isn't there.
-    #[inline(always)]
-    fn call_at<R: Wait>(
-        &self,
-        rt: &R,
-        passes: &mut Passes,
-        act: u64,
-        i: u32,
-        op: &CallOp,
-        cpu: usize,
-        told: &mut Told,
-        gone: &mut Option<Moving<N>>,
-    ) -> bool
-        requires cpu { cpu < self.now.cpus }
-        requires passes { AreOf N.name self.now passes.old }
-        requires none { gone.old ≡ None }
-        ensures { IsTried passes.old act i op.now result told.new gone.new passes.new }
-    {
-        let locked = &self.desks[cpu];
-        locked
-            .desk
-            .lock(rt)
-            .call(&self.places, passes, act, i, op, told, gone)
-    }
-
-    /// A call on the desks but this one, in rising order. False where the callout is on none of them.
-    ///
-    /// It stands apart, since a callout is seldom elsewhere than where its hint says.
-    #[inline(never)]
-    fn call_elsewhere<R: Wait>(
-        &self,
-        rt: &R,
-        passes: &mut Passes,
-        act: u64,
-        i: u32,
-        op: &CallOp,
-        but: usize,
-        told: &mut Told,
-        gone: &mut Option<Moving<N>>,
-    ) -> bool
-        requires passes { AreOf N.name self.now passes.old }
-        requires none { gone.old ≡ None }
-        ensures { IsTried passes.old act i op.now result told.new gone.new passes.new }
-    {
-        for cpu in 0..self.desks.len() {
-            if cpu != but && self.call_at(rt, passes, act, i, op, cpu, told, gone) {
-                return true;
-            }
-        }
-        false
-    }
-
-    /// A call on the desk that the callout's hint names, and where it isn't there on the others in rising order. False where it is on
-    /// none of them.
-    #[inline(always)]
-    fn call_once<R: Wait>(
-        &self,
-        rt: &R,
-        passes: &mut Passes,
-        act: u64,
-        i: u32,
-        op: &CallOp,
-        told: &mut Told,
-        gone: &mut Option<Moving<N>>,
-    ) -> bool
-        requires passes { AreOf N.name self.now passes.old }
-        requires none { gone.old ≡ None }
-        ensures { IsTried passes.old act i op.now result told.new gone.new passes.new }
-    {
-        let first = self.hint(i);
-        if self.call_at(rt, passes, act, i, op, first, told, gone) {
-            return true;
-        }
-        self.call_elsewhere(rt, passes, act, i, op, first, told, gone)
-    }
-
     /// A callout comes to the desk of the CPU at which it is armed.
     #[inline(always)]
     fn land_once<R: Wait>(
@@ -200,11 +110,11 @@ impl<N: Name> Service<N> {
         passes: &mut Passes,
         act: u64,
         moving: Moving<N>,
-    ) -> Result<Note, Moving<N>>
+    ) -> Result<Inserted, Moving<N>>
         requires passes { AreOf N.name self.now passes.old }
         requires params { moving.params ≡ passes.old.params }
         ensures back { IfErr result (λ m. (m ≡ moving) × (passes.new ≡ passes.old)) }
-        ensures landed { IfOk result (λ note. IsLanded passes.old act moving.i moving.target note passes.new) }
+        ensures landed { IfOk result (λ x. IsLanded passes.old act moving.i moving.target x passes.new) }
     {
         let i = moving.callout();
         let cpu = moving.cpu();
@@ -212,11 +122,11 @@ impl<N: Name> Service<N> {
             return Err(moving);
         };
         let mut desk = locked.desk.lock(rt);
-        let note = desk.land(&self.places, passes, act, moving)?;
+        let landed = desk.land(&self.places, passes, act, moving)?;
         if let Some(hint) = self.hints.get(i as usize) {
             hint.store(cpu, Ordering::SeqCst);
         }
-        Ok(note)
+        Ok(landed)
     }
 
     /// A callout comes to its CPU. It is tried again where that desk can't take it.
@@ -226,7 +136,7 @@ impl<N: Name> Service<N> {
         passes: &mut Passes,
         act: u64,
         moving: Moving<N>,
-    ) -> Note
+    ) -> Inserted
         requires passes { AreOf N.name self.now passes.old }
         requires params { moving.params ≡ passes.old.params }
         ensures { IsLanded passes.old act moving.i moving.target result passes.new }
@@ -234,61 +144,11 @@ impl<N: Name> Service<N> {
         let mut moving = moving;
         for _ in rt.forever() {
             match self.land_once(rt, passes, act, moving) {
-                Ok(note) => return note,
+                Ok(landed) => return landed,
                 Err(back) => moving = back,
             }
         }
         unreachable!()
-    }
-
-    /// A call, where the record stands. What it did and what leaves go to their places.
-    #[inline(always)]
-    fn call_found<R: Wait>(
-        &self,
-        rt: &R,
-        passes: &mut Passes,
-        act: u64,
-        i: u32,
-        op: &CallOp,
-        told: &mut Told,
-        gone: &mut Option<Moving<N>>,
-    )
-        requires passes { AreOf N.name self.now passes.old }
-        requires none { gone.old ≡ None }
-        ensures { IsTried passes.old act i op.now true told.new gone.new passes.new }
-    {
-        for _ in rt.forever() {
-            if self.call_once(rt, passes, act, i, op, told, gone) {
-                return;
-            }
-        }
-        unreachable!()
-    }
-
-    /// A call, the landing of what leaves included. Its notes are made once no desk is locked any more.
-    #[inline(always)]
-    fn call_landed<R: Wait>(
-        &self,
-        rt: &R,
-        passes: &mut Passes,
-        act: u64,
-        i: u32,
-        op: &CallOp,
-    ) -> Made
-        requires passes { AreOf N.name self.now passes.old }
-        ensures { IsCalled passes.old act i op.now result.reply (notes_in result.notes) passes.new }
-    {
-        let mut told = Told::none();
-        let mut leaves = None;
-        self.call_found(rt, passes, act, i, op, &mut told, &mut leaves);
-        let actor = passes.actor();
-        let Some(moving) = leaves else {
-            return told.into_made(actor, act, i, op);
-        };
-        let mut made = told.into_made(actor, act, i, op);
-        let last = self.land(rt, passes, act, moving);
-        add_last(&mut made, last);
-        made
     }
 
     /// A call on callout `i`, the landing of its record at another CPU included. The caller's hold covers it.

@@ -10,7 +10,7 @@ ghost use Rattle.co_service.specs.Call.{HasRoom, notes_in};
 ghost use Rattle.co_service.specs.Desk.{is_entry, scans_in, services};
 ghost use Rattle.co_service.specs.May.{queue_of};
 ghost use Rattle.co_service.specs.Moving.{IsOfService, target_of};
-ghost use Rattle.co_service.specs.Outcomes.{IsTurn, turn};
+ghost use Rattle.co_service.specs.Outcomes.{turn};
 ghost use Rattle.co_service.specs.Params.{directs};
 ghost use Rattle.co_service.specs.Services.{FollowsScans, IsBegun, IsEndedBut, IsFree, IsLanded, IsServing, IsTaken};
 ghost use Rattle.co_service.specs.Serving.{Runs, Waits};
@@ -18,13 +18,14 @@ ghost use Rattle.co_service.specs.Views.{journal_seen};
 ghost use Rattle.co_service.specs.Writes.{WritesCpu};
 
 use crate::books::Books;
-use crate::desk::{Desk, note_turn};
+use crate::desk::{Desk, note_turn, write_turn};
 use crate::moving::{Moving, depart};
 use crate::places::Places;
 use crate::running::{finish, free, serviced, take, three, waited, write_run, write_taken};
 use crate::seats::Lives;
+use crate::told::Inserted;
 use crate::{CpuStory, Made, Name, Passes, Taken};
-use co_object::{Note, QOp, QReply, RunOp};
+use co_object::{QOp, QReply, RunOp};
 use co_sbt::Sbt;
 
 fn is_of(service: Option<(u32, u64)>, i: u32, n: u64) -> bool
@@ -36,7 +37,7 @@ fn is_of(service: Option<(u32, u64)>, i: u32, n: u64) -> bool
     }
 }
 
-/// Writes that arming `n` of callout `i` has come into the queue.
+/// Writes that arming `n` of callout `i` has come into the queue, and tells of it.
 #[inline(always)]
 fn write_landed<N: Name>(
     books: &mut Books<N>,
@@ -47,17 +48,25 @@ fn write_landed<N: Name>(
     n: u64,
     t: Sbt,
     at: Sbt,
-) -> Note
+) -> Inserted
     requires lives { lives.now ≡ N.name.cpus }
     requires name { passes.old.name ≡ N.name }
     requires params { books.old.params ≡ passes.old.params }
     requires possible { reply_of (step books.old.params.buckets (directs books.old.params) (queue_of books.old) (Insert i n t)) ≡ Some (At at) }
     ensures books { books.new ≡ record books.old { journal = books.old.journal ++ turn passes.old act (Insert i n t) (At at) ∷ [] } }
-    ensures note { IsTurn books.old.cpu (turn passes.old act (Insert i n t) (At at)) result }
+    ensures told { result ≡ record { cpu = books.old.cpu; n = n; due = t; at = at; pos = result.pos } }
     ensures written { WritesCpu passes.old books.old.cpu (turn passes.old act (Insert i n t) (At at)) result.pos books.new.journal passes.new }
 {
+    let cpu = books.cpu();
     let op = QOp::Insert { i, n, t };
-    note_turn(books, lives, passes, act, op, QReply::At(at))
+    let pos = write_turn(books, lives, passes, act, op, QReply::At(at));
+    Inserted {
+        cpu,
+        n,
+        due: t,
+        at,
+        pos,
+    }
 }
 
 impl<N: Name> Desk<N> {
@@ -198,12 +207,12 @@ impl<N: Name> Desk<N> {
         passes: &mut Passes,
         act: u64,
         moving: Moving<N>,
-    ) -> Result<Note, Moving<N>>
+    ) -> Result<Inserted, Moving<N>>
         requires places { places.now ≡ N.name }
         requires name { passes.old.name ≡ N.name }
         requires params { moving.params ≡ passes.old.params }
         ensures back { IfErr result (λ m. (m ≡ moving) × (passes.new ≡ passes.old)) }
-        ensures landed { IfOk result (λ note. IsLanded passes.old act moving.i moving.target note passes.new) }
+        ensures landed { IfOk result (λ x. IsLanded passes.old act moving.i moving.target x passes.new) }
     {
         let i = moving.callout();
         let cpu = moving.cpu();

@@ -1,9 +1,8 @@
 //! What a call did, and the notes of it.
 ghost use Rattle.std.specs.Prelude.{◌≡◌, ℕ, [], ◌∷◌};
-ghost use Rattle.std.specs.declared.option.Option.TheVariants.{Some, None};
 ghost use Rattle.co_object.specs.declared.op.Op.TheVariants.{Call};
 ghost use Rattle.co_object.specs.Group.{off_of};
-ghost use Rattle.co_service.specs.Call.{HasRoom, due_in, insertion_told, noted, notes_in, number_in, removal_told, told_notes};
+ghost use Rattle.co_service.specs.Call.{due_in, insertion_told, noted, noted_insert, notes_in, number_in, removal_told, told_notes};
 ghost use Rattle.co_service.specs.Outcomes.{noted_entry, noted_turn};
 
 use crate::Made;
@@ -15,6 +14,10 @@ use co_sbt::Sbt;
 pub(crate) struct Inserted {
     /// In whose queue the arming stands.
     pub(crate) cpu: u32,
+    /// The arming's number.
+    pub(crate) n: u64,
+    /// When it is due.
+    pub(crate) due: Sbt,
     /// The time at which it stands there.
     pub(crate) at: Sbt,
     /// Where the Insert stands in the journal.
@@ -119,22 +122,28 @@ fn removal_note(actor: u32, act: u64, i: u32, reply: &Reply, pos: u64) -> Option
 
 /// The note of what a call put in a queue.
 #[inline(always)]
-fn insertion_note(
-    actor: u32,
-    act: u64,
-    i: u32,
-    n: u64,
-    t: Sbt,
-    insertion: &Option<Inserted>,
-) -> Option<Note>
-    ensures notes { noted result ≡ insertion_told actor act i n t insertion.now }
-    ensures none { insertion.now ≡ None → result ≡ None }
+fn insertion_note(actor: u32, act: u64, i: u32, insertion: &Option<Inserted>) -> Option<Note>
+    ensures { noted result ≡ insertion_told actor act i insertion.now }
 {
-    let Some(Inserted { cpu, at, pos }) = *insertion else {
-        return None;
-    };
-    let op = QOp::Insert { i, n, t };
-    Some(turn_note(actor, act, cpu, op, QReply::At(at), pos))
+    match insertion {
+        None => None,
+        Some(inserted) => Some(inserted.note(actor, act, i)),
+    }
+}
+
+impl Inserted {
+    /// The note of this Insert, of callout `i`.
+    #[inline(always)]
+    pub(crate) fn note(&self, actor: u32, act: u64, i: u32) -> Note
+        ensures { result ≡ noted_insert actor act i self.now }
+    {
+        let op = QOp::Insert {
+            i,
+            n: self.n,
+            t: self.due,
+        };
+        turn_note(actor, act, self.cpu, op, QReply::At(self.at), self.pos)
+    }
 }
 
 impl Told {
@@ -154,13 +163,11 @@ impl Told {
     pub(crate) fn into_made(self, actor: u32, act: u64, i: u32, op: &CallOp) -> Made
         ensures reply { result.reply ≡ self.reply }
         ensures notes { notes_in result.notes ≡ told_notes actor act i op.now self }
-        ensures room { self.insertion ≡ None → HasRoom result.notes }
     {
         let reply = self.reply;
         let removal = removal_note(actor, act, i, &reply, self.removal);
         let entry = call_note(actor, act, i, op, &reply, self.entry);
-        let n = number(&reply);
-        let insertion = insertion_note(actor, act, i, n, time(op), &self.insertion);
+        let insertion = insertion_note(actor, act, i, &self.insertion);
         Made {
             reply,
             notes: [removal, Some(entry), insertion],

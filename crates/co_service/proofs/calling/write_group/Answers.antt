@@ -1,4 +1,4 @@
-use Rattle.std.proofs.Common.{◌≡◌, ℕ, [], ◌∷◌, ◌++◌, map, ap, sym, ◌∙◌, subst}
+use Rattle.std.proofs.Common.{◌≡◌, ℕ, [], ◌∷◌, ◌++◌, map, ap, sym, ◌∙◌}
 use Rattle.co_object.specs.declared.reply.Reply.{Reply}
 use Rattle.co_object.specs.Callout.{call}
 use Rattle.co_object.specs.Group.{off_of, placed}
@@ -6,7 +6,6 @@ use Rattle.co_service.specs.Books.{BooksView, entries_at, is_kept}
 use Rattle.co_service.specs.Call.{call_entry, due_in, insertion_told, number_in, removal_told}
 use Rattle.co_service.specs.May.{state_at}
 use Rattle.co_service.specs.Views.{PassesView}
-use Rattle.co_service.specs.Writes.{Writes}
 use Rattle.co_service.proofs.CallNoted.{insertion_same, told_placed, told_written}
 use Rattle.co_service.proofs.WholeCall.{writes_keep}
 use Rattle.co_service.proofs.calling.write_group.Goals as goal
@@ -50,8 +49,7 @@ returns-clause-written g c =
     let reply : Reply = c.args.out.now.reply in
     let first : r.new.passes.actor ≡ p.actor = (writes_keep p r.new.passes (removal_told p.actor c.args.act c.args.i (off_of reply) r.result) r.ensures.written).actor in
     told_written p c.args.act c.args.books.now.cpu c.args.i c.args.op.now (record { reply = reply; removal = r.result; entry = e.result; insertion = x.result }) c.args.out.now.inserted
-    r.new.passes e.new.passes x.new.passes (entries_at r.new.books c.args.i ++ call_entry r.new.passes c.args.act c.args.op.now reply ∷ []) first (ap (λ (v : PassesView). v.actor) e.ensures.written.passes ∙ first) r.ensures.written e.ensures.written
-    (subst (λ (t : ℕ × ℕ). Writes e.new.passes (insertion_told e.new.passes.actor c.args.act c.args.i t.0 t.1 x.result) x.new.passes) (λ d. (c.number-n.ensures d, c.time-due.ensures d)) x.ensures.written)
+    r.new.passes e.new.passes x.new.passes (entries_at r.new.books c.args.i ++ call_entry r.new.passes c.args.act c.args.op.now reply ∷ []) first (ap (λ (v : PassesView). v.actor) e.ensures.written.passes ∙ first) r.ensures.written e.ensures.written x.ensures.written
 
 pub returns-clause-placed : goal.returns-clause-placed
 returns-clause-placed g c =
@@ -64,6 +62,6 @@ returns-clause-placed g c =
     let acted : e.new.passes.actor ≡ p.actor = ap (λ (v : PassesView). v.actor) e.ensures.written.passes ∙ first in
     let cpu : e.new.books.cpu ≡ c.args.books.now.cpu = ap (λ (b : BooksView). b.cpu) e.ensures.books ∙ ap (λ (b : BooksView). b.cpu) r.ensures.books in
     told_placed p c.args.act c.args.books.now.cpu c.args.i c.args.op.now (record { reply = reply; removal = r.result; entry = e.result; insertion = x.result }) c.args.out.now.inserted
-    ((λ d. map placed (insertion_told (sym acted d) c.args.act c.args.i (sym c.number-n.ensures d) (sym c.time-due.ensures d) x.result))
+    ((λ d. map placed (insertion_told (sym acted d) c.args.act c.args.i x.result))
     ∙ (x.ensures.placed
     ∙ insertion_same p e.new.passes c.args.act c.args.books.now.cpu e.new.books.cpu c.args.i (number_in reply) c.number-n.result (due_in c.args.op.now) c.time-due.result c.args.out.now.inserted acted cpu c.number-n.ensures c.time-due.ensures))

@@ -2,14 +2,20 @@ use Rattle.std.proofs.Common.{◌≡◌, ℕ, length, List, [], ◌∷◌, ◌++
 use Rattle.std.specs.Prelude.{slice_set}
 use Rattle.std.specs.declared.option.Option.TheVariants.{Some}
 use Rattle.co_object.specs.declared.note.Entry.{Entry}
+use Rattle.co_object.specs.declared.queue.QOp.{QOp}
+use Rattle.co_object.specs.declared.queue.QReply.{QReply}
 use Rattle.co_object.specs.declared.queue.QOp.TheVariants.{Insert}
 use Rattle.co_object.specs.declared.queue.QReply.TheVariants.{At}
 use Rattle.co_service.specs.Books.{BooksView, is_kept, with_history}
 use Rattle.co_service.specs.Desk.{IsDesk, alone_after}
 use Rattle.co_service.specs.Lines.{made}
 use Rattle.co_service.specs.Moving.{MovingView, params_in}
-use Rattle.co_service.specs.Outcomes.{turn}
+use Rattle.co_service.specs.declared.told.Inserted.{Inserted}
+use Rattle.co_service.specs.Outcomes.{noted_turn, turn}
+use Rattle.co_service.specs.Views.{PassesView}
+use Rattle.co_service.specs.Writes.{Writes}
 use Rattle.co_service.proofs.LandSection.{Comes, landed_desk}
+use Rattle.co_service.proofs.Noting.{turn_written}
 use Rattle.co_service.proofs.desk.Desk.land.Goals as goal
 
 pub invariant_of-self : goal.invariant_of-self
@@ -42,3 +48,21 @@ invariant_of-self g c =
     subst (λ v. IsDesk c.land-at.new.self v c.self.inside.scans) (sym wrote)
     (landed_desk c.self.inside.wheel b c.self.inside.scans m.parcel H m.n m.due desk comes c.land-at.new.self c.land-at.result c.land-at.ensures
     (turn c.meet.new.passes c.args.act (Insert c.callout-i.result m.n m.due) (At c.land-at.result)) (ap (λ (k : ℕ). Insert k m.n m.due) at_is) refl)
+
+pub returns-clause-landed : goal.returns-clause-landed
+returns-clause-landed g c =
+    let m = c.moving.inside in
+    let x = c.write_landed.result in
+    let p = c.args.passes.now in
+    let w = c.write_landed.ensures in
+    let cpu : c.put.new.self.cpu ≡ c.args.moving.target.cpu =
+    (let a = ap (λ (v : BooksView). v.cpu) c.put.ensures.books in let b = ap (λ (v : BooksView). v.cpu) c.meet.ensures.kept in let h = c.cpu.ensures in let t = c.cpu-cpu.ensures in let f = c.if-cpu.false in omega arith) in
+    let told = w.told in
+    record {
+      cpu = ap (λ (y : Inserted). y.cpu) told ∙ cpu;
+      number = ap (λ (y : Inserted). y.n) told ∙ ap (λ (v : MovingView). v.target.n) c.moving.view_is;
+      due_is = ap (λ (y : Inserted). y.due) told ∙ ap (λ (v : MovingView). v.target.due) c.moving.view_is;
+      written = subst (λ (t : PassesView × QOp × QReply). Writes t.0 (noted_turn t.0.actor c.args.act x.cpu t.1 t.2 x.pos ∷ []) c.write_landed.new.passes)
+          (λ d. (c.meet.ensures.passes d, Insert (c.callout-i.ensures d) (sym (ap (λ (y : Inserted). y.n) told) d) (sym (ap (λ (y : Inserted). y.due) told) d), At (sym (ap (λ (y : Inserted). y.at) told) d)))
+          (turn_written c.meet.new.passes c.write_landed.new.passes c.args.act c.put.new.self.cpu x.cpu (Insert c.callout-i.result m.n m.due) (At c.land-at.result) x.pos c.write_landed.new.books.journal (ap (λ (y : Inserted). y.cpu) told) w.written);
+    }

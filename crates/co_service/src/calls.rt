@@ -1,0 +1,170 @@
+//! A caller's operation: the desk that has the callout is found.
+ghost use Rattle.std.specs.Prelude.{◌≡◌, ◌<◌, false, is_some, true};
+ghost use Rattle.std.specs.declared.option.Option.TheVariants.{None};
+ghost use Rattle.co_object.specs.declared.op.CallOp.{CallOp};
+ghost use Rattle.co_service.specs.Call.{IsAnswer, IsCalled, notes_in, told_notes};
+ghost use Rattle.co_service.specs.Moving.{IsOfService, IsTried, target_of};
+ghost use Rattle.co_service.specs.Views.{AreOf, PassesView};
+
+use crate::moving::Moving;
+use crate::told::Told;
+use crate::{Made, Name, Passes, Service};
+use co_object::CallOp;
+use std::sync::Wait;
+use std::sync::atomic::Ordering;
+
+impl<N: Name> Service<N> {
+    /// The CPU whose desk is asked first for a callout.
+    #[inline(always)]
+    fn hint(&self, i: u32) -> usize
+        ensures { result < self.now.cpus }
+    {
+        let Some(word) = self.hints.get(i as usize) else {
+            return 0;
+        };
+        let cpu = word.load(Ordering::SeqCst) as usize;
+        if cpu < self.desks.len() { cpu } else { 0 }
+    }
+
+    /// A call on one desk. What it did and what leaves go to their places. False where the callout isn't there.
+    #[inline(always)]
+    fn call_at<R: Wait>(
+        &self,
+        rt: &R,
+        passes: &mut Passes,
+        act: u64,
+        i: u32,
+        op: &CallOp,
+        cpu: usize,
+        told: &mut Told,
+        gone: &mut Option<Moving<N>>,
+    ) -> bool
+        requires cpu { cpu < self.now.cpus }
+        requires passes { AreOf N.name self.now passes.old }
+        requires none { gone.old ≡ None }
+        ensures { IsTried passes.old act i op.now result told.new gone.new passes.new }
+    {
+        let locked = &self.desks[cpu];
+        locked
+            .desk
+            .lock(rt)
+            .call(&self.places, passes, act, i, op, told, gone)
+    }
+
+    /// A call on the desks but this one, in rising order. False where the callout is on none of them.
+    ///
+    /// It stands apart, since a callout is seldom elsewhere than where its hint says.
+    #[inline(never)]
+    fn call_elsewhere<R: Wait>(
+        &self,
+        rt: &R,
+        passes: &mut Passes,
+        act: u64,
+        i: u32,
+        op: &CallOp,
+        but: usize,
+        told: &mut Told,
+        gone: &mut Option<Moving<N>>,
+    ) -> bool
+        requires passes { AreOf N.name self.now passes.old }
+        requires none { gone.old ≡ None }
+        ensures { IsTried passes.old act i op.now result told.new gone.new passes.new }
+    {
+        for cpu in 0..self.desks.len() {
+            if cpu != but && self.call_at(rt, passes, act, i, op, cpu, told, gone) {
+                return true;
+            }
+        }
+        false
+    }
+
+    /// A call on the desk that the callout's hint names, and where it isn't there on the others in rising order. False where it is on
+    /// none of them.
+    #[inline(always)]
+    fn call_once<R: Wait>(
+        &self,
+        rt: &R,
+        passes: &mut Passes,
+        act: u64,
+        i: u32,
+        op: &CallOp,
+        told: &mut Told,
+        gone: &mut Option<Moving<N>>,
+    ) -> bool
+        requires passes { AreOf N.name self.now passes.old }
+        requires none { gone.old ≡ None }
+        ensures { IsTried passes.old act i op.now result told.new gone.new passes.new }
+    {
+        let first = self.hint(i);
+        if self.call_at(rt, passes, act, i, op, first, told, gone) {
+            return true;
+        }
+        self.call_elsewhere(rt, passes, act, i, op, first, told, gone)
+    }
+
+    /// A call, where the record stands. What it did and what leaves go to their places.
+    #[inline(always)]
+    fn call_found<R: Wait>(
+        &self,
+        rt: &R,
+        passes: &mut Passes,
+        act: u64,
+        i: u32,
+        op: &CallOp,
+        told: &mut Told,
+        gone: &mut Option<Moving<N>>,
+    )
+        requires passes { AreOf N.name self.now passes.old }
+        requires none { gone.old ≡ None }
+        ensures { IsTried passes.old act i op.now true told.new gone.new passes.new }
+    {
+        for _ in rt.forever() {
+            if self.call_once(rt, passes, act, i, op, told, gone) {
+                return;
+            }
+        }
+        unreachable!()
+    }
+
+    /// What left with a call lands.
+    #[inline(always)]
+    fn land_left<R: Wait>(
+        &self,
+        rt: &R,
+        passes: &mut Passes,
+        act: u64,
+        i: u32,
+        leaves: Option<Moving<N>>,
+        told: &mut Told,
+    )
+        requires passes { AreOf N.name self.now passes.old }
+        requires leaving { IsOfService passes.old.params i leaves }
+        requires room { is_some leaves ≡ true → told.old.insertion ≡ None }
+        ensures { (p : PassesView) (op : CallOp) → IsAnswer p act i op told.old.reply (target_of leaves) (told_notes p.actor act i op told.old) passes.old → IsCalled p act i op told.new.reply (told_notes p.actor act i op told.new) passes.new }
+    {
+        if let Some(moving) = leaves {
+            told.insertion = Some(self.land(rt, passes, act, moving));
+        }
+    }
+
+    /// A call, the landing of what leaves included. Its notes are made once no desk is locked any more.
+    #[inline(always)]
+    pub(crate) fn call_landed<R: Wait>(
+        &self,
+        rt: &R,
+        passes: &mut Passes,
+        act: u64,
+        i: u32,
+        op: &CallOp,
+    ) -> Made
+        requires passes { AreOf N.name self.now passes.old }
+        ensures { IsCalled passes.old act i op.now result.reply (notes_in result.notes) passes.new }
+    {
+        let mut told = Told::none();
+        let mut leaves = None;
+        self.call_found(rt, passes, act, i, op, &mut told, &mut leaves);
+        let actor = passes.actor();
+        self.land_left(rt, passes, act, i, leaves, &mut told);
+        told.into_made(actor, act, i, op)
+    }
+}
