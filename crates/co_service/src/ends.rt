@@ -91,7 +91,10 @@ impl<N: Name> Service<N> {
         made
     }
 
-    /// The same for the CPU's interrupt, whose passes these are.
+    /// The service of the CPU's interrupt is over: the function has returned. Where an arming at another CPU waited for this end, the
+    /// callout lands there.
+    ///
+    /// The passes are those of the interrupt, whose own entries have a direct callout in service.
     pub fn end_direct<R: Wait>(&self, rt: &R, passes: &mut Passes, cpu: u32, act: u64) -> Made
         requires cpu { cpu < self.now.cpus }
         requires passes { AreOf N.name self.now passes.old }
