@@ -1,11 +1,10 @@
-//! The functions of a script, run through ports over one service, each on a thread of its own.
+//! The functions of a script, run through ports over one service.
 ghost use Rattle.std.specs.Prelude.{◌≡◌, ◌<◌, ◌≤◌, length};
 ghost use Rattle.co_program.specs.Actors.{acts_at};
 ghost use Rattle.co_program.specs.Scripts.{IsScript};
 ghost use Rattle.co_service.specs.Booted.{AreBooted};
 ghost use Rattle.co_service.specs.Views.{AreOf};
 ghost use Rattle.run_cases.specs.Scenes.{two_clients};
-ghost use denote.Param.Send.{IsSync};
 
 use super::running::script_of;
 use super::scene::{SPECS, boot, leave_clients};
@@ -21,7 +20,6 @@ use std::marker::Brand;
 use std::process::Abort;
 use std::sync::Wait;
 use std::test::Fail;
-use std::thread::{Threads, join};
 
 /// Two functions over two callouts.
 const FUNCTIONS: &str = "callout 1
@@ -81,42 +79,8 @@ fn calls_of<N: Name, R: Wait + Sync>(
     Ok(port.into_parts().1)
 }
 
-/// What both functions' calls are answered.
-type Both = (
-    Result<Seq<PortCall>, NoMemory>,
-    Result<Seq<PortCall>, NoMemory>,
-);
-
-/// The calls of both functions, each in a thread of its own.
-fn calls_of_both<N: Name + Send + Sync, R: Threads + Wait + Sync>(
-    rt: &R,
-    alloc: Global,
-    script: &Script,
-    gate: &Waits<'_>,
-    service: &Service<N>,
-    one: Passes,
-    other: Passes,
-) -> Both
-    requires script { IsScript script.now }
-    requires callouts { length script.now.timers ≡ 2 }
-    requires cpus { script.now.cpus ≡ 3 }
-    requires scene { service.now ≡ two_clients }
-    requires one { AreOf N.name service.now one }
-    requires other { AreOf N.name service.now other }
-{
-    join(
-        rt,
-        || -> Result<Seq<PortCall>, NoMemory>
-            requires { IsSync R.row × IsScript script.now × (length script.now.timers ≡ 2) × (script.now.cpus ≡ 3) × (service.now ≡ two_clients) × AreOf N.name service.now one }
-        { calls_of(rt, alloc, script, service, gate, one, 0) },
-        || -> Result<Seq<PortCall>, NoMemory>
-            requires { IsSync R.row × IsScript script.now × (length script.now.timers ≡ 2) × (script.now.cpus ≡ 3) × (service.now ≡ two_clients) × AreOf N.name service.now other }
-        { calls_of(rt, alloc, script, service, gate, other, 1) },
-    )
-}
-
 /// Opens the service, and runs both functions on it.
-fn run_both<N: Name + Send + Sync, R: Threads + Wait + Sync>(
+fn run_both<N: Name, R: Wait + Sync>(
     rt: &R,
     alloc: Global,
     script: &Script,
@@ -133,8 +97,9 @@ fn run_both<N: Name + Send + Sync, R: Threads + Wait + Sync>(
 {
     let service = Service::<N>::open(alloc, fresh)?;
     let (one, other) = leave_clients(&service, passes);
-    let (first, second) = calls_of_both(rt, alloc, script, gate, &service, one, other);
-    Ok((first?, second?))
+    let first = calls_of(rt, alloc, script, &service, gate, one, 0)?;
+    let second = calls_of(rt, alloc, script, &service, gate, other, 1)?;
+    Ok((first, second))
 }
 
 /// A reset of function `i` to a time in seconds, at this CPU or at home.
@@ -175,64 +140,56 @@ fn stopped(cpu: u32) -> Reply {
     }
 }
 
-/// The calls of the first function.
-fn are_first<R: Abort>(rt: &R, calls: &Seq<PortCall>) {
-    let wanted = [
+/// Whether the functions made these calls.
+fn are_made(first: &Seq<PortCall>, second: &Seq<PortCall>) -> bool {
+    let home = [
         call(0, reset(2, 0, 7, None), armed(0)),
         call(0, PlainOp::Pending, Reply::Yes),
         call(0, PlainOp::Stop, stopped(0)),
     ];
-    assert!(rt; calls.as_slice() == wanted.as_slice());
-}
-
-/// The calls of the second function.
-fn are_second<R: Abort>(rt: &R, calls: &Seq<PortCall>) {
-    let wanted = [
+    let here = [
         call(1, reset(3, 1, 8, Some(2)), armed(2)),
         call(1, PlainOp::Active, Reply::Yes),
         call(1, PlainOp::Stop, stopped(2)),
     ];
-    assert!(rt; calls.as_slice() == wanted.as_slice());
+    first.as_slice() == home.as_slice() && second.as_slice() == here.as_slice()
 }
 
-/// Runs both functions on a service that is booted for them, and judges their calls.
-fn run_functions<R: Threads + Wait + Sync + Abort>(
+/// Runs both functions on a service that is booted for them. Whether their calls are as they have to be.
+fn run_functions<R: Wait + Sync>(
     rt: &R,
     alloc: Global,
     script: &Script,
     gate: &Waits<'_>,
-) -> Result<(), NoMemory>
+) -> Result<bool, NoMemory>
     requires script { IsScript script.now }
     requires callouts { length script.now.timers ≡ 2 }
     requires cpus { script.now.cpus ≡ 3 }
 {
     let (fresh, passes) = boot(alloc)?;
     let (first, second) = run_both::<Brand, _>(rt, alloc, script, gate, fresh, passes)?;
-    are_first(rt, &first);
-    are_second(rt, &second);
-    Ok(())
+    Ok(are_made(&first, &second))
 }
 
 /// Runs both functions. Each announces its acts.
-fn run_through_ports<R: Threads + Wait + Sync + Abort>(
+fn run_through_ports<R: Wait + Sync + Abort>(
     rt: &R,
     alloc: Global,
     script: &Script,
-) -> Result<(), NoMemory>
+) -> Result<bool, NoMemory>
     requires { IsScript script.now }
 {
     assert!(rt; script.timers.as_slice().len() == 2);
     assert!(rt; script.cpus == 3);
     let told = nothing_told(alloc, 2)?;
     let gate = Waits::new(&[], told.as_slice());
-    run_functions(rt, alloc, script, &gate)?;
-    gate.check(rt, &[3, 3]);
-    Ok(())
+    let made = run_functions(rt, alloc, script, &gate)?;
+    Ok(made && gate.is_kept(&[3, 3]))
 }
 
 #[test]
 fn functions_call_through_ports(rt: HostRuntime) -> Result<(), Fail> {
     let script = script_of(rt.alloc(), FUNCTIONS.as_bytes())?;
-    run_through_ports(&rt, rt.alloc(), &script)?;
+    assert!(rt; run_through_ports(&rt, rt.alloc(), &script)?);
     Ok(())
 }

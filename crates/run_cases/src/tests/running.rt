@@ -10,7 +10,7 @@ ghost use Rattle.co_run.specs.Ran.{IsRan};
 ghost use Rattle.run_cases.specs.Scenes.{CanRun};
 
 use co_check::{Verdict, check};
-use co_hand::{Gate, OpenGate};
+use co_hand::Gate;
 use co_object::{Lists, Note, Place};
 use co_program::Script;
 use co_report::{print_report, read_report};
@@ -103,16 +103,6 @@ pub(super) fn run_printed<G: Gate + Sync, R: Threads + Wait + Sync + Abort>(
     let text = print_script(alloc, script)?;
     let script = script_of(alloc, text.as_slice())?;
     run_script(rt, alloc, &script, gate)
-}
-
-/// Runs the script of a text through an open gate. Its report is legal.
-pub(super) fn run_text<R: Threads + Wait + Sync + Abort>(
-    rt: &R,
-    alloc: Global,
-    text: &[u8],
-) -> Result<Lists, Failed> {
-    let script = script_of(alloc, text)?;
-    run_script(rt, alloc, &script, &OpenGate {})
 }
 
 /// Opens a service, and runs the script on it with these books.

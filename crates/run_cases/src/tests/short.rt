@@ -6,7 +6,6 @@ ghost use Rattle.co_run.specs.Ran.{IsRan};
 ghost use Rattle.run_cases.specs.Scenes.{CanRun};
 
 use super::running::{Failed, run_with, script_of, verdict_of};
-use super::threads::THREADS;
 use co_check::Verdict;
 use co_hand::OpenGate;
 use co_program::{Script, actor_count};
@@ -16,6 +15,24 @@ use std::alloc::Global;
 use std::sync::Wait;
 use std::test::Fail;
 use std::thread::Threads;
+
+/// Two CPUs and two clients, each with a callout of its own. One of the CPUs has a tick.
+const THREADS: &str = "callout 1
+cpus 2
+funcs 1
+timer 0 mpsafe
+timer 1 mpsafe
+func 0
+pending me
+client 0
+reset 0 =1 f0 a0
+pending 0
+client 1
+reset 1 =1 f0 a1 cpu 1
+pending 1
+cpu 0
+tick 1
+";
 
 /// The actor that is refused room: the first CPU.
 const REFUSED: u32 = 2;

@@ -119,13 +119,14 @@ impl<'a> Waits<'a> {
         Some(told.acts.load(Ordering::SeqCst))
     }
 
-    /// Each act was announced once and in its order, so many of each actor, and no wait gave up.
-    pub(super) fn check<R: Abort>(&self, rt: &R, acts: &[u64]) {
-        assert!(rt; self.faults.load(Ordering::SeqCst) == 0);
-        assert!(rt; self.told.len() == acts.len());
-        for actor in 0..acts.len() {
-            assert!(rt; self.announced(actor) == Some(acts[actor]));
+    /// Whether each act was announced once and in its order, so many of each actor, and no wait gave up.
+    pub(super) fn is_kept(&self, acts: &[u64]) -> bool {
+        for (actor, count) in acts.iter().enumerate() {
+            if self.announced(actor) != Some(*count) {
+                return false;
+            }
         }
+        self.told.len() == acts.len() && self.faults.load(Ordering::SeqCst) == 0
     }
 }
 
@@ -213,7 +214,7 @@ fn run_waiting<R: Threads + Wait + Sync + Abort>(
     let told = nothing_told(alloc, actor_count(script))?;
     let gate = Waits::new(after, told.as_slice());
     let ran = run_told(rt, alloc, script, &gate, told.as_slice())?;
-    gate.check(rt, acts);
+    assert!(rt; gate.is_kept(acts));
     Ok(ran)
 }
 
