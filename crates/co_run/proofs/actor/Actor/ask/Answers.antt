@@ -1,0 +1,32 @@
+-- What is asked is what the arm asks; all else goes on as it is.
+use Rattle.std.proofs.Common.{rules}
+use Rattle.co_run.proofs.actor.Actor.ask.Goals as goal
+
+pub ask_itself-requires : goal.ask_itself-requires
+ask_itself-requires g c =
+    let r = c.requires in record { script = r.script; acting = r.acting; due = search rules; count = r.count; room = r.room }
+
+pub ask_call-requires : goal.ask_call-requires
+ask_call-requires g c =
+    let r = c.requires in record { script = r.script; service = r.service; acting = r.acting; due = search rules; count = r.count; room = r.room }
+
+pub ask_run-requires : goal.ask_run-requires
+ask_run-requires g c =
+    let r = c.requires in record { script = r.script; service = r.service; short = r.short; acting = r.acting; due = search rules; count = r.count; room = r.room }
+
+pub ask_queue-requires : goal.ask_queue-requires
+ask_queue-requires g c =
+    let r = c.requires in record { script = r.script; service = r.service; short = r.short; few = r.few; acting = r.acting; due = search rules; count = r.count; room = r.room }
+
+pub returns-in-Itself : goal.returns-in-Itself
+returns-in-Itself g c = c.ask_itself.ensures
+
+pub returns-in-Callout-default-Call : goal.returns-in-Callout-default-Call
+returns-in-Callout-default-Call g c = c.ask_call.ensures
+
+pub returns-in-Callout-default-Run : goal.returns-in-Callout-default-Run
+returns-in-Callout-default-Run g c =
+    let e = c.ask_run.ensures in record { acting = e.acting; count = e.count; room = e.room; number = e.number; rests = tt }
+
+pub returns-in-Queue : goal.returns-in-Queue
+returns-in-Queue g c = c.ask_queue.ensures
