@@ -1,5 +1,5 @@
 -- The depot's end, its entry and the Free are together the plain world's step.
-use Rattle.std.proofs.Common.{◌≡◌, ℕ, ◌<◌, Bool, true, false, List, slice_index_or, sym, ap, ◌∙◌, subst, length, Some}
+use Rattle.std.proofs.Common.{◌≡◌, ℕ, ◌<◌, Bool, true, false, List, slice_index_or, sym, ap, ◌∙◌, subst, length, Some, arith}
 use Rattle.std.specs.Prelude.{is_some}
 use Rattle.co_object.specs.declared.spec.LockUse.TheVariants.{Free}
 use Rattle.co_object.specs.declared.spec.Spec.{Spec}
@@ -98,3 +98,27 @@ returns-clause-stands c = λ w held due.
     (subst (λ (d : Stored). StandsFor s (with_list c.write_queue.new.self a notes2) d (step s w a)) (sym out.3)
     (stands_ended s c.requires.script books c.args.self.now.depot w held a act i c.args.n cpu due reply out.1 out.0 ended (with_list c.write_queue.new.self a notes2)
     (λ queue state. written2 (callout_answers s w a act i (Run (End c.args.n cpu)) (Some (state, reply))) queue (written1 state)))))
+
+pub write_callout-requires-clause-written : goal.write_callout-requires-clause-written
+write_callout-requires-clause-written c = let m = c.requires.may in (m.world, m.held.written, m.due.may)
+
+pub write_callout-requires-clause-few : goal.write_callout-requires-clause-few
+write_callout-requires-clause-few c = omega (arith, c.requires.may.few)
+
+pub write_callout-requires-clause-room : goal.write_callout-requires-clause-room
+write_callout-requires-clause-room c = omega (arith, c.requires.may.room)
+
+pub write_queue-requires-clause-few : goal.write_queue-requires-clause-few
+write_queue-requires-clause-few c = omega (arith, c.requires.may.few, c.write_callout.ensures.made)
+
+pub write_queue-requires-clause-room : goal.write_queue-requires-clause-room
+write_queue-requires-clause-room c = omega (arith, c.requires.may.room, c.write_callout.ensures.spare)
+
+pub returns-clause-actor : goal.returns-clause-actor
+returns-clause-actor c = c.write_queue.ensures.actor ∙ c.write_callout.ensures.actor
+
+pub returns-clause-told : goal.returns-clause-told
+returns-clause-told c = c.write_queue.ensures.told ∙ c.write_callout.ensures.told
+
+pub returns-clause-count : goal.returns-clause-count
+returns-clause-count c = omega (arith, c.write_queue.ensures.count, c.write_callout.ensures.count)

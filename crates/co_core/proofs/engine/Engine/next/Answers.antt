@@ -1,5 +1,5 @@
 -- The depot's next, the Pop and, where a callout has come due, its Pick are together the plain world's step.
-use Rattle.std.proofs.Common.{◌≡◌, ℕ, true, false, sym, ◌∙◌, subst, Some}
+use Rattle.std.proofs.Common.{arith, ◌≡◌, ℕ, true, false, sym, ◌∙◌, subst, Some}
 use Rattle.std.specs.Prelude.{is_some}
 use Rattle.co_object.specs.declared.state.State.{State}
 use Rattle.co_object.specs.declared.op.Op.TheVariants.{Run}
@@ -87,3 +87,24 @@ returns-in-Took-clause-stands c = λ w held due.
     (subst (λ (d : Stored). StandsFor s (with_list c.write_callout.new.self a notes2) d (step s w a)) (sym next.2)
     (stands_picked s c.requires.script books c.args.self.now.depot w held a act cpu c.args.direct due i n at reply next.0 next.1 (with_list c.write_callout.new.self a notes2)
     (λ queue state. written2 (queue_answers s w a act cpu (pop_of c.args.direct) (Some (queue, Got i n at))) state (written1 queue) (λ e. absurd (let clash : true ≡ false = sym e ∙ none in cc))))))
+
+pub write_queue-requires-clause-written : goal.write_queue-requires-clause-written
+write_queue-requires-clause-written c = let m = c.requires.may in (m.world, m.held.written, m.due.may)
+
+pub write_queue-requires-in-Took-clause-written : goal.write_queue-requires-in-Took-clause-written
+write_queue-requires-in-Took-clause-written c = let m = c.requires.may in (m.world, m.held.written, m.due.may)
+
+pub write_callout-requires-clause-few : goal.write_callout-requires-clause-few
+write_callout-requires-clause-few c = omega (arith, c.requires.may.few, c.write_queue-in-Took.ensures.made)
+
+pub write_callout-requires-clause-room : goal.write_callout-requires-clause-room
+write_callout-requires-clause-room c = omega (arith, c.requires.may.room, c.write_queue-in-Took.ensures.spare)
+
+pub returns-in-Took-clause-actor : goal.returns-in-Took-clause-actor
+returns-in-Took-clause-actor c = c.write_callout.ensures.actor ∙ c.write_queue-in-Took.ensures.actor
+
+pub returns-in-Took-clause-told : goal.returns-in-Took-clause-told
+returns-in-Took-clause-told c = c.write_callout.ensures.told ∙ c.write_queue-in-Took.ensures.told
+
+pub returns-in-Took-clause-count : goal.returns-in-Took-clause-count
+returns-in-Took-clause-count c = omega (arith, c.write_callout.ensures.count, c.write_queue-in-Took.ensures.count)
