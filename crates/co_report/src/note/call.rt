@@ -11,7 +11,6 @@ use co_object::{CallOp, Op, PlainOp, RunOp};
 use co_sbt::{NoMemory, Sbt};
 use co_text::Page;
 
-#[tactic(auto, using(co_text::proofs::Spacing::five_pieces))]
 fn print_reset(
     page: &mut Page,
     due: Sbt,
@@ -26,8 +25,7 @@ fn print_reset(
     page.tagged(b" pr u".as_slice(), prec.raw())?;
     page.tagged(b" f".as_slice(), func as u64)?;
     page.tagged(b" a".as_slice(), arg)?;
-    print_target(page, place)?;
-    Ok(())
+    print_target(page, place)
 }
 
 fn print_schedule(page: &mut Page, due: Sbt, prec: Sbt, place: Option<u32>) -> Result<(), NoMemory>
@@ -62,13 +60,11 @@ fn print_plain(page: &mut Page, op: &PlainOp) -> Result<(), NoMemory>
     }
 }
 
-#[tactic(auto, using(co_text::proofs::Spacing::two_pieces))]
 fn print_drain(page: &mut Page, took: bool) -> Result<(), NoMemory>
     ensures { OnOk result (page.new ≡ page.old ++ spaced (codes "drain" ∷ truth_word took ∷ [])) }
 {
     page.text(b" drain".as_slice())?;
-    print_truth(page, took)?;
-    Ok(())
+    print_truth(page, took)
 }
 
 fn print_call(page: &mut Page, op: &CallOp) -> Result<(), NoMemory>
@@ -80,32 +76,26 @@ fn print_call(page: &mut Page, op: &CallOp) -> Result<(), NoMemory>
     }
 }
 
-#[tactic(auto, using(co_text::proofs::Spacing::three_pieces))]
 fn print_pick(page: &mut Page, n: u64, cpu: u32, at: Sbt) -> Result<(), NoMemory>
     ensures { OnOk result (page.new ≡ page.old ++ spaced (op_words (ops.Run (runs.Pick n cpu at)))) }
 {
     page.tagged(b" pick #".as_slice(), n)?;
     page.tagged(b" p".as_slice(), cpu as u64)?;
-    page.tagged(b" u".as_slice(), at.raw())?;
-    Ok(())
+    page.tagged(b" u".as_slice(), at.raw())
 }
 
-#[tactic(auto, using(co_text::proofs::Spacing::two_pieces))]
 fn print_begin(page: &mut Page, n: u64, cpu: u32) -> Result<(), NoMemory>
     ensures { OnOk result (page.new ≡ page.old ++ spaced (op_words (ops.Run (runs.Begin n cpu)))) }
 {
     page.tagged(b" begin #".as_slice(), n)?;
-    page.tagged(b" p".as_slice(), cpu as u64)?;
-    Ok(())
+    page.tagged(b" p".as_slice(), cpu as u64)
 }
 
-#[tactic(auto, using(co_text::proofs::Spacing::two_pieces))]
 fn print_end(page: &mut Page, n: u64, cpu: u32) -> Result<(), NoMemory>
     ensures { OnOk result (page.new ≡ page.old ++ spaced (op_words (ops.Run (runs.End n cpu)))) }
 {
     page.tagged(b" end #".as_slice(), n)?;
-    page.tagged(b" p".as_slice(), cpu as u64)?;
-    Ok(())
+    page.tagged(b" p".as_slice(), cpu as u64)
 }
 
 fn print_run(page: &mut Page, op: &RunOp) -> Result<(), NoMemory>

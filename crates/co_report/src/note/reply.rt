@@ -11,19 +11,16 @@ use co_sbt::NoMemory;
 use co_text::Page;
 
 /// The end of a run, behind which no run is next.
-#[tactic(auto, using(co_text::proofs::Spacing::four_pieces))]
 fn print_last(page: &mut Page, drain: Option<u32>, woke: bool) -> Result<(), NoMemory>
     ensures { OnOk result (page.new ≡ page.old ++ spaced (reply_words (replies.Ended drain None woke))) }
 {
     page.text(b" ended".as_slice())?;
     print_drain(page, drain)?;
     page.text(b" next -".as_slice())?;
-    print_woke(page, woke)?;
-    Ok(())
+    print_woke(page, woke)
 }
 
 /// The end of a run, behind which this run is next.
-#[tactic(auto, using(co_text::proofs::Spacing::six_pieces))]
 fn print_followed(
     page: &mut Page,
     drain: Option<u32>,
@@ -37,8 +34,7 @@ fn print_followed(
     page.tagged(b" next #".as_slice(), next.n)?;
     page.tagged(b" p".as_slice(), next.cpu as u64)?;
     page.tagged(b" u".as_slice(), next.due.raw())?;
-    print_woke(page, woke)?;
-    Ok(())
+    print_woke(page, woke)
 }
 
 fn print_ended(
@@ -55,7 +51,6 @@ fn print_ended(
     }
 }
 
-#[tactic(auto, using(co_text::proofs::Spacing::five_pieces))]
 fn print_armed(
     page: &mut Page,
     code: i32,
@@ -69,66 +64,53 @@ fn print_armed(
     page.signed(code)?;
     page.tagged(b" #".as_slice(), n)?;
     page.tagged(b" p".as_slice(), cpu as u64)?;
-    print_off(page, off)?;
-    Ok(())
+    print_off(page, off)
 }
 
-#[tactic(auto, using(co_text::proofs::Spacing::two_pieces))]
 fn print_not_armed(page: &mut Page, code: i32) -> Result<(), NoMemory>
     ensures { OnOk result (page.new ≡ page.old ++ spaced (codes "notarmed" ∷ signed_decimal code ∷ [])) }
 {
     page.text(b" notarmed ".as_slice())?;
-    page.signed(code)?;
-    Ok(())
+    page.signed(code)
 }
 
-#[tactic(auto, using(co_text::proofs::Spacing::three_pieces))]
 fn print_stopped(page: &mut Page, code: i32, off: Option<u32>) -> Result<(), NoMemory>
     ensures { OnOk result (page.new ≡ page.old ++ spaced (codes "stopped" ∷ signed_decimal code ∷ off_words off)) }
 {
     page.text(b" stopped ".as_slice())?;
     page.signed(code)?;
-    print_off(page, off)?;
-    Ok(())
+    print_off(page, off)
 }
 
-#[tactic(auto, using(co_text::proofs::Spacing::three_pieces))]
 fn print_drain_done(page: &mut Page, code: i32, off: Option<u32>) -> Result<(), NoMemory>
     ensures { OnOk result (page.new ≡ page.old ++ spaced (codes "drained" ∷ signed_decimal code ∷ off_words off)) }
 {
     page.text(b" drained ".as_slice())?;
     page.signed(code)?;
-    print_off(page, off)?;
-    Ok(())
+    print_off(page, off)
 }
 
-#[tactic(auto, using(co_text::proofs::Spacing::three_pieces))]
 fn print_wait(page: &mut Page, n: u64, took: bool, off: Option<u32>) -> Result<(), NoMemory>
     ensures { OnOk result (page.new ≡ page.old ++ spaced (reply_words (replies.Wait n took off))) }
 {
     page.tagged(b" wait #".as_slice(), n)?;
     print_truth(page, took)?;
-    print_off(page, off)?;
-    Ok(())
+    print_off(page, off)
 }
 
-#[tactic(auto, using(co_text::proofs::Spacing::three_pieces))]
 fn print_in_use(page: &mut Page, armed: bool, serviced: bool) -> Result<(), NoMemory>
     ensures { OnOk result (page.new ≡ page.old ++ spaced (reply_words (replies.InUse armed serviced))) }
 {
     page.text(b" inuse".as_slice())?;
     print_truth(page, armed)?;
-    print_truth(page, serviced)?;
-    Ok(())
+    print_truth(page, serviced)
 }
 
-#[tactic(auto, using(co_text::proofs::Spacing::two_pieces))]
 fn print_go(page: &mut Page, func: u32, arg: u64) -> Result<(), NoMemory>
     ensures { OnOk result (page.new ≡ page.old ++ spaced (reply_words (replies.Go func arg))) }
 {
     page.tagged(b" go f".as_slice(), func as u64)?;
-    page.tagged(b" a".as_slice(), arg)?;
-    Ok(())
+    page.tagged(b" a".as_slice(), arg)
 }
 
 pub fn print_reply(page: &mut Page, reply: &Reply) -> Result<(), NoMemory>
