@@ -61,24 +61,24 @@ insertion_same p q act cpu cpu' i n n' due due' (Some t) actor here number time 
 
 module _ (p : PassesView) (act cpu i : ℕ) (op : CallOp) (t : Told) (inserted : Option ℕ) where
   abbrev entry : Entry
-  entry = call_entry p act op t.reply
+  entry = call_entry p act op t.out.reply
 
   abbrev put : List Note
   put = insertion_told p.actor act i t.insertion
 
   -- the notes of a section are what it told
-  pub told_placed : map placed put ≡ insertion_notes p act cpu i (number_in t.reply) (due_in op) inserted → map placed (told_notes p.actor act i op t) ≡ section_notes p act cpu i op t.reply inserted
-  told_placed = by_off (off_of t.reply) where
-    by_off : (o : Option ℕ) → map placed put ≡ insertion_notes p act cpu i (number_in t.reply) (due_in op) inserted
-        → map placed (removal_told p.actor act i o t.removal ++ noted_entry i entry t.entry ∷ put) ≡ removal_notes i entry o ++ ((at.Timer i, of.Timer entry) ∷ []) ++ insertion_notes p act cpu i (number_in t.reply) (due_in op) inserted
+  pub told_placed : map placed put ≡ insertion_notes p act cpu i (number_in t.out.reply) (due_in op) inserted → map placed (told_notes p.actor act i op t) ≡ section_notes p act cpu i op t.out.reply inserted
+  told_placed = by_off (off_of t.out.reply) where
+    by_off : (o : Option ℕ) → map placed put ≡ insertion_notes p act cpu i (number_in t.out.reply) (due_in op) inserted
+        → map placed (removal_told p.actor act i o t.removal ++ noted_entry i entry t.entry ∷ put) ≡ removal_notes i entry o ++ ((at.Timer i, of.Timer entry) ∷ []) ++ insertion_notes p act cpu i (number_in t.out.reply) (due_in op) inserted
     by_off None is = ap (λ (ns : List Placed). (at.Timer i, of.Timer entry) ∷ ns) is
     by_off (Some x) is = ap (λ (ns : List Placed). (at.Cpu x, of.Cpu (turn p act (Remove i) Off)) ∷ (at.Timer i, of.Timer entry) ∷ ns) is
 
   -- a section, entry after entry
-  pub told_written : (q r s : PassesView) (after : List Entry) → q.actor ≡ p.actor → r.actor ≡ p.actor → Writes p (removal_told p.actor act i (off_of t.reply) t.removal) q
-      → WritesTimer q i (call_entry q act op t.reply) t.entry after r → Writes r (insertion_told r.actor act i t.insertion) s → Writes p (told_notes p.actor act i op t) s
-  told_written q r s after mine still a w b = writes-append p q s (removal_told p.actor act i (off_of t.reply) t.removal) (noted_entry i entry t.entry ∷ put) a (
+  pub told_written : (q r s : PassesView) (after : List Entry) → q.actor ≡ p.actor → r.actor ≡ p.actor → Writes p (removal_told p.actor act i (off_of t.out.reply) t.removal) q
+      → WritesTimer q i (call_entry q act op t.out.reply) t.entry after r → Writes r (insertion_told r.actor act i t.insertion) s → Writes p (told_notes p.actor act i op t) s
+  told_written q r s after mine still a w b = writes-append p q s (removal_told p.actor act i (off_of t.out.reply) t.removal) (noted_entry i entry t.entry ∷ put) a (
     r,
-    (after, subst (λ (n : ℕ). WritesTimer q i (record { actor = n; act = act; op = Call op; reply = t.reply }) t.entry after r) mine w),
+    (after, subst (λ (n : ℕ). WritesTimer q i (record { actor = n; act = act; op = Call op; reply = t.out.reply }) t.entry after r) mine w),
     subst (λ (n : ℕ). Writes r (insertion_told n act i t.insertion) s) still b,
   )

@@ -110,4 +110,4 @@ module _ (lane : Bool) (p q : PassesView) (cpu act : ℕ) (d : Due) (reply : Rep
 pub told_landed : (actor act i : ℕ) (op : CallOp) (t : Told) (x : Inserted) → t.insertion ≡ None → told_notes actor act i op t ++ noted_insert actor act i x ∷ [] ≡ told_notes actor act i op (record t { insertion = Some x })
 told_landed actor act i op t x none =
     ap (λ (o : Option Inserted). told_notes actor act i op (record t { insertion = o }) ++ noted_insert actor act i x ∷ []) none
-    ∙ append_assoc (removal_told actor act i (off_of t.reply) t.removal) (noted_entry i (record { actor = actor; act = act; op = Call op; reply = t.reply }) t.entry ∷ []) (noted_insert actor act i x ∷ [])
+    ∙ append_assoc (removal_told actor act i (off_of t.out.reply) t.removal) (noted_entry i (record { actor = actor; act = act; op = Call op; reply = t.out.reply }) t.entry ∷ []) (noted_insert actor act i x ∷ [])

@@ -125,8 +125,8 @@ insertion_told actor act i (Some x) = noted_insert actor act i x ∷ []
 
 abbrev pub told_notes : (actor act i : ℕ) → CallOp → Told → List Note
 told_notes actor act i op t =
-    removal_told actor act i (off_of t.reply) t.removal
-    ++ noted_entry i (record { actor = actor; act = act; op = Call op; reply = t.reply }) t.entry
+    removal_told actor act i (off_of t.out.reply) t.removal
+    ++ noted_entry i (record { actor = actor; act = act; op = Call op; reply = t.out.reply }) t.entry
     ∷ insertion_told actor act i t.insertion
 
 -- what a call asks of the queue

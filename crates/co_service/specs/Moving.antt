@@ -82,6 +82,6 @@ IsOfService p i (Some m) = (m.params ≡ p) × (m.i ≡ i)
 -- it leaves, which then was put in no queue
 pub record IsTried (p : PassesView) (act i : ℕ) (op : CallOp) (here : Bool) (told : Told) (leaves : Option MovingView) (q : PassesView) : Type 0 where
   pub none : here ≡ false → (q ≡ p) × (leaves ≡ None)
-  pub answer : here ≡ true → IsAnswer p act i op told.reply (target_of leaves) (told_notes p.actor act i op told) q
+  pub answer : here ≡ true → IsAnswer p act i op told.out.reply (target_of leaves) (told_notes p.actor act i op told) q
   pub leaving : here ≡ true → IsOfService p.params i leaves
   pub room : here ≡ true → is_some leaves ≡ true → told.insertion ≡ None

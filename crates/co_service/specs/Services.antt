@@ -14,8 +14,7 @@ use Rattle.co_object.specs.declared.op.RunOp.TheVariants.{Pick, Begin, End}
 use Rattle.co_object.specs.declared.reply.Reply.{Reply}
 use Rattle.co_object.specs.declared.reply.Reply.TheVariants.{Ended}
 use Rattle.co_object.specs.declared.reply.Next.{Next}
-use Rattle.co_object.specs.declared.queue.QOp.TheVariants.{Insert}
-use Rattle.co_object.specs.declared.queue.QReply.TheVariants.{At, Got, Freed, Empty as Nothing}
+use Rattle.co_object.specs.declared.queue.QReply.TheVariants.{Got, Freed, Empty as Nothing}
 use Rattle.co_object.specs.Group.{placed}
 use Rattle.co_object.specs.Queue.{Due}
 use Rattle.co_wheel.specs.declared.outs.NextOut.{NextOut}

@@ -20,7 +20,6 @@ use crate::told::{Inserted, Told, number, time};
 use crate::{CpuStory, Name, Passes, TimerStory};
 use co_object::{CallOp, Entry, Op, QOp, QReply, Reply};
 use co_sbt::Sbt;
-use co_wheel::CallOut;
 
 /// Where a call took an arming out of the queue, the Remove before its entry. It gives its position.
 #[inline(always)]
@@ -119,7 +118,8 @@ pub(crate) fn write_insertion<N: Name>(
     })
 }
 
-/// What a call did, entry after entry: what it took out of the queue, its own, and what it put in.
+/// What a call did, entry after entry: what it took out of the queue, its own, and what it put in. Where these stand goes to its
+/// place.
 #[inline(always)]
 pub(crate) fn write_group<N: Name>(
     books: &mut Books<N>,
@@ -128,35 +128,34 @@ pub(crate) fn write_group<N: Name>(
     act: u64,
     i: u32,
     op: &CallOp,
-    out: &CallOut,
-) -> Told
+    told: &mut Told,
+)
     requires places { places.now ≡ N.name }
     requires name { passes.old.name ≡ N.name }
     requires params { books.old.params ≡ passes.old.params }
     requires here { is_kept books.old i ≡ true }
-    requires reply { out.now.reply ≡ (call (state_at books.old i) op.now).1 }
-    requires removed { out.now.removed ≡ is_some (off_of out.now.reply) }
-    requires off { (x : ℕ) → off_of out.now.reply ≡ Some x → x ≡ books.old.cpu }
-    requires owes { (w : Cpu) × Owes (call_turns i op.now out.now.reply out.now.inserted) w books.old }
-    ensures reply { result.reply ≡ out.now.reply }
-    ensures books { books.new ≡ record (with_history books.old i (Some (entries_at books.old i ++ call_entry passes.old act op.now out.now.reply ∷ []))) { journal = books.new.journal } }
-    ensures written { Writes passes.old (told_notes passes.old.actor act i op.now result) passes.new }
-    ensures placed { map placed (told_notes passes.old.actor act i op.now result) ≡ section_notes passes.old act books.old.cpu i op.now out.now.reply out.now.inserted }
-    ensures seen { seen_of passes.new i ≡ entries_at books.old i ++ call_entry passes.old act op.now out.now.reply ∷ [] }
+    requires reply { told.old.out.reply ≡ (call (state_at books.old i) op.now).1 }
+    requires removed { told.old.out.removed ≡ is_some (off_of told.old.out.reply) }
+    requires off { (x : ℕ) → off_of told.old.out.reply ≡ Some x → x ≡ books.old.cpu }
+    requires owes { (w : Cpu) × Owes (call_turns i op.now told.old.out.reply told.old.out.inserted) w books.old }
+    ensures out { told.new.out ≡ told.old.out }
+    ensures books { books.new ≡ record (with_history books.old i (Some (entries_at books.old i ++ call_entry passes.old act op.now told.old.out.reply ∷ []))) { journal = books.new.journal } }
+    ensures written { Writes passes.old (told_notes passes.old.actor act i op.now told.new) passes.new }
+    ensures placed { map placed (told_notes passes.old.actor act i op.now told.new) ≡ section_notes passes.old act books.old.cpu i op.now told.old.out.reply told.old.out.inserted }
+    ensures seen { seen_of passes.new i ≡ entries_at books.old i ++ call_entry passes.old act op.now told.old.out.reply ∷ [] }
     ensures scans { scans_in books.new.journal ≡ scans_in books.old.journal }
-    ensures room { out.now.inserted ≡ None → result.insertion ≡ None }
-    ensures goes_on { (w : Cpu) → Owes (call_turns i op.now out.now.reply out.now.inserted) w books.old → Owes [] w books.new }
+    ensures room { told.old.out.inserted ≡ None → told.new.insertion ≡ None }
+    ensures goes_on { (w : Cpu) → Owes (call_turns i op.now told.old.out.reply told.old.out.inserted) w books.old → Owes [] w books.new }
 {
     let lives = places.cpus();
-    let removal = write_removal(books, lives, passes, act, i, &out.reply, out.removed);
-    let entry = write_call(books, places.timers(), passes, act, i, op, &out.reply);
-    let n = number(&out.reply);
+    let removed = told.out.removed;
+    let removal = write_removal(books, lives, passes, act, i, &told.out.reply, removed);
+    let entry = write_call(books, places.timers(), passes, act, i, op, &told.out.reply);
+    let n = number(&told.out.reply);
     let due = time(op);
-    let insertion = write_insertion(books, lives, passes, act, i, n, due, out.inserted);
-    Told {
-        reply: out.reply,
-        removal,
-        entry,
-        insertion,
-    }
+    let inserted = told.out.inserted;
+    let insertion = write_insertion(books, lives, passes, act, i, n, due, inserted);
+    told.removal = removal;
+    told.entry = entry;
+    told.insertion = insertion;
 }

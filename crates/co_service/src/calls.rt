@@ -2,13 +2,13 @@
 ghost use Rattle.std.specs.Prelude.{◌≡◌, ◌<◌, false, is_some, true};
 ghost use Rattle.std.specs.declared.option.Option.TheVariants.{None};
 ghost use Rattle.co_object.specs.declared.op.CallOp.{CallOp};
-ghost use Rattle.co_service.specs.Call.{IsAnswer, IsCalled, notes_in, told_notes};
+ghost use Rattle.co_service.specs.Call.{IsAnswer, IsCalled, told_notes};
 ghost use Rattle.co_service.specs.Moving.{IsOfService, IsTried, target_of};
 ghost use Rattle.co_service.specs.Views.{AreOf, PassesView};
 
 use crate::moving::Moving;
 use crate::told::Told;
-use crate::{Made, Name, Passes, Service};
+use crate::{Name, Passes, Service};
 use co_object::CallOp;
 use std::sync::Wait;
 use std::sync::atomic::Ordering;
@@ -140,14 +140,14 @@ impl<N: Name> Service<N> {
         requires passes { AreOf N.name self.now passes.old }
         requires leaving { IsOfService passes.old.params i leaves }
         requires room { is_some leaves ≡ true → told.old.insertion ≡ None }
-        ensures { (p : PassesView) (op : CallOp) → IsAnswer p act i op told.old.reply (target_of leaves) (told_notes p.actor act i op told.old) passes.old → IsCalled p act i op told.new.reply (told_notes p.actor act i op told.new) passes.new }
+        ensures { (p : PassesView) (op : CallOp) → IsAnswer p act i op told.old.out.reply (target_of leaves) (told_notes p.actor act i op told.old) passes.old → IsCalled p act i op told.new.out.reply (told_notes p.actor act i op told.new) passes.new }
     {
         if let Some(moving) = leaves {
             told.insertion = Some(self.land(rt, passes, act, moving));
         }
     }
 
-    /// A call, the landing of what leaves included. Its notes are made once no desk is locked any more.
+    /// A call, the landing of what leaves included. What it did goes to its place.
     #[inline(always)]
     pub(crate) fn call_landed<R: Wait>(
         &self,
@@ -156,15 +156,13 @@ impl<N: Name> Service<N> {
         act: u64,
         i: u32,
         op: &CallOp,
-    ) -> Made
+        told: &mut Told,
+    )
         requires passes { AreOf N.name self.now passes.old }
-        ensures { IsCalled passes.old act i op.now result.reply (notes_in result.notes) passes.new }
+        ensures { IsCalled passes.old act i op.now told.new.out.reply (told_notes passes.old.actor act i op.now told.new) passes.new }
     {
-        let mut told = Told::none();
         let mut leaves = None;
-        self.call_found(rt, passes, act, i, op, &mut told, &mut leaves);
-        let actor = passes.actor();
-        self.land_left(rt, passes, act, i, leaves, &mut told);
-        told.into_made(actor, act, i, op)
+        self.call_found(rt, passes, act, i, op, told, &mut leaves);
+        self.land_left(rt, passes, act, i, leaves, told);
     }
 }

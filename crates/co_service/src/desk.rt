@@ -198,11 +198,10 @@ impl<N: Name> Desk<N> {
             return false;
         }
         self.books.meet(places.cpus(), passes);
-        let out = self.wheel.call(i, op);
-        let wrote = write_group(&mut self.books, places, passes, act, i, op, &out);
-        let n = number(&out.reply);
-        depart(&mut self.books, out.leaves, n, time(op), gone);
-        *told = wrote;
+        self.wheel.call_into(i, op, &mut told.out);
+        write_group(&mut self.books, places, passes, act, i, op, told);
+        let n = number(&told.out.reply);
+        depart(&mut self.books, &mut told.out.leaves, n, time(op), gone);
         true
     }
 }

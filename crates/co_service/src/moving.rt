@@ -54,7 +54,7 @@ impl<N: Name> Moving<N> {
 
 /// What leaves a desk takes its history along, and goes to its place.
 #[inline(always)]
-pub(crate) fn depart<N: Name>(
+fn send<N: Name>(
     books: &mut Books<N>,
     leaves: Option<Parcel>,
     n: u64,
@@ -75,5 +75,24 @@ pub(crate) fn depart<N: Name>(
             due,
             of: PhantomData,
         });
+    }
+}
+
+/// The same for what is taken from its place, which is not touched where nothing leaves.
+#[inline(always)]
+pub(crate) fn depart<N: Name>(
+    books: &mut Books<N>,
+    leaves: &mut Option<Parcel>,
+    n: u64,
+    due: Sbt,
+    gone: &mut Option<Moving<N>>,
+)
+    requires may { MayDepart books.old n due leaves.old }
+    requires none { gone.old ≡ None }
+    ensures books { books.new ≡ departed books.old leaves.old }
+    ensures moving { gone.new ≡ moving_from books.old n due leaves.old }
+{
+    if let Some(_) = leaves {
+        send(books, leaves.take(), n, due, gone);
     }
 }

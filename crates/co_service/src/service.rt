@@ -21,7 +21,7 @@ use crate::desk::Desk;
 use crate::locked::{DeskHold, Inside, Locked, make_inside, open_desks};
 use crate::moving::Moving;
 use crate::places::Places;
-use crate::told::Inserted;
+use crate::told::{Inserted, Told};
 use crate::{Fresh, Made, Name, Params, Passes, Scanned, Taken};
 use co_life::Shown;
 use co_lock::Hold;
@@ -174,7 +174,10 @@ impl<N: Name> Service<N> {
         ensures serving { (direct : Bool) (cpu : ℕ) (d : Due) (far : Progress) → IsServing direct passes.old cpu d far → IsServing direct passes.new cpu d far }
     {
         let _ = hold;
-        self.call_landed(rt, passes, act, i, op)
+        let actor = passes.actor();
+        let mut told = Told::none();
+        self.call_landed(rt, passes, act, i, op, &mut told);
+        told.answer(actor, act, i, op)
     }
 
     /// What is due at this CPU has come due. It waits for the desk's lock.

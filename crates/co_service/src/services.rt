@@ -179,7 +179,7 @@ impl<N: Name> Desk<N> {
             unreachable!()
         };
         self.books.meet_timer(places.timers(), passes, i);
-        let out = finish(&mut self.wheel, direct);
+        let mut out = finish(&mut self.wheel, direct);
         let op = RunOp::End { n, cpu };
         let reply = out.reply;
         let ends = write_run(&mut self.books, places.timers(), passes, act, i, op, &reply);
@@ -192,7 +192,7 @@ impl<N: Name> Desk<N> {
             QReply::Freed,
         );
         let (n, due) = waited(&reply);
-        depart(&mut self.books, out.leaves, n, due, gone);
+        depart(&mut self.books, &mut out.leaves, n, due, gone);
         let notes = three(Some(ends), Some(frees), None);
         made.reply = reply;
         made.notes = notes;

@@ -8,6 +8,7 @@ ghost use Rattle.co_service.specs.Outcomes.{noted_entry, noted_turn};
 use crate::Made;
 use co_object::{AnyEntry, CallOp, Entry, Note, Op, Place, PlainOp, QEntry, QOp, QReply, Reply};
 use co_sbt::Sbt;
+use co_wheel::CallOut;
 
 /// An Insert that was written.
 #[derive(Drop)]
@@ -27,8 +28,8 @@ pub(crate) struct Inserted {
 /// What a call did, in few words: each note of it is made once, where the caller wants it.
 #[derive(Drop)]
 pub(crate) struct Told {
-    /// The callout's reply, which names the queue that had an arming.
-    pub(crate) reply: Reply,
+    /// What the wheel answered. The reply names the queue that had an arming.
+    pub(crate) out: CallOut,
     /// Where the Remove of that arming stands in the journal.
     pub(crate) removal: u64,
     /// Where the call's entry stands in the callout's history.
@@ -151,7 +152,7 @@ impl Told {
     #[inline(always)]
     pub(crate) fn none() -> Told {
         Told {
-            reply: Reply::Done,
+            out: CallOut::none(),
             removal: 0,
             entry: 0,
             insertion: None,
@@ -159,17 +160,19 @@ impl Told {
     }
 
     /// The answer of the call, note after note: what it took out of the queue, its entry, and what it put in.
-    #[inline(always)]
-    pub(crate) fn into_made(self, actor: u32, act: u64, i: u32, op: &CallOp) -> Made
-        ensures reply { result.reply ≡ self.reply }
-        ensures notes { notes_in result.notes ≡ told_notes actor act i op.now self }
+    ///
+    /// Inlined, the answer would be made in pieces, and these copied once for each caller in between.
+    #[inline(never)]
+    pub(crate) fn answer(&self, actor: u32, act: u64, i: u32, op: &CallOp) -> Made
+        ensures reply { result.reply ≡ self.now.out.reply }
+        ensures notes { notes_in result.notes ≡ told_notes actor act i op.now self.now }
     {
-        let reply = self.reply;
-        let removal = removal_note(actor, act, i, &reply, self.removal);
-        let entry = call_note(actor, act, i, op, &reply, self.entry);
+        let reply = &self.out.reply;
+        let removal = removal_note(actor, act, i, reply, self.removal);
+        let entry = call_note(actor, act, i, op, reply, self.entry);
         let insertion = insertion_note(actor, act, i, &self.insertion);
         Made {
-            reply,
+            reply: *reply,
             notes: [removal, Some(entry), insertion],
         }
     }

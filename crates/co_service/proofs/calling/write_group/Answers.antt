@@ -1,4 +1,4 @@
-use Rattle.std.proofs.Common.{◌≡◌, ℕ, [], ◌∷◌, ◌++◌, map, ap, sym, ◌∙◌}
+use Rattle.std.proofs.Common.{◌≡◌, [], ◌∷◌, ◌++◌, map, ap, sym, ◌∙◌}
 use Rattle.co_object.specs.declared.reply.Reply.{Reply}
 use Rattle.co_object.specs.Callout.{call}
 use Rattle.co_object.specs.Group.{off_of, placed}
@@ -13,12 +13,12 @@ use Rattle.co_service.proofs.calling.write_group.Goals as goal
 pub write_call-entry-requires-clause-name : goal.write_call-entry-requires-clause-name
 write_call-entry-requires-clause-name g c =
     let r = c.write_removal-removal in
-    (writes_keep c.args.passes.now r.new.passes (removal_told c.args.passes.now.actor c.args.act c.args.i (off_of c.args.out.now.reply) r.result) r.ensures.written).name ∙ c.requires.name
+    (writes_keep c.args.passes.now r.new.passes (removal_told c.args.passes.now.actor c.args.act c.args.i (off_of c.args.told.now.out.reply) r.result) r.ensures.written).name ∙ c.requires.name
 
 pub write_call-entry-requires-clause-params : goal.write_call-entry-requires-clause-params
 write_call-entry-requires-clause-params g c =
     let r = c.write_removal-removal in
-    ap (λ (b : BooksView). b.params) r.ensures.books ∙ (c.requires.params ∙ sym (writes_keep c.args.passes.now r.new.passes (removal_told c.args.passes.now.actor c.args.act c.args.i (off_of c.args.out.now.reply) r.result) r.ensures.written).params)
+    ap (λ (b : BooksView). b.params) r.ensures.books ∙ (c.requires.params ∙ sym (writes_keep c.args.passes.now r.new.passes (removal_told c.args.passes.now.actor c.args.act c.args.i (off_of c.args.told.now.out.reply) r.result) r.ensures.written).params)
 
 pub write_call-entry-requires-clause-here : goal.write_call-entry-requires-clause-here
 write_call-entry-requires-clause-here g c = ap (λ (b : BooksView). is_kept b c.args.i) c.write_removal-removal.ensures.books ∙ c.requires.here
@@ -29,7 +29,7 @@ write_call-entry-requires-clause-reply g c = c.requires.reply ∙ ap (λ (b : Bo
 pub write_insertion-insertion-requires-clause-name : goal.write_insertion-insertion-requires-clause-name
 write_insertion-insertion-requires-clause-name g c =
     let r = c.write_removal-removal in
-    ap (λ (p : PassesView). p.name) c.write_call-entry.ensures.written.passes ∙ ((writes_keep c.args.passes.now r.new.passes (removal_told c.args.passes.now.actor c.args.act c.args.i (off_of c.args.out.now.reply) r.result) r.ensures.written).name ∙ c.requires.name)
+    ap (λ (p : PassesView). p.name) c.write_call-entry.ensures.written.passes ∙ ((writes_keep c.args.passes.now r.new.passes (removal_told c.args.passes.now.actor c.args.act c.args.i (off_of c.args.told.now.out.reply) r.result) r.ensures.written).name ∙ c.requires.name)
 
 pub write_insertion-insertion-requires-clause-params : goal.write_insertion-insertion-requires-clause-params
 write_insertion-insertion-requires-clause-params g c =
@@ -38,7 +38,7 @@ write_insertion-insertion-requires-clause-params g c =
     ap (λ (b : BooksView). b.params) e.ensures.books
     ∙ (ap (λ (b : BooksView). b.params) r.ensures.books
     ∙ (c.requires.params
-    ∙ (sym (writes_keep c.args.passes.now r.new.passes (removal_told c.args.passes.now.actor c.args.act c.args.i (off_of c.args.out.now.reply) r.result) r.ensures.written).params ∙ ap (λ (p : PassesView). p.params) (sym e.ensures.written.passes))))
+    ∙ (sym (writes_keep c.args.passes.now r.new.passes (removal_told c.args.passes.now.actor c.args.act c.args.i (off_of c.args.told.now.out.reply) r.result) r.ensures.written).params ∙ ap (λ (p : PassesView). p.params) (sym e.ensures.written.passes))))
 
 pub returns-clause-written : goal.returns-clause-written
 returns-clause-written g c =
@@ -46,9 +46,9 @@ returns-clause-written g c =
     let r = c.write_removal-removal in
     let e = c.write_call-entry in
     let x = c.write_insertion-insertion in
-    let reply : Reply = c.args.out.now.reply in
+    let reply : Reply = c.args.told.now.out.reply in
     let first : r.new.passes.actor ≡ p.actor = (writes_keep p r.new.passes (removal_told p.actor c.args.act c.args.i (off_of reply) r.result) r.ensures.written).actor in
-    told_written p c.args.act c.args.books.now.cpu c.args.i c.args.op.now (record { reply = reply; removal = r.result; entry = e.result; insertion = x.result }) c.args.out.now.inserted
+    told_written p c.args.act c.args.books.now.cpu c.args.i c.args.op.now (record { out = c.args.told.now.out; removal = r.result; entry = e.result; insertion = x.result }) c.args.told.now.out.inserted
     r.new.passes e.new.passes x.new.passes (entries_at r.new.books c.args.i ++ call_entry r.new.passes c.args.act c.args.op.now reply ∷ []) first (ap (λ (v : PassesView). v.actor) e.ensures.written.passes ∙ first) r.ensures.written e.ensures.written x.ensures.written
 
 pub returns-clause-placed : goal.returns-clause-placed
@@ -57,11 +57,11 @@ returns-clause-placed g c =
     let r = c.write_removal-removal in
     let e = c.write_call-entry in
     let x = c.write_insertion-insertion in
-    let reply : Reply = c.args.out.now.reply in
+    let reply : Reply = c.args.told.now.out.reply in
     let first : r.new.passes.actor ≡ p.actor = (writes_keep p r.new.passes (removal_told p.actor c.args.act c.args.i (off_of reply) r.result) r.ensures.written).actor in
     let acted : e.new.passes.actor ≡ p.actor = ap (λ (v : PassesView). v.actor) e.ensures.written.passes ∙ first in
     let cpu : e.new.books.cpu ≡ c.args.books.now.cpu = ap (λ (b : BooksView). b.cpu) e.ensures.books ∙ ap (λ (b : BooksView). b.cpu) r.ensures.books in
-    told_placed p c.args.act c.args.books.now.cpu c.args.i c.args.op.now (record { reply = reply; removal = r.result; entry = e.result; insertion = x.result }) c.args.out.now.inserted
+    told_placed p c.args.act c.args.books.now.cpu c.args.i c.args.op.now (record { out = c.args.told.now.out; removal = r.result; entry = e.result; insertion = x.result }) c.args.told.now.out.inserted
     ((λ d. map placed (insertion_told (sym acted d) c.args.act c.args.i x.result))
     ∙ (x.ensures.placed
-    ∙ insertion_same p e.new.passes c.args.act c.args.books.now.cpu e.new.books.cpu c.args.i (number_in reply) c.number-n.result (due_in c.args.op.now) c.time-due.result c.args.out.now.inserted acted cpu c.number-n.ensures c.time-due.ensures))
+    ∙ insertion_same p e.new.passes c.args.act c.args.books.now.cpu e.new.books.cpu c.args.i (number_in reply) c.number-n.result (due_in c.args.op.now) c.time-due.result c.args.told.now.out.inserted acted cpu c.number-n.ensures c.time-due.ensures))

@@ -5,52 +5,57 @@ use Rattle.std.specs.declared.option.Option.TheVariants.{Some}
 use Rattle.co_object.specs.declared.note.Entry.{Entry}
 use Rattle.co_object.specs.declared.reply.Reply.{Reply}
 use Rattle.co_service.specs.Books.{BooksView, history_at, is_kept}
-use Rattle.co_service.specs.Call.{IsAnswer, told_notes}
+use Rattle.co_wheel.specs.declared.outs.CallOut.{CallOut}
+use Rattle.co_wheel.specs.Parcel.{Parcel}
+use Rattle.co_service.specs.Call.{IsAnswer, number_in, told_notes}
 use Rattle.co_service.specs.Desk.{IsDesk}
-use Rattle.co_service.specs.Moving.{IsOfService, MayDepart, MovingView, moving_from, target_of}
+use Rattle.co_service.specs.Moving.{IsOfService, MayDepart, MovingView, departed, moving_from, target_of}
 use Rattle.co_service.specs.Views.{PassesView}
 use Rattle.co_service.proofs.CallSection.{answer_section, desk_section, leaves_nothing, may_section, off_here, owes_section, reply_here, service_section}
 use Rattle.co_service.proofs.ServedDesk.{some_of}
 use Rattle.co_service.proofs.desk.Desk.call.Goals as goal
 
-pub write_group-wrote-requires-clause-reply : goal.write_group-wrote-requires-clause-reply
-write_group-wrote-requires-clause-reply g c =
+pub write_group-requires-clause-reply : goal.write_group-requires-clause-reply
+write_group-requires-clause-reply g c =
     let desk : IsDesk c.self.inside.wheel c.meet.new.self c.self.inside.scans = subst (λ b. IsDesk c.self.inside.wheel b c.self.inside.scans) (sym c.meet.ensures.kept) c.self.invariant in
     let same : is_kept c.meet.new.self c.args.i ≡ is_kept c.self.inside.books c.args.i = ap (λ (b : BooksView). is_kept b c.args.i) c.meet.ensures.kept in
     let here : (H : List Entry) × (history_at c.meet.new.self c.args.i ≡ Some H) = some_of (history_at c.meet.new.self c.args.i) (cc) in
-    reply_here c.self.inside.wheel c.call-out.new.self c.meet.new.self c.self.inside.scans c.args.i c.args.op.now c.call-out.result here.0 desk here.1 c.call-out.ensures
+    reply_here c.self.inside.wheel c.call_into.new.self c.meet.new.self c.self.inside.scans c.args.i c.args.op.now c.call_into.new.out here.0 desk here.1 c.call_into.ensures
 
-pub write_group-wrote-requires-clause-off : goal.write_group-wrote-requires-clause-off
-write_group-wrote-requires-clause-off g c =
+pub write_group-requires-clause-off : goal.write_group-requires-clause-off
+write_group-requires-clause-off g c =
     let desk : IsDesk c.self.inside.wheel c.meet.new.self c.self.inside.scans = subst (λ b. IsDesk c.self.inside.wheel b c.self.inside.scans) (sym c.meet.ensures.kept) c.self.invariant in
     let same : is_kept c.meet.new.self c.args.i ≡ is_kept c.self.inside.books c.args.i = ap (λ (b : BooksView). is_kept b c.args.i) c.meet.ensures.kept in
     let here : (H : List Entry) × (history_at c.meet.new.self c.args.i ≡ Some H) = some_of (history_at c.meet.new.self c.args.i) (cc) in
-    off_here c.self.inside.wheel c.call-out.new.self c.meet.new.self c.self.inside.scans c.args.i c.args.op.now c.call-out.result here.0 desk here.1 c.call-out.ensures
+    off_here c.self.inside.wheel c.call_into.new.self c.meet.new.self c.self.inside.scans c.args.i c.args.op.now c.call_into.new.out here.0 desk here.1 c.call_into.ensures
 
-pub write_group-wrote-requires-clause-owes : goal.write_group-wrote-requires-clause-owes
-write_group-wrote-requires-clause-owes g c =
+pub write_group-requires-clause-owes : goal.write_group-requires-clause-owes
+write_group-requires-clause-owes g c =
     let desk : IsDesk c.self.inside.wheel c.meet.new.self c.self.inside.scans = subst (λ b. IsDesk c.self.inside.wheel b c.self.inside.scans) (sym c.meet.ensures.kept) c.self.invariant in
     let same : is_kept c.meet.new.self c.args.i ≡ is_kept c.self.inside.books c.args.i = ap (λ (b : BooksView). is_kept b c.args.i) c.meet.ensures.kept in
     let here : (H : List Entry) × (history_at c.meet.new.self c.args.i ≡ Some H) = some_of (history_at c.meet.new.self c.args.i) (cc) in
-    (c.call-out.new.self, owes_section c.self.inside.wheel c.call-out.new.self c.meet.new.self c.self.inside.scans c.args.i c.args.op.now c.call-out.result here.0 desk here.1 c.call-out.ensures)
+    (c.call_into.new.self, owes_section c.self.inside.wheel c.call_into.new.self c.meet.new.self c.self.inside.scans c.args.i c.args.op.now c.call_into.new.out here.0 desk here.1 c.call_into.ensures)
 
 pub depart-requires-clause-may : goal.depart-requires-clause-may
 depart-requires-clause-may g c =
     let desk : IsDesk c.self.inside.wheel c.meet.new.self c.self.inside.scans = subst (λ b. IsDesk c.self.inside.wheel b c.self.inside.scans) (sym c.meet.ensures.kept) c.self.invariant in
     let same : is_kept c.meet.new.self c.args.i ≡ is_kept c.self.inside.books c.args.i = ap (λ (b : BooksView). is_kept b c.args.i) c.meet.ensures.kept in
     let here : (H : List Entry) × (history_at c.meet.new.self c.args.i ≡ Some H) = some_of (history_at c.meet.new.self c.args.i) (cc) in
-    subst (λ (t : ℕ × ℕ). MayDepart c.write_group-wrote.new.books t.0 t.1 c.call-out.result.leaves) (λ d. (sym c.number-n.ensures d, sym c.time.ensures d))
-    (may_section c.self.inside.wheel c.call-out.new.self c.meet.new.self c.self.inside.scans c.args.i c.args.op.now c.call-out.result here.0 desk here.1 c.call-out.ensures c.meet.new.passes c.args.act c.write_group-wrote.new.books c.write_group-wrote.ensures.books)
+    let out = c.write_group.ensures.out in
+    let number : c.number-n.result ≡ number_in c.call_into.new.out.reply = c.number-n.ensures ∙ ap (λ (o : CallOut). number_in o.reply) out in
+    subst (λ (t : ℕ × ℕ × Option Parcel). MayDepart c.write_group.new.books t.0 t.1 t.2) (λ d. (sym number d, sym c.time.ensures d, sym (ap (λ (o : CallOut). o.leaves) out) d))
+    (may_section c.self.inside.wheel c.call_into.new.self c.meet.new.self c.self.inside.scans c.args.i c.args.op.now c.call_into.new.out here.0 desk here.1 c.call_into.ensures c.meet.new.passes c.args.act c.write_group.new.books c.write_group.ensures.books)
 
 pub invariant_of-self : goal.invariant_of-self
 invariant_of-self g c =
     let desk : IsDesk c.self.inside.wheel c.meet.new.self c.self.inside.scans = subst (λ b. IsDesk c.self.inside.wheel b c.self.inside.scans) (sym c.meet.ensures.kept) c.self.invariant in
     let same : is_kept c.meet.new.self c.args.i ≡ is_kept c.self.inside.books c.args.i = ap (λ (b : BooksView). is_kept b c.args.i) c.meet.ensures.kept in
     let here : (H : List Entry) × (history_at c.meet.new.self c.args.i ≡ Some H) = some_of (history_at c.meet.new.self c.args.i) (cc) in
-    subst (λ b. IsDesk c.call-out.new.self b c.self.inside.scans) (sym c.depart.ensures.books)
-    (desk_section c.self.inside.wheel c.call-out.new.self c.meet.new.self c.self.inside.scans c.args.i c.args.op.now c.call-out.result here.0 desk here.1 c.call-out.ensures c.meet.new.passes c.args.act c.write_group-wrote.new.books c.write_group-wrote.ensures.books
-    (c.write_group-wrote.ensures.goes_on c.call-out.new.self (owes_section c.self.inside.wheel c.call-out.new.self c.meet.new.self c.self.inside.scans c.args.i c.args.op.now c.call-out.result here.0 desk here.1 c.call-out.ensures))
-    (let before = desk.counted in let same = c.write_group-wrote.ensures.scans in omega arith))
+    let goes = ap (λ (o : CallOut). o.leaves) c.write_group.ensures.out in
+    subst (λ b. IsDesk c.call_into.new.self b c.self.inside.scans) (sym (c.depart.ensures.books ∙ ap (departed c.write_group.new.books) goes))
+    (desk_section c.self.inside.wheel c.call_into.new.self c.meet.new.self c.self.inside.scans c.args.i c.args.op.now c.call_into.new.out here.0 desk here.1 c.call_into.ensures c.meet.new.passes c.args.act c.write_group.new.books c.write_group.ensures.books
+    (c.write_group.ensures.goes_on c.call_into.new.self (owes_section c.self.inside.wheel c.call_into.new.self c.meet.new.self c.self.inside.scans c.args.i c.args.op.now c.call_into.new.out here.0 desk here.1 c.call_into.ensures))
+    (let before = desk.counted in let same = c.write_group.ensures.scans in omega arith))
 
 pub returns-clause-tried : goal.returns-clause-tried
 returns-clause-tried g c = record {
@@ -60,22 +65,26 @@ returns-clause-tried g c = record {
       let same : is_kept c.meet.new.self c.args.i ≡ is_kept c.self.inside.books c.args.i = ap (λ (b : BooksView). is_kept b c.args.i) c.meet.ensures.kept in
       let here : (H : List Entry) × (history_at c.meet.new.self c.args.i ≡ Some H) = some_of (history_at c.meet.new.self c.args.i) (cc) in
       let params : c.meet.new.self.params ≡ c.meet.new.passes.params = ap (λ (b : BooksView). b.params) c.meet.ensures.kept ∙ (c.meet.ensures.params ∙ ap (λ (p : PassesView). p.params) (sym c.meet.ensures.passes)) in
-      let moves = c.depart.ensures.moving ∙ (λ d. moving_from c.write_group-wrote.new.books (c.number-n.ensures d) (c.time.ensures d) c.call-out.result.leaves) in
-      subst (λ (t : PassesView × Option MovingView × Reply). IsAnswer t.0 c.args.act c.args.i c.args.op.now t.2 (target_of t.1) (told_notes t.0.actor c.args.act c.args.i c.args.op.now c.write_group-wrote.result) c.write_group-wrote.new.passes) (λ d. (c.meet.ensures.passes d, sym moves d, sym c.write_group-wrote.ensures.reply d))
-      (answer_section c.self.inside.wheel c.call-out.new.self c.meet.new.self c.self.inside.scans c.args.i c.args.op.now c.call-out.result here.0 desk here.1 c.call-out.ensures c.meet.new.passes c.args.act c.write_group-wrote.new.books c.write_group-wrote.ensures.books
-      c.write_group-wrote.new.passes (told_notes c.meet.new.passes.actor c.args.act c.args.i c.args.op.now c.write_group-wrote.result) params c.write_group-wrote.ensures.placed c.write_group-wrote.ensures.seen c.write_group-wrote.ensures.written);
+      let out = c.write_group.ensures.out in
+      let number : c.number-n.result ≡ number_in c.call_into.new.out.reply = c.number-n.ensures ∙ ap (λ (o : CallOut). number_in o.reply) out in
+      let moves = c.depart.ensures.moving ∙ (λ d. moving_from c.write_group.new.books (number d) (c.time.ensures d) (out d).leaves) in
+      subst (λ (t : PassesView × Option MovingView × Reply). IsAnswer t.0 c.args.act c.args.i c.args.op.now t.2 (target_of t.1) (told_notes t.0.actor c.args.act c.args.i c.args.op.now c.write_group.new.told) c.write_group.new.passes) (λ d. (c.meet.ensures.passes d, sym moves d, sym (ap (λ (o : CallOut). o.reply) c.write_group.ensures.out) d))
+      (answer_section c.self.inside.wheel c.call_into.new.self c.meet.new.self c.self.inside.scans c.args.i c.args.op.now c.call_into.new.out here.0 desk here.1 c.call_into.ensures c.meet.new.passes c.args.act c.write_group.new.books c.write_group.ensures.books
+      c.write_group.new.passes (told_notes c.meet.new.passes.actor c.args.act c.args.i c.args.op.now c.write_group.new.told) params c.write_group.ensures.placed c.write_group.ensures.seen c.write_group.ensures.written);
   leaving = λ _.
       let desk : IsDesk c.self.inside.wheel c.meet.new.self c.self.inside.scans = subst (λ b. IsDesk c.self.inside.wheel b c.self.inside.scans) (sym c.meet.ensures.kept) c.self.invariant in
       let same : is_kept c.meet.new.self c.args.i ≡ is_kept c.self.inside.books c.args.i = ap (λ (b : BooksView). is_kept b c.args.i) c.meet.ensures.kept in
       let here : (H : List Entry) × (history_at c.meet.new.self c.args.i ≡ Some H) = some_of (history_at c.meet.new.self c.args.i) (cc) in
       let params : c.meet.new.self.params ≡ c.args.passes.now.params = ap (λ (b : BooksView). b.params) c.meet.ensures.kept ∙ c.meet.ensures.params in
-      let moves = c.depart.ensures.moving ∙ (λ d. moving_from c.write_group-wrote.new.books (c.number-n.ensures d) (c.time.ensures d) c.call-out.result.leaves) in
+      let out = c.write_group.ensures.out in
+      let number : c.number-n.result ≡ number_in c.call_into.new.out.reply = c.number-n.ensures ∙ ap (λ (o : CallOut). number_in o.reply) out in
+      let moves = c.depart.ensures.moving ∙ (λ d. moving_from c.write_group.new.books (number d) (c.time.ensures d) (out d).leaves) in
       subst (λ (m : Option MovingView). IsOfService c.args.passes.now.params c.args.i m) (sym moves)
-      (service_section c.self.inside.wheel c.call-out.new.self c.meet.new.self c.self.inside.scans c.args.i c.args.op.now c.call-out.result here.0 desk here.1 c.call-out.ensures c.meet.new.passes c.args.act c.write_group-wrote.new.books c.write_group-wrote.ensures.books c.args.passes.now.params params);
+      (service_section c.self.inside.wheel c.call_into.new.self c.meet.new.self c.self.inside.scans c.args.i c.args.op.now c.call_into.new.out here.0 desk here.1 c.call_into.ensures c.meet.new.passes c.args.act c.write_group.new.books c.write_group.ensures.books c.args.passes.now.params params);
   room = λ _ some.
       let desk : IsDesk c.self.inside.wheel c.meet.new.self c.self.inside.scans = subst (λ b. IsDesk c.self.inside.wheel b c.self.inside.scans) (sym c.meet.ensures.kept) c.self.invariant in
       let same : is_kept c.meet.new.self c.args.i ≡ is_kept c.self.inside.books c.args.i = ap (λ (b : BooksView). is_kept b c.args.i) c.meet.ensures.kept in
       let here : (H : List Entry) × (history_at c.meet.new.self c.args.i ≡ Some H) = some_of (history_at c.meet.new.self c.args.i) (cc) in
-      c.write_group-wrote.ensures.room (leaves_nothing c.self.inside.wheel c.call-out.new.self c.meet.new.self c.self.inside.scans c.args.i c.args.op.now c.call-out.result here.0 desk here.1 c.call-out.ensures
-      c.write_group-wrote.new.books c.number-n.result c.time.result (ap is_some (sym c.depart.ensures.moving) ∙ some));
+      c.write_group.ensures.room (leaves_nothing c.self.inside.wheel c.call_into.new.self c.meet.new.self c.self.inside.scans c.args.i c.args.op.now c.call_into.new.out here.0 desk here.1 c.call_into.ensures
+      c.write_group.new.books c.number-n.result c.time.result (ap is_some (sym (c.depart.ensures.moving ∙ (λ d. moving_from c.write_group.new.books c.number-n.result c.time.result (c.write_group.ensures.out d).leaves))) ∙ some));
 }

@@ -1,11 +1,8 @@
-use Rattle.std.proofs.Common.{◌≡◌, ℕ, List, refl, sym, ap, ◌∙◌, subst}
-use Rattle.co_object.specs.declared.note.Note.{Note}
-use Rattle.co_object.specs.declared.reply.Reply.{Reply}
+use Rattle.std.proofs.Common.{refl, sym, subst}
 use Rattle.co_service.specs.declared.params.Params.{Params}
-use Rattle.co_service.specs.Call.{IsCalled, told_notes}
+use Rattle.co_service.specs.Call.{told_notes}
 use Rattle.co_service.specs.Moving.{IsOfService}
 use Rattle.co_service.specs.Services.{AreSame}
-use Rattle.co_service.specs.Views.{AreOf}
 use Rattle.co_service.proofs.Lasting.{still_of}
 use Rattle.co_service.proofs.WholeCall.{writes_keep}
 use Rattle.co_service.proofs.service.Service.call_landed.Goals as goal
@@ -28,13 +25,4 @@ pub land_left-requires-clause-room : goal.land_left-requires-clause-room
 land_left-requires-clause-room g c = c.call_found.ensures.room refl
 
 pub returns : goal.returns
-returns g c =
-    let out = c.call_found in
-    let p = c.args.passes.now in
-    let left = c.land_left in
-    let told = left.new.told in
-    let made = c.into_made.ensures in
-    let answer = out.ensures.answer refl in
-    let acted : c.actor-actor.result ≡ p.actor = c.actor-actor.ensures ∙ (writes_keep p out.new.passes (told_notes p.actor c.args.act c.args.i c.args.op.now out.new.told) answer.written).actor in
-    subst (λ (t : Reply × List Note). IsCalled p c.args.act c.args.i c.args.op.now t.0 t.1 left.new.passes) (λ d. (sym made.reply d, sym (made.notes ∙ ap (λ (a : ℕ). told_notes a c.args.act c.args.i c.args.op.now told) acted) d))
-    (left.ensures p c.args.op.now answer)
+returns g c = c.land_left.ensures c.args.passes.now c.args.op.now (c.call_found.ensures.answer refl)

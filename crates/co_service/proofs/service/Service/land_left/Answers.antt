@@ -1,7 +1,6 @@
-use Rattle.std.proofs.Common.{ℕ, List, [], ◌∷◌, ◌++◌, refl, sym, ap, ◌∙◌, subst}
+use Rattle.std.proofs.Common.{ℕ, List, ap, subst}
 use Rattle.std.specs.Prelude.{is_some}
 use Rattle.std.specs.declared.option.Option.{Option}
-use Rattle.std.specs.declared.option.Option.TheVariants.{Some}
 use Rattle.co_object.specs.declared.note.Note.{Note}
 use Rattle.co_service.specs.Call.{IsAnswer, IsCalled, told_notes}
 use Rattle.co_service.specs.Moving.{IsOfService, MovingView, target_of}
@@ -14,7 +13,7 @@ returns-in_default g c = λ p op answer.
     let told = c.args.told.now in
     let q = c.args.passes.now in
     let notes : List Note = told_notes p.actor c.args.act c.args.i op told in
-    whole_here p q c.args.act c.args.i op told.reply notes (subst (λ (o : Option MovingView). IsAnswer p c.args.act c.args.i op told.reply (target_of o) notes q) c.in_default.is answer)
+    whole_here p q c.args.act c.args.i op told.out.reply notes (subst (λ (o : Option MovingView). IsAnswer p c.args.act c.args.i op told.out.reply (target_of o) notes q) c.in_default.is answer)
 
 pub returns-in-Some : goal.returns-in-Some
 returns-in-Some g c = λ p op answer.
@@ -24,7 +23,7 @@ returns-in-Some g c = λ p op answer.
     let x = c.land.result in
     let notes : List Note = told_notes p.actor c.args.act c.args.i op told in
     let here = subst (IsOfService q.params c.args.i) c.in-Some.is c.requires.leaving in
-    let goes = subst (λ (o : Option MovingView). IsAnswer p c.args.act c.args.i op told.reply (target_of o) notes q) c.in-Some.is answer in
+    let goes = subst (λ (o : Option MovingView). IsAnswer p c.args.act c.args.i op told.out.reply (target_of o) notes q) c.in-Some.is answer in
     let landed = subst (λ (i : ℕ). IsLanded q c.args.act i m.target x c.land.new.passes) here.1 c.land.ensures in
-    subst (λ (ns : List Note). IsCalled p c.args.act c.args.i op told.reply ns c.land.new.passes) (told_landed p.actor c.args.act c.args.i op told x (c.requires.room (ap is_some c.in-Some.is)))
-    (whole_landed p q c.args.act c.args.i op told.reply notes m.target x c.land.new.passes goes landed)
+    subst (λ (ns : List Note). IsCalled p c.args.act c.args.i op told.out.reply ns c.land.new.passes) (told_landed p.actor c.args.act c.args.i op told x (c.requires.room (ap is_some c.in-Some.is)))
+    (whole_landed p q c.args.act c.args.i op told.out.reply notes m.target x c.land.new.passes goes landed)
