@@ -2,8 +2,8 @@
 
 mod inside;
 mod posts;
-mod refusals;
 mod services;
 mod stage;
+mod steps;
 mod threads;
 mod words;

@@ -75,23 +75,21 @@ impl<'r, 'a, N: Name, R: Wait> Handler for Asks<'r, 'a, N, R> {
 }
 
 /// The callout is in service, and an asynchronous drain awaits its end.
-fn wanted() -> Told {
-    Told {
-        stopped: Ok(Stopped::Running),
-        begun: Ok(AsyncDrained::Begun),
-        busy: Ok(AsyncDrained::Busy),
-        armed: Ok(Reset::Draining { cancelled: false }),
-        itself: Err(Refused::DrainsItself),
-        other: Ok(Drained::Nothing),
-    }
-}
+const TOLD: Told = Told {
+    stopped: Ok(Stopped::Running),
+    begun: Ok(AsyncDrained::Begun),
+    busy: Ok(AsyncDrained::Busy),
+    armed: Ok(Reset::Draining { cancelled: false }),
+    itself: Err(Refused::DrainsItself),
+    other: Ok(Drained::Nothing),
+};
 
-/// The function of callout 0 runs, and then that of the drain which it began.
-fn turn<N: Name, R: Wait + Sync + Abort>(
+/// The function of callout 0 runs, and then that of the drain which it began. Whether both are told what they have to be.
+fn turns<N: Name, R: Wait + Sync>(
     rt: &R,
     cpu: &mut Cpu<'_, N>,
     asks: &mut Asks<'_, '_, N, R>,
-)
+) -> bool
     requires { cpu.old.others.passes.params ≡ scene }
 {
     let _armed = arm(rt, &mut asks.client, 0, 1, None);
@@ -101,10 +99,8 @@ fn turn<N: Name, R: Wait + Sync + Abort>(
         skipped: 0,
         drained: 1,
     };
-    assert!(rt; turned.others == one);
-    assert!(rt; asks.told == Some(wanted()));
-    assert!(rt; asks.drained == Some(1));
-    assert!(rt; asks.asked == Some(PortReply::Reply(Reply::No)));
+    let called = turned.others == one && asks.told == Some(TOLD);
+    called && asks.drained == Some(1) && asks.asked == Some(PortReply::Reply(Reply::No))
 }
 
 /// The calls on an open service.
@@ -112,7 +108,7 @@ fn play<N: Name, R: Wait + Sync + Abort>(
     rt: &R,
     alloc: Global,
     fresh: TimersFresh,
-) -> Result<(), NoMemory>
+) -> Result<bool, NoMemory>
     requires name { fresh.name ≡ N.name }
     requires scene { fresh.params ≡ scene }
 {
@@ -126,13 +122,12 @@ fn play<N: Name, R: Wait + Sync + Abort>(
         asked: None,
         drained: None,
     };
-    turn(rt, &mut cpu, &mut asks);
-    Ok(())
+    Ok(turns(rt, &mut cpu, &mut asks))
 }
 
 #[test]
 fn a_function_asks_of_its_own_callout(rt: HostRuntime) -> Result<(), Fail> {
     let fresh = boot(rt.alloc())?;
-    play::<Brand, _>(&rt, rt.alloc(), fresh)?;
+    assert!(rt; play::<Brand, _>(&rt, rt.alloc(), fresh)?);
     Ok(())
 }

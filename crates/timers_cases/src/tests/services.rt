@@ -1,76 +1,67 @@
 //! A client and two CPUs, one after another.
 ghost use Rattle.std.specs.Prelude.{◌≡◌};
-ghost use Rattle.timers_cases.specs.Scenes.{scene, scene_locks};
+ghost use Rattle.timers_cases.specs.Scenes.{scene};
 
-use super::stage::{Counts, arm, boot, seconds, served};
-use co_lock::Hold;
-use co_sbt::{NoMemory, Sbt};
+use super::stage::{ARMED, Counts, boot, seconds, served};
+use super::steps::{Step, are_answered};
+use co_sbt::NoMemory;
 use co_service::Name;
-use co_timers::{Client, Cpu, Reset, Timers, TimersFresh, Turned};
+use co_timers::{Client, Cpu, Timers, TimersFresh, Turned};
 use std::alloc::Global;
 use std::marker::Brand;
 use std::process::Abort;
 use std::sync::Wait;
 use std::test::Fail;
 
-/// Arms both callouts without a lock.
-fn arm_free<N: Name, R: Wait + Abort>(rt: &R, client: &mut Client<'_, N>) {
-    let first = arm(rt, client, 0, 1, None);
-    assert!(rt; first == Ok(Reset::Armed { replaced: false }));
-    let second = arm(rt, client, 2, 1, None);
-    assert!(rt; second == Ok(Reset::Armed { replaced: false }));
-}
+/// Both callouts without a lock.
+const FREE: [Step; 2] = [Step::Arm(0, 1, ARMED), Step::Arm(2, 1, ARMED)];
 
-/// Arms the callout with a lock, for a second later.
-fn arm_held<N: Name, R: Wait + Abort>(rt: &R, client: &mut Client<'_, N>, hold: &Hold<'_>) {
-    let armed = arm(rt, client, 1, 2, Some(hold));
-    assert!(rt; armed == Ok(Reset::Armed { replaced: false }));
-}
+/// The callout with a lock, for a second later.
+const HELD: [Step; 1] = [Step::Arm(1, 2, ARMED)];
 
-/// What has come due is served in its lane, each once.
-fn turn_all<N: Name, R: Wait + Sync + Abort>(rt: &R, cpu: &mut Cpu<'_, N>, counts: &mut Counts)
+/// For the other CPU.
+const ELSEWHERE: [Step; 1] = [Step::ArmAt(0, 3, 1, ARMED)];
+
+/// Whether what has come due is served in its lane, each once.
+fn turns_all<N: Name, R: Wait + Sync>(rt: &R, cpu: &mut Cpu<'_, N>, counts: &mut Counts) -> bool
     requires { cpu.old.others.passes.params ≡ scene }
-    ensures { cpu.new.others.passes.params ≡ cpu.old.others.passes.params }
 {
-    let first = cpu.turn(rt, seconds(1), counts);
     let both = Turned {
         scanned: 2,
         direct: served(1, 0),
         others: served(1, 0),
     };
-    assert!(rt; first == both);
-    let again = cpu.turn(rt, seconds(1), counts);
     let none = Turned {
         scanned: 0,
         direct: served(0, 0),
         others: served(0, 0),
     };
-    assert!(rt; again == none);
+    let first = cpu.turn(rt, seconds(1), counts);
+    let again = cpu.turn(rt, seconds(1), counts);
     let last = cpu.turn(rt, seconds(2), counts);
-    assert!(rt; last.others == served(1, 0));
+    first == both && again == none && last.others == served(1, 0)
 }
 
-/// A callout that is armed for another CPU comes due there.
-fn turn_other<N: Name, R: Wait + Sync + Abort>(
+/// Whether a callout that is armed for another CPU comes due there.
+fn turns_other<N: Name, R: Wait + Sync>(
     rt: &R,
     client: &mut Client<'_, N>,
     cpu: &mut Cpu<'_, N>,
     counts: &mut Counts,
-)
+) -> bool
     requires { cpu.old.others.passes.params ≡ scene }
 {
-    let armed = client.reset(rt, 0, seconds(3), Sbt::zero(), 0, 7, Some(1), None);
-    assert!(rt; armed == Ok(Reset::Armed { replaced: false }));
+    let armed = are_answered(rt, client, None, &ELSEWHERE).is_none();
     let turned = cpu.turn(rt, seconds(3), counts);
-    assert!(rt; turned.others == served(1, 0));
+    armed && turned.others == served(1, 0)
 }
 
-/// The calls on an open service.
+/// The calls on an open service: whether all come due, how many functions were called, and how many of them under a hold.
 fn play<N: Name, R: Wait + Sync + Abort>(
     rt: &R,
     alloc: Global,
     fresh: TimersFresh,
-) -> Result<(), NoMemory>
+) -> Result<(bool, u64, u64), NoMemory>
     requires name { fresh.name ≡ N.name }
     requires scene { fresh.params ≡ scene }
 {
@@ -79,19 +70,18 @@ fn play<N: Name, R: Wait + Sync + Abort>(
     let mut first = posts.cpu_handle(&timers, 0).expect(rt, "CPU 0 is here");
     let mut second = posts.cpu_handle(&timers, 1).expect(rt, "CPU 1 is here");
     let mut counts = Counts::new();
-    arm_free(rt, &mut client);
+    let free = are_answered(rt, &mut client, None, &FREE).is_none();
     let hold = timers.lock(rt, 0).expect(rt, "lock 0 exists");
-    arm_held(rt, &mut client, &hold);
+    let held = are_answered(rt, &mut client, Some(&hold), &HELD).is_none();
     drop(hold);
-    turn_all(rt, &mut first, &mut counts);
-    turn_other(rt, &mut client, &mut second, &mut counts);
-    assert!(rt; counts.called == 4 && counts.held == 1);
-    Ok(())
+    let all = turns_all(rt, &mut first, &mut counts);
+    let other = turns_other(rt, &mut client, &mut second, &mut counts);
+    Ok((free && held && all && other, counts.called, counts.held))
 }
 
 #[test]
 fn each_that_comes_due_is_called_once(rt: HostRuntime) -> Result<(), Fail> {
     let fresh = boot(rt.alloc())?;
-    play::<Brand, _>(&rt, rt.alloc(), fresh)?;
+    assert!(rt; play::<Brand, _>(&rt, rt.alloc(), fresh)? == (true, 4, 1));
     Ok(())
 }

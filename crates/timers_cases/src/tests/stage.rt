@@ -52,6 +52,9 @@ pub(super) fn arm<N: Name, R: Wait>(
     client.reset(rt, i, seconds(at), Sbt::zero(), 0, 7, None, hold)
 }
 
+/// A callout is armed that was not.
+pub(super) const ARMED: Result<Reset, Refused> = Ok(Reset::Armed { replaced: false });
+
 /// The counts of services, none of which called a drain's function.
 pub(super) fn served(called: u64, skipped: u64) -> Served {
     Served {

@@ -68,26 +68,25 @@ fn both<N: Name + Send + Sync, R: Threads + Wait + Sync>(
     )
 }
 
-/// The calls on an open service.
+/// The same on an open service.
 fn play<N: Name + Send + Sync, R: Threads + Wait + Sync + Abort>(
     rt: &R,
     alloc: Global,
     fresh: TimersFresh,
-) -> Result<(), NoMemory>
+) -> Result<(u64, u64), NoMemory>
     requires name { fresh.name ≡ N.name }
     requires scene { fresh.params ≡ scene }
 {
     let (timers, mut posts) = Timers::<N>::open(alloc, fresh)?;
     let client = posts.client(&timers, 0).expect(rt, "client 0 is here");
     let cpu = posts.cpu_handle(&timers, 0).expect(rt, "CPU 0 is here");
-    let (cancelled, called) = both(rt, client, cpu);
-    assert!(rt; cancelled.wrapping_add(called) == ARMINGS);
-    Ok(())
+    Ok(both(rt, client, cpu))
 }
 
 #[test]
 fn each_arming_is_called_or_cancelled(rt: HostRuntime) -> Result<(), Fail> {
     let fresh = boot(rt.alloc())?;
-    play::<Brand, _>(&rt, rt.alloc(), fresh)?;
+    let (cancelled, called) = play::<Brand, _>(&rt, rt.alloc(), fresh)?;
+    assert!(rt; cancelled.wrapping_add(called) == ARMINGS);
     Ok(())
 }

@@ -1,73 +1,80 @@
-//! A client alone: each word that needs no service.
+//! A client alone: each word that needs no service, and the calls that are refused, by name.
 ghost use Rattle.std.specs.Prelude.{◌≡◌};
-ghost use Rattle.timers_cases.specs.Scenes.{scene};
 
-use super::stage::{arm, boot, seconds};
-use co_object::{PlainOp, Reply};
-use co_sbt::{NoMemory, Sbt};
+use super::stage::{ARMED, boot};
+use super::steps::{Step, are_answered};
+use co_lock::Hold;
+use co_object::Reply;
+use co_sbt::NoMemory;
 use co_service::Name;
-use co_timers::{AsyncDrained, Client, Drained, Reset, Stopped, Timers, TimersFresh};
+use co_timers::{AsyncDrained, Client, Drained, Refused, Reset, Stopped, Timers, TimersFresh};
 use std::alloc::Global;
 use std::marker::Brand;
 use std::process::Abort;
 use std::sync::Wait;
 use std::test::Fail;
 
-/// Callout 0 is armed, armed again, stopped twice, and armed once more.
-fn stops<N: Name, R: Wait + Abort>(rt: &R, client: &mut Client<'_, N>) {
-    let early = client.schedule(rt, 0, seconds(3), Sbt::zero(), None, None);
-    assert!(rt; early == Ok(Reset::NoHandler));
-    let first = arm(rt, client, 0, 3, None);
-    assert!(rt; first == Ok(Reset::Armed { replaced: false }));
-    let again = arm(rt, client, 0, 4, None);
-    assert!(rt; again == Ok(Reset::Armed { replaced: true }));
-    assert!(rt; client.stop(rt, 0, None) == Ok(Stopped::Cancelled));
-    assert!(rt; client.stop(rt, 0, None) == Ok(Stopped::Nothing));
-    let last = client.schedule(rt, 0, seconds(5), Sbt::zero(), None, None);
-    assert!(rt; last == Ok(Reset::Armed { replaced: false }));
+/// Without a lock.
+const FREE: [Step; 19] = [
+    Step::Arm(3, 1, Err(Refused::NoCallout)),
+    Step::ArmAt(0, 1, 2, Err(Refused::NoCpu)),
+    Step::Arm(1, 1, Err(Refused::NotHeld)),
+    Step::Stop(1, Err(Refused::NotHeld)),
+    // Callout 0 is armed, armed again, stopped twice, and armed once more.
+    Step::Schedule(0, 3, Ok(Reset::NoHandler)),
+    Step::Arm(0, 3, ARMED),
+    Step::Arm(0, 4, Ok(Reset::Armed { replaced: true })),
+    Step::Stop(0, Ok(Stopped::Cancelled)),
+    Step::Stop(0, Ok(Stopped::Nothing)),
+    Step::Schedule(0, 5, ARMED),
+    // It is drained in both ways.
+    Step::Drain(0, Ok(Drained::Cancelled)),
+    Step::Drain(0, Ok(Drained::Nothing)),
+    Step::AsyncDrain(0, Ok(AsyncDrained::Nothing)),
+    Step::Arm(0, 3, ARMED),
+    Step::AsyncDrain(0, Ok(AsyncDrained::Cancelled)),
+    // It is out of use.
+    Step::Retire(0, Ok(Reply::Done)),
+    Step::Arm(0, 3, Ok(Reset::Retired)),
+    Step::Stop(0, Ok(Stopped::Retired)),
+    Step::AsyncDrain(0, Ok(AsyncDrained::Retired)),
+];
+
+/// With the lock of callout 1.
+const HELD: [Step; 3] = [
+    Step::Arm(1, 1, ARMED),
+    Step::Drain(1, Err(Refused::HoldsLock)),
+    Step::Stop(1, Ok(Stopped::Cancelled)),
+];
+
+/// The first step with the lock that is not answered as it has to be, if any is.
+fn wrong_held<N: Name, R: Wait>(
+    rt: &R,
+    client: &mut Client<'_, N>,
+    hold: &Hold<'_>,
+) -> Option<usize> {
+    are_answered(rt, client, Some(hold), &HELD)
 }
 
-/// Callout 0 is armed, and drained in both ways.
-fn drains<N: Name, R: Wait + Abort>(rt: &R, client: &mut Client<'_, N>) {
-    assert!(rt; client.drain(rt, 0, None) == Ok(Drained::Cancelled));
-    assert!(rt; client.drain(rt, 0, None) == Ok(Drained::Nothing));
-    let nothing = client.async_drain(rt, 0, 1, None);
-    assert!(rt; nothing == Ok(AsyncDrained::Nothing));
-    let _armed = arm(rt, client, 0, 3, None);
-    let cancelled = client.async_drain(rt, 0, 1, None);
-    assert!(rt; cancelled == Ok(AsyncDrained::Cancelled));
-}
-
-/// Callout 0 is out of use.
-fn retires<N: Name, R: Wait + Abort>(rt: &R, client: &mut Client<'_, N>) {
-    let done = client.call(rt, 0, &PlainOp::Retire, None);
-    assert!(rt; done == Ok(Reply::Done));
-    assert!(rt; arm(rt, client, 0, 3, None) == Ok(Reset::Retired));
-    assert!(rt; client.stop(rt, 0, None) == Ok(Stopped::Retired));
-    let drained = client.async_drain(rt, 0, 1, None);
-    assert!(rt; drained == Ok(AsyncDrained::Retired));
-}
-
-/// A client's calls on an open service.
+/// A client's calls on an open service: the first step of each list that is not answered as it has to be, if any is.
 fn play<N: Name, R: Wait + Sync + Abort>(
     rt: &R,
     alloc: Global,
     fresh: TimersFresh,
-) -> Result<(), NoMemory>
+) -> Result<(Option<usize>, Option<usize>), NoMemory>
     requires name { fresh.name ≡ N.name }
-    requires scene { fresh.params ≡ scene }
 {
     let (timers, mut posts) = Timers::<N>::open(alloc, fresh)?;
     let mut client = posts.client(&timers, 0).expect(rt, "client 0 is here");
-    stops(rt, &mut client);
-    drains(rt, &mut client);
-    retires(rt, &mut client);
-    Ok(())
+    let free = are_answered(rt, &mut client, None, &FREE);
+    let hold = timers.lock(rt, 0).expect(rt, "lock 0 exists");
+    let held = wrong_held(rt, &mut client, &hold);
+    Ok((free, held))
 }
 
 #[test]
 fn a_client_alone(rt: HostRuntime) -> Result<(), Fail> {
     let fresh = boot(rt.alloc())?;
-    play::<Brand, _>(&rt, rt.alloc(), fresh)?;
+    assert!(rt; play::<Brand, _>(&rt, rt.alloc(), fresh)? == (None, None));
     Ok(())
 }
