@@ -126,6 +126,43 @@ fn finish<N: Name, R: Wait>(rt: &R, script: &Script, service: Service<N>, all: B
     }
 }
 
+/// Plays the programs of all actors over an open service, each in a branch of nested joins.
+fn play_books<N: Name + Send + Sync, G: Gate + Sync, B: Notebook + Send, R: Threads + Wait + Sync>(
+    rt: &R,
+    alloc: Global,
+    script: &Script,
+    gate: &G,
+    service: &Service<N>,
+    passes: Seq<Passes>,
+    books: Seq<B>,
+) -> Result<Brought, NoMemory>
+    requires script { IsScript script.now }
+    requires locks { HasLocks script.now }
+    requires service { service.now ≡ params_of script.now }
+    requires named { AreNamed N.name (params_of script.now) }
+    requires passes { AreBooted N.name (params_of script.now) passes }
+    requires books { length books ≡ actor_count script.now }
+    requires empty { AreEmpty B.notes B.spare books }
+    ensures over { IfOk result (λ all. AreOver script.now N.name 0 all.passes all.lists) }
+    ensures count { IfOk result (λ all. length all.lists ≡ actor_count script.now) }
+{
+    let longest = longest_of(script);
+    let locks = ClientLocks::new(alloc, script.locks.as_slice())?;
+    let Crew {
+        clients,
+        cpus,
+        interrupts,
+    } = deal_all::<N, B>(alloc, script, passes, books)?;
+    let shared = Shared {
+        script,
+        service,
+        locks: &locks,
+        gate,
+    };
+    let crew = play_all(rt, alloc, &shared, longest, clients, cpus, interrupts)?;
+    add_crew::<N>(alloc, script, crew)
+}
+
 /// Runs a script on threads over an open service, each actor in a branch of nested joins, and ends the service. Each actor
 /// notes into one of the books, in the order of the actors' numbers; all are empty.
 ///
@@ -159,21 +196,7 @@ pub fn run_books<
     ensures name { IfOk result (λ ran. ran.closing.name ≡ N.name) }
     ensures run { IfOk result (IsRan script.now) }
 {
-    let longest = longest_of(script);
-    let locks = ClientLocks::new(alloc, script.locks.as_slice())?;
-    let Crew {
-        clients,
-        cpus,
-        interrupts,
-    } = deal_all::<N, B>(alloc, script, passes, books)?;
-    let shared = Shared {
-        script,
-        service: &service,
-        locks: &locks,
-        gate,
-    };
-    let crew = play_all(rt, alloc, &shared, longest, clients, cpus, interrupts)?;
-    let all = add_crew::<N>(alloc, script, crew)?;
+    let all = play_books(rt, alloc, script, gate, &service, passes, books)?;
     Ok(finish(rt, script, service, all))
 }
 
