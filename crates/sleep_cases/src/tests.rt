@@ -1,5 +1,4 @@
 mod played;
-mod rows;
 mod stage;
 mod texts;
 mod threads;

@@ -1,5 +1,5 @@
 //! What a CPU and its interrupt do in a service that is played.
-ghost use Rattle.std.specs.Prelude.{◌≡◌, ◌<◌, ℕ, Bool, IfSome, true, false};
+ghost use Rattle.std.specs.Prelude.{◌≡◌, ◌<◌, ℕ, Bool, IfSome, false};
 ghost use Rattle.co_object.specs.Journal.{scanner};
 ghost use Rattle.co_object.specs.Queue.{Due};
 ghost use Rattle.co_service.specs.Params.{actors_of};
@@ -116,65 +116,5 @@ pub(super) fn finish<N: Name, R: Wait + Abort>(
     ensures free { IsFree false passes.new cpu }
 {
     let made = service.end(rt, passes, cpu, 0);
-    keep_all(rt, log, made.notes);
-}
-
-/// A direct callout goes into the service of the interrupt, and its function is called.
-pub(super) fn start_direct<N: Name, R: Wait + Abort>(
-    rt: &R,
-    service: &Service<N>,
-    log: &mut Vec<Note>,
-    passes: &mut Passes,
-    cpu: u32,
-)
-    requires cpu { cpu < service.now.cpus }
-    requires passes { AreOf N.name service.now passes.old }
-    requires free { IsFree true passes.old cpu }
-    ensures of { AreOf N.name service.now passes.new }
-    ensures serving { (d : Due) × IsServing true passes.new cpu d (Runs d.n) }
-{
-    let taken = service.next_direct(rt, passes, cpu, 0);
-    let Some((pop, pick)) = begun(taken) else {
-        panic!(rt; "no function is to be called");
-    };
-    keep(rt, log, pop);
-    keep(rt, log, pick);
-}
-
-/// The interrupt finds nothing more to service.
-pub(super) fn rest_direct<N: Name, R: Wait + Abort>(
-    rt: &R,
-    service: &Service<N>,
-    log: &mut Vec<Note>,
-    passes: &mut Passes,
-    cpu: u32,
-)
-    requires cpu { cpu < service.now.cpus }
-    requires passes { AreOf N.name service.now passes.old }
-    requires free { IsFree true passes.old cpu }
-    ensures of { AreOf N.name service.now passes.new }
-{
-    let taken = service.next_direct(rt, passes, cpu, 0);
-    let Some(note) = nothing(taken) else {
-        panic!(rt; "something had come due");
-    };
-    keep(rt, log, note);
-}
-
-/// The interrupt's function returns.
-pub(super) fn finish_direct<N: Name, R: Wait + Abort>(
-    rt: &R,
-    service: &Service<N>,
-    log: &mut Vec<Note>,
-    passes: &mut Passes,
-    cpu: u32,
-)
-    requires cpu { cpu < service.now.cpus }
-    requires passes { AreOf N.name service.now passes.old }
-    requires serving { (d : Due) × IsServing true passes.old cpu d (Runs d.n) }
-    ensures of { AreOf N.name service.now passes.new }
-    ensures free { IsFree true passes.new cpu }
-{
-    let made = service.end_direct(rt, passes, cpu, 0);
     keep_all(rt, log, made.notes);
 }

@@ -26,25 +26,3 @@ pub(super) fn close_two<N: Name, R: Wait>(
     let _closing = service.close(rt, crew.into_all());
     Ok(())
 }
-
-/// The end of a service of three actors.
-pub(super) fn close_three<N: Name, R: Wait>(
-    rt: &R,
-    alloc: Global,
-    service: Service<N>,
-    first: Passes,
-    second: Passes,
-    third: Passes,
-) -> Result<(), NoMemory>
-    requires count { actor_count service ≡ 3 }
-    requires first { AreOf N.name service first }
-    requires second { AreOf N.name service second }
-    requires third { AreOf N.name service third }
-{
-    let mut crew = Crew::new(alloc, &service)?;
-    crew.back(first);
-    crew.back(second);
-    crew.back(third);
-    let _closing = service.close(rt, crew.into_all());
-    Ok(())
-}

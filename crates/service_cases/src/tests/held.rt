@@ -10,11 +10,10 @@ ghost use Rattle.co_service.specs.Serving.{Runs, Waits};
 ghost use Rattle.co_service.specs.Views.{AreOf, PassesView};
 
 use super::acts::{finish, rest, tick};
-use super::cast::close_two;
-use super::notes::{armed, called, ended, inserted, popped, scanned, skipped, turn, waiting, who};
+use super::notes::{Row, Told, are};
 use super::stage::{keep, keep_all, seconds};
 use co_lock::{ClientLocks, Hold, LockKind};
-use co_object::{CallOp, LockUse, Note, PlainOp, QOp, QReply, Reply, Spec};
+use co_object::{CallOp, LockUse, Note, Place, PlainOp, QOp, QReply, Reply, Spec};
 use co_sbt::{NoMemory, Sbt, Seq};
 use co_service::{Fresh, Name, Passes, Service, Taken};
 use std::alloc::Global;
@@ -93,54 +92,57 @@ fn stop_held<N: Name, R: Wait + Abort>(
     keep_all(rt, log, made.notes);
 }
 
-/// The notes of a start that waits for the lock of callout 0.
-fn waits(taken: Taken) -> Option<(Note, Note)>
-    ensures { IfSome result (λ _. (direct : Bool) (q : PassesView) (cpu : ℕ) → HasNext direct q cpu taken → (d : Due) × (d.i ≡ 0) × IsServing direct q cpu d (Waits d.n)) }
+/// The arming and the notes of a start that waits for the lock of callout 0.
+fn waits(taken: Taken) -> Option<(u64, Note, Note)>
+    ensures { IfSome result (λ r. (direct : Bool) (q : PassesView) (cpu : ℕ) → HasNext direct q cpu taken → IsServing direct q cpu (record { i = 0; n = r.0 }) (Waits r.0)) }
 {
     match taken {
         Taken::Took {
             i: 0,
+            n,
             reply: Reply::Hold,
             pop,
             pick,
             ..
-        } => Some((pop, pick)),
+        } => Some((n, pop, pick)),
         _ => None,
     }
 }
 
-/// The callout goes into the CPU's service, and waits for the mutex.
+/// The callout goes into the CPU's service, and waits for the mutex. The answer is its arming.
 fn start_waiting<N: Name, R: Wait + Abort>(
     rt: &R,
     service: &Service<N>,
     log: &mut Vec<Note>,
     passes: &mut Passes,
-)
+) -> u64
     requires cpu { 0 < service.now.cpus }
     requires passes { AreOf N.name service.now passes.old }
     requires free { IsFree false passes.old 0 }
     ensures of { AreOf N.name service.now passes.new }
-    ensures serving { (d : Due) × (d.i ≡ 0) × IsServing false passes.new 0 d (Waits d.n) }
+    ensures serving { IsServing false passes.new 0 (record { i = 0; n = result }) (Waits result) }
 {
     let taken = service.next(rt, passes, 0, 0, 1);
-    let Some((pop, pick)) = waits(taken) else {
+    let Some((n, pop, pick)) = waits(taken) else {
         panic!(rt; "nothing waits for the mutex");
     };
     keep(rt, log, pop);
     keep(rt, log, pick);
+    n
 }
 
-/// The CPU holds the mutex.
+/// The CPU, whose service of this arming waits, holds the mutex.
 fn begin_held<N: Name, R: Wait + Abort>(
     rt: &R,
     service: &Service<N>,
     log: &mut Vec<Note>,
     passes: &mut Passes,
+    n: u64,
     hold: &Hold<'_>,
 )
     requires scene { IsLocked service.now }
     requires passes { AreOf N.name service.now passes.old }
-    requires serving { (d : Due) × (d.i ≡ 0) × IsServing false passes.old 0 d (Waits d.n) }
+    requires serving { IsServing false passes.old 0 (record { i = 0; n = n }) (Waits n) }
     requires hold { hold.now ≡ record { id = 0; exclusive = true } }
     ensures of { AreOf N.name service.now passes.new }
     ensures serving { (d : Due) × IsServing false passes.new 0 d (Runs d.n) }
@@ -169,37 +171,43 @@ fn play<N: Name, R: Wait + Abort + Sync>(
     let hold = locks.lock(rt, 0);
     arm_held(rt, &service, &mut log, &mut client, &hold);
     tick(rt, &service, &mut log, &mut cpu, 0, seconds(1));
-    start_waiting(rt, &service, &mut log, &mut cpu);
+    let n = start_waiting(rt, &service, &mut log, &mut cpu);
     stop_held(rt, &service, &mut log, &mut client, &hold);
     drop(hold);
     let hold = locks.lock(rt, 0);
-    begin_held(rt, &service, &mut log, &mut cpu, &hold);
+    begin_held(rt, &service, &mut log, &mut cpu, n, &hold);
     drop(hold);
     finish(rt, &service, &mut log, &mut cpu, 0);
     service.drain_wait(rt, 0, 0);
     rest(rt, &service, &mut log, &mut cpu, 0);
-    close_two(rt, alloc, service, client, cpu)?;
     Ok(log)
 }
+
+const NOTES: [Row; 10] = [
+    (Place::Timer(0), 0, 0, 1, Told::Armed(1, 0, None, 0, 0)),
+    (Place::Cpu(0), 0, 0, 1, Told::Inserted(0, 0, 1)),
+    (Place::Cpu(0), 1, 1, 0, Told::Scanned(1, 1)),
+    (Place::Cpu(0), 2, 1, 0, Told::Popped(QOp::Pop, 0, 0, 1)),
+    (Place::Timer(0), 1, 1, 0, Told::Picked(0, 0, 1, None)),
+    (
+        Place::Timer(0),
+        2,
+        0,
+        2,
+        Told::Called(PlainOp::Stop, CANCELLED),
+    ),
+    (Place::Timer(0), 3, 1, 0, Told::Skipped(0, 0)),
+    (Place::Timer(0), 4, 1, 0, Told::Ended(0, 0, None)),
+    (Place::Cpu(0), 3, 1, 0, Told::Turn(QOp::Free, QReply::Freed)),
+    (Place::Cpu(0), 4, 1, 0, Told::Turn(QOp::Pop, QReply::Empty)),
+];
+
+const CANCELLED: Reply = Reply::Stopped { code: 1, off: None };
 
 #[test]
 fn cancelled_while_it_waits(rt: HostRuntime) -> Result<(), Fail> {
     let (fresh, passes) = boot_locked(rt.alloc())?;
     let notes = play::<Brand, _>(&rt, rt.alloc(), fresh, passes)?;
-    let (c, p) = (who(0, 1), who(1, 0));
-    let stopped = Reply::Stopped { code: 1, off: None };
-    let wanted = [
-        armed(0, 0, c, seconds(1), 0, None, 0, 0),
-        inserted(0, 0, c, 0, 0, seconds(1)),
-        scanned(0, 1, p, seconds(1), 1),
-        popped(0, 2, p, QOp::Pop, 0, 0, seconds(1)),
-        waiting(0, 1, p, 0, 0, seconds(1)),
-        called(0, 2, who(0, 2), PlainOp::Stop, stopped),
-        skipped(0, 3, p, 0, 0),
-        ended(0, 4, p, 0, 0, None, None),
-        turn(0, 3, p, QOp::Free, QReply::Freed),
-        turn(0, 4, p, QOp::Pop, QReply::Empty),
-    ];
-    assert!(rt; notes.as_slice() == wanted.as_slice());
+    assert!(rt; are(notes.as_slice(), &NOTES));
     Ok(())
 }

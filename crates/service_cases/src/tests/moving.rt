@@ -4,10 +4,9 @@ ghost use Rattle.co_service.specs.Booted.{AreBooted};
 ghost use Rattle.service_cases.specs.Scenes.{IsScene};
 
 use super::acts::{finish, rest, start, tick};
-use super::cast::close_three;
-use super::notes::{armed, ended, inserted, picked, popped, scanned, turn, who};
+use super::notes::{Row, Told, are};
 use super::stage::{arm, boot, seconds};
-use co_object::{Next, Note, QOp, QReply};
+use co_object::{Note, Place, QOp, QReply};
 use co_sbt::{NoMemory, Seq};
 use co_service::{Fresh, Name, Passes, Service};
 use std::alloc::Global;
@@ -63,38 +62,32 @@ fn play<N: Name, R: Wait + Abort>(
     start(rt, &service, &mut log, &mut second, 1);
     finish(rt, &service, &mut log, &mut second, 1);
     rest(rt, &service, &mut log, &mut second, 1);
-    close_three(rt, alloc, service, client, first, second)?;
     Ok(log)
 }
+
+const NOTES: [Row; 16] = [
+    (Place::Timer(0), 0, 0, 0, Told::Armed(1, 0, None, 0, 0)),
+    (Place::Cpu(0), 0, 0, 0, Told::Inserted(0, 0, 1)),
+    (Place::Cpu(0), 1, 1, 0, Told::Scanned(1, 1)),
+    (Place::Cpu(0), 2, 1, 0, Told::Popped(QOp::Pop, 0, 0, 1)),
+    (Place::Timer(0), 1, 1, 0, Told::Picked(0, 0, 1, Some(0))),
+    (Place::Timer(0), 2, 0, 1, Told::Armed(2, 1, Some(1), 1, 1)),
+    (Place::Timer(0), 3, 1, 0, Told::Ended(0, 0, Some((1, 1, 2)))),
+    (Place::Cpu(0), 3, 1, 0, Told::Turn(QOp::Free, QReply::Freed)),
+    (Place::Cpu(1), 0, 1, 0, Told::Inserted(0, 1, 2)),
+    (Place::Cpu(0), 4, 1, 0, Told::Turn(QOp::Pop, QReply::Empty)),
+    (Place::Cpu(1), 1, 2, 0, Told::Scanned(2, 1)),
+    (Place::Cpu(1), 2, 2, 0, Told::Popped(QOp::Pop, 0, 1, 2)),
+    (Place::Timer(0), 4, 2, 0, Told::Picked(1, 1, 2, Some(1))),
+    (Place::Timer(0), 5, 2, 0, Told::Ended(1, 1, None)),
+    (Place::Cpu(1), 3, 2, 0, Told::Turn(QOp::Free, QReply::Freed)),
+    (Place::Cpu(1), 4, 2, 0, Told::Turn(QOp::Pop, QReply::Empty)),
+];
 
 #[test]
 fn deferred_move(rt: HostRuntime) -> Result<(), Fail> {
     let (fresh, passes) = boot(rt.alloc(), 1, 2, 1, false)?;
     let notes = play::<Brand, _>(&rt, rt.alloc(), fresh, passes)?;
-    let (c, p, q) = (who(0, 0), who(1, 0), who(2, 0));
-    let next = Next {
-        n: 1,
-        cpu: 1,
-        due: seconds(2),
-    };
-    let wanted = [
-        armed(0, 0, c, seconds(1), 0, None, 0, 0),
-        inserted(0, 0, c, 0, 0, seconds(1)),
-        scanned(0, 1, p, seconds(1), 1),
-        popped(0, 2, p, QOp::Pop, 0, 0, seconds(1)),
-        picked(0, 1, p, 0, 0, seconds(1), 0),
-        armed(0, 2, who(0, 1), seconds(2), 1, Some(1), 1, 1),
-        ended(0, 3, p, 0, 0, None, Some(next)),
-        turn(0, 3, p, QOp::Free, QReply::Freed),
-        inserted(1, 0, p, 0, 1, seconds(2)),
-        turn(0, 4, p, QOp::Pop, QReply::Empty),
-        scanned(1, 1, q, seconds(2), 1),
-        popped(1, 2, q, QOp::Pop, 0, 1, seconds(2)),
-        picked(0, 4, q, 1, 1, seconds(2), 1),
-        ended(0, 5, q, 1, 1, None, None),
-        turn(1, 3, q, QOp::Free, QReply::Freed),
-        turn(1, 4, q, QOp::Pop, QReply::Empty),
-    ];
-    assert!(rt; notes.as_slice() == wanted.as_slice());
+    assert!(rt; are(notes.as_slice(), &NOTES));
     Ok(())
 }

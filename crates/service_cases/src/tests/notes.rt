@@ -1,128 +1,173 @@
 //! The notes that calls are expected to give.
+use super::stage::seconds;
 use co_object::{
     AnyEntry, CallOp, Entry, Next, Note, Op, Place, PlainOp, QEntry, QOp, QReply, Reply, RunOp,
 };
 use co_sbt::Sbt;
 
-/// Author makes an entry, and in which of its acts.
+/// What an entry says. Times are whole seconds.
 #[derive(Clone, Copy)]
-pub(super) struct Author {
-    actor: u32,
-    act: u64,
+pub(super) enum Told {
+    /// A call on a callout.
+    Called(PlainOp, Reply),
+    /// A reset for this time to function 0 with an argument, on a CPU or not: which arming that is, and on which CPU.
+    Armed(i32, u64, Option<u32>, u64, u32),
+    /// An arming is picked by a CPU at this time: function 0 is called with an argument, or the callout's lock is waited for.
+    Picked(u64, u32, i32, Option<u64>),
+    /// The lock is held, and the arming was cancelled meanwhile.
+    Skipped(u64, u32),
+    /// The service of an arming by a CPU ends: the arming that moves on, to a CPU and for a time.
+    Ended(u64, u32, Option<(u64, u32, i32)>),
+    /// An entry of a CPU's journal.
+    Turn(QOp, QReply),
+    /// An arming, of this callout and number, is put into a CPU's queue.
+    Inserted(u32, u64, i32),
+    /// A scan of a CPU's queue, and its count.
+    Scanned(i32, u32),
+    /// From this lane of a CPU one is taken.
+    Popped(QOp, u32, u64, i32),
 }
 
-/// An actor, in one of its acts.
-pub(super) fn who(actor: u32, act: u64) -> Author {
-    Author { actor, act }
+/// Where an entry stands, the actor and the act that made it, and what it says.
+pub(super) type Row = (Place, u64, u32, u64, Told);
+
+/// A call with its reply.
+fn called(op: PlainOp, reply: Reply) -> Option<(Op, Reply)> {
+    Some((Op::Call(CallOp::Plain(op)), reply))
 }
 
-/// An entry of the history of callout `i`.
-fn timer(i: u32, pos: u64, by: Author, op: Op, reply: Reply) -> Note {
-    let entry = Entry {
-        actor: by.actor,
-        act: by.act,
-        op,
-        reply,
-    };
-    Note {
-        place: Place::Timer(i),
-        pos,
-        entry: AnyEntry::Timer(entry),
+/// A step of a service with its reply.
+fn ran(op: RunOp, reply: Reply) -> Option<(Op, Reply)> {
+    Some((Op::Run(op), reply))
+}
+
+/// A call on a callout, and its reply.
+fn call_of(told: &Told) -> Option<(Op, Reply)> {
+    match *told {
+        Told::Called(op, reply) => called(op, reply),
+        Told::Armed(due, arg, cpu, n, at) => {
+            let op = PlainOp::Reset {
+                due: seconds(due),
+                prec: Sbt::zero(),
+                func: 0,
+                arg,
+                cpu,
+            };
+            let reply = Reply::Armed {
+                code: 0,
+                n,
+                cpu: at,
+                off: None,
+            };
+            called(op, reply)
+        }
+        _ => None,
     }
 }
 
-/// A call on callout `i`.
-pub(super) fn called(i: u32, pos: u64, by: Author, op: PlainOp, reply: Reply) -> Note {
-    timer(i, pos, by, Op::Call(CallOp::Plain(op)), reply)
-}
-
-/// A reset of callout `i` to function 0, which is its arming `n` at CPU `at`.
-pub(super) fn armed(
-    i: u32,
-    pos: u64,
-    by: Author,
-    due: Sbt,
-    arg: u64,
-    cpu: Option<u32>,
-    n: u64,
-    at: u32,
-) -> Note {
-    let op = PlainOp::Reset {
-        due,
-        prec: Sbt::zero(),
-        func: 0,
-        arg,
-        cpu,
-    };
-    let reply = Reply::Armed {
-        code: 0,
+/// The arming that moves on.
+fn next_of(next: Option<(u64, u32, i32)>) -> Option<Next> {
+    let (n, cpu, due) = next?;
+    Some(Next {
         n,
-        cpu: at,
-        off: None,
+        cpu,
+        due: seconds(due),
+    })
+}
+
+/// A step of a callout's service, and its reply.
+fn service_of(told: &Told) -> Option<(Op, Reply)> {
+    match *told {
+        Told::Picked(n, cpu, at, arg) => {
+            let reply = match arg {
+                Some(arg) => Reply::Go { func: 0, arg },
+                None => Reply::Hold,
+            };
+            let at = seconds(at);
+            ran(RunOp::Pick { n, cpu, at }, reply)
+        }
+        Told::Skipped(n, cpu) => ran(RunOp::Begin { n, cpu }, Reply::Skip),
+        Told::Ended(n, cpu, next) => {
+            let reply = Reply::Ended {
+                drain: None,
+                next: next_of(next),
+                woke: false,
+            };
+            ran(RunOp::End { n, cpu }, reply)
+        }
+        _ => None,
+    }
+}
+
+/// An operation of a queue, and its reply.
+fn turn_of(told: &Told) -> Option<(QOp, QReply)> {
+    match *told {
+        Told::Turn(op, reply) => Some((op, reply)),
+        Told::Inserted(i, n, t) => {
+            let t = seconds(t);
+            Some((QOp::Insert { i, n, t }, QReply::At(t)))
+        }
+        Told::Scanned(now, count) => {
+            let now = seconds(now);
+            Some((QOp::Scan { now }, QReply::Count(count)))
+        }
+        Told::Popped(lane, i, n, at) => {
+            let at = seconds(at);
+            Some((lane, QReply::Got { i, n, at }))
+        }
+        _ => None,
+    }
+}
+
+/// An entry of a callout's history.
+fn of_callout(actor: u32, act: u64, op: Op, reply: Reply) -> AnyEntry {
+    let entry = Entry {
+        actor,
+        act,
+        op,
+        reply,
     };
-    called(i, pos, by, op, reply)
-}
-
-/// Arming `n` of callout `i` is picked, and function 0 is called with `arg`.
-pub(super) fn picked(i: u32, pos: u64, by: Author, n: u64, cpu: u32, at: Sbt, arg: u64) -> Note {
-    let op = Op::Run(RunOp::Pick { n, cpu, at });
-    timer(i, pos, by, op, Reply::Go { func: 0, arg })
-}
-
-/// Arming `n` of callout `i` is picked, and waits for the callout's lock.
-pub(super) fn waiting(i: u32, pos: u64, by: Author, n: u64, cpu: u32, at: Sbt) -> Note {
-    timer(i, pos, by, Op::Run(RunOp::Pick { n, cpu, at }), Reply::Hold)
-}
-
-/// The lock is held, and arming `n` was cancelled meanwhile.
-pub(super) fn skipped(i: u32, pos: u64, by: Author, n: u64, cpu: u32) -> Note {
-    timer(i, pos, by, Op::Run(RunOp::Begin { n, cpu }), Reply::Skip)
-}
-
-/// The service of arming `n` ends.
-pub(super) fn ended(
-    i: u32,
-    pos: u64,
-    by: Author,
-    n: u64,
-    cpu: u32,
-    drain: Option<u32>,
-    next: Option<Next>,
-) -> Note {
-    let reply = Reply::Ended {
-        drain,
-        next,
-        woke: false,
-    };
-    timer(i, pos, by, Op::Run(RunOp::End { n, cpu }), reply)
+    AnyEntry::Timer(entry)
 }
 
 /// An entry of a CPU's journal.
-pub(super) fn turn(cpu: u32, pos: u64, by: Author, op: QOp, reply: QReply) -> Note {
+fn of_cpu(actor: u32, act: u64, op: QOp, reply: QReply) -> AnyEntry {
     let entry = QEntry {
-        actor: by.actor,
-        act: by.act,
+        actor,
+        act,
         op,
         reply,
     };
-    Note {
-        place: Place::Cpu(cpu),
-        pos,
-        entry: AnyEntry::Cpu(entry),
+    AnyEntry::Cpu(entry)
+}
+
+/// The entry of an actor's act that says this.
+fn entry_of(actor: u32, act: u64, told: &Told) -> Option<AnyEntry> {
+    if let Some((op, reply)) = call_of(told) {
+        return Some(of_callout(actor, act, op, reply));
+    }
+    if let Some((op, reply)) = service_of(told) {
+        return Some(of_callout(actor, act, op, reply));
+    }
+    match turn_of(told) {
+        Some((op, reply)) => Some(of_cpu(actor, act, op, reply)),
+        None => None,
     }
 }
 
-/// Arming `n` of callout `i` is put into a CPU's queue.
-pub(super) fn inserted(cpu: u32, pos: u64, by: Author, i: u32, n: u64, t: Sbt) -> Note {
-    turn(cpu, pos, by, QOp::Insert { i, n, t }, QReply::At(t))
+/// Whether a note is as the row tells.
+fn is(note: &Note, row: &Row) -> bool {
+    let (place, pos, actor, act, told) = row;
+    let here = note.place == *place && note.pos == *pos;
+    here && entry_of(*actor, *act, told) == Some(note.entry)
 }
 
-/// A scan of a CPU's queue.
-pub(super) fn scanned(cpu: u32, pos: u64, by: Author, now: Sbt, count: u32) -> Note {
-    turn(cpu, pos, by, QOp::Scan { now }, QReply::Count(count))
-}
-
-/// Arming `n` of callout `i` is taken from a CPU's lane.
-pub(super) fn popped(cpu: u32, pos: u64, by: Author, lane: QOp, i: u32, n: u64, at: Sbt) -> Note {
-    turn(cpu, pos, by, lane, QReply::Got { i, n, at })
+/// Whether the notes are as the rows tell.
+pub(super) fn are(notes: &[Note], rows: &[Row]) -> bool {
+    for (note, row) in notes.iter().zip(rows) {
+        if !is(note, row) {
+            return false;
+        }
+    }
+    notes.len() == rows.len()
 }

@@ -1,8 +1,7 @@
 //! A service to play on, and calls on it.
-ghost use Rattle.std.specs.Prelude.{◌≡◌, ◌+◌, ◌==◌, ◌<◌, ◌≤◌, if◌then◌else◌, ℕ, Bool, IfOk, length, true, false};
+ghost use Rattle.std.specs.Prelude.{◌≡◌, ◌+◌, ◌==◌, ◌<◌, ◌≤◌, if◌then◌else◌, ℕ, IfOk, length, true, false};
 ghost use Rattle.std.specs.List.{All};
 ghost use Rattle.std.specs.declared.option.Option.{Option};
-ghost use Rattle.co_object.specs.Queue.{Due};
 ghost use Rattle.co_object.specs.declared.op.CallOp.TheVariants.{Plain};
 ghost use Rattle.co_object.specs.declared.op.PlainOp.TheVariants.{Reset};
 ghost use Rattle.co_object.specs.declared.spec.LockUse.TheVariants.{Free};
@@ -10,8 +9,6 @@ ghost use Rattle.co_service.specs.Booted.{AreBooted};
 ghost use Rattle.co_service.specs.Call.{NamesCpu};
 ghost use Rattle.co_service.specs.Params.{actor_count, spec_at};
 ghost use Rattle.service_cases.specs.Scenes.{IsFreeSpec, IsScene};
-ghost use Rattle.co_service.specs.Services.{IsFree, IsServing};
-ghost use Rattle.co_service.specs.Serving.{Service as Progress};
 ghost use Rattle.co_service.specs.Views.{AreOf};
 
 use co_object::{CallOp, LockUse, Note, PlainOp, Spec};
@@ -101,30 +98,7 @@ pub(super) fn keep_all<R: Abort>(rt: &R, log: &mut Vec<Note>, notes: [Option<Not
     }
 }
 
-/// A call on callout `i`, which needs no hold.
-pub(super) fn ask<N: Name, R: Wait + Abort>(
-    rt: &R,
-    service: &Service<N>,
-    log: &mut Vec<Note>,
-    passes: &mut Passes,
-    act: u64,
-    i: u32,
-    op: PlainOp,
-)
-    requires free { (k : ℕ) → (spec_at service.now k).lock ≡ Free }
-    requires passes { AreOf N.name service.now passes.old }
-    requires callout { i < length service.now.specs }
-    requires cpu { NamesCpu service.now.cpus (Plain op) }
-    ensures of { AreOf N.name service.now passes.new }
-    ensures actor { passes.new.actor ≡ passes.old.actor }
-    ensures free { (direct : Bool) (cpu : ℕ) → IsFree direct passes.old cpu → IsFree direct passes.new cpu }
-    ensures serving { (direct : Bool) (cpu : ℕ) (d : Due) (far : Progress) → IsServing direct passes.old cpu d far → IsServing direct passes.new cpu d far }
-{
-    let made = service.call(rt, passes, act, i, &CallOp::Plain(op), None);
-    keep_all(rt, log, made.notes);
-}
-
-/// A reset of callout `i` to function 0, on this CPU or at home.
+/// A reset of callout `i`, which needs no hold, to function 0, on this CPU or at home.
 pub(super) fn arm<N: Name, R: Wait + Abort>(
     rt: &R,
     service: &Service<N>,
@@ -142,12 +116,13 @@ pub(super) fn arm<N: Name, R: Wait + Abort>(
     requires cpu { NamesCpu service.now.cpus (Plain (Reset due 0 0 arg cpu)) }
     ensures of { AreOf N.name service.now passes.new }
 {
-    let op = PlainOp::Reset {
+    let op = CallOp::Plain(PlainOp::Reset {
         due,
         prec: Sbt::zero(),
         func: 0,
         arg,
         cpu,
-    };
-    ask(rt, service, log, passes, act, i, op);
+    });
+    let made = service.call(rt, passes, act, i, &op, None);
+    keep_all(rt, log, made.notes);
 }

@@ -3,37 +3,35 @@ use co_sleepq_text::run_sleep;
 use std::alloc::Global;
 use std::sync::Wait;
 
-/// The text is answered so.
-fn is_answered<R: Wait>(rt: &R, alloc: Global, text: &[u8], wanted: &[u8]) -> bool {
-    match run_sleep(rt, alloc, text) {
-        Ok((answer, _)) => answer.as_slice() == wanted,
+const ANSWERED: [(&str, &str); 3] = [
+    // A sleeper is woken before its time is up, and its timer comes late.
+    (
+        "sleep 1\nsleepers 2\nsleep 0 7 1000\nsleep 1 7 0\nwakeup1 7\ntick 1\nawake 0\nawake 1\nwakeup 7\nawake 1\n",
+        "began 0\nbegan 1\none 0\nticked 0 1\nwoken\nasleep\nwoke 1\nwoken\n",
+    ),
+    // A sleeper sleeps again, and times out at its very time.
+    (
+        "sleep 1\nsleepers 1\nawake 0\nwakeup1 7\nsleep 0 7 1\nsleep 0 8 0\nwakeup 7\nawake 0\nsleep 0 7 0\ntick 1\nawake 0\nwakeup 7\nsleep 0 9 1\ntick 1.001\nawake 0\n",
+        "never\nnobody\nbegan 0\nalready\nwoke 1\nwoken\nbegan 1\nticked 0 0\nasleep\nwoke 1\nbegan 2\nticked 1 0\ntimedout\n",
+    ),
+    // A wakeup leaves the other channels of its bucket: 1 and 256 share one.
+    (
+        "sleep 1\nsleepers 4\nsleep 3 1 0\nsleep 0 256 0\nsleep 1 1 5\nsleep 2 256 5\nwakeup1 256\nwakeup 1\nawake 2\ntick 1\nawake 2\nwakeup 256\n",
+        "began 0\nbegan 1\nbegan 2\nbegan 3\none 0\nwoke 2\nasleep\nticked 1 1\ntimedout\nwoke 0\n",
+    ),
+];
+
+/// Whether the text is answered so.
+fn is_answered<R: Wait>(rt: &R, alloc: Global, text: &str, wanted: &str) -> bool {
+    match run_sleep(rt, alloc, text.as_bytes()) {
+        Ok((answer, _)) => answer.as_slice() == wanted.as_bytes(),
         Err(_) => false,
     }
 }
 
 #[test]
-fn a_sleeper_is_woken_before_its_time_is_up(rt: HostRuntime) {
-    let text =
-        b"sleep 1\nsleepers 2\nsleep 0 7 1000\nsleep 1 7 0\nwakeup1 7\ntick 1\nawake 0\nawake 1\nwakeup 7\nawake 1\n".as_slice();
-    let wanted = b"began 0\nbegan 1\none 0\nticked 0 1\nwoken\nasleep\nwoke 1\nwoken\n".as_slice();
-    assert!(&rt; is_answered(&rt, rt.alloc(), text, wanted));
-}
-
-#[test]
-fn a_sleeper_sleeps_again_until_its_time_is_up(rt: HostRuntime) {
-    let text =
-        b"sleep 1\nsleepers 1\nawake 0\nwakeup1 7\nsleep 0 7 1\nsleep 0 8 0\nwakeup 7\nawake 0\nsleep 0 7 0\ntick 1\nawake 0\nwakeup 7\nsleep 0 9 1\ntick 1.001\nawake 0\n".as_slice();
-    let wanted =
-        b"never\nnobody\nbegan 0\nalready\nwoke 1\nwoken\nbegan 1\nticked 0 0\nasleep\nwoke 1\nbegan 2\nticked 1 0\ntimedout\n".as_slice();
-    assert!(&rt; is_answered(&rt, rt.alloc(), text, wanted));
-}
-
-// Channels 1 and 256 share a bucket.
-#[test]
-fn a_wakeup_leaves_the_other_channels_of_its_bucket(rt: HostRuntime) {
-    let text =
-        b"sleep 1\nsleepers 4\nsleep 3 1 0\nsleep 0 256 0\nsleep 1 1 5\nsleep 2 256 5\nwakeup1 256\nwakeup 1\nawake 2\ntick 1\nawake 2\nwakeup 256\n".as_slice();
-    let wanted =
-        b"began 0\nbegan 1\nbegan 2\nbegan 3\none 0\nwoke 2\nasleep\nticked 1 1\ntimedout\nwoke 0\n".as_slice();
-    assert!(&rt; is_answered(&rt, rt.alloc(), text, wanted));
+fn texts_are_answered(rt: HostRuntime) {
+    for (text, wanted) in ANSWERED {
+        assert!(rt; is_answered(&rt, rt.alloc(), text, wanted), "{text}");
+    }
 }

@@ -16,7 +16,7 @@ use std::test::Fail;
 use std::thread::{Threads, join};
 
 /// How the sleeper's sleeps ended.
-#[derive(Clone, Copy, Debug, PartialEq, Eq)]
+#[derive(Clone, Copy)]
 struct Slept {
     woken: u32,
     timed_out: u32,
@@ -44,27 +44,17 @@ fn sleep_once<N: SleepName, R: Wait>(
     unreachable!()
 }
 
-/// The counts with this sleep, the one of this number.
-fn count(slept: Slept, number: u64, began: SleepReply, end: SleepReply) -> Slept {
-    let Slept {
-        woken,
-        timed_out,
-        other,
-    } = slept;
-    let mut after = Slept {
-        woken,
-        timed_out,
-        other,
-    };
-    if began != SleepReply::Began(number) {
-        after.other = other.wrapping_add(1);
+impl Slept {
+    /// Counts this sleep, the one of this number.
+    fn count(&mut self, number: u64, began: SleepReply, end: SleepReply) {
+        match (began == SleepReply::Began(number), end) {
+            (true, SleepReply::Was(End::Woken)) => self.woken = self.woken.wrapping_add(1),
+            (true, SleepReply::Was(End::TimedOut)) => {
+                self.timed_out = self.timed_out.wrapping_add(1);
+            }
+            _ => self.other = self.other.wrapping_add(1),
+        }
     }
-    match end {
-        SleepReply::Was(End::Woken) => after.woken = woken.wrapping_add(1),
-        SleepReply::Was(End::TimedOut) => after.timed_out = timed_out.wrapping_add(1),
-        _ => after.other = other.wrapping_add(1),
-    }
-    after
 }
 
 /// Sleeps 64 times.
@@ -84,7 +74,7 @@ fn sleep_often<N: SleepName, R: Wait>(
     };
     for k in 0..64_u64 {
         let (began, end) = sleep_once(rt, queue, &mut passes);
-        slept = count(slept, k, began, end);
+        slept.count(k, began, end);
     }
     over.store(true, Ordering::SeqCst);
     slept
@@ -194,10 +184,8 @@ fn play_all<N: SleepName + Send + Sync, R: Threads + Wait + Sync>(
 fn each_sleep_is_ended_once(rt: HostRuntime) -> Result<(), Fail> {
     let (fresh, passes) = SleepQueue::boot(rt.alloc(), 1, 2)?;
     let (slept, (woken, ticked)) = play_all::<Brand, HostRuntime>(&rt, rt.alloc(), fresh, passes)?;
-    assert!(rt; slept.other == 0);
-    assert!(rt; slept.woken.wrapping_add(slept.timed_out) == 64);
-    assert!(rt; slept.woken == woken);
-    assert!(rt; slept.timed_out == ticked.out);
-    assert!(rt; ticked.late <= woken);
+    let all_ended = slept.other == 0 && slept.woken.wrapping_add(slept.timed_out) == 64;
+    let as_told = slept.woken == woken && slept.timed_out == ticked.out;
+    assert!(rt; all_ended && as_told && ticked.late <= woken);
     Ok(())
 }

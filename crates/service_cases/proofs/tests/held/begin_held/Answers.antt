@@ -1,4 +1,4 @@
-use Rattle.std.proofs.Common.{◌≡◌, ℕ, false, sym, ap, ◌∙◌, subst}
+use Rattle.std.proofs.Common.{◌≡◌, ℕ, false, sym, ap, ◌∙◌}
 use Rattle.std.specs.declared.option.Option.TheVariants.{Some}
 use Rattle.co_lock.specs.Service.{hold_of}
 use Rattle.co_object.specs.Queue.{Due}
@@ -7,14 +7,16 @@ use Rattle.co_service.specs.Serving.{Waits}
 use Rattle.service_cases.proofs.Stages.{same_due}
 use Rattle.service_cases.proofs.tests.held.begin_held.Goals as goal
 
+abbrev due : ℕ → Due
+due n = record { i = 0; n = n }
+
 pub begin-made-requires-clause-serves : goal.begin-made-requires-clause-serves
-begin-made-requires-clause-serves g c = let s = c.requires.serving in (s.0, s.2)
+begin-made-requires-clause-serves g c = (due c.args.n, c.requires.serving)
 
 pub begin-made-requires-clause-held : goal.begin-made-requires-clause-held
 begin-made-requires-clause-held g c = λ d is.
-    let s = c.requires.serving in
-    let here : d.i ≡ 0 = ap (λ (x : Due). x.i) (same_due false c.args.passes.now 0 d s.0 (Waits d.n) (Waits s.0.n) is s.2) ∙ s.1 in
+    let here : d.i ≡ 0 = ap (λ (x : Due). x.i) (same_due false c.args.passes.now 0 d (due c.args.n) (Waits d.n) (Waits c.args.n) is c.requires.serving) in
     ap (λ (k : ℕ). hold_of (spec_at c.args.service.now k).lock) here ∙ (ap hold_of c.requires.scene.lock ∙ ap Some (sym c.requires.hold))
 
 pub returns-clause-serving : goal.returns-clause-serving
-returns-clause-serving g c = let s = c.requires.serving in (s.0, c.begin-made.ensures.serving s.0 s.2)
+returns-clause-serving g c = (due c.args.n, c.begin-made.ensures.serving (due c.args.n) c.requires.serving)
