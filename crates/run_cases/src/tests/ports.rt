@@ -1,10 +1,11 @@
-//! The functions of a script, run through ports over one service.
+//! The functions of a script, run through ports over one service, each on a thread of its own.
 ghost use Rattle.std.specs.Prelude.{◌≡◌, ◌<◌, ◌≤◌, length};
 ghost use Rattle.co_program.specs.Actors.{acts_at};
 ghost use Rattle.co_program.specs.Scripts.{IsScript};
 ghost use Rattle.co_service.specs.Booted.{AreBooted};
 ghost use Rattle.co_service.specs.Views.{AreOf};
 ghost use Rattle.run_cases.specs.Scenes.{two_clients};
+ghost use denote.Param.Send.{IsSync};
 
 use super::running::script_of;
 use super::scene::{SPECS, boot, leave_clients};
@@ -20,6 +21,7 @@ use std::marker::Brand;
 use std::process::Abort;
 use std::sync::Wait;
 use std::test::Fail;
+use std::thread::{Threads, join};
 
 /// Two functions over two callouts.
 const FUNCTIONS: &str = "callout 1
@@ -79,8 +81,42 @@ fn calls_of<N: Name, R: Wait + Sync>(
     Ok(port.into_parts().1)
 }
 
+/// What both functions' calls are answered.
+type Both = (
+    Result<Seq<PortCall>, NoMemory>,
+    Result<Seq<PortCall>, NoMemory>,
+);
+
+/// The calls of both functions, each in a thread of its own.
+fn calls_of_both<N: Name + Send + Sync, R: Threads + Wait + Sync>(
+    rt: &R,
+    alloc: Global,
+    script: &Script,
+    gate: &Waits<'_>,
+    service: &Service<N>,
+    one: Passes,
+    other: Passes,
+) -> Both
+    requires script { IsScript script.now }
+    requires callouts { length script.now.timers ≡ 2 }
+    requires cpus { script.now.cpus ≡ 3 }
+    requires scene { service.now ≡ two_clients }
+    requires one { AreOf N.name service.now one }
+    requires other { AreOf N.name service.now other }
+{
+    join(
+        rt,
+        || -> Result<Seq<PortCall>, NoMemory>
+            requires { IsSync R.row × IsScript script.now × (length script.now.timers ≡ 2) × (script.now.cpus ≡ 3) × (service.now ≡ two_clients) × AreOf N.name service.now one }
+        { calls_of(rt, alloc, script, service, gate, one, 0) },
+        || -> Result<Seq<PortCall>, NoMemory>
+            requires { IsSync R.row × IsScript script.now × (length script.now.timers ≡ 2) × (script.now.cpus ≡ 3) × (service.now ≡ two_clients) × AreOf N.name service.now other }
+        { calls_of(rt, alloc, script, service, gate, other, 1) },
+    )
+}
+
 /// Opens the service, and runs both functions on it.
-fn run_both<N: Name, R: Wait + Sync>(
+fn run_both<N: Name + Send + Sync, R: Threads + Wait + Sync>(
     rt: &R,
     alloc: Global,
     script: &Script,
@@ -97,9 +133,8 @@ fn run_both<N: Name, R: Wait + Sync>(
 {
     let service = Service::<N>::open(alloc, fresh)?;
     let (one, other) = leave_clients(&service, passes);
-    let first = calls_of(rt, alloc, script, &service, gate, one, 0)?;
-    let second = calls_of(rt, alloc, script, &service, gate, other, 1)?;
-    Ok((first, second))
+    let (first, second) = calls_of_both(rt, alloc, script, gate, &service, one, other);
+    Ok((first?, second?))
 }
 
 /// A reset of function `i` to a time in seconds, at this CPU or at home.
@@ -156,7 +191,7 @@ fn are_made(first: &Seq<PortCall>, second: &Seq<PortCall>) -> bool {
 }
 
 /// Runs both functions on a service that is booted for them. Whether their calls are as they have to be.
-fn run_functions<R: Wait + Sync>(
+fn run_functions<R: Threads + Wait + Sync>(
     rt: &R,
     alloc: Global,
     script: &Script,
@@ -172,7 +207,7 @@ fn run_functions<R: Wait + Sync>(
 }
 
 /// Runs both functions. Each announces its acts.
-fn run_through_ports<R: Wait + Sync + Abort>(
+fn run_through_ports<R: Threads + Wait + Sync + Abort>(
     rt: &R,
     alloc: Global,
     script: &Script,
