@@ -12,7 +12,7 @@ ghost use denote.Param.Send.{IsSync};
 use crate::work::Work;
 use co_object::{CallOp, LockUse, PlainOp, Reply, Spec};
 use co_sbt::{NoMemory, Sbt, Seq};
-use co_service::{Fresh, Made, Name, Passes, Service};
+use co_service::{Fresh, Name, Passes, Service, Told};
 use std::alloc::Global;
 use std::marker::Brand;
 use std::sync::Wait;
@@ -57,7 +57,7 @@ fn ask<N: Name, R: Wait>(
     act: u64,
     i: u32,
     op: PlainOp,
-) -> Made
+) -> Reply
     requires team { IsTeam work.now service.now }
     requires passes { AreOf N.name service.now passes.old }
     requires callout { i < work.now.threads * 16 }
@@ -65,7 +65,9 @@ fn ask<N: Name, R: Wait>(
     ensures { AreOf N.name service.now passes.new }
 {
     let _ = work;
-    service.call(rt, passes, act, i, &CallOp::Plain(op), None)
+    let mut told = Told::none();
+    service.call_into(rt, passes, act, i, &CallOp::Plain(op), None, &mut told);
+    told.reply()
 }
 
 /// A thread's calls: its callouts are reset at its place and stopped, in turn. The answer is how many stops took an arming
@@ -94,8 +96,8 @@ fn hammer<N: Name, R: Wait>(
             cpu: Some(cpu),
         };
         ask(rt, service, work, &mut passes, call, i, reset);
-        let made = ask(rt, service, work, &mut passes, call, i, PlainOp::Stop);
-        if matches!(made.reply, Reply::Stopped { code: 1, .. }) {
+        let reply = ask(rt, service, work, &mut passes, call, i, PlainOp::Stop);
+        if matches!(reply, Reply::Stopped { code: 1, .. }) {
             taken = taken.saturating_add(1);
         }
     }

@@ -37,18 +37,18 @@ use Rattle.co_wheel.specs.Turns.{free_of}
 use Rattle.co_service.specs.declared.params.Params.{Params}
 use Rattle.co_service.specs.Params.{directs, spec_at}
 use Rattle.co_service.specs.Books.{BooksView, entries_in, entries_at, with_history}
-use Rattle.co_service.specs.Call.{Target, notes_in, target_in}
+use Rattle.co_service.specs.Call.{Target, target_in}
+use Rattle.co_service.specs.Ends.{IsFinished, told_end}
 use Rattle.co_service.specs.Desk.{IsDesk, Owes, alone_after, is_scan, scans_in}
 use Rattle.co_service.specs.May.{MayHappen, queue_of}
-use Rattle.co_service.specs.Moving.{MayDepart, departed, moving_from, target_of, IsOfService}
-use Rattle.co_service.specs.Services.{IsEndedBut, next_due, next_number, next_target, run_entry, target_of_next}
-use Rattle.co_service.specs.Outcomes.{IsTurn, turn}
+use Rattle.co_service.specs.Moving.{MayDepart, MovingView, departed, moving_from, target_of, IsOfService}
+use Rattle.co_service.specs.Services.{next_due, next_number, next_target, run_entry, target_of_next}
+use Rattle.co_service.specs.Outcomes.{turn}
 use Rattle.co_service.specs.Serving.{Runs}
 use Rattle.co_service.specs.Views.{PassesView}
 use Rattle.co_service.specs.Writes.{WritesCpu, WritesTimer}
 use Rattle.co_service.proofs.CalledDesk.{alone_then}
 use Rattle.co_service.proofs.DeskKept.{owes_next, owes_turns, frees_no_scan, scans_same, with_turn}
-use Rattle.co_service.proofs.Noting.{cpu_noted, one_note, timer_noted}
 use Rattle.co_service.proofs.Departing.{Goes, IsLeaving, goes_desk, goes_of_service, may_depart, target_same}
 use Rattle.co_service.proofs.ServedDesk.{IsOver, at_over, changed_so, cpu_then, here_then, is_over, moved_to, one_of, some_of}
 use Rattle.co_service.proofs.ServiceSection.{IsServed, ends, in_lane, server_is, there}
@@ -225,12 +225,17 @@ module _ (lane : Bool) (w w' : Cpu) (b : BooksView) (scans : ℕ) (p : PassesVie
         freed_target = ended_target b'' wrote_then
 
 -- what the caller is told of an end
-pub ended_told : (lane : Bool) (p p' q r : PassesView) (cpu act : ℕ) (d e : Due) (reply : Reply) (leaves : Option Target) (note free : Note) (notes : List (Option Note)) (after : List Entry) (J : List QEntry) → p' ≡ p → e ≡ d → leaves ≡ next_target reply
-    → note.place ≡ at.Timer e.i → note.entry ≡ of.Timer (run_entry p' act (End e.n cpu) reply) → WritesTimer p' e.i (run_entry p' act (End e.n cpu) reply) note.pos after q
-    → (x : QEntry) → x ≡ turn p' act (free_of lane) Freed → IsTurn cpu x free → WritesCpu q cpu x free.pos J r → notes ≡ Some note ∷ Some free ∷ None ∷ [] → IsEndedBut lane p cpu act d reply leaves (notes_in notes) r
-ended_told lane p p' q r cpu act d e reply leaves note free notes after J same one goes place entry wrote x x_is is_turn wrote' notes_is =
-    subst (λ (t : PassesView × Due × List (Option Note)). IsEndedBut lane t.0 cpu act t.1 reply leaves (notes_in t.2) r) (λ k. (same k, one k, sym notes_is k)) record {
-      leaves_is = goes;
-      notes_are = λ k. (place k, entry k) ∷ (is_turn.place k, (is_turn.entry ∙ ap (λ (y : QEntry). of.Cpu y) x_is) k) ∷ [];
-      written = (q, timer_noted p' q note e.i (run_entry p' act (End e.n cpu) reply) after place entry wrote, one_note q r free (cpu_noted q r free cpu x J is_turn.place is_turn.entry wrote'));
+pub ended_told : (lane : Bool) (p p' q r : PassesView) (cpu place act : ℕ) (d e : Due) (reply : Reply) (gone : Option MovingView) (pos freed : ℕ) (after : List Entry) (J : List QEntry) → p' ≡ p → e ≡ d
+    → target_of gone ≡ next_target reply → IsOfService p'.params e.i gone → WritesTimer p' e.i (run_entry p' act (End e.n cpu) reply) pos after q
+    → (o : QOp) → o ≡ free_of lane → place ≡ cpu → q.actor ≡ p'.actor → WritesCpu q place (turn q act o Freed) freed J r → IsFinished lane p cpu act d (told_end lane cpu e.i e.n reply pos freed) gone r
+ended_told lane p p' q r cpu place act d e reply gone pos freed after J same one goes service wrote o o_is here acted wrote' =
+    subst (λ (t : PassesView × Due). IsFinished lane t.0 cpu act t.1 (told_end lane cpu e.i e.n reply pos freed) gone r) (λ k. (same k, one k)) record {
+      ended = record {
+        leaves_is = goes;
+        notes_are = refl;
+        written = (q, (after, wrote), (r, (J, subst (λ (t : ℕ × ℕ × QOp). WritesCpu q t.0 (record { actor = t.1; act = act; op = t.2; reply = Freed }) freed J r) (λ k. (here k, acted k, o_is k)) wrote'), refl));
+      };
+      callout = refl;
+      room = refl;
+      leaves = service;
     }

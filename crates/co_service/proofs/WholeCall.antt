@@ -21,9 +21,11 @@ use Rattle.co_object.specs.History.{state}
 use Rattle.co_object.specs.Queue.{Due}
 use Rattle.co_wheel.specs.Turns.{free_of}
 use Rattle.co_service.specs.Params.{spec_at}
+use Rattle.co_service.specs.declared.finished.Finished.{Finished}
 use Rattle.co_service.specs.declared.told.Inserted.{Inserted}
 use Rattle.co_service.specs.declared.told.Told.{Told}
 use Rattle.co_service.specs.Call.{IsAnswer, IsCalled, Target, call_entry, landing, noted_insert, removal_told, told_notes}
+use Rattle.co_service.specs.Ends.{finished_notes}
 use Rattle.co_service.specs.Outcomes.{noted_entry, turn}
 use Rattle.co_service.specs.Services.{AreSame, IsEnded, IsEndedBut, IsLanded, run_entry}
 use Rattle.co_service.specs.Views.{PassesView, seen_of}
@@ -111,3 +113,7 @@ pub told_landed : (actor act i : ℕ) (op : CallOp) (t : Told) (x : Inserted) �
 told_landed actor act i op t x none =
     ap (λ (o : Option Inserted). told_notes actor act i op (record t { insertion = o }) ++ noted_insert actor act i x ∷ []) none
     ∙ append_assoc (removal_told actor act i (off_of t.out.reply) t.removal) (noted_entry i (record { actor = actor; act = act; op = Call op; reply = t.out.reply }) t.entry ∷ []) (noted_insert actor act i x ∷ [])
+
+-- what the end of a service told, with the Insert of what has landed
+pub finished_landed : (actor act : ℕ) (f : Finished) (x : Inserted) (i : ℕ) → f.i ≡ i → f.insertion ≡ None → finished_notes actor act f ++ noted_insert actor act i x ∷ [] ≡ finished_notes actor act (record f { insertion = Some x })
+finished_landed actor act f x i here none = λ k. finished_notes actor act (record f { insertion = none k }) ++ noted_insert actor act (sym here k) x ∷ []

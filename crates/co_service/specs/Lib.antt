@@ -31,6 +31,8 @@ pub mod May
 pub mod Desk
 -- a callout on its way from desk to desk, by value, with its history
 pub mod Moving
+-- what the end of a service did, in few words: its notes, and what leaves
+pub mod Ends
 -- what boot makes of each place: its life, its keeper, and passes that have seen nothing
 pub mod Booted
 -- a service before its locks: a bench for each CPU; and a running one, with its desks

@@ -22,13 +22,15 @@ use Rattle.co_wheel.specs.declared.outs.NextOut.TheVariants as out
 use Rattle.co_wheel.specs.Turns.{pop_of, free_of}
 use Rattle.co_service.specs.declared.outs.Taken.{Taken}
 use Rattle.co_service.specs.declared.outs.Taken.TheVariants.{Empty, Took}
+use Rattle.co_service.specs.declared.popped.Popped.{Popped}
+use Rattle.co_service.specs.declared.popped.Popped.TheVariants as popped
 use Rattle.co_service.specs.declared.outs.Made.{Made}
 use Rattle.co_service.specs.Books.{BooksView, entries_at, is_kept}
 use Rattle.co_service.specs.declared.told.Inserted.{Inserted}
 use Rattle.co_service.specs.Call.{Target, landing, noted_insert, notes_in}
 use Rattle.co_service.specs.Desk.{scans_in}
 use Rattle.co_service.specs.May.{MayHappen}
-use Rattle.co_service.specs.Outcomes.{turn, IsTurn}
+use Rattle.co_service.specs.Outcomes.{noted_entry, noted_turn, turn, IsTurn}
 use Rattle.co_service.specs.Params.{actors_of}
 use Rattle.co_service.specs.Serving.{Service, lane_actor, picked, served_in, service_in}
 use Rattle.co_service.specs.Stories.{by, queue_by}
@@ -84,6 +86,13 @@ pub record IsTaking (direct : Bool) (p : PassesView) (cpu act i n time : ℕ) (r
 abbrev pub IsTaken : Bool → PassesView → (cpu act : ℕ) → Taken → PassesView → Type 0
 IsTaken direct p cpu act (Empty note) q = IsNothing direct p cpu act note q
 IsTaken direct p cpu act (Took i n time reply pop pick) q = IsTaking direct p cpu act i n time reply pop pick q
+
+-- what was popped, with its notes
+abbrev pub taken_of : Bool → (actor act cpu : ℕ) → Popped → Taken
+taken_of direct actor act cpu (popped.Empty pop) = Empty (noted_turn actor act cpu (pop_of direct) Nothing pop)
+taken_of direct actor act cpu (popped.Took i n time reply pop pick) =
+    Took i n time reply (noted_turn actor act cpu (pop_of direct) (Got i n time) pop)
+    (noted_entry i (record { actor = actor; act = act; op = Run (Pick n cpu time); reply = reply }) pick)
 
 -- at least so many Scans stand before the journal's last entry
 abbrev pub FollowsScans : ℕ → List QEntry → Type 0

@@ -1,20 +1,20 @@
 //! The end of a service, of the CPU or of its interrupt.
-ghost use Rattle.std.specs.Prelude.{◌≡◌, ◌<◌, false, true};
+ghost use Rattle.std.specs.Prelude.{◌≡◌, ◌<◌, Bool, false, true};
 ghost use Rattle.std.specs.declared.option.Option.TheVariants.{None};
 ghost use Rattle.co_object.specs.Queue.{Due};
-ghost use Rattle.co_service.specs.Call.{HasRoom, notes_in};
-ghost use Rattle.co_service.specs.Moving.{IsOfService, target_of};
-ghost use Rattle.co_service.specs.Services.{IsEnded, IsEndedBut, IsFree, IsServing};
+ghost use Rattle.co_service.specs.Call.{notes_in};
+ghost use Rattle.co_service.specs.Ends.{IsFinished, finished_notes};
+ghost use Rattle.co_service.specs.Services.{IsEnded, IsFree, IsServing};
 ghost use Rattle.co_service.specs.Serving.{Runs};
 ghost use Rattle.co_service.specs.Views.{AreOf};
 
+use crate::finished::Finished;
 use crate::moving::Moving;
-use crate::running::add_last;
 use crate::{Made, Name, Passes, Service};
 use std::sync::Wait;
 
 impl<N: Name> Service<N> {
-    /// The end of a service on its desk, of the CPU or of its interrupt where `direct`. The answer and what leaves go to their places.
+    /// The end of a service on its desk, of the CPU or of its interrupt where `direct`. What was done and what leaves go to their places.
     #[inline(always)]
     fn end_found<R: Wait>(
         &self,
@@ -23,22 +23,21 @@ impl<N: Name> Service<N> {
         cpu: u32,
         act: u64,
         direct: bool,
-        made: &mut Made,
+        told: &mut Finished,
         gone: &mut Option<Moving<N>>,
     )
         requires cpu { cpu < self.now.cpus }
         requires passes { AreOf N.name self.now passes.old }
         requires serves { (d : Due) × IsServing direct passes.old cpu d (Runs d.n) }
         requires none { gone.old ≡ None }
-        ensures ended { (d : Due) → IsServing direct passes.old cpu d (Runs d.n) → IsEndedBut direct passes.old cpu act d made.new.reply (target_of gone.new) (notes_in made.new.notes) passes.new × IsOfService passes.old.params d.i gone.new }
-        ensures room { HasRoom made.new.notes }
+        ensures { (d : Due) → IsServing direct passes.old cpu d (Runs d.n) → IsFinished direct passes.old cpu act d told.new gone.new passes.new }
     {
         for _ in rt.forever() {
             let locked = &self.desks[cpu as usize];
             let ended = locked
                 .desk
                 .lock(rt)
-                .end(&self.places, passes, cpu, act, direct, made, gone);
+                .end(&self.places, passes, cpu, act, direct, told, gone);
             if ended {
                 locked.changed.notify_all();
                 return;
@@ -47,7 +46,7 @@ impl<N: Name> Service<N> {
         unreachable!()
     }
 
-    /// The end of a service, the landing of what leaves included. The answer goes to its place.
+    /// The end of a service, the landing of what leaves included. What was done goes to its place.
     #[inline(always)]
     fn end_lane<R: Wait>(
         &self,
@@ -56,20 +55,17 @@ impl<N: Name> Service<N> {
         cpu: u32,
         act: u64,
         direct: bool,
-        made: &mut Made,
+        told: &mut Finished,
     )
         requires cpu { cpu < self.now.cpus }
         requires passes { AreOf N.name self.now passes.old }
         requires serves { (d : Due) × IsServing direct passes.old cpu d (Runs d.n) }
-        ensures { (d : Due) → IsServing direct passes.old cpu d (Runs d.n) → IsEnded direct passes.old cpu act d made.new.reply (notes_in made.new.notes) passes.new }
+        ensures { (d : Due) → IsServing direct passes.old cpu d (Runs d.n) → IsEnded direct passes.old cpu act d told.new.reply (finished_notes passes.old.actor act told.new) passes.new }
     {
         let mut leaves = None;
-        self.end_found(rt, passes, cpu, act, direct, made, &mut leaves);
+        self.end_found(rt, passes, cpu, act, direct, told, &mut leaves);
         if let Some(moving) = leaves {
-            let i = moving.callout();
-            let actor = passes.actor();
-            let last = self.land(rt, passes, act, moving);
-            add_last(made, last.note(actor, act, i));
+            told.insertion = Some(self.land(rt, passes, act, moving));
         }
     }
 
@@ -86,9 +82,10 @@ impl<N: Name> Service<N> {
         ensures actor { passes.new.actor ≡ passes.old.actor }
         ensures free { IsFree false passes.new cpu }
     {
-        let mut made = Made::none();
-        self.end_lane(rt, passes, cpu, act, false, &mut made);
-        made
+        let actor = passes.actor();
+        let mut told = Finished::none();
+        self.end_into(rt, passes, cpu, act, false, &mut told);
+        told.answer(actor, act)
     }
 
     /// The service of the CPU's interrupt is over: the function has returned. Where an arming at another CPU waited for this end, the
@@ -104,8 +101,32 @@ impl<N: Name> Service<N> {
         ensures actor { passes.new.actor ≡ passes.old.actor }
         ensures free { IsFree true passes.new cpu }
     {
-        let mut made = Made::none();
-        self.end_lane(rt, passes, cpu, act, true, &mut made);
-        made
+        let actor = passes.actor();
+        let mut told = Finished::none();
+        self.end_into(rt, passes, cpu, act, true, &mut told);
+        told.answer(actor, act)
+    }
+
+    /// The same end, of the CPU's service or of its interrupt's where `direct`. What was done goes to its place, and no note is made of
+    /// it: for a caller that keeps none.
+    #[inline(always)]
+    pub fn end_into<R: Wait>(
+        &self,
+        rt: &R,
+        passes: &mut Passes,
+        cpu: u32,
+        act: u64,
+        direct: bool,
+        told: &mut Finished,
+    )
+        requires cpu { cpu < self.now.cpus }
+        requires passes { AreOf N.name self.now passes.old }
+        requires serves { (d : Due) × IsServing direct passes.old cpu d (Runs d.n) }
+        ensures ended { (d : Due) → IsServing direct passes.old cpu d (Runs d.n) → IsEnded direct passes.old cpu act d told.new.reply (finished_notes passes.old.actor act told.new) passes.new }
+        ensures of { AreOf N.name self.now passes.new }
+        ensures actor { passes.new.actor ≡ passes.old.actor }
+        ensures free { IsFree direct passes.new cpu }
+    {
+        self.end_lane(rt, passes, cpu, act, direct, told);
     }
 }

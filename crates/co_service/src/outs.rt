@@ -12,17 +12,6 @@ pub struct Made {
     pub notes: [Option<Note>; 3],
 }
 
-impl Made {
-    /// A place for an answer, where no call has been answered yet.
-    #[inline(always)]
-    pub(crate) fn none() -> Made {
-        Made {
-            reply: Reply::Done,
-            notes: [None, None, None],
-        }
-    }
-}
-
 /// What a scan answers.
 #[derive(Debug, Drop)]
 pub struct Scanned {

@@ -2,14 +2,15 @@
 ghost use Rattle.std.specs.Prelude.{◌≡◌, ◌≤◌, Bool, [], ◌∷◌, ◌++◌, List, IfSome, true, is_some};
 ghost use Rattle.std.specs.Option.{option_map};
 ghost use Rattle.std.specs.declared.option.Option.TheVariants.{Some, None};
+ghost use Rattle.co_object.specs.declared.op.Op.TheVariants.{Run};
 ghost use Rattle.co_object.specs.declared.note.AnyEntry.TheVariants as of;
 ghost use Rattle.co_object.specs.declared.note.Place.TheVariants as at;
 ghost use Rattle.co_service.specs.Books.{entries_at, is_kept, with_history};
-ghost use Rattle.co_service.specs.Call.{HasRoom, notes_in};
 ghost use Rattle.co_service.specs.Desk.{Owes};
 ghost use Rattle.co_service.specs.May.{MayHappen};
+ghost use Rattle.co_service.specs.Outcomes.{noted_entry};
 ghost use Rattle.co_service.specs.Params.{actors_of};
-ghost use Rattle.co_service.specs.Services.{IsTaken, MayPick, next_due, next_number, picked_histories, pop_entry, run_entry};
+ghost use Rattle.co_service.specs.Services.{IsTaken, MayPick, next_due, next_number, picked_histories, pop_entry, run_entry, taken_of};
 ghost use Rattle.co_service.specs.Serving.{lane_actor};
 ghost use Rattle.co_service.specs.Views.{journal_seen};
 ghost use Rattle.co_service.specs.Writes.{WritesTimer};
@@ -21,16 +22,62 @@ ghost use Rattle.co_wheel.specs.Service.{end_here};
 ghost use Rattle.co_wheel.specs.Turns.{free_of, pop_of};
 
 use crate::books::Books;
-use crate::desk::note_turn;
+use crate::desk::write_turn;
 use crate::places::Places;
+use crate::popped::Popped;
 use crate::seats::Lives;
-use crate::{Made, Name, Passes, Taken, TimerStory};
+use crate::{Name, Passes, TimerStory};
 use co_bucket::WheelQueue;
 use co_object::{AnyEntry, Entry, Note, Op, Place, QOp, QReply, Reply, RunOp};
 use co_sbt::Sbt;
 use co_wheel::{EndOut, NextOut, Wheel};
 
-/// The entry of a service's operation.
+/// The entry of a service's operation. It gives its position.
+#[inline(always)]
+pub(crate) fn enter_run<N: Name>(
+    books: &mut Books<N>,
+    lives: &Lives<TimerStory>,
+    passes: &mut Passes,
+    act: u64,
+    i: u32,
+    op: RunOp,
+    reply: &Reply,
+) -> u64
+    requires lives { lives.now ≡ N.name.timers }
+    requires name { passes.old.name ≡ N.name }
+    requires params { books.old.params ≡ passes.old.params }
+    requires here { is_kept books.old i ≡ true }
+    requires may { MayHappen books.old i (run_entry passes.old act op reply.now) }
+    ensures books { books.new ≡ with_history books.old i (Some (entries_at books.old i ++ run_entry passes.old act op reply.now ∷ [])) }
+    ensures written { WritesTimer passes.old i (run_entry passes.old act op reply.now) result (entries_at books.old i ++ run_entry passes.old act op reply.now ∷ []) passes.new }
+{
+    let entry = Entry {
+        actor: passes.actor(),
+        act,
+        op: Op::Run(op),
+        reply: *reply,
+    };
+    books.write_timer(lives, passes, i, &entry)
+}
+
+/// The note of the entry of a service's operation.
+#[inline(always)]
+pub(crate) fn run_note(actor: u32, act: u64, i: u32, op: RunOp, reply: &Reply, pos: u64) -> Note
+    ensures { result ≡ noted_entry i (record { actor = actor; act = act; op = Run op; reply = reply.now }) pos }
+{
+    Note {
+        place: Place::Timer(i),
+        pos,
+        entry: AnyEntry::Timer(Entry {
+            actor,
+            act,
+            op: Op::Run(op),
+            reply: *reply,
+        }),
+    }
+}
+
+/// The entry of a service's operation, with its note.
 #[inline(always)]
 pub(crate) fn write_run<N: Name>(
     books: &mut Books<N>,
@@ -50,18 +97,9 @@ pub(crate) fn write_run<N: Name>(
     ensures note { (result.place ≡ at.Timer i) × (result.entry ≡ of.Timer (run_entry passes.old act op reply.now)) }
     ensures written { WritesTimer passes.old i (run_entry passes.old act op reply.now) result.pos (entries_at books.old i ++ run_entry passes.old act op reply.now ∷ []) passes.new }
 {
-    let entry = Entry {
-        actor: passes.actor(),
-        act,
-        op: Op::Run(op),
-        reply: *reply,
-    };
-    let pos = books.write_timer(lives, passes, i, &entry);
-    Note {
-        place: Place::Timer(i),
-        pos,
-        entry: AnyEntry::Timer(entry),
-    }
+    let actor = passes.actor();
+    let pos = enter_run(books, lives, passes, act, i, op, reply);
+    run_note(actor, act, i, op, reply, pos)
 }
 
 /// Up to three notes, in their order.
@@ -76,20 +114,9 @@ pub(crate) fn three(
     [first, second, third]
 }
 
-/// The last note of an answer, where it is still free.
-#[inline(always)]
-pub(crate) fn add_last(made: &mut Made, last: Note)
-    requires { HasRoom made.old.notes }
-    ensures reply { made.new.reply ≡ made.old.reply }
-    ensures notes { notes_in made.new.notes ≡ notes_in made.old.notes ++ last ∷ [] }
-{
-    let [_, _, third] = &mut made.notes;
-    *third = Some(last);
-}
-
 /// The queue's operation that takes from a lane.
 #[inline(always)]
-fn pop(direct: bool) -> QOp
+pub(crate) fn pop(direct: bool) -> QOp
     ensures { result ≡ pop_of direct }
 {
     if direct { QOp::PopDirect } else { QOp::Pop }
@@ -117,7 +144,7 @@ pub(crate) fn write_taken<N: Name>(
     act: u64,
     direct: bool,
     out: NextOut,
-) -> Taken
+) -> Popped
     requires places { places.now ≡ N.name }
     requires name { passes.old.name ≡ N.name }
     requires params { books.old.params ≡ passes.old.params }
@@ -125,23 +152,22 @@ pub(crate) fn write_taken<N: Name>(
     requires owes { (w : Cpu) × Owes (popping direct out) w books.old }
     requires may { MayPick books.old passes.old act out }
     ensures books { books.new ≡ record books.old { timers = picked_histories books.old passes.old act out; journal = books.old.journal ++ pop_entry direct passes.old act out ∷ [] } }
-    ensures told { IsTaken direct passes.old books.old.cpu act result passes.new }
+    ensures told { IsTaken direct passes.old books.old.cpu act (taken_of direct passes.old.actor act books.old.cpu result) passes.new }
     ensures seen { journal_seen passes.new books.old.cpu ≡ books.new.journal }
 {
     let op = pop(direct);
     match out {
         NextOut::Empty => {
-            let reply = QReply::Empty;
-            let note = note_turn(books, places.cpus(), passes, act, op, reply);
-            Taken::Empty { note }
+            let pop = write_turn(books, places.cpus(), passes, act, op, QReply::Empty);
+            Popped::Empty { pop }
         }
         NextOut::Took { i, n, at, reply } => {
             let got = QReply::Got { i, n, at };
-            let pop = note_turn(books, places.cpus(), passes, act, op, got);
+            let pop = write_turn(books, places.cpus(), passes, act, op, got);
             let cpu = books.cpu();
             let picks = RunOp::Pick { n, cpu, at };
-            let pick = write_run(books, places.timers(), passes, act, i, picks, &reply);
-            Taken::Took {
+            let pick = enter_run(books, places.timers(), passes, act, i, picks, &reply);
+            Popped::Took {
                 i,
                 n,
                 at,

@@ -7,12 +7,12 @@ ghost use Rattle.std.specs.Option.{option_copied};
 ghost use Rattle.co_lock.specs.Covers.{covers};
 ghost use Rattle.co_lock.specs.Service.{hold_of};
 ghost use Rattle.co_service.specs.Booted.{AreBooted};
-ghost use Rattle.co_service.specs.Call.{IsCalled, NamesCpu, notes_in};
+ghost use Rattle.co_service.specs.Call.{IsCalled, NamesCpu, notes_in, told_notes};
 ghost use Rattle.co_service.specs.Closing.{AreAll, AreEnded, AreEndedCpus, HasEach};
 ghost use Rattle.co_service.specs.Fresh.{AreNamed};
 ghost use Rattle.co_service.specs.Outcomes.{IsScan};
 ghost use Rattle.co_service.specs.Params.{AreParams, actors_of, spec_at};
-ghost use Rattle.co_service.specs.Services.{FollowsScans, HasNext, IsBegun, IsFree, IsLanded, IsServing, IsTaken};
+ghost use Rattle.co_service.specs.Services.{IsBegun, IsFree, IsLanded, IsServing};
 ghost use Rattle.co_service.specs.Serving.{Runs, Service as Progress, Waits};
 ghost use Rattle.co_service.specs.Views.{AreOf, journal_seen};
 
@@ -173,11 +173,36 @@ impl<N: Name> Service<N> {
         ensures free { (direct : Bool) (cpu : ℕ) → IsFree direct passes.old cpu → IsFree direct passes.new cpu }
         ensures serving { (direct : Bool) (cpu : ℕ) (d : Due) (far : Progress) → IsServing direct passes.old cpu d far → IsServing direct passes.new cpu d far }
     {
-        let _ = hold;
         let actor = passes.actor();
         let mut told = Told::none();
-        self.call_landed(rt, passes, act, i, op, &mut told);
+        self.call_into(rt, passes, act, i, op, hold, &mut told);
         told.answer(actor, act, i, op)
+    }
+
+    /// The same call. What it did goes to its place, and no note is made of it: for a caller that keeps none.
+    #[inline(always)]
+    pub fn call_into<R: Wait>(
+        &self,
+        rt: &R,
+        passes: &mut Passes,
+        act: u64,
+        i: u32,
+        op: &CallOp,
+        hold: Option<&Hold<'_>>,
+        told: &mut Told,
+    )
+        requires passes { AreOf N.name self.now passes.old }
+        requires callout { i < length self.now.specs }
+        requires cpu { NamesCpu self.now.cpus op.now }
+        requires covered { covers (option_copied hold) (spec_at self.now i) op.now ≡ true }
+        ensures called { IsCalled passes.old act i op.now told.new.out.reply (told_notes passes.old.actor act i op.now told.new) passes.new }
+        ensures of { AreOf N.name self.now passes.new }
+        ensures actor { passes.new.actor ≡ passes.old.actor }
+        ensures free { (direct : Bool) (cpu : ℕ) → IsFree direct passes.old cpu → IsFree direct passes.new cpu }
+        ensures serving { (direct : Bool) (cpu : ℕ) (d : Due) (far : Progress) → IsServing direct passes.old cpu d far → IsServing direct passes.new cpu d far }
+    {
+        let _ = hold;
+        self.call_landed(rt, passes, act, i, op, told);
     }
 
     /// What is due at this CPU has come due. It waits for the desk's lock.
@@ -213,77 +238,6 @@ impl<N: Name> Service<N> {
             }
         }
         unreachable!()
-    }
-
-    /// The first callout that has come due goes into service, of the CPU or of its interrupt where `direct`. It waits until the
-    /// CPU's journal has so many Scans.
-    #[inline(always)]
-    fn next_lane<R: Wait>(
-        &self,
-        rt: &R,
-        passes: &mut Passes,
-        cpu: u32,
-        act: u64,
-        scans: u64,
-        direct: bool,
-    ) -> Taken
-        requires cpu { cpu < self.now.cpus }
-        requires passes { AreOf N.name self.now passes.old }
-        requires free { IsFree direct passes.old cpu }
-        ensures taken { IsTaken direct passes.old cpu act result passes.new }
-        ensures scans { FollowsScans scans (journal_seen passes.new cpu) }
-    {
-        for _ in rt.forever() {
-            let locked = &self.desks[cpu as usize];
-            let mut desk = locked
-                .changed
-                .wait_while(rt, locked.desk.lock(rt), |desk: &mut Desk<N>| -> bool {
-                    desk.lacks(scans)
-                });
-            if let Some(out) = desk.next(&self.places, passes, cpu, act, scans, direct) {
-                return out;
-            }
-        }
-        unreachable!()
-    }
-
-    /// The first callout that has come due goes into the CPU's service. It waits until the CPU's journal has so many Scans,
-    /// which the desk counts. That they come no clause says.
-    ///
-    /// The passes are those of the CPU's actor, whose own entries have nothing in service.
-    pub fn next<R: Wait>(
-        &self,
-        rt: &R,
-        passes: &mut Passes,
-        cpu: u32,
-        act: u64,
-        scans: u64,
-    ) -> Taken
-        requires cpu { cpu < self.now.cpus }
-        requires passes { AreOf N.name self.now passes.old }
-        requires free { IsFree false passes.old cpu }
-        ensures taken { IsTaken false passes.old cpu act result passes.new }
-        ensures scans { FollowsScans scans (journal_seen passes.new cpu) }
-        ensures of { AreOf N.name self.now passes.new }
-        ensures actor { passes.new.actor ≡ passes.old.actor }
-        ensures next { HasNext false passes.new cpu result }
-    {
-        self.next_lane(rt, passes, cpu, act, scans, false)
-    }
-
-    /// The first direct callout that has come due goes into the service of the CPU's interrupt.
-    ///
-    /// The passes are those of the interrupt, whose own entries have nothing in service.
-    pub fn next_direct<R: Wait>(&self, rt: &R, passes: &mut Passes, cpu: u32, act: u64) -> Taken
-        requires cpu { cpu < self.now.cpus }
-        requires passes { AreOf N.name self.now passes.old }
-        requires free { IsFree true passes.old cpu }
-        ensures taken { IsTaken true passes.old cpu act result passes.new }
-        ensures of { AreOf N.name self.now passes.new }
-        ensures actor { passes.new.actor ≡ passes.old.actor }
-        ensures next { HasNext true passes.new cpu result }
-    {
-        self.next_lane(rt, passes, cpu, act, 0, true)
     }
 
     /// The lock of the callout that the CPU has in service is held, in the mode that its spec wants.

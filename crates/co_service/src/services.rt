@@ -6,25 +6,28 @@ ghost use Rattle.co_object.specs.declared.queue.QOp.TheVariants.{Insert};
 ghost use Rattle.co_object.specs.declared.queue.QReply.TheVariants.{At};
 ghost use Rattle.co_object.specs.Journal.{reply_of, step};
 ghost use Rattle.co_object.specs.Queue.{Due};
-ghost use Rattle.co_service.specs.Call.{HasRoom, notes_in};
 ghost use Rattle.co_service.specs.Desk.{is_entry, scans_in, services};
+ghost use Rattle.co_service.specs.Ends.{IsFinished};
 ghost use Rattle.co_service.specs.May.{queue_of};
-ghost use Rattle.co_service.specs.Moving.{IsOfService, target_of};
 ghost use Rattle.co_service.specs.Outcomes.{turn};
 ghost use Rattle.co_service.specs.Params.{directs};
-ghost use Rattle.co_service.specs.Services.{FollowsScans, IsBegun, IsEndedBut, IsFree, IsLanded, IsServing, IsTaken};
+ghost use Rattle.co_service.specs.Services.{FollowsScans, IsBegun, IsFree, IsLanded, IsServing, IsTaken, taken_of};
 ghost use Rattle.co_service.specs.Serving.{Runs, Waits};
 ghost use Rattle.co_service.specs.Views.{journal_seen};
 ghost use Rattle.co_service.specs.Writes.{WritesCpu};
 
 use crate::books::Books;
-use crate::desk::{Desk, note_turn, write_turn};
+use crate::desk::{Desk, write_turn};
+use crate::finished::Finished;
 use crate::moving::{Moving, depart};
 use crate::places::Places;
-use crate::running::{finish, free, serviced, take, three, waited, write_run, write_taken};
+use crate::popped::Popped;
+use crate::running::{
+    enter_run, finish, free, serviced, take, three, waited, write_run, write_taken,
+};
 use crate::seats::Lives;
 use crate::told::Inserted;
-use crate::{CpuStory, Made, Name, Passes, Taken};
+use crate::{CpuStory, Made, Name, Passes};
 use co_object::{QOp, QReply, RunOp};
 use co_sbt::Sbt;
 
@@ -97,13 +100,13 @@ impl<N: Name> Desk<N> {
         act: u64,
         scans: u64,
         direct: bool,
-    ) -> Option<Taken>
+    ) -> Option<Popped>
         requires places { places.now ≡ N.name }
         requires name { passes.old.name ≡ N.name }
         requires free { IsFree direct passes.old cpu }
         ensures none { IfNone result (passes.new ≡ passes.old) }
         ensures why { IfNone result ((self.old.cpu ≢ cpu) ⊎ (scans_in self.old.journal < scans)) }
-        ensures some { IfSome result (λ out. IsTaken direct passes.old cpu act out passes.new) }
+        ensures some { IfSome result (λ out. IsTaken direct passes.old cpu act (taken_of direct passes.old.actor act cpu out) passes.new) }
         ensures scans { IfSome result (λ _. FollowsScans scans (journal_seen passes.new cpu)) }
     {
         if self.books.cpu() != cpu {
@@ -149,7 +152,7 @@ impl<N: Name> Desk<N> {
         Some(Made { reply, notes })
     }
 
-    /// The service is over: of this CPU, or of its interrupt where `direct`. The answer goes to its place, and so does the callout where
+    /// The service is over: of this CPU, or of its interrupt where `direct`. What was done goes to its place, and so does the callout where
     /// it leaves for another CPU. False where the desk is of another CPU, and there alone.
     #[inline(always)]
     pub(crate) fn end(
@@ -159,7 +162,7 @@ impl<N: Name> Desk<N> {
         cpu: u32,
         act: u64,
         direct: bool,
-        made: &mut Made,
+        told: &mut Finished,
         gone: &mut Option<Moving<N>>,
     ) -> bool
         requires places { places.now ≡ N.name }
@@ -168,8 +171,7 @@ impl<N: Name> Desk<N> {
         requires none { gone.old ≡ None }
         ensures none { result ≡ false → (passes.new ≡ passes.old) × (gone.new ≡ None) }
         ensures why { result ≡ false → self.old.cpu ≢ cpu }
-        ensures some { result ≡ true → (d : Due) → IsServing direct passes.old cpu d (Runs d.n) → IsEndedBut direct passes.old cpu act d made.new.reply (target_of gone.new) (notes_in made.new.notes) passes.new × IsOfService passes.old.params d.i gone.new }
-        ensures room { result ≡ true → HasRoom made.new.notes }
+        ensures some { result ≡ true → (d : Due) → IsServing direct passes.old cpu d (Runs d.n) → IsFinished direct passes.old cpu act d told.new gone.new passes.new }
     {
         if self.books.cpu() != cpu {
             return false;
@@ -182,8 +184,8 @@ impl<N: Name> Desk<N> {
         let mut out = finish(&mut self.wheel, direct);
         let op = RunOp::End { n, cpu };
         let reply = out.reply;
-        let ends = write_run(&mut self.books, places.timers(), passes, act, i, op, &reply);
-        let frees = note_turn(
+        let entry = enter_run(&mut self.books, places.timers(), passes, act, i, op, &reply);
+        let freed = write_turn(
             &mut self.books,
             places.cpus(),
             passes,
@@ -191,11 +193,9 @@ impl<N: Name> Desk<N> {
             free(direct),
             QReply::Freed,
         );
-        let (n, due) = waited(&reply);
-        depart(&mut self.books, &mut out.leaves, n, due, gone);
-        let notes = three(Some(ends), Some(frees), None);
-        made.reply = reply;
-        made.notes = notes;
+        let (next, due) = waited(&reply);
+        depart(&mut self.books, &mut out.leaves, next, due, gone);
+        told.tell(direct, cpu, i, n, &reply, entry, freed);
         true
     }
 

@@ -25,9 +25,9 @@ pub(crate) struct Inserted {
     pub(crate) pos: u64,
 }
 
-/// What a call did, in few words: each note of it is made once, where the caller wants it.
+/// What a call did, in few words: its reply, and where its entries stand. Its notes are made of this where they are wanted.
 #[derive(Drop)]
-pub(crate) struct Told {
+pub struct Told {
     /// What the wheel answered. The reply names the queue that had an arming.
     pub(crate) out: CallOut,
     /// Where the Remove of that arming stands in the journal.
@@ -77,7 +77,7 @@ fn off(reply: &Reply) -> Option<u32>
 
 /// The note of an entry of a CPU's journal.
 #[inline(always)]
-fn turn_note(actor: u32, act: u64, cpu: u32, op: QOp, reply: QReply, pos: u64) -> Note
+pub(crate) fn turn_note(actor: u32, act: u64, cpu: u32, op: QOp, reply: QReply, pos: u64) -> Note
     ensures { result ≡ noted_turn actor act cpu op reply pos }
 {
     Note {
@@ -123,7 +123,12 @@ fn removal_note(actor: u32, act: u64, i: u32, reply: &Reply, pos: u64) -> Option
 
 /// The note of what a call put in a queue.
 #[inline(always)]
-fn insertion_note(actor: u32, act: u64, i: u32, insertion: &Option<Inserted>) -> Option<Note>
+pub(crate) fn insertion_note(
+    actor: u32,
+    act: u64,
+    i: u32,
+    insertion: &Option<Inserted>,
+) -> Option<Note>
     ensures { noted result ≡ insertion_told actor act i insertion.now }
 {
     match insertion {
@@ -150,7 +155,7 @@ impl Inserted {
 impl Told {
     /// A place for what a call did, before it has done anything.
     #[inline(always)]
-    pub(crate) fn none() -> Told {
+    pub fn none() -> Told {
         Told {
             out: CallOut::none(),
             removal: 0,
@@ -159,11 +164,20 @@ impl Told {
         }
     }
 
-    /// The answer of the call, note after note: what it took out of the queue, its entry, and what it put in.
+    /// The callout's reply.
+    #[inline(always)]
+    pub fn reply(&self) -> Reply
+        ensures { result ≡ self.now.out.reply }
+    {
+        self.out.reply
+    }
+
+    /// The answer of actor `actor`'s call in its act `act` on callout `i`, note after note: what it took out of the queue, its
+    /// entry, and what it put in.
     ///
     /// Inlined, the answer would be made in pieces, and these copied once for each caller in between.
     #[inline(never)]
-    pub(crate) fn answer(&self, actor: u32, act: u64, i: u32, op: &CallOp) -> Made
+    pub fn answer(&self, actor: u32, act: u64, i: u32, op: &CallOp) -> Made
         ensures reply { result.reply ≡ self.now.out.reply }
         ensures notes { notes_in result.notes ≡ told_notes actor act i op.now self.now }
     {

@@ -6,7 +6,7 @@ ghost use Rattle.co_single.specs.Alarms.{arg_in, count_of, made_at, waiting_of};
 use crate::SingleFresh;
 use co_object::{CallOp, PlainOp, Reply};
 use co_sbt::{NoMemory, Room, Sbt, Seq};
-use co_service::{Closing, Name, Passes, Service, Taken};
+use co_service::{Closing, Finished, Name, Passes, Popped, Service, Told};
 use std::alloc::Global;
 use std::marker::Model;
 use std::sync::Wait;
@@ -83,7 +83,9 @@ impl<N: Name> Single<N> {
             arg,
             cpu: None,
         });
-        self.service.call(rt, &mut self.passes, act, i, &op, None);
+        let mut told = Told::none();
+        self.service
+            .call_into(rt, &mut self.passes, act, i, &op, None, &mut told);
     }
 
     /// Callout `i` is not armed any more. One that had come due and was not served does not fire.
@@ -92,7 +94,9 @@ impl<N: Name> Single<N> {
         ensures { IsDisarmed self.old i self.new }
     {
         let op = CallOp::Plain(PlainOp::Stop);
-        self.service.call(rt, &mut self.passes, act, i, &op, None);
+        let mut told = Told::none();
+        self.service
+            .call_into(rt, &mut self.passes, act, i, &op, None, &mut told);
     }
 
     /// The clock shows the time `now`, in units of 2^-32 s, or where it was later stays: what is due has come due. The
@@ -109,10 +113,12 @@ impl<N: Name> Single<N> {
         ensures none { IfNone result (IsIdle self.old self.new) }
         ensures some { IfSome result (λ fired. IsFired self.old fired.i fired.arg self.new) }
     {
-        match self.service.next(rt, &mut self.passes, 0, act, 0) {
-            Taken::Empty { .. } => None,
-            Taken::Took { i, reply, .. } => {
-                self.service.end(rt, &mut self.passes, 0, act);
+        match self.service.pop(rt, &mut self.passes, 0, act, 0, false) {
+            Popped::Empty { .. } => None,
+            Popped::Took { i, reply, .. } => {
+                let mut told = Finished::none();
+                self.service
+                    .end_into(rt, &mut self.passes, 0, act, false, &mut told);
                 Some(Fired {
                     i,
                     arg: arg_of(&reply),

@@ -18,7 +18,7 @@ use crate::{Drained, Posts, Refused, TimersFresh};
 use co_lock::{ClientLocks, Held, Hold, LockKind, covers};
 use co_object::{CallOp, LockUse, PlainOp, Reply, Spec};
 use co_sbt::{NoMemory, Seq};
-use co_service::{Closing, Name, Params, Passes, Service};
+use co_service::{Closing, Name, Params, Passes, Service, Told};
 use std::alloc::Global;
 use std::marker::Model;
 use std::sync::Wait;
@@ -143,7 +143,10 @@ impl<N: Name> Timers<N> {
         ensures free { (direct : Bool) (cpu : ℕ) → IsFree direct passes.old cpu → IsFree direct passes.new cpu }
         ensures serving { (direct : Bool) (cpu : ℕ) (d : Due) (far : Progress) → IsServing direct passes.old cpu d far → IsServing direct passes.new cpu d far }
     {
-        self.service.call(rt, passes, act, i, op, hold).reply
+        let mut told = Told::none();
+        self.service
+            .call_into(rt, passes, act, i, op, hold, &mut told);
+        told.reply()
     }
 
     /// An actor's call on callout `i` under this hold, if nothing refuses it. It still has in service what it had.

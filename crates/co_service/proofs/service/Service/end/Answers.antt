@@ -1,23 +1,13 @@
-use Rattle.std.proofs.Common.{false}
-use Rattle.co_service.specs.Call.{notes_in}
-use Rattle.co_service.proofs.Lasting.{still_of}
-use Rattle.co_service.proofs.Lasts.{ended_free, ended_same}
+use Rattle.std.proofs.Common.{false, ℕ, List, sym, ap, ◌∙◌, subst}
+use Rattle.co_object.specs.declared.note.Note.{Note}
+use Rattle.co_object.specs.declared.reply.Reply.{Reply}
+use Rattle.co_service.specs.Ends.{finished_notes}
+use Rattle.co_service.specs.Services.{IsEnded}
 use Rattle.co_service.proofs.service.Service.end.Goals as goal
 
-pub returns-clause-of : goal.returns-clause-of
-returns-clause-of g c =
-    let out = c.end_lane in
-    let s = c.requires.serves in
-    still_of g.N.Name.name c.args.self.now c.args.passes.now out.new.passes (ended_same false c.args.passes.now out.new.passes c.args.cpu c.args.act s.0 out.new.made.reply (notes_in out.new.made.notes) (out.ensures s.0 s.1)) c.requires.passes
-
-pub returns-clause-actor : goal.returns-clause-actor
-returns-clause-actor g c =
-    let out = c.end_lane in
-    let s = c.requires.serves in
-    (ended_same false c.args.passes.now out.new.passes c.args.cpu c.args.act s.0 out.new.made.reply (notes_in out.new.made.notes) (out.ensures s.0 s.1)).actor
-
-pub returns-clause-free : goal.returns-clause-free
-returns-clause-free g c =
-    let out = c.end_lane in
-    let s = c.requires.serves in
-    ended_free false c.args.passes.now out.new.passes c.args.cpu c.args.act s.0 out.new.made.reply (notes_in out.new.made.notes) (out.ensures s.0 s.1) s.1
+pub returns-clause-ended : goal.returns-clause-ended
+returns-clause-ended g c = λ d is.
+    let out = c.end_into in
+    let made = c.answer.ensures in
+    subst (λ (t : Reply × List Note). IsEnded false c.args.passes.now c.args.cpu c.args.act d t.0 t.1 out.new.passes)
+    (λ k. (sym made.reply k, sym (made.notes ∙ ap (λ (a : ℕ). finished_notes a c.args.act out.new.told) c.actor-actor.ensures) k)) (out.ensures.ended d is)

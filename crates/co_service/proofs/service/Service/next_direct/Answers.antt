@@ -1,19 +1,16 @@
-use Rattle.std.proofs.Common.{true}
-use Rattle.co_service.proofs.Lasting.{still_of}
-use Rattle.co_service.proofs.Lasts.{has_next, taken_same}
+use Rattle.std.proofs.Common.{◌≡◌, true, ℕ, sym, ap, ◌∙◌, subst}
+use Rattle.co_service.specs.declared.outs.Taken.{Taken}
+use Rattle.co_service.specs.Services.{HasNext, IsTaken, taken_of}
 use Rattle.co_service.proofs.service.Service.next_direct.Goals as goal
 
-pub returns-clause-of : goal.returns-clause-of
-returns-clause-of g c =
-    let out = c.next_lane in
-    still_of g.N.Name.name c.args.self.now c.args.passes.now out.new.passes (taken_same true c.args.passes.now out.new.passes c.args.cpu c.args.act out.result out.ensures.taken) c.requires.passes
-
-pub returns-clause-actor : goal.returns-clause-actor
-returns-clause-actor g c =
-    let out = c.next_lane in
-    (taken_same true c.args.passes.now out.new.passes c.args.cpu c.args.act out.result out.ensures.taken).actor
+pub returns-clause-taken : goal.returns-clause-taken
+returns-clause-taken g c =
+    let out = c.pop-popped in
+    let told : c.answer.result ≡ taken_of true c.args.passes.now.actor c.args.act c.args.cpu out.result = c.answer.ensures ∙ ap (λ (a : ℕ). taken_of true a c.args.act c.args.cpu out.result) c.actor-actor.ensures in
+    subst (λ (t : Taken). IsTaken true c.args.passes.now c.args.cpu c.args.act t out.new.passes) (sym told) out.ensures.taken
 
 pub returns-clause-next : goal.returns-clause-next
 returns-clause-next g c =
-    let out = c.next_lane in
-    has_next true c.args.passes.now out.new.passes c.args.cpu c.args.act out.result c.requires.free out.ensures.taken
+    let out = c.pop-popped in
+    let told : c.answer.result ≡ taken_of true c.args.passes.now.actor c.args.act c.args.cpu out.result = c.answer.ensures ∙ ap (λ (a : ℕ). taken_of true a c.args.act c.args.cpu out.result) c.actor-actor.ensures in
+    subst (λ (t : Taken). HasNext true out.new.passes c.args.cpu t) (sym told) out.ensures.next

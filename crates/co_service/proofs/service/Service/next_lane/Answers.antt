@@ -1,5 +1,5 @@
 use Rattle.std.proofs.Common.{sym, ap, ◌∙◌, subst}
-use Rattle.co_service.specs.Services.{IsFree, IsTaken}
+use Rattle.co_service.specs.Services.{IsFree, IsTaken, taken_of}
 use Rattle.co_service.specs.Views.{PassesView}
 use Rattle.co_service.proofs.service.Service.next_lane.Goals as goal
 
@@ -11,7 +11,7 @@ next-requires-in-loop-clause-free g c = subst (λ (p : PassesView). IsFree c.arg
 
 pub returns-in-Some-next-clause-taken : goal.returns-in-Some-next-clause-taken
 returns-in-Some-next-clause-taken g c =
-    subst (λ (p : PassesView). IsTaken c.args.direct p c.args.cpu c.args.act c.in-Some-next.out c.next-in-loop.new.passes) c.loop.invariant c.in-Some-next.ensures.some
+    subst (λ (p : PassesView). IsTaken c.args.direct p c.args.cpu c.args.act (taken_of c.args.direct p.actor c.args.act c.args.cpu c.in-Some-next.out) c.next-in-loop.new.passes) c.loop.invariant c.in-Some-next.ensures.some
 
 pub returns-in-Some-next-clause-scans : goal.returns-in-Some-next-clause-scans
 returns-in-Some-next-clause-scans g c = c.in-Some-next.ensures.scans

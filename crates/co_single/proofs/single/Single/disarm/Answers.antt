@@ -1,5 +1,4 @@
 use Rattle.std.proofs.Common.{◌<◌, false, length, sym, subst}
-use Rattle.co_service.specs.Call.{notes_in}
 use Rattle.co_single.specs.Acts.{IsDisarmed}
 use Rattle.co_single.specs.Alarms.{count_of}
 use Rattle.co_single.proofs.Arming.{is_disarmed_now, rests_disarmed}
@@ -10,15 +9,15 @@ pub invariant_of-self : goal.invariant_of-self
 invariant_of-self g c =
     let n = length c.self.inside.service.specs in
     let p = c.self.inside.passes in
-    let q = c.call.new.passes in
-    let called = c.call.ensures.called in
-    let written = written_is n p q (notes_in c.call.result.notes) _ c.self.invariant.single called.group_is called.written in
+    let q = c.call_into.new.passes in
+    let called = c.call_into.ensures.called in
+    let written = written_is n p q _ _ c.self.invariant.single called.group_is called.written in
     let low : c.args.i < count_of p = subst (λ v. c.args.i < count_of v) (sym c.self.view_is) c.requires.callout in
     record {
-      of = c.call.ensures.of;
+      of = c.call_into.ensures.of;
       single = written.1;
-      free = c.call.ensures.free false 0 c.self.invariant.free;
-      rest = rests_disarmed n p q c.self.invariant.single written.1 c.self.invariant.rest c.args.i c.args.act called.time low c.call.result.reply written.0;
+      free = c.call_into.ensures.free false 0 c.self.invariant.free;
+      rest = rests_disarmed n p q c.self.invariant.single written.1 c.self.invariant.rest c.args.i c.args.act called.time low c.call_into.new.told.out.reply written.0;
       nothing = c.self.invariant.nothing;
       room = c.self.invariant.room;
     }
@@ -27,9 +26,9 @@ pub returns : goal.returns
 returns g c =
     let n = length c.self.inside.service.specs in
     let p = c.self.inside.passes in
-    let q = c.call.new.passes in
-    let called = c.call.ensures.called in
-    let written = written_is n p q (notes_in c.call.result.notes) _ c.self.invariant.single called.group_is called.written in
+    let q = c.call_into.new.passes in
+    let called = c.call_into.ensures.called in
+    let written = written_is n p q _ _ c.self.invariant.single called.group_is called.written in
     let low : c.args.i < count_of p = subst (λ v. c.args.i < count_of v) (sym c.self.view_is) c.requires.callout in
     subst (λ v. IsDisarmed v c.args.i q) c.self.view_is
-    (is_disarmed_now n p q c.self.invariant.single written.1 c.self.invariant.rest c.args.i c.args.act called.time low c.call.result.reply written.0)
+    (is_disarmed_now n p q c.self.invariant.single written.1 c.self.invariant.rest c.args.i c.args.act called.time low c.call_into.new.told.out.reply written.0)

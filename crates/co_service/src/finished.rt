@@ -1,0 +1,98 @@
+//! What the end of a service did, and the notes of it.
+ghost use Rattle.std.specs.Prelude.{◌≡◌};
+ghost use Rattle.std.specs.declared.option.Option.TheVariants.{None};
+ghost use Rattle.co_service.specs.Call.{notes_in};
+ghost use Rattle.co_service.specs.Ends.{finished_notes, told_end};
+
+use crate::Made;
+use crate::running::{free, run_note};
+use crate::told::{Inserted, insertion_note, turn_note};
+use co_object::{QReply, Reply, RunOp};
+
+/// What the end of a service did, in few words: the reply, and where its entries stand. Its notes are made of this where they are
+/// wanted.
+#[derive(Drop)]
+pub struct Finished {
+    /// The callout's reply.
+    pub reply: Reply,
+    /// Whether it was a service of the CPU's interrupt.
+    pub(crate) direct: bool,
+    pub(crate) cpu: u32,
+    /// The callout, and the number of the arming that was served.
+    pub(crate) i: u32,
+    pub(crate) n: u64,
+    /// Where the End stands in the callout's history.
+    pub(crate) entry: u64,
+    /// Where the Free stands in the CPU's journal.
+    pub(crate) freed: u64,
+    /// The Insert of an arming that waited for this end at another CPU.
+    pub(crate) insertion: Option<Inserted>,
+}
+
+impl Finished {
+    /// A place for what an end did, before any.
+    #[inline(always)]
+    pub fn none() -> Finished {
+        Finished {
+            reply: Reply::Done,
+            direct: false,
+            cpu: 0,
+            i: 0,
+            n: 0,
+            entry: 0,
+            freed: 0,
+            insertion: None,
+        }
+    }
+
+    /// What the end of the service of callout `i`'s arming `n` did on its desk.
+    #[inline(always)]
+    pub(crate) fn tell(
+        &mut self,
+        direct: bool,
+        cpu: u32,
+        i: u32,
+        n: u64,
+        reply: &Reply,
+        entry: u64,
+        freed: u64,
+    )
+        ensures { self.new ≡ told_end direct cpu i n reply.now entry freed }
+    {
+        self.reply = *reply;
+        self.direct = direct;
+        self.cpu = cpu;
+        self.i = i;
+        self.n = n;
+        self.entry = entry;
+        self.freed = freed;
+        self.insertion = None;
+    }
+
+    /// The answer of an end by actor `actor` in its act `act`, note after note: the End, the Free, and an Insert where the callout landed
+    /// elsewhere.
+    #[inline(never)]
+    pub fn answer(&self, actor: u32, act: u64) -> Made
+        ensures reply { result.reply ≡ self.now.reply }
+        ensures notes { notes_in result.notes ≡ finished_notes actor act self.now }
+    {
+        let op = RunOp::End {
+            n: self.n,
+            cpu: self.cpu,
+        };
+        let ends = run_note(actor, act, self.i, op, &self.reply, self.entry);
+        let frees = turn_note(
+            actor,
+            act,
+            self.cpu,
+            free(self.direct),
+            QReply::Freed,
+            self.freed,
+        );
+        let insertion = insertion_note(actor, act, self.i, &self.insertion);
+        Made {
+            reply: self.reply,
+            notes: [Some(ends), Some(frees), insertion],
+        }
+    }
+}

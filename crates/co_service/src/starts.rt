@@ -1,0 +1,109 @@
+//! The start of a service, of the CPU or of its interrupt.
+ghost use Rattle.std.specs.Prelude.{◌≡◌, ◌<◌, false, true};
+ghost use Rattle.co_service.specs.Services.{FollowsScans, HasNext, IsFree, IsTaken, taken_of};
+ghost use Rattle.co_service.specs.Views.{AreOf, journal_seen};
+
+use crate::desk::Desk;
+use crate::popped::Popped;
+use crate::{Name, Passes, Service, Taken};
+use std::sync::Wait;
+
+impl<N: Name> Service<N> {
+    /// The first callout that has come due goes into service, of the CPU or of its interrupt where `direct`. It waits until the
+    /// CPU's journal has so many Scans.
+    #[inline(always)]
+    fn next_lane<R: Wait>(
+        &self,
+        rt: &R,
+        passes: &mut Passes,
+        cpu: u32,
+        act: u64,
+        scans: u64,
+        direct: bool,
+    ) -> Popped
+        requires cpu { cpu < self.now.cpus }
+        requires passes { AreOf N.name self.now passes.old }
+        requires free { IsFree direct passes.old cpu }
+        ensures taken { IsTaken direct passes.old cpu act (taken_of direct passes.old.actor act cpu result) passes.new }
+        ensures scans { FollowsScans scans (journal_seen passes.new cpu) }
+    {
+        for _ in rt.forever() {
+            let locked = &self.desks[cpu as usize];
+            let mut desk = locked
+                .changed
+                .wait_while(rt, locked.desk.lock(rt), |desk: &mut Desk<N>| -> bool {
+                    desk.lacks(scans)
+                });
+            if let Some(out) = desk.next(&self.places, passes, cpu, act, scans, direct) {
+                return out;
+            }
+        }
+        unreachable!()
+    }
+
+    /// The first callout that has come due goes into the CPU's service. It waits until the CPU's journal has so many Scans,
+    /// which the desk counts. That they come no clause says.
+    ///
+    /// The passes are those of the CPU's actor, whose own entries have nothing in service.
+    pub fn next<R: Wait>(
+        &self,
+        rt: &R,
+        passes: &mut Passes,
+        cpu: u32,
+        act: u64,
+        scans: u64,
+    ) -> Taken
+        requires cpu { cpu < self.now.cpus }
+        requires passes { AreOf N.name self.now passes.old }
+        requires free { IsFree false passes.old cpu }
+        ensures taken { IsTaken false passes.old cpu act result passes.new }
+        ensures scans { FollowsScans scans (journal_seen passes.new cpu) }
+        ensures of { AreOf N.name self.now passes.new }
+        ensures actor { passes.new.actor ≡ passes.old.actor }
+        ensures next { HasNext false passes.new cpu result }
+    {
+        let actor = passes.actor();
+        let popped = self.pop(rt, passes, cpu, act, scans, false);
+        popped.answer(actor, act, cpu, false)
+    }
+
+    /// The first direct callout that has come due goes into the service of the CPU's interrupt.
+    ///
+    /// The passes are those of the interrupt, whose own entries have nothing in service.
+    pub fn next_direct<R: Wait>(&self, rt: &R, passes: &mut Passes, cpu: u32, act: u64) -> Taken
+        requires cpu { cpu < self.now.cpus }
+        requires passes { AreOf N.name self.now passes.old }
+        requires free { IsFree true passes.old cpu }
+        ensures taken { IsTaken true passes.old cpu act result passes.new }
+        ensures of { AreOf N.name self.now passes.new }
+        ensures actor { passes.new.actor ≡ passes.old.actor }
+        ensures next { HasNext true passes.new cpu result }
+    {
+        let actor = passes.actor();
+        let popped = self.pop(rt, passes, cpu, act, 0, true);
+        popped.answer(actor, act, cpu, true)
+    }
+
+    /// The same start, of the CPU's service or of its interrupt's where `direct`. No note is made of it: for a caller that keeps none.
+    #[inline(always)]
+    pub fn pop<R: Wait>(
+        &self,
+        rt: &R,
+        passes: &mut Passes,
+        cpu: u32,
+        act: u64,
+        scans: u64,
+        direct: bool,
+    ) -> Popped
+        requires cpu { cpu < self.now.cpus }
+        requires passes { AreOf N.name self.now passes.old }
+        requires free { IsFree direct passes.old cpu }
+        ensures taken { IsTaken direct passes.old cpu act (taken_of direct passes.old.actor act cpu result) passes.new }
+        ensures scans { FollowsScans scans (journal_seen passes.new cpu) }
+        ensures of { AreOf N.name self.now passes.new }
+        ensures actor { passes.new.actor ≡ passes.old.actor }
+        ensures next { HasNext direct passes.new cpu (taken_of direct passes.old.actor act cpu result) }
+    {
+        self.next_lane(rt, passes, cpu, act, scans, direct)
+    }
+}
