@@ -80,7 +80,7 @@ impl Finished {
             n: self.n,
             cpu: self.cpu,
         };
-        let ends = run_note(actor, act, self.i, op, &self.reply, self.entry);
+        let ends = run_note(actor, act, self.i, &op, &self.reply, self.entry);
         let frees = turn_note(
             actor,
             act,

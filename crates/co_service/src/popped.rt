@@ -58,7 +58,7 @@ impl Popped {
                 at,
                 reply,
                 pop: turn_note(actor, act, cpu, op, QReply::Got { i, n, at }, pop),
-                pick: run_note(actor, act, i, RunOp::Pick { n, cpu, at }, &reply, pick),
+                pick: run_note(actor, act, i, &RunOp::Pick { n, cpu, at }, &reply, pick),
             },
         }
     }

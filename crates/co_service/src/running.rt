@@ -40,21 +40,21 @@ pub(crate) fn enter_run<N: Name>(
     passes: &mut Passes,
     act: u64,
     i: u32,
-    op: RunOp,
+    op: &RunOp,
     reply: &Reply,
 ) -> u64
     requires lives { lives.now ≡ N.name.timers }
     requires name { passes.old.name ≡ N.name }
     requires params { books.old.params ≡ passes.old.params }
     requires here { is_kept books.old i ≡ true }
-    requires may { MayHappen books.old i (run_entry passes.old act op reply.now) }
-    ensures books { books.new ≡ with_history books.old i (Some (entries_at books.old i ++ run_entry passes.old act op reply.now ∷ [])) }
-    ensures written { WritesTimer passes.old i (run_entry passes.old act op reply.now) result (entries_at books.old i ++ run_entry passes.old act op reply.now ∷ []) passes.new }
+    requires may { MayHappen books.old i (run_entry passes.old act op.now reply.now) }
+    ensures books { books.new ≡ with_history books.old i (Some (entries_at books.old i ++ run_entry passes.old act op.now reply.now ∷ [])) }
+    ensures written { WritesTimer passes.old i (run_entry passes.old act op.now reply.now) result (entries_at books.old i ++ run_entry passes.old act op.now reply.now ∷ []) passes.new }
 {
     let entry = Entry {
         actor: passes.actor(),
         act,
-        op: Op::Run(op),
+        op: Op::Run(*op),
         reply: *reply,
     };
     books.write_timer(lives, passes, i, &entry)
@@ -62,8 +62,8 @@ pub(crate) fn enter_run<N: Name>(
 
 /// The note of the entry of a service's operation.
 #[inline(always)]
-pub(crate) fn run_note(actor: u32, act: u64, i: u32, op: RunOp, reply: &Reply, pos: u64) -> Note
-    ensures { result ≡ noted_entry i (record { actor = actor; act = act; op = Run op; reply = reply.now }) pos }
+pub(crate) fn run_note(actor: u32, act: u64, i: u32, op: &RunOp, reply: &Reply, pos: u64) -> Note
+    ensures { result ≡ noted_entry i (record { actor = actor; act = act; op = Run op.now; reply = reply.now }) pos }
 {
     Note {
         place: Place::Timer(i),
@@ -71,7 +71,7 @@ pub(crate) fn run_note(actor: u32, act: u64, i: u32, op: RunOp, reply: &Reply, p
         entry: AnyEntry::Timer(Entry {
             actor,
             act,
-            op: Op::Run(op),
+            op: Op::Run(*op),
             reply: *reply,
         }),
     }
@@ -85,17 +85,17 @@ pub(crate) fn write_run<N: Name>(
     passes: &mut Passes,
     act: u64,
     i: u32,
-    op: RunOp,
+    op: &RunOp,
     reply: &Reply,
 ) -> Note
     requires lives { lives.now ≡ N.name.timers }
     requires name { passes.old.name ≡ N.name }
     requires params { books.old.params ≡ passes.old.params }
     requires here { is_kept books.old i ≡ true }
-    requires may { MayHappen books.old i (run_entry passes.old act op reply.now) }
-    ensures books { books.new ≡ with_history books.old i (Some (entries_at books.old i ++ run_entry passes.old act op reply.now ∷ [])) }
-    ensures note { (result.place ≡ at.Timer i) × (result.entry ≡ of.Timer (run_entry passes.old act op reply.now)) }
-    ensures written { WritesTimer passes.old i (run_entry passes.old act op reply.now) result.pos (entries_at books.old i ++ run_entry passes.old act op reply.now ∷ []) passes.new }
+    requires may { MayHappen books.old i (run_entry passes.old act op.now reply.now) }
+    ensures books { books.new ≡ with_history books.old i (Some (entries_at books.old i ++ run_entry passes.old act op.now reply.now ∷ [])) }
+    ensures note { (result.place ≡ at.Timer i) × (result.entry ≡ of.Timer (run_entry passes.old act op.now reply.now)) }
+    ensures written { WritesTimer passes.old i (run_entry passes.old act op.now reply.now) result.pos (entries_at books.old i ++ run_entry passes.old act op.now reply.now ∷ []) passes.new }
 {
     let actor = passes.actor();
     let pos = enter_run(books, lives, passes, act, i, op, reply);
@@ -166,7 +166,7 @@ pub(crate) fn write_taken<N: Name>(
             let pop = write_turn(books, places.cpus(), passes, act, op, got);
             let cpu = books.cpu();
             let picks = RunOp::Pick { n, cpu, at };
-            let pick = enter_run(books, places.timers(), passes, act, i, picks, &reply);
+            let pick = enter_run(books, places.timers(), passes, act, i, &picks, &reply);
             Popped::Took {
                 i,
                 n,

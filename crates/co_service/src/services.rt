@@ -147,7 +147,15 @@ impl<N: Name> Desk<N> {
         self.books.meet_timer(places.timers(), passes, i);
         let reply = self.wheel.begin();
         let op = RunOp::Begin { n, cpu };
-        let note = write_run(&mut self.books, places.timers(), passes, act, i, op, &reply);
+        let note = write_run(
+            &mut self.books,
+            places.timers(),
+            passes,
+            act,
+            i,
+            &op,
+            &reply,
+        );
         let notes = three(Some(note), None, None);
         Some(Made { reply, notes })
     }
@@ -184,7 +192,15 @@ impl<N: Name> Desk<N> {
         let mut out = finish(&mut self.wheel, direct);
         let op = RunOp::End { n, cpu };
         let reply = out.reply;
-        let entry = enter_run(&mut self.books, places.timers(), passes, act, i, op, &reply);
+        let entry = enter_run(
+            &mut self.books,
+            places.timers(),
+            passes,
+            act,
+            i,
+            &op,
+            &reply,
+        );
         let freed = write_turn(
             &mut self.books,
             places.cpus(),

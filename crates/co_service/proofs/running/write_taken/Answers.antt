@@ -16,27 +16,27 @@ use Rattle.co_service.proofs.running.write_taken.Goals as goal
 pub returns-in-Empty-clause-told : goal.returns-in-Empty-clause-told
 returns-in-Empty-clause-told g c =
     let p = c.args.passes.now in
-    let q = c.write_turn-pop-in-Empty.new.passes in
+    let q = c.write_turn-pop.new.passes in
     record {
       popped = record { place = refl; entry = refl };
-      written = (q, (c.write_turn-pop-in-Empty.new.books.journal, subst (λ (o : QOp). WritesCpu p c.args.books.now.cpu (turn p c.args.act o Empty) c.write_turn-pop-in-Empty.result c.write_turn-pop-in-Empty.new.books.journal q) c.pop-op.ensures c.write_turn-pop-in-Empty.ensures.written), refl);
+      written = (q, (c.write_turn-pop.new.books.journal, subst (λ (o : QOp). WritesCpu p c.args.books.now.cpu (turn p c.args.act o Empty) c.write_turn-pop.result c.write_turn-pop.new.books.journal q) c.pop-op.ensures c.write_turn-pop.ensures.written), refl);
     }
 
 pub returns-in-Took-clause-told : goal.returns-in-Took-clause-told
 returns-in-Took-clause-told g c =
     let p = c.args.passes.now in
-    let q = c.write_turn-pop.new.passes in
+    let q = c.write_turn-pop-in-Took.new.passes in
     let r = c.enter_run-pick.new.passes in
-    let acted : q.actor ≡ p.actor = ap (λ (v : PassesView). v.actor) c.write_turn-pop.ensures.written.passes in
-    let cpu : c.cpu-cpu.result ≡ c.args.books.now.cpu = c.cpu-cpu.ensures ∙ ap (λ (b : BooksView). b.cpu) c.write_turn-pop.ensures.books in
-    let after = entries_at c.write_turn-pop.new.books c.in-Took.i ++ run_entry q c.args.act (Pick c.in-Took.n c.cpu-cpu.result c.in-Took.at) c.in-Took.reply ∷ [] in
+    let acted : q.actor ≡ p.actor = ap (λ (v : PassesView). v.actor) c.write_turn-pop-in-Took.ensures.written.passes in
+    let cpu : c.cpu-cpu.result ≡ c.args.books.now.cpu = c.cpu-cpu.ensures ∙ ap (λ (b : BooksView). b.cpu) c.write_turn-pop-in-Took.ensures.books in
+    let after = entries_at c.write_turn-pop-in-Took.new.books c.in-Took.i ++ run_entry q c.args.act (Pick c.in-Took.n c.cpu-cpu.result c.in-Took.at) c.in-Took.reply ∷ [] in
     record {
       popped = record { place = refl; entry = refl };
       place = refl;
       entry = refl;
       written = (
         q,
-        (c.write_turn-pop.new.books.journal, subst (λ (o : QOp). WritesCpu p c.args.books.now.cpu (turn p c.args.act o (Got c.in-Took.i c.in-Took.n c.in-Took.at)) c.write_turn-pop.result c.write_turn-pop.new.books.journal q) c.pop-op.ensures c.write_turn-pop.ensures.written),
+        (c.write_turn-pop-in-Took.new.books.journal, subst (λ (o : QOp). WritesCpu p c.args.books.now.cpu (turn p c.args.act o (Got c.in-Took.i c.in-Took.n c.in-Took.at)) c.write_turn-pop-in-Took.result c.write_turn-pop-in-Took.new.books.journal q) c.pop-op.ensures c.write_turn-pop-in-Took.ensures.written),
         (r, (after, subst (λ (t : ℕ × ℕ). WritesTimer q c.in-Took.i (record { actor = t.0; act = c.args.act; op = Run (Pick c.in-Took.n t.1 c.in-Took.at); reply = c.in-Took.reply }) c.enter_run-pick.result after r) (λ k. (acted k, cpu k)) c.enter_run-pick.ensures.written), refl),
       );
     }
@@ -45,6 +45,6 @@ pub write_turn-pop-requires-clause-actor : goal.write_turn-pop-requires-clause-a
 write_turn-pop-requires-clause-actor g c =
     subst (IsOfItsActor (actors_of c.args.books.now.params) c.args.books.now.cpu c.args.passes.now.actor) (sym c.pop-op.ensures) (lane_pops (actors_of c.args.books.now.params) c.args.books.now.cpu c.args.passes.now.actor c.args.direct c.requires.actor)
 
-pub write_turn-pop-in-Empty-requires-clause-actor : goal.write_turn-pop-in-Empty-requires-clause-actor
-write_turn-pop-in-Empty-requires-clause-actor g c =
+pub write_turn-pop-requires-in-Took-clause-actor : goal.write_turn-pop-requires-in-Took-clause-actor
+write_turn-pop-requires-in-Took-clause-actor g c =
     subst (IsOfItsActor (actors_of c.args.books.now.params) c.args.books.now.cpu c.args.passes.now.actor) (sym c.pop-op.ensures) (lane_pops (actors_of c.args.books.now.params) c.args.books.now.cpu c.args.passes.now.actor c.args.direct c.requires.actor)
