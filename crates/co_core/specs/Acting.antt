@@ -46,21 +46,21 @@ pub record HasStepped (s : Script) (a : ℕ) (action : Action) (number : ℕ) (e
 -- ---- in the middle of a step
 
 -- the engine stands for this world, with the acting actor's notes in hand
-abbrev pub HeldBy : Script → Engine → Hand → World → Type 0
-HeldBy s e hand w = StandsFor s (with_hand e.books hand) e.depot w
+abbrev pub StandsWith : Script → Engine → Hand → World → Type 0
+StandsWith s e hand w = StandsFor s (with_hand e.books hand) e.depot w
 
 -- the actor in hand may do this now, with room for a section's notes
 pub record MayAct (s : Script) (e : Engine) (hand : Hand) (action : Action) : Type 0 where
   pub script : IsScript s
   pub world : World
-  pub held : HeldBy s e hand world
+  pub held : StandsWith s e hand world
   pub due : IsDue s world hand.actor action
   pub few : e.books.made < 2 ^ 63
   pub room : 3 ≤ hand.notes.spare
 
 -- the actor in hand has done this, with so many notes
 pub record HasActed (s : Script) (action : Action) (number : ℕ) (e : Engine) (hand : Hand) (e2 : Engine) (hand2 : Hand) : Type 0 where
-  pub stands : (w : World) → HeldBy s e hand w → IsDue s w hand.actor action → HeldBy s e2 hand2 (step s w hand.actor)
+  pub stands : (w : World) → StandsWith s e hand w → IsDue s w hand.actor action → StandsWith s e2 hand2 (step s w hand.actor)
   pub actor : hand2.actor ≡ hand.actor
   pub told : e2.books.told ≡ e.books.told
   pub count : length hand2.notes.items ≡ length hand.notes.items + number

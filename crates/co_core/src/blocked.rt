@@ -41,7 +41,7 @@ impl Engine {
         requires actor { actor < length self.now.books.places }
         ensures { (w : PlainWorld) → Stands script.now self.now w → actor < actor_count script.now → result ≡ true → (step script.now w actor ≡ w) × (turn_of script.now w actor ≡ Finished) }
     {
-        has_ended(script, actor, self.books.at(actor))
+        has_ended(script, actor, self.books.place(actor))
     }
 
     /// Why the actor has to wait for a lock, if a lock is what it takes next.
@@ -49,7 +49,7 @@ impl Engine {
         requires actor { actor < length self.now.books.places }
         ensures { (w : PlainWorld) → Stands script.now self.now w → actor < actor_count script.now → is_some result ≡ true → result ≡ blocked script.now w actor }
     {
-        match takes_next(script, actor, self.books.at(actor)) {
+        match takes_next(script, actor, self.books.place(actor)) {
             Some(held) => self.lock_waits(&held),
             None => None,
         }

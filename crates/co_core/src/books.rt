@@ -77,7 +77,7 @@ const MOST: u64 = 0x8000_0000_0000_0000;
 
 impl Books {
     /// The actor's place in its program.
-    pub(crate) fn at(&self, actor: u32) -> &Cursor
+    pub(crate) fn place(&self, actor: u32) -> &Cursor
         requires { actor < length self.now.places }
         ensures { result.now ≡ place_at self.now actor }
     {
@@ -149,7 +149,7 @@ impl Books {
     fn write(&mut self, script: &Script, hand: &mut Hand, listed: bool, note: &Note)
         requires { MayNote script.now self.old hand.old }
         ensures noted { IsNoted script.now hand.old.actor listed note.now (with_hand self.old hand.old) (with_hand self.new hand.new) }
-        ensures one { HasWritten 1 self.old hand.old self.new hand.new }
+        ensures wrote { HasWritten 1 self.old hand.old self.new hand.new }
     {
         let place = &mut self.places[hand.actor as usize];
         // The checker knows the range of a number behind a reference once it is read.
@@ -174,7 +174,7 @@ impl Books {
         requires may { MayWrite script.now self.old hand.old }
         requires known { i < length script.now.timers }
         ensures written { (state : State) → (is_armed reply ≡ true → listed ≡ is_some (off state)) → Follows script.now self.old hand.old self.new hand.new (λ w. callout_answers script.now w hand.old.actor act i op (Some (state, reply))) }
-        ensures one { HasWritten 1 self.old hand.old self.new hand.new }
+        ensures wrote { HasWritten 1 self.old hand.old self.new hand.new }
     {
         let pos = self.histories[i as usize];
         self.histories[i as usize] = pos + 1;
@@ -204,7 +204,7 @@ impl Books {
         requires may { MayWrite script.now self.old hand.old }
         requires known { cpu < script.now.cpus }
         ensures written { (queue : TimerQueue) → Follows script.now self.old hand.old self.new hand.new (λ w. queue_answers script.now w hand.old.actor act cpu op (Some (queue, reply))) }
-        ensures one { HasWritten 1 self.old hand.old self.new hand.new }
+        ensures wrote { HasWritten 1 self.old hand.old self.new hand.new }
     {
         let pos = self.journals[cpu as usize];
         self.journals[cpu as usize] = pos + 1;
@@ -237,7 +237,7 @@ impl Books {
         requires known { cpu < script.now.cpus }
         ensures stays { removed ≡ false → with_hand self.new hand.new ≡ with_hand self.old hand.old }
         ensures written { (queue : TimerQueue) → removed ≡ true → Follows script.now self.old hand.old self.new hand.new (λ w. queue_answers script.now w hand.old.actor act cpu (Remove i) (Some (queue, Off))) }
-        ensures number { HasWritten result self.old hand.old self.new hand.new }
+        ensures wrote { HasWritten result self.old hand.old self.new hand.new }
         ensures few { result ≤ 1 }
     {
         if !removed {
@@ -260,7 +260,7 @@ impl Books {
         ensures stays { at ≡ None → with_hand self.new hand.new ≡ with_hand self.old hand.old }
         ensures written { (queue : TimerQueue) (parcel : ParcelOf) (t : ℕ) → at ≡ Some t → (place_at self.old hand.old.actor).parcel ≡ Some parcel →
             Follows script.now self.old hand.old self.new hand.new (λ w. queue_answers script.now w hand.old.actor parcel.act parcel.cpu (Insert parcel.i parcel.n parcel.due) (Some (queue, At t))) }
-        ensures number { HasWritten result self.old hand.old self.new hand.new }
+        ensures wrote { HasWritten result self.old hand.old self.new hand.new }
         ensures few { result ≤ 1 }
     {
         let Some(at) = at else {
@@ -284,7 +284,7 @@ impl Books {
         requires may { MayWrite script.now self.old hand.old }
         requires known { parcel.now.cpu < script.now.cpus }
         ensures written { (queue : TimerQueue) → Follows script.now self.old hand.old self.new hand.new (λ w. queue_answers script.now w hand.old.actor parcel.now.act parcel.now.cpu (Insert parcel.now.i parcel.now.n parcel.now.due) (Some (queue, At at))) }
-        ensures one { HasWritten 1 self.old hand.old self.new hand.new }
+        ensures wrote { HasWritten 1 self.old hand.old self.new hand.new }
     {
         let op = QOp::Insert {
             i: parcel.i,
@@ -298,7 +298,7 @@ impl Books {
     pub(crate) fn write_own(&mut self, script: &Script, hand: &mut Hand, act: u64, kind: OwnKind)
         requires { MayWrite script.now self.old hand.old }
         ensures written { Follows script.now self.old hand.old self.new hand.new (λ w. own_note script.now w hand.old.actor act kind) }
-        ensures one { HasWritten 1 self.old hand.old self.new hand.new }
+        ensures wrote { HasWritten 1 self.old hand.old self.new hand.new }
     {
         let actor = hand.actor;
         let pos = self.own[actor as usize];

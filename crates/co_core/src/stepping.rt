@@ -54,7 +54,7 @@ impl Engine {
         if let Some(why) = self.at_lock(script, actor) {
             return Ok(Turn::Blocked(why));
         }
-        let place = self.books.at(actor);
+        let place = self.books.place(actor);
         // The checker knows the range of a number behind a reference once it is read.
         let _task = place.task;
         let mut action = Action::Nothing;

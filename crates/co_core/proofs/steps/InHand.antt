@@ -10,7 +10,7 @@ use Rattle.co_world.specs.Step.{step}
 use Rattle.co_world.specs.World.{World}
 use Rattle.co_core.specs.declared.books.Hand.{Hand}
 use Rattle.co_core.specs.declared.engine.Engine.{Engine}
-use Rattle.co_core.specs.Acting.{HasActed, HasStepped, HeldBy, IsDue, MayAct, MayStep, Stands}
+use Rattle.co_core.specs.Acting.{HasActed, HasStepped, StandsWith, IsDue, MayAct, MayStep, Stands}
 use Rattle.co_core.specs.InHand.{IsOpened, with_hand}
 use Rattle.co_core.specs.Stands.{StandsFor}
 use Rattle.co_core.specs.Written.{Written, list_at, with_list}
@@ -30,7 +30,7 @@ module _ (s : Script) (e : Engine) (a : ℕ) (action : Action) (opened : Written
   abbrev e1 : Engine
   e1 = record { books = opened; depot = e.depot }
 
-  held_by : (w : World) → Stands s e w → HeldBy s e1 hand w
+  held_by : (w : World) → Stands s e w → StandsWith s e1 hand w
   held_by w h = subst (λ (x : Written). StandsFor s x e.depot w) (sym taken.kept) h
 
   due_of : (w : World) → IsDue s w a action → IsDue s w hand.actor action
@@ -44,7 +44,7 @@ module _ (s : Script) (e : Engine) (a : ℕ) (action : Action) (opened : Written
     same : hand2.actor ≡ a
     same = acted.actor ∙ taken.actor
 
-    done : HeldBy s e2 hand2 (step s may.world hand.actor)
+    done : StandsWith s e2 hand2 (step s may.world hand.actor)
     done = acted.stands may.world (held_by may.world may.stands) (due_of may.world may.due)
 
     pub hand_row : hand2.actor < length e2.books.lists
@@ -56,7 +56,7 @@ module _ (s : Script) (e : Engine) (a : ℕ) (action : Action) (opened : Written
     stepped closed back = record {
       stands = λ w h due.
           subst (λ (x : Written). StandsFor s x e2.depot (step s w a)) (sym back)
-          (subst (λ (b : ℕ). HeldBy s e2 hand2 (step s w b)) taken.actor (acted.stands w (held_by w h) (due_of w due)));
+          (subst (λ (b : ℕ). StandsWith s e2 hand2 (step s w b)) taken.actor (acted.stands w (held_by w h) (due_of w due)));
       told = ap (λ (x : Written). x.told) back ∙ (acted.told ∙ ap (λ (x : Written). x.told) taken.kept);
       count =
           ap length (ap (λ (x : Written). list_at x a) back ∙ put_at e2.books a hand2.actor hand2.notes.items same hand_row)

@@ -12,7 +12,7 @@ use Rattle.co_world.specs.Step.{step}
 use Rattle.co_world.specs.World.{World}
 use Rattle.co_core.specs.declared.books.Hand.{Hand}
 use Rattle.co_core.specs.declared.engine.Engine.{Engine}
-use Rattle.co_core.specs.Acting.{HasActed, HeldBy, IsDue, MayAct}
+use Rattle.co_core.specs.Acting.{HasActed, StandsWith, IsDue, MayAct}
 use Rattle.co_core.specs.InHand.{HasWritten, MayNote, MayWrite, with_hand}
 use Rattle.co_core.specs.Stands.{IsWritten, StandsFor}
 use Rattle.co_core.specs.Stored.{Stored}
@@ -98,6 +98,6 @@ may_go_on s e hand action n x2 hand2 w m h few written = record {
 
 -- a section's notes have been made, and what it did to the depot is the plain world's step
 pub acted : (s : Script) (e : Engine) (hand : Hand) (action : Action) (depot2 : Stored) (n : ℕ) (x2 : Written) (hand2 : Hand) → HasWritten n e.books hand x2 hand2 → n ≤ 3 →
-    ((w : World) → HeldBy s e hand w → IsDue s w hand.actor action → StandsFor s (with_hand x2 hand2) depot2 (step s w hand.actor)) →
+    ((w : World) → StandsWith s e hand w → IsDue s w hand.actor action → StandsFor s (with_hand x2 hand2) depot2 (step s w hand.actor)) →
     HasActed s action n e hand (record { books = x2; depot = depot2 }) hand2
 acted s e hand action depot2 n x2 hand2 h few stands = record { stands = stands; actor = h.actor; told = h.told; count = h.count; few = few }

@@ -25,8 +25,8 @@ returns-clause-noted c =
     (subst (λ (p : CursorAt). cursor_of c.args.script.now a c.advance.new.cursor ≡ advance c.args.script.now (cursor_of c.args.script.now a p) c.args.listed c.args.note.now.place c.args.note.now.entry) from (c.advance.ensures.cursor a))
     (subst (λ (p : CursorAt). Counts p c.advance.new.cursor 1) from c.advance.ensures.counted) c.push.ensures.items))
 
-pub returns-clause-one : goal.returns-clause-one
-returns-clause-one c = record {
+pub returns-clause-wrote : goal.returns-clause-wrote
+returns-clause-wrote c = record {
   actor = c.push.ensures.actor;
   told = ap (λ (x : Written). x.told) c.self.view_is;
   count = ap (λ (l : List Note). length l) c.push.ensures.items ∙ more_by_one c.args.hand.now.notes.items c.args.note.now;

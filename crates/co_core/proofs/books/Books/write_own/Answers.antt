@@ -48,6 +48,6 @@ returns-clause-written c = λ w written.
     (subst (λ (y : Written). IsNoted c.args.script.now c.args.hand.now.actor false (own_entry c.args.hand.now.actor c.args.act pos c.args.kind)
     (record (with_hand y c.args.hand.now) { own = set y.own c.args.hand.now.actor (pos + 1) }) x2) c.self.view_is c.write.ensures.noted))
 
-pub returns-clause-one : goal.returns-clause-one
-returns-clause-one c =
-    counts_from 1 c.args.self.now _ c.args.hand.now c.write.new.self c.write.new.hand (ap (λ (x : Written). x.told) c.self.view_is) (ap (λ (x : Written). x.made) c.self.view_is) c.write.ensures.one
+pub returns-clause-wrote : goal.returns-clause-wrote
+returns-clause-wrote c =
+    counts_from 1 c.args.self.now _ c.args.hand.now c.write.new.self c.write.new.hand (ap (λ (x : Written). x.told) c.self.view_is) (ap (λ (x : Written). x.made) c.self.view_is) c.write.ensures.wrote

@@ -81,6 +81,6 @@ returns-clause-written c = λ queue w written.
     (subst (λ (n : ℕ). IsNoted c.args.script.now c.args.hand.now.actor false (queue_note c.args.hand.now.actor c.args.act c.args.cpu pos c.args.op c.args.reply)
     (record (with_hand (the_view c.self.inside) c.args.hand.now) { journals = set c.self.inside.journals.items c.args.cpu (pos + 1); scans = set c.self.inside.scans.items c.args.cpu (scans + n) }) x2) c.one_scan.ensures.scans c.write.ensures.noted)))
 
-pub returns-clause-one : goal.returns-clause-one
-returns-clause-one c =
-    counts_from 1 c.args.self.now _ c.args.hand.now c.write.new.self c.write.new.hand (ap (λ (x : Written). x.told) c.self.view_is) (ap (λ (x : Written). x.made) c.self.view_is) c.write.ensures.one
+pub returns-clause-wrote : goal.returns-clause-wrote
+returns-clause-wrote c =
+    counts_from 1 c.args.self.now _ c.args.hand.now c.write.new.self c.write.new.hand (ap (λ (x : Written). x.told) c.self.view_is) (ap (λ (x : Written). x.made) c.self.view_is) c.write.ensures.wrote

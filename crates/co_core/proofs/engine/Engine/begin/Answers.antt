@@ -36,7 +36,7 @@ returns c =
     let books' : Written = with_hand c.write_callout.new.self c.write_callout.new.hand in
     let begun = c.begin-reply.ensures in
     let reply = c.begin-reply.result in
-    acted s c.args.self.now c.args.hand.now _ c.begin-reply.new.self 1 c.write_callout.new.self c.write_callout.new.hand c.write_callout.ensures.one (omega arith) (λ w held due.
+    acted s c.args.self.now c.args.hand.now _ c.begin-reply.new.self 1 c.write_callout.new.self c.write_callout.new.hand c.write_callout.ensures.wrote (omega arith) (λ w held due.
     (let none : is_armed reply ≡ false = begin_unarmed s c.requires.script books c.args.self.now.depot w held a c.args.act c.args.i c.args.n c.args.cpu due reply begun.0 begun.1 in
     subst (λ (d : Stored). StandsFor s books' d (step s w a)) (sym begun.2)
     (stands_begun s c.requires.script books c.args.self.now.depot w held a c.args.act c.args.i c.args.n c.args.cpu due reply begun.0 begun.1 books'

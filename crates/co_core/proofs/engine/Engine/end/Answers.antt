@@ -69,7 +69,7 @@ write_queue-requires-clause-may c =
     let lane : lane_of c.as_slice.result.now i ≡ (spec_at s i).direct = ap (λ (timers : List Spec). lane_of timers i) c.as_slice.ensures in
     let ended = subst (λ (direct : Bool). IsEnded direct (wheel_at c.args.self.now.depot c.args.cpu) reply out.1 out.0) lane out.2 in
     let none : is_armed reply ≡ false = end_unarmed s c.requires.script books c.args.self.now.depot m.world m.held a c.args.act i c.args.n c.args.cpu m.due reply out.1 out.0 ended in
-    may_go_on s c.args.self.now c.args.hand.now _ 1 c.write_callout.new.self c.write_callout.new.hand (callout_answers s m.world a c.args.act i (Run (End c.args.n c.args.cpu)) (Some (states_of m.world i, reply))) m c.write_callout.ensures.one (omega arith)
+    may_go_on s c.args.self.now c.args.hand.now _ 1 c.write_callout.new.self c.write_callout.new.hand (callout_answers s m.world a c.args.act i (Run (End c.args.n c.args.cpu)) (Some (states_of m.world i, reply))) m c.write_callout.ensures.wrote (omega arith)
     (c.write_callout.ensures.written (states_of m.world i) (λ e. absurd (let clash : true ≡ false = sym e ∙ none in cc)) m.world m.held.written)
 
 pub returns : goal.returns
@@ -89,9 +89,9 @@ returns c =
     let ended = subst (λ (direct : Bool). IsEnded direct (wheel_at c.args.self.now.depot cpu) reply out.1 out.0) lane out.2 in
     let written2 : (queue : TimerQueue) (v : World) → IsWritten s books1 v → IsWritten s books2 (queue_answers s v a act cpu (free_of (spec_at s i).direct) (Some (queue, Freed))) =
     subst (λ (op : QOp). (queue : TimerQueue) (v : World) → IsWritten s books1 v → IsWritten s books2 (queue_answers s v a act cpu op (Some (queue, Freed)))) op_is
-    (subst (λ (b : ℕ). (queue : TimerQueue) (v : World) → IsWritten s books1 v → IsWritten s books2 (queue_answers s v b act cpu c.free_of.result (Some (queue, Freed)))) c.write_callout.ensures.one.actor c.write_queue.ensures.written) in
+    (subst (λ (b : ℕ). (queue : TimerQueue) (v : World) → IsWritten s books1 v → IsWritten s books2 (queue_answers s v b act cpu c.free_of.result (Some (queue, Freed)))) c.write_callout.ensures.wrote.actor c.write_queue.ensures.written) in
     acted s c.args.self.now c.args.hand.now _ c.end-reply.new.self 2 c.write_queue.new.self c.write_queue.new.hand
-    (then_written 1 1 c.args.self.now.books c.args.hand.now c.write_callout.new.self c.write_callout.new.hand c.write_queue.new.self c.write_queue.new.hand c.write_callout.ensures.one c.write_queue.ensures.one) (omega arith)
+    (then_written 1 1 c.args.self.now.books c.args.hand.now c.write_callout.new.self c.write_callout.new.hand c.write_queue.new.self c.write_queue.new.hand c.write_callout.ensures.wrote c.write_queue.ensures.wrote) (omega arith)
     (λ w held due.
     (let none : is_armed reply ≡ false = end_unarmed s c.requires.script books c.args.self.now.depot w held a act i c.args.n cpu due reply out.1 out.0 ended in
     subst (λ (d : Stored). StandsFor s books2 d (step s w a)) (sym out.3)

@@ -34,6 +34,6 @@ returns c =
     let books : Written = with_hand c.args.self.now.books c.args.hand.now in
     let books' : Written = with_hand c.write_landing.new.self c.write_landing.new.hand in
     let landed = c.land-at.ensures in
-    acted s c.args.self.now c.args.hand.now _ c.land-at.new.self 1 c.write_landing.new.self c.write_landing.new.hand c.write_landing.ensures.one (omega arith) (λ w held due.
+    acted s c.args.self.now c.args.hand.now _ c.land-at.new.self 1 c.write_landing.new.self c.write_landing.new.hand c.write_landing.ensures.wrote (omega arith) (λ w held due.
     subst (λ (d : Stored). StandsFor s books' d (step s w a)) (sym landed.4)
     (stands_landed s c.requires.script books c.args.self.now.depot w held a c.args.parcel.now due landed.0 landed.1 c.land-at.result landed.2 landed.3 books' (λ queue. c.write_landing.ensures.written queue w held.written)))

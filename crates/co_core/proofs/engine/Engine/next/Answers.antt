@@ -47,7 +47,7 @@ write_callout-requires-clause-may c =
     let m = c.requires in
     let a = c.args.hand.now.actor in
     may_go_on c.args.script.now c.args.self.now c.args.hand.now _ 1 c.write_queue-in-Took.new.self c.write_queue-in-Took.new.hand
-    (queue_answers c.args.script.now m.world a c.args.act c.args.cpu c.pop_of-op.result (Some (queues_of m.world c.args.cpu, Got c.in-Took.i c.in-Took.n c.in-Took.at))) m c.write_queue-in-Took.ensures.one (omega arith)
+    (queue_answers c.args.script.now m.world a c.args.act c.args.cpu c.pop_of-op.result (Some (queues_of m.world c.args.cpu, Got c.in-Took.i c.in-Took.n c.in-Took.at))) m c.write_queue-in-Took.ensures.wrote (omega arith)
     (c.write_queue-in-Took.ensures.written (queues_of m.world c.args.cpu) m.world m.held.written)
 
 pub write_callout-requires-clause-known : goal.write_callout-requires-clause-known
@@ -65,7 +65,7 @@ returns-in-Empty c =
     let next = c.in-Empty.ensures in
     let written : (w : World) → IsWritten s books w → (queue : TimerQueue) → IsWritten s books' (queue_answers s w a c.args.act c.args.cpu (pop_of c.args.direct) (Some (queue, Empty))) =
     λ w held queue. subst (λ (o : QOp). IsWritten s books' (queue_answers s w a c.args.act c.args.cpu o (Some (queue, Empty)))) c.pop_of-op.ensures (c.write_queue.ensures.written queue w held) in
-    acted s c.args.self.now c.args.hand.now _ c.next.new.self 1 c.write_queue.new.self c.write_queue.new.hand c.write_queue.ensures.one (omega arith) (λ w held due.
+    acted s c.args.self.now c.args.hand.now _ c.next.new.self 1 c.write_queue.new.self c.write_queue.new.hand c.write_queue.ensures.wrote (omega arith) (λ w held due.
     subst (λ (d : Stored). StandsFor s books' d (step s w a)) (sym next.2)
     (stands_none s c.requires.script books c.args.self.now.depot w held a c.args.act c.args.cpu c.args.direct due next.0 next.1 books' (written w held.written)))
 
@@ -86,9 +86,9 @@ returns-in-Took c =
     let written1 : (queue : TimerQueue) (w : World) → IsWritten s books w → IsWritten s books1 (queue_answers s w a act cpu (pop_of c.args.direct) (Some (queue, Got i n at))) =
     subst (λ (o : QOp). (queue : TimerQueue) (w : World) → IsWritten s books w → IsWritten s books1 (queue_answers s w a act cpu o (Some (queue, Got i n at)))) c.pop_of-op.ensures c.write_queue-in-Took.ensures.written in
     let written2 : (state : State) → (is_armed reply ≡ true → false ≡ is_some (off state)) → (v : World) → IsWritten s books1 v → IsWritten s books2 (callout_answers s v a act i (Run (Pick n cpu at)) (Some (state, reply))) =
-    subst (λ (b : ℕ). (state : State) → (is_armed reply ≡ true → false ≡ is_some (off state)) → (v : World) → IsWritten s books1 v → IsWritten s books2 (callout_answers s v b act i (Run (Pick n cpu at)) (Some (state, reply)))) c.write_queue-in-Took.ensures.one.actor c.write_callout.ensures.written in
+    subst (λ (b : ℕ). (state : State) → (is_armed reply ≡ true → false ≡ is_some (off state)) → (v : World) → IsWritten s books1 v → IsWritten s books2 (callout_answers s v b act i (Run (Pick n cpu at)) (Some (state, reply)))) c.write_queue-in-Took.ensures.wrote.actor c.write_callout.ensures.written in
     acted s c.args.self.now c.args.hand.now _ c.next.new.self 2 c.write_callout.new.self c.write_callout.new.hand
-    (then_written 1 1 c.args.self.now.books c.args.hand.now c.write_queue-in-Took.new.self c.write_queue-in-Took.new.hand c.write_callout.new.self c.write_callout.new.hand c.write_queue-in-Took.ensures.one c.write_callout.ensures.one) (omega arith)
+    (then_written 1 1 c.args.self.now.books c.args.hand.now c.write_queue-in-Took.new.self c.write_queue-in-Took.new.hand c.write_callout.new.self c.write_callout.new.hand c.write_queue-in-Took.ensures.wrote c.write_callout.ensures.wrote) (omega arith)
     (λ w held due.
     (let none : is_armed reply ≡ false = unarmed s c.requires.script books c.args.self.now.depot w held a act cpu c.args.direct due i n at reply next.0 next.1 in
     subst (λ (d : Stored). StandsFor s books2 d (step s w a)) (sym next.2)

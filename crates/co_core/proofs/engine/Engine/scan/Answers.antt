@@ -29,6 +29,6 @@ returns c =
     let books : Written = with_hand c.args.self.now.books c.args.hand.now in
     let books' : Written = with_hand c.write_queue.new.self c.write_queue.new.hand in
     let scanned = c.scan-count.ensures in
-    acted s c.args.self.now c.args.hand.now _ c.scan-count.new.self 1 c.write_queue.new.self c.write_queue.new.hand c.write_queue.ensures.one (omega arith) (λ w held due.
+    acted s c.args.self.now c.args.hand.now _ c.scan-count.new.self 1 c.write_queue.new.self c.write_queue.new.hand c.write_queue.ensures.wrote (omega arith) (λ w held due.
     subst (λ (d : Stored). StandsFor s books' d (step s w a)) (sym scanned.2)
     (stands_scanned s c.requires.script books c.args.self.now.depot w held a c.args.act c.args.cpu c.args.now due c.scan-count.result scanned.0 scanned.1 books' (λ queue. c.write_queue.ensures.written queue w held.written)))

@@ -12,16 +12,16 @@ use Rattle.co_core.proofs.engine.Engine.step.Goals as goal
 -- the act's number is at most the number of notes, which is far below
 pub action_for-requires-clause-room : goal.action_for-requires-clause-room
 action_for-requires-clause-room c =
-    let counted : IsCounted c.at-place.result.now c.args.self.now.books.made =
-    subst (λ (p : CursorAt). IsCounted p c.args.self.now.books.made) (sym c.at-place.ensures) (c.requires.running.stands.written.counted c.args.actor c.requires.actor) in
+    let counted : IsCounted c.place-place.result.now c.args.self.now.books.made =
+    subst (λ (p : CursorAt). IsCounted p c.args.self.now.books.made) (sym c.place-place.ensures) (c.requires.running.stands.written.counted c.args.actor c.requires.actor) in
     let few : c.args.self.now.books.made < 2 ^ 63 = c.is_full.ensures c.if-is_full.false in
-    let task : c.at-place.result.now.task < 2 ^ 32 = search rules in
+    let task : c.place-place.result.now.task < 2 ^ 32 = search rules in
     omega (arith, counted, few, task)
 
 pub act-requires-clause-may : goal.act-requires-clause-may
 act-requires-clause-may c =
     let at = c.requires.running in
-    let due = due_of c.args.script.now at.script c.args.self.now.books c.args.self.now.depot at.world at.stands c.args.actor c.requires.actor c.at-place.result.now c.action_for.new.next c.at-place.ensures c.action_for.ensures.action in
+    let due = due_of c.args.script.now at.script c.args.self.now.books c.args.self.now.depot at.world at.stands c.args.actor c.requires.actor c.place-place.result.now c.action_for.new.next c.place-place.ensures c.action_for.ensures.action in
     let free = sym (c.blocked.ensures at.world at.stands) ∙ not_some c.blocked.result c.in_default-blocked.not-Some in
     record { script = at.script; world = at.world; stands = at.stands; due = record { may = c.requires.actor; due = due; free = free } }
 
@@ -32,7 +32,7 @@ returns-in_ok-count-in_default-action c =
     let acted = c.in_ok-count-in_default-action.ensures.ok in
     let due : (w : World) → Stands s c.args.self.now w → IsDue s w a _ = λ w h. record {
       may = c.requires.actor;
-      due = due_of s c.requires.running.script c.args.self.now.books c.args.self.now.depot w h a c.requires.actor c.at-place.result.now c.action_for.new.next c.at-place.ensures c.action_for.ensures.action;
+      due = due_of s c.requires.running.script c.args.self.now.books c.args.self.now.depot w h a c.requires.actor c.place-place.result.now c.action_for.new.next c.place-place.ensures c.action_for.ensures.action;
       free = sym (c.blocked.ensures w h) ∙ not_some c.blocked.result c.in_default-blocked.not-Some;
     } in
     record {
