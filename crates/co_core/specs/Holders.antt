@@ -14,13 +14,13 @@ shares k None = 0
 shares k (Some h) = if k == h.id && not h.exclusive then 1 else 0
 
 -- 1 where it is one that has lock k alone
-abbrev pub owns : ℕ → Option Held → ℕ
-owns k None = 0
-owns k (Some h) = if k == h.id && h.exclusive then 1 else 0
+abbrev pub has_alone : ℕ → Option Held → ℕ
+has_alone k None = 0
+has_alone k (Some h) = if k == h.id && h.exclusive then 1 else 0
 
 -- the actors at these places that hold lock k
 abbrev pub holders_at : List Cursor → ℕ → Holders
-holders_at places k = record { shared = sum_by (λ place. shares k place.hold) places; exclusive = sum_by (λ place. owns k place.hold) places }
+holders_at places k = record { shared = sum_by (λ place. shares k place.hold) places; exclusive = sum_by (λ place. has_alone k place.hold) places }
 
 -- the table has of each of its locks the holders among these places
 abbrev pub AreHolders : List Holders → List Cursor → Type 0

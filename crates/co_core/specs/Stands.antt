@@ -1,5 +1,5 @@
 -- What the world in code stands for: a plain world that some schedule reaches.
-use Rattle.std.specs.Prelude.{◌≡◌, ℕ, ◌^◌, ◌≤◌, ◌<◌, ◌==◌, ◌&&◌, not, Bool, true, false, List, length, drop, if◌then◌else◌}
+use Rattle.std.specs.Prelude.{◌≡◌, ℕ, ◌≤◌, ◌<◌, ◌==◌, ◌&&◌, not, Bool, List, length, drop, if◌then◌else◌}
 use Rattle.std.specs.declared.option.Option.{Option}
 use Rattle.std.specs.declared.option.Option.TheVariants.{Some, None}
 use Rattle.co_object.specs.declared.alone.Alone.{Alone}
@@ -10,22 +10,20 @@ use Rattle.co_object.specs.declared.note.Place.TheVariants.{Actor}
 use Rattle.co_program.specs.declared.script.Script.{Script}
 use Rattle.co_program.specs.Actors.{actor_count}
 use Rattle.co_program.specs.declared.cursor.Parcel.{Parcel}
-use Rattle.co_program.specs.Action.{Action, action_for, spec_at}
+use Rattle.co_program.specs.Action.{spec_at}
 use Rattle.co_program.specs.Follows.{scan_count}
 use Rattle.co_program.specs.Indexed.{IsCounted, cursor_of}
 use Rattle.co_wheel.specs.Cpu.{Cpu as WheelOf}
 use Rattle.co_wheel.specs.Parcel.{Parcel as Travelling}
 use Rattle.co_wheel.specs.Turns.{Shows}
-use Rattle.co_core.specs.declared.books.Hand.{Hand}
-use Rattle.co_core.specs.declared.engine.Engine.{Engine}
 use Rattle.co_world.specs.World.{World}
-use Rattle.co_world.specs.Blocked.{blocked, is_moving}
+use Rattle.co_world.specs.Blocked.{is_moving}
 use Rattle.co_world.specs.Step.{are_direct}
 use Rattle.co_world.specs.Laws.{IsReached}
 use Rattle.co_world.specs.Placed.{IsPlaced}
 use Rattle.co_core.specs.Stored.{Stored, bag_at, wheel_at}
 use Rattle.co_core.specs.Table.{table}
-use Rattle.co_core.specs.Written.{Written, place_at, told_at, with_list}
+use Rattle.co_core.specs.Written.{Written, place_at, told_at}
 
 -- ---- what has been written
 
@@ -50,10 +48,6 @@ pub record IsWritten (s : Script) (x : Written) (w : World) : Type 0 where
   pub few_turns : (cpu : ℕ) → length (w.cpus cpu).journal ≤ x.made
   pub few_notes : (a : ℕ) → length (w.actors a).notes ≤ x.made
   pub few_own : (a : ℕ) → length (notes_of (Actor a) (w.actors a).notes) ≤ x.made
-
--- an actor may write: the books are those of some world
-abbrev pub MayWrite : Script → Written → ℕ → Type 0
-MayWrite s x a = (w : World) × IsWritten s x w × (a < actor_count s)
 
 -- ---- where each record is
 
@@ -103,23 +97,3 @@ pub record StandsFor (s : Script) (books : Written) (depot : Stored) (w : World)
   pub stored : IsStored s depot w
   pub placed : IsPlaced s w
   pub reached : IsReached s w
-
--- ---- in the middle of a step
-
--- the same, with the acting actor's notes in hand
-abbrev pub HeldBy : Script → Engine → Hand → World → Type 0
-HeldBy s e hand w = StandsFor s (with_list e.books hand.actor hand.notes.items) e.depot w
-
--- this is what the actor does next, and nothing blocks it
-pub record IsDue (s : Script) (w : World) (a : ℕ) (action : Action) : Type 0 where
-  pub may : a < actor_count s
-  pub due : action_for s a (w.actors a).cursor ≡ action
-  pub free : blocked s w a ≡ None
-
--- the actor in hand may do this now, with room for a section's notes
-pub record MayAct (s : Script) (e : Engine) (hand : Hand) (action : Action) : Type 0 where
-  pub world : World
-  pub held : HeldBy s e hand world
-  pub due : IsDue s world hand.actor action
-  pub few : e.books.made < 2 ^ 63
-  pub room : 3 ≤ hand.notes.spare

@@ -1,5 +1,5 @@
 -- The notes of a script's walk, told as they are made.
-use Rattle.std.specs.Prelude.{◌≡◌, ℕ, ◌<◌, Bool, false, nat_lt, List, length, map}
+use Rattle.std.specs.Prelude.{◌≡◌, ℕ, ◌<◌, ◌≤◌, Bool, false, nat_lt, List, length, map}
 use Rattle.std.specs.List.{range_with_len}
 use Rattle.co_object.specs.declared.note.Note.{Note}
 use Rattle.co_object.specs.declared.note.Place.{Place}
@@ -8,10 +8,12 @@ use Rattle.co_object.specs.Lists.{notes_of}
 use Rattle.co_listener.specs.Made.{IsInOrder, Made, list_by, lists_by, made_in}
 use Rattle.co_program.specs.declared.script.Script.{Script}
 use Rattle.co_program.specs.Actors.{actor_count}
+use Rattle.co_program.specs.Scripts.{IsScript}
 use Rattle.co_core.specs.declared.engine.Engine.{Engine}
 use Rattle.co_world.specs.declared.turn.Turn.{Turn}
 use Rattle.co_world.specs.declared.turn.Turn.TheVariants.{Notes, Blocked, Finished}
-use Rattle.co_core.specs.Stands.{StandsFor}
+use Rattle.co_core.specs.Acting.{Stands}
+use Rattle.co_core.specs.Ended.{HaveEnded}
 use Rattle.co_world.specs.Walk.{IsWalk}
 use Rattle.co_world.specs.World.{World}
 use Rattle.co_core.specs.Written.{told_at}
@@ -46,8 +48,15 @@ made_by a notes = map (λ note. record { actor = a; note = note }) notes
 
 -- the engine stands for this world, and has told all its notes
 pub record HasTold (s : Script) (e : Engine) (w : World) : Type 0 where
-  pub stands : StandsFor s e.books e.depot w
+  pub stands : Stands s e w
   pub told : (a : ℕ) → a < actor_count s → told_at e.books a ≡ length (w.actors a).notes
+
+-- it has told all notes of some world of a sound script, to a listener of so many actors
+pub record MayTell (s : Script) (e : Engine) (actors : ℕ) : Type 0 where
+  pub script : IsScript s
+  pub room : actor_count s ≤ actors
+  pub world : World
+  pub told : HasTold s e world
 
 -- the listener has the notes of this world
 pub record HasNotes (s : Script) {B : Type 0} (has : B → List Made → Type 0) (book : B) (w : World) : Type 0 where
@@ -59,3 +68,7 @@ pub record HasNotes (s : Script) {B : Type 0} (has : B → List Made → Type 0)
 pub record GoesOn (s : Script) {B : Type 0} (has : B → List Made → Type 0) (e : Engine) (old new : B) (before after : World) : Type 0 where
   pub told : HasTold s e after
   pub notes : HasNotes s has old before → HasNotes s has new after
+
+-- the same from each world that it may stand for, and of the actors that are known to have finished
+abbrev pub GoesOnKnowing : (s : Script) {B : Type 0} (has : B → List Made → Type 0) (e e2 : Engine) (old new : B) (known known2 : List Bool) (after : World → World) → Type 0
+GoesOnKnowing s has e e2 old new known known2 after = (w : World) → HasTold s e w → HaveEnded s w known → GoesOn s has e2 old new w (after w) × HaveEnded s (after w) known2

@@ -1,5 +1,5 @@
 -- What has been written in a world: each actor's place and notes, and how long each history is.
-use Rattle.std.specs.Prelude.{◌≡◌, ℕ, ◌+◌, Bool, List, [], ◌∷◌, ◌++◌, get_or, length, set}
+use Rattle.std.specs.Prelude.{◌≡◌, ℕ, ◌+◌, ◌<◌, ◌^◌, Bool, List, [], ◌∷◌, ◌++◌, get_or, length, set}
 use Rattle.std.specs.declared.option.Option.TheVariants.{None}
 use Rattle.co_object.specs.declared.note.Note.{Note}
 use Rattle.co_program.specs.declared.cursor.Cursor.{Cursor as CursorAt}
@@ -42,6 +42,12 @@ with_place x a to = record x { places = set x.places a to }
 
 abbrev pub with_list : Written → ℕ → List Note → Written
 with_list x a notes = record x { lists = set x.lists a notes }
+
+-- an actor's notes may be told and let go
+pub record MayLetGo (x : Written) (a : ℕ) : Type 0 where
+  pub list : a < length x.lists
+  pub told : a < length x.told
+  pub few : told_at x a + length (list_at x a) < 2 ^ 64
 
 -- an actor's notes have been told, and are let go
 abbrev pub let_go : Written → ℕ → Written

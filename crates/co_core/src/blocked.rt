@@ -7,7 +7,8 @@ ghost use Rattle.co_program.specs.Follows.{scan_count};
 ghost use Rattle.co_program.specs.Indexed.{action_of, cursor_of, stage_of};
 ghost use Rattle.co_program.specs.Scripts.{IsScript};
 ghost use Rattle.co_world.specs.Blocked.{blocked, is_locked, is_moving, is_waiting};
-ghost use Rattle.co_core.specs.Stands.{IsWritten, StandsFor};
+ghost use Rattle.co_core.specs.Acting.{IsRunning, Stands};
+ghost use Rattle.co_core.specs.Stands.{IsWritten};
 ghost use Rattle.co_core.specs.Stored.{stand_at};
 ghost use Rattle.co_world.specs.Step.{step, turn_of};
 ghost use Rattle.co_world.specs.declared.turn.Turn.TheVariants.{Finished};
@@ -38,17 +39,17 @@ impl Engine {
     /// The actor is a client that has finished.
     pub(crate) fn has_finished(&self, script: &Script, actor: u32) -> bool
         requires actor { actor < length self.now.books.places }
-        ensures { (w : PlainWorld) → StandsFor script.now self.now.books self.now.depot w → actor < actor_count script.now → result ≡ true → (step script.now w actor ≡ w) × (turn_of script.now w actor ≡ Finished) }
+        ensures { (w : PlainWorld) → Stands script.now self.now w → actor < actor_count script.now → result ≡ true → (step script.now w actor ≡ w) × (turn_of script.now w actor ≡ Finished) }
     {
-        has_ended(script, actor, self.books.at(actor))
+        has_ended(script, actor, self.books.place(actor))
     }
 
     /// Why the actor has to wait for a lock, if a lock is what it takes next.
     pub(crate) fn at_lock(&self, script: &Script, actor: u32) -> Option<Why>
         requires actor { actor < length self.now.books.places }
-        ensures { (w : PlainWorld) → StandsFor script.now self.now.books self.now.depot w → actor < actor_count script.now → is_some result ≡ true → result ≡ blocked script.now w actor }
+        ensures { (w : PlainWorld) → Stands script.now self.now w → actor < actor_count script.now → is_some result ≡ true → result ≡ blocked script.now w actor }
     {
-        match takes_next(script, actor, self.books.at(actor)) {
+        match takes_next(script, actor, self.books.place(actor)) {
             Some(held) => self.lock_waits(&held),
             None => None,
         }
@@ -59,7 +60,7 @@ impl Engine {
     fn call_waits(&self, i: u32, stage: &Stage) -> Option<Why>
         requires stand { i < length self.now.depot.stands }
         requires wheel { stand_at self.now.depot i < length self.now.depot.wheels }
-        ensures { (s : ScriptOf) (w : PlainWorld) → IsScript s → StandsFor s self.now.books self.now.depot w → i < length s.timers →
+        ensures { (s : ScriptOf) (w : PlainWorld) → IsScript s → Stands s self.now w → i < length s.timers →
             result ≡ (if is_moving s w i then Some (Why.Moving i) else if is_waiting w i (stage_of s stage.now) then Some (Why.Serviced i) else None) }
     {
         let cpu = self.depot.stand(i);
@@ -76,7 +77,7 @@ impl Engine {
     /// The CPU at which the callout stands, or the interrupt of it, has it in service.
     fn drain_waits(&self, cpu: u32, i: u32, stage: &Stage) -> bool
         requires { cpu < length self.now.depot.wheels }
-        ensures { (s : ScriptOf) (w : PlainWorld) → IsScript s → StandsFor s self.now.books self.now.depot w → i < length s.timers → cpu ≡ stand_at self.now.depot i →
+        ensures { (s : ScriptOf) (w : PlainWorld) → IsScript s → Stands s self.now w → i < length s.timers → cpu ≡ stand_at self.now.depot i →
             result ≡ is_waiting w i (stage_of s stage.now) }
     {
         match stage {
@@ -106,12 +107,11 @@ impl Engine {
         place: &Cursor,
         action: &Action,
     ) -> Option<Why>
-        requires script { IsScript script.now }
+        requires running { IsRunning script.now self.now }
         requires actor { actor < actor_count script.now }
-        requires stands { (w : PlainWorld) × StandsFor script.now self.now.books self.now.depot w }
         requires place { place.now ≡ place_at self.now.books actor }
         requires action { action_of script.now actor place.now action.now ≡ action_for script.now actor (cursor_of script.now actor place.now) }
-        ensures { (w : PlainWorld) → StandsFor script.now self.now.books self.now.depot w → result ≡ blocked script.now w actor }
+        ensures { (w : PlainWorld) → Stands script.now self.now w → result ≡ blocked script.now w actor }
     {
         match action {
             Action::Nothing => None,

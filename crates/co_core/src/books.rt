@@ -1,8 +1,7 @@
 //! What has been written: each actor's place in its program and its notes, and how long each history is.
-ghost use Rattle.std.specs.Prelude.{◌≡◌, ℕ, ◌+◌, ◌<◌, ◌≤◌, ◌^◌, Bool, true, false, [], ◌∷◌, ◌++◌, length, is_some, IfOk, OnErr};
-ghost use Rattle.co_program.specs.declared.script.Script.{Script as ScriptOf};
+ghost use Rattle.std.specs.Prelude.{◌≡◌, ℕ, ◌+◌, ◌<◌, ◌≤◌, ◌^◌, true, false, [], ◌∷◌, ◌++◌, length, is_some, Some, IfOk, OnErr};
 ghost use Rattle.co_program.specs.Scripts.{IsScript};
-ghost use Rattle.co_program.specs.Indexed.{IsCounted, MoveCounts};
+ghost use Rattle.co_program.specs.Indexed.{MoveCounts};
 ghost use Rattle.std.specs.declared.option.Option.TheVariants.{None};
 ghost use Rattle.co_object.specs.declared.queue.QOp.TheVariants.{Insert, Remove};
 ghost use Rattle.co_object.specs.declared.queue.QReply.TheVariants.{At, Off};
@@ -12,10 +11,9 @@ ghost use Rattle.co_object.specs.Entries.{is_armed};
 ghost use Rattle.co_object.specs.Stand.{off};
 ghost use Rattle.co_object.specs.Queue.{Queue as TimerQueue};
 ghost use Rattle.co_program.specs.Follows.{one_scan};
-ghost use Rattle.co_world.specs.World.{World as PlainWorld};
-ghost use Rattle.co_core.specs.Stands.{IsWritten, MayWrite};
+ghost use Rattle.co_core.specs.InHand.{Follows, HasWritten, IsOpened, MayNote, MayWrite, with_hand};
 ghost use Rattle.co_world.specs.Step.{callout_answers, own_note, queue_answers};
-ghost use Rattle.co_core.specs.Written.{IsMoved, IsNoted, list_at, place_at, with_list};
+ghost use Rattle.co_core.specs.Written.{IsMoved, IsNoted, place_at};
 
 mod boot;
 mod holders;
@@ -79,7 +77,7 @@ const MOST: u64 = 0x8000_0000_0000_0000;
 
 impl Books {
     /// The actor's place in its program.
-    pub(crate) fn at(&self, actor: u32) -> &Cursor
+    pub(crate) fn place(&self, actor: u32) -> &Cursor
         requires { actor < length self.now.places }
         ensures { result.now ≡ place_at self.now actor }
     {
@@ -119,10 +117,7 @@ impl Books {
     /// Takes the actor's notes in hand, with room for three more. After NoMemory nothing has changed.
     pub(crate) fn open(&mut self, actor: u32) -> Result<Hand, NoMemory>
         requires { actor < length self.old.lists }
-        ensures actor { IfOk result (λ hand. hand.actor ≡ actor) }
-        ensures opened { IfOk result (λ hand. with_list self.new actor hand.notes.items ≡ self.old) }
-        ensures room { IfOk result (λ hand. 3 ≤ hand.notes.spare) }
-        ensures few { IfOk result (λ hand. self.new.made < 2 ^ 63) }
+        ensures ok { IfOk result (IsOpened self.old actor self.new) }
         ensures err { OnErr result (self.new ≡ self.old) }
     {
         if self.is_full() {
@@ -144,7 +139,7 @@ impl Books {
     /// Puts the actor's notes back.
     pub(crate) fn close(&mut self, hand: Hand)
         requires { hand.actor < length self.old.lists }
-        ensures { self.new ≡ with_list self.old hand.actor hand.notes.items }
+        ensures { self.new ≡ with_hand self.old hand }
     {
         self.lists
             .replace(hand.actor as usize, hand.notes.into_seq());
@@ -152,18 +147,9 @@ impl Books {
 
     /// The actor makes a note, and goes on in its program. `listed` is whether the callout stands in a queue now.
     fn write(&mut self, script: &Script, hand: &mut Hand, listed: bool, note: &Note)
-        requires script { IsScript script.now }
-        requires actor { hand.old.actor < length self.old.places }
-        requires list { hand.old.actor < length self.old.lists }
-        requires counted { IsCounted (place_at self.old hand.old.actor) self.old.made }
-        requires few { self.old.made < 2 ^ 63 + 3 }
-        requires room { 0 < hand.old.notes.spare }
-        ensures noted { IsNoted script.now hand.old.actor listed note.now (with_list self.old hand.old.actor hand.old.notes.items) (with_list self.new hand.old.actor hand.new.notes.items) }
-        ensures actor { hand.new.actor ≡ hand.old.actor }
-        ensures told { self.new.told ≡ self.old.told }
-        ensures spare { hand.old.notes.spare ≤ hand.new.notes.spare + 1 }
-        ensures count { length hand.new.notes.items ≡ length hand.old.notes.items + 1 }
-        ensures made { self.new.made ≡ self.old.made + 1 }
+        requires { MayNote script.now self.old hand.old }
+        ensures noted { IsNoted script.now hand.old.actor listed note.now (with_hand self.old hand.old) (with_hand self.new hand.new) }
+        ensures wrote { HasWritten 1 self.old hand.old self.new hand.new }
     {
         let place = &mut self.places[hand.actor as usize];
         // The checker knows the range of a number behind a reference once it is read.
@@ -185,18 +171,10 @@ impl Books {
         reply: Reply,
         listed: bool,
     )
-        requires script { IsScript script.now }
-        requires written { MayWrite script.now (with_list self.old hand.old.actor hand.old.notes.items) hand.old.actor }
+        requires may { MayWrite script.now self.old hand.old }
         requires known { i < length script.now.timers }
-        requires few { self.old.made < 2 ^ 63 + 3 }
-        requires room { 0 < hand.old.notes.spare }
-        ensures written { (w : PlainWorld) (state : State) → IsWritten script.now (with_list self.old hand.old.actor hand.old.notes.items) w → (is_armed reply ≡ true → listed ≡ is_some (off state)) →
-            IsWritten script.now (with_list self.new hand.old.actor hand.new.notes.items) (callout_answers script.now w hand.old.actor act i op (Some (state, reply))) }
-        ensures actor { hand.new.actor ≡ hand.old.actor }
-        ensures told { self.new.told ≡ self.old.told }
-        ensures spare { hand.old.notes.spare ≤ hand.new.notes.spare + 1 }
-        ensures count { length hand.new.notes.items ≡ length hand.old.notes.items + 1 }
-        ensures made { self.new.made ≡ self.old.made + 1 }
+        ensures written { (state : State) → (is_armed reply ≡ true → listed ≡ is_some (off state)) → Follows script.now self.old hand.old self.new hand.new (λ w. callout_answers script.now w hand.old.actor act i op (Some (state, reply))) }
+        ensures wrote { HasWritten 1 self.old hand.old self.new hand.new }
     {
         let pos = self.histories[i as usize];
         self.histories[i as usize] = pos + 1;
@@ -223,18 +201,10 @@ impl Books {
         op: QOp,
         reply: QReply,
     )
-        requires script { IsScript script.now }
-        requires written { MayWrite script.now (with_list self.old hand.old.actor hand.old.notes.items) hand.old.actor }
+        requires may { MayWrite script.now self.old hand.old }
         requires known { cpu < script.now.cpus }
-        requires few { self.old.made < 2 ^ 63 + 3 }
-        requires room { 0 < hand.old.notes.spare }
-        ensures written { (w : PlainWorld) (queue : TimerQueue) → IsWritten script.now (with_list self.old hand.old.actor hand.old.notes.items) w →
-            IsWritten script.now (with_list self.new hand.old.actor hand.new.notes.items) (queue_answers script.now w hand.old.actor act cpu op (Some (queue, reply))) }
-        ensures actor { hand.new.actor ≡ hand.old.actor }
-        ensures told { self.new.told ≡ self.old.told }
-        ensures spare { hand.old.notes.spare ≤ hand.new.notes.spare + 1 }
-        ensures count { length hand.new.notes.items ≡ length hand.old.notes.items + 1 }
-        ensures made { self.new.made ≡ self.old.made + 1 }
+        ensures written { (queue : TimerQueue) → Follows script.now self.old hand.old self.new hand.new (λ w. queue_answers script.now w hand.old.actor act cpu op (Some (queue, reply))) }
+        ensures wrote { HasWritten 1 self.old hand.old self.new hand.new }
     {
         let pos = self.journals[cpu as usize];
         self.journals[cpu as usize] = pos + 1;
@@ -263,19 +233,11 @@ impl Books {
         i: u32,
         removed: bool,
     ) -> u32
-        requires script { IsScript script.now }
-        requires written { MayWrite script.now (with_list self.old hand.old.actor hand.old.notes.items) hand.old.actor }
+        requires may { MayWrite script.now self.old hand.old }
         requires known { cpu < script.now.cpus }
-        requires few { self.old.made < 2 ^ 63 + 3 }
-        requires room { 0 < hand.old.notes.spare }
-        ensures stays { removed ≡ false → with_list self.new hand.old.actor hand.new.notes.items ≡ with_list self.old hand.old.actor hand.old.notes.items }
-        ensures written { (w : PlainWorld) (queue : TimerQueue) → removed ≡ true → IsWritten script.now (with_list self.old hand.old.actor hand.old.notes.items) w →
-            IsWritten script.now (with_list self.new hand.old.actor hand.new.notes.items) (queue_answers script.now w hand.old.actor act cpu (Remove i) (Some (queue, Off))) }
-        ensures actor { hand.new.actor ≡ hand.old.actor }
-        ensures told { self.new.told ≡ self.old.told }
-        ensures spare { hand.old.notes.spare ≤ hand.new.notes.spare + 1 }
-        ensures count { length hand.new.notes.items ≡ length hand.old.notes.items + result }
-        ensures made { self.new.made ≤ self.old.made + 1 }
+        ensures stays { removed ≡ false → with_hand self.new hand.new ≡ with_hand self.old hand.old }
+        ensures written { (queue : TimerQueue) → removed ≡ true → Follows script.now self.old hand.old self.new hand.new (λ w. queue_answers script.now w hand.old.actor act cpu (Remove i) (Some (queue, Off))) }
+        ensures wrote { HasWritten result self.old hand.old self.new hand.new }
         ensures few { result ≤ 1 }
     {
         if !removed {
@@ -293,18 +255,12 @@ impl Books {
         hand: &mut Hand,
         at: Option<Sbt>,
     ) -> u32
-        requires script { IsScript script.now }
-        requires written { MayWrite script.now (with_list self.old hand.old.actor hand.old.notes.items) hand.old.actor }
+        requires may { MayWrite script.now self.old hand.old }
         requires known { is_some at ≡ true → (parcel : ParcelOf) × ((place_at self.old hand.old.actor).parcel ≡ Some parcel) × (parcel.cpu < script.now.cpus) }
-        requires few { self.old.made < 2 ^ 63 + 3 }
-        requires room { 0 < hand.old.notes.spare }
-        ensures stays { at ≡ None → with_list self.new hand.old.actor hand.new.notes.items ≡ with_list self.old hand.old.actor hand.old.notes.items }
-        ensures written { (w : PlainWorld) (queue : TimerQueue) (parcel : ParcelOf) (t : ℕ) → at ≡ Some t → IsWritten script.now (with_list self.old hand.old.actor hand.old.notes.items) w →
-            (w.actors hand.old.actor).cursor.parcel ≡ Some parcel →
-            IsWritten script.now (with_list self.new hand.old.actor hand.new.notes.items) (queue_answers script.now w hand.old.actor parcel.act parcel.cpu (Insert parcel.i parcel.n parcel.due) (Some (queue, At t))) }
-        ensures actor { hand.new.actor ≡ hand.old.actor }
-        ensures told { self.new.told ≡ self.old.told }
-        ensures count { length hand.new.notes.items ≡ length hand.old.notes.items + result }
+        ensures stays { at ≡ None → with_hand self.new hand.new ≡ with_hand self.old hand.old }
+        ensures written { (queue : TimerQueue) (parcel : ParcelOf) (t : ℕ) → at ≡ Some t → (place_at self.old hand.old.actor).parcel ≡ Some parcel →
+            Follows script.now self.old hand.old self.new hand.new (λ w. queue_answers script.now w hand.old.actor parcel.act parcel.cpu (Insert parcel.i parcel.n parcel.due) (Some (queue, At t))) }
+        ensures wrote { HasWritten result self.old hand.old self.new hand.new }
         ensures few { result ≤ 1 }
     {
         let Some(at) = at else {
@@ -325,16 +281,10 @@ impl Books {
         parcel: &Parcel,
         at: Sbt,
     )
-        requires script { IsScript script.now }
-        requires written { MayWrite script.now (with_list self.old hand.old.actor hand.old.notes.items) hand.old.actor }
+        requires may { MayWrite script.now self.old hand.old }
         requires known { parcel.now.cpu < script.now.cpus }
-        requires few { self.old.made < 2 ^ 63 + 3 }
-        requires room { 0 < hand.old.notes.spare }
-        ensures written { (w : PlainWorld) (queue : TimerQueue) → IsWritten script.now (with_list self.old hand.old.actor hand.old.notes.items) w →
-            IsWritten script.now (with_list self.new hand.old.actor hand.new.notes.items) (queue_answers script.now w hand.old.actor parcel.now.act parcel.now.cpu (Insert parcel.now.i parcel.now.n parcel.now.due) (Some (queue, At at))) }
-        ensures actor { hand.new.actor ≡ hand.old.actor }
-        ensures told { self.new.told ≡ self.old.told }
-        ensures count { length hand.new.notes.items ≡ length hand.old.notes.items + 1 }
+        ensures written { (queue : TimerQueue) → Follows script.now self.old hand.old self.new hand.new (λ w. queue_answers script.now w hand.old.actor parcel.now.act parcel.now.cpu (Insert parcel.now.i parcel.now.n parcel.now.due) (Some (queue, At at))) }
+        ensures wrote { HasWritten 1 self.old hand.old self.new hand.new }
     {
         let op = QOp::Insert {
             i: parcel.i,
@@ -346,15 +296,9 @@ impl Books {
 
     /// An entry of the actor's own: an act that came to no callout.
     pub(crate) fn write_own(&mut self, script: &Script, hand: &mut Hand, act: u64, kind: OwnKind)
-        requires script { IsScript script.now }
-        requires written { MayWrite script.now (with_list self.old hand.old.actor hand.old.notes.items) hand.old.actor }
-        requires few { self.old.made < 2 ^ 63 + 3 }
-        requires room { 0 < hand.old.notes.spare }
-        ensures written { (w : PlainWorld) → IsWritten script.now (with_list self.old hand.old.actor hand.old.notes.items) w →
-            IsWritten script.now (with_list self.new hand.old.actor hand.new.notes.items) (own_note script.now w hand.old.actor act kind) }
-        ensures actor { hand.new.actor ≡ hand.old.actor }
-        ensures told { self.new.told ≡ self.old.told }
-        ensures count { length hand.new.notes.items ≡ length hand.old.notes.items + 1 }
+        requires { MayWrite script.now self.old hand.old }
+        ensures written { Follows script.now self.old hand.old self.new hand.new (λ w. own_note script.now w hand.old.actor act kind) }
+        ensures wrote { HasWritten 1 self.old hand.old self.new hand.new }
     {
         let actor = hand.actor;
         let pos = self.own[actor as usize];

@@ -1,13 +1,11 @@
 //! One step after another: the books and the depot of a world.
-ghost use Rattle.std.specs.Prelude.{◌≡◌, ℕ, ◌+◌, ◌<◌, ◌≤◌, length};
+ghost use Rattle.std.specs.Prelude.{◌≡◌, ◌<◌, length};
 ghost use Rattle.co_lock.specs.declared.held.Held.{Held};
 ghost use Rattle.co_program.specs.Action.{Asks, Silent, Take};
 ghost use Rattle.co_program.specs.Scripts.{IsScript};
 ghost use Rattle.co_program.specs.Indexed.{MoveCounts, cursor_of, moved};
 ghost use Rattle.co_wheel.specs.Turns.{pop_of, free_of};
-ghost use Rattle.co_world.specs.World.{World as PlainWorld};
-ghost use Rattle.co_core.specs.Stands.{HeldBy, IsDue, MayAct, StandsFor};
-ghost use Rattle.co_world.specs.Step.{step};
+ghost use Rattle.co_core.specs.Acting.{HasActed, HasStepped, MayAct};
 ghost use Rattle.co_core.specs.Written.{place_at};
 
 mod acting;
@@ -32,40 +30,24 @@ impl Engine {
         requires script { IsScript script.now }
         requires actor { actor < length self.old.books.places }
         requires counted { MoveCounts (place_at self.old.books actor) to.now }
-        ensures silent { (w : PlainWorld) → StandsFor script.now self.old.books self.old.depot w →
-            IsDue script.now w actor (Silent (moved (cursor_of script.now actor (place_at self.old.books actor)) to.now)) →
-            StandsFor script.now self.new.books self.new.depot (step script.now w actor) }
-        ensures take { (w : PlainWorld) (held : Held) → StandsFor script.now self.old.books self.old.depot w →
-            IsDue script.now w actor (Take held (moved (cursor_of script.now actor (place_at self.old.books actor)) to.now)) →
-            StandsFor script.now self.new.books self.new.depot (step script.now w actor) }
-        ensures told { self.new.books.told ≡ self.old.books.told }
-        ensures lists { self.new.books.lists ≡ self.old.books.lists }
+        ensures silent { HasStepped script.now actor (Silent (moved (cursor_of script.now actor (place_at self.old.books actor)) to.now)) 0 self.old self.new }
+        ensures take { (held : Held) → HasStepped script.now actor (Take held (moved (cursor_of script.now actor (place_at self.old.books actor)) to.now)) 0 self.old self.new }
     {
         self.books.go(script, actor, to);
     }
 
     /// An act that comes to no callout.
     fn own(&mut self, script: &Script, hand: &mut Hand, act: u64, kind: OwnKind)
-        requires script { IsScript script.now }
-        requires may { MayAct script.now self.old hand.old (Asks act (Asked.Itself kind)) }
-        ensures stands { (w : PlainWorld) → HeldBy script.now self.old hand.old w → IsDue script.now w hand.old.actor (Asks act (Asked.Itself kind)) →
-            HeldBy script.now self.new hand.new (step script.now w hand.old.actor) }
-        ensures actor { hand.new.actor ≡ hand.old.actor }
-        ensures told { self.new.books.told ≡ self.old.books.told }
-        ensures count { length hand.new.notes.items ≡ length hand.old.notes.items + 1 }
+        requires { MayAct script.now self.old hand.old (Asks act (Asked.Itself kind)) }
+        ensures { HasActed script.now (Asks act (Asked.Itself kind)) 1 self.old hand.old self.new hand.new }
     {
         self.books.write_own(script, hand, act, kind);
     }
 
     /// A covered call on a callout that stands still. The answer is how many notes it makes.
     fn call(&mut self, script: &Script, hand: &mut Hand, act: u64, i: u32, op: &CallOp) -> u32
-        requires script { IsScript script.now }
-        requires may { MayAct script.now self.old hand.old (Asks act (Asked.Callout i (Op.Call op.now))) }
-        ensures stands { (w : PlainWorld) → HeldBy script.now self.old hand.old w → IsDue script.now w hand.old.actor (Asks act (Asked.Callout i (Op.Call op.now))) →
-            HeldBy script.now self.new hand.new (step script.now w hand.old.actor) }
-        ensures actor { hand.new.actor ≡ hand.old.actor }
-        ensures told { self.new.books.told ≡ self.old.books.told }
-        ensures count { length hand.new.notes.items ≡ length hand.old.notes.items + result }
+        requires { MayAct script.now self.old hand.old (Asks act (Asked.Callout i (Op.Call op.now))) }
+        ensures { HasActed script.now (Asks act (Asked.Callout i (Op.Call op.now))) result self.old hand.old self.new hand.new }
     {
         let cpu = self.depot.stand(i);
         let mut out = CallOut::none();
@@ -81,13 +63,8 @@ impl Engine {
 
     /// A callout that was on its way comes to the CPU at which it is armed: one note.
     fn land(&mut self, script: &Script, hand: &mut Hand, parcel: &Parcel)
-        requires script { IsScript script.now }
-        requires may { MayAct script.now self.old hand.old (Asks parcel.now.act (Asked.Queue parcel.now.cpu (QOp.Insert parcel.now.i parcel.now.n parcel.now.due))) }
-        ensures stands { (w : PlainWorld) → HeldBy script.now self.old hand.old w → IsDue script.now w hand.old.actor (Asks parcel.now.act (Asked.Queue parcel.now.cpu (QOp.Insert parcel.now.i parcel.now.n parcel.now.due))) →
-            HeldBy script.now self.new hand.new (step script.now w hand.old.actor) }
-        ensures actor { hand.new.actor ≡ hand.old.actor }
-        ensures told { self.new.books.told ≡ self.old.books.told }
-        ensures count { length hand.new.notes.items ≡ length hand.old.notes.items + 1 }
+        requires { MayAct script.now self.old hand.old (Asks parcel.now.act (Asked.Queue parcel.now.cpu (QOp.Insert parcel.now.i parcel.now.n parcel.now.due))) }
+        ensures { HasActed script.now (Asks parcel.now.act (Asked.Queue parcel.now.cpu (QOp.Insert parcel.now.i parcel.now.n parcel.now.due))) 1 self.old hand.old self.new hand.new }
     {
         let at = self.depot.land(parcel.cpu, hand.actor);
         self.books.write_landing(script, hand, parcel, at);
@@ -95,13 +72,8 @@ impl Engine {
 
     /// A tick of a CPU: one note.
     fn scan(&mut self, script: &Script, hand: &mut Hand, act: u64, cpu: u32, now: Sbt)
-        requires script { IsScript script.now }
-        requires may { MayAct script.now self.old hand.old (Asks act (Asked.Queue cpu (QOp.Scan now))) }
-        ensures stands { (w : PlainWorld) → HeldBy script.now self.old hand.old w → IsDue script.now w hand.old.actor (Asks act (Asked.Queue cpu (QOp.Scan now))) →
-            HeldBy script.now self.new hand.new (step script.now w hand.old.actor) }
-        ensures actor { hand.new.actor ≡ hand.old.actor }
-        ensures told { self.new.books.told ≡ self.old.books.told }
-        ensures count { length hand.new.notes.items ≡ length hand.old.notes.items + 1 }
+        requires { MayAct script.now self.old hand.old (Asks act (Asked.Queue cpu (QOp.Scan now))) }
+        ensures { HasActed script.now (Asks act (Asked.Queue cpu (QOp.Scan now))) 1 self.old hand.old self.new hand.new }
     {
         let count = self.depot.scan(cpu, now);
         let op = QOp::Scan { now };
@@ -112,14 +84,8 @@ impl Engine {
     /// The first callout that has come due goes into service: of a CPU, or of its interrupt where `direct`. The answer is
     /// how many notes that makes.
     fn next(&mut self, script: &Script, hand: &mut Hand, act: u64, cpu: u32, direct: bool) -> u32
-        requires script { IsScript script.now }
-        requires may { MayAct script.now self.old hand.old (Asks act (Asked.Queue cpu (pop_of direct))) }
-        ensures stands { (w : PlainWorld) → HeldBy script.now self.old hand.old w → IsDue script.now w hand.old.actor (Asks act (Asked.Queue cpu (pop_of direct))) →
-            HeldBy script.now self.new hand.new (step script.now w hand.old.actor) }
-        ensures actor { hand.new.actor ≡ hand.old.actor }
-        ensures told { self.new.books.told ≡ self.old.books.told }
-        ensures count { length hand.new.notes.items ≡ length hand.old.notes.items + result }
-        ensures few { result ≤ 3 }
+        requires { MayAct script.now self.old hand.old (Asks act (Asked.Queue cpu (pop_of direct))) }
+        ensures { HasActed script.now (Asks act (Asked.Queue cpu (pop_of direct))) result self.old hand.old self.new hand.new }
     {
         let op = pop_of(direct);
         match self.depot.next(cpu, direct) {
@@ -141,13 +107,8 @@ impl Engine {
 
     /// The lock of a service is held: its function runs, or it was cancelled meanwhile. One note.
     fn begin(&mut self, script: &Script, hand: &mut Hand, act: u64, i: u32, n: u64, cpu: u32)
-        requires script { IsScript script.now }
-        requires may { MayAct script.now self.old hand.old (Asks act (Asked.Callout i (Op.Run (RunOp.Begin n cpu)))) }
-        ensures stands { (w : PlainWorld) → HeldBy script.now self.old hand.old w → IsDue script.now w hand.old.actor (Asks act (Asked.Callout i (Op.Run (RunOp.Begin n cpu)))) →
-            HeldBy script.now self.new hand.new (step script.now w hand.old.actor) }
-        ensures actor { hand.new.actor ≡ hand.old.actor }
-        ensures told { self.new.books.told ≡ self.old.books.told }
-        ensures count { length hand.new.notes.items ≡ length hand.old.notes.items + 1 }
+        requires { MayAct script.now self.old hand.old (Asks act (Asked.Callout i (Op.Run (RunOp.Begin n cpu)))) }
+        ensures { HasActed script.now (Asks act (Asked.Callout i (Op.Run (RunOp.Begin n cpu)))) 1 self.old hand.old self.new hand.new }
     {
         let reply = self.depot.begin(cpu);
         let begin = Op::Run(RunOp::Begin { n, cpu });
@@ -157,14 +118,8 @@ impl Engine {
 
     /// A service is over. Its callout leaves where it is armed for another CPU. The answer is how many notes that makes.
     fn end(&mut self, script: &Script, hand: &mut Hand, act: u64, i: u32, n: u64, cpu: u32) -> u32
-        requires script { IsScript script.now }
-        requires may { MayAct script.now self.old hand.old (Asks act (Asked.Callout i (Op.Run (RunOp.End n cpu)))) }
-        ensures stands { (w : PlainWorld) → HeldBy script.now self.old hand.old w → IsDue script.now w hand.old.actor (Asks act (Asked.Callout i (Op.Run (RunOp.End n cpu)))) →
-            HeldBy script.now self.new hand.new (step script.now w hand.old.actor) }
-        ensures actor { hand.new.actor ≡ hand.old.actor }
-        ensures told { self.new.books.told ≡ self.old.books.told }
-        ensures count { length hand.new.notes.items ≡ length hand.old.notes.items + result }
-        ensures few { result ≤ 3 }
+        requires { MayAct script.now self.old hand.old (Asks act (Asked.Callout i (Op.Run (RunOp.End n cpu)))) }
+        ensures { HasActed script.now (Asks act (Asked.Callout i (Op.Run (RunOp.End n cpu)))) result self.old hand.old self.new hand.new }
     {
         let direct = script.timers.as_slice()[i as usize].direct;
         let reply = self.depot.end(cpu, direct, hand.actor);

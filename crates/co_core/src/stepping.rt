@@ -3,7 +3,7 @@ ghost use Rattle.std.specs.Prelude.{◌≡◌, ◌<◌, OnOk, OnErr, IfOk};
 ghost use Rattle.co_object.specs.declared.note.Note.{Note};
 ghost use Rattle.co_program.specs.Actors.{actor_count};
 ghost use Rattle.co_program.specs.Scripts.{IsScript};
-ghost use Rattle.co_core.specs.Stands.{StandsFor};
+ghost use Rattle.co_core.specs.Acting.{IsRunning, Stands};
 ghost use Rattle.co_world.specs.Step.{step, turn_of};
 ghost use Rattle.co_world.specs.World.{World as PlainWorld, open_world};
 
@@ -20,7 +20,7 @@ impl Engine {
     /// Before the first step.
     pub(crate) fn boot(alloc: Global, script: &Script) -> Result<Engine, NoMemory>
         requires { IsScript script.now }
-        ensures { IfOk result (λ engine. StandsFor script.now engine.books engine.depot (open_world script.now)) }
+        ensures { IfOk result (λ engine. Stands script.now engine (open_world script.now)) }
     {
         let books = Books::boot(alloc, script)?;
         let depot = Depot::boot(alloc, script)?;
@@ -38,11 +38,10 @@ impl Engine {
     /// short beside the cost of calling them.
     #[inline(always)]
     pub(crate) fn step(&mut self, script: &Script, actor: u32) -> Result<Turn, NoMemory>
-        requires script { IsScript script.now }
+        requires running { IsRunning script.now self.old }
         requires actor { actor < actor_count script.now }
-        requires stands { (w : PlainWorld) × StandsFor script.now self.old.books self.old.depot w }
-        ensures stands { OnOk result ((w : PlainWorld) → StandsFor script.now self.old.books self.old.depot w → StandsFor script.now self.new.books self.new.depot (step script.now w actor)) }
-        ensures turn { IfOk result (λ turn. (w : PlainWorld) → StandsFor script.now self.old.books self.old.depot w → turn ≡ turn_of script.now w actor) }
+        ensures stands { OnOk result ((w : PlainWorld) → Stands script.now self.old w → Stands script.now self.new (step script.now w actor)) }
+        ensures turn { IfOk result (λ turn. (w : PlainWorld) → Stands script.now self.old w → turn ≡ turn_of script.now w actor) }
         ensures told { self.new.books.told ≡ self.old.books.told }
         ensures err { OnErr result (self.new ≡ self.old) }
     {
@@ -55,7 +54,7 @@ impl Engine {
         if let Some(why) = self.at_lock(script, actor) {
             return Ok(Turn::Blocked(why));
         }
-        let place = self.books.at(actor);
+        let place = self.books.place(actor);
         // The checker knows the range of a number behind a reference once it is read.
         let _task = place.task;
         let mut action = Action::Nothing;

@@ -5,7 +5,7 @@ ghost use Rattle.co_program.specs.Actors.{actor_count};
 ghost use Rattle.co_program.specs.Scripts.{IsScript};
 ghost use Rattle.co_core.specs.Ended.{HaveEnded};
 ghost use Rattle.co_world.specs.Step.{step, turn_of};
-ghost use Rattle.co_core.specs.Telling.{GoesOn, HasTold, IsTelling, makes_notes};
+ghost use Rattle.co_core.specs.Telling.{GoesOn, GoesOnKnowing, HasTold, IsTelling, MayTell, makes_notes};
 ghost use Rattle.co_world.specs.Walk.{AllFinished, HasFinished, IsWalk, round, rounds, run};
 ghost use Rattle.co_world.specs.World.{World as PlainWorld};
 
@@ -47,10 +47,8 @@ impl Engine {
         actor: u32,
         listener: &mut N,
     ) -> Result<Turn, NoMemory>
-        requires script { IsScript script.now }
+        requires may { MayTell script.now self.old (N.actors listener.old) }
         requires actor { actor < actor_count script.now }
-        requires room { actor_count script.now ≤ N.actors listener.old }
-        requires world { (w : PlainWorld) × HasTold script.now self.old w }
         ensures told { OnOk result ((w : PlainWorld) → HasTold script.now self.old w → GoesOn script.now N.has self.new listener.old listener.new w (step script.now w actor)) }
         ensures turn { IfOk result (λ turn. (w : PlainWorld) → HasTold script.now self.old w → turn ≡ turn_of script.now w actor) }
         ensures actors { N.actors listener.new ≡ N.actors listener.old }
@@ -68,9 +66,7 @@ impl Engine {
 
     /// The script's turns, one step each.
     fn tell_turns<N: Listener>(&mut self, script: &Script, listener: &mut N) -> Result<(), NoMemory>
-        requires script { IsScript script.now }
-        requires room { actor_count script.now ≤ N.actors listener.old }
-        requires world { (w : PlainWorld) × HasTold script.now self.old w }
+        requires { MayTell script.now self.old (N.actors listener.old) }
         ensures told { OnOk result ((w : PlainWorld) → HasTold script.now self.old w → GoesOn script.now N.has self.new listener.old listener.new w (run script.now w script.now.turns)) }
         ensures actors { N.actors listener.new ≡ N.actors listener.old }
     {
@@ -89,13 +85,10 @@ impl Engine {
         ended: &mut Ended,
         listener: &mut N,
     ) -> Result<bool, NoMemory>
-        requires script { IsScript script.now }
+        requires may { MayTell script.now self.old (N.actors listener.old) }
         requires actor { actor < actor_count script.now }
-        requires room { actor_count script.now ≤ N.actors listener.old }
-        requires world { (w : PlainWorld) × HasTold script.now self.old w }
         ensures world { OnOk result ((w : PlainWorld) × HasTold script.now self.new w) }
-        ensures told { OnOk result ((w : PlainWorld) → HasTold script.now self.old w → HaveEnded script.now w ended.old.flags →
-            GoesOn script.now N.has self.new listener.old listener.new w (step script.now w actor) × HaveEnded script.now (step script.now w actor) ended.new.flags) }
+        ensures told { OnOk result (GoesOnKnowing script.now N.has self.old self.new listener.old listener.new ended.old.flags ended.new.flags (λ w. step script.now w actor)) }
         ensures finished { IfOk result (λ finished. finished ≡ true → (w : PlainWorld) → HasTold script.now self.old w → HaveEnded script.now w ended.old.flags → HasFinished script.now w actor) }
         ensures actors { N.actors listener.new ≡ N.actors listener.old }
     {
@@ -116,12 +109,9 @@ impl Engine {
         ended: &mut Ended,
         listener: &mut N,
     ) -> Result<bool, NoMemory>
-        requires script { IsScript script.now }
-        requires room { actor_count script.now ≤ N.actors listener.old }
-        requires world { (w : PlainWorld) × HasTold script.now self.old w }
+        requires { MayTell script.now self.old (N.actors listener.old) }
         ensures world { OnOk result ((w : PlainWorld) × HasTold script.now self.new w) }
-        ensures told { OnOk result ((w : PlainWorld) → HasTold script.now self.old w → HaveEnded script.now w ended.old.flags →
-            GoesOn script.now N.has self.new listener.old listener.new w (round script.now w) × HaveEnded script.now (round script.now w) ended.new.flags) }
+        ensures told { OnOk result (GoesOnKnowing script.now N.has self.old self.new listener.old listener.new ended.old.flags ended.new.flags (round script.now)) }
         ensures finished { IfOk result (λ finished. finished ≡ true → (w : PlainWorld) → HasTold script.now self.old w → HaveEnded script.now w ended.old.flags →
             AllFinished script.now w × (round script.now w ≡ w)) }
         ensures actors { N.actors listener.new ≡ N.actors listener.old }
@@ -140,9 +130,7 @@ impl Engine {
         script: &Script,
         listener: &mut N,
     ) -> Result<(), NoMemory>
-        requires script { IsScript script.now }
-        requires room { actor_count script.now ≤ N.actors listener.old }
-        requires world { (w : PlainWorld) × HasTold script.now self.old w }
+        requires { MayTell script.now self.old (N.actors listener.old) }
         ensures ends { OnOk result ((w : PlainWorld) → HasTold script.now self.old w →
             (number : ℕ) × GoesOn script.now N.has self.new listener.old listener.new w (rounds script.now w number) × AllFinished script.now (rounds script.now w number)) }
         ensures actors { N.actors listener.new ≡ N.actors listener.old }

@@ -33,7 +33,8 @@ use Rattle.co_world.specs.Step.{are_direct, goes_on, queue_answers, is_in_sectio
 use Rattle.co_core.specs.Stored.{Stored, IsLanded, MayLand, wheel_at, bag_at, with_bag, with_wheel, with_stand}
 use Rattle.co_core.specs.Written.{Written}
 use Rattle.co_world.specs.Placed.{IsPlaced, slot_of}
-use Rattle.co_core.specs.Stands.{StandsFor, IsDue, IsAtWheel, IsBag, IsPacked, IsStored, IsWritten, alone_of, at_home}
+use Rattle.co_core.specs.Acting.{IsDue}
+use Rattle.co_core.specs.Stands.{StandsFor, IsAtWheel, IsBag, IsPacked, IsStored, IsWritten, alone_of, at_home}
 use Rattle.co_world.proofs.basics.Actions.{IsAction, IsActionWith, inserts, goes_by, scans, starts, pops, frees}
 use Rattle.co_core.proofs.calls.Section.{some_is, answered_so, quiet_slots, all_slots}
 use Rattle.co_world.proofs.kept.Listed.{off_listed}

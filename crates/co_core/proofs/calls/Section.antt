@@ -42,7 +42,8 @@ use Rattle.co_world.specs.Blocked.{is_moving, moves}
 use Rattle.co_world.specs.Step.{are_direct, removed_from, asked_whole, callout_answers, queue_answers, goes_on, is_in_section, is_within, lands_here, step}
 use Rattle.co_core.specs.Stored.{Stored, IsCalled, wheel_at}
 use Rattle.co_world.specs.Placed.{IsPlaced, slot_of}
-use Rattle.co_core.specs.Stands.{IsDue, IsAtWheel, IsBag, IsPacked, IsStored, alone_of, at_home}
+use Rattle.co_core.specs.Acting.{IsDue}
+use Rattle.co_core.specs.Stands.{IsAtWheel, IsBag, IsPacked, IsStored, alone_of, at_home}
 use Rattle.std.proofs.lemmas.List.{set-get_or, get_or-set_same}
 use Rattle.co_world.proofs.basics.Actions.{IsAction}
 use Rattle.co_core.proofs.calls.Ends.{Ends, stays, lands, leaves, ends, took_out, runs_on_free, parcel_for}

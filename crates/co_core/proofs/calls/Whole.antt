@@ -29,7 +29,8 @@ use Rattle.co_world.specs.Step.{callout_answers, queue_answers, removed_from, st
 use Rattle.co_core.specs.Stored.{Stored, IsCalled, wheel_at, stand_at, bag_at, with_bag, with_wheel}
 use Rattle.co_core.specs.Written.{Written, place_at}
 use Rattle.co_world.specs.Placed.{callout_in}
-use Rattle.co_core.specs.Stands.{StandsFor, IsBag, IsDue, IsWritten}
+use Rattle.co_core.specs.Acting.{IsDue}
+use Rattle.co_core.specs.Stands.{StandsFor, IsBag, IsWritten}
 use Rattle.co_core.proofs.calls.Section.{is_at_wheel, answer_reply, removed_world, IsDone, call_done, Tail, ends_there, one_more}
 use Rattle.co_world.proofs.kept.Invariant.{states_of, places_of}
 use Rattle.co_world.proofs.kept.ByOwnSteps.{callout_view}
@@ -112,7 +113,7 @@ module _ (s : Script) (ok : IsScript s) (books : Written) (depot : Stored) (w : 
     done : IsDone s ok depot w stands.stored stands.placed a act i cpu op due.may due.due still' known' named' stand_is gone listed at out after wheeled
     done = call_done s ok depot w stands.stored stands.placed a act i cpu op due.may due.due still' known' named' stand_is gone listed at out after wheeled due
 
-    module _ (books1 : Written) (stays1 : gone ≡ false → books1 ≡ books) (written1 : (v : World) (queue : TimerQueue) → gone ≡ true → IsWritten s books v → IsWritten s books1 (queue_answers s v a act cpu (Remove i) (Some (queue, Off)))) where
+    module _ (books1 : Written) (stays1 : gone ≡ false → books1 ≡ books) (written1 : (queue : TimerQueue) → gone ≡ true → (v : World) → IsWritten s books v → IsWritten s books1 (queue_answers s v a act cpu (Remove i) (Some (queue, Off)))) where
       first : IsWritten s books1 w1
       first = go (off_of r) refl where
         go : (o : Option ℕ) → off_of r ≡ o → IsWritten s books1 (removed_from s w a act i (off_of r))
@@ -120,14 +121,18 @@ module _ (s : Script) (ok : IsScript s) (books : Written) (depot : Stored) (w : 
             subst (λ (o : Option ℕ). IsWritten s books1 (removed_from s w a act i o)) (sym is) (subst (λ (b : Written). IsWritten s b w) (sym (stays1 (wheeled.removed ∙ ap is_some is))) stands.written)
         go (Some y) is =
             let world = removed_world s ok depot w stands.stored stands.placed a act i cpu op due.may due.due still' known' named' stand_is gone listed at out after wheeled y is in
-            subst (λ (v : World). IsWritten s books1 v) (sym world.1) (written1 w world.0 (wheeled.removed ∙ ap is_some is) stands.written)
+            subst (λ (v : World). IsWritten s books1 v) (sym world.1) (written1 world.0 (wheeled.removed ∙ ap is_some is) w stands.written)
 
       pub first_world : (v : World) × IsWritten s books1 v
       first_world = (w1, first)
 
-      module _ (books2 : Written) (written2 : (v : World) (state : State) → IsWritten s books1 v → (is_armed reply ≡ true → listed ≡ is_some (off state)) → IsWritten s books2 (callout_answers s v a act i (Call op) (Some (state, reply)))) where
+      module _ (books2 : Written) (written2 : (state : State) → (is_armed reply ≡ true → listed ≡ is_some (off state)) → (v : World) → IsWritten s books1 v → IsWritten s books2 (callout_answers s v a act i (Call op) (Some (state, reply)))) where
         second : IsWritten s books2 w2
-        second = subst (λ (y : Reply). IsWritten s books2 (callout_answers s w1 a act i (Call op) (Some (t, y)))) reply_same (written2 w1 t first (λ armed. done.listing (ap is_armed (sym reply_same) ∙ armed)))
+        second = subst (λ (y : Reply). IsWritten s books2 (callout_answers s w1 a act i (Call op) (Some (t, y)))) reply_same (written2 t (λ armed. done.listing (ap is_armed (sym reply_same) ∙ armed)) w1 first)
+
+        -- the parcel that the books have is the world's
+        there : (place_at books2 a).parcel ≡ (w2.actors a).cursor.parcel
+        there = ap (λ (c : Cursor). c.parcel) (second.each_place a due.may)
 
         pub second_world : (v : World) × IsWritten s books2 v
         second_world = (w2, second)
@@ -136,15 +141,15 @@ module _ (s : Script) (ok : IsScript s) (books : Written) (depot : Stored) (w : 
         parcel_there timed = go done.tail where
           go : Tail s ok depot w stands.stored stands.placed a act i cpu op due.may due.due still' known' named' stand_is gone listed at out after wheeled → (p : Parcel) × ((place_at books2 a).parcel ≡ Some p) × (p.cpu < s.cpus)
           go (ends_there none is) = let clash : true ≡ false = sym timed ∙ ap is_some none in cc
-          go (one_more time q2 p is carried below same) = (p, ap (λ (c : Cursor). c.parcel) (second.each_place a due.may) ∙ carried, below)
+          go (one_more time q2 p is carried below same) = (p, there ∙ carried, below)
 
         module _ (books3 : Written) (stays3 : at ≡ None → books3 ≡ books2)
-            (written3 : (v : World) (queue : TimerQueue) (p : Parcel) (time : ℕ) → at ≡ Some time → IsWritten s books2 v → (v.actors a).cursor.parcel ≡ Some p → IsWritten s books3 (queue_answers s v a p.act p.cpu (Insert p.i p.n p.due) (Some (queue, At time)))) where
+            (written3 : (queue : TimerQueue) (p : Parcel) (time : ℕ) → at ≡ Some time → (place_at books2 a).parcel ≡ Some p → (v : World) → IsWritten s books2 v → IsWritten s books3 (queue_answers s v a p.act p.cpu (Insert p.i p.n p.due) (Some (queue, At time)))) where
           third : IsWritten s books3 (step s w a)
           third = go done.tail where
             go : Tail s ok depot w stands.stored stands.placed a act i cpu op due.may due.due still' known' named' stand_is gone listed at out after wheeled → IsWritten s books3 (step s w a)
             go (ends_there none is) = subst (IsWritten s books3) (sym is) (subst (λ (b : Written). IsWritten s b w2) (sym (stays3 none)) second)
-            go (one_more time q2 p is carried below same) = subst (IsWritten s books3) (sym same) (written3 w2 q2 p time is second carried)
+            go (one_more time q2 p is carried below same) = subst (IsWritten s books3) (sym same) (written3 q2 p time is (there ∙ carried) w2 second)
 
           pub stands_called : StandsFor s books3 (with_bag (with_wheel depot cpu after) a out) (step s w a)
           stands_called = record { written = third; stored = done.stored_so; placed = done.placed_so; reached = reached_after s w a due.may stands.reached }

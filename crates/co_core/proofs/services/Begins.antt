@@ -43,7 +43,8 @@ use Rattle.co_world.specs.Step.{goes_on, callout_answers, is_in_section, is_with
 use Rattle.co_core.specs.Stored.{Stored, IsBegun, wheel_at, with_wheel}
 use Rattle.co_core.specs.Written.{Written}
 use Rattle.co_world.specs.Placed.{IsPlaced, slot_of, in_slot, callout_in, entry_of}
-use Rattle.co_core.specs.Stands.{StandsFor, IsDue, IsAtWheel, IsBag, IsStored, IsWritten, alone_of}
+use Rattle.co_core.specs.Acting.{IsDue}
+use Rattle.co_core.specs.Stands.{StandsFor, IsAtWheel, IsBag, IsStored, IsWritten, alone_of}
 use Rattle.co_core.proofs.calls.Section.{some_is, goes_as, all_slots}
 use Rattle.co_world.proofs.kept.Operations.{Did, did}
 use Rattle.co_world.proofs.kept.Operations as deed

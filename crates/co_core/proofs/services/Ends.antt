@@ -46,7 +46,8 @@ use Rattle.co_world.specs.Step.{are_direct, answered, goes_on, callout_answers, 
 use Rattle.co_core.specs.Stored.{Stored, IsEnded, wheel_at, bag_at, with_wheel, with_bag}
 use Rattle.co_core.specs.Written.{Written}
 use Rattle.co_world.specs.Placed.{IsPlaced, IsSettled, slot_of, in_slot, callout_in, entry_of}
-use Rattle.co_core.specs.Stands.{StandsFor, IsDue, IsAtWheel, IsBag, IsPacked, IsStored, IsWritten, alone_of}
+use Rattle.co_core.specs.Acting.{IsDue}
+use Rattle.co_core.specs.Stands.{StandsFor, IsAtWheel, IsBag, IsPacked, IsStored, IsWritten, alone_of}
 use Rattle.co_core.proofs.calls.Section.{some_is, answered_so, goes_as}
 use Rattle.co_world.proofs.kept.ByCalls.{off_none}
 use Rattle.co_world.proofs.kept.Listed.{off_listed}

@@ -48,7 +48,8 @@ use Rattle.co_world.specs.Step.{are_direct, answered, goes_on, queue_answers, ca
 use Rattle.co_core.specs.Stored.{Stored, IsNext, wheel_at, with_wheel}
 use Rattle.co_core.specs.Written.{Written}
 use Rattle.co_world.specs.Placed.{IsPlaced, slot_of, in_slot, callout_in, entry_of}
-use Rattle.co_core.specs.Stands.{StandsFor, IsDue, IsAtWheel, IsBag, IsStored, IsWritten, alone_of, at_home}
+use Rattle.co_core.specs.Acting.{IsDue}
+use Rattle.co_core.specs.Stands.{StandsFor, IsAtWheel, IsBag, IsStored, IsWritten, alone_of, at_home}
 use Rattle.co_core.proofs.calls.Section.{some_is, answered_so, goes_as}
 use Rattle.co_world.proofs.kept.ByCalls.{off_none}
 use Rattle.co_world.proofs.kept.Operations.{Did, did}

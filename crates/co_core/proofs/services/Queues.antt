@@ -25,7 +25,8 @@ use Rattle.co_world.specs.Step.{are_direct, goes_on, queue_answers, is_in_sectio
 use Rattle.co_core.specs.Stored.{Stored, IsScanned, wheel_at, with_wheel}
 use Rattle.co_core.specs.Written.{Written}
 use Rattle.co_world.specs.Placed.{IsPlaced, slot_of, in_slot, callout_in}
-use Rattle.co_core.specs.Stands.{StandsFor, IsDue, IsAtWheel, IsStored, IsWritten}
+use Rattle.co_core.specs.Acting.{IsDue}
+use Rattle.co_core.specs.Stands.{StandsFor, IsAtWheel, IsStored, IsWritten}
 use Rattle.co_world.proofs.basics.Actions.{IsAction, IsActionWith, inserts, goes_by, scans, starts, pops, frees}
 use Rattle.co_core.proofs.calls.Section.{answered_so, quiet_slots, all_slots}
 use Rattle.co_world.proofs.kept.ByOwnSteps.{view_of}

@@ -18,7 +18,8 @@ use Rattle.co_world.specs.Step.{own_note, note_of_own, step, is_in_section, is_w
 use Rattle.co_core.specs.Stored.{Stored}
 use Rattle.co_core.specs.Written.{Written, place_at, with_place}
 use Rattle.co_world.specs.Placed.{IsPlaced}
-use Rattle.co_core.specs.Stands.{StandsFor, IsDue, IsStored, IsWritten}
+use Rattle.co_core.specs.Acting.{IsDue}
+use Rattle.co_core.specs.Stands.{StandsFor, IsStored, IsWritten}
 use Rattle.co_world.proofs.basics.Actions.{IsAction, IsActionWith, goes_by}
 use Rattle.co_world.proofs.kept.ByOwnSteps.{view_of}
 use Rattle.co_world.proofs.kept.Invariant.{places_of}

@@ -1,7 +1,6 @@
 -- What is never due to an actor: between two of its steps no section is open.
 use Rattle.std.proofs.Common.{◌≡◌, ℕ, ◌+◌, ◌-◌, ◌<◌, ◌≤◌, List, [], get_or, length, refl, sym, ap, ◌∙◌, subst, arith, Option, Some, None}
-use Rattle.std.proofs.lemmas.List.{get_or-set_same, length-drop, length-set}
-use Rattle.co_object.specs.declared.note.Note.{Note}
+use Rattle.std.proofs.lemmas.List.{length-drop}
 use Rattle.co_object.specs.declared.Op.TheVariants.{Run}
 use Rattle.co_object.specs.declared.RunOp.TheVariants.{Pick}
 use Rattle.co_object.specs.declared.QOp.{QOp}
@@ -15,10 +14,11 @@ use Rattle.co_program.specs.declared.Asked.TheVariants.{Callout, Queue}
 use Rattle.co_program.specs.Actors.{actor_count, role_of}
 use Rattle.co_program.specs.Stages.{Stage}
 use Rattle.co_program.specs.Cursor.{Cursor}
-use Rattle.co_program.specs.Action.{Action, Asks, action_for, pop_of}
+use Rattle.co_program.specs.Action.{Asks, action_for, pop_of}
 use Rattle.co_program.specs.Scripts.{IsScript}
 use Rattle.co_world.specs.World.{World}
-use Rattle.co_core.specs.Stands.{IsWritten, StandsFor, IsDue, untold}
+use Rattle.co_core.specs.Acting.{IsDue}
+use Rattle.co_core.specs.Stands.{IsWritten, StandsFor, untold}
 use Rattle.co_world.specs.Blocked.{blocked}
 use Rattle.co_world.specs.Step.{step, turn_at, turn_of}
 use Rattle.co_world.specs.declared.turn.Why.{Why}
@@ -28,7 +28,7 @@ use Rattle.co_program.specs.declared.action.Action.TheVariants as action
 use Rattle.co_program.specs.Indexed.{action_of}
 use Rattle.co_core.proofs.tables.Values.{read, long}
 use Rattle.co_core.specs.Stored.{Stored}
-use Rattle.co_core.specs.Written.{Written, list_at, told_at, with_list}
+use Rattle.co_core.specs.Written.{Written, list_at, told_at}
 use Rattle.co_world.proofs.basics.Actions.{IsAction, IsActionWith, inserts, goes_by, scans, starts, pops, frees, picks}
 use Rattle.co_world.proofs.kept.ByOwnSteps.{view_of}
 use Rattle.co_world.proofs.kept.Invariant.{IsBetween, places_of}
@@ -117,16 +117,6 @@ list_long s x w h a may = ap length (list_is s x w h a may) ∙ length-drop (tol
 pub list_row : (s : Script) (x : Written) (w : World) → IsWritten s x w → (a : ℕ) → a < actor_count s → a < length x.lists
 list_row s x w h a may = let l = long x.lists (actor_count s) (untold x w) h.each_list in omega (arith, l, may)
 
-pub open_row : (x : Written) (a : ℕ) (items : List Note) → a < length (with_list x a items).lists → a < length x.lists
-open_row x a items h = let l = length-set x.lists a items in omega (arith, l, h)
-
-pub put_at : (x : Written) (a b : ℕ) (items : List Note) → b ≡ a → b < length x.lists → list_at (with_list x b items) a ≡ items
-put_at x a b items same within = ap (list_at (with_list x b items)) (sym same) ∙ get_or-set_same x.lists b items [] within
-
-pub took_at : (x y : Written) (a : ℕ) (items : List Note) → with_list x a items ≡ y → a < length y.lists → list_at y a ≡ items
-took_at x y a items same within =
-    ap (λ (z : Written). list_at z a) (sym same) ∙ put_at x a a items refl (open_row x a items (subst (λ (z : Written). a < length z.lists) (sym same) within))
-
 pub turn_is : (s : Script) (x y : Written) (w : World) (a count : ℕ) (p : CursorAt) (act : ActionAt) → a < actor_count s → IsWritten s x w → IsWritten s y (step s w a) → blocked s w a ≡ None → action_for s a (places_of w a) ≡ action_of s a p act → (act ≡ action.Nothing → ⊥) →
     y.told ≡ x.told → length (list_at y a) ≡ length (list_at x a) + count → Notes count ≡ turn_of s w a
 turn_is s x y w a count p act may before after free due some told counted =
@@ -135,21 +125,6 @@ turn_is s x y w a count p act may before after free due some told counted =
     ∙ sym (turn_notes s w a p act free due some) where
       close : (m n m' n' k' k : ℕ) → m ≡ m' - k' → n ≡ n' - k → k' ≡ k → k' ≤ m' → k ≤ n' → m ≡ n + count → count ≡ m' - n'
       close m n m' n' k' k e f same low' low g = omega (arith, e, f, same, low', low, g)
-
--- the acting actor's notes are taken in hand, and after the step there is a list to put them back into
-module _ (s : Script) (books opened after : Written) (depot depot' : Stored) (w : World) (a b b' : ℕ) (items items' : List Note) (action : Action) (same : b ≡ a) (same' : b' ≡ b) (taken : with_list opened a items ≡ books) (stands : StandsFor s books depot w) (due : IsDue s w a action) where
-  pub hand_row : (StandsFor s (with_list opened b items) depot w → IsDue s w b action → StandsFor s (with_list after b' items') depot' (step s w b)) → b' < length after.lists
-  hand_row stepped = open_row after b' items' (list_row s (with_list after b' items') (step s w b) done.written b' (subst (λ (x : ℕ). x < actor_count s) (sym (same' ∙ same)) due.may)) where
-    held : StandsFor s (with_list opened b items) depot w
-    held = subst (λ (x : Written). StandsFor s x depot w) (sym (ap (λ (x : ℕ). with_list opened x items) same ∙ taken)) stands
-
-    done : StandsFor s (with_list after b' items') depot' (step s w b)
-    done = stepped held (subst (λ (x : ℕ). IsDue s w x action) (sym same) due)
-
-  pub hand_count : (StandsFor s (with_list opened b items) depot w → IsDue s w b action → StandsFor s (with_list after b' items') depot' (step s w b)) → (put : Written) (count : ℕ) → put ≡ with_list after b' items' → length items' ≡ length items + count → length (list_at put a) ≡ length (list_at books a) + count
-  hand_count stepped put count back counted =
-      ap length (ap (λ (x : Written). list_at x a) back ∙ put_at after a b' items' (same' ∙ same) (hand_row stepped))
-      ∙ (counted ∙ ap (λ (n : ℕ). n + count) (ap length (sym (took_at opened books a items taken (list_row s books w stands.written a due.may)))))
 
 pub not_some : (o : Option Why) → ((why : Why) → o ≡ Some why → ⊥) → o ≡ None
 not_some None h = refl

@@ -1,7 +1,6 @@
 -- Where each record is after a section: what the depot shows, and what holds between the records and the actors.
-use Rattle.std.proofs.Common.{◌≡◌, ℕ, ◌<◌, ◌⊎◌, inl, inr, Bool, true, false, cond, not, List, [], ◌∷◌, ◌++◌, length, get_or, set, length-set, refl, sym, ap, ◌∙◌, subst, arith, Option, Some, None}
+use Rattle.std.proofs.Common.{◌≡◌, ℕ, ◌<◌, ◌⊎◌, inl, inr, Bool, true, false, cond, not, [], ◌∷◌, ◌++◌, length, get_or, set, length-set, refl, sym, ap, ◌∙◌, subst, arith, Option, Some, None}
 use Rattle.std.specs.Prelude.{◌==◌, ◌&&◌}
-use Rattle.std.specs.List.{AllByRecursion}
 use Rattle.co_object.specs.declared.State.{State}
 use Rattle.co_object.specs.declared.Arming.{Arming}
 use Rattle.co_object.specs.Stand.{is_idle, is_free_at, off}
@@ -9,7 +8,6 @@ use Rattle.co_object.specs.Queue.{Queue as TimerQueue}
 use Rattle.co_program.specs.declared.cursor.Parcel.{Parcel}
 use Rattle.co_program.specs.declared.script.Script.{Script}
 use Rattle.co_program.specs.Actors.{actor_count, role_of, cpu_of}
-use Rattle.co_program.specs.Stages.{Stage}
 use Rattle.co_program.specs.Cursor.{Cursor}
 use Rattle.std.proofs.lemmas.List.{get_or-set_same, get_or-set_other}
 use Rattle.co_wheel.specs.Callouts.{Callouts}
@@ -21,7 +19,6 @@ use Rattle.co_world.proofs.sections.Slots.{StageKept}
 use Rattle.co_world.specs.World.{World, open_world}
 use Rattle.co_world.specs.Blocked.{is_moving, moves}
 use Rattle.co_world.specs.Step.{step}
-use Rattle.co_world.specs.Walk.{run}
 use Rattle.co_core.specs.Stored.{Stored, bag_at, wheel_at, no_wheel}
 use Rattle.co_world.specs.Placed.{IsPlaced, IsBound, IsSettled, slot_of, in_slot, callout_in}
 use Rattle.co_world.specs.Laws.{IsReached}

@@ -1,7 +1,7 @@
 -- The notes of a step are told: those of the world's actors, and the positions of each place count in their order.
-use Rattle.std.proofs.Common.{◌≡◌, ℕ, ◌+◌, ◌<◌, ◌≤◌, ◌⊎◌, inl, inr, Bool, true, false, cond, List, [], ◌∷◌, ◌++◌, length, drop, get_or, map, refl, sym, ap, subst, ◌∙◌, arith, append_assoc, length-append, length-set}
+use Rattle.std.proofs.Common.{◌≡◌, ℕ, ◌+◌, ◌<◌, ◌≤◌, ◌⊎◌, inl, inr, Bool, true, false, List, [], ◌∷◌, ◌++◌, length, drop, get_or, map, refl, sym, ap, subst, ◌∙◌, arith, append_assoc, length-append, length-set}
 use Rattle.std.specs.Prelude.{◌==◌, is_some, Option, Some, None}
-use Rattle.std.specs.List.{filter, range_with_len}
+use Rattle.std.specs.List.{range_with_len}
 use Rattle.std.proofs.lemmas.Bool.Decides.{eqb_tells, nat_tests}
 use Rattle.std.proofs.lemmas.List.{append-nil, get_or-set_other, get_or-set_same, length-drop, length-map, map-append}
 use Rattle.std.proofs.lemmas.List.FromFn.{length-map-range_with_len}
@@ -23,7 +23,7 @@ use Rattle.co_object.specs.Stand.{off}
 use Rattle.co_object.specs.Callout.{step as callout_step}
 use Rattle.co_object.specs.Queue.{Queue as TimerQueue}
 use Rattle.co_object.specs.Journal.{step as queue_step}
-use Rattle.co_listener.specs.Made.{Made, list_by, made_in, notes_made}
+use Rattle.co_listener.specs.Made.{Made, list_by, made_in}
 use Rattle.co_listener.proofs.OneMore.{list_more, one, place_more}
 use Rattle.co_program.specs.declared.Script.{Script}
 use Rattle.co_program.specs.declared.Asked.{Asked}
@@ -36,7 +36,7 @@ use Rattle.co_world.specs.declared.turn.Turn.{Turn}
 use Rattle.co_world.specs.declared.turn.Turn.TheVariants.{Notes, Blocked, Finished}
 use Rattle.co_core.specs.Stands.{IsWritten, StandsFor, untold}
 use Rattle.co_world.specs.Step.{answered, are_direct, callout_answers, enters, enters_journal, note_of, note_of_cpu, note_of_own, notes_down, queue_answers, step, turn_of}
-use Rattle.co_core.specs.Telling.{AreMade, GoesOn, HasNotes, HasTold, IsTelling, entry_count, made_by, makes_notes}
+use Rattle.co_core.specs.Telling.{AreMade, GoesOn, HasNotes, HasTold, IsTelling, MayTell, entry_count, made_by, makes_notes}
 use Rattle.co_world.specs.Walk.{AllFinished, rounds, run}
 use Rattle.co_world.specs.World.{Actor, World, open_world, with_cursor}
 use Rattle.co_core.specs.Written.{Written, let_go, list_at, told_at}
@@ -296,6 +296,10 @@ module _ (s : Script) {B : Type 0} (has : B → List Made → Type 0) (before af
 
 pub further : (s : Script) {B : Type 0} (has : B → List Made → Type 0) (e e' : Engine) (first old new : B) (w v u : World) → GoesOn s has e first old w v → GoesOn s has e' old new v u → GoesOn s has e' first new w u
 further s has e e' first old new w v u before after = record { told = after.told; notes = λ notes. after.notes (before.notes notes) }
+
+-- what may be told goes on to a later engine, and a listener of as many actors
+pub may_tell : (s : Script) (e e2 : Engine) (actors actors2 : ℕ) → MayTell s e actors → actors2 ≡ actors → (w : World) × HasTold s e2 w → MayTell s e2 actors2
+may_tell s e e2 actors actors2 may as_many at = record { script = may.script; room = subst (λ (n : ℕ). actor_count s ≤ n) (sym as_many) may.room; world = at.0; told = at.1 }
 
 pub not_yet : (s : Script) {B : Type 0} (has : B → List Made → Type 0) (e : Engine) (book : B) (w : World) → HasTold s e w → GoesOn s has e book book w w
 not_yet s has e book w told = record { told = told; notes = λ notes. notes }

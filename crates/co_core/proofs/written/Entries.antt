@@ -163,7 +163,7 @@ module _ (s : Script) (w w' : World) (a : ℕ) (note : Note) (notes : IsAt (note
     go (inl same) = subst (λ k. own_by w' k ≡ own_by w k) (sym same) (ap (λ (l : List Note). length (notes_of (place.Actor a) l)) notes.here ∙ not_own a (notes_by w a) note other)
     go (inr else) = ap (λ (l : List Note). length (notes_of (place.Actor b) l)) (notes.else b else)
 
-more_by_one : {E : Type 0} (es : List E) (e : E) → length (es ++ e ∷ []) ≡ length es + 1
+pub more_by_one : {E : Type 0} (es : List E) (e : E) → length (es ++ e ∷ []) ≡ length es + 1
 more_by_one es e = let l = length-append es (e ∷ []) in omega (arith, l)
 
 -- one count rises

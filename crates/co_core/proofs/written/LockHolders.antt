@@ -9,7 +9,7 @@ use Rattle.co_lock.specs.declared.held.Held.{Held}
 use Rattle.co_program.specs.declared.cursor.Cursor.{Cursor as CursorAt}
 use Rattle.co_world.specs.World.{updated}
 use Rattle.co_world.specs.Blocked.{excludes, is_excluded_by}
-use Rattle.co_core.specs.Holders.{shares, owns, holders_at, AreHolders, no_holders, more, fewer, at_lock, taken, released, excludes_any}
+use Rattle.co_core.specs.Holders.{shares, has_alone, holders_at, AreHolders, no_holders, more, fewer, at_lock, taken, released, excludes_any}
 use Rattle.co_core.specs.Table.{table}
 use Rattle.co_core.specs.Written.{first_place}
 use Rattle.co_core.specs.declared.books.holders.Holders.{Holders}
@@ -71,11 +71,11 @@ at-number f change i k = go (k == i) refl where
   go true e = ap (λ (j : ℕ). change (f j)) (sym (eqb-true k i e))
   go false e = refl
 
-less-at : (hold : Option Held) (f : ℕ → Holders) (k : ℕ) → less hold f k ≡ record { shared = (f k).shared - shares k hold; exclusive = (f k).exclusive - owns k hold }
+less-at : (hold : Option Held) (f : ℕ → Holders) (k : ℕ) → less hold f k ≡ record { shared = (f k).shared - shares k hold; exclusive = (f k).exclusive - has_alone k hold }
 less-at None f k = same_holders (f k) (record { shared = (f k).shared - 0; exclusive = (f k).exclusive - 0 }) (omega arith) (omega arith)
 less-at (Some h) f k = at-number f (fewer h.exclusive) h.id k ∙ fewer-is (f k) h.exclusive (k == h.id)
 
-plus-at : (hold : Option Held) (f : ℕ → Holders) (k : ℕ) → plus hold f k ≡ record { shared = (f k).shared + shares k hold; exclusive = (f k).exclusive + owns k hold }
+plus-at : (hold : Option Held) (f : ℕ → Holders) (k : ℕ) → plus hold f k ≡ record { shared = (f k).shared + shares k hold; exclusive = (f k).exclusive + has_alone k hold }
 plus-at None f k = same_holders (f k) (record { shared = (f k).shared + 0; exclusive = (f k).exclusive + 0 }) (omega arith) (omega arith)
 plus-at (Some h) f k = at-number f (more h.exclusive) h.id k ∙ more-is (f k) h.exclusive (k == h.id)
 
@@ -98,9 +98,9 @@ module _ (t : List Holders) (places : List CursorAt) (a : ℕ) (to : CursorAt) (
       let f : ℕ → Holders = holders_at places in
       let one = less-at from f k in
       plus-at to.hold (less from f) k
-      ∙ (ap (λ (x : Holders). record { shared = x.shared + shares k to.hold; exclusive = x.exclusive + owns k to.hold }) one
-      ∙ same_holders (record { shared = (f k).shared - shares k from + shares k to.hold; exclusive = (f k).exclusive - owns k from + owns k to.hold }) (holders_at (set places a to) k)
-      (sum-moves (shares k) refl places a to within) (sum-moves (owns k) refl places a to within))
+      ∙ (ap (λ (x : Holders). record { shared = x.shared + shares k to.hold; exclusive = x.exclusive + has_alone k to.hold }) one
+      ∙ same_holders (record { shared = (f k).shared - shares k from + shares k to.hold; exclusive = (f k).exclusive - has_alone k from + has_alone k to.hold }) (holders_at (set places a to) k)
+      (sum-moves (shares k) refl places a to within) (sum-moves (has_alone k) refl places a to within))
 
   pub moved : AreHolders (taken to.hold (released (get_or places a first_place).hold t)) (set places a to)
   moved =
@@ -123,7 +123,7 @@ pub stayed : (t : List Holders) (places : List CursorAt) (a : ℕ) (to : CursorA
     AreHolders t (set places a to)
 stayed t places a to are within same_hold =
     are ∙ same (length t) (holders_at places) (holders_at (set places a to))
-    (λ k below. same_holders (holders_at (set places a to) k) (holders_at places k) (sym (sum-stays (shares k) places a to within same_hold)) (sym (sum-stays (owns k) places a to within same_hold)))
+    (λ k below. same_holders (holders_at (set places a to) k) (holders_at places k) (sym (sum-stays (shares k) places a to within same_hold)) (sym (sum-stays (has_alone k) places a to within same_hold)))
 
 -- ---- a table says whether a hold is excluded
 
@@ -151,10 +151,10 @@ any-holder held [] = nobody held.exclusive where
   nobody true = refl
   nobody false = refl
 any-holder held (c ∷ cs) =
-    rw (sum_by-cons (λ (p : CursorAt). owns held.id p.hold) c cs, sum_by-cons (λ (p : CursorAt). shares held.id p.hold) c cs)
-    (go c.hold (sum_by (λ (p : CursorAt). owns held.id p.hold) cs) (sum_by (λ (p : CursorAt). shares held.id p.hold) cs) (any-holder held cs)) where
+    rw (sum_by-cons (λ (p : CursorAt). has_alone held.id p.hold) c cs, sum_by-cons (λ (p : CursorAt). shares held.id p.hold) c cs)
+    (go c.hold (sum_by (λ (p : CursorAt). has_alone held.id p.hold) cs) (sum_by (λ (p : CursorAt). shares held.id p.hold) cs) (any-holder held cs)) where
       go : (hold : Option Held) (m n : ℕ) → (nat_lt 0 m || (held.exclusive && nat_lt 0 n)) ≡ list_any (λ (p : CursorAt). is_excluded_by held p.hold) cs →
-          (nat_lt 0 (owns held.id hold + m) || (held.exclusive && nat_lt 0 (shares held.id hold + n))) ≡ (is_excluded_by held hold || list_any (λ (p : CursorAt). is_excluded_by held p.hold) cs)
+          (nat_lt 0 (has_alone held.id hold + m) || (held.exclusive && nat_lt 0 (shares held.id hold + n))) ≡ (is_excluded_by held hold || list_any (λ (p : CursorAt). is_excluded_by held p.hold) cs)
       go None m n rest = rw (none-more m, none-more n) rest
       go (Some h) m n rest = one-more (held.id == h.id) held.exclusive h.exclusive m n ∙ ap (λ (b : Bool). excludes held h || b) rest
 
@@ -195,9 +195,9 @@ shares-one k (Some h) = go (k == h.id && not h.exclusive) where
   go true = omega arith
   go false = omega arith
 
-owns-one : (k : ℕ) (o : Option Held) → owns k o ≤ 1
-owns-one k None = omega arith
-owns-one k (Some h) = go (k == h.id && h.exclusive) where
+has_alone-one : (k : ℕ) (o : Option Held) → has_alone k o ≤ 1
+has_alone-one k None = omega arith
+has_alone-one k (Some h) = go (k == h.id && h.exclusive) where
   go : (b : Bool) → cond b 1 0 ≤ 1
   go true = omega arith
   go false = omega arith
@@ -211,7 +211,7 @@ few-left t places a are within k below =
     let l = long (released hold t) (length t) (less hold (holders_at places)) gone in
     let here = read (released hold t) (length t) (less hold (holders_at places)) k no_holders gone (let b = below in omega (arith, b, l)) ∙ less-at hold (holders_at places) k in (
       subst (λ (x : Holders). x.shared < length places) (sym here) (sum-left (shares k) (shares-one k) refl places a within),
-      subst (λ (x : Holders). x.exclusive < length places) (sym here) (sum-left (owns k) (owns-one k) refl places a within),
+      subst (λ (x : Holders). x.exclusive < length places) (sym here) (sum-left (has_alone k) (has_alone-one k) refl places a within),
     )
 
 -- ---- nobody holds a lock at first
@@ -224,7 +224,7 @@ nobody-holds : (locks n : ℕ) → AreHolders (replicate locks no_holders) (repl
 nobody-holds locks n =
     subst (λ (m : ℕ). replicate locks no_holders ≡ table m (holders_at (replicate n first_place))) (sym (length-replicate locks no_holders))
     (fills (replicate locks no_holders) locks (holders_at (replicate n first_place)) no_holders (length-replicate locks no_holders)
-    (λ k below. get_or-replicate locks k no_holders no_holders below ∙ same_holders no_holders (holders_at (replicate n first_place) k) (sym (sum-none (shares k) refl n)) (sym (sum-none (owns k) refl n))))
+    (λ k below. get_or-replicate locks k no_holders no_holders below ∙ same_holders no_holders (holders_at (replicate n first_place) k) (sym (sum-none (shares k) refl n)) (sym (sum-none (has_alone k) refl n))))
 
 pub no-one : (locks n : ℕ) {t : List Holders} {places : List CursorAt} → t ≡ replicate locks no_holders → places ≡ replicate n first_place → AreHolders t places
 no-one locks n {t} {places} a b = subst (λ (x : List Holders). AreHolders x places) (sym a) (subst (AreHolders (replicate locks no_holders)) (sym b) (nobody-holds locks n))

@@ -79,13 +79,13 @@ impl Books {
         ensures { IfOk result (λ books. IsWritten script.now books (open_world script.now)) }
     {
         let lists = empty_lists(alloc, actor_count(script) as usize)?;
-        match Books::made(alloc, script, lists) {
+        match Books::empty(alloc, script, lists) {
             Ok(books) => Ok(books),
             Err(_) => Err(NoMemory {}),
         }
     }
 
-    fn made(alloc: Global, script: &Script, lists: Lists) -> Result<Books, AllocError>
+    fn empty(alloc: Global, script: &Script, lists: Lists) -> Result<Books, AllocError>
         requires script { IsScript script.now }
         requires lists { lists ≡ replicate (actor_count script.now) [] }
         ensures { IfOk result (λ books. IsWritten script.now books (open_world script.now)) }

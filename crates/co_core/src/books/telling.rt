@@ -1,8 +1,8 @@
 //! Notes are told to a listener, and let go.
-ghost use Rattle.std.specs.Prelude.{◌≡◌, ◌+◌, ◌<◌, ◌^◌, ◌++◌, List, length, OnOk};
+ghost use Rattle.std.specs.Prelude.{◌≡◌, ◌<◌, ◌++◌, List, OnOk};
 ghost use Rattle.co_listener.specs.Made.{Made};
 ghost use Rattle.co_core.specs.Telling.{made_by};
-ghost use Rattle.co_core.specs.Written.{let_go, list_at, told_at};
+ghost use Rattle.co_core.specs.Written.{MayLetGo, let_go, list_at};
 
 use super::Books;
 use co_listener::Listener;
@@ -25,10 +25,8 @@ impl Books {
     /// Tells the actor's notes to a listener, and lets them go.
     #[inline(always)]
     pub(crate) fn tell<N: Listener>(&mut self, actor: u32, listener: &mut N) -> Result<(), NoMemory>
-        requires list { actor < length self.old.lists }
-        requires told { actor < length self.old.told }
+        requires may { MayLetGo self.old actor }
         requires room { actor < N.actors listener.old }
-        requires few { told_at self.old actor + length (list_at self.old actor) < 2 ^ 64 }
         ensures has { OnOk result ((made : List Made) → N.has listener.old made → N.has listener.new (made ++ made_by actor (list_at self.old actor))) }
         ensures actors { N.actors listener.new ≡ N.actors listener.old }
         ensures let_go { OnOk result (self.new ≡ let_go self.old actor) }

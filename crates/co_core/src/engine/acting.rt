@@ -1,14 +1,10 @@
 //! What an actor does in a step.
-ghost use Rattle.std.specs.Prelude.{◌≡◌, ◌+◌, ◌<◌, length, OnOk, OnErr, IfOk};
+ghost use Rattle.std.specs.Prelude.{◌≡◌, OnErr, IfOk};
 ghost use Rattle.co_object.specs.declared.op.Op.{Op};
 ghost use Rattle.co_program.specs.Action.{Asks};
-ghost use Rattle.co_program.specs.Actors.{actor_count};
 ghost use Rattle.co_program.specs.Indexed.{ActionCounts, action_of};
-ghost use Rattle.co_program.specs.Scripts.{IsScript};
-ghost use Rattle.co_core.specs.Stands.{HeldBy, IsDue, MayAct, StandsFor};
-ghost use Rattle.co_world.specs.Step.{step};
-ghost use Rattle.co_world.specs.World.{World as PlainWorld};
-ghost use Rattle.co_core.specs.Written.{list_at, place_at};
+ghost use Rattle.co_core.specs.Acting.{HasActed, HasStepped, MayAct, MayStep};
+ghost use Rattle.co_core.specs.Written.{place_at};
 
 use super::Engine;
 use crate::books::Hand;
@@ -26,13 +22,9 @@ impl Engine {
         actor: u32,
         action: &Action,
     ) -> Result<u32, NoMemory>
-        requires script { IsScript script.now }
-        requires may { (w : PlainWorld) × StandsFor script.now self.old.books self.old.depot w × IsDue script.now w actor (action_of script.now actor (place_at self.old.books actor) action.now) }
+        requires may { MayStep script.now self.old actor (action_of script.now actor (place_at self.old.books actor) action.now) }
         requires counted { ActionCounts (place_at self.old.books actor) action.now }
-        ensures stands { OnOk result ((w : PlainWorld) → StandsFor script.now self.old.books self.old.depot w → IsDue script.now w actor (action_of script.now actor (place_at self.old.books actor) action.now) →
-            StandsFor script.now self.new.books self.new.depot (step script.now w actor)) }
-        ensures told { self.new.books.told ≡ self.old.books.told }
-        ensures count { IfOk result (λ count. length (list_at self.new.books actor) ≡ length (list_at self.old.books actor) + count) }
+        ensures ok { IfOk result (λ count. HasStepped script.now actor (action_of script.now actor (place_at self.old.books actor) action.now) count self.old self.new) }
         ensures err { OnErr result (self.new ≡ self.old) }
     {
         match action {
@@ -59,12 +51,8 @@ impl Engine {
         act: u64,
         asked: &Asked,
     ) -> Result<u32, NoMemory>
-        requires script { IsScript script.now }
-        requires may { (w : PlainWorld) × StandsFor script.now self.old.books self.old.depot w × IsDue script.now w actor (Asks act asked.now) }
-        ensures stands { OnOk result ((w : PlainWorld) → StandsFor script.now self.old.books self.old.depot w → IsDue script.now w actor (Asks act asked.now) →
-            StandsFor script.now self.new.books self.new.depot (step script.now w actor)) }
-        ensures told { self.new.books.told ≡ self.old.books.told }
-        ensures count { IfOk result (λ count. length (list_at self.new.books actor) ≡ length (list_at self.old.books actor) + count) }
+        requires { MayStep script.now self.old actor (Asks act asked.now) }
+        ensures ok { IfOk result (λ count. HasStepped script.now actor (Asks act asked.now) count self.old self.new) }
         ensures err { OnErr result (self.new ≡ self.old) }
     {
         let mut hand = self.books.open(actor)?;
@@ -74,13 +62,8 @@ impl Engine {
     }
 
     fn ask(&mut self, script: &Script, hand: &mut Hand, act: u64, asked: &Asked) -> u32
-        requires script { IsScript script.now }
-        requires may { MayAct script.now self.old hand.old (Asks act asked.now) }
-        ensures stands { (w : PlainWorld) → HeldBy script.now self.old hand.old w → IsDue script.now w hand.old.actor (Asks act asked.now) →
-            HeldBy script.now self.new hand.new (step script.now w hand.old.actor) }
-        ensures actor { hand.new.actor ≡ hand.old.actor }
-        ensures told { self.new.books.told ≡ self.old.books.told }
-        ensures count { length hand.new.notes.items ≡ length hand.old.notes.items + result }
+        requires { MayAct script.now self.old hand.old (Asks act asked.now) }
+        ensures { HasActed script.now (Asks act asked.now) result self.old hand.old self.new hand.new }
     {
         match asked {
             Asked::Callout { i, op } => match op {
@@ -97,13 +80,8 @@ impl Engine {
 
     /// The start or the end of a service. A Pick is never due: it is made with its Pop.
     fn serve(&mut self, script: &Script, hand: &mut Hand, act: u64, i: u32, run: &RunOp) -> u32
-        requires script { IsScript script.now }
-        requires may { MayAct script.now self.old hand.old (Asks act (Asked.Callout i (Op.Run run.now))) }
-        ensures stands { (w : PlainWorld) → HeldBy script.now self.old hand.old w → IsDue script.now w hand.old.actor (Asks act (Asked.Callout i (Op.Run run.now))) →
-            HeldBy script.now self.new hand.new (step script.now w hand.old.actor) }
-        ensures actor { hand.new.actor ≡ hand.old.actor }
-        ensures told { self.new.books.told ≡ self.old.books.told }
-        ensures count { length hand.new.notes.items ≡ length hand.old.notes.items + result }
+        requires { MayAct script.now self.old hand.old (Asks act (Asked.Callout i (Op.Run run.now))) }
+        ensures { HasActed script.now (Asks act (Asked.Callout i (Op.Run run.now))) result self.old hand.old self.new hand.new }
     {
         match run {
             RunOp::Begin { n, cpu } => {
@@ -117,13 +95,8 @@ impl Engine {
 
     /// What a CPU's queue is asked. A Remove is never due, since its call makes it, and a Free is made with its End.
     fn queue(&mut self, script: &Script, hand: &mut Hand, act: u64, cpu: u32, op: &QOp) -> u32
-        requires script { IsScript script.now }
-        requires may { MayAct script.now self.old hand.old (Asks act (Asked.Queue cpu op.now)) }
-        ensures stands { (w : PlainWorld) → HeldBy script.now self.old hand.old w → IsDue script.now w hand.old.actor (Asks act (Asked.Queue cpu op.now)) →
-            HeldBy script.now self.new hand.new (step script.now w hand.old.actor) }
-        ensures actor { hand.new.actor ≡ hand.old.actor }
-        ensures told { self.new.books.told ≡ self.old.books.told }
-        ensures count { length hand.new.notes.items ≡ length hand.old.notes.items + result }
+        requires { MayAct script.now self.old hand.old (Asks act (Asked.Queue cpu op.now)) }
+        ensures { HasActed script.now (Asks act (Asked.Queue cpu op.now)) result self.old hand.old self.new hand.new }
     {
         match op {
             QOp::Insert { i, n, t } => {

@@ -1,5 +1,5 @@
 -- The lists that were kept are those of the notes that were told.
-use Rattle.std.proofs.Common.{◌≡◌, ◌≤◌, ℕ, [], List, ap, arith, length, subst, sym, ◌∙◌}
+use Rattle.std.proofs.Common.{◌≡◌, ℕ, [], List, ap, arith, length, subst, sym, ◌∙◌}
 use Rattle.std.proofs.lemmas.List.FromFn.{length-map-range_with_len}
 use Rattle.co_object.specs.declared.note.Note.{Note}
 use Rattle.co_listener.specs.Made.{list_by, lists_by}

@@ -1,14 +1,26 @@
 -- The turns and then the rounds, from the opening to the end.
+use Rattle.std.proofs.Common.{ℕ, ◌≤◌, subst, sym}
+use Rattle.co_program.specs.Actors.{actor_count}
 use Rattle.co_world.specs.Walk.{run}
 use Rattle.co_world.specs.World.{open_world}
 use Rattle.std.proofs.lemmas.Result.{on_ok_weaker}
 use Rattle.co_core.proofs.walked.Told.{opening_told, walk_told}
 use Rattle.co_core.proofs.telling.tell_walk.Goals as goal
 
-pub tell_rounds-requires-clause-world : goal.tell_rounds-requires-clause-world
-tell_rounds-requires-clause-world g c =
+pub tell_turns-requires : goal.tell_turns-requires
+tell_turns-requires g c =
     let s = c.args.script.now in
-    (run s (open_world s) s.turns, (c.in_ok-tell_turns.ensures.told (open_world s) (opening_told s c.in_ok-engine.engine c.in_ok-engine.ensures)).told)
+    record { script = c.requires.script; room = c.requires.actors; world = open_world s; told = opening_told s c.in_ok-engine.engine c.in_ok-engine.ensures }
+
+pub tell_rounds-requires : goal.tell_rounds-requires
+tell_rounds-requires g c =
+    let s = c.args.script.now in
+    record {
+      script = c.requires.script;
+      room = subst (λ (n : ℕ). actor_count s ≤ n) (sym c.tell_turns.ensures.actors) c.requires.actors;
+      world = run s (open_world s) s.turns;
+      told = (c.in_ok-tell_turns.ensures.told (open_world s) (opening_told s c.in_ok-engine.engine c.in_ok-engine.ensures)).told;
+    }
 
 pub returns-clause-told : goal.returns-clause-told
 returns-clause-told g c =

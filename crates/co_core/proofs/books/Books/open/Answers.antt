@@ -1,4 +1,4 @@
-use Rattle.std.proofs.Common.{◌≡◌, ap, ◌∙◌, List}
+use Rattle.std.proofs.Common.{rules, ◌≡◌, refl, ap, ◌∙◌, List}
 use Rattle.co_object.specs.declared.note.Note.{Note}
 use Rattle.co_core.specs.contracts.books.Books.{the_view}
 use Rattle.co_core.specs.Written.{Written}
@@ -8,10 +8,15 @@ use Rattle.co_core.proofs.books.Books.open.Goals as goal
 abbrev with_lists : Written → List (List Note) → Written
 with_lists x lists = record x { lists = lists }
 
-pub returns-in-Ok-clause-opened : goal.returns-in-Ok-clause-opened
-returns-in-Ok-clause-opened c =
+pub returns-in-Ok-clause-ok : goal.returns-in-Ok-clause-ok
+returns-in-Ok-clause-ok c =
     let back : c.reserve-reserved.new.self.items ≡ c.replace-list.result = c.reserve-reserved.ensures.items ∙ c.from_seq-notes.ensures in
-    ap (with_lists (the_view c.self.inside)) (put_back c.self.inside.lists c.replace-list.new.self c.args.actor c.replace-list.result _ c.reserve-reserved.new.self.items c.replace-list.ensures.replaced c.replace-list.ensures.set back) ∙ c.self.view_is
+    record {
+      actor = refl;
+      kept = ap (with_lists (the_view c.self.inside)) (put_back c.self.inside.lists c.replace-list.new.self c.args.actor c.replace-list.result _ c.reserve-reserved.new.self.items c.replace-list.ensures.replaced c.replace-list.ensures.set back) ∙ c.self.view_is;
+      room = search rules;
+      few = search rules;
+    }
 
 pub returns-in-Err-clause-err : goal.returns-in-Err-clause-err
 returns-in-Err-clause-err c =

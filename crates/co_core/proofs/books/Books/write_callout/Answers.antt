@@ -1,51 +1,53 @@
 -- The books hold a count of the callout's entries, which is below the number of notes; one entry more is as the plain world has it.
-use Rattle.std.proofs.Common.{rules, arith, ◌≡◌, ◌<◌, ◌≤◌, ◌+◌, sym, ap, subst, ◌∙◌, length, get_or, set, length-set}
+use Rattle.std.proofs.Common.{rules, arith, ◌≡◌, ◌<◌, ◌≤◌, ◌+◌, sym, ap, subst, ◌∙◌, length, get_or, set}
 use Rattle.std.proofs.lemmas.List.{get_or_read}
-use Rattle.co_core.specs.Written.{Written, IsNoted, with_list}
-use Rattle.co_core.proofs.written.Entries.{written_callout, history_there, list_there, callout_note}
+use Rattle.co_core.specs.InHand.{with_hand}
+use Rattle.co_core.specs.Written.{Written, IsNoted}
+use Rattle.co_core.proofs.written.Entries.{written_callout, history_there, callout_note}
+use Rattle.co_core.proofs.written.Notes.{counts_from, may_note}
 use Rattle.co_core.proofs.books.Books.write_callout.Goals as goal
 
 pub index-pos-requires : goal.index-pos-requires
 index-pos-requires c =
-    let w = c.requires.written in
-    let there = history_there c.args.script.now (with_list c.args.self.now c.args.hand.now.actor c.args.hand.now.notes.items) w.0 w.1 c.args.i c.requires.known in
+    let m = c.requires.may in
+    let there = history_there c.args.script.now (with_hand c.args.self.now c.args.hand.now) m.world m.written c.args.i c.requires.known in
     let within : c.args.i < length c.self.inside.histories.items = subst (λ (x : Written). c.args.i < length x.histories) (sym c.self.view_is) there.0 in
     search (rules, within)
 
 pub index_mut-requires : goal.index_mut-requires
 index_mut-requires c =
-    let w = c.requires.written in
-    let there = history_there c.args.script.now (with_list c.args.self.now c.args.hand.now.actor c.args.hand.now.notes.items) w.0 w.1 c.args.i c.requires.known in
+    let m = c.requires.may in
+    let there = history_there c.args.script.now (with_hand c.args.self.now c.args.hand.now) m.world m.written c.args.i c.requires.known in
     let within : c.args.i < length c.self.inside.histories.items = subst (λ (x : Written). c.args.i < length x.histories) (sym c.self.view_is) there.0 in
     search (rules, within)
 
 pub overflow_add-pos : goal.overflow_add-pos
 overflow_add-pos c =
-    let w = c.requires.written in
-    let there = history_there c.args.script.now (with_list c.args.self.now c.args.hand.now.actor c.args.hand.now.notes.items) w.0 w.1 c.args.i c.requires.known in
+    let m = c.requires.may in
+    let there = history_there c.args.script.now (with_hand c.args.self.now c.args.hand.now) m.world m.written c.args.i c.requires.known in
     let within : c.args.i < length c.self.inside.histories.items = subst (λ (x : Written). c.args.i < length x.histories) (sym c.self.view_is) there.0 in
     let few : get_or c.self.inside.histories.items c.args.i 0 ≤ c.args.self.now.made = subst (λ (x : Written). get_or x.histories c.args.i 0 ≤ c.args.self.now.made) (sym c.self.view_is) there.1 in
     let read : c.index-pos.result.now ≡ get_or c.self.inside.histories.items c.args.i 0 = get_or_read c.self.inside.histories.items c.args.i c.index-pos.result.now within c.index-pos.ensures 0 in
-    let most = c.requires.few in
+    let most = c.requires.may.few in
     omega (arith, few, read, most)
 
-pub write-requires-clause-list : goal.write-requires-clause-list
-write-requires-clause-list c =
-    let w = c.requires.written in
-    let there = list_there c.args.script.now (with_list c.args.self.now c.args.hand.now.actor c.args.hand.now.notes.items) w.0 w.1 c.args.hand.now.actor w.2 in
-    let long = length-set c.args.self.now.lists c.args.hand.now.actor c.args.hand.now.notes.items in
-    let same : length c.self.inside.lists ≡ length c.args.self.now.lists = ap (λ (x : Written). length x.lists) c.self.view_is in
-    omega (arith, there, long, same)
+pub write-requires : goal.write-requires
+write-requires c =
+    may_note c.args.script.now c.args.self.now _ c.args.hand.now c.requires.may (ap (λ (x : Written). x.places) c.self.view_is) (ap (λ (x : Written). x.lists) c.self.view_is) (ap (λ (x : Written). x.made) c.self.view_is)
 
 pub returns-clause-written : goal.returns-clause-written
-returns-clause-written c = λ w state written is.
-    (let x : Written = with_list c.args.self.now c.args.hand.now.actor c.args.hand.now.notes.items in
-    let x2 : Written = with_list c.write.new.self c.args.hand.now.actor c.write.new.hand.notes.items in
+returns-clause-written c = λ state is w written.
+    (let x : Written = with_hand c.args.self.now c.args.hand.now in
+    let x2 : Written = with_hand c.write.new.self c.write.new.hand in
     let there = history_there c.args.script.now x w written c.args.i c.requires.known in
     let within : c.args.i < length c.self.inside.histories.items = subst (λ (x : Written). c.args.i < length x.histories) (sym c.self.view_is) there.0 in
     let pos = c.index-pos.result.now in
     let at : pos ≡ get_or c.args.self.now.histories c.args.i 0 =
     get_or_read c.self.inside.histories.items c.args.i pos within c.index-pos.ensures 0 ∙ ap (λ (x : Written). get_or x.histories c.args.i 0) c.self.view_is in
-    written_callout c.args.script.now x x2 w c.args.hand.now.actor c.args.act c.args.i pos c.args.op (state, c.args.reply) c.args.listed written c.requires.written.2 c.requires.known is at
+    written_callout c.args.script.now x x2 w c.args.hand.now.actor c.args.act c.args.i pos c.args.op (state, c.args.reply) c.args.listed written c.requires.may.exists c.requires.known is at
     (subst (λ (y : Written). IsNoted c.args.script.now c.args.hand.now.actor c.args.listed (callout_note c.args.hand.now.actor c.args.act c.args.i pos c.args.op c.args.reply)
-    (record (with_list y c.args.hand.now.actor c.args.hand.now.notes.items) { histories = set y.histories c.args.i (pos + 1) }) x2) c.self.view_is c.write.ensures.noted))
+    (record (with_hand y c.args.hand.now) { histories = set y.histories c.args.i (pos + 1) }) x2) c.self.view_is c.write.ensures.noted))
+
+pub returns-clause-wrote : goal.returns-clause-wrote
+returns-clause-wrote c =
+    counts_from 1 c.args.self.now _ c.args.hand.now c.write.new.self c.write.new.hand (ap (λ (x : Written). x.told) c.self.view_is) (ap (λ (x : Written). x.made) c.self.view_is) c.write.ensures.wrote

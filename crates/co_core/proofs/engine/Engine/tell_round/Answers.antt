@@ -8,14 +8,14 @@ use Rattle.co_world.specs.Walk.{run, HasFinished}
 use Rattle.co_world.specs.World.{World}
 use Rattle.co_world.proofs.basics.Changes.{decide}
 use Rattle.co_world.proofs.measure.Rounds.{last_finished, range-more}
-use Rattle.co_core.proofs.walked.Told.{further, not_yet}
+use Rattle.co_core.proofs.walked.Told.{further, may_tell, not_yet}
 use Rattle.co_world.proofs.measure.Walks.{run_more, finished_step}
 use Rattle.co_core.proofs.engine.Engine.tell_round.Goals.{then-finished, else-finished}
 use Rattle.co_core.proofs.engine.Engine.tell_round.Goals as goal
 
 pub loop-actor-init : goal.loop-actor-init
 loop-actor-init g c = record {
-  world = c.requires.world;
+  world = (c.requires.world, c.requires.told);
   told = λ w h have. (not_yet c.args.script.now g.N.Listener.has c.args.self.now c.args.listener.now w h, have);
   finished = λ all w h have. ((λ a below. absurd (let never : ⊥ = omega (arith, below) in never)), refl);
   actors = refl;
@@ -62,3 +62,6 @@ returns-clause-finished g c all w h have =
       λ a within. rest.0 a (omega (arith, within, whole)),
       subst (λ (n : ℕ). run s w (range_with_len 0 n) ≡ w) whole rest.1,
     )
+
+pub tell_unless_ended-requires-clause-may : goal.tell_unless_ended-requires-clause-may
+tell_unless_ended-requires-clause-may g c = may_tell c.args.script.now c.args.self.now c.loop-actor.self _ _ c.requires c.loop-actor.invariant.actors c.loop-actor.invariant.world

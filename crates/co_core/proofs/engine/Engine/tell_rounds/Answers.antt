@@ -4,12 +4,12 @@ use Rattle.co_core.specs.Telling.{GoesOn}
 use Rattle.co_world.specs.Walk.{round, rounds}
 use Rattle.co_world.specs.World.{World}
 use Rattle.co_world.proofs.measure.Rounds.{counted-more, counted-all, rounds-more}
-use Rattle.co_core.proofs.walked.Told.{further, not_yet}
+use Rattle.co_core.proofs.walked.Told.{further, may_tell, not_yet}
 use Rattle.co_core.proofs.engine.Engine.tell_rounds.Goals as goal
 
 pub loop-round-init : goal.loop-round-init
 loop-round-init g c = record {
-  world = c.requires.world;
+  world = (c.requires.world, c.requires.told);
   told = λ w h. (
     not_yet c.args.script.now g.N.Listener.has c.args.self.now c.args.listener.now w h,
     λ a said. (let never : false ≡ true = sym (c.none-ended.ensures a) ∙ said in cc),
@@ -50,3 +50,6 @@ returns-clause-ends g c w h =
     let k = c.loop-round._round in
     let before = c.loop-round.invariant.told w h in
     (k, before.0, counted-all s c.requires.script w k h.stands.reached before.0.told.stands.reached (omega (arith, c.loop-round-test.false)) (before.2 c.requires.script))
+
+pub tell_round-requires : goal.tell_round-requires
+tell_round-requires g c = may_tell c.args.script.now c.args.self.now c.loop-round.self _ _ c.requires c.loop-round.invariant.actors c.loop-round.invariant.world

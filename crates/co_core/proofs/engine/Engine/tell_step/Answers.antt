@@ -14,20 +14,21 @@ returns-then-not-makes_notes-clause-told g c w h =
     quiet_told c.args.script.now g.N.Listener.has c.args.self.now c.step.new.self c.args.listener.now w c.args.actor c.in_ok-turn.turn h (c.in_ok-turn.ensures.stands w h.stands) c.step.ensures.told
     (c.in_ok-turn.ensures.turn w h.stands) (sym c.makes_notes.ensures ∙ none)
 
-pub tell-requires-clause-list : goal.tell-requires-clause-list
-tell-requires-clause-list g c =
-    let s = c.args.script.now in
-    let at = c.requires.world in
-    list_row s c.step.new.self.books (step s at.0 c.args.actor) (c.in_ok-turn.ensures.stands at.0 at.1.stands).written c.args.actor c.requires.actor
+pub step-requires-clause-running : goal.step-requires-clause-running
+step-requires-clause-running g c = let may = c.requires.may in record { script = may.script; world = may.world; stands = may.told.stands }
 
-pub tell-requires-clause-few : goal.tell-requires-clause-few
-tell-requires-clause-few g c =
+pub tell-requires-clause-may : goal.tell-requires-clause-may
+tell-requires-clause-may g c =
     let s = c.args.script.now in
-    let at = c.requires.world in
+    let at = c.requires.may in
+    let a = c.args.actor in
     let books = c.step.new.self.books in
-    let few : told_at books c.args.actor + length (list_at books c.args.actor) ≤ books.made = told_few s books (step s at.0 c.args.actor) c.args.actor (c.in_ok-turn.ensures.stands at.0 at.1.stands).written c.requires.actor in
+    let written = (c.in_ok-turn.ensures.stands at.world at.told.stands).written in
+    let few : told_at books a + length (list_at books a) ≤ books.made = told_few s books (step s at.world a) a written c.requires.actor in
     let most : books.made < 2 ^ 63 = c.is_full.ensures c.if-is_full.false in
-    omega (arith, few, most)
+    let long = written.told_long in
+    let actor = c.requires.actor in
+    record { list = list_row s books (step s at.world a) written a actor; told = omega (arith, long, actor); few = omega (arith, few, most) }
 
 pub returns-clause-told : goal.returns-clause-told
 returns-clause-told g c w h =

@@ -4,13 +4,13 @@ use Rattle.co_world.specs.Step.{step}
 use Rattle.co_core.specs.Telling.{GoesOn}
 use Rattle.co_world.specs.Walk.{run}
 use Rattle.co_world.specs.World.{World}
-use Rattle.co_core.proofs.walked.Told.{further, not_yet}
+use Rattle.co_core.proofs.walked.Told.{further, may_tell, not_yet}
 use Rattle.co_world.proofs.measure.Walks.{run_more}
 use Rattle.co_core.proofs.engine.Engine.tell_turns.Goals as goal
 
 pub loop-actor-init : goal.loop-actor-init
 loop-actor-init g c = record {
-  world = c.requires.world;
+  world = (c.requires.world, c.requires.told);
   told = λ w h. not_yet c.args.script.now g.N.Listener.has c.args.self.now c.args.listener.now w h;
   actors = refl;
 }
@@ -31,3 +31,6 @@ loop-actor-preserved g c =
           (further s has c.loop-actor.self c.tell_step.new.self c.args.listener.now c.loop-actor.listener c.tell_step.new.listener w (run s w (take i turns)) (step s (run s w (take i turns)) (get_or turns i 0)) before after));
       actors = c.tell_step.ensures.actors ∙ c.loop-actor.invariant.actors;
     }
+
+pub tell_step-requires-clause-may : goal.tell_step-requires-clause-may
+tell_step-requires-clause-may g c = may_tell c.args.script.now c.args.self.now c.loop-actor.self _ _ c.requires c.loop-actor.invariant.actors c.loop-actor.invariant.world

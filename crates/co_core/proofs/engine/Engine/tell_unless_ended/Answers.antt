@@ -6,8 +6,8 @@ use Rattle.co_core.proofs.engine.Engine.tell_unless_ended.Goals as goal
 
 pub returns-then-finished-clause-world : goal.returns-then-finished-clause-world
 returns-then-finished-clause-world g c =
-    let at = c.requires.world in
-    (step c.args.script.now at.0 c.args.actor, (c.in_ok-tell_step.ensures.told at.0 at.1).told)
+    let at = c.requires.may in
+    (step c.args.script.now at.world c.args.actor, (c.in_ok-tell_step.ensures.told at.world at.told).told)
 
 pub returns-then-finished-clause-told : goal.returns-then-finished-clause-told
 returns-then-finished-clause-told g c w h have =
@@ -21,8 +21,8 @@ returns-then-finished-clause-finished g c said w h have =
 
 pub returns-else-finished-clause-world : goal.returns-else-finished-clause-world
 returns-else-finished-clause-world g c =
-    let at = c.requires.world in
-    (step c.args.script.now at.0 c.args.actor, (c.in_ok-tell_step.ensures.told at.0 at.1).told)
+    let at = c.requires.may in
+    (step c.args.script.now at.world c.args.actor, (c.in_ok-tell_step.ensures.told at.world at.told).told)
 
 pub returns-else-finished-clause-told : goal.returns-else-finished-clause-told
 returns-else-finished-clause-told g c w h have =

@@ -2,7 +2,7 @@ use Rattle.std.proofs.Common.{length, refl, ap}
 use Rattle.co_program.specs.Actors.{actor_count}
 use Rattle.co_core.proofs.opening.Shown.{opening-written}
 use Rattle.co_core.proofs.written.LockHolders.{no-one}
-use Rattle.co_core.proofs.books.Books.made.Goals as goal
+use Rattle.co_core.proofs.books.Books.empty.Goals as goal
 
 pub returns : goal.returns
 returns c =

@@ -1,0 +1,67 @@
+-- What an actor does in a step of the engine: before, in the middle, and after.
+use Rattle.std.specs.Prelude.{◌≡◌, ℕ, ◌+◌, ◌^◌, ◌≤◌, ◌<◌, length}
+use Rattle.std.specs.declared.option.Option.TheVariants.{None}
+use Rattle.co_program.specs.declared.script.Script.{Script}
+use Rattle.co_program.specs.Action.{Action, action_for}
+use Rattle.co_program.specs.Actors.{actor_count}
+use Rattle.co_program.specs.Scripts.{IsScript}
+use Rattle.co_world.specs.Blocked.{blocked}
+use Rattle.co_world.specs.Step.{step}
+use Rattle.co_world.specs.World.{World}
+use Rattle.co_core.specs.declared.books.Hand.{Hand}
+use Rattle.co_core.specs.declared.engine.Engine.{Engine}
+use Rattle.co_core.specs.InHand.{with_hand}
+use Rattle.co_core.specs.Stands.{StandsFor}
+use Rattle.co_core.specs.Written.{list_at}
+
+-- the engine stands for this world
+abbrev pub Stands : Script → Engine → World → Type 0
+Stands s e w = StandsFor s e.books e.depot w
+
+-- it stands for some world of a sound script
+pub record IsRunning (s : Script) (e : Engine) : Type 0 where
+  pub script : IsScript s
+  pub world : World
+  pub stands : Stands s e world
+
+-- this is what the actor does next, and nothing blocks it
+pub record IsDue (s : Script) (w : World) (a : ℕ) (action : Action) : Type 0 where
+  pub may : a < actor_count s
+  pub due : action_for s a (w.actors a).cursor ≡ action
+  pub free : blocked s w a ≡ None
+
+-- the actor may do this now
+pub record MayStep (s : Script) (e : Engine) (a : ℕ) (action : Action) : Type 0 where
+  pub script : IsScript s
+  pub world : World
+  pub stands : Stands s e world
+  pub due : IsDue s world a action
+
+-- the actor has done this, with so many notes
+pub record HasStepped (s : Script) (a : ℕ) (action : Action) (number : ℕ) (e e2 : Engine) : Type 0 where
+  pub stands : (w : World) → Stands s e w → IsDue s w a action → Stands s e2 (step s w a)
+  pub told : e2.books.told ≡ e.books.told
+  pub count : length (list_at e2.books a) ≡ length (list_at e.books a) + number
+
+-- ---- in the middle of a step
+
+-- the engine stands for this world, with the acting actor's notes in hand
+abbrev pub StandsWith : Script → Engine → Hand → World → Type 0
+StandsWith s e hand w = StandsFor s (with_hand e.books hand) e.depot w
+
+-- the actor in hand may do this now, with room for a section's notes
+pub record MayAct (s : Script) (e : Engine) (hand : Hand) (action : Action) : Type 0 where
+  pub script : IsScript s
+  pub world : World
+  pub held : StandsWith s e hand world
+  pub due : IsDue s world hand.actor action
+  pub few : e.books.made < 2 ^ 63
+  pub room : 3 ≤ hand.notes.spare
+
+-- the actor in hand has done this, with so many notes
+pub record HasActed (s : Script) (action : Action) (number : ℕ) (e : Engine) (hand : Hand) (e2 : Engine) (hand2 : Hand) : Type 0 where
+  pub stands : (w : World) → StandsWith s e hand w → IsDue s w hand.actor action → StandsWith s e2 hand2 (step s w hand.actor)
+  pub actor : hand2.actor ≡ hand.actor
+  pub told : e2.books.told ≡ e.books.told
+  pub count : length hand2.notes.items ≡ length hand.notes.items + number
+  pub few : number ≤ 3

@@ -1,0 +1,52 @@
+-- An actor in the middle of a step: its notes are in hand, and what is written is the books with them put back.
+use Rattle.std.specs.Prelude.{◌≡◌, ℕ, ◌+◌, ◌^◌, ◌≤◌, ◌<◌, length}
+use Rattle.co_program.specs.declared.script.Script.{Script}
+use Rattle.co_program.specs.Actors.{actor_count}
+use Rattle.co_program.specs.Indexed.{IsCounted}
+use Rattle.co_program.specs.Scripts.{IsScript}
+use Rattle.co_world.specs.World.{World}
+use Rattle.co_core.specs.declared.books.Hand.{Hand}
+use Rattle.co_core.specs.Stands.{IsWritten}
+use Rattle.co_core.specs.Written.{Written, place_at, with_list}
+
+-- what is written: the books with the notes in hand put back
+abbrev pub with_hand : Written → Hand → Written
+with_hand x hand = with_list x hand.actor hand.notes.items
+
+-- an actor's notes have been taken in hand
+pub record IsOpened (before : Written) (a : ℕ) (x : Written) (hand : Hand) : Type 0 where
+  pub actor : hand.actor ≡ a
+  pub kept : with_hand x hand ≡ before
+  -- there is room for the notes of a step
+  pub room : 3 ≤ hand.notes.spare
+  pub few : x.made < 2 ^ 63
+
+-- the actor may make a note: what is written is that of some world
+pub record MayWrite (s : Script) (x : Written) (hand : Hand) : Type 0 where
+  pub script : IsScript s
+  pub world : World
+  pub written : IsWritten s (with_hand x hand) world
+  pub exists : hand.actor < actor_count s
+  pub few : x.made < 2 ^ 63 + 3
+  pub room : 0 < hand.notes.spare
+
+-- the same of books in which a history has been counted, and its note is still to come
+pub record MayNote (s : Script) (x : Written) (hand : Hand) : Type 0 where
+  pub script : IsScript s
+  pub place : hand.actor < length x.places
+  pub list : hand.actor < length x.lists
+  pub counted : IsCounted (place_at x hand.actor) x.made
+  pub few : x.made < 2 ^ 63 + 3
+  pub room : 0 < hand.notes.spare
+
+-- the actor has made so many notes
+pub record HasWritten (number : ℕ) (x : Written) (hand : Hand) (x2 : Written) (hand2 : Hand) : Type 0 where
+  pub actor : hand2.actor ≡ hand.actor
+  pub told : x2.told ≡ x.told
+  pub count : length hand2.notes.items ≡ length hand.notes.items + number
+  pub made : x2.made ≡ x.made + number
+  pub spare : hand.notes.spare ≤ hand2.notes.spare + number
+
+-- where a world was written, the one after it is
+abbrev pub Follows : Script → Written → Hand → Written → Hand → (World → World) → Type 0
+Follows s x hand x2 hand2 after = (w : World) → IsWritten s (with_hand x hand) w → IsWritten s (with_hand x2 hand2) (after w)
