@@ -121,14 +121,7 @@ fn answer_all<N: Name, R: Wait>(
 fn no_events(alloc: Global) -> Result<Vec<Event>, NoMemory>
     ensures { IfOk result (λ events. length events.items ≡ 1024) }
 {
-    let mut events = Vec::new(alloc);
-    for _ in 0..1024_usize {
-        match events.push(Event { ident: 0, count: 0 }) {
-            Ok(()) => {}
-            Err(_) => return Err(NoMemory {}),
-        }
-    }
-    Ok(events)
+    vec![in alloc; Event { ident: 0, count: 0 }; 1024].map_err(|_| NoMemory {})
 }
 
 /// Opens the service, answers a batch by it, and ends it.

@@ -1,10 +1,9 @@
 -- One command more.
-use Rattle.std.proofs.Common.{◌≡◌, ◌++◌, ◌∙◌, ap, append-nil, arith, subst, sym}
-use Rattle.co_text.specs.Lines.{line_text}
+use Rattle.std.proofs.Common.{◌∙◌, arith, subst}
 use Rattle.co_batch_text.specs.Ends.{IsServed}
 use Rattle.co_batch_text.specs.Itimer.Answers.{answer_words}
 use Rattle.co_batch_text.specs.Itimer.Ends.{timer_served}
-use Rattle.co_batch_text.proofs.Running.{more}
+use Rattle.co_batch_text.proofs.Running.{more, one-line}
 use Rattle.co_batch_text.proofs.itimer.answers.answer_all.Goals as goal
 
 pub loop-command-preserved : goal.loop-command-preserved
@@ -19,5 +18,5 @@ loop-command-preserved g c =
       processes = a.answered.processes ∙ h.processes;
       work = omega (arith, a.answered.work, h.work);
       way = more timer_served _ _ _ _ c.args.commands.now c.loop-command.command-index v.alone v.seen c.loop-command.page h.way one _ c.loop-command-test.true c.command-item.is w.alone w.seen c.answer.new.page served
-          (a.text ∙ ap (λ t. c.loop-command.page ++ t) (sym (append-nil (line_text (answer_words v.alone one)))));
+          (one-line c.loop-command.page c.answer.new.page (answer_words v.alone one) a.text);
     }

@@ -1,5 +1,5 @@
 -- One command more.
-use Rattle.std.proofs.Common.{◌≡◌, ◌++◌, ◌∙◌, ap, arith, subst}
+use Rattle.std.proofs.Common.{◌≡◌, ◌++◌, ◌∙◌, arith, subst}
 use Rattle.co_text.specs.Lines.{text}
 use Rattle.co_batch_text.specs.Ends.{IsServed}
 use Rattle.co_batch_text.specs.Kq.Answers.{answer_lines}
@@ -20,5 +20,5 @@ loop-command-preserved g c =
       events = cc;
       work = omega (arith, a.answered.work, h.work);
       way = more kq_served _ _ _ _ c.args.commands.now c.loop-command.command-index v.list v.passes c.loop-command.page h.way one _ c.loop-command-test.true c.command-item.is w.list w.passes c.answer.new.page served
-          (a.text ∙ ap (λ room. c.loop-command.page ++ text (answer_lines room v.list one)) h.room);
+          (subst (λ room. c.answer.new.page ≡ c.loop-command.page ++ text (answer_lines room v.list one)) h.room a.text);
     }
