@@ -11,14 +11,14 @@ use Rattle.co_batch.specs.Reading.{batch_of, lines_batch}
 use Rattle.co_batch.specs.Language.{Language}
 use Rattle.co_batch.specs.Answers.{Answering, answer_text, batch_text}
 use Rattle.co_batch.proofs.Fit.{bind-ok}
-use Rattle.co_event_text.specs.Commands.{event_language}
-use Rattle.co_event_text.specs.Answers.{event_text, answering as event_answering}
-use Rattle.co_kq_text.specs.Commands.{kq_language}
-use Rattle.co_kq_text.specs.Answers.{kq_text, answering as kq_answering}
-use Rattle.co_sleepq_text.specs.Commands.{sleep_language}
-use Rattle.co_sleepq_text.specs.Answers.{sleep_text, answering as sleep_answering}
-use Rattle.co_itimer_text.specs.Commands.{timer_language as itimer_language}
-use Rattle.co_itimer_text.specs.Answers.{itimer_text, answering as itimer_answering}
+use Rattle.co_batch_text.specs.Event.Commands.{event_language}
+use Rattle.co_batch_text.specs.Event.Answers.{event_text, answering as event_answering}
+use Rattle.co_batch_text.specs.Kq.Commands.{kq_language}
+use Rattle.co_batch_text.specs.Kq.Answers.{kq_text, answering as kq_answering}
+use Rattle.co_batch_text.specs.Sleep.Commands.{sleep_language}
+use Rattle.co_batch_text.specs.Sleep.Answers.{sleep_text, answering as sleep_answering}
+use Rattle.co_batch_text.specs.Itimer.Commands.{timer_language as itimer_language}
+use Rattle.co_batch_text.specs.Itimer.Answers.{itimer_text, answering as itimer_answering}
 use Rattle.co_script.specs.Reading.{script_of, lines_script}
 use Rattle.co_report.specs.Reading.{report_read, lines_report}
 use Rattle.co_report.specs.declared.line.Report.{Report}

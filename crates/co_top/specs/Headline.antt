@@ -16,13 +16,13 @@ use Rattle.co_check.specs.declared.verdict.Verdict.{Verdict}
 use Rattle.co_check.specs.declared.verdict.Verdict.TheVariants.{Legal, Not}
 use Rattle.co_service.specs.Closing.{ClosingView}
 use Rattle.co_run.specs.Ran.{shown_timers, shown_cpus}
-use Rattle.co_event_text.specs.Answers.{event_text}
-use Rattle.co_kq_text.specs.Answers.{kq_text}
-use Rattle.co_kq_text.specs.Ends.{EndsRun as EndsKq}
-use Rattle.co_sleepq_text.specs.Answers.{sleep_text}
-use Rattle.co_sleepq_text.specs.Ends.{EndsRun as EndsSleep}
-use Rattle.co_itimer_text.specs.Answers.{itimer_text}
-use Rattle.co_itimer_text.specs.Ends.{EndsRun as EndsItimer}
+use Rattle.co_batch_text.specs.Event.Answers.{event_text}
+use Rattle.co_batch_text.specs.Kq.Answers.{kq_text}
+use Rattle.co_batch_text.specs.Kq.Ends.{EndsRun as EndsKq}
+use Rattle.co_batch_text.specs.Sleep.Answers.{sleep_text}
+use Rattle.co_batch_text.specs.Sleep.Ends.{EndsRun as EndsSleep}
+use Rattle.co_batch_text.specs.Itimer.Answers.{itimer_text}
+use Rattle.co_batch_text.specs.Itimer.Ends.{EndsRun as EndsItimer}
 use Rattle.co_gen.specs.Generator.{generated}
 use Rattle.co_gen.specs.Soak.{counts_of, soak_line}
 use Rattle.co_top.specs.declared.command.Command.{Command}

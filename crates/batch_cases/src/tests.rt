@@ -1,0 +1,6 @@
+mod event;
+mod itimer;
+mod kq;
+mod rows;
+mod single;
+mod sleep;

@@ -1,0 +1,4 @@
+//! The command `event`.
+mod calls;
+mod long;
+mod texts;

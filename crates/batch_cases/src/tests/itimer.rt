@@ -1,0 +1,3 @@
+//! The command `itimer`.
+mod calls;
+mod texts;

@@ -1,0 +1,3 @@
+//! The command `kq`.
+mod calls;
+mod texts;

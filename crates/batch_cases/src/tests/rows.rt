@@ -1,0 +1,78 @@
+//! Texts of the commands, and what each comes to.
+use co_batch_text::event::run_event;
+use co_batch_text::itimer::run_itimer;
+use co_batch_text::kq::run_kq;
+use co_batch_text::sleep::run_sleep;
+use co_sbt::Seq;
+use co_text::{Cause, ScriptFault};
+use std::alloc::Global;
+use std::process::Abort;
+use std::sync::Wait;
+
+/// A command that answers line by line.
+#[derive(Clone, Copy)]
+pub(crate) enum Command {
+    Event,
+    Itimer,
+    Kq,
+    Sleep,
+}
+
+/// A text and its answer.
+pub(crate) type Answered = (&'static str, &'static str);
+
+/// A text, its first bad line, and the first cause for which that is bad.
+pub(crate) type Refused = (&'static str, u64, Cause);
+
+/// What the command makes of the text.
+fn answer_to<R: Wait>(
+    rt: &R,
+    alloc: Global,
+    command: Command,
+    text: &str,
+) -> Result<Seq<u8>, ScriptFault> {
+    let bytes = text.as_bytes();
+    let (answer, _closing) = match command {
+        Command::Event => return run_event(alloc, bytes),
+        Command::Itimer => run_itimer(rt, alloc, bytes)?,
+        Command::Kq => run_kq(rt, alloc, bytes)?,
+        Command::Sleep => run_sleep(rt, alloc, bytes)?,
+    };
+    Ok(answer)
+}
+
+/// Each text is answered as its row says.
+pub(crate) fn are_answered<R: Abort + Wait>(
+    rt: &R,
+    alloc: Global,
+    command: Command,
+    rows: &[Answered],
+) {
+    for (text, wanted) in rows {
+        let right = match answer_to(rt, alloc, command, text) {
+            Ok(answer) => answer.as_slice() == wanted.as_bytes(),
+            Err(_) => false,
+        };
+        assert!(rt; right, "{text}");
+    }
+}
+
+/// Each text is refused as its row says.
+pub(crate) fn are_refused<R: Abort + Wait>(
+    rt: &R,
+    alloc: Global,
+    command: Command,
+    rows: &[Refused],
+) {
+    for (text, line, cause) in rows {
+        let wanted = ScriptFault::Bad {
+            line: *line,
+            cause: *cause,
+        };
+        let right = match answer_to(rt, alloc, command, text) {
+            Ok(_) => false,
+            Err(fault) => fault == wanted,
+        };
+        assert!(rt; right, "{text}");
+    }
+}

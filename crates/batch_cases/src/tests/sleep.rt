@@ -1,0 +1,5 @@
+//! The command `sleep`.
+mod replies;
+mod stage;
+mod texts;
+mod threads;

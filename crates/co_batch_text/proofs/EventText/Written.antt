@@ -1,0 +1,150 @@
+-- What each answer writes, for whatever events the queue stood.
+use Rattle.std.proofs.Common.{◌≡◌, ℕ, zero, suc, ◌+◌, ◌<◌, ◌≤◌, Bool, true, false, cond, List, [], ◌∷◌, ◌++◌, length, get_or, drop, ℤ, refl, ap, sym, subst, ◌∙◌, arith, append_assoc}
+use Rattle.std.specs.Prelude.{Result, Ok, Err, OnOk}
+use Rattle.std.specs.declared.option.Option.{Option}
+use Rattle.std.specs.declared.option.Option.TheVariants.{Some, None}
+use Rattle.co_program.specs.declared.When.{When}
+use Rattle.co_text.specs.Lines.{line_text, text}
+use Rattle.co_text.specs.Values.{Word}
+use Rattle.co_text.proofs.Spacing.{text_one, text_append}
+use Rattle.co_batch.specs.Answers.{answers}
+use Rattle.co_batch.proofs.Answering.{answers_step}
+use Rattle.co_event.specs.declared.Armed.{Armed}
+use Rattle.co_event.specs.declared.Event.{Event}
+use Rattle.co_event.specs.Events.{Events, next_moment}
+use Rattle.co_event.specs.Calls.{arm, stop, take, settle}
+use Rattle.co_event.specs.EventTimers.{EventTimers}
+use Rattle.co_event.specs.StandsFor.{StandsFor, Answers}
+use Rattle.co_event.proofs.Standing.{sound-of}
+use Rattle.co_batch_text.specs.declared.event.command.EventCommand.{EventCommand}
+use Rattle.co_batch_text.specs.declared.event.command.EventCommand.TheVariants.{Arm, Stop}
+use Rattle.co_batch_text.specs.Event.Answers.{answered, answering, armed_words, comes_by, due_of, event_lines, events_by, stopped_words, take_by, until, until_words}
+use Rattle.co_batch_text.specs.Event.Written.{IsWritten}
+use Rattle.co_batch_text.proofs.EventText.Until.{ended, fewer-by, with-some}
+
+-- what follows where it is not an error
+pub on_ok : {X E : Type 0} (r : Result X E) (P Q : Type 0) → (P → Q) → OnOk r P → OnOk r Q
+on_ok (Ok x) P Q f h = f h
+on_ok (Err e) P Q f h = h
+
+-- a page with one line more
+one_line : (page then : List ℕ) (words : List Word) → then ≡ page ++ line_text words → then ≡ page ++ text (words ∷ [])
+one_line page then words is = is ∙ ap (λ t. page ++ t) (sym (text_one words))
+
+-- ---- an arming and a stop
+
+pub arm-written : (s u : EventTimers) (i due prec : ℕ) (when : When) (armed : Armed) (page then : List ℕ) → due ≡ due_of s.clock when → Answers s u (λ e. arm e i due prec) armed →
+    then ≡ page ++ line_text (armed_words armed) → IsWritten s u page then (answered (Arm i when prec))
+arm-written s u i due prec when armed page then due-is answer is = record {
+  outcome = λ e h.
+      let out = answer.outcome e h in
+      let same : due ≡ due_of e.now when = due-is ∙ ap (λ (n : ℕ). due_of n when) (sym h.now) in (
+        one_line page then (armed_words armed) is
+            ∙ ap (λ (a : Armed). page ++ text (armed_words a ∷ [])) (sym out.0)
+            ∙ ap (λ (d : ℕ). page ++ text (armed_words (arm e i d prec).1 ∷ [])) same,
+        subst (λ (d : ℕ). StandsFor u (arm e i d prec).0) same out.1,
+      );
+}
+
+pub stop-written : (s u : EventTimers) (i : ℕ) (code : ℤ) (page then : List ℕ) → Answers s u (λ e. stop e i) code → then ≡ page ++ line_text (stopped_words code) → IsWritten s u page then (answered (Stop i))
+stop-written s u i code page then answer is = record {
+  outcome = λ e h.
+      let out = answer.outcome e h in
+      (one_line page then (stopped_words code) is ∙ ap (λ (z : ℤ). page ++ text (stopped_words z ∷ [])) (sym out.0), out.1);
+}
+
+-- ---- the next event by a time
+
+pub none-by : (s : EventTimers) (t : ℕ) → ((e : Events) → StandsFor s e → comes_by t (next_moment e) ≡ false) → Answers s s (take_by t) (None, [])
+none-by s t none = record {
+  size = refl;
+  outcome = λ e h.
+      let is = none e h in (
+        ap (λ (b : Bool). (cond b (take e) (e, (None, []))).1) is,
+        subst (λ (b : Bool). StandsFor s (cond b (take e) (e, (None, []))).0) (sym is) h,
+      );
+}
+
+pub some-by : (s u : EventTimers) (t : ℕ) (reply : Option Event × List ℕ) → ((e : Events) → StandsFor s e → comes_by t (next_moment e) ≡ true) → Answers s u take reply → Answers s u (take_by t) reply
+some-by s u t reply some answer = record {
+  size = answer.size;
+  outcome = λ e h.
+      let is = some e h in
+      let out = answer.outcome e h in (
+        ap (λ (b : Bool). (cond b (take e) (e, (None, []))).1) is ∙ out.0,
+        subst (λ (b : Bool). StandsFor u (cond b (take e) (e, (None, []))).0) (sym is) out.1,
+      );
+}
+
+-- ---- an `until`
+
+-- Behind some of its events: what is pending now, at most how many events are to come, and the text that is to come.
+pub record Halfway (t : ℕ) (first page : List ℕ) (s : EventTimers) (e : Events) : Type 0 where
+  pub now : Events
+  pub most : ℕ
+  pub stands : StandsFor s now
+  pub enough : length now.pending ≤ most
+  pub to_come : page ++ text (events_by t most now).1 ≡ first ++ text (until t e).1
+  pub ends : (events_by t most now).0 ≡ (until t e).0
+
+pub halfway-opening : (t : ℕ) (page : List ℕ) (s : EventTimers) (e : Events) → StandsFor s e → Halfway t page page s e
+halfway-opening t page s e h = record { now = e; most = length e.pending; stands = h; enough = omega arith; to_come = refl; ends = refl }
+
+module _ (t : ℕ) (first page : List ℕ) (s u : EventTimers) (e : Events) where
+  pub halfway-more : (then : List ℕ) (event : Event) (numbers : List ℕ) → Answers s u (take_by t) (Some event, numbers) → then ≡ page ++ text (event_lines event numbers) → Halfway t first page s e → Halfway t first then u e
+  halfway-more then event numbers answer is h = at_most h.most h.enough h.to_come h.ends where
+    now : Events
+    now = h.now
+
+    out : ((take_by t now).1 ≡ (Some event, numbers)) × StandsFor u (take_by t now).0
+    out = answer.outcome now h.stands
+
+    less : length (take_by t now).0.pending < length now.pending
+    less = fewer-by t now event numbers (sound-of now h.stands.sound) out.0
+
+    at_most : (most : ℕ) → length now.pending ≤ most → page ++ text (events_by t most now).1 ≡ first ++ text (until t e).1 → (events_by t most now).0 ≡ (until t e).0 → Halfway t first then u e
+    at_most zero enough to_come ends = absurd (omega (arith, enough, less))
+    at_most (suc most) enough to_come ends =
+        let rest = events_by t most (take_by t now).0 in
+        let more = with-some t (take_by t now) rest event numbers out.0 in
+        record {
+          now = (take_by t now).0;
+          most = most;
+          stands = out.1;
+          enough = omega (arith, enough, less);
+          to_come =
+              ap (λ p. p ++ text rest.1) is
+              ∙ append_assoc page (text (event_lines event numbers)) (text rest.1)
+              ∙ ap (λ r. page ++ r) (sym (text_append (event_lines event numbers) rest.1))
+              ∙ ap (λ a. page ++ text a.1) (sym more)
+              ∙ to_come;
+          ends = ap (λ a. a.0) (sym more) ∙ ends;
+        }
+
+  pub halfway-ended : (v : EventTimers) (then : List ℕ) (numbers : List ℕ) → Answers s u (take_by t) (None, numbers) → Answers {R = Unit {0}} u v (λ e. settle e t) tt → then ≡ page ++ line_text (until_words t) →
+      Halfway t first page s e → (then ≡ first ++ text (until t e).1) × StandsFor v (until t e).0
+  halfway-ended v then numbers answer settles is h =
+      let out = answer.outcome h.now h.stands in
+      let last = settles.outcome (take_by t h.now).0 out.1 in
+      let end = ended t h.most h.now numbers out.0 in (
+        one_line page then (until_words t) is ∙ ap (λ a. page ++ text a.1) (sym end) ∙ h.to_come,
+        subst (λ (f : Events). StandsFor v f) (ap (λ a. a.0) (sym end) ∙ h.ends) last.1,
+      )
+
+-- ---- all commands
+
+-- Behind some of the commands: what is pending now, and the text that is to come.
+pub record SoFar (n : ℕ) (first page : List ℕ) (s : EventTimers) (all rest : List EventCommand) (e : Events) : Type 0 where
+  pub now : Events
+  pub stands : StandsFor s now
+  pub to_come : page ++ text (answers answering n now rest) ≡ first ++ text (answers answering n e all)
+
+pub so_far-more : (n : ℕ) (first page then : List ℕ) (s u : EventTimers) (cs : List EventCommand) (i : ℕ) (d c : EventCommand) (e : Events) →
+    i < length cs → c ≡ get_or cs i d → IsWritten s u page then (answered c) → SoFar n first page s cs (drop i cs) e → SoFar n first then u cs (drop (i + 1) cs) e
+so_far-more n first page then s u cs i d c e inside is written h =
+    let out = written.outcome h.now h.stands in
+    record {
+      now = (answered c h.now).0;
+      stands = out.1;
+      to_come = answers_step answering n h.now (answered c h.now).0 cs i d c (first ++ text (answers answering n e cs)) page then h.to_come inside is out.0 refl;
+    }

@@ -1,0 +1,6 @@
+pub mod Lines
+pub mod Running
+pub mod EventText
+pub mod KqText
+pub mod SleepText
+pub mod ItimerText

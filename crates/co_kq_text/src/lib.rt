@@ -1,8 +1,0 @@
-//! The text of the command `kq`: timers of a kevent list over a service of one CPU.
-#![tactic(auto)]
-
-mod answers;
-mod command;
-
-pub use answers::run_kq;
-pub use command::KqCommand;

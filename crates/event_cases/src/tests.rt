@@ -1,3 +1,0 @@
-mod queue;
-mod refusals;
-mod texts;

@@ -1,5 +1,0 @@
-//! Worked texts of the command `itimer` and worked calls of its timers, each by what is public.
-#![tactic(auto)]
-
-#[cfg(test)]
-mod tests;

@@ -1,5 +1,0 @@
-use Rattle.kq_cases.proofs.tests.calls.a_timer_counts_its_expirations.Given as goal
-
--- the service that was just booted
-abbrev pub ghosts-counts : goal.ghosts-counts
-ghosts-counts g a = record { name = a.fresh.name }

@@ -1,5 +1,0 @@
-use Rattle.co_sleepq.specs.Params.{ArePasses}
-use Rattle.sleep_cases.proofs.tests.threads.sleep_once.Given as goal
-
-abbrev pub invariant-loop : goal.invariant-loop
-invariant-loop g l = ArePasses g.N.Name.name g.N.SleepName.book l.queue l.passes

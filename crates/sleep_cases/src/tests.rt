@@ -1,4 +1,0 @@
-mod played;
-mod stage;
-mod texts;
-mod threads;
