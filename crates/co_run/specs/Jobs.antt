@@ -18,9 +18,13 @@ use Rattle.co_run.specs.declared.jobs.Played.{Played}
 
 -- a service of this name and of these parameters can run the script
 pub record CanRun (s : Script) (name : ServiceName) (p : Params) : Type 0 where
+  -- the script keeps what every script keeps
   pub script : IsScript s
+  -- the locks that it names exist
   pub locks : HasLocks s
+  -- the service has its numbers of clients and CPUs, and its callouts
   pub params : p ≡ params_of s
+  -- each of its places has a life
   pub named : AreNamed name (params_of s)
 
 -- a book without notes, and with room for fewer than one list ever has
@@ -38,9 +42,13 @@ AreFirst name p all = (k : ℕ) (q : PassesView) → slice_get all k ≡ Some q 
 
 -- the passes and the books of the first actors, which have no jobs yet
 pub record AreLeft {B : Type 0} (notes : B → List Note) (spare : B → ℕ) (s : Script) (name : ServiceName) (passes : List PassesView) (books : List B) : Type 0 where
+  -- there are no more than actors
   pub few : length passes ≤ actor_count s
+  -- each has its book
   pub count : length books ≡ length passes
+  -- the passes have seen nothing
   pub first : AreFirst name (params_of s) passes
+  -- the books have no notes
   pub empty : AreEmpty notes spare books
 
 -- the actor of this number has passes that have seen nothing, and an empty book

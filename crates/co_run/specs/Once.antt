@@ -1,5 +1,5 @@
 -- What a script keeps, and the locks that it names, have one proof each at most, so that a struct can keep them.
-use Rattle.std.specs.Prelude.{◌≡◌, ℕ, zero, suc, ◌^◌, ◌<◌, ◌⊎◌, Bool, true, false, List}
+use Rattle.std.specs.Prelude.{◌≡◌, ℕ, zero, suc, ◌^◌, ◌⊎◌, Bool, true, false, List}
 use Rattle.std.specs.Coded.{Unit-prop, le_prop}
 use Rattle.std.proofs.Common.{inl, inr, ap, sym, refl, ◌∙◌, arith, pow-suc}
 use Rattle.std.proofs.Props.{props}
@@ -7,10 +7,9 @@ use Rattle.std.proofs.lemmas.Nat.{pow_below}
 use native.Mathlib.Nat.{ℕ_set}
 use mathlib.Core.HLevel.{Σ_prop_path}
 use Rattle.co_lock.specs.declared.lock_kind.LockKind.{LockKind}
-use Rattle.co_program.specs.declared.act.Act.{Act}
 use Rattle.co_program.specs.declared.act.Act.TheVariants.{Lock, ReadLock}
 use Rattle.co_program.specs.declared.program.Task.{Task}
-use Rattle.co_program.specs.declared.program.Task.TheVariants.{Does, Soft}
+use Rattle.co_program.specs.declared.program.Task.TheVariants.{Does}
 use Rattle.co_program.specs.declared.script.Script.{Script}
 use Rattle.co_program.specs.Scripts.{IsScript}
 use Rattle.co_run.specs.Acting.{HasLocks, HeldBy, TaskLocks}

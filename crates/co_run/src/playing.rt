@@ -1,8 +1,7 @@
 //! The whole program of an actor.
-ghost use Rattle.std.specs.Prelude.{◌≡◌, OnErr, OnOk};
+ghost use Rattle.std.specs.Prelude.{◌≡◌};
 ghost use Rattle.co_run.specs.Jobs.{IsJob};
-ghost use Rattle.co_run.specs.Over.{IsOver};
-ghost use Rattle.co_run.specs.Ready.{HasLeft, HasTried, IsDone, IsReady};
+ghost use Rattle.co_run.specs.Ready.{HasPlayed, HasPlayedOn, IsReady};
 
 use crate::Notebook;
 use crate::actor::Actor;
@@ -43,8 +42,7 @@ impl<'a, B: Notebook> Actor<'a, B> {
         shared: &Shared<'a, N, G>,
     ) -> Result<(), NoMemory>
         requires ready { IsReady B.notes B.spare shared.now.script.now shared.now.longest N.name self.old }
-        ensures tried { HasTried B.notes B.spare shared.now.script.now shared.now.longest N.name self.old self.new result }
-        ensures over { OnOk result (IsDone shared.now.script.now self.new) }
+        ensures { HasPlayedOn B.notes B.spare shared.now.script.now shared.now.longest N.name self.old self.new result }
     {
         for _ in rt.forever() {
             if self.step(rt, shared)? {
@@ -62,8 +60,7 @@ impl<'a, B: Notebook> Actor<'a, B> {
         shared: &Shared<'a, N, G>,
     ) -> Result<(), NoMemory>
         requires ready { IsReady B.notes B.spare shared.now.script.now shared.now.longest N.name self.old }
-        ensures over { OnOk result (IsOver shared.now.script.now N.name self.old.number self.new.passes (B.notes self.new.book)) }
-        ensures left { OnErr result (HasLeft shared.now.script.now self.old self.new) }
+        ensures { HasPlayed B.notes shared.now.script.now N.name self.old self.new result }
     {
         match self.play_on(rt, shared) {
             Ok(()) => Ok(()),

@@ -13,8 +13,7 @@ ghost use Rattle.co_service.specs.Services.{IsFree};
 ghost use Rattle.co_service.specs.Views.{AreOf, journal_seen};
 ghost use Rattle.co_world.proofs.kept.Invariant.{under_way};
 ghost use Rattle.co_run.specs.Acting.{HasAllScans, HasScanned, Serves};
-ghost use Rattle.co_run.specs.Ready.{HasLeft, IsReady, place_of};
-ghost use Rattle.co_run.specs.Roomy.{is_resting};
+ghost use Rattle.co_run.specs.Ready.{HasLeft, IsAtRest};
 
 use crate::Notebook;
 use crate::actor::Actor;
@@ -100,8 +99,7 @@ impl<'a, B: Notebook> Actor<'a, B> {
     /// Leaves its program between two services: it lets go of its lock, has nothing in service, and as an interrupt makes the
     /// Scans that its CPU still waits for.
     pub(crate) fn leave<N: Name, G: Gate, R: Wait>(&mut self, rt: &R, shared: &Shared<'_, N, G>)
-        requires ready { IsReady B.notes B.spare shared.now.script.now shared.now.longest N.name self.old }
-        requires rests { is_resting (place_of shared.now.script.now self.old).stage ≡ true }
+        requires { IsAtRest B.notes B.spare shared.now.script.now shared.now.longest N.name self.old }
         ensures { HasLeft shared.now.script.now self.old self.new }
     {
         self.hold = None;

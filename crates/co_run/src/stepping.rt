@@ -1,7 +1,6 @@
 //! The next step of an actor.
-ghost use Rattle.std.specs.Prelude.{◌≡◌, IfOk, true};
 ghost use Rattle.co_program.specs.Action.{Asks};
-ghost use Rattle.co_run.specs.Ready.{HasTried, IsDone, IsDue, IsReady};
+ghost use Rattle.co_run.specs.Ready.{HasStepped, HasTried, IsDue, IsReady};
 
 use crate::Notebook;
 use crate::actor::Actor;
@@ -57,8 +56,7 @@ impl<'a, B: Notebook> Actor<'a, B> {
         shared: &Shared<'a, N, G>,
     ) -> Result<bool, NoMemory>
         requires ready { IsReady B.notes B.spare shared.now.script.now shared.now.longest N.name self.old }
-        ensures tried { HasTried B.notes B.spare shared.now.script.now shared.now.longest N.name self.old self.new result }
-        ensures over { IfOk result (λ over. over ≡ true → IsDone shared.now.script.now self.new) }
+        ensures { HasStepped B.notes B.spare shared.now.script.now shared.now.longest N.name self.old self.new result }
     {
         let mut next = Action::Nothing;
         let _task = self.cursor.task;

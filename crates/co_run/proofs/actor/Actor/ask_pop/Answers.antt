@@ -1,5 +1,5 @@
 -- Who asks its CPU's queue is between two services, and needs no other room than this.
-use Rattle.std.proofs.Common.{◌≤◌, refl, ap, length, arith}
+use Rattle.std.proofs.Common.{refl, ap, length, arith}
 use Rattle.co_wheel.specs.Turns.{pop_of as lane_pop}
 use Rattle.co_run.specs.Ready.{place_of}
 use Rattle.co_run.proofs.kept.Readiness.{other_book, resting_room}
@@ -12,10 +12,7 @@ pop-requires g c =
     let ready = c.requires.due.ready in
     let k = place_of s c.args.self.now in
     let none = resting_room c.args.shared.now.longest k.stage (queue_rests s c.args.self.now.number k c.args.act c.args.cpu (lane_pop c.args.direct) ready.acting.place c.requires.due.next) in
-    record {
-      due = record { ready = other_book c.args.self.now c.reserve.new.self ready c.reserve.ensures.notes c.in_ok-reserve.ensures.few (omega (arith, none)); next = c.requires.due.next };
-      room = c.in_ok-reserve.ensures.ok;
-    }
+    record { can = record { due = record { ready = other_book c.args.self.now c.reserve.new.self ready c.reserve.ensures.notes c.in_ok-reserve.ensures.few (omega (arith, none)); next = c.requires.due.next }; room = c.in_ok-reserve.ensures.ok } }
 
 pub returns : goal.returns
 returns g c = record { gone_on = record { ready = c.pop.ensures.ready; number = c.pop.ensures.number }; rests = tt }
