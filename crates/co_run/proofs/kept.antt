@@ -8,3 +8,4 @@ pub mod ByPops
 pub mod ByBegins
 pub mod ByEnds
 pub mod ByOwedScans
+pub mod Readiness

@@ -1,6 +1,5 @@
 -- What the actors of a run begin with, and what they bring back.
 use Rattle.std.specs.Prelude.{◌≡◌, ℕ, ◌+◌, ◌<◌, ◌≤◌, ◌^◌, List, [], Some, length, slice_get}
-use Rattle.co_lock.specs.declared.lock_kind.LockKind.{LockKind}
 use Rattle.co_object.specs.declared.note.Note.{Note}
 use Rattle.co_program.specs.declared.script.Script.{Script}
 use Rattle.co_program.specs.Actors.{actor_count, client_count}
@@ -12,19 +11,21 @@ use Rattle.co_service.specs.Name.{ServiceName}
 use Rattle.co_service.specs.Views.{PassesView}
 use Rattle.co_run.specs.Acting.{HasLocks, params_of}
 use Rattle.co_run.specs.Over.{IsOver}
-use Rattle.co_run.specs.Roomy.{AreShort}
+use Rattle.co_run.specs.declared.jobs.Crew.{Crew}
+use Rattle.co_run.specs.declared.jobs.Group.{Group}
 use Rattle.co_run.specs.declared.jobs.Job.{Job}
 use Rattle.co_run.specs.declared.jobs.Played.{Played}
 
--- these locks and a service of this name and these parameters play the script, no function of which is longer
-pub record CanPlay (s : Script) (locks : List LockKind) (name : ServiceName) (p : Params) (longest : ℕ) : Type 0 where
+-- a service of this name and of these parameters can run the script
+pub record CanRun (s : Script) (name : ServiceName) (p : Params) : Type 0 where
+  -- the script keeps what every script keeps
   pub script : IsScript s
-  pub locks_are : HasLocks s
-  pub kinds : locks ≡ s.locks
-  pub service : p ≡ params_of s
+  -- the locks that it names exist
+  pub locks : HasLocks s
+  -- the service has its numbers of clients and CPUs, and its callouts
+  pub params : p ≡ params_of s
+  -- each of its places has a life
   pub named : AreNamed name (params_of s)
-  pub short : AreShort s longest
-  pub few : longest ≤ 2 ^ 16
 
 -- a book without notes, and with room for fewer than one list ever has
 pub record IsEmpty (notes : List Note) (spare : ℕ) : Type 0 where
@@ -38,6 +39,17 @@ AreEmpty {B} notes spare books = (k : ℕ) (book : B) → slice_get books k ≡ 
 -- one actor's passes after the other, and none has seen anything
 abbrev pub AreFirst : ServiceName → Params → List PassesView → Type 0
 AreFirst name p all = (k : ℕ) (q : PassesView) → slice_get all k ≡ Some q → q ≡ booted name p k
+
+-- the passes and the books of the first actors, which have no jobs yet
+pub record AreLeft {B : Type 0} (notes : B → List Note) (spare : B → ℕ) (s : Script) (name : ServiceName) (passes : List PassesView) (books : List B) : Type 0 where
+  -- there are no more than actors
+  pub few : length passes ≤ actor_count s
+  -- each has its book
+  pub count : length books ≡ length passes
+  -- the passes have seen nothing
+  pub first : AreFirst name (params_of s) passes
+  -- the books have no notes
+  pub empty : AreEmpty notes spare books
 
 -- the actor of this number has passes that have seen nothing, and an empty book
 pub record IsJob (s : Script) (name : ServiceName) (number : ℕ) (q : PassesView) (notes : List Note) (spare : ℕ) : Type 0 where
@@ -63,6 +75,24 @@ pub record AreBounds (s : Script) (first_client end_client first_cpu end_cpu fir
   pub clients : (first_client ≡ 0) × (end_client ≡ client_count s)
   pub cpus : (first_cpu ≡ client_count s) × (end_cpu ≡ client_count s + s.cpus)
   pub interrupts : (first_interrupt ≡ client_count s + s.cpus) × (end_interrupt ≡ actor_count s)
+
+-- a job for each actor of the group
+abbrev pub HasJobs : {B : Type 0} → (B → List Note) → (B → ℕ) → Script → ServiceName → Group B → Type 0
+HasJobs notes spare s name group = IsGroup (AreJobs s name notes spare) group.first group.end group.jobs.items
+
+-- of the actors that had no jobs, `before` of them, the last ones have theirs in this group, and `after` are left
+pub record IsDealt {B : Type 0} (notes : B → List Note) (spare : B → ℕ) (s : Script) (name : ServiceName) (before after count : ℕ) (group : Group B) : Type 0 where
+  pub less : after + count ≡ before
+  pub from : group.first ≡ after
+  pub to : group.end ≡ before
+  pub jobs : HasJobs notes spare s name group
+
+-- a job for each client, each CPU and each interrupt
+pub record AreDealt {B : Type 0} (notes : B → List Note) (spare : B → ℕ) (s : Script) (name : ServiceName) (crew : Crew (Group B)) : Type 0 where
+  pub bounds : AreBounds s crew.clients.first crew.clients.end crew.cpus.first crew.cpus.end crew.interrupts.first crew.interrupts.end
+  pub clients : HasJobs notes spare s name crew.clients
+  pub cpus : HasJobs notes spare s name crew.cpus
+  pub interrupts : HasJobs notes spare s name crew.interrupts
 
 -- these are of the clients, of the CPUs and of the interrupts
 pub record IsCrew {X : Type 0} (s : Script) (Are : ℕ → List X → Type 0) (clients cpus interrupts : List X) : Type 0 where

@@ -10,6 +10,8 @@ pub mod Shown
 pub mod Going
 -- how an actor's cursor goes on after the notes of one section
 pub mod Noted
+-- a script and its locks have one proof each
+pub mod Once
 -- what is kept of an actor between two sections: cursor, passes, hold, what it serves, its notes
 pub mod Acting
 -- how many notes a stage may still make before its actor can ask for room
@@ -18,5 +20,9 @@ pub mod Roomy
 pub mod Counted
 -- actors whose programs are over
 pub mod Over
+-- an actor between two steps, and what a step keeps and gives
+pub mod Ready
+-- what an actor gets of the service in which it serves a callout
+pub mod Served
 -- what the actors begin with and bring back, in groups: clients, CPUs, interrupts
 pub mod Jobs

@@ -1,31 +1,17 @@
 //! One actor of a run.
-ghost use Rattle.std.specs.Prelude.{◌≡◌, ◌<◌, ◌≤◌, ◌+◌, ◌++◌, ◌∷◌, [], ℕ, ◌||◌, is_some, length, true};
+ghost use Rattle.std.specs.Prelude.{◌≡◌, ◌≤◌, ◌+◌, ◌++◌, ◌∷◌, [], ℕ, ◌||◌, is_some};
 ghost use Rattle.co_program.specs.Advance.{advance};
-ghost use Rattle.co_program.specs.Indexed.{MoveCounts, cursor_of, moved};
+ghost use Rattle.co_program.specs.Indexed.{cursor_of};
 ghost use Rattle.co_program.specs.Scripts.{IsScript};
 ghost use Rattle.co_service.specs.Call.{noted, notes_in};
-ghost use Rattle.co_run.specs.Counted.{HasNumbers};
+ghost use Rattle.co_run.specs.Counted.{CanTell, HasTold};
 ghost use Rattle.co_run.specs.Noted.{gone_on, gone_on_with};
 
 use crate::Notebook;
-use co_hand::Gate;
-use co_lock::{ClientLocks, Hold};
+use co_lock::Hold;
 use co_object::Note;
 use co_program::{Cursor, Script, advance};
-use co_service::{Name, Passes, Service};
-
-/// What all actors of a run share.
-#[derive(Drop)]
-pub struct Shared<'a, N: Name, G: Gate> {
-    /// The script that is played.
-    pub script: &'a Script,
-    /// The running service, on which all calls are made.
-    pub service: &'a Service<N>,
-    /// The client locks that the script declares.
-    pub locks: &'a ClientLocks,
-    /// Through which an actor goes before each of its acts.
-    pub gate: &'a G,
-}
+use co_service::Passes;
 
 /// An actor: its place in its program, what it has seen of the service, what it holds and what it has noted.
 #[derive(Drop)]
@@ -69,12 +55,9 @@ pub(crate) fn tell<B: Notebook>(
     more: bool,
 )
     requires script { IsScript script.now }
-    requires room { 1 ≤ B.spare book.old }
-    requires count { HasNumbers cursor.old (B.notes book.old) (B.spare book.old) }
+    requires can { CanTell B.notes B.spare cursor.old book.old 1 }
     ensures cursor { (actor : ℕ) → cursor_of script.now actor cursor.new ≡ advance script.now (cursor_of script.now actor cursor.old) more note.now.place note.now.entry }
-    ensures notes { B.notes book.new ≡ B.notes book.old ++ note.now ∷ [] }
-    ensures spare { B.spare book.new + 1 ≡ B.spare book.old }
-    ensures count { HasNumbers cursor.new (B.notes book.new) (B.spare book.new) }
+    ensures told { HasTold B.notes B.spare cursor.new book.old book.new (note.now ∷ []) 1 }
 {
     let _task = cursor.task;
     put(book, note);
@@ -91,12 +74,9 @@ fn tell_some<B: Notebook>(
     more: bool,
 )
     requires script { IsScript script.now }
-    requires room { 1 ≤ B.spare book.old }
-    requires count { HasNumbers cursor.old (B.notes book.old) (B.spare book.old) }
+    requires can { CanTell B.notes B.spare cursor.old book.old 1 }
     ensures cursor { (actor : ℕ) → cursor_of script.now actor cursor.new ≡ gone_on_with script.now (cursor_of script.now actor cursor.old) more note.now }
-    ensures notes { B.notes book.new ≡ B.notes book.old ++ noted note.now }
-    ensures spare { B.spare book.new + length (noted note.now) ≡ B.spare book.old }
-    ensures count { HasNumbers cursor.new (B.notes book.new) (B.spare book.new) }
+    ensures told { HasTold B.notes B.spare cursor.new book.old book.new (noted note.now) 1 }
 {
     if let Some(note) = note {
         tell(script, cursor, book, note, more);
@@ -111,12 +91,9 @@ pub(crate) fn tell_all<B: Notebook>(
     notes: &[Option<Note>; 3],
 )
     requires script { IsScript script.now }
-    requires room { 3 ≤ B.spare book.old }
-    requires count { HasNumbers cursor.old (B.notes book.old) (B.spare book.old) }
+    requires can { CanTell B.notes B.spare cursor.old book.old 3 }
     ensures cursor { (actor : ℕ) → cursor_of script.now actor cursor.new ≡ gone_on script.now (cursor_of script.now actor cursor.old) (notes_in notes.now) }
-    ensures notes { B.notes book.new ≡ B.notes book.old ++ notes_in notes.now }
-    ensures spare { B.spare book.old ≤ B.spare book.new + 3 }
-    ensures count { HasNumbers cursor.new (B.notes book.new) (B.spare book.new) }
+    ensures told { HasTold B.notes B.spare cursor.new book.old book.new (notes_in notes.now) 3 }
 {
     let [first, second, third] = notes;
     tell_some(script, cursor, book, first, either(second, third));

@@ -1,23 +1,23 @@
 //! What an actor asks in its acts, with the room for its notes.
-ghost use Rattle.std.specs.Prelude.{◌≡◌, ◌<◌, ◌≤◌, ◌+◌, ◌^◌, ℕ, OnErr, OnOk, false, length, true};
+ghost use Rattle.std.specs.Prelude.{◌≡◌, ◌<◌, ◌≤◌, ◌+◌, ◌^◌, OnErr, OnOk, false, length, true};
 ghost use Rattle.co_object.specs.declared.Op.TheVariants.{Call, Run};
 ghost use Rattle.co_object.specs.declared.QOp.TheVariants.{Scan};
 ghost use Rattle.co_program.specs.declared.Script.{Script};
-ghost use Rattle.co_program.specs.Action.{Asks, action_for};
-ghost use Rattle.co_program.specs.Indexed.{cursor_of, stage_of};
-ghost use Rattle.co_program.specs.Scripts.{IsScript};
+ghost use Rattle.co_program.specs.Action.{Asks};
+ghost use Rattle.co_program.specs.Indexed.{stage_of};
 ghost use Rattle.co_program.specs.declared.Asked.TheVariants.{Callout, Itself, Queue};
 ghost use Rattle.co_wheel.specs.Turns.{pop_of as lane_pop};
-ghost use Rattle.co_run.specs.Acting.{IsActing, params_of};
-ghost use Rattle.co_run.specs.Counted.{HasNumbers};
-ghost use Rattle.co_run.specs.Roomy.{AreShort, is_resting, is_serving, room_at};
+ghost use Rattle.co_run.specs.Ready.{HasGoneOn, HasTried, IsDue};
+ghost use Rattle.co_run.specs.Roomy.{is_serving};
 
 use crate::Notebook;
 use crate::actor::Actor;
+use crate::shared::Shared;
+use co_hand::Gate;
 use co_object::{CallOp, OwnKind, QOp, RunOp};
-use co_program::{Role, Script, Stage, role_of};
+use co_program::{Role, Stage, role_of};
 use co_sbt::{NoMemory, Sbt};
-use co_service::{Name, Service};
+use co_service::Name;
 use std::sync::Wait;
 
 /// Makes room for `count` notes. Within a function there is room already, and none is asked for. After `NoMemory` the
@@ -37,182 +37,113 @@ fn make_room<B: Notebook>(stage: &Stage, book: &mut B, count: u32) -> Result<(),
 }
 
 impl<'a, B: Notebook> Actor<'a, B> {
-    /// A note of its own, which is due in the program, with the room for it. After `NoMemory` nothing is noted.
-    pub(crate) fn ask_itself<N: Name>(
+    /// A note of its own, with the room for it. After `NoMemory` nothing is noted.
+    pub(crate) fn ask_itself<N: Name, G: Gate>(
         &mut self,
-        script: &Script,
+        shared: &Shared<'_, N, G>,
         act: u64,
         kind: OwnKind,
-        longest: u32,
     ) -> Result<(), NoMemory>
-        requires script { IsScript script.now }
-        requires acting { IsActing script.now N.name self.old.number self.old.passes (cursor_of script.now self.old.number self.old.cursor) self.old.hold (B.notes self.old.book) self.old.own }
-        requires due { action_for script.now self.old.number (cursor_of script.now self.old.number self.old.cursor) ≡ Asks act (Itself kind) }
-        requires count { HasNumbers self.old.cursor (B.notes self.old.book) (B.spare self.old.book) }
-        requires room { let c = cursor_of script.now self.old.number self.old.cursor in room_at longest c.stage ≤ B.spare self.old.book }
-        ensures acting { IsActing script.now N.name self.new.number self.new.passes (cursor_of script.now self.new.number self.new.cursor) self.new.hold (B.notes self.new.book) self.new.own }
-        ensures count { HasNumbers self.new.cursor (B.notes self.new.book) (B.spare self.new.book) }
-        ensures room { let c = cursor_of script.now self.new.number self.new.cursor in room_at longest c.stage ≤ B.spare self.new.book }
-        ensures number { self.new.number ≡ self.old.number }
-        ensures rests { OnErr result (is_resting (cursor_of script.now self.new.number self.new.cursor).stage ≡ true) }
+        requires due { IsDue B.notes B.spare shared.now.script.now shared.now.longest N.name self.old (Asks act (Itself kind)) }
+        ensures { HasTried B.notes B.spare shared.now.script.now shared.now.longest N.name self.old self.new result }
     {
         make_room(&self.cursor.stage, &mut self.book, 1)?;
-        self.refuse::<N>(script, act, kind);
+        self.refuse(shared, act, kind);
         Ok(())
     }
 
-    /// A call on the service, which is due in the program, with the room for its notes. A drain that waits for the end of a
-    /// service waits first. After `NoMemory` nothing is asked.
-    pub(crate) fn ask_call<N: Name, R: Wait>(
+    /// A call on the service, with the room for its notes. A drain that waits for the end of a service waits first. After
+    /// `NoMemory` nothing is asked.
+    pub(crate) fn ask_call<N: Name, G: Gate, R: Wait>(
         &mut self,
         rt: &R,
-        script: &Script,
-        service: &Service<N>,
+        shared: &Shared<'_, N, G>,
         act: u64,
         i: u32,
         op: &CallOp,
-        longest: u32,
     ) -> Result<(), NoMemory>
-        requires script { IsScript script.now }
-        requires service { service.now ≡ params_of script.now }
-        requires acting { IsActing script.now N.name self.old.number self.old.passes (cursor_of script.now self.old.number self.old.cursor) self.old.hold (B.notes self.old.book) self.old.own }
-        requires due { action_for script.now self.old.number (cursor_of script.now self.old.number self.old.cursor) ≡ Asks act (Callout i (Call op.now)) }
-        requires count { HasNumbers self.old.cursor (B.notes self.old.book) (B.spare self.old.book) }
-        requires room { let c = cursor_of script.now self.old.number self.old.cursor in room_at longest c.stage ≤ B.spare self.old.book }
-        ensures acting { IsActing script.now N.name self.new.number self.new.passes (cursor_of script.now self.new.number self.new.cursor) self.new.hold (B.notes self.new.book) self.new.own }
-        ensures count { HasNumbers self.new.cursor (B.notes self.new.book) (B.spare self.new.book) }
-        ensures room { let c = cursor_of script.now self.new.number self.new.cursor in room_at longest c.stage ≤ B.spare self.new.book }
-        ensures number { self.new.number ≡ self.old.number }
-        ensures rests { OnErr result (is_resting (cursor_of script.now self.new.number self.new.cursor).stage ≡ true) }
+        requires due { IsDue B.notes B.spare shared.now.script.now shared.now.longest N.name self.old (Asks act (Callout i (Call op.now))) }
+        ensures { HasTried B.notes B.spare shared.now.script.now shared.now.longest N.name self.old self.new result }
     {
         make_room(&self.cursor.stage, &mut self.book, 3)?;
         if let Stage::Waiting { n, .. } = self.cursor.stage {
-            service.drain_wait(rt, i, n);
+            shared.service.drain_wait(rt, i, n);
         }
-        self.call(rt, script, service, act, i, op);
+        self.call(rt, shared, act, i, op);
         Ok(())
     }
 
-    /// A scan of its CPU, which is due in the program, with the room for its note. After `NoMemory` nothing is asked.
-    fn ask_scan<N: Name, R: Wait>(
+    /// A scan of its CPU, with the room for its note. After `NoMemory` nothing is asked.
+    fn ask_scan<N: Name, G: Gate, R: Wait>(
         &mut self,
         rt: &R,
-        script: &Script,
-        service: &Service<N>,
+        shared: &Shared<'_, N, G>,
         act: u64,
         cpu: u32,
         now: Sbt,
-        longest: u32,
     ) -> Result<(), NoMemory>
-        requires script { IsScript script.now }
-        requires service { service.now ≡ params_of script.now }
-        requires acting { IsActing script.now N.name self.old.number self.old.passes (cursor_of script.now self.old.number self.old.cursor) self.old.hold (B.notes self.old.book) self.old.own }
-        requires due { action_for script.now self.old.number (cursor_of script.now self.old.number self.old.cursor) ≡ Asks act (Queue cpu (Scan now)) }
-        requires count { HasNumbers self.old.cursor (B.notes self.old.book) (B.spare self.old.book) }
-        requires room { let c = cursor_of script.now self.old.number self.old.cursor in room_at longest c.stage ≤ B.spare self.old.book }
-        ensures acting { IsActing script.now N.name self.new.number self.new.passes (cursor_of script.now self.new.number self.new.cursor) self.new.hold (B.notes self.new.book) self.new.own }
-        ensures count { HasNumbers self.new.cursor (B.notes self.new.book) (B.spare self.new.book) }
-        ensures room { let c = cursor_of script.now self.new.number self.new.cursor in room_at longest c.stage ≤ B.spare self.new.book }
-        ensures number { self.new.number ≡ self.old.number }
-        ensures rests { OnErr result (is_resting (cursor_of script.now self.new.number self.new.cursor).stage ≡ true) }
+        requires due { IsDue B.notes B.spare shared.now.script.now shared.now.longest N.name self.old (Asks act (Queue cpu (Scan now))) }
+        ensures { HasTried B.notes B.spare shared.now.script.now shared.now.longest N.name self.old self.new result }
     {
         self.book.reserve(1)?;
-        self.scan(rt, script, service, act, cpu, now);
+        self.scan(rt, shared, act, cpu, now);
         Ok(())
     }
 
-    /// The next callout that has come due, which is due in the program, with the room for all notes of its service. After
-    /// `NoMemory` nothing is asked.
-    fn ask_pop<N: Name, R: Wait>(
+    /// The next callout that has come due, with the room for all notes of its service. After `NoMemory` nothing is asked.
+    fn ask_pop<N: Name, G: Gate, R: Wait>(
         &mut self,
         rt: &R,
-        script: &Script,
-        service: &Service<N>,
+        shared: &Shared<'_, N, G>,
         act: u64,
         cpu: u32,
         direct: bool,
-        longest: u32,
     ) -> Result<(), NoMemory>
-        requires script { IsScript script.now }
-        requires service { service.now ≡ params_of script.now }
-        requires short { AreShort script.now longest }
-        requires few { longest ≤ 2 ^ 16 }
-        requires acting { IsActing script.now N.name self.old.number self.old.passes (cursor_of script.now self.old.number self.old.cursor) self.old.hold (B.notes self.old.book) self.old.own }
-        requires due { action_for script.now self.old.number (cursor_of script.now self.old.number self.old.cursor) ≡ Asks act (Queue cpu (lane_pop direct)) }
-        requires count { HasNumbers self.old.cursor (B.notes self.old.book) (B.spare self.old.book) }
-        requires room { let c = cursor_of script.now self.old.number self.old.cursor in room_at longest c.stage ≤ B.spare self.old.book }
-        ensures acting { IsActing script.now N.name self.new.number self.new.passes (cursor_of script.now self.new.number self.new.cursor) self.new.hold (B.notes self.new.book) self.new.own }
-        ensures count { HasNumbers self.new.cursor (B.notes self.new.book) (B.spare self.new.book) }
-        ensures room { let c = cursor_of script.now self.new.number self.new.cursor in room_at longest c.stage ≤ B.spare self.new.book }
-        ensures number { self.new.number ≡ self.old.number }
-        ensures rests { OnErr result (is_resting (cursor_of script.now self.new.number self.new.cursor).stage ≡ true) }
+        requires due { IsDue B.notes B.spare shared.now.script.now shared.now.longest N.name self.old (Asks act (Queue cpu (lane_pop direct))) }
+        ensures { HasTried B.notes B.spare shared.now.script.now shared.now.longest N.name self.old self.new result }
     {
-        self.book.reserve(8 + 6 * longest)?;
-        self.pop(rt, script, service, act, cpu, direct, longest);
+        self.book.reserve(8 + 6 * shared.longest)?;
+        self.pop(rt, shared, act, cpu, direct);
         Ok(())
     }
 
-    /// A step on its CPU's queue, which is due in the program, with the room for its notes. After `NoMemory` nothing is asked.
-    pub(crate) fn ask_queue<N: Name, R: Wait>(
+    /// A step on its CPU's queue, with the room for its notes. After `NoMemory` nothing is asked.
+    pub(crate) fn ask_queue<N: Name, G: Gate, R: Wait>(
         &mut self,
         rt: &R,
-        script: &Script,
-        service: &Service<N>,
+        shared: &Shared<'_, N, G>,
         act: u64,
         cpu: u32,
         op: &QOp,
-        longest: u32,
     ) -> Result<(), NoMemory>
-        requires script { IsScript script.now }
-        requires service { service.now ≡ params_of script.now }
-        requires short { AreShort script.now longest }
-        requires few { longest ≤ 2 ^ 16 }
-        requires acting { IsActing script.now N.name self.old.number self.old.passes (cursor_of script.now self.old.number self.old.cursor) self.old.hold (B.notes self.old.book) self.old.own }
-        requires due { action_for script.now self.old.number (cursor_of script.now self.old.number self.old.cursor) ≡ Asks act (Queue cpu op.now) }
-        requires count { HasNumbers self.old.cursor (B.notes self.old.book) (B.spare self.old.book) }
-        requires room { let c = cursor_of script.now self.old.number self.old.cursor in room_at longest c.stage ≤ B.spare self.old.book }
-        ensures acting { IsActing script.now N.name self.new.number self.new.passes (cursor_of script.now self.new.number self.new.cursor) self.new.hold (B.notes self.new.book) self.new.own }
-        ensures count { HasNumbers self.new.cursor (B.notes self.new.book) (B.spare self.new.book) }
-        ensures room { let c = cursor_of script.now self.new.number self.new.cursor in room_at longest c.stage ≤ B.spare self.new.book }
-        ensures number { self.new.number ≡ self.old.number }
-        ensures rests { OnErr result (is_resting (cursor_of script.now self.new.number self.new.cursor).stage ≡ true) }
+        requires due { IsDue B.notes B.spare shared.now.script.now shared.now.longest N.name self.old (Asks act (Queue cpu op.now)) }
+        ensures { HasTried B.notes B.spare shared.now.script.now shared.now.longest N.name self.old self.new result }
     {
         match *op {
-            QOp::Scan { now } => self.ask_scan(rt, script, service, act, cpu, now, longest),
-            QOp::Pop => self.ask_pop(rt, script, service, act, cpu, false, longest),
-            QOp::PopDirect => self.ask_pop(rt, script, service, act, cpu, true, longest),
+            QOp::Scan { now } => self.ask_scan(rt, shared, act, cpu, now),
+            QOp::Pop => self.ask_pop(rt, shared, act, cpu, false),
+            QOp::PopDirect => self.ask_pop(rt, shared, act, cpu, true),
             _ => unreachable!(),
         }
     }
 
-    /// A step of its service, which is due in the program. There is room for its notes already.
-    pub(crate) fn ask_run<N: Name, R: Wait>(
+    /// A step of its service. There is room for its notes already.
+    pub(crate) fn ask_run<N: Name, G: Gate, R: Wait>(
         &mut self,
         rt: &R,
-        script: &Script,
-        service: &Service<N>,
+        shared: &Shared<'_, N, G>,
         act: u64,
         i: u32,
         op: &RunOp,
-        longest: u32,
     )
-        requires script { IsScript script.now }
-        requires service { service.now ≡ params_of script.now }
-        requires short { AreShort script.now longest }
-        requires acting { IsActing script.now N.name self.old.number self.old.passes (cursor_of script.now self.old.number self.old.cursor) self.old.hold (B.notes self.old.book) self.old.own }
-        requires due { action_for script.now self.old.number (cursor_of script.now self.old.number self.old.cursor) ≡ Asks act (Callout i (Run op.now)) }
-        requires count { HasNumbers self.old.cursor (B.notes self.old.book) (B.spare self.old.book) }
-        requires room { let c = cursor_of script.now self.old.number self.old.cursor in room_at longest c.stage ≤ B.spare self.old.book }
-        ensures acting { IsActing script.now N.name self.new.number self.new.passes (cursor_of script.now self.new.number self.new.cursor) self.new.hold (B.notes self.new.book) self.new.own }
-        ensures count { HasNumbers self.new.cursor (B.notes self.new.book) (B.spare self.new.book) }
-        ensures room { let c = cursor_of script.now self.new.number self.new.cursor in room_at longest c.stage ≤ B.spare self.new.book }
-        ensures number { self.new.number ≡ self.old.number }
+        requires due { IsDue B.notes B.spare shared.now.script.now shared.now.longest N.name self.old (Asks act (Callout i (Run op.now))) }
+        ensures { HasGoneOn B.notes B.spare shared.now.script.now shared.now.longest N.name self.old self.new }
     {
         match *op {
-            RunOp::Begin { n, cpu } => self.begin(rt, script, service, act, i, n, cpu, longest),
+            RunOp::Begin { n, cpu } => self.begin(rt, shared, act, i, n, cpu),
             RunOp::End { n, cpu } => {
-                let direct = matches!(role_of(script, self.number), Role::Interrupt(_));
-                self.end(rt, script, service, act, i, n, cpu, direct, longest);
+                let direct = matches!(role_of(shared.script, self.number), Role::Interrupt(_));
+                self.end(rt, shared, act, i, n, cpu, direct);
             }
             RunOp::Pick { .. } => unreachable!(),
         }

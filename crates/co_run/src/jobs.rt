@@ -1,14 +1,15 @@
 //! The job of one actor: its whole program.
 ghost use Rattle.std.specs.Prelude.{◌≡◌, ◌+◌, ◌<◌, ◌≤◌, ◌^◌, IfOk, length};
-ghost use Rattle.co_program.specs.Actors.{actor_count, client_count};
+ghost use Rattle.co_program.specs.Actors.{actor_count};
 ghost use Rattle.co_program.specs.Scripts.{IsScript};
 ghost use Rattle.co_service.specs.Booted.{AreBooted};
 ghost use Rattle.co_run.specs.Acting.{params_of};
-ghost use Rattle.co_run.specs.Jobs.{AreBounds, AreEmpty, AreFirst, AreJobs, CanPlay, IsGroup, IsJob};
+ghost use Rattle.co_run.specs.Jobs.{AreDealt, AreEmpty, AreLeft, IsDealt, IsJob};
 ghost use Rattle.co_run.specs.Over.{IsOver};
 
 use crate::Notebook;
-use crate::actor::{Actor, Shared};
+use crate::actor::Actor;
+use crate::shared::Shared;
 use co_hand::Gate;
 use co_object::Note;
 use co_program::{Script, actor_count};
@@ -46,14 +47,9 @@ fn leave_last<N: Name, B: Notebook>(
     books: &mut Vec<B>,
 ) -> Job<B>
     requires some { 0 < length passes.old.items }
-    requires few { length passes.old.items ≤ actor_count script.now }
-    requires books { length books.old.items ≡ length passes.old.items }
-    requires first { AreFirst N.name (params_of script.now) passes.old.items }
-    requires empty { AreEmpty B.notes B.spare books.old.items }
-    ensures passes_left { length passes.new.items + 1 ≡ length passes.old.items }
-    ensures books_left { length books.new.items + 1 ≡ length books.old.items }
-    ensures first { AreFirst N.name (params_of script.now) passes.new.items }
-    ensures empty { AreEmpty B.notes B.spare books.new.items }
+    requires left { AreLeft B.notes B.spare script.now N.name passes.old.items books.old.items }
+    ensures left { AreLeft B.notes B.spare script.now N.name passes.new.items books.new.items }
+    ensures less { length passes.new.items + 1 ≡ length passes.old.items }
     ensures job { IsJob script.now N.name (length passes.new.items) result.passes (B.notes result.book) (B.spare result.book) }
 {
     let _ = script;
@@ -72,18 +68,10 @@ fn deal<N: Name, B: Notebook>(
     count: u32,
 ) -> Result<Group<B>, NoMemory>
     requires enough { count ≤ length passes.old.items }
-    requires few { length passes.old.items ≤ actor_count script.now }
     requires fits { length passes.old.items < 2 ^ 32 }
-    requires books { length books.old.items ≡ length passes.old.items }
-    requires first { AreFirst N.name (params_of script.now) passes.old.items }
-    requires empty { AreEmpty B.notes B.spare books.old.items }
-    ensures passes_left { IfOk result (λ group. length passes.new.items + count ≡ length passes.old.items) }
-    ensures books_left { IfOk result (λ group. length books.new.items ≡ length passes.new.items) }
-    ensures first { IfOk result (λ group. AreFirst N.name (params_of script.now) passes.new.items) }
-    ensures empty { IfOk result (λ group. AreEmpty B.notes B.spare books.new.items) }
-    ensures from { IfOk result (λ group. group.first ≡ length passes.new.items) }
-    ensures to { IfOk result (λ group. group.end ≡ length passes.old.items) }
-    ensures jobs { IfOk result (λ group. IsGroup (AreJobs script.now N.name B.notes B.spare) group.first group.end group.jobs.items) }
+    requires left { AreLeft B.notes B.spare script.now N.name passes.old.items books.old.items }
+    ensures left { IfOk result (λ group. AreLeft B.notes B.spare script.now N.name passes.new.items books.new.items) }
+    ensures dealt { IfOk result (λ group. IsDealt B.notes B.spare script.now N.name (length passes.old.items) (length passes.new.items) count group) }
 {
     let end = passes.len() as u32;
     let mut jobs = Seq::new(alloc);
@@ -118,10 +106,7 @@ pub(crate) fn deal_all<N: Name, B: Notebook>(
     requires passes { AreBooted N.name (params_of script.now) passes }
     requires books { length books ≡ actor_count script.now }
     requires empty { AreEmpty B.notes B.spare books }
-    ensures bounds { IfOk result (λ crew. AreBounds script.now crew.clients.first crew.clients.end crew.cpus.first crew.cpus.end crew.interrupts.first crew.interrupts.end) }
-    ensures clients { IfOk result (λ crew. IsGroup (AreJobs script.now N.name B.notes B.spare) crew.clients.first crew.clients.end crew.clients.jobs.items) }
-    ensures cpus { IfOk result (λ crew. IsGroup (AreJobs script.now N.name B.notes B.spare) crew.cpus.first crew.cpus.end crew.cpus.jobs.items) }
-    ensures interrupts { IfOk result (λ crew. IsGroup (AreJobs script.now N.name B.notes B.spare) crew.interrupts.first crew.interrupts.end crew.interrupts.jobs.items) }
+    ensures { IfOk result (λ crew. AreDealt B.notes B.spare script.now N.name crew) }
 {
     let mut passes = passes.into_vec();
     let mut books = books.into_vec();
@@ -141,17 +126,15 @@ pub(crate) fn deal_all<N: Name, B: Notebook>(
 pub(crate) fn play_job<B: Notebook, N: Name, G: Gate, R: Wait + Sync>(
     rt: &R,
     shared: &Shared<'_, N, G>,
-    longest: u32,
     number: u32,
     job: Job<B>,
 ) -> Result<Played, NoMemory>
-    requires can { CanPlay shared.now.script.now shared.now.locks.now N.name shared.now.service.now longest }
     requires job { IsJob shared.now.script.now N.name number job.passes (B.notes job.book) (B.spare job.book) }
     ensures { IfOk result (λ played. IsOver shared.now.script.now N.name number played.passes played.notes) }
 {
     let Job { passes, book } = job;
-    let mut actor = Actor::begins::<N>(shared.script, number, passes, book);
-    actor.play(rt, shared, longest)?;
+    let mut actor = Actor::begins(shared, number, passes, book);
+    actor.play(rt, shared)?;
     let Actor { passes, book, .. } = actor;
     Ok(Played {
         passes,

@@ -3,13 +3,13 @@
 //! A join runs its second branch in the thread that calls it, and the first one in a new thread, or last where none can be
 //! had. So the clients come first, then the interrupts, then the CPUs: an actor waits only for actors that have begun.
 ghost use Rattle.std.specs.Prelude.{◌≡◌, ◌+◌, ◌<◌, IfOk, OnOk, length};
-ghost use Rattle.co_run.specs.Jobs.{AreJobs, CanPlay, HavePlayed, IsGroup, IsJob};
+ghost use Rattle.co_run.specs.Jobs.{AreJobs, HasJobs, HavePlayed, IsGroup, IsJob};
 ghost use Rattle.co_run.specs.Over.{IsOver};
 ghost use denote.Param.Send.{IsSend, IsSync};
 
 use crate::Notebook;
-use crate::actor::Shared;
 use crate::jobs::{Crew, Group, Job, Played, play_job};
+use crate::shared::Shared;
 use co_hand::Gate;
 use co_program::Script;
 use co_sbt::{NoMemory, Seq};
@@ -59,11 +59,9 @@ fn play_group<B: Notebook + Send, N: Name + Send + Sync, G: Gate + Sync, R: Thre
     rt: &R,
     alloc: Global,
     shared: &Shared<'_, N, G>,
-    longest: u32,
     group: Group<B>,
 ) -> Result<Seq<Played>, NoMemory>
-    requires can { CanPlay shared.now.script.now shared.now.locks.now N.name shared.now.service.now longest }
-    requires group { IsGroup (AreJobs shared.now.script.now N.name B.notes B.spare) group.first group.end group.jobs.items }
+    requires group { HasJobs B.notes B.spare shared.now.script.now N.name group }
     ensures { IfOk result (IsGroup (HavePlayed shared.now.script.now N.name) group.first group.end) }
 {
     let Group {
@@ -83,13 +81,13 @@ fn play_group<B: Notebook + Send, N: Name + Send + Sync, G: Gate + Sync, R: Thre
     let (rest, one) = join(
         rt,
         || -> Result<Seq<Played>, NoMemory>
-            requires { IsSync R.row × IsSync G.row × IsSend B.row × CanPlay shared.now.script.now shared.now.locks.now N.name shared.now.service.now longest × IsGroup (AreJobs shared.now.script.now N.name B.notes B.spare) later.first later.end later.jobs.items }
+            requires { IsSync R.row × IsSync G.row × IsSend B.row × HasJobs B.notes B.spare shared.now.script.now N.name later }
             ensures { IfOk result (IsGroup (HavePlayed shared.entry.now.script.now N.name) later.first later.end) }
-        { play_group(rt, alloc, shared, longest, later) },
+        { play_group(rt, alloc, shared, later) },
         || -> Result<Played, NoMemory>
-            requires { IsSync R.row × IsSync G.row × IsSend B.row × CanPlay shared.now.script.now shared.now.locks.now N.name shared.now.service.now longest × IsJob shared.now.script.now N.name first job.passes (B.notes job.book) (B.spare job.book) }
+            requires { IsSync R.row × IsSync G.row × IsSend B.row × IsJob shared.now.script.now N.name first job.passes (B.notes job.book) (B.spare job.book) }
             ensures { IfOk result (λ played. IsOver shared.entry.now.script.now N.name first played.passes played.notes) }
-        { play_job(rt, shared, longest, first, job) },
+        { play_job(rt, shared, first, job) },
     );
     let mut all = rest?;
     add::<N>(shared.script, &mut all, one?, first, end)?;
@@ -101,26 +99,24 @@ fn play_cpus<B: Notebook + Send, N: Name + Send + Sync, G: Gate + Sync, R: Threa
     rt: &R,
     alloc: Global,
     shared: &Shared<'_, N, G>,
-    longest: u32,
     cpus: Group<B>,
     interrupts: Group<B>,
 ) -> Result<(Seq<Played>, Seq<Played>), NoMemory>
-    requires can { CanPlay shared.now.script.now shared.now.locks.now N.name shared.now.service.now longest }
-    requires cpus { IsGroup (AreJobs shared.now.script.now N.name B.notes B.spare) cpus.first cpus.end cpus.jobs.items }
-    requires interrupts { IsGroup (AreJobs shared.now.script.now N.name B.notes B.spare) interrupts.first interrupts.end interrupts.jobs.items }
+    requires cpus { HasJobs B.notes B.spare shared.now.script.now N.name cpus }
+    requires interrupts { HasJobs B.notes B.spare shared.now.script.now N.name interrupts }
     ensures cpus { IfOk result (λ all. IsGroup (HavePlayed shared.now.script.now N.name) cpus.first cpus.end all.0) }
     ensures interrupts { IfOk result (λ all. IsGroup (HavePlayed shared.now.script.now N.name) interrupts.first interrupts.end all.1) }
 {
     let (second, first) = join(
         rt,
         || -> Result<Seq<Played>, NoMemory>
-            requires { IsSync R.row × IsSync G.row × IsSend B.row × CanPlay shared.now.script.now shared.now.locks.now N.name shared.now.service.now longest × IsGroup (AreJobs shared.now.script.now N.name B.notes B.spare) cpus.first cpus.end cpus.jobs.items }
+            requires { IsSync R.row × IsSync G.row × IsSend B.row × HasJobs B.notes B.spare shared.now.script.now N.name cpus }
             ensures { IfOk result (IsGroup (HavePlayed shared.entry.now.script.now N.name) cpus.first cpus.end) }
-        { play_group(rt, alloc, shared, longest, cpus) },
+        { play_group(rt, alloc, shared, cpus) },
         || -> Result<Seq<Played>, NoMemory>
-            requires { IsSync R.row × IsSync G.row × IsSend B.row × CanPlay shared.now.script.now shared.now.locks.now N.name shared.now.service.now longest × IsGroup (AreJobs shared.now.script.now N.name B.notes B.spare) interrupts.first interrupts.end interrupts.jobs.items }
+            requires { IsSync R.row × IsSync G.row × IsSend B.row × HasJobs B.notes B.spare shared.now.script.now N.name interrupts }
             ensures { IfOk result (IsGroup (HavePlayed shared.entry.now.script.now N.name) interrupts.first interrupts.end) }
-        { play_group(rt, alloc, shared, longest, interrupts) },
+        { play_group(rt, alloc, shared, interrupts) },
     );
     Ok((second?, first?))
 }
@@ -135,15 +131,13 @@ pub(crate) fn play_all<
     rt: &R,
     alloc: Global,
     shared: &Shared<'_, N, G>,
-    longest: u32,
     clients: Group<B>,
     cpus: Group<B>,
     interrupts: Group<B>,
 ) -> Result<Crew<Seq<Played>>, NoMemory>
-    requires can { CanPlay shared.now.script.now shared.now.locks.now N.name shared.now.service.now longest }
-    requires clients { IsGroup (AreJobs shared.now.script.now N.name B.notes B.spare) clients.first clients.end clients.jobs.items }
-    requires cpus { IsGroup (AreJobs shared.now.script.now N.name B.notes B.spare) cpus.first cpus.end cpus.jobs.items }
-    requires interrupts { IsGroup (AreJobs shared.now.script.now N.name B.notes B.spare) interrupts.first interrupts.end interrupts.jobs.items }
+    requires clients { HasJobs B.notes B.spare shared.now.script.now N.name clients }
+    requires cpus { HasJobs B.notes B.spare shared.now.script.now N.name cpus }
+    requires interrupts { HasJobs B.notes B.spare shared.now.script.now N.name interrupts }
     ensures clients { IfOk result (λ all. IsGroup (HavePlayed shared.now.script.now N.name) clients.first clients.end all.clients) }
     ensures cpus { IfOk result (λ all. IsGroup (HavePlayed shared.now.script.now N.name) cpus.first cpus.end all.cpus) }
     ensures interrupts { IfOk result (λ all. IsGroup (HavePlayed shared.now.script.now N.name) interrupts.first interrupts.end all.interrupts) }
@@ -151,14 +145,14 @@ pub(crate) fn play_all<
     let (others, first) = join(
         rt,
         || -> Result<(Seq<Played>, Seq<Played>), NoMemory>
-            requires { IsSync R.row × IsSync G.row × IsSend B.row × CanPlay shared.now.script.now shared.now.locks.now N.name shared.now.service.now longest × IsGroup (AreJobs shared.now.script.now N.name B.notes B.spare) cpus.first cpus.end cpus.jobs.items × IsGroup (AreJobs shared.now.script.now N.name B.notes B.spare) interrupts.first interrupts.end interrupts.jobs.items }
+            requires { IsSync R.row × IsSync G.row × IsSend B.row × HasJobs B.notes B.spare shared.now.script.now N.name cpus × HasJobs B.notes B.spare shared.now.script.now N.name interrupts }
             ensures cpus { IfOk result (λ all. IsGroup (HavePlayed shared.entry.now.script.now N.name) cpus.first cpus.end all.0) }
             ensures interrupts { IfOk result (λ all. IsGroup (HavePlayed shared.entry.now.script.now N.name) interrupts.first interrupts.end all.1) }
-        { play_cpus(rt, alloc, shared, longest, cpus, interrupts) },
+        { play_cpus(rt, alloc, shared, cpus, interrupts) },
         || -> Result<Seq<Played>, NoMemory>
-            requires { IsSync R.row × IsSync G.row × IsSend B.row × CanPlay shared.now.script.now shared.now.locks.now N.name shared.now.service.now longest × IsGroup (AreJobs shared.now.script.now N.name B.notes B.spare) clients.first clients.end clients.jobs.items }
+            requires { IsSync R.row × IsSync G.row × IsSend B.row × HasJobs B.notes B.spare shared.now.script.now N.name clients }
             ensures { IfOk result (IsGroup (HavePlayed shared.entry.now.script.now N.name) clients.first clients.end) }
-        { play_group(rt, alloc, shared, longest, clients) },
+        { play_group(rt, alloc, shared, clients) },
     );
     let clients = first?;
     let (cpus, interrupts) = others?;

@@ -17,6 +17,7 @@ mod rounds;
 mod runs;
 mod scans;
 mod services;
+mod shared;
 mod stepping;
 
 pub use book::{Notebook, RoomBook, ShortBook};

@@ -1,23 +1,25 @@
 //! What an actor still does that was refused memory.
-ghost use Rattle.std.specs.Prelude.{◌≡◌, ◌<◌, ◌≤◌, ◌+◌, ℕ, Bool, None, length, true};
+ghost use Rattle.std.specs.Prelude.{◌≡◌, ◌<◌, ◌≤◌, ◌+◌, ℕ, Bool, length, true};
 ghost use Rattle.std.specs.List.{All};
 ghost use Rattle.co_object.specs.Journal.{scanner};
 ghost use Rattle.co_program.specs.declared.Script.{Script};
 ghost use Rattle.co_program.specs.Actors.{actor_count, role_of};
 ghost use Rattle.co_program.specs.Follows.{scan_count};
 ghost use Rattle.co_program.specs.Indexed.{cursor_of, stage_of};
-ghost use Rattle.co_program.specs.Scripts.{IsScript, is_tick};
+ghost use Rattle.co_program.specs.Scripts.{is_tick};
 ghost use Rattle.co_program.specs.Stages.{Ready};
 ghost use Rattle.co_service.specs.Params.{actors_of};
 ghost use Rattle.co_service.specs.Services.{IsFree};
 ghost use Rattle.co_service.specs.Views.{AreOf, journal_seen};
 ghost use Rattle.co_world.proofs.kept.Invariant.{under_way};
-ghost use Rattle.co_run.specs.Acting.{HasAllScans, HasScanned, IsActing, Serves, params_of};
-ghost use Rattle.co_run.specs.Roomy.{is_resting};
+ghost use Rattle.co_run.specs.Acting.{HasAllScans, HasScanned, Serves};
+ghost use Rattle.co_run.specs.Ready.{HasLeft, IsAtRest};
 
 use crate::Notebook;
 use crate::actor::Actor;
-use co_program::{Act, Cursor, Role, Script, Stage, role_of};
+use crate::shared::Shared;
+use co_hand::Gate;
+use co_program::{Act, Cursor, Role, Stage, role_of};
 use co_service::{Name, Passes, Service};
 use std::sync::Wait;
 
@@ -68,23 +70,21 @@ fn scan_all<N: Name, R: Wait>(
 
 /// The Scans that an interrupt which was refused memory still owes its CPU, whose soft acts wait for them. Nothing is
 /// noted.
-fn scan_rest<N: Name, R: Wait>(
+fn scan_rest<N: Name, G: Gate, R: Wait>(
     rt: &R,
-    script: &Script,
-    service: &Service<N>,
+    shared: &Shared<'_, N, G>,
     number: u32,
     passes: &mut Passes,
     cursor: &Cursor,
 )
-    requires script { IsScript script.now }
-    requires service { service.now ≡ params_of script.now }
-    requires below { number < actor_count script.now }
-    requires of { AreOf N.name service.now passes.old }
+    requires below { number < actor_count shared.now.script.now }
+    requires of { AreOf N.name shared.now.service.now passes.old }
     requires actor { passes.old.actor ≡ number }
-    requires scanned { let c = cursor_of script.now number cursor.now in HasScanned script.now (role_of script.now number) passes.old c.left c.stage }
-    ensures scans { HasAllScans script.now (role_of script.now number) passes.new }
-    ensures free { Serves (role_of script.now number) passes.old Ready → Serves (role_of script.now number) passes.new Ready }
+    requires scanned { let c = cursor_of shared.now.script.now number cursor.now in HasScanned shared.now.script.now (role_of shared.now.script.now number) passes.old c.left c.stage }
+    ensures scans { HasAllScans shared.now.script.now (role_of shared.now.script.now number) passes.new }
+    ensures free { Serves (role_of shared.now.script.now number) passes.old Ready → Serves (role_of shared.now.script.now number) passes.new Ready }
 {
+    let script = shared.script;
     let Role::Interrupt(cpu) = role_of(script, number) else {
         return;
     };
@@ -92,30 +92,17 @@ fn scan_rest<N: Name, R: Wait>(
         return;
     };
     let left = ticks_left(ticks.as_slice(), cursor);
-    scan_all(rt, service, passes, cpu, cursor.act, left);
+    scan_all(rt, shared.service, passes, cpu, cursor.act, left);
 }
 
 impl<'a, B: Notebook> Actor<'a, B> {
     /// Leaves its program between two services: it lets go of its lock, has nothing in service, and as an interrupt makes the
     /// Scans that its CPU still waits for.
-    pub(crate) fn leave<N: Name, R: Wait>(&mut self, rt: &R, script: &Script, service: &Service<N>)
-        requires script { IsScript script.now }
-        requires service { service.now ≡ params_of script.now }
-        requires acting { IsActing script.now N.name self.old.number self.old.passes (cursor_of script.now self.old.number self.old.cursor) self.old.hold (B.notes self.old.book) self.old.own }
-        requires rests { is_resting (cursor_of script.now self.old.number self.old.cursor).stage ≡ true }
-        ensures hold { self.new.hold ≡ None }
-        ensures scans { HasAllScans script.now (role_of script.now self.new.number) self.new.passes }
-        ensures free { Serves (role_of script.now self.new.number) self.new.passes Ready }
-        ensures number { self.new.number ≡ self.old.number }
+    pub(crate) fn leave<N: Name, G: Gate, R: Wait>(&mut self, rt: &R, shared: &Shared<'_, N, G>)
+        requires { IsAtRest B.notes B.spare shared.now.script.now shared.now.longest N.name self.old }
+        ensures { HasLeft shared.now.script.now self.old self.new }
     {
         self.hold = None;
-        scan_rest(
-            rt,
-            script,
-            service,
-            self.number,
-            &mut self.passes,
-            &self.cursor,
-        );
+        scan_rest(rt, shared, self.number, &mut self.passes, &self.cursor);
     }
 }

@@ -6,14 +6,14 @@ ghost use Rattle.co_service.specs.Booted.{AreBooted};
 ghost use Rattle.co_service.specs.Fresh.{AreNamed};
 ghost use Rattle.co_service.specs.Params.{AreParams};
 ghost use Rattle.co_run.specs.Acting.{HasLocks, params_of};
-ghost use Rattle.co_run.specs.Jobs.{AreEmpty, HavePlayed, IsCrew, IsGroup};
+ghost use Rattle.co_run.specs.Jobs.{AreEmpty, CanRun, HavePlayed, IsCrew, IsGroup};
 ghost use Rattle.co_run.specs.Over.{AreOver, IsOver};
 ghost use Rattle.co_run.specs.Ran.{IsRan};
 
-use crate::actor::Shared;
 use crate::jobs::{Crew, Played, deal_all};
 use crate::joins::play_all;
 use crate::longest::longest_of;
+use crate::shared::Shared;
 use crate::{Notebook, RoomBook};
 use co_hand::Gate;
 use co_lock::ClientLocks;
@@ -136,17 +136,13 @@ fn play_books<N: Name + Send + Sync, G: Gate + Sync, B: Notebook + Send, R: Thre
     passes: Seq<Passes>,
     books: Seq<B>,
 ) -> Result<Brought, NoMemory>
-    requires script { IsScript script.now }
-    requires locks { HasLocks script.now }
-    requires service { service.now ≡ params_of script.now }
-    requires named { AreNamed N.name (params_of script.now) }
+    requires can { CanRun script.now N.name service.now }
     requires passes { AreBooted N.name (params_of script.now) passes }
     requires books { length books ≡ actor_count script.now }
     requires empty { AreEmpty B.notes B.spare books }
     ensures over { IfOk result (λ all. AreOver script.now N.name 0 all.passes all.lists) }
     ensures count { IfOk result (λ all. length all.lists ≡ actor_count script.now) }
 {
-    let longest = longest_of(script);
     let locks = ClientLocks::new(alloc, script.locks.as_slice())?;
     let Crew {
         clients,
@@ -158,8 +154,9 @@ fn play_books<N: Name + Send + Sync, G: Gate + Sync, B: Notebook + Send, R: Thre
         service,
         locks: &locks,
         gate,
+        longest: longest_of(script),
     };
-    let crew = play_all(rt, alloc, &shared, longest, clients, cpus, interrupts)?;
+    let crew = play_all(rt, alloc, &shared, clients, cpus, interrupts)?;
     add_crew::<N>(alloc, script, crew)
 }
 
@@ -245,11 +242,8 @@ fn run_fresh<N: Name + Send + Sync, G: Gate + Sync, R: Threads + Wait + Sync>(
     fresh: Fresh,
     passes: Seq<Passes>,
 ) -> Result<Ran, NoMemory>
-    requires script { IsScript script.now }
-    requires locks { HasLocks script.now }
+    requires can { CanRun script.now N.name fresh.params }
     requires name { fresh.name ≡ N.name }
-    requires params { fresh.params ≡ params_of script.now }
-    requires named { AreNamed fresh.name fresh.params }
     requires passes { AreBooted fresh.name fresh.params passes }
     ensures { IfOk result (IsRan script.now) }
 {

@@ -7,13 +7,11 @@ use Rattle.co_run.proofs.jobs.deal.Goals as goal
 pub loop-dealt-preserved : goal.loop-dealt-preserved
 loop-dealt-preserved g c =
     let Are = AreJobs c.args.script.now g.N.Name.name g.B.Notebook.notes g.B.Notebook.spare in
-    let left = c.leave_last.ensures.passes_left in
-    let one : length c.loop-dealt.passes.items ≡ length c.leave_last.new.passes.items + 1 = sym left in
+    let less = c.leave_last.ensures.less in
+    let one : length c.loop-dealt.passes.items ≡ length c.leave_last.new.passes.items + 1 = sym less in
     record {
-      left = (let before = c.loop-dealt.invariant.left in omega (arith, left, before));
-      books_left = (let books = c.leave_last.ensures.books_left in let before = c.loop-dealt.invariant.books_left in omega (arith, left, books, before));
-      first = c.leave_last.ensures.first;
-      empty = c.leave_last.ensures.empty;
+      less = (let before = c.loop-dealt.invariant.less in omega (arith, less, before));
+      left = c.leave_last.ensures.left;
       group = subst (IsGroup Are (length c.leave_last.new.passes.items) (length c.args.passes.now.items)) (sym c.in_ok-push.ensures.ok)
           (group_dealt c.args.script.now g.N.Name.name g.B.Notebook.notes g.B.Notebook.spare c.loop-dealt.jobs c.leave_last.result (length c.loop-dealt.passes.items) (length c.leave_last.new.passes.items) (length c.args.passes.now.items) one c.loop-dealt.invariant.group c.leave_last.ensures.job);
     }

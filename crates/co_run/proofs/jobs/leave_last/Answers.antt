@@ -14,16 +14,20 @@ returns g c =
     let spare = g.B.Notebook.spare in
     let passes_are : c.args.passes.now.items ≡ c.pop.new.self.items ++ c.unwrap.result ∷ [] = c.pop.ensures.items ∙ ap (λ o. c.pop.new.self.items ++ option_to_list o) c.unwrap.ensures in
     let books_are : c.args.books.now.items ≡ c.pop-2.new.self.items ++ c.unwrap-2.result ∷ [] = c.pop-2.ensures.items ∙ ap (λ o. c.pop-2.new.self.items ++ option_to_list o) c.unwrap-2.ensures in
-    let first = subst (AreFirst name p) passes_are c.requires.first in
-    let empty = subst (AreEmpty notes spare) books_are c.requires.empty in
+    let first = subst (AreFirst name p) passes_are c.requires.left.first in
+    let empty = subst (AreEmpty notes spare) books_are c.requires.left.empty in
     let passes_long : length c.args.passes.now.items ≡ length c.pop.new.self.items + 1 = ap length passes_are ∙ length-append c.pop.new.self.items (c.unwrap.result ∷ []) in
     let books_long : length c.args.books.now.items ≡ length c.pop-2.new.self.items + 1 = ap length books_are ∙ length-append c.pop-2.new.self.items (c.unwrap-2.result ∷ []) in
-    let few = c.requires.few in
+    let few = c.requires.left.few in
+    let count = c.requires.left.count in
     record {
-      passes_left = sym passes_long;
-      books_left = sym books_long;
-      first = first_front name p c.pop.new.self.items c.unwrap.result first;
-      empty = empty_front notes spare c.pop-2.new.self.items c.unwrap-2.result empty;
+      left = record {
+        few = omega (arith, few, passes_long);
+        count = omega (arith, count, passes_long, books_long);
+        first = first_front name p c.pop.new.self.items c.unwrap.result first;
+        empty = empty_front notes spare c.pop-2.new.self.items c.unwrap-2.result empty;
+      };
+      less = sym passes_long;
       job = record {
         below = omega (arith, few, passes_long);
         passes = first_last name p c.pop.new.self.items c.unwrap.result first;

@@ -1,22 +1,18 @@
--- What is asked is what the arm asks; all else goes on as it is.
+-- What is asked is what the arm asks.
 use Rattle.std.proofs.Common.{rules}
 use Rattle.co_run.proofs.actor.Actor.ask.Goals as goal
 
 pub ask_itself-requires : goal.ask_itself-requires
-ask_itself-requires g c =
-    let r = c.requires in record { script = r.script; acting = r.acting; due = search rules; count = r.count; room = r.room }
+ask_itself-requires g c = record { due = record { ready = c.requires.due.ready; next = search rules } }
 
 pub ask_call-requires : goal.ask_call-requires
-ask_call-requires g c =
-    let r = c.requires in record { script = r.script; service = r.service; acting = r.acting; due = search rules; count = r.count; room = r.room }
+ask_call-requires g c = record { due = record { ready = c.requires.due.ready; next = search rules } }
 
 pub ask_run-requires : goal.ask_run-requires
-ask_run-requires g c =
-    let r = c.requires in record { script = r.script; service = r.service; short = r.short; acting = r.acting; due = search rules; count = r.count; room = r.room }
+ask_run-requires g c = record { due = record { ready = c.requires.due.ready; next = search rules } }
 
 pub ask_queue-requires : goal.ask_queue-requires
-ask_queue-requires g c =
-    let r = c.requires in record { script = r.script; service = r.service; short = r.short; few = r.few; acting = r.acting; due = search rules; count = r.count; room = r.room }
+ask_queue-requires g c = record { due = record { ready = c.requires.due.ready; next = search rules } }
 
 pub returns-in-Itself : goal.returns-in-Itself
 returns-in-Itself g c = c.ask_itself.ensures
@@ -25,8 +21,7 @@ pub returns-in-Callout-default-Call : goal.returns-in-Callout-default-Call
 returns-in-Callout-default-Call g c = c.ask_call.ensures
 
 pub returns-in-Callout-default-Run : goal.returns-in-Callout-default-Run
-returns-in-Callout-default-Run g c =
-    let e = c.ask_run.ensures in record { acting = e.acting; count = e.count; room = e.room; number = e.number; rests = tt }
+returns-in-Callout-default-Run g c = record { gone_on = c.ask_run.ensures; rests = tt }
 
 pub returns-in-Queue : goal.returns-in-Queue
 returns-in-Queue g c = c.ask_queue.ensures

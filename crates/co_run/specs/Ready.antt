@@ -1,0 +1,108 @@
+-- An actor of a run between two steps of its program, and what a step keeps and gives.
+use Rattle.std.specs.Prelude.{◌≡◌, ℕ, ◌≤◌, Bool, true, List, None, Result, IfOk, OnErr, OnOk}
+use Rattle.co_object.specs.declared.note.Note.{Note}
+use Rattle.co_program.specs.declared.script.Script.{Script}
+use Rattle.co_program.specs.Action.{Action, Nothing, action_for}
+use Rattle.co_program.specs.Actors.{role_of}
+use Rattle.co_program.specs.Cursor.{Cursor}
+use Rattle.co_program.specs.Indexed.{MoveCounts, cursor_of}
+use Rattle.co_program.specs.declared.action.Move.{Move}
+use Rattle.co_program.specs.Stages.{Ready}
+use Rattle.co_service.specs.Name.{ServiceName}
+use Rattle.co_run.specs.Acting.{HasAllScans, IsActing, Serves}
+use Rattle.co_run.specs.Counted.{HasNumbers}
+use Rattle.co_run.specs.Over.{IsOver}
+use Rattle.co_run.specs.Roomy.{is_resting, room_at}
+use Rattle.co_run.specs.declared.actor.Actor.{Actor}
+
+-- where the actor is in its program
+abbrev pub place_of : {B : Type 0} → Script → Actor B → Cursor
+place_of s actor = cursor_of s actor.number actor.cursor
+
+-- the actor can make its next step. `notes` and `spare` are what its book has and has room for; no function of the script
+-- has more acts than `longest`
+pub record IsReady {B : Type 0} (notes : B → List Note) (spare : B → ℕ) (s : Script) (longest : ℕ) (name : ServiceName) (actor : Actor B) : Type 0 where
+  -- its passes, its hold and its notes are those of its place in its program
+  pub acting : IsActing s name actor.number actor.passes (place_of s actor) actor.hold (notes actor.book) actor.own
+  -- its next act has a number, and so has each note that there is room for
+  pub count : HasNumbers actor.cursor (notes actor.book) (spare actor.book)
+  -- there is room for each note that it makes before it can ask for room
+  pub room : room_at longest (place_of s actor).stage ≤ spare actor.book
+
+-- the actor's next step is this one
+pub record IsDue {B : Type 0} (notes : B → List Note) (spare : B → ℕ) (s : Script) (longest : ℕ) (name : ServiceName) (actor : Actor B) (step : Action) : Type 0 where
+  -- it can make its next step
+  pub ready : IsReady notes spare s longest name actor
+  -- which its program says is this one
+  pub next : action_for s actor.number (place_of s actor) ≡ step
+
+-- and there is room for so many notes of the step
+pub record HasRoomFor {B : Type 0} (notes : B → List Note) (spare : B → ℕ) (s : Script) (longest : ℕ) (name : ServiceName) (count : ℕ) (actor : Actor B) (step : Action) : Type 0 where
+  -- this step is due
+  pub due : IsDue notes spare s longest name actor step
+  -- its book takes so many notes without asking for room
+  pub room : count ≤ spare actor.book
+
+-- the actor's next step is this one, a move without a note
+pub record IsSilent {B : Type 0} (notes : B → List Note) (spare : B → ℕ) (s : Script) (longest : ℕ) (name : ServiceName) (actor : Actor B) (to : Move) (step : Action) : Type 0 where
+  -- this step is due
+  pub due : IsDue notes spare s longest name actor step
+  -- after the move the next act has a number still
+  pub counted : MoveCounts actor.cursor to
+
+-- the actor is between two services
+pub record IsAtRest {B : Type 0} (notes : B → List Note) (spare : B → ℕ) (s : Script) (longest : ℕ) (name : ServiceName) (actor : Actor B) : Type 0 where
+  -- it can make its next step
+  pub ready : IsReady notes spare s longest name actor
+  -- nothing is in service, and no function runs
+  pub rests : is_resting (place_of s actor).stage ≡ true
+
+-- nothing of its program is left
+abbrev pub IsDone : {B : Type 0} → Script → Actor B → Type 0
+IsDone s actor = action_for s actor.number (place_of s actor) ≡ Nothing
+
+-- the same actor is ready again
+pub record HasGoneOn {B : Type 0} (notes : B → List Note) (spare : B → ℕ) (s : Script) (longest : ℕ) (name : ServiceName) (old new : Actor B) : Type 0 where
+  -- it can make its next step
+  pub ready : IsReady notes spare s longest name new
+  -- it is the actor that it was
+  pub number : new.number ≡ old.number
+
+-- it is ready again after an attempt too, which fails between two services alone
+pub record HasTried {B X E : Type 0} (notes : B → List Note) (spare : B → ℕ) (s : Script) (longest : ℕ) (name : ServiceName) (old new : Actor B) (result : Result X E) : Type 0 where
+  -- it can make its next step, whatever came of this one
+  pub gone_on : HasGoneOn notes spare s longest name old new
+  -- where there was no room, it is between two services
+  pub rests : OnErr result (is_resting (place_of s new).stage ≡ true)
+
+-- so it is after a step, whose answer is whether nothing is left
+pub record HasStepped {B E : Type 0} (notes : B → List Note) (spare : B → ℕ) (s : Script) (longest : ℕ) (name : ServiceName) (old new : Actor B) (result : Result Bool E) : Type 0 where
+  -- it can make its next step, whatever came of this one
+  pub tried : HasTried notes spare s longest name old new result
+  -- where the answer is so, nothing of its program is left
+  pub over : IfOk result (λ over. over ≡ true → IsDone s new)
+
+-- and after its steps, of which none is left
+pub record HasPlayedOn {B X E : Type 0} (notes : B → List Note) (spare : B → ℕ) (s : Script) (longest : ℕ) (name : ServiceName) (old new : Actor B) (result : Result X E) : Type 0 where
+  -- it can make its next step, if it has one, and rests where there was no room
+  pub tried : HasTried notes spare s longest name old new result
+  -- where there was room, nothing of its program is left
+  pub over : OnOk result (IsDone s new)
+
+-- it has left its program between two services
+pub record HasLeft {B : Type 0} (s : Script) (old new : Actor B) : Type 0 where
+  -- it is the actor that it was
+  pub number : new.number ≡ old.number
+  -- it holds no lock
+  pub hold : new.hold ≡ None
+  -- all Scans of its program are made
+  pub scans : HasAllScans s (role_of s new.number) new.passes
+  -- nothing is in its service
+  pub free : Serves (role_of s new.number) new.passes Ready
+
+-- it has played its whole program, or has left it
+pub record HasPlayed {B X E : Type 0} (notes : B → List Note) (s : Script) (name : ServiceName) (old new : Actor B) (result : Result X E) : Type 0 where
+  -- where there was room, its program is over
+  pub over : OnOk result (IsOver s name old.number new.passes (notes new.book))
+  -- where there was none, it has left it in order
+  pub left : OnErr result (HasLeft s old new)
