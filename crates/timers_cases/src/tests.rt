@@ -1,9 +1,8 @@
 //! Worked calls of clients and CPUs.
 
-mod inside;
+mod functions;
 mod posts;
-mod services;
+mod scenes;
 mod stage;
 mod steps;
 mod threads;
-mod words;

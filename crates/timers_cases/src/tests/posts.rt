@@ -11,46 +11,41 @@ use std::process::Abort;
 use std::sync::Wait;
 use std::test::Fail;
 
-/// Whether a client leaves.
-fn client_leaves<N: Name>(timers: &Timers<N>, posts: &mut Posts<N>, k: u32) -> bool
-    requires { timers.now.params ≡ posts.old.params }
-    ensures { posts.new.params ≡ posts.old.params }
-{
-    posts.client(timers, k).is_some()
+/// Who leaves.
+#[derive(Clone, Copy)]
+enum Post {
+    Client(u32),
+    /// With its interrupt.
+    Cpu(u32),
+    Interrupt(u32),
+    /// Without its interrupt.
+    CpuAlone(u32),
 }
 
-/// Whether a CPU leaves with its interrupt.
-fn cpu_leaves<N: Name>(timers: &Timers<N>, posts: &mut Posts<N>, k: u32) -> bool
-    requires { timers.now.params ≡ posts.old.params }
-    ensures { posts.new.params ≡ posts.old.params }
-{
-    posts.cpu_handle(timers, k).is_some()
-}
+/// Each post is left once, and there are no others. Where an interrupt has left, its CPU leaves alone.
+const LEFT: [(Post, bool); 9] = [
+    (Post::Client(0), true),
+    (Post::Client(0), false),
+    (Post::Client(2), false),
+    (Post::Cpu(0), true),
+    (Post::Cpu(0), false),
+    (Post::Cpu(2), false),
+    (Post::Interrupt(1), true),
+    (Post::Cpu(1), false),
+    (Post::CpuAlone(1), true),
+];
 
-/// Whether an interrupt leaves, its CPU then does not with it, and does alone.
-fn interrupt_leaves_first<N: Name>(timers: &Timers<N>, posts: &mut Posts<N>, k: u32) -> bool
+/// Whether a post is left.
+fn is_left<N: Name>(timers: &Timers<N>, posts: &mut Posts<N>, post: Post) -> bool
     requires { timers.now.params ≡ posts.old.params }
     ensures { posts.new.params ≡ posts.old.params }
 {
-    let interrupt = posts.interrupt(timers, k).is_some();
-    let whole = cpu_leaves(timers, posts, k);
-    let cpu = posts.cpu(timers, k).is_some();
-    interrupt && !whole && cpu
-}
-
-/// Whether each post is left once, and there are no others.
-fn are_left_once<N: Name>(timers: &Timers<N>, posts: &mut Posts<N>) -> bool
-    requires { timers.now.params ≡ posts.old.params }
-    ensures { posts.new.params ≡ posts.old.params }
-{
-    let client = client_leaves(timers, posts, 0);
-    let again = client_leaves(timers, posts, 0);
-    let other = client_leaves(timers, posts, 2);
-    let cpu = cpu_leaves(timers, posts, 0);
-    let cpu_again = cpu_leaves(timers, posts, 0);
-    let nowhere = cpu_leaves(timers, posts, 2);
-    let none = !again && !other && !cpu_again && !nowhere;
-    client && cpu && none && interrupt_leaves_first(timers, posts, 1)
+    match post {
+        Post::Client(k) => posts.client(timers, k).is_some(),
+        Post::Cpu(k) => posts.cpu_handle(timers, k).is_some(),
+        Post::Interrupt(k) => posts.interrupt(timers, k).is_some(),
+        Post::CpuAlone(k) => posts.cpu(timers, k).is_some(),
+    }
 }
 
 /// All leave and come back: whether the first CPU was, and all are missed until the last.
@@ -76,12 +71,17 @@ fn play_once<N: Name, R: Wait + Sync>(
     rt: &R,
     alloc: Global,
     fresh: TimersFresh,
-) -> Result<(bool, bool), NoMemory>
+) -> Result<bool, NoMemory>
     requires { fresh.name ≡ N.name }
 {
     let (timers, mut posts) = Timers::<N>::open(alloc, fresh)?;
-    let once = are_left_once(&timers, &mut posts);
-    Ok((once, timers.close(rt, posts).is_err()))
+    let mut once = true;
+    for (post, leaves) in LEFT {
+        if is_left(&timers, &mut posts, post) != leaves {
+            once = false;
+        }
+    }
+    Ok(timers.close(rt, posts).is_err() && once)
 }
 
 /// Whether all leave and come back, and the service then ends.
@@ -89,24 +89,24 @@ fn play_all<N: Name, R: Wait + Sync + Abort>(
     rt: &R,
     alloc: Global,
     fresh: TimersFresh,
-) -> Result<(bool, bool), NoMemory>
+) -> Result<bool, NoMemory>
     requires { fresh.name ≡ N.name }
 {
     let (timers, mut posts) = Timers::<N>::open(alloc, fresh)?;
     let all = all_leave(rt, &timers, &mut posts);
-    Ok((all, timers.close(rt, posts).is_ok()))
+    Ok(timers.close(rt, posts).is_ok() && all)
 }
 
-#[test]
-fn a_post_is_left_once(rt: HostRuntime) -> Result<(), Fail> {
-    let fresh = boot(rt.alloc())?;
-    assert!(rt; play_once::<Brand, _>(&rt, rt.alloc(), fresh)? == (true, true));
-    Ok(())
+/// Whether each post is left once, and the service ends only where all have come back.
+fn play_both<R: Wait + Sync + Abort>(rt: &R, alloc: Global) -> Result<bool, NoMemory> {
+    let once = boot(alloc)?;
+    let all = boot(alloc)?;
+    Ok(play_once::<Brand, R>(rt, alloc, once)? && play_all::<Brand, R>(rt, alloc, all)?)
 }
 
+/// Who left doesn't leave again, and the end needs all.
 #[test]
-fn the_end_needs_all(rt: HostRuntime) -> Result<(), Fail> {
-    let fresh = boot(rt.alloc())?;
-    assert!(rt; play_all::<Brand, _>(&rt, rt.alloc(), fresh)? == (true, true));
+fn posts(rt: HostRuntime) -> Result<(), Fail> {
+    assert!(rt; play_both(&rt, rt.alloc())?);
     Ok(())
 }

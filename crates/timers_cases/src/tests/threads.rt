@@ -3,8 +3,9 @@ ghost use Rattle.std.specs.Prelude.{◌≡◌};
 ghost use Rattle.timers_cases.specs.Scenes.{scene};
 ghost use denote.Param.Send.{IsSync};
 
-use super::stage::{Counts, arm, boot, seconds};
-use co_sbt::NoMemory;
+use super::functions::{Functions, NOTHING};
+use super::stage::{boot, seconds};
+use co_sbt::{NoMemory, Sbt};
 use co_service::Name;
 use co_timers::{Client, Cpu, Stopped, Timers, TimersFresh};
 use std::alloc::Global;
@@ -22,7 +23,7 @@ const ARMINGS: u64 = 64;
 fn arm_often<N: Name, R: Wait>(rt: &R, mut client: Client<'_, N>, over: &AtomicBool) -> u64 {
     let mut cancelled: u64 = 0;
     for _ in 0..ARMINGS {
-        let _armed = arm(rt, &mut client, 0, 0, None);
+        let _armed = client.reset(rt, 0, seconds(0), Sbt::zero(), 0, 7, None, None);
         if client.stop(rt, 0, None) == Ok(Stopped::Cancelled) {
             cancelled = cancelled.wrapping_add(1);
         }
@@ -32,14 +33,23 @@ fn arm_often<N: Name, R: Wait>(rt: &R, mut client: Client<'_, N>, over: &AtomicB
 }
 
 /// Turns until all is over, and once more. The answer is how many functions it called.
-fn turn_often<N: Name, R: Wait + Sync>(rt: &R, mut cpu: Cpu<'_, N>, over: &AtomicBool) -> u64
+fn turn_often<N: Name, R: Wait + Sync>(
+    rt: &R,
+    mut cpu: Cpu<'_, N>,
+    client: Client<'_, N>,
+    over: &AtomicBool,
+) -> u64
     requires { cpu.others.passes.params ≡ scene }
 {
-    let mut counts = Counts::new();
+    let mut functions = Functions {
+        rt,
+        client,
+        seen: NOTHING,
+    };
     let mut called: u64 = 0;
     for _ in rt.forever() {
         let last = over.load(Ordering::SeqCst);
-        let turned = cpu.turn(rt, seconds(1), &mut counts);
+        let turned = cpu.turn(rt, seconds(1), &mut functions);
         called = called.wrapping_add(turned.others.called);
         if last {
             return called;
@@ -53,6 +63,7 @@ fn both<N: Name + Send + Sync, R: Threads + Wait + Sync>(
     rt: &R,
     client: Client<'_, N>,
     cpu: Cpu<'_, N>,
+    other: Client<'_, N>,
 ) -> (u64, u64)
     requires { cpu.others.passes.params ≡ scene }
 {
@@ -64,7 +75,7 @@ fn both<N: Name + Send + Sync, R: Threads + Wait + Sync>(
         { arm_often(rt, client, &over) },
         || -> u64
             requires { IsSync R.row × (cpu.others.passes.params ≡ scene) }
-        { turn_often(rt, cpu, &over) },
+        { turn_often(rt, cpu, other, &over) },
     )
 }
 
@@ -80,7 +91,8 @@ fn play<N: Name + Send + Sync, R: Threads + Wait + Sync + Abort>(
     let (timers, mut posts) = Timers::<N>::open(alloc, fresh)?;
     let client = posts.client(&timers, 0).expect(rt, "client 0 is here");
     let cpu = posts.cpu_handle(&timers, 0).expect(rt, "CPU 0 is here");
-    Ok(both(rt, client, cpu))
+    let other = posts.client(&timers, 1).expect(rt, "client 1 is here");
+    Ok(both(rt, client, cpu, other))
 }
 
 #[test]
