@@ -15,7 +15,7 @@ use Rattle.atomic_table.proofs.Lists.{at_set, set_again, set_here, set_else, at_
 use Rattle.co_life.specs.declared.view.SeatView.{SeatView}
 use Rattle.co_life.specs.declared.view.SeatView.TheVariants.{Keeps, Has, Spent}
 use Rattle.co_life.specs.declared.view.Glance.{Glance}
-use Rattle.co_life.specs.Rule.{capped, glance, opening_view, pass_in, HasPass, Fits, IsKept, Kept}
+use Rattle.co_life.specs.Rule.{gap, capped, glance, opening_view, pass_in, HasPass, Fits, IsKept, Kept}
 use Rattle.co_life.specs.Steps.{dealing, dealt, entered, left_by, let_out, Learns, Tells, Looks, Appends}
 use Rattle.co_life.proofs.Histories.{starts_self, starts_longer, own-other}
 
@@ -53,7 +53,7 @@ module _ {E : Type 0} (actor : E → ℕ) (legal : List E → Type 0) where
   module _ (words new : List ℕ) (before after : List (SeatView E)) (keeper : ℕ) (h h' : List E) (n : ℕ) (i i' : Option (Glance E)) where
     moves : (from to : ℕ) (p q : Glance E) → IsKept actor legal words before keeper h n i → Moved before after from to p q
         → ((r : Glance E) → r.actor ≢ p.actor → Fits actor h r → Fits actor h' r) → Fits actor h' q
-        → new ≡ capped (length h') ∷ [] → get_elem? after keeper ≡ some (Keeps h' n i')
+        → new ≡ capped (length h') ∷ gap → get_elem? after keeper ≡ some (Keeps h' n i')
         → ((k m : ℕ) (x : List E) (j : Option (Glance E)) → get_elem? after k ≡ some (Keeps x m j) → k ≡ keeper)
         → All (λ e. actor e < n) h' → legal h' → IsKept actor legal new after keeper h' n i'
     moves from to p q old m grows fits word kept alone actors is_legal = record {
@@ -87,17 +87,17 @@ module _ {E : Type 0} (actor : E → ℕ) (legal : List E → Type 0) where
             let ps : Some r ≡ Some s = sym x.2 ∙ (ap pass_in vs ∙ y.2) in
             cc
 
-  one_word : (ws : List ℕ) (w : ℕ) → ws ≡ w ∷ [] → slice_set ws 0 (slice_index ws 0) ≡ w ∷ []
-  one_word ws w e = subst (λ (x : List ℕ). slice_set x 0 (slice_index x 0) ≡ w ∷ []) (sym e) refl
+  one_word : (ws : List ℕ) (w : ℕ) → ws ≡ w ∷ gap → slice_set ws 0 (slice_index ws 0) ≡ w ∷ gap
+  one_word ws w e = subst (λ (x : List ℕ). slice_set x 0 (slice_index x 0) ≡ w ∷ gap) (sym e) refl
 
-  other_word : (ws : List ℕ) (w v : ℕ) → ws ≡ w ∷ [] → slice_set ws 0 v ≡ v ∷ []
-  other_word ws w v e = subst (λ (x : List ℕ). slice_set x 0 v ≡ v ∷ []) (sym e) refl
+  other_word : (ws : List ℕ) (w v : ℕ) → ws ≡ w ∷ gap → slice_set ws 0 v ≡ v ∷ gap
+  other_word ws w v e = subst (λ (x : List ℕ). slice_set x 0 v ≡ v ∷ gap) (sym e) refl
 
-  found_word : (ws : List ℕ) (w : ℕ) → ws ≡ w ∷ [] → slice_index ws 0 ≡ w
+  found_word : (ws : List ℕ) (w : ℕ) → ws ≡ w ∷ gap → slice_index ws 0 ≡ w
   found_word ws w e = ap (λ (x : List ℕ). slice_index x 0) e
 
   -- the start
-  pub opens : (legal [] → Kept actor legal record { words = 0 ∷ []; homes = []; views = opening_view ∷ [] })
+  pub opens : (legal [] → Kept actor legal record { words = 0 ∷ gap; homes = []; views = opening_view ∷ [] })
   opens empty = (
     0,
     [],
@@ -307,8 +307,8 @@ module _ {E : Type 0} (actor : E → ℕ) (legal : List E → Type 0) where
       let me_at : get_elem? after id ≡ some w = set_here s.views id w (at_inside s.views id _ at) in
       let found = found_word s.words _ old.word in
       let hit : (slice_index s.words 0 == o) ≡ true = grind (arith, nat_tests) in
-      let word : slice_set s.words 0 (either (slice_index s.words 0 == o) new (slice_index s.words 0)) ≡ capped (length (h ++ e ∷ [])) ∷ [] =
-      other_word s.words _ _ old.word ∙ ap (λ (x : ℕ). x ∷ []) (ap (λ (b : Bool). either b new (slice_index s.words 0)) hit ∙ (is_new ∙ ap capped (sym (length-append h (e ∷ []))))) in
+      let word : slice_set s.words 0 (either (slice_index s.words 0 == o) new (slice_index s.words 0)) ≡ capped (length (h ++ e ∷ [])) ∷ gap =
+      other_word s.words _ _ old.word ∙ ap (λ (x : ℕ). x ∷ gap) (ap (λ (b : Bool). either b new (slice_index s.words 0)) hit ∙ (is_new ∙ ap capped (sym (length-append h (e ∷ []))))) in
       let m : Moved s.views after id id p q = record {
         same_actor = refl;
         was = (Keeps h n (Some p), at, refl);

@@ -9,6 +9,10 @@ use Rattle.co_life.specs.declared.view.SeatView.TheVariants.{Keeps, Has, Spent}
 use Rattle.co_life.specs.declared.view.Glance.{Glance}
 use Rattle.co_life.specs.Seen.{StartsWith, own}
 
+-- the words behind the length, which no step touches: they keep lengths that stand side by side off each other's cache lines
+abbrev pub gap : List ℕ
+gap = 0 ∷ 0 ∷ 0 ∷ 0 ∷ 0 ∷ 0 ∷ 0 ∷ []
+
 -- a length as a word has it
 abbrev pub capped : ℕ → ℕ
 capped n = min n 18446744073709551615
@@ -35,7 +39,7 @@ module _ {E : Type 0} where
     pub all_own : own actor p.actor history ≡ own actor p.actor p.seen
 
   pub record IsKept (actor : E → ℕ) (legal : List E → Type 0) (words : List ℕ) (views : List (SeatView E)) (keeper : ℕ) (history : List E) (made : ℕ) (inside : Option (Glance E)) : Type 0 where
-    pub word : words ≡ capped (length history) ∷ []
+    pub word : words ≡ capped (length history) ∷ gap
     -- one view is a keeper's
     pub keeps : get_elem? views keeper ≡ some (Keeps history made inside)
     pub alone : (k n : ℕ) (h : List E) (i : Option (Glance E)) → get_elem? views k ≡ some (Keeps h n i) → k ≡ keeper

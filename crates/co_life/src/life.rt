@@ -18,7 +18,8 @@ use std::marker::Model;
 /// One shared history, from its opening to its close. Our own decision.
 ///
 /// Contracts see a life as its identity, which its keeper and its passes carry wherever they are moved, and no other life
-/// has. Threads may share it. It has one word, the length of the history; the entries stand in the proofs alone.
+/// has. Threads may share it. It has a cache line of words, the first of which is the length
+/// of the history; the entries stand in the proofs alone.
 #[derive(Drop)]
 pub struct Life<S: Story> {
     table: Table<S::Entry, SeatView<S::Entry>, (), HistoryRule<S>, Global>,
@@ -34,7 +35,7 @@ impl<S: Story> Model for Life<S> {
 
     ghost view = { λ l. l.table.shared.table_id };
 
-    ghost invariant = { λ l. (l.table.shared.table_id.words ≡ 1) × (l.table.shared.table_id.slots ≡ 0) };
+    ghost invariant = { λ l. (l.table.shared.table_id.words ≡ 8) × (l.table.shared.table_id.slots ≡ 0) };
 }
 
 /// The right to add to a history. There is one for each life; who shares it puts it behind a lock.
@@ -101,7 +102,7 @@ impl<S: Story> Life<S> {
         ensures keeper { IfOk result (λ r. r.1 ≡ record { life = r.0; history = []; actors = actors }) }
         ensures passes { IfOk result (λ r. AreFresh r.0 actors r.2) }
     {
-        let Ok((table, seat)) = Table::of_words(alloc, &[0], &()) else {
+        let Ok((table, seat)) = Table::of_words(alloc, &[0, 0, 0, 0, 0, 0, 0, 0], &()) else {
             return Err(NoMemory {});
         };
         let life = Life { table };

@@ -19,6 +19,8 @@ use std::sync::{Condvar, Mutex, MutexGuard};
 pub(crate) struct Locked<N: Name> {
     pub(crate) desk: Mutex<Desk<N>>,
     pub(crate) changed: Condvar,
+    /// Two cache lines, so that a thread at the next CPU doesn't wait for what is stored here.
+    gap: [u64; 16],
 }
 
 /// A desk's lock. It lends nothing. Contracts see the CPU of the desk that it locks.
@@ -60,6 +62,7 @@ fn lock_all<N: Name>(
         let locked = Locked {
             desk: Mutex::new(Desk::new(cpu, params, bench)),
             changed: Condvar::new(),
+            gap: [0; 16],
         };
         push(&mut desks, locked)?;
         cpu += 1;
@@ -73,7 +76,11 @@ pub(crate) fn open_desks<N: Name>(desks: Vec<Locked<N>>, room: Room<Books<N>>) -
 {
     let mut room = room;
     for locked in desks {
-        let Locked { desk, changed: _ } = locked;
+        let Locked {
+            desk,
+            changed: _,
+            gap: _,
+        } = locked;
         room.push(desk.into_inner().into_books());
     }
     room.into_seq().into_vec()
