@@ -39,8 +39,11 @@ pub record MayStep (s : Script) (e : Engine) (a : ℕ) (action : Action) : Type 
 
 -- the actor has done this, with so many notes
 pub record HasStepped (s : Script) (a : ℕ) (action : Action) (number : ℕ) (e e2 : Engine) : Type 0 where
+  -- from each world that the engine stood for, it stands for the one after the step
   pub stands : (w : World) → Stands s e w → IsDue s w a action → Stands s e2 (step s w a)
+  -- nothing has been told
   pub told : e2.books.told ≡ e.books.told
+  -- the actor's list is longer by so many notes
   pub count : length (list_at e2.books a) ≡ length (list_at e.books a) + number
 
 -- ---- in the middle of a step
@@ -49,19 +52,25 @@ pub record HasStepped (s : Script) (a : ℕ) (action : Action) (number : ℕ) (e
 abbrev pub StandsWith : Script → Engine → Hand → World → Type 0
 StandsWith s e hand w = StandsFor s (with_hand e.books hand) e.depot w
 
--- the actor in hand may do this now, with room for a section's notes
+-- the actor in hand may do this now
 pub record MayAct (s : Script) (e : Engine) (hand : Hand) (action : Action) : Type 0 where
   pub script : IsScript s
+  -- the engine stands for this world, in which the action is due
   pub world : World
   pub held : StandsWith s e hand world
   pub due : IsDue s world hand.actor action
+  -- no count wraps, and there is room for a section's notes
   pub few : e.books.made < 2 ^ 63
   pub room : 3 ≤ hand.notes.spare
 
 -- the actor in hand has done this, with so many notes
 pub record HasActed (s : Script) (action : Action) (number : ℕ) (e : Engine) (hand : Hand) (e2 : Engine) (hand2 : Hand) : Type 0 where
+  -- from each world that the engine stood for, it stands for the one after the step
   pub stands : (w : World) → StandsWith s e hand w → IsDue s w hand.actor action → StandsWith s e2 hand2 (step s w hand.actor)
+  -- the hand is the same actor's still
   pub actor : hand2.actor ≡ hand.actor
+  -- nothing has been told
   pub told : e2.books.told ≡ e.books.told
+  -- the list in hand is longer by so many notes, of which a step makes at most three
   pub count : length hand2.notes.items ≡ length hand.notes.items + number
   pub few : number ≤ 3

@@ -15,36 +15,48 @@ with_hand x hand = with_list x hand.actor hand.notes.items
 
 -- an actor's notes have been taken in hand
 pub record IsOpened (before : Written) (a : ℕ) (x : Written) (hand : Hand) : Type 0 where
+  -- the hand is this actor's
   pub actor : hand.actor ≡ a
+  -- what is written is what was
   pub kept : with_hand x hand ≡ before
   -- there is room for the notes of a step
   pub room : 3 ≤ hand.notes.spare
+  -- and none of their counts wraps
   pub few : x.made < 2 ^ 63
 
 -- the actor may make a note: what is written is that of some world
 pub record MayWrite (s : Script) (x : Written) (hand : Hand) : Type 0 where
+  -- the script is a sound one
   pub script : IsScript s
+  -- the books are those of this world, and the actor is one of its actors
   pub world : World
   pub written : IsWritten s (with_hand x hand) world
   pub exists : hand.actor < actor_count s
+  -- no count wraps, and there is room for the note
   pub few : x.made < 2 ^ 63 + 3
   pub room : 0 < hand.notes.spare
 
 -- the same of books in which a history has been counted, and its note is still to come
 pub record MayNote (s : Script) (x : Written) (hand : Hand) : Type 0 where
   pub script : IsScript s
+  -- the actor has a place and a list
   pub place : hand.actor < length x.places
   pub list : hand.actor < length x.lists
+  -- each of its acts that has begun is over in its program or has made a note
   pub counted : IsCounted (place_at x hand.actor) x.made
   pub few : x.made < 2 ^ 63 + 3
   pub room : 0 < hand.notes.spare
 
 -- the actor has made so many notes
 pub record HasWritten (number : ℕ) (x : Written) (hand : Hand) (x2 : Written) (hand2 : Hand) : Type 0 where
+  -- the hand is the same actor's still
   pub actor : hand2.actor ≡ hand.actor
+  -- nothing has been told
   pub told : x2.told ≡ x.told
+  -- its list is longer by so many notes, and so many more have been made
   pub count : length hand2.notes.items ≡ length hand.notes.items + number
   pub made : x2.made ≡ x.made + number
+  -- and no more room has gone
   pub spare : hand.notes.spare ≤ hand2.notes.spare + number
 
 -- where a world was written, the one after it is
