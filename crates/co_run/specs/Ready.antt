@@ -1,5 +1,5 @@
 -- An actor of a run between two steps of its program, and what a step keeps and gives.
-use Rattle.std.specs.Prelude.{◌≡◌, ℕ, ◌≤◌, Bool, true, List, None, Result, IfOk, OnErr, OnOk}
+use Rattle.std.specs.Prelude.{◌≡◌, ℕ, ◌+◌, ◌≤◌, Bool, true, List, None, Result, IfOk, OnErr, OnOk}
 use Rattle.co_object.specs.declared.note.Note.{Note}
 use Rattle.co_program.specs.declared.script.Script.{Script}
 use Rattle.co_program.specs.Action.{Action, Nothing, action_for}
@@ -68,6 +68,28 @@ pub record HasGoneOn {B : Type 0} (notes : B → List Note) (spare : B → ℕ) 
   -- it is the actor that it was
   pub number : new.number ≡ old.number
 
+-- it is ready again at this place in its program, after so many notes at most
+pub record HasGoneTo {B : Type 0} (notes : B → List Note) (spare : B → ℕ) (s : Script) (longest : ℕ) (name : ServiceName) (count : ℕ) (old new : Actor B) (to : Cursor) : Type 0 where
+  -- it can make its next step
+  pub ready : IsReady notes spare s longest name new
+  -- it is the actor that it was
+  pub number : new.number ≡ old.number
+  -- it is here in its program
+  pub place : place_of s new ≡ to
+  -- its book has no less room than for so many notes fewer
+  pub spent : spare old.book ≤ spare new.book + count
+
+-- it is ready again at this place in its program, without a note
+pub record HasMoved {B : Type 0} (notes : B → List Note) (spare : B → ℕ) (s : Script) (longest : ℕ) (name : ServiceName) (old new : Actor B) (to : Cursor) : Type 0 where
+  -- it can make its next step
+  pub ready : IsReady notes spare s longest name new
+  -- it is the actor that it was
+  pub number : new.number ≡ old.number
+  -- it is here in its program
+  pub place : place_of s new ≡ to
+  -- its book is as it was
+  pub book : new.book ≡ old.book
+
 -- it is ready again after an attempt too, which fails between two services alone
 pub record HasTried {B X E : Type 0} (notes : B → List Note) (spare : B → ℕ) (s : Script) (longest : ℕ) (name : ServiceName) (old new : Actor B) (result : Result X E) : Type 0 where
   -- it can make its next step, whatever came of this one
@@ -102,6 +124,8 @@ pub record HasLeft {B : Type 0} (s : Script) (old new : Actor B) : Type 0 where
 
 -- it has played its whole program, or has left it
 pub record HasPlayed {B X E : Type 0} (notes : B → List Note) (s : Script) (name : ServiceName) (old new : Actor B) (result : Result X E) : Type 0 where
+  -- it is the actor that it was
+  pub number : new.number ≡ old.number
   -- where there was room, its program is over
   pub over : OnOk result (IsOver s name old.number new.passes (notes new.book))
   -- where there was none, it has left it in order

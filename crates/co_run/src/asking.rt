@@ -37,7 +37,7 @@ fn make_room<B: Notebook>(stage: &Stage, book: &mut B, count: u32) -> Result<(),
 }
 
 impl<'a, B: Notebook> Actor<'a, B> {
-    /// A note of its own, with the room for it. After `NoMemory` nothing is noted.
+    /// A note of its own, which is due in the program, with the room for it. After `NoMemory` nothing is noted.
     pub(crate) fn ask_itself<N: Name, G: Gate>(
         &mut self,
         shared: &Shared<'_, N, G>,
@@ -52,8 +52,8 @@ impl<'a, B: Notebook> Actor<'a, B> {
         Ok(())
     }
 
-    /// A call on the service, with the room for its notes. A drain that waits for the end of a service waits first. After
-    /// `NoMemory` nothing is asked.
+    /// A call on the service, which is due in the program, with the room for its notes. A drain that waits for the end of a
+    /// service waits first. After `NoMemory` nothing is asked.
     pub(crate) fn ask_call<N: Name, G: Gate, R: Wait>(
         &mut self,
         rt: &R,
@@ -73,7 +73,7 @@ impl<'a, B: Notebook> Actor<'a, B> {
         Ok(())
     }
 
-    /// A scan of its CPU, with the room for its note. After `NoMemory` nothing is asked.
+    /// A scan of its CPU, which is due in the program, with the room for its note. After `NoMemory` nothing is asked.
     fn ask_scan<N: Name, G: Gate, R: Wait>(
         &mut self,
         rt: &R,
@@ -90,7 +90,8 @@ impl<'a, B: Notebook> Actor<'a, B> {
         Ok(())
     }
 
-    /// The next callout that has come due, with the room for all notes of its service. After `NoMemory` nothing is asked.
+    /// The next callout that has come due, which is due in the program, with the room for all notes of its service. After
+    /// `NoMemory` nothing is asked.
     fn ask_pop<N: Name, G: Gate, R: Wait>(
         &mut self,
         rt: &R,
@@ -107,7 +108,7 @@ impl<'a, B: Notebook> Actor<'a, B> {
         Ok(())
     }
 
-    /// A step on its CPU's queue, with the room for its notes. After `NoMemory` nothing is asked.
+    /// A step on its CPU's queue, which is due in the program, with the room for its notes. After `NoMemory` nothing is asked.
     pub(crate) fn ask_queue<N: Name, G: Gate, R: Wait>(
         &mut self,
         rt: &R,
@@ -127,7 +128,7 @@ impl<'a, B: Notebook> Actor<'a, B> {
         }
     }
 
-    /// A step of its service. There is room for its notes already.
+    /// A step of its service, which is due in the program. There is room for its notes already.
     pub(crate) fn ask_run<N: Name, G: Gate, R: Wait>(
         &mut self,
         rt: &R,

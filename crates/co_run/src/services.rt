@@ -41,7 +41,7 @@ fn finish<N: Name, R: Wait>(
 }
 
 impl<'a, B: Notebook> Actor<'a, B> {
-    /// The function of the callout in service is to run, or is skipped.
+    /// The function of the callout in service is to run, or is skipped; that is due in the program.
     pub(crate) fn begin<N: Name, G: Gate, R: Wait>(
         &mut self,
         rt: &R,
@@ -61,7 +61,7 @@ impl<'a, B: Notebook> Actor<'a, B> {
         tell_all(shared.script, &mut self.cursor, &mut self.book, &made.notes);
     }
 
-    /// The service is over: of the CPU, or of its interrupt where `direct`.
+    /// The service is over, as is due in the program: of the CPU, or of its interrupt where `direct`.
     pub(crate) fn end<N: Name, G: Gate, R: Wait>(
         &mut self,
         rt: &R,

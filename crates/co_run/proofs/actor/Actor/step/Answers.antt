@@ -6,10 +6,10 @@ pub returns-in-Nothing : goal.returns-in-Nothing
 returns-in-Nothing g c = record { tried = record { gone_on = record { ready = c.requires.ready; number = refl }; rests = tt }; over = search rules }
 
 pub returns-in-Silent : goal.returns-in-Silent
-returns-in-Silent g c = record { tried = record { gone_on = c.pass.ensures; rests = tt }; over = search rules }
+returns-in-Silent g c = record { tried = record { gone_on = record { ready = c.pass.ensures.ready; number = c.pass.ensures.number }; rests = tt }; over = search rules }
 
 pub returns-in-Take : goal.returns-in-Take
-returns-in-Take g c = record { tried = record { gone_on = c.take.ensures; rests = tt }; over = search rules }
+returns-in-Take g c = record { tried = record { gone_on = record { ready = c.take.ensures.ready; number = c.take.ensures.number }; rests = tt }; over = search rules }
 
 pub returns-in_ok-ask-in-Asks : goal.returns-in_ok-ask-in-Asks
 returns-in_ok-ask-in-Asks g c = record { tried = record { gone_on = c.ask.ensures.gone_on; rests = tt }; over = search rules }
