@@ -1,6 +1,7 @@
 //! Services that are played by hand, call by call.
 mod acts;
 mod cast;
+mod direct;
 mod held;
 mod looks;
 mod moving;

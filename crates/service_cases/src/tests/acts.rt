@@ -35,7 +35,7 @@ pub(super) fn tick<N: Name, R: Wait + Abort>(
 }
 
 /// The notes of a start whose function is to be called at once.
-fn begun(taken: Taken) -> Option<(Note, Note)>
+pub(super) fn begun(taken: Taken) -> Option<(Note, Note)>
     ensures { IfSome result (λ _. (direct : Bool) (q : PassesView) (cpu : ℕ) → HasNext direct q cpu taken → (d : Due) × IsServing direct q cpu d (Runs d.n)) }
 {
     match taken {
@@ -50,7 +50,7 @@ fn begun(taken: Taken) -> Option<(Note, Note)>
 }
 
 /// The note where nothing had come due.
-fn nothing(taken: Taken) -> Option<Note> {
+pub(super) fn nothing(taken: Taken) -> Option<Note> {
     match taken {
         Taken::Empty { note } => Some(note),
         Taken::Took { .. } => None,

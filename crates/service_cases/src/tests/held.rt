@@ -1,6 +1,5 @@
 //! A callout with a mutex is stopped while its service waits for the mutex.
 ghost use Rattle.std.specs.Prelude.{◌≡◌, ◌∷◌, [], ◌<◌, ℕ, Bool, IfOk, IfSome, false, true};
-ghost use Rattle.co_lock.specs.declared.lock_kind.LockKind.TheVariants as kind;
 ghost use Rattle.co_object.specs.Queue.{Due};
 ghost use Rattle.co_object.specs.declared.spec.LockUse.TheVariants.{Mtx};
 ghost use Rattle.co_service.specs.Booted.{AreBooted};
@@ -45,7 +44,7 @@ fn boot_locked(alloc: Global) -> Result<(Fresh, Seq<Passes>), NoMemory>
 
 /// Mutex 0.
 fn mutex(alloc: Global) -> Result<ClientLocks, NoMemory>
-    ensures { IfOk result (λ locks. locks ≡ kind.Mtx ∷ []) }
+    ensures { IfOk result (λ locks. locks ≡ LockKind.Mtx ∷ []) }
 {
     ClientLocks::new(alloc, &[LockKind::Mtx])
 }

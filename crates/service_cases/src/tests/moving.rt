@@ -1,6 +1,12 @@
 //! A callout that is armed for another CPU while it is serviced moves when the service ends.
-ghost use Rattle.std.specs.Prelude.{◌≡◌};
+ghost use Rattle.std.specs.Prelude.{◌≡◌, ◌<◌, false};
+ghost use Rattle.co_object.specs.Journal.{scanner};
+ghost use Rattle.co_object.specs.Queue.{Due};
 ghost use Rattle.co_service.specs.Booted.{AreBooted};
+ghost use Rattle.co_service.specs.Params.{actors_of};
+ghost use Rattle.co_service.specs.Services.{IsFree, IsServing};
+ghost use Rattle.co_service.specs.Serving.{Runs};
+ghost use Rattle.co_service.specs.Views.{AreOf};
 ghost use Rattle.service_cases.specs.Scenes.{IsScene};
 
 use super::acts::{finish, rest, start, tick};
@@ -14,6 +20,42 @@ use std::marker::Brand;
 use std::process::Abort;
 use std::sync::Wait;
 use std::test::Fail;
+
+/// A CPU's queue is scanned at a time in seconds, and the function of what has come due is called.
+fn begin_turn<N: Name, R: Wait + Abort>(
+    rt: &R,
+    service: &Service<N>,
+    log: &mut Vec<Note>,
+    passes: &mut Passes,
+    cpu: u32,
+    at: i32,
+)
+    requires cpu { cpu < service.now.cpus }
+    requires passes { AreOf N.name service.now passes.old }
+    requires scanner { passes.old.actor ≡ scanner (actors_of service.now) cpu }
+    requires free { IsFree false passes.old cpu }
+    ensures of { AreOf N.name service.now passes.new }
+    ensures serving { (d : Due) × IsServing false passes.new cpu d (Runs d.n) }
+{
+    tick(rt, service, log, passes, cpu, seconds(at));
+    start(rt, service, log, passes, cpu);
+}
+
+/// The function returns, and nothing more has come due.
+fn end_turn<N: Name, R: Wait + Abort>(
+    rt: &R,
+    service: &Service<N>,
+    log: &mut Vec<Note>,
+    passes: &mut Passes,
+    cpu: u32,
+)
+    requires cpu { cpu < service.now.cpus }
+    requires passes { AreOf N.name service.now passes.old }
+    requires serving { (d : Due) × IsServing false passes.old cpu d (Runs d.n) }
+{
+    finish(rt, service, log, passes, cpu);
+    rest(rt, service, log, passes, cpu);
+}
 
 /// The acts of the client and of both CPUs.
 fn play<N: Name, R: Wait + Abort>(
@@ -43,8 +85,7 @@ fn play<N: Name, R: Wait + Abort>(
         0,
         None,
     );
-    tick(rt, &service, &mut log, &mut first, 0, seconds(1));
-    start(rt, &service, &mut log, &mut first, 0);
+    begin_turn(rt, &service, &mut log, &mut first, 0, 1);
     arm(
         rt,
         &service,
@@ -56,12 +97,9 @@ fn play<N: Name, R: Wait + Abort>(
         1,
         Some(1),
     );
-    finish(rt, &service, &mut log, &mut first, 0);
-    rest(rt, &service, &mut log, &mut first, 0);
-    tick(rt, &service, &mut log, &mut second, 1, seconds(2));
-    start(rt, &service, &mut log, &mut second, 1);
-    finish(rt, &service, &mut log, &mut second, 1);
-    rest(rt, &service, &mut log, &mut second, 1);
+    end_turn(rt, &service, &mut log, &mut first, 0);
+    begin_turn(rt, &service, &mut log, &mut second, 1, 2);
+    end_turn(rt, &service, &mut log, &mut second, 1);
     Ok(log)
 }
 
