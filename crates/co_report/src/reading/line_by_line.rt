@@ -50,7 +50,8 @@ impl<'a> Model for OpenReport<'a> {
 /// The report of a script's text and the text of its notes, where the script is read.
 fn open_halves<'a>(alloc: Global, halves: Halves<'a>) -> Result<OpenReport<'a>, ScriptFault>
     requires { AreAtMost 268435456 halves }
-    ensures { IsOpened (halves_read (halves_view halves.entry)) result }
+    ensures opened { IsOpened (halves_read (halves_view halves.entry)) result }
+    ensures short { IfOk result (λ o. length o.text ≤ 268435456) }
 {
     let script = script_in_report(alloc, halves.script)?;
     is_canonical(alloc, &script, halves.script)?;
@@ -73,7 +74,8 @@ fn open_halves<'a>(alloc: Global, halves: Halves<'a>) -> Result<OpenReport<'a>, 
 /// The report of all lines, where its script is read.
 fn open_lines(alloc: Global, bytes: &[u8]) -> Result<OpenReport<'_>, ScriptFault>
     requires { length bytes.now ≤ 268435456 }
-    ensures { IsOpened (lines_report (lines_of bytes.now)) result }
+    ensures opened { IsOpened (lines_report (lines_of bytes.now)) result }
+    ensures short { IfOk result (λ o. length o.text ≤ 268435456) }
 {
     none_cut(bytes)?;
     let others = behind_first(bytes)?;
@@ -87,7 +89,8 @@ fn open_lines(alloc: Global, bytes: &[u8]) -> Result<OpenReport<'_>, ScriptFault
 /// refused as `read_report` refuses it, for a line before its histories.
 #[tactic(auto, unfolding(crate::specs::Reading::report_read))]
 pub fn open_report(alloc: Global, bytes: &[u8]) -> Result<OpenReport<'_>, ScriptFault>
-    ensures { IsOpened (report_read bytes.now) result }
+    ensures opened { IsOpened (report_read bytes.now) result }
+    ensures short { IfOk result (λ o. length o.text ≤ 268435456) }
 {
     if bytes.len() > 268_435_456 {
         return Err(bad(0, Cause::Size));
