@@ -31,3 +31,4 @@ pub mod ReadLines
 mod ReadRows
 mod NoteHeads
 mod LinesEnded
+mod LineByLine

@@ -58,7 +58,7 @@ module _ (s : Script) (small : IsSmall s) where
         lines = more-lines done (record { line = k; place = p; number = x.0.number; entry = x.0.entry }) h.lines (record { place = h.current; number = t.0.0; entry = t.0.1 });
       })
 
-  line-stands : (k : ℕ) (d e : Progress) (line : List ℕ) → Stands d → line_after s k d line ≡ Ok e → Stands e
+  pub line-stands : (k : ℕ) (d e : Progress) (line : List ℕ) → Stands d → line_after s k d line ≡ Ok e → Stands e
   line-stands k d e line h r =
       let b = bind-ok (unless (goes_on d.end) cause.Note) (λ _. line_read s k d line) e r in
       cond-ok (Stands e) (bytes_eq line (joined (closing_words s d.left))) (Ok (closed_by k d d.left)) (note_read s k d line) e

@@ -24,7 +24,7 @@ at_line-ok k (Ok y) x h = let same : y ≡ x = cc in ap (λ z. Ok z) same
 at_line-ok k (Err c) x h = cc
 
 module _ (s : Script) where
-  closed-lines : (k : ℕ) (d : Progress) (left : List Place) → (closed_by k d left).lines ≡ d.lines
+  pub closed-lines : (k : ℕ) (d : Progress) (left : List Place) → (closed_by k d left).lines ≡ d.lines
   closed-lines k d [] = refl
   closed-lines k d (p ∷ ps) = refl
 
@@ -40,7 +40,7 @@ module _ (s : Script) where
       let few : length (done ++ l ∷ []) ≤ length done + 1 = omega (arith, grown) in
       subst (λ (f : Progress). length f.lines ≤ length done + 1) same few
 
-  line-few : (k : ℕ) (d e : Progress) (line : List ℕ) → line_after s k d line ≡ Ok e → length e.lines ≤ length d.lines + 1
+  pub line-few : (k : ℕ) (d e : Progress) (line : List ℕ) → line_after s k d line ≡ Ok e → length e.lines ≤ length d.lines + 1
   line-few k d e line r =
       let b = bind-ok (unless (goes_on d.end) cause.Note) (λ _. line_read s k d line) e r in
       cond-ok (length e.lines ≤ length d.lines + 1) (bytes_eq line (joined (closing_words s d.left))) (Ok (closed_by k d d.left)) (note_read s k d line) e

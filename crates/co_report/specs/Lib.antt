@@ -26,5 +26,7 @@ pub mod Typed
 pub mod Reading
 -- what the reader's own types stand for
 pub mod ReadingViews
+-- a report that is read line by line: what of it is still ahead
+pub mod LineByLine
 -- each history is shown; a note has one spelling; a report reads back as its script and notes
 pub mod Laws

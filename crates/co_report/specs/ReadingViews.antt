@@ -1,8 +1,9 @@
 -- What the reader's own types say.
-use Rattle.std.specs.Prelude.{◌≡◌, ℕ, ◌≤◌, List, length, drop}
+use Rattle.std.specs.Prelude.{◌≡◌, ℕ, ◌≤◌, List, [], ◌∷◌, Option, Some, None, length, drop}
 use Rattle.co_object.specs.declared.Place.{Place}
 use Rattle.co_program.specs.declared.Script.{Script}
 use Rattle.co_text.specs.Lines.{lines_of}
+use Rattle.co_report.specs.declared.line.Line.{Line}
 use Rattle.co_report.specs.declared.reading.texts.Halves.{Halves as Texts}
 use Rattle.co_report.specs.declared.reading.progress.Progress.{Progress as Reader}
 use Rattle.co_report.specs.declared.reading.progress.Setting.{Setting}
@@ -40,3 +41,12 @@ so_far x d = progress_view x.places.now d
 
 abbrev pub IsReady : Setting → Reader → Type 0
 IsReady x d = IsSpelled x.script.now x.places.now d
+
+-- one line or none, as a list
+abbrev pub listed : Option Line → List Line
+listed None = []
+listed (Some l) = l ∷ []
+
+-- with this line so far, if there is one, and no other
+abbrev pub with_line : Progress → Option Line → Progress
+with_line d found = record d { lines = listed found }

@@ -15,6 +15,7 @@ mod typed;
 pub use line::{Line, Report};
 pub use order::{Order, order_of};
 pub use origin::{Origin, note_from};
+pub use reading::line_by_line::{Found, Next, OpenReport, Reader, open_report};
 pub use reading::read_report;
 pub use report::print_report;
 pub use sections::Sections;

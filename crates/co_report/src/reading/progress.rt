@@ -54,7 +54,7 @@ fn goes_on(end: Option<u64>) -> bool
 
 impl Progress {
     /// No place has begun.
-    fn opening(alloc: Global, setting: &Setting) -> Result<Progress, NoMemory>
+    pub fn opening(alloc: Global, setting: &Setting) -> Result<Progress, NoMemory>
         requires { IsSetting setting.now }
         ensures value { IfOk result (λ d. so_far setting.now d ≡ opening setting.now.script.now) }
         ensures spelled { IfOk result (λ d. IsReady setting.now d) }
@@ -109,7 +109,7 @@ impl Progress {
     }
 
     /// What line `number` does; `Note` where it may not stand.
-    fn line(
+    pub fn line(
         &mut self,
         alloc: Global,
         setting: &Setting,

@@ -1,0 +1,19 @@
+-- A line shows one note at most.
+use Rattle.std.proofs.Common.{◌≤◌, ◌+◌, List, Ok, length, ap, sym, ◌∙◌, arith}
+use Rattle.co_report.specs.declared.line.Line.{Line}
+use Rattle.co_report.specs.ReadingViews.{so_far}
+use Rattle.co_report.proofs.ReadLines.{line-few}
+use Rattle.co_report.proofs.reading.line_by_line.take_note.Goals as goal
+
+pub only_line-found-requires : goal.only_line-found-requires
+only_line-found-requires c =
+    let d = so_far c.args.setting.now c.args.progress.now in
+    let e = so_far c.args.setting.now c.line.new.self in
+    let few : length e.lines ≤ length d.lines + 1 = line-few c.args.setting.now.script.now c.args.number d e c.args.line.now c.in_ok-line.ensures.value in
+    omega (arith, few, ap length c.requires.none, ap length c.as_slice.ensures)
+
+pub returns-clause-value : goal.returns-clause-value
+returns-clause-value c =
+    let e = so_far c.args.setting.now c.line.new.self in
+    c.in_ok-line.ensures.value
+    ∙ ap (λ (ls : List Line). Ok (record { current = e.current; left = e.left; lines = ls; end = e.end })) (sym (c.only_line-found.ensures ∙ c.as_slice.ensures))
