@@ -1,18 +1,16 @@
 //! Scripts with their reports, for tests that change one or the other. The crate worked_cases has all worked scripts.
-use crate::case::Case;
-
 /// One firing on one CPU.
-pub const ONE_FIRING: Case = Case {
-    name: "one firing",
-    script: r"callout 1
+pub const ONE_FIRING: &str = r"callout 1
 funcs 1
 timer 0 mpsafe
 client 0
 reset 0 =1.5 f0 a7
 cpu 0
 tick 1.5
-",
-    report: r"callout-report 1
+";
+
+/// Its report.
+pub const ONE_FIRING_REPORT: &str = r"callout-report 1
 callout 1
 hz 1000
 cpus 1
@@ -38,13 +36,10 @@ wheel 0
 actor c0
 actor p0
 end
-",
-};
+";
 
 /// Stops before an arming, of the one that is pending, and after it, with codes -1, 1 and -1; then the query whether it is active.
-pub const THE_CODES_OF_STOP: Case = Case {
-    name: "the codes of stop",
-    script: r"callout 1
+pub const THE_CODES_OF_STOP: &str = r"callout 1
 funcs 1
 timer 0 mpsafe
 client 0
@@ -54,8 +49,10 @@ stop 0
 stop 0
 active 0
 cpu 0
-",
-    report: r"callout-report 1
+";
+
+/// Its report.
+pub const THE_CODES_OF_STOP_REPORT: &str = r"callout-report 1
 callout 1
 hz 1000
 cpus 1
@@ -83,5 +80,4 @@ wheel 0
 actor c0
 actor p0
 end
-",
-};
+";

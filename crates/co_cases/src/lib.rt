@@ -2,8 +2,6 @@
 #![tactic(auto)]
 
 #[cfg(test)]
-mod case;
-#[cfg(test)]
 mod examples;
 #[cfg(test)]
 mod ordinary;
@@ -15,10 +13,8 @@ mod quiet_ends;
 mod tests;
 
 #[cfg(test)]
-pub use case::Case;
-#[cfg(test)]
 pub use ordinary::ordinary_script;
 #[cfg(test)]
-pub use outcome::{Outcome, call, call_through, check, make, run, steps};
+pub use outcome::{Outcome, call, call_through, make, read};
 #[cfg(test)]
 pub use quiet_ends::quiet;

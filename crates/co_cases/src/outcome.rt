@@ -62,8 +62,8 @@ pub fn call<R: AllocGlobal + Threads + Wait + Sync>(
 // The most bytes of a report in the tables.
 const ROOM: usize = 4096;
 
-// A call of a command that reads, without a fault.
-fn read<R: AllocGlobal + Threads + Wait + Sync>(
+/// A call of a command that reads, without a fault.
+pub fn read<R: AllocGlobal + Threads + Wait + Sync>(
     rt: &R,
     word: &str,
     input: &[u8],
@@ -71,30 +71,6 @@ fn read<R: AllocGlobal + Threads + Wait + Sync>(
     let source = MemSource::new(rt.alloc(), input, ROOM, &[])?;
     let sink = MemSink::new(rt.alloc(), ROOM, ROOM, &[])?;
     call(rt, [word].as_slice(), source, sink)
-}
-
-/// A call of `steps` without a fault.
-pub fn steps<R: AllocGlobal + Threads + Wait + Sync>(
-    rt: &R,
-    script: &[u8],
-) -> Result<Outcome, NoMemory> {
-    read(rt, "steps", script)
-}
-
-/// A call of `run` without a fault.
-pub fn run<R: AllocGlobal + Threads + Wait + Sync>(
-    rt: &R,
-    script: &[u8],
-) -> Result<Outcome, NoMemory> {
-    read(rt, "run", script)
-}
-
-/// A call of `check` without a fault.
-pub fn check<R: AllocGlobal + Threads + Wait + Sync>(
-    rt: &R,
-    report: &[u8],
-) -> Result<Outcome, NoMemory> {
-    read(rt, "check", report)
 }
 
 /// A call of a command that reads nothing, over a source that fails where it is read, into so many bytes.

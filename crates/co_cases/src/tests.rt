@@ -1,7 +1,5 @@
-mod checks;
 mod faults;
 mod quiet;
 mod refusals;
 mod reports;
-mod runs;
 mod turns;

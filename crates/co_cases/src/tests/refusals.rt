@@ -1,30 +1,34 @@
 //! What is refused, and how.
-use crate::{call, steps};
+use crate::{call, read};
 use co_io::{MemSink, MemSource};
+use co_sbt::NoMemory;
 use co_top::Status;
 use std::alloc::{AllocError, Global};
-use std::process::Abort;
 use std::sync::Wait;
 use std::test::Fail;
 use std::thread::Threads;
 
-// Scripts with the line that is written of each.
-const REFUSED: [(&str, &str); 6] = [
-    ("callout 1\ncpus 1\nwheel 24\n", "line 3: number\n"),
+// Commands and scripts, with the line that is written of each.
+const REFUSED: [(&str, &str, &str); 7] = [
+    ("steps", "callout 1\ncpus 1\nwheel 24\n", "line 3: number\n"),
     (
+        "steps",
         "callout 1\nfuncs 1\ntimer 0 mpsafe\nclient 0\nreset 0 =1.5 f0 a7\ncpu 0\ntick 1.5",
         "line 7: cut\n",
     ),
     (
+        "steps",
         "callout 1\nfuncs 1\ntimer 0 mpsafe\nclient 0\nreset 0 =1.5 f0 a7\ncpu 0\ntick 1.5\ntick 1\n",
         "line 8: falls\n",
     ),
     (
+        "steps",
         "callout 1\nfuncs 1\ntimer 0 mpsafe\nfunc 0\ndrain 0\nclient 0\nreset 0 =1.5 f0 a7\ncpu 0\ntick 1.5\n",
         "line 5: order\n",
     ),
-    ("", "line 0: version\n"),
-    ("callout 1\n", "line 0: timer\n"),
+    ("steps", "", "line 0: version\n"),
+    ("steps", "callout 1\n", "line 0: timer\n"),
+    ("run", "callout 1\n", "line 0: timer\n"),
 ];
 
 // A script whose beginnings are scripts too where they end behind a line, from the timer's on. Their reports are among those of worked_cases.
@@ -44,21 +48,22 @@ turns c0*2 p0*3 c0
 // How many bytes the lines up to the timer's have.
 const TO_THE_TIMER: usize = 43;
 
-fn refuses(
-    rt: &(impl AllocGlobal + Abort + Threads + Wait + Sync),
+// Whether the command refuses the script with this line, and has no closing.
+fn is_refused<R: AllocGlobal + Threads + Wait + Sync>(
+    rt: &R,
+    word: &str,
     script: &[u8],
     line: &str,
-) -> Result<(), Fail> {
-    let outcome = steps(rt, script)?;
-    assert!(rt; outcome.status == Status::BadScript, "{line}");
-    assert!(rt; outcome.held.as_slice() == line.as_bytes());
-    Ok(())
+) -> Result<bool, NoMemory> {
+    let outcome = read(rt, word, script)?;
+    let refused = outcome.status == Status::BadScript && !outcome.closed;
+    Ok(refused && outcome.held.as_slice() == line.as_bytes())
 }
 
 #[test]
 fn bad_scripts(rt: HostRuntime) -> Result<(), Fail> {
-    for (script, line) in REFUSED {
-        refuses(&rt, script.as_bytes(), line)?;
+    for (word, script, line) in REFUSED {
+        assert!(rt; is_refused(&rt, word, script.as_bytes(), line)?, "{line}");
     }
     Ok(())
 }
@@ -66,7 +71,8 @@ fn bad_scripts(rt: HostRuntime) -> Result<(), Fail> {
 #[test]
 fn too_long_an_input(rt: HostRuntime) -> Result<(), Fail> {
     let input = vec![in rt.alloc(); b'#'; 67_108_865]?;
-    refuses(&rt, input.as_slice(), "line 0: size\n")
+    assert!(rt; is_refused(&rt, "steps", input.as_slice(), "line 0: size\n")?);
+    Ok(())
 }
 
 // A script of a million lines, most of them comments, whose last line has no line feed.
@@ -83,35 +89,33 @@ fn million_lines(alloc: Global) -> Result<Vec<u8>, AllocError> {
 #[test]
 fn a_million_lines_cut_at_the_last(rt: HostRuntime) -> Result<(), Fail> {
     let mut script = million_lines(rt.alloc())?;
-    refuses(&rt, script.as_slice(), "line 1000000: cut\n")?;
+    let is_cut = is_refused(&rt, "steps", script.as_slice(), "line 1000000: cut\n")?;
     script.push(b'\n')?;
-    let outcome = steps(&rt, script.as_slice())?;
-    assert!(rt; outcome.status == Status::Done);
+    assert!(rt; is_cut && read(&rt, "steps", script.as_slice())?.status == Status::Done);
     Ok(())
 }
 
+const NO_COMMANDS: [&[&str]; 9] = [
+    &[],
+    &["steps", "x"],
+    &["check", "1"],
+    &["gen"],
+    &["gen", "-1"],
+    &["gen", "18446744073709551616"],
+    &["soak", "000000000000000000001"],
+    &["soak", "1", "1"],
+    &[""],
+];
+
 #[test]
 fn words_that_are_no_command(rt: HostRuntime) -> Result<(), Fail> {
-    let lists: [&[&str]; 9] = [
-        &[],
-        &["steps", "x"],
-        &["check", "1"],
-        &["gen"],
-        &["gen", "-1"],
-        &["gen", "18446744073709551616"],
-        &["soak", "000000000000000000001"],
-        &["soak", "1", "1"],
-        &[""],
-    ];
-    for words in lists {
+    let usage =
+        b"usage: callout steps | run | check | gen N | soak N | kq | sleep | itimer | event\n".as_slice();
+    for words in NO_COMMANDS {
         let source = MemSource::new(rt.alloc(), b"callout 1\n", 1, &[0])?;
         let sink = MemSink::new(rt.alloc(), 100, 100, &[])?;
         let outcome = call(&rt, words, source, sink)?;
-        assert!(rt; outcome.status == Status::Usage);
-        assert!(rt;
-            outcome.held.as_slice()
-                == b"usage: callout steps | run | check | gen N | soak N | kq | sleep | itimer | event\n".as_slice()
-        );
+        assert!(rt; outcome.status == Status::Usage && outcome.held.as_slice() == usage);
     }
     Ok(())
 }
@@ -131,12 +135,13 @@ fn beginnings_of_a_script(rt: HostRuntime) -> Result<(), Fail> {
     let script = CANCELLED_WHILE_IT_WAITS.as_bytes();
     for end in 0..script.len() {
         let prefix = &script[..end];
-        if end >= TO_THE_TIMER && prefix.last() == Some(&b'\n') {
-            let outcome = steps(&rt, prefix)?;
-            assert!(rt; outcome.status == Status::Done);
+        let is_right = if end >= TO_THE_TIMER && prefix.last() == Some(&b'\n') {
+            read(&rt, "steps", prefix)?.status == Status::Done
         } else {
-            refuses(&rt, prefix, refusal(rt.alloc(), prefix)?.as_str())?;
-        }
+            let line = refusal(rt.alloc(), prefix)?;
+            is_refused(&rt, "steps", prefix, line.as_str())?
+        };
+        assert!(rt; is_right, "the first {end} bytes");
     }
     Ok(())
 }

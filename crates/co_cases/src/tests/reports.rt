@@ -1,21 +1,96 @@
-//! A script of ordinary use has a report, which is legal.
-use crate::{call, check, ordinary_script};
+//! The reports of scripts by `steps`, and on threads by `run`, which are legal.
+use crate::tests::turns::Turns;
+use crate::{Outcome, call, call_through, make, ordinary_script, read};
 use co_io::{MemSink, MemSource};
+use co_sbt::NoMemory;
 use co_top::Status;
+use std::sync::Wait;
 use std::test::Fail;
+use std::thread::Threads;
 
-// The report is legal.
+/// Whether a call is done, with a closing or not, and `check` calls what it wrote legal.
+fn is_legal<R: AllocGlobal + Threads + Wait + Sync>(
+    rt: &R,
+    outcome: &Outcome,
+    closed: bool,
+) -> Result<bool, NoMemory> {
+    let verdict = read(rt, "check", outcome.held.as_slice())?;
+    let done = outcome.status == Status::Done && verdict.status == Status::Done;
+    let closings = outcome.closed == closed && !verdict.closed;
+    Ok(done && closings && verdict.held.as_slice() == b"legal\n".as_slice())
+}
+
+/// How many bytes the report of `steps` has, where it and that of `run` are legal, whichever way the actors interleaved.
+fn legal_len<R: AllocGlobal + Threads + Wait + Sync>(
+    rt: &R,
+    script: &[u8],
+) -> Result<Option<usize>, NoMemory> {
+    let mut len = None;
+    for word in ["run", "steps"] {
+        let source = MemSource::new(rt.alloc(), script, 4096, &[])?;
+        let sink = MemSink::new(rt.alloc(), 2_000_000, 2_000_000, &[])?;
+        let outcome = call(rt, [word].as_slice(), source, sink)?;
+        if !is_legal(rt, &outcome, word == "run")? {
+            return Ok(None);
+        }
+        len = Some(outcome.held.as_slice().len());
+    }
+    Ok(len)
+}
+
 #[test]
 fn ordinary_use(rt: HostRuntime) -> Result<(), Fail> {
     let script = ordinary_script(rt.alloc())?;
-    assert!(rt; script.len() == 44_317);
-    let source = MemSource::new(rt.alloc(), script.as_bytes(), 4096, &[])?;
-    let sink = MemSink::new(rt.alloc(), 500_000, 500_000, &[])?;
-    let outcome = call(&rt, ["steps"].as_slice(), source, sink)?;
-    assert!(rt; outcome.status == Status::Done);
-    assert!(rt; outcome.held.as_slice().len() == 434_782);
-    let verdict = check(&rt, outcome.held.as_slice())?;
-    assert!(rt; verdict.status == Status::Done);
-    assert!(rt; verdict.held.as_slice() == b"legal\n".as_slice());
+    let len = legal_len(&rt, script.as_bytes())?;
+    assert!(rt; script.len() == 44_317 && len == Some(434_782));
+    Ok(())
+}
+
+#[test]
+fn generated(rt: HostRuntime) -> Result<(), Fail> {
+    let script = make(&rt, ["gen", "1"].as_slice(), 500_000)?;
+    let text = script.held.as_slice();
+    assert!(rt; script.status == Status::Done && text.len() == 459_440);
+    assert!(rt; legal_len(&rt, text)?.is_some());
+    Ok(())
+}
+
+const THREADS: &str = "callout 1
+cpus 2
+funcs 1
+timer 0 mpsafe
+timer 1 mpsafe
+func 0
+pending me
+client 0
+reset 0 =1 f0 a0
+pending 0
+client 1
+reset 1 =1 f0 a1 cpu 1
+pending 1
+cpu 0
+tick 1
+";
+
+/// The second client calls while the first callout's function runs, so they are on two threads.
+#[test]
+fn threads(rt: HostRuntime) -> Result<(), Fail> {
+    let turns = Turns::new();
+    let source = MemSource::new(rt.alloc(), THREADS.as_bytes(), 4096, &[])?;
+    let sink = MemSink::new(rt.alloc(), 4096, 4096, &[])?;
+    let outcome = call_through(&rt, ["run"].as_slice(), source, sink, &turns)?;
+    assert!(rt; turns.are_over() && is_legal(&rt, &outcome, true)?);
+    Ok(())
+}
+
+/// A seed is a number, however it is written.
+#[test]
+fn soak_counts(rt: HostRuntime) -> Result<(), Fail> {
+    let line =
+        b"soak 1 notes 33295 armed 4447 fired 1324 superseded 1761 stopped 1357 pending 5\n".as_slice();
+    for seed in ["1", "00001"] {
+        let outcome = make(&rt, ["soak", seed].as_slice(), 200)?;
+        assert!(rt; outcome.status == Status::Done && outcome.held.as_slice() == line);
+    }
     Ok(())
 }
