@@ -10,7 +10,7 @@ ghost use Rattle.co_service.specs.Stories.{IsHistory, IsJournal};
 ghost use Rattle.co_service.specs.Views.{IsKeeperOf};
 
 use crate::books::Books;
-use crate::boot::push;
+use crate::boot::{apart, push};
 use crate::desk::Desk;
 use crate::places::Places;
 use crate::wheels::{directs, first_wheel};
@@ -59,7 +59,7 @@ fn all_here(
 ) -> Result<Vec<Option<Keeper<TimerStory>>>, NoMemory>
     ensures { IfOk result (λ here. here.items ≡ map Some keepers.items) }
 {
-    let mut here = Vec::new(alloc);
+    let mut here = apart(alloc, keepers.len())?;
     for keeper in keepers {
         push(&mut here, Some(keeper))?;
     }
@@ -70,7 +70,7 @@ fn all_here(
 fn none_here(alloc: Global, count: usize) -> Result<Vec<Option<Keeper<TimerStory>>>, NoMemory>
     ensures { IfOk result (λ here. here.items ≡ replicate count None) }
 {
-    let mut here = Vec::new(alloc);
+    let mut here = apart(alloc, count)?;
     for _at in 0..count {
         push(&mut here, None)?;
     }

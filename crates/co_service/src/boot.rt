@@ -69,21 +69,35 @@ fn add_place<E: Drop, S: Story<Entry = Line<E>>>(
     Ok(())
 }
 
-/// The passes of each of the actors, which have no place yet. `NoMemory` where there is no room for them.
+/// The passes of each of the actors, which have no place yet, with room for `count` places. `NoMemory` where there is no room for them.
 fn empty_seats<E: Drop, S: Story<Entry = Line<E>>>(
     alloc: Global,
     actors: u32,
+    count: u32,
 ) -> Result<Vec<Seats<S>>, NoMemory>
     ensures count { IfOk result (λ all. vec_len all ≡ actors) }
     ensures each { IfOk result (λ all. (k : ℕ) → k < actors → seats_in all.items k ≡ fresh_seats [] k) }
 {
     let mut all = Vec::new(alloc);
     for actor in 0..actors {
-        if all.push(Seats::new(alloc, actor)).is_err() {
-            return Err(NoMemory {});
-        }
+        let seats = Seats::with_room(alloc, actor, count)?;
+        push(&mut all, seats)?;
     }
     Ok(all)
+}
+
+/// How many bytes are fetched together: two cache lines.
+const LINES: usize = 128;
+
+/// A list with no item yet and room for `count`, whose items are bytes that one actor or one desk stores at each call. Behind these
+/// there is as much room as two cache lines have, so that a thread at the next CPU doesn't wait for what is stored here.
+pub(crate) fn apart<T: Drop>(alloc: Global, count: usize) -> Result<Vec<T>, NoMemory>
+    ensures { IfOk result (λ items. items.items ≡ []) }
+{
+    match Vec::with_capacity(alloc, count.saturating_add(LINES)) {
+        Ok(items) => Ok(items),
+        Err(_) => Err(NoMemory {}),
+    }
 }
 
 /// Appends an item.
@@ -111,7 +125,7 @@ pub(crate) fn make_places<E: Drop, S: Story<Entry = Line<E>>>(
 {
     let mut lives = Lives::new(alloc);
     let mut keepers = Vec::new(alloc);
-    let mut seats = empty_seats(alloc, actors)?;
+    let mut seats = empty_seats(alloc, actors, count)?;
     for place in 0..count {
         let (life, mut keeper, passes) = Life::new(alloc, actors)?;
         let passes = passes.into_vec();

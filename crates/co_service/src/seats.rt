@@ -1,11 +1,12 @@
 //! One actor's passes of many places, and the lives of these places.
-ghost use Rattle.std.specs.Prelude.{◌≡◌, ◌<◌, [], ◌∷◌, ◌++◌, length, Some, slice_get, slice_set, slice_index_or, OnOk};
+ghost use Rattle.std.specs.Prelude.{◌≡◌, ◌<◌, [], ◌∷◌, ◌++◌, length, Some, slice_get, slice_set, slice_index_or, IfOk, OnOk};
 ghost use Rattle.std.specs.List.{All};
 ghost use Rattle.co_life.specs.Rule.{capped};
 ghost use Rattle.co_life.specs.Seen.{Extends};
 ghost use Rattle.co_life.specs.Views.{};
 ghost use Rattle.co_service.specs.Seats.{IsShown, fresh_seats, seen_at};
 
+use crate::boot::apart;
 use co_life::{Keeper, Life, Pass, Story};
 use co_sbt::NoMemory;
 use std::alloc::Global;
@@ -102,6 +103,14 @@ impl<S: Story> Seats<S> {
             actor,
             passes: Vec::new(alloc),
         }
+    }
+
+    /// An actor with no place yet, and room for `count`. `NoMemory` where there is none. Each call of the actor stores bytes here.
+    pub(crate) fn with_room(alloc: Global, actor: u32, count: u32) -> Result<Seats<S>, NoMemory>
+        ensures { IfOk result (λ seats. seats ≡ fresh_seats [] actor) }
+    {
+        let passes = apart(alloc, count as usize)?;
+        Ok(Seats { actor, passes })
     }
 
     /// Takes the actor's pass of one place more.
