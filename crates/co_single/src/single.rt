@@ -18,6 +18,10 @@ use std::sync::Wait;
 pub struct Single<N: Name> {
     service: Service<N>,
     passes: Passes,
+    /// What the last call did. Calls write it in place, and nobody reads it.
+    told: Told,
+    /// What the last end of a service did, in the same way.
+    finished: Finished,
     /// What the end needs.
     ending: Room<Passes>,
 }
@@ -65,6 +69,8 @@ impl<N: Name> Single<N> {
         Ok(Single {
             service,
             passes,
+            told: Told::none(),
+            finished: Finished::none(),
             ending,
         })
     }
@@ -83,9 +89,8 @@ impl<N: Name> Single<N> {
             arg,
             cpu: None,
         });
-        let mut told = Told::none();
         self.service
-            .call_into(rt, &mut self.passes, act, i, &op, None, &mut told);
+            .call_into(rt, &mut self.passes, act, i, &op, None, &mut self.told);
     }
 
     /// Callout `i` is not armed any more. One that had come due and was not served does not fire.
@@ -94,9 +99,8 @@ impl<N: Name> Single<N> {
         ensures { IsDisarmed self.old i self.new }
     {
         let op = CallOp::Plain(PlainOp::Stop);
-        let mut told = Told::none();
         self.service
-            .call_into(rt, &mut self.passes, act, i, &op, None, &mut told);
+            .call_into(rt, &mut self.passes, act, i, &op, None, &mut self.told);
     }
 
     /// The clock shows the time `now`, in units of 2^-32 s, or where it was later stays: what is due has come due. The
@@ -116,9 +120,8 @@ impl<N: Name> Single<N> {
         match self.service.pop(rt, &mut self.passes, 0, act, 0, false) {
             Popped::Empty { .. } => None,
             Popped::Took { i, reply, .. } => {
-                let mut told = Finished::none();
                 self.service
-                    .end_into(rt, &mut self.passes, 0, act, false, &mut told);
+                    .end_into(rt, &mut self.passes, 0, act, false, &mut self.finished);
                 Some(Fired {
                     i,
                     arg: arg_of(&reply),
@@ -136,6 +139,8 @@ impl<N: Name> Single<N> {
         let Single {
             service,
             passes,
+            told: _,
+            finished: _,
             mut ending,
         } = self;
         ending.push(passes);

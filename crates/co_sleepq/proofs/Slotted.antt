@@ -88,7 +88,7 @@ filter_few p (x ∷ xs) = go (p x) refl (filter_few p xs) where
 
 -- ---- slots
 
-abbrev Slots : Type 0
+abbrev pub Slots : Type 0
 Slots = List (Option Sleep)
 
 within : (slots : Slots) (i : ℕ) (x : Sleep) → slot_at slots i ≡ Some x → i < length slots

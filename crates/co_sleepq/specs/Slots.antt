@@ -1,5 +1,5 @@
 -- Sleeps in slots: each sleeper has one.
-use Rattle.std.specs.Prelude.{◌≡◌, ℕ, ◌+◌, ◌/◌, ◌%◌, ◌<◌, ◌≤◌, ◌==◌, List, [], ◌∷◌, length, nat_lt, slice_index_or, if◌then◌else◌}
+use Rattle.std.specs.Prelude.{◌≡◌, ℕ, Bool, ◌+◌, ◌/◌, ◌%◌, ◌<◌, ◌≤◌, ◌==◌, List, [], ◌∷◌, length, nat_lt, slice_index_or, if◌then◌else◌}
 use Rattle.std.specs.List.{filter}
 use Rattle.std.specs.declared.option.Option.{Option}
 use Rattle.std.specs.declared.option.Option.TheVariants.{Some, None}
@@ -25,6 +25,19 @@ pub record AreSlots (size next : ℕ) (slots : List (Option Sleep)) : Type 0 whe
   pub apart : (i j : ℕ) (x y : Sleep) → slot_at slots i ≡ Some x → slot_at slots j ≡ Some y → x.s ≡ y.s → i ≡ j
   pub given : (i : ℕ) (x : Sleep) → slot_at slots i ≡ Some x → x.s < next
   pub size_is : length slots ≡ size
+
+abbrev pub last_at : List ℕ → ℕ → ℕ
+last_at last i = slice_index_or last i 0
+
+-- by sleeper, one more than a number or 0: no other sleeper has the sleep of that number, and it has been given
+pub record AreLast (size next : ℕ) (slots : List (Option Sleep)) (last : List ℕ) : Type 0 where
+  pub own : (i j : ℕ) (x : Sleep) → slot_at slots j ≡ Some x → x.s + 1 ≡ last_at last i → j ≡ i
+  pub given : (i : ℕ) → last_at last i ≤ next
+  pub size_is : length last ≡ size
+
+-- a sleeper's number when it has begun sleep s
+abbrev pub later : Bool → ℕ → ℕ → ℕ
+later timed s was = if timed then s + 1 else was
 
 -- what contracts see of a bucket: its sleeps, and for how many it has room
 pub record BucketView : Type 0 where

@@ -9,7 +9,7 @@ use Rattle.co_sleepq.proofs.book.Book.is_asleep.Goals as goal
 pub returns : goal.returns
 returns c =
     let slots = c.self.inside.slots.items in
-    let a = c.self.invariant.slots_are in
+    let a = c.self.invariant.0.slots_are in
     let low : c.args.i < length c.self.inside.ends.items = subst (λ (b : BookView). c.args.i < length b.ends) (sym c.self.view_is) c.requires in
     c.is_some.ensures
     ∙ (ap is_some (get_or_read slots c.args.i c.index.result.now (omega (arith, low, a.size_is)) c.index.ensures None)
