@@ -1,3 +1,3 @@
--- The walk: its notes are told, and actors that have finished stay so.
+-- The walk: its notes are told, and what is known of its actors stays so.
 pub mod Told
-pub mod Finished
+pub mod Known

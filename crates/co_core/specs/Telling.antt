@@ -13,7 +13,8 @@ use Rattle.co_core.specs.declared.engine.Engine.{Engine}
 use Rattle.co_world.specs.declared.turn.Turn.{Turn}
 use Rattle.co_world.specs.declared.turn.Turn.TheVariants.{Notes, Blocked, Finished}
 use Rattle.co_core.specs.Acting.{Stands}
-use Rattle.co_core.specs.Ended.{HaveEnded}
+use Rattle.co_core.specs.Resting.{IsKnown}
+use Rattle.co_core.specs.declared.resting.Resting.{Resting}
 use Rattle.co_world.specs.Walk.{IsWalk}
 use Rattle.co_world.specs.World.{World}
 use Rattle.co_core.specs.Written.{told_at}
@@ -69,6 +70,6 @@ pub record GoesOn (s : Script) {B : Type 0} (has : B → List Made → Type 0) (
   pub told : HasTold s e after
   pub notes : HasNotes s has old before → HasNotes s has new after
 
--- the same from each world that it may stand for, and of the actors that are known to have finished
-abbrev pub GoesOnKnowing : (s : Script) {B : Type 0} (has : B → List Made → Type 0) (e e2 : Engine) (old new : B) (known known2 : List Bool) (after : World → World) → Type 0
-GoesOnKnowing s has e e2 old new known known2 after = (w : World) → HasTold s e w → HaveEnded s w known → GoesOn s has e2 old new w (after w) × HaveEnded s (after w) known2
+-- the same from each world that it may stand for, and of what is known of the actors
+abbrev pub GoesOnKnowing : (s : Script) {B : Type 0} (has : B → List Made → Type 0) (e e2 : Engine) (old new : B) (known known2 : Resting) (after : World → World) → Type 0
+GoesOnKnowing s has e e2 old new known known2 after = (w : World) → HasTold s e w → IsKnown s w known → GoesOn s has e2 old new w (after w) × IsKnown s (after w) known2

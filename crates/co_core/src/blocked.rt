@@ -1,5 +1,5 @@
 //! When an actor's next step has to wait.
-ghost use Rattle.std.specs.Prelude.{◌≡◌, ◌<◌, if◌then◌else◌, length, nat_lt, is_some, true, Some, None};
+ghost use Rattle.std.specs.Prelude.{◌≡◌, ◌<◌, if◌then◌else◌, length, nat_lt, true, Some, None};
 ghost use Rattle.co_program.specs.declared.script.Script.{Script as ScriptOf};
 ghost use Rattle.co_program.specs.Action.{action_for};
 ghost use Rattle.co_program.specs.Actors.{actor_count};
@@ -8,10 +8,10 @@ ghost use Rattle.co_program.specs.Indexed.{action_of, cursor_of, stage_of};
 ghost use Rattle.co_program.specs.Scripts.{IsScript};
 ghost use Rattle.co_world.specs.Blocked.{blocked, is_locked, is_moving, is_waiting};
 ghost use Rattle.co_core.specs.Acting.{IsRunning, Stands};
+ghost use Rattle.co_core.specs.Resting.{IsKeptOut, TakesNext};
 ghost use Rattle.co_core.specs.Stands.{IsWritten};
+ghost use Rattle.co_lock.specs.declared.held.Held.{Held as HeldOf};
 ghost use Rattle.co_core.specs.Stored.{stand_at};
-ghost use Rattle.co_world.specs.Step.{step, turn_of};
-ghost use Rattle.co_world.specs.declared.turn.Turn.TheVariants.{Finished};
 ghost use Rattle.co_world.specs.World.{World as PlainWorld};
 ghost use Rattle.co_core.specs.Written.{place_at};
 
@@ -21,8 +21,16 @@ use crate::engine::Engine;
 use co_lock::Held;
 use co_object::Op;
 use co_program::{Action, Asked, Cursor, Script, Stage, scans_first};
-use co_world::Why;
-use taking::{has_ended, takes_next};
+use co_world::{Turn, Why};
+use taking::takes_next;
+
+/// The step has to wait for a lock.
+fn waits_for_lock(turn: Turn) -> bool {
+    match turn {
+        Turn::Blocked(Why::Lock(_)) => true,
+        _ => false,
+    }
+}
 
 impl Engine {
     /// A lock is taken once no other actor holds it in a mode that excludes this one.
@@ -36,22 +44,25 @@ impl Engine {
         }
     }
 
-    /// The actor is a client that has finished.
-    pub(crate) fn has_finished(&self, script: &Script, actor: u32) -> bool
-        requires actor { actor < length self.now.books.places }
-        ensures { (w : PlainWorld) → Stands script.now self.now w → actor < actor_count script.now → result ≡ true → (step script.now w actor ≡ w) × (turn_of script.now w actor ≡ Finished) }
+    /// Others keep an actor from what it wants, if anything.
+    pub(crate) fn keeps_out(&self, wanted: Option<Held>) -> bool
+        ensures { result ≡ true → (s : ScriptOf) (w : PlainWorld) → IsWritten s self.now.books w → IsKeptOut s w wanted }
     {
-        has_ended(script, actor, self.books.place(actor))
+        match wanted {
+            Some(held) => self.books.is_locked(&held),
+            None => false,
+        }
     }
 
-    /// Why the actor has to wait for a lock, if a lock is what it takes next.
-    pub(crate) fn at_lock(&self, script: &Script, actor: u32) -> Option<Why>
-        requires actor { actor < length self.now.books.places }
-        ensures { (w : PlainWorld) → Stands script.now self.now w → actor < actor_count script.now → is_some result ≡ true → result ≡ blocked script.now w actor }
+    /// The hold that the actor takes next, where it was not to be had.
+    pub(crate) fn wanted_after(&self, script: &Script, actor: u32, turn: Turn) -> Option<Held>
+        requires { actor < length self.now.books.places }
+        ensures { (held : HeldOf) (w : PlainWorld) → result ≡ Some held → IsWritten script.now self.now.books w → actor < actor_count script.now → TakesNext script.now w actor held }
     {
-        match takes_next(script, actor, self.books.place(actor)) {
-            Some(held) => self.lock_waits(&held),
-            None => None,
+        if waits_for_lock(turn) {
+            takes_next(script, actor, self.books.place(actor))
+        } else {
+            None
         }
     }
 

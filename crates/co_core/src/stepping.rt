@@ -48,12 +48,6 @@ impl Engine {
         if self.books.is_full() {
             return Err(NoMemory {});
         }
-        if self.has_finished(script, actor) {
-            return Ok(Turn::Finished);
-        }
-        if let Some(why) = self.at_lock(script, actor) {
-            return Ok(Turn::Blocked(why));
-        }
         let place = self.books.place(actor);
         // The checker knows the range of a number behind a reference once it is read.
         let _task = place.task;

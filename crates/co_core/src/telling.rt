@@ -3,14 +3,14 @@ ghost use Rattle.std.specs.Prelude.{◌≡◌, ℕ, ◌<◌, ◌≤◌, List, []
 ghost use Rattle.co_listener.specs.Made.{Made};
 ghost use Rattle.co_program.specs.Actors.{actor_count};
 ghost use Rattle.co_program.specs.Scripts.{IsScript};
-ghost use Rattle.co_core.specs.Ended.{HaveEnded};
+ghost use Rattle.co_core.specs.Resting.{IsKnown};
 ghost use Rattle.co_world.specs.Step.{step, turn_of};
 ghost use Rattle.co_core.specs.Telling.{GoesOn, GoesOnKnowing, HasTold, IsTelling, MayTell, makes_notes};
 ghost use Rattle.co_world.specs.Walk.{AllFinished, HasFinished, IsWalk, round, rounds, run};
 ghost use Rattle.co_world.specs.World.{World as PlainWorld};
 
-use crate::ended::Ended;
 use crate::engine::Engine;
+use crate::resting::Resting;
 use co_listener::{KeptLists, Listener};
 use co_object::Lists;
 use co_program::{Script, actor_count};
@@ -64,61 +64,89 @@ impl Engine {
         Ok(turn)
     }
 
-    /// The script's turns, one step each.
-    fn tell_turns<N: Listener>(&mut self, script: &Script, listener: &mut N) -> Result<(), NoMemory>
-        requires { MayTell script.now self.old (N.actors listener.old) }
-        ensures told { OnOk result ((w : PlainWorld) → HasTold script.now self.old w → GoesOn script.now N.has self.new listener.old listener.new w (run script.now w script.now.turns)) }
-        ensures actors { N.actors listener.new ≡ N.actors listener.old }
-    {
-        for actor in script.turns.as_slice() {
-            self.tell_step(script, *actor, listener)?;
-        }
-        Ok(())
-    }
-
-    /// One step of an actor, unless it is known to have finished: then a step changes nothing. The answer is whether it has
-    /// finished.
-    fn tell_unless_ended<N: Listener>(
+    /// One step of an actor, and what it tells of the actor. The answer is whether it has finished.
+    #[inline(never)]
+    fn tell_asked<N: Listener>(
         &mut self,
         script: &Script,
         actor: u32,
-        ended: &mut Ended,
+        resting: &mut Resting,
         listener: &mut N,
     ) -> Result<bool, NoMemory>
         requires may { MayTell script.now self.old (N.actors listener.old) }
         requires actor { actor < actor_count script.now }
         ensures world { OnOk result ((w : PlainWorld) × HasTold script.now self.new w) }
-        ensures told { OnOk result (GoesOnKnowing script.now N.has self.old self.new listener.old listener.new ended.old.flags ended.new.flags (λ w. step script.now w actor)) }
-        ensures finished { IfOk result (λ finished. finished ≡ true → (w : PlainWorld) → HasTold script.now self.old w → HaveEnded script.now w ended.old.flags → HasFinished script.now w actor) }
+        ensures told { OnOk result (GoesOnKnowing script.now N.has self.old self.new listener.old listener.new resting.old resting.new (λ w. step script.now w actor)) }
+        ensures finished { IfOk result (λ finished. finished ≡ true → (w : PlainWorld) → HasTold script.now self.old w → IsKnown script.now w resting.old → HasFinished script.now w actor) }
         ensures actors { N.actors listener.new ≡ N.actors listener.old }
     {
-        if ended.knows(actor) {
+        let turn = self.tell_step(script, actor, listener)?;
+        let finished = is_finished(turn);
+        let wanted = self.wanted_after(script, actor, turn);
+        resting.learn(actor, finished, wanted);
+        Ok(finished)
+    }
+
+    /// The same, unless the actor is known to have finished, or to wait for a lock that is held still: then a step changes
+    /// nothing. Inlined, since most that are asked in a crowd wait.
+    #[inline(always)]
+    fn tell_unless_resting<N: Listener>(
+        &mut self,
+        script: &Script,
+        actor: u32,
+        resting: &mut Resting,
+        listener: &mut N,
+    ) -> Result<bool, NoMemory>
+        requires may { MayTell script.now self.old (N.actors listener.old) }
+        requires actor { actor < actor_count script.now }
+        ensures world { OnOk result ((w : PlainWorld) × HasTold script.now self.new w) }
+        ensures told { OnOk result (GoesOnKnowing script.now N.has self.old self.new listener.old listener.new resting.old resting.new (λ w. step script.now w actor)) }
+        ensures finished { IfOk result (λ finished. finished ≡ true → (w : PlainWorld) → HasTold script.now self.old w → IsKnown script.now w resting.old → HasFinished script.now w actor) }
+        ensures actors { N.actors listener.new ≡ N.actors listener.old }
+    {
+        if resting.has_ended(actor) {
             return Ok(true);
         }
-        let finished = is_finished(self.tell_step(script, actor, listener)?);
-        if finished {
-            ended.learn(actor);
+        if self.keeps_out(resting.wanted(actor)) {
+            return Ok(false);
         }
-        Ok(finished)
+        self.tell_asked(script, actor, resting, listener)
+    }
+
+    /// The script's turns, one step each.
+    fn tell_turns<N: Listener>(
+        &mut self,
+        script: &Script,
+        resting: &mut Resting,
+        listener: &mut N,
+    ) -> Result<(), NoMemory>
+        requires { MayTell script.now self.old (N.actors listener.old) }
+        ensures told { OnOk result (GoesOnKnowing script.now N.has self.old self.new listener.old listener.new resting.old resting.new (λ w. run script.now w script.now.turns)) }
+        ensures actors { N.actors listener.new ≡ N.actors listener.old }
+    {
+        for actor in script.turns.as_slice() {
+            let _finished = self.tell_unless_resting(script, *actor, resting, listener)?;
+        }
+        Ok(())
     }
 
     /// A round: each actor steps once, in order of the actors' numbers. The answer is whether all had finished before.
     fn tell_round<N: Listener>(
         &mut self,
         script: &Script,
-        ended: &mut Ended,
+        resting: &mut Resting,
         listener: &mut N,
     ) -> Result<bool, NoMemory>
         requires { MayTell script.now self.old (N.actors listener.old) }
         ensures world { OnOk result ((w : PlainWorld) × HasTold script.now self.new w) }
-        ensures told { OnOk result (GoesOnKnowing script.now N.has self.old self.new listener.old listener.new ended.old.flags ended.new.flags (round script.now)) }
-        ensures finished { IfOk result (λ finished. finished ≡ true → (w : PlainWorld) → HasTold script.now self.old w → HaveEnded script.now w ended.old.flags →
+        ensures told { OnOk result (GoesOnKnowing script.now N.has self.old self.new listener.old listener.new resting.old resting.new (round script.now)) }
+        ensures finished { IfOk result (λ finished. finished ≡ true → (w : PlainWorld) → HasTold script.now self.old w → IsKnown script.now w resting.old →
             AllFinished script.now w × (round script.now w ≡ w)) }
         ensures actors { N.actors listener.new ≡ N.actors listener.old }
     {
         let mut finished = true;
         for actor in 0..actor_count(script) {
-            let done = self.tell_unless_ended(script, actor, ended, listener)?;
+            let done = self.tell_unless_resting(script, actor, resting, listener)?;
             finished = finished && done;
         }
         Ok(finished)
@@ -128,17 +156,17 @@ impl Engine {
     fn tell_rounds<N: Listener>(
         &mut self,
         script: &Script,
+        resting: &mut Resting,
         listener: &mut N,
     ) -> Result<(), NoMemory>
         requires { MayTell script.now self.old (N.actors listener.old) }
-        ensures ends { OnOk result ((w : PlainWorld) → HasTold script.now self.old w →
+        ensures ends { OnOk result ((w : PlainWorld) → HasTold script.now self.old w → IsKnown script.now w resting.old →
             (number : ℕ) × GoesOn script.now N.has self.new listener.old listener.new w (rounds script.now w number) × AllFinished script.now (rounds script.now w number)) }
         ensures actors { N.actors listener.new ≡ N.actors listener.old }
     {
-        let mut ended = Ended::none();
         // What is left to do falls with every round, so it ends long before it has counted so far.
         for _round in 0..u64::MAX {
-            if self.tell_round(script, &mut ended, listener)? {
+            if self.tell_round(script, resting, listener)? {
                 return Ok(());
             }
         }
@@ -160,8 +188,9 @@ pub fn tell_walk<N: Listener>(
     ensures actors { N.actors listener.new ≡ N.actors listener.old }
 {
     let mut engine = Engine::boot(alloc, script)?;
-    engine.tell_turns(script, listener)?;
-    engine.tell_rounds(script, listener)
+    let mut resting = Resting::none();
+    engine.tell_turns(script, &mut resting, listener)?;
+    engine.tell_rounds(script, &mut resting, listener)
 }
 
 /// The lists of notes of a script's walk: the script's turns in order, then round robin until all actors have

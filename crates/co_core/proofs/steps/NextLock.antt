@@ -1,4 +1,4 @@
--- What an actor's place tells at a glance is what its action is: the lock that it takes next, and that it has ended.
+-- The lock that an actor takes next, as its place tells, is that of its action.
 use Rattle.std.proofs.Common.{◌≡◌, ℕ, zero, suc, ◌<◌, true, false, cond, List, [], ◌∷◌, length, drop, refl, sym, ap, ◌∙◌, subst, arith, lt-ltb, Option, Some, None}
 use Rattle.std.specs.Prelude.{is_some, slice_get, slice_index_or}
 use Rattle.std.specs.Option.{option_and_then, option_map}
@@ -25,14 +25,7 @@ use Rattle.co_program.specs.Cursor.{Cursor}
 use Rattle.co_program.specs.Action.{Action, Nothing, Silent, Take, Asks, action_for, action_with, action_in, begins, locks, over, spec_at}
 use Rattle.co_program.specs.Indexed.{cursor_of, stage_of}
 use Rattle.co_program.proofs.Remaining.{first_does}
-use Rattle.co_program.specs.Actors.{actor_count}
 use Rattle.co_core.specs.Taking.{lock_of}
-use Rattle.co_world.specs.World.{World}
-use Rattle.co_world.specs.Blocked.{waits_for}
-use Rattle.co_core.specs.Stands.{IsWritten}
-use Rattle.co_world.specs.Step.{step, stepped, turn_at, turn_of}
-use Rattle.co_core.specs.Written.{Written, place_at}
-use Rattle.co_world.specs.declared.turn.Turn.TheVariants.{Finished}
 
 pub none-there : {X : Type 0} (o : Option X) → is_some o ≡ false → o ≡ None
 none-there None h = refl
@@ -115,24 +108,3 @@ service-takes s a place v held empty locking is =
     let spec = get_or_from_slice_get s.timers v.i found.0 _ found.1 in
     let hold : hold_of (spec_at s v.i).lock ≡ Some held = ap (λ (x : Spec). hold_of x.lock) spec ∙ found.2 in
     (record (cursor_of s a place) { hold = Some held; stage = Beginning v }, staged s a place (at.Locking v) empty locking ∙ ap (locks s (cursor_of s a place) v) hold)
-
--- ---- an actor that has finished
-
--- a step of one that has finished
-pub finished-is : (s : Script) (books : Written) (w : World) (a : ℕ) (place : CursorAt) → IsWritten s books w → a < actor_count s → place ≡ place_at books a → action_for s a (cursor_of s a place) ≡ Nothing →
-    (step s w a ≡ w) × (turn_of s w a ≡ Finished)
-finished-is s books w a place written may here is =
-    let same : cursor_of s a place ≡ (w.actors a).cursor = ap (cursor_of s a) here ∙ written.each_place a may in
-    let none : action_for s a (w.actors a).cursor ≡ Nothing = sym (ap (action_for s a) same) ∙ is in
-    (go (action_for s a (w.actors a).cursor) none, told (action_for s a (w.actors a).cursor) none) where
-      go : (action : Action) → action ≡ Nothing → cond (is_some (waits_for s w (w.actors a).cursor action)) w (stepped s w a action) ≡ w
-      go Nothing is = refl
-      go (Silent to) is = cc
-      go (Take held to) is = cc
-      go (Asks act asked) is = cc
-
-      told : (action : Action) → action ≡ Nothing → turn_at s w a (waits_for s w (w.actors a).cursor action) action ≡ Finished
-      told Nothing is = refl
-      told (Silent to) is = cc
-      told (Take held to) is = cc
-      told (Asks act asked) is = cc

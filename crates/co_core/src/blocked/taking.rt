@@ -1,10 +1,9 @@
-//! What an actor's place tells at a glance: that its program has ended, or which lock it takes next. Those who have ended or
-//! wait are asked again and again, so this is told without what else a next step would make.
-ghost use Rattle.std.specs.Prelude.{◌≡◌, ◌<◌, ◌≤◌, true, length, Some, slice_get};
+//! Which lock an actor takes next, by its place.
+ghost use Rattle.std.specs.Prelude.{◌≡◌, Some, slice_get};
 ghost use Rattle.std.specs.Option.{option_and_then};
 ghost use Rattle.co_lock.specs.declared.held.Held.{Held as HeldOf};
 ghost use Rattle.co_lock.specs.Service.{hold_of};
-ghost use Rattle.co_program.specs.Action.{Nothing, Take, action_for};
+ghost use Rattle.co_program.specs.Action.{Take, action_for};
 ghost use Rattle.co_program.specs.Actors.{acts_at};
 ghost use Rattle.co_program.specs.Cursor.{Cursor as PlaceOf};
 ghost use Rattle.co_program.specs.Indexed.{cursor_of};
@@ -12,29 +11,6 @@ ghost use Rattle.co_core.specs.Taking.{lock_of};
 
 use co_lock::{Held, hold_of};
 use co_program::{Act, Cursor, Script, Stage};
-
-/// The actor is a client whose program has ended.
-pub(crate) fn has_ended(script: &Script, actor: u32, place: &Cursor) -> bool
-    ensures { result ≡ true → action_for script.now actor (cursor_of script.now actor place.now) ≡ Nothing }
-{
-    if place.parcel.is_some() || place.hold.is_some() {
-        return false;
-    }
-    match &place.stage {
-        Stage::Ready => has_none_left(script, actor, place.task),
-        _ => false,
-    }
-}
-
-/// The client has acts, all of them before this index.
-fn has_none_left(script: &Script, client: u32, index: u32) -> bool
-    ensures { result ≡ true → client < length script.now.clients × length (acts_at script.now.clients client) ≤ index }
-{
-    match script.clients.as_slice().get(client as usize) {
-        Some(acts) => acts.as_slice().len() <= index as usize,
-        None => false,
-    }
-}
 
 /// The hold that the actor takes next, where that is all it does.
 pub(crate) fn takes_next(script: &Script, actor: u32, place: &Cursor) -> Option<Held>

@@ -22,7 +22,7 @@ pub act-requires-clause-may : goal.act-requires-clause-may
 act-requires-clause-may c =
     let at = c.requires.running in
     let due = due_of c.args.script.now at.script c.args.self.now.books c.args.self.now.depot at.world at.stands c.args.actor c.requires.actor c.place-place.result.now c.action_for.new.next c.place-place.ensures c.action_for.ensures.action in
-    let free = sym (c.blocked.ensures at.world at.stands) ∙ not_some c.blocked.result c.in_default-blocked.not-Some in
+    let free = sym (c.blocked.ensures at.world at.stands) ∙ not_some c.blocked.result c.in_default.not-Some in
     record { script = at.script; world = at.world; stands = at.stands; due = record { may = c.requires.actor; due = due; free = free } }
 
 pub returns-in_ok-count-in_default-action : goal.returns-in_ok-count-in_default-action
@@ -33,7 +33,7 @@ returns-in_ok-count-in_default-action c =
     let due : (w : World) → Stands s c.args.self.now w → IsDue s w a _ = λ w h. record {
       may = c.requires.actor;
       due = due_of s c.requires.running.script c.args.self.now.books c.args.self.now.depot w h a c.requires.actor c.place-place.result.now c.action_for.new.next c.place-place.ensures c.action_for.ensures.action;
-      free = sym (c.blocked.ensures w h) ∙ not_some c.blocked.result c.in_default-blocked.not-Some;
+      free = sym (c.blocked.ensures w h) ∙ not_some c.blocked.result c.in_default.not-Some;
     } in
     record {
       stands = λ w h. acted.stands w h (due w h);

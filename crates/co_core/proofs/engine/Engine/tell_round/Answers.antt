@@ -1,7 +1,7 @@
 use Rattle.std.proofs.Common.{◌≡◌, ℕ, List, ◌∙◌, ap, subst, sym, true, false, refl, arith}
 use Rattle.std.specs.List.{range_with_len}
 use Rattle.co_program.specs.Actors.{actor_count}
-use Rattle.co_core.specs.Ended.{HaveEnded}
+use Rattle.co_core.specs.Resting.{IsKnown}
 use Rattle.co_world.specs.Step.{step}
 use Rattle.co_core.specs.Telling.{GoesOn}
 use Rattle.co_world.specs.Walk.{run, HasFinished}
@@ -26,14 +26,14 @@ loop-actor-preserved g c =
     let s = c.args.script.now in
     let i = c.loop-actor.actor in
     let has = g.N.Listener.has in
-    let known = c.tell_unless_ended.new.ended.flags in record {
+    let known = c.tell_unless_resting.new.resting in record {
       world = c.in_ok-done.ensures.world;
       told = λ w h have.
           (let at = run s w (range_with_len 0 i) in
           let before = c.loop-actor.invariant.told w h have in
           let after = c.in_ok-done.ensures.told at before.0.told before.1 in
-          subst (λ (v : World). GoesOn s has c.tell_unless_ended.new.self c.args.listener.now c.tell_unless_ended.new.listener w v × HaveEnded s v known) (sym (run_more s w (range_with_len 0 i) i) ∙ ap (λ (xs : List ℕ). run s w xs) (range-more i))
-          (further s has c.loop-actor.self c.tell_unless_ended.new.self c.args.listener.now c.loop-actor.listener c.tell_unless_ended.new.listener w at (step s at i) before.0 after.0, after.1));
+          subst (λ (v : World). GoesOn s has c.tell_unless_resting.new.self c.args.listener.now c.tell_unless_resting.new.listener w v × IsKnown s v known) (sym (run_more s w (range_with_len 0 i) i) ∙ ap (λ (xs : List ℕ). run s w xs) (range-more i))
+          (further s has c.loop-actor.self c.tell_unless_resting.new.self c.args.listener.now c.loop-actor.listener c.tell_unless_resting.new.listener w at (step s at i) before.0 after.0, after.1));
       finished = elim c.if-finished.branch [
         | then-finished b ↦ (λ all w h have.
             let rest = c.loop-actor.invariant.finished b.if-finished.true w h have in
@@ -45,14 +45,14 @@ loop-actor-preserved g c =
             ))
         | else-finished b ↦ (λ all w h have. let never : false ≡ true = sym b.if-finished.false ∙ (sym b.finished-is ∙ all) in cc)
       ];
-      actors = c.tell_unless_ended.ensures.actors ∙ c.loop-actor.invariant.actors;
+      actors = c.tell_unless_resting.ensures.actors ∙ c.loop-actor.invariant.actors;
     }
 
 pub returns-clause-told : goal.returns-clause-told
 returns-clause-told g c w h have =
     let s = c.args.script.now in
     let whole : c.loop-actor.actor ≡ actor_count s = omega (arith, c.loop-actor.auto.actor-end, c.loop-actor-test.false, c.actor_count-actor-end.ensures) in
-    subst (λ (n : ℕ). GoesOn s g.N.Listener.has c.loop-actor.self c.args.listener.now c.loop-actor.listener w (run s w (range_with_len 0 n)) × HaveEnded s (run s w (range_with_len 0 n)) c.loop-actor.ended.flags) whole (c.loop-actor.invariant.told w h have)
+    subst (λ (n : ℕ). GoesOn s g.N.Listener.has c.loop-actor.self c.args.listener.now c.loop-actor.listener w (run s w (range_with_len 0 n)) × IsKnown s (run s w (range_with_len 0 n)) c.loop-actor.resting) whole (c.loop-actor.invariant.told w h have)
 
 pub returns-clause-finished : goal.returns-clause-finished
 returns-clause-finished g c all w h have =
@@ -63,5 +63,5 @@ returns-clause-finished g c all w h have =
       subst (λ (n : ℕ). run s w (range_with_len 0 n) ≡ w) whole rest.1,
     )
 
-pub tell_unless_ended-requires-clause-may : goal.tell_unless_ended-requires-clause-may
-tell_unless_ended-requires-clause-may g c = may_tell c.args.script.now c.args.self.now c.loop-actor.self _ _ c.requires c.loop-actor.invariant.actors c.loop-actor.invariant.world
+pub tell_unless_resting-requires-clause-may : goal.tell_unless_resting-requires-clause-may
+tell_unless_resting-requires-clause-may g c = may_tell c.args.script.now c.args.self.now c.loop-actor.self _ _ c.requires c.loop-actor.invariant.actors c.loop-actor.invariant.world

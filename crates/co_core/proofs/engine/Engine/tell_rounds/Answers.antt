@@ -1,5 +1,5 @@
-use Rattle.std.proofs.Common.{◌≡◌, ◌∙◌, true, false, subst, sym, inl, refl, arith}
-use Rattle.co_core.specs.Ended.{HaveEnded}
+use Rattle.std.proofs.Common.{◌≡◌, ◌∙◌, subst, sym, inl, refl, arith}
+use Rattle.co_core.specs.Resting.{IsKnown}
 use Rattle.co_core.specs.Telling.{GoesOn}
 use Rattle.co_world.specs.Walk.{round, rounds}
 use Rattle.co_world.specs.World.{World}
@@ -10,19 +10,19 @@ use Rattle.co_core.proofs.engine.Engine.tell_rounds.Goals as goal
 pub loop-round-init : goal.loop-round-init
 loop-round-init g c = record {
   world = (c.requires.world, c.requires.told);
-  told = λ w h. (
+  told = λ w h have. (
     not_yet c.args.script.now g.N.Listener.has c.args.self.now c.args.listener.now w h,
-    λ a said. (let never : false ≡ true = sym (c.none-ended.ensures a) ∙ said in cc),
+    have,
     λ ok. inl (omega arith),
   );
   actors = refl;
 }
 
 pub returns-then-branch-clause-ends : goal.returns-then-branch-clause-ends
-returns-then-branch-clause-ends g c w h =
+returns-then-branch-clause-ends g c w h have =
     let s = c.args.script.now in
     let k = c.loop-round._round in
-    let at = c.loop-round.invariant.told w h in
+    let at = c.loop-round.invariant.told w h have in
     let all = c.in_ok-tell_round.ensures.finished c.if-branch.true (rounds s w k) at.0.told at.1 in
     let after = c.in_ok-tell_round.ensures.told (rounds s w k) at.0.told at.1 in
     let both = further s g.N.Listener.has c.loop-round.self c.tell_round.new.self c.args.listener.now c.loop-round.listener c.tell_round.new.listener w (rounds s w k) (round s (rounds s w k)) at.0 after.0 in
@@ -33,22 +33,22 @@ loop-round-preserved g c =
     let s = c.args.script.now in
     let k = c.loop-round._round in record {
       world = c.in_ok-tell_round.ensures.world;
-      told = λ w h.
-          (let before = c.loop-round.invariant.told w h in
+      told = λ w h have.
+          (let before = c.loop-round.invariant.told w h have in
           let after = c.in_ok-tell_round.ensures.told (rounds s w k) before.0.told before.1 in
           let both = further s g.N.Listener.has c.loop-round.self c.tell_round.new.self c.args.listener.now c.loop-round.listener c.tell_round.new.listener w (rounds s w k) (round s (rounds s w k)) before.0 after.0 in (
             subst (λ (v : World). GoesOn s g.N.Listener.has c.tell_round.new.self c.args.listener.now c.tell_round.new.listener w v) (rounds-more s w k) both,
-            subst (λ (v : World). HaveEnded s v c.tell_round.new.ended.flags) (rounds-more s w k) after.1,
+            subst (λ (v : World). IsKnown s v c.tell_round.new.resting) (rounds-more s w k) after.1,
             λ ok. counted-more s ok w k before.0.told.stands.reached (before.2 ok),
           ));
       actors = c.tell_round.ensures.actors ∙ c.loop-round.invariant.actors;
     }
 
 pub returns-clause-ends : goal.returns-clause-ends
-returns-clause-ends g c w h =
+returns-clause-ends g c w h have =
     let s = c.args.script.now in
     let k = c.loop-round._round in
-    let before = c.loop-round.invariant.told w h in
+    let before = c.loop-round.invariant.told w h have in
     (k, before.0, counted-all s c.requires.script w k h.stands.reached before.0.told.stands.reached (omega (arith, c.loop-round-test.false)) (before.2 c.requires.script))
 
 pub tell_round-requires : goal.tell_round-requires
