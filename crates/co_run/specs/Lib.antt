@@ -22,7 +22,5 @@ pub mod Counted
 pub mod Over
 -- an actor between two steps, and what a step keeps and gives
 pub mod Ready
--- what an actor gets of the service in which it serves a callout
-pub mod Served
 -- what the actors begin with and bring back, in groups: clients, CPUs, interrupts
 pub mod Jobs

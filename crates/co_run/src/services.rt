@@ -1,44 +1,19 @@
 //! The services of an actor: it begins one under the callout's lock, and ends it.
-ghost use Rattle.std.specs.Prelude.{◌≡◌, ◌<◌};
+ghost use Rattle.std.specs.Prelude.{◌≡◌};
 ghost use Rattle.co_object.specs.declared.Op.TheVariants.{Run};
 ghost use Rattle.co_world.proofs.kept.Invariant.{serves_direct};
-ghost use Rattle.co_object.specs.Queue.{Due};
 ghost use Rattle.co_object.specs.declared.RunOp.TheVariants.{Begin, End};
 ghost use Rattle.co_program.specs.Actors.{role_of};
-ghost use Rattle.co_service.specs.Services.{IsServing};
-ghost use Rattle.co_service.specs.Serving.{Runs};
-ghost use Rattle.co_service.specs.Views.{AreOf};
 ghost use Rattle.co_program.specs.Action.{Asks};
 ghost use Rattle.co_program.specs.declared.Asked.TheVariants.{Callout};
 ghost use Rattle.co_run.specs.Ready.{HasGoneOn, IsDue};
-ghost use Rattle.co_run.specs.Served.{IsFinished};
 
 use crate::Notebook;
 use crate::actor::{Actor, tell_all};
 use crate::shared::Shared;
 use co_hand::Gate;
-use co_service::{Made, Name, Passes, Service};
+use co_service::{Finished, Name};
 use std::sync::Wait;
-
-/// The service of the CPU is over, or that of its interrupt where `direct`.
-fn finish<N: Name, R: Wait>(
-    rt: &R,
-    service: &Service<N>,
-    passes: &mut Passes,
-    cpu: u32,
-    act: u64,
-    direct: bool,
-) -> Made
-    requires cpu { cpu < service.now.cpus }
-    requires of { AreOf N.name service.now passes.old }
-    requires serves { (d : Due) × IsServing direct passes.old cpu d (Runs d.n) }
-    ensures { IsFinished N.name service.now direct passes.old passes.new cpu act result }
-{
-    match direct {
-        true => service.end_direct(rt, passes, cpu, act),
-        false => service.end(rt, passes, cpu, act),
-    }
-}
 
 impl<'a, B: Notebook> Actor<'a, B> {
     /// The function of the callout in service is to run, or is skipped; that is due in the program.
@@ -76,7 +51,12 @@ impl<'a, B: Notebook> Actor<'a, B> {
         requires lane { serves_direct (role_of shared.now.script.now self.old.number) ≡ direct }
         ensures { HasGoneOn B.notes B.spare shared.now.script.now shared.now.longest N.name self.old self.new }
     {
-        let made = finish(rt, shared.service, &mut self.passes, cpu, act, direct);
+        let passes = &mut self.passes;
+        let mut told = Finished::none();
+        shared
+            .service
+            .end_into(rt, passes, cpu, act, direct, &mut told);
+        let made = told.answer(self.number, act);
         tell_all(shared.script, &mut self.cursor, &mut self.book, &made.notes);
     }
 }

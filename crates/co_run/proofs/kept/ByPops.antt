@@ -111,20 +111,14 @@ pub record IsPopping (s : Script) (role : Role) (c : Cursor) (stage : Stage) (ac
   pub next : ℕ
   pub goes : (reply : QReply) → popped c reply stage ≡ got (record c { act = next }) act reply
   pub free : (direct : Bool) (q : PassesView) → ServesAt direct q cpu stage → IsFree direct q cpu
-  -- an interrupt has ticks alone, which wait for no Scan
-  pub direct : serves_direct role ≡ true → scans_at c stage ≡ 0
   pub under : IsUnderWay role stage
 
 pop_view : (s : Script) (role : Role) (c : Cursor) (stage : Stage) (act cpu : ℕ) (op : QOp) → IsAction s role c stage (Asks act (Queue cpu op)) → IsPopOp op → FitsRole s role c.left c.hold stage → IsPopping s role c stage act cpu op
 pop_view s role c stage act cpu op (scans time left is) h fits = absurd h
 pop_view s role c stage act cpu op (starts j left is) h fits =
     let task : IsTaskOf s role (Soft j) = first_task (IsTaskOf s role) c.left left (Soft j) is fits.tasks in
-    record { op_is = refl; server = servers_task s role (Soft j) refl task; cpu_is = refl; next = c.act + 1; goes = λ reply. refl; free = λ direct q k. k; direct = λ direct. absurd (soft_never role j direct task); under = λ x e. absurd (soft_interrupt s role j x e task) } where
-      soft_never : (r : Role) (j : ℕ) → serves_direct r ≡ true → IsTaskOf s r (Soft j) → ⊥
-      soft_never (Client k) j h t = t
-      soft_never (Cpu x) j h t = cc
-      soft_never (Interrupt x) j h t = t
-pop_view s role c stage act cpu op (pops m) h fits = record { op_is = refl; server = is_server s role c.hold (Popping m) refl fits.hold; cpu_is = refl; next = c.act; goes = λ reply. refl; free = λ direct q k. k; direct = λ direct. refl; under = λ x e. refl }
+    record { op_is = refl; server = servers_task s role (Soft j) refl task; cpu_is = refl; next = c.act + 1; goes = λ reply. refl; free = λ direct q k. k; under = λ x e. absurd (soft_interrupt s role j x e task) }
+pop_view s role c stage act cpu op (pops m) h fits = record { op_is = refl; server = is_server s role c.hold (Popping m) refl fits.hold; cpu_is = refl; next = c.act; goes = λ reply. refl; free = λ direct q k. k; under = λ x e. refl }
 pop_view s role c stage act cpu op (frees v drain next) h fits = absurd (free_other role h)
 
 is_pop : (direct : Bool) → IsPopOp (lane_pop direct)
@@ -173,9 +167,6 @@ module _ (s : Script) (ok : IsScript s) (name : ServiceName) (a : ℕ) (p : Pass
 
   pub pop_free : IsFree direct p cpu
   pop_free = popping.free direct p (subst (λ (x : ℕ). ServesAt direct p x c.stage) (sym popping.cpu_is) (from_lane s role direct p c.stage popping.server lane acting.serves))
-
-  pub pop_direct : direct ≡ true → scans_first c ≡ 0
-  pop_direct h = ap (scans_with c) acting.place.parcel ∙ popping.direct (lane ∙ h)
 
   -- the place after the Pop
   abbrev after_pop : QReply → Cursor
