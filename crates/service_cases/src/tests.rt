@@ -7,3 +7,4 @@ mod looks;
 mod moving;
 mod notes;
 mod stage;
+mod words;
