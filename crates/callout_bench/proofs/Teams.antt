@@ -1,5 +1,5 @@
 -- A service for threads is within the limits.
-use Rattle.std.proofs.Common.{◌≡◌, ℕ, zero, suc, ◌*◌, ◌≤◌, List, [], ◌∷◌, length, refl, sym, subst, arith, inl}
+use Rattle.std.proofs.Common.{◌≡◌, ℕ, zero, suc, ◌+◌, ◌*◌, ◌≤◌, List, [], ◌∷◌, length, refl, sym, subst, arith, inl}
 use Rattle.std.specs.Prelude.{slice_index_or}
 use Rattle.std.specs.List.{All}
 use Rattle.std.proofs.lemmas.List.Elements.{All-weaker, All-head, All-tail}
@@ -11,13 +11,13 @@ use Rattle.callout_bench.specs.declared.work.Work.{Work}
 use Rattle.callout_bench.specs.Team.{IsPlain, IsTeam}
 
 abbrev team : Work → List Spec → Params
-team work specs = record { version = 1; clients = work.threads; cpus = work.threads; buckets = 16; specs = specs }
+team work specs = record { version = 1; clients = work.threads; cpus = work.threads + 1; buckets = 16; specs = specs }
 
-pub team_params : (work : Work) (specs : List Spec) → (1 ≤ work.threads) × (work.threads ≤ 16) → length specs ≡ work.threads * 16 → All IsPlain specs → AreParams (team work specs)
+pub team_params : (work : Work) (specs : List Spec) → (1 ≤ work.threads) × (work.threads ≤ 15) → length specs ≡ work.threads * 16 → All IsPlain specs → AreParams (team work specs)
 team_params work specs some size plain = record {
   version = inl refl;
-  clients = some.1;
-  cpus = some;
+  clients = (let most = some.1 in omega arith);
+  cpus = (let most = some.1 in (omega arith, omega arith));
   buckets = (omega arith, omega arith, (4, refl));
   size = (let (least, most) = some in (omega arith, omega arith));
   specs = All-weaker IsPlain (IsSpec 1) (λ spec is. is.allowed) specs plain;

@@ -1,5 +1,5 @@
--- Threads, with a client, a CPU and 16 callouts for each.
-use Rattle.std.specs.Prelude.{◌≡◌, ℕ, ◌*◌, length}
+-- Threads, with a client, a CPU and 16 callouts for each, and one CPU more.
+use Rattle.std.specs.Prelude.{◌≡◌, ℕ, ◌+◌, ◌*◌, length}
 use Rattle.co_object.specs.declared.spec.Spec.{Spec}
 use Rattle.co_object.specs.declared.spec.LockUse.TheVariants.{Free}
 use Rattle.co_service.specs.declared.params.Params.{Params}
@@ -15,6 +15,6 @@ pub record IsPlain (spec : Spec) : Type 0 where
 pub record IsTeam (work : Work) (p : Params) : Type 0 where
   pub version_is : p.version ≡ 1
   pub clients : p.clients ≡ work.threads
-  pub cpus : p.cpus ≡ work.threads
+  pub cpus : p.cpus ≡ work.threads + 1
   pub size : length p.specs ≡ work.threads * 16
   pub free : (i : ℕ) → (spec_at p i).lock ≡ Free

@@ -9,7 +9,7 @@ ghost use Rattle.co_service.specs.Views.{AreOf};
 ghost use Rattle.callout_bench.specs.Team.{IsPlain, IsTeam};
 ghost use denote.Param.Send.{IsSync};
 
-use crate::work::Work;
+use crate::work::{Calls, Work};
 use co_object::{CallOp, LockUse, PlainOp, Reply, Spec};
 use co_sbt::{NoMemory, Sbt, Seq};
 use co_service::{Fresh, Name, Passes, Service, Told};
@@ -37,15 +37,16 @@ fn plain_specs(alloc: Global, callouts: u32) -> Result<Seq<Spec>, NoMemory>
     Ok(specs)
 }
 
-/// A service with a client, a CPU of 16 buckets and the callouts for each thread, before its locks; and each actor's passes of
-/// it.
+/// A service with a client and the callouts for each thread, and one CPU of 16 buckets more than there are threads, before its
+/// locks; and each actor's passes of it.
 fn boot_team(alloc: Global, work: &Work) -> Result<(Fresh, Seq<Passes>), NoMemory>
-    requires { (1 ≤ work.now.threads) × (work.now.threads ≤ 16) }
+    requires { (1 ≤ work.now.threads) × (work.now.threads ≤ 15) }
     ensures team { IfOk result (λ made. IsTeam work.now made.0.params) }
     ensures passes { IfOk result (λ made. AreBooted made.0.name made.0.params made.1) }
 {
     let specs = plain_specs(alloc, work.threads * OWN)?;
-    Fresh::boot(alloc, 1, work.threads, 16, work.threads, specs.as_slice())
+    let cpus = work.threads + 1;
+    Fresh::boot(alloc, 1, cpus, 16, work.threads, specs.as_slice())
 }
 
 /// A call on a thread's callout, which needs no hold.
@@ -53,6 +54,7 @@ fn ask<N: Name, R: Wait>(
     rt: &R,
     service: &Service<N>,
     work: &Work,
+    calls: Calls,
     passes: &mut Passes,
     act: u64,
     i: u32,
@@ -61,12 +63,16 @@ fn ask<N: Name, R: Wait>(
     requires team { IsTeam work.now service.now }
     requires passes { AreOf N.name service.now passes.old }
     requires callout { i < work.now.threads * 16 }
-    requires cpu { NamesCpu work.now.threads (Plain op) }
+    requires cpu { NamesCpu (work.now.threads + 1) (Plain op) }
     ensures { AreOf N.name service.now passes.new }
 {
     let _ = work;
+    let op = CallOp::Plain(op);
+    if matches!(calls, Calls::Noted) {
+        return service.call(rt, passes, act, i, &op, None).reply;
+    }
     let mut told = Told::none();
-    service.call_into(rt, passes, act, i, &CallOp::Plain(op), None, &mut told);
+    service.call_into(rt, passes, act, i, &op, None, &mut told);
     told.reply()
 }
 
@@ -76,18 +82,20 @@ fn hammer<N: Name, R: Wait>(
     rt: &R,
     service: &Service<N>,
     work: &Work,
+    calls: Calls,
     mut passes: Passes,
     thread: u32,
 ) -> u64
     requires team { IsTeam work.now service.now }
     requires thread { thread < work.now.threads }
-    requires few { work.now.threads ≤ 16 }
+    requires few { work.now.threads ≤ 15 }
     requires passes { AreOf N.name service.now passes }
 {
     let mut taken: u64 = 0;
-    let cpu = work.place(thread);
+    let place = work.place(thread);
     for call in 0..work.calls {
-        let i = thread * OWN + (call % 16) as u32;
+        let i = calls.callout(thread, call);
+        let cpu = calls.cpu(place, call);
         let reset = PlainOp::Reset {
             due: Sbt::from_ticks(1, 1),
             prec: Sbt::zero(),
@@ -95,8 +103,17 @@ fn hammer<N: Name, R: Wait>(
             arg: 0,
             cpu: Some(cpu),
         };
-        ask(rt, service, work, &mut passes, call, i, reset);
-        let reply = ask(rt, service, work, &mut passes, call, i, PlainOp::Stop);
+        ask(rt, service, work, calls, &mut passes, call, i, reset);
+        let reply = ask(
+            rt,
+            service,
+            work,
+            calls,
+            &mut passes,
+            call,
+            i,
+            PlainOp::Stop,
+        );
         if matches!(reply, Reply::Stopped { code: 1, .. }) {
             taken = taken.saturating_add(1);
         }
@@ -109,11 +126,12 @@ fn hammer_all<N: Name + Send + Sync, R: Threads + Wait + Sync>(
     rt: &R,
     service: &Service<N>,
     work: &Work,
+    calls: Calls,
     mut all: Vec<Passes>,
     threads: u32,
 ) -> u64
     requires team { IsTeam work.now service.now }
-    requires few { (threads ≤ work.now.threads) × (work.now.threads ≤ 16) }
+    requires few { (threads ≤ work.now.threads) × (work.now.threads ≤ 15) }
     requires all { AreNew N.name service.now threads all.items }
 {
     if threads == 0 {
@@ -124,23 +142,23 @@ fn hammer_all<N: Name + Send + Sync, R: Threads + Wait + Sync>(
     let (own, rest) = join(
         rt,
         || -> u64
-            requires { IsSync R.row × IsTeam work.now service.now × (thread < work.now.threads) × (work.now.threads ≤ 16) × AreOf N.name service.now last }
-        { hammer(rt, service, work, last, thread) },
+            requires { IsSync R.row × IsTeam work.now service.now × (thread < work.now.threads) × (work.now.threads ≤ 15) × AreOf N.name service.now last }
+        { hammer(rt, service, work, calls, last, thread) },
         || -> u64
-            requires { IsSync R.row × IsTeam work.now service.now × (thread ≤ work.now.threads) × (work.now.threads ≤ 16) × AreNew N.name service.now thread all.items }
-        { hammer_all(rt, service, work, all, thread) },
+            requires { IsSync R.row × IsTeam work.now service.now × (thread ≤ work.now.threads) × (work.now.threads ≤ 15) × AreNew N.name service.now thread all.items }
+        { hammer_all(rt, service, work, calls, all, thread) },
     );
     own.saturating_add(rest)
 }
 
 /// The clients' passes, once those of the CPUs have left.
 fn leave_cpus<N: Name>(service: &Service<N>, threads: u32, mut all: Vec<Passes>) -> Vec<Passes>
-    requires few { threads ≤ 16 }
-    requires all { AreNew N.name service.now (threads + threads) all.items }
+    requires few { threads ≤ 15 }
+    requires all { AreNew N.name service.now (threads + (threads + 1)) all.items }
     ensures { AreNew N.name service.now threads result.items }
 {
-    for gone in 0..threads {
-        service.leave(&mut all, threads + (threads - 1 - gone));
+    for gone in 0..threads + 1 {
+        service.leave(&mut all, threads + (threads - gone));
     }
     all
 }
@@ -150,24 +168,30 @@ fn run_open<N: Name + Send + Sync, R: Threads + Wait + Sync>(
     rt: &R,
     alloc: Global,
     work: &Work,
+    calls: Calls,
     fresh: Fresh,
     passes: Seq<Passes>,
 ) -> Result<u64, NoMemory>
     requires name { fresh.name ≡ N.name }
     requires team { IsTeam work.now fresh.params }
-    requires few { work.now.threads ≤ 16 }
+    requires few { work.now.threads ≤ 15 }
     requires passes { AreBooted fresh.name fresh.params passes }
 {
     let service = Service::<N>::open(alloc, fresh)?;
     let clients = leave_cpus(&service, work.threads, passes.into_vec());
-    Ok(hammer_all(rt, &service, work, clients, work.threads))
+    Ok(hammer_all(rt, &service, work, calls, clients, work.threads))
 }
 
-/// Boots a service with a CPU for each thread, and lets the threads call it. The answer is how many stops took an
+/// Boots a service with a CPU for each thread and one more, and lets the threads call it. The answer is how many stops took an
 /// arming away. `NoMemory` where there is no room for the service.
-pub fn run<R: Threads + Wait + Sync>(rt: &R, alloc: Global, work: &Work) -> Result<u64, NoMemory>
-    requires threads { (1 ≤ work.now.threads) × (work.now.threads ≤ 16) }
+pub fn run<R: Threads + Wait + Sync>(
+    rt: &R,
+    alloc: Global,
+    work: &Work,
+    calls: Calls,
+) -> Result<u64, NoMemory>
+    requires threads { (1 ≤ work.now.threads) × (work.now.threads ≤ 15) }
 {
     let (fresh, passes) = boot_team(alloc, work)?;
-    run_open::<Brand, R>(rt, alloc, work, fresh, passes)
+    run_open::<Brand, R>(rt, alloc, work, calls, fresh, passes)
 }

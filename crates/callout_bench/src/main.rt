@@ -6,9 +6,11 @@
 //!   it, so that the difference is the run.
 //! - `world` reads a script and steps its world by its turns and then by round robin. A step that is refused memory is made
 //!   again; it counts those steps too.
-//! - `service WHAT WHERE THREADS CALLS` lets threads call one running service, each its own callouts. WHAT is `service`, in
-//!   which each thread resets and stops its callouts in turn, CALLS of each, or `mutex`, in which it adds as often to a
-//!   counter behind a lock. WHERE is `apart`, each thread at a CPU or a lock of its own, or `one`, all at the same.
+//! - `service WHAT WHERE THREADS CALLS` lets threads call one running service. Where WHAT is `service` each thread resets and
+//!   stops callouts of its own in turn, CALLS of each, with calls that tell in few words what they did. In `notes` these
+//!   answer with their notes, in `moves` each reset sends its callout to another CPU, and in `shared` all threads call the
+//!   same callouts. In `mutex` each adds as often to a counter behind a lock. WHERE is `apart`, each thread at a CPU or a
+//!   lock of its own, or `one`, all at the same.
 //!
 //! Without a word each is run once and briefly. It writes counts alone, once all are made. The exit statuses are those of
 //! `callout`.

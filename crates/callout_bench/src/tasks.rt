@@ -5,7 +5,7 @@ ghost use denote.Param.Send.{IsSync};
 
 use crate::failed::Failed;
 use crate::queues::{self, Kind};
-use crate::words::{buckets_of, count_of, kind_of, number_of, time_of, where_of};
+use crate::words::{buckets_of, calls_of, count_of, kind_of, number_of, time_of, where_of};
 use crate::work::{Where, Work};
 use crate::{counter, hammer, input, lines, walk, world};
 use co_io::Source;
@@ -63,7 +63,7 @@ fn measure_world<R: Wait>(
     Ok(lines::world(page, &world::walk(rt, alloc, script)?)?)
 }
 
-/// A run of threads: of calls, or where `what` is `mutex` of counters.
+/// A run of threads: of the calls that `what` says, or where it is `mutex` of counters.
 fn measure_threads<R: Threads + Wait + Sync>(
     rt: &R,
     alloc: Global,
@@ -71,12 +71,12 @@ fn measure_threads<R: Threads + Wait + Sync>(
     what: &str,
     work: &Work,
 ) -> Result<(), Failed>
-    requires { (1 ≤ work.now.threads) × (work.now.threads ≤ 16) }
+    requires { (1 ≤ work.now.threads) × (work.now.threads ≤ 15) }
 {
-    let count = match what {
-        "service" => hammer::run(rt, alloc, work)?,
-        "mutex" => counter::run(rt, alloc, work)?,
-        _ => return Err(Failed::Words),
+    let count = match calls_of(what) {
+        Some(calls) => hammer::run(rt, alloc, work, calls)?,
+        None if what == "mutex" => counter::run(rt, alloc, work)?,
+        None => return Err(Failed::Words),
     };
     Ok(lines::threads(page, what, work, count)?)
 }
@@ -93,7 +93,7 @@ fn measure_service<R: Threads + Wait + Sync>(
     };
     let work = Work {
         at: where_of(at)?,
-        threads: count_of(threads, 16)?,
+        threads: count_of(threads, 15)?,
         calls: number_of(calls)?,
     };
     measure_threads(rt, alloc, page, what, &work)

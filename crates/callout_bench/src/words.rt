@@ -4,7 +4,7 @@ ghost use Rattle.co_queue.specs.Timers.{IsWheel};
 
 use crate::failed::Failed;
 use crate::queues::Kind;
-use crate::work::Where;
+use crate::work::{Calls, Where};
 use co_sbt::Sbt;
 use co_text::number;
 
@@ -54,6 +54,17 @@ pub fn buckets_of(word: &str) -> Result<u32, Failed>
         "4096" => Ok(4096),
         "65536" => Ok(65536),
         _ => Err(Failed::Words),
+    }
+}
+
+/// Which calls threads make of a service. None where the word says none.
+pub fn calls_of(word: &str) -> Option<Calls> {
+    match word {
+        "service" => Some(Calls::Told),
+        "notes" => Some(Calls::Noted),
+        "moves" => Some(Calls::Moved),
+        "shared" => Some(Calls::Shared),
+        _ => None,
     }
 }
 

@@ -1,5 +1,5 @@
 //! What a run is to do.
-ghost use Rattle.std.specs.Prelude.{◌≤◌};
+ghost use Rattle.std.specs.Prelude.{◌<◌, ◌≤◌, ◌+◌, ◌*◌};
 
 /// Where the threads meet.
 #[derive(Clone, Copy)]
@@ -10,12 +10,50 @@ pub enum Where {
     One,
 }
 
+/// Which calls threads make of a service. Each resets a callout and then stops it.
+#[derive(Clone, Copy)]
+pub enum Calls {
+    /// Those that tell in few words what they did, each thread on callouts of its own.
+    Told,
+    /// Those that answer with their notes.
+    Noted,
+    /// Each reset sends the callout from one of two CPUs to the other.
+    Moved,
+    /// All threads call the same callouts, so that one is often not where its hint says.
+    Shared,
+}
+
+impl Calls {
+    /// The callout of a thread's call.
+    pub fn callout(&self, thread: u32, call: u64) -> u32
+        requires { thread < 15 }
+        ensures { result < thread * 16 + 16 }
+    {
+        let own = (call % 16) as u32;
+        match self {
+            Calls::Shared => own,
+            _ => thread * 16 + own,
+        }
+    }
+
+    /// The CPU of a call by a thread that is at CPU `place`.
+    pub fn cpu(&self, place: u32, call: u64) -> u32
+        requires { place < 15 }
+        ensures { result ≤ place + 1 }
+    {
+        match self {
+            Calls::Moved => place + (call / 16 % 2) as u32,
+            _ => place,
+        }
+    }
+}
+
 /// What a run is to do.
 #[derive(Clone, Copy)]
 pub struct Work {
     /// Where the threads meet.
     pub at: Where,
-    /// How many there are, 1 to 16.
+    /// How many there are, 1 to 15.
     pub threads: u32,
     /// How many calls of each kind a thread makes.
     pub calls: u64,
