@@ -68,7 +68,7 @@ pub record HasGoneOn {B : Type 0} (notes : B → List Note) (spare : B → ℕ) 
   -- it is the actor that it was
   pub number : new.number ≡ old.number
 
--- it is ready again at this place in its program, after so many notes at most
+-- it is ready again at this place in its program, after so many notes
 pub record HasGoneTo {B : Type 0} (notes : B → List Note) (spare : B → ℕ) (s : Script) (longest : ℕ) (name : ServiceName) (count : ℕ) (old new : Actor B) (to : Cursor) : Type 0 where
   -- it can make its next step
   pub ready : IsReady notes spare s longest name new
@@ -76,8 +76,8 @@ pub record HasGoneTo {B : Type 0} (notes : B → List Note) (spare : B → ℕ) 
   pub number : new.number ≡ old.number
   -- it is here in its program
   pub place : place_of s new ≡ to
-  -- its book has no less room than for so many notes fewer
-  pub spent : spare old.book ≤ spare new.book + count
+  -- its book has room for so many notes fewer
+  pub spent : spare old.book ≡ spare new.book + count
 
 -- it is ready again at this place in its program, without a note
 pub record HasMoved {B : Type 0} (notes : B → List Note) (spare : B → ℕ) (s : Script) (longest : ℕ) (name : ServiceName) (old new : Actor B) (to : Cursor) : Type 0 where
@@ -123,10 +123,12 @@ pub record HasLeft {B : Type 0} (s : Script) (old new : Actor B) : Type 0 where
   pub free : Serves (role_of s new.number) new.passes Ready
 
 -- it has played its whole program, or has left it
-pub record HasPlayed {B X E : Type 0} (notes : B → List Note) (s : Script) (name : ServiceName) (old new : Actor B) (result : Result X E) : Type 0 where
+pub record HasPlayed {B X E : Type 0} (notes : B → List Note) (spare : B → ℕ) (s : Script) (name : ServiceName) (old new : Actor B) (result : Result X E) : Type 0 where
   -- it is the actor that it was
   pub number : new.number ≡ old.number
   -- where there was room, its program is over
   pub over : OnOk result (IsOver s name old.number new.passes (notes new.book))
+  -- and each note that there is room for would have a number
+  pub numbers : OnOk result (HasNumbers new.cursor (notes new.book) (spare new.book))
   -- where there was none, it has left it in order
   pub left : OnErr result (HasLeft s old new)

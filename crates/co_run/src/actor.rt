@@ -1,5 +1,5 @@
 //! One actor of a run.
-ghost use Rattle.std.specs.Prelude.{◌≡◌, ◌≤◌, ◌+◌, ◌++◌, ◌∷◌, [], ℕ, ◌||◌, is_some};
+ghost use Rattle.std.specs.Prelude.{◌≡◌, ◌≤◌, ◌+◌, ◌++◌, ◌∷◌, [], ℕ, ◌||◌, is_some, length};
 ghost use Rattle.co_program.specs.Advance.{advance};
 ghost use Rattle.co_program.specs.Indexed.{cursor_of};
 ghost use Rattle.co_program.specs.Scripts.{IsScript};
@@ -57,7 +57,7 @@ pub(crate) fn tell<B: Notebook>(
     requires script { IsScript script.now }
     requires can { CanTell B.notes B.spare cursor.old book.old 1 }
     ensures cursor { (actor : ℕ) → cursor_of script.now actor cursor.new ≡ advance script.now (cursor_of script.now actor cursor.old) more note.now.place note.now.entry }
-    ensures told { HasTold B.notes B.spare cursor.new book.old book.new (note.now ∷ []) 1 }
+    ensures told { HasTold B.notes B.spare cursor.new book.old book.new (note.now ∷ []) }
 {
     let _task = cursor.task;
     put(book, note);
@@ -76,7 +76,7 @@ fn tell_some<B: Notebook>(
     requires script { IsScript script.now }
     requires can { CanTell B.notes B.spare cursor.old book.old 1 }
     ensures cursor { (actor : ℕ) → cursor_of script.now actor cursor.new ≡ gone_on_with script.now (cursor_of script.now actor cursor.old) more note.now }
-    ensures told { HasTold B.notes B.spare cursor.new book.old book.new (noted note.now) 1 }
+    ensures told { HasTold B.notes B.spare cursor.new book.old book.new (noted note.now) }
 {
     if let Some(note) = note {
         tell(script, cursor, book, note, more);
@@ -93,7 +93,8 @@ pub(crate) fn tell_all<B: Notebook>(
     requires script { IsScript script.now }
     requires can { CanTell B.notes B.spare cursor.old book.old 3 }
     ensures cursor { (actor : ℕ) → cursor_of script.now actor cursor.new ≡ gone_on script.now (cursor_of script.now actor cursor.old) (notes_in notes.now) }
-    ensures told { HasTold B.notes B.spare cursor.new book.old book.new (notes_in notes.now) 3 }
+    ensures told { HasTold B.notes B.spare cursor.new book.old book.new (notes_in notes.now) }
+    ensures few { length (notes_in notes.now) ≤ 3 }
 {
     let [first, second, third] = notes;
     tell_some(script, cursor, book, first, either(second, third));

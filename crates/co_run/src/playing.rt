@@ -60,7 +60,7 @@ impl<'a, B: Notebook> Actor<'a, B> {
         shared: &Shared<'a, N, G>,
     ) -> Result<(), NoMemory>
         requires ready { IsReady B.notes B.spare shared.now.script.now shared.now.longest N.name self.old }
-        ensures { HasPlayed B.notes shared.now.script.now N.name self.old self.new result }
+        ensures { HasPlayed B.notes B.spare shared.now.script.now N.name self.old self.new result }
     {
         match self.play_on(rt, shared) {
             Ok(()) => Ok(()),
