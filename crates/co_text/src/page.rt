@@ -2,7 +2,7 @@
 ghost use Rattle.std.specs.Prelude.{◌≡◌, ◌+◌, ◌%◌, ◌≤◌, ◌<◌, ◌++◌, ◌∷◌, [], decimal, OnOk};
 ghost use Rattle.std.specs.Fmt.{signed_decimal};
 ghost use Rattle.co_text.specs.Lines.{spaced, line_text};
-ghost use Rattle.co_text.specs.Written.{token_word, token_words};
+ghost use Rattle.co_text.specs.Written.{last_four, last_eight, token_word, token_words};
 
 use crate::token::Token;
 use co_sbt::{NoMemory, Seq};
@@ -12,7 +12,7 @@ use std::marker::Model;
 
 /// The last digit of a number.
 #[inline(always)]
-fn digit(number: u64) -> u8
+fn digit(number: u32) -> u8
     ensures { result ≡ 48 + number % 10 }
 {
     b'0' + (number % 10) as u8
@@ -68,7 +68,7 @@ impl Page {
     }
 
     #[tactic(auto, using(crate::proofs::Digits::decimal_two))]
-    fn two_digits(&mut self, number: u64) -> Result<(), NoMemory>
+    fn two_digits(&mut self, number: u32) -> Result<(), NoMemory>
         requires low { 10 ≤ number }
         requires high { number < 100 }
         ensures { OnOk result (self.new ≡ self.old ++ decimal number) }
@@ -77,54 +77,111 @@ impl Page {
     }
 
     #[tactic(auto, using(crate::proofs::Digits::decimal_three))]
-    fn three_digits(&mut self, number: u64) -> Result<(), NoMemory>
+    fn three_digits(&mut self, number: u32) -> Result<(), NoMemory>
         requires low { 100 ≤ number }
         requires high { number < 1000 }
         ensures { OnOk result (self.new ≡ self.old ++ decimal number) }
     {
-        let tens = number / 10;
-        self.text([digit(tens / 10), digit(tens), digit(number)].as_slice())
+        let digits = [digit(number / 100), digit(number / 10), digit(number)];
+        self.text(digits.as_slice())
     }
 
-    #[tactic(auto, using(crate::proofs::Digits::decimal_four))]
-    fn four_digits(&mut self, number: u64) -> Result<(), NoMemory>
-        requires low { 1000 ≤ number }
-        requires high { number < 10000 }
-        ensures { OnOk result (self.new ≡ self.old ++ decimal number) }
+    /// The last four digits, with zeros in front.
+    #[inline(always)]
+    fn last_four(&mut self, number: u32) -> Result<(), NoMemory>
+        ensures { OnOk result (self.new ≡ self.old ++ last_four number) }
     {
-        let tens = number / 10;
-        let hundreds = tens / 10;
         let digits = [
-            digit(hundreds / 10),
-            digit(hundreds),
-            digit(tens),
+            digit(number / 1000),
+            digit(number / 100),
+            digit(number / 10),
             digit(number),
         ];
         self.text(digits.as_slice())
     }
 
-    // Apart, so that short numbers, which are the most, need no buffer.
-    #[inline(never)]
-    fn many_digits(&mut self, number: u64) -> Result<(), NoMemory>
-        ensures { OnOk result (self.new ≡ self.old ++ decimal number) }
+    /// The last eight digits, with zeros in front.
+    #[inline(always)]
+    fn last_eight(&mut self, number: u32) -> Result<(), NoMemory>
+        ensures { OnOk result (self.new ≡ self.old ++ last_eight number) }
     {
-        let mut buffer = Buffer::new();
-        self.text(buffer.format(number).as_bytes())
+        let high = number / 10_000;
+        let digits = [
+            digit(high / 1000),
+            digit(high / 100),
+            digit(high / 10),
+            digit(high),
+            digit(number / 1000),
+            digit(number / 100),
+            digit(number / 10),
+            digit(number),
+        ];
+        self.text(digits.as_slice())
     }
 
-    /// Appends a number, without leading zeros. `NoMemory` where there is no room.
-    #[tactic(auto, using(std::proofs::lemmas::Fmt::decimal_digit))]
-    pub fn number(&mut self, number: u64) -> Result<(), NoMemory>
+    #[inline(always)]
+    #[tactic(auto, using(std::proofs::lemmas::Fmt::decimal_digit, crate::proofs::Digits::decimal_four))]
+    fn few_digits(&mut self, number: u32) -> Result<(), NoMemory>
+        requires { number < 10000 }
         ensures { OnOk result (self.new ≡ self.old ++ decimal number) }
     {
         if number < 10 {
-            self.push(b'0' + number as u8)
+            self.push(digit(number))
         } else if number < 100 {
             self.two_digits(number)
         } else if number < 1000 {
             self.three_digits(number)
-        } else if number < 10000 {
-            self.four_digits(number)
+        } else {
+            self.last_four(number)
+        }
+    }
+
+    #[inline(always)]
+    #[tactic(auto, using(crate::proofs::Digits::four_behind))]
+    fn some_digits(&mut self, number: u32) -> Result<(), NoMemory>
+        requires { number < 100000000 }
+        ensures { OnOk result (self.new ≡ self.old ++ decimal number) }
+    {
+        if number < 10_000 {
+            return self.few_digits(number);
+        }
+        self.few_digits(number / 10_000)?;
+        self.last_four(number)?;
+        Ok(())
+    }
+
+    #[inline(always)]
+    #[tactic(auto, using(crate::proofs::Digits::eight_behind))]
+    fn more_digits(&mut self, number: u64) -> Result<(), NoMemory>
+        requires { number < 10000000000000000 }
+        ensures { OnOk result (self.new ≡ self.old ++ decimal number) }
+    {
+        if number < 100_000_000 {
+            return self.some_digits(number as u32);
+        }
+        self.some_digits((number / 100_000_000) as u32)?;
+        self.last_eight((number % 100_000_000) as u32)?;
+        Ok(())
+    }
+
+    // Apart, so that a short number, which most are, is written with no call.
+    #[inline(never)]
+    #[tactic(auto, using(crate::proofs::Digits::eight_behind))]
+    fn many_digits(&mut self, number: u64) -> Result<(), NoMemory>
+        requires { 100000000 ≤ number }
+        ensures { OnOk result (self.new ≡ self.old ++ decimal number) }
+    {
+        self.more_digits(number / 100_000_000)?;
+        self.last_eight((number % 100_000_000) as u32)?;
+        Ok(())
+    }
+
+    /// Appends a number, without leading zeros. `NoMemory` where there is no room.
+    pub fn number(&mut self, number: u64) -> Result<(), NoMemory>
+        ensures { OnOk result (self.new ≡ self.old ++ decimal number) }
+    {
+        if number < 100_000_000 {
+            self.some_digits(number as u32)
         } else {
             self.many_digits(number)
         }
