@@ -3,18 +3,24 @@ ghost use Rattle.std.specs.Prelude.{◌≡◌, ◌++◌, ◌∷◌, [], OnOk, de
 ghost use Rattle.co_text.specs.Lines.{line_text};
 
 use co_sbt::NoMemory;
-use co_text::{Page, Token};
+use co_text::Page;
 
 /// A line of a word alone.
+#[inline]
 pub(crate) fn print_word(page: &mut Page, word: &[u8]) -> Result<(), NoMemory>
     ensures { OnOk result (page.new ≡ page.old ++ line_text (word.now ∷ [])) }
 {
-    page.line(&Token::Text(word), [].as_slice())
+    page.text(word)?;
+    page.end()
 }
 
 /// A line of a word and a number.
+// Inlined, a word that is a literal is stored with no call.
+#[inline]
 pub(crate) fn print_number(page: &mut Page, word: &[u8], number: u64) -> Result<(), NoMemory>
     ensures { OnOk result (page.new ≡ page.old ++ line_text (word.now ∷ decimal number ∷ [])) }
 {
-    page.line(&Token::Text(word), [Token::Number(number)].as_slice())
+    page.text(word)?;
+    page.tagged(b" ".as_slice(), number)?;
+    page.end()
 }

@@ -14,11 +14,12 @@ ghost use Rattle.co_batch_text.specs.Event.Written.{IsWritten, left_by};
 ghost use Rattle.co_batch_text.specs.declared.event.command.EventCommand.TheVariants.{Arm, Stop};
 
 use crate::event::command::EventCommand;
+use crate::print::print_number;
 use co_batch::{Batch, read_batch};
 use co_event::{Event, EventQueue};
 use co_program::When;
 use co_sbt::{NoMemory, Sbt, Seq};
-use co_text::{Page, ScriptFault, Token};
+use co_text::{Page, ScriptFault};
 use std::alloc::Global;
 
 /// A line for each of these callouts.
@@ -26,8 +27,7 @@ fn print_fired(page: &mut Page, numbers: &[u32]) -> Result<(), NoMemory>
     ensures { OnOk result (page.new ≡ page.old ++ text (map fired_words numbers.now)) }
 {
     for number in numbers {
-        let word = Token::Text(b"fired".as_slice());
-        page.line(&word, [Token::Number(u64::from(*number))].as_slice())?;
+        print_number(page, b"fired".as_slice(), u64::from(*number))?;
     }
     Ok(())
 }
@@ -36,12 +36,9 @@ fn print_fired(page: &mut Page, numbers: &[u32]) -> Result<(), NoMemory>
 fn print_event(page: &mut Page, event: Event, numbers: &[u32]) -> Result<(), NoMemory>
     ensures { OnOk result (page.new ≡ page.old ++ text (event_lines event numbers.now)) }
 {
-    let moment = Token::Lettered(b'u', event.at.raw());
-    let count = Token::Number(u64::from(event.count));
-    page.line(
-        &Token::Text(b"event".as_slice()),
-        [moment, count].as_slice(),
-    )?;
+    page.tagged(b"event u".as_slice(), event.at.raw())?;
+    page.tagged(b" ".as_slice(), u64::from(event.count))?;
+    page.end()?;
     print_fired(page, numbers)
 }
 
@@ -49,8 +46,8 @@ fn print_event(page: &mut Page, event: Event, numbers: &[u32]) -> Result<(), NoM
 fn print_until(page: &mut Page, time: Sbt) -> Result<(), NoMemory>
     ensures { OnOk result (page.new ≡ page.old ++ line_text (until_words time)) }
 {
-    let word = Token::Text(b"until".as_slice());
-    page.line(&word, [Token::Lettered(b'u', time.raw())].as_slice())
+    page.tagged(b"until u".as_slice(), time.raw())?;
+    page.end()
 }
 
 /// The next event, where it comes by `time`.
@@ -108,9 +105,10 @@ fn arm(
     ensures written { OnOk result (IsWritten queue.old queue.new page.old page.new (answered (Arm i when prec))) }
 {
     let armed = queue.arm(i, due_of(queue.now(), when), prec);
-    let code = Token::Signed(armed.code);
-    let due = Token::Lettered(b'u', armed.due.raw());
-    page.line(&Token::Text(b"armed".as_slice()), [code, due].as_slice())
+    page.text(b"armed ".as_slice())?;
+    page.signed(armed.code)?;
+    page.tagged(b" u".as_slice(), armed.due.raw())?;
+    page.end()
 }
 
 /// Takes a callout out of what is pending.
@@ -120,8 +118,9 @@ fn stop(page: &mut Page, queue: &mut EventQueue, i: u32) -> Result<(), NoMemory>
     ensures written { OnOk result (IsWritten queue.old queue.new page.old page.new (answered (Stop i))) }
 {
     let code = queue.stop(i);
-    let word = Token::Text(b"stopped".as_slice());
-    page.line(&word, [Token::Signed(code)].as_slice())
+    page.text(b"stopped ".as_slice())?;
+    page.signed(code)?;
+    page.end()
 }
 
 /// Answers a command, whose callout exists.

@@ -6,7 +6,7 @@ ghost use Rattle.co_batch_text.specs.Sleep.Answers.{end_words, reply_words, tick
 use crate::print::{print_number, print_word};
 use co_sbt::NoMemory;
 use co_sleepq::{End, SleepReply, Ticked};
-use co_text::{Page, Token};
+use co_text::Page;
 
 /// How a sleep ended.
 fn print_end(page: &mut Page, end: End) -> Result<(), NoMemory>
@@ -41,7 +41,7 @@ pub fn print_reply(page: &mut Page, reply: SleepReply) -> Result<(), NoMemory>
 pub fn print_ticked(page: &mut Page, ticked: Ticked) -> Result<(), NoMemory>
     ensures { OnOk result (page.new ≡ page.old ++ line_text (ticked_words ticked.out ticked.late)) }
 {
-    let out = Token::Number(u64::from(ticked.out));
-    let late = Token::Number(u64::from(ticked.late));
-    page.line(&Token::Text(b"ticked".as_slice()), [out, late].as_slice())
+    page.tagged(b"ticked ".as_slice(), u64::from(ticked.out))?;
+    page.tagged(b" ".as_slice(), u64::from(ticked.late))?;
+    page.end()
 }
