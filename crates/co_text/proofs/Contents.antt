@@ -1,0 +1,92 @@
+-- The part of a line that is read, in one walk: up to the comment, or the first byte that may not stand there.
+use Rattle.std.proofs.Common.{◌≡◌, ℕ, ◌+◌, ◌<◌, ◌≤◌, Bool, true, false, cond, not, ◌&&◌, ◌||◌, List, [], ◌∷◌, length, take, drop, refl, ap, sym, ◌∙◌, arith}
+use Rattle.std.specs.Prelude.{Result, Ok, Err, ◌==◌, slice_index_or}
+use Rattle.std.specs.List.{list_all, position_or_len}
+use Rattle.std.proofs.lemmas.Bool.Decides.{nat_tests}
+use Rattle.co_text.specs.Fallible.{◌>>◌, unless}
+use Rattle.co_text.specs.Lines.{content, is_hash, is_plain}
+use Rattle.co_text.specs.declared.cause.Cause.{Cause}
+use Rattle.co_text.specs.declared.cause.Cause.TheVariants.{Byte}
+use Rattle.co_text.proofs.Splits.{take-one, drop-one}
+use Rattle.co_text.proofs.LinesBack.{and_both}
+
+-- the part that is read ends before this byte
+abbrev pub is_stop : ℕ → Bool
+is_stop c = is_hash c || not (is_plain c)
+
+-- a walk stops at n, and the comment begins at m
+record Walk (bs : List ℕ) (n m : ℕ) : Type 0 where
+  plain : list_all is_plain (take n bs) ≡ true
+  ends : length (drop n bs) ≡ 0 → m ≡ n
+  comment : slice_index_or (drop n bs) 0 0 ≡ 35 → m ≡ n
+  other : 1 ≤ length (drop n bs) → (slice_index_or (drop n bs) 0 0 ≡ 35 → ⊥) → list_all is_plain (take m bs) ≡ false
+
+is-hash : (c : ℕ) → (c == 35) ≡ true → c ≡ 35
+is-hash c e = grind (arith, nat_tests)
+
+no-hash : (c : ℕ) → (c == 35) ≡ false → c ≡ 35 → ⊥
+no-hash c e h = grind (arith, nat_tests)
+
+and-false : (a b : Bool) → a ≡ false → (a && b) ≡ false
+and-false true b e = cc
+and-false false b e = refl
+
+and-second : (a b : Bool) → b ≡ false → (a && b) ≡ false
+and-second true b e = e
+and-second false b e = refl
+
+walk-step : (h p : Bool) (c : ℕ) (cs : List ℕ) (n m : ℕ) → (c == 35) ≡ h → is_plain c ≡ p → Walk cs n m
+    → Walk (c ∷ cs) (cond (not (h || not p)) (1 + n) 0) (cond (not h) (1 + m) 0)
+walk-step true p c cs n m eh ep w = record {
+  plain = refl;
+  ends = λ e. refl;
+  comment = λ e. refl;
+  other = λ some differs. absurd (differs (is-hash c eh));
+}
+walk-step false true c cs n m eh ep w = record {
+  plain = ap (list_all is_plain) (take-one n c cs) ∙ and_both (is_plain c) _ ep w.plain;
+  ends = λ e. ap (λ k. 1 + k) (w.ends (sym (ap length (drop-one n c cs)) ∙ e));
+  comment = λ e. ap (λ k. 1 + k) (w.comment (sym (ap (λ bs. slice_index_or bs 0 0) (drop-one n c cs)) ∙ e));
+  other = λ some differs. ap (list_all is_plain) (take-one m c cs) ∙ and-second (is_plain c) _ (w.other
+      (omega (arith, some, ap length (drop-one n c cs)))
+      (λ h. differs (ap (λ bs. slice_index_or bs 0 0) (drop-one n c cs) ∙ h)));
+}
+walk-step false false c cs n m eh ep w = record {
+  plain = refl;
+  ends = λ e. absurd (omega (arith, e));
+  comment = λ e. absurd (no-hash c eh e);
+  other = λ some differs. ap (list_all is_plain) (take-one m c cs) ∙ and-false (is_plain c) _ ep;
+}
+
+walk : (bs : List ℕ) → Walk bs (position_or_len is_stop bs) (position_or_len is_hash bs)
+walk [] = record { plain = refl; ends = λ e. refl; comment = λ e. refl; other = λ some differs. absurd (omega (arith, some)) }
+walk (c ∷ cs) = walk-step (c == 35) (is_plain c) c cs _ _ refl refl (walk cs)
+
+abbrev read_as : Bool → List ℕ → Result (List ℕ) Cause
+read_as plain part = unless plain Byte >> Ok part
+
+-- the walk went to the comment or to the end
+good : (bs part : List ℕ) (n : ℕ) → n ≡ position_or_len is_stop bs → part ≡ take n bs → position_or_len is_hash bs ≡ position_or_len is_stop bs
+    → content (record { bytes = bs; ended = true }) ≡ Ok part
+good bs part n en ep same =
+    let here : part ≡ take (position_or_len is_stop bs) bs = ep ∙ ap (λ k. take k bs) en in
+    let whole : take (position_or_len is_hash bs) bs ≡ part = ap (λ k. take k bs) same ∙ sym here in
+    let plain : list_all is_plain part ≡ true = ap (list_all is_plain) here ∙ (walk bs).plain in
+    ap (λ w. read_as (list_all is_plain w) w) whole ∙ ap (λ b. read_as b part) plain
+
+pub content-ends : (bs part rest : List ℕ) (n : ℕ) → n ≡ position_or_len is_stop bs → part ≡ take n bs → rest ≡ drop n bs → length rest < 1
+    → content (record { bytes = bs; ended = true }) ≡ Ok part
+content-ends bs part rest n en ep er none =
+    let empty : length (drop (position_or_len is_stop bs) bs) ≡ 0 = omega (arith, none, ap length (er ∙ ap (λ k. drop k bs) en)) in
+    good bs part n en ep ((walk bs).ends empty)
+
+pub content-comment : (bs part rest : List ℕ) (n : ℕ) → n ≡ position_or_len is_stop bs → part ≡ take n bs → rest ≡ drop n bs → slice_index_or rest 0 0 ≡ 35
+    → content (record { bytes = bs; ended = true }) ≡ Ok part
+content-comment bs part rest n en ep er hash = good bs part n en ep ((walk bs).comment (ap (λ r. slice_index_or r 0 0) (sym (er ∙ ap (λ k. drop k bs) en)) ∙ hash))
+
+pub content-other : (bs rest : List ℕ) (n : ℕ) → n ≡ position_or_len is_stop bs → rest ≡ drop n bs → 1 ≤ length rest → (slice_index_or rest 0 0 ≡ 35 → ⊥)
+    → content (record { bytes = bs; ended = true }) ≡ Err Byte
+content-other bs rest n en er some differs =
+    let place : rest ≡ drop (position_or_len is_stop bs) bs = er ∙ ap (λ k. drop k bs) en in
+    let bad = (walk bs).other (omega (arith, some, ap length place)) (λ h. differs (ap (λ r. slice_index_or r 0 0) place ∙ h)) in
+    ap (λ b. read_as b (take (position_or_len is_hash bs) bs)) bad
