@@ -1,0 +1,6 @@
+-- Notes in few bytes.
+
+-- the operation, the reply and the place that a kind and its numbers stand for
+pub mod Parts
+-- the note that a packed note stands for
+pub mod Unpacked

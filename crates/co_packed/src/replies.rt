@@ -1,0 +1,386 @@
+//! Replies in kinds and numbers.
+ghost use Rattle.std.specs.Prelude.{◌≡◌};
+ghost use Rattle.co_object.specs.declared.reply.Reply.TheVariants as replies;
+ghost use Rattle.co_packed.specs.Parts.{queue_reply_of, reply_of};
+
+use crate::kinds::{Answer, QAnswer};
+use crate::words::{ReplyWords, no_reply_words};
+use co_object::{Next, QReply, Reply};
+
+/// The kind and the numbers of the reply to an end.
+fn ended_parts(drain: Option<u32>, next: Option<Next>, woke: bool) -> (Answer, ReplyWords)
+    ensures { reply_of result.0 result.1 ≡ replies.Ended drain next woke }
+{
+    let none = no_reply_words();
+    match (drain, next, woke) {
+        (None, None, false) => (Answer::Ended, none),
+        (None, None, true) => (Answer::EndedWoke, none),
+        (Some(off), None, false) => (Answer::EndedDrain, ReplyWords { off, ..none }),
+        (Some(off), None, true) => (Answer::EndedDrainWoke, ReplyWords { off, ..none }),
+        (
+            None,
+            Some(
+                Next {
+                    n: word,
+                    cpu: number,
+                    due: time,
+                },
+            ),
+            false,
+        ) => (
+            Answer::EndedNext,
+            ReplyWords {
+                time,
+                word,
+                number,
+                ..none
+            },
+        ),
+        (
+            None,
+            Some(
+                Next {
+                    n: word,
+                    cpu: number,
+                    due: time,
+                },
+            ),
+            true,
+        ) => (
+            Answer::EndedNextWoke,
+            ReplyWords {
+                time,
+                word,
+                number,
+                ..none
+            },
+        ),
+        (
+            Some(off),
+            Some(
+                Next {
+                    n: word,
+                    cpu: number,
+                    due: time,
+                },
+            ),
+            false,
+        ) => (
+            Answer::EndedNextDrain,
+            ReplyWords {
+                time,
+                word,
+                number,
+                off,
+                ..none
+            },
+        ),
+        (
+            Some(off),
+            Some(
+                Next {
+                    n: word,
+                    cpu: number,
+                    due: time,
+                },
+            ),
+            true,
+        ) => (
+            Answer::EndedNextDrainWoke,
+            ReplyWords {
+                time,
+                word,
+                number,
+                off,
+                ..none
+            },
+        ),
+    }
+}
+
+/// The kind and the numbers of the reply to a drain that has to wait.
+fn wait_parts(word: u64, took: bool, off: Option<u32>) -> (Answer, ReplyWords)
+    ensures { reply_of result.0 result.1 ≡ replies.Wait word took off }
+{
+    let none = no_reply_words();
+    match (took, off) {
+        (false, None) => (Answer::Wait, ReplyWords { word, ..none }),
+        (false, Some(off)) => (Answer::WaitOff, ReplyWords { word, off, ..none }),
+        (true, None) => (Answer::WaitTook, ReplyWords { word, ..none }),
+        (true, Some(off)) => (Answer::WaitTookOff, ReplyWords { word, off, ..none }),
+    }
+}
+
+/// The kind and the numbers of a callout's reply.
+pub(crate) fn reply_parts(reply: &Reply) -> (Answer, ReplyWords)
+    ensures { reply_of result.0 result.1 ≡ reply.now }
+{
+    let none = no_reply_words();
+    match *reply {
+        Reply::Armed {
+            code,
+            n: word,
+            cpu: number,
+            off: None,
+        } => (
+            Answer::Armed,
+            ReplyWords {
+                code,
+                word,
+                number,
+                ..none
+            },
+        ),
+        Reply::Armed {
+            code,
+            n: word,
+            cpu: number,
+            off: Some(off),
+        } => (
+            Answer::ArmedOff,
+            ReplyWords {
+                code,
+                word,
+                number,
+                off,
+                ..none
+            },
+        ),
+        Reply::NotArmed { code } => (Answer::NotArmed, ReplyWords { code, ..none }),
+        Reply::NoHandler => (Answer::NoHandler, none),
+        Reply::Worn => (Answer::Worn, none),
+        Reply::Stopped { code, off: None } => (Answer::Stopped, ReplyWords { code, ..none }),
+        Reply::Stopped {
+            code,
+            off: Some(off),
+        } => (Answer::StoppedOff, ReplyWords { code, off, ..none }),
+        Reply::Wait { n, took, off } => wait_parts(n, took, off),
+        Reply::Drained { code, off: None } => (Answer::Drained, ReplyWords { code, ..none }),
+        Reply::Drained {
+            code,
+            off: Some(off),
+        } => (Answer::DrainedOff, ReplyWords { code, off, ..none }),
+        Reply::Busy => (Answer::Busy, none),
+        Reply::Yes => (Answer::Yes, none),
+        Reply::No => (Answer::No, none),
+        Reply::Done => (Answer::Done, none),
+        Reply::Go {
+            func: number,
+            arg: word,
+        } => (
+            Answer::Go,
+            ReplyWords {
+                word,
+                number,
+                ..none
+            },
+        ),
+        Reply::Hold => (Answer::Hold, none),
+        Reply::Skip => (Answer::Skip, none),
+        Reply::Ended { drain, next, woke } => ended_parts(drain, next, woke),
+        Reply::Live => (Answer::Live, none),
+        Reply::Retired => (Answer::Retired, none),
+        Reply::InUse {
+            armed: false,
+            serviced: false,
+        } => (Answer::InUse, none),
+        Reply::InUse {
+            armed: true,
+            serviced: false,
+        } => (Answer::InUseArmed, none),
+        Reply::InUse {
+            armed: false,
+            serviced: true,
+        } => (Answer::InUseServiced, none),
+        Reply::InUse {
+            armed: true,
+            serviced: true,
+        } => (Answer::InUseBoth, none),
+    }
+}
+
+/// The kind and the numbers of a queue's reply.
+pub(crate) fn queue_reply_parts(reply: &QReply) -> (QAnswer, ReplyWords)
+    ensures { queue_reply_of result.0 result.1 ≡ reply.now }
+{
+    let none = no_reply_words();
+    match *reply {
+        QReply::At(time) => (QAnswer::At, ReplyWords { time, ..none }),
+        QReply::Off => (QAnswer::Off, none),
+        QReply::Missing => (QAnswer::Missing, none),
+        QReply::Count(number) => (QAnswer::Count, ReplyWords { number, ..none }),
+        QReply::Got {
+            i: number,
+            n: word,
+            at: time,
+        } => (
+            QAnswer::Got,
+            ReplyWords {
+                time,
+                word,
+                number,
+                ..none
+            },
+        ),
+        QReply::Empty => (QAnswer::Empty, none),
+        QReply::Freed => (QAnswer::Freed, none),
+    }
+}
+
+/// The reply of this kind and with these numbers.
+pub(crate) fn reply_of(answer: Answer, words: &ReplyWords) -> Reply
+    ensures { result ≡ reply_of answer words.now }
+{
+    let ReplyWords {
+        time,
+        word: n,
+        code,
+        number,
+        off,
+    } = *words;
+    let next = Next {
+        n,
+        cpu: number,
+        due: time,
+    };
+    match answer {
+        Answer::Armed => Reply::Armed {
+            code,
+            n,
+            cpu: number,
+            off: None,
+        },
+        Answer::ArmedOff => Reply::Armed {
+            code,
+            n,
+            cpu: number,
+            off: Some(off),
+        },
+        Answer::NotArmed => Reply::NotArmed { code },
+        Answer::NoHandler => Reply::NoHandler,
+        Answer::Worn => Reply::Worn,
+        Answer::Stopped => Reply::Stopped { code, off: None },
+        Answer::StoppedOff => Reply::Stopped {
+            code,
+            off: Some(off),
+        },
+        Answer::Wait => Reply::Wait {
+            n,
+            took: false,
+            off: None,
+        },
+        Answer::WaitOff => Reply::Wait {
+            n,
+            took: false,
+            off: Some(off),
+        },
+        Answer::WaitTook => Reply::Wait {
+            n,
+            took: true,
+            off: None,
+        },
+        Answer::WaitTookOff => Reply::Wait {
+            n,
+            took: true,
+            off: Some(off),
+        },
+        Answer::Drained => Reply::Drained { code, off: None },
+        Answer::DrainedOff => Reply::Drained {
+            code,
+            off: Some(off),
+        },
+        Answer::Busy => Reply::Busy,
+        Answer::Yes => Reply::Yes,
+        Answer::No => Reply::No,
+        Answer::Done => Reply::Done,
+        Answer::Go => Reply::Go {
+            func: number,
+            arg: n,
+        },
+        Answer::Hold => Reply::Hold,
+        Answer::Skip => Reply::Skip,
+        Answer::Ended => Reply::Ended {
+            drain: None,
+            next: None,
+            woke: false,
+        },
+        Answer::EndedWoke => Reply::Ended {
+            drain: None,
+            next: None,
+            woke: true,
+        },
+        Answer::EndedDrain => Reply::Ended {
+            drain: Some(off),
+            next: None,
+            woke: false,
+        },
+        Answer::EndedDrainWoke => Reply::Ended {
+            drain: Some(off),
+            next: None,
+            woke: true,
+        },
+        Answer::EndedNext => Reply::Ended {
+            drain: None,
+            next: Some(next),
+            woke: false,
+        },
+        Answer::EndedNextWoke => Reply::Ended {
+            drain: None,
+            next: Some(next),
+            woke: true,
+        },
+        Answer::EndedNextDrain => Reply::Ended {
+            drain: Some(off),
+            next: Some(next),
+            woke: false,
+        },
+        Answer::EndedNextDrainWoke => Reply::Ended {
+            drain: Some(off),
+            next: Some(next),
+            woke: true,
+        },
+        Answer::Live => Reply::Live,
+        Answer::Retired => Reply::Retired,
+        Answer::InUse => Reply::InUse {
+            armed: false,
+            serviced: false,
+        },
+        Answer::InUseArmed => Reply::InUse {
+            armed: true,
+            serviced: false,
+        },
+        Answer::InUseServiced => Reply::InUse {
+            armed: false,
+            serviced: true,
+        },
+        Answer::InUseBoth => Reply::InUse {
+            armed: true,
+            serviced: true,
+        },
+    }
+}
+
+/// The queue's reply of this kind and with these numbers.
+pub(crate) fn queue_reply_of(answer: QAnswer, words: &ReplyWords) -> QReply
+    ensures { result ≡ queue_reply_of answer words.now }
+{
+    let ReplyWords {
+        time,
+        word,
+        number,
+        ..
+    } = *words;
+    match answer {
+        QAnswer::At => QReply::At(time),
+        QAnswer::Off => QReply::Off,
+        QAnswer::Missing => QReply::Missing,
+        QAnswer::Count => QReply::Count(number),
+        QAnswer::Got => QReply::Got {
+            i: number,
+            n: word,
+            at: time,
+        },
+        QAnswer::Empty => QReply::Empty,
+        QAnswer::Freed => QReply::Freed,
+    }
+}
