@@ -11,6 +11,7 @@ use Rattle.co_service.specs.Name.{ServiceName}
 use Rattle.co_service.specs.Views.{PassesView}
 use Rattle.co_run.specs.Acting.{HasLocks, params_of}
 use Rattle.co_run.specs.Over.{IsOver}
+use Rattle.co_run.specs.declared.book.KeptBook.{KeptBook}
 use Rattle.co_run.specs.declared.jobs.Crew.{Crew}
 use Rattle.co_run.specs.declared.jobs.Group.{Group}
 use Rattle.co_run.specs.declared.jobs.Job.{Job}
@@ -35,6 +36,10 @@ pub record IsEmpty (notes : List Note) (spare : ℕ) : Type 0 where
 -- each of these books is empty
 abbrev pub AreEmpty : {B : Type 0} → (B → List Note) → (B → ℕ) → List B → Type 0
 AreEmpty {B} notes spare books = (k : ℕ) (book : B) → slice_get books k ≡ Some book → IsEmpty (notes book) (spare book)
+
+-- each of these has no notes and no room
+abbrev pub AreBlank : {T : Type 0} → List (KeptBook T) → Type 0
+AreBlank {T} books = (k : ℕ) (book : KeptBook T) → slice_get books k ≡ Some book → (book.notes.items ≡ []) × (book.spare ≡ 0)
 
 -- one actor's passes after the other, and none has seen anything
 abbrev pub AreFirst : ServiceName → Params → List PassesView → Type 0
@@ -62,8 +67,8 @@ abbrev pub AreJobs : {B : Type 0} → Script → ServiceName → (B → List Not
 AreJobs {B} s name notes spare end jobs = (k : ℕ) (job : Job B) → slice_get jobs k ≡ Some job → (a : ℕ) → a + k + 1 ≡ end → IsJob s name a job.passes (notes job.book) (spare job.book)
 
 -- these actors have played their whole programs
-abbrev pub HavePlayed : Script → ServiceName → ℕ → List Played → Type 0
-HavePlayed s name end all = (k : ℕ) (one : Played) → slice_get all k ≡ Some one → (a : ℕ) → a + k + 1 ≡ end → IsOver s name a one.passes one.notes
+abbrev pub HavePlayed : {B : Type 0} → (B → List Note) → Script → ServiceName → ℕ → List (Played B) → Type 0
+HavePlayed {B} notes s name end all = (k : ℕ) (one : Played B) → slice_get all k ≡ Some one → (a : ℕ) → a + k + 1 ≡ end → IsOver s name a one.passes (notes one.book)
 
 -- these are of the actors from `first` on and before `end`
 pub record IsGroup {X : Type 0} (Are : ℕ → List X → Type 0) (first end : ℕ) (xs : List X) : Type 0 where

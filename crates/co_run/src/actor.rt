@@ -7,7 +7,7 @@ ghost use Rattle.co_service.specs.Call.{noted, notes_in};
 ghost use Rattle.co_run.specs.Counted.{CanTell, HasTold};
 ghost use Rattle.co_run.specs.Noted.{gone_on, gone_on_with};
 
-use crate::Notebook;
+use crate::book::Book;
 use co_lock::Hold;
 use co_object::Note;
 use co_program::{Cursor, Script, advance};
@@ -15,7 +15,7 @@ use co_service::Passes;
 
 /// An actor: its place in its program, what it has seen of the service, what it holds and what it has noted.
 #[derive(Drop)]
-pub struct Actor<'a, B: Notebook> {
+pub struct Actor<'a, B: Book> {
     /// Its number: clients first, then CPUs, then in version 2 interrupts.
     pub number: u32,
     /// What it has seen of each callout and of each CPU.
@@ -31,7 +31,7 @@ pub struct Actor<'a, B: Notebook> {
 }
 
 /// Notes into the room of the book.
-fn put<B: Notebook>(book: &mut B, note: &Note)
+fn put<B: Book>(book: &mut B, note: &Note)
     requires { 1 ≤ B.spare book.old }
     ensures notes { B.notes book.new ≡ B.notes book.old ++ note.now ∷ [] }
     ensures spare { B.spare book.new + 1 ≡ B.spare book.old }
@@ -47,7 +47,7 @@ fn either(note: &Option<Note>, other: &Option<Note>) -> bool
 }
 
 /// Notes down one note of a section, and goes on in the program. `more` is whether another note of the section follows.
-pub(crate) fn tell<B: Notebook>(
+pub(crate) fn tell<B: Book>(
     script: &Script,
     cursor: &mut Cursor,
     book: &mut B,
@@ -66,7 +66,7 @@ pub(crate) fn tell<B: Notebook>(
 }
 
 /// Notes down one note of a section, if there is one.
-fn tell_some<B: Notebook>(
+fn tell_some<B: Book>(
     script: &Script,
     cursor: &mut Cursor,
     book: &mut B,
@@ -84,7 +84,7 @@ fn tell_some<B: Notebook>(
 }
 
 /// Notes down the notes of a section, and goes on in the program.
-pub(crate) fn tell_all<B: Notebook>(
+pub(crate) fn tell_all<B: Book>(
     script: &Script,
     cursor: &mut Cursor,
     book: &mut B,

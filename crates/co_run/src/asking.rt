@@ -10,8 +10,8 @@ ghost use Rattle.co_wheel.specs.Turns.{pop_of as lane_pop};
 ghost use Rattle.co_run.specs.Ready.{HasGoneOn, HasTried, IsDue};
 ghost use Rattle.co_run.specs.Roomy.{is_serving};
 
-use crate::Notebook;
 use crate::actor::Actor;
+use crate::book::Book;
 use crate::shared::Shared;
 use co_hand::Gate;
 use co_object::{CallOp, OwnKind, QOp, RunOp};
@@ -22,7 +22,7 @@ use std::sync::Wait;
 
 /// Makes room for `count` notes. Within a function there is room already, and none is asked for. After `NoMemory` the
 /// room is as before.
-fn make_room<B: Notebook>(stage: &Stage, book: &mut B, count: u32) -> Result<(), NoMemory>
+fn make_room<B: Book>(stage: &Stage, book: &mut B, count: u32) -> Result<(), NoMemory>
     ensures free { (s : Script) → is_serving (stage_of s stage.now) ≡ false → OnOk result (count ≤ B.spare book.new) }
     ensures serving { (s : Script) → is_serving (stage_of s stage.now) ≡ true → B.spare book.new ≡ B.spare book.old }
     ensures err { OnErr result (B.spare book.new ≡ B.spare book.old) }
@@ -36,7 +36,7 @@ fn make_room<B: Notebook>(stage: &Stage, book: &mut B, count: u32) -> Result<(),
     }
 }
 
-impl<'a, B: Notebook> Actor<'a, B> {
+impl<'a, B: Book> Actor<'a, B> {
     /// A note of its own, which is due in the program, with the room for it. After `NoMemory` nothing is noted.
     pub(crate) fn ask_itself<N: Name, G: Gate>(
         &mut self,

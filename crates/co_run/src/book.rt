@@ -1,7 +1,8 @@
 //! The notebooks of a run's actors.
-ghost use Rattle.std.specs.Prelude.{◌≡◌, ◌<◌, ◌≤◌, ◌+◌, ◌^◌, [], length};
+ghost use Rattle.std.specs.Prelude.{◌≡◌, ◌<◌, ◌≤◌, ◌+◌, ◌^◌, ◌++◌, ◌∷◌, [], OnOk, OnErr, length};
 
 use co_object::{AnyEntry, CallOp, Entry, Note, Op, PlainOp, QEntry, QOp, QReply, Reply, RunOp};
+use co_packed::PackedNote;
 use co_sbt::{NoMemory, Room, Seq};
 use std::alloc::Global;
 use std::marker::Model;
@@ -36,37 +37,81 @@ pub trait Notebook: Drop {
         ensures { result ≡ notes self };
 }
 
+/// What an actor needs of its book while it plays: a [`Notebook`] without its end.
+pub trait Book: Drop {
+    ghost use Rattle.std.specs.Prelude.{◌≡◌, ◌<◌, ◌≤◌, ◌+◌, ◌^◌, ◌++◌, ◌∷◌, [], ℕ, List, OnOk, OnErr, length};
+    ghost use Rattle.co_object.specs.declared.note.Note.{Note};
+
+    ghost notes: { Self → List Note };
+
+    ghost spare: { Self → ℕ };
+
+    /// As a notebook's.
+    fn reserve(&mut self, count: u32) -> Result<(), NoMemory>
+        ensures notes { notes self.new ≡ notes self.old }
+        ensures ok { OnOk result (count ≤ spare self.new) }
+        ensures few { OnOk result (length (notes self.new) + spare self.new < 2 ^ 56) }
+        ensures err { OnErr result (spare self.new ≡ spare self.old) };
+
+    /// As a notebook's.
+    fn push(&mut self, note: Note)
+        requires { 1 ≤ spare self.old }
+        ensures notes { notes self.new ≡ notes self.old ++ note ∷ [] }
+        ensures spare { spare self.new + 1 ≡ spare self.old };
+}
+
+impl<B: Notebook> Book for B {
+    ghost notes = { B.notes };
+
+    ghost spare = { B.spare };
+
+    fn reserve(&mut self, count: u32) -> Result<(), NoMemory> {
+        Notebook::reserve(self, count)
+    }
+
+    fn push(&mut self, note: Note) {
+        Notebook::push(self, note);
+    }
+}
+
 /// More notes than one list ever has room for.
 const MOST_NOTES: usize = 1 << 56;
 
-/// A notebook that takes its room from the allocator.
+/// A book that takes its room from the allocator, and keeps its notes as `T`.
 #[derive(Drop)]
-pub struct RoomBook {
-    notes: Room<Note>,
+pub struct KeptBook<T> {
+    notes: Room<T>,
     spare: u32,
     ghost roomy: { spare ≤ notes.spare },
     ghost few: { length notes.items + spare < 2 ^ 56 },
 }
 
-impl RoomBook {
+/// A notebook of plain notes.
+pub type RoomBook = KeptBook<Note>;
+
+/// A book of packed notes, which takes about half the memory.
+pub(crate) type PackedBook = KeptBook<PackedNote>;
+
+impl<T: Drop> KeptBook<T> {
     /// An empty one, which takes no memory.
-    pub fn new(alloc: Global) -> RoomBook
+    pub fn new(alloc: Global) -> KeptBook<T>
         ensures notes { result.notes.items ≡ [] }
         ensures spare { result.spare ≡ 0 }
     {
-        RoomBook {
+        KeptBook {
             notes: Room::from_seq(Seq::new(alloc)),
             spare: 0,
         }
     }
-}
 
-impl Notebook for RoomBook {
-    ghost notes = { λ b. b.notes.items };
-
-    ghost spare = { λ b. b.spare };
-
-    fn reserve(&mut self, count: u32) -> Result<(), NoMemory> {
+    /// Makes room for `count` notes more, fewer than 2^56 with those that are there. After `NoMemory` the room is as
+    /// before.
+    fn make_room(&mut self, count: u32) -> Result<(), NoMemory>
+        ensures notes { self.new.notes.items ≡ self.old.notes.items }
+        ensures ok { OnOk result (count ≤ self.new.spare) }
+        ensures few { length self.new.notes.items + self.new.spare < 2 ^ 56 }
+        ensures err { OnErr result (self.new.spare ≡ self.old.spare) }
+    {
         if self.spare >= count {
             return Ok(());
         }
@@ -78,18 +123,59 @@ impl Notebook for RoomBook {
         Ok(())
     }
 
+    /// Keeps a note, in the room.
+    fn keep(&mut self, note: T)
+        requires { 1 ≤ self.old.spare }
+        ensures notes { self.new.notes.items ≡ self.old.notes.items ++ note ∷ [] }
+        ensures spare { self.new.spare + 1 ≡ self.old.spare }
+    {
+        self.spare -= 1;
+        self.notes.push(note);
+    }
+
+    /// The notes as they are kept, in the order in which they were made.
+    pub(crate) fn into_kept(self) -> Seq<T>
+        ensures { result ≡ self.notes.items }
+    {
+        self.notes.into_seq()
+    }
+}
+
+impl Notebook for KeptBook<Note> {
+    ghost notes = { λ b. b.notes.items };
+
+    ghost spare = { λ b. b.spare };
+
+    fn reserve(&mut self, count: u32) -> Result<(), NoMemory> {
+        self.make_room(count)
+    }
+
     fn push(&mut self, note: Note) {
         // The check has to be told of all the types of a note's parts.
         let _call = Op::Call(CallOp::Plain(PlainOp::Stop));
         let _run = Op::Run(RunOp::Begin { n: 0, cpu: 0 });
         let _parts: (Option<Entry>, Option<QEntry>, Option<AnyEntry>) = (None, None, None);
         let _answers = (Reply::Busy, QOp::Pop, QReply::Empty);
-        self.spare -= 1;
-        self.notes.push(note);
+        self.keep(note);
     }
 
     fn into_notes(self) -> Seq<Note> {
-        self.notes.into_seq()
+        self.into_kept()
+    }
+}
+
+/// Its end takes memory, so it is no [`Notebook`].
+impl Book for KeptBook<PackedNote> {
+    ghost notes = { λ b. b.notes.items };
+
+    ghost spare = { λ b. b.spare };
+
+    fn reserve(&mut self, count: u32) -> Result<(), NoMemory> {
+        self.make_room(count)
+    }
+
+    fn push(&mut self, note: Note) {
+        self.keep(PackedNote::of(&note));
     }
 }
 
@@ -126,11 +212,11 @@ impl Notebook for ShortBook {
         if number == self.refused {
             return Err(NoMemory {});
         }
-        self.book.reserve(count)
+        Notebook::reserve(&mut self.book, count)
     }
 
     fn push(&mut self, note: Note) {
-        self.book.push(note);
+        Notebook::push(&mut self.book, note);
     }
 
     fn into_notes(self) -> Seq<Note> {

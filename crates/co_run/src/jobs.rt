@@ -7,11 +7,10 @@ ghost use Rattle.co_run.specs.Acting.{params_of};
 ghost use Rattle.co_run.specs.Jobs.{AreDealt, AreEmpty, AreLeft, IsDealt, IsJob};
 ghost use Rattle.co_run.specs.Over.{IsOver};
 
-use crate::Notebook;
 use crate::actor::Actor;
+use crate::book::Book;
 use crate::shared::Shared;
 use co_hand::Gate;
-use co_object::Note;
 use co_program::{Script, actor_count};
 use co_sbt::{NoMemory, Seq};
 use co_service::{Name, Passes};
@@ -20,14 +19,14 @@ use std::sync::Wait;
 
 /// What an actor begins with.
 #[derive(Drop)]
-pub(crate) struct Job<B: Notebook> {
+pub(crate) struct Job<B: Book> {
     pub(crate) passes: Passes,
     pub(crate) book: B,
 }
 
 /// The jobs of the actors from number `first` on and before number `end`, the last of which comes first.
 #[derive(Drop)]
-pub(crate) struct Group<B: Notebook> {
+pub(crate) struct Group<B: Book> {
     pub(crate) first: u32,
     pub(crate) end: u32,
     pub(crate) jobs: Vec<Job<B>>,
@@ -35,13 +34,13 @@ pub(crate) struct Group<B: Notebook> {
 
 /// What it brings back.
 #[derive(Drop)]
-pub(crate) struct Played {
+pub(crate) struct Played<B: Book> {
     pub(crate) passes: Passes,
-    pub(crate) notes: Seq<Note>,
+    pub(crate) book: B,
 }
 
 /// The job of the last actor that has none.
-fn leave_last<N: Name, B: Notebook>(
+fn leave_last<N: Name, B: Book>(
     script: &Script,
     passes: &mut Vec<Passes>,
     books: &mut Vec<B>,
@@ -60,7 +59,7 @@ fn leave_last<N: Name, B: Notebook>(
 }
 
 /// The jobs of `count` actors, the last ones that have none. `NoMemory` where there is no room for them.
-fn deal<N: Name, B: Notebook>(
+fn deal<N: Name, B: Book>(
     alloc: Global,
     script: &Script,
     passes: &mut Vec<Passes>,
@@ -96,7 +95,7 @@ pub(crate) struct Crew<T> {
 
 /// The jobs of all actors.
 #[tactic(auto, using(crate::proofs::groups::Deals::booted_first, crate::proofs::groups::Deals::booted_count, crate::proofs::groups::Deals::most_named, crate::proofs::merged::RunOfScript::most_actors))]
-pub(crate) fn deal_all<N: Name, B: Notebook>(
+pub(crate) fn deal_all<N: Name, B: Book>(
     alloc: Global,
     script: &Script,
     passes: Seq<Passes>,
@@ -123,21 +122,18 @@ pub(crate) fn deal_all<N: Name, B: Notebook>(
 }
 
 /// Plays the whole program of the actor of this number.
-pub(crate) fn play_job<B: Notebook, N: Name, G: Gate, R: Wait + Sync>(
+pub(crate) fn play_job<B: Book, N: Name, G: Gate, R: Wait + Sync>(
     rt: &R,
     shared: &Shared<'_, N, G>,
     number: u32,
     job: Job<B>,
-) -> Result<Played, NoMemory>
+) -> Result<Played<B>, NoMemory>
     requires job { IsJob shared.now.script.now N.name number job.passes (B.notes job.book) (B.spare job.book) }
-    ensures { IfOk result (λ played. IsOver shared.now.script.now N.name number played.passes played.notes) }
+    ensures { IfOk result (λ played. IsOver shared.now.script.now N.name number played.passes (B.notes played.book)) }
 {
     let Job { passes, book } = job;
     let mut actor = Actor::begins(shared, number, passes, book);
     actor.play(rt, shared)?;
     let Actor { passes, book, .. } = actor;
-    Ok(Played {
-        passes,
-        notes: book.into_notes(),
-    })
+    Ok(Played { passes, book })
 }

@@ -7,7 +7,7 @@ ghost use Rattle.co_run.specs.Jobs.{AreJobs, HasJobs, HavePlayed, IsGroup, IsJob
 ghost use Rattle.co_run.specs.Over.{IsOver};
 ghost use denote.Param.Send.{IsSend, IsSync};
 
-use crate::Notebook;
+use crate::book::Book;
 use crate::jobs::{Crew, Group, Job, Played, play_job};
 use crate::shared::Shared;
 use co_hand::Gate;
@@ -19,7 +19,7 @@ use std::sync::Wait;
 use std::thread::{Threads, join};
 
 /// The job of the first of these actors. The others' stay.
-fn leave_first<N: Name, B: Notebook>(
+fn leave_first<N: Name, B: Book>(
     script: &Script,
     jobs: &mut Vec<Job<B>>,
     first: u32,
@@ -37,16 +37,16 @@ fn leave_first<N: Name, B: Notebook>(
 }
 
 /// One more actor has played its program, before these.
-fn add<N: Name>(
+fn add<N: Name, B: Book>(
     script: &Script,
-    all: &mut Seq<Played>,
-    one: Played,
+    all: &mut Seq<Played<B>>,
+    one: Played<B>,
     number: u32,
     end: u32,
 ) -> Result<(), NoMemory>
-    requires played { IsGroup (HavePlayed script.now N.name) (number + 1) end all.old }
-    requires over { IsOver script.now N.name number one.passes one.notes }
-    ensures { OnOk result (IsGroup (HavePlayed script.now N.name) number end all.new) }
+    requires played { IsGroup (HavePlayed B.notes script.now N.name) (number + 1) end all.old }
+    requires over { IsOver script.now N.name number one.passes (B.notes one.book) }
+    ensures { OnOk result (IsGroup (HavePlayed B.notes script.now N.name) number end all.new) }
 {
     let _ = (number, end);
     let _ = script;
@@ -55,14 +55,14 @@ fn add<N: Name>(
 
 /// Plays all of these jobs at once, each in a thread of its own. What they bring back stands in their order: the first
 /// comes last.
-fn play_group<B: Notebook + Send, N: Name + Send + Sync, G: Gate + Sync, R: Threads + Wait + Sync>(
+fn play_group<B: Book + Send, N: Name + Send + Sync, G: Gate + Sync, R: Threads + Wait + Sync>(
     rt: &R,
     alloc: Global,
     shared: &Shared<'_, N, G>,
     group: Group<B>,
-) -> Result<Seq<Played>, NoMemory>
+) -> Result<Seq<Played<B>>, NoMemory>
     requires group { HasJobs B.notes B.spare shared.now.script.now N.name group }
-    ensures { IfOk result (IsGroup (HavePlayed shared.now.script.now N.name) group.first group.end) }
+    ensures { IfOk result (IsGroup (HavePlayed B.notes shared.now.script.now N.name) group.first group.end) }
 {
     let Group {
         first,
@@ -80,42 +80,42 @@ fn play_group<B: Notebook + Send, N: Name + Send + Sync, G: Gate + Sync, R: Thre
     };
     let (rest, one) = join(
         rt,
-        || -> Result<Seq<Played>, NoMemory>
+        || -> Result<Seq<Played<B>>, NoMemory>
             requires { IsSync R.row × IsSync G.row × IsSend B.row × HasJobs B.notes B.spare shared.now.script.now N.name later }
-            ensures { IfOk result (IsGroup (HavePlayed shared.entry.now.script.now N.name) later.first later.end) }
+            ensures { IfOk result (IsGroup (HavePlayed B.notes shared.entry.now.script.now N.name) later.first later.end) }
         { play_group(rt, alloc, shared, later) },
-        || -> Result<Played, NoMemory>
+        || -> Result<Played<B>, NoMemory>
             requires { IsSync R.row × IsSync G.row × IsSend B.row × IsJob shared.now.script.now N.name first job.passes (B.notes job.book) (B.spare job.book) }
-            ensures { IfOk result (λ played. IsOver shared.entry.now.script.now N.name first played.passes played.notes) }
+            ensures { IfOk result (λ played. IsOver shared.entry.now.script.now N.name first played.passes (B.notes played.book)) }
         { play_job(rt, shared, first, job) },
     );
     let mut all = rest?;
-    add::<N>(shared.script, &mut all, one?, first, end)?;
+    add::<N, B>(shared.script, &mut all, one?, first, end)?;
     Ok(all)
 }
 
 /// Plays the programs of all interrupts and of all CPUs at once. The interrupts begin first.
-fn play_cpus<B: Notebook + Send, N: Name + Send + Sync, G: Gate + Sync, R: Threads + Wait + Sync>(
+fn play_cpus<B: Book + Send, N: Name + Send + Sync, G: Gate + Sync, R: Threads + Wait + Sync>(
     rt: &R,
     alloc: Global,
     shared: &Shared<'_, N, G>,
     cpus: Group<B>,
     interrupts: Group<B>,
-) -> Result<(Seq<Played>, Seq<Played>), NoMemory>
+) -> Result<(Seq<Played<B>>, Seq<Played<B>>), NoMemory>
     requires cpus { HasJobs B.notes B.spare shared.now.script.now N.name cpus }
     requires interrupts { HasJobs B.notes B.spare shared.now.script.now N.name interrupts }
-    ensures cpus { IfOk result (λ all. IsGroup (HavePlayed shared.now.script.now N.name) cpus.first cpus.end all.0) }
-    ensures interrupts { IfOk result (λ all. IsGroup (HavePlayed shared.now.script.now N.name) interrupts.first interrupts.end all.1) }
+    ensures cpus { IfOk result (λ all. IsGroup (HavePlayed B.notes shared.now.script.now N.name) cpus.first cpus.end all.0) }
+    ensures interrupts { IfOk result (λ all. IsGroup (HavePlayed B.notes shared.now.script.now N.name) interrupts.first interrupts.end all.1) }
 {
     let (second, first) = join(
         rt,
-        || -> Result<Seq<Played>, NoMemory>
+        || -> Result<Seq<Played<B>>, NoMemory>
             requires { IsSync R.row × IsSync G.row × IsSend B.row × HasJobs B.notes B.spare shared.now.script.now N.name cpus }
-            ensures { IfOk result (IsGroup (HavePlayed shared.entry.now.script.now N.name) cpus.first cpus.end) }
+            ensures { IfOk result (IsGroup (HavePlayed B.notes shared.entry.now.script.now N.name) cpus.first cpus.end) }
         { play_group(rt, alloc, shared, cpus) },
-        || -> Result<Seq<Played>, NoMemory>
+        || -> Result<Seq<Played<B>>, NoMemory>
             requires { IsSync R.row × IsSync G.row × IsSend B.row × HasJobs B.notes B.spare shared.now.script.now N.name interrupts }
-            ensures { IfOk result (IsGroup (HavePlayed shared.entry.now.script.now N.name) interrupts.first interrupts.end) }
+            ensures { IfOk result (IsGroup (HavePlayed B.notes shared.entry.now.script.now N.name) interrupts.first interrupts.end) }
         { play_group(rt, alloc, shared, interrupts) },
     );
     Ok((second?, first?))
@@ -123,7 +123,7 @@ fn play_cpus<B: Notebook + Send, N: Name + Send + Sync, G: Gate + Sync, R: Threa
 
 /// Plays the programs of all actors at once. The clients begin first.
 pub(crate) fn play_all<
-    B: Notebook + Send,
+    B: Book + Send,
     N: Name + Send + Sync,
     G: Gate + Sync,
     R: Threads + Wait + Sync,
@@ -134,24 +134,24 @@ pub(crate) fn play_all<
     clients: Group<B>,
     cpus: Group<B>,
     interrupts: Group<B>,
-) -> Result<Crew<Seq<Played>>, NoMemory>
+) -> Result<Crew<Seq<Played<B>>>, NoMemory>
     requires clients { HasJobs B.notes B.spare shared.now.script.now N.name clients }
     requires cpus { HasJobs B.notes B.spare shared.now.script.now N.name cpus }
     requires interrupts { HasJobs B.notes B.spare shared.now.script.now N.name interrupts }
-    ensures clients { IfOk result (λ all. IsGroup (HavePlayed shared.now.script.now N.name) clients.first clients.end all.clients) }
-    ensures cpus { IfOk result (λ all. IsGroup (HavePlayed shared.now.script.now N.name) cpus.first cpus.end all.cpus) }
-    ensures interrupts { IfOk result (λ all. IsGroup (HavePlayed shared.now.script.now N.name) interrupts.first interrupts.end all.interrupts) }
+    ensures clients { IfOk result (λ all. IsGroup (HavePlayed B.notes shared.now.script.now N.name) clients.first clients.end all.clients) }
+    ensures cpus { IfOk result (λ all. IsGroup (HavePlayed B.notes shared.now.script.now N.name) cpus.first cpus.end all.cpus) }
+    ensures interrupts { IfOk result (λ all. IsGroup (HavePlayed B.notes shared.now.script.now N.name) interrupts.first interrupts.end all.interrupts) }
 {
     let (others, first) = join(
         rt,
-        || -> Result<(Seq<Played>, Seq<Played>), NoMemory>
+        || -> Result<(Seq<Played<B>>, Seq<Played<B>>), NoMemory>
             requires { IsSync R.row × IsSync G.row × IsSend B.row × HasJobs B.notes B.spare shared.now.script.now N.name cpus × HasJobs B.notes B.spare shared.now.script.now N.name interrupts }
-            ensures cpus { IfOk result (λ all. IsGroup (HavePlayed shared.entry.now.script.now N.name) cpus.first cpus.end all.0) }
-            ensures interrupts { IfOk result (λ all. IsGroup (HavePlayed shared.entry.now.script.now N.name) interrupts.first interrupts.end all.1) }
+            ensures cpus { IfOk result (λ all. IsGroup (HavePlayed B.notes shared.entry.now.script.now N.name) cpus.first cpus.end all.0) }
+            ensures interrupts { IfOk result (λ all. IsGroup (HavePlayed B.notes shared.entry.now.script.now N.name) interrupts.first interrupts.end all.1) }
         { play_cpus(rt, alloc, shared, cpus, interrupts) },
-        || -> Result<Seq<Played>, NoMemory>
+        || -> Result<Seq<Played<B>>, NoMemory>
             requires { IsSync R.row × IsSync G.row × IsSend B.row × HasJobs B.notes B.spare shared.now.script.now N.name clients }
-            ensures { IfOk result (IsGroup (HavePlayed shared.entry.now.script.now N.name) clients.first clients.end) }
+            ensures { IfOk result (IsGroup (HavePlayed B.notes shared.entry.now.script.now N.name) clients.first clients.end) }
         { play_group(rt, alloc, shared, clients) },
     );
     let clients = first?;

@@ -20,7 +20,7 @@ mod services;
 mod shared;
 mod stepping;
 
-pub use book::{Notebook, RoomBook, ShortBook};
+pub use book::{KeptBook, Notebook, RoomBook, ShortBook};
 pub use laws::fitting_scripts_can_run;
 pub use port::{PortOrigin, ServicePort};
-pub use runs::{Ran, run_books, run_on, run_threads};
+pub use runs::{PackedRan, Ran, run_books, run_on, run_packed, run_threads};

@@ -3,8 +3,8 @@ ghost use Rattle.std.specs.Prelude.{◌≡◌};
 ghost use Rattle.co_run.specs.Jobs.{IsJob};
 ghost use Rattle.co_run.specs.Ready.{HasPlayed, HasPlayedOn, IsReady};
 
-use crate::Notebook;
 use crate::actor::Actor;
+use crate::book::Book;
 use crate::shared::Shared;
 use co_hand::Gate;
 use co_program::Cursor;
@@ -12,7 +12,7 @@ use co_sbt::NoMemory;
 use co_service::{Name, Passes};
 use std::sync::Wait;
 
-impl<'a, B: Notebook> Actor<'a, B> {
+impl<'a, B: Book> Actor<'a, B> {
     /// An actor before its first act. Its passes have seen nothing, and its book is empty.
     pub(crate) fn begins<N: Name, G: Gate>(
         shared: &Shared<'_, N, G>,

@@ -15,8 +15,8 @@ ghost use Rattle.co_world.proofs.kept.Invariant.{under_way};
 ghost use Rattle.co_run.specs.Acting.{HasAllScans, HasScanned, Serves};
 ghost use Rattle.co_run.specs.Ready.{HasLeft, IsAtRest};
 
-use crate::Notebook;
 use crate::actor::Actor;
+use crate::book::Book;
 use crate::shared::Shared;
 use co_hand::Gate;
 use co_program::{Act, Cursor, Role, Stage, role_of};
@@ -95,7 +95,7 @@ fn scan_rest<N: Name, G: Gate, R: Wait>(
     scan_all(rt, shared.service, passes, cpu, cursor.act, left);
 }
 
-impl<'a, B: Notebook> Actor<'a, B> {
+impl<'a, B: Book> Actor<'a, B> {
     /// Leaves its program between two services: it lets go of its lock, has nothing in service, and as an interrupt makes the
     /// Scans that its CPU still waits for.
     pub(crate) fn leave<N: Name, G: Gate, R: Wait>(&mut self, rt: &R, shared: &Shared<'_, N, G>)

@@ -1,23 +1,24 @@
 //! A script's run on threads.
-ghost use Rattle.std.specs.Prelude.{◌≡◌, ◌+◌, ◌<◌, IfOk, OnOk, length};
+ghost use Rattle.std.specs.Prelude.{◌≡◌, ◌+◌, ◌<◌, IfOk, OnOk, map, length};
 ghost use Rattle.co_program.specs.Actors.{actor_count};
 ghost use Rattle.co_program.specs.Scripts.{IsScript};
 ghost use Rattle.co_service.specs.Booted.{AreBooted};
 ghost use Rattle.co_service.specs.Fresh.{AreNamed};
 ghost use Rattle.co_service.specs.Params.{AreParams};
 ghost use Rattle.co_run.specs.Acting.{HasLocks, params_of};
-ghost use Rattle.co_run.specs.Jobs.{AreEmpty, CanRun, HavePlayed, IsCrew, IsGroup};
+ghost use Rattle.co_run.specs.Jobs.{AreBlank, AreEmpty, CanRun, HavePlayed, IsCrew, IsGroup};
 ghost use Rattle.co_run.specs.Over.{AreOver, IsOver};
 ghost use Rattle.co_run.specs.Ran.{IsRan};
 
+use crate::book::{Book, KeptBook, Notebook, PackedBook};
 use crate::jobs::{Crew, Played, deal_all};
 use crate::joins::play_all;
 use crate::longest::longest_of;
 use crate::shared::Shared;
-use crate::{Notebook, RoomBook};
 use co_hand::Gate;
 use co_lock::ClientLocks;
 use co_object::{Lists, Note};
+use co_packed::PackedNote;
 use co_program::{Script, actor_count};
 use co_sbt::{NoMemory, Seq};
 use co_service::{Closing, Fresh, Name, Passes, Service};
@@ -35,32 +36,57 @@ pub struct Ran {
     pub closing: Closing,
 }
 
-/// What all actors bring back: their passes, and the notes of each.
+/// What a run on threads brings back, with packed notes.
 #[derive(Drop)]
-struct Brought {
+pub struct PackedRan {
+    /// The notes of each actor, in the order of the actors' numbers.
+    pub lists: Seq<Seq<PackedNote>>,
+    /// What is left of the service: its name, and the history of each callout and each CPU.
+    pub closing: Closing,
+}
+
+/// What all actors bring back: their passes, and the book of each.
+#[derive(Drop)]
+struct Brought<B: Book> {
     passes: Seq<Passes>,
-    lists: Lists,
+    books: Seq<B>,
+}
+
+/// The books of all actors, and what is left of the service.
+#[derive(Drop)]
+struct Left<B: Book> {
+    books: Seq<B>,
+    closing: Closing,
 }
 
 /// What the next actor brings back goes to the others'.
-fn add<N: Name>(script: &Script, all: &mut Brought, one: Played) -> Result<(), NoMemory>
-    requires over { AreOver script.now N.name 0 all.old.passes all.old.lists }
-    requires one { IsOver script.now N.name (length all.old.lists) one.passes one.notes }
-    ensures over { OnOk result (AreOver script.now N.name 0 all.new.passes all.new.lists) }
-    ensures count { OnOk result (length all.new.lists ≡ length all.old.lists + 1) }
+fn add<N: Name, B: Book>(
+    script: &Script,
+    all: &mut Brought<B>,
+    one: Played<B>,
+) -> Result<(), NoMemory>
+    requires over { AreOver script.now N.name 0 all.old.passes (map B.notes all.old.books) }
+    requires one { IsOver script.now N.name (length all.old.books) one.passes (B.notes one.book) }
+    ensures over { OnOk result (AreOver script.now N.name 0 all.new.passes (map B.notes all.new.books)) }
+    ensures count { OnOk result (length all.new.books ≡ length all.old.books + 1) }
 {
     let _ = script;
-    let Played { passes, notes } = one;
+    let Played { passes, book } = one;
     all.passes.push(passes)?;
-    all.lists.push(notes)
+    all.books.push(book)
 }
 
 /// What the next actor brings back, which stands last. The others' stays.
-fn leave_next<N: Name>(script: &Script, group: &mut Vec<Played>, next: usize, end: u32) -> Played
+fn leave_next<N: Name, B: Book>(
+    script: &Script,
+    group: &mut Vec<Played<B>>,
+    next: usize,
+    end: u32,
+) -> Played<B>
     requires some { next < end }
-    requires group { IsGroup (HavePlayed script.now N.name) next end group.old.items }
-    ensures rest { IsGroup (HavePlayed script.now N.name) (next + 1) end group.new.items }
-    ensures one { IsOver script.now N.name next result.passes result.notes }
+    requires group { IsGroup (HavePlayed B.notes script.now N.name) next end group.old.items }
+    ensures rest { IsGroup (HavePlayed B.notes script.now N.name) (next + 1) end group.new.items }
+    ensures one { IsOver script.now N.name next result.passes (B.notes result.book) }
 {
     let _ = script;
     let _ = (next, end);
@@ -68,66 +94,71 @@ fn leave_next<N: Name>(script: &Script, group: &mut Vec<Played>, next: usize, en
 }
 
 /// What the next actors bring back, the first of whom stands last, goes to the others'.
-fn add_group<N: Name>(
+fn add_group<N: Name, B: Book>(
     script: &Script,
-    all: &mut Brought,
-    group: Seq<Played>,
+    all: &mut Brought<B>,
+    group: Seq<Played<B>>,
     end: u32,
 ) -> Result<(), NoMemory>
-    requires over { AreOver script.now N.name 0 all.old.passes all.old.lists }
-    requires group { IsGroup (HavePlayed script.now N.name) (length all.old.lists) end group }
-    ensures over { OnOk result (AreOver script.now N.name 0 all.new.passes all.new.lists) }
-    ensures count { OnOk result (length all.new.lists ≡ end) }
+    requires over { AreOver script.now N.name 0 all.old.passes (map B.notes all.old.books) }
+    requires group { IsGroup (HavePlayed B.notes script.now N.name) (length all.old.books) end group }
+    ensures over { OnOk result (AreOver script.now N.name 0 all.new.passes (map B.notes all.new.books)) }
+    ensures count { OnOk result (length all.new.books ≡ end) }
 {
     let mut group = group.into_vec();
-    for next in all.lists.as_slice().len()..end as usize {
-        let one = leave_next::<N>(script, &mut group, next, end);
-        add::<N>(script, all, one)?;
+    for next in all.books.as_slice().len()..end as usize {
+        let one = leave_next::<N, B>(script, &mut group, next, end);
+        add::<N, B>(script, all, one)?;
     }
     Ok(())
 }
 
 /// The notes of all actors in the order of their numbers, and their passes.
-fn add_crew<N: Name>(
+fn add_crew<N: Name, B: Book>(
     alloc: Global,
     script: &Script,
-    crew: Crew<Seq<Played>>,
-) -> Result<Brought, NoMemory>
+    crew: Crew<Seq<Played<B>>>,
+) -> Result<Brought<B>, NoMemory>
     requires script { IsScript script.now }
-    requires crew { IsCrew script.now (HavePlayed script.now N.name) crew.clients crew.cpus crew.interrupts }
-    ensures over { IfOk result (λ all. AreOver script.now N.name 0 all.passes all.lists) }
-    ensures count { IfOk result (λ all. length all.lists ≡ actor_count script.now) }
+    requires crew { IsCrew script.now (HavePlayed B.notes script.now N.name) crew.clients crew.cpus crew.interrupts }
+    ensures over { IfOk result (λ all. AreOver script.now N.name 0 all.passes (map B.notes all.books)) }
+    ensures count { IfOk result (λ all. length all.books ≡ actor_count script.now) }
 {
     let clients = script.clients.as_slice().len() as u32;
     let mut all = Brought {
         passes: Seq::new(alloc),
-        lists: Seq::new(alloc),
+        books: Seq::new(alloc),
     };
-    add_group::<N>(script, &mut all, crew.clients, clients)?;
-    add_group::<N>(script, &mut all, crew.cpus, clients + script.cpus)?;
-    add_group::<N>(script, &mut all, crew.interrupts, actor_count(script))?;
+    add_group::<N, B>(script, &mut all, crew.clients, clients)?;
+    add_group::<N, B>(script, &mut all, crew.cpus, clients + script.cpus)?;
+    add_group::<N, B>(script, &mut all, crew.interrupts, actor_count(script))?;
     Ok(all)
 }
 
 /// Ends the service once all programs are over.
-fn finish<N: Name, R: Wait>(rt: &R, script: &Script, service: Service<N>, all: Brought) -> Ran
+fn finish<N: Name, B: Book, R: Wait>(
+    rt: &R,
+    script: &Script,
+    service: Service<N>,
+    all: Brought<B>,
+) -> Left<B>
     requires script { IsScript script.now }
     requires service { service ≡ params_of script.now }
-    requires over { AreOver script.now N.name 0 all.passes all.lists }
-    requires count { length all.lists ≡ actor_count script.now }
+    requires over { AreOver script.now N.name 0 all.passes (map B.notes all.books) }
+    requires count { length all.books ≡ actor_count script.now }
     ensures name { result.closing.name ≡ N.name }
-    ensures run { IsRan script.now result }
+    ensures run { IsRan script.now (record { lists = map B.notes result.books; closing = result.closing }) }
 {
     let _ = script;
-    let Brought { passes, lists } = all;
-    Ran {
-        lists,
+    let Brought { passes, books } = all;
+    Left {
+        books,
         closing: service.close(rt, passes),
     }
 }
 
 /// Plays the programs of all actors over an open service, each in a branch of nested joins.
-fn play_books<N: Name + Send + Sync, G: Gate + Sync, B: Notebook + Send, R: Threads + Wait + Sync>(
+fn play_books<N: Name + Send + Sync, G: Gate + Sync, B: Book + Send, R: Threads + Wait + Sync>(
     rt: &R,
     alloc: Global,
     script: &Script,
@@ -135,13 +166,13 @@ fn play_books<N: Name + Send + Sync, G: Gate + Sync, B: Notebook + Send, R: Thre
     service: &Service<N>,
     passes: Seq<Passes>,
     books: Seq<B>,
-) -> Result<Brought, NoMemory>
+) -> Result<Brought<B>, NoMemory>
     requires can { CanRun script.now N.name service.now }
     requires passes { AreBooted N.name (params_of script.now) passes }
     requires books { length books ≡ actor_count script.now }
     requires empty { AreEmpty B.notes B.spare books }
-    ensures over { IfOk result (λ all. AreOver script.now N.name 0 all.passes all.lists) }
-    ensures count { IfOk result (λ all. length all.lists ≡ actor_count script.now) }
+    ensures over { IfOk result (λ all. AreOver script.now N.name 0 all.passes (map B.notes all.books)) }
+    ensures count { IfOk result (λ all. length all.books ≡ actor_count script.now) }
 {
     let locks = ClientLocks::new(alloc, script.locks.as_slice())?;
     let Crew {
@@ -157,7 +188,64 @@ fn play_books<N: Name + Send + Sync, G: Gate + Sync, B: Notebook + Send, R: Thre
         longest: longest_of(script),
     };
     let crew = play_all(rt, alloc, &shared, clients, cpus, interrupts)?;
-    add_crew::<N>(alloc, script, crew)
+    add_crew::<N, B>(alloc, script, crew)
+}
+
+/// Runs a script on threads over an open service, and ends the service. Each actor notes into one of the books.
+fn run_open<N: Name + Send + Sync, G: Gate + Sync, B: Book + Send, R: Threads + Wait + Sync>(
+    rt: &R,
+    alloc: Global,
+    script: &Script,
+    gate: &G,
+    service: Service<N>,
+    passes: Seq<Passes>,
+    books: Seq<B>,
+) -> Result<Left<B>, NoMemory>
+    requires can { CanRun script.now N.name service }
+    requires passes { AreBooted N.name (params_of script.now) passes }
+    requires books { length books ≡ actor_count script.now }
+    requires empty { AreEmpty B.notes B.spare books }
+    ensures name { IfOk result (λ left. left.closing.name ≡ N.name) }
+    ensures run { IfOk result (λ left. IsRan script.now (record { lists = map B.notes left.books; closing = left.closing })) }
+{
+    let all = play_books(rt, alloc, script, gate, &service, passes, books)?;
+    Ok(finish(rt, script, service, all))
+}
+
+/// The notes of each book.
+fn lists_of<B: Notebook>(alloc: Global, books: Seq<B>) -> Result<Lists, NoMemory>
+    ensures { IfOk result (λ lists. lists ≡ map B.notes books) }
+{
+    let mut lists = Seq::new(alloc);
+    for book in books.into_vec() {
+        lists.push(book.into_notes())?;
+    }
+    Ok(lists)
+}
+
+/// The packed notes of each book.
+fn packed_lists(alloc: Global, books: Seq<PackedBook>) -> Result<Seq<Seq<PackedNote>>, NoMemory>
+    ensures { IfOk result (λ lists. lists ≡ map (λ b. b.notes.items) books) }
+{
+    let mut lists = Seq::new(alloc);
+    for book in books.into_vec() {
+        lists.push(book.into_kept())?;
+    }
+    Ok(lists)
+}
+
+/// What a run brings back, from the books of its actors.
+fn told<B: Notebook>(alloc: Global, script: &Script, left: Left<B>) -> Result<Ran, NoMemory>
+    requires { IsRan script.now (record { lists = map B.notes left.books; closing = left.closing }) }
+    ensures name { IfOk result (λ ran. ran.closing.name ≡ left.closing.name) }
+    ensures run { IfOk result (IsRan script.now) }
+{
+    let _ = script;
+    let Left { books, closing } = left;
+    Ok(Ran {
+        lists: lists_of(alloc, books)?,
+        closing,
+    })
 }
 
 /// Runs a script on threads over an open service, each actor in a branch of nested joins, and ends the service. Each actor
@@ -193,20 +281,20 @@ pub fn run_books<
     ensures name { IfOk result (λ ran. ran.closing.name ≡ N.name) }
     ensures run { IfOk result (IsRan script.now) }
 {
-    let all = play_books(rt, alloc, script, gate, &service, passes, books)?;
-    Ok(finish(rt, script, service, all))
+    let left = run_open(rt, alloc, script, gate, service, passes, books)?;
+    told(alloc, script, left)
 }
 
 /// An empty book for each actor.
-fn empty_books(alloc: Global, script: &Script) -> Result<Seq<RoomBook>, NoMemory>
+fn empty_books<T: Drop>(alloc: Global, script: &Script) -> Result<Seq<KeptBook<T>>, NoMemory>
     requires { IsScript script.now }
     ensures count { IfOk result (λ books. length books ≡ actor_count script.now) }
-    ensures empty { IfOk result (λ books. AreEmpty (λ b. b.notes.items) (λ b. b.spare) books) }
+    ensures blank { IfOk result AreBlank }
 {
     let mut books = Seq::new(alloc);
     for made in 0..actor_count(script) {
         let _ = made;
-        books.push(RoomBook::new(alloc))?;
+        books.push(KeptBook::new(alloc))?;
     }
     Ok(books)
 }
@@ -229,26 +317,57 @@ pub fn run_on<N: Name + Send + Sync, G: Gate + Sync, R: Threads + Wait + Sync>(
     ensures name { IfOk result (λ ran. ran.closing.name ≡ N.name) }
     ensures run { IfOk result (IsRan script.now) }
 {
-    let books = empty_books(alloc, script)?;
+    let books = empty_books::<Note>(alloc, script)?;
     run_books(rt, alloc, script, gate, service, passes, books)
 }
 
-/// Opens a service, and runs the script on it.
-fn run_fresh<N: Name + Send + Sync, G: Gate + Sync, R: Threads + Wait + Sync>(
+/// Opens a service, and runs the script on it with these books.
+fn run_fresh<N: Name + Send + Sync, G: Gate + Sync, B: Book + Send, R: Threads + Wait + Sync>(
     rt: &R,
     alloc: Global,
     script: &Script,
     gate: &G,
     fresh: Fresh,
     passes: Seq<Passes>,
-) -> Result<Ran, NoMemory>
+    books: Seq<B>,
+) -> Result<Left<B>, NoMemory>
     requires can { CanRun script.now N.name fresh.params }
     requires name { fresh.name ≡ N.name }
     requires passes { AreBooted fresh.name fresh.params passes }
-    ensures { IfOk result (IsRan script.now) }
+    requires books { length books ≡ actor_count script.now }
+    requires empty { AreEmpty B.notes B.spare books }
+    ensures { IfOk result (λ left. IsRan script.now (record { lists = map B.notes left.books; closing = left.closing })) }
 {
     let service = Service::<N>::open(alloc, fresh)?;
-    run_on(rt, alloc, script, gate, service, passes)
+    run_open(rt, alloc, script, gate, service, passes, books)
+}
+
+/// Boots a service by the script's version, CPUs, buckets, number of clients and callouts, and runs the script on it with
+/// these books.
+fn run_booted<G: Gate + Sync, B: Book + Send, R: Threads + Wait + Sync>(
+    rt: &R,
+    alloc: Global,
+    script: &Script,
+    gate: &G,
+    books: Seq<B>,
+) -> Result<Left<B>, NoMemory>
+    requires script { IsScript script.now }
+    requires locks { HasLocks script.now }
+    requires params { AreParams (params_of script.now) }
+    requires books { length books ≡ actor_count script.now }
+    requires empty { AreEmpty B.notes B.spare books }
+    ensures { IfOk result (λ left. IsRan script.now (record { lists = map B.notes left.books; closing = left.closing })) }
+{
+    let clients = script.clients.as_slice().len() as u32;
+    let (fresh, passes) = Fresh::boot(
+        alloc,
+        script.version,
+        script.cpus,
+        script.buckets,
+        clients,
+        script.timers.as_slice(),
+    )?;
+    run_fresh::<Brand, G, B, R>(rt, alloc, script, gate, fresh, passes, books)
 }
 
 /// Runs a script on threads over a service of its own, which is booted by the script's version, CPUs, buckets, number of
@@ -264,14 +383,27 @@ pub fn run_threads<G: Gate + Sync, R: Threads + Wait + Sync>(
     requires params { AreParams (params_of script.now) }
     ensures { IfOk result (IsRan script.now) }
 {
-    let clients = script.clients.as_slice().len() as u32;
-    let (fresh, passes) = Fresh::boot(
-        alloc,
-        script.version,
-        script.cpus,
-        script.buckets,
-        clients,
-        script.timers.as_slice(),
-    )?;
-    run_fresh::<Brand, G, R>(rt, alloc, script, gate, fresh, passes)
+    let books = empty_books::<Note>(alloc, script)?;
+    let left = run_booted(rt, alloc, script, gate, books)?;
+    told(alloc, script, left)
+}
+
+/// As [`run_threads`], with packed notes, which take about half the memory.
+pub fn run_packed<G: Gate + Sync, R: Threads + Wait + Sync>(
+    rt: &R,
+    alloc: Global,
+    script: &Script,
+    gate: &G,
+) -> Result<PackedRan, NoMemory>
+    requires script { IsScript script.now }
+    requires locks { HasLocks script.now }
+    requires params { AreParams (params_of script.now) }
+    ensures { IfOk result (λ ran. IsRan script.now (record { lists = ran.lists; closing = ran.closing })) }
+{
+    let books = empty_books::<PackedNote>(alloc, script)?;
+    let Left { books, closing } = run_booted(rt, alloc, script, gate, books)?;
+    Ok(PackedRan {
+        lists: packed_lists(alloc, books)?,
+        closing,
+    })
 }

@@ -8,14 +8,14 @@ ghost use Rattle.co_program.specs.Action.{Asks};
 ghost use Rattle.co_program.specs.declared.Asked.TheVariants.{Callout};
 ghost use Rattle.co_run.specs.Ready.{HasGoneOn, IsDue};
 
-use crate::Notebook;
 use crate::actor::{Actor, tell_all};
+use crate::book::Book;
 use crate::shared::Shared;
 use co_hand::Gate;
 use co_service::{Finished, Name};
 use std::sync::Wait;
 
-impl<'a, B: Notebook> Actor<'a, B> {
+impl<'a, B: Book> Actor<'a, B> {
     /// The function of the callout in service is to run, or is skipped; that is due in the program.
     pub(crate) fn begin<N: Name, G: Gate, R: Wait>(
         &mut self,

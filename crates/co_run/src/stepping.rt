@@ -2,8 +2,8 @@
 ghost use Rattle.co_program.specs.Action.{Asks};
 ghost use Rattle.co_run.specs.Ready.{HasStepped, HasTried, IsDue, IsReady};
 
-use crate::Notebook;
 use crate::actor::Actor;
+use crate::book::Book;
 use crate::shared::Shared;
 use co_hand::Gate;
 use co_object::Op;
@@ -23,7 +23,7 @@ fn stand<G: Gate>(gate: &G, actor: u32, cursor: &Cursor, next: &Action) {
     }
 }
 
-impl<'a, B: Notebook> Actor<'a, B> {
+impl<'a, B: Book> Actor<'a, B> {
     /// What the actor asks next, with the room for its notes. After `NoMemory` nothing is asked.
     fn ask<N: Name, G: Gate, R: Wait>(
         &mut self,

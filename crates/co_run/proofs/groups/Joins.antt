@@ -1,5 +1,6 @@
 -- The jobs of a group of actors, and what they bring back: the first stands last.
-use Rattle.std.proofs.Common.{◌≡◌, ℕ, suc, ◌+◌, ◌⊎◌, inl, inr, List, [], ◌∷◌, ◌++◌, length, sym, subst, arith, length-append}
+use Rattle.std.proofs.Common.{◌≡◌, ℕ, suc, ◌+◌, ◌⊎◌, inl, inr, List, [], ◌∷◌, ◌++◌, map, length, sym, subst, arith, length-append}
+use Rattle.std.proofs.lemmas.List.{length-map, map-append}
 use Rattle.std.specs.Prelude.{Some, slice_get}
 use Rattle.co_object.specs.declared.note.Note.{Note}
 use Rattle.co_program.specs.declared.script.Script.{Script}
@@ -27,6 +28,17 @@ over_next s name qs lists q ns over one = over_more s name 0 qs lists q ns over 
   start : (n : ℕ) → n ≡ 0 + n
   start n = omega arith
 
+-- where they bring back books
+over_next_book : {B : Type 0} (notes : B → List Note) (s : Script) (name : ServiceName) (qs : List PassesView) (books : List B) (q : PassesView) (book : B) → AreOver s name 0 qs (map notes books) → IsOver s name (length books) q (notes book) → AreOver s name 0 (qs ++ q ∷ []) (map notes (books ++ book ∷ []))
+over_next_book notes s name qs books q book over one =
+    subst (AreOver s name 0 (qs ++ q ∷ [])) (sym (map-append notes books (book ∷ [])))
+    (over_next s name qs (map notes books) q (notes book) over (subst (λ (a : ℕ). IsOver s name a q (notes book)) (sym (length-map books notes)) one))
+
+pub over_added : {B : Type 0} (notes : B → List Note) (s : Script) (name : ServiceName) (qs all_qs : List PassesView) (books all_books : List B) (q : PassesView) (book : B) → all_qs ≡ qs ++ q ∷ [] → all_books ≡ books ++ book ∷ [] → AreOver s name 0 qs (map notes books) → IsOver s name (length books) q (notes book) → AreOver s name 0 all_qs (map notes all_books)
+over_added {B} notes s name qs all_qs books all_books q book qs_are books_are over one =
+    subst (λ (bs : List B). AreOver s name 0 all_qs (map notes bs)) (sym books_are)
+    (subst (λ (rs : List PassesView). AreOver s name 0 rs (map notes (books ++ book ∷ []))) (sym qs_are) (over_next_book notes s name qs books q book over one))
+
 -- ---- a group of actors
 
 pub group_at : {X : Type 0} (Are : ℕ → List X → Type 0) (first from end to : ℕ) (xs : List X) → first ≡ from → end ≡ to → IsGroup Are first end xs → IsGroup Are from to xs
@@ -45,27 +57,27 @@ module _ {B : Type 0} (s : Script) (name : ServiceName) (notes : B → List Note
     each = λ k job is a at. group.each k job (get_front xs x job k is) a at;
   }
 
-module _ (s : Script) (name : ServiceName) where
+module _ {B : Type 0} (s : Script) (name : ServiceName) (notes : B → List Note) where
   -- one more has played, before these
-  pub group_more : (all : List Played) (one : Played) (number end : ℕ) → IsGroup (HavePlayed s name) (number + 1) end all → IsOver s name number one.passes one.notes → IsGroup (HavePlayed s name) number end (all ++ one ∷ [])
+  pub group_more : (all : List (Played B)) (one : Played B) (number end : ℕ) → IsGroup (HavePlayed notes s name) (number + 1) end all → IsOver s name number one.passes (notes one.book) → IsGroup (HavePlayed notes s name) number end (all ++ one ∷ [])
   group_more all one number end group over = record {
     count = (let long = length-append all (one ∷ []) in let count = group.count in omega (arith, count, long));
     each = λ k p is a at. at_either k p a at (get_snoc all one p k is);
   } where
-    at_either : (k : ℕ) (p : Played) (a : ℕ) → a + k + 1 ≡ end → (slice_get all k ≡ Some p) ⊎ ((k ≡ length all) × (p ≡ one)) → IsOver s name a p.passes p.notes
+    at_either : (k : ℕ) (p : Played B) (a : ℕ) → a + k + 1 ≡ end → (slice_get all k ≡ Some p) ⊎ ((k ≡ length all) × (p ≡ one)) → IsOver s name a p.passes (notes p.book)
     at_either k p a at (inl here) = group.each k p here a at
     at_either k p a at (inr there) =
         let count = group.count in
         let same : number ≡ a = (let is = there.0 in omega (arith, count, at, is)) in
-        subst (λ (x : Played). IsOver s name a x.passes x.notes) (sym there.1) (subst (λ (b : ℕ). IsOver s name b one.passes one.notes) same over)
+        subst (λ (x : Played B). IsOver s name a x.passes (notes x.book)) (sym there.1) (subst (λ (b : ℕ). IsOver s name b one.passes (notes one.book)) same over)
 
   -- the first of those that have played stands last
-  pub played_first : (all : List Played) (one : Played) (next end : ℕ) → IsGroup (HavePlayed s name) next end (all ++ one ∷ []) → IsOver s name next one.passes one.notes
+  pub played_first : (all : List (Played B)) (one : Played B) (next end : ℕ) → IsGroup (HavePlayed notes s name) next end (all ++ one ∷ []) → IsOver s name next one.passes (notes one.book)
   played_first all one next end group =
       let long = length-append all (one ∷ []) in
       group.each (length all) one (get_last all one) next (let count = group.count in omega (arith, count, long))
 
-  pub played_less : (all : List Played) (one : Played) (next end : ℕ) → IsGroup (HavePlayed s name) next end (all ++ one ∷ []) → IsGroup (HavePlayed s name) (next + 1) end all
+  pub played_less : (all : List (Played B)) (one : Played B) (next end : ℕ) → IsGroup (HavePlayed notes s name) next end (all ++ one ∷ []) → IsGroup (HavePlayed notes s name) (next + 1) end all
   played_less all one next end group = record {
     count = (let long = length-append all (one ∷ []) in let count = group.count in omega (arith, count, long));
     each = λ k p is a at. group.each k p (get_front all one p k is) a at;

@@ -6,12 +6,12 @@ use Rattle.co_run.proofs.jobs.deal.Goals as goal
 
 pub loop-dealt-preserved : goal.loop-dealt-preserved
 loop-dealt-preserved g c =
-    let Are = AreJobs c.args.script.now g.N.Name.name g.B.Notebook.notes g.B.Notebook.spare in
+    let Are = AreJobs c.args.script.now g.N.Name.name g.B.Book.notes g.B.Book.spare in
     let less = c.leave_last.ensures.less in
     let one : length c.loop-dealt.passes.items ≡ length c.leave_last.new.passes.items + 1 = sym less in
     record {
       less = (let before = c.loop-dealt.invariant.less in omega (arith, less, before));
       left = c.leave_last.ensures.left;
       group = subst (IsGroup Are (length c.leave_last.new.passes.items) (length c.args.passes.now.items)) (sym c.in_ok-push.ensures.ok)
-          (group_dealt c.args.script.now g.N.Name.name g.B.Notebook.notes g.B.Notebook.spare c.loop-dealt.jobs c.leave_last.result (length c.loop-dealt.passes.items) (length c.leave_last.new.passes.items) (length c.args.passes.now.items) one c.loop-dealt.invariant.group c.leave_last.ensures.job);
+          (group_dealt c.args.script.now g.N.Name.name g.B.Book.notes g.B.Book.spare c.loop-dealt.jobs c.leave_last.result (length c.loop-dealt.passes.items) (length c.leave_last.new.passes.items) (length c.args.passes.now.items) one c.loop-dealt.invariant.group c.leave_last.ensures.job);
     }

@@ -15,7 +15,7 @@ deal-requires-clause-left g c =
       few = omega (arith, count);
       count = books ∙ sym count;
       first = subst (AreFirst g.N.Name.name (params_of s)) (sym c.into_vec-passes.ensures) (booted_first s c.requires.script g.N.Name.name c.args.passes c.requires.passes);
-      empty = subst (AreEmpty g.B.Notebook.notes g.B.Notebook.spare) (sym c.into_vec-books.ensures) c.requires.empty;
+      empty = subst (AreEmpty g.B.Book.notes g.B.Book.spare) (sym c.into_vec-books.ensures) c.requires.empty;
     }
 
 pub returns : goal.returns

@@ -10,8 +10,8 @@ pub returns : goal.returns
 returns g c =
     let name = g.N.Name.name in
     let p = params_of c.args.script.now in
-    let notes = g.B.Notebook.notes in
-    let spare = g.B.Notebook.spare in
+    let notes = g.B.Book.notes in
+    let spare = g.B.Book.spare in
     let passes_are : c.args.passes.now.items ≡ c.pop.new.self.items ++ c.unwrap.result ∷ [] = c.pop.ensures.items ∙ ap (λ o. c.pop.new.self.items ++ option_to_list o) c.unwrap.ensures in
     let books_are : c.args.books.now.items ≡ c.pop-2.new.self.items ++ c.unwrap-2.result ∷ [] = c.pop-2.ensures.items ∙ ap (λ o. c.pop-2.new.self.items ++ option_to_list o) c.unwrap-2.ensures in
     let first = subst (AreFirst name p) passes_are c.requires.left.first in

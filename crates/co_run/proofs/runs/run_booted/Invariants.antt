@@ -1,4 +1,4 @@
-use Rattle.co_run.proofs.runs.run_threads.Given as goal
+use Rattle.co_run.proofs.runs.run_booted.Given as goal
 
 -- the service that was just booted
 abbrev pub ghosts-run_fresh : goal.ghosts-run_fresh
