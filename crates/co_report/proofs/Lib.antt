@@ -12,7 +12,9 @@ pub mod Shows
 pub mod SectionsWritten
 pub mod ToldNotes
 pub mod ToldShown
+pub mod Framed
 pub mod ToldPages
+pub mod PartsWritten
 pub mod PartSplits
 pub mod Exact
 pub mod ExactValues

@@ -5,7 +5,6 @@ use Rattle.std.specs.List.{AllByRecursion, concat, filter, flat_map, range_with_
 use Rattle.std.proofs.lemmas.Bool.Decides.{nat_tests}
 use Rattle.std.proofs.lemmas.List.{map-append, set-append_left, set-append_right, get_or_append_left, get_or-append-add}
 use Rattle.std.proofs.lemmas.List.Concat.{concat_is}
-use Rattle.std.proofs.lemmas.List.Folds.{concat-append}
 use Rattle.std.proofs.lemmas.List.FromFn.{length-range_with_len, length-map-range_with_len, get_or-range_with_len, get_or-map-range_with_len}
 use Rattle.co_object.specs.declared.Note.{Note}
 use Rattle.co_object.specs.declared.Place.{Place}
@@ -17,17 +16,16 @@ use Rattle.co_program.specs.declared.Script.{Script}
 use Rattle.co_program.specs.Actors.{actor_count}
 use Rattle.co_program.specs.Places.{place_exists}
 use Rattle.co_program.specs.Scripts.{IsScript}
-use Rattle.co_script.specs.Canonical.{canonical, canonical_lines}
-use Rattle.co_grammar.specs.Spelling.{numbered}
 use Rattle.co_text.specs.Lines.{line_text, text}
 use Rattle.co_text.specs.Values.{Word}
 use Rattle.co_text.proofs.Spacing.{text_one, text_append}
 use Rattle.co_report.specs.Histories.{Histories, shown_history}
 use Rattle.co_report.specs.NoteTexts.{note_words}
 use Rattle.co_report.specs.Order.{place_index, place_count}
-use Rattle.co_report.specs.Reports.{places, heading, place_lines, report, report_lines, report_of}
+use Rattle.co_report.specs.Reports.{places, heading, place_lines, report, report_of, framed}
 use Rattle.co_report.specs.Sections.{count_by, told_in, section, Written, HasRooms, HasTold}
 use Rattle.co_report.specs.Typed.{EntryTyped, ListsTyped}
+use Rattle.co_report.proofs.Framed.{report-framed}
 use Rattle.co_report.proofs.Places.{below, same_itself}
 use Rattle.co_report.proofs.ToldNotes.{count-own, count-other, section-here, section-elsewhere}
 use Rattle.co_report.proofs.ToldShown.{shown-as-told}
@@ -288,7 +286,7 @@ nothing-told s pages counts opened zeros = record {
   pages = opened ∙ headings-alone s (places s);
 }
 
-length-places : {Y : Type 0} (s : Script) (g : Place → Y) → length (map g (places s)) ≡ place_count s
+pub length-places : {Y : Type 0} (s : Script) (g : Place → Y) → length (map g (places s)) ≡ place_count s
 length-places s g =
     ap length (map-places s g)
     ∙ omega (
@@ -333,48 +331,19 @@ joined s made (p ∷ ps) =
     ap (λ t. section s made p ++ t) (joined s made ps)
     ∙ sym (text_append (place_lines s (told_in made) p) (flat_map (place_lines s (told_in made)) ps))
 
-parts : (a : List Word) (b : List (List Word)) (h : List Word) (ls : List (List Word)) (e : List Word)
-    → text (a ∷ (b ++ (h ∷ (ls ++ e ∷ [])))) ≡ line_text a ++ text b ++ line_text h ++ text ls ++ line_text e
-parts a b h ls e =
-    ap (λ t. line_text a ++ t) (text_append b (h ∷ (ls ++ e ∷ [])) ∙ ap (λ t. text b ++ (line_text h ++ t)) (text_append ls (e ∷ []) ∙ ap (λ t. text ls ++ t) (text_one e)))
-    ∙ sym (pieces (line_text a) (text b) (line_text h) (text ls) (line_text e))
-  where
-    pieces : (v w x y z : List ℕ) → v ++ w ++ x ++ y ++ z ≡ v ++ (w ++ (x ++ (y ++ z)))
-    pieces v w x y z = simp append_assoc
-
-told-text : (s : Script) (h : Histories) → report s h ≡ line_text (numbered (codes "callout-report") 1) ++ canonical s ++ line_text (codes "histories" ∷ []) ++ text (flat_map (place_lines s h) (places s)) ++ line_text (codes "end" ∷ [])
-unfolding report report_lines canonical
-told-text s h = parts (numbered (codes "callout-report") 1) (canonical_lines s) (codes "histories" ∷ []) (flat_map (place_lines s h) (places s)) (codes "end" ∷ [])
-
--- the lines before the first section
-pub head-written : (s : Script) (first then' : Word) (p0 p1 p2 p3 : List ℕ) → p1 ≡ p0 ++ line_text (numbered first 1) → p2 ≡ p1 ++ canonical s → p3 ≡ p2 ++ line_text (then' ∷ [])
-    → first ≡ codes "callout-report" → then' ≡ codes "histories"
-    → p3 ≡ p0 ++ line_text (numbered (codes "callout-report") 1) ++ canonical s ++ line_text (codes "histories" ∷ [])
-head-written s first then' p0 p1 p2 p3 e1 e2 e3 f1 f2 = rw (e3, e2, e1, f1, f2) refl
-
-pub whole-told : (x : Written) (made : List Made) → HasTold x made → IsInOrder made
-    → line_text (numbered (codes "callout-report") 1) ++ canonical x.script ++ line_text (codes "histories" ∷ []) ++ flat_map (λ page. page) x.pages ++ line_text (codes "end" ∷ []) ≡ report_of x.script (lists_by (actor_count x.script) made)
+pub whole-told : (x : Written) (made : List Made) → HasTold x made → IsInOrder made → framed x.script (flat_map (λ page. page) x.pages) ≡ report_of x.script (lists_by (actor_count x.script) made)
 whole-told x made told order =
     let s : Script = x.script in
-    let head : List ℕ = line_text (numbered (codes "callout-report") 1) ++ canonical s ++ line_text (codes "histories" ∷ []) in
     let shown : told_in made ≡ shown_history (lists_by (actor_count s) made) = (λ d p. sym (shown-as-told (actor_count s) made p order told.actors) d) in
-    ap (λ t. head ++ t ++ line_text (codes "end" ∷ [])) (ap (flat_map (λ page. page)) told.pages ∙ joined s made (places s))
-    ∙ (sym (told-text s (told_in made))
+    ap (framed s) (ap (flat_map (λ page. page)) told.pages ∙ joined s made (places s))
+    ∙ (sym (report-framed s (told_in made))
     ∙ ap (report s) shown)
 
--- as it is put together
-joined-pieces : (head last : List ℕ) (pages : List (List ℕ)) → concat ((([] ++ head ∷ []) ++ pages) ++ last ∷ []) ≡ (head ++ flat_map (λ page. page) pages) ++ last
-joined-pieces head last pages =
-    concat-append (head ∷ pages) (last ∷ []) ∙ (ap (λ t. (head ++ concat pages) ++ t) (append-nil last) ∙ ap (λ t. (head ++ t) ++ last) (concat_is pages))
-
-pub pieces-told : (x y : Written) (made : List Made) → x ≡ y → HasTold x made → IsInOrder made → (p0 p1 p2 : List ℕ) (q0 q1 q2 q3 : List (List ℕ)) {last : List ℕ}
-    → p0 ≡ [] → p1 ≡ p0 ++ line_text (numbered (codes "callout-report") 1) ++ canonical y.script ++ line_text (codes "histories" ∷ []) → p2 ≡ p1
-    → q0 ≡ [] → q1 ≡ q0 ++ p2 ∷ [] → q2 ≡ q1 ++ y.pages → last ≡ line_text (codes "end" ∷ []) → q3 ≡ q2 ++ last ∷ []
-    → concat q3 ≡ report_of x.script (lists_by (actor_count x.script) made)
-pieces-told x y made same told order p0 p1 p2 q0 q1 q2 q3 {last} e0 e1 e2 f0 f1 f2 is f3 =
-    ap concat (f3 ∙ ap (λ q. q ++ last ∷ []) (f2 ∙ ap (λ q. q ++ y.pages) (f1 ∙ ap (λ q. q ++ p2 ∷ []) f0)))
-    ∙ (joined-pieces p2 last y.pages
-    ∙ (ap (λ t. (p2 ++ flat_map (λ page. page) y.pages) ++ t) is
-    ∙ (ap (λ t. (t ++ flat_map (λ page. page) y.pages) ++ line_text (codes "end" ∷ [])) (e2 ∙ (e1 ∙ ap (λ t. t ++ line_text (numbered (codes "callout-report") 1) ++ canonical y.script ++ line_text (codes "histories" ∷ [])) e0))
-    ∙ (ap (λ (z : Written). line_text (numbered (codes "callout-report") 1) ++ canonical z.script ++ line_text (codes "histories" ∷ []) ++ flat_map (λ page. page) z.pages ++ line_text (codes "end" ∷ [])) (sym same)
-    ∙ whole-told x made told order))))
+pub pieces-told : (x y : Written) (made : List Made) → x ≡ y → HasTold x made → IsInOrder made → (q0 q1 q2 : List (List ℕ))
+    → q0 ≡ [] → q1 ≡ q0 ++ y.pages → concat q2 ≡ framed y.script (concat q1) → concat q2 ≡ report_of x.script (lists_by (actor_count x.script) made)
+pieces-told x y made same told order q0 q1 q2 e0 e1 e2 =
+    e2
+    ∙ (ap (λ q. framed y.script (concat q)) (e1 ∙ ap (λ q. q ++ y.pages) e0)
+    ∙ (ap (framed y.script) (concat_is y.pages)
+    ∙ (ap (λ (z : Written). framed z.script (flat_map (λ page. page) z.pages)) (sym same)
+    ∙ whole-told x made told order)))

@@ -1,13 +1,13 @@
 -- The text of a report.
-use Rattle.std.specs.Prelude.{ℕ, List, [], ◌∷◌, ◌++◌, length, flat_map, map, codes}
+use Rattle.std.specs.Prelude.{ℕ, List, [], ◌∷◌, ◌++◌, length, flat_map, map, slice_range, codes}
 use Rattle.std.specs.List.{range_with_len}
 use Rattle.co_object.specs.declared.Place.{Place}
 use Rattle.co_object.specs.declared.Place.TheVariants as place
 use Rattle.co_object.specs.declared.Note.{Note}
-use Rattle.co_text.specs.Lines.{text}
+use Rattle.co_text.specs.Lines.{line_text, text}
 use Rattle.co_text.specs.Values.{Word}
 use Rattle.co_grammar.specs.Spelling.{numbered, actor_word}
-use Rattle.co_script.specs.Canonical.{canonical_lines}
+use Rattle.co_script.specs.Canonical.{canonical, canonical_lines}
 use Rattle.co_program.specs.declared.Script.{Script}
 use Rattle.co_program.specs.Actors.{actor_count}
 use Rattle.co_report.specs.NoteTexts.{note_words}
@@ -29,9 +29,9 @@ shown_words s n = note_words s n.number n.entry
 abbrev pub place_lines : Script → Histories → Place → List (List Word)
 place_lines s histories p = heading s p ∷ map (shown_words s) (histories p)
 
--- the places of this kind with the first n numbers
-abbrev pub sections_of : Script → List (List Note) → (ℕ → Place) → ℕ → List (List Word)
-sections_of s lists kind n = flat_map (place_lines s (shown_history lists)) (map kind (range_with_len 0 n))
+-- the lines of the places from one number up to another, as they stand in the report
+abbrev pub lines_between : Script → List (List Note) → (first end : ℕ) → List (List Word)
+lines_between s lists first end = flat_map (place_lines s (shown_history lists)) (slice_range (places s) first end)
 
 -- the lines of a report, as words
 unfoldable pub report_lines : Script → Histories → List (List Word)
@@ -49,3 +49,7 @@ report s histories = text (report_lines s histories)
 -- the report of these lists
 abbrev pub report_of : Script → List (List Note) → List ℕ
 report_of s lists = report s (shown_history lists)
+
+-- the text of a report whose places have this text
+abbrev pub framed : Script → List ℕ → List ℕ
+framed s parts = line_text (numbered (codes "callout-report") 1) ++ canonical s ++ line_text (codes "histories" ∷ []) ++ parts ++ line_text (codes "end" ∷ [])

@@ -1,6 +1,8 @@
 //! The report of a run: its text shows a script and the notes of its actors.
 #![tactic(auto)]
 
+mod by_threads;
+mod frame;
 pub mod laws;
 mod line;
 mod note;
@@ -12,6 +14,7 @@ mod sections;
 mod subject;
 mod typed;
 
+pub use by_threads::print_by_threads;
 pub use line::{Line, Report};
 pub use order::{Order, order_of};
 pub use origin::{Origin, note_from};

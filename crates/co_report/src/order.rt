@@ -38,6 +38,25 @@ impl Order {
         let starts = self.starts.as_slice();
         &self.origins.as_slice()[starts[place]..starts[place + 1]]
     }
+
+    /// Of the places from `first` up to `end` one such that about half of their notes stand before it, or `end`. It looks
+    /// at them one by one.
+    pub(crate) fn middle(&self, first: usize, end: usize) -> usize
+        requires order { first ≤ end }
+        requires end { end < length self.now.starts }
+        ensures first { first ≤ result }
+        ensures end { result ≤ end }
+    {
+        let starts = self.starts.as_slice();
+        let half = starts[first] / 2 + starts[end] / 2;
+        for place in first..end {
+            // More of the place's notes stand behind the half than before it.
+            if starts[place] / 2 + starts[place + 1] / 2 >= half {
+                return place;
+            }
+        }
+        end
+    }
 }
 
 /// How many places a report of the script has.

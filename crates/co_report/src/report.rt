@@ -1,176 +1,118 @@
 //! The text of a report: the script, then the notes of each place behind its heading.
-ghost use Rattle.std.specs.Prelude.{◌≡◌, ◌<◌, ◌^◌, ◌++◌, ◌∷◌, [], length, OnOk, IfOk};
-ghost use Rattle.co_text.specs.Lines.{line_text, text};
-ghost use Rattle.co_program.specs.Actors.{actor_count};
+ghost use Rattle.std.specs.Prelude.{◌≡◌, ◌≤◌, ◌<◌, ◌+◌, ◌++◌, true, OnOk, IfOk};
+ghost use Rattle.co_text.specs.Lines.{text};
 ghost use Rattle.co_object.specs.Lists.{IsWellFormed};
-ghost use Rattle.co_object.specs.declared.Place.TheVariants as places;
-ghost use Rattle.co_report.specs.Histories.{shown_history};
-ghost use Rattle.co_report.specs.Reports.{place_lines, sections_of, report_of};
-ghost use Rattle.co_program.specs.Places.{AllHavePlaces};
-ghost use Rattle.co_report.specs.Origins.{lines_from};
-ghost use Rattle.co_report.specs.Order.{place_index, place_count, origins_in, ShowsHistories};
+ghost use Rattle.co_program.specs.Places.{place_exists, AllHavePlaces};
+ghost use Rattle.co_report.specs.Reports.{lines_between, report_of};
+ghost use Rattle.co_report.specs.Order.{place_index, place_count, ShowsHistories};
 
+use crate::frame::{print_head, print_heading, print_word};
 use crate::order::{Order, order_of, short};
 use crate::origin::print_from;
-use co_grammar::{actor_name, print_numbered};
-use co_object::{Lists, Note};
+use co_object::{Lists, Note, Place};
 use co_program::Script;
 use co_sbt::{NoMemory, Seq};
-use co_script::print_lines;
-use co_text::{Page, Token};
+use co_text::Page;
 use std::alloc::Global;
 
-/// The notes of the place of this number.
-fn print_notes(
-    page: &mut Page,
-    script: &Script,
-    lists: &[Seq<Note>],
-    order: &Order,
-    place: usize,
-) -> Result<(), NoMemory>
-    requires shows { ShowsHistories script.now lists.now order.now }
-    requires place { place < place_count script.now }
-    ensures { OnOk result (page.new ≡ page.old ++ text (lines_from script.now lists.now (origins_in order.now place))) }
-{
-    print_from(page, script, lists, order.of_place(place))
-}
-
-/// Appends a timer's part: the line `timer I`, and the lines of its notes in order. `NoMemory` where the page finds no
-/// room.
-fn print_timer(
-    page: &mut Page,
-    script: &Script,
-    lists: &[Seq<Note>],
-    order: &Order,
-    timer: usize,
-) -> Result<(), NoMemory>
-    requires shows { ShowsHistories script.now lists.now order.now }
-    requires timer { timer < length script.now.timers }
-    ensures { OnOk result (page.new ≡ page.old ++ text (place_lines script.now (shown_history lists.now) (places.Timer timer))) }
-{
-    print_numbered(page, b"timer".as_slice(), timer as u64)?;
-    print_notes(page, script, lists, order, timer)?;
-    Ok(())
-}
-
-/// The part of a CPU's queue.
-fn print_wheel(
-    page: &mut Page,
-    script: &Script,
-    lists: &[Seq<Note>],
-    order: &Order,
-    cpu: u32,
-) -> Result<(), NoMemory>
-    requires shows { ShowsHistories script.now lists.now order.now }
-    requires cpu { cpu < script.now.cpus }
-    ensures { OnOk result (page.new ≡ page.old ++ text (place_lines script.now (shown_history lists.now) (places.Cpu cpu))) }
+/// The place of this number among those of a report: the timers come first, then the CPUs, then the actors. `NoMemory`
+/// where its number among its kind is 2^32 or more: so many timers or actors find no memory.
+fn place_of(script: &Script, number: usize) -> Result<Place, NoMemory>
+    requires { number < place_count script.now }
+    ensures exists { IfOk result (λ place. place_exists script.now place ≡ true) }
+    ensures number { IfOk result (λ place. place_index script.now place ≡ number) }
 {
     let timers = script.timers.as_slice().len();
-    print_numbered(page, b"wheel".as_slice(), u64::from(cpu))?;
-    print_notes(page, script, lists, order, timers + cpu as usize)?;
-    Ok(())
-}
-
-/// The part of an actor's own notes.
-fn print_actor(
-    page: &mut Page,
-    script: &Script,
-    lists: &[Seq<Note>],
-    order: &Order,
-    actor: usize,
-) -> Result<(), NoMemory>
-    requires shows { ShowsHistories script.now lists.now order.now }
-    requires actor { actor < actor_count script.now }
-    requires fits { place_index script.now (places.Actor actor) < 2 ^ 64 }
-    ensures { OnOk result (page.new ≡ page.old ++ text (place_lines script.now (shown_history lists.now) (places.Actor actor))) }
-{
-    let timers = script.timers.as_slice().len();
-    let (letter, name) = actor_name(script, short(actor)?);
-    page.line(
-        &Token::Text(b"actor".as_slice()),
-        [Token::Lettered(letter, name)].as_slice(),
-    )?;
-    print_notes(
-        page,
-        script,
-        lists,
-        order,
-        timers + script.cpus as usize + actor,
-    )?;
-    Ok(())
-}
-
-fn print_timers(
-    page: &mut Page,
-    script: &Script,
-    lists: &[Seq<Note>],
-    order: &Order,
-) -> Result<(), NoMemory>
-    requires { ShowsHistories script.now lists.now order.now }
-    ensures { OnOk result (page.new ≡ page.old ++ text (sections_of script.now lists.now places.Timer (length script.now.timers))) }
-{
-    for timer in 0..script.timers.as_slice().len() {
-        print_timer(page, script, lists, order, timer)?;
+    let cpus = script.cpus as usize;
+    if number < timers {
+        Ok(Place::Timer(short(number)?))
+    } else if number - timers < cpus {
+        Ok(Place::Cpu(short(number - timers)?))
+    } else {
+        Ok(Place::Actor(short(number - timers - cpus)?))
     }
-    Ok(())
 }
 
-fn print_wheels(
-    page: &mut Page,
-    script: &Script,
-    lists: &[Seq<Note>],
-    order: &Order,
-) -> Result<(), NoMemory>
-    requires { ShowsHistories script.now lists.now order.now }
-    ensures { OnOk result (page.new ≡ page.old ++ text (sections_of script.now lists.now places.Cpu script.now.cpus)) }
-{
-    for cpu in 0..script.cpus {
-        print_wheel(page, script, lists, order, cpu)?;
+/// What a report is printed of: the script, the notes of its actors, and their order, which shows the history of each
+/// place. Threads may share it.
+#[derive(Drop)]
+pub struct Printing<'a> {
+    script: &'a Script,
+    lists: &'a [Seq<Note>],
+    order: Order,
+    ghost shows: { ShowsHistories script.now lists.now order },
+}
+
+impl<'a> Printing<'a> {
+    /// What is printed of these notes. `NoMemory` where their order finds no memory, or has more than 2^32 notes of one
+    /// actor.
+    pub fn new(
+        alloc: Global,
+        script: &'a Script,
+        lists: &'a [Seq<Note>],
+    ) -> Result<Printing<'a>, NoMemory>
+        requires places { AllHavePlaces script.now lists.now }
+        requires formed { IsWellFormed lists.now }
+        ensures script { IfOk result (λ printing. printing.script.now ≡ script.now) }
+        ensures lists { IfOk result (λ printing. printing.lists.now ≡ lists.now) }
+    {
+        let order = order_of(alloc, script, lists)?;
+        Ok(Printing {
+            script,
+            lists,
+            order,
+        })
     }
-    Ok(())
-}
 
-fn print_actors(
-    page: &mut Page,
-    script: &Script,
-    lists: &[Seq<Note>],
-    order: &Order,
-) -> Result<(), NoMemory>
-    requires { ShowsHistories script.now lists.now order.now }
-    ensures { OnOk result (page.new ≡ page.old ++ text (sections_of script.now lists.now places.Actor (actor_count script.now))) }
-{
-    let others = script.timers.as_slice().len() + script.cpus as usize;
-    for actor in 0..order.place_count() - others {
-        print_actor(page, script, lists, order, actor)?;
+    /// How many places there are.
+    pub fn place_count(&self) -> usize
+        ensures { result ≡ place_count self.now.script.now }
+    {
+        self.order.place_count()
     }
-    Ok(())
-}
 
-/// A line of one word. `NoMemory` where the page finds no room.
-pub fn print_word(page: &mut Page, word: &[u8]) -> Result<(), NoMemory>
-    ensures { OnOk result (page.new ≡ page.old ++ line_text (word.now ∷ [])) }
-{
-    page.line(&Token::Text(word), [].as_slice())
-}
+    /// A place between these, such that about half of the notes of the places from `first` up to `end` stand before it.
+    pub fn middle(&self, first: usize, end: usize) -> usize
+        requires order { first ≤ end }
+        requires end { end ≤ place_count self.now.script.now }
+        ensures first { first ≤ result }
+        ensures end { result ≤ end }
+    {
+        self.order.middle(first, end)
+    }
 
-/// All parts of a report.
-fn print_parts(
-    page: &mut Page,
-    script: &Script,
-    lists: &[Seq<Note>],
-    order: &Order,
-) -> Result<(), NoMemory>
-    requires { ShowsHistories script.now lists.now order.now }
-    ensures { OnOk result (page.new ≡ page.old ++ report_of script.now lists.now) }
-{
-    print_numbered(page, b"callout-report".as_slice(), 1)?;
-    print_lines(page, script)?;
-    print_word(page, b"histories".as_slice())?;
-    print_timers(page, script, lists, order)?;
-    print_wheels(page, script, lists, order)?;
-    print_actors(page, script, lists, order)?;
-    print_word(page, b"end".as_slice())?;
-    Ok(())
+    /// Appends the part of the place of this number: the line that it begins with, and the lines of its notes in order.
+    fn print_place(&self, page: &mut Page, number: usize) -> Result<(), NoMemory>
+        requires { number < place_count self.now.script.now }
+        ensures { OnOk result (page.new ≡ page.old ++ text (lines_between self.now.script.now self.now.lists.now number (number + 1))) }
+    {
+        let place = place_of(self.script, number)?;
+        print_heading(page, self.script, place)?;
+        print_from(page, self.script, self.lists, self.order.of_place(number))?;
+        Ok(())
+    }
+
+    /// Appends the parts of the places from `first` up to `end`. `NoMemory` where the page finds no room.
+    pub fn print_places(&self, page: &mut Page, first: usize, end: usize) -> Result<(), NoMemory>
+        requires order { first ≤ end }
+        requires end { end ≤ place_count self.now.script.now }
+        ensures { OnOk result (page.new ≡ page.old ++ text (lines_between self.now.script.now self.now.lists.now first end)) }
+    {
+        for number in first..end {
+            self.print_place(page, number)?;
+        }
+        Ok(())
+    }
+
+    /// The whole report.
+    fn print(&self, page: &mut Page) -> Result<(), NoMemory>
+        ensures { OnOk result (page.new ≡ page.old ++ report_of self.now.script.now self.now.lists.now) }
+    {
+        print_head(page, self.script)?;
+        self.print_places(page, 0, self.place_count())?;
+        print_word(page, b"end".as_slice())?;
+        Ok(())
+    }
 }
 
 /// The report of a script and the lists of its actors' notes: the canonical text of the script, then the notes of each
@@ -183,9 +125,8 @@ pub fn print_report(alloc: Global, script: &Script, lists: &Lists) -> Result<Seq
     requires formed { IsWellFormed lists.now }
     ensures { IfOk result (λ bytes. bytes ≡ report_of script.now lists.now) }
 {
-    let lists = lists.as_slice();
-    let order = order_of(alloc, script, lists)?;
+    let printing = Printing::new(alloc, script, lists.as_slice())?;
     let mut page = Page::new(alloc);
-    print_parts(&mut page, script, lists, &order)?;
+    printing.print(&mut page)?;
     Ok(page.done())
 }

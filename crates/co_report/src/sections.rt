@@ -1,9 +1,7 @@
 //! A listener that prints: a report is written section by section, note by note as they are told.
-ghost use Rattle.std.specs.Prelude.{◌≡◌, ◌<◌, ◌+◌, ◌^◌, ◌++◌, ◌∷◌, [], true, false, replicate, codes, List, map, OnOk, IfOk, MatchOption};
+ghost use Rattle.std.specs.Prelude.{◌≡◌, ◌<◌, ◌+◌, ◌^◌, ◌++◌, ◌∷◌, [], true, false, replicate, List, map, OnOk, IfOk, MatchOption};
 ghost use Rattle.std.specs.List.{concat};
 ghost use Rattle.co_text.specs.Lines.{line_text};
-ghost use Rattle.co_grammar.specs.Spelling.{numbered};
-ghost use Rattle.co_script.specs.Canonical.{canonical};
 ghost use Rattle.co_listener.specs.Made.{Made, IsInOrder, lists_by};
 ghost use Rattle.co_program.specs.Actors.{actor_count};
 ghost use Rattle.co_program.specs.Places.{place_exists};
@@ -12,17 +10,15 @@ ghost use Rattle.co_report.specs.Order.{place_index};
 ghost use Rattle.co_report.specs.Reports.{places, heading, report_of};
 ghost use Rattle.co_report.specs.Sections.{HasTold};
 
+use crate::frame::{in_frame, print_heading};
 use crate::note::print_note;
 use crate::reading::places::places;
-use crate::report::print_word;
 use crate::typed::note_is_typed;
-use co_grammar::{actor_name, print_numbered};
 use co_listener::Listener;
 use co_object::{Note, Place};
 use co_program::{Script, actor_count};
 use co_sbt::{NoMemory, Seq};
-use co_script::print_lines;
-use co_text::{Page, Token};
+use co_text::Page;
 use std::alloc::Global;
 use std::marker::Model;
 
@@ -45,23 +41,6 @@ impl<'a> Model for Sections<'a> {
     ghost view = { λ x. record { script = x.script.now; pages = x.pages.items; counts = x.counts.items } };
 
     ghost invariant = { λ x. HasRooms (record { script = x.script.now; pages = x.pages.items; counts = x.counts.items }) };
-}
-
-/// The line that a section begins with.
-fn print_heading(page: &mut Page, script: &Script, place: Place) -> Result<(), NoMemory>
-    ensures { OnOk result (page.new ≡ page.old ++ line_text (heading script.now place)) }
-{
-    match place {
-        Place::Timer(timer) => print_numbered(page, b"timer".as_slice(), u64::from(timer)),
-        Place::Cpu(cpu) => print_numbered(page, b"wheel".as_slice(), u64::from(cpu)),
-        Place::Actor(actor) => {
-            let (letter, name) = actor_name(script, actor);
-            page.line(
-                &Token::Text(b"actor".as_slice()),
-                [Token::Lettered(letter, name)].as_slice(),
-            )
-        }
-    }
 }
 
 /// The section of a place that has no note yet.
@@ -120,16 +99,6 @@ fn existing_index(script: &Script, place: Place) -> Option<usize>
     }
 }
 
-/// The lines before the first section.
-fn print_head(page: &mut Page, script: &Script) -> Result<(), NoMemory>
-    ensures { OnOk result (page.new ≡ page.old ++ line_text (numbered (codes "callout-report") 1) ++ canonical script.now ++ line_text (codes "histories" ∷ [])) }
-{
-    print_numbered(page, b"callout-report".as_slice(), 1)?;
-    print_lines(page, script)?;
-    print_word(page, b"histories".as_slice())?;
-    Ok(())
-}
-
 /// Appends the pages' texts, none of which is copied.
 fn append_all(pieces: &mut Seq<Seq<u8>>, pages: Vec<Page>) -> Result<(), NoMemory>
     ensures { OnOk result (pieces.new ≡ pieces.old ++ pages.items) }
@@ -163,13 +132,9 @@ impl<'a> Sections<'a> {
         ensures { IfOk result (λ pieces. (made : List Made) → HasTold self.entry made → IsInOrder made → concat pieces ≡ report_of self.entry.script (lists_by (actor_count self.entry.script) made)) }
     {
         let Sections { script, pages, .. } = self;
-        let mut head = Page::new(alloc);
-        print_head(&mut head, script)?;
-        let mut pieces = Seq::new(alloc);
-        pieces.push(head.done())?;
-        append_all(&mut pieces, pages)?;
-        pieces.push(Seq::copy_of(alloc, b"end\n".as_slice())?)?;
-        Ok(pieces)
+        let mut parts = Seq::new(alloc);
+        append_all(&mut parts, pages)?;
+        in_frame(alloc, script, parts)
     }
 }
 

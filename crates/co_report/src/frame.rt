@@ -1,0 +1,78 @@
+//! What stands in a report around the notes: the lines before the first place, the line that each place begins with, and
+//! the last line.
+ghost use Rattle.std.specs.Prelude.{◌≡◌, ◌++◌, ◌∷◌, [], codes, OnOk, IfOk};
+ghost use Rattle.std.specs.List.{concat};
+ghost use Rattle.co_text.specs.Lines.{line_text};
+ghost use Rattle.co_grammar.specs.Spelling.{numbered};
+ghost use Rattle.co_script.specs.Canonical.{canonical};
+ghost use Rattle.co_report.specs.Reports.{heading, framed};
+
+use co_grammar::{actor_name, print_numbered};
+use co_object::Place;
+use co_program::Script;
+use co_sbt::{NoMemory, Seq};
+use co_script::print_lines;
+use co_text::{Page, Token};
+use std::alloc::Global;
+
+/// A line of one word. `NoMemory` where the page finds no room.
+pub fn print_word(page: &mut Page, word: &[u8]) -> Result<(), NoMemory>
+    ensures { OnOk result (page.new ≡ page.old ++ line_text (word.now ∷ [])) }
+{
+    page.line(&Token::Text(word), [].as_slice())
+}
+
+/// The line that a place begins with. `NoMemory` where the page finds no room.
+pub fn print_heading(page: &mut Page, script: &Script, place: Place) -> Result<(), NoMemory>
+    ensures { OnOk result (page.new ≡ page.old ++ line_text (heading script.now place)) }
+{
+    match place {
+        Place::Timer(timer) => print_numbered(page, b"timer".as_slice(), u64::from(timer)),
+        Place::Cpu(cpu) => print_numbered(page, b"wheel".as_slice(), u64::from(cpu)),
+        Place::Actor(actor) => {
+            let (letter, name) = actor_name(script, actor);
+            page.line(
+                &Token::Text(b"actor".as_slice()),
+                [Token::Lettered(letter, name)].as_slice(),
+            )
+        }
+    }
+}
+
+/// The lines before the first place. `NoMemory` where the page finds no room.
+pub fn print_head(page: &mut Page, script: &Script) -> Result<(), NoMemory>
+    ensures { OnOk result (page.new ≡ page.old ++ line_text (numbered (codes "callout-report") 1) ++ canonical script.now ++ line_text (codes "histories" ∷ [])) }
+{
+    print_numbered(page, b"callout-report".as_slice(), 1)?;
+    print_lines(page, script)?;
+    print_word(page, b"histories".as_slice())?;
+    Ok(())
+}
+
+/// Appends pieces of a text, none of which is copied. `NoMemory` where there is no room for them.
+pub fn append(pieces: &mut Seq<Seq<u8>>, more: Seq<Seq<u8>>) -> Result<(), NoMemory>
+    ensures { OnOk result (pieces.new ≡ pieces.old ++ more) }
+{
+    for piece in more.into_vec() {
+        pieces.push(piece)?;
+    }
+    Ok(())
+}
+
+/// The whole report in pieces, where these are the pieces of its places: the lines before them come first, and the last
+/// line comes last. `NoMemory` where there is no room for them.
+pub fn in_frame(
+    alloc: Global,
+    script: &Script,
+    parts: Seq<Seq<u8>>,
+) -> Result<Seq<Seq<u8>>, NoMemory>
+    ensures { IfOk result (λ pieces. concat pieces ≡ framed script.now (concat parts)) }
+{
+    let mut head = Page::new(alloc);
+    print_head(&mut head, script)?;
+    let mut pieces = Seq::new(alloc);
+    pieces.push(head.done())?;
+    append(&mut pieces, parts)?;
+    pieces.push(Seq::copy_of(alloc, b"end\n".as_slice())?)?;
+    Ok(pieces)
+}
