@@ -5,12 +5,11 @@ ghost use Rattle.co_script.specs.Fits.{fits};
 ghost use Rattle.co_top.specs.Headline.{GivesServed, IsReportOfRun};
 ghost use Rattle.co_top.specs.declared.command.Serving.TheVariants as servings;
 
-use crate::answer::whole;
 use crate::served::Served;
 use crate::typed::lists_are_typed;
 use co_hand::Gate;
 use co_program::Script;
-use co_report::print_report;
+use co_report::print_by_threads;
 use co_run::{fitting_scripts_can_run, run_threads};
 use co_sbt::{NoMemory, Seq};
 use co_script::read_script;
@@ -40,8 +39,7 @@ fn report_of_run<G: Gate + Sync, R: Threads + Wait + Sync>(
     fitting_scripts_can_run();
     let ran = run_threads(rt, alloc, script, gate)?;
     lists_are_typed(ran.lists.as_slice());
-    let text = print_report(alloc, script, &ran.lists)?;
-    let pieces = whole(alloc, text)?;
+    let pieces = print_by_threads(rt, alloc, script, &ran.lists)?;
     Ok(Report {
         pieces,
         closing: ran.closing,

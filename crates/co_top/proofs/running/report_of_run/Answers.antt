@@ -1,5 +1,5 @@
 -- What fits can run. A run's notes are in their places, so they are printed, and their report is legal.
-use Rattle.std.proofs.Common.{subst, ◌∙◌}
+use Rattle.std.proofs.Common.{subst}
 use Rattle.std.specs.List.{concat}
 use Rattle.co_script.proofs.Accepted.{fits-accepted}
 use Rattle.co_report.specs.Typed.{ListsTyped}
@@ -18,4 +18,4 @@ run_threads-requires-clause-params g c = λ κs lives. c.fitting_scripts_can_run
 pub returns : goal.returns
 returns g c =
     let typed : ListsTyped c.in_ok-ran.ran.lists = subst ListsTyped c.as_slice.ensures c.lists_are_typed.ensures in
-    reported_ran c.args.script.now c.requires c.in_ok-ran.ran.lists c.in_ok-ran.ran.closing (concat c.in_ok-pieces.pieces) c.in_ok-ran.ensures typed (c.in_ok-pieces.ensures ∙ c.in_ok-text.ensures)
+    reported_ran c.args.script.now c.requires c.in_ok-ran.ran.lists c.in_ok-ran.ran.closing (concat c.in_ok-pieces.pieces) c.in_ok-ran.ensures typed c.in_ok-pieces.ensures
