@@ -10,7 +10,7 @@ ghost use denote.Param.Send.{IsSync};
 
 use crate::frame::{append, in_frame};
 use crate::report::Printing;
-use co_object::Lists;
+use co_packed::PackedNote;
 use co_program::Script;
 use co_sbt::{NoMemory, Seq};
 use co_text::Page;
@@ -79,7 +79,7 @@ pub fn print_by_threads<R: Threads + Sync>(
     rt: &R,
     alloc: Global,
     script: &Script,
-    lists: &Lists,
+    lists: &Seq<Seq<PackedNote>>,
 ) -> Result<Seq<Seq<u8>>, NoMemory>
     requires places { AllHavePlaces script.now lists.now }
     requires formed { IsWellFormed lists.now }

@@ -8,6 +8,7 @@ mod line;
 mod note;
 mod order;
 mod origin;
+mod packing;
 mod reading;
 mod report;
 mod sections;

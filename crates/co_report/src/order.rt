@@ -5,7 +5,9 @@ ghost use Rattle.co_program.specs.Places.{place_exists, HavePlaces, AllHavePlace
 ghost use Rattle.co_report.specs.Order.{place_index, place_count, count_in, all_of, AreCounts, starts_from, HasRoom, location, AreWritten, origins_in, ShowsHistories};
 
 use crate::origin::Origin;
+use crate::packing::packed_lists;
 use co_object::{Note, Place};
+use co_packed::PackedNote;
 use co_program::Script;
 use co_sbt::{NoMemory, Seq};
 use std::alloc::Global;
@@ -90,6 +92,14 @@ fn place_index(script: &Script, place: Place) -> usize
     }
 }
 
+/// The number of a note's place among those of a report.
+fn place_number(script: &Script, note: &PackedNote) -> usize
+    requires { place_index script.now note.now.place < 2 ^ 64 }
+    ensures { result ≡ place_index script.now note.now.place }
+{
+    place_index(script, note.place())
+}
+
 /// A list of copies of one item.
 fn filled<T: Copy + Drop>(alloc: Global, count: usize, item: T) -> Result<Seq<T>, NoMemory>
     ensures { IfOk result (λ list. list ≡ replicate count item) }
@@ -109,7 +119,11 @@ fn next(count: usize) -> Result<usize, NoMemory>
 }
 
 /// Adds the numbers of an actor's notes to those of the places.
-fn count_list(script: &Script, counts: &mut Seq<usize>, notes: &[Note]) -> Result<(), NoMemory>
+fn count_list(
+    script: &Script,
+    counts: &mut Seq<usize>,
+    notes: &[PackedNote],
+) -> Result<(), NoMemory>
     requires places { length counts.old ≡ place_count script.now }
     requires exist { HavePlaces script.now notes.now }
     ensures places { OnOk result (length counts.new ≡ place_count script.now) }
@@ -117,7 +131,7 @@ fn count_list(script: &Script, counts: &mut Seq<usize>, notes: &[Note]) -> Resul
 {
     for note in notes {
         let counted = counts.as_slice();
-        let place = place_index(script, note.place);
+        let place = place_number(script, note);
         let count = next(counted[place])?;
         counts.replace(place, count);
     }
@@ -125,7 +139,11 @@ fn count_list(script: &Script, counts: &mut Seq<usize>, notes: &[Note]) -> Resul
 }
 
 /// The number of notes of each place.
-fn counts_of(alloc: Global, script: &Script, lists: &[Seq<Note>]) -> Result<Seq<usize>, NoMemory>
+fn counts_of(
+    alloc: Global,
+    script: &Script,
+    lists: &[Seq<PackedNote>],
+) -> Result<Seq<usize>, NoMemory>
     requires { AllHavePlaces script.now lists.now }
     ensures { IfOk result (λ counts. AreCounts script.now lists.now counts) }
 {
@@ -151,13 +169,13 @@ fn starts_of(alloc: Global, counts: &[usize]) -> Result<Seq<usize>, NoMemory>
 }
 
 /// Where a note's origin stands.
-fn location(script: &Script, starts: &[usize], note: &Note) -> usize
+fn location(script: &Script, starts: &[usize], note: &PackedNote) -> usize
     requires places { length starts.now ≡ place_count script.now + 1 }
     requires exists { place_exists script.now note.now.place ≡ true }
     requires fits { location script.now starts.now note.now < 2 ^ 64 }
     ensures { result ≡ location script.now starts.now note.now }
 {
-    starts[place_index(script, note.place)] + note.pos as usize
+    starts[place_number(script, note)] + note.pos() as usize
 }
 
 /// A number of 32 bits. NoMemory from 2^32 on: so many notes or actors find no memory.
@@ -170,7 +188,7 @@ pub fn short(number: usize) -> Result<u32, NoMemory>
 /// Writes the origins of an actor's notes where they belong.
 fn write_list(
     script: &Script,
-    lists: &[Seq<Note>],
+    lists: &[Seq<PackedNote>],
     starts: &[usize],
     origins: &mut Seq<Origin>,
     actor: u32,
@@ -194,7 +212,7 @@ fn write_list(
 fn origins_of(
     alloc: Global,
     script: &Script,
-    lists: &[Seq<Note>],
+    lists: &[Seq<PackedNote>],
     starts: &[usize],
     room: usize,
 ) -> Result<Seq<Origin>, NoMemory>
@@ -215,11 +233,12 @@ fn origins_of(
     Ok(origins)
 }
 
-/// The notes of all lists, in the report's order: place by place, and in each place by position. It takes time and memory
-/// in proportion to the notes and the places, and no sorting.
-///
-/// NoMemory where the order finds no memory, or has more than 2^32 notes of one actor.
-pub fn order_of(alloc: Global, script: &Script, lists: &[Seq<Note>]) -> Result<Order, NoMemory>
+/// The order of packed notes, as [`order_of`] has it.
+pub(crate) fn packed_order(
+    alloc: Global,
+    script: &Script,
+    lists: &[Seq<PackedNote>],
+) -> Result<Order, NoMemory>
     requires places { AllHavePlaces script.now lists.now }
     requires formed { IsWellFormed lists.now }
     ensures { IfOk result (λ order. ShowsHistories script.now lists.now order) }
@@ -231,4 +250,17 @@ pub fn order_of(alloc: Global, script: &Script, lists: &[Seq<Note>]) -> Result<O
     let room = from[counts.len()];
     let origins = origins_of(alloc, script, lists, from, room)?;
     Ok(Order { starts, origins })
+}
+
+/// The notes of all lists, in the report's order: place by place, and in each place by position. It takes time and memory
+/// in proportion to the notes and the places, and no sorting. The notes are packed first.
+///
+/// NoMemory where the order finds no memory, or has more than 2^32 notes of one actor.
+pub fn order_of(alloc: Global, script: &Script, lists: &[Seq<Note>]) -> Result<Order, NoMemory>
+    requires places { AllHavePlaces script.now lists.now }
+    requires formed { IsWellFormed lists.now }
+    ensures { IfOk result (λ order. ShowsHistories script.now lists.now order) }
+{
+    let packed = packed_lists(alloc, lists)?;
+    packed_order(alloc, script, packed.as_slice())
 }

@@ -5,6 +5,7 @@ ghost use Rattle.co_report.specs.Origins.{note_from, origin_line, origin_lines, 
 
 use crate::note::print_note;
 use co_object::Note;
+use co_packed::PackedNote;
 use co_program::Script;
 use co_sbt::{NoMemory, Seq};
 use co_text::Page;
@@ -16,6 +17,14 @@ pub struct Origin {
     pub actor: u32,
     /// The note's number in the actor's list, from 0.
     pub number: u32,
+}
+
+/// The packed note from an origin; None where none stands there.
+fn packed_from(lists: &[Seq<PackedNote>], origin: Origin) -> Option<&PackedNote>
+    ensures { MatchOption result (note_from lists.now origin ≡ None) (λ note. note_from lists.now origin ≡ Some note.now) }
+{
+    let notes = lists.get(origin.actor as usize)?;
+    notes.as_slice().get(origin.number as usize)
 }
 
 /// The note from an origin; None where none stands there.
@@ -31,13 +40,16 @@ pub fn note_from(lists: &[Seq<Note>], origin: Origin) -> Option<&Note>
 fn print_origin(
     page: &mut Page,
     script: &Script,
-    lists: &[Seq<Note>],
+    lists: &[Seq<PackedNote>],
     origin: Origin,
 ) -> Result<(), NoMemory>
     ensures { OnOk result (page.new ≡ page.old ++ text (origin_lines script.now lists.now origin)) }
 {
-    match note_from(lists, origin) {
-        Some(note) => print_note(page, script, u64::from(origin.number), &note.entry),
+    match packed_from(lists, origin) {
+        Some(packed) => {
+            let note = packed.note();
+            print_note(page, script, u64::from(origin.number), &note.entry)
+        }
         None => Ok(()),
     }
 }
@@ -46,7 +58,7 @@ fn print_origin(
 pub fn print_from(
     page: &mut Page,
     script: &Script,
-    lists: &[Seq<Note>],
+    lists: &[Seq<PackedNote>],
     origins: &[Origin],
 ) -> Result<(), NoMemory>
     ensures { OnOk result (page.new ≡ page.old ++ text (lines_from script.now lists.now origins.now)) }

@@ -7,9 +7,11 @@ ghost use Rattle.co_report.specs.Reports.{lines_between, report_of};
 ghost use Rattle.co_report.specs.Order.{place_index, place_count, ShowsHistories};
 
 use crate::frame::{print_head, print_heading, print_word};
-use crate::order::{Order, order_of, short};
+use crate::order::{Order, packed_order, short};
 use crate::origin::print_from;
-use co_object::{Lists, Note, Place};
+use crate::packing::packed_lists;
+use co_object::{Lists, Place};
+use co_packed::PackedNote;
 use co_program::Script;
 use co_sbt::{NoMemory, Seq};
 use co_text::Page;
@@ -38,7 +40,7 @@ fn place_of(script: &Script, number: usize) -> Result<Place, NoMemory>
 #[derive(Drop)]
 pub struct Printing<'a> {
     script: &'a Script,
-    lists: &'a [Seq<Note>],
+    lists: &'a [Seq<PackedNote>],
     order: Order,
     ghost shows: { ShowsHistories script.now lists.now order },
 }
@@ -49,14 +51,14 @@ impl<'a> Printing<'a> {
     pub fn new(
         alloc: Global,
         script: &'a Script,
-        lists: &'a [Seq<Note>],
+        lists: &'a [Seq<PackedNote>],
     ) -> Result<Printing<'a>, NoMemory>
         requires places { AllHavePlaces script.now lists.now }
         requires formed { IsWellFormed lists.now }
         ensures script { IfOk result (λ printing. printing.script.now ≡ script.now) }
         ensures lists { IfOk result (λ printing. printing.lists.now ≡ lists.now) }
     {
-        let order = order_of(alloc, script, lists)?;
+        let order = packed_order(alloc, script, lists)?;
         Ok(Printing {
             script,
             lists,
@@ -125,7 +127,8 @@ pub fn print_report(alloc: Global, script: &Script, lists: &Lists) -> Result<Seq
     requires formed { IsWellFormed lists.now }
     ensures { IfOk result (λ bytes. bytes ≡ report_of script.now lists.now) }
 {
-    let printing = Printing::new(alloc, script, lists.as_slice())?;
+    let packed = packed_lists(alloc, lists.as_slice())?;
+    let printing = Printing::new(alloc, script, packed.as_slice())?;
     let mut page = Page::new(alloc);
     printing.print(&mut page)?;
     Ok(page.done())

@@ -3,6 +3,7 @@
 ghost use Rattle.co_report.specs.Typed.{EntryTyped, ListsTyped, NotesTyped};
 
 use co_object::Note;
+use co_packed::PackedNote;
 use co_sbt::Seq;
 
 /// The values of the note are in the ranges of their types.
@@ -11,16 +12,17 @@ fn note_is_typed(note: Note)
 {}
 
 /// The values of all notes of an actor are in the ranges of their types.
-fn notes_are_typed(notes: &[Note])
+fn notes_are_typed(notes: &[PackedNote])
     ensures { NotesTyped notes.now }
 {
     for note in notes {
-        note_is_typed(*note);
+        let plain = note.note();
+        note_is_typed(plain);
     }
 }
 
 /// The values of all actors' notes are in the ranges of their types.
-pub(crate) fn lists_are_typed(lists: &[Seq<Note>])
+pub(crate) fn lists_are_typed(lists: &[Seq<PackedNote>])
     ensures { ListsTyped lists.now }
 {
     for notes in lists {

@@ -6,14 +6,14 @@ use Rattle.co_report.specs.Typed.{ListsTyped}
 use Rattle.co_top.proofs.Accepts.{reported_ran}
 use Rattle.co_top.proofs.running.report_of_run.Goals as goal
 
-pub run_threads-requires-clause-script : goal.run_threads-requires-clause-script
-run_threads-requires-clause-script g c = λ κs lives. fits-accepted c.args.script.now c.requires
+pub run_packed-requires-clause-script : goal.run_packed-requires-clause-script
+run_packed-requires-clause-script g c = λ κs lives. fits-accepted c.args.script.now c.requires
 
-pub run_threads-requires-clause-locks : goal.run_threads-requires-clause-locks
-run_threads-requires-clause-locks g c = λ κs lives. c.fitting_scripts_can_run.ensures.locks c.args.script.now c.requires
+pub run_packed-requires-clause-locks : goal.run_packed-requires-clause-locks
+run_packed-requires-clause-locks g c = λ κs lives. c.fitting_scripts_can_run.ensures.locks c.args.script.now c.requires
 
-pub run_threads-requires-clause-params : goal.run_threads-requires-clause-params
-run_threads-requires-clause-params g c = λ κs lives. c.fitting_scripts_can_run.ensures.params c.args.script.now c.requires
+pub run_packed-requires-clause-params : goal.run_packed-requires-clause-params
+run_packed-requires-clause-params g c = λ κs lives. c.fitting_scripts_can_run.ensures.params c.args.script.now c.requires
 
 pub returns : goal.returns
 returns g c =

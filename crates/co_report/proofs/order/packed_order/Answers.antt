@@ -3,7 +3,7 @@ use Rattle.co_report.specs.Order.{AreCounts, AreWritten}
 use Rattle.co_report.proofs.Starts.{length-starts}
 use Rattle.co_report.proofs.Room.{has-room}
 use Rattle.co_report.proofs.Shows.{shows-with}
-use Rattle.co_report.proofs.order.order_of.Goals as goal
+use Rattle.co_report.proofs.order.packed_order.Goals as goal
 
 pub bounds-from-counts : goal.bounds-from-counts
 bounds-from-counts c = omega (arith, ap length c.as_slice-from.ensures, ap length c.in_ok-starts.ensures, length-starts 0 c.as_slice-counts.result.now)
