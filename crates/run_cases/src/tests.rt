@@ -1,6 +1,7 @@
 //! Runs on threads.
 mod crowd;
 mod held;
+mod packed;
 mod ports;
 mod running;
 mod scene;

@@ -53,7 +53,7 @@ pub(super) fn script_of(alloc: Global, text: &[u8]) -> Result<Script, Failed>
 }
 
 /// The verdict on the report that a text is.
-fn verdict_on(alloc: Global, text: &[u8]) -> Result<Verdict, Failed> {
+pub(super) fn verdict_on(alloc: Global, text: &[u8]) -> Result<Verdict, Failed> {
     let report = read_report(alloc, text)?;
     Ok(check(alloc, &report)?)
 }
