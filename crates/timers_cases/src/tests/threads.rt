@@ -96,7 +96,7 @@ fn play<N: Name + Send + Sync, R: Threads + Wait + Sync + Abort>(
 }
 
 #[test]
-fn each_arming_is_called_or_cancelled(rt: HostRuntime) -> Result<(), Fail> {
+fn no_arming_is_called_and_cancelled(rt: HostRuntime) -> Result<(), Fail> {
     let fresh = boot(rt.alloc())?;
     let (cancelled, called) = play::<Brand, _>(&rt, rt.alloc(), fresh)?;
     // A stop while an earlier call runs answers 0, and takes the new arming away.
