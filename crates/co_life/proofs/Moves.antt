@@ -1,22 +1,20 @@
 -- Each step keeps the rule: the lemma `moves` says so of any step that moves or changes one pass, and each of the six kinds is shown to be one,
 -- but the start and the making of a pass, which are shown by themselves.
-use Rattle.std.proofs.Common.{◌≡◌, ◌≢◌, ◌⊎◌, ℕ, zero, suc, ◌+◌, ◌<◌, ◌==◌, min, Bool, true, List, [], ◌∷◌, ◌++◌, length, set, Option, Some, None, refl, sym, ap, ◌∙◌, subst, inl, inr, ⊎_elim, arith, length-append}
-use Rattle.std.specs.Prelude.{slice_index, slice_set}
+use Rattle.std.proofs.Common.{◌≡◌, ◌≢◌, ◌⊎◌, ℕ, zero, suc, ◌+◌, ◌<◌, min, List, [], ◌∷◌, ◌++◌, length, set, Option, Some, None, refl, sym, ap, ◌∙◌, subst, inl, inr, ⊎_elim, arith}
 use Rattle.std.specs.List.{All}
 use Rattle.std.proofs.lemmas.List.Elements.{All-append}
-use Rattle.std.proofs.lemmas.Bool.Decides.{nat_tests}
 use mathlib.Core.Option.{some, some-injective, some-ne-none}
 use mathlib.Core.Logic.{dite}
 use native.Mathlib.Decide.{ℕ_discrete}
-use prog.Atomic.{either}
 use lib.ListN.{get_elem?}
-use Rattle.atomic_table.specs.Table.{State, Me, Step, step, keeps, Allows, Splits, Joins}
+use Rattle.atomic_table.specs.Table.{State, Me, Step, keeps, Allows, Splits, Joins}
 use Rattle.atomic_table.proofs.Lists.{at_set, set_again, set_here, set_else, at_longer, at_last}
 use Rattle.co_life.specs.declared.view.SeatView.{SeatView}
 use Rattle.co_life.specs.declared.view.SeatView.TheVariants.{Keeps, Has, Spent}
 use Rattle.co_life.specs.declared.view.Glance.{Glance}
-use Rattle.co_life.specs.Rule.{gap, capped, glance, opening_view, pass_in, HasPass, Fits, IsKept, Kept}
-use Rattle.co_life.specs.Steps.{dealing, dealt, entered, left_by, let_out, Learns, Tells, Looks, Appends}
+use Rattle.co_life.specs.Rule.{capped, glance, opening_view, pass_in, HasPass, Fits, IsKept, Kept}
+use Rattle.co_life.specs.Steps.{dealing, dealt, entered, left_by, let_out, Learns, Tells, Looks, Appends, MayAppend}
+use Rattle.co_life.specs.Views.{history_in, made_in}
 use Rattle.co_life.proofs.Histories.{starts_self, starts_longer, own-other}
 
 module _ {A : Type 0} where
@@ -33,14 +31,14 @@ module _ {A : Type 0} where
 
 module _ {E : Type 0} (actor : E → ℕ) (legal : List E → Type 0) where
   -- the keeper's view tells which state it is
-  pub at_keeper : (s : State E (SeatView E)) (id : ℕ) (h : List E) (n : ℕ) (i : Option (Glance E)) → Kept actor legal s → get_elem? s.views id ≡ some (Keeps h n i) → IsKept actor legal s.words s.views id h n i
+  pub at_keeper : (s : State E (SeatView E)) (id : ℕ) (h : List E) (n : ℕ) (i : Option (Glance E)) → Kept actor legal s → get_elem? s.views id ≡ some (Keeps h n i) → IsKept actor legal s.views id h n i
   at_keeper s id h n i k at =
       let me = k.4.alone id n h i at in
       let same : Keeps k.1 k.2 k.3 ≡ Keeps h n i = some-injective _ _ (sym k.4.keeps ∙ (ap (get_elem? s.views) (sym me) ∙ at)) in
       let hs : k.1 ≡ h = cc in
       let ns : k.2 ≡ n = cc in
       let is : k.3 ≡ i = cc in
-      subst (λ (t : ℕ × List E × ℕ × Option (Glance E)). IsKept actor legal s.words s.views t.0 t.1 t.2 t.3) (λ j. (sym me j, hs j, ns j, is j)) k.4
+      subst (λ (t : ℕ × List E × ℕ × Option (Glance E)). IsKept actor legal s.views t.0 t.1 t.2 t.3) (λ j. (sym me j, hs j, ns j, is j)) k.4
 
   -- the pass p of the seat `from` is the pass q of the seat `to` afterwards, and no other pass changes
   pub record Moved (before after : List (SeatView E)) (from to : ℕ) (p q : Glance E) : Type 0 where
@@ -50,14 +48,13 @@ module _ {E : Type 0} (actor : E → ℕ) (legal : List E → Type 0) where
     pub forth : (k : ℕ) (r : Glance E) → HasPass before k r → k ≢ from → HasPass after k r
     pub back : (k : ℕ) (r : Glance E) → HasPass after k r → ((k ≡ to) × (r ≡ q)) ⊎ ((k ≢ from) × HasPass before k r)
 
-  module _ (words new : List ℕ) (before after : List (SeatView E)) (keeper : ℕ) (h h' : List E) (n : ℕ) (i i' : Option (Glance E)) where
-    moves : (from to : ℕ) (p q : Glance E) → IsKept actor legal words before keeper h n i → Moved before after from to p q
+  module _ (before after : List (SeatView E)) (keeper : ℕ) (h h' : List E) (n : ℕ) (i i' : Option (Glance E)) where
+    moves : (from to : ℕ) (p q : Glance E) → IsKept actor legal before keeper h n i → Moved before after from to p q
         → ((r : Glance E) → r.actor ≢ p.actor → Fits actor h r → Fits actor h' r) → Fits actor h' q
-        → new ≡ capped (length h') ∷ gap → get_elem? after keeper ≡ some (Keeps h' n i')
+        → get_elem? after keeper ≡ some (Keeps h' n i')
         → ((k m : ℕ) (x : List E) (j : Option (Glance E)) → get_elem? after k ≡ some (Keeps x m j) → k ≡ keeper)
-        → All (λ e. actor e < n) h' → legal h' → IsKept actor legal new after keeper h' n i'
-    moves from to p q old m grows fits word kept alone actors is_legal = record {
-      word = word;
+        → All (λ e. actor e < n) h' → legal h' → IsKept actor legal after keeper h' n i'
+    moves from to p q old m grows fits kept alone actors is_legal = record {
       keeps = kept;
       alone = alone;
       fits = λ k r has. ⊎_elim
@@ -87,24 +84,14 @@ module _ {E : Type 0} (actor : E → ℕ) (legal : List E → Type 0) where
             let ps : Some r ≡ Some s = sym x.2 ∙ (ap pass_in vs ∙ y.2) in
             cc
 
-  one_word : (ws : List ℕ) (w : ℕ) → ws ≡ w ∷ gap → slice_set ws 0 (slice_index ws 0) ≡ w ∷ gap
-  one_word ws w e = subst (λ (x : List ℕ). slice_set x 0 (slice_index x 0) ≡ w ∷ gap) (sym e) refl
-
-  other_word : (ws : List ℕ) (w v : ℕ) → ws ≡ w ∷ gap → slice_set ws 0 v ≡ v ∷ gap
-  other_word ws w v e = subst (λ (x : List ℕ). slice_set x 0 v ≡ v ∷ gap) (sym e) refl
-
-  found_word : (ws : List ℕ) (w : ℕ) → ws ≡ w ∷ gap → slice_index ws 0 ≡ w
-  found_word ws w e = ap (λ (x : List ℕ). slice_index x 0) e
-
   -- the start
-  pub opens : (legal [] → Kept actor legal record { words = 0 ∷ gap; homes = []; views = opening_view ∷ [] })
+  pub opens : (legal [] → Kept actor legal record { words = 0 ∷ []; homes = []; views = opening_view ∷ [] })
   opens empty = (
     0,
     [],
     0,
     None,
     record {
-      word = refl;
       keeps = refl;
       alone = λ k n h i e. first_only k (Keeps h n i) e;
       fits = λ k p has. absurd (nobody k p has);
@@ -138,7 +125,6 @@ module _ {E : Type 0} (actor : E → ℕ) (legal : List E → Type 0) where
     suc n,
     None,
     record {
-      word = old.word;
       keeps = at_longer after (new ∷ []) id left (set_here s.views id left (at_inside s.views id _ at));
       alone = λ k m x j e. ⊎_elim
           (λ (there : get_elem? after k ≡ some (Keeps x m j)). ⊎_elim (λ (t : (k ≡ id) × (left ≡ Keeps x m j)). t.0) (λ (t : (k ≢ id) × (get_elem? s.views k ≡ some (Keeps x m j))). old.alone k m x j t.1) (at_set s.views id k left _ there))
@@ -175,7 +161,7 @@ module _ {E : Type 0} (actor : E → ℕ) (legal : List E → Type 0) where
       after : List (SeatView E)
       after = set s.views id left
 
-      back : IsKept actor legal s.words s.views id h n None → (k : ℕ) (p : Glance E) → HasPass (after ++ new ∷ []) k p → ((k ≡ length after) × (p ≡ glance n h)) ⊎ HasPass s.views k p
+      back : IsKept actor legal s.views id h n None → (k : ℕ) (p : Glance E) → HasPass (after ++ new ∷ []) k p → ((k ≡ length after) × (p ≡ glance n h)) ⊎ HasPass s.views k p
       back old k p has = ⊎_elim
           (λ (there : get_elem? after k ≡ some has.0). ⊎_elim
           (λ (t : (k ≡ id) × (left ≡ has.0)). let none : None ≡ Some p = ap pass_in t.1 ∙ has.2 in absurd (cc))
@@ -205,7 +191,7 @@ module _ {E : Type 0} (actor : E → ℕ) (legal : List E → Type 0) where
             (λ else. (has.0, set_else first other k Spent away ∙ (set_else s.views id k inside else ∙ has.1), has.2));
         back = back;
       } in
-      (id, h, n, Some p, moves s.words s.words s.views after id h h n None (Some p) other id p p old m (λ r _ f. f) (old.fits other p was).1 old.word me_at (alone old) old.actors old.is_legal)
+      (id, h, n, Some p, moves s.views after id h h n None (Some p) other id p p old m (λ r _ f. f) (old.fits other p was).1 me_at (alone old) old.actors old.is_legal)
     where
       inside : SeatView E
       inside = Keeps h n (Some p)
@@ -216,7 +202,7 @@ module _ {E : Type 0} (actor : E → ℕ) (legal : List E → Type 0) where
       after : List (SeatView E)
       after = set first other Spent
 
-      alone : IsKept actor legal s.words s.views id h n None → (k m : ℕ) (x : List E) (j : Option (Glance E)) → get_elem? after k ≡ some (Keeps x m j) → k ≡ id
+      alone : IsKept actor legal s.views id h n None → (k m : ℕ) (x : List E) (j : Option (Glance E)) → get_elem? after k ≡ some (Keeps x m j) → k ≡ id
       alone old k m x j e = ⊎_elim
           (λ (t : (k ≡ other) × (Spent ≡ Keeps x m j)). let no = t.1 in absurd (cc))
           (λ (t : (k ≢ other) × (get_elem? first k ≡ some (Keeps x m j))). ⊎_elim
@@ -247,7 +233,7 @@ module _ {E : Type 0} (actor : E → ℕ) (legal : List E → Type 0) where
         forth = λ k r has away. (has.0, at_longer first (Has p ∷ []) k has.0 (set_else s.views id k left away ∙ has.1), has.2);
         back = back;
       } in
-      (id, h, n, None, moves s.words s.words s.views after id h h n (Some p) None id (length first) p p old m (λ r _ f. f) (old.fits id p was).1 old.word me_at (alone old) old.actors old.is_legal)
+      (id, h, n, None, moves s.views after id h h n (Some p) None id (length first) p p old m (λ r _ f. f) (old.fits id p was).1 me_at (alone old) old.actors old.is_legal)
     where
       left : SeatView E
       left = Keeps h n None
@@ -258,7 +244,7 @@ module _ {E : Type 0} (actor : E → ℕ) (legal : List E → Type 0) where
       after : List (SeatView E)
       after = first ++ Has p ∷ []
 
-      alone : IsKept actor legal s.words s.views id h n (Some p) → (k m : ℕ) (x : List E) (j : Option (Glance E)) → get_elem? after k ≡ some (Keeps x m j) → k ≡ id
+      alone : IsKept actor legal s.views id h n (Some p) → (k m : ℕ) (x : List E) (j : Option (Glance E)) → get_elem? after k ≡ some (Keeps x m j) → k ≡ id
       alone old k m x j e = ⊎_elim
           (λ (t : get_elem? first k ≡ some (Keeps x m j)). ⊎_elim
           (λ (u : (k ≡ id) × (left ≡ Keeps x m j)). u.0)
@@ -282,9 +268,9 @@ module _ {E : Type 0} (actor : E → ℕ) (legal : List E → Type 0) where
   looks slots id h n p st s rule _ at _ =
       let old = at_keeper s id h n (Some p) rule at in
       let mine = old.fits id p (Keeps h n (Some p), at, refl) in
-      let same : IsKept actor legal (slice_set s.words 0 (slice_index s.words 0)) (set s.views id (Keeps h n (Some p))) id h n (Some p) =
-      subst (λ (t : List ℕ × List (SeatView E)). IsKept actor legal t.0 t.1 id h n (Some p)) (λ j. (sym (one_word s.words _ old.word ∙ sym old.word) j, sym (set_again s.views id _ at) j)) old in
-      (Keeps h n (Some p), keeps, tt, (id, h, n, Some p, same), (refl, record { length_found = found_word s.words _ old.word; fits = mine.1; below = mine.0; actors = old.actors; is_legal = old.is_legal }))
+      let same : IsKept actor legal (set s.views id (Keeps h n (Some p))) id h n (Some p) =
+      subst (λ (vs : List (SeatView E)). IsKept actor legal vs id h n (Some p)) (sym (set_again s.views id _ at)) old in
+      (Keeps h n (Some p), keeps, tt, (id, h, n, Some p, same), (refl, record { fits = mine.1; below = mine.0; actors = old.actors; is_legal = old.is_legal }))
 
   pub capped_next : (n found new : ℕ) → found ≡ capped n → new ≡ min (found + 1) 18446744073709551615 → new ≡ capped (n + 1)
   capped_next n found new is next = omega arith
@@ -297,18 +283,15 @@ module _ {E : Type 0} (actor : E → ℕ) (legal : List E → Type 0) where
   all_below h e n a by below mine = All-append (λ x. actor x < n) h (e ∷ []) below (one_below e n (subst (λ (i : ℕ). i < n) (sym by) mine))
 
   -- the actor inside appends an entry
-  pub appends : (slots id : ℕ) (h : List E) (n : ℕ) (p : Glance E) (e : E) (old new : ℕ) → old ≡ capped (length h) → new ≡ capped (length h + 1) → actor e ≡ p.actor → All (λ x. actor x < n) h → p.actor < n → legal (h ++ e ∷ [])
-      → Allows (Kept actor legal) slots id (Keeps h n (Some p), []) 0 (λ x. either (x == old) new x) (Appends (step slots 0 old new (some e)) (Keeps h n (Some p), []))
-  appends slots id h n p e o new is_old is_new by below mine next s rule _ at _ =
+  pub appends : (slots id : ℕ) (h : List E) (n : ℕ) (p : Glance E) (e : E) (st : Step E) → actor e ≡ p.actor → legal (h ++ e ∷ [])
+      → Allows (Kept actor legal) slots id (Keeps h n (Some p), []) 0 (λ x. x) (Appends (Some e) st (Keeps h n (Some p), []))
+  appends slots id h n p e st by next s rule _ at _ =
       let old = at_keeper s id h n (Some p) rule at in
+      let below = (old.fits id p (Keeps h n (Some p), at, refl)).0 in
       let q = glance p.actor (h ++ e ∷ []) in
       let w : SeatView E = Keeps (h ++ e ∷ []) n (Some q) in
       let after = set s.views id w in
       let me_at : get_elem? after id ≡ some w = set_here s.views id w (at_inside s.views id _ at) in
-      let found = found_word s.words _ old.word in
-      let hit : (slice_index s.words 0 == o) ≡ true = grind (arith, nat_tests) in
-      let word : slice_set s.words 0 (either (slice_index s.words 0 == o) new (slice_index s.words 0)) ≡ capped (length (h ++ e ∷ [])) ∷ gap =
-      other_word s.words _ _ old.word ∙ ap (λ (x : ℕ). x ∷ gap) (ap (λ (b : Bool). either b new (slice_index s.words 0)) hit ∙ (is_new ∙ ap capped (sym (length-append h (e ∷ []))))) in
       let m : Moved s.views after id id p q = record {
         same_actor = refl;
         was = (Keeps h n (Some p), at, refl);
@@ -335,8 +318,8 @@ module _ {E : Type 0} (actor : E → ℕ) (legal : List E → Type 0) where
           h ++ e ∷ [],
           n,
           Some q,
-          moves s.words _ s.views after id h (h ++ e ∷ []) n (Some p) (Some q) id id p q old m grows (record { prefix = starts_self (h ++ e ∷ []); all_own = refl }) word me_at alone
-              (all_below h e n p.actor by below mine) next,
+          moves s.views after id h (h ++ e ∷ []) n (Some p) (Some q) id id p q old m grows (record { prefix = starts_self (h ++ e ∷ []); all_own = refl }) me_at alone
+              (all_below h e n p.actor by old.actors below) next,
         ),
         refl,
       )
@@ -355,10 +338,11 @@ module _ {E : Type 0} (actor : E → ℕ) (legal : List E → Type 0) where
       → Allows (Kept actor legal) slots id m 0 (λ x. x) (Looks actor legal st m)
   looks_as slots id m h n p st is = subst (λ (u : Me E (SeatView E)). Allows (Kept actor legal) slots id u 0 (λ x. x) (Looks actor legal st u)) (sym is) (looks slots id h n p st)
 
-  pub appends_as : (slots id : ℕ) (m : Me E (SeatView E)) (h : List E) (n : ℕ) (p : Glance E) (e : E) (old new : ℕ) → m ≡ (Keeps h n (Some p), []) → old ≡ capped (length h) → new ≡ capped (length h + 1) → actor e ≡ p.actor → All (λ x. actor x < n) h → p.actor < n → legal (h ++ e ∷ [])
-      → Allows (Kept actor legal) slots id m 0 (λ x. either (x == old) new x) (Appends (step slots 0 old new (some e)) m)
-  appends_as slots id m h n p e old new is a b c d f i = subst (λ (u : Me E (SeatView E)). Allows (Kept actor legal) slots id u 0 (λ x. either (x == old) new x) (Appends (step slots 0 old new (some e)) u)) (sym is) (appends slots id h n p e old new a b c d f i)
+  pub appends_as : (slots id : ℕ) (m : Me E (SeatView E)) (p : Glance E) (e : E) (said : Option E) (st : Step E) → said ≡ Some e → MayAppend actor legal m p e
+      → Allows (Kept actor legal) slots id m 0 (λ x. x) (Appends said st m)
+  appends_as slots id m p e said st is may = subst (λ (u : Me E (SeatView E) × Option E). Allows (Kept actor legal) slots id u.0 0 (λ x. x) (Appends u.1 st u.0))
+      (λ j. (sym may.inside j, sym is j)) (appends slots id (history_in m.0) (made_in m.0) p e st may.own may.is_legal)
 
   -- what a look tells of a keeper with this pass inside
-  pub learnt : (m : Me E (SeatView E)) (h : List E) (n : ℕ) (p : Glance E) (found : ℕ) → m.0 ≡ Keeps h n (Some p) → Tells actor legal m.0 found → Learns actor legal h n p found
-  learnt m h n p found is t = subst (λ (v : SeatView E). Tells actor legal v found) is t
+  pub learnt : (m : Me E (SeatView E)) (h : List E) (n : ℕ) (p : Glance E) → m.0 ≡ Keeps h n (Some p) → Tells actor legal m.0 → Learns actor legal h n p
+  learnt m h n p is t = subst (Tells actor legal) is t

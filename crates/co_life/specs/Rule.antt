@@ -1,5 +1,5 @@
 -- The rule of a shared history.
-use Rattle.std.specs.Prelude.{◌≡◌, ℕ, ◌<◌, min, List, [], ◌∷◌, length, Option, Some, None}
+use Rattle.std.specs.Prelude.{◌≡◌, ℕ, ◌<◌, min, List, [], Option, Some, None}
 use Rattle.std.specs.List.{All}
 use mathlib.Core.Option.{some}
 use lib.ListN.{get_elem?}
@@ -9,11 +9,7 @@ use Rattle.co_life.specs.declared.view.SeatView.TheVariants.{Keeps, Has, Spent}
 use Rattle.co_life.specs.declared.view.Glance.{Glance}
 use Rattle.co_life.specs.Seen.{StartsWith, own}
 
--- the words behind the length, which no step touches: they keep lengths that stand side by side off each other's cache lines
-abbrev pub gap : List ℕ
-gap = 0 ∷ 0 ∷ 0 ∷ 0 ∷ 0 ∷ 0 ∷ 0 ∷ []
-
--- a length as a word has it
+-- a length as a number of 64 bits has it
 abbrev pub capped : ℕ → ℕ
 capped n = min n 18446744073709551615
 
@@ -38,8 +34,7 @@ module _ {E : Type 0} where
     pub prefix : StartsWith history p.seen
     pub all_own : own actor p.actor history ≡ own actor p.actor p.seen
 
-  pub record IsKept (actor : E → ℕ) (legal : List E → Type 0) (words : List ℕ) (views : List (SeatView E)) (keeper : ℕ) (history : List E) (made : ℕ) (inside : Option (Glance E)) : Type 0 where
-    pub word : words ≡ capped (length history) ∷ gap
+  pub record IsKept (actor : E → ℕ) (legal : List E → Type 0) (views : List (SeatView E)) (keeper : ℕ) (history : List E) (made : ℕ) (inside : Option (Glance E)) : Type 0 where
     -- one view is a keeper's
     pub keeps : get_elem? views keeper ≡ some (Keeps history made inside)
     pub alone : (k n : ℕ) (h : List E) (i : Option (Glance E)) → get_elem? views k ≡ some (Keeps h n i) → k ≡ keeper
@@ -51,4 +46,4 @@ module _ {E : Type 0} where
     pub is_legal : legal history
 
   abbrev pub Kept : (E → ℕ) → (List E → Type 0) → State E (SeatView E) → Type 0
-  Kept actor legal s = (keeper : ℕ) × (history : List E) × (made : ℕ) × (inside : Option (Glance E)) × IsKept actor legal s.words s.views keeper history made inside
+  Kept actor legal s = (keeper : ℕ) × (history : List E) × (made : ℕ) × (inside : Option (Glance E)) × IsKept actor legal s.views keeper history made inside

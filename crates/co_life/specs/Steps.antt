@@ -1,12 +1,12 @@
 -- What each step of a keeper does to the views, and what it tells.
-use Rattle.std.specs.Prelude.{◌≡◌, ℕ, suc, ◌<◌, List, [], ◌∷◌, ◌++◌, length, Some, None}
+use Rattle.std.specs.Prelude.{◌≡◌, ℕ, suc, ◌<◌, List, [], ◌∷◌, ◌++◌, Option, Some, None}
 use Rattle.std.specs.List.{All}
-use mathlib.Core.Option.{Option as Maybe, some}
 use Rattle.atomic_table.specs.Table.{Me, Step}
 use Rattle.co_life.specs.declared.view.SeatView.{SeatView}
 use Rattle.co_life.specs.declared.view.SeatView.TheVariants.{Keeps, Has, Spent}
 use Rattle.co_life.specs.declared.view.Glance.{Glance}
-use Rattle.co_life.specs.Rule.{capped, glance, Fits}
+use Rattle.co_life.specs.Rule.{glance, Fits}
+use Rattle.co_life.specs.Views.{history_in, made_in}
 
 module _ {E : Type 0} where
   -- boot: one more pass is made
@@ -41,26 +41,31 @@ module _ {E : Type 0} where
   let_out (Has p) = Spent
   let_out Spent = Spent
 
-  abbrev pub with_entry : SeatView E → Maybe E → SeatView E
-  with_entry (Keeps h n (Some p)) (some e) = Keeps (h ++ e ∷ []) n (Some (glance p.actor (h ++ e ∷ [])))
+  abbrev pub with_entry : SeatView E → Option E → SeatView E
+  with_entry (Keeps h n (Some p)) (Some e) = Keeps (h ++ e ∷ []) n (Some (glance p.actor (h ++ e ∷ [])))
   with_entry v m = v
 
-  -- a keeper with a pass inside learns how long the history is, and what of it the pass has seen
-  pub record Learns (actor : E → ℕ) (legal : List E → Type 0) (h : List E) (n : ℕ) (p : Glance E) (found : ℕ) : Type 0 where
-    pub length_found : found ≡ capped (length h)
+  -- a keeper with a pass inside learns what of the history the pass has seen
+  pub record Learns (actor : E → ℕ) (legal : List E → Type 0) (h : List E) (n : ℕ) (p : Glance E) : Type 0 where
     pub fits : Fits actor h p
     pub below : p.actor < n
     pub actors : All (λ e. actor e < n) h
     pub is_legal : legal h
 
-  abbrev pub Tells : (E → ℕ) → (List E → Type 0) → SeatView E → ℕ → Type 0
-  Tells actor legal (Keeps h n (Some p)) found = Learns actor legal h n p found
-  Tells actor legal (Keeps h n None) found = Unit {0}
-  Tells actor legal (Has p) found = Unit {0}
-  Tells actor legal Spent found = Unit {0}
+  abbrev pub Tells : (E → ℕ) → (List E → Type 0) → SeatView E → Type 0
+  Tells actor legal (Keeps h n (Some p)) = Learns actor legal h n p
+  Tells actor legal (Keeps h n None) = Unit {0}
+  Tells actor legal (Has p) = Unit {0}
+  Tells actor legal Spent = Unit {0}
 
   abbrev pub Looks : (E → ℕ) → (List E → Type 0) → Step E → Me E (SeatView E) → ℕ → Me E (SeatView E) → Type 0
-  Looks actor legal st m found m' = (m' ≡ m) × Tells actor legal m.0 found
+  Looks actor legal st m found m' = (m' ≡ m) × Tells actor legal m.0
 
-  abbrev pub Appends : Step E → Me E (SeatView E) → ℕ → Me E (SeatView E) → Type 0
-  Appends st m found m' = m' ≡ (with_entry m.0 st.said, m.1)
+  abbrev pub Appends : Option E → Step E → Me E (SeatView E) → ℕ → Me E (SeatView E) → Type 0
+  Appends said st m found m' = m' ≡ (with_entry m.0 said, m.1)
+
+  -- the keeper's seat has a pass inside, whose actor may make this entry now
+  pub record MayAppend (actor : E → ℕ) (legal : List E → Type 0) (m : Me E (SeatView E)) (p : Glance E) (e : E) : Type 0 where
+    pub inside : m ≡ let_in (history_in m.0) (made_in m.0) p
+    pub own : actor e ≡ p.actor
+    pub is_legal : legal (history_in m.0 ++ e ∷ [])

@@ -5,7 +5,7 @@ use Rattle.atomic_table.specs.Table.{Me}
 use Rattle.co_life.specs.Identity.{LifeId, life_coded}
 use Rattle.co_life.specs.declared.view.SeatView.{SeatView}
 use Rattle.co_life.specs.declared.view.SeatView.TheVariants.{Keeps, Has, Spent}
-use Rattle.co_life.specs.Rule.{glance}
+use Rattle.co_life.specs.Rule.{capped, glance}
 
 -- a keeper: its life, the whole history, and how many actors there are
 pub record KeeperView (E : Type 0) : Type 0 where
@@ -48,8 +48,12 @@ module _ {E : Type 0} where
   keeper_view_of t me = record { life = t; history = history_in me.0; actors = made_in me.0 }
 
   -- no pass is inside
-  abbrev pub IsKeeper : Me E (SeatView E) → Type 0
-  IsKeeper me = me ≡ (Keeps (history_in me.0) (made_in me.0) None, [])
+  abbrev pub IsAlone : Me E (SeatView E) → Type 0
+  IsAlone me = me ≡ (Keeps (history_in me.0) (made_in me.0) None, [])
+
+  -- and the count is the history's length
+  abbrev pub IsKeeper : Me E (SeatView E) → ℕ → Type 0
+  IsKeeper me count = IsAlone me × (count ≡ capped (length (history_in me.0)))
 
   abbrev pub actor_in : SeatView E → ℕ
   actor_in (Keeps h n i) = 0

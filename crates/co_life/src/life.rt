@@ -1,25 +1,25 @@
 //! A life, its keeper, its passes, and what is left of them at the end.
-ghost use Rattle.std.specs.Prelude.{◌≡◌, ◌+◌, ◌<◌, ◌≤◌, [], ◌∷◌, ◌++◌, length, IfOk};
+ghost use Rattle.std.specs.Prelude.{◌≡◌, ◌+◌, ◌<◌, ◌≤◌, [], ◌∷◌, ◌++◌, length, Some, IfOk};
 ghost use Rattle.std.specs.List.{All};
 ghost use Rattle.co_life.specs.Rule.{capped, glance};
 ghost use Rattle.co_life.specs.Seen.{own, StartsWith, Extends};
-ghost use Rattle.co_life.specs.Steps.{Learns, let_in};
-ghost use Rattle.co_life.specs.Views.{AreFresh, pass_view, history_in, made_in, IsKeeper};
+ghost use Rattle.co_life.specs.Steps.{Learns, MayAppend, let_in, with_entry};
+ghost use Rattle.co_life.specs.declared.view.Glance.{Glance as GlanceOf};
+ghost use Rattle.co_life.specs.Views.{AreFresh, pass_view, history_in, made_in, IsAlone};
 
-use crate::rule::{Append, Deal, Enter, HistoryRule, Leave, Look};
+use crate::rule::{Append, Deal, Enter, HistoryRule, Leave, Look, Says};
 use crate::shown::Shown;
 use crate::story::Story;
 use crate::view::SeatView;
 use atomic_table::{Seat, Table};
 use co_sbt::{NoMemory, Seq};
 use std::alloc::Global;
-use std::marker::Model;
+use std::marker::{Brand, Model};
 
 /// One shared history, from its opening to its close. Our own decision.
 ///
 /// Contracts see a life as its identity, which its keeper and its passes carry wherever they are moved, and no other life
-/// has. Threads may share it. It has a cache line of words, the first of which is the length
-/// of the history; the entries stand in the proofs alone.
+/// has. Threads may share it. The entries stand in the proofs alone: what is stored is their number, with the keeper.
 #[derive(Drop)]
 pub struct Life<S: Story> {
     table: Table<S::Entry, SeatView<S::Entry>, (), HistoryRule<S>, Global>,
@@ -35,7 +35,7 @@ impl<S: Story> Model for Life<S> {
 
     ghost view = { λ l. l.table.shared.table_id };
 
-    ghost invariant = { λ l. (l.table.shared.table_id.words ≡ 8) × (l.table.shared.table_id.slots ≡ 0) };
+    ghost invariant = { λ l. (l.table.shared.table_id.words ≡ 1) × (l.table.shared.table_id.slots ≡ 0) };
 }
 
 /// The right to add to a history. There is one for each life; who shares it puts it behind a lock.
@@ -44,6 +44,8 @@ impl<S: Story> Model for Life<S> {
 #[derive(Drop)]
 pub struct Keeper<S: Story> {
     seat: Seat<S::Entry, SeatView<S::Entry>>,
+    /// How many entries the history has. The count stands still at 2^64 - 1.
+    count: u64,
 }
 
 impl<S: Story> Model for Keeper<S> {
@@ -55,7 +57,7 @@ impl<S: Story> Model for Keeper<S> {
 
     ghost view = { λ k. keeper_view_of k.seat.table_id k.seat.me };
 
-    ghost invariant = { λ k. IsKeeper k.seat.me };
+    ghost invariant = { λ k. IsKeeper k.seat.me k.count };
 }
 
 /// What one actor has seen of a history. There is one for each actor of a life, and it may go to another thread.
@@ -102,11 +104,11 @@ impl<S: Story> Life<S> {
         ensures keeper { IfOk result (λ r. r.1 ≡ record { life = r.0; history = []; actors = actors }) }
         ensures passes { IfOk result (λ r. AreFresh r.0 actors r.2) }
     {
-        let Ok((table, seat)) = Table::of_words(alloc, &[0, 0, 0, 0, 0, 0, 0, 0], &()) else {
+        let Ok((table, seat)) = Table::of_words(alloc, &[0], &()) else {
             return Err(NoMemory {});
         };
         let life = Life { table };
-        let mut keeper = Keeper { seat };
+        let mut keeper = Keeper { seat, count: 0 };
         let passes = life.deal_all(alloc, &mut keeper, actors)?;
         Ok((life, keeper, passes))
     }
@@ -140,17 +142,33 @@ impl<S: Story> Life<S> {
         Pass { seat }
     }
 
-    // Takes a pass into the keeper's seat, and looks at the length.
+    // Takes a pass into the keeper's seat, and looks at what it has seen.
     #[inline(always)]
-    fn let_in(&self, seat: &mut Seat<S::Entry, SeatView<S::Entry>>, pass: Pass<S>) -> u64
-        requires seat { (seat.old.table_id ≡ self.now) × IsKeeper seat.old.me }
+    fn let_in(&self, seat: &mut Seat<S::Entry, SeatView<S::Entry>>, pass: Pass<S>)
+        requires seat { (seat.old.table_id ≡ self.now) × IsAlone seat.old.me }
         requires pass { pass.life ≡ self.now }
         ensures seat { (seat.new.table_id ≡ self.now) × (seat.new.me ≡ let_in (history_in seat.old.me.0) (made_in seat.old.me.0) (glance pass.actor pass.seen)) }
-        ensures learns { Learns S.actor S.legal (history_in seat.old.me.0) (made_in seat.old.me.0) (glance pass.actor pass.seen) result }
+        ensures learns { Learns S.actor S.legal (history_in seat.old.me.0) (made_in seat.old.me.0) (glance pass.actor pass.seen) }
     {
         let shared = &self.table.shared;
         shared.join_seat::<Enter>(seat, pass.seat);
-        shared.load::<Look<S>>(seat, 0)
+        shared.load::<Look<S>>(seat, 0);
+    }
+
+    // Appends what is said to the history, for the pass inside. It is a step of the proof: a load, which ignores what it finds.
+    #[inline(always)]
+    fn append<B: Says<S::Entry>>(
+        &self,
+        seat: &mut Seat<S::Entry, SeatView<S::Entry>>,
+        entry: &S::Entry,
+    )
+        requires said { B.entry ≡ Some entry.now }
+        requires seat { seat.old.table_id ≡ self.now }
+        requires inside { (p : GlanceOf S.Entry) × MayAppend S.actor S.legal seat.old.me p entry.now }
+        ensures seat { (seat.new.table_id ≡ self.now) × (seat.new.me ≡ (with_entry seat.old.me.0 (Some entry.now), [])) }
+    {
+        let _ = entry;
+        self.table.shared.load::<Append<B>>(seat, 0);
     }
 
     /// Compares a pass with the keeper's history. Nothing changes, and it takes no memory.
@@ -171,7 +189,8 @@ impl<S: Story> Life<S> {
         ensures legal { S.legal keeper.old.history }
     {
         self.let_in(&mut keeper.seat, pass);
-        let seat = self.table.shared.split_seat::<Leave>(&mut keeper.seat);
+        let shared = &self.table.shared;
+        let seat = shared.split_seat::<Leave>(&mut keeper.seat);
         Pass { seat }
     }
 
@@ -192,17 +211,12 @@ impl<S: Story> Life<S> {
         ensures extends { Extends S.actor pass.actor pass.seen entry result.0.seen }
         ensures actors { All (λ e. S.actor e < keeper.new.actors) keeper.new.history }
     {
-        let found = self.let_in(&mut keeper.seat, pass);
-        let shared = &self.table.shared;
-        shared.compare_exchange_with::<Append>(
-            &mut keeper.seat,
-            0,
-            found,
-            found.saturating_add(1),
-            &entry,
-        );
-        let seat = shared.split_seat::<Leave>(&mut keeper.seat);
-        (Pass { seat }, found)
+        self.let_in(&mut keeper.seat, pass);
+        self.append::<Brand>(&mut keeper.seat, &entry);
+        let seat = self.table.shared.split_seat::<Leave>(&mut keeper.seat);
+        let number = keeper.count;
+        keeper.count = number.saturating_add(1);
+        (Pass { seat }, number)
     }
 
     /// Ends the history, which is then the keeper's for ever. It takes no memory.
@@ -215,7 +229,7 @@ impl<S: Story> Life<S> {
     {
         let last = Shown::of(&keeper);
         let Life { table } = self;
-        let Keeper { seat } = keeper;
+        let Keeper { seat, count: _ } = keeper;
         table.close_with(seat).free();
         Closed { last }
     }

@@ -2,7 +2,7 @@
 use crate::story::Story;
 use crate::view::SeatView;
 use atomic_table::{Join, Play, Split, TableRule};
-use std::marker::PhantomData;
+use std::marker::{Brand, PhantomData};
 
 /// The rule of the histories of a story.
 pub struct HistoryRule<S: Story> {
@@ -62,11 +62,26 @@ impl<S: Story> Play<S::Entry, SeatView<S::Entry>> for Look<S> {
     ghost then = { Looks S.actor S.legal };
 }
 
-/// The actor of the pass inside appends an entry.
-pub struct Append;
+/// An entry that only a proof knows. Each call of [`crate::life::Life`] that appends picks it.
+pub trait Says<E> {
+    ghost use Rattle.std.specs.Prelude.{Option};
 
-impl<E> Play<E, SeatView<E>> for Append {
+    ghost entry: { Option E };
+}
+
+impl<E> Says<E> for Brand {
+    ghost use Rattle.std.specs.declared.option.Option.TheVariants.{None};
+
+    ghost entry = { None };
+}
+
+/// The actor of the pass inside appends what is said.
+pub struct Append<B> {
+    said: PhantomData<B>,
+}
+
+impl<E, B: Says<E>> Play<E, SeatView<E>> for Append<B> {
     ghost use Rattle.co_life.specs.Steps.{Appends};
 
-    ghost then = { Appends };
+    ghost then = { Appends B.entry };
 }

@@ -39,6 +39,6 @@ returns-clause-learns g c =
     let h = history_in c.args.seat.now.me.0 in
     let n = made_in c.args.seat.now.me.0 in
     let p = glance c.args.pass.actor c.args.pass.seen in
-    learnt g.S.Story.actor g.S.Story.legal c.join_seat.new.seat.me h n p _
+    learnt g.S.Story.actor g.S.Story.legal c.join_seat.new.seat.me h n p
     (ap (λ m. m.0) j.2 ∙ ((λ k. entered (c.requires.seat.1 k).0 (c.pass.invariant k).0) ∙ (λ k. (let_in h n (glance (c.pass.view_is k).actor (c.pass.view_is k).seen)).0)))
     c.load.ensures.2.1
