@@ -10,7 +10,7 @@ use Rattle.co_text.specs.Lines.{line_text, text}
 use Rattle.co_text.specs.Values.{Word}
 use Rattle.co_text.proofs.Spacing.{text_one, text_append}
 use Rattle.co_report.specs.Histories.{Histories}
-use Rattle.co_report.specs.Reports.{places, place_lines, report, report_lines, framed}
+use Rattle.co_report.specs.Reports.{places, place_lines, report, report_lines, head_text, framed}
 
 parts : (a : List Word) (b : List (List Word)) (h : List Word) (ls : List (List Word)) (e : List Word)
     → text (a ∷ (b ++ (h ∷ (ls ++ e ∷ [])))) ≡ line_text a ++ text b ++ line_text h ++ text ls ++ line_text e
@@ -40,16 +40,23 @@ text-framed s inner last p0 p1 p2 p3 e1 e2 e3 f3 =
     pieces : (o a b c d e : List ℕ) → ((((o ++ a) ++ b) ++ c) ++ d) ++ e ≡ o ++ ((((a ++ b) ++ c) ++ d) ++ e)
     pieces o a b c d e = simp append_assoc
 
+-- a page that begins empty holds the head alone
+pub head-alone : (s : Script) (p0 p1 p2 : List ℕ) → p0 ≡ [] → p1 ≡ p0 ++ line_text (numbered (codes "callout-report") 1) ++ canonical s ++ line_text (codes "histories" ∷ []) → p2 ≡ p1
+    → p2 ≡ head_text s
+head-alone s p0 p1 p2 e0 e1 e2 = e2 ∙ (e1 ∙ ap (λ t. t ++ line_text (numbered (codes "callout-report") 1) ++ canonical s ++ line_text (codes "histories" ∷ [])) e0)
+
 joined-pieces : (head last : List ℕ) (inner : List (List ℕ)) → concat ((([] ++ head ∷ []) ++ inner) ++ last ∷ []) ≡ (head ++ concat inner) ++ last
 joined-pieces head last inner = concat-append (head ∷ inner) (last ∷ []) ∙ ap (λ t. (head ++ concat inner) ++ t) (append-nil last)
 
--- the same in pieces
-pub pieces-framed : (s : Script) (p0 p1 p2 : List ℕ) (q0 q1 q2 q3 inner : List (List ℕ)) {last : List ℕ}
-    → p0 ≡ [] → p1 ≡ p0 ++ line_text (numbered (codes "callout-report") 1) ++ canonical s ++ line_text (codes "histories" ∷ []) → p2 ≡ p1
-    → q0 ≡ [] → q1 ≡ q0 ++ p2 ∷ [] → q2 ≡ q1 ++ inner → last ≡ line_text (codes "end" ∷ []) → q3 ≡ q2 ++ last ∷ []
-    → concat q3 ≡ framed s (concat inner)
-pieces-framed s p0 p1 p2 q0 q1 q2 q3 inner {last} e0 e1 e2 f0 f1 f2 is f3 =
-    ap concat (f3 ∙ ap (λ q. q ++ last ∷ []) (f2 ∙ ap (λ q. q ++ inner) (f1 ∙ ap (λ q. q ++ p2 ∷ []) f0)))
-    ∙ (joined-pieces p2 last inner
-    ∙ (ap (λ t. (p2 ++ concat inner) ++ t) is
-    ∙ ap (λ t. (t ++ concat inner) ++ line_text (codes "end" ∷ [])) (e2 ∙ (e1 ∙ ap (λ t. t ++ line_text (numbered (codes "callout-report") 1) ++ canonical s ++ line_text (codes "histories" ∷ [])) e0))))
+-- head, places and last line, appended to one list of pieces
+pub pieces-joined : (head : List ℕ) (q0 q1 q2 q3 inner : List (List ℕ)) {last : List ℕ}
+    → q0 ≡ [] → q1 ≡ q0 ++ head ∷ [] → q2 ≡ q1 ++ inner → last ≡ line_text (codes "end" ∷ []) → q3 ≡ q2 ++ last ∷ []
+    → concat q3 ≡ head ++ concat inner ++ line_text (codes "end" ∷ [])
+pieces-joined head q0 q1 q2 q3 inner {last} f0 f1 f2 is f3 =
+    ap concat (f3 ∙ ap (λ q. q ++ last ∷ []) (f2 ∙ ap (λ q. q ++ inner) (f1 ∙ ap (λ q. q ++ head ∷ []) f0)))
+    ∙ (joined-pieces head last inner
+    ∙ ap (λ t. (head ++ concat inner) ++ t) is)
+
+-- behind the head of a script
+pub pieces-framed : (s : Script) (head : List ℕ) (q inner : List (List ℕ)) → head ≡ head_text s → concat q ≡ head ++ concat inner ++ line_text (codes "end" ∷ []) → concat q ≡ framed s (concat inner)
+pieces-framed s head q inner is joined = joined ∙ ap (λ t. t ++ concat inner ++ line_text (codes "end" ∷ [])) is

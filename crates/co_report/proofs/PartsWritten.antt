@@ -1,6 +1,6 @@
 -- The places of a report, written part by part.
-use Rattle.std.proofs.Common.{◌≡◌, ℕ, ◌+◌, ◌-◌, ◌≤◌, true, List, [], ◌∷◌, ◌++◌, map, take, drop, length, get_or, ap, sym, ◌∙◌, arith, append_assoc, append-nil}
-use Rattle.std.specs.Prelude.{slice_range}
+use Rattle.std.proofs.Common.{◌≡◌, ℕ, ◌+◌, ◌-◌, ◌≤◌, true, List, [], ◌∷◌, ◌++◌, map, take, drop, length, get_or, refl, ap, sym, ◌∙◌, arith, append_assoc, append-nil}
+use Rattle.std.specs.Prelude.{slice_range, codes}
 use Rattle.std.specs.List.{concat, flat_map}
 use Rattle.std.proofs.Math.Seq.{take-add}
 use Rattle.std.proofs.lemmas.Grind.{flat_map-append}
@@ -18,8 +18,8 @@ use Rattle.co_report.specs.declared.order.Order.{Order}
 use Rattle.co_report.specs.declared.origin.Origin.{Origin}
 use Rattle.co_report.specs.Order.{place_index, place_count, origins_in, ShowsHistories}
 use Rattle.co_report.specs.Origins.{lines_from}
-use Rattle.co_report.specs.Reports.{places, heading, shown_words, place_lines, lines_between, report_of, framed}
-use Rattle.co_report.proofs.Framed.{report-framed}
+use Rattle.co_report.specs.Reports.{places, heading, shown_words, place_lines, lines_between, report_of, head_text, framed}
+use Rattle.co_report.proofs.Framed.{report-framed, pieces-framed}
 use Rattle.co_report.proofs.Places.{index_below}
 use Rattle.co_report.proofs.ToldPages.{at-place, length-places}
 
@@ -98,13 +98,19 @@ module _ (s : Script) (lists : List (List Note)) where
       ap (λ ps. framed s (text (flat_map lines_of ps))) (take_all (count - 0) (places s) long)
       ∙ sym (report-framed s (shown_history lists))
 
--- the same of the pieces that are printed of this script and these lists
-pub pieces-written : (s script : Script) (xs lists : List (List Note)) (count : ℕ) (parts q : List (List ℕ)) → s ≡ script → xs ≡ lists → count ≡ place_count s
-    → concat parts ≡ text (lines_between s xs 0 count) → concat q ≡ framed script (concat parts) → concat q ≡ report_of script lists
-pieces-written s script xs lists count parts q same_script same_lists is written in_frame =
-    in_frame
-    ∙ (ap (framed script) written
-    ∙ (ap (λ (z : Script). framed z (text (lines_between s xs 0 count))) (sym same_script)
-    ∙ (report-written s xs count is
-    ∙ (ap (λ (z : Script). report_of z xs) same_script
-    ∙ ap (report_of script) same_lists))))
+-- the pieces of all places, printed of this script and these lists
+pub all-written : (s script : Script) (xs lists : List (List Note)) (count : ℕ) (parts : List (List ℕ)) → s ≡ script → xs ≡ lists → count ≡ place_count s → concat parts ≡ text (lines_between s xs 0 count)
+    → concat parts ≡ text (lines_between script lists 0 (place_count script))
+all-written s script xs lists count parts same_script same_lists is written =
+    written
+    ∙ (ap (λ n. text (lines_between s xs 0 n)) is
+    ∙ (ap (λ (z : Script). text (lines_between z xs 0 (place_count z))) same_script
+    ∙ ap (λ ls. text (lines_between script ls 0 (place_count script))) same_lists))
+
+-- in the frame they are the report
+pub pieces-written : (s : Script) (lists : List (List Note)) (head : List ℕ) (parts q : List (List ℕ)) → head ≡ head_text s → concat parts ≡ text (lines_between s lists 0 (place_count s))
+    → concat q ≡ head ++ concat parts ++ line_text (codes "end" ∷ []) → concat q ≡ report_of s lists
+pieces-written s lists head parts q is written joined =
+    pieces-framed s head q parts is joined
+    ∙ (ap (framed s) written
+    ∙ report-written s lists (place_count s) refl)

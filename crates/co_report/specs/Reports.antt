@@ -50,6 +50,10 @@ report s histories = text (report_lines s histories)
 abbrev pub report_of : Script → List (List Note) → List ℕ
 report_of s lists = report s (shown_history lists)
 
+-- the text before the first place
+abbrev pub head_text : Script → List ℕ
+head_text s = line_text (numbered (codes "callout-report") 1) ++ canonical s ++ line_text (codes "histories" ∷ [])
+
 -- the text of a report whose places have this text
 abbrev pub framed : Script → List ℕ → List ℕ
-framed s parts = line_text (numbered (codes "callout-report") 1) ++ canonical s ++ line_text (codes "histories" ∷ []) ++ parts ++ line_text (codes "end" ∷ [])
+framed s parts = head_text s ++ parts ++ line_text (codes "end" ∷ [])

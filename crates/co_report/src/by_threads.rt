@@ -4,11 +4,11 @@ ghost use Rattle.std.specs.List.{concat};
 ghost use Rattle.co_text.specs.Lines.{text};
 ghost use Rattle.co_object.specs.Lists.{IsWellFormed};
 ghost use Rattle.co_program.specs.Places.{AllHavePlaces};
-ghost use Rattle.co_report.specs.Reports.{lines_between, report_of};
+ghost use Rattle.co_report.specs.Reports.{lines_between, head_text, report_of};
 ghost use Rattle.co_report.specs.Order.{place_count};
 ghost use denote.Param.Send.{IsSync};
 
-use crate::frame::{append, in_frame};
+use crate::frame::{append, head_piece, in_frame};
 use crate::report::Printing;
 use co_packed::PackedNote;
 use co_program::Script;
@@ -72,9 +72,25 @@ fn print_halves<R: Threads + Sync>(
     Ok(pieces)
 }
 
+/// All places in pieces, once their notes are in order.
+fn print_all_places<R: Threads + Sync>(
+    rt: &R,
+    alloc: Global,
+    script: &Script,
+    lists: &Seq<Seq<PackedNote>>,
+) -> Result<Seq<Seq<u8>>, NoMemory>
+    requires places { AllHavePlaces script.now lists.now }
+    requires formed { IsWellFormed lists.now }
+    ensures { IfOk result (λ parts. concat parts ≡ text (lines_between script.now lists.now 0 (place_count script.now))) }
+{
+    let printing = Printing::new(alloc, script, lists.as_slice())?;
+    print_halves(rt, alloc, &printing, 0, printing.place_count(), HALVINGS)
+}
+
 /// The report of a script and the lists of its actors' notes, as `print_report` gives it, in pieces: joined they are the
-/// report. Up to 8 threads print parts of it beside each other, each the notes of some places; where no thread can be had
-/// the parts are printed one after the other. NoMemory where a part finds no memory, and where `print_report` gives it.
+/// report. A thread of its own prints the lines before the first place; beside it the notes are put into order, and then
+/// up to 8 threads print parts beside each other, each the notes of some places. Where no thread can be had all of this is
+/// done one after the other. NoMemory where a part finds no memory, and where `print_report` gives it.
 pub fn print_by_threads<R: Threads + Sync>(
     rt: &R,
     alloc: Global,
@@ -85,7 +101,15 @@ pub fn print_by_threads<R: Threads + Sync>(
     requires formed { IsWellFormed lists.now }
     ensures { IfOk result (λ pieces. concat pieces ≡ report_of script.now lists.now) }
 {
-    let printing = Printing::new(alloc, script, lists.as_slice())?;
-    let parts = print_halves(rt, alloc, &printing, 0, printing.place_count(), HALVINGS)?;
-    in_frame(alloc, script, parts)
+    let head = || -> Result<Seq<u8>, NoMemory>
+        ensures { IfOk result (λ head. head ≡ head_text script.entry.now) }
+    { head_piece(alloc, script) };
+    let body = || -> Result<Seq<Seq<u8>>, NoMemory>
+        requires { IsSync R.row × AllHavePlaces script.now lists.now × IsWellFormed lists.now }
+        ensures { IfOk result (λ parts. concat parts ≡ text (lines_between script.entry.now lists.entry.now 0 (place_count script.entry.now))) }
+    { print_all_places(rt, alloc, script, lists) };
+    let (before, places) = join(rt, head, body);
+    let head = before?;
+    let parts = places?;
+    in_frame(alloc, head, parts)
 }

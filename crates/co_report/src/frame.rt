@@ -5,7 +5,7 @@ ghost use Rattle.std.specs.List.{concat};
 ghost use Rattle.co_text.specs.Lines.{line_text};
 ghost use Rattle.co_grammar.specs.Spelling.{numbered};
 ghost use Rattle.co_script.specs.Canonical.{canonical};
-ghost use Rattle.co_report.specs.Reports.{heading, framed};
+ghost use Rattle.co_report.specs.Reports.{heading, head_text};
 
 use co_grammar::{actor_name, print_numbered};
 use co_object::Place;
@@ -59,19 +59,22 @@ pub fn append(pieces: &mut Seq<Seq<u8>>, more: Seq<Seq<u8>>) -> Result<(), NoMem
     Ok(())
 }
 
-/// The whole report in pieces, where these are the pieces of its places: the lines before them come first, and the last
-/// line comes last. `NoMemory` where there is no room for them.
-pub fn in_frame(
-    alloc: Global,
-    script: &Script,
-    parts: Seq<Seq<u8>>,
-) -> Result<Seq<Seq<u8>>, NoMemory>
-    ensures { IfOk result (λ pieces. concat pieces ≡ framed script.now (concat parts)) }
+/// The lines before the first place as a piece of their own. `NoMemory` where there is no room for them.
+pub fn head_piece(alloc: Global, script: &Script) -> Result<Seq<u8>, NoMemory>
+    ensures { IfOk result (λ head. head ≡ head_text script.now) }
 {
-    let mut head = Page::new(alloc);
-    print_head(&mut head, script)?;
+    let mut page = Page::new(alloc);
+    print_head(&mut page, script)?;
+    Ok(page.done())
+}
+
+/// The whole report in pieces, of the piece before its places and the pieces of its places: the last line comes behind
+/// them. `NoMemory` where there is no room for them.
+pub fn in_frame(alloc: Global, head: Seq<u8>, parts: Seq<Seq<u8>>) -> Result<Seq<Seq<u8>>, NoMemory>
+    ensures { IfOk result (λ pieces. concat pieces ≡ head ++ concat parts ++ line_text (codes "end" ∷ [])) }
+{
     let mut pieces = Seq::new(alloc);
-    pieces.push(head.done())?;
+    pieces.push(head)?;
     append(&mut pieces, parts)?;
     pieces.push(Seq::copy_of(alloc, b"end\n".as_slice())?)?;
     Ok(pieces)

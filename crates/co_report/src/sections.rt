@@ -10,7 +10,7 @@ ghost use Rattle.co_report.specs.Order.{place_index};
 ghost use Rattle.co_report.specs.Reports.{places, heading, report_of};
 ghost use Rattle.co_report.specs.Sections.{HasTold};
 
-use crate::frame::{in_frame, print_heading};
+use crate::frame::{head_piece, in_frame, print_heading};
 use crate::note::print_note;
 use crate::reading::places::places;
 use crate::typed::note_is_typed;
@@ -134,7 +134,8 @@ impl<'a> Sections<'a> {
         let Sections { script, pages, .. } = self;
         let mut parts = Seq::new(alloc);
         append_all(&mut parts, pages)?;
-        in_frame(alloc, script, parts)
+        let head = head_piece(alloc, script)?;
+        in_frame(alloc, head, parts)
     }
 }
 
