@@ -60,15 +60,12 @@ module _ (name : ServiceName) (p : Params) (cpu : ℕ) (ks : List (Option (Keepe
     pub legal_here : IsHistory b.params i (entries_at b i)
     legal_here = subst (λ o. IsHistory b.params i (entries_in o)) (sym history_here) keeper_of.legal
 
-    pub same_books : (gone : Option (KeeperView (Line Entry))) (k' : KeeperView (Line Entry)) → k' ≡ k → books_of p cpu (set (set ks i gone) i (Some k')) j ≡ b
-    same_books gone k' same =
-        ap (λ (l : List (Option (KeeperView (Line Entry)))). books_of p cpu l j) (set_set ks i gone (Some k') ∙ (ap (λ (t : KeeperView (Line Entry)). set ks i (Some t)) same ∙ set_same ks i (Some k) (get_here ks i x (below_here here) at ∙ ap Some is))) ∙ view
+    pub same_books : (k' : KeeperView (Line Entry)) → k' ≡ k → books_of p cpu (set ks i (Some k')) j ≡ b
+    same_books k' same =
+        ap (λ (l : List (Option (KeeperView (Line Entry)))). books_of p cpu l j) (ap (λ (t : KeeperView (Line Entry)). set ks i (Some t)) same ∙ set_same ks i (Some k) (get_here ks i x (below_here here) at ∙ ap Some is)) ∙ view
 
   pub set_once : (new : Option (KeeperView (Line Entry))) → books_of p cpu (set ks i new) j ≡ with_history b i (kept_of new)
   set_once new = (λ d. record { params = p; cpu = cpu; timers = set_map kept_of ks i new d; journal = made j.history }) ∙ ap (λ (v : BooksView). with_history v i (kept_of new)) view
-
-  pub set_twice : (gone new : Option (KeeperView (Line Entry))) → books_of p cpu (set (set ks i gone) i new) j ≡ with_history b i (kept_of new)
-  set_twice gone new = ap (λ (l : List (Option (KeeperView (Line Entry)))). books_of p cpu l j) (set_set ks i gone new) ∙ set_once new
 
   pub kept_once : (new : Option (KeeperView (Line Entry))) → i < length ks → IsKept name.timers p i new → AreBooks name p cpu (set ks i new) j
   kept_once new below kept = record {
@@ -77,9 +74,6 @@ module _ (name : ServiceName) (p : Params) (cpu : ℕ) (ks : List (Option (Keepe
         (λ same. subst (λ (n : ℕ). IsKept name.timers p n (slice_index_or (set ks i new) n None)) (sym same) (subst (IsKept name.timers p i) (sym (index_set ks i new None below)) kept))
         (λ away. subst (IsKept name.timers p m) (sym (index_else ks i m new None away)) (are.each m));
   }
-
-  pub kept_twice : (gone new : Option (KeeperView (Line Entry))) → i < length ks → IsKept name.timers p i new → AreBooks name p cpu (set (set ks i gone) i new) j
-  kept_twice gone new below kept = subst (λ l. AreBooks name p cpu l j) (sym (set_set ks i gone new)) (kept_once new below kept)
 
   -- a keeper of what the books say of the service
   pub of_params : (k : KeeperView (Line Entry)) → IsKeeperOf IsHistory name.timers b.params i k → IsKept name.timers p i (Some k)

@@ -22,7 +22,7 @@ use Rattle.co_service.specs.Views.{PassesView, IsKeeperOf}
 use Rattle.co_service.specs.Writes.{WritesTimer}
 use Rattle.co_service.specs.Books.{BooksView, books_of, kept_of, entries_in, entries_at, is_kept, with_history, AreBooks}
 use Rattle.co_service.specs.May.{MayEnter, MayHappen}
-use Rattle.co_service.proofs.BooksKept.{keeper_of, history_here, kept_twice, below_here, set_twice}
+use Rattle.co_service.proofs.BooksKept.{keeper_of, history_here, kept_once, below_here, set_once}
 
 pub journal_snoc : (p : Params) (cpu : ℕ) (J : List QEntry) (e : QEntry) → IsJournal p cpu J
     → journal.May (actors_of p) cpu p.buckets (directs p) (journal.queue p.buckets (directs p) J) e → IsJournal p cpu (J ++ e ∷ [])
@@ -65,14 +65,14 @@ module _ (name : ServiceName) (p : Params) (cpu : ℕ) (ks : List (Option (Keepe
         subst (λ (t : Params). IsHistory t i (made k.history ++ e ∷ [])) same
         (history_snoc b.params i (made k.history) e (keeper_of name p cpu ks j b are view i x k here at is).legal (subst (λ (H : List Entry). May (actors_of b.params) (spec_at b.params i) (state (spec_at b.params i) H) e) entries_are may.may))
 
-    pub timer_back : (gone : Option (KeeperView (Line Entry))) (k' : KeeperView (Line Entry)) → IsKeeperOf IsHistory lives r i k' → AreBooks name p cpu (set (set ks i gone) i (Some k')) j
-    timer_back gone k' kept =
-        kept_twice name p cpu ks j b are view i gone (Some k') (below_here name p cpu ks j b are view i here)
+    pub timer_back : (k' : KeeperView (Line Entry)) → IsKeeperOf IsHistory lives r i k' → AreBooks name p cpu (set ks i (Some k')) j
+    timer_back k' kept =
+        kept_once name p cpu ks j b are view i (Some k') (below_here name p cpu ks j b are view i here)
         (subst (λ (t : List LifeId × Params). IsKeeperOf IsHistory t.0 t.1 i k') (λ d. (lives_are d, sym p_is d)) kept)
 
-    pub timer_books : (gone : Option (KeeperView (Line Entry))) (k' : KeeperView (Line Entry)) → made k'.history ≡ made k.history ++ e ∷ [] → books_of p cpu (set (set ks i gone) i (Some k')) j ≡ with_history b i (Some (entries_at b i ++ e ∷ []))
-    timer_books gone k' history =
-        set_twice name p cpu ks j b are view i gone (Some k') ∙ ap (λ (H : List Entry). with_history b i (Some H)) (history ∙ ap (λ (H : List Entry). H ++ e ∷ []) (sym entries_are))
+    pub timer_books : (k' : KeeperView (Line Entry)) → made k'.history ≡ made k.history ++ e ∷ [] → books_of p cpu (set ks i (Some k')) j ≡ with_history b i (Some (entries_at b i ++ e ∷ []))
+    timer_books k' history =
+        set_once name p cpu ks j b are view i (Some k') ∙ ap (λ (H : List Entry). with_history b i (Some H)) (history ∙ ap (λ (H : List Entry). H ++ e ∷ []) (sym entries_are))
 
     pub timer_noted : (P Q : PassesView) (pos : ℕ) (k' : KeeperView (Line Entry)) → made k'.history ≡ made k.history ++ e ∷ [] → WritesTimer P i e pos (made k'.history) Q → WritesTimer P i e pos (entries_at b i ++ e ∷ []) Q
     timer_noted P Q pos k' history w = subst (λ (H : List Entry). WritesTimer P i e pos H Q) (history ∙ ap (λ (H : List Entry). H ++ e ∷ []) (sym entries_are)) w

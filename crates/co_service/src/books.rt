@@ -92,9 +92,10 @@ impl<N: Name> Books<N> {
         ensures shown { IsShown by passes.old.actor (entries_at self.old i) (seen_of passes.old i) }
         ensures legal { IsHistory self.old.params i (entries_at self.old i) }
     {
-        let mut keeper = self.keepers[i as usize].take().unwrap();
-        passes.meet_timer(lives.get(i), &mut keeper, i);
-        self.keepers[i as usize] = Some(keeper);
+        match &mut self.keepers[i as usize] {
+            Some(keeper) => passes.meet_timer(lives.get(i), keeper, i),
+            None => unreachable!(),
+        }
     }
 
     /// Writes an entry of the CPU's journal, and gives its position.
@@ -134,10 +135,10 @@ impl<N: Name> Books<N> {
         ensures books { self.new ≡ with_history self.old i (Some (entries_at self.old i ++ entry.now ∷ [])) }
         ensures written { WritesTimer passes.old i entry.now result (entries_at self.old i ++ entry.now ∷ []) passes.new }
     {
-        let mut keeper = self.keepers[i as usize].take().unwrap();
-        let pos = passes.write_timer(lives, &mut keeper, i, *entry);
-        self.keepers[i as usize] = Some(keeper);
-        pos
+        match &mut self.keepers[i as usize] {
+            Some(keeper) => passes.write_timer(lives, keeper, i, *entry),
+            None => unreachable!(),
+        }
     }
 
     /// Takes the keeper of callout `i` out.

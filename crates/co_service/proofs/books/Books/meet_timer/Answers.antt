@@ -3,7 +3,7 @@ use Rattle.std.specs.Prelude.{slice_get, IsSome}
 use Rattle.std.specs.declared.option.Option.TheVariants.{Some}
 use Rattle.co_service.specs.Stories.{IsHistory}
 use Rattle.co_service.specs.Views.{IsKeeperOf}
-use Rattle.co_service.proofs.BooksKept.{keeper_of, legal_here, same_books, same_life, some_here, kept_twice, below_here, of_params}
+use Rattle.co_service.proofs.BooksKept.{keeper_of, legal_here, same_books, same_life, some_here, kept_once, below_here, of_params}
 use Rattle.co_service.proofs.Writing.{below_get}
 use Rattle.co_service.proofs.books.Books.meet_timer.Goals as goal
 
@@ -13,36 +13,33 @@ index_mut-requires g c =
     let n = c.self.inside.keepers.ok.0 in
     omega arith
 
-pub unwrap-keeper-requires : goal.unwrap-keeper-requires
-unwrap-keeper-requires g c = subst IsSome (sym c.take.ensures.value) (some_here g.N.Name.name c.self.inside.params.value c.self.inside.cpu c.self.inside.keepers.items c.self.inside.journal c.args.self.now c.self.invariant c.self.view_is c.args.i c.index_mut.result.now c.requires.here c.index_mut.ensures.value)
-
 pub meet_timer-requires-clause-at : goal.meet_timer-requires-clause-at
 meet_timer-requires-clause-at g c = (λ d. slice_get (c.requires.name d).timers c.args.i) ∙ ((λ d. slice_get (sym c.requires.lives d) c.args.i) ∙ c.get.ensures)
 
 pub meet_timer-requires-clause-life : goal.meet_timer-requires-clause-life
 meet_timer-requires-clause-life g c =
-    same_life g.N.Name.name.timers c.args.lives.now c.args.i c.unwrap-keeper.result.life c.get.result.now (sym c.requires.lives)
-    (keeper_of g.N.Name.name c.self.inside.params.value c.self.inside.cpu c.self.inside.keepers.items c.self.inside.journal c.args.self.now c.self.invariant c.self.view_is c.args.i c.index_mut.result.now c.unwrap-keeper.result c.requires.here c.index_mut.ensures.value (sym c.take.ensures.value ∙ c.unwrap-keeper.ensures)).life c.get.ensures
+    same_life g.N.Name.name.timers c.args.lives.now c.args.i c.in-Some.keeper.life c.get.result.now (sym c.requires.lives)
+    (keeper_of g.N.Name.name c.self.inside.params.value c.self.inside.cpu c.self.inside.keepers.items c.self.inside.journal c.args.self.now c.self.invariant c.self.view_is c.args.i c.index_mut.result.now c.in-Some.keeper c.requires.here c.index_mut.ensures.value c.in-Some.is).life c.get.ensures
 
 pub get-requires : goal.get-requires
 get-requires g c =
-    let at = keeper_of g.N.Name.name c.self.inside.params.value c.self.inside.cpu c.self.inside.keepers.items c.self.inside.journal c.args.self.now c.self.invariant c.self.view_is c.args.i c.index_mut.result.now c.unwrap-keeper.result c.requires.here c.index_mut.ensures.value (sym c.take.ensures.value ∙ c.unwrap-keeper.ensures) in
-    below_get c.args.lives.now c.args.i c.unwrap-keeper.result.life (subst (λ l. slice_get l c.args.i ≡ Some c.unwrap-keeper.result.life) (sym c.requires.lives) at.life)
+    let at = keeper_of g.N.Name.name c.self.inside.params.value c.self.inside.cpu c.self.inside.keepers.items c.self.inside.journal c.args.self.now c.self.invariant c.self.view_is c.args.i c.index_mut.result.now c.in-Some.keeper c.requires.here c.index_mut.ensures.value c.in-Some.is in
+    below_get c.args.lives.now c.args.i c.in-Some.keeper.life (subst (λ l. slice_get l c.args.i ≡ Some c.in-Some.keeper.life) (sym c.requires.lives) at.life)
 
 pub meet_timer-requires-clause-opened : goal.meet_timer-requires-clause-opened
 meet_timer-requires-clause-opened g c =
-    (c.args.self.now.params, (keeper_of g.N.Name.name c.self.inside.params.value c.self.inside.cpu c.self.inside.keepers.items c.self.inside.journal c.args.self.now c.self.invariant c.self.view_is c.args.i c.index_mut.result.now c.unwrap-keeper.result c.requires.here c.index_mut.ensures.value (sym c.take.ensures.value ∙ c.unwrap-keeper.ensures)).opened)
+    (c.args.self.now.params, (keeper_of g.N.Name.name c.self.inside.params.value c.self.inside.cpu c.self.inside.keepers.items c.self.inside.journal c.args.self.now c.self.invariant c.self.view_is c.args.i c.index_mut.result.now c.in-Some.keeper c.requires.here c.index_mut.ensures.value c.in-Some.is).opened)
 
 pub invariant_of-self : goal.invariant_of-self
 invariant_of-self g c =
-    let at = keeper_of g.N.Name.name c.self.inside.params.value c.self.inside.cpu c.self.inside.keepers.items c.self.inside.journal c.args.self.now c.self.invariant c.self.view_is c.args.i c.index_mut.result.now c.unwrap-keeper.result c.requires.here c.index_mut.ensures.value (sym c.take.ensures.value ∙ c.unwrap-keeper.ensures) in
-    kept_twice g.N.Name.name c.self.inside.params.value c.self.inside.cpu c.self.inside.keepers.items c.self.inside.journal c.args.self.now c.self.invariant c.self.view_is c.args.i c.take.new.self (Some c.meet_timer.new.keeper) (below_here g.N.Name.name c.self.inside.params.value c.self.inside.cpu c.self.inside.keepers.items c.self.inside.journal c.args.self.now c.self.invariant c.self.view_is c.args.i c.requires.here)
+    let at = keeper_of g.N.Name.name c.self.inside.params.value c.self.inside.cpu c.self.inside.keepers.items c.self.inside.journal c.args.self.now c.self.invariant c.self.view_is c.args.i c.index_mut.result.now c.in-Some.keeper c.requires.here c.index_mut.ensures.value c.in-Some.is in
+    kept_once g.N.Name.name c.self.inside.params.value c.self.inside.cpu c.self.inside.keepers.items c.self.inside.journal c.args.self.now c.self.invariant c.self.view_is c.args.i (Some c.meet_timer.new.keeper) (below_here g.N.Name.name c.self.inside.params.value c.self.inside.cpu c.self.inside.keepers.items c.self.inside.journal c.args.self.now c.self.invariant c.self.view_is c.args.i c.requires.here)
     (of_params g.N.Name.name c.self.inside.params.value c.self.inside.cpu c.self.inside.keepers.items c.self.inside.journal c.args.self.now c.self.invariant c.self.view_is c.args.i c.meet_timer.new.keeper (subst (IsKeeperOf IsHistory g.N.Name.name.timers c.args.self.now.params c.args.i) (sym c.meet_timer.ensures.keeper) at))
 
 pub returns-clause-kept : goal.returns-clause-kept
 returns-clause-kept g c =
-    same_books g.N.Name.name c.self.inside.params.value c.self.inside.cpu c.self.inside.keepers.items c.self.inside.journal c.args.self.now c.self.invariant c.self.view_is c.args.i c.index_mut.result.now c.unwrap-keeper.result c.requires.here c.index_mut.ensures.value (sym c.take.ensures.value ∙ c.unwrap-keeper.ensures) c.take.new.self c.meet_timer.new.keeper c.meet_timer.ensures.keeper
+    same_books g.N.Name.name c.self.inside.params.value c.self.inside.cpu c.self.inside.keepers.items c.self.inside.journal c.args.self.now c.self.invariant c.self.view_is c.args.i c.index_mut.result.now c.in-Some.keeper c.requires.here c.index_mut.ensures.value c.in-Some.is c.meet_timer.new.keeper c.meet_timer.ensures.keeper
 
 pub returns-clause-legal : goal.returns-clause-legal
 returns-clause-legal g c =
-    legal_here g.N.Name.name c.self.inside.params.value c.self.inside.cpu c.self.inside.keepers.items c.self.inside.journal c.args.self.now c.self.invariant c.self.view_is c.args.i c.index_mut.result.now c.unwrap-keeper.result c.requires.here c.index_mut.ensures.value (sym c.take.ensures.value ∙ c.unwrap-keeper.ensures)
+    legal_here g.N.Name.name c.self.inside.params.value c.self.inside.cpu c.self.inside.keepers.items c.self.inside.journal c.args.self.now c.self.invariant c.self.view_is c.args.i c.index_mut.result.now c.in-Some.keeper c.requires.here c.index_mut.ensures.value c.in-Some.is
