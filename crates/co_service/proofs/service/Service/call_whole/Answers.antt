@@ -3,6 +3,7 @@ use Rattle.co_service.specs.declared.params.Params.{Params}
 use Rattle.co_service.specs.Call.{told_notes}
 use Rattle.co_service.specs.Moving.{IsOfService}
 use Rattle.co_service.specs.Services.{AreSame}
+use Rattle.co_service.specs.Views.{AreOf}
 use Rattle.co_service.proofs.Lasting.{still_of}
 use Rattle.co_service.proofs.WholeCall.{writes_keep}
 use Rattle.co_service.proofs.service.Service.call_whole.Goals as goal
@@ -12,7 +13,8 @@ land_left-requires-clause-passes g c =
     let out = c.call_met in
     let p = c.args.passes.now in
     let kept : AreSame p out.new.passes = writes_keep p out.new.passes (told_notes p.actor c.args.act c.args.i c.args.op.now out.new.told) (out.ensures.tried.answer refl).written in
-    still_of g.N.Name.name c.args.self.now p out.new.passes kept c.requires.passes
+    subst (λ (r : Params). AreOf g.N.Name.name r out.new.passes) (sym out.ensures.params)
+    (still_of g.N.Name.name c.args.self.now p out.new.passes kept c.requires.passes)
 
 pub land_left-requires-clause-leaving : goal.land_left-requires-clause-leaving
 land_left-requires-clause-leaving g c =
