@@ -113,7 +113,7 @@ impl<N: Name> Service<N> {
 
     /// A start on the CPU's desk, and where it doesn't answer by the lock.
     #[inline(always)]
-    fn next_alone<R: Wait>(
+    fn next_lane_alone<R: Wait>(
         &mut self,
         rt: &R,
         passes: &mut Passes,
@@ -156,7 +156,7 @@ impl<N: Name> Service<N> {
         ensures actor { passes.new.actor ≡ passes.old.actor }
         ensures next { HasNext direct passes.new cpu (taken_of direct passes.old.actor act cpu result) }
     {
-        self.next_alone(rt, passes, cpu, act, scans, direct)
+        self.next_lane_alone(rt, passes, cpu, act, scans, direct)
     }
 
     /// The end of a service on the CPU's desk. False where the desk is of another CPU.
@@ -207,7 +207,7 @@ impl<N: Name> Service<N> {
 
     /// The end of a service on the CPU's desk, and where it doesn't answer by the lock.
     #[inline(always)]
-    fn end_met<R: Wait>(
+    fn end_found_alone<R: Wait>(
         &mut self,
         rt: &R,
         passes: &mut Passes,
@@ -232,7 +232,7 @@ impl<N: Name> Service<N> {
 
     /// The end of a service, the landing of what leaves included.
     #[inline(always)]
-    fn end_landed<R: Wait>(
+    fn end_lane_alone<R: Wait>(
         &mut self,
         rt: &R,
         passes: &mut Passes,
@@ -248,7 +248,7 @@ impl<N: Name> Service<N> {
         ensures ended { (d : Due) → IsServing direct passes.old cpu d (Runs d.n) → IsEnded direct passes.old cpu act d told.new.reply (finished_notes passes.old.actor act told.new) passes.new }
     {
         let mut leaves = None;
-        self.end_met(rt, passes, cpu, act, direct, told, &mut leaves);
+        self.end_found_alone(rt, passes, cpu, act, direct, told, &mut leaves);
         self.land_ended(rt, passes, act, leaves, told);
     }
 
@@ -272,7 +272,7 @@ impl<N: Name> Service<N> {
         ensures actor { passes.new.actor ≡ passes.old.actor }
         ensures free { IsFree direct passes.new cpu }
     {
-        self.end_landed(rt, passes, cpu, act, direct, told);
+        self.end_lane_alone(rt, passes, cpu, act, direct, told);
     }
 
     /// A call on one desk. What it did and what leaves go to their places. False where the callout isn't there.
@@ -320,7 +320,7 @@ impl<N: Name> Service<N> {
 
     /// A call on the desk that the callout's hint names, and where it isn't there by the locks.
     #[inline(always)]
-    fn call_met<R: Wait>(
+    fn call_found_alone<R: Wait>(
         &mut self,
         rt: &R,
         passes: &mut Passes,
@@ -344,7 +344,7 @@ impl<N: Name> Service<N> {
 
     /// A call, the landing of what leaves included.
     #[inline(always)]
-    fn call_whole<R: Wait>(
+    fn call_landed_alone<R: Wait>(
         &mut self,
         rt: &R,
         passes: &mut Passes,
@@ -358,7 +358,7 @@ impl<N: Name> Service<N> {
         ensures called { IsCalled passes.old act i op.now told.new.out.reply (told_notes passes.old.actor act i op.now told.new) passes.new }
     {
         let mut leaves = None;
-        self.call_met(rt, passes, act, i, op, told, &mut leaves);
+        self.call_found_alone(rt, passes, act, i, op, told, &mut leaves);
         self.land_left(rt, passes, act, i, leaves, told);
     }
 
@@ -386,6 +386,6 @@ impl<N: Name> Service<N> {
         ensures serving { (direct : Bool) (cpu : ℕ) (d : Due) (far : Progress) → IsServing direct passes.old cpu d far → IsServing direct passes.new cpu d far }
     {
         let _ = hold;
-        self.call_whole(rt, passes, act, i, op, told);
+        self.call_landed_alone(rt, passes, act, i, op, told);
     }
 }

@@ -1,4 +1,4 @@
-use Rattle.std.proofs.Common.{ℕ, List, sym, subst}
+use Rattle.std.proofs.Common.{ℕ, List, subst}
 use Rattle.std.specs.declared.option.Option.{Option}
 use Rattle.co_object.specs.declared.note.Note.{Note}
 use Rattle.co_service.specs.Ends.{finished_notes}
