@@ -21,11 +21,13 @@ use Rattle.co_object.specs.History.{state}
 use Rattle.co_object.specs.Queue.{Due}
 use Rattle.co_wheel.specs.Turns.{free_of}
 use Rattle.co_service.specs.Params.{spec_at}
+use Rattle.co_service.specs.declared.params.Params.{Params}
 use Rattle.co_service.specs.declared.finished.Finished.{Finished}
 use Rattle.co_service.specs.declared.told.Inserted.{Inserted}
 use Rattle.co_service.specs.declared.told.Told.{Told}
 use Rattle.co_service.specs.Call.{IsAnswer, IsCalled, Target, call_entry, landing, noted_insert, removal_told, told_notes}
-use Rattle.co_service.specs.Ends.{finished_notes}
+use Rattle.co_service.specs.Ends.{IsFinished, finished_notes}
+use Rattle.co_service.specs.Moving.{IsOfService, MovingView}
 use Rattle.co_service.specs.Outcomes.{noted_entry, turn}
 use Rattle.co_service.specs.Services.{AreSame, IsEnded, IsEndedBut, IsLanded, run_entry}
 use Rattle.co_service.specs.Views.{PassesView, seen_of}
@@ -117,3 +119,11 @@ told_landed actor act i op t x none =
 -- what the end of a service told, with the Insert of what has landed
 pub finished_landed : (actor act : ℕ) (f : Finished) (x : Inserted) (i : ℕ) → f.i ≡ i → f.insertion ≡ None → finished_notes actor act f ++ noted_insert actor act i x ∷ [] ≡ finished_notes actor act (record f { insertion = Some x })
 finished_landed actor act f x i here none = λ k. finished_notes actor act (record f { insertion = none k }) ++ noted_insert actor act (sym here k) x ∷ []
+
+-- the end of a service on a desk: the passes are the same actor's, and what leaves is the callout that was told of
+module _ (direct : Bool) (p q : PassesView) (cpu act : ℕ) (d : Due) (f : Finished) (gone : Option MovingView) (done : IsFinished direct p cpu act d f gone q) where
+  pub finished_same : AreSame p q
+  finished_same = writes_keep p q (finished_notes p.actor act f) done.ended.written
+
+  pub finished_leaves : IsOfService q.params f.i gone
+  finished_leaves = subst (λ (i : ℕ). IsOfService q.params i gone) (sym done.callout) (subst (λ (r : Params). IsOfService r d.i gone) (sym finished_same.params) done.leaves)

@@ -16,7 +16,7 @@ use std::sync::atomic::Ordering;
 impl<N: Name> Service<N> {
     /// The CPU whose desk is asked first for a callout.
     #[inline(always)]
-    fn hint(&self, i: u32) -> usize
+    pub(crate) fn hint(&self, i: u32) -> usize
         ensures { result < self.now.cpus }
     {
         let Some(word) = self.hints.get(i as usize) else {
@@ -104,7 +104,7 @@ impl<N: Name> Service<N> {
 
     /// A call, where the record stands. What it did and what leaves go to their places.
     #[inline(always)]
-    fn call_found<R: Wait>(
+    pub(crate) fn call_found<R: Wait>(
         &self,
         rt: &R,
         passes: &mut Passes,
@@ -128,7 +128,7 @@ impl<N: Name> Service<N> {
 
     /// What left with a call lands.
     #[inline(always)]
-    fn land_left<R: Wait>(
+    pub(crate) fn land_left<R: Wait>(
         &self,
         rt: &R,
         passes: &mut Passes,

@@ -1,12 +1,13 @@
 //! The end of a service, of the CPU or of its interrupt.
-ghost use Rattle.std.specs.Prelude.{◌≡◌, ◌<◌, Bool, false, true};
+ghost use Rattle.std.specs.Prelude.{◌≡◌, ◌<◌, ℕ, Bool, false, true};
 ghost use Rattle.std.specs.declared.option.Option.TheVariants.{None};
 ghost use Rattle.co_object.specs.Queue.{Due};
 ghost use Rattle.co_service.specs.Call.{notes_in};
 ghost use Rattle.co_service.specs.Ends.{IsFinished, finished_notes};
+ghost use Rattle.co_service.specs.Moving.{IsOfService};
 ghost use Rattle.co_service.specs.Services.{IsEnded, IsFree, IsServing};
 ghost use Rattle.co_service.specs.Serving.{Runs};
-ghost use Rattle.co_service.specs.Views.{AreOf};
+ghost use Rattle.co_service.specs.Views.{AreOf, PassesView};
 
 use crate::finished::Finished;
 use crate::moving::Moving;
@@ -16,7 +17,7 @@ use std::sync::Wait;
 impl<N: Name> Service<N> {
     /// The end of a service on its desk, of the CPU or of its interrupt where `direct`. What was done and what leaves go to their places.
     #[inline(always)]
-    fn end_found<R: Wait>(
+    pub(crate) fn end_found<R: Wait>(
         &self,
         rt: &R,
         passes: &mut Passes,
@@ -46,6 +47,25 @@ impl<N: Name> Service<N> {
         unreachable!()
     }
 
+    /// What left with the end of a service lands.
+    #[inline(always)]
+    pub(crate) fn land_ended<R: Wait>(
+        &self,
+        rt: &R,
+        passes: &mut Passes,
+        act: u64,
+        leaves: Option<Moving<N>>,
+        told: &mut Finished,
+    )
+        requires passes { AreOf N.name self.now passes.old }
+        requires leaving { IsOfService passes.old.params told.old.i leaves }
+        ensures { (direct : Bool) (p : PassesView) (cpu : ℕ) (d : Due) → IsFinished direct p cpu act d told.old leaves passes.old → IsEnded direct p cpu act d told.new.reply (finished_notes p.actor act told.new) passes.new }
+    {
+        if let Some(moving) = leaves {
+            told.insertion = Some(self.land(rt, passes, act, moving));
+        }
+    }
+
     /// The end of a service, the landing of what leaves included. What was done goes to its place.
     #[inline(always)]
     fn end_lane<R: Wait>(
@@ -64,9 +84,7 @@ impl<N: Name> Service<N> {
     {
         let mut leaves = None;
         self.end_found(rt, passes, cpu, act, direct, told, &mut leaves);
-        if let Some(moving) = leaves {
-            told.insertion = Some(self.land(rt, passes, act, moving));
-        }
+        self.land_ended(rt, passes, act, leaves, told);
     }
 
     /// The CPU's service is over: the function has returned, or was skipped. Where an arming at another CPU waited for this

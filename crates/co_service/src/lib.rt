@@ -2,6 +2,7 @@
 //! that travel with what they tell of.
 #![tactic(auto)]
 
+mod alone;
 mod bench;
 mod books;
 mod boot;

@@ -12,7 +12,7 @@ impl<N: Name> Service<N> {
     /// The first callout that has come due goes into service, of the CPU or of its interrupt where `direct`. It waits until the
     /// CPU's journal has so many Scans.
     #[inline(always)]
-    fn next_lane<R: Wait>(
+    pub(crate) fn next_lane<R: Wait>(
         &self,
         rt: &R,
         passes: &mut Passes,

@@ -90,7 +90,7 @@ impl<N: Name> Single<N> {
             cpu: None,
         });
         self.service
-            .call_into(rt, &mut self.passes, act, i, &op, None, &mut self.told);
+            .call_alone(rt, &mut self.passes, act, i, &op, None, &mut self.told);
     }
 
     /// Callout `i` is not armed any more. One that had come due and was not served does not fire.
@@ -100,7 +100,7 @@ impl<N: Name> Single<N> {
     {
         let op = CallOp::Plain(PlainOp::Stop);
         self.service
-            .call_into(rt, &mut self.passes, act, i, &op, None, &mut self.told);
+            .call_alone(rt, &mut self.passes, act, i, &op, None, &mut self.told);
     }
 
     /// The clock shows the time `now`, in units of 2^-32 s, or where it was later stays: what is due has come due. The
@@ -109,7 +109,9 @@ impl<N: Name> Single<N> {
         requires served { waiting_of self.old ≡ [] }
         ensures { IsScanned self.old now result self.new }
     {
-        self.service.scan(rt, &mut self.passes, 0, act, now).count
+        self.service
+            .scan_alone(rt, &mut self.passes, 0, act, now)
+            .count
     }
 
     /// The first callout that waits fires, and its service is over. None where nothing waits.
@@ -117,11 +119,14 @@ impl<N: Name> Single<N> {
         ensures none { IfNone result (IsIdle self.old self.new) }
         ensures some { IfSome result (λ fired. IsFired self.old fired.i fired.arg self.new) }
     {
-        match self.service.pop(rt, &mut self.passes, 0, act, 0, false) {
+        match self
+            .service
+            .pop_alone(rt, &mut self.passes, 0, act, 0, false)
+        {
             Popped::Empty { .. } => None,
             Popped::Took { i, reply, .. } => {
                 self.service
-                    .end_into(rt, &mut self.passes, 0, act, false, &mut self.finished);
+                    .end_alone(rt, &mut self.passes, 0, act, false, &mut self.finished);
                 Some(Fired {
                     i,
                     arg: arg_of(&reply),

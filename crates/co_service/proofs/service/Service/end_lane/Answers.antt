@@ -1,33 +1,19 @@
-use Rattle.std.proofs.Common.{ℕ, List, subst}
-use Rattle.std.specs.declared.option.Option.{Option}
-use Rattle.co_object.specs.declared.note.Note.{Note}
-use Rattle.co_service.specs.Ends.{finished_notes}
-use Rattle.co_service.specs.Moving.{IsOfService, MovingView, target_of}
-use Rattle.co_service.specs.Services.{IsEnded, IsEndedBut, IsLanded}
-use Rattle.co_service.proofs.WholeCall.{ended_here, ended_landed, finished_landed}
+use Rattle.co_service.proofs.Lasting.{still_of}
+use Rattle.co_service.proofs.WholeCall.{finished_leaves, finished_same}
 use Rattle.co_service.proofs.service.Service.end_lane.Goals as goal
 
-pub returns-in_default : goal.returns-in_default
-returns-in_default g c = λ d is.
-    let p = c.args.passes.now in
+pub land_ended-requires-clause-passes : goal.land_ended-requires-clause-passes
+land_ended-requires-clause-passes g c =
     let out = c.end_found in
-    let told = out.new.told in
-    let notes : List Note = finished_notes p.actor c.args.act told in
-    ended_here c.args.direct p out.new.passes c.args.cpu c.args.act d told.reply notes
-    (subst (λ (o : Option MovingView). IsEndedBut c.args.direct p c.args.cpu c.args.act d told.reply (target_of o) notes out.new.passes) c.in_default.is (out.ensures d is).ended)
+    let p = c.args.passes.now in
+    let s = c.requires.serves in
+    still_of g.N.Name.name c.args.self.now p out.new.passes (finished_same c.args.direct p out.new.passes c.args.cpu c.args.act s.0 out.new.told out.new.gone (out.ensures s.0 s.1)) c.requires.passes
 
-pub returns-in-Some : goal.returns-in-Some
-returns-in-Some g c = λ d is.
-    let p = c.args.passes.now in
+pub land_ended-requires-clause-leaving : goal.land_ended-requires-clause-leaving
+land_ended-requires-clause-leaving g c =
     let out = c.end_found in
-    let told = out.new.told in
-    let q = out.new.passes in
-    let m = c.in-Some.moving in
-    let x = c.land.result in
-    let done = out.ensures d is in
-    let notes : List Note = finished_notes p.actor c.args.act told in
-    let here = subst (IsOfService p.params d.i) c.in-Some.is done.leaves in
-    let ended = subst (λ (o : Option MovingView). IsEndedBut c.args.direct p c.args.cpu c.args.act d told.reply (target_of o) notes q) c.in-Some.is done.ended in
-    let landed = subst (λ (i : ℕ). IsLanded q c.args.act i m.target x c.land.new.passes) here.1 c.land.ensures in
-    subst (λ (ns : List Note). IsEnded c.args.direct p c.args.cpu c.args.act d told.reply ns c.land.new.passes) (finished_landed p.actor c.args.act told x d.i done.callout done.room)
-    (ended_landed c.args.direct p q c.args.cpu c.args.act d told.reply notes m.target x c.land.new.passes ended landed)
+    let s = c.requires.serves in
+    finished_leaves c.args.direct c.args.passes.now out.new.passes c.args.cpu c.args.act s.0 out.new.told out.new.gone (out.ensures s.0 s.1)
+
+pub returns : goal.returns
+returns g c = λ d is. c.land_ended.ensures c.args.direct c.args.passes.now c.args.cpu d (c.end_found.ensures d is)

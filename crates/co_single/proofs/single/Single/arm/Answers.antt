@@ -1,6 +1,8 @@
 use Rattle.std.proofs.Common.{◌<◌, ◌^◌, false, length, sym, subst}
+use Rattle.co_service.specs.declared.params.Params.{Params}
 use Rattle.co_single.specs.Acts.{IsArmed}
 use Rattle.co_single.specs.Alarms.{count_of, made_at}
+use Rattle.co_single.specs.Rest.{IsSingle}
 use Rattle.co_single.proofs.Arming.{is_armed_now, rests_armed}
 use Rattle.co_single.proofs.Told.{written_is}
 use Rattle.co_single.proofs.single.Single.arm.Goals as goal
@@ -9,16 +11,16 @@ pub invariant_of-self : goal.invariant_of-self
 invariant_of-self g c =
     let n = length c.self.inside.service.specs in
     let p = c.self.inside.passes in
-    let q = c.call_into.new.passes in
-    let called = c.call_into.ensures.called in
+    let q = c.call_alone.new.passes in
+    let called = c.call_alone.ensures.called in
     let written = written_is n p q _ _ c.self.invariant.single called.group_is called.written in
     let low : c.args.i < count_of p = subst (λ v. c.args.i < count_of v) (sym c.self.view_is) c.requires.callout in
     let fresh : made_at p c.args.i < 2 ^ 62 = subst (λ v. made_at v c.args.i < 2 ^ 62) (sym c.self.view_is) c.requires.made in
-    record {
-      of = c.call_into.ensures.of;
+    subst (λ (s : Params). IsSingle g.N.Name.name s q c.self.inside.ending) (sym c.call_alone.ensures.params) record {
+      of = c.call_alone.ensures.of;
       single = written.1;
-      free = c.call_into.ensures.free false 0 c.self.invariant.free;
-      rest = rests_armed n p q c.self.invariant.single written.1 c.self.invariant.rest c.args.i c.args.act called.time low c.args.due _ c.args.arg fresh c.call_into.new.told.out.reply written.0;
+      free = c.call_alone.ensures.free false 0 c.self.invariant.free;
+      rest = rests_armed n p q c.self.invariant.single written.1 c.self.invariant.rest c.args.i c.args.act called.time low c.args.due _ c.args.arg fresh c.call_alone.new.told.out.reply written.0;
       nothing = c.self.invariant.nothing;
       room = c.self.invariant.room;
     }
@@ -27,10 +29,10 @@ pub returns : goal.returns
 returns g c =
     let n = length c.self.inside.service.specs in
     let p = c.self.inside.passes in
-    let q = c.call_into.new.passes in
-    let called = c.call_into.ensures.called in
+    let q = c.call_alone.new.passes in
+    let called = c.call_alone.ensures.called in
     let written = written_is n p q _ _ c.self.invariant.single called.group_is called.written in
     let low : c.args.i < count_of p = subst (λ v. c.args.i < count_of v) (sym c.self.view_is) c.requires.callout in
     let fresh : made_at p c.args.i < 2 ^ 62 = subst (λ v. made_at v c.args.i < 2 ^ 62) (sym c.self.view_is) c.requires.made in
     subst (λ v. IsArmed v c.args.i c.args.due c.args.arg q) c.self.view_is
-    (is_armed_now n p q c.self.invariant.single written.1 c.self.invariant.rest c.args.i c.args.act called.time low c.args.due _ c.args.arg fresh c.call_into.new.told.out.reply written.0)
+    (is_armed_now n p q c.self.invariant.single written.1 c.self.invariant.rest c.args.i c.args.act called.time low c.args.due _ c.args.arg fresh c.call_alone.new.told.out.reply written.0)

@@ -1,0 +1,30 @@
+use Rattle.std.proofs.Common.{refl, sym, subst}
+use Rattle.co_service.specs.declared.params.Params.{Params}
+use Rattle.co_service.specs.Call.{told_notes}
+use Rattle.co_service.specs.Moving.{IsOfService}
+use Rattle.co_service.specs.Services.{AreSame}
+use Rattle.co_service.specs.Views.{AreOf}
+use Rattle.co_service.proofs.Lasting.{still_of}
+use Rattle.co_service.proofs.WholeCall.{writes_keep}
+use Rattle.co_service.proofs.service.Service.call_landed_alone.Goals as goal
+
+pub land_left-requires-clause-passes : goal.land_left-requires-clause-passes
+land_left-requires-clause-passes g c =
+    let out = c.call_found_alone in
+    let p = c.args.passes.now in
+    let kept : AreSame p out.new.passes = writes_keep p out.new.passes (told_notes p.actor c.args.act c.args.i c.args.op.now out.new.told) (out.ensures.tried.answer refl).written in
+    subst (λ (r : Params). AreOf g.N.Name.name r out.new.passes) (sym out.ensures.params)
+    (still_of g.N.Name.name c.args.self.now p out.new.passes kept c.requires.passes)
+
+pub land_left-requires-clause-leaving : goal.land_left-requires-clause-leaving
+land_left-requires-clause-leaving g c =
+    let out = c.call_found_alone in
+    let p = c.args.passes.now in
+    let kept : AreSame p out.new.passes = writes_keep p out.new.passes (told_notes p.actor c.args.act c.args.i c.args.op.now out.new.told) (out.ensures.tried.answer refl).written in
+    subst (λ (r : Params). IsOfService r c.args.i out.new.gone) (sym kept.params) (out.ensures.tried.leaving refl)
+
+pub land_left-requires-clause-room : goal.land_left-requires-clause-room
+land_left-requires-clause-room g c = c.call_found_alone.ensures.tried.room refl
+
+pub returns-clause-called : goal.returns-clause-called
+returns-clause-called g c = c.land_left.ensures c.args.passes.now c.args.op.now (c.call_found_alone.ensures.tried.answer refl)
