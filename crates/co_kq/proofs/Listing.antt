@@ -8,7 +8,7 @@ use Rattle.slab.specs.Slab.{Slab, Updates, get, slab_len, with_value}
 use Rattle.co_kq.specs.declared.knote.Knote.{Knote}
 use Rattle.co_kq.specs.declared.knote.Slot.{Slot}
 use Rattle.co_kq.specs.declared.index.Place.{Place}
-use Rattle.co_kq.specs.Index.{IndexView, IsChanged, IsFirst, key_of, one_where}
+use Rattle.co_kq.specs.Index.{IndexView, IsChanged, IsFirst, IsLowest, key_of, one_where}
 use Rattle.co_kq.specs.Slots.{AreDistinct, IsAbsent, IsAlone, IsAt, IsFirstReady}
 use Rattle.co_kq.specs.Listed.{AreIndexed, AreListed, IsShown, is_any, is_ready, passes, shown}
 use Rattle.co_kq.proofs.Counting.{one_if, count_apart, count_fewer}
@@ -214,6 +214,20 @@ first_is knotes order ready (Some key) a f =
       first = λ j t at more.
           let low : f.ident ≤ t.knote.ident = f.first t.knote.ident j (a.ready_is.whole j t at (lt-ltb 0 t.knote.count more)) in
           omega (arith, low, s.ident_is);
+    }
+
+-- the first knote with expirations has the lowest ident of the index
+pub lowest_is : (knotes : Slab Slot) (order ready : IndexView) (key : ℕ) (x : Slot) → AreListed knotes order ready → IsFirstReady knotes.slots key → get knotes key ≡ Some x → IsLowest ready.places x.knote.ident
+lowest_is knotes order ready key x a f there =
+    let is : f.slot ≡ x = some_is f.slot x (sym f.there ∙ there) in
+    let same : f.slot.knote.ident ≡ x.knote.ident = ap (λ v. v.knote.ident) is in
+    record {
+      key = key;
+      there = a.ready_is.whole key x there (lt-ltb 0 x.knote.count (subst (λ v. 0 < v.knote.count) is f.ready));
+      first = λ other k h.
+          let s : IsShown is_ready knotes.slots k other = a.ready_is.sound other k h in
+          let low : f.slot.knote.ident ≤ s.slot.knote.ident = f.first k s.slot s.there (ltb-true 0 s.slot.knote.count s.passing) in
+          omega (arith, low, s.ident_is, same);
     }
 
 -- an ident has one key
