@@ -8,7 +8,7 @@ use Rattle.slab.specs.Slab.{Slab, Updates, get, slab_len, with_value}
 use Rattle.co_kq.specs.declared.knote.Knote.{Knote}
 use Rattle.co_kq.specs.declared.knote.Slot.{Slot}
 use Rattle.co_kq.specs.declared.index.Place.{Place}
-use Rattle.co_kq.specs.Index.{IndexView, IsChanged, IsFirst, IsLowest, key_of, one_where}
+use Rattle.co_kq.specs.Index.{IndexView, IsChanged, IsFirst, key_of, one_where}
 use Rattle.co_kq.specs.Slots.{AreDistinct, IsAbsent, IsAlone, IsAt, IsFirstReady}
 use Rattle.co_kq.specs.Listed.{AreIndexed, AreListed, IsShown, is_any, is_ready, passes, shown}
 use Rattle.co_kq.proofs.Counting.{one_if, count_apart, count_fewer}
@@ -216,13 +216,13 @@ first_is knotes order ready (Some key) a f =
           omega (arith, low, s.ident_is);
     }
 
--- the first knote with expirations has the lowest ident of the index
-pub lowest_is : (knotes : Slab Slot) (order ready : IndexView) (key : ℕ) (x : Slot) → AreListed knotes order ready → IsFirstReady knotes.slots key → get knotes key ≡ Some x → IsLowest ready.places x.knote.ident
-lowest_is knotes order ready key x a f there =
+-- the first knote with expirations is the first of the index
+abbrev pub first_of : (knotes : Slab Slot) (order ready : IndexView) (key : ℕ) (x : Slot) → AreListed knotes order ready → IsFirstReady knotes.slots key → get knotes key ≡ Some x → IsFirst ready.places key
+first_of knotes order ready key x a f there =
     let is : f.slot ≡ x = some_is f.slot x (sym f.there ∙ there) in
     let same : f.slot.knote.ident ≡ x.knote.ident = ap (λ v. v.knote.ident) is in
     record {
-      key = key;
+      ident = x.knote.ident;
       there = a.ready_is.whole key x there (lt-ltb 0 x.knote.count (subst (λ v. 0 < v.knote.count) is f.ready));
       first = λ other k h.
           let s : IsShown is_ready knotes.slots k other = a.ready_is.sound other k h in

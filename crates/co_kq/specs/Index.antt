@@ -42,9 +42,3 @@ pub record IsFirst (places : List Place) (key : ℕ) : Type 0 where
   pub ident : ℕ
   pub there : key_of ident places ≡ Some key
   pub first : (other k : ℕ) → key_of other places ≡ Some k → ident ≤ other
-
--- an ident has a key, and none is lower
-pub record IsLowest (places : List Place) (ident : ℕ) : Type 0 where
-  pub key : ℕ
-  pub there : key_of ident places ≡ Some key
-  pub first : (other k : ℕ) → key_of other places ≡ Some k → ident ≤ other

@@ -1,6 +1,6 @@
 //! Keys by ident.
 ghost use Rattle.std.specs.Prelude.{◌≢◌, true, false, ◌≡◌, ℕ, ◌≤◌, ◌<◌, None, Some, [], length, slice_index_or, IfOk, IfNone, IfSome};
-ghost use Rattle.co_kq.specs.Index.{AreFalling, IsChanged, IsFirst, IsLowest, key_of, place_at};
+ghost use Rattle.co_kq.specs.Index.{AreFalling, IsChanged, IsFirst, key_of, place_at};
 
 use co_sbt::NoMemory;
 use std::alloc::Global;
@@ -156,7 +156,7 @@ impl Index {
 
     /// Takes out the key of the lowest ident, if there is one.
     pub fn take_first(&mut self)
-        ensures changed { (ident : ℕ) → IsLowest self.old.places ident → IsChanged self.old.places ident None self.new.places }
+        ensures changed { (key : ℕ) (f : IsFirst self.old.places key) → IsChanged self.old.places f.ident None self.new.places }
         ensures room { self.new.room ≡ self.old.room }
     {
         self.places.pop_back();

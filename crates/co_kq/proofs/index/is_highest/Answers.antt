@@ -1,4 +1,4 @@
-use Rattle.std.proofs.Common.{◌≡◌, ◌<◌, arith, subst, ap}
+use Rattle.std.proofs.Common.{◌≡◌, ◌<◌, arith, subst}
 use Rattle.std.proofs.lemmas.Bool.{ltb-true}
 use Rattle.std.proofs.lemmas.List.{get_or_read}
 use Rattle.co_kq.specs.declared.index.Place.{Place}

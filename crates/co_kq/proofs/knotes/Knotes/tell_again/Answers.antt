@@ -1,11 +1,11 @@
-use Rattle.std.proofs.Common.{◌≡◌, ◌<◌, ap, sym, subst, refl, ◌∙◌, arith, Some, None, set, false}
+use Rattle.std.proofs.Common.{◌≡◌, ap, sym, subst, refl, ◌∙◌, Some, None, set, false}
 use Rattle.slab.specs.Slab.{Slab, get, with_value}
 use Rattle.co_kq.specs.declared.knote.Slot.{Slot}
 use Rattle.co_kq.specs.declared.knote.Knote.{Knote}
 use Rattle.co_kq.specs.Kevents.{placed, event_of}
 use Rattle.co_kq.specs.Slots.{knotes_in, slot_at, AreDistinct, IsFirstReady, Tells}
 use Rattle.co_kq.proofs.InSlots.{taken_out, written, IsFree, free_where_alone, distinct_put}
-use Rattle.co_kq.proofs.Listing.{listed_quiet, lowest_is, with_updates, with_len}
+use Rattle.co_kq.proofs.Listing.{listed_quiet, first_of, with_updates, with_len}
 use Rattle.co_kq.proofs.Telling.{tells_first, behind_first, first_at, quieted}
 use Rattle.co_kq.proofs.knotes.Knotes.tell_again.Goals as goal
 
@@ -17,10 +17,10 @@ invariant_of-self c =
     let there : get old c.args.key ≡ Some x = sym c.in-Some.ensures.value in
     let distinct = subst (λ k. AreDistinct k.slots) (sym c.self.view_is) c.requires.distinct in
     let first = subst (λ k. IsFirstReady k.slots c.args.key) (sym c.self.view_is) c.requires.first in
-    let lowest = lowest_is old c.self.inside.order c.self.inside.ready c.args.key x c.self.invariant first there in
+    let first_there = first_of old c.self.inside.order c.self.inside.ready c.args.key x c.self.invariant first there in
     listed_quiet old (with_value old c.args.key y) c.self.inside.order c.self.inside.ready c.take_first.new.self c.args.key x y c.self.invariant there (with_updates old c.args.key x y there)
     (distinct c.args.key x there) (ap (λ (k : Knote). k.ident) c.quieted-slot.ensures) c.take_first.ensures.room (with_len old c.args.key x y there) refl
-    (ap (λ (k : Knote). k.count) c.quieted-slot.ensures) (c.take_first.ensures.changed x.knote.ident lowest)
+    (ap (λ (k : Knote). k.count) c.quieted-slot.ensures) (c.take_first.ensures.changed c.args.key first_there)
 
 pub returns-clause-tells : goal.returns-clause-tells
 returns-clause-tells c =
