@@ -17,7 +17,8 @@ pub struct Place {
 }
 
 /// Keys by ident, with room that is taken once: finding one takes a binary search, and putting one in or taking one out moves
-/// those that are lower or those that are higher, whichever are fewer. Idents that come by rising ident move none.
+/// those that are lower or those that are higher, whichever are fewer. So none moves where a new ident is higher than all, nor
+/// where the lowest leaves.
 #[derive(Drop)]
 pub struct Index {
     /// The highest ident first.
@@ -102,6 +103,7 @@ impl Index {
     }
 
     /// Puts in the key of an ident that has none, where there is room.
+    #[inline]
     pub fn insert(&mut self, ident: u64, key: usize)
         requires absent { key_of ident self.old.places ≡ None }
         requires room { length self.old.places < self.old.room }
@@ -116,7 +118,7 @@ impl Index {
     }
 
     /// Puts it in where its ident belongs.
-    // Apart, so that a new highest ident, as most are in a tick, is put in with no call.
+    // Apart, so that a new highest ident is put in with no call: where knotes expire by rising ident, each is.
     #[inline(never)]
     fn insert_within(&mut self, ident: u64, key: usize)
         requires absent { key_of ident self.old.places ≡ None }
