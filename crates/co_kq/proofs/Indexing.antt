@@ -1,9 +1,10 @@
 -- Keys by ident: what stands where in a list whose idents fall, and what a place more or less in it changes.
-use Rattle.std.proofs.Common.{◌≡◌, ◌≢◌, ℕ, zero, suc, ◌+◌, ◌<◌, ◌≤◌, Bool, true, false, cond, List, [], ◌∷◌, length, refl, ap, sym, ◌∙◌, arith, Some, None, inl, inr}
+use Rattle.std.proofs.Common.{◌≡◌, ◌≢◌, ℕ, zero, suc, ◌+◌, ◌-◌, ◌<◌, ◌≤◌, Bool, true, false, cond, List, [], ◌∷◌, ◌++◌, length, take, append-nil, refl, ap, sym, subst, ◌∙◌, arith, Some, None, inl, inr}
 use Rattle.std.specs.Prelude.{◌==◌}
 use Rattle.std.specs.List.{insert, remove}
 use Rattle.std.proofs.lemmas.Bool.{eq-eqb, cases_eq, cases_lt}
 use Rattle.std.proofs.lemmas.Bool.Decides.{nat_tests}
+use Rattle.std.proofs.lemmas.List.{drop_all}
 use Rattle.std.proofs.lemmas.List.Edits.{length-insert, length-remove}
 use Rattle.co_kq.specs.declared.index.Place.{Place}
 use Rattle.co_kq.specs.Index.{key_of, place_at, AreLower, AreFalling, IsChanged, IsFirst, one_where}
@@ -144,6 +145,43 @@ remove_changed ps at falling low = record {
       let one : one_where (key_of (place_at ps at).ident ps) ≡ 1 = ap one_where (key_at ps at falling low) in
       omega (arith, one, length-remove ps at low);
 }
+
+-- the last place less
+
+last_gone : (ps : List Place) (n : ℕ) → length ps ≤ suc n → remove ps n ≡ take n ps
+last_gone ps n most = ap (λ l. take n ps ++ l) (drop_all (suc n) ps most) ∙ append-nil (take n ps)
+
+pub falling_front : (ps : List Place) → AreFalling ps → AreFalling (take (length ps - 1) ps)
+falling_front ps falling = subst AreFalling (last_gone ps (length ps - 1) (omega arith)) (falling_remove ps (length ps - 1) falling)
+
+-- that is the first by rising ident
+first_last : (ps : List Place) (key at : ℕ) (f : IsFirst ps key) → AreFalling ps → at + 1 ≡ length ps → (place_at ps at).ident ≡ f.ident
+first_last ps key at f falling last =
+    let i = key_inside f.ident key ps f.there in
+    let most : f.ident ≤ (place_at ps at).ident = f.first (place_at ps at).ident (place_at ps at).key (key_at ps at falling (omega (arith, last))) in
+    elim (cases_eq i.0 at) [
+      | inl here ↦ ap (λ j. (place_at ps j).ident) (sym here) ∙ i.2
+      | inr there ↦ let less = falling_at ps i.0 at falling (omega (arith, i.1, last, there)) (omega (arith, last)) in absurd (omega (arith, less, i.2, most))
+    ]
+
+first_gone : (ps : List Place) (key : ℕ) (f : IsFirst ps key) → AreFalling ps → IsChanged ps f.ident None (take (length ps - 1) ps)
+first_gone ps key f falling =
+    let at : ℕ = length ps - 1 in
+    let i = key_inside f.ident key ps f.there in
+    let last : at + 1 ≡ length ps = omega (arith, i.1) in
+    let gone : IsChanged ps (place_at ps at).ident None (remove ps at) = remove_changed ps at falling (omega (arith, last)) in
+    subst (λ l. IsChanged ps f.ident None l) (last_gone ps at (omega (arith, last)))
+    (subst (λ j. IsChanged ps j None (remove ps at)) (first_last ps key at f falling last) gone)
+
+pub gone_from : (ps before after : List Place) (key : ℕ) (f : IsFirst before key) → AreFalling ps → before ≡ ps → after ≡ take (length ps - 1) ps → IsChanged before f.ident None after
+gone_from ps before after key f falling same rest =
+    let all : AreFalling before = subst AreFalling (sym same) falling in
+    subst (λ l. IsChanged before f.ident None l) (ap (λ l. take (length l - 1) l) same ∙ sym rest) (first_gone before key f all)
+
+-- an ident above the first is above all
+pub first_above : (ps : List Place) (ident : ℕ) → AreFalling ps → (place_at ps 0).ident < ident → (j : ℕ) → j < length ps → (place_at ps j).ident < ident
+first_above ps ident falling above zero low = above
+first_above ps ident falling above (suc j) low = let less = falling_at ps 0 (suc j) falling (omega arith) low in omega (arith, less, above)
 
 -- nothing to take out
 pub none_changed : (ps : List Place) (ident : ℕ) → key_of ident ps ≡ None → IsChanged ps ident None ps

@@ -216,6 +216,20 @@ first_is knotes order ready (Some key) a f =
           omega (arith, low, s.ident_is);
     }
 
+-- the first knote with expirations is the first of the index
+abbrev pub first_of : (knotes : Slab Slot) (order ready : IndexView) (key : ℕ) (x : Slot) → AreListed knotes order ready → IsFirstReady knotes.slots key → get knotes key ≡ Some x → IsFirst ready.places key
+first_of knotes order ready key x a f there =
+    let is : f.slot ≡ x = some_is f.slot x (sym f.there ∙ there) in
+    let same : f.slot.knote.ident ≡ x.knote.ident = ap (λ v. v.knote.ident) is in
+    record {
+      ident = x.knote.ident;
+      there = a.ready_is.whole key x there (lt-ltb 0 x.knote.count (subst (λ v. 0 < v.knote.count) is f.ready));
+      first = λ other k h.
+          let s : IsShown is_ready knotes.slots k other = a.ready_is.sound other k h in
+          let low : f.slot.knote.ident ≤ s.slot.knote.ident = f.first k s.slot s.there (ltb-true 0 s.slot.knote.count s.passing) in
+          omega (arith, low, s.ident_is, same);
+    }
+
 -- an ident has one key
 pub listed_distinct : (knotes : Slab Slot) (order ready : IndexView) → AreListed knotes order ready → AreDistinct knotes.slots
 listed_distinct knotes order ready a key s at j t bt eq =

@@ -173,15 +173,15 @@ impl Knotes {
         ensures len { slab_len self.new ≡ slab_len self.old }
         ensures capacity { self.new.capacity ≡ self.old.capacity }
     {
-        let slot = self.slab.remove(key);
+        let Some(slot) = self.slab.get_mut(key) else {
+            unreachable!()
+        };
         let event = Event {
             ident: slot.knote.ident,
             count: slot.knote.count,
         };
-        let knote = quieted(slot.knote);
-        let timer = slot.timer;
-        self.slab.insert_reserved(Slot { knote, timer });
-        self.ready.remove(event.ident);
+        slot.knote = quieted(slot.knote);
+        self.ready.take_first();
         event
     }
 

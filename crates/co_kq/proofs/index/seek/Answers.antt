@@ -1,15 +1,18 @@
-use Rattle.std.proofs.Common.{ℕ, ◌+◌, ◌-◌, ◌/◌, ◌<◌, ◌≤◌, subst, sym, arith, inl, inr}
+use Rattle.std.proofs.Common.{◌≡◌, ℕ, ◌+◌, ◌-◌, ◌/◌, ◌<◌, ◌≤◌, subst, sym, arith, inl, inr}
 use Rattle.std.proofs.lemmas.Bool.{cases_eq}
-use Rattle.co_kq.specs.Index.{place_at}
+use Rattle.std.proofs.lemmas.List.{get_or_read}
+use Rattle.co_kq.specs.declared.index.Place.{Place}
+use Rattle.co_kq.specs.Index.{place_at, nowhere_place}
 use Rattle.co_kq.proofs.Indexing.{falling_at}
 use Rattle.co_kq.proofs.index.seek.Goals as goal
 
-pub loop-low-preserved-then-ident-places : goal.loop-low-preserved-then-ident-places
-loop-low-preserved-then-ident-places c =
-    let ps = c.args.places.now in
+pub loop-low-preserved-then-ident-index : goal.loop-low-preserved-then-ident-index
+loop-low-preserved-then-ident-index c =
+    let ps = c.args.places.now.items in
     let middle : ℕ = c.loop-low.low + (c.loop-low.high - c.loop-low.low) / 2 in
     let inside : middle < c.loop-low.high = omega arith in
-    let test : c.args.ident < (place_at ps middle).ident = c.if-ident-places.true in
+    let is : c.index.result.now ≡ place_at ps middle = get_or_read ps middle c.index.result.now (omega (arith, inside, c.loop-low.invariant.within)) c.index.ensures nowhere_place in
+    let test : c.args.ident < (place_at ps middle).ident = subst (λ (p : Place). c.args.ident < p.ident) is c.if-ident-index.true in
     record {
       order = omega arith;
       within = c.loop-low.invariant.within;
@@ -22,10 +25,11 @@ loop-low-preserved-then-ident-places c =
 
 pub loop-low-preserved : goal.loop-low-preserved
 loop-low-preserved c =
-    let ps = c.args.places.now in
+    let ps = c.args.places.now.items in
     let middle : ℕ = c.loop-low.low + (c.loop-low.high - c.loop-low.low) / 2 in
     let inside : middle < c.loop-low.high = omega arith in
-    let test : (place_at ps middle).ident ≤ c.args.ident = c.if-ident-places.false in
+    let is : c.index.result.now ≡ place_at ps middle = get_or_read ps middle c.index.result.now (omega (arith, inside, c.loop-low.invariant.within)) c.index.ensures nowhere_place in
+    let test : (place_at ps middle).ident ≤ c.args.ident = subst (λ (p : Place). p.ident ≤ c.args.ident) is c.if-ident-index.false in
     record {
       order = omega arith;
       within = omega (arith, inside, c.loop-low.invariant.within);

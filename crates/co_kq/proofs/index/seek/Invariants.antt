@@ -6,9 +6,9 @@ use Rattle.co_kq.proofs.index.seek.Given as goal
 abbrev pub invariant-loop-low : goal.invariant-loop-low
 invariant-loop-low l = record {
   order : l.low ≤ l.high;
-  within : l.high ≤ length l.places;
-  above : (j : ℕ) → j < l.low → l.ident < (place_at l.places j).ident;
-  below : (j : ℕ) → l.high ≤ j → j < length l.places → (place_at l.places j).ident ≤ l.ident;
+  within : l.high ≤ length l.places.items;
+  above : (j : ℕ) → j < l.low → l.ident < (place_at l.places.items j).ident;
+  below : (j : ℕ) → l.high ≤ j → j < length l.places.items → (place_at l.places.items j).ident ≤ l.ident;
 }
 
 abbrev pub decreases-loop-low : goal.decreases-loop-low

@@ -13,4 +13,4 @@ returns-clause-some c =
     let is_last : last + 1 ≡ length ps = grind (arith, nat_tests, c.self.inside.places.ok.0, c.if-is_empty.false, c.is_empty.ensures, c.len-last.ensures) in
     let is : c.index.result.now ≡ place_at ps last = get_or_read ps last c.index.result.now (omega (arith, is_last)) c.index.ensures nowhere_place in
     subst (λ l. IsFirst l c.index.result.now.key) (ap (λ v. v.places) c.self.view_is)
-    (subst (IsFirst ps) (ap (λ (p : Place). p.key) (sym is)) (last_first ps last c.self.invariant is_last))
+    (subst (IsFirst ps) (ap (λ (p : Place). p.key) (sym is)) (last_first ps last c.self.invariant.0 is_last))

@@ -1,44 +1,52 @@
-use Rattle.std.proofs.Common.{◌≡◌, ap, sym, subst, ◌∙◌, arith, Some, None, set, false}
-use Rattle.slab.specs.Slab.{Updates}
+use Rattle.std.proofs.Common.{◌≡◌, ap, sym, subst, refl, ◌∙◌, Some, None, set, false}
+use Rattle.slab.specs.Slab.{Slab, get, with_value}
 use Rattle.co_kq.specs.declared.knote.Slot.{Slot}
 use Rattle.co_kq.specs.declared.knote.Knote.{Knote}
 use Rattle.co_kq.specs.Kevents.{placed, event_of}
 use Rattle.co_kq.specs.Slots.{knotes_in, slot_at, AreDistinct, IsFirstReady, Tells}
-use Rattle.co_kq.proofs.InSlots.{taken_out, written, updated}
-use Rattle.co_kq.proofs.Listing.{listed_quiet}
+use Rattle.co_kq.proofs.InSlots.{taken_out, written, IsFree, free_where_alone, distinct_put}
+use Rattle.co_kq.proofs.Listing.{listed_quiet, first_of, with_updates, with_len}
 use Rattle.co_kq.proofs.Telling.{tells_first, behind_first, first_at, quieted}
 use Rattle.co_kq.proofs.knotes.Knotes.tell_again.Goals as goal
 
 pub invariant_of-self : goal.invariant_of-self
 invariant_of-self c =
     let old = c.self.inside.slab in
-    let new = c.insert_reserved.new.self in
-    let e = c.remove-slot.ensures in
-    let x = c.remove-slot.result in
-    let y : Slot = record { knote = c.quieted-knote.result; timer = x.timer } in
-    let at : c.insert_reserved.result ≡ c.args.key = c.insert_reserved.ensures.key ∙ e.key_is_next in
-    let updates : Updates old new c.args.key (Some y) = updated old c.remove-slot.new.self new c.args.key y e.updates (subst (λ k. Updates c.remove-slot.new.self new k (Some y)) at c.insert_reserved.ensures.updates) in
+    let x = c.in-Some.slot.now in
+    let y : Slot = record { knote = c.quieted-slot.result; timer = x.timer } in
+    let there : get old c.args.key ≡ Some x = sym c.in-Some.ensures.value in
     let distinct = subst (λ k. AreDistinct k.slots) (sym c.self.view_is) c.requires.distinct in
-    listed_quiet old new c.self.inside.order c.self.inside.ready c.remove.new.self c.args.key x y c.self.invariant e.value updates (distinct c.args.key x e.value)
-    (ap (λ (k : Knote). k.ident) c.quieted-knote.ensures) c.remove.ensures.room (omega (arith, c.insert_reserved.ensures.len, e.len)) (c.insert_reserved.ensures.capacity ∙ e.capacity)
-    (ap (λ (k : Knote). k.count) c.quieted-knote.ensures) c.remove.ensures.changed
+    let first = subst (λ k. IsFirstReady k.slots c.args.key) (sym c.self.view_is) c.requires.first in
+    let first_there = first_of old c.self.inside.order c.self.inside.ready c.args.key x c.self.invariant first there in
+    listed_quiet old (with_value old c.args.key y) c.self.inside.order c.self.inside.ready c.take_first.new.self c.args.key x y c.self.invariant there (with_updates old c.args.key x y there)
+    (distinct c.args.key x there) (ap (λ (k : Knote). k.ident) c.quieted-slot.ensures) c.take_first.ensures.room (with_len old c.args.key x y there) refl
+    (ap (λ (k : Knote). k.count) c.quieted-slot.ensures) (c.take_first.ensures.changed c.args.key first_there)
 
 pub returns-clause-tells : goal.returns-clause-tells
 returns-clause-tells c =
     let old = c.self.inside.slab in
-    let new = c.insert_reserved.new.self in
-    let e = c.remove-slot.ensures in
-    let x = c.remove-slot.result in
+    let x = c.in-Some.slot.now in
+    let y : Slot = record { knote = c.quieted-slot.result; timer = x.timer } in
+    let new : Slab Slot = with_value old c.args.key y in
+    let there : get old c.args.key ≡ Some x = sym c.in-Some.ensures.value in
     let rest = knotes_in (set old.slots c.args.key None) in
     let distinct = subst (λ k. AreDistinct k.slots) (sym c.self.view_is) c.requires.distinct in
-    let alone = distinct c.args.key x e.value in
-    let base : knotes_in old.slots ≡ placed x.knote rest = taken_out old.slots c.args.key x e.value alone in
-    let y : Slot = record { knote = c.quieted-knote.result; timer = x.timer } in
-    let at : c.insert_reserved.result ≡ c.args.key = c.insert_reserved.ensures.key ∙ e.key_is_next in
-    let updates : Updates old new c.args.key (Some y) = updated old c.remove-slot.new.self new c.args.key y e.updates (subst (λ k. Updates c.remove-slot.new.self new k (Some y)) at c.insert_reserved.ensures.updates) in
-    let end : knotes_in new.slots ≡ placed (quieted x.knote) rest = written old new c.args.key x y e.value (ap (λ (k : Knote). k.ident) c.quieted-knote.ensures) updates alone ∙ ap (λ q. placed q rest) c.quieted-knote.ensures in
-    let first : IsFirstReady old.slots c.args.key = first_at old.slots c.args.key x (subst (λ k. IsFirstReady k.slots c.args.key) (sym c.self.view_is) c.requires.first) e.value in
-    let once = c.requires.again x (ap (λ k. slot_at k.slots c.args.key) (sym c.self.view_is) ∙ e.value) in
+    let alone = distinct c.args.key x there in
+    let base : knotes_in old.slots ≡ placed x.knote rest = taken_out old.slots c.args.key x there alone in
+    let end : knotes_in new.slots ≡ placed (quieted x.knote) rest = written old new c.args.key x y there (ap (λ (k : Knote). k.ident) c.quieted-slot.ensures) (with_updates old c.args.key x y there) alone ∙ ap (λ q. placed q rest) c.quieted-slot.ensures in
+    let first : IsFirstReady old.slots c.args.key = first_at old.slots c.args.key x (subst (λ k. IsFirstReady k.slots c.args.key) (sym c.self.view_is) c.requires.first) there in
+    let once = c.requires.again x (ap (λ k. slot_at k.slots c.args.key) (sym c.self.view_is) ∙ there) in
     let tells : Tells (placed x.knote rest) (event_of x.knote) (placed (quieted x.knote) rest) = tells_first false x.knote rest once first.ready (behind_first old.slots c.args.key first distinct) in
     subst (λ l. Tells l (event_of x.knote) (knotes_in new.slots)) (sym base ∙ ap (λ k. knotes_in k.slots) c.self.view_is)
     (subst (λ l. Tells (placed x.knote rest) (event_of x.knote) l) (sym end) tells)
+
+pub returns-clause-distinct : goal.returns-clause-distinct
+returns-clause-distinct c =
+    let old = c.self.inside.slab in
+    let x = c.in-Some.slot.now in
+    let y : Slot = record { knote = c.quieted-slot.result; timer = x.timer } in
+    let there : get old c.args.key ≡ Some x = sym c.in-Some.ensures.value in
+    let distinct = subst (λ k. AreDistinct k.slots) (sym c.self.view_is) c.requires.distinct in
+    let same : y.knote.ident ≡ x.knote.ident = ap (λ (k : Knote). k.ident) c.quieted-slot.ensures in
+    let free : IsFree old.slots c.args.key y.knote.ident = subst (λ i. IsFree old.slots c.args.key i) (sym same) (free_where_alone old.slots c.args.key x.knote.ident (distinct c.args.key x there)) in
+    distinct_put old (with_value old c.args.key y) c.args.key y (with_updates old c.args.key x y there) free distinct
