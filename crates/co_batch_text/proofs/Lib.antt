@@ -1,4 +1,5 @@
 pub mod Lines
+pub mod LineEnds
 pub mod Running
 pub mod EventText
 pub mod KqText

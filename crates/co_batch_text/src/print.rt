@@ -1,5 +1,5 @@
 //! Lines that more than one command writes.
-ghost use Rattle.std.specs.Prelude.{◌≡◌, ◌++◌, ◌∷◌, [], OnOk, decimal};
+ghost use Rattle.std.specs.Prelude.{◌≡◌, ◌<◌, ◌+◌, ◌++◌, ◌∷◌, [], OnOk, decimal};
 ghost use Rattle.co_text.specs.Lines.{line_text};
 
 use co_sbt::NoMemory;
@@ -14,6 +14,36 @@ pub(crate) fn print_word(page: &mut Page, word: &[u8]) -> Result<(), NoMemory>
     page.end()
 }
 
+/// The digit of a number that has one.
+fn digit(number: u64) -> u8
+    requires { number < 10 }
+    ensures { result ≡ 48 + number }
+{
+    b'0' + number as u8
+}
+
+/// The last number of a line, which has one digit, and the line's end, in one piece.
+#[inline]
+fn print_digit(page: &mut Page, number: u64) -> Result<(), NoMemory>
+    requires { number < 10 }
+    ensures { OnOk result (page.new ≡ page.old ++ ((32 ∷ decimal number) ++ 10 ∷ [])) }
+{
+    page.text([b' ', digit(number), b'\n'].as_slice())
+}
+
+/// The last number of a line, behind a space, and the line's end.
+#[inline]
+pub(crate) fn print_last(page: &mut Page, number: u64) -> Result<(), NoMemory>
+    ensures { OnOk result (page.new ≡ page.old ++ ((32 ∷ decimal number) ++ 10 ∷ [])) }
+{
+    // Most are counts of one digit.
+    if number < 10 {
+        return print_digit(page, number);
+    }
+    page.tagged(b" ".as_slice(), number)?;
+    page.end()
+}
+
 /// A line of a word and a number.
 // Inlined, a word that is a literal is stored with no call.
 #[inline]
@@ -21,6 +51,5 @@ pub(crate) fn print_number(page: &mut Page, word: &[u8], number: u64) -> Result<
     ensures { OnOk result (page.new ≡ page.old ++ line_text (word.now ∷ decimal number ∷ [])) }
 {
     page.text(word)?;
-    page.tagged(b" ".as_slice(), number)?;
-    page.end()
+    print_last(page, number)
 }

@@ -12,7 +12,7 @@ ghost use Rattle.co_batch_text.specs.Ends.{AreServed, IsEnd};
 ghost use Rattle.co_batch_text.specs.Kq.Ends.{EndsRun, IsAnswered, kq_served};
 
 use crate::kq::command::KqCommand;
-use crate::print::{print_number, print_word};
+use crate::print::{print_last, print_number, print_word};
 use co_batch::{Batch, read_batch};
 use co_kq::{Add, Event, Kq, KqFresh};
 use co_sbt::{NoMemory, Seq};
@@ -48,8 +48,7 @@ fn print_event(page: &mut Page, event: &Event) -> Result<(), NoMemory>
     ensures { OnOk result (page.new ≡ page.old ++ line_text (event_words event.now)) }
 {
     page.number(event.ident)?;
-    page.tagged(b" ".as_slice(), event.count)?;
-    page.end()
+    print_last(page, event.count)
 }
 
 /// The number of events and a line for each.
