@@ -1,5 +1,6 @@
 //! Services that are played by hand, call by call.
 mod acts;
+mod alone;
 mod cast;
 mod direct;
 mod held;

@@ -1,0 +1,205 @@
+//! Calls of one who has the service to himself, which take no lock: a callout that lands at another CPU, its service there, and an
+//! arming that is taken away again.
+ghost use Rattle.std.specs.Prelude.{◌≡◌, ◌<◌, ℕ, Bool, false, length};
+ghost use Rattle.co_object.specs.Journal.{scanner};
+ghost use Rattle.co_object.specs.declared.op.CallOp.TheVariants.{Plain};
+ghost use Rattle.co_object.specs.declared.op.PlainOp.TheVariants.{Reset};
+ghost use Rattle.co_object.specs.declared.spec.LockUse.TheVariants.{Free};
+ghost use Rattle.co_service.specs.Booted.{AreBooted};
+ghost use Rattle.co_service.specs.Call.{NamesCpu};
+ghost use Rattle.co_service.specs.Params.{actors_of, spec_at};
+ghost use Rattle.co_service.specs.Services.{IsFree};
+ghost use Rattle.co_service.specs.Views.{AreOf};
+ghost use Rattle.service_cases.specs.Scenes.{IsScene};
+
+use super::acts::begun;
+use super::notes::{Row, Told, are};
+use super::stage::{boot, keep, keep_all, seconds};
+use co_object::{CallOp, Note, Place, PlainOp, QOp, QReply, Reply};
+use co_sbt::{NoMemory, Sbt, Seq};
+use co_service::{Finished, Fresh, Name, Passes, Popped, Service};
+use std::alloc::Global;
+use std::marker::Brand;
+use std::process::Abort;
+use std::sync::Wait;
+use std::test::Fail;
+
+/// The client's call on callout 0, which needs no hold.
+fn ask<N: Name, R: Wait + Abort>(
+    rt: &R,
+    service: &mut Service<N>,
+    log: &mut Vec<Note>,
+    passes: &mut Passes,
+    act: u64,
+    op: PlainOp,
+)
+    requires free { (k : ℕ) → (spec_at service.old k).lock ≡ Free }
+    requires passes { AreOf N.name service.old passes.old }
+    requires callout { 0 < length service.old.specs }
+    requires cpu { NamesCpu service.old.cpus (Plain op) }
+    ensures params { service.new ≡ service.old }
+    ensures of { AreOf N.name service.old passes.new }
+{
+    let actor = passes.actor();
+    let op = CallOp::Plain(op);
+    let mut told = co_service::Told::none();
+    service.call_alone(rt, passes, act, 0, &op, None, &mut told);
+    keep_all(rt, log, told.answer(actor, act, 0, &op).notes);
+}
+
+/// The client's reset of callout 0 to function 0, on this CPU or at home.
+fn arm<N: Name, R: Wait + Abort>(
+    rt: &R,
+    service: &mut Service<N>,
+    log: &mut Vec<Note>,
+    passes: &mut Passes,
+    act: u64,
+    due: Sbt,
+    arg: u64,
+    cpu: Option<u32>,
+)
+    requires free { (k : ℕ) → (spec_at service.old k).lock ≡ Free }
+    requires passes { AreOf N.name service.old passes.old }
+    requires callout { 0 < length service.old.specs }
+    requires cpu { NamesCpu service.old.cpus (Plain (Reset due 0 0 arg cpu)) }
+    ensures params { service.new ≡ service.old }
+    ensures of { AreOf N.name service.old passes.new }
+{
+    let op = PlainOp::Reset {
+        due,
+        prec: Sbt::zero(),
+        func: 0,
+        arg,
+        cpu,
+    };
+    ask(rt, service, log, passes, act, op);
+}
+
+/// The function of what has come due at the CPU is called and returns, and nothing more is there.
+fn serve<N: Name, R: Wait + Abort>(
+    rt: &R,
+    service: &mut Service<N>,
+    log: &mut Vec<Note>,
+    passes: &mut Passes,
+    cpu: u32,
+)
+    requires cpu { cpu < service.old.cpus }
+    requires passes { AreOf N.name service.old passes.old }
+    requires free { IsFree false passes.old cpu }
+    ensures params { service.new ≡ service.old }
+{
+    let actor = passes.actor();
+    let popped = service.pop_alone(rt, passes, cpu, 0, 1, false);
+    let Some((pop, pick)) = begun(popped.answer(actor, 0, cpu, false)) else {
+        panic!(rt; "no function is to be called");
+    };
+    keep(rt, log, pop);
+    keep(rt, log, pick);
+    let mut told = Finished::none();
+    service.end_alone(rt, passes, cpu, 0, false, &mut told);
+    keep_all(rt, log, told.answer(actor, 0).notes);
+    let popped = service.pop_alone(rt, passes, cpu, 0, 1, false);
+    assert!(rt; matches!(popped, Popped::Empty { pop: 4 }));
+}
+
+/// The CPU's queue is scanned, and what has come due is serviced.
+fn turn<N: Name, R: Wait + Abort>(
+    rt: &R,
+    service: &mut Service<N>,
+    log: &mut Vec<Note>,
+    passes: &mut Passes,
+    cpu: u32,
+    now: Sbt,
+)
+    requires cpu { cpu < service.old.cpus }
+    requires passes { AreOf N.name service.old passes.old }
+    requires scanner { passes.old.actor ≡ scanner (actors_of service.old) cpu }
+    requires free { IsFree false passes.old cpu }
+    ensures params { service.new ≡ service.old }
+{
+    let scan = service.scan_alone(rt, passes, cpu, 0, now);
+    keep(rt, log, scan.note);
+    serve(rt, service, log, passes, cpu);
+}
+
+/// The acts of the client and of the second CPU.
+fn play<N: Name, R: Wait + Abort>(
+    rt: &R,
+    alloc: Global,
+    fresh: Fresh,
+    passes: Seq<Passes>,
+) -> Result<Vec<Note>, NoMemory>
+    requires name { fresh.name ≡ N.name }
+    requires scene { IsScene 1 2 1 3 fresh.params }
+    requires passes { AreBooted fresh.name fresh.params passes }
+{
+    let mut service = Service::<N>::open(alloc, fresh)?;
+    let mut all = passes.into_vec();
+    let mut second = service.leave_cpu(&mut all, 1);
+    let _first = service.leave_cpu(&mut all, 0);
+    let mut client = service.leave(&mut all, 0);
+    let mut log = Vec::new(alloc);
+    arm(
+        rt,
+        &mut service,
+        &mut log,
+        &mut client,
+        0,
+        seconds(1),
+        7,
+        Some(1),
+    );
+    turn(rt, &mut service, &mut log, &mut second, 1, seconds(1));
+    arm(
+        rt,
+        &mut service,
+        &mut log,
+        &mut client,
+        1,
+        seconds(2),
+        8,
+        None,
+    );
+    ask(rt, &mut service, &mut log, &mut client, 2, PlainOp::Stop);
+    Ok(log)
+}
+
+/// A stop that takes an arming away from CPU 1.
+const STOPPED: Reply = Reply::Stopped {
+    code: 1,
+    off: Some(1),
+};
+
+const NOTES: [Row; 11] = [
+    (Place::Timer(0), 0, 0, 0, Told::Armed(1, 7, Some(1), 0, 1)),
+    (Place::Cpu(1), 0, 0, 0, Told::Inserted(0, 0, 1)),
+    (Place::Cpu(1), 1, 2, 0, Told::Scanned(1, 1)),
+    (Place::Cpu(1), 2, 2, 0, Told::Popped(QOp::Pop, 0, 0, 1)),
+    (Place::Timer(0), 1, 2, 0, Told::Picked(0, 1, 1, Some(7))),
+    (Place::Timer(0), 2, 2, 0, Told::Ended(0, 1, None)),
+    (Place::Cpu(1), 3, 2, 0, Told::Turn(QOp::Free, QReply::Freed)),
+    (Place::Timer(0), 3, 0, 1, Told::Armed(2, 8, None, 1, 1)),
+    (Place::Cpu(1), 5, 0, 1, Told::Inserted(0, 1, 2)),
+    (
+        Place::Cpu(1),
+        6,
+        0,
+        2,
+        Told::Turn(QOp::Remove { i: 0 }, QReply::Off),
+    ),
+    (
+        Place::Timer(0),
+        4,
+        0,
+        2,
+        Told::Called(PlainOp::Stop, STOPPED),
+    ),
+];
+
+#[test]
+fn calls_alone(rt: HostRuntime) -> Result<(), Fail> {
+    let (fresh, passes) = boot(rt.alloc(), 1, 2, 1, false)?;
+    let notes = play::<Brand, _>(&rt, rt.alloc(), fresh, passes)?;
+    assert!(rt; are(notes.as_slice(), &NOTES));
+    Ok(())
+}
