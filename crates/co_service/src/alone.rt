@@ -245,7 +245,7 @@ impl<N: Name> Service<N> {
         requires passes { AreOf N.name self.old passes.old }
         requires serves { (d : Due) × IsServing direct passes.old cpu d (Runs d.n) }
         ensures params { self.new ≡ self.old }
-        ensures ended { (d : Due) → IsServing direct passes.old cpu d (Runs d.n) → IsEnded direct passes.old cpu act d told.new.reply (finished_notes passes.old.actor act told.new) passes.new }
+        ensures ended { (d : Due) → IsServing direct passes.old cpu d (Runs d.n) → IsEnded direct passes.old cpu act d told.new.out.reply (finished_notes passes.old.actor act told.new) passes.new }
     {
         let mut leaves = None;
         self.end_found_alone(rt, passes, cpu, act, direct, told, &mut leaves);
@@ -267,7 +267,7 @@ impl<N: Name> Service<N> {
         requires passes { AreOf N.name self.old passes.old }
         requires serves { (d : Due) × IsServing direct passes.old cpu d (Runs d.n) }
         ensures params { self.new ≡ self.old }
-        ensures ended { (d : Due) → IsServing direct passes.old cpu d (Runs d.n) → IsEnded direct passes.old cpu act d told.new.reply (finished_notes passes.old.actor act told.new) passes.new }
+        ensures ended { (d : Due) → IsServing direct passes.old cpu d (Runs d.n) → IsEnded direct passes.old cpu act d told.new.out.reply (finished_notes passes.old.actor act told.new) passes.new }
         ensures of { AreOf N.name self.old passes.new }
         ensures actor { passes.new.actor ≡ passes.old.actor }
         ensures free { IsFree direct passes.new cpu }

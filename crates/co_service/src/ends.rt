@@ -59,7 +59,7 @@ impl<N: Name> Service<N> {
     )
         requires passes { AreOf N.name self.now passes.old }
         requires leaving { IsOfService passes.old.params told.old.i leaves }
-        ensures { (direct : Bool) (p : PassesView) (cpu : ℕ) (d : Due) → IsFinished direct p cpu act d told.old leaves passes.old → IsEnded direct p cpu act d told.new.reply (finished_notes p.actor act told.new) passes.new }
+        ensures { (direct : Bool) (p : PassesView) (cpu : ℕ) (d : Due) → IsFinished direct p cpu act d told.old leaves passes.old → IsEnded direct p cpu act d told.new.out.reply (finished_notes p.actor act told.new) passes.new }
     {
         if let Some(moving) = leaves {
             told.insertion = Some(self.land(rt, passes, act, moving));
@@ -80,7 +80,7 @@ impl<N: Name> Service<N> {
         requires cpu { cpu < self.now.cpus }
         requires passes { AreOf N.name self.now passes.old }
         requires serves { (d : Due) × IsServing direct passes.old cpu d (Runs d.n) }
-        ensures { (d : Due) → IsServing direct passes.old cpu d (Runs d.n) → IsEnded direct passes.old cpu act d told.new.reply (finished_notes passes.old.actor act told.new) passes.new }
+        ensures { (d : Due) → IsServing direct passes.old cpu d (Runs d.n) → IsEnded direct passes.old cpu act d told.new.out.reply (finished_notes passes.old.actor act told.new) passes.new }
     {
         let mut leaves = None;
         self.end_found(rt, passes, cpu, act, direct, told, &mut leaves);
@@ -140,7 +140,7 @@ impl<N: Name> Service<N> {
         requires cpu { cpu < self.now.cpus }
         requires passes { AreOf N.name self.now passes.old }
         requires serves { (d : Due) × IsServing direct passes.old cpu d (Runs d.n) }
-        ensures ended { (d : Due) → IsServing direct passes.old cpu d (Runs d.n) → IsEnded direct passes.old cpu act d told.new.reply (finished_notes passes.old.actor act told.new) passes.new }
+        ensures ended { (d : Due) → IsServing direct passes.old cpu d (Runs d.n) → IsEnded direct passes.old cpu act d told.new.out.reply (finished_notes passes.old.actor act told.new) passes.new }
         ensures of { AreOf N.name self.now passes.new }
         ensures actor { passes.new.actor ≡ passes.old.actor }
         ensures free { IsFree direct passes.new cpu }

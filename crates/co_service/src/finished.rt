@@ -8,13 +8,14 @@ use crate::Made;
 use crate::running::{free, run_note};
 use crate::told::{Inserted, insertion_note, turn_note};
 use co_object::{QReply, Reply, RunOp};
+use co_wheel::EndOut;
 
 /// What the end of a service did, in few words: the reply, and where its entries stand. Its notes are made of this where they are
 /// wanted.
 #[derive(Drop)]
 pub struct Finished {
-    /// The callout's reply.
-    pub reply: Reply,
+    /// What the wheel answered.
+    pub(crate) out: EndOut,
     /// Whether it was a service of the CPU's interrupt.
     pub(crate) direct: bool,
     pub(crate) cpu: u32,
@@ -34,7 +35,7 @@ impl Finished {
     #[inline(always)]
     pub fn none() -> Finished {
         Finished {
-            reply: Reply::Done,
+            out: EndOut::none(),
             direct: false,
             cpu: 0,
             i: 0,
@@ -45,7 +46,15 @@ impl Finished {
         }
     }
 
-    /// What the end of the service of callout `i`'s arming `n` did on its desk.
+    /// The callout's reply.
+    #[inline(always)]
+    pub fn reply(&self) -> Reply
+        ensures { result ≡ self.now.out.reply }
+    {
+        self.out.reply
+    }
+
+    /// What the end of the service of callout `i`'s arming `n` did on its desk, beside what the wheel answered.
     #[inline(always)]
     pub(crate) fn tell(
         &mut self,
@@ -53,13 +62,11 @@ impl Finished {
         cpu: u32,
         i: u32,
         n: u64,
-        reply: &Reply,
         entry: u64,
         freed: u64,
     )
-        ensures { self.new ≡ told_end direct cpu i n reply.now entry freed }
+        ensures { self.new ≡ told_end direct cpu i n self.old.out entry freed }
     {
-        self.reply = *reply;
         self.direct = direct;
         self.cpu = cpu;
         self.i = i;
@@ -73,14 +80,14 @@ impl Finished {
     /// elsewhere.
     #[inline(never)]
     pub fn answer(&self, actor: u32, act: u64) -> Made
-        ensures reply { result.reply ≡ self.now.reply }
+        ensures reply { result.reply ≡ self.now.out.reply }
         ensures notes { notes_in result.notes ≡ finished_notes actor act self.now }
     {
         let op = RunOp::End {
             n: self.n,
             cpu: self.cpu,
         };
-        let ends = run_note(actor, act, self.i, &op, &self.reply, self.entry);
+        let ends = run_note(actor, act, self.i, &op, &self.out.reply, self.entry);
         let frees = turn_note(
             actor,
             act,
@@ -91,7 +98,7 @@ impl Finished {
         );
         let insertion = insertion_note(actor, act, self.i, &self.insertion);
         Made {
-            reply: self.reply,
+            reply: self.out.reply,
             notes: [Some(ends), Some(frees), insertion],
         }
     }

@@ -5,7 +5,8 @@ ghost use Rattle.co_service.specs.Services.{taken_of};
 use crate::Taken;
 use crate::running::{pop, run_note};
 use crate::told::turn_note;
-use co_object::{QReply, Reply, RunOp};
+use co_object::{QReply, RunOp};
+use co_record::Start;
 use co_sbt::Sbt;
 
 /// What the start of a service did, in few words: what was taken, and where its entries stand. Its notes are made of this where they
@@ -26,7 +27,7 @@ pub enum Popped {
         /// The time of the last scan, in units of 2^-32 s.
         at: Sbt,
         /// Whether the function is to be called at once.
-        reply: Reply,
+        reply: Start,
         /// Where the Pop stands in the CPU's journal.
         pop: u64,
         /// Where the Pick stands in the callout's history.
@@ -41,9 +42,9 @@ impl Popped {
         ensures { result ≡ taken_of direct actor act cpu self.now }
     {
         let op = pop(direct);
-        match *self {
+        match self {
             Popped::Empty { pop } => Taken::Empty {
-                note: turn_note(actor, act, cpu, op, QReply::Empty, pop),
+                note: turn_note(actor, act, cpu, op, QReply::Empty, *pop),
             },
             Popped::Took {
                 i,
@@ -52,14 +53,18 @@ impl Popped {
                 reply,
                 pop,
                 pick,
-            } => Taken::Took {
-                i,
-                n,
-                at,
-                reply,
-                pop: turn_note(actor, act, cpu, op, QReply::Got { i, n, at }, pop),
-                pick: run_note(actor, act, i, &RunOp::Pick { n, cpu, at }, &reply, pick),
-            },
+            } => {
+                let (i, n, at) = (*i, *n, *at);
+                let reply = reply.reply();
+                Taken::Took {
+                    i,
+                    n,
+                    at,
+                    reply,
+                    pop: turn_note(actor, act, cpu, op, QReply::Got { i, n, at }, *pop),
+                    pick: run_note(actor, act, i, &RunOp::Pick { n, cpu, at }, &reply, *pick),
+                }
+            }
         }
     }
 }

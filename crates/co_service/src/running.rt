@@ -16,9 +16,7 @@ ghost use Rattle.co_service.specs.Views.{journal_seen};
 ghost use Rattle.co_service.specs.Writes.{WritesTimer};
 ghost use Rattle.co_wheel.specs.Cpu.{Cpu};
 ghost use Rattle.co_wheel.specs.Callouts.{in_service, is_here};
-ghost use Rattle.co_wheel.specs.Next.{popping};
-ghost use Rattle.co_wheel.specs.Sections.{IsEnding, IsNext};
-ghost use Rattle.co_wheel.specs.Service.{end_here};
+ghost use Rattle.co_wheel.specs.Next.{next_out, popping};
 ghost use Rattle.co_wheel.specs.Turns.{free_of, pop_of};
 
 use crate::books::Books;
@@ -30,7 +28,7 @@ use crate::{Name, Passes, TimerStory};
 use co_bucket::WheelQueue;
 use co_object::{AnyEntry, Entry, Note, Op, Place, QOp, QReply, Reply, RunOp};
 use co_sbt::Sbt;
-use co_wheel::{EndOut, NextOut, Wheel};
+use co_wheel::{Started, Wheel};
 
 /// The entry of a service's operation. It gives its position.
 #[inline(always)]
@@ -122,19 +120,6 @@ pub(crate) fn pop(direct: bool) -> QOp
     if direct { QOp::PopDirect } else { QOp::Pop }
 }
 
-/// The first callout that has come due goes into service: of the CPU, or of its interrupt where `direct`.
-#[inline(always)]
-pub(crate) fn take(wheel: &mut Wheel<WheelQueue>, direct: bool) -> NextOut
-    requires free { in_service direct wheel.old.callouts ≡ None }
-    ensures { IsNext direct wheel.old wheel.new result }
-{
-    if direct {
-        wheel.next_direct()
-    } else {
-        wheel.next()
-    }
-}
-
 /// What a wheel took into service: the Pop, and the Pick of an arming.
 #[inline(always)]
 pub(crate) fn write_taken<N: Name>(
@@ -143,30 +128,31 @@ pub(crate) fn write_taken<N: Name>(
     passes: &mut Passes,
     act: u64,
     direct: bool,
-    out: NextOut,
+    out: Option<Started>,
 ) -> Popped
     requires places { places.now ≡ N.name }
     requires name { passes.old.name ≡ N.name }
     requires params { books.old.params ≡ passes.old.params }
     requires actor { passes.old.actor ≡ lane_actor direct (actors_of books.old.params) books.old.cpu }
-    requires owes { (w : Cpu) × Owes (popping direct out) w books.old }
-    requires may { MayPick books.old passes.old act out }
-    ensures books { books.new ≡ record books.old { timers = picked_histories books.old passes.old act out; journal = books.old.journal ++ pop_entry direct passes.old act out ∷ [] } }
+    requires owes { (w : Cpu) × Owes (popping direct (next_out out)) w books.old }
+    requires may { MayPick books.old passes.old act (next_out out) }
+    ensures books { books.new ≡ record books.old { timers = picked_histories books.old passes.old act (next_out out); journal = books.old.journal ++ pop_entry direct passes.old act (next_out out) ∷ [] } }
     ensures told { IsTaken direct passes.old books.old.cpu act (taken_of direct passes.old.actor act books.old.cpu result) passes.new }
     ensures seen { journal_seen passes.new books.old.cpu ≡ books.new.journal }
 {
     let op = pop(direct);
     match out {
-        NextOut::Empty => {
+        None => {
             let pop = write_turn(books, places.cpus(), passes, act, op, QReply::Empty);
             Popped::Empty { pop }
         }
-        NextOut::Took { i, n, at, reply } => {
+        Some(Started { i, n, at, reply }) => {
             let got = QReply::Got { i, n, at };
             let pop = write_turn(books, places.cpus(), passes, act, op, got);
             let cpu = books.cpu();
             let picks = RunOp::Pick { n, cpu, at };
-            let pick = enter_run(books, places.timers(), passes, act, i, &picks, &reply);
+            let said = reply.reply();
+            let pick = enter_run(books, places.timers(), passes, act, i, &picks, &said);
             Popped::Took {
                 i,
                 n,
@@ -197,19 +183,6 @@ pub(crate) fn serviced(wheel: &Wheel<WheelQueue>, direct: bool) -> Option<(u32, 
         wheel.directing()
     } else {
         wheel.serving()
-    }
-}
-
-/// The service is over, of the CPU or of its interrupt where `direct`.
-#[inline(always)]
-pub(crate) fn finish(wheel: &mut Wheel<WheelQueue>, direct: bool) -> EndOut
-    requires possible { is_some (end_here direct wheel.old.callouts) ≡ true }
-    ensures { IsEnding direct wheel.old wheel.new result }
-{
-    if direct {
-        wheel.end_direct()
-    } else {
-        wheel.end()
     }
 }
 

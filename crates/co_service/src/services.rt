@@ -22,9 +22,7 @@ use crate::finished::Finished;
 use crate::moving::{Moving, depart};
 use crate::places::Places;
 use crate::popped::Popped;
-use crate::running::{
-    enter_run, finish, free, serviced, take, three, waited, write_run, write_taken,
-};
+use crate::running::{enter_run, free, serviced, three, waited, write_run, write_taken};
 use crate::seats::Lives;
 use crate::told::Inserted;
 use crate::{CpuStory, Made, Name, Passes};
@@ -116,7 +114,7 @@ impl<N: Name> Desk<N> {
             return None;
         }
         self.books.meet(places.cpus(), passes);
-        let out = take(&mut self.wheel, direct);
+        let out = self.wheel.start(direct);
         Some(write_taken(&mut self.books, places, passes, act, direct, out))
     }
 
@@ -189,9 +187,8 @@ impl<N: Name> Desk<N> {
             unreachable!()
         };
         self.books.meet_timer(places.timers(), passes, i);
-        let mut out = finish(&mut self.wheel, direct);
+        self.wheel.end_into(direct, &mut told.out);
         let op = RunOp::End { n, cpu };
-        let reply = out.reply;
         let entry = enter_run(
             &mut self.books,
             places.timers(),
@@ -199,7 +196,7 @@ impl<N: Name> Desk<N> {
             act,
             i,
             &op,
-            &reply,
+            &told.out.reply,
         );
         let freed = write_turn(
             &mut self.books,
@@ -209,9 +206,9 @@ impl<N: Name> Desk<N> {
             free(direct),
             QReply::Freed,
         );
-        let (next, due) = waited(&reply);
-        depart(&mut self.books, &mut out.leaves, next, due, gone);
-        told.tell(direct, cpu, i, n, &reply, entry, freed);
+        let (next, due) = waited(&told.out.reply);
+        depart(&mut self.books, &mut told.out.leaves, next, due, gone);
+        told.tell(direct, cpu, i, n, entry, freed);
         true
     }
 

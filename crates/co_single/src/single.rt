@@ -129,7 +129,7 @@ impl<N: Name> Single<N> {
                     .end_alone(rt, &mut self.passes, 0, act, false, &mut self.finished);
                 Some(Fired {
                     i,
-                    arg: arg_of(&reply),
+                    arg: arg_of(&reply.reply()),
                 })
             }
         }

@@ -9,28 +9,28 @@ use Rattle.co_wheel.specs.Cpu.{cpu_of}
 use Rattle.co_wheel.specs.Service.{pick_at}
 use Rattle.co_wheel.specs.Turns.{Turns, pop_of}
 use Rattle.co_wheel.proofs.Popping.{taken-here, taken-lane, taken-number, taken-due, taken-kept, taken-turn}
-use Rattle.co_wheel.proofs.sections.next.Goals as goal
+use Rattle.co_wheel.proofs.sections.start.Goals as goal
 
 -- the queue gave callout i's arming n
 got : (direct : Bool) (s t : Timers) (popped : Option (ℕ × ℕ)) (i n : ℕ) → popped ≡ Some (i, n) → Answers s t (pop_of direct) (taken s.last popped) → Answers s t (pop_of direct) (Got i n s.last)
 got direct s t popped i n is answers = subst (λ p. Answers s t (pop_of direct) (taken s.last p)) is answers
 
-pub pick-reply-requires-clause-here : goal.pick-reply-requires-clause-here
-pick-reply-requires-clause-here g c =
+pub start-reply-requires-clause-here : goal.start-reply-requires-clause-here
+start-reply-requires-clause-here g c =
     let s = g.Q.TimerQueue.state c.args.queue.now in
     let t = g.Q.TimerQueue.state c.pop.new.queue in
     let answers = got c.args.direct s t c.pop.result c.in-Some.i c.in-Some.n c.in-Some.is c.pop.ensures in
     taken-here c.args.direct c.args.records.now s t c.in-Some.i c.in-Some.n c.requires.free answers c.requires.kept
 
-pub pick-reply-requires-clause-empty : goal.pick-reply-requires-clause-empty
-pick-reply-requires-clause-empty g c =
+pub start-reply-requires-clause-empty : goal.start-reply-requires-clause-empty
+start-reply-requires-clause-empty g c =
     let s = g.Q.TimerQueue.state c.args.queue.now in
     let t = g.Q.TimerQueue.state c.pop.new.queue in
     let answers = got c.args.direct s t c.pop.result c.in-Some.i c.in-Some.n c.in-Some.is c.pop.ensures in
     ap (λ d. in_service d c.args.records.now) (taken-lane c.args.direct c.args.records.now s t c.in-Some.i c.in-Some.n c.requires.free answers c.requires.kept) ∙ c.requires.free
 
-pub pick-reply-requires-clause-due : goal.pick-reply-requires-clause-due
-pick-reply-requires-clause-due g c =
+pub start-reply-requires-clause-due : goal.start-reply-requires-clause-due
+start-reply-requires-clause-due g c =
     let s = g.Q.TimerQueue.state c.args.queue.now in
     let t = g.Q.TimerQueue.state c.pop.new.queue in
     let answers = got c.args.direct s t c.pop.result c.in-Some.i c.in-Some.n c.in-Some.is c.pop.ensures in
@@ -45,8 +45,8 @@ returns-in-Some-clause-kept g c =
     let lane = taken-lane c.args.direct c.args.records.now s t c.in-Some.i c.in-Some.n c.requires.free answers c.requires.kept in
     let number = taken-number c.args.direct c.args.records.now s t c.in-Some.i c.in-Some.n c.requires.free answers c.requires.kept in
     taken-kept c.args.direct c.args.records.now s t c.in-Some.i c.in-Some.n c.requires.free answers c.requires.kept
-    c.pick-reply.new.self c.pick-reply.result c.last-at.result
-    (c.pick-reply.ensures ∙ ap (λ d. pick_at d c.args.records.now (due_at c.args.records.now c.in-Some.i) c.last-at.result) lane ∙ ap (λ d. pick_at c.args.direct c.args.records.now d c.last-at.result) number)
+    c.start-reply.new.self c.start-reply.result c.last-at.result
+    (c.start-reply.ensures ∙ ap (λ d. pick_at d c.args.records.now (due_at c.args.records.now c.in-Some.i) c.last-at.result) lane ∙ ap (λ d. pick_at c.args.direct c.args.records.now d c.last-at.result) number)
 
 pub returns-in-Some-clause-section : goal.returns-in-Some-clause-section
 returns-in-Some-clause-section g c =
@@ -55,10 +55,10 @@ returns-in-Some-clause-section g c =
     let answers = got c.args.direct s t c.pop.result c.in-Some.i c.in-Some.n c.in-Some.is c.pop.ensures in
     let lane = taken-lane c.args.direct c.args.records.now s t c.in-Some.i c.in-Some.n c.requires.free answers c.requires.kept in
     let number = taken-number c.args.direct c.args.records.now s t c.in-Some.i c.in-Some.n c.requires.free answers c.requires.kept in
-    let picked = c.pick-reply.ensures ∙ ap (λ d. pick_at d c.args.records.now (due_at c.args.records.now c.in-Some.i) c.last-at.result) lane ∙ ap (λ d. pick_at c.args.direct c.args.records.now d c.last-at.result) number in
+    let picked = c.start-reply.ensures ∙ ap (λ d. pick_at d c.args.records.now (due_at c.args.records.now c.in-Some.i) c.last-at.result) lane ∙ ap (λ d. pick_at c.args.direct c.args.records.now d c.last-at.result) number in
     record {
       callouts = sym picked;
-      queue = subst (λ at. Turns (cpu_of c.args.records.now s) ((pop_of c.args.direct, Got c.in-Some.i c.in-Some.n at) ∷ []) (cpu_of c.pick-reply.new.self t)) (sym c.last-at.ensures)
+      queue = subst (λ at. Turns (cpu_of c.args.records.now s) ((pop_of c.args.direct, Got c.in-Some.i c.in-Some.n at) ∷ []) (cpu_of c.start-reply.new.self t)) (sym c.last-at.ensures)
           (taken-turn c.args.direct c.args.records.now s t c.in-Some.i c.in-Some.n c.requires.free answers c.requires.kept
-          c.pick-reply.new.self c.pick-reply.result c.last-at.result picked);
+          c.start-reply.new.self c.start-reply.result c.last-at.result picked);
     }
