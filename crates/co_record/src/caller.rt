@@ -32,24 +32,36 @@ pub fn call(rec: &mut Record, slot: &mut Slot, op: &CallOp) -> Reply
     ensures outcome { (state_of rec.new slot.new, result) ≡ call (state_of rec.old slot.old) op.now }
     ensures service { SameService rec.old slot.old rec.new slot.new }
 {
+    let mut reply = Reply::Done;
+    call_into(rec, slot, op, &mut reply);
+    reply
+}
+
+/// The same, with the reply where the caller wants it: each kind of reply is written there, and none is copied.
+#[inline(always)]
+pub fn call_into(rec: &mut Record, slot: &mut Slot, op: &CallOp, reply: &mut Reply)
+    requires paired { IsPaired rec.old slot.old }
+    ensures outcome { (state_of rec.new slot.new, reply.new) ≡ call (state_of rec.old slot.old) op.now }
+    ensures service { SameService rec.old slot.old rec.new slot.new }
+{
     match op {
         CallOp::Plain(op) => {
             if rec.live {
-                live_call(rec, slot, op)
+                live_call(rec, slot, op, reply);
             } else {
-                retired_call(rec, slot, op)
+                retired_call(rec, slot, op, reply);
             }
         }
-        CallOp::DrainTry { took } => drain_try(rec, slot, *took),
+        CallOp::DrainTry { took } => drain_try(rec, slot, *took, reply),
     }
 }
 
 /// A caller's operation on a live callout.
 #[inline(always)]
-fn live_call(rec: &mut Record, slot: &mut Slot, op: &PlainOp) -> Reply
+fn live_call(rec: &mut Record, slot: &mut Slot, op: &PlainOp, reply: &mut Reply)
     requires paired { IsPaired rec.old slot.old }
     requires live { rec.old.live ≡ true }
-    ensures outcome { (state_of rec.new slot.new, result) ≡ live_call (state_of rec.old slot.old) op.now }
+    ensures outcome { (state_of rec.new slot.new, reply.new) ≡ live_call (state_of rec.old slot.old) op.now }
     ensures service { SameService rec.old slot.old rec.new slot.new }
 {
     match *op {
@@ -59,30 +71,30 @@ fn live_call(rec: &mut Record, slot: &mut Slot, op: &PlainOp) -> Reply
             func,
             arg,
             cpu,
-        } => reset(rec, slot, due, prec, func, arg, cpu),
-        PlainOp::Schedule { due, prec, cpu } => schedule(rec, slot, due, prec, cpu),
-        PlainOp::Stop => stop(rec, slot),
-        PlainOp::AsyncDrain { func } => async_drain(rec, slot, func),
-        PlainOp::Active => answer(rec.active),
-        PlainOp::Pending => answer(rec.is_armed(slot)),
+        } => reset(rec, slot, due, prec, func, arg, cpu, reply),
+        PlainOp::Schedule { due, prec, cpu } => schedule(rec, slot, due, prec, cpu, reply),
+        PlainOp::Stop => stop(rec, slot, reply),
+        PlainOp::AsyncDrain { func } => async_drain(rec, slot, func, reply),
+        PlainOp::Active => *reply = answer(rec.active),
+        PlainOp::Pending => *reply = answer(rec.is_armed(slot)),
         PlainOp::Deactivate => {
             rec.active = false;
-            Reply::Done
+            *reply = Reply::Done;
         }
-        PlainOp::Init => Reply::Live,
-        PlainOp::Retire => retire(rec, slot),
+        PlainOp::Init => *reply = Reply::Live,
+        PlainOp::Retire => retire(rec, slot, reply),
     }
 }
 
 /// A caller's operation on a retired callout.
-fn retired_call(rec: &mut Record, slot: &mut Slot, op: &PlainOp) -> Reply
+fn retired_call(rec: &mut Record, slot: &mut Slot, op: &PlainOp, reply: &mut Reply)
     requires paired { IsPaired rec.old slot.old }
     requires retired { rec.old.live ≡ false }
-    ensures outcome { (state_of rec.new slot.new, result) ≡ retired_call (state_of rec.old slot.old) op.now }
+    ensures outcome { (state_of rec.new slot.new, reply.new) ≡ retired_call (state_of rec.old slot.old) op.now }
     ensures service { SameService rec.old slot.old rec.new slot.new }
 {
     match op {
-        PlainOp::Init => init(rec, slot),
-        _ => Reply::Retired,
+        PlainOp::Init => init(rec, slot, reply),
+        _ => *reply = Reply::Retired,
     }
 }
