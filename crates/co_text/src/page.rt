@@ -96,7 +96,7 @@ impl Page {
         self.text(pair(number).as_slice())
     }
 
-    #[tactic(auto, using(crate::proofs::Digits::decimal_three))]
+    #[tactic(auto, using(crate::proofs::Digits::two_behind))]
     fn three_digits(&mut self, number: u32) -> Result<(), NoMemory>
         requires low { 100 ≤ number }
         requires high { number < 1000 }

@@ -1,5 +1,5 @@
-use Rattle.std.proofs.Common.{◌≡◌, ℕ, ◌+◌, ◌<◌, [], ◌∷◌, ◌∙◌, arith}
-use Rattle.std.specs.Prelude.{◌/◌, ◌%◌, ◌*◌}
+use Rattle.std.proofs.Common.{◌≡◌, ◌+◌, [], ◌∷◌, ◌∙◌, arith}
+use Rattle.std.specs.Prelude.{◌/◌, ◌%◌}
 use Rattle.co_text.proofs.Digits.{two_bytes}
 use Rattle.co_text.proofs.page.pair.Goals as goal
 
