@@ -1,5 +1,5 @@
 //! Lines of words at the end of one text.
-ghost use Rattle.std.specs.Prelude.{◌≡◌, ◌+◌, ◌%◌, ◌≤◌, ◌<◌, ◌++◌, ◌∷◌, [], decimal, OnOk};
+ghost use Rattle.std.specs.Prelude.{◌≡◌, ◌+◌, ◌/◌, ◌%◌, ◌≤◌, ◌<◌, ◌++◌, ◌∷◌, [], decimal, OnOk};
 ghost use Rattle.std.specs.Fmt.{signed_decimal};
 ghost use Rattle.co_text.specs.Lines.{spaced, line_text};
 ghost use Rattle.co_text.specs.Written.{last_four, last_eight, token_word, token_words};
@@ -16,6 +16,26 @@ fn digit(number: u32) -> u8
     ensures { result ≡ 48 + number % 10 }
 {
     b'0' + (number % 10) as u8
+}
+
+/// Two digits, of which the first comes first in memory.
+#[inline(always)]
+fn pair(number: u32) -> [u8; 2]
+    ensures { result ≡ (48 + number / 10 % 10) ∷ (48 + number % 10) ∷ [] }
+{
+    // One store: a page that copies bytes stored one by one has to wait for them.
+    let pair = u16::from(digit(number / 10)) + 256 * u16::from(digit(number));
+    pair.to_le_bytes()
+}
+
+/// The last four digits, with zeros in front.
+#[inline(always)]
+fn last_four(number: u32) -> [u8; 4]
+    ensures { result ≡ last_four number }
+{
+    let high = u32::from(digit(number / 1000)) + 256 * u32::from(digit(number / 100));
+    let low = u32::from(digit(number / 10)) + 256 * u32::from(digit(number));
+    (high + 65536 * low).to_le_bytes()
 }
 
 /// A text that grows at its end, by whole words and lines. Contracts see its bytes.
@@ -73,17 +93,17 @@ impl Page {
         requires high { number < 100 }
         ensures { OnOk result (self.new ≡ self.old ++ decimal number) }
     {
-        self.text([digit(number / 10), digit(number)].as_slice())
+        self.text(pair(number).as_slice())
     }
 
-    #[tactic(auto, using(crate::proofs::Digits::decimal_three))]
+    #[tactic(auto, using(crate::proofs::Digits::two_behind))]
     fn three_digits(&mut self, number: u32) -> Result<(), NoMemory>
         requires low { 100 ≤ number }
         requires high { number < 1000 }
         ensures { OnOk result (self.new ≡ self.old ++ decimal number) }
     {
-        let digits = [digit(number / 100), digit(number / 10), digit(number)];
-        self.text(digits.as_slice())
+        self.push(digit(number / 100))?;
+        self.text(pair(number).as_slice())
     }
 
     /// The last four digits, with zeros in front.
@@ -91,13 +111,7 @@ impl Page {
     fn last_four(&mut self, number: u32) -> Result<(), NoMemory>
         ensures { OnOk result (self.new ≡ self.old ++ last_four number) }
     {
-        let digits = [
-            digit(number / 1000),
-            digit(number / 100),
-            digit(number / 10),
-            digit(number),
-        ];
-        self.text(digits.as_slice())
+        self.text(last_four(number).as_slice())
     }
 
     /// The last eight digits, with zeros in front.
@@ -105,18 +119,8 @@ impl Page {
     fn last_eight(&mut self, number: u32) -> Result<(), NoMemory>
         ensures { OnOk result (self.new ≡ self.old ++ last_eight number) }
     {
-        let high = number / 10_000;
-        let digits = [
-            digit(high / 1000),
-            digit(high / 100),
-            digit(high / 10),
-            digit(high),
-            digit(number / 1000),
-            digit(number / 100),
-            digit(number / 10),
-            digit(number),
-        ];
-        self.text(digits.as_slice())
+        self.last_four(number / 10_000)?;
+        self.last_four(number)
     }
 
     #[inline(always)]
