@@ -17,7 +17,7 @@ use Rattle.co_service.specs.Seats.{SeatsView, seen_at, IsShown}
 use Rattle.co_service.specs.Stories.{by, queue_by, timer_actor, cpu_actor, IsHistory}
 use Rattle.co_service.specs.Views.{PassesView, passes_of, seen_of, journal_seen, ArePasses, IsKeeperOf}
 use Rattle.co_service.specs.Books.{BooksView, books_of, history_at, entries_in, entries_at, is_kept, with_history, kept_of, IsKept, AreBooks}
-use Rattle.co_service.proofs.Items.{get_here, get_or_of, set_map, set_set, set_same, index_set, index_else}
+use Rattle.co_service.proofs.Items.{get_here, get_or_of, set_map, set_same, index_set, index_else}
 use Rattle.co_service.proofs.Entries.{shown_made, same_opening}
 use Rattle.co_service.proofs.Writing.{index-map}
 

@@ -7,9 +7,6 @@ use Rattle.co_life.specs.Rule.{capped}
 use Rattle.co_object.specs.declared.alone.Alone.{Alone}
 use Rattle.co_object.specs.declared.note.Entry.{Entry}
 use Rattle.co_object.specs.declared.note.QEntry.{QEntry}
-use Rattle.co_object.specs.declared.note.Note.{Note}
-use Rattle.co_object.specs.declared.note.Place.TheVariants as at
-use Rattle.co_object.specs.declared.note.AnyEntry.TheVariants as of
 use Rattle.co_object.specs.declared.queue.QOp.{QOp}
 use Rattle.co_object.specs.declared.queue.QReply.{QReply}
 use Rattle.co_object.specs.declared.op.Op.TheVariants.{Run}
@@ -37,7 +34,7 @@ use Rattle.co_wheel.specs.Turns.{free_of}
 use Rattle.co_service.specs.declared.params.Params.{Params}
 use Rattle.co_service.specs.Params.{directs, spec_at}
 use Rattle.co_service.specs.Books.{BooksView, entries_in, entries_at, with_history}
-use Rattle.co_service.specs.Call.{Target, target_in}
+use Rattle.co_service.specs.Call.{target_in}
 use Rattle.co_service.specs.Ends.{IsFinished, told_end}
 use Rattle.co_service.specs.Desk.{IsDesk, Owes, alone_after, is_scan, scans_in}
 use Rattle.co_service.specs.May.{MayHappen, queue_of}
@@ -225,11 +222,11 @@ module _ (lane : Bool) (w w' : Cpu) (b : BooksView) (scans : ℕ) (p : PassesVie
         freed_target = ended_target b'' wrote_then
 
 -- what the caller is told of an end
-pub ended_told : (lane : Bool) (p p' q r : PassesView) (cpu place act : ℕ) (d e : Due) (reply : Reply) (gone : Option MovingView) (pos freed : ℕ) (after : List Entry) (J : List QEntry) → p' ≡ p → e ≡ d
-    → target_of gone ≡ next_target reply → IsOfService p'.params e.i gone → WritesTimer p' e.i (run_entry p' act (End e.n cpu) reply) pos after q
-    → (o : QOp) → o ≡ free_of lane → place ≡ cpu → q.actor ≡ p'.actor → WritesCpu q place (turn q act o Freed) freed J r → IsFinished lane p cpu act d (told_end lane cpu e.i e.n reply pos freed) gone r
-ended_told lane p p' q r cpu place act d e reply gone pos freed after J same one goes service wrote o o_is here acted wrote' =
-    subst (λ (t : PassesView × Due). IsFinished lane t.0 cpu act t.1 (told_end lane cpu e.i e.n reply pos freed) gone r) (λ k. (same k, one k)) record {
+pub ended_told : (lane : Bool) (p p' q r : PassesView) (cpu place act : ℕ) (d e : Due) (out : EndOut) (gone : Option MovingView) (pos freed : ℕ) (after : List Entry) (J : List QEntry) → p' ≡ p → e ≡ d
+    → target_of gone ≡ next_target out.reply → IsOfService p'.params e.i gone → WritesTimer p' e.i (run_entry p' act (End e.n cpu) out.reply) pos after q
+    → (o : QOp) → o ≡ free_of lane → place ≡ cpu → q.actor ≡ p'.actor → WritesCpu q place (turn q act o Freed) freed J r → IsFinished lane p cpu act d (told_end lane cpu e.i e.n out pos freed) gone r
+ended_told lane p p' q r cpu place act d e out gone pos freed after J same one goes service wrote o o_is here acted wrote' =
+    subst (λ (t : PassesView × Due). IsFinished lane t.0 cpu act t.1 (told_end lane cpu e.i e.n out pos freed) gone r) (λ k. (same k, one k)) record {
       ended = record {
         leaves_is = goes;
         notes_are = refl;

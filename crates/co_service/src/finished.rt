@@ -56,15 +56,7 @@ impl Finished {
 
     /// What the end of the service of callout `i`'s arming `n` did on its desk, beside what the wheel answered.
     #[inline(always)]
-    pub(crate) fn tell(
-        &mut self,
-        direct: bool,
-        cpu: u32,
-        i: u32,
-        n: u64,
-        entry: u64,
-        freed: u64,
-    )
+    pub(crate) fn tell(&mut self, direct: bool, cpu: u32, i: u32, n: u64, entry: u64, freed: u64)
         ensures { self.new ≡ told_end direct cpu i n self.old.out entry freed }
     {
         self.direct = direct;

@@ -146,18 +146,19 @@ pub(crate) fn write_taken<N: Name>(
             let pop = write_turn(books, places.cpus(), passes, act, op, QReply::Empty);
             Popped::Empty { pop }
         }
-        Some(Started { i, n, at, reply }) => {
+        Some(started) => {
+            let (i, n, at) = (started.i, started.n, started.at);
             let got = QReply::Got { i, n, at };
             let pop = write_turn(books, places.cpus(), passes, act, op, got);
             let cpu = books.cpu();
             let picks = RunOp::Pick { n, cpu, at };
-            let said = reply.reply();
+            let said = started.reply.reply();
             let pick = enter_run(books, places.timers(), passes, act, i, &picks, &said);
             Popped::Took {
                 i,
                 n,
                 at,
-                reply,
+                reply: started.reply,
                 pop,
                 pick,
             }

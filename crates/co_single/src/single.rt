@@ -127,10 +127,9 @@ impl<N: Name> Single<N> {
             Popped::Took { i, reply, .. } => {
                 self.service
                     .end_alone(rt, &mut self.passes, 0, act, false, &mut self.finished);
-                Some(Fired {
-                    i,
-                    arg: arg_of(&reply.reply()),
-                })
+                let said = reply.reply();
+                let arg = arg_of(&said);
+                Some(Fired { i, arg })
             }
         }
     }

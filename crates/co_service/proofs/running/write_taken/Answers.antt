@@ -1,6 +1,7 @@
 use Rattle.std.proofs.Common.{◌≡◌, ℕ, [], ◌∷◌, ◌++◌, refl, sym, ap, ◌∙◌, subst}
 use Rattle.co_object.specs.declared.op.Op.TheVariants.{Run}
 use Rattle.co_object.specs.declared.op.RunOp.TheVariants.{Pick}
+use Rattle.co_object.specs.declared.reply.Reply.{Reply}
 use Rattle.co_object.specs.declared.queue.QReply.TheVariants.{Empty, Got}
 use Rattle.co_object.specs.declared.queue.QOp.{QOp}
 use Rattle.co_object.specs.Journal.{IsOfItsActor}
@@ -13,8 +14,8 @@ use Rattle.co_service.specs.Writes.{WritesCpu, WritesTimer}
 use Rattle.co_service.proofs.ServedDesk.{lane_pops}
 use Rattle.co_service.proofs.running.write_taken.Goals as goal
 
-pub returns-in-Empty-clause-told : goal.returns-in-Empty-clause-told
-returns-in-Empty-clause-told g c =
+pub returns-in-None-clause-told : goal.returns-in-None-clause-told
+returns-in-None-clause-told g c =
     let p = c.args.passes.now in
     let q = c.write_turn-pop.new.passes in
     record {
@@ -22,22 +23,24 @@ returns-in-Empty-clause-told g c =
       written = (q, (c.write_turn-pop.new.books.journal, subst (λ (o : QOp). WritesCpu p c.args.books.now.cpu (turn p c.args.act o Empty) c.write_turn-pop.result c.write_turn-pop.new.books.journal q) c.pop-op.ensures c.write_turn-pop.ensures.written), refl);
     }
 
-pub returns-in-Took-clause-told : goal.returns-in-Took-clause-told
-returns-in-Took-clause-told g c =
+pub returns-in-Some-clause-told : goal.returns-in-Some-clause-told
+returns-in-Some-clause-told g c =
     let p = c.args.passes.now in
-    let q = c.write_turn-pop-in-Took.new.passes in
+    let q = c.write_turn-pop-in-Some.new.passes in
     let r = c.enter_run-pick.new.passes in
-    let acted : q.actor ≡ p.actor = ap (λ (v : PassesView). v.actor) c.write_turn-pop-in-Took.ensures.written.passes in
-    let cpu : c.cpu-cpu.result ≡ c.args.books.now.cpu = c.cpu-cpu.ensures ∙ ap (λ (b : BooksView). b.cpu) c.write_turn-pop-in-Took.ensures.books in
-    let after = entries_at c.write_turn-pop-in-Took.new.books c.in-Took.i ++ run_entry q c.args.act (Pick c.in-Took.n c.cpu-cpu.result c.in-Took.at) c.in-Took.reply ∷ [] in
+    let x = c.in-Some.started in
+    let acted : q.actor ≡ p.actor = ap (λ (v : PassesView). v.actor) c.write_turn-pop-in-Some.ensures.written.passes in
+    let cpu : c.cpu-cpu.result ≡ c.args.books.now.cpu = c.cpu-cpu.ensures ∙ ap (λ (b : BooksView). b.cpu) c.write_turn-pop-in-Some.ensures.books in
+    let said : c.reply-said.result ≡ x.reply = c.reply-said.ensures in
+    let after = entries_at c.write_turn-pop-in-Some.new.books x.i ++ run_entry q c.args.act (Pick x.n c.cpu-cpu.result x.at) c.reply-said.result ∷ [] in
     record {
       popped = record { place = refl; entry = refl };
       place = refl;
       entry = refl;
       written = (
         q,
-        (c.write_turn-pop-in-Took.new.books.journal, subst (λ (o : QOp). WritesCpu p c.args.books.now.cpu (turn p c.args.act o (Got c.in-Took.i c.in-Took.n c.in-Took.at)) c.write_turn-pop-in-Took.result c.write_turn-pop-in-Took.new.books.journal q) c.pop-op.ensures c.write_turn-pop-in-Took.ensures.written),
-        (r, (after, subst (λ (t : ℕ × ℕ). WritesTimer q c.in-Took.i (record { actor = t.0; act = c.args.act; op = Run (Pick c.in-Took.n t.1 c.in-Took.at); reply = c.in-Took.reply }) c.enter_run-pick.result after r) (λ k. (acted k, cpu k)) c.enter_run-pick.ensures.written), refl),
+        (c.write_turn-pop-in-Some.new.books.journal, subst (λ (o : QOp). WritesCpu p c.args.books.now.cpu (turn p c.args.act o (Got x.i x.n x.at)) c.write_turn-pop-in-Some.result c.write_turn-pop-in-Some.new.books.journal q) c.pop-op.ensures c.write_turn-pop-in-Some.ensures.written),
+        (r, (after, subst (λ (t : ℕ × ℕ × Reply). WritesTimer q x.i (record { actor = t.0; act = c.args.act; op = Run (Pick x.n t.1 x.at); reply = t.2 }) c.enter_run-pick.result after r) (λ k. (acted k, cpu k, said k)) c.enter_run-pick.ensures.written), refl),
       );
     }
 
@@ -45,6 +48,6 @@ pub write_turn-pop-requires-clause-actor : goal.write_turn-pop-requires-clause-a
 write_turn-pop-requires-clause-actor g c =
     subst (IsOfItsActor (actors_of c.args.books.now.params) c.args.books.now.cpu c.args.passes.now.actor) (sym c.pop-op.ensures) (lane_pops (actors_of c.args.books.now.params) c.args.books.now.cpu c.args.passes.now.actor c.args.direct c.requires.actor)
 
-pub write_turn-pop-requires-in-Took-clause-actor : goal.write_turn-pop-requires-in-Took-clause-actor
-write_turn-pop-requires-in-Took-clause-actor g c =
+pub write_turn-pop-requires-in-Some-clause-actor : goal.write_turn-pop-requires-in-Some-clause-actor
+write_turn-pop-requires-in-Some-clause-actor g c =
     subst (IsOfItsActor (actors_of c.args.books.now.params) c.args.books.now.cpu c.args.passes.now.actor) (sym c.pop-op.ensures) (lane_pops (actors_of c.args.books.now.params) c.args.books.now.cpu c.args.passes.now.actor c.args.direct c.requires.actor)

@@ -1,9 +1,9 @@
 use Rattle.std.proofs.Common.{◌≡◌, sym, ◌∙◌, subst, arith}
-use Rattle.std.specs.Prelude.{slice_get, IsSome}
+use Rattle.std.specs.Prelude.{slice_get}
 use Rattle.std.specs.declared.option.Option.TheVariants.{Some}
 use Rattle.co_service.specs.Stories.{IsHistory}
 use Rattle.co_service.specs.Views.{IsKeeperOf}
-use Rattle.co_service.proofs.BooksKept.{keeper_of, legal_here, same_books, same_life, some_here, kept_once, below_here, of_params}
+use Rattle.co_service.proofs.BooksKept.{keeper_of, legal_here, same_books, same_life, kept_once, below_here, of_params}
 use Rattle.co_service.proofs.Writing.{below_get}
 use Rattle.co_service.proofs.books.Books.meet_timer.Goals as goal
 

@@ -1,4 +1,4 @@
-use Rattle.std.proofs.Common.{◌∷◌, [], false, subst, sym, length, ◌∙◌}
+use Rattle.std.proofs.Common.{◌∷◌, [], false, subst, sym, ap, length, ◌∙◌}
 use Rattle.co_object.specs.Queue.{Due}
 use Rattle.co_object.specs.declared.op.Op.TheVariants.{Run}
 use Rattle.co_object.specs.declared.op.RunOp.TheVariants.{Pick}
@@ -11,6 +11,7 @@ use Rattle.co_service.specs.Serving.{Runs}
 use Rattle.co_service.specs.Views.{AreOf}
 use Rattle.co_service.specs.declared.params.Params.{Params}
 use Rattle.co_single.specs.Acts.{IsFired, IsIdle}
+use Rattle.co_single.specs.Alarms.{arg_in}
 use Rattle.co_single.specs.Seen.{none_entries, taken_entries}
 use Rattle.co_single.specs.Rest.{IsSingle}
 use Rattle.co_single.proofs.Firing.{is_fired_now, is_idle_now, rests_fired, rests_idle}
@@ -70,7 +71,7 @@ invariant_of-self-in-Took g c =
       of = subst (λ (s : Params). AreOf g.N.Name.name s q) c.pop_alone.ensures.params c.end_alone.ensures.of;
       single = last.1;
       free = c.end_alone.ensures.free;
-      rest = rests_fired m p r q c.self.invariant.single middle.1 last.1 c.self.invariant.rest c.args.act c.in-Took.i c.in-Took.n c.in-Took.at c.in-Took.reply c.end_alone.new.told.reply ended.time middle.0 last.0;
+      rest = rests_fired m p r q c.self.invariant.single middle.1 last.1 c.self.invariant.rest c.args.act c.in-Took.i c.in-Took.n c.in-Took.at c.in-Took.reply c.end_alone.new.told.out.reply ended.time middle.0 last.0;
       nothing = c.self.invariant.nothing;
       room = c.self.invariant.room;
     }
@@ -89,6 +90,6 @@ returns-in-Took-clause-some g c =
     let runs : IsServing false r 0 d (Runs d.n) = subst (λ far. IsServing false r 0 d far) (runs_at_once m p r pop pick c.args.act c.in-Took.i c.in-Took.n c.in-Took.at c.in-Took.reply c.self.invariant.single taken.place taken.entry taken.written) c.in-Took.ensures.next in
     let ended = c.end_alone.ensures.ended d runs in
     let last = written_is m r q (finished_notes r.actor c.args.act c.end_alone.new.told) _ middle.1 ended.notes_are ended.written in
-    subst (λ v. IsFired v c.in-Took.i c.arg_of.result q) c.self.view_is
-    (subst (λ a. IsFired p c.in-Took.i a q) (sym c.arg_of.ensures)
-    (is_fired_now m p r q c.self.invariant.single middle.1 last.1 c.self.invariant.rest c.args.act c.in-Took.i c.in-Took.n c.in-Took.at c.in-Took.reply c.end_alone.new.told.reply ended.time middle.0 last.0))
+    subst (λ v. IsFired v c.in-Took.i c.arg_of-arg.result q) c.self.view_is
+    (subst (λ a. IsFired p c.in-Took.i a q) (sym (c.arg_of-arg.ensures ∙ ap arg_in c.reply-said.ensures))
+    (is_fired_now m p r q c.self.invariant.single middle.1 last.1 c.self.invariant.rest c.args.act c.in-Took.i c.in-Took.n c.in-Took.at c.in-Took.reply c.end_alone.new.told.out.reply ended.time middle.0 last.0))
