@@ -4,3 +4,5 @@
 pub mod Parts
 -- the note that a packed note stands for
 pub mod Unpacked
+-- what their types say of the values of notes
+pub mod Typed

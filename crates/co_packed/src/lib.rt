@@ -5,6 +5,7 @@ mod kinds;
 mod operations;
 mod packed;
 mod replies;
+mod typed;
 mod words;
 
 pub use packed::PackedNote;

@@ -2,10 +2,12 @@
 ghost use Rattle.std.specs.Prelude.{◌≡◌};
 ghost use Rattle.co_object.specs.declared.note.AnyEntry.TheVariants as entries;
 ghost use Rattle.co_packed.specs.Parts.{entry_of, place_of};
+ghost use Rattle.co_packed.specs.Typed.{EntryTyped};
 
 use crate::kinds::{Sort, Whose};
 use crate::operations::{op_of, op_parts, queue_op_of, queue_op_parts};
 use crate::replies::{queue_reply_of, queue_reply_parts, reply_of, reply_parts};
+use crate::typed::entry_is_typed;
 use crate::words::{OpWords, ReplyWords, no_op_words, no_reply_words};
 use co_object::{AnyEntry, Entry, Note, OwnEntry, Place, QEntry};
 use co_sbt::Sbt;
@@ -215,5 +217,27 @@ impl PackedNote {
         ensures { result ≡ self.now.pos }
     {
         self.pos
+    }
+
+    /// The values of its entry are in the ranges of their types. This is a law: nothing is unpacked when it runs.
+    #[inline]
+    pub fn is_typed(&self)
+        ensures { EntryTyped self.now.entry }
+    {
+        let op = OpWords {
+            time: self.time,
+            prec: self.prec,
+            word: self.word,
+            number: self.number,
+            cpu: self.cpu,
+        };
+        let reply = ReplyWords {
+            time: self.reply_time,
+            word: self.reply_word,
+            code: self.code,
+            number: self.reply_number,
+            off: self.off,
+        };
+        entry_is_typed(self.sort, self.actor, self.act, op, reply);
     }
 }

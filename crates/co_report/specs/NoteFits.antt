@@ -1,6 +1,6 @@
 -- The notes that a report of a script may have: their values fit their types, what they name exists in the script, and an
 -- operation on a queue has an answer of its own.
-use Rattle.std.specs.Prelude.{◌≡◌, ℕ, ℤ, pos, negsuc, ◌^◌, ◌<◌, true, IfSome, length}
+use Rattle.std.specs.Prelude.{◌≡◌, ℕ, ◌^◌, ◌<◌, true, IfSome, length}
 use Rattle.co_object.specs.declared.PlainOp.{PlainOp}
 use Rattle.co_object.specs.declared.PlainOp.TheVariants.{Reset, Schedule, AsyncDrain}
 use Rattle.co_object.specs.declared.CallOp.{CallOp}
@@ -20,6 +20,7 @@ use Rattle.co_object.specs.declared.AnyEntry.{AnyEntry}
 use Rattle.co_object.specs.declared.AnyEntry.TheVariants as of
 use Rattle.co_object.specs.declared.Place.{Place}
 use Rattle.co_object.specs.declared.Place.TheVariants as place
+pub use Rattle.co_packed.specs.Typed.{IsLong, IsCode}
 use Rattle.co_program.specs.declared.Script.{Script}
 use Rattle.co_program.specs.Actors.{actor_count}
 use Rattle.co_program.specs.Places.{place_exists}
@@ -31,13 +32,6 @@ use Rattle.co_report.specs.NoteForms.{may_answer}
 
 abbrev pub IsTime : ℕ → Type 0
 IsTime t = t < 2 ^ 63
-
-abbrev pub IsLong : ℕ → Type 0
-IsLong n = n < 2 ^ 64
-
-abbrev pub IsCode : ℤ → Type 0
-IsCode (pos n) = n < 2 ^ 31
-IsCode (negsuc n) = n < 2 ^ 31
 
 abbrev pub IsCallout : Script → ℕ → Type 0
 IsCallout s i = i < length s.timers

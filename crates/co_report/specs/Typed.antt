@@ -1,55 +1,8 @@
 -- What their types say of the values of notes.
-use Rattle.std.specs.Prelude.{◌^◌, ◌<◌, List, length, IfSome}
+use Rattle.std.specs.Prelude.{◌^◌, ◌<◌, List, length}
 use Rattle.std.specs.List.{AllByRecursion}
-use Rattle.co_object.specs.declared.PlainOp.TheVariants.{Reset, Schedule}
-use Rattle.co_object.specs.declared.CallOp.TheVariants.{Plain}
-use Rattle.co_object.specs.declared.RunOp.TheVariants.{Pick, Begin, End}
-use Rattle.co_object.specs.declared.Op.{Op}
-use Rattle.co_object.specs.declared.Op.TheVariants.{Call, Run}
-use Rattle.co_object.specs.declared.Reply.{Reply}
-use Rattle.co_object.specs.declared.Reply.TheVariants as reply
-use Rattle.co_object.specs.declared.QOp.{QOp}
-use Rattle.co_object.specs.declared.QOp.TheVariants as queue
-use Rattle.co_object.specs.declared.QReply.{QReply}
-use Rattle.co_object.specs.declared.QReply.TheVariants as answer
-use Rattle.co_object.specs.declared.AnyEntry.{AnyEntry}
-use Rattle.co_object.specs.declared.AnyEntry.TheVariants as of
 use Rattle.co_object.specs.declared.Note.{Note}
-use Rattle.co_report.specs.NoteFits.{IsTime, IsLong, IsCode}
-
-abbrev pub OpTyped : Op → Type 0
-OpTyped (Call (Plain (Reset due prec func arg cpu))) = (IsTime due × IsTime prec) × IsLong arg
-OpTyped (Call (Plain (Schedule due prec cpu))) = IsTime due × IsTime prec
-OpTyped (Run (Pick n cpu at)) = IsLong n × IsTime at
-OpTyped (Run (Begin n cpu)) = IsLong n
-OpTyped (Run (End n cpu)) = IsLong n
-OpTyped op = Unit {0}
-
-abbrev pub ReplyTyped : Reply → Type 0
-ReplyTyped (reply.Armed code n cpu off) = IsCode code × IsLong n
-ReplyTyped (reply.NotArmed code) = IsCode code
-ReplyTyped (reply.Stopped code off) = IsCode code
-ReplyTyped (reply.Wait n took off) = IsLong n
-ReplyTyped (reply.Drained code off) = IsCode code
-ReplyTyped (reply.Go func arg) = IsLong arg
-ReplyTyped (reply.Ended drain next woke) = IfSome next (λ x. IsLong x.n × IsTime x.due)
-ReplyTyped r = Unit {0}
-
-abbrev pub QueueTyped : QOp → Type 0
-QueueTyped (queue.Insert i n t) = IsLong n × IsTime t
-QueueTyped (queue.Scan now) = IsTime now
-QueueTyped op = Unit {0}
-
-abbrev pub AnswerTyped : QReply → Type 0
-AnswerTyped (answer.At t) = IsTime t
-AnswerTyped (answer.Count k) = k < 2 ^ 32
-AnswerTyped (answer.Got i n at) = IsLong n × IsTime at
-AnswerTyped r = Unit {0}
-
-abbrev pub EntryTyped : AnyEntry → Type 0
-EntryTyped (of.Timer e) = IsLong e.act × (OpTyped e.op × ReplyTyped e.reply)
-EntryTyped (of.Cpu e) = IsLong e.act × (QueueTyped e.op × AnswerTyped e.reply)
-EntryTyped (of.Own e) = IsLong e.act
+pub use Rattle.co_packed.specs.Typed.{OpTyped, ReplyTyped, QueueTyped, AnswerTyped, EntryTyped}
 
 -- of an actor's notes, and of all
 pub record NotesTyped (notes : List Note) : Type 0 where
