@@ -28,7 +28,10 @@ fn print_digit(page: &mut Page, number: u64) -> Result<(), NoMemory>
     requires { number < 10 }
     ensures { OnOk result (page.new ≡ page.old ++ ((32 ∷ decimal number) ++ 10 ∷ [])) }
 {
-    page.text([b' ', digit(number), b'\n'].as_slice())
+    // One store: a page that copies bytes stored one by one has to wait for them.
+    let start = u32::from(b' ') + 256 * u32::from(digit(number));
+    let word = start + 65536 * u32::from(b'\n');
+    page.text(&word.to_le_bytes()[..3])
 }
 
 /// The last number of a line, behind a space, and the line's end.

@@ -180,7 +180,7 @@ impl Knotes {
             ident: slot.knote.ident,
             count: slot.knote.count,
         };
-        slot.knote = quieted(slot.knote);
+        slot.knote.count = 0;
         self.ready.take_first();
         event
     }
@@ -193,11 +193,11 @@ impl Knotes {
         ensures capacity { self.new.capacity ≡ self.old.capacity }
     {
         let slot = self.slab.get_mut(key)?;
-        if !expires(now, slot.knote) {
+        if !expires(now, &slot.knote) {
             return None;
         }
         mark(&mut self.ready, key, &slot.knote);
-        slot.knote = expired(slot.knote);
+        expire(&mut slot.knote);
         slot.knote.next
     }
 }
@@ -215,22 +215,9 @@ fn mark(ready: &mut Index, key: usize, knote: &Knote)
     }
 }
 
-/// A knote whose expirations are told.
-fn quieted(knote: Knote) -> Knote
-    ensures { result ≡ record knote { count = 0 } }
-{
-    Knote {
-        ident: knote.ident,
-        next: knote.next,
-        span: knote.span,
-        oneshot: knote.oneshot,
-        count: 0,
-    }
-}
-
 /// Whether a knote's time has come.
-fn expires(now: Sbt, knote: Knote) -> bool
-    ensures { result ≡ expires now knote }
+fn expires(now: Sbt, knote: &Knote) -> bool
+    ensures { result ≡ expires now knote.now }
 {
     match knote.next {
         Some(time) => time <= now,
@@ -238,19 +225,21 @@ fn expires(now: Sbt, knote: Knote) -> bool
     }
 }
 
-/// A knote behind an expiration.
-fn expired(knote: Knote) -> Knote
-    ensures { result ≡ expired knote }
+/// When a knote expires next, behind an expiration.
+fn next_after(knote: &Knote) -> Option<Sbt>
+    ensures { result ≡ next_after knote.now.oneshot knote.now.span knote.now.next }
 {
-    let next = match knote.next {
+    match knote.next {
         Some(time) if !knote.oneshot => Some(time.sat_add(knote.span)),
         _ => None,
-    };
-    Knote {
-        ident: knote.ident,
-        next,
-        span: knote.span,
-        oneshot: knote.oneshot,
-        count: knote.count.saturating_add(1),
     }
+}
+
+/// A knote expires: its next time and its count change.
+fn expire(knote: &mut Knote)
+    ensures { knote.new ≡ expired knote.old }
+{
+    // In place: a knote that is put together anew and then copied has to wait for its stores.
+    knote.next = next_after(knote);
+    knote.count = knote.count.saturating_add(1);
 }

@@ -19,10 +19,10 @@ pub invariant_of-self-2 : goal.invariant_of-self-2
 invariant_of-self-2 c =
     let old = c.self.inside.slab in
     let x = c.in_ok-slot.slot.now in
-    let y : Slot = record { knote = c.expired-slot.result; timer = x.timer } in
+    let y : Slot = record { knote = c.expire.new.knote; timer = x.timer } in
     let there : get old c.args.key ≡ Some x = sym c.in_ok-slot.ensures.value in
     let distinct = listed_distinct c.self.inside.slab c.self.inside.order c.self.inside.ready c.self.invariant in
-    let count = ap (λ (k : Knote). k.count) c.expired-slot.ensures in
+    let count = ap (λ (k : Knote). k.count) c.expire.ensures in
     let more : 0 < y.knote.count = omega (arith, count) in
     listed_ready old (with_value old c.args.key y) c.self.inside.order c.self.inside.ready c.mark.new.ready c.args.key x y c.self.invariant there (with_updates old c.args.key x y there)
-    (distinct c.args.key x there) (ap (λ (k : Knote). k.ident) c.expired-slot.ensures) c.mark.ensures.room (with_len old c.args.key x y there) refl more c.mark.ensures.changed
+    (distinct c.args.key x there) (ap (λ (k : Knote). k.ident) c.expire.ensures) c.mark.ensures.room (with_len old c.args.key x y there) refl more c.mark.ensures.changed

@@ -1,7 +1,6 @@
 use Rattle.std.proofs.Common.{◌≡◌, ap, sym, subst, refl, ◌∙◌, Some, None, set, false}
 use Rattle.slab.specs.Slab.{Slab, get, with_value}
 use Rattle.co_kq.specs.declared.knote.Slot.{Slot}
-use Rattle.co_kq.specs.declared.knote.Knote.{Knote}
 use Rattle.co_kq.specs.Kevents.{placed, event_of}
 use Rattle.co_kq.specs.Slots.{knotes_in, slot_at, AreDistinct, IsFirstReady, Tells}
 use Rattle.co_kq.proofs.InSlots.{taken_out, written, IsFree, free_where_alone, distinct_put}
@@ -13,27 +12,27 @@ pub invariant_of-self : goal.invariant_of-self
 invariant_of-self c =
     let old = c.self.inside.slab in
     let x = c.in-Some.slot.now in
-    let y : Slot = record { knote = c.quieted-slot.result; timer = x.timer } in
+    let y : Slot = record { knote = quieted x.knote; timer = x.timer } in
     let there : get old c.args.key ≡ Some x = sym c.in-Some.ensures.value in
     let distinct = subst (λ k. AreDistinct k.slots) (sym c.self.view_is) c.requires.distinct in
     let first = subst (λ k. IsFirstReady k.slots c.args.key) (sym c.self.view_is) c.requires.first in
     let first_there = first_of old c.self.inside.order c.self.inside.ready c.args.key x c.self.invariant first there in
     listed_quiet old (with_value old c.args.key y) c.self.inside.order c.self.inside.ready c.take_first.new.self c.args.key x y c.self.invariant there (with_updates old c.args.key x y there)
-    (distinct c.args.key x there) (ap (λ (k : Knote). k.ident) c.quieted-slot.ensures) c.take_first.ensures.room (with_len old c.args.key x y there) refl
-    (ap (λ (k : Knote). k.count) c.quieted-slot.ensures) (c.take_first.ensures.changed c.args.key first_there)
+    (distinct c.args.key x there) refl c.take_first.ensures.room (with_len old c.args.key x y there) refl refl
+    (c.take_first.ensures.changed c.args.key first_there)
 
 pub returns-clause-tells : goal.returns-clause-tells
 returns-clause-tells c =
     let old = c.self.inside.slab in
     let x = c.in-Some.slot.now in
-    let y : Slot = record { knote = c.quieted-slot.result; timer = x.timer } in
+    let y : Slot = record { knote = quieted x.knote; timer = x.timer } in
     let new : Slab Slot = with_value old c.args.key y in
     let there : get old c.args.key ≡ Some x = sym c.in-Some.ensures.value in
     let rest = knotes_in (set old.slots c.args.key None) in
     let distinct = subst (λ k. AreDistinct k.slots) (sym c.self.view_is) c.requires.distinct in
     let alone = distinct c.args.key x there in
     let base : knotes_in old.slots ≡ placed x.knote rest = taken_out old.slots c.args.key x there alone in
-    let end : knotes_in new.slots ≡ placed (quieted x.knote) rest = written old new c.args.key x y there (ap (λ (k : Knote). k.ident) c.quieted-slot.ensures) (with_updates old c.args.key x y there) alone ∙ ap (λ q. placed q rest) c.quieted-slot.ensures in
+    let end : knotes_in new.slots ≡ placed (quieted x.knote) rest = written old new c.args.key x y there refl (with_updates old c.args.key x y there) alone in
     let first : IsFirstReady old.slots c.args.key = first_at old.slots c.args.key x (subst (λ k. IsFirstReady k.slots c.args.key) (sym c.self.view_is) c.requires.first) there in
     let once = c.requires.again x (ap (λ k. slot_at k.slots c.args.key) (sym c.self.view_is) ∙ there) in
     let tells : Tells (placed x.knote rest) (event_of x.knote) (placed (quieted x.knote) rest) = tells_first false x.knote rest once first.ready (behind_first old.slots c.args.key first distinct) in
@@ -44,9 +43,8 @@ pub returns-clause-distinct : goal.returns-clause-distinct
 returns-clause-distinct c =
     let old = c.self.inside.slab in
     let x = c.in-Some.slot.now in
-    let y : Slot = record { knote = c.quieted-slot.result; timer = x.timer } in
+    let y : Slot = record { knote = quieted x.knote; timer = x.timer } in
     let there : get old c.args.key ≡ Some x = sym c.in-Some.ensures.value in
     let distinct = subst (λ k. AreDistinct k.slots) (sym c.self.view_is) c.requires.distinct in
-    let same : y.knote.ident ≡ x.knote.ident = ap (λ (k : Knote). k.ident) c.quieted-slot.ensures in
-    let free : IsFree old.slots c.args.key y.knote.ident = subst (λ i. IsFree old.slots c.args.key i) (sym same) (free_where_alone old.slots c.args.key x.knote.ident (distinct c.args.key x there)) in
+    let free : IsFree old.slots c.args.key y.knote.ident = free_where_alone old.slots c.args.key x.knote.ident (distinct c.args.key x there) in
     distinct_put old (with_value old c.args.key y) c.args.key y (with_updates old c.args.key x y there) free distinct
