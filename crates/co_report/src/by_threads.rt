@@ -8,7 +8,9 @@ ghost use Rattle.co_report.specs.Reports.{lines_between, head_text, report_of};
 ghost use Rattle.co_report.specs.Order.{place_count};
 ghost use denote.Param.Send.{IsSync};
 
+use crate::counting::counts_by_threads;
 use crate::frame::{append, head_piece, in_frame};
+use crate::order::order_from;
 use crate::report::Printing;
 use co_packed::PackedNote;
 use co_program::Script;
@@ -83,14 +85,18 @@ fn print_all_places<R: Threads + Sync>(
     requires formed { IsWellFormed lists.now }
     ensures { IfOk result (λ parts. concat parts ≡ text (lines_between script.now lists.now 0 (place_count script.now))) }
 {
-    let printing = Printing::new(alloc, script, lists.as_slice())?;
+    let lists = lists.as_slice();
+    let counts = counts_by_threads(rt, alloc, script, lists)?;
+    let order = order_from(alloc, script, lists, counts.as_slice())?;
+    let printing = Printing::in_order(script, lists, order);
     print_halves(rt, alloc, &printing, 0, printing.place_count(), HALVINGS)
 }
 
 /// The report of a script and the lists of its actors' notes, as `print_report` gives it, in pieces: joined they are the
-/// report. A thread of its own prints the lines before the first place; beside it the notes are put into order, and then
-/// up to 8 threads print parts beside each other, each the notes of some places. Where no thread can be had all of this is
-/// done one after the other. NoMemory where a part finds no memory, and where `print_report` gives it.
+/// report. A thread of its own prints the lines before the first place; beside it up to 8 threads count the notes of each
+/// place, each those of some lists, the notes are put into order by these numbers, and then up to 8 threads print parts
+/// beside each other, each the notes of some places. Where no thread can be had all of this is done one after the other.
+/// NoMemory where a part finds no memory, and where `print_report` gives it.
 pub fn print_by_threads<R: Threads + Sync>(
     rt: &R,
     alloc: Global,

@@ -2,6 +2,7 @@
 #![tactic(auto)]
 
 mod by_threads;
+mod counting;
 mod frame;
 pub mod laws;
 mod line;

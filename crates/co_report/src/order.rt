@@ -139,7 +139,7 @@ fn count_list(
 }
 
 /// The number of notes of each place.
-fn counts_of(
+pub(crate) fn counts_of(
     alloc: Global,
     script: &Script,
     lists: &[Seq<PackedNote>],
@@ -233,6 +233,25 @@ fn origins_of(
     Ok(origins)
 }
 
+/// The order of packed notes whose numbers are counted.
+pub(crate) fn order_from(
+    alloc: Global,
+    script: &Script,
+    lists: &[Seq<PackedNote>],
+    counts: &[usize],
+) -> Result<Order, NoMemory>
+    requires places { AllHavePlaces script.now lists.now }
+    requires formed { IsWellFormed lists.now }
+    requires counts { AreCounts script.now lists.now counts.now }
+    ensures { IfOk result (λ order. ShowsHistories script.now lists.now order) }
+{
+    let starts = starts_of(alloc, counts)?;
+    let from = starts.as_slice();
+    let room = from[counts.len()];
+    let origins = origins_of(alloc, script, lists, from, room)?;
+    Ok(Order { starts, origins })
+}
+
 /// The order of packed notes, as [`order_of`] has it.
 pub(crate) fn packed_order(
     alloc: Global,
@@ -244,12 +263,7 @@ pub(crate) fn packed_order(
     ensures { IfOk result (λ order. ShowsHistories script.now lists.now order) }
 {
     let counts = counts_of(alloc, script, lists)?;
-    let counts = counts.as_slice();
-    let starts = starts_of(alloc, counts)?;
-    let from = starts.as_slice();
-    let room = from[counts.len()];
-    let origins = origins_of(alloc, script, lists, from, room)?;
-    Ok(Order { starts, origins })
+    order_from(alloc, script, lists, counts.as_slice())
 }
 
 /// The notes of all lists, in the report's order: place by place, and in each place by position. It takes time and memory

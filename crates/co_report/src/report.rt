@@ -66,6 +66,23 @@ impl<'a> Printing<'a> {
         })
     }
 
+    /// What is printed of these notes in this order.
+    pub(crate) fn in_order(
+        script: &'a Script,
+        lists: &'a [Seq<PackedNote>],
+        order: Order,
+    ) -> Printing<'a>
+        requires { ShowsHistories script.now lists.now order }
+        ensures script { result.script.now ≡ script.now }
+        ensures lists { result.lists.now ≡ lists.now }
+    {
+        Printing {
+            script,
+            lists,
+            order,
+        }
+    }
+
     /// How many places there are.
     pub fn place_count(&self) -> usize
         ensures { result ≡ place_count self.now.script.now }
