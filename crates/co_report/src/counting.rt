@@ -14,7 +14,8 @@ use std::thread::{Threads, join};
 /// How often the lists are halved: three times, for 8 parts.
 const HALVINGS: u32 = 3;
 
-/// Adds other numbers of notes to those of the same places. `NoMemory` where a sum is too large: so many notes find no memory.
+/// Adds other numbers of notes to those of the same places. `NoMemory` where a sum is too large: so many notes find no
+/// memory.
 fn add_counts(counts: &mut Seq<usize>, more: &[usize]) -> Result<(), NoMemory>
     requires { length more.now ≡ length counts.old }
     ensures length { OnOk result (length counts.new ≡ length counts.old) }
