@@ -1,5 +1,4 @@
 mod Rows
-pub mod Spacing
 pub mod Places
 pub mod Counts
 pub mod Numbering

@@ -1,8 +1,14 @@
-use Rattle.std.proofs.Common.{◌≡◌, ◌++◌, take}
+use Rattle.std.proofs.Common.{◌≡◌, ◌++◌, length}
+use Rattle.std.specs.Slice.Iter.{chunks_rest, chunks_size}
 use Rattle.co_text.specs.Lines.{text}
 use Rattle.co_report.specs.Origins.{lines_from}
 use Rattle.co_report.proofs.origin.print_from.Given as goal
 
--- the notes of the first origins are written
-abbrev pub invariant-loop-origin : goal.invariant-loop-origin
-invariant-loop-origin l = l.page ≡ l.fn.page ++ text (lines_from l.script l.lists (take l.origin-index l.origins))
+-- what is written, and the lines of the origins to come
+abbrev pub invariant-loop-chunk : goal.invariant-loop-chunk
+invariant-loop-chunk l =
+    goal.iterator-loop-chunk.can_next l.chunk-iterator
+    × goal.iterator-loop-chunk.is_finite l.chunk-iterator
+    × (chunks_size l.chunk-iterator ≡ 16)
+    × (length l.notes ≡ 16)
+    × (l.page ++ text (lines_from l.script l.lists (chunks_rest l.chunk-iterator)) ≡ l.fn.page ++ text (lines_from l.script l.lists l.origins))
