@@ -1,6 +1,5 @@
 -- The sections and counts after one note more, before the first one, and as the parts of the report.
-use Rattle.std.proofs.Common.{◌≡◌, ◌≢◌, ℕ, zero, suc, ◌+◌, ◌-◌, ◌<◌, ◌^◌, ◌==◌, nat_lt, Bool, true, false, cond, List, [], ◌∷◌, ◌++◌, map, length, set, get_or, replicate, refl, ap, sym, subst, ◌∙◌, arith, append_assoc, append-nil, length-append}
-use Rattle.std.specs.Prelude.{codes}
+use Rattle.std.proofs.Common.{◌≡◌, ◌≢◌, ℕ, zero, suc, ◌+◌, ◌-◌, ◌<◌, ◌^◌, ◌==◌, nat_lt, Bool, true, false, cond, List, [], ◌∷◌, ◌++◌, map, length, set, get_or, replicate, refl, ap, sym, subst, ◌∙◌, arith, append-nil, length-append}
 use Rattle.std.specs.List.{AllByRecursion, concat, filter, flat_map, range_with_len}
 use Rattle.std.proofs.lemmas.Bool.Decides.{nat_tests}
 use Rattle.std.proofs.lemmas.List.{map-append, set-append_left, set-append_right, get_or_append_left, get_or-append-add}
@@ -17,9 +16,8 @@ use Rattle.co_program.specs.Actors.{actor_count}
 use Rattle.co_program.specs.Places.{place_exists}
 use Rattle.co_program.specs.Scripts.{IsScript}
 use Rattle.co_text.specs.Lines.{line_text, text}
-use Rattle.co_text.specs.Values.{Word}
-use Rattle.co_text.proofs.Spacing.{text_one, text_append}
-use Rattle.co_report.specs.Histories.{Histories, shown_history}
+use Rattle.co_text.proofs.Spacing.{text_append}
+use Rattle.co_report.specs.Histories.{shown_history}
 use Rattle.co_report.specs.NoteTexts.{note_words}
 use Rattle.co_report.specs.Order.{place_index, place_count}
 use Rattle.co_report.specs.Reports.{places, heading, place_lines, report, report_of, framed}
