@@ -59,7 +59,7 @@ use Rattle.co_world.proofs.kept.Passages.{changed}
 use Rattle.co_core.proofs.services.Picks.{lane_slot, service_here, service_cpu}
 use Rattle.co_core.proofs.stored.Places.{IsRight, placed_after, reached_after}
 use Rattle.co_world.proofs.basics.Roles.{same_role, is_direct_at}
-use Rattle.co_world.proofs.kept.Stages.{IsServer, is_server}
+use Rattle.co_world.proofs.kept.Servers.{IsServer, is_server}
 use Rattle.co_world.proofs.sections.Servers.{free_slot, other_slot}
 use Rattle.co_world.proofs.sections.Slots.{draining_of}
 use Rattle.co_world.proofs.kept.BySteps.{IsSteady}

@@ -63,7 +63,7 @@ use Rattle.co_world.proofs.kept.Passages.{changed}
 use Rattle.co_core.proofs.stored.Places.{IsRight, placed_after, reached_after}
 use Rattle.co_core.proofs.services.Queues.{stands_turned}
 use Rattle.co_world.proofs.basics.Roles.{same_role}
-use Rattle.co_world.proofs.kept.Stages.{IsServer}
+use Rattle.co_world.proofs.kept.Servers.{IsServer}
 use Rattle.co_world.proofs.sections.Servers.{IsPopping, IsPop, pop_view, pop_slot, pop_none, other_slot}
 use Rattle.co_world.proofs.sections.Slots.{firing_of}
 use Rattle.co_world.proofs.kept.OneMover.{steady_of}
