@@ -25,7 +25,7 @@ use Rattle.co_text.specs.Values.{Word, is_word}
 use Rattle.co_text.specs.Written.{units_word, func_word, argument_word}
 use Rattle.co_text.specs.Taking.{Read, next, after_next}
 use Rattle.co_report.proofs.PartSplits.{AreParts}
-use Rattle.co_script.proofs.FormsTold.{cond-ok}
+use Rattle.co_script.proofs.told.Steps.{cond-ok}
 use Rattle.co_report.specs.declared.reading.names.Names.{Names}
 use Rattle.co_report.specs.declared.reading.values.Maker.{Maker}
 use Rattle.co_report.specs.Histories.{Shown}
