@@ -19,7 +19,6 @@ use Rattle.co_object.specs.History.{state}
 use Rattle.co_object.specs.Journal as journal
 use Rattle.co_object.specs.Queue.{Queue}
 use Rattle.co_program.specs.declared.script.Script.{Script}
-use Rattle.co_program.specs.declared.role.Role.TheVariants.{Cpu}
 use Rattle.co_program.specs.declared.cursor.Service.{Service}
 use Rattle.co_program.specs.declared.action.Asked.TheVariants.{Callout, Queue as IsQueue}
 use Rattle.co_program.specs.Cursor.{Cursor}

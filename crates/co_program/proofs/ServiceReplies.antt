@@ -12,7 +12,6 @@ use Rattle.co_object.specs.declared.QReply.{QReply}
 use Rattle.co_object.specs.declared.QReply.TheVariants.{Got, Empty, Freed}
 use Rattle.co_object.specs.declared.Reply.{Reply}
 use Rattle.co_object.specs.declared.Reply.TheVariants.{Go, Hold, Skip, Ended}
-use Rattle.co_object.specs.Callout.{step}
 use Rattle.co_object.specs.Journal as journal
 use Rattle.co_object.specs.Queue.{Queue, Due}
 use Rattle.co_object.specs.Serve.{pick_armed, taken, go, is_due, has_lock, begin_run, end_run, ended as over_with}

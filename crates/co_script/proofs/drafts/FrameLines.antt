@@ -7,7 +7,7 @@ use Rattle.co_text.specs.Values.{Word}
 use Rattle.co_program.specs.declared.Script.{Script}
 use Rattle.co_grammar.specs.declared.Kind.{Kind}
 use Rattle.co_grammar.specs.declared.Kind.TheVariants as kind
-use Rattle.co_grammar.specs.declared.Opener.TheVariants.{Frame, Act as Does}
+use Rattle.co_grammar.specs.declared.Opener.TheVariants.{Frame}
 use Rattle.co_grammar.specs.Statements.{Statement}
 use Rattle.co_grammar.specs.Statements as states
 use Rattle.co_grammar.specs.Forms.{frame_form}

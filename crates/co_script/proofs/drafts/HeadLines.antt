@@ -4,7 +4,6 @@ use Rattle.std.specs.Prelude.{nat_lt, nat_le}
 use Rattle.std.proofs.lemmas.Bool.{leb-true}
 use Rattle.co_object.proofs.Changes.{both_true}
 use Rattle.co_program.specs.declared.Script.{Script}
-use Rattle.co_program.specs.declared.Role.TheVariants.{Client, Cpu}
 use Rattle.co_program.specs.Actors.{actor_count}
 use Rattle.co_grammar.specs.declared.Kind.{Kind}
 use Rattle.co_grammar.specs.declared.Kind.TheVariants as kind

@@ -9,7 +9,6 @@ use Rattle.co_program.specs.declared.Who.{Who}
 use Rattle.co_program.specs.declared.Who.TheVariants as callout
 use Rattle.co_program.specs.declared.Where.{Where}
 use Rattle.co_program.specs.declared.Where.TheVariants as cpu
-use Rattle.co_program.specs.declared.Role.TheVariants.{Cpu}
 use Rattle.co_program.specs.Scripts.{who_exists, cpu_exists}
 use Rattle.co_grammar.specs.Checks.{spec_exists, spec_kind_fits, act_fits, act_kind_fits}
 

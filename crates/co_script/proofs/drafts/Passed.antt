@@ -4,7 +4,6 @@ use Rattle.std.specs.Prelude.{Ok}
 use Rattle.co_text.specs.Fallible.{◌>>=◌, unless}
 use Rattle.co_text.specs.declared.Cause.TheVariants as cause
 use Rattle.co_program.specs.declared.Script.{Script}
-use Rattle.co_grammar.specs.declared.Kind.{Kind}
 use Rattle.co_grammar.specs.Statements.{Statement}
 use Rattle.co_script.specs.Drafts.{Draft}
 use Rattle.co_script.specs.Refusals.{numbers_fit, kinds_fit, times_rise, has_room, draft_with, draft_after}

@@ -5,7 +5,6 @@ use Rattle.std.proofs.lemmas.Bool.{and_from}
 use Rattle.co_object.specs.declared.Spec.{Spec}
 use Rattle.co_lock.specs.declared.LockKind.{LockKind}
 use Rattle.co_program.specs.declared.Script.{Script}
-use Rattle.co_program.specs.declared.Role.TheVariants.{Client, Cpu}
 use Rattle.co_grammar.specs.declared.Kind.{Kind}
 use Rattle.co_grammar.specs.declared.Kind.TheVariants as kind
 use Rattle.co_grammar.specs.Keywords.{rank}

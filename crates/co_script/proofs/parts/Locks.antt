@@ -5,7 +5,6 @@ use Rattle.co_text.proofs.LinesBack.{IsWord, AreWords}
 use Rattle.co_text.proofs.ValuesBack.{decimal-word}
 use Rattle.co_lock.specs.declared.LockKind.{LockKind}
 use Rattle.co_lock.specs.declared.LockKind.TheVariants as lock
-use Rattle.co_object.specs.declared.LockUse.TheVariants.{Mtx, Rw}
 use Rattle.co_program.specs.declared.Script.{Script}
 use Rattle.co_grammar.specs.declared.Kind.TheVariants as kind
 use Rattle.co_grammar.specs.Statements as states

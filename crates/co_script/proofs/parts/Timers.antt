@@ -5,7 +5,6 @@ use Rattle.std.proofs.lemmas.Bool.{and_parts, and_from, not-true, ltb-true}
 use Rattle.co_text.specs.Values.{Word}
 use Rattle.co_text.proofs.LinesBack.{IsWord, AreWords}
 use Rattle.co_text.proofs.ValuesBack.{decimal-word}
-use Rattle.co_lock.specs.declared.LockKind.TheVariants as lock
 use Rattle.co_object.specs.declared.Spec.{Spec}
 use Rattle.co_object.specs.declared.LockUse.{LockUse}
 use Rattle.co_object.specs.declared.LockUse.TheVariants.{Free, Mtx, Rw, RwShared}

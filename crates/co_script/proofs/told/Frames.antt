@@ -5,10 +5,8 @@ use Rattle.std.specs.List.{list_all}
 use Rattle.co_text.specs.Fallible.{◌>>=◌}
 use Rattle.co_text.specs.Values.{Word, number}
 use Rattle.co_text.specs.Taking.{next, ended, lone}
-use Rattle.co_program.specs.declared.Role.TheVariants.{Client, Cpu}
 use Rattle.co_grammar.specs.declared.Kind.{Kind}
 use Rattle.co_grammar.specs.declared.Kind.TheVariants as kind
-use Rattle.co_grammar.specs.Operands.{who}
 use Rattle.co_grammar.specs.Turns.{Turn}
 use Rattle.co_grammar.specs.Statements.{Statement}
 use Rattle.co_grammar.specs.Statements as states
