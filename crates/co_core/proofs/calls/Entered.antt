@@ -145,7 +145,7 @@ module _ {s : Script} {x : Stored} {w : World} {a act i cpu : ℕ} {op : CallOp}
     pub answer : IsAnswer before i op (alone_of s w i) (there calling) (is_away cpu r' t') after.callouts r' out
     answer = answer_by before i op (alone_of s w i) (there calling) (is_away cpu r' t') after.callouts r' out (ap (λ (y : ℕ). is_away y r' t') (wheel calling).number) wheeled.callouts
 
-    -- the (wheel calling) and the world after the section
+    -- the wheel and the world after the section
     pub finish : (w' : World) (q' : TimerQueue) (pl : Cursor) → Goes w w' i cpu a t' cpu q' pl → ((ro : Role) → slot_of ro q' ≡ slot_of ro q0) → StageKept c0.stage pl.stage →
         after.callouts ≡ with_callout before.callouts i (after_of s i t' pl.parcel) → Shows after q' → IsOnly i pl.parcel → IsBag s w' pl.parcel out → IsRight s i cpu t' pl.parcel → IsStored s x' w' × IsPlaced s w'
     finish w' q' pl goes quiet kept' callouts shows only bag right = (
@@ -172,7 +172,7 @@ module _ {s : Script} {x : Stored} {w : World} {a act i cpu : ℕ} {op : CallOp}
       slots : (ro : Role) (y : ℕ) → slot_of ro (queues_of w' y) ≡ slot_of ro (queues_of w y)
       slots = all_slots w w' i cpu a t' cpu q' pl goes quiet
 
-    -- the callout at the (wheel calling) after the call
+    -- the callout at the wheel after the call
     pub left_at : (h : Option Alone) → after.callouts ≡ with_callout before.callouts i h → callout after.callouts i ≡ h
     left_at h is =
         let inside : i < length before.callouts.here = (let l = long before.callouts.here (length s.timers) (at_home s w cpu) (wheel calling).here in omega arith) in
@@ -181,7 +181,7 @@ module _ {s : Script} {x : Stored} {w : World} {a act i cpu : ℕ} {op : CallOp}
     cpu_after : (h : Option Alone) → after.callouts ≡ with_callout before.callouts i h → after.callouts.cpu ≡ cpu
     cpu_after h is = ap (λ (c : Callouts). c.cpu) is ∙ (wheel calling).number
 
-    -- whether the arming is listed (there calling)
+    -- whether the arming is listed there
     pub lists_at : (h : Option Alone) → after.callouts ≡ with_callout before.callouts i h → is_some at ≡ (is_armed r' && is_listed_of cpu h)
     lists_at h is =
         wheeled.inserted ∙ ap (λ (o : Option Alone). is_armed r' && is_listed_of after.callouts.cpu o) (left_at h is) ∙ ap (λ (y : ℕ). is_armed r' && is_listed_of y h) (cpu_after h is)

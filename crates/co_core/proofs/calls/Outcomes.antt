@@ -106,7 +106,7 @@ module _ {s : Script} {x : Stored} {w : World} {a act i cpu : ℕ} {op : CallOp}
     quiet_end parcel is no_landing due' =
         stepped_so calling wheeled due' ∙ goes_no_further s w2 a (subst (λ (d : Cursor). is_in_section w2 d ≡ false) (sym (goes2 calling wheeled).places.here) (ap (λ (b : Bool). b || lands_here w2 d2.parcel) (within calling wheeled) ∙ ap (lands_here w2) is ∙ no_landing))
 
-    -- the arming stays where it is, or waits for the (end calling) of a service
+    -- the arming stays where it is, or waits for the end of a service
     pub stays_done : d2.parcel ≡ None → is_away cpu r' t' ≡ false → (is_armed r' ≡ false) ⊎ (off t' ≡ None) → ((y : ℕ) → off t' ≡ Some y → cpu ≡ y) → IsDue s w a (Asks act (Callout i (Call op))) → IsDone
     stays_done none away unlisted listing due' =
         record {

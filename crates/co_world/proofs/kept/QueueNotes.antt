@@ -36,7 +36,6 @@ use Rattle.co_world.proofs.kept.Listed.{no_out, listed_later}
 use Rattle.co_world.proofs.kept.ByOwnSteps.{same_run}
 use Rattle.std.proofs.Common.{max, eq-eqb, eqb-true}
 use Rattle.std.specs.Prelude.{◌==◌}
-use Rattle.co_object.specs.declared.Run.TheVariants as run
 
 pub scans_more : (J : List QEntry) (e : QEntry) → scan_count (J ++ e ∷ []) ≡ scan_count J + one_scan e.op
 scans_more [] e = omega arith
