@@ -3,4 +3,6 @@ pub mod Queues
 pub mod Picks
 pub mod Underway
 pub mod Begins
+pub mod Lanes
+pub mod Moves
 pub mod Ends

@@ -1,4 +1,6 @@
 -- Where the records are after a section, and what the slots have.
+pub mod Slots
+pub mod Worlds
 pub mod Sections
 pub mod Places
 pub mod Services

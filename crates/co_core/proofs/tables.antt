@@ -1,4 +1,5 @@
--- Lists that show a function of the number.
+-- Lists that show a function of the number, and options.
+pub mod Options
 pub mod Values
 pub mod Copies
 pub mod PutBack

@@ -1,5 +1,8 @@
 -- What the books have after a note, and who holds each lock.
-pub mod Notes
-pub mod Entries
 pub mod Listed
+pub mod Counting
+pub mod After
+pub mod Entries
+pub mod There
+pub mod Notes
 pub mod LockHolders

@@ -52,10 +52,8 @@ use Rattle.co_program.specs.Advance.{tail_of, act_over, called, picked, begun, e
 use Rattle.co_program.specs.Follows.{Histories, Fits, AreNext, cursor_after, goes_on, past, settled, listed_after}
 use Rattle.co_program.specs.Laws.{HasEnded}
 use Rattle.co_program.specs.Scripts.{IsScript, is_call}
+use Rattle.co_program.proofs.Options.{none-some, some-is}
 use Rattle.co_program.proofs.Rests.{IsKnown, IsKnownEntry, KnownAt}
-
-none-some : {X : Type 0} (x : X) → None ≡ Some x → ⊥
-none-some x h = cc
 
 -- ---- the acts of functions
 
@@ -245,9 +243,6 @@ module _ (s : Script) (ok : IsScript s) where
   pick-waits : (v : Service) (t : State) (o : Option Arming) (n cpu at : ℕ) (after : State) (reply : Reply) → pick_armed (spec_at s v.i) t o n cpu at ≡ Some (after, reply) → WaitsForIts v reply
   pick-waits v t None n cpu at after reply h = absurd (none-some {X = State × Reply} (after, reply) h)
   pick-waits v t (Some m) n cpu at after reply h = at_test (is_due m n cpu at && is_idle t.run) h where
-    some-is : {x y : State × Reply} → Some x ≡ Some y → x ≡ y
-    some-is g = cc
-
     locked : (lock : LockUse) → has_lock lock ≡ true → is_some (hold_of lock) ≡ true
     locked Free g = let e : false ≡ true = g in cc
     locked (Mtx id) g = refl

@@ -37,6 +37,7 @@ use Rattle.co_program.specs.Advance.{advance, advance_callout, act_over, called,
 use Rattle.co_program.specs.Follows.{Histories, Fits, FitsCallout, goes_on, settled}
 use Rattle.co_program.specs.Groups.{IsCallOf, call_of}
 use Rattle.co_program.specs.Runs.{are_direct}
+use Rattle.co_program.proofs.Options.{some-is}
 use Rattle.co_program.proofs.Arming.{IsArmed, is_armed as arming_of}
 use Rattle.co_program.proofs.AskedCalls.{asked_call}
 use Rattle.co_program.proofs.Removing.{due_removed}
@@ -275,9 +276,7 @@ module _ (s : Script) (H : Histories) (a act i : ℕ) (op : CallOp) where
         known = here;
         off_is = fits.2;
         tail_is = subst (IsTail c r pos) (sym (split ∙ ap (λ (n : Note). n ∷ rest) same)) (tail c stage.0 (asked_call s a c act i op is).0 r pos rest here.before answers led);
-      } where
-        some-is : {x y : State × Reply} → Some x ≡ Some y → x ≡ y
-        some-is h = cc
+      }
 
   whole-call : (d : Cursor) (notes : List Note) → IsEntry d notes → d.removed ≡ None → IsCallFirst d notes
   whole-call d notes e none =

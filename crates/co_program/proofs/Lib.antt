@@ -1,3 +1,4 @@
+pub mod Options
 pub mod Remaining
 pub mod Others
 pub mod Existing
@@ -18,4 +19,6 @@ pub mod Known
 pub mod ListsLook
 pub mod Endings
 pub mod FunctionActs
+pub mod NextNotes
+pub mod ServiceReplies
 pub mod Rounds

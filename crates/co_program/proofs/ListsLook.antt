@@ -28,7 +28,9 @@ use Rattle.co_program.proofs.Known.{are-known}
 use Rattle.co_program.proofs.Rests.{IsKnown, IsRest, rest-of, next-after, cursor-after}
 use Rattle.co_program.specs.declared.cursor.Parcel.{Parcel}
 use Rattle.co_program.specs.declared.action.Asked.TheVariants.{Queue as IsQueue}
-use Rattle.co_program.proofs.Rounds.{IsTurnFirst, turn-first, Pops, pop-replies, round-first}
+use Rattle.co_program.proofs.NextNotes.{IsTurnFirst, turn-first}
+use Rattle.co_program.proofs.ServiceReplies.{Pops, pop-replies}
+use Rattle.co_program.proofs.Rounds.{round-first}
 
 all-rest : {X : Type 0} (P : X → Type 0) (xs ys : List X) → AllByRecursion P (xs ++ ys) → AllByRecursion P ys
 all-rest P [] ys h = h

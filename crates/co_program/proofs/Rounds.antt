@@ -1,38 +1,17 @@
 -- The notes of a round of services that comes next, from the Pop that takes an arming to the acts of a drain function.
-use Rattle.std.proofs.Common.{◌≡◌, ℕ, ◌+◌, ◌⊎◌, inl, inr, Bool, true, false, cond, ◌&&◌, ◌==◌, List, [], ◌∷◌, ◌++◌, take, refl, sym, ap, subst, ◌∙◌, Option, Some, None, append_assoc}
-use Rattle.co_object.specs.declared.LockUse.{LockUse}
-use Rattle.co_object.specs.declared.LockUse.TheVariants.{Free, Mtx, Rw, RwShared}
-use Rattle.co_object.specs.declared.state.Arming.{Arming}
-use Rattle.co_object.specs.declared.state.Run.{Run as RunState}
-use Rattle.co_object.specs.declared.state.Run.TheVariants.{Idle, Picked, Cancelled, Running}
-use Rattle.co_object.specs.declared.Spec.{Spec}
-use Rattle.co_object.specs.declared.State.{State}
+use Rattle.std.proofs.Common.{◌≡◌, ℕ, inl, inr, Bool, true, false, cond, List, [], ◌∷◌, ◌++◌, take, refl, sym, ap, subst, ◌∙◌, Option, Some, None, append_assoc}
 use Rattle.co_object.specs.declared.Next.{Next}
 use Rattle.co_object.specs.declared.Note.{Note}
-use Rattle.co_object.specs.declared.Place.{Place}
-use Rattle.co_object.specs.declared.Place.TheVariants as place
-use Rattle.co_object.specs.declared.AnyEntry.{AnyEntry}
-use Rattle.co_object.specs.declared.AnyEntry.TheVariants as entry
-use Rattle.co_object.specs.declared.Entry.{Entry}
-use Rattle.co_object.specs.declared.QEntry.{QEntry}
 use Rattle.co_object.specs.declared.Op.TheVariants.{Run}
-use Rattle.co_object.specs.declared.RunOp.{RunOp}
 use Rattle.co_object.specs.declared.RunOp.TheVariants.{Pick, Begin, End}
-use Rattle.co_object.specs.declared.QOp.{QOp}
 use Rattle.co_object.specs.declared.QOp.TheVariants.{Insert}
 use Rattle.co_object.specs.declared.QReply.{QReply}
-use Rattle.co_object.specs.declared.QReply.TheVariants.{Got, Empty, Freed}
+use Rattle.co_object.specs.declared.QReply.TheVariants.{Got, Freed}
 use Rattle.co_object.specs.declared.Reply.{Reply}
-use Rattle.co_object.specs.declared.Reply.TheVariants.{Go, Hold, Skip, Ended}
-use Rattle.co_object.specs.Callout.{step}
+use Rattle.co_object.specs.declared.Reply.TheVariants.{Go, Hold, Ended}
 use Rattle.co_object.specs.Group.{placed}
-use Rattle.co_object.specs.History.{state}
-use Rattle.co_object.specs.Journal as journal
-use Rattle.co_object.specs.Queue.{Queue, Due}
-use Rattle.co_object.specs.Serve.{pick_armed, taken, go, is_due, has_lock, begin_run, end_run, ended as over_with}
-use Rattle.co_object.specs.Stand.{is_idle}
+use Rattle.co_object.specs.Serve.{taken}
 use Rattle.co_lock.specs.declared.Held.{Held}
-use Rattle.co_lock.specs.Service.{hold_of}
 use Rattle.co_program.specs.declared.act.Act.{Act}
 use Rattle.co_program.specs.declared.script.Script.{Script}
 use Rattle.co_program.specs.declared.role.Role.{Role}
@@ -46,180 +25,17 @@ use Rattle.co_program.specs.Actors.{role_of, cpu_of, acts_at}
 use Rattle.co_program.specs.Stages.{Stage, Picking, Locking, Beginning, Unlocking, Releasing, Ending, Freeing}
 use Rattle.co_program.specs.Cursor.{Cursor}
 use Rattle.co_program.specs.Action.{Take, Asks, spec_at, firing, draining, locks, action_for, pop_of, free_of}
-use Rattle.co_program.specs.Advance.{advance_callout, advance_queue, advance, picked, begun, drain_acts, popped, freed}
-use Rattle.co_program.specs.Follows.{Histories, FitsCallout, FitsQueue, goes_on, settled, listed_after}
+use Rattle.co_program.specs.Advance.{advance_callout, advance_queue, picked, begun, drain_acts, popped, freed}
+use Rattle.co_program.specs.Follows.{Histories, settled}
 use Rattle.co_program.specs.Groups.{AreActsOf, serves, turns, IsRun, at_once, under_lock, skipped, IsSent, IsRoundOf}
 use Rattle.co_program.specs.Runs.{are_direct}
 use Rattle.co_program.specs.Scripts.{IsScript}
 use Rattle.co_program.proofs.Endings.{AreCalls, some-call, drain-calls}
 use Rattle.co_program.proofs.FunctionActs.{in_act, AreFirst, acts-first, asks-some}
 use Rattle.co_program.proofs.Groups.{inserted-at}
-use Rattle.co_program.proofs.Rests.{IsKnownEntry, KnownAt, IsRest, first, settled-asks, settled-silent, settled-take}
-
--- ---- a queue's turn, and an entry of a service
-
-module _ (s : Script) (H : Histories) (a : ℕ) where
-  pub record IsTurnFirst (d : Cursor) (act cpu : ℕ) (op : QOp) (notes : List Note) : Type 0 where
-    pub note : Note
-    pub rest : List Note
-    pub split : notes ≡ note ∷ rest
-    pub reply : QReply
-    pub at : placed note ≡ turns s H a act cpu op reply
-    pub queue : Queue
-    pub answers : journal.reply_of (journal.step s.buckets (are_direct s) queue op) ≡ Some reply
-    pub later : IsRest s H a (settled s a (advance_queue s d cpu op reply)) rest
-
-  pub turn-first : (d : Cursor) (act cpu : ℕ) (op : QOp) (notes : List Note) → IsRest s H a d notes → action_for s a d ≡ Asks act (IsQueue cpu op) → IsTurnFirst d act cpu op notes
-  turn-first d act cpu op notes rest is =
-      let f = first s H a d notes act (IsQueue cpu op) rest is in
-      by f.note.place f.note.pos f.note.entry f.rest f.split f.fits f.known f.later where
-        by : (p : Place) (pos : ℕ) (x : AnyEntry) (later : List Note) → notes ≡ record { place = p; pos = pos; entry = x } ∷ later →
-            FitsQueue a act cpu op p x → KnownAt s H pos p x → IsRest s H a (settled s a (goes_on s H d (record { place = p; pos = pos; entry = x }))) later → IsTurnFirst d act cpu op notes
-        by (place.Cpu x) pos (entry.Cpu e) later split fits known on = record {
-          note = record { place = place.Cpu x; pos = pos; entry = entry.Cpu e };
-          rest = later;
-          split = split;
-          reply = e.reply;
-          at = ap (λ (k : ℕ). (place.Cpu k, entry.Cpu e)) fits.0 ∙ ap (λ (y : QEntry). (place.Cpu cpu, entry.Cpu y)) fits.1;
-          queue = known.queue;
-          answers = subst (λ (y : QEntry). journal.reply_of (journal.step s.buckets (are_direct s) known.queue y.op) ≡ Some e.reply) fits.1 known.answers;
-          later = subst (λ (c : Cursor). IsRest s H a (settled s a c) later) (ap (λ (y : QEntry). advance s d false (place.Cpu x) (entry.Cpu y)) fits.1 ∙ ap (λ (k : ℕ). advance_queue s d k op e.reply) fits.0) on;
-        }
-        by p pos x later split fits known on = absurd fits
-
-  pub record IsServeFirst (d : Cursor) (v : Service) (op : RunOp) (notes : List Note) : Type 0 where
-    pub note : Note
-    pub rest : List Note
-    pub split : notes ≡ note ∷ rest
-    pub reply : Reply
-    pub at : placed note ≡ serves s H a v op reply
-    pub before : State
-    pub after : State
-    pub answers : step (spec_at s v.i) before (Run op) ≡ Some (after, reply)
-    pub listed : Bool
-    pub later : IsRest s H a (settled s a (advance_callout s (record d { removed = None }) v.i listed (Run op) reply d.stage)) rest
-
-  pub serve-first : (d : Cursor) (v : Service) (op : RunOp) (notes : List Note) → IsRest s H a d notes → action_for s a d ≡ Asks v.act (Callout v.i (Run op)) → IsServeFirst d v op notes
-  serve-first d v op notes rest is =
-      let f = first s H a d notes v.act (Callout v.i (Run op)) rest is in
-      by f.note.place f.note.pos f.note.entry f.rest f.split f.fits f.known f.later where
-        by : (p : Place) (pos : ℕ) (x : AnyEntry) (later : List Note) → notes ≡ record { place = p; pos = pos; entry = x } ∷ later →
-            FitsCallout a v.act v.i (Run op) d.removed p x → KnownAt s H pos p x → IsRest s H a (settled s a (goes_on s H d (record { place = p; pos = pos; entry = x }))) later → IsServeFirst d v op notes
-        by (place.Timer j) pos (entry.Timer e) later split fits known on =
-            let same : record { place = place.Timer j; pos = pos; entry = entry.Timer e } ≡ record { place = place.Timer v.i; pos = pos; entry = entry.Timer (record { actor = a; act = v.act; op = Run op; reply = e.reply }) } =
-            ap (λ (k : ℕ). record { place = place.Timer k; pos = pos; entry = entry.Timer e }) fits.0 ∙ ap (λ (y : Entry). record { place = place.Timer v.i; pos = pos; entry = entry.Timer y }) fits.1 in
-            let here : IsKnownEntry s H v.i pos e = subst (λ (k : ℕ). IsKnownEntry s H k pos e) fits.0 known in
-            record {
-              note = record { place = place.Timer j; pos = pos; entry = entry.Timer e };
-              rest = later;
-              split = split;
-              reply = e.reply;
-              at = ap placed same;
-              before = here.before;
-              after = state (spec_at s v.i) (take (pos + 1) (H.timers v.i));
-              answers = sym (ap (step (spec_at s v.i) here.before) (ap (λ (y : Entry). y.op) fits.1)) ∙ here.answers;
-              listed = listed_after s H (place.Timer v.i) pos;
-              later = subst (λ (n : Note). IsRest s H a (settled s a (goes_on s H d n)) later) same on;
-            }
-        by p pos x later split fits known on = absurd fits
-
--- ---- what the services answer
-
-none-some : {X : Type 0} (x : X) → None ≡ Some x → ⊥
-none-some x h = cc
-
-some-is : {X : Type 0} {x y : X} → Some x ≡ Some y → x ≡ y
-some-is h = cc
-
--- a function, or a lock that is waited for
-abbrev Picks : Spec → Reply → Type 0
-Picks spec r = ((func : ℕ) × (arg : ℕ) × (r ≡ Go func arg)) ⊎ ((r ≡ Hold) × ((held : Held) × (hold_of spec.lock ≡ Some held)))
-
-pick-replies : (spec : Spec) (t : State) (o : Option Arming) (n cpu at : ℕ) (after : State) (reply : Reply) → pick_armed spec t o n cpu at ≡ Some (after, reply) → Picks spec reply
-pick-replies spec t None n cpu at after reply h = absurd (none-some {X = State × Reply} (after, reply) h)
-pick-replies spec t (Some m) n cpu at after reply h = at_test (is_due m n cpu at && is_idle t.run) h where
-  at_lock : (lock : LockUse) → (cond (has_lock lock) (record t { armed = None; run = Picked m }, Hold) (go (record t { armed = None }) m)).1 ≡ reply →
-      ((func : ℕ) × (arg : ℕ) × (reply ≡ Go func arg)) ⊎ ((reply ≡ Hold) × ((held : Held) × (hold_of lock ≡ Some held)))
-  at_lock Free g = inl (m.func, m.arg, sym g)
-  at_lock (Mtx id) g = inr (sym g, (record { id = id; exclusive = true }, refl))
-  at_lock (Rw id) g = inr (sym g, (record { id = id; exclusive = true }, refl))
-  at_lock (RwShared id) g = inr (sym g, (record { id = id; exclusive = false }, refl))
-
-  at_test : (b : Bool) → cond b (Some (taken spec t m)) None ≡ Some (after, reply) → Picks spec reply
-  at_test true g = at_lock spec.lock (ap (λ (x : State × Reply). x.1) (some-is g))
-  at_test false g = absurd (none-some {X = State × Reply} (after, reply) g)
-
-abbrev Begins : Reply → Type 0
-Begins r = ((func : ℕ) × (arg : ℕ) × (r ≡ Go func arg)) ⊎ (r ≡ Skip)
-
-begin-replies : (t : State) (r : RunState) (n cpu : ℕ) (after : State) (reply : Reply) → begin_run t r n cpu ≡ Some (after, reply) → Begins reply
-begin-replies t Idle n cpu after reply h = absurd (none-some {X = State × Reply} (after, reply) h)
-begin-replies t (Running m at) n cpu after reply h = absurd (none-some {X = State × Reply} (after, reply) h)
-begin-replies t (Picked m) n cpu after reply h = at_test (m.n == n && m.cpu == cpu) h where
-  at_test : (b : Bool) → cond b (Some (go t m)) None ≡ Some (after, reply) → Begins reply
-  at_test true g = inl (m.func, m.arg, sym (ap (λ (x : State × Reply). x.1) (some-is g)))
-  at_test false g = absurd (none-some {X = State × Reply} (after, reply) g)
-begin-replies t (Cancelled m at) n cpu after reply h = at_test (m == n && at == cpu) h where
-  at_test : (b : Bool) → cond {A = Option (State × Reply)} b (Some (t, Skip)) None ≡ Some (after, reply) → Begins reply
-  at_test true g = inr (sym (ap (λ (x : State × Reply). x.1) (some-is g)))
-  at_test false g = absurd (none-some {X = State × Reply} (after, reply) g)
-
-abbrev Ends : Reply → Type 0
-Ends r = (drain : Option ℕ) × (next : Option Next) × (woke : Bool) × (r ≡ Ended drain next woke)
-
-end-replies : (t : State) (r : RunState) (n cpu : ℕ) (after : State) (reply : Reply) → end_run t r n cpu ≡ Some (after, reply) → Ends reply
-end-replies t Idle n cpu after reply h = absurd (none-some {X = State × Reply} (after, reply) h)
-end-replies t (Picked m) n cpu after reply h = absurd (none-some {X = State × Reply} (after, reply) h)
-end-replies t (Cancelled m at) n cpu after reply h = at_test (m == n && at == cpu) h where
-  at_test : (b : Bool) → cond b (Some (over_with t cpu)) None ≡ Some (after, reply) → Ends reply
-  at_test true g = (_, _, _, sym (ap (λ (x : State × Reply). x.1) (some-is g)))
-  at_test false g = absurd (none-some {X = State × Reply} (after, reply) g)
-end-replies t (Running m at) n cpu after reply h = at_test (m == n && at == cpu) h where
-  at_test : (b : Bool) → cond b (Some (over_with t cpu)) None ≡ Some (after, reply) → Ends reply
-  at_test true g = (_, _, _, sym (ap (λ (x : State × Reply). x.1) (some-is g)))
-  at_test false g = absurd (none-some {X = State × Reply} (after, reply) g)
-
--- nothing, or an arming
-abbrev pub Pops : QReply → Type 0
-Pops r = (r ≡ Empty) ⊎ ((i : ℕ) × (n : ℕ) × (at : ℕ) × (r ≡ Got i n at))
-
-pub pop-replies : (m : ℕ) (direct : List Bool) (role : Role) (q : Queue) (r : QReply) → journal.reply_of (journal.step m direct q (pop_of role)) ≡ Some r → Pops r
-pop-replies m direct role q r h = at_role role h where
-  soft : (ds : List Due) → journal.reply_of (Some (journal.pop_first q ds)) ≡ Some r → Pops r
-  soft [] g = inl (sym (some-is g))
-  soft (d ∷ ds) g = inr (d.i, d.n, q.last, sym (some-is g))
-
-  hard : (ds : List Due) → journal.reply_of (Some (journal.pop_urgent q ds)) ≡ Some r → Pops r
-  hard [] g = inl (sym (some-is g))
-  hard (d ∷ ds) g = inr (d.i, d.n, q.last, sym (some-is g))
-
-  plain : (o : Option Due) → journal.reply_of (journal.pop_unless q o) ≡ Some r → Pops r
-  plain None g = soft q.expired g
-  plain (Some d) g = absurd (none-some r g)
-
-  urgent : (o : Option Due) → journal.reply_of (journal.pop_direct_unless q o) ≡ Some r → Pops r
-  urgent None g = hard q.urgent g
-  urgent (Some d) g = absurd (none-some r g)
-
-  at_role : (role : Role) → journal.reply_of (journal.step m direct q (pop_of role)) ≡ Some r → Pops r
-  at_role (Client c) g = plain q.serving g
-  at_role (Cpu x) g = plain q.serving g
-  at_role (Interrupt x) g = urgent q.directing g
-
-free-replies : (m : ℕ) (direct : List Bool) (role : Role) (q : Queue) (r : QReply) → journal.reply_of (journal.step m direct q (free_of role)) ≡ Some r → r ≡ Freed
-free-replies m direct role q r h = at_role role h where
-  plain : (o : Option Due) → journal.reply_of (journal.free_if q o) ≡ Some r → r ≡ Freed
-  plain None g = absurd (none-some r g)
-  plain (Some d) g = sym (some-is g)
-
-  urgent : (o : Option Due) → journal.reply_of (journal.free_direct_if q o) ≡ Some r → r ≡ Freed
-  urgent None g = absurd (none-some r g)
-  urgent (Some d) g = sym (some-is g)
-
-  at_role : (role : Role) → journal.reply_of (journal.step m direct q (free_of role)) ≡ Some r → r ≡ Freed
-  at_role (Client c) g = plain q.serving g
-  at_role (Cpu x) g = plain q.serving g
-  at_role (Interrupt x) g = urgent q.directing g
+use Rattle.co_program.proofs.Rests.{IsRest, first, settled-asks, settled-silent, settled-take}
+use Rattle.co_program.proofs.NextNotes.{IsTurnFirst, turn-first, IsServeFirst, serve-first}
+use Rattle.co_program.proofs.ServiceReplies.{Picks, pick-replies, Begins, begin-replies, end-replies, free-replies}
 
 after-pop : (s : Script) (d : Cursor) (cpu : ℕ) (role : Role) (reply : QReply) → advance_queue s d cpu (pop_of role) reply ≡ popped d reply d.stage
 after-pop s d cpu (Client c) reply = refl

@@ -10,7 +10,7 @@ use Rattle.co_text.specs.Taking.{Read, next, ended}
 use Rattle.co_text.specs.declared.Cause.{Cause}
 use Rattle.co_text.specs.declared.Cause.TheVariants.{Form}
 use Rattle.co_report.proofs.PartSplits.{IsPart, AreParts, is_mark}
-use Rattle.co_script.proofs.FormsTold.{bind-ok, unless-ok, cond-ok}
+use Rattle.co_script.proofs.told.Steps.{bind-ok, unless-ok, cond-ok}
 use Rattle.co_report.specs.NoteForms.{Reader, nothing, both, literal, after, made, choice, one_of, whole, such}
 
 pub same_word : (w v : Word) → is_word w v ≡ true → w ≡ v

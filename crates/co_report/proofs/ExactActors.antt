@@ -16,7 +16,7 @@ use Rattle.co_program.specs.declared.Script.{Script}
 use Rattle.co_program.specs.declared.Role.TheVariants.{Client, Cpu, Interrupt}
 use Rattle.co_program.specs.Actors.{actor_count, role_of}
 use Rattle.co_grammar.specs.Spelling.{role_word, actor_word}
-use Rattle.co_script.proofs.FormsTold.{bind-ok, unless-ok, cond-ok}
+use Rattle.co_script.proofs.told.Steps.{bind-ok, unless-ok, cond-ok}
 use Rattle.co_report.specs.declared.reading.values.Maker.{Maker}
 use Rattle.co_report.specs.NoteValues.{names_of, IsSmall, below, lettered, actor_in, is_slash, maker, maker_is}
 use Rattle.co_report.specs.NoteFits.{IsActor, IsLong, MakerFits}

@@ -17,7 +17,7 @@ use Rattle.co_text.specs.declared.Cause.{Cause}
 use Rattle.co_text.specs.declared.Cause.TheVariants.{Form}
 use Rattle.co_report.proofs.PartSplits.{IsPart, is_mark, part_of}
 use Rattle.co_text.proofs.ValuesBack.{number-back, decimal-word, signed-word}
-use Rattle.co_script.proofs.FormsTold.{bind-ok, unless-ok, cond-ok}
+use Rattle.co_script.proofs.told.Steps.{bind-ok, unless-ok, cond-ok}
 use Rattle.co_report.specs.NoteTexts.{arming_word, truth_word, word_or_dash}
 use Rattle.co_report.specs.NoteValues.{is_shortest, below, lettered, count64, count32, time_in_units, arming, given, or_dash, truth, negative, code, own_kind}
 use Rattle.co_report.specs.NoteFits.{IsTime, IsLong, IsCode}

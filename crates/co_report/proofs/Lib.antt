@@ -18,6 +18,10 @@ pub mod PartSplits
 pub mod Exact
 pub mod ExactValues
 pub mod ExactActors
+pub mod ExactNames
+pub mod ExactOperations
+pub mod ExactReplies
+pub mod ExactAnswers
 pub mod ExactNotes
 pub mod LinesWhole
 pub mod PlacesAdded

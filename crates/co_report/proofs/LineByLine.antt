@@ -10,7 +10,7 @@ use Rattle.co_text.specs.Fallible.{◌>>=◌, unless, some_or, Refusal, at_line}
 use Rattle.co_text.specs.Lines.{Line, lines_of}
 use Rattle.co_text.specs.declared.cause.Cause.{Cause}
 use Rattle.co_text.specs.declared.cause.Cause.TheVariants as cause
-use Rattle.co_script.proofs.FormsTold.{bind-ok, cond-ok}
+use Rattle.co_script.proofs.told.Steps.{bind-ok, cond-ok}
 use Rattle.co_report.specs.declared.line.Line.{Line as NoteLine}
 use Rattle.co_report.specs.Histories.{Shown}
 use Rattle.co_report.specs.NoteValues.{names_of, IsSmall}

@@ -9,7 +9,7 @@ use Rattle.co_text.specs.Values.{Word}
 use Rattle.co_text.specs.declared.cause.Cause.{Cause}
 use Rattle.co_grammar.specs.Spelling.{actor_word}
 use Rattle.co_script.specs.Fits.{fits}
-use Rattle.co_script.proofs.PartsBack.{fitting}
+use Rattle.co_script.proofs.parts.Fitting.{fitting}
 use Rattle.co_report.specs.Histories.{Shown}
 use Rattle.co_report.specs.Reports.{shown_words}
 use Rattle.co_report.specs.NoteTexts.{entry_actor, entry_act, entry_words}

@@ -11,7 +11,7 @@ use Rattle.co_text.specs.declared.cause.Cause.{Cause}
 use Rattle.co_text.specs.declared.cause.Cause.TheVariants as cause
 use Rattle.co_script.specs.Reading.{script_of}
 use Rattle.co_script.specs.Canonical.{canonical}
-use Rattle.co_script.proofs.FormsTold.{bind-ok, cond-ok}
+use Rattle.co_script.proofs.told.Steps.{bind-ok, cond-ok}
 use Rattle.co_report.specs.declared.line.Line.{Line as NoteLine}
 use Rattle.co_report.specs.declared.line.Report.{Report}
 use Rattle.co_report.specs.NoteValues.{names_of}

@@ -25,7 +25,7 @@ use Rattle.co_script.specs.Drafts.{Draft}
 use Rattle.co_script.specs.Reading.{script_of, lines_script, lines_read, line_read, line_of_words, line_after, opener_by, may_stand, opened_line, text_end}
 use Rattle.co_script.specs.Canonical.{canonical, canonical_lines}
 use Rattle.co_script.specs.Fits.{fits}
-use Rattle.co_script.proofs.FormsTold.{bind-ok, unless-ok}
+use Rattle.co_script.proofs.told.Steps.{bind-ok, unless-ok}
 use Rattle.co_script.proofs.CanonicalBack.{reads-back}
 use Rattle.co_grammar.specs.Keywords.{kind_of, old_verb_of, is_section}
 use Rattle.co_grammar.specs.declared.Verb.{Verb}

@@ -2,12 +2,11 @@
 use Rattle.std.proofs.Common.{◌≡◌, ℕ, zero, suc, ◌^◌, ◌<◌, ◌≤◌, Bool, true, false, not, ◌&&◌, ◌||◌, List, [], ◌∷◌, length, refl, ◌∙◌, arith, inl, inr, lit≤}
 use Rattle.std.specs.Prelude.{◌==◌, nat_lt, nat_le, slice_index_or, ◌⊎◌}
 use Rattle.std.specs.List.{list_all, list_any, AllByRecursion}
-use Rattle.std.proofs.lemmas.Bool.{ltb-true, leb-true, eqb-true}
+use Rattle.std.proofs.lemmas.Bool.{and_from, ltb-true, leb-true, eqb-true}
 use Rattle.co_object.specs.declared.Spec.{Spec}
 use Rattle.co_object.specs.declared.LockUse.{LockUse}
 use Rattle.co_object.specs.declared.LockUse.TheVariants.{Free, Mtx, Rw, RwShared}
 use Rattle.co_object.proofs.Changes.{both_true}
-use Rattle.co_script.proofs.DraftsFit.{both-true}
 use Rattle.co_program.specs.declared.Script.{Script}
 use Rattle.co_program.specs.declared.Act.{Act}
 use Rattle.co_program.specs.declared.Act.TheVariants as act
@@ -156,8 +155,8 @@ names-of s k (act.Now t) h = refl
 names-of s k (act.Lock l) h = refl
 names-of s k (act.ReadLock l) h = refl
 names-of s k act.Unlock h = refl
-names-of s k (act.Reset w m f x c p) h = let both = both_true (who_exists s w) (call_fits (length s.funcs) f x && cpu_exists s c) h.fits in both-true (who_exists s w) (cpu_exists s c) both.0 ((both_true (call_fits (length s.funcs) f x) (cpu_exists s c) both.1).1)
-names-of s j (act.Ticks w k f x c) h = let both = both_true (who_exists s w) (is_i32 k && (call_fits (length s.funcs) f x && cpu_exists s c)) h.fits in let more = both_true (is_i32 k) (call_fits (length s.funcs) f x && cpu_exists s c) both.1 in both-true (who_exists s w) (cpu_exists s c) both.0 ((both_true (call_fits (length s.funcs) f x) (cpu_exists s c) more.1).1)
+names-of s k (act.Reset w m f x c p) h = let both = both_true (who_exists s w) (call_fits (length s.funcs) f x && cpu_exists s c) h.fits in and_from (who_exists s w) (cpu_exists s c) both.0 ((both_true (call_fits (length s.funcs) f x) (cpu_exists s c) both.1).1)
+names-of s j (act.Ticks w k f x c) h = let both = both_true (who_exists s w) (is_i32 k && (call_fits (length s.funcs) f x && cpu_exists s c)) h.fits in let more = both_true (is_i32 k) (call_fits (length s.funcs) f x && cpu_exists s c) both.1 in and_from (who_exists s w) (cpu_exists s c) both.0 ((both_true (call_fits (length s.funcs) f x) (cpu_exists s c) more.1).1)
 names-of s k (act.Schedule w m c p) h = h.fits
 names-of s k (act.Stop w) h = h.fits
 names-of s k (act.Drain i) h = h.fits

@@ -23,11 +23,16 @@ use Rattle.co_script.specs.Reading.{lines_read, text_end, lines_script, script_o
 use Rattle.co_script.specs.Canonical.{each_from, section_lines, runs, run_words, canonical_lines, canonical}
 use Rattle.co_script.specs.Fits.{fits}
 use Rattle.co_script.proofs.Pads.{padded-whole}
-use Rattle.co_script.proofs.DraftsFit.{acts_in}
+use Rattle.co_script.proofs.drafts.Firm.{acts_in}
 use Rattle.co_script.proofs.ReadFits.{timers-closed}
 use Rattle.co_script.proofs.LinesFold.{version-read}
 use Rattle.co_script.proofs.Leads.{Leads, and-then, at-most}
-use Rattle.co_script.proofs.PartsBack.{Fitting, fitting, After, headed, locked, timed, with_funcs, with_clients, with_ticks, head_behind, section_size, letters, head-leads, locks-lead, timers-lead, funcs-lead, clients-lead, ticks-lead}
+use Rattle.co_script.proofs.parts.Fitting.{Fitting, fitting}
+use Rattle.co_script.proofs.parts.After.{After, headed, locked, timed, with_funcs, with_clients, with_ticks, letters}
+use Rattle.co_script.proofs.parts.Heads.{head_behind, head-leads}
+use Rattle.co_script.proofs.parts.Sections.{section_size, funcs-lead, clients-lead, ticks-lead}
+use Rattle.co_script.proofs.parts.Locks.{locks-lead}
+use Rattle.co_script.proofs.parts.Timers.{timers-lead}
 use Rattle.co_script.proofs.TurnsBack.{runs-few, runs-back, are-runs, steps_in, turns-lead}
 
 -- ---- how long the parts are

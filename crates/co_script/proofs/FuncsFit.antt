@@ -14,7 +14,7 @@ use Rattle.co_grammar.specs.Keywords.{is_func, may_act, verb_of_act}
 use Rattle.co_grammar.specs.Checks.{act_fits, act_kind_fits, call_fits, is_i32}
 use Rattle.co_script.specs.Refusals.{most_acts}
 use Rattle.co_script.specs.Fits.{fits, is_of_version, act_names_me, has_times, rises_after, act_stands, section_fits}
-use Rattle.co_script.proofs.PartsBack.{Fitting, fitting}
+use Rattle.co_script.proofs.parts.Fitting.{Fitting, fitting}
 use Rattle.co_program.specs.Names.{IsFunc, ActNamesFunc, ActsNameFuncs, FuncsExist}
 
 module _ (s : Script) where

@@ -30,7 +30,7 @@ use Rattle.co_script.specs.Refusals.{draft_with, most_acts}
 use Rattle.co_script.specs.Reading.{opener_of, may_stand}
 use Rattle.co_script.specs.Canonical.{section_lines}
 use Rattle.co_script.specs.Fits.{is_of_version, names_me, act_names_me, is_time, is_moment, has_times, rises_after, act_stands, section_fits}
-use Rattle.co_script.proofs.DraftsFit.{named_by, fits-named, kind-named}
+use Rattle.co_script.proofs.drafts.Named.{named_by, fits-named, kind-named}
 use Rattle.co_script.proofs.LinesFold.{Passes, MayAdd, with_act, act-read, frame-read}
 use Rattle.co_script.proofs.Leads.{Leads, no-lines, one-more, at-most}
 

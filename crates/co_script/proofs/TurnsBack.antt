@@ -28,7 +28,8 @@ use Rattle.co_script.specs.Refusals.{actor_number, below, times_of, number_or_0,
 use Rattle.co_script.specs.Canonical.{Run, runs, run_before, begins_with, run_words}
 use Rattle.co_script.proofs.LinesFold.{frame-read, opens-anywhere, no-verb}
 use Rattle.co_script.proofs.Leads.{Leads, no-lines, one-more, at-most}
-use Rattle.co_script.proofs.PartsBack.{Fitting, After, version-after, may-stand, letters}
+use Rattle.co_script.proofs.parts.Fitting.{Fitting}
+use Rattle.co_script.proofs.parts.After.{After, version-after, may-stand, letters}
 
 -- ---- the runs are the turns
 

@@ -1,6 +1,7 @@
 -- What every step keeps of the world, between two steps and in the middle of one.
 pub mod Invariant
 pub mod Operations
+pub mod Servers
 pub mod Stages
 pub mod Lanes
 pub mod Services
@@ -10,7 +11,9 @@ pub mod Passages
 pub mod ByOwnSteps
 pub mod ByCalls
 pub mod ByServices
-pub mod ByQueues
+pub mod QueueNotes
+pub mod ByInserts
+pub mod ByPops
 pub mod ByAnswers
 pub mod AfterAnswers
 pub mod SectionEnds

@@ -36,7 +36,8 @@ use Rattle.co_world.specs.Placed.{IsPlaced, slot_of}
 use Rattle.co_core.specs.Acting.{IsDue}
 use Rattle.co_core.specs.Stands.{StandsFor, IsAtWheel, IsBag, IsPacked, IsStored, IsWritten, alone_of, at_home}
 use Rattle.co_world.proofs.basics.Actions.{IsAction, IsActionWith, inserts, goes_by, scans, starts, pops, frees}
-use Rattle.co_core.proofs.calls.Section.{some_is, answered_so, quiet_slots, all_slots}
+use Rattle.co_core.proofs.tables.Options.{some_is}
+use Rattle.co_core.proofs.stored.Slots.{answered_so, quiet_slots, all_slots}
 use Rattle.co_world.proofs.kept.Listed.{off_listed}
 use Rattle.co_world.proofs.kept.ByOwnSteps.{view_of}
 use Rattle.co_world.proofs.kept.Invariant.{IsBetween, states_of, queues_of, places_of}

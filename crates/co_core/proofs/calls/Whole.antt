@@ -31,7 +31,11 @@ use Rattle.co_core.specs.Written.{Written, place_at}
 use Rattle.co_world.specs.Placed.{callout_in}
 use Rattle.co_core.specs.Acting.{IsDue}
 use Rattle.co_core.specs.Stands.{StandsFor, IsBag, IsWritten}
-use Rattle.co_core.proofs.calls.Section.{is_at_wheel, answer_reply, removed_world, IsDone, call_done, Tail, ends_there, one_more}
+use Rattle.co_core.proofs.calls.Wheels.{is_at_wheel}
+use Rattle.co_core.proofs.calls.Calling.{Calling, answer_reply}
+use Rattle.co_core.proofs.calls.Entered.{removed_world}
+use Rattle.co_core.proofs.calls.Outcomes.{IsDone, Tail, ends_there, one_more}
+use Rattle.co_core.proofs.calls.Section.{call_done}
 use Rattle.co_world.proofs.kept.Invariant.{states_of, places_of}
 use Rattle.co_world.proofs.kept.ByOwnSteps.{callout_view}
 use Rattle.co_world.proofs.names.Calls.{cursor_names, names_of, Names}
@@ -79,6 +83,9 @@ module _ (s : Script) (ok : IsScript s) (books : Written) (depot : Stored) (w : 
   stand_is : stands_of w i ≡ cpu
   stand_is = sym (read depot.stands (length s.timers) (stands_of w) i 0 stands.stored.each_stand known') ∙ sym is_cpu
 
+  calling : Calling s depot w a act i cpu op
+  calling = record { ok = ok; stored = stands.stored; placed = stands.placed; may = due.may; due = due.due; still = still'; known = known'; names = named'; stand = stand_is }
+
   pub cpu_below : cpu < s.cpus
   cpu_below = subst (λ (y : ℕ). y < s.cpus) stand_is (stands.placed.settled i known').stand
 
@@ -99,7 +106,7 @@ module _ (s : Script) (ok : IsScript s) (books : Written) (depot : Stored) (w : 
 
   module _ (reply : Reply) (gone listed : Bool) (at : Option ℕ) (out : Option Travelling) (after : WheelOf) (wheeled0 : Wheeled reply gone listed at out after) where
     reply_same : reply ≡ r
-    reply_same = answer_reply s ok depot w stands.stored stands.placed a act i cpu op due.may due.due still' known' named' stand_is reply out after wheeled0.callouts
+    reply_same = answer_reply calling reply out after wheeled0.callouts
 
     wheeled : Wheeled r gone listed at out after
     wheeled = subst (λ (y : Reply). Wheeled y gone listed at out after) reply_same wheeled0
@@ -110,8 +117,8 @@ module _ (s : Script) (ok : IsScript s) (books : Written) (depot : Stored) (w : 
     abbrev w2 : World
     w2 = callout_answers s w1 a act i (Call op) (Some (t, r))
 
-    done : IsDone s ok depot w stands.stored stands.placed a act i cpu op due.may due.due still' known' named' stand_is gone listed at out after wheeled
-    done = call_done s ok depot w stands.stored stands.placed a act i cpu op due.may due.due still' known' named' stand_is gone listed at out after wheeled due
+    done : IsDone calling wheeled
+    done = call_done calling wheeled due
 
     module _ (books1 : Written) (stays1 : gone ≡ false → books1 ≡ books) (written1 : (queue : TimerQueue) → gone ≡ true → (v : World) → IsWritten s books v → IsWritten s books1 (queue_answers s v a act cpu (Remove i) (Some (queue, Off)))) where
       first : IsWritten s books1 w1
@@ -120,7 +127,7 @@ module _ (s : Script) (ok : IsScript s) (books : Written) (depot : Stored) (w : 
         go None is =
             subst (λ (o : Option ℕ). IsWritten s books1 (removed_from s w a act i o)) (sym is) (subst (λ (b : Written). IsWritten s b w) (sym (stays1 (wheeled.removed ∙ ap is_some is))) stands.written)
         go (Some y) is =
-            let world = removed_world s ok depot w stands.stored stands.placed a act i cpu op due.may due.due still' known' named' stand_is gone listed at out after wheeled y is in
+            let world = removed_world calling wheeled y is in
             subst (λ (v : World). IsWritten s books1 v) (sym world.1) (written1 world.0 (wheeled.removed ∙ ap is_some is) w stands.written)
 
       pub first_world : (v : World) × IsWritten s books1 v
@@ -139,7 +146,7 @@ module _ (s : Script) (ok : IsScript s) (books : Written) (depot : Stored) (w : 
 
         pub parcel_there : is_some at ≡ true → (p : Parcel) × ((place_at books2 a).parcel ≡ Some p) × (p.cpu < s.cpus)
         parcel_there timed = go done.tail where
-          go : Tail s ok depot w stands.stored stands.placed a act i cpu op due.may due.due still' known' named' stand_is gone listed at out after wheeled → (p : Parcel) × ((place_at books2 a).parcel ≡ Some p) × (p.cpu < s.cpus)
+          go : Tail calling wheeled → (p : Parcel) × ((place_at books2 a).parcel ≡ Some p) × (p.cpu < s.cpus)
           go (ends_there none is) = let clash : true ≡ false = sym timed ∙ ap is_some none in cc
           go (one_more time q2 p is carried below same) = (p, there ∙ carried, below)
 
@@ -147,7 +154,7 @@ module _ (s : Script) (ok : IsScript s) (books : Written) (depot : Stored) (w : 
             (written3 : (queue : TimerQueue) (p : Parcel) (time : ℕ) → at ≡ Some time → (place_at books2 a).parcel ≡ Some p → (v : World) → IsWritten s books2 v → IsWritten s books3 (queue_answers s v a p.act p.cpu (Insert p.i p.n p.due) (Some (queue, At time)))) where
           third : IsWritten s books3 (step s w a)
           third = go done.tail where
-            go : Tail s ok depot w stands.stored stands.placed a act i cpu op due.may due.due still' known' named' stand_is gone listed at out after wheeled → IsWritten s books3 (step s w a)
+            go : Tail calling wheeled → IsWritten s books3 (step s w a)
             go (ends_there none is) = subst (IsWritten s books3) (sym is) (subst (λ (b : Written). IsWritten s b w2) (sym (stays3 none)) second)
             go (one_more time q2 p is carried below same) = subst (IsWritten s books3) (sym same) (written3 q2 p time is (there ∙ carried) w2 second)
 

@@ -45,7 +45,9 @@ use Rattle.co_core.specs.Written.{Written}
 use Rattle.co_world.specs.Placed.{IsPlaced, slot_of, in_slot, callout_in, entry_of}
 use Rattle.co_core.specs.Acting.{IsDue}
 use Rattle.co_core.specs.Stands.{StandsFor, IsAtWheel, IsBag, IsStored, IsWritten, alone_of}
-use Rattle.co_core.proofs.calls.Section.{some_is, goes_as, all_slots}
+use Rattle.co_core.proofs.tables.Options.{some_is}
+use Rattle.co_core.proofs.stored.Worlds.{goes_as}
+use Rattle.co_core.proofs.stored.Slots.{all_slots}
 use Rattle.co_world.proofs.kept.Operations.{Did, did}
 use Rattle.co_world.proofs.kept.Operations as deed
 use Rattle.co_world.proofs.kept.ByOwnSteps.{view_of}

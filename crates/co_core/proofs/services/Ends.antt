@@ -1,17 +1,14 @@
 -- A service is over: its callout stays or leaves for another CPU, and its server is free. What the wheel, the books and the plain world have after it.
-use Rattle.std.proofs.Common.{◌≡◌, ℕ, ◌<◌, ◌⊎◌, inl, inr, Bool, true, false, cond, List, [], ◌∷◌, length, set, refl, sym, ap, ◌∙◌, subst, arith, Option, Some, None, eqb-true, eq-eqb}
-use Rattle.std.specs.Prelude.{◌==◌, ◌&&◌, is_some}
+use Rattle.std.proofs.Common.{◌≡◌, ℕ, ◌<◌, ◌⊎◌, inl, inr, Bool, true, false, cond, List, [], ◌∷◌, length, set, refl, sym, ap, ◌∙◌, subst, arith, Option, Some, None, eq-eqb}
+use Rattle.std.specs.Prelude.{is_some}
 use Rattle.std.proofs.lemmas.List.{set-get_or}
 use Rattle.co_object.specs.declared.Arming.{Arming}
 use Rattle.co_object.specs.declared.State.{State}
 use Rattle.co_object.specs.declared.Next.{Next}
 use Rattle.co_object.specs.declared.Reply.{Reply}
-use Rattle.co_object.specs.declared.Run.{Run}
-use Rattle.co_object.specs.declared.Run.TheVariants as run
 use Rattle.co_object.specs.declared.Op.TheVariants.{Run as Serve}
 use Rattle.co_object.specs.declared.RunOp.TheVariants.{End}
 use Rattle.co_object.specs.declared.QOp.{QOp}
-use Rattle.co_object.specs.declared.QReply.{QReply}
 use Rattle.co_object.specs.declared.QReply.TheVariants.{Freed}
 use Rattle.co_object.specs.declared.Entry.{Entry}
 use Rattle.co_object.specs.declared.AnyEntry.TheVariants as entry
@@ -20,11 +17,10 @@ use Rattle.co_object.specs.Callout.{step as callout_step}
 use Rattle.co_object.specs.Entries.{is_armed}
 use Rattle.co_object.specs.Journal as journal
 use Rattle.co_object.specs.Queue.{Queue as TimerQueue}
-use Rattle.co_object.specs.Serve.{end, end_run, ended, next_of}
+use Rattle.co_object.specs.Serve.{end, ended, next_of}
 use Rattle.co_object.specs.Stand.{off}
 use Rattle.co_object.proofs.QueueChanges.{QChange}
 use Rattle.co_program.specs.declared.role.Role.{Role}
-use Rattle.co_program.specs.declared.role.Role.TheVariants as role
 use Rattle.co_program.specs.declared.cursor.Parcel.{Parcel}
 use Rattle.co_program.specs.declared.cursor.Service.{Service}
 use Rattle.co_program.specs.declared.action.Asked.TheVariants.{Callout, Queue}
@@ -32,8 +28,8 @@ use Rattle.co_program.specs.declared.script.Script.{Script}
 use Rattle.co_program.specs.Actors.{actor_count, role_of, cpu_of}
 use Rattle.co_program.specs.Stages.{Ending, Freeing}
 use Rattle.co_program.specs.Cursor.{Cursor}
-use Rattle.co_program.specs.Action.{Asks, action_for, action_with, spec_at, pop_of, free_of, draining}
-use Rattle.co_program.specs.Advance.{advance, advance_callout, advance_queue, ended as ended_place, freed, parcel_of, drain_acts}
+use Rattle.co_program.specs.Action.{Asks, action_for, action_with, spec_at, free_of, draining}
+use Rattle.co_program.specs.Advance.{advance, advance_callout, advance_queue, ended as ended_place, parcel_of, drain_acts}
 use Rattle.co_program.specs.Scripts.{IsScript}
 use Rattle.co_wheel.specs.Callouts.{Callouts, callout, with_callout, with_service, in_service}
 use Rattle.co_wheel.specs.Cpu.{Cpu as WheelOf}
@@ -48,9 +44,9 @@ use Rattle.co_core.specs.Written.{Written}
 use Rattle.co_world.specs.Placed.{IsPlaced, IsSettled, slot_of, in_slot, callout_in, entry_of}
 use Rattle.co_core.specs.Acting.{IsDue}
 use Rattle.co_core.specs.Stands.{StandsFor, IsAtWheel, IsBag, IsPacked, IsStored, IsWritten, alone_of}
-use Rattle.co_core.proofs.calls.Section.{some_is, answered_so, goes_as}
-use Rattle.co_world.proofs.kept.ByCalls.{off_none}
-use Rattle.co_world.proofs.kept.Listed.{off_listed}
+use Rattle.co_core.proofs.tables.Options.{some_is}
+use Rattle.co_core.proofs.stored.Slots.{answered_so}
+use Rattle.co_core.proofs.stored.Worlds.{goes_as}
 use Rattle.co_world.proofs.kept.ByOwnSteps.{view_of}
 use Rattle.co_world.proofs.kept.Invariant.{FitsRole, IsOver, RunFits, serves_direct, states_of, queues_of, places_of}
 use Rattle.co_world.proofs.basics.Changes.{decide}
@@ -59,7 +55,7 @@ use Rattle.co_world.proofs.kept.Passages.{changed}
 use Rattle.co_core.proofs.services.Picks.{lane_slot, service_here, service_cpu}
 use Rattle.co_core.proofs.stored.Places.{IsRight, placed_after, reached_after}
 use Rattle.co_world.proofs.basics.Roles.{same_role, is_direct_at}
-use Rattle.co_world.proofs.kept.Stages.{IsServer, is_server}
+use Rattle.co_world.proofs.kept.Servers.{IsServer, is_server}
 use Rattle.co_world.proofs.sections.Servers.{free_slot, other_slot}
 use Rattle.co_world.proofs.sections.Slots.{draining_of}
 use Rattle.co_world.proofs.kept.BySteps.{IsSteady}
@@ -67,56 +63,10 @@ use Rattle.co_world.proofs.kept.OneMover.{steady_of}
 use Rattle.co_core.proofs.stored.Sections.{with_state, after_of, stored_after}
 use Rattle.co_core.proofs.tables.Values.{read}
 use Rattle.co_core.proofs.services.Underway.{IsStage, IsBusyAt, end_view, over_busy, cpu_below, cpu_there, known, stand, there, others, elsewhere}
-use Rattle.co_world.proofs.sections.Ways.{Goes, goes_on_from, goes_callout, goes_queue, moves_none, step_free, goes_further, stands_of}
-
--- ---- the lanes
-
-lane_pops : (r : Role) → IsServer r → lane_pop (serves_direct r) ≡ pop_of r
-lane_pops (role.Client k) server = absurd server
-lane_pops (role.Cpu x) server = refl
-lane_pops (role.Interrupt x) server = refl
-
-lane_frees : (r : Role) → IsServer r → lane_free (serves_direct r) ≡ free_of r
-lane_frees (role.Client k) server = absurd server
-lane_frees (role.Cpu x) server = refl
-lane_frees (role.Interrupt x) server = refl
-
-lane_moves_none : (direct : Bool) → moves_none (lane_free direct) ≡ true
-lane_moves_none true = refl
-lane_moves_none false = refl
-
-advance_free : (s : Script) (c : Cursor) (cpu : ℕ) (r : Role) (reply : QReply) → IsServer r → advance_queue s c cpu (free_of r) reply ≡ freed s c c.stage
-advance_free s c cpu (role.Client k) reply server = absurd server
-advance_free s c cpu (role.Cpu x) reply server = refl
-advance_free s c cpu (role.Interrupt x) reply server = refl
-
--- ---- what an end leaves
-
--- what is over may end
-ends_at : (st : State) (r : Run) (n cpu : ℕ) → IsOver r n cpu → end_run st r n cpu ≡ Some (ended st cpu)
-ends_at st run.Idle n cpu over = absurd over
-ends_at st (run.Picked a) n cpu over = absurd over
-ends_at st (run.Cancelled m at) n cpu over = ap (λ (b : Bool). cond (b && at == cpu) (Some (ended st cpu)) None) (eq-eqb m n over.0) ∙ ap (λ (b : Bool). cond b (Some (ended st cpu)) None) (eq-eqb at cpu over.1)
-ends_at st (run.Running m at) n cpu over = ap (λ (b : Bool). cond (b && at == cpu) (Some (ended st cpu)) None) (eq-eqb m n over.0) ∙ ap (λ (b : Bool). cond b (Some (ended st cpu)) None) (eq-eqb at cpu over.1)
-
--- the callout's arming waits for nothing, or was waiting for this end
-data Moves (st : State) (cpu : ℕ) : Type 0 where
-  stays : next_of st.armed cpu ≡ None → ((y : ℕ) → off (ended st cpu).0 ≡ Some y → cpu ≡ y) → Moves st cpu
-  leaves : (arming : Arming) → st.armed ≡ Some arming → next_of st.armed cpu ≡ Some (record { n = arming.n; cpu = arming.cpu; due = arming.due }) → Moves st cpu
-
-moves_so : (st : State) (cpu : ℕ) → Moves st cpu
-moves_so st cpu = go st.armed refl where
-  go : (o : Option Arming) → st.armed ≡ o → Moves st cpu
-  go None is = stays (ap (λ (o : Option Arming). next_of o cpu) is) (λ y e. (let clash : None ≡ Some y = sym (off_none (ended st cpu).0 is) ∙ e in cc))
-  go (Some arming) is = at (arming.cpu == cpu) refl where
-    next_so : next_of st.armed cpu ≡ cond (arming.cpu == cpu) None (Some (record { n = arming.n; cpu = arming.cpu; due = arming.due }))
-    next_so = ap (λ (o : Option Arming). next_of o cpu) is
-
-    at : (b : Bool) → (arming.cpu == cpu) ≡ b → Moves st cpu
-    at true here =
-        stays (next_so ∙ ap (λ (b : Bool). cond b None (Some (record { n = arming.n; cpu = arming.cpu; due = arming.due }))) here)
-        (λ y e. sym (eqb-true arming.cpu cpu here) ∙ some_is arming.cpu y (sym (off_listed (ended st cpu).0 arming is refl) ∙ e))
-    at false here = leaves arming is (next_so ∙ ap (λ (b : Bool). cond b None (Some (record { n = arming.n; cpu = arming.cpu; due = arming.due }))) here)
+use Rattle.co_world.proofs.sections.Ways.{Goes, goes_on_from, goes_callout, goes_queue, step_free, goes_further, stands_of}
+use Rattle.co_core.proofs.services.Lanes.{lane_pops, lane_frees, lane_moves_none}
+use Rattle.co_core.proofs.services.Moves.{ends_at, Moves, stays, leaves, moves_so}
+use Rattle.co_world.proofs.kept.Stages.{free_goes}
 
 -- ---- the section
 
@@ -304,7 +254,7 @@ module _ (s : Script) (ok : IsScript s) (books : Written) (depot : Stored) (w : 
     d2 = record c1 { stage = draining v (drain_acts s st.adrain); parcel = parcel_of v next }
 
     place2 : advance_queue s (places_of w1 a) cpu op Freed ≡ d2
-    place2 = ap (λ (x : Cursor). advance_queue s x cpu op Freed) goes1.places.here ∙ ap (λ (o : QOp). advance_queue s c1 cpu o Freed) lane_op ∙ advance_free s c1 cpu role' Freed server
+    place2 = ap (λ (x : Cursor). advance_queue s x cpu op Freed) goes1.places.here ∙ ap (λ (o : QOp). advance_queue s c1 cpu o Freed) lane_op ∙ free_goes s role' c1 cpu Freed
 
     goes2 : Goes w w2 i cpu a t cpu q1 d2
     goes2 =

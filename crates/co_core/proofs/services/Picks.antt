@@ -50,7 +50,9 @@ use Rattle.co_core.specs.Written.{Written}
 use Rattle.co_world.specs.Placed.{IsPlaced, slot_of, in_slot, callout_in, entry_of}
 use Rattle.co_core.specs.Acting.{IsDue}
 use Rattle.co_core.specs.Stands.{StandsFor, IsAtWheel, IsBag, IsStored, IsWritten, alone_of, at_home}
-use Rattle.co_core.proofs.calls.Section.{some_is, answered_so, goes_as}
+use Rattle.co_core.proofs.tables.Options.{some_is}
+use Rattle.co_core.proofs.stored.Slots.{answered_so}
+use Rattle.co_core.proofs.stored.Worlds.{goes_as}
 use Rattle.co_world.proofs.kept.ByCalls.{off_none}
 use Rattle.co_world.proofs.kept.Operations.{Did, did}
 use Rattle.co_world.proofs.kept.Operations as deed
@@ -63,7 +65,7 @@ use Rattle.co_world.proofs.kept.Passages.{changed}
 use Rattle.co_core.proofs.stored.Places.{IsRight, placed_after, reached_after}
 use Rattle.co_core.proofs.services.Queues.{stands_turned}
 use Rattle.co_world.proofs.basics.Roles.{same_role}
-use Rattle.co_world.proofs.kept.Stages.{IsServer}
+use Rattle.co_world.proofs.kept.Servers.{IsServer}
 use Rattle.co_world.proofs.sections.Servers.{IsPopping, IsPop, pop_view, pop_slot, pop_none, other_slot}
 use Rattle.co_world.proofs.sections.Slots.{firing_of}
 use Rattle.co_world.proofs.kept.OneMover.{steady_of}

@@ -28,7 +28,7 @@ use Rattle.co_world.specs.Placed.{IsPlaced, slot_of, in_slot, callout_in}
 use Rattle.co_core.specs.Acting.{IsDue}
 use Rattle.co_core.specs.Stands.{StandsFor, IsAtWheel, IsStored, IsWritten}
 use Rattle.co_world.proofs.basics.Actions.{IsAction, IsActionWith, inserts, goes_by, scans, starts, pops, frees}
-use Rattle.co_core.proofs.calls.Section.{answered_so, quiet_slots, all_slots}
+use Rattle.co_core.proofs.stored.Slots.{answered_so, quiet_slots, all_slots}
 use Rattle.co_world.proofs.kept.ByOwnSteps.{view_of}
 use Rattle.co_world.proofs.kept.Invariant.{states_of, queues_of, places_of}
 use Rattle.co_world.proofs.basics.Changes.{IsAt}

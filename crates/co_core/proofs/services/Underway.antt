@@ -27,7 +27,7 @@ use Rattle.co_core.specs.Written.{Written}
 use Rattle.co_world.specs.Placed.{callout_in}
 use Rattle.co_core.specs.Stands.{StandsFor, alone_of, at_home}
 use Rattle.co_world.proofs.basics.Actions.{IsAction, IsActionWith, goes_by, opens, ends}
-use Rattle.co_core.proofs.calls.Section.{at_wheel}
+use Rattle.co_core.proofs.calls.Wheels.{at_wheel}
 use Rattle.co_world.proofs.kept.Invariant.{IsTaken, IsOver, LaneFits, HoldFits, places_of, states_of}
 use Rattle.co_world.proofs.sections.Movers.{parcels_of, moving_none, mover}
 use Rattle.co_world.proofs.names.Calls.{role_cpu}

@@ -35,7 +35,7 @@ use Rattle.co_world.proofs.basics.Changes.{decide}
 use Rattle.co_world.proofs.sections.Movers.{mover, moving_none}
 use Rattle.co_world.proofs.kept.BySchedules.{reached_steady}
 use Rattle.co_world.proofs.basics.Roles.{role_interrupt, server_of_lane}
-use Rattle.co_world.proofs.kept.Stages.{IsServer}
+use Rattle.co_world.proofs.kept.Servers.{IsServer}
 use Rattle.co_world.proofs.kept.BySteps.{IsSteady}
 use Rattle.co_core.proofs.tables.Values.{read}
 

@@ -50,7 +50,7 @@ use Rattle.co_world.proofs.schedules.TurnsTold.{turns_tell}
 use Rattle.co_core.proofs.steps.Undue.{list_is}
 use Rattle.co_world.proofs.measure.Walks.{idle_steps_stay}
 use Rattle.co_core.proofs.steps.Standing.{open_whole}
-use Rattle.co_core.proofs.written.Entries.{notes_at, notes_by}
+use Rattle.co_core.proofs.written.Counting.{notes_at, notes_by}
 
 -- ---- one note more
 

@@ -1,14 +1,12 @@
--- What the books show after a note: of a callout, of a queue, or of the actor's own.
-use Rattle.std.proofs.Common.{◌≡◌, ℕ, ◌+◌, ◌<◌, ◌≤◌, ◌⊎◌, inl, inr, Bool, true, false, cond, List, [], ◌∷◌, ◌++◌, length, drop, get_or, set, refl, sym, ap, ◌∙◌, subst, arith, length-append, length-set, eq-eqb, Some, None}
+-- What the books show after a note: of a callout, of a queue, or of the actor's own; and after a step without a note.
+use Rattle.std.proofs.Common.{◌≡◌, ℕ, ◌+◌, ◌<◌, ◌⊎◌, inl, inr, Bool, true, false, List, [], ◌∷◌, ◌++◌, length, drop, get_or, set, refl, sym, ap, ◌∙◌, subst, arith, length-set, eq-eqb, Some, None}
 use Rattle.std.specs.Prelude.{is_some}
-use Rattle.std.proofs.lemmas.List.{drop-append-le, get_or-set_same, get_or-set_other}
-use Rattle.std.proofs.lemmas.List.Elements.{filter-append}
+use Rattle.std.proofs.lemmas.List.{get_or-set_same, get_or-set_other}
 use Rattle.co_object.specs.declared.State.{State}
 use Rattle.co_object.specs.declared.Reply.{Reply}
 use Rattle.co_object.specs.declared.Op.{Op}
 use Rattle.co_object.specs.declared.OwnKind.{OwnKind}
 use Rattle.co_object.specs.declared.QOp.{QOp}
-use Rattle.co_object.specs.declared.QOp.TheVariants.{Insert, Remove, Scan, Pop, Free, PopDirect, FreeDirect}
 use Rattle.co_object.specs.declared.QReply.{QReply}
 use Rattle.co_object.specs.declared.Entry.{Entry}
 use Rattle.co_object.specs.declared.QEntry.{QEntry}
@@ -17,7 +15,7 @@ use Rattle.co_object.specs.declared.Place.TheVariants as place
 use Rattle.co_object.specs.declared.AnyEntry.TheVariants as entry
 use Rattle.co_object.specs.Stand.{off}
 use Rattle.co_object.specs.Entries.{is_armed}
-use Rattle.co_object.specs.Lists.{notes_of, same_place}
+use Rattle.co_object.specs.Lists.{notes_of}
 use Rattle.co_object.specs.Queue.{Queue as TimerQueue}
 use Rattle.co_program.specs.declared.script.Script.{Script}
 use Rattle.co_program.specs.declared.cursor.Cursor.{Cursor as CursorAt}
@@ -27,151 +25,17 @@ use Rattle.co_program.specs.Advance.{advance}
 use Rattle.co_program.specs.Follows.{scan_count, one_scan}
 use Rattle.co_program.specs.Indexed.{IsCounted, Counts, cursor_of}
 use Rattle.co_world.specs.World.{World, Actor, Timer, Cpu, with_cursor}
-use Rattle.co_world.specs.Step.{notes_down, enters, enters_journal, landed, note_of, note_of_cpu, note_of_own, callout_answers, queue_answers, own_note}
-use Rattle.co_core.specs.Table.{table}
-use Rattle.co_core.specs.Written.{Written, IsNoted, place_at, list_at, told_at, with_place, first_place}
+use Rattle.co_world.specs.Step.{notes_down, enters, enters_journal, note_of, note_of_cpu, note_of_own, callout_answers, queue_answers, own_note}
+use Rattle.co_core.specs.Written.{Written, IsNoted, place_at, told_at, with_place, first_place}
 use Rattle.co_core.specs.Stands.{IsWritten, untold}
 use Rattle.co_world.proofs.basics.Updates.{at_updated}
-use Rattle.co_world.proofs.basics.Changes.{IsAt, decide, at_all, at_read, at_updated_is, note_at, place_at as place_at_is}
+use Rattle.co_world.proofs.basics.Changes.{IsAt, decide, at_read, at_updated_is, note_at, place_at as place_at_is}
 use Rattle.co_world.proofs.kept.Invariant.{places_of}
 use Rattle.co_core.proofs.written.Listed.{relisted}
-use Rattle.co_core.proofs.tables.Values.{put, read, same, long}
-
-abbrev pub notes_by : World → ℕ → List Note
-notes_by w a = (w.actors a).notes
-
-abbrev pub own_by : World → ℕ → ℕ
-own_by w a = length (notes_of (place.Actor a) (w.actors a).notes)
-
-abbrev pub entries_of : World → ℕ → ℕ
-entries_of w i = length (w.timers i).history
-
-abbrev pub turns_of : World → ℕ → ℕ
-turns_of w cpu = length (w.cpus cpu).journal
-
-abbrev pub scans_in : World → ℕ → ℕ
-scans_in w cpu = scan_count (w.cpus cpu).journal
-
--- the actor's place and notes after a note
-module _ (s : Script) (w : World) (a : ℕ) (listed : Bool) (note : Note) where
-  new : Actor
-  new = record { cursor = advance s (places_of w a) listed note.place note.entry; notes = notes_by w a ++ note ∷ [] }
-
-  pub notes_at : IsAt (notes_by w) a (notes_by w a ++ note ∷ []) (notes_by (notes_down s w a listed note))
-  unfolding new
-  notes_at = at_read (λ (x : Actor). x.notes) w.actors a new (notes_down s w a listed note).actors (at_updated_is w.actors a new)
-
--- a note that is not of the actor's own
-not_own : (a : ℕ) (notes : List Note) (note : Note) → same_place note.place (place.Actor a) ≡ false → length (notes_of (place.Actor a) (notes ++ note ∷ [])) ≡ length (notes_of (place.Actor a) notes)
-not_own a notes note other =
-    let p : Note → Bool = λ n. same_place n.place (place.Actor a) in
-    let parts : notes_of (place.Actor a) (notes ++ note ∷ []) ≡ notes_of (place.Actor a) notes ++ cond false (note ∷ []) [] = filter-append p notes (note ∷ []) ∙ ap (λ (b : Bool). notes_of (place.Actor a) notes ++ cond b (note ∷ []) []) other in
-    let more = length-append (notes_of (place.Actor a) notes) [] in
-    ap length parts ∙ (omega (arith, more))
-
--- ---- the books after a note, when the counts are right
-
-module _ (s : Script) (x x2 : Written) (w w' : World) (a : ℕ) (listed : Bool) (note : Note) (histories journals scans own : List ℕ)
-    (written : IsWritten s x w) (may : a < actor_count s)
-    (noted : IsNoted s a listed note (record x { histories = histories; journals = journals; scans = scans; own = own }) x2)
-    (places : IsAt (places_of w) a (advance s (places_of w a) listed note.place note.entry) (places_of w')) (notes : IsAt (notes_by w) a (notes_by w a ++ note ∷ []) (notes_by w'))
-    (each_history : histories ≡ table (length s.timers) (entries_of w')) (each_journal : journals ≡ table s.cpus (turns_of w'))
-    (each_scan : scans ≡ table s.cpus (scans_in w')) (each_own : own ≡ table (actor_count s) (own_by w'))
-    (few_entries : (i : ℕ) → entries_of w' i ≤ x.made + 1) (few_turns : (cpu : ℕ) → turns_of w' cpu ≤ x.made + 1) (few_own : (b : ℕ) → own_by w' b ≤ x.made + 1) where
-  abbrev places' : List CursorAt
-  places' = set x.places a noted.to
-
-  abbrev place' : ℕ → CursorAt
-  place' b = get_or places' b first_place
-
-  inside : a < length x.places
-  inside = let l = written.places_long in omega arith
-
-  place_here : place' a ≡ noted.to
-  place_here = get_or-set_same x.places a noted.to first_place inside
-
-  place_else : (b : ℕ) → (b ≡ a → ⊥) → place' b ≡ place_at x b
-  place_else b other = get_or-set_other x.places a b noted.to first_place other
-
-  each_place : (b : ℕ) → b < actor_count s → cursor_of s b (place' b) ≡ places_of w' b
-  each_place b within = go (decide b a) where
-    go : (b ≡ a) ⊎ (b ≡ a → ⊥) → cursor_of s b (place' b) ≡ places_of w' b
-    go (inl same) =
-        subst (λ k. cursor_of s k (place' k) ≡ places_of w' k) (sym same)
-        (ap (cursor_of s a) place_here ∙ noted.place ∙ ap (λ (c : Cursor). advance s c listed note.place note.entry) (written.each_place a may) ∙ sym places.here)
-    go (inr other) = ap (cursor_of s b) (place_else b other) ∙ written.each_place b within ∙ sym (places.else b other)
-
-  counted : (b : ℕ) → b < actor_count s → IsCounted (place' b) (x.made + 1)
-  counted b within = go (decide b a) where
-    go : (b ≡ a) ⊎ (b ≡ a → ⊥) → IsCounted (place' b) (x.made + 1)
-    go (inl same) =
-        let before = written.counted a may in
-        let counts = noted.counts in
-        let after : IsCounted noted.to (x.made + 1) = omega (arith, before, counts) in
-        subst (λ (p : CursorAt). IsCounted p (x.made + 1)) (sym (ap place' same ∙ place_here)) after
-    go (inr other) =
-        let before = written.counted b within in
-        let after : IsCounted (place_at x b) (x.made + 1) = omega (arith, before) in
-        subst (λ (p : CursorAt). IsCounted p (x.made + 1)) (sym (place_else b other)) after
-
-  untold_after : IsAt (untold x w) a (untold x w a ++ note ∷ []) (untold x w')
-  untold_after = record {
-    here = ap (drop (told_at x a)) notes.here ∙ drop-append-le (told_at x a) (notes_by w a) (note ∷ []) (written.few_told a);
-    else = λ b other. ap (drop (told_at x b)) (notes.else b other);
-  }
-
-  each_list : set x.lists a (list_at x a ++ note ∷ []) ≡ table (actor_count s) (untold x w')
-  each_list =
-      ap (λ (l : List Note). set x.lists a (l ++ note ∷ [])) (read x.lists (actor_count s) (untold x w) a [] written.each_list may)
-      ∙ put x.lists (actor_count s) (untold x w) a (untold x w a ++ note ∷ []) (untold x w') written.each_list untold_after
-
-  few_told : (b : ℕ) → told_at x b ≤ length (notes_by w' b)
-  few_told =
-      at_all (λ b (l : List Note). told_at x b ≤ length l) (notes_by w) a (notes_by w a ++ note ∷ []) (notes_by w') notes
-      (let few = written.few_told a in let more = length-append (notes_by w a) (note ∷ []) in omega (arith, few, more)) (λ b other. written.few_told b)
-
-  few_notes : (b : ℕ) → length (notes_by w' b) ≤ x.made + 1
-  few_notes =
-      at_all (λ b (l : List Note). length l ≤ x.made + 1) (notes_by w) a (notes_by w a ++ note ∷ []) (notes_by w') notes
-      (let few = written.few_notes a in let more = length-append (notes_by w a) (note ∷ []) in omega (arith, few, more)) (λ b other. (let few = written.few_notes b in omega (arith, few)))
-
-  pub written_after : IsWritten s x2 w'
-  written_after = subst (λ (y : Written). IsWritten s y w') (sym noted.noted) (record {
-    places_long = length-set x.places a noted.to ∙ written.places_long;
-    each_place = each_place;
-    told_long = written.told_long;
-    each_list = each_list;
-    each_history = each_history;
-    each_journal = each_journal;
-    each_scan = each_scan;
-    each_own = each_own;
-    few_told = few_told;
-    counted = counted;
-    few_entries = few_entries;
-    few_turns = few_turns;
-    few_notes = few_notes;
-    few_own = few_own;
-  })
-
--- ---- each kind of note
-
--- own notes are counted as before, where this one is not the actor's own
-module _ (s : Script) (w w' : World) (a : ℕ) (note : Note) (notes : IsAt (notes_by w) a (notes_by w a ++ note ∷ []) (notes_by w')) (other : same_place note.place (place.Actor a) ≡ false) where
-  own_same : (b : ℕ) → own_by w' b ≡ own_by w b
-  own_same b = go (decide b a) where
-    go : (b ≡ a) ⊎ (b ≡ a → ⊥) → own_by w' b ≡ own_by w b
-    go (inl same) = subst (λ k. own_by w' k ≡ own_by w k) (sym same) (ap (λ (l : List Note). length (notes_of (place.Actor a) l)) notes.here ∙ not_own a (notes_by w a) note other)
-    go (inr else) = ap (λ (l : List Note). length (notes_of (place.Actor b) l)) (notes.else b else)
-
-pub more_by_one : {E : Type 0} (es : List E) (e : E) → length (es ++ e ∷ []) ≡ length es + 1
-more_by_one es e = let l = length-append es (e ∷ []) in omega (arith, l)
-
--- one count rises
-rises : (f : ℕ → ℕ) (i : ℕ) (g : ℕ → ℕ) (m : ℕ) → IsAt f i (f i + 1) g → ((j : ℕ) → f j ≤ m) → (j : ℕ) → g j ≤ m + 1
-rises f i g m at few = at_all (λ j n. n ≤ m + 1) f i (f i + 1) g at (let low = few i in omega arith) (λ j other. (let low = few j in omega arith))
-
-stays_few : (f g : ℕ → ℕ) (m : ℕ) → ((j : ℕ) → g j ≡ f j) → ((j : ℕ) → f j ≤ m) → (j : ℕ) → g j ≤ m + 1
-stays_few f g m same few j = let e = same j in let low = few j in omega arith
+use Rattle.co_core.proofs.tables.Values.{put, read, same}
+use Rattle.co_core.proofs.written.Counting.{notes_by, own_by, entries_of, turns_of, scans_in, notes_at, own_same, more_by_one, rises, stays_few, entries_landed, one_own}
+use Rattle.co_core.proofs.written.After.{written_after}
+use Rattle.co_world.proofs.kept.QueueNotes.{scans_more}
 
 abbrev pub callout_note : (a act i pos : ℕ) → Op → Reply → Note
 callout_note a act i pos op reply = record { place = place.Timer i; pos = pos; entry = entry.Timer (record { actor = a; act = act; op = op; reply = reply }) }
@@ -223,32 +87,6 @@ written_callout s x x2 w a act i pos op o listed written may known is at noted =
 
 abbrev pub queue_note : (a act cpu pos : ℕ) → QOp → QReply → Note
 queue_note a act cpu pos op reply = record { place = place.Cpu cpu; pos = pos; entry = entry.Cpu (record { actor = a; act = act; op = op; reply = reply }) }
-
--- an entry of a queue is none of a callout
-entries_landed : (w : World) (cpu : ℕ) (op : QOp) (j : ℕ) → length ((landed w cpu op) j).history ≡ entries_of w j
-entries_landed w cpu (Insert i n t) j = at_updated (λ k (x : Timer). length x.history ≡ entries_of w k) w.timers i (record (w.timers i) { stand = cpu }) j refl refl
-entries_landed w cpu (Remove i) j = refl
-entries_landed w cpu (Scan now) j = refl
-entries_landed w cpu Pop j = refl
-entries_landed w cpu Free j = refl
-entries_landed w cpu PopDirect j = refl
-entries_landed w cpu FreeDirect j = refl
-
-scans_more : (J : List QEntry) (e : QEntry) → scan_count (J ++ e ∷ []) ≡ scan_count J + one_scan e.op
-scans_more [] e = omega arith
-scans_more (x ∷ J) e = let rest = scans_more J e in omega (arith, rest)
-
-pub scans_few : (J : List QEntry) → scan_count J ≤ length J
-scans_few [] = omega arith
-scans_few (e ∷ J) = let rest = scans_few J in let one = one_few e.op in omega (arith, rest, one) where
-  one_few : (op : QOp) → one_scan op ≤ 1
-  one_few (Insert i n t) = omega arith
-  one_few (Remove i) = omega arith
-  one_few (Scan now) = omega arith
-  one_few Pop = omega arith
-  one_few Free = omega arith
-  one_few PopDirect = omega arith
-  one_few FreeDirect = omega arith
 
 pub written_queue : (s : Script) (x x2 : Written) (w : World) (a act cpu pos scans : ℕ) (op : QOp) (o : TimerQueue × QReply) →
     IsWritten s x w → a < actor_count s → cpu < s.cpus → pos ≡ get_or x.journals cpu 0 → scans ≡ get_or x.scans cpu 0 →
@@ -302,13 +140,6 @@ written_queue s x x2 w a act cpu pos scans op o written may known at at_scans no
 
 abbrev pub own_entry : (a act pos : ℕ) → OwnKind → Note
 own_entry a act pos kind = record { place = place.Actor a; pos = pos; entry = entry.Own (record { actor = a; act = act; kind = kind }) }
-
--- a note that is the actor's own
-one_own : (a : ℕ) (notes : List Note) (note : Note) → same_place note.place (place.Actor a) ≡ true → length (notes_of (place.Actor a) (notes ++ note ∷ [])) ≡ length (notes_of (place.Actor a) notes) + 1
-one_own a notes note own =
-    let p : Note → Bool = λ n. same_place n.place (place.Actor a) in
-    let parts : notes_of (place.Actor a) (notes ++ note ∷ []) ≡ notes_of (place.Actor a) notes ++ cond true (note ∷ []) [] = filter-append p notes (note ∷ []) ∙ ap (λ (b : Bool). notes_of (place.Actor a) notes ++ cond b (note ∷ []) []) own in
-    ap length parts ∙ more_by_one (notes_of (place.Actor a) notes) note
 
 pub written_own : (s : Script) (x x2 : Written) (w : World) (a act pos : ℕ) (kind : OwnKind) →
     IsWritten s x w → a < actor_count s → pos ≡ get_or x.own a 0 →
@@ -383,41 +214,3 @@ written_place s x w a to written may counts = record {
       let after : IsCounted to x.made = omega (arith, before, counts) in
       subst (λ (p : CursorAt). IsCounted p x.made) (sym (ap (λ k. place_at (with_place x a to) k) same ∙ place_here)) after
   counted b within (inr other) = subst (λ (p : CursorAt). IsCounted p x.made) (sym (get_or-set_other x.places a b to first_place other)) (written.counted b within)
-
--- ---- what is there to be read
-
-module _ (s : Script) (x : Written) (w : World) (written : IsWritten s x w) where
-  pub history_there : (i : ℕ) → i < length s.timers → (i < length x.histories) × (get_or x.histories i 0 ≤ x.made)
-  history_there i known =
-      let l = long x.histories (length s.timers) (entries_of w) written.each_history in
-      let e = read x.histories (length s.timers) (entries_of w) i 0 written.each_history known in
-      let few = written.few_entries i in
-      (omega arith, omega arith)
-
-  pub journal_there : (cpu : ℕ) → cpu < s.cpus → (cpu < length x.journals) × (get_or x.journals cpu 0 ≤ x.made)
-  journal_there cpu known =
-      let l = long x.journals s.cpus (turns_of w) written.each_journal in
-      let e = read x.journals s.cpus (turns_of w) cpu 0 written.each_journal known in
-      let few = written.few_turns cpu in
-      (omega arith, omega arith)
-
-  pub scan_there : (cpu : ℕ) → cpu < s.cpus → (cpu < length x.scans) × (get_or x.scans cpu 0 ≤ x.made)
-  scan_there cpu known =
-      let l = long x.scans s.cpus (scans_in w) written.each_scan in
-      let e = read x.scans s.cpus (scans_in w) cpu 0 written.each_scan known in
-      let few = written.few_turns cpu in
-      let fewer = scans_few (w.cpus cpu).journal in
-      (omega arith, omega arith)
-
-  pub own_there : (a : ℕ) → a < actor_count s → (a < length x.own) × (get_or x.own a 0 ≤ x.made)
-  own_there a known =
-      let l = long x.own (actor_count s) (own_by w) written.each_own in
-      let e = read x.own (actor_count s) (own_by w) a 0 written.each_own known in
-      let few = written.few_own a in
-      (omega arith, omega arith)
-
-  pub list_there : (a : ℕ) → a < actor_count s → a < length x.lists
-  list_there a known = let l = long x.lists (actor_count s) (untold x w) written.each_list in omega arith
-
-  pub place_there : (a : ℕ) → a < actor_count s → (a < length x.places) × IsCounted (place_at x a) x.made
-  place_there a known = let l = written.places_long in let counts = written.counted a known in (omega arith, counts)

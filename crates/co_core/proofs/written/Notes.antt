@@ -17,7 +17,7 @@ use Rattle.co_core.specs.InHand.{HasWritten, MayNote, MayWrite, with_hand}
 use Rattle.co_core.specs.Stands.{IsWritten, StandsFor}
 use Rattle.co_core.specs.Stored.{Stored}
 use Rattle.co_core.specs.Written.{Written, IsNoted, first_place, place_at, with_list}
-use Rattle.co_core.proofs.written.Entries.{list_there, place_there}
+use Rattle.co_core.proofs.written.There.{list_there, place_there}
 use Rattle.co_core.proofs.tables.PutBack.{set_twice}
 
 abbrev pub went : Written → ℕ → CursorAt → Written

@@ -32,7 +32,8 @@ use Rattle.co_world.proofs.kept.Invariant.{FitsRole, serves_direct, under_way}
 use Rattle.co_world.proofs.kept.Operations.{Did, did, skips}
 use Rattle.co_world.proofs.kept.Operations as deed
 use Rattle.co_world.proofs.basics.Roles.{is_direct_at}
-use Rattle.co_world.proofs.kept.Stages.{Fits, fits_callout, IsServer, is_server, server_hold}
+use Rattle.co_world.proofs.kept.Stages.{Fits, fits_callout}
+use Rattle.co_world.proofs.kept.Servers.{IsServer, is_server, server_hold}
 use Rattle.co_world.proofs.basics.Updates.{cond_kept}
 use Rattle.co_world.proofs.follows.DueNotes.{due_removed}
 use Rattle.co_world.proofs.follows.Traces.{Trace}

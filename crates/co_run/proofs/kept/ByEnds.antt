@@ -34,7 +34,8 @@ use Rattle.co_world.proofs.basics.Actions.{IsAction, frees}
 use Rattle.co_world.proofs.kept.Invariant.{FitsRole, serves_direct, under_way}
 use Rattle.co_world.proofs.kept.Operations.{Did, did}
 use Rattle.co_world.proofs.kept.Operations as deed
-use Rattle.co_world.proofs.kept.Stages.{Fits, fits_callout, IsServer, is_server, fits_queue, free_goes}
+use Rattle.co_world.proofs.kept.Stages.{Fits, fits_callout, fits_queue, free_goes}
+use Rattle.co_world.proofs.kept.Servers.{IsServer, is_server}
 use Rattle.co_world.proofs.basics.Actions.{frees}
 use Rattle.co_program.specs.Existing.{ActsExist}
 use Rattle.co_wheel.specs.Turns.{free_of as lane_free}

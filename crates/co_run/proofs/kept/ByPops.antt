@@ -40,7 +40,8 @@ use Rattle.co_world.proofs.kept.Invariant.{IsTaskOf, FitsRole, serves_direct}
 use Rattle.co_world.proofs.kept.Operations.{did}
 use Rattle.co_program.specs.Runs.{are_direct}
 use Rattle.co_world.proofs.basics.Roles.{is_direct_at}
-use Rattle.co_world.proofs.kept.Stages.{Fits, fits_queue, fits_callout, first_task, IsServer, is_server, servers_task, pop_goes}
+use Rattle.co_world.proofs.kept.Stages.{Fits, fits_queue, fits_callout, first_task, pop_goes}
+use Rattle.co_world.proofs.kept.Servers.{IsServer, is_server, servers_task}
 use Rattle.co_world.proofs.follows.Traces.{Trace}
 use Rattle.co_service.specs.declared.outs.Taken.{Taken}
 use Rattle.co_service.specs.declared.outs.Taken.TheVariants.{Empty as Nothing, Took}

@@ -23,7 +23,8 @@ use Rattle.co_program.specs.Follows.{one_scan, scan_count}
 use Rattle.co_world.proofs.basics.Actions.{IsAction, drops, passes, grabs, tells, asks, drains, enters, unlocks, releases}
 use Rattle.co_world.proofs.basics.Prefixes.{Begins}
 use Rattle.co_world.proofs.kept.Invariant.{FitsRole, IsTaskOf, under_way}
-use Rattle.co_world.proofs.kept.Stages.{clients_act, first_task}
+use Rattle.co_world.proofs.kept.Servers.{clients_act}
+use Rattle.co_world.proofs.kept.Stages.{first_task}
 use Rattle.co_service.specs.Views.{PassesView, journal_seen}
 use Rattle.co_service.specs.Writes.{Writes, WritesAt}
 use Rattle.co_service.proofs.Items.{index_set}

@@ -12,7 +12,7 @@ use Rattle.co_program.specs.Action.{spec_at}
 use Rattle.co_world.specs.Step.{are_direct}
 use Rattle.co_world.specs.Laws.{actors_of}
 use Rattle.co_world.proofs.kept.Invariant.{serves_direct}
-use Rattle.co_world.proofs.kept.Stages.{IsServer}
+use Rattle.co_world.proofs.kept.Servers.{IsServer}
 
 -- the number of a role's actor
 abbrev pub NumberFits : Script → ℕ → Role → Type 0

@@ -4,7 +4,7 @@ use Rattle.std.proofs.Math.Nat.{suc-mul}
 use Rattle.std.specs.List.{range_with_len, sum_by}
 use Rattle.std.proofs.lemmas.List.Sums.{sum_by-cons}
 use Rattle.co_world.proofs.basics.Changes.{decide}
-use Rattle.co_world.proofs.kept.ByAnswers.{above}
+use Rattle.co_world.proofs.basics.Ranges.{above}
 
 -- the sum of n terms from the k-th on
 abbrev pub total : (ℕ → ℕ) → ℕ → ℕ → ℕ

@@ -25,9 +25,10 @@ use Rattle.co_program.specs.Scripts.{IsScript}
 use Rattle.co_world.specs.World.{World}
 use Rattle.co_world.specs.Step.{notes_down, enters, note_of, note_of_own, callout_answers, own_note}
 use Rattle.co_world.proofs.kept.Invariant.{Holds, FitsRole, states_of, queues_of, places_of, carries, in_hand, in_stage, has_popped, under_way, service_of}
-use Rattle.co_world.proofs.basics.Changes.{IsAt, at_all, note_at, decide}
+use Rattle.co_world.proofs.basics.Ranges.{any_at}
+use Rattle.co_world.proofs.basics.Changes.{IsAt, at_all, note_at}
 use Rattle.co_world.proofs.basics.Actions.{IsAction, IsActionWith, inserts, goes_by}
-use Rattle.co_world.proofs.kept.Operations.{Did, GoesOn, keeps, clears, arms, is_plain, did, did_call}
+use Rattle.co_world.proofs.kept.Operations.{Did, keeps, clears, arms, did, did_call}
 use Rattle.co_object.specs.Callout.{call}
 use Rattle.co_program.specs.Actors.{client_count}
 use Rattle.co_world.proofs.basics.Roles.{interrupt_version}
@@ -51,16 +52,14 @@ use Rattle.co_world.proofs.basics.Actions.{scans as due_scans, starts, pops as d
 use Rattle.co_world.proofs.kept.Passages.{Popped, has, none, popped_by}
 use Rattle.co_world.proofs.kept.Lanes.{lane_got}
 use Rattle.co_world.proofs.kept.Listed.{no_out, listed_off}
-use Rattle.co_world.proofs.kept.Stages.{IsServer, is_server, servers_task, first_task, fits_queue, pop_advance}
+use Rattle.co_world.proofs.kept.Servers.{IsServer, is_server, servers_task}
+use Rattle.co_world.proofs.kept.Stages.{first_task, fits_queue, pop_advance}
 use Rattle.co_world.proofs.basics.Roles.{cpu_number, interrupt_number}
 use Rattle.co_world.proofs.kept.ByOwnSteps.{view_of}
-use Rattle.std.proofs.Common.{zero, suc, eq-eqb}
+use Rattle.std.proofs.Common.{eq-eqb}
 use Rattle.std.specs.Prelude.{◌==◌}
 use Rattle.co_world.specs.Laws.{actors_of}
 use Rattle.co_world.proofs.basics.Roles.{server_of_lane}
-use Rattle.std.proofs.Common.{ltb-true, ltb-false}
-use Rattle.std.specs.Prelude.{nat_lt, ◌||◌}
-use Rattle.std.specs.List.{list_any, range_with_len}
 use Rattle.co_object.specs.declared.RunOp.{RunOp}
 use Rattle.co_object.specs.declared.QReply.TheVariants.{Missing}
 use Rattle.co_object.specs.History.{IsOfItsActor}
@@ -71,7 +70,9 @@ use Rattle.co_world.proofs.legal.Owners.{IsOwned, owned_callout, owned_queue, ow
 use Rattle.co_world.proofs.kept.ByCalls.{holds_call, TookOut}
 use Rattle.co_world.proofs.kept.ByServices.{holds_run}
 use Rattle.co_world.proofs.kept.ByOwnSteps.{callout_view, holds_own}
-use Rattle.co_world.proofs.kept.ByQueues.{holds_insert, holds_remove, holds_scan, holds_free, holds_empty, holds_got, between_hand}
+use Rattle.co_world.proofs.kept.ByInserts.{holds_insert, holds_remove}
+use Rattle.co_world.proofs.kept.ByPops.{holds_scan, holds_free, holds_empty, holds_got}
+use Rattle.co_world.proofs.kept.QueueNotes.{between_hand}
 use Rattle.co_world.proofs.kept.Passages.{changed, remove_is}
 use Rattle.co_world.proofs.basics.Actions.{picks, opens, ends}
 use Rattle.co_object.specs.Scan.{is_direct}
@@ -143,27 +144,6 @@ scanner_of s a time (Cpu x) may is task =
 scanner_of s a time (Interrupt x) may is task =
     let two : s.version ≡ 2 = (interrupt_version s a x may is).0 in
     interrupt_number s a x is ∙ sym (ap (λ (v : ℕ). cond (v == 1) (client_count s + x) (client_count s + s.cpus + x)) two)
-
-pub above : (k a : ℕ) → k ≤ a → (a ≡ k → ⊥) → k + 1 ≤ a
-above k a low other = go (nat_lt k a) refl where
-  go : (b : Bool) → nat_lt k a ≡ b → k + 1 ≤ a
-  go true e = let h : k < a = ltb-true k a e in omega arith
-  go false e = absurd (other (let h : a ≤ k = ltb-false k a e in omega arith))
-
-found_first : (b rest : Bool) → b ≡ true → (b || rest) ≡ true
-found_first true rest h = refl
-found_first false rest h = cc
-
-found_later : (b rest : Bool) → rest ≡ true → (b || rest) ≡ true
-found_later true rest h = refl
-found_later false rest h = h
-
-any_true : (f : ℕ → Bool) (k n a : ℕ) → k ≤ a → a < k + n → f a ≡ true → list_any f (range_with_len k n) ≡ true
-any_true f k zero a low high is = absurd (omega arith)
-any_true f k (suc n) a low high is = go (decide a k) (λ other. any_true f (k + 1) n a (above k a low other) (omega arith) is) where
-  go : (a ≡ k) ⊎ (a ≡ k → ⊥) → ((a ≡ k → ⊥) → list_any f (range_with_len (k + 1) n) ≡ true) → (f k || list_any f (range_with_len (k + 1) n)) ≡ true
-  go (inl same) rest = found_first (f k) (list_any f (range_with_len (k + 1) n)) (ap f (sym same) ∙ is)
-  go (inr other) rest = found_later (f k) (list_any f (range_with_len (k + 1) n)) (rest other)
 
 -- ---- queues
 
@@ -292,7 +272,7 @@ module _ (s : Script) (ok : IsScript s) (w : World) (good : Good s w None) (a : 
     go (inl some) = let z = good.holds.carried.apart b p p.cpu is in omega arith
     go (inr (inl removed)) = cc
     go (inr (inr held)) =
-        let found : is_moving s w i ≡ true = any_true (λ d. moves i (places_of w d).parcel) 0 (actor_count s) held.0 (omega arith) (let h = held.2 in omega arith) (in_parcel held.0 held.1 (places_of w held.0).parcel held.3 (held.4 ∙ number)) in
+        let found : is_moving s w i ≡ true = any_at (λ d. moves i (places_of w d).parcel) 0 (actor_count s) held.0 (omega arith) (let h = held.2 in omega arith) (in_parcel held.0 held.1 (places_of w held.0).parcel held.3 (held.4 ∙ number)) in
         let clash : true ≡ false = sym found ∙ still in cc
 
   module _ (act i : ℕ) (op : CallOp) (is : action_for s a c ≡ Asks act (Callout i (Call op))) (unmoved : (b : ℕ) (p : Parcel) → carries s b (places_of w b) ≡ Some p → p.i ≡ i → ⊥) where

@@ -41,7 +41,8 @@ use Rattle.co_program.specs.declared.Task.TheVariants.{Does}
 use Rattle.co_program.specs.declared.Act.TheVariants.{Drain}
 use Rattle.co_world.proofs.kept.Listed.{listed_arming}
 use Rattle.co_world.proofs.kept.OutsideServices.{waiting_client}
-use Rattle.co_world.proofs.kept.Stages.{clients_act, first_task}
+use Rattle.co_world.proofs.kept.Servers.{clients_act}
+use Rattle.co_world.proofs.kept.Stages.{first_task}
 use Rattle.co_world.proofs.kept.Invariant.{IsTaskOf}
 use Rattle.co_world.proofs.basics.Actions.{drains, waits}
 use Rattle.co_world.proofs.kept.ByOwnSteps.{callout_view, same_run, holds_turn, hand_none, over_parcel}

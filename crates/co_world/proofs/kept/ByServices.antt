@@ -51,7 +51,7 @@ use Rattle.co_world.proofs.kept.Services.{in_service, between_service, serving_t
 use Rattle.co_world.proofs.kept.Listed.{no_out, listed_off, off_listed}
 use Rattle.co_world.proofs.kept.ByCalls.{off_none}
 use Rattle.co_world.proofs.kept.OutsideServices.{Runs, firing_runs}
-use Rattle.co_world.proofs.kept.Stages.{IsServer, is_server}
+use Rattle.co_world.proofs.kept.Servers.{IsServer, is_server}
 use Rattle.co_world.proofs.basics.Roles.{server_of_lane}
 
 eqb_other : (a b : ℕ) → (b == a) ≡ false → (a == b) ≡ false

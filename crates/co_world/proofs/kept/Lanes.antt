@@ -19,7 +19,7 @@ use Rattle.co_program.specs.Action.{pop_of}
 use Rattle.co_world.specs.Step.{are_direct}
 use Rattle.co_world.proofs.kept.Invariant.{IsLane, serves_direct}
 use Rattle.co_object.proofs.EntriesKept.{EntriesFit}
-use Rattle.co_world.proofs.kept.Stages.{IsServer}
+use Rattle.co_world.proofs.kept.Servers.{IsServer}
 
 -- ---- lists
 

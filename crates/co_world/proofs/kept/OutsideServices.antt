@@ -24,7 +24,8 @@ use Rattle.co_program.specs.declared.Asked.TheVariants.{Callout, Itself}
 use Rattle.co_program.specs.Advance.{act_over, tail_of}
 use Rattle.co_world.proofs.kept.Invariant.{RunFits, IsRunning, IsOver, HoldFits, FitsRole, IsTaskOf, service_of, has_popped, under_way, in_stage}
 use Rattle.co_world.proofs.basics.Actions.{IsAction, drops, passes, grabs, tells, asks, drains, waits, waits_told, enters, unlocks, fires, fires_told, releases, serves, serves_told, is_clients}
-use Rattle.co_world.proofs.kept.Stages.{place, is_acting, clients_act, first_task}
+use Rattle.co_world.proofs.kept.Stages.{place, is_acting, first_task}
+use Rattle.co_world.proofs.kept.Servers.{clients_act}
 
 -- from one stage to the next, with what is left
 pub record SameTurn (role : Role) (left : List Task) (stage : Stage) (left' : List Task) (stage' : Stage) : Type 0 where

@@ -15,7 +15,7 @@ use Rattle.co_program.specs.declared.Role.{Role}
 use Rattle.co_program.specs.declared.Role.TheVariants.{Client, Cpu, Interrupt}
 use Rattle.co_program.specs.Action.{pop_of, free_of}
 use Rattle.co_world.proofs.kept.Invariant.{serving_of}
-use Rattle.co_world.proofs.kept.Stages.{IsServer}
+use Rattle.co_world.proofs.kept.Servers.{IsServer}
 
 pub changed : (m : ℕ) (direct : List Bool) (q : Queue) (op : QOp) (o : Queue × QReply) → step m direct q op ≡ Some o → QChange m direct q op o.1 o.0
 changed m direct q op o is = subst (λ x. QChange m direct q op o.1 (queue_of x q)) is (change m direct q op o.1 (ap reply_of is))

@@ -21,7 +21,7 @@ use Rattle.co_world.proofs.kept.Invariant.{IsServing, RunFits, IsTaken, IsRunnin
 use Rattle.co_world.proofs.kept.Operations.{GoesOn}
 use Rattle.co_world.proofs.basics.Changes.{IsAt, decide, at_all}
 use Rattle.co_world.proofs.basics.Roles.{server_of_lane}
-use Rattle.co_world.proofs.kept.Stages.{IsServer, is_server}
+use Rattle.co_world.proofs.kept.Servers.{IsServer, is_server}
 
 -- the service of a stage, from the Pick's due on
 abbrev pub in_service : Stage → Option Service

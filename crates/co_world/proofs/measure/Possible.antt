@@ -17,7 +17,7 @@ use Rattle.co_object.proofs.QueueChanges.{inserted}
 use Rattle.co_program.specs.declared.Role.{Role}
 use Rattle.co_program.specs.declared.Role.TheVariants.{Client, Cpu, Interrupt}
 use Rattle.co_program.specs.Action.{pop_of}
-use Rattle.co_world.proofs.kept.Stages.{IsServer}
+use Rattle.co_world.proofs.kept.Servers.{IsServer}
 use Rattle.co_world.proofs.kept.Invariant.{IsTaken, IsOver, serving_of}
 
 -- a callout that stands nowhere in the queue can be inserted

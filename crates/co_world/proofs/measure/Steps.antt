@@ -37,7 +37,8 @@ use Rattle.co_world.proofs.kept.Invariant.{RunFits, HoldFits, IsTaskOf, IsBetwee
 use Rattle.co_world.proofs.basics.Changes.{note_at}
 use Rattle.co_world.proofs.basics.Actions.{IsAction, IsActionWith, inserts, goes_by, scans, starts, pops, picks, opens, ends, frees}
 use Rattle.co_world.proofs.kept.ByOwnSteps.{view_of, callout_view}
-use Rattle.co_world.proofs.kept.Stages.{IsServer, is_server, servers_task, first_task}
+use Rattle.co_world.proofs.kept.Servers.{IsServer, is_server, servers_task}
+use Rattle.co_world.proofs.kept.Stages.{first_task}
 use Rattle.co_world.proofs.kept.Passages.{changed}
 use Rattle.co_world.proofs.kept.Lanes.{lane_kept}
 use Rattle.co_object.proofs.EntriesKept.{entries_change}

@@ -1,7 +1,7 @@
 -- Walks: one result, and an end, since every step falls.
-use Rattle.std.proofs.Common.{◌≡◌, ℕ, zero, suc, ◌+◌, ◌≤◌, ◌<◌, ◌⊎◌, inl, inr, cond, List, [], ◌∷◌, ◌++◌, refl, sym, ap, subst, ◌∙◌, arith, Option, Some, None}
+use Rattle.std.proofs.Common.{◌≡◌, ℕ, zero, suc, ◌+◌, ◌<◌, ◌⊎◌, inl, inr, cond, List, [], ◌∷◌, ◌++◌, refl, sym, ap, subst, ◌∙◌, arith, Option, Some, None}
 use Rattle.std.specs.Prelude.{is_some}
-use Rattle.std.specs.List.{AllByRecursion, range_with_len}
+use Rattle.std.specs.List.{AllByRecursion}
 use Rattle.co_program.specs.declared.Script.{Script}
 use Rattle.co_program.specs.Actors.{actor_count}
 use Rattle.co_program.specs.Action.{Action, Nothing, Silent, Take, Asks, action_for}
@@ -13,25 +13,11 @@ use Rattle.co_program.specs.Scripts.{IsScript}
 use Rattle.co_world.specs.declared.turn.Why.{Why}
 use Rattle.co_world.specs.Measure.{measure}
 use Rattle.co_world.specs.Laws.{Falls, IsIdle, NeverStuck, IsSchedule, reached, EveryStepFalls, IdleStepsStay, RoundsFall, WalksAgree, WalksEnd}
-use Rattle.co_world.proofs.basics.Changes.{decide}
-use Rattle.co_world.proofs.kept.ByAnswers.{above}
+use Rattle.co_world.proofs.basics.Ranges.{all_range, at_range}
 use Rattle.co_world.proofs.legal.Schedules.{never_stuck_all}
 use Rattle.co_world.proofs.kept.BySchedules.{reached_steady}
 use Rattle.co_world.proofs.names.Schedules.{reached_named}
 use Rattle.co_world.proofs.measure.Steps.{step_falls}
-
--- ---- the actors of a round
-
-all_range : (P : ℕ → Type 0) (k n : ℕ) → ((a : ℕ) → a < k + n → P a) → AllByRecursion P (range_with_len k n)
-all_range P k zero h = tt
-all_range P k (suc n) h = (h k (omega arith), all_range P (k + 1) n (λ a within. h a (omega arith)))
-
-at_range : (P : ℕ → Type 0) (k n a : ℕ) → AllByRecursion P (range_with_len k n) → k ≤ a → a < k + n → P a
-at_range P k zero a all low high = absurd (omega arith)
-at_range P k (suc n) a all low high = go (decide a k) (λ above. at_range P (k + 1) n a all.1 above (omega arith)) where
-  go : (a ≡ k) ⊎ (a ≡ k → ⊥) → (k + 1 ≤ a → P a) → P a
-  go (inl same) rest = subst P (sym same) all.0
-  go (inr other) rest = rest (above k a low other)
 
 -- ---- finished actors change nothing
 

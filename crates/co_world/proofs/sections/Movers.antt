@@ -1,59 +1,12 @@
 -- Who is moving a callout, among the actors of a script.
-use Rattle.std.proofs.Common.{◌≡◌, ℕ, zero, suc, ◌+◌, ◌≤◌, ◌<◌, ◌⊎◌, inl, inr, Bool, true, false, refl, sym, ap, ◌∙◌, subst, arith, Option, Some, None, eqb-true, eq-eqb}
-use Rattle.std.specs.Prelude.{◌==◌, ◌||◌}
-use Rattle.std.specs.List.{list_any, range_with_len}
+use Rattle.std.proofs.Common.{◌≡◌, ℕ, ◌<◌, Bool, true, false, refl, sym, ap, ◌∙◌, arith, Option, Some, None, eqb-true, eq-eqb}
+use Rattle.std.specs.Prelude.{◌==◌}
 use Rattle.co_program.specs.declared.script.Script.{Script}
 use Rattle.co_program.specs.Actors.{actor_count}
 use Rattle.co_program.specs.declared.cursor.Parcel.{Parcel}
 use Rattle.co_world.specs.World.{World}
 use Rattle.co_world.specs.Blocked.{is_moving, moves}
-use Rattle.co_world.proofs.basics.Changes.{decide}
-use Rattle.co_world.proofs.kept.ByAnswers.{above}
-
--- ---- any number of a range
-
-any_same : (p q : ℕ → Bool) (k n : ℕ) → ((b : ℕ) → k ≤ b → b < k + n → q b ≡ p b) → list_any q (range_with_len k n) ≡ list_any p (range_with_len k n)
-any_same p q k zero all = refl
-any_same p q k (suc n) all =
-    let head : q k ≡ p k = all k (omega arith) (omega arith) in
-    let tail : list_any q (range_with_len (k + 1) n) ≡ list_any p (range_with_len (k + 1) n) = any_same p q (k + 1) n (λ b low high. all b (omega arith) (omega arith)) in
-    ap (λ x. x || list_any q (range_with_len (k + 1) n)) head ∙ ap (λ x. p k || x) tail
-
-any_at : (p : ℕ → Bool) (k n a : ℕ) → k ≤ a → a < k + n → p a ≡ true → list_any p (range_with_len k n) ≡ true
-any_at p k zero a low high is = absurd (omega arith)
-any_at p k (suc n) a low high is = go (decide a k) (λ other. any_at p (k + 1) n a (above k a low other) (omega arith) is) where
-  right : (x : Bool) → (x || true) ≡ true
-  right true = refl
-  right false = refl
-
-  go : (a ≡ k) ⊎ (a ≡ k → ⊥) → ((a ≡ k → ⊥) → list_any p (range_with_len (k + 1) n) ≡ true) → (p k || list_any p (range_with_len (k + 1) n)) ≡ true
-  go (inl own) rest = ap (λ x. x || list_any p (range_with_len (k + 1) n)) (subst (λ j. p j ≡ true) own is)
-  go (inr other) rest = ap (λ x. p k || x) (rest other) ∙ right (p k)
-
--- none but one of them
-any_only : (p : ℕ → Bool) (k n a : ℕ) → k ≤ a → a < k + n → ((b : ℕ) → (b ≡ a → ⊥) → k ≤ b → b < k + n → p b ≡ false) → list_any p (range_with_len k n) ≡ p a
-any_only p k n a low high none = go (p a) refl where
-  none_at : (k n : ℕ) → ((b : ℕ) → k ≤ b → b < k + n → p b ≡ false) → list_any p (range_with_len k n) ≡ false
-  none_at k zero all = refl
-  none_at k (suc n) all =
-      let head : p k ≡ false = all k (omega arith) (omega arith) in
-      let tail : list_any p (range_with_len (k + 1) n) ≡ false = none_at (k + 1) n (λ b low high. all b (omega arith) (omega arith)) in
-      ap (λ x. x || list_any p (range_with_len (k + 1) n)) head ∙ tail
-
-  go : (x : Bool) → p a ≡ x → list_any p (range_with_len k n) ≡ x
-  go true is = any_at p k n a low high is
-  go false is = none_at k n (λ b low' high'. all b low' high' (decide b a)) where
-    all : (b : ℕ) → k ≤ b → b < k + n → (b ≡ a) ⊎ (b ≡ a → ⊥) → p b ≡ false
-    all b low' high' (inl own) = ap p own ∙ is
-    all b low' high' (inr other) = none b other low' high'
-
--- some one of them
-any_found : (p : ℕ → Bool) (k n : ℕ) → list_any p (range_with_len k n) ≡ true → (b : ℕ) × (b < k + n) × (p b ≡ true)
-any_found p k zero is = cc
-any_found p k (suc n) is = go (p k) refl is (λ rest. any_found p (k + 1) n rest) where
-  go : (x : Bool) → p k ≡ x → (x || list_any p (range_with_len (k + 1) n)) ≡ true → (list_any p (range_with_len (k + 1) n) ≡ true → (b : ℕ) × (b < k + 1 + n) × (p b ≡ true)) → (b : ℕ) × (b < k + suc n) × (p b ≡ true)
-  go true here is rest = (k, omega arith, here)
-  go false here is rest = let found = rest is in let low = found.1 in (found.0, omega (arith, low), found.2)
+use Rattle.co_world.proofs.basics.Ranges.{any_same, any_at, any_only, any_found}
 
 -- ---- what moves
 

@@ -21,7 +21,8 @@ use Rattle.co_world.specs.Placed.{slot_of, in_slot}
 use Rattle.co_world.proofs.basics.Actions.{IsAction, IsActionWith, inserts, goes_by, scans, starts, pops, frees}
 use Rattle.co_world.proofs.kept.Invariant.{FitsRole, IsTaskOf}
 use Rattle.co_world.proofs.kept.Passages.{serving_stays, directing_stays}
-use Rattle.co_world.proofs.kept.Stages.{IsServer, is_server, servers_task, first_task}
+use Rattle.co_world.proofs.kept.Servers.{IsServer, is_server, servers_task}
+use Rattle.co_world.proofs.kept.Stages.{first_task}
 
 -- ---- the slots after a Pop and a Free
 

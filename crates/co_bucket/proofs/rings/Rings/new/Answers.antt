@@ -1,6 +1,6 @@
 -- Each head is alone in its ring.
 use Rattle.std.proofs.Common.{◌≡◌, refl, replicate, rules}
-use Rattle.co_bucket.proofs.Linked.{made-empty}
+use Rattle.co_bucket.proofs.NoneLinked.{made-empty}
 use Rattle.co_bucket.proofs.rings.Rings.new.Goals as goal
 
 pub returns : goal.returns

@@ -2,7 +2,8 @@
 use Rattle.std.proofs.Common.{◌+◌, ℕ, set, refl, arith, subst, sym}
 use Rattle.std.proofs.lemmas.List.{get_or_read}
 use Rattle.co_bucket.specs.Rings.{IsRings}
-use Rattle.co_bucket.proofs.Linked.{become, first-node, free-of, lists-first, put-first}
+use Rattle.co_bucket.proofs.Linked.{become, first-node, free-of}
+use Rattle.co_bucket.proofs.PutIn.{lists-first, put-first}
 use Rattle.co_bucket.proofs.rings.Rings.put_first.Goals as goal
 
 pub overflow_add-head : goal.overflow_add-head

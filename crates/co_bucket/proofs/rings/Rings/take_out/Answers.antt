@@ -2,7 +2,8 @@
 use Rattle.std.proofs.Common.{ℕ, get_or, set, refl, arith, subst, sym}
 use Rattle.std.proofs.lemmas.List.{get_or_read}
 use Rattle.co_bucket.specs.Rings.{IsRings, list_of, without}
-use Rattle.co_bucket.proofs.Linked.{become, listed-parts, next-node, prev-node, taken-out}
+use Rattle.co_bucket.proofs.Linked.{become, listed-parts}
+use Rattle.co_bucket.proofs.TakenOut.{next-node, prev-node, taken-out}
 use Rattle.co_bucket.proofs.rings.Rings.take_out.Goals as goal
 
 pub index_mut-requires : goal.index_mut-requires

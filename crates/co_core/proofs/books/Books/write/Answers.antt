@@ -8,7 +8,7 @@ use Rattle.co_program.specs.declared.cursor.Cursor.{Cursor as CursorAt}
 use Rattle.co_program.specs.Advance.{advance}
 use Rattle.co_core.proofs.written.LockHolders.{stayed}
 use Rattle.co_core.specs.InHand.{with_hand}
-use Rattle.co_core.proofs.written.Entries.{more_by_one}
+use Rattle.co_core.proofs.written.Counting.{more_by_one}
 use Rattle.co_core.proofs.written.Notes.{noted_by, went}
 use Rattle.co_core.proofs.books.Books.write.Goals as goal
 

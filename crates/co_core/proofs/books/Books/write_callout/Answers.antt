@@ -3,7 +3,8 @@ use Rattle.std.proofs.Common.{rules, arith, ◌≡◌, ◌<◌, ◌≤◌, ◌+�
 use Rattle.std.proofs.lemmas.List.{get_or_read}
 use Rattle.co_core.specs.InHand.{with_hand}
 use Rattle.co_core.specs.Written.{Written, IsNoted}
-use Rattle.co_core.proofs.written.Entries.{written_callout, history_there, callout_note}
+use Rattle.co_core.proofs.written.Entries.{written_callout, callout_note}
+use Rattle.co_core.proofs.written.There.{history_there}
 use Rattle.co_core.proofs.written.Notes.{counts_from, may_note}
 use Rattle.co_core.proofs.books.Books.write_callout.Goals as goal
 

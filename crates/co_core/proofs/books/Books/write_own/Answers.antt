@@ -3,7 +3,8 @@ use Rattle.std.proofs.Common.{rules, false, arith, ◌≡◌, ◌<◌, ◌≤◌
 use Rattle.std.proofs.lemmas.List.{get_or_read}
 use Rattle.co_core.specs.InHand.{with_hand}
 use Rattle.co_core.specs.Written.{Written, IsNoted}
-use Rattle.co_core.proofs.written.Entries.{written_own, own_there, own_entry}
+use Rattle.co_core.proofs.written.Entries.{written_own, own_entry}
+use Rattle.co_core.proofs.written.There.{own_there}
 use Rattle.co_core.proofs.written.Notes.{counts_from, may_note}
 use Rattle.co_core.proofs.books.Books.write_own.Goals as goal
 

@@ -5,7 +5,8 @@ use Rattle.co_program.specs.Follows.{one_scan}
 use Rattle.co_core.specs.contracts.books.Books.{the_view}
 use Rattle.co_core.specs.InHand.{with_hand}
 use Rattle.co_core.specs.Written.{Written, IsNoted}
-use Rattle.co_core.proofs.written.Entries.{written_queue, journal_there, scan_there, queue_note}
+use Rattle.co_core.proofs.written.Entries.{written_queue, queue_note}
+use Rattle.co_core.proofs.written.There.{journal_there, scan_there}
 use Rattle.co_core.proofs.written.Notes.{counts_from, may_note}
 use Rattle.co_core.proofs.books.Books.write_queue.Goals as goal
 
