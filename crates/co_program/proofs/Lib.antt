@@ -19,3 +19,4 @@ pub mod ListsLook
 pub mod Endings
 pub mod FunctionActs
 pub mod Rounds
+pub mod Places
