@@ -1,5 +1,5 @@
 -- The numbers of places are small.
-use Rattle.std.proofs.Common.{◌≡◌, ℕ, ◌+◌, ◌*◌, ◌^◌, ◌<◌, ◌≤◌, ◌==◌, Bool, true, false, cond, nat_lt, length, arith}
+use Rattle.std.proofs.Common.{◌≡◌, ◌+◌, ◌*◌, ◌^◌, ◌<◌, ◌≤◌, ◌==◌, Bool, true, false, cond, length, arith}
 use Rattle.std.proofs.lemmas.Bool.{ltb-true}
 use Rattle.co_object.specs.declared.Place.{Place}
 use Rattle.co_object.specs.declared.Place.TheVariants.{Timer, Cpu, Actor}
