@@ -1,4 +1,5 @@
--- Whether a note is what an actor asks for at a place in its program.
+-- Whether a note is what an actor asks for at a place in its program: a test, since the verdict is computed by it. co_program's
+-- `Fits` is the relation of which laws speak, and proofs/Nexts proves that the test holds exactly where the relation does.
 use Rattle.std.specs.Prelude.{ℕ, Bool, true, false, ◌==◌, ◌&&◌, Option, None}
 use Rattle.co_object.specs.declared.Place.{Place}
 use Rattle.co_object.specs.declared.Place.TheVariants as place

@@ -8,6 +8,8 @@ use Rattle.co_object.specs.declared.AnyEntry.TheVariants as of
 use Rattle.co_object.specs.declared.Entry.{Entry}
 use Rattle.co_object.specs.declared.QEntry.{QEntry}
 use Rattle.co_object.specs.Lists.{same_place}
+-- who made an entry
+pub use Rattle.co_object.specs.Lists.{actor_of}
 use Rattle.co_object.specs.Stand.{off}
 use Rattle.co_object.specs.History.{state}
 use Rattle.co_program.specs.declared.script.Script.{Script}
@@ -31,12 +33,6 @@ callout_history i lines = filter_map (λ l. callout_entry i l.place l.entry) lin
 
 abbrev pub cpu_journal : ℕ → List Line → List QEntry
 cpu_journal cpu lines = filter_map (λ l. queue_entry cpu l.place l.entry) lines
-
--- who made an entry
-abbrev pub actor_of : AnyEntry → ℕ
-actor_of (of.Timer e) = e.actor
-actor_of (of.Cpu e) = e.actor
-actor_of (of.Own e) = e.actor
 
 abbrev pub is_by : ℕ → Line → Bool
 is_by a l = actor_of l.entry == a

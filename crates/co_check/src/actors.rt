@@ -1,54 +1,11 @@
 //! Who may make which entry.
 ghost use Rattle.std.specs.Prelude.{◌≡◌, ◌≤◌, length};
-ghost use Rattle.co_object.specs.Actors.{cpu_actor, interrupt_actor};
-ghost use Rattle.co_object.specs.History.{cpu_of, server};
-ghost use Rattle.co_object.specs.Journal.{scanner};
+ghost use Rattle.co_object.specs.History.{cpu_of};
 ghost use Rattle.co_program.specs.Runs.{actors_of};
-ghost use Rattle.co_program.specs.Scripts.{IsScript};
 ghost use Rattle.co_check.specs.Replay.{may_serve, may_work};
 
 use co_object::{Op, QOp, RunOp, Spec};
-use co_program::Script;
-
-/// The actor of a CPU.
-fn cpu_actor(script: &Script, cpu: u32) -> u64
-    requires { length script.now.clients ≤ 16 }
-    ensures { result ≡ cpu_actor (actors_of script.now) cpu }
-{
-    script.clients.as_slice().len() as u64 + u64::from(cpu)
-}
-
-/// The actor of a CPU's interrupt.
-fn interrupt_actor(script: &Script, cpu: u32) -> u64
-    requires { length script.now.clients ≤ 16 }
-    ensures { result ≡ interrupt_actor (actors_of script.now) cpu }
-{
-    script.clients.as_slice().len() as u64 + u64::from(script.cpus) + u64::from(cpu)
-}
-
-/// The actor that makes a CPU's scans.
-fn scanner(script: &Script, cpu: u32) -> u64
-    requires { length script.now.clients ≤ 16 }
-    ensures { result ≡ scanner (actors_of script.now) cpu }
-{
-    if script.version == 1 {
-        cpu_actor(script, cpu)
-    } else {
-        interrupt_actor(script, cpu)
-    }
-}
-
-/// The actor that services a callout on a CPU.
-fn server(script: &Script, spec: &Spec, cpu: u32) -> u64
-    requires { length script.now.clients ≤ 16 }
-    ensures { result ≡ server (actors_of script.now) spec.now cpu }
-{
-    if spec.direct {
-        interrupt_actor(script, cpu)
-    } else {
-        cpu_actor(script, cpu)
-    }
-}
+use co_program::{Script, cpu_actor, interrupt_actor, scanner, server};
 
 /// The CPU of a service.
 fn cpu_of(op: &RunOp) -> u32

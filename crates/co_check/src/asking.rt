@@ -1,6 +1,5 @@
 //! Whether a note is what an actor asks for.
 ghost use Rattle.std.specs.Prelude.{◌≡◌, Option};
-ghost use Rattle.co_object.specs.Group.{off_of};
 ghost use Rattle.co_program.specs.declared.script.Script.{Script};
 ghost use Rattle.co_program.specs.declared.cursor.Cursor.{Cursor};
 ghost use Rattle.co_program.specs.Indexed.{action_of};
@@ -8,7 +7,7 @@ ghost use Rattle.co_check.specs.Asking.{asks, asks_callout, asks_itself, asks_qu
 ghost use Rattle.co_check.specs.Same.{same_number};
 
 use crate::same::{same_answer, same_kind, same_op, same_queue_op};
-use co_object::{AnyEntry, Op, OwnKind, Place, QOp, QReply, Reply};
+use co_object::{AnyEntry, Op, OwnKind, Place, QOp, QReply};
 use co_program::{Action, Asked};
 
 /// Whether an entry in this place is what the action asks for. `removed` is the CPU from whose queue the call under way has
@@ -52,7 +51,7 @@ fn asks_callout(
                 && e.actor == actor
                 && e.act == act
                 && same_op(&e.op, op)
-                && same_number(off_of(&e.reply), removed)
+                && same_number(e.reply.off(), removed)
         }
         (Op::Call(_), Place::Cpu(_), AnyEntry::Cpu(e)) => {
             same_number(removed, None)
@@ -89,19 +88,6 @@ fn asks_itself(actor: u32, act: u64, kind: OwnKind, place: Place, entry: &AnyEnt
             b == actor && e.actor == actor && e.act == act && same_kind(e.kind, kind)
         }
         _ => false,
-    }
-}
-
-/// The CPU from whose queue an arming went, by the reply.
-fn off_of(reply: &Reply) -> Option<u32>
-    ensures { result ≡ off_of reply.now }
-{
-    match *reply {
-        Reply::Armed { off, .. } => off,
-        Reply::Stopped { off, .. } => off,
-        Reply::Wait { off, .. } => off,
-        Reply::Drained { off, .. } => off,
-        _ => None,
     }
 }
 

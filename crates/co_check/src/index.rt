@@ -10,9 +10,7 @@ ghost use Rattle.co_check.specs.Lines.{AreLinesOf, IsLineOf, lines_max};
 ghost use Rattle.co_check.specs.Numbers.{AreCounts};
 ghost use Rattle.co_check.specs.Shown.{actor_of};
 
-use crate::fill::filled;
-use co_object::{AnyEntry, Place};
-use co_program::{Script, actor_count};
+use co_program::{Script, actor_count, place_count, place_index};
 use co_report::Line;
 use co_sbt::{NoMemory, Seq};
 use std::alloc::Global;
@@ -73,11 +71,9 @@ impl Index {
         requires { IsScript script.now }
         ensures { IfOk result (λ index. (lines : List Line) → AreCounts (actor_count script.now) lines counts.now → IsIndexed script.now lines [] index) }
     {
-        let actors = actor_count(script) as usize;
         let slots = rows_of(alloc, counts, None)?;
-        let places = script.timers.as_slice().len() + script.cpus as usize + actors;
-        let widths = filled(alloc, places, actors as u32)?;
-        let latest = rows_of(alloc, &widths, 0)?;
+        let widths = Seq::filled(alloc, place_count(script), actor_count(script))?;
+        let latest = rows_of(alloc, widths.as_slice(), 0)?;
         Ok(Index { slots, latest })
     }
 
@@ -89,7 +85,7 @@ impl Index {
         requires indexed { (lines : List Line) × (above : List Line) × IsIndexed script.now lines above self.old × (length lines ≤ lines_max) }
         ensures { (lines : List Line) (above : List Line) → at ≡ length above → IsIndexed script.now lines above self.old → IsNumbered script.now lines above line.now result self.new }
     {
-        let actor = actor_of(&line.entry) as usize;
+        let actor = line.entry.actor() as usize;
         let row = &mut self.slots[actor];
         if !put(row, line.number, at) {
             return false;
@@ -103,37 +99,13 @@ impl Index {
     }
 }
 
-/// Who made an entry.
-pub(crate) fn actor_of(entry: &AnyEntry) -> u32
-    ensures { result ≡ actor_of entry.now }
-{
-    match entry {
-        AnyEntry::Timer(e) => e.actor,
-        AnyEntry::Cpu(e) => e.actor,
-        AnyEntry::Own(e) => e.actor,
-    }
-}
-
-/// The number of a place among those of a report.
-fn place_index(script: &Script, place: Place) -> usize
-    requires script { IsScript script.now }
-    ensures { result ≡ place_index script.now place }
-{
-    let timers = script.timers.as_slice().len();
-    match place {
-        Place::Timer(timer) => timer as usize,
-        Place::Cpu(cpu) => timers + cpu as usize,
-        Place::Actor(actor) => timers + script.cpus as usize + actor as usize,
-    }
-}
-
 /// Counts a line, for the actor that made it.
 pub(crate) fn count_line(counts: &mut Vec<u32>, line: &Line)
     requires actor { actor_of line.now.entry < length counts.old.items }
     requires counted { (above : List Line) × AreCounts (length counts.old.items) above counts.old.items × (length above < lines_max) }
     ensures { (actors : ℕ) (above : List Line) → AreCounts actors above counts.old.items → AreCounts actors (above ++ line.now ∷ []) counts.new.items }
 {
-    let actor = actor_of(&line.entry) as usize;
+    let actor = line.entry.actor() as usize;
     counts[actor] += 1;
 }
 
@@ -143,8 +115,8 @@ fn rows_of<T: Copy + Drop>(alloc: Global, lengths: &[u32], item: T) -> Result<Ve
 {
     let mut rows = Seq::new(alloc);
     for count in lengths {
-        let row = filled(alloc, *count as usize, item)?;
-        rows.push(row)?;
+        let row = Seq::filled(alloc, *count as usize, item)?;
+        rows.push(row.into_vec())?;
     }
     Ok(rows.into_vec())
 }

@@ -5,7 +5,6 @@ mod actors;
 mod asking;
 mod checking;
 mod cpu;
-mod fill;
 mod index;
 pub mod laws;
 mod replay;

@@ -4,7 +4,6 @@ ghost use Rattle.co_object.specs.Callout.{opening};
 ghost use Rattle.co_object.specs.declared.Place.TheVariants as places;
 ghost use Rattle.co_object.specs.declared.AnyEntry.TheVariants as of;
 ghost use Rattle.co_object.specs.Queue.{Queue};
-ghost use Rattle.co_object.specs.Stand.{is_free_at, off};
 ghost use Rattle.co_program.specs.Follows.{one_scan};
 ghost use Rattle.co_program.specs.Runs.{actors_of, are_direct};
 ghost use Rattle.co_program.specs.Scripts.{IsScript};
@@ -15,7 +14,6 @@ ghost use Rattle.co_check.specs.Replayed.{IsAfter, IsCalloutTaken, IsQueueTaken,
 
 use crate::actors::{may_serve, may_work};
 use crate::cpu::CpuQueue;
-use crate::fill::filled;
 use crate::index::count_line;
 use crate::same::{same_answer, same_reply};
 use crate::verdict::Unfit;
@@ -83,7 +81,7 @@ impl Replay {
     {
         let callouts = callouts_of(alloc, script.timers.as_slice())?;
         let cpus = cpus_of(alloc, script)?;
-        let scans = filled(alloc, script.cpus as usize, 0)?;
+        let scans = Seq::filled(alloc, script.cpus as usize, 0)?.into_vec();
         Ok(Replay {
             callouts,
             cpus,
@@ -105,7 +103,7 @@ impl Replay {
         ensures { IfOk result (IsReplayed script.now lines.now) }
     {
         let mut facts = Seq::new(alloc);
-        let mut counts = filled(alloc, actor_count(script) as usize, 0)?;
+        let mut counts = Seq::filled(alloc, actor_count(script) as usize, 0)?.into_vec();
         for line in lines {
             match self.take(script, line) {
                 Ok(fact) => {
@@ -193,24 +191,13 @@ fn callouts_of(alloc: Global, specs: &[Spec]) -> Result<Vec<Alone>, NoMemory>
     Ok(callouts.into_vec())
 }
 
-/// Which callouts are direct.
-fn direct_of(alloc: Global, specs: &[Spec]) -> Result<Vec<bool>, NoMemory>
-    ensures { IfOk result (λ direct. direct.items ≡ map (λ spec. spec.direct) specs.now) }
-{
-    let mut direct = Seq::new(alloc);
-    for spec in specs {
-        direct.push(spec.direct)?;
-    }
-    Ok(direct.into_vec())
-}
-
 /// A queue for each CPU, in which nothing stands.
 fn cpus_of(alloc: Global, script: &Script) -> Result<Vec<CpuQueue>, NoMemory>
     requires { IsScript script.now }
     ensures { IfOk result (λ cpus. cpus.items ≡ replicate script.now.cpus (empty_cpu (length script.now.timers) script.now.buckets (are_direct script.now))) }
 {
     let timers = script.timers.as_slice();
-    let direct = direct_of(alloc, timers)?;
+    let direct = Spec::directs(alloc, timers)?;
     let callouts = timers.len() as u32;
     let mut cpus = Seq::new(alloc);
     for _ in 0..script.cpus {
@@ -231,34 +218,12 @@ fn take_callout(script: &Script, callout: &mut Alone, entry: &Entry) -> Result<b
     match callout.step(&entry.op) {
         Some(reply) => {
             if same_reply(&reply, &entry.reply) {
-                Ok(is_listed(&callout.state))
+                Ok(callout.state.off().is_some())
             } else {
                 Err(Unfit::Illegal)
             }
         }
         None => Err(Unfit::Illegal),
-    }
-}
-
-/// Whether the callout stands in a queue.
-fn is_listed(state: &State) -> bool
-    ensures { result ≡ is_some (off state.now) }
-{
-    match state.armed {
-        None => false,
-        Some(arming) => is_free_at(&state.run, arming.cpu),
-    }
-}
-
-/// No service has the callout, or one on this CPU.
-fn is_free_at(run: &Run, cpu: u32) -> bool
-    ensures { result ≡ is_free_at run.now cpu }
-{
-    match run {
-        Run::Idle => true,
-        Run::Picked(arming) => arming.cpu == cpu,
-        Run::Cancelled { cpu: at, .. } => *at == cpu,
-        Run::Running { cpu: at, .. } => *at == cpu,
     }
 }
 

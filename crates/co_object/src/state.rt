@@ -2,7 +2,6 @@
 ghost use Rattle.std.specs.Prelude.{◌≡◌};
 ghost use Rattle.co_object.specs.Callout.{opening, call, live_call, retired_call, serve};
 ghost use Rattle.co_object.specs.History.{outcome};
-ghost use Rattle.co_object.specs.Query.{answer};
 ghost use Rattle.co_object.specs.Stand.{is_idle, off};
 
 mod arm;
@@ -67,13 +66,6 @@ pub struct State {
     pub made: u64,
 }
 
-/// The reply to a query.
-pub(crate) fn answer(yes: bool) -> Reply
-    ensures { result ≡ answer yes }
-{
-    if yes { Reply::Yes } else { Reply::No }
-}
-
 impl State {
     /// A callout as it is made.
     pub(crate) fn open(made: u64) -> State
@@ -123,8 +115,8 @@ impl State {
             PlainOp::Schedule { due, prec, cpu } => self.schedule(due, prec, cpu),
             PlainOp::Stop => self.stop(),
             PlainOp::AsyncDrain { func } => self.async_drain(func),
-            PlainOp::Active => answer(self.active),
-            PlainOp::Pending => answer(self.armed.is_some()),
+            PlainOp::Active => Reply::answer(self.active),
+            PlainOp::Pending => Reply::answer(self.armed.is_some()),
             PlainOp::Deactivate => {
                 self.active = false;
                 Reply::Done

@@ -22,3 +22,4 @@ pub mod FunctionActs
 pub mod NextNotes
 pub mod ServiceReplies
 pub mod Rounds
+pub mod Places

@@ -18,7 +18,7 @@ use crate::cursor::{ActsLeft, Cursor, Service, Stage};
 use crate::program::{Task, acts_of, is_soft, next_of, task_after};
 use crate::role::{Role, cpu_of, role_of};
 use crate::script::Script;
-use co_lock::{Held, covers};
+use co_lock::{Held, covers, hold_of};
 use co_object::{CallOp, LockUse, Op, OwnKind, QOp, RunOp, Spec};
 use co_sbt::Sbt;
 
@@ -411,27 +411,6 @@ fn locks(script: &Script, cursor: &Cursor, v: &Service) -> Action
             held,
             to: Move::Within { hold: Some(held) },
         },
-    }
-}
-
-/// The hold under which a callout's function begins.
-fn hold_of(lock: LockUse) -> Option<Held>
-    ensures { result ≡ hold_of lock }
-{
-    match lock {
-        LockUse::Free => None,
-        LockUse::Mtx(id) => Some(Held {
-            id,
-            exclusive: true,
-        }),
-        LockUse::Rw(id) => Some(Held {
-            id,
-            exclusive: true,
-        }),
-        LockUse::RwShared(id) => Some(Held {
-            id,
-            exclusive: false,
-        }),
     }
 }
 

@@ -1,9 +1,14 @@
 //! The actors of a script, by number: who each of them is, and on which CPU it acts (our own order).
-ghost use Rattle.std.specs.Prelude.{◌≡◌, ◌≤◌};
+ghost use Rattle.std.specs.Prelude.{◌≡◌, ◌≤◌, length};
+ghost use Rattle.co_object.specs.Actors.{cpu_actor, interrupt_actor};
+ghost use Rattle.co_object.specs.History.{server};
+ghost use Rattle.co_object.specs.Journal.{scanner};
 ghost use Rattle.co_program.specs.Actors.{actor_count, cpu_of, role_of};
+ghost use Rattle.co_program.specs.Runs.{actors_of};
 ghost use Rattle.co_program.specs.Scripts.{IsScript};
 
 use crate::script::Script;
+use co_object::Spec;
 
 /// Who an actor is.
 #[derive(Clone, Copy, Debug, PartialEq, Eq)]
@@ -55,5 +60,46 @@ pub fn cpu_of(script: &Script, role: Role) -> u32
         Role::Client(client) => client % script.cpus,
         Role::Cpu(cpu) => cpu,
         Role::Interrupt(cpu) => cpu,
+    }
+}
+
+/// The number of a CPU's actor. Where the script has no such CPU it is no CPU's.
+pub fn cpu_actor(script: &Script, cpu: u32) -> u64
+    requires { length script.now.clients ≤ 16 }
+    ensures { result ≡ cpu_actor (actors_of script.now) cpu }
+{
+    script.clients.as_slice().len() as u64 + u64::from(cpu)
+}
+
+/// The number of the actor of a CPU's interrupt. In version 1, and where the script has no such CPU, no actor has it.
+pub fn interrupt_actor(script: &Script, cpu: u32) -> u64
+    requires { length script.now.clients ≤ 16 }
+    ensures { result ≡ interrupt_actor (actors_of script.now) cpu }
+{
+    script.clients.as_slice().len() as u64 + u64::from(script.cpus) + u64::from(cpu)
+}
+
+/// The number of the actor that makes a CPU's scans: in version 1 the CPU's own, and from version 2 on its interrupt's.
+pub fn scanner(script: &Script, cpu: u32) -> u64
+    requires { length script.now.clients ≤ 16 }
+    ensures { result ≡ scanner (actors_of script.now) cpu }
+{
+    if script.version == 1 {
+        cpu_actor(script, cpu)
+    } else {
+        interrupt_actor(script, cpu)
+    }
+}
+
+/// The number of the actor that services a callout on a CPU: the interrupt's where the callout is direct, else the CPU's
+/// own.
+pub fn server(script: &Script, spec: &Spec, cpu: u32) -> u64
+    requires { length script.now.clients ≤ 16 }
+    ensures { result ≡ server (actors_of script.now) spec.now cpu }
+{
+    if spec.direct {
+        interrupt_actor(script, cpu)
+    } else {
+        cpu_actor(script, cpu)
     }
 }

@@ -1,7 +1,6 @@
 //! A caller's operation on a callout, by its record and its CPU's slot.
 ghost use Rattle.std.specs.Prelude.{◌≡◌, true, false};
 ghost use Rattle.co_object.specs.Callout.{call, live_call, retired_call};
-ghost use Rattle.co_object.specs.Query.{answer};
 ghost use Rattle.co_record.specs.Paired.{IsPaired};
 ghost use Rattle.co_record.specs.Same.{SameService};
 ghost use Rattle.co_record.specs.Standing.{state_of};
@@ -11,14 +10,6 @@ use crate::drain::{async_drain, drain_try, stop};
 use crate::lifetime::{init, retire};
 use crate::{Record, Slot};
 use co_object::{CallOp, PlainOp, Reply};
-
-/// Yes or No.
-#[inline]
-fn answer(yes: bool) -> Reply
-    ensures { result ≡ answer yes }
-{
-    if yes { Reply::Yes } else { Reply::No }
-}
 
 /// A caller's operation on a callout: the reply is the one that the callout alone gives.
 ///
@@ -75,8 +66,8 @@ fn live_call(rec: &mut Record, slot: &mut Slot, op: &PlainOp, reply: &mut Reply)
         PlainOp::Schedule { due, prec, cpu } => schedule(rec, slot, due, prec, cpu, reply),
         PlainOp::Stop => stop(rec, slot, reply),
         PlainOp::AsyncDrain { func } => async_drain(rec, slot, func, reply),
-        PlainOp::Active => *reply = answer(rec.active),
-        PlainOp::Pending => *reply = answer(rec.is_armed(slot)),
+        PlainOp::Active => *reply = Reply::answer(rec.active),
+        PlainOp::Pending => *reply = Reply::answer(rec.is_armed(slot)),
         PlainOp::Deactivate => {
             rec.active = false;
             *reply = Reply::Done;

@@ -7,13 +7,13 @@ use Rattle.co_check.proofs.index.count_line.Goals as goal
 pub overflow_add-index_mut : goal.overflow_add-index_mut
 overflow_add-index_mut c =
     let counts = c.args.counts.now.items in
-    let inside : c.actor_of-actor.result < length counts = omega (arith, c.actor_of-actor.ensures, c.requires.actor) in
-    let count = get_or_from_slice_get counts c.actor_of-actor.result c.index_mut.result.now 0 (slice_get_read counts (length counts) c.actor_of-actor.result c.index_mut.result.now refl inside c.index_mut.ensures.value) in
-    omega (arith, count, count-few (length counts) c.requires.counted.0 counts c.actor_of-actor.result c.requires.counted.1 inside, c.requires.counted.2)
+    let inside : c.actor-actor.result < length counts = omega (arith, c.actor-actor.ensures, c.requires.actor) in
+    let count = get_or_from_slice_get counts c.actor-actor.result c.index_mut.result.now 0 (slice_get_read counts (length counts) c.actor-actor.result c.index_mut.result.now refl inside c.index_mut.ensures.value) in
+    omega (arith, count, count-few (length counts) c.requires.counted.0 counts c.actor-actor.result c.requires.counted.1 inside, c.requires.counted.2)
 
 pub returns : goal.returns
 returns c actors above counted =
     let counts = c.args.counts.now.items in
-    let inside : c.actor_of-actor.result < length counts = omega (arith, c.actor_of-actor.ensures, c.requires.actor) in
-    let count = get_or_from_slice_get counts c.actor_of-actor.result c.index_mut.result.now 0 (slice_get_read counts (length counts) c.actor_of-actor.result c.index_mut.result.now refl inside c.index_mut.ensures.value) in
-    counted-more actors above c.args.line.now counts c.actor_of-actor.result c.index_mut.result.now counted c.actor_of-actor.ensures (omega (arith, inside, counted.long)) (sym count)
+    let inside : c.actor-actor.result < length counts = omega (arith, c.actor-actor.ensures, c.requires.actor) in
+    let count = get_or_from_slice_get counts c.actor-actor.result c.index_mut.result.now 0 (slice_get_read counts (length counts) c.actor-actor.result c.index_mut.result.now refl inside c.index_mut.ensures.value) in
+    counted-more actors above c.args.line.now counts c.actor-actor.result c.index_mut.result.now counted c.actor-actor.ensures (omega (arith, inside, counted.long)) (sym count)

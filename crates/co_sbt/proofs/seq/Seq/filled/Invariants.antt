@@ -1,5 +1,5 @@
 use Rattle.std.proofs.Common.{◌≡◌, replicate}
-use Rattle.co_check.proofs.fill.filled.Given as goal
+use Rattle.co_sbt.proofs.seq.Seq.filled.Given as goal
 
 abbrev pub invariant-loop : goal.invariant-loop
 invariant-loop g l = l.list ≡ replicate l.counter l.item
