@@ -2,10 +2,12 @@
 #![tactic(auto)]
 
 mod kinds;
+mod notes;
 mod operations;
 mod packed;
 mod replies;
 mod typed;
 mod words;
 
+pub use notes::PackedNotes;
 pub use packed::PackedNote;
