@@ -3,9 +3,11 @@
 
 mod kinds;
 mod notes;
+mod numbers;
 mod operations;
 mod packed;
 mod replies;
+mod rows;
 mod typed;
 mod words;
 

@@ -1,0 +1,4 @@
+pub mod Limits
+pub mod Again
+pub mod Flagged
+pub mod RowAgain
