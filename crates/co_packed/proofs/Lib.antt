@@ -2,3 +2,4 @@ pub mod Limits
 pub mod Again
 pub mod Flagged
 pub mod RowAgain
+pub mod Tables

@@ -10,3 +10,5 @@ pub mod Typed
 pub mod Numbers
 -- the bytes of a row of numbers
 pub mod Rows
+-- the note that numbers stand for
+pub mod Numbered

@@ -1,7 +1,9 @@
 //! Notes in few bytes.
 #![tactic(auto)]
 
+mod kind_numbers;
 mod kinds;
+mod note_numbers;
 mod notes;
 mod numbers;
 mod operations;
