@@ -3,3 +3,4 @@ pub mod Again
 pub mod Flagged
 pub mod RowAgain
 pub mod Tables
+pub mod Renumbered

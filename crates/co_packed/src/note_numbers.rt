@@ -30,6 +30,14 @@ fn code_at(number: u64) -> i32
     if number % 2 == 0 { half } else { -1 - half }
 }
 
+/// A number of 32 bits.
+fn long_of(number: u32) -> u64
+    ensures same { result ≡ number }
+    ensures bounded { result < 2 ^ 32 }
+{
+    u64::from(number)
+}
+
 /// The lower 32 bits.
 #[tactic(auto, unfolding(crate::specs::Numbered::short_at))]
 fn short_at(number: u64) -> u32
@@ -95,18 +103,18 @@ pub(crate) fn numbers_of(note: &Note) -> [u64; 16]
         answer,
         note.pos,
         act,
-        u64::from(place),
-        u64::from(actor),
+        long_of(place),
+        long_of(actor),
         op.time.raw(),
         op.prec.raw(),
         op.word,
-        u64::from(op.number),
-        u64::from(op.cpu),
+        long_of(op.number),
+        long_of(op.cpu),
         reply.time.raw(),
         reply.word,
         code_number(reply.code),
-        u64::from(reply.number),
-        u64::from(reply.off),
+        long_of(reply.number),
+        long_of(reply.off),
     ]
 }
 
