@@ -4,3 +4,4 @@ pub mod Flagged
 pub mod RowAgain
 pub mod Tables
 pub mod Renumbered
+pub mod Storing

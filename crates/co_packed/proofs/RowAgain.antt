@@ -1,5 +1,5 @@
 -- A row that was written is read again, and so is what follows.
-use Rattle.std.proofs.Common.{ℕ, zero, suc, Bool, true, false, ◌≡◌, ◌≢◌, ◌+◌, ◌*◌, ◌/◌, ◌%◌, List, [], ◌∷◌, ◌++◌, length, refl, ◌∙◌, eqb, ⊎_elim, append_assoc, arith}
+use Rattle.std.proofs.Common.{get_or, ◌<◌, ◌^◌, ℕ, zero, suc, Bool, true, false, ◌≡◌, ◌≢◌, ◌+◌, ◌*◌, ◌/◌, ◌%◌, List, [], ◌∷◌, ◌++◌, length, refl, ◌∙◌, eqb, ⊎_elim, append_assoc, arith}
 use Rattle.std.proofs.lemmas.Grind.{common_steps}
 use Rattle.std.proofs.lemmas.Bool.{cases_eq}
 use Rattle.std.proofs.lemmas.List.{drop_at}
@@ -88,3 +88,11 @@ row_is_row bs = (length_of_numbers 16 _ _, numbers_long 16 _ _)
 pub row_length : (ns : List ℕ) → length (row_bytes ns) ≡ length (flat_map flagged_bytes ns) + 3
 unfolding row_bytes body
 row_length ns = omega arith
+
+all_long : (ns : List ℕ) → ((i : ℕ) → get_or ns i 0 < 2 ^ 64) → AllByRecursion IsLong ns
+all_long [] h = tt
+all_long (n ∷ ns) h = (h 0, all_long ns (λ i. h (suc i)))
+
+-- what sixteen numbers of 64 bits are
+pub numbers_are_row : (ns : List ℕ) → length ns ≡ 16 → ((i : ℕ) → get_or ns i 0 < 2 ^ 64) → IsRow ns
+numbers_are_row ns few h = (few, all_long ns h)

@@ -12,3 +12,5 @@ pub mod Numbers
 pub mod Rows
 -- the note that numbers stand for
 pub mod Numbered
+-- rows one behind another
+pub mod Stored

@@ -82,5 +82,5 @@ unfoldable pub numbered_note : List ℕ → Note
 numbered_note ns = record {
   place = place_of (whose_at (get_or ns 0 0 / 32)) (short_at (get_or ns 4 0));
   pos = get_or ns 2 0;
-  entry = entry_of (sort_at (get_or ns 0 0 % 32) (get_or ns 1 0)) (short_at (get_or ns 5 0)) (get_or ns 3 0) (op_words_at ns) (reply_words_at ns)
+  entry = entry_of (sort_at (get_or ns 0 0 % 32) (get_or ns 1 0)) (short_at (get_or ns 5 0)) (get_or ns 3 0) (op_words_at ns) (reply_words_at ns);
 }

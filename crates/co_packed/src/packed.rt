@@ -105,7 +105,13 @@ pub(crate) fn entry_parts(entry: &AnyEntry) -> EntryParts
 }
 
 /// The entry of this sort, by this actor in this act.
-pub(crate) fn entry_of(sort: Sort, actor: u32, act: u64, op: &OpWords, reply: &ReplyWords) -> AnyEntry
+pub(crate) fn entry_of(
+    sort: Sort,
+    actor: u32,
+    act: u64,
+    op: &OpWords,
+    reply: &ReplyWords,
+) -> AnyEntry
     ensures { result ≡ entry_of sort actor act op.now reply.now }
 {
     match sort {

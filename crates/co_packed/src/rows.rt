@@ -2,7 +2,7 @@
 //! and the bytes of these alone. Before them it has how many bytes they are, by which a reader skips a row that it does not want.
 ghost use Rattle.std.specs.Prelude.{◌≡◌, ◌<◌, ◌≤◌, ◌++◌, OnOk, length};
 ghost use Rattle.std.specs.List.{flat_map};
-ghost use Rattle.co_packed.specs.Rows.{flags, flagged_bytes, row_bytes, flagged_in, after_flagged, numbers_in, row_in};
+ghost use Rattle.co_packed.specs.Rows.{flags, flagged_bytes, row_bytes, flagged_in, after_flagged, numbers_in, row_in, IsRow};
 
 use crate::numbers::{number_at, push_number};
 use co_sbt::{NoMemory, Seq};
@@ -50,7 +50,8 @@ fn push_flagged(bytes: &mut Seq<u8>, number: u64) -> Result<(), NoMemory>
 /// Puts the bytes of a row in the place of those that are there.
 #[tactic(auto, using(crate::proofs::Flagged::numbers_length), unfolding(crate::specs::Rows::row_bytes, crate::specs::Rows::body))]
 pub(crate) fn write_row(bytes: &mut Seq<u8>, numbers: &[u64; 16]) -> Result<(), NoMemory>
-    ensures { OnOk result (bytes.new ≡ row_bytes numbers.now) }
+    ensures written { OnOk result (bytes.new ≡ row_bytes numbers.now) }
+    ensures row { IsRow numbers.now }
 {
     let flags = flags_of(numbers);
     bytes.clear();
