@@ -13,7 +13,7 @@ use std::marker::Model;
 /// A growing list of notes. A usual note takes 20 to 25 bytes, where a [`PackedNote`](crate::PackedNote) has 88: only its
 /// numbers that are not 0 are there, in as many bytes as they need.
 ///
-/// A note takes as many bytes as it needs, so the list keeps where each sixteenth one starts, half a byte a note. A reader
+/// A note takes as many bytes as it needs, so the list keeps where each eighth one starts, a byte a note. A reader
 /// goes on from there by the notes' lengths.
 ///
 /// Contracts see the notes.
@@ -39,13 +39,13 @@ impl Model for PackedNotes {
     ghost invariant = { λ s. IsStored s.bytes s.starts s.count };
 }
 
-/// Notes down that the next row starts at `end`, where it is a sixteenth one. After `NoMemory` the list is as before.
+/// Notes down that the next row starts at `end`, where it is an eighth one. After `NoMemory` the list is as before.
 #[tactic(auto, unfolding(crate::specs::Stored::marked))]
 fn mark(starts: &mut Seq<usize>, count: usize, end: usize) -> Result<(), NoMemory>
     ensures ok { OnOk result (starts.new ≡ marked starts.old count end) }
     ensures err { OnErr result (starts.new ≡ starts.old) }
 {
-    if count / 16 < starts.as_slice().len() {
+    if count / 8 < starts.as_slice().len() {
         return Ok(());
     }
     starts.push(end)
@@ -89,13 +89,13 @@ fn one_more(count: usize, end: usize) -> usize
 
 /// The row at `at`, by the start before it.
 fn row_on(bytes: &[u8], starts: &[usize], at: usize) -> [u64; 16]
-    requires marked { at / 16 < length starts.now }
+    requires marked { at / 8 < length starts.now }
     requires within { start_of starts.now at ≤ length bytes.now }
     requires there { 3 ≤ length (rest_at bytes.now starts.now at) }
     ensures { result ≡ row_in (rest_at bytes.now starts.now at) }
 {
-    let rest = &bytes[starts[at / 16]..];
-    row_at(after_rows(rest, at % 16))
+    let rest = &bytes[starts[at / 8]..];
+    row_at(after_rows(rest, at % 8))
 }
 
 impl PackedNotes {

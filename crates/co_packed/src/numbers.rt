@@ -54,9 +54,15 @@ fn low_in(bytes: &[u8], more: u32) -> (u64, &[u8])
 }
 
 /// The number that the bytes begin with, and the bytes after it.
+#[inline]
+#[tactic(auto, unfolding(crate::specs::Numbers::number_in, crate::specs::Numbers::after_number))]
 pub(crate) fn number_at(bytes: &[u8]) -> (u64, &[u8])
     ensures value { result.0 ≡ number_in 9 bytes.now }
     ensures rest { result.1.now ≡ after_number 9 bytes.now }
 {
-    low_in(bytes, MORE)
+    match bytes {
+        // Most numbers have one byte.
+        [byte, rest @ ..] if *byte < 128 => (u64::from(*byte), rest),
+        _ => low_in(bytes, MORE),
+    }
 }
