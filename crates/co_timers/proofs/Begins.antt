@@ -1,5 +1,5 @@
 -- The begin of a service, by the reply to its Pick.
-use Rattle.std.proofs.Common.{◌≡◌, ◌-◌, ◌++◌, ℕ, Bool, true, false, List, [], ◌∷◌, length, length-append, refl, sym, subst, arith}
+use Rattle.std.proofs.Common.{◌≡◌, ◌-◌, ◌++◌, ℕ, true, false, List, [], ◌∷◌, length, length-append, refl, arith}
 use Rattle.std.specs.declared.option.Option.TheVariants.{None}
 use Rattle.co_hand.specs.declared.port_call.PortCall.{PortCall}
 use Rattle.co_lock.specs.Service.{hold_of}

@@ -1,5 +1,5 @@
 -- What the calls of a function keep: the actor's handle, and what it has in service.
-use Rattle.std.proofs.Common.{◌≡◌, ℕ, Bool, List, [], ◌∷◌, ◌++◌, length, refl, sym, ap, ◌∙◌, subst}
+use Rattle.std.proofs.Common.{◌≡◌, ℕ, Bool, List, [], ◌∷◌, ◌++◌, refl, sym, ◌∙◌, subst}
 use Rattle.co_hand.specs.declared.port_call.PortCall.{PortCall}
 use Rattle.co_hand.specs.declared.port_call.PortReply.{PortReply}
 use Rattle.co_hand.specs.declared.port_call.PortReply.TheVariants.{NotHeld, Reply as Answered}
@@ -11,9 +11,9 @@ use Rattle.co_object.specs.Queue.{Due}
 use Rattle.co_service.specs.Name.{ServiceName}
 use Rattle.co_service.specs.declared.outs.Taken.{Taken}
 use Rattle.co_service.specs.declared.outs.Taken.TheVariants.{Empty, Took}
-use Rattle.co_service.specs.Services.{IsFree, IsServing, IsTaken}
+use Rattle.co_service.specs.Services.{IsServing, IsTaken}
 use Rattle.co_service.specs.Serving.{Service}
-use Rattle.co_service.specs.Views.{AreOf, PassesView}
+use Rattle.co_service.specs.Views.{PassesView}
 use Rattle.co_service.specs.Writes.{Writes}
 use Rattle.co_service.specs.declared.params.Params.{Params}
 use Rattle.co_service.proofs.Lasts.{called_free, called_serving}
@@ -23,7 +23,7 @@ use Rattle.co_hand.specs.Handlers.{Needs}
 use Rattle.std.specs.declared.option.Option.TheVariants.{Some, None}
 use Rattle.co_timers.specs.Handles.{HandleView, IsHandle}
 use Rattle.co_timers.specs.Ports.{AreCalls, CameTo, IsPortCall}
-use Rattle.co_timers.specs.Rounds.{HasRun, RunsIf}
+use Rattle.co_timers.specs.Rounds.{IsAbout, IsAtEase, RunsIf}
 use Rattle.co_timers.proofs.Told.{all_sized}
 
 -- the same actor's passes of the same service, after entries
@@ -40,47 +40,45 @@ calls_more p q r [] call are one = (r, subst (λ (x : HandleView). IsPortCall x 
 calls_more p q r (c ∷ calls) call are one = (are.0, are.1, calls_more are.0 q r calls call are.2 one)
 
 module _ (name : ServiceName) (params : Params) (direct : Bool) (cpu : ℕ) (d : Due) (far : Service) where
-  -- of the service, with this arming in service
-  pub record IsAbout (p : PassesView) : Type 0 where
-    pub handle : IsHandle name params p
-    pub serving : IsServing direct p cpu d far
+  abbrev AboutIt : PassesView → Type 0
+  AboutIt = IsAbout name params direct cpu d far
 
-  came_about : (p q : HandleView) (hold : Option Held) (i : ℕ) (op : PlainOp) (answer : PortReply) → CameTo p hold i op answer q → IsAbout p.passes → IsAbout q.passes
-  came_about p q hold i op NotHeld came is = subst (λ (x : HandleView). IsAbout x.passes) (sym came.1) is
+  came_about : (p q : HandleView) (hold : Option Held) (i : ℕ) (op : PlainOp) (answer : PortReply) → CameTo p hold i op answer q → AboutIt p.passes → AboutIt q.passes
+  came_about p q hold i op NotHeld came is = subst (λ (x : HandleView). AboutIt x.passes) (sym came.1) is
   came_about p q hold i op (Answered reply) came is =
       let made = came.1.made in record {
+        below = is.below;
         handle = handle_after name params p.passes q.passes made.notes is.handle made.called.written;
         serving = called_serving p.passes q.passes p.act i (Plain op) reply made.notes made.called direct cpu d far is.serving;
       }
 
-  pub calls_about : (p q : HandleView) (calls : List PortCall) → AreCalls p calls q → IsAbout p.passes → IsAbout q.passes
-  calls_about p q [] are is = subst (λ (x : HandleView). IsAbout x.passes) (sym are) is
+  pub calls_about : (p q : HandleView) (calls : List PortCall) → AreCalls p calls q → AboutIt p.passes → AboutIt q.passes
+  calls_about p q [] are is = subst (λ (x : HandleView). AboutIt x.passes) (sym are) is
   calls_about p q (c ∷ calls) are is = calls_about are.0 q calls are.2 (came_about p are.0 are.1.hold c.i c.op c.answer are.1.came is)
 
-  pub runs_about : (needs : Needs) (func : Option ℕ) (p q : HandleView) → RunsIf needs func p q → IsAbout p.passes → IsAbout q.passes
-  runs_about needs None p q runs is = subst (λ (x : HandleView). IsAbout x.passes) (sym runs) is
+  pub runs_about : (needs : Needs) (func : Option ℕ) (p q : HandleView) → RunsIf needs func p q → AboutIt p.passes → AboutIt q.passes
+  runs_about needs None p q runs is = subst (λ (x : HandleView). AboutIt x.passes) (sym runs) is
   runs_about needs (Some func) p q runs is = calls_about p q runs.calls runs.are is
 
 module _ (name : ServiceName) (params : Params) (direct : Bool) (cpu : ℕ) where
-  -- of the service, with nothing in service
-  pub record IsAtEase (p : PassesView) : Type 0 where
-    pub handle : IsHandle name params p
-    pub free : IsFree direct p cpu
+  abbrev AtEase : PassesView → Type 0
+  AtEase = IsAtEase name params direct cpu
 
-  came_free : (p q : HandleView) (hold : Option Held) (i : ℕ) (op : PlainOp) (answer : PortReply) → CameTo p hold i op answer q → IsAtEase p.passes → IsAtEase q.passes
-  came_free p q hold i op NotHeld came is = subst (λ (x : HandleView). IsAtEase x.passes) (sym came.1) is
+  came_free : (p q : HandleView) (hold : Option Held) (i : ℕ) (op : PlainOp) (answer : PortReply) → CameTo p hold i op answer q → AtEase p.passes → AtEase q.passes
+  came_free p q hold i op NotHeld came is = subst (λ (x : HandleView). AtEase x.passes) (sym came.1) is
   came_free p q hold i op (Answered reply) came is =
       let made = came.1.made in record {
+        below = is.below;
         handle = handle_after name params p.passes q.passes made.notes is.handle made.called.written;
         free = called_free p.passes q.passes p.act i (Plain op) reply made.notes made.called direct cpu is.free;
       }
 
-  calls_free : (p q : HandleView) (calls : List PortCall) → AreCalls p calls q → IsAtEase p.passes → IsAtEase q.passes
-  calls_free p q [] are is = subst (λ (x : HandleView). IsAtEase x.passes) (sym are) is
+  calls_free : (p q : HandleView) (calls : List PortCall) → AreCalls p calls q → AtEase p.passes → AtEase q.passes
+  calls_free p q [] are is = subst (λ (x : HandleView). AtEase x.passes) (sym are) is
   calls_free p q (c ∷ calls) are is = calls_free are.0 q calls are.2 (came_free p are.0 are.1.hold c.i c.op c.answer are.1.came is)
 
-  pub runs_free : (needs : Needs) (func : Option ℕ) (p q : HandleView) → RunsIf needs func p q → IsAtEase p.passes → IsAtEase q.passes
-  runs_free needs None p q runs is = subst (λ (x : HandleView). IsAtEase x.passes) (sym runs) is
+  pub runs_free : (needs : Needs) (func : Option ℕ) (p q : HandleView) → RunsIf needs func p q → AtEase p.passes → AtEase q.passes
+  runs_free needs None p q runs is = subst (λ (x : HandleView). AtEase x.passes) (sym runs) is
   runs_free needs (Some func) p q runs is = calls_free p q runs.calls runs.are is
 
 -- what is taken leaves the actor's handle

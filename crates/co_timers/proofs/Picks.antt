@@ -1,5 +1,5 @@
 -- What is taken into service is a callout of the service. It waits for its lock only where it has one, and a direct one has none.
-use Rattle.std.proofs.Common.{◌≡◌, ℕ, ◌+◌, ◌<◌, ◌≤◌, Bool, true, false, cond, ◌&&◌, List, [], ◌∷◌, ◌++◌, length, refl, sym, ap, ◌∙◌, subst, arith, ◌⊎◌, inl, inr}
+use Rattle.std.proofs.Common.{◌≡◌, ℕ, ◌<◌, Bool, true, false, cond, ◌&&◌, List, [], ◌∷◌, ◌++◌, length, refl, sym, ap, ◌∙◌, subst, arith, ◌⊎◌, inl, inr}
 use Rattle.std.specs.Prelude.{slice_index_or}
 use Rattle.std.specs.List.{All}
 use Rattle.std.proofs.lemmas.List.Elements.{All-get_or}
@@ -15,8 +15,7 @@ use Rattle.co_object.specs.declared.op.RunOp.TheVariants.{Pick}
 use Rattle.co_object.specs.declared.queue.QReply.TheVariants.{Got}
 use Rattle.co_object.specs.declared.reply.Reply.{Reply}
 use Rattle.co_object.specs.declared.reply.Reply.TheVariants.{Go, Hold}
-use Rattle.co_object.specs.declared.spec.LockUse.{LockUse}
-use Rattle.co_object.specs.declared.spec.LockUse.TheVariants.{Free, Mtx, Rw, RwShared}
+use Rattle.co_object.specs.declared.spec.LockUse.TheVariants.{Free}
 use Rattle.co_object.specs.declared.spec.Spec.{Spec}
 use Rattle.co_object.specs.declared.state.Arming.{Arming}
 use Rattle.co_object.specs.declared.state.State.{State}
@@ -33,14 +32,15 @@ use Rattle.co_service.specs.declared.params.Params.{Params}
 use Rattle.co_service.specs.Name.{ServiceName}
 use Rattle.co_service.specs.Outcomes.{turn}
 use Rattle.co_service.specs.Params.{AreParams, IsSpec, actors_of, no_spec, spec_at}
-use Rattle.co_service.specs.Services.{IsFree, IsTaken, IsTaking, run_entry}
+use Rattle.co_service.specs.Services.{HasNext, IsFree, IsTaken, IsTaking, run_entry}
 use Rattle.co_service.specs.Serving.{lane_actor}
 use Rattle.co_service.specs.Stories.{IsHistory}
 use Rattle.co_service.specs.Views.{PassesView, seen_of}
-use Rattle.co_service.specs.Writes.{Writes, WritesAt, WritesTimer}
+use Rattle.co_service.specs.Writes.{WritesAt}
 use Rattle.co_wheel.specs.Turns.{pop_of}
 use Rattle.co_timers.specs.Handles.{IsHandle}
-use Rattle.co_timers.specs.Rounds.{MayServe, waits}
+use Rattle.co_timers.specs.Rounds.{HasTaken, MayBeServed, MayServe, waits}
+use Rattle.co_timers.proofs.Kept.{taken_after}
 
 -- ---- the callout alone
 
@@ -120,16 +120,16 @@ unlocked spec version ok direct lock = go ok.free where
 -- ---- together
 
 module _ (name : ServiceName) (params : Params) (limits : AreParams params) (direct : Bool) (p q : PassesView) (cpu act : ℕ) (low : cpu < params.cpus) (handle : IsHandle name params p) (free : IsFree direct p cpu) where
-  may_take : (i n time : ℕ) (reply : Reply) (pop note : Note) → IsTaking direct p cpu act i n time reply pop note q → (i < length params.specs) × (waits reply ≡ true → (direct ≡ false) × (has_lock (spec_at params i).lock ≡ true))
+  may_take : (i n time : ℕ) (reply : Reply) (pop note : Note) → IsTaking direct p cpu act i n time reply pop note q → MayBeServed direct params i reply
   may_take i n time reply pop note is =
       let one = is_pick direct p q cpu act i n time reply pop note is in
       let here : i < length params.specs = (let b = one.below in let s = handle.sized in omega arith) in
-      let may : May (actors_of params) (spec_at params i) one.before (run_entry p act (Pick n cpu time) reply) = subst (λ (r : Params). May (actors_of r) (spec_at r i) one.before (run_entry p act (Pick n cpu time) reply)) handle.of.params_are one.may in (
-        here,
-        λ w.
-            let lock = waits_locked (spec_at params i) one.before one.before.armed n cpu time reply may.0 w in
-            (lane direct refl here may.1 lock, lock),
-      ) where
+      let may : May (actors_of params) (spec_at params i) one.before (run_entry p act (Pick n cpu time) reply) = subst (λ (r : Params). May (actors_of r) (spec_at r i) one.before (run_entry p act (Pick n cpu time) reply)) handle.of.params_are one.may in record {
+        callout = here;
+        lock = λ w.
+            let locked = waits_locked (spec_at params i) one.before one.before.armed n cpu time reply may.0 w in
+            (lane direct refl here may.1 locked, locked);
+      } where
         lane : (b : Bool) → direct ≡ b → i < length params.specs → p.actor ≡ server (actors_of params) (spec_at params i) cpu → has_lock (spec_at params i).lock ≡ true → b ≡ false
         lane false is here at lock = refl
         lane true is here at lock =
@@ -140,3 +140,11 @@ module _ (name : ServiceName) (params : Params) (limits : AreParams params) (dir
   pub may_serve : (taken : Taken) → IsTaken direct p cpu act taken q → MayServe direct params taken
   may_serve (Empty note) is = tt
   may_serve (Took i n time reply pop note) is = may_take i n time reply pop note is
+
+  pub has_taken : (lane : Bool) (taken : Taken) → direct ≡ lane → IsTaken lane p cpu act taken q → HasNext lane q cpu taken → HasTaken name params direct cpu taken q
+  has_taken lane taken same is next =
+      let took : IsTaken direct p cpu act taken q = subst (λ (b : Bool). IsTaken b p cpu act taken q) (sym same) is in record {
+        may = may_serve taken took;
+        handle = taken_after name params direct p q cpu act taken handle took;
+        next = subst (λ (b : Bool). HasNext b q cpu taken) (sym same) next;
+      }

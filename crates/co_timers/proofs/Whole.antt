@@ -1,5 +1,5 @@
 -- A CPU whose actors are both here.
-use Rattle.std.proofs.Common.{◌≡◌, ◌≢◌, ℕ, ◌+◌, ◌<◌, Bool, true, false, ◌&&◌, refl, sym, ap, ◌∙◌, subst, arith, get_or-set_other}
+use Rattle.std.proofs.Common.{◌≡◌, ℕ, ◌+◌, ◌<◌, true, false, ◌&&◌, sym, ◌∙◌, subst, arith, get_or-set_other}
 use Rattle.std.proofs.lemmas.Bool.{ltb-true}
 use Rattle.std.specs.Prelude.{nat_lt, slice_index_or, slice_set}
 use Rattle.co_object.proofs.Changes.{both_true}
@@ -11,9 +11,9 @@ use Rattle.co_service.specs.Services.{IsFree}
 use Rattle.co_service.specs.Views.{PassesView}
 use Rattle.co_service.specs.declared.params.Params.{Params}
 use Rattle.co_service.proofs.Lasts.{booted_free}
-use Rattle.co_timers.specs.Handles.{HandleView, IsHandle}
-use Rattle.co_timers.specs.Posts.{PostsView, is_here, is_whole, leaves}
-use Rattle.co_timers.specs.Turns.{CpuView, IsCpu}
+use Rattle.co_timers.specs.Handles.{IsHandle}
+use Rattle.co_timers.specs.Posts.{PostsView, is_here, is_whole}
+use Rattle.co_timers.specs.Turns.{IsCpu}
 
 pub record Whole (p : PostsView) (k : ℕ) : Type 0 where
   pub below : k < p.params.cpus

@@ -1,7 +1,7 @@
 -- The posts of a service: who has not left yet, and who is back.
 use Rattle.std.specs.Prelude.{◌≡◌, ℕ, ◌+◌, ◌≤◌, Bool, false, ◌&&◌, List, [], ◌∷◌, ◌++◌, length, nat_lt, slice_get, slice_index_or, slice_set, if◌then◌else◌}
 use Rattle.std.specs.declared.option.Option.{Option}
-use Rattle.std.specs.declared.option.Option.TheVariants.{Some, None}
+use Rattle.std.specs.declared.option.Option.TheVariants.{Some}
 use Rattle.std.specs.List.{All}
 use Rattle.co_lock.specs.declared.lock_kind.LockKind.{LockKind}
 use Rattle.co_object.specs.Actors.{cpu_actor, interrupt_actor}

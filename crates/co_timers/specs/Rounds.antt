@@ -1,5 +1,5 @@
 -- The services of a CPU, or of its interrupt where `direct`: one round for each callout that had come due.
-use Rattle.std.specs.Prelude.{◌≡◌, ◌≤◌, ◌<◌, ℕ, ◌+◌, Bool, true, false, List, length, is_some, if◌then◌else◌}
+use Rattle.std.specs.Prelude.{◌≡◌, ◌≤◌, ◌<◌, ℕ, ◌+◌, Bool, true, false, List, length, is_some}
 use Rattle.std.specs.declared.option.Option.{Option}
 use Rattle.std.specs.declared.option.Option.TheVariants.{Some, None}
 use Rattle.co_hand.specs.declared.fire.Fire.{Fire}
@@ -16,11 +16,13 @@ use Rattle.co_service.specs.declared.outs.Taken.{Taken}
 use Rattle.co_service.specs.declared.outs.Taken.TheVariants.{Empty, Took}
 use Rattle.co_service.specs.declared.params.Params.{Params}
 use Rattle.co_service.specs.Params.{spec_at}
-use Rattle.co_service.specs.Services.{FollowsScans, IsBegun, IsEnded, IsNothing, IsTaking}
+use Rattle.co_service.specs.Name.{ServiceName}
+use Rattle.co_service.specs.Services.{FollowsScans, HasNext, IsBegun, IsEnded, IsFree, IsNothing, IsServing, IsTaking}
+use Rattle.co_service.specs.Serving.{Service}
 use Rattle.co_service.specs.Views.{PassesView, journal_seen}
 use Rattle.co_timers.specs.declared.turned.Round.{Round}
 use Rattle.co_timers.specs.declared.turned.Served.{Served}
-use Rattle.co_timers.specs.Handles.{HandleView}
+use Rattle.co_timers.specs.Handles.{HandleView, IsHandle}
 use Rattle.co_timers.specs.Ports.{AreCalls}
 
 -- ---- what the replies say
@@ -52,10 +54,35 @@ pub record IsFor (needs : Needs) (p : Params) : Type 0 where
   pub callouts : needs.callouts ≡ length p.specs
   pub cpus : needs.cpus ≡ p.cpus
 
--- what is taken is a callout of the service. It waits for its lock only where it has one, and is not direct
+-- a callout of the service. It waits for its lock only where it has one, and is not direct
+pub record MayBeServed (direct : Bool) (p : Params) (i : ℕ) (reply : Reply) : Type 0 where
+  pub callout : i < length p.specs
+  pub lock : waits reply ≡ true → (direct ≡ false) × (has_lock (spec_at p i).lock ≡ true)
+
+-- what is taken may be served
 abbrev pub MayServe : Bool → Params → Taken → Type 0
 MayServe direct p (Empty note) = Unit {0}
-MayServe direct p (Took i n time reply pop pick) = (i < length p.specs) × (waits reply ≡ true → (direct ≡ false) × (has_lock (spec_at p i).lock ≡ true))
+MayServe direct p (Took i n time reply pop pick) = MayBeServed direct p i reply
+
+-- ---- an actor of a CPU
+
+-- the handle of an actor that serves an existing CPU, and has nothing in service
+pub record IsAtEase (name : ServiceName) (params : Params) (direct : Bool) (cpu : ℕ) (p : PassesView) : Type 0 where
+  pub below : cpu < params.cpus
+  pub handle : IsHandle name params p
+  pub free : IsFree direct p cpu
+
+-- the same with this arming in service, so far
+pub record IsAbout (name : ServiceName) (params : Params) (direct : Bool) (cpu : ℕ) (d : Due) (far : Service) (p : PassesView) : Type 0 where
+  pub below : cpu < params.cpus
+  pub handle : IsHandle name params p
+  pub serving : IsServing direct p cpu d far
+
+-- the same after what was taken: that is in service, or nothing is
+pub record HasTaken (name : ServiceName) (params : Params) (direct : Bool) (cpu : ℕ) (taken : Taken) (p : PassesView) : Type 0 where
+  pub may : MayServe direct params taken
+  pub handle : IsHandle name params p
+  pub next : HasNext direct p cpu taken
 
 -- ---- one round
 

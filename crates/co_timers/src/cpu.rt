@@ -5,7 +5,7 @@ ghost use Rattle.co_service.specs.Services.{IsFree};
 ghost use Rattle.co_service.specs.Views.{AreOf, PassesView};
 ghost use Rattle.co_timers.specs.Handles.{IsHandle, next_act};
 ghost use Rattle.co_timers.specs.Ports.{handle_of};
-ghost use Rattle.co_timers.specs.Rounds.{IsFor, IsServed};
+ghost use Rattle.co_timers.specs.Rounds.{IsAtEase, IsFor, IsServed};
 
 use crate::Timers;
 use crate::lane::Lane;
@@ -99,13 +99,10 @@ fn turn_direct<'a, N: Name, R: Wait + Sync, H: Handler>(
     now: Sbt,
     handler: &mut H,
 ) -> (Lane, Scanned, Served)
-    requires cpu { cpu < timers.now.params.cpus }
-    requires handle { IsHandle N.name timers.now.params lane.passes }
+    requires at_ease { IsAtEase N.name timers.now.params true cpu lane.passes }
     requires needs { IsFor (H.needs handler.old) timers.now.params }
-    requires free { IsFree true lane.passes cpu }
     ensures scan { (scanned : PassesView) × IsScan lane.passes cpu lane.act now result.1 scanned × IsServed true (H.needs handler.old) 0 cpu lane.act (record { passes = scanned; act = next_act lane.act }) result.2 (handle_of result.0) }
-    ensures handle { IsHandle N.name timers.now.params result.0.passes }
-    ensures free { IsFree true result.0.passes cpu }
+    ensures at_ease { IsAtEase N.name timers.now.params true cpu result.0.passes }
     ensures needs { H.needs handler.new ≡ H.needs handler.old }
 {
     let mut here = lane;
@@ -125,13 +122,10 @@ fn turn_others<'a, N: Name, R: Wait + Sync, H: Handler>(
     lane: Lane,
     handler: &mut H,
 ) -> (Lane, Served)
-    requires cpu { cpu < timers.now.params.cpus }
-    requires handle { IsHandle N.name timers.now.params lane.passes }
+    requires at_ease { IsAtEase N.name timers.now.params false cpu lane.passes }
     requires needs { IsFor (H.needs handler.old) timers.now.params }
-    requires free { IsFree false lane.passes cpu }
     ensures served { IsServed false (H.needs handler.old) scans cpu lane.act (record { passes = lane.passes; act = next_act lane.act }) result.1 (handle_of result.0) }
-    ensures handle { IsHandle N.name timers.now.params result.0.passes }
-    ensures free { IsFree false result.0.passes cpu }
+    ensures at_ease { IsAtEase N.name timers.now.params false cpu result.0.passes }
     ensures needs { H.needs handler.new ≡ H.needs handler.old }
 {
     let mut here = lane;

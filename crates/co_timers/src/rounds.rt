@@ -6,7 +6,7 @@ ghost use Rattle.co_service.specs.Services.{IsFree, IsServing};
 ghost use Rattle.co_service.specs.Serving.{picked};
 ghost use Rattle.co_timers.specs.Handles.{IsHandle};
 ghost use Rattle.co_timers.specs.Ports.{handle_of};
-ghost use Rattle.co_timers.specs.Rounds.{IsFor, IsNext, IsServed, IsService, counted, fire_of, served_after, waits};
+ghost use Rattle.co_timers.specs.Rounds.{IsAbout, IsAtEase, IsFor, IsNext, IsServed, IsService, MayBeServed, counted, fire_of, served_after};
 
 use crate::Timers;
 use crate::lane::Lane;
@@ -99,15 +99,11 @@ fn serve<'a, N: Name, R: Wait + Sync, H: Handler>(
     taken: &Picked,
     handler: &mut H,
 ) -> (Lane, Round)
-    requires cpu { cpu < timers.now.params.cpus }
-    requires handle { IsHandle N.name timers.now.params lane.passes }
+    requires about { IsAbout N.name timers.now.params direct cpu (record { i = taken.now.i; n = taken.now.n }) (picked taken.now.n taken.now.reply) lane.passes }
+    requires may { MayBeServed direct timers.now.params taken.now.i taken.now.reply }
     requires needs { IsFor (H.needs handler.old) timers.now.params }
-    requires callout { taken.now.i < length timers.now.params.specs }
-    requires lock { waits taken.now.reply ≡ true → (direct ≡ false) × (has_lock (spec_at timers.now.params taken.now.i).lock ≡ true) }
-    requires serving { IsServing direct lane.passes cpu (record { i = taken.now.i; n = taken.now.n }) (picked taken.now.n taken.now.reply) }
     ensures service { IsService direct (H.needs handler.old) cpu act (record { i = taken.now.i; n = taken.now.n }) taken.now.at taken.now.reply (handle_of lane) result.1 (handle_of result.0) }
-    ensures handle { IsHandle N.name timers.now.params result.0.passes }
-    ensures free { IsFree direct result.0.passes cpu }
+    ensures at_ease { IsAtEase N.name timers.now.params direct cpu result.0.passes }
     ensures needs { H.needs handler.new ≡ H.needs handler.old }
 {
     let mut begun = lane;
@@ -147,14 +143,11 @@ fn round<'a, N: Name, R: Wait + Sync, H: Handler>(
     lane: Lane,
     handler: &mut H,
 ) -> (Lane, Option<Round>)
-    requires cpu { cpu < timers.now.params.cpus }
-    requires handle { IsHandle N.name timers.now.params lane.passes }
+    requires at_ease { IsAtEase N.name timers.now.params direct cpu lane.passes }
     requires needs { IsFor (H.needs handler.old) timers.now.params }
-    requires free { IsFree direct lane.passes cpu }
     requires none { direct ≡ true → scans ≡ 0 }
     ensures next { IsNext direct (H.needs handler.old) scans cpu act (handle_of lane) result.1 (handle_of result.0) }
-    ensures handle { IsHandle N.name timers.now.params result.0.passes }
-    ensures free { IsFree direct result.0.passes cpu }
+    ensures at_ease { IsAtEase N.name timers.now.params direct cpu result.0.passes }
     ensures needs { H.needs handler.new ≡ H.needs handler.old }
 {
     let mut here = lane;
@@ -186,14 +179,11 @@ pub(crate) fn serve_all<'a, N: Name, R: Wait + Sync, H: Handler>(
     lane: Lane,
     handler: &mut H,
 ) -> (Lane, Served)
-    requires cpu { cpu < timers.now.params.cpus }
-    requires handle { IsHandle N.name timers.now.params lane.passes }
+    requires at_ease { IsAtEase N.name timers.now.params direct cpu lane.passes }
     requires needs { IsFor (H.needs handler.old) timers.now.params }
-    requires free { IsFree direct lane.passes cpu }
     requires none { direct ≡ true → scans ≡ 0 }
     ensures served { IsServed direct (H.needs handler.old) scans cpu act (handle_of lane) result.1 (handle_of result.0) }
-    ensures handle { IsHandle N.name timers.now.params result.0.passes }
-    ensures free { IsFree direct result.0.passes cpu }
+    ensures at_ease { IsAtEase N.name timers.now.params direct cpu result.0.passes }
     ensures needs { H.needs handler.new ≡ H.needs handler.old }
 {
     let mut here = lane;

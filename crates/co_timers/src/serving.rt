@@ -11,7 +11,7 @@ ghost use Rattle.co_service.specs.Services.{FollowsScans, HasNext, IsBegun, IsEn
 ghost use Rattle.co_service.specs.Serving.{Runs, Waits, picked};
 ghost use Rattle.co_service.specs.Views.{AreOf, journal_seen};
 ghost use Rattle.co_timers.specs.Handles.{IsHandle};
-ghost use Rattle.co_timers.specs.Rounds.{IsBegin, MayServe, called_by, drain_of, waits};
+ghost use Rattle.co_timers.specs.Rounds.{HasTaken, IsAbout, IsAtEase, IsBegin, MayBeServed, called_by, drain_of, waits};
 
 use crate::Timers;
 use co_lock::{Hold, hold_of};
@@ -50,31 +50,6 @@ pub(crate) fn drain_of(reply: &Reply) -> Option<u32>
     }
 }
 
-/// The first callout that has come due goes into the service of the CPU, or of its interrupt where `direct`, once the CPU's journal has so
-/// many Scans, of which an interrupt wants none.
-fn next_in<N: Name, R: Wait>(
-    rt: &R,
-    service: &Service<N>,
-    passes: &mut Passes,
-    cpu: u32,
-    act: u64,
-    scans: u64,
-    direct: bool,
-) -> Taken
-    requires cpu { cpu < service.now.cpus }
-    requires of { AreOf N.name service.now passes.old }
-    requires free { IsFree direct passes.old cpu }
-    requires none { direct ≡ true → scans ≡ 0 }
-    ensures taken { IsTaken direct passes.old cpu act result passes.new }
-    ensures scans { FollowsScans scans (journal_seen passes.new cpu) }
-    ensures next { HasNext direct passes.new cpu result }
-{
-    match direct {
-        true => service.next_direct(rt, passes, cpu, act),
-        false => service.next(rt, passes, cpu, act, scans),
-    }
-}
-
 /// The service of the CPU is over, or that of its interrupt where `direct`.
 fn end_in<N: Name, R: Wait>(
     rt: &R,
@@ -106,12 +81,9 @@ impl<N: Name> Timers<N> {
         act: u64,
         now: Sbt,
     ) -> Scanned
-        requires cpu { cpu < self.now.params.cpus }
-        requires handle { IsHandle N.name self.now.params passes.old }
-        requires free { IsFree true passes.old cpu }
+        requires { IsAtEase N.name self.now.params true cpu passes.old }
         ensures scanned { IsScan passes.old cpu act now result passes.new }
-        ensures handle { IsHandle N.name self.now.params passes.new }
-        ensures free { IsFree true passes.new cpu }
+        ensures at_ease { IsAtEase N.name self.now.params true cpu passes.new }
     {
         self.service.scan(rt, passes, cpu, act, now)
     }
@@ -127,17 +99,16 @@ impl<N: Name> Timers<N> {
         scans: u64,
         direct: bool,
     ) -> Taken
-        requires cpu { cpu < self.now.params.cpus }
-        requires handle { IsHandle N.name self.now.params passes.old }
-        requires free { IsFree direct passes.old cpu }
+        requires at_ease { IsAtEase N.name self.now.params direct cpu passes.old }
         requires none { direct ≡ true → scans ≡ 0 }
         ensures taken { IsTaken direct passes.old cpu act result passes.new }
         ensures scans { FollowsScans scans (journal_seen passes.new cpu) }
-        ensures may { MayServe direct self.now.params result }
-        ensures handle { IsHandle N.name self.now.params passes.new }
-        ensures next { HasNext direct passes.new cpu result }
+        ensures next { HasTaken N.name self.now.params direct cpu result passes.new }
     {
-        next_in(rt, &self.service, passes, cpu, act, scans, direct)
+        match direct {
+            true => self.service.next_direct(rt, passes, cpu, act),
+            false => self.service.next(rt, passes, cpu, act, scans),
+        }
     }
 
     /// Takes the lock of callout `i`, in the mode that its spec wants. It waits for the lock.
@@ -166,13 +137,10 @@ impl<N: Name> Timers<N> {
         n: u64,
         hold: &Hold<'_>,
     ) -> Made
-        requires cpu { cpu < self.now.params.cpus }
-        requires handle { IsHandle N.name self.now.params passes.old }
-        requires serving { IsServing false passes.old cpu (record { i = i; n = n }) (Waits n) }
+        requires about { IsAbout N.name self.now.params false cpu (record { i = i; n = n }) (Waits n) passes.old }
         requires held { hold_of (spec_at self.now.params i).lock ≡ Some hold.now }
         ensures begun { IsBegun passes.old cpu act (record { i = i; n = n }) result passes.new }
-        ensures handle { IsHandle N.name self.now.params passes.new }
-        ensures serving { IsServing false passes.new cpu (record { i = i; n = n }) (Runs n) }
+        ensures about { IsAbout N.name self.now.params false cpu (record { i = i; n = n }) (Runs n) passes.new }
     {
         self.service.begin(rt, passes, cpu, act, hold)
     }
@@ -187,13 +155,10 @@ impl<N: Name> Timers<N> {
         i: u32,
         n: u64,
     ) -> (Reply, Hold<'_>)
-        requires cpu { cpu < self.now.params.cpus }
-        requires handle { IsHandle N.name self.now.params passes.old }
-        requires serving { IsServing false passes.old cpu (record { i = i; n = n }) (Waits n) }
+        requires about { IsAbout N.name self.now.params false cpu (record { i = i; n = n }) (Waits n) passes.old }
         requires lock { has_lock (spec_at self.now.params i).lock ≡ true }
         ensures begins { (out : Made) × (out.reply ≡ result.0) × IsBegun passes.old cpu act (record { i = i; n = n }) out passes.new }
-        ensures handle { IsHandle N.name self.now.params passes.new }
-        ensures serving { IsServing false passes.new cpu (record { i = i; n = n }) (Runs n) }
+        ensures about { IsAbout N.name self.now.params false cpu (record { i = i; n = n }) (Runs n) passes.new }
     {
         let hold = self.lock_of(rt, i);
         let made = self.begin(rt, passes, cpu, act, i, n, &hold);
@@ -212,13 +177,10 @@ impl<N: Name> Timers<N> {
         n: u64,
         reply: Reply,
     ) -> (Reply, Option<Hold<'_>>)
-        requires cpu { cpu < self.now.params.cpus }
-        requires handle { IsHandle N.name self.now.params passes.old }
-        requires serving { IsServing direct passes.old cpu (record { i = i; n = n }) (picked n reply) }
-        requires lock { waits reply ≡ true → (direct ≡ false) × (has_lock (spec_at self.now.params i).lock ≡ true) }
+        requires about { IsAbout N.name self.now.params direct cpu (record { i = i; n = n }) (picked n reply) passes.old }
+        requires may { MayBeServed direct self.now.params i reply }
         ensures begins { IsBegin (waits reply) passes.old cpu act (record { i = i; n = n }) reply result.0 passes.new }
-        ensures handle { IsHandle N.name self.now.params passes.new }
-        ensures serving { IsServing direct passes.new cpu (record { i = i; n = n }) (Runs n) }
+        ensures about { IsAbout N.name self.now.params direct cpu (record { i = i; n = n }) (Runs n) passes.new }
     {
         if !waits(&reply) {
             return (reply, None);
@@ -238,12 +200,9 @@ impl<N: Name> Timers<N> {
         i: u32,
         n: u64,
     ) -> Made
-        requires cpu { cpu < self.now.params.cpus }
-        requires handle { IsHandle N.name self.now.params passes.old }
-        requires serving { IsServing direct passes.old cpu (record { i = i; n = n }) (Runs n) }
+        requires { IsAbout N.name self.now.params direct cpu (record { i = i; n = n }) (Runs n) passes.old }
         ensures ended { IsEnded direct passes.old cpu act (record { i = i; n = n }) result.reply (notes_in result.notes) passes.new }
-        ensures handle { IsHandle N.name self.now.params passes.new }
-        ensures free { IsFree direct passes.new cpu }
+        ensures at_ease { IsAtEase N.name self.now.params direct cpu passes.new }
     {
         end_in(rt, &self.service, passes, cpu, act, direct)
     }

@@ -1,5 +1,5 @@
 -- The parts of a service, one after the other: each keeps the actor's handle, and its arming is in service until the end.
-use Rattle.std.proofs.Common.{◌≡◌, ℕ, sym, ap, subst, ◌∙◌}
+use Rattle.std.proofs.Common.{ℕ, sym, ap, subst, ◌∙◌}
 use Rattle.std.specs.Prelude.{is_some, length}
 use Rattle.std.specs.declared.option.Option.{Option}
 use Rattle.co_hand.specs.declared.fire.Fire.{Fire}
@@ -17,21 +17,13 @@ use Rattle.co_timers.proofs.rounds.serve.Goals as goal
 pub run_if-ran-requires-clause-fire : goal.run_if-ran-requires-clause-fire
 run_if-ran-requires-clause-fire g c =
     let d : Due = record { i = c.args.taken.now.i; n = c.args.taken.now.n } in
-    fire_exists d c.args.cpu c.args.taken.now.at (length c.args.timers.now.params.specs) c.args.timers.now.params.cpus c.called_by-call.result c.fire_of-fire.result c.fire_of-fire.ensures c.requires.callout c.requires.cpu
+    fire_exists d c.args.cpu c.args.taken.now.at (length c.args.timers.now.params.specs) c.args.timers.now.params.cpus c.called_by-call.result c.fire_of-fire.result c.fire_of-fire.ensures c.requires.may.callout c.requires.about.below
 
-pub finish-made-requires-clause-handle : goal.finish-made-requires-clause-handle
-finish-made-requires-clause-handle g c =
+pub finish-made-requires : goal.finish-made-requires
+finish-made-requires g c =
     let d : Due = record { i = c.args.taken.now.i; n = c.args.taken.now.n } in
-    (runs_about g.N.Name.name c.args.timers.now.params c.args.direct c.args.cpu d (Runs d.n) (g.H.Handler.needs c.args.handler.now) (func_in c.fire_of-fire.result)
-    (record { passes = c.begin_lane-said.new.passes; act = c.args.lane.act }) (handle_of c.run_if-ran.result) c.run_if-ran.ensures.runs
-    (record { handle = c.begin_lane-said.ensures.handle; serving = c.begin_lane-said.ensures.serving })).handle
-
-pub finish-made-requires-clause-serving : goal.finish-made-requires-clause-serving
-finish-made-requires-clause-serving g c =
-    let d : Due = record { i = c.args.taken.now.i; n = c.args.taken.now.n } in
-    (runs_about g.N.Name.name c.args.timers.now.params c.args.direct c.args.cpu d (Runs d.n) (g.H.Handler.needs c.args.handler.now) (func_in c.fire_of-fire.result)
-    (record { passes = c.begin_lane-said.new.passes; act = c.args.lane.act }) (handle_of c.run_if-ran.result) c.run_if-ran.ensures.runs
-    (record { handle = c.begin_lane-said.ensures.handle; serving = c.begin_lane-said.ensures.serving })).serving
+    runs_about g.N.Name.name c.args.timers.now.params c.args.direct c.args.cpu d (Runs d.n) (g.H.Handler.needs c.args.handler.now) (func_in c.fire_of-fire.result)
+    (record { passes = c.begin_lane-said.new.passes; act = c.args.lane.act }) (handle_of c.run_if-ran.result) c.run_if-ran.ensures.runs c.begin_lane-said.ensures.about
 
 pub drained_if-over-requires-clause-needs : goal.drained_if-over-requires-clause-needs
 drained_if-over-requires-clause-needs g c = subst (λ (n : Needs). IsFor n c.args.timers.now.params) (sym c.run_if-ran.ensures.needs) c.requires.needs
@@ -58,14 +50,7 @@ returns-clause-service g c =
       drained = c.is_some-2.ensures ∙ ap is_some c.drain_of-drain.ensures;
     }
 
-pub returns-clause-handle : goal.returns-clause-handle
-returns-clause-handle g c =
-    (runs_free g.N.Name.name c.args.timers.now.params c.args.direct c.args.cpu (g.H.Handler.needs c.run_if-ran.new.handler) c.drain_of-drain.result
-    (record { passes = c.finish-made.new.passes; act = c.run_if-ran.result.act }) (handle_of c.drained_if-over.result) c.drained_if-over.ensures.runs
-    (record { handle = c.finish-made.ensures.handle; free = c.finish-made.ensures.free })).handle
-
-pub returns-clause-free : goal.returns-clause-free
-returns-clause-free g c =
-    (runs_free g.N.Name.name c.args.timers.now.params c.args.direct c.args.cpu (g.H.Handler.needs c.run_if-ran.new.handler) c.drain_of-drain.result
-    (record { passes = c.finish-made.new.passes; act = c.run_if-ran.result.act }) (handle_of c.drained_if-over.result) c.drained_if-over.ensures.runs
-    (record { handle = c.finish-made.ensures.handle; free = c.finish-made.ensures.free })).free
+pub returns-clause-at_ease : goal.returns-clause-at_ease
+returns-clause-at_ease g c =
+    runs_free g.N.Name.name c.args.timers.now.params c.args.direct c.args.cpu (g.H.Handler.needs c.run_if-ran.new.handler) c.drain_of-drain.result
+    (record { passes = c.finish-made.new.passes; act = c.run_if-ran.result.act }) (handle_of c.drained_if-over.result) c.drained_if-over.ensures.runs c.finish-made.ensures.at_ease

@@ -1,5 +1,5 @@
 -- Rounds, and one more.
-use Rattle.std.proofs.Common.{◌≡◌, refl, sym, subst, ◌∙◌}
+use Rattle.std.proofs.Common.{refl, sym, subst, ◌∙◌}
 use Rattle.std.specs.declared.option.Option.{Option}
 use Rattle.co_hand.specs.Handlers.{Needs}
 use Rattle.co_timers.specs.declared.turned.Round.{Round}
@@ -9,16 +9,15 @@ use Rattle.co_timers.specs.Rounds.{AreRounds, IsNext, IsRound, again, start}
 use Rattle.co_timers.proofs.rounds.serve_all.Goals as goal
 
 pub loop-init : goal.loop-init
-loop-init g c = record { handle = c.requires.handle; needs = refl; free = c.requires.free; rounds = start }
+loop-init g c = record { at_ease = c.requires.at_ease; needs = refl; rounds = start }
 
 pub loop-preserved : goal.loop-preserved
 loop-preserved g c =
     let first : Needs = g.H.Handler.needs c.args.handler.now in
     let next = subst (λ (o : Option Round). IsNext c.args.direct (g.H.Handler.needs c.loop.handler) c.args.scans c.args.cpu c.args.act (handle_of c.loop.here) o (handle_of c.round-next.result.0)) c.in-Some-one.is c.round-next.ensures.next in
     let one = subst (λ (n : Needs). IsRound c.args.direct n c.args.cpu c.args.act (handle_of c.loop.here) c.in-Some-one.one (handle_of c.round-next.result.0)) c.loop.invariant.needs next in record {
-      handle = c.round-next.ensures.handle;
+      at_ease = c.round-next.ensures.at_ease;
       needs = c.round-next.ensures.needs ∙ c.loop.invariant.needs;
-      free = c.round-next.ensures.free;
       rounds = subst (λ (s : Served). AreRounds c.args.direct first c.args.cpu c.args.act (handle_of c.args.lane) s (handle_of c.round-next.result.0)) (sym c.served_after-served.ensures)
           (again c.loop.served c.in-Some-one.one (handle_of c.loop.here) (handle_of c.round-next.result.0) c.loop.invariant.rounds one);
     }

@@ -1,5 +1,5 @@
 -- One call more.
-use Rattle.std.proofs.Common.{◌≡◌, List, [], ◌∷◌, ◌++◌, sym, subst}
+use Rattle.std.proofs.Common.{List, sym, subst}
 use Rattle.std.specs.Option.{option_copied}
 use Rattle.co_hand.specs.declared.port_call.PortCall.{PortCall}
 use Rattle.co_timers.specs.Handles.{HandleView}

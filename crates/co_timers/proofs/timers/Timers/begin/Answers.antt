@@ -4,12 +4,12 @@ use Rattle.co_timers.proofs.Kept.{handle_after}
 use Rattle.co_timers.proofs.timers.Timers.begin.Goals as goal
 
 pub returns-clause-begun : goal.returns-clause-begun
-returns-clause-begun g c = c.begin.ensures.begun (record { i = c.args.i; n = c.args.n }) c.requires.serving
+returns-clause-begun g c = c.begin.ensures.begun (record { i = c.args.i; n = c.args.n }) c.requires.about.serving
 
-pub returns-clause-handle : goal.returns-clause-handle
-returns-clause-handle g c =
-    let mine : Due = record { i = c.args.i; n = c.args.n } in
-    handle_after g.N.Name.name c.args.self.now.params c.args.passes.now c.begin.new.passes (notes_in c.begin.result.notes) c.requires.handle (c.begin.ensures.begun mine c.requires.serving).written
-
-pub returns-clause-serving : goal.returns-clause-serving
-returns-clause-serving g c = c.begin.ensures.serving (record { i = c.args.i; n = c.args.n }) c.requires.serving
+pub returns-clause-about : goal.returns-clause-about
+returns-clause-about g c =
+    let mine : Due = record { i = c.args.i; n = c.args.n } in record {
+      below = c.requires.about.below;
+      handle = handle_after g.N.Name.name c.args.self.now.params c.args.passes.now c.begin.new.passes (notes_in c.begin.result.notes) c.requires.about.handle (c.begin.ensures.begun mine c.requires.about.serving).written;
+      serving = c.begin.ensures.serving mine c.requires.about.serving;
+    }
