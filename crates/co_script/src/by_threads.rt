@@ -1,0 +1,206 @@
+//! The script that a text stands for, of which threads read the long sections beside each other.
+ghost use Rattle.std.specs.Prelude.{◌≡◌, ◌≤◌, ◌++◌, None, length, IfOk, OnOk};
+ghost use Rattle.std.specs.List.{All};
+ghost use Rattle.co_text.specs.Fallible.{GivesOrNoMemory};
+ghost use Rattle.co_text.specs.declared.ScriptFault.TheVariants as fault;
+ghost use Rattle.co_text.specs.Lines.{lines_of};
+ghost use Rattle.co_script.specs.Beside.{IsSection, IsSpot, left_read};
+ghost use Rattle.co_script.specs.Reading.{lines_read, script_of};
+ghost use denote.Param.Send.{IsSync};
+
+use crate::draft::Draft;
+use crate::reader::{finished, read_to};
+use crate::sections::{Section, Start, read_section, starts_of};
+use crate::spot::Spot;
+use co_grammar::Kind;
+use co_program::Script;
+use co_sbt::{NoMemory, Seq};
+use co_text::{Cause, LineFault, ScriptFault};
+use std::alloc::Global;
+use std::thread::{Threads, join};
+
+/// How often the sections are halved: three times, for 8 parts.
+const HALVINGS: u32 = 3;
+
+/// Want of memory, as a fault of the text.
+fn no_memory(_fault: NoMemory) -> ScriptFault
+    ensures { result ≡ fault.NoMemory }
+{
+    ScriptFault::NoMemory
+}
+
+/// Sections that begin here, read one after the other.
+fn read_in_turn(
+    alloc: Global,
+    text: &[u8],
+    frame: &Draft,
+    starts: &[Start],
+) -> Result<Seq<Section>, NoMemory>
+    requires { length text.now ≤ 67108864 }
+    ensures { IfOk result (All (IsSection text.now frame.now)) }
+{
+    let mut sections = Seq::new(alloc);
+    for start in starts {
+        sections.push(read_section(alloc, text, frame, *start)?)?;
+    }
+    Ok(sections)
+}
+
+/// Appends sections. `NoMemory` where there is no room for them.
+fn append(sections: &mut Seq<Section>, more: Seq<Section>) -> Result<(), NoMemory>
+    ensures { OnOk result (sections.new ≡ sections.old ++ more) }
+{
+    for section in more.into_vec() {
+        sections.push(section)?;
+    }
+    Ok(())
+}
+
+/// The sections that begin here. They are halved this often, and the halves are read beside each other, the first one in
+/// a thread of its own where one can be had.
+#[cycle(halves)]
+fn read_halves<R: Threads + Sync>(
+    rt: &R,
+    alloc: Global,
+    text: &[u8],
+    frame: &Draft,
+    starts: &[Start],
+    halvings: u32,
+) -> Result<Seq<Section>, NoMemory>
+    requires { length text.now ≤ 67108864 }
+    ensures { IfOk result (All (IsSection text.now frame.now)) }
+{
+    if halvings == 0 || starts.len() < 2 {
+        return read_in_turn(alloc, text, frame, starts);
+    }
+    let (first, second) = starts.split_at(starts.len() / 2);
+    let left = halvings - 1;
+    let front = || -> Result<Seq<Section>, NoMemory>
+        requires { IsSync R.row × (length text.now ≤ 67108864) }
+        ensures { IfOk result (All (IsSection text.entry.now frame.entry.now)) }
+    { read_halves(rt, alloc, text, frame, first, left) };
+    let back = || -> Result<Seq<Section>, NoMemory>
+        requires { IsSync R.row × (length text.now ≤ 67108864) }
+        ensures { IfOk result (All (IsSection text.entry.now frame.entry.now)) }
+    { read_halves(rt, alloc, text, frame, second, left) };
+    let (before, behind) = join(rt, front, back);
+    let mut sections = before?;
+    append(&mut sections, behind?)?;
+    Ok(sections)
+}
+
+/// The place behind a section that was read by itself, whose acts go into the draft; this place where they may not.
+fn put_section(
+    text: &[u8],
+    draft: &mut Option<Draft>,
+    frame: &Draft,
+    from: Spot,
+    section: Section,
+) -> Spot
+    requires from { IsSpot text.now from }
+    requires section { IsSection text.now frame.now section }
+    ensures spot { IsSpot text.now result }
+    ensures same { left_read text.now draft.old from ≡ left_read text.now draft.new result }
+{
+    let _ = text;
+    let number = section.acts.as_slice().len();
+    match draft {
+        Some(draft) if from.at == section.at && draft.may_take(frame, section.stage, number) => {
+            draft.take(section.acts, section.clock);
+            Spot {
+                number: from.number + section.lines,
+                at: section.end,
+            }
+        }
+        _ => from,
+    }
+}
+
+/// Reads the lines of a text from a place on, all but those of the sections that were read by themselves.
+fn read_around(
+    alloc: Global,
+    text: &[u8],
+    draft: &mut Option<Draft>,
+    frame: &Draft,
+    from: Spot,
+    sections: Seq<Section>,
+) -> Result<(), ScriptFault>
+    requires small { length text.now ≤ 67108864 }
+    requires from { IsSpot text.now from }
+    requires sections { All (IsSection text.now frame.now) sections }
+    ensures { GivesOrNoMemory (λ _. draft.new) result (left_read text.now draft.old from) }
+{
+    let mut spot = from;
+    for section in sections.into_vec() {
+        spot = read_to(alloc, text, draft, spot, section.at)?;
+        spot = put_section(text, draft, frame, spot, section);
+    }
+    read_to(alloc, text, draft, spot, text.len())?;
+    Ok(())
+}
+
+/// What sections are read against: the frame of the lines so far. Before the first line with words there is none, and no
+/// section may be put into the draft.
+fn frame_of(alloc: Global, draft: &Option<Draft>) -> Result<Draft, NoMemory> {
+    match draft {
+        Some(draft) => draft.beside(alloc, Kind::Client),
+        None => Ok(Draft::opening(alloc, 1)),
+    }
+}
+
+/// Reads all lines of a text into a draft. Threads read the sections that begin here, against the frame of the lines before
+/// the first of them.
+fn read_beside<R: Threads + Sync>(
+    rt: &R,
+    alloc: Global,
+    text: &[u8],
+    draft: &mut Option<Draft>,
+    starts: &[Start],
+) -> Result<(), ScriptFault>
+    requires { length text.now ≤ 67108864 }
+    ensures { GivesOrNoMemory (λ _. draft.new) result (left_read text.now draft.old (record { number = 0; at = 0 })) }
+{
+    let first = match starts.first() {
+        Some(start) => start.at.min(text.len()),
+        None => text.len(),
+    };
+    let spot = read_to(alloc, text, draft, Spot::start(), first)?;
+    let frame = frame_of(alloc, draft).map_err(no_memory)?;
+    let sections = read_halves(rt, alloc, text, &frame, starts, HALVINGS).map_err(no_memory)?;
+    read_around(alloc, text, draft, &frame, spot, sections)
+}
+
+/// All lines of a text, of which threads read the sections that begin here.
+fn lines_read_by_threads<R: Threads + Sync>(
+    rt: &R,
+    alloc: Global,
+    text: &[u8],
+    starts: &[Start],
+) -> Result<Option<Draft>, ScriptFault>
+    requires { length text.now ≤ 67108864 }
+    ensures { GivesOrNoMemory (λ d. d) result (lines_read 1 None (lines_of text.now)) }
+{
+    let mut draft = None;
+    read_beside(rt, alloc, text, &mut draft, starts)?;
+    Ok(draft)
+}
+
+/// The script that a text stands for, or its first bad line and the first cause for which it is bad, as `read_script` gives
+/// them. The sections of 64 KiB and more, whose lines are most of a long text, are read beside each other by up to 8
+/// threads, once the lines before the first of them are read; the other lines in their order. Where no thread can be had
+/// all of this is done one after the other.
+#[tactic(auto, unfolding(crate::specs::Reading::script_of))]
+pub fn read_script_by_threads<R: Threads + Sync>(
+    rt: &R,
+    alloc: Global,
+    bytes: &[u8],
+) -> Result<Script, ScriptFault>
+    ensures { GivesOrNoMemory (λ s. s) result (script_of bytes.now) }
+{
+    if bytes.len() > 67_108_864 {
+        return Err(LineFault::Bad(Cause::Size).at(0));
+    }
+    let starts = starts_of(alloc, bytes).map_err(no_memory)?;
+    let draft = lines_read_by_threads(rt, alloc, bytes, starts.as_slice())?;
+    finished(alloc, draft)
+}
