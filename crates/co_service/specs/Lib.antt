@@ -29,6 +29,8 @@ pub mod Books
 pub mod May
 -- how the journal ties to the desk: its wheel shows the queue after it, its records the histories
 pub mod Desk
+-- what a section writes at a desk: the books after it, and the passes of the actor that wrote
+pub mod Written
 -- a callout on its way from desk to desk, by value, with its history
 pub mod Moving
 -- what the end of a service did, in few words: its notes, and what leaves

@@ -38,7 +38,7 @@ impl<N: Name> Service<N> {
         ensures some { IfSome result (λ out. IsScan passes.old cpu act now out passes.new) }
     {
         let desk = self.desks[cpu as usize].desk.get_mut();
-        desk.scan(self.places.cpus(), passes, cpu, act, now)
+        desk.scan(&self.places, passes, cpu, act, now)
     }
 
     /// What is due at this CPU has come due, as with [`Service::scan`].

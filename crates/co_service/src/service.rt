@@ -231,7 +231,7 @@ impl<N: Name> Service<N> {
             let out = locked
                 .desk
                 .lock(rt)
-                .scan(self.places.cpus(), passes, cpu, act, now);
+                .scan(&self.places, passes, cpu, act, now);
             if let Some(out) = out {
                 locked.changed.notify_all();
                 return out;

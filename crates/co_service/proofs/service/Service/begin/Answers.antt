@@ -1,4 +1,4 @@
-use Rattle.std.proofs.Common.{false, sym, ap, ◌∙◌, subst}
+use Rattle.std.proofs.Common.{false, sym, subst}
 use Rattle.co_object.specs.Queue.{Due}
 use Rattle.co_service.specs.Serving.{Waits}
 use Rattle.co_service.specs.Services.{IsBegun, IsServing}
@@ -23,9 +23,6 @@ returns-in-Some-out-clause-actor g c =
 
 pub returns-in-Some-out-clause-serving : goal.returns-in-Some-out-clause-serving
 returns-in-Some-out-clause-serving g c = λ d s. begun_serving c.args.passes.now c.begin-out.new.passes c.args.cpu c.args.act c.in-Some-out.out d (begun_in g c d s) s
-
-pub begin-out-requires-clause-name : goal.begin-out-requires-clause-name
-begin-out-requires-clause-name g c = ap (λ (p : PassesView). p.name) c.loop.invariant ∙ c.requires.passes.name_is
 
 pub begin-out-requires-clause-serves : goal.begin-out-requires-clause-serves
 begin-out-requires-clause-serves g c = subst (λ (p : PassesView). (d : Due) × IsServing false p c.args.cpu d (Waits d.n)) (sym c.loop.invariant) c.requires.serves

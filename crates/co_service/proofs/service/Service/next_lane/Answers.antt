@@ -1,10 +1,7 @@
-use Rattle.std.proofs.Common.{sym, ap, ◌∙◌, subst}
+use Rattle.std.proofs.Common.{sym, subst}
 use Rattle.co_service.specs.Services.{IsFree, IsTaken, taken_of}
 use Rattle.co_service.specs.Views.{PassesView}
 use Rattle.co_service.proofs.service.Service.next_lane.Goals as goal
-
-pub next-requires-in-loop-clause-name : goal.next-requires-in-loop-clause-name
-next-requires-in-loop-clause-name g c = ap (λ (p : PassesView). p.name) c.loop.invariant ∙ c.requires.passes.name_is
 
 pub next-requires-in-loop-clause-free : goal.next-requires-in-loop-clause-free
 next-requires-in-loop-clause-free g c = subst (λ (p : PassesView). IsFree c.args.direct p c.args.cpu) (sym c.loop.invariant) c.requires.free
