@@ -35,6 +35,8 @@ pub mod Written
 pub mod Moving
 -- what the end of a service did, in few words: its notes, and what leaves
 pub mod Ends
+-- what a caller of the running service has before a section, and what it keeps
+pub mod Kept
 -- what boot makes of each place: its life, its keeper, and passes that have seen nothing
 pub mod Booted
 -- a service before its locks: a bench for each CPU; and a running one, with its desks

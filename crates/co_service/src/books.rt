@@ -1,7 +1,7 @@
 //! The histories that stand at a desk.
 ghost use Rattle.std.specs.Prelude.{◌≡◌, ◌<◌, true, false, length, is_some};
 ghost use Rattle.std.specs.declared.option.Option.TheVariants.{Some, None};
-ghost use Rattle.co_service.specs.Books.{history_at, is_kept, with_history};
+ghost use Rattle.co_service.specs.Books.{IsTakenOut, is_kept, with_history};
 ghost use Rattle.co_service.specs.Lines.{made};
 ghost use Rattle.co_service.specs.May.{MayEnter, MayHappen};
 ghost use Rattle.co_service.specs.Stories.{IsHistory, IsJournal};
@@ -124,9 +124,7 @@ impl<N: Name> Books<N> {
     #[inline(always)]
     pub(crate) fn take(&mut self, i: u32) -> Keeper<TimerStory>
         requires { is_kept self.old i ≡ true }
-        ensures keeper { IsKeeperOf IsHistory N.name.timers self.old.params i result }
-        ensures history { history_at self.old i ≡ Some (made result.history) }
-        ensures books { self.new ≡ with_history self.old i None }
+        ensures { IsTakenOut N.name self.old i result self.new }
     {
         self.keepers[i as usize].take().unwrap()
     }

@@ -1,5 +1,5 @@
 //! What one lock guards.
-ghost use Rattle.std.specs.Prelude.{◌≡◌, ◌≢◌, ◌<◌, ◌^◌, IfSome, IfNone, false, true};
+ghost use Rattle.std.specs.Prelude.{◌≡◌, ◌≢◌, ◌<◌, ◌^◌, false, true};
 ghost use Rattle.std.specs.declared.option.Option.TheVariants.{Some, None};
 ghost use Rattle.co_object.specs.Journal.{scanner, step, reply_of, IsOfItsActor};
 ghost use Rattle.co_service.specs.Books.{is_kept};
@@ -9,6 +9,7 @@ ghost use Rattle.co_service.specs.Moving.{IsTried};
 ghost use Rattle.co_service.specs.Outcomes.{IsScan, IsTurn, turn};
 ghost use Rattle.co_wheel.specs.Cpu.{Cpu};
 ghost use Rattle.co_service.specs.Written.{AreHere, AreTogether, IsTurnWritten};
+ghost use Rattle.co_service.specs.Kept.{Answers};
 
 use crate::books::Books;
 use crate::calling::write_group;
@@ -135,9 +136,7 @@ impl<N: Name> Desk<N> {
     ) -> Option<Scanned>
         requires service { AreHere N.name places.now passes.old }
         requires scanner { passes.old.actor ≡ scanner (actors_of passes.old.params) cpu }
-        ensures none { IfNone result (passes.new ≡ passes.old) }
-        ensures why { IfNone result (self.old.cpu ≢ cpu) }
-        ensures some { IfSome result (λ out. IsScan passes.old cpu act now out passes.new) }
+        ensures { Answers passes.old result (self.old.cpu ≢ cpu) (λ out. IsScan passes.old cpu act now out passes.new) passes.new }
     {
         if self.books.cpu() != cpu {
             return None;

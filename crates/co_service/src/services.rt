@@ -1,5 +1,5 @@
 //! The sections of a desk in which a callout is serviced, and its landing.
-ghost use Rattle.std.specs.Prelude.{◌≡◌, ◌≢◌, ◌<◌, ◌⊎◌, IfErr, IfNone, IfOk, IfSome, false, nat_lt, true};
+ghost use Rattle.std.specs.Prelude.{◌≡◌, ◌≢◌, ◌<◌, ◌⊎◌, IfErr, IfOk, false, nat_lt, true};
 ghost use Rattle.std.specs.Option.{option_map};
 ghost use Rattle.std.specs.declared.option.Option.TheVariants.{Some, None};
 ghost use Rattle.co_object.specs.declared.queue.QOp.TheVariants.{Insert};
@@ -7,14 +7,13 @@ ghost use Rattle.co_object.specs.declared.queue.QReply.TheVariants.{At};
 ghost use Rattle.co_object.specs.Journal.{reply_of, step};
 ghost use Rattle.co_object.specs.Queue.{Due};
 ghost use Rattle.co_service.specs.Desk.{is_entry, scans_in, services};
-ghost use Rattle.co_service.specs.Ends.{IsFinished};
 ghost use Rattle.co_service.specs.May.{queue_of};
 ghost use Rattle.co_service.specs.Outcomes.{turn};
 ghost use Rattle.co_service.specs.Params.{directs};
-ghost use Rattle.co_service.specs.Services.{FollowsScans, IsBegun, IsFree, IsLanded, IsServing, IsTaken, taken_of};
+ghost use Rattle.co_service.specs.Services.{IsBegun, IsFree, IsLanded, IsServing};
 ghost use Rattle.co_service.specs.Serving.{Runs, Waits};
-ghost use Rattle.co_service.specs.Views.{journal_seen};
 ghost use Rattle.co_service.specs.Written.{AreHere, AreTogether, IsTurnWritten};
+ghost use Rattle.co_service.specs.Kept.{Answers, AnswersEnd, IsStarted};
 
 use crate::books::Books;
 use crate::desk::{Desk, write_turn};
@@ -97,10 +96,7 @@ impl<N: Name> Desk<N> {
     ) -> Option<Popped>
         requires service { AreHere N.name places.now passes.old }
         requires free { IsFree direct passes.old cpu }
-        ensures none { IfNone result (passes.new ≡ passes.old) }
-        ensures why { IfNone result ((self.old.cpu ≢ cpu) ⊎ (scans_in self.old.journal < scans)) }
-        ensures some { IfSome result (λ out. IsTaken direct passes.old cpu act (taken_of direct passes.old.actor act cpu out) passes.new) }
-        ensures scans { IfSome result (λ _. FollowsScans scans (journal_seen passes.new cpu)) }
+        ensures { Answers passes.old result ((self.old.cpu ≢ cpu) ⊎ (scans_in self.old.journal < scans)) (λ out. IsStarted direct passes.old cpu act scans out passes.new) passes.new }
     {
         if self.books.cpu() != cpu {
             return None;
@@ -125,9 +121,7 @@ impl<N: Name> Desk<N> {
     ) -> Option<Made>
         requires service { AreHere N.name places.now passes.old }
         requires serves { (d : Due) × IsServing false passes.old cpu d (Waits d.n) }
-        ensures none { IfNone result (passes.new ≡ passes.old) }
-        ensures why { IfNone result (self.old.cpu ≢ cpu) }
-        ensures some { IfSome result (λ out. (d : Due) → IsServing false passes.old cpu d (Waits d.n) → IsBegun passes.old cpu act d out passes.new) }
+        ensures { Answers passes.old result (self.old.cpu ≢ cpu) (λ out. (d : Due) → IsServing false passes.old cpu d (Waits d.n) → IsBegun passes.old cpu act d out passes.new) passes.new }
     {
         if self.books.cpu() != cpu {
             return None;
@@ -160,9 +154,7 @@ impl<N: Name> Desk<N> {
         requires service { AreHere N.name places.now passes.old }
         requires serves { (d : Due) × IsServing direct passes.old cpu d (Runs d.n) }
         requires none { gone.old ≡ None }
-        ensures none { result ≡ false → (passes.new ≡ passes.old) × (gone.new ≡ None) }
-        ensures why { result ≡ false → self.old.cpu ≢ cpu }
-        ensures some { result ≡ true → (d : Due) → IsServing direct passes.old cpu d (Runs d.n) → IsFinished direct passes.old cpu act d told.new gone.new passes.new }
+        ensures { AnswersEnd direct passes.old cpu act result (self.old.cpu ≢ cpu) told.new gone.new passes.new }
     {
         if self.books.cpu() != cpu {
             return false;

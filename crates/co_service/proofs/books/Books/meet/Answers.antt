@@ -16,15 +16,13 @@ get-requires g c =
     let lives = c.cpus.ensures ∙ ap (λ (n : ServiceName). n.cpus) c.requires.places_are in
     below_get c.cpus.result.now c.self.inside.cpu c.self.inside.journal.life (subst (λ l. slice_get l c.self.inside.cpu ≡ Some c.self.inside.journal.life) (sym lives) c.self.invariant.own.life)
 
-pub meet_cpu-requires-clause-at : goal.meet_cpu-requires-clause-at
-meet_cpu-requires-clause-at g c =
+pub meet_cpu-requires-clause-place : goal.meet_cpu-requires-clause-place
+meet_cpu-requires-clause-place g c =
     let lives = c.cpus.ensures ∙ ap (λ (n : ServiceName). n.cpus) c.requires.places_are in
-    (λ d. slice_get (c.requires.passes_are d).cpus c.self.inside.cpu) ∙ ((λ d. slice_get (sym lives d) c.self.inside.cpu) ∙ c.get.ensures)
-
-pub meet_cpu-requires-clause-life : goal.meet_cpu-requires-clause-life
-meet_cpu-requires-clause-life g c =
-    let lives = c.cpus.ensures ∙ ap (λ (n : ServiceName). n.cpus) c.requires.places_are in
-    same_life g.N.Name.name.cpus c.cpus.result.now c.self.inside.cpu c.self.inside.journal.life c.get.result.now (sym lives) c.self.invariant.own.life c.get.ensures
+    record {
+      at = (λ d. slice_get (c.requires.passes_are d).cpus c.self.inside.cpu) ∙ ((λ d. slice_get (sym lives d) c.self.inside.cpu) ∙ c.get.ensures);
+      keeper = same_life g.N.Name.name.cpus c.cpus.result.now c.self.inside.cpu c.self.inside.journal.life c.get.result.now (sym lives) c.self.invariant.own.life c.get.ensures;
+    }
 
 pub meet_cpu-requires-clause-opened : goal.meet_cpu-requires-clause-opened
 meet_cpu-requires-clause-opened g c = (c.self.inside.params.value, c.self.invariant.own.opened)

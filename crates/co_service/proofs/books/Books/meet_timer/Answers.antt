@@ -18,13 +18,12 @@ index_mut-requires g c =
     let n = c.self.inside.keepers.ok.0 in
     omega arith
 
-pub meet_timer-requires-clause-at : goal.meet_timer-requires-clause-at
-meet_timer-requires-clause-at g c = (λ d. slice_get (c.requires.service.passes_are d).timers c.args.i) ∙ ((λ d. slice_get (sym (c.timers.ensures ∙ ap (λ (n : ServiceName). n.timers) c.requires.service.places_are) d) c.args.i) ∙ c.get.ensures)
-
-pub meet_timer-requires-clause-life : goal.meet_timer-requires-clause-life
-meet_timer-requires-clause-life g c =
-    same_life g.N.Name.name.timers c.timers.result.now c.args.i c.in-Some.keeper.life c.get.result.now (sym (c.timers.ensures ∙ ap (λ (n : ServiceName). n.timers) c.requires.service.places_are))
-    (keeper_of g.N.Name.name c.self.inside.params.value c.self.inside.cpu c.self.inside.keepers.items c.self.inside.journal c.args.self.now c.self.invariant c.self.view_is c.args.i c.index_mut.result.now c.in-Some.keeper c.requires.here c.index_mut.ensures.value c.in-Some.is).life c.get.ensures
+pub meet_timer-requires-clause-place : goal.meet_timer-requires-clause-place
+meet_timer-requires-clause-place g c =
+    record {
+      at = (λ d. slice_get (c.requires.service.passes_are d).timers c.args.i) ∙ ((λ d. slice_get (sym (c.timers.ensures ∙ ap (λ (n : ServiceName). n.timers) c.requires.service.places_are) d) c.args.i) ∙ c.get.ensures);
+      keeper = same_life g.N.Name.name.timers c.timers.result.now c.args.i c.in-Some.keeper.life c.get.result.now (sym (c.timers.ensures ∙ ap (λ (n : ServiceName). n.timers) c.requires.service.places_are)) (keeper_of g.N.Name.name c.self.inside.params.value c.self.inside.cpu c.self.inside.keepers.items c.self.inside.journal c.args.self.now c.self.invariant c.self.view_is c.args.i c.index_mut.result.now c.in-Some.keeper c.requires.here c.index_mut.ensures.value c.in-Some.is).life c.get.ensures;
+    }
 
 pub get-requires : goal.get-requires
 get-requires g c =

@@ -38,14 +38,20 @@ invariant_of-self g c =
     (subst (λ (k : ℕ). IsDesk c.begin-reply.new.self (with_history c.meet_timer.new.self e.i (Some (entries_at c.meet_timer.new.self e.i ++ run_entry c.meet_timer.new.passes c.args.act (Begin e.n k) c.begin-reply.result ∷ []))) c.self.inside.scans) here
     (begun_desk c.self.inside.wheel c.begin-reply.new.self c.meet_timer.new.self c.self.inside.scans c.meet_timer.new.passes c.args.act e s.0 s.1 c.begin-reply.result c.begin-reply.ensures.callouts c.begin-reply.ensures.queue))
 
-pub returns-clause-some : goal.returns-clause-some
-returns-clause-some g c = λ d is.
-    let met : Meets c.self.inside.wheel c.self.inside.books c.self.inside.scans c.args.cpu c.args.passes.now = record { desk = c.self.invariant; legal = c.meet.ensures.legal; shown = c.meet.ensures.shown; params = c.meet.ensures.params; here = (let n = c.cpu.ensures in let f = c.if-cpu.false in omega arith) } in
-    let e : Due = record { i = c.in-Some.i; n = c.in-Some.n } in
-    begun_told c.args.passes.now c.meet_timer.new.passes c.write_run-note.new.passes c.args.cpu c.args.act d e c.begin-reply.result c.write_run-note.result c.three-notes.result
-    (entries_at c.meet_timer.new.self e.i ++ run_entry c.meet_timer.new.passes c.args.act (Begin e.n c.args.cpu) c.begin-reply.result ∷ []) (c.meet_timer.ensures.passes ∙ c.meet.ensures.passes)
-    (serves_one c.self.inside.wheel c.self.inside.books c.self.inside.scans c.args.cpu c.args.passes.now met false d e (Waits d.n) is c.in-Some.ensures.which)
-    c.write_run-note.ensures.note.0 c.write_run-note.ensures.note.1 c.write_run-note.ensures.written.written c.three-notes.ensures
+pub returns : goal.returns
+returns g c = record {
+  asked = record {
+    none = tt;
+    some = λ d is.
+        let met : Meets c.self.inside.wheel c.self.inside.books c.self.inside.scans c.args.cpu c.args.passes.now = record { desk = c.self.invariant; legal = c.meet.ensures.legal; shown = c.meet.ensures.shown; params = c.meet.ensures.params; here = (let n = c.cpu.ensures in let f = c.if-cpu.false in omega arith) } in
+        let e : Due = record { i = c.in-Some.i; n = c.in-Some.n } in
+        begun_told c.args.passes.now c.meet_timer.new.passes c.write_run-note.new.passes c.args.cpu c.args.act d e c.begin-reply.result c.write_run-note.result c.three-notes.result
+        (entries_at c.meet_timer.new.self e.i ++ run_entry c.meet_timer.new.passes c.args.act (Begin e.n c.args.cpu) c.begin-reply.result ∷ []) (c.meet_timer.ensures.passes ∙ c.meet.ensures.passes)
+        (serves_one c.self.inside.wheel c.self.inside.books c.self.inside.scans c.args.cpu c.args.passes.now met false d e (Waits d.n) is c.in-Some.ensures.which)
+        c.write_run-note.ensures.note.0 c.write_run-note.ensures.note.1 c.write_run-note.ensures.written.written c.three-notes.ensures;
+  };
+  why = tt;
+}
 
 pub unreachable-requires : goal.unreachable-requires
 unreachable-requires g c =

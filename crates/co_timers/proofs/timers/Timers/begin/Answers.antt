@@ -12,4 +12,4 @@ returns-clause-handle g c =
     handle_after g.N.Name.name c.args.self.now.params c.args.passes.now c.begin.new.passes (notes_in c.begin.result.notes) c.requires.handle (c.begin.ensures.begun mine c.requires.serving).written
 
 pub returns-clause-serving : goal.returns-clause-serving
-returns-clause-serving g c = c.begin.ensures.serving (record { i = c.args.i; n = c.args.n }) c.requires.serving
+returns-clause-serving g c = c.begin.ensures.kept.serving (record { i = c.args.i; n = c.args.n }) c.requires.serving
