@@ -1,6 +1,5 @@
 -- The notes of a call beside its entry: what it took out of the queue, and what it put in.
-use Rattle.std.proofs.Common.{◌≡◌, ℕ, true, false, List, [], ◌∷◌, ◌++◌, map, refl, sym, ap, ◌∙◌, subst}
-use Rattle.std.specs.Prelude.{is_some}
+use Rattle.std.proofs.Common.{◌≡◌, ℕ, List, [], ◌∷◌, ◌++◌, map, refl, sym, ap, ◌∙◌, subst}
 use Rattle.std.specs.declared.option.Option.{Option}
 use Rattle.std.specs.declared.option.Option.TheVariants.{Some, None}
 use Rattle.co_object.specs.declared.note.Entry.{Entry}
@@ -13,46 +12,33 @@ use Rattle.co_object.specs.declared.op.Op.TheVariants.{Call}
 use Rattle.co_object.specs.declared.queue.QOp.TheVariants.{Insert, Remove}
 use Rattle.co_object.specs.declared.queue.QReply.TheVariants.{At, Off}
 use Rattle.co_object.specs.Group.{Placed, off_of, placed}
-use Rattle.co_object.specs.Journal.{step, reply_of}
-use Rattle.co_wheel.specs.Cpu.{Cpu}
-use Rattle.co_wheel.specs.Turns.{Turn, removal}
 use Rattle.co_service.specs.declared.told.Told.{Told}
-use Rattle.co_service.specs.Params.{directs}
 use Rattle.co_service.specs.Books.{BooksView}
 use Rattle.co_service.specs.Call.{call_entry, due_in, insertion_notes, insertion_told, number_in, removal_notes, removal_told, section_notes, told_notes}
-use Rattle.co_service.specs.Desk.{Owes}
-use Rattle.co_service.specs.May.{queue_of}
+use Rattle.co_service.specs.Desk.{scans_in}
 use Rattle.co_service.specs.Outcomes.{noted_entry, turn}
 use Rattle.co_service.specs.Views.{PassesView}
-use Rattle.co_service.specs.Writes.{Writes, WritesCpu, WritesTimer}
+use Rattle.co_service.specs.Writes.{Writes, WritesTimer}
+use Rattle.co_service.specs.Written.{IsInsertionWritten, IsTurnWritten}
+use Rattle.co_service.proofs.DeskKept.{scans_same}
 use Rattle.co_service.proofs.Noting.{turn_written, writes-append}
 
-pub removal_possible : (b : BooksView) (i : ℕ) (o : Option ℕ) (turns : List Turn) (w : Cpu) → true ≡ is_some o → Owes (removal i o ++ turns) w b → reply_of (step b.params.buckets (directs b.params) (queue_of b) (Remove i)) ≡ Some Off
-removal_possible b i None turns w some o = absurd (cc)
-removal_possible b i (Some x) turns w some o = o.takes.0
+-- the books after an entry of the journal: it alone has changed
+journal_alone : (p q : PassesView) (b b' : BooksView) (e : QEntry) (pos : ℕ) → IsTurnWritten p b e pos q b' → b' ≡ record b { journal = b'.journal }
+journal_alone p q b b' e pos w = w.books ∙ ap (λ (J : List QEntry). record b { journal = J }) (sym (ap (λ (v : BooksView). v.journal) w.books))
 
-pub removal_goes : (b b' : BooksView) (i : ℕ) (o : Option ℕ) (turns : List Turn) (w : Cpu) → true ≡ is_some o → ((ts : List Turn) (v : Cpu) → Owes ((Remove i, Off) ∷ ts) v b → Owes ts v b') → Owes (removal i o ++ turns) w b → Owes turns w b'
-removal_goes b b' i None turns w some goes o = absurd (cc)
-removal_goes b b' i (Some x) turns w some goes o = goes turns w o
-
-pub removal_none : (b : BooksView) (i : ℕ) (o : Option ℕ) (turns : List Turn) (w : Cpu) → false ≡ is_some o → Owes (removal i o ++ turns) w b → Owes turns w b
-removal_none b i None turns w none o = o
-removal_none b i (Some x) turns w none o = absurd (cc)
-
--- what a call took out, as it is noted
-pub removal_written : (p q : PassesView) (act i cpu : ℕ) (o : Option ℕ) (pos : ℕ) (after : List QEntry) → true ≡ is_some o → ((x : ℕ) → o ≡ Some x → x ≡ cpu) → WritesCpu p cpu (turn p act (Remove i) Off) pos after q
-    → Writes p (removal_told p.actor act i o pos) q
-removal_written p q act i cpu None pos after some here w = absurd (cc)
-removal_written p q act i cpu (Some x) pos after some here w = turn_written p q act cpu x (Remove i) Off pos after (here x refl) w
-
-pub removal_unwritten : (p : PassesView) (act i : ℕ) (o : Option ℕ) (pos : ℕ) → false ≡ is_some o → Writes p (removal_told p.actor act i o pos) p
-removal_unwritten p act i None pos none = refl
-removal_unwritten p act i (Some x) pos none = absurd (cc)
-
-pub insertion_placed : (p : PassesView) (act cpu place i n due time pos : ℕ) (o : Option ℕ) → place ≡ cpu → o ≡ Some time
-    → map placed (insertion_told p.actor act i (Some (record { cpu = place; n = n; due = due; at = time; pos = pos }))) ≡ insertion_notes p act cpu i n due o
-insertion_placed p act cpu place i n due time pos o here is =
-    (λ d. (at.Cpu (here d), of.Cpu (record { actor = p.actor; act = act; op = Insert i n due; reply = At time })) ∷ []) ∙ ap (insertion_notes p act cpu i n due) (sym is)
+-- where the queue has an accepted arming, its Insert
+pub insertion_written : (p q : PassesView) (b b' : BooksView) (act i n due : ℕ) (o : Option ℕ) (place time pos : ℕ) → o ≡ Some time → place ≡ b.cpu → IsTurnWritten p b (turn p act (Insert i n due) (At time)) pos q b'
+    → IsInsertionWritten p b act i n due o (Some (record { cpu = place; n = n; due = due; at = time; pos = pos })) q b'
+insertion_written p q b b' act i n due o place time pos some here w = subst (λ (x : Option ℕ). IsInsertionWritten p b act i n due x (Some (record { cpu = place; n = n; due = due; at = time; pos = pos })) q b') (sym some) record {
+  books = journal_alone p q b b' (turn p act (Insert i n due) (At time)) pos w;
+  scans = ap (λ (v : BooksView). scans_in v.journal) w.books ∙ scans_same b (turn p act (Insert i n due) (At time)) refl;
+  written = turn_written p q act b.cpu place (Insert i n due) (At time) pos b'.journal here w.written;
+  timers = ap (λ (v : PassesView). v.timers) w.written.passes;
+  none = λ no. absurd (cc);
+  placed = λ d. (at.Cpu (here d), of.Cpu (record { actor = p.actor; act = act; op = Insert i n due; reply = At time })) ∷ [];
+  goes_on = w.goes_on [];
+}
 
 -- the notes of what was put in depend on the actor alone, of whom they are
 pub insertion_same : (p q : PassesView) (act cpu cpu' i n n' due due' : ℕ) (o : Option ℕ) → q.actor ≡ p.actor → cpu' ≡ cpu → n' ≡ n → due' ≡ due → insertion_notes q act cpu' i n' due' o ≡ insertion_notes p act cpu i n due o

@@ -25,6 +25,7 @@ pub mod ServiceSection
 pub mod EndSection
 pub mod MetDesk
 pub mod WholeCall
+pub mod GroupWritten
 pub mod Lasting
 pub mod Lasts
 pub mod LandSection

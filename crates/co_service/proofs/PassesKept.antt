@@ -7,15 +7,16 @@ use Rattle.co_object.specs.declared.note.Entry.{Entry}
 use Rattle.co_object.specs.declared.note.QEntry.{QEntry}
 use Rattle.co_service.specs.declared.params.Params.{Params}
 use Rattle.co_service.specs.declared.line.Line.{Line}
-use Rattle.co_service.specs.Lines.{made}
-use Rattle.co_service.specs.Seats.{SeatsView}
+use Rattle.co_service.specs.declared.line.Line.TheVariants.{Made}
+use Rattle.co_service.specs.Lines.{actor_in, made}
+use Rattle.co_service.specs.Seats.{IsWritten, SeatsView}
 use Rattle.co_service.specs.Stories.{by, queue_by, IsHistory, IsJournal}
 use Rattle.co_service.specs.Views.{PassesView, passes_of, ArePasses, IsKeeperOf}
 use Rattle.co_service.specs.Writes.{WritesTimer, WritesCpu}
-use Rattle.co_service.proofs.Writing.{Written, below_get, adds_next, seen_next, opened_next}
+use Rattle.co_service.proofs.Writing.{below_get, adds_next, seen_next, opened_next}
 
 module _ (actors a : ℕ) (params : Params) (t : SeatsView (Line Entry)) (q : SeatsView (Line QEntry)) (p : PassesView) (are : ArePasses actors a params t q) (view : passes_of a params t q ≡ p) (i number pos : ℕ) (few : actors < 2 ^ 32) (pos_is : pos ≡ number - actors) where
-  module _ (lives : List LifeId) (e : Entry) (k k' : KeeperView (Line Entry)) (t' : SeatsView (Line Entry)) (w : Written by IsHistory i e k k' t t' number) where
+  module _ (lives : List LifeId) (e : Entry) (k k' : KeeperView (Line Entry)) (t' : SeatsView (Line Entry)) (w : IsWritten (actor_in by) t i (Made e) k number k' t') where
     abbrev IsNext : PassesView → Type 0
     IsNext p = p.name.timers ≡ lives → IsKeeperOf IsHistory lives p.params i k → IsHistory p.params i (made k.history ++ e ∷ []) → e.actor ≡ p.actor → WritesTimer p i e pos (made k'.history) (passes_of a params t' q)
 
@@ -37,7 +38,7 @@ module _ (actors a : ℕ) (params : Params) (t : SeatsView (Line Entry)) (q : Se
           cpus_opened = are.cpus_opened;
         }
 
-  module _ (lives : List LifeId) (e : QEntry) (k k' : KeeperView (Line QEntry)) (q' : SeatsView (Line QEntry)) (w : Written queue_by IsJournal i e k k' q q' number) where
+  module _ (lives : List LifeId) (e : QEntry) (k k' : KeeperView (Line QEntry)) (q' : SeatsView (Line QEntry)) (w : IsWritten (actor_in queue_by) q i (Made e) k number k' q') where
     abbrev IsNextTurn : PassesView → Type 0
     IsNextTurn p = p.name.cpus ≡ lives → IsKeeperOf IsJournal lives p.params i k → IsJournal p.params i (made k.history ++ e ∷ []) → e.actor ≡ p.actor → WritesCpu p i e pos (made k'.history) (passes_of a params t q')
 

@@ -6,14 +6,13 @@ use mathlib.Core.Logic.{dite}
 use native.Mathlib.Decide.{ℕ_discrete}
 use Rattle.co_life.specs.Identity.{LifeId}
 use Rattle.co_life.specs.Seen.{Extends}
-use Rattle.co_life.specs.Rule.{capped}
 use Rattle.co_life.specs.Views.{KeeperView}
 use Rattle.co_service.specs.declared.params.Params.{Params}
 use Rattle.co_service.specs.declared.line.Line.{Line}
 use Rattle.co_service.specs.declared.line.Line.TheVariants.{Made}
 use Rattle.co_service.specs.Params.{actor_count}
 use Rattle.co_service.specs.Lines.{actor_in, made, opening_of, IsStory}
-use Rattle.co_service.specs.Seats.{SeatsView, seen_at}
+use Rattle.co_service.specs.Seats.{IsWritten, SeatsView, seen_at}
 use Rattle.co_service.specs.Views.{AreOpened, IsKeeperOf}
 use Rattle.co_service.specs.Writes.{Adds}
 use Rattle.co_service.proofs.Items.{set_map, index_set, index_else}
@@ -30,16 +29,6 @@ below_get (y ∷ xs) zero x e = omega arith
 below_get (y ∷ xs) (suc i) x e = let h = below_get xs i x e in omega arith
 
 module _ {E : Type 0} (by : E → ℕ) (Legal : Params → ℕ → List E → Type 0) where
-  -- what co_life tells of a write at place i
-  pub record Written (i : ℕ) (e : E) (k k' : KeeperView (Line E)) (s s' : SeatsView (Line E)) (number : ℕ) : Type 0 where
-    pub keeper : k' ≡ record k { history = k.history ++ Made e ∷ [] }
-    pub name : s'.name ≡ s.name
-    pub actor : s'.actor ≡ s.actor
-    pub seen : s'.seen ≡ slice_set s.seen i k'.history
-    pub extends : Extends (actor_in by) s.actor (seen_at s i) (Made e) k'.history
-    pub position : number ≡ capped (length k.history)
-    pub actors : All (λ l. actor_in by l < k'.actors) k'.history
-
   module _ (lives : List LifeId) (p : Params) (i : ℕ) (k : KeeperView (Line E)) (e : E) (at : IsKeeperOf Legal lives p i k) (legal : Legal p i (made k.history ++ e ∷ [])) where
     legal_next : Legal p i (made (k.history ++ Made e ∷ []))
     legal_next = subst (Legal p i) (sym (made-append k.history (Made e ∷ []))) legal
@@ -60,7 +49,7 @@ module _ {E : Type 0} (by : E → ℕ) (Legal : Params → ℕ → List E → Ty
     pub history_next : (k' : KeeperView (Line E)) → k' ≡ record k { history = k.history ++ Made e ∷ [] } → made k'.history ≡ made k.history ++ e ∷ []
     history_next k' is = ap (λ (t : KeeperView (Line E)). made t.history) is ∙ made-append k.history (Made e ∷ [])
 
-    module _ (k' : KeeperView (Line E)) (s s' : SeatsView (Line E)) (number : ℕ) (w : Written i e k k' s s' number) where
+    module _ (k' : KeeperView (Line E)) (s s' : SeatsView (Line E)) (number : ℕ) (w : IsWritten (actor_in by) s i (Made e) k number k' s') where
       pub adds_next : (actor opened pos : ℕ) → s.actor ≡ actor → by e ≡ actor → opened ≡ actor_count p → opened < 2 ^ 32 → pos ≡ number - opened
           → Adds by Legal p actor i e pos (slice_index_or (map made s.seen) i []) (made k'.history)
       adds_next actor opened pos own mine is few pos_is = record {

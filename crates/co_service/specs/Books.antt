@@ -1,5 +1,5 @@
 -- What a desk's books hold: the journal of its CPU, and the histories of the callouts that stand there.
-use Rattle.std.specs.Prelude.{ℕ, Bool, List, [], map, is_some, slice_index_or, slice_set}
+use Rattle.std.specs.Prelude.{◌≡◌, ℕ, Bool, List, [], map, is_some, slice_index_or, slice_set}
 use Rattle.std.specs.declared.option.Option.{Option}
 use Rattle.std.specs.declared.option.Option.TheVariants.{Some, None}
 use Rattle.co_life.specs.Identity.{LifeId}
@@ -52,3 +52,9 @@ IsKept lives p i (Some k) = IsKeeperOf IsHistory lives p i k
 pub record AreBooks (name : ServiceName) (params : Params) (cpu : ℕ) (keepers : List (Option (KeeperView (Line Entry)))) (journal : KeeperView (Line QEntry)) : Type 0 where
   pub own : IsKeeperOf IsJournal name.cpus params cpu journal
   pub each : (i : ℕ) → IsKept name.timers params i (slice_index_or keepers i None)
+
+-- the keeper of callout i is taken out of the books
+pub record IsTakenOut (name : ServiceName) (b : BooksView) (i : ℕ) (k : KeeperView (Line Entry)) (b' : BooksView) : Type 0 where
+  pub keeper : IsKeeperOf IsHistory name.timers b.params i k
+  pub history : history_at b i ≡ Some (made k.history)
+  pub books : b' ≡ with_history b i None

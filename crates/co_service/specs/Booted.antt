@@ -1,9 +1,9 @@
 -- What boot makes, place by place.
-use Rattle.std.specs.Prelude.{◌≡◌, ℕ, ◌<◌, ◌≤◌, List, [], ◌++◌, length, map, slice_get, slice_index_or, ◌==◌, get_or, if◌then◌else◌}
+use Rattle.std.specs.Prelude.{◌≡◌, ℕ, ◌+◌, ◌<◌, ◌≤◌, List, [], ◌∷◌, ◌++◌, length, map, slice_get, slice_index_or, ◌==◌, get_or, if◌then◌else◌}
 use Rattle.std.specs.declared.option.Option.TheVariants.{Some, None}
 use Rattle.std.specs.declared.option.Option.{Option}
 use Rattle.co_life.specs.Identity.{LifeId}
-use Rattle.co_life.specs.Views.{KeeperView}
+use Rattle.co_life.specs.Views.{KeeperView, PassView}
 use Rattle.co_object.specs.declared.alone.Alone.{Alone}
 use Rattle.co_object.specs.declared.note.Entry.{Entry}
 use Rattle.co_object.specs.declared.note.QEntry.{QEntry}
@@ -61,6 +61,31 @@ module _ {E : Type 0} where
     pub left : (k : ℕ) → done ≤ k → k < n → AreSeatedAt p name k (seats_at all k)
 
 module _ {E : Type 0} where
+  -- the actors may sign at place i: a history that some of them have opened is legal, and an opening entry is made by the actor that it names
+  pub record MaySign (p : Params) (i : ℕ) (Legal : List (Line E) → Type 0) (actor : Line E → ℕ) : Type 0 where
+    pub legal : (h : List (Line E)) (n : ℕ) → IsOpened p i n h → Legal h
+    pub by : (l : Line E) → opener l (actor l)
+
+  -- an actor has made its opening entry of place i
+  pub record IsSigned (p : Params) (i actor : ℕ) (before : PassView (Line E)) (k : KeeperView (Line E)) (after : PassView (Line E)) (k' : KeeperView (Line E)) : Type 0 where
+    pub keeper : k' ≡ record k { history = k'.history }
+    pub opened : IsOpened p i (actor + 1) k'.history
+    -- it has seen what the history has now
+    pub pass : after ≡ record before { seen = k'.history }
+    pub seated : IsSeated p i k'.history
+
+  -- place i comes behind these: no actor has its pass of it yet
+  pub record AreWaiting (p : Params) (name : List LifeId) (life : LifeId) (i n : ℕ) (all : List (SeatsView (Line E))) : Type 0 where
+    pub place_is : i ≡ length name
+    pub seats : AreSeated p name (life ∷ []) n 0 all
+
+  -- all actors have signed there, and have their passes of it
+  pub record IsPlaced (p : Params) (name : List LifeId) (life : LifeId) (i n : ℕ) (k k' : KeeperView (Line E)) (all : List (SeatsView (Line E))) : Type 0 where
+    pub keeper : k' ≡ record k { history = k'.history }
+    pub opened : IsOpened p i n k'.history
+    pub seats : AreSeated p name (life ∷ []) n n all
+
+module _ {E : Type 0} where
   -- the keeper of place i, where all actors have made their opening entries
   pub record IsReady (p : Params) (actors i : ℕ) (lives : List LifeId) (k : KeeperView (Line E)) : Type 0 where
     pub life : slice_get lives i ≡ Some k.life
@@ -75,10 +100,20 @@ module _ {E : Type 0} where
     pub seated : AreSeated p lives [] actors 0 all
 
 module _ {E : Type 0} where
+  -- the keeper of place i, in whose history no call has made an entry
+  pub record IsNewKeeper (Legal : Params → ℕ → List E → Type 0) (lives : List LifeId) (p : Params) (i : ℕ) (k : KeeperView (Line E)) : Type 0 where
+    pub kept : IsKeeperOf Legal lives p i k
+    pub nothing : made k.history ≡ []
+
   -- the keepers of all places of a kind, in whose histories no call has made an entry
   pub record AreBegun (Legal : Params → ℕ → List E → Type 0) (lives : List LifeId) (p : Params) (keepers : List (KeeperView (Line E))) : Type 0 where
     pub each : (i : ℕ) (k : KeeperView (Line E)) → slice_get keepers i ≡ Some k → IsKeeperOf Legal lives p i k
     pub nothing : (i : ℕ) (k : KeeperView (Line E)) → slice_get keepers i ≡ Some k → made k.history ≡ []
+
+  -- so many of them
+  pub record AreAllBegun (Legal : Params → ℕ → List E → Type 0) (lives : List LifeId) (p : Params) (count : ℕ) (keepers : List (KeeperView (Line E))) : Type 0 where
+    pub keepers_are : length keepers ≡ count
+    pub begun : AreBegun Legal lives p keepers
 
   -- so many places of a kind, and each actor's passes of them
   pub record AreSetUp (Legal : Params → ℕ → List E → Type 0) (p : Params) (count : ℕ) (lives : List LifeId) (keepers : List (KeeperView (Line E))) (all : List (SeatsView (Line E))) : Type 0 where
@@ -105,6 +140,11 @@ pub record AreCome (specs : List Spec) (k : ℕ) (here : List (Option Alone)) : 
   pub count : length here ≡ length specs
   pub come : (i : ℕ) → i < k → get_or here i None ≡ new_callout (slice_index_or specs i no_spec)
   pub missing : (i : ℕ) → k ≤ i → get_or here i None ≡ None
+
+-- all callouts have come to a wheel, and nothing else has changed
+pub record HaveCome (specs : List Spec) (w w' : Cpu) : Type 0 where
+  pub come : AreCome specs (length specs) w'.callouts.here
+  pub rest : w' ≡ record w { callouts = record w.callouts { here = w'.callouts.here } }
 
 -- the callouts of a CPU: all begin at CPU 0
 abbrev pub come_to : ℕ → List Spec → ℕ

@@ -1,7 +1,8 @@
 -- The end of a service: the final histories.
-use Rattle.std.specs.Prelude.{◌≡◌, ◌==◌, ℕ, ◌<◌, ◌≤◌, List, [], length, slice_get}
+use Rattle.std.specs.Prelude.{◌≡◌, ◌==◌, ℕ, ◌<◌, ◌≤◌, ◌^◌, List, [], length, slice_get}
 use Rattle.std.specs.declared.option.Option.TheVariants.{Some}
 use Rattle.std.specs.List.{All, count_by}
+use Rattle.co_life.specs.Identity.{LifeId}
 use Rattle.co_life.specs.Views.{KeeperView}
 use Rattle.co_object.specs.declared.note.Entry.{Entry}
 use Rattle.co_object.specs.declared.note.QEntry.{QEntry}
@@ -33,6 +34,18 @@ module _ {E : Type 0} (made_by : E → ℕ) where
   pub record IsFinal (Legal : Params → ℕ → List E → Type 0) (p : Params) (i : ℕ) (H : List E) : Type 0 where
     pub legal : Legal p i H
     pub actors : All (λ e. made_by e < actor_count p) H
+
+-- an actor's passes were compared with a keeper's history: nothing has changed, and this is known
+pub record IsMeeting {E : Type 0} (k k' : KeeperView E) (q q' : PassesView) (Met : Type 0) : Type 0 where
+  pub keeper : k' ≡ k
+  pub same : q' ≡ q
+  pub met : Met
+
+-- the same of all these passes
+pub record AreMeeting {E : Type 0} (k k' : KeeperView E) (all all' : List PassesView) (Met : PassesView → Type 0) : Type 0 where
+  pub keeper : k' ≡ k
+  pub passes : all' ≡ all
+  pub met : All Met all
 
 abbrev pub MeetsTimer : KeeperView (Line Entry) → ℕ → PassesView → Type 0
 MeetsTimer k i q = IsMet by q.actor q.params i k (seen_of q i)
@@ -99,3 +112,29 @@ pub record IsEnding (e : EndingView) : Type 0 where
   pub for_books : (e.books.items ≡ []) × (16 ≤ e.books.spare)
   pub for_timers : (e.timers.items ≡ []) × (1024 ≤ e.timers.spare)
   pub for_cpus : (e.cpus.items ≡ []) × (16 ≤ e.cpus.spare)
+
+-- the places of a kind may end: there is room for what is left of each
+pub record MayEndAll {H : Type 0} (name lives : List LifeId) (room : RoomView H) : Type 0 where
+  pub lives_are : lives ≡ name
+  pub few : length name < 2 ^ 32
+  pub empty : room.items ≡ []
+  pub spare : length name ≤ room.spare
+
+-- one has ended: the passes are as before, and by each of them this is known
+pub record HasEnded (all all' : List PassesView) (Ends : PassesView → Type 0) : Type 0 where
+  pub passes : all' ≡ all
+  pub ends : All Ends all
+
+-- all have ended
+pub record HaveEnded {H : Type 0} (n : ℕ) (all all' : List PassesView) (finals : List H) (Ends : Type 0) : Type 0 where
+  pub passes : all' ≡ all
+  pub count : length finals ≡ n
+  pub ends : Ends
+
+-- what is left of a service
+pub record IsClosing (name : ServiceName) (all : List PassesView) (c : ClosingView) : Type 0 where
+  pub name_is : c.name ≡ name
+  pub timers_count : length c.timers ≡ length name.timers
+  pub timers : EndTimers all c.timers
+  pub cpus_count : length c.cpus ≡ length name.cpus
+  pub cpus : EndCpus all c.cpus

@@ -5,7 +5,8 @@ use Rattle.co_service.specs.declared.bench.Bench.{Bench}
 use Rattle.co_service.specs.declared.params.Params.{Params}
 use Rattle.co_service.specs.Name.{ServiceName}
 use Rattle.co_service.specs.Params.{AreParams}
-use Rattle.co_service.specs.Booted.{IsBench}
+use Rattle.co_service.specs.Booted.{AreBooted, IsBench}
+use Rattle.co_service.specs.Views.{PassesView}
 
 pub record FreshView : Type 0 where
   pub name : ServiceName
@@ -34,3 +35,15 @@ pub record IsService (name places : ServiceName) (p : Params) (desks : ℕ) : Ty
   pub some : 1 ≤ p.cpus
   pub limits : AreParams p
   pub named : AreNamed name p
+
+-- what the desks begin with, and each actor's passes
+pub record AreJoined (name : ServiceName) (p : Params) (benches : List Bench) (passes : List PassesView) : Type 0 where
+  pub benches_are : AreBenches name p benches
+  pub passes_are : AreBooted name p passes
+  pub named : AreNamed name p
+
+-- a service of these parameters before its locks, and each actor's passes of it
+pub record IsMade (p : Params) (fresh : FreshView) (passes : List PassesView) : Type 0 where
+  pub params_are : fresh.params ≡ p
+  pub passes_are : AreBooted fresh.name p passes
+  pub named : AreNamed fresh.name p

@@ -29,10 +29,14 @@ pub mod Books
 pub mod May
 -- how the journal ties to the desk: its wheel shows the queue after it, its records the histories
 pub mod Desk
+-- what a section writes at a desk: the books after it, and the passes of the actor that wrote
+pub mod Written
 -- a callout on its way from desk to desk, by value, with its history
 pub mod Moving
 -- what the end of a service did, in few words: its notes, and what leaves
 pub mod Ends
+-- what a caller of the running service has before a section, and what it keeps
+pub mod Kept
 -- what boot makes of each place: its life, its keeper, and passes that have seen nothing
 pub mod Booted
 -- a service before its locks: a bench for each CPU; and a running one, with its desks

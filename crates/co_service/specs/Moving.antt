@@ -69,6 +69,11 @@ abbrev pub moving_from : BooksView → (n due : ℕ) → Option Parcel → Optio
 moving_from b n due None = None
 moving_from b n due (Some q) = Some (record { params = b.params; i = q.i; history = entries_at b q.i; target = record { cpu = q.arming.cpu; n = n; due = due } })
 
+-- what leaves has left the books, and is on its way
+pub record HasLeft (b : BooksView) (n due : ℕ) (leaves : Option Parcel) (b' : BooksView) (gone : Option MovingView) : Type 0 where
+  pub books : b' ≡ departed b leaves
+  pub moving : gone ≡ moving_from b n due leaves
+
 abbrev pub target_of : Option MovingView → Option Target
 target_of None = None
 target_of (Some m) = Some m.target

@@ -1,9 +1,11 @@
 -- One actor's passes of many places, and the lives of these places.
-use Rattle.std.specs.Prelude.{◌≡◌, ℕ, List, [], map, Option, Some, None, refl, slice_index_or}
+use Rattle.std.specs.Prelude.{◌≡◌, ℕ, ◌<◌, List, [], ◌∷◌, ◌++◌, length, map, Option, Some, None, refl, slice_get, slice_index_or, slice_set}
+use Rattle.std.specs.List.{All}
 use Rattle.std.specs.Coded.{Coded, code_by, coded×, coded_ℕ, coded_list}
 use Rattle.co_life.specs.Identity.{LifeId, life_coded}
-use Rattle.co_life.specs.Seen.{own, StartsWith}
-use Rattle.co_life.specs.Views.{PassView}
+use Rattle.co_life.specs.Rule.{capped}
+use Rattle.co_life.specs.Seen.{Extends, own, StartsWith}
+use Rattle.co_life.specs.Views.{KeeperView, PassView}
 
 -- the places' lives, the actor, and what it has seen of each place
 pub record SeatsView (E : Type 0) : Type 0 where
@@ -46,3 +48,30 @@ module _ {E : Type 0} where
   pub record IsShown (by : E → ℕ) (actor : ℕ) (history seen : List E) : Type 0 where
     pub prefix : StartsWith history seen
     pub all_own : own by actor history ≡ own by actor seen
+
+  -- the keeper is of place i, whose life this is
+  pub record IsAt (name : List LifeId) (i : ℕ) (life : LifeId) (k : KeeperView E) : Type 0 where
+    pub at : slice_get name i ≡ Some life
+    pub keeper : k.life ≡ life
+
+  -- an actor's entry is written in the history of place i, at this number
+  pub record IsWritten (by : E → ℕ) (s : SeatsView E) (i : ℕ) (e : E) (k : KeeperView E) (number : ℕ) (k' : KeeperView E) (s' : SeatsView E) : Type 0 where
+    -- it stands at the end, and the keeper is of the same place
+    pub keeper : k' ≡ record k { history = k.history ++ e ∷ [] }
+    -- the actor has seen this history, and of the other places what it had
+    pub name : s'.name ≡ s.name
+    pub actor : s'.actor ≡ s.actor
+    pub seen : s'.seen ≡ slice_set s.seen i k'.history
+    -- since it looked last only others have written
+    pub extends : Extends by s.actor (seen_at s i) e k'.history
+    pub position : number ≡ capped (length k.history)
+    pub actors : All (λ x. by x < k'.actors) k'.history
+
+  -- an actor's pass of place i was compared with its history
+  pub record IsCompared (by : E → ℕ) (Legal : List E → Type 0) (s : SeatsView E) (i : ℕ) (k k' : KeeperView E) (s' : SeatsView E) : Type 0 where
+    -- nothing has changed
+    pub keeper : k' ≡ k
+    pub same : s' ≡ s
+    pub shown : IsShown by s.actor k.history (seen_at s i)
+    pub actors : All (λ x. by x < k.actors) k.history
+    pub legal : Legal k.history

@@ -1,5 +1,5 @@
 -- What contracts see of the service's values.
-use Rattle.std.specs.Prelude.{◌≡◌, ℕ, ◌<◌, ◌≤◌, ◌^◌, List, [], map, length, Some, slice_get, slice_index_or}
+use Rattle.std.specs.Prelude.{◌≡◌, ℕ, ◌<◌, ◌≤◌, ◌^◌, List, [], ◌∷◌, ◌++◌, map, length, Some, slice_get, slice_index_or}
 use Rattle.co_life.specs.Identity.{LifeId}
 use Rattle.co_life.specs.Views.{KeeperView}
 use Rattle.co_object.specs.declared.note.Entry.{Entry}
@@ -51,6 +51,16 @@ module _ {E : Type 0} where
     pub carry : AllCarry params i k.history
     pub count : openings k.history ≡ actor_count params
     pub legal : Legal params i (made k.history)
+
+  -- the keeper of place i, in whose history this entry may stand next
+  pub record TakesEntry (Legal : Params → ℕ → List E → Type 0) (lives : List LifeId) (params : Params) (i : ℕ) (k : KeeperView (Line E)) (e : E) : Type 0 where
+    pub keeper : IsKeeperOf Legal lives params i k
+    pub legal : Legal params i (made k.history ++ e ∷ [])
+
+  -- the same keeper with the entry at the end
+  pub record HasEntry (Legal : Params → ℕ → List E → Type 0) (lives : List LifeId) (params : Params) (i : ℕ) (k : KeeperView (Line E)) (e : E) (k' : KeeperView (Line E)) : Type 0 where
+    pub keeper : IsKeeperOf Legal lives params i k'
+    pub history : made k'.history ≡ made k.history ++ e ∷ []
 
 pub record ArePasses (actors actor : ℕ) (params : Params) (timers : SeatsView (Line Entry)) (cpus : SeatsView (Line QEntry)) : Type 0 where
   pub count : actors ≡ actor_count params

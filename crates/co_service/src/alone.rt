@@ -1,7 +1,7 @@
 //! Calls of one who has the service to himself: no lock is taken and nobody is woken, since nobody can wait.
 //!
 //! Where a desk doesn't answer, the locked call is made.
-ghost use Rattle.std.specs.Prelude.{◌≡◌, ◌<◌, ℕ, Bool, IfNone, IfSome, false, length, true};
+ghost use Rattle.std.specs.Prelude.{◌≡◌, ◌<◌, length, true};
 ghost use Rattle.std.specs.declared.option.Option.TheVariants.{None};
 ghost use Rattle.std.specs.Option.{option_copied};
 ghost use Rattle.co_lock.specs.Covers.{covers};
@@ -12,9 +12,10 @@ ghost use Rattle.co_service.specs.Ends.{IsFinished, finished_notes};
 ghost use Rattle.co_service.specs.Moving.{IsTried};
 ghost use Rattle.co_service.specs.Outcomes.{IsScan};
 ghost use Rattle.co_service.specs.Params.{actors_of, spec_at};
-ghost use Rattle.co_service.specs.Services.{FollowsScans, HasNext, IsEnded, IsFree, IsServing, IsTaken, taken_of};
-ghost use Rattle.co_service.specs.Serving.{Runs, Service as Progress};
-ghost use Rattle.co_service.specs.Views.{AreOf, journal_seen};
+ghost use Rattle.co_service.specs.Services.{IsEnded, IsFree, IsServing, taken_of};
+ghost use Rattle.co_service.specs.Serving.{Runs};
+ghost use Rattle.co_service.specs.Views.{AreOf};
+ghost use Rattle.co_service.specs.Kept.{IsAsked, IsEndTried, IsStarted, KeepsAlone, KeepsFree, KeepsTaken, MayEnd, MayScan, MayStart, MayTry, MayTryEnd};
 
 use crate::finished::Finished;
 use crate::moving::Moving;
@@ -30,15 +31,12 @@ impl<N: Name> Service<N> {
     /// A scan on the CPU's desk. None where the desk is of another CPU.
     #[inline(always)]
     fn scan_here(&mut self, passes: &mut Passes, cpu: u32, act: u64, now: Sbt) -> Option<Scanned>
-        requires cpu { cpu < self.old.cpus }
-        requires passes { AreOf N.name self.old passes.old }
-        requires scanner { passes.old.actor ≡ scanner (actors_of self.old) cpu }
+        requires { MayScan N.name self.old passes.old cpu }
         ensures params { self.new ≡ self.old }
-        ensures none { IfNone result (passes.new ≡ passes.old) }
-        ensures some { IfSome result (λ out. IsScan passes.old cpu act now out passes.new) }
+        ensures asked { IsAsked passes.old result (λ out. IsScan passes.old cpu act now out passes.new) passes.new }
     {
         let desk = self.desks[cpu as usize].desk.get_mut();
-        desk.scan(self.places.cpus(), passes, cpu, act, now)
+        desk.scan(&self.places, passes, cpu, act, now)
     }
 
     /// What is due at this CPU has come due, as with [`Service::scan`].
@@ -54,12 +52,8 @@ impl<N: Name> Service<N> {
         requires cpu { cpu < self.old.cpus }
         requires passes { AreOf N.name self.old passes.old }
         requires scanner { passes.old.actor ≡ scanner (actors_of self.old) cpu }
-        ensures params { self.new ≡ self.old }
         ensures scanned { IsScan passes.old cpu act now result passes.new }
-        ensures of { AreOf N.name self.old passes.new }
-        ensures actor { passes.new.actor ≡ passes.old.actor }
-        ensures free { (direct : Bool) (x : ℕ) → IsFree direct passes.old x → IsFree direct passes.new x }
-        ensures serving { (direct : Bool) (x : ℕ) (d : Due) (far : Progress) → IsServing direct passes.old x d far → IsServing direct passes.new x d far }
+        ensures kept { KeepsAlone N.name self.old self.new passes.old passes.new }
     {
         if let Some(out) = self.scan_here(passes, cpu, act, now) {
             return out;
@@ -77,13 +71,9 @@ impl<N: Name> Service<N> {
         scans: u64,
         direct: bool,
     ) -> Option<Popped>
-        requires cpu { cpu < self.old.cpus }
-        requires passes { AreOf N.name self.old passes.old }
-        requires free { IsFree direct passes.old cpu }
+        requires { MayStart N.name self.old direct passes.old cpu }
         ensures params { self.new ≡ self.old }
-        ensures none { IfNone result (passes.new ≡ passes.old) }
-        ensures some { IfSome result (λ out. IsTaken direct passes.old cpu act (taken_of direct passes.old.actor act cpu out) passes.new) }
-        ensures scans { IfSome result (λ _. FollowsScans scans (journal_seen passes.new cpu)) }
+        ensures asked { IsAsked passes.old result (λ out. IsStarted direct passes.old cpu act scans out passes.new) passes.new }
     {
         let desk = self.desks[cpu as usize].desk.get_mut();
         desk.next(&self.places, passes, cpu, act, scans, direct)
@@ -102,11 +92,8 @@ impl<N: Name> Service<N> {
         scans: u64,
         direct: bool,
     ) -> Popped
-        requires cpu { cpu < self.now.cpus }
-        requires passes { AreOf N.name self.now passes.old }
-        requires free { IsFree direct passes.old cpu }
-        ensures taken { IsTaken direct passes.old cpu act (taken_of direct passes.old.actor act cpu result) passes.new }
-        ensures scans { FollowsScans scans (journal_seen passes.new cpu) }
+        requires { MayStart N.name self.now direct passes.old cpu }
+        ensures { IsStarted direct passes.old cpu act scans result passes.new }
     {
         self.next_lane(rt, passes, cpu, act, scans, direct)
     }
@@ -122,12 +109,9 @@ impl<N: Name> Service<N> {
         scans: u64,
         direct: bool,
     ) -> Popped
-        requires cpu { cpu < self.old.cpus }
-        requires passes { AreOf N.name self.old passes.old }
-        requires free { IsFree direct passes.old cpu }
+        requires { MayStart N.name self.old direct passes.old cpu }
         ensures params { self.new ≡ self.old }
-        ensures taken { IsTaken direct passes.old cpu act (taken_of direct passes.old.actor act cpu result) passes.new }
-        ensures scans { FollowsScans scans (journal_seen passes.new cpu) }
+        ensures started { IsStarted direct passes.old cpu act scans result passes.new }
     {
         if let Some(out) = self.next_here(passes, cpu, act, scans, direct) {
             return out;
@@ -150,11 +134,8 @@ impl<N: Name> Service<N> {
         requires passes { AreOf N.name self.old passes.old }
         requires free { IsFree direct passes.old cpu }
         ensures params { self.new ≡ self.old }
-        ensures taken { IsTaken direct passes.old cpu act (taken_of direct passes.old.actor act cpu result) passes.new }
-        ensures scans { FollowsScans scans (journal_seen passes.new cpu) }
-        ensures of { AreOf N.name self.old passes.new }
-        ensures actor { passes.new.actor ≡ passes.old.actor }
-        ensures next { HasNext direct passes.new cpu (taken_of direct passes.old.actor act cpu result) }
+        ensures started { IsStarted direct passes.old cpu act scans result passes.new }
+        ensures kept { KeepsTaken N.name self.old passes.old.actor direct cpu (taken_of direct passes.old.actor act cpu result) passes.new }
     {
         self.next_lane_alone(rt, passes, cpu, act, scans, direct)
     }
@@ -170,13 +151,9 @@ impl<N: Name> Service<N> {
         told: &mut Finished,
         gone: &mut Option<Moving<N>>,
     ) -> bool
-        requires cpu { cpu < self.old.cpus }
-        requires passes { AreOf N.name self.old passes.old }
-        requires serves { (d : Due) × IsServing direct passes.old cpu d (Runs d.n) }
-        requires none { gone.old ≡ None }
+        requires { MayTryEnd N.name self.old direct passes.old cpu gone.old }
         ensures params { self.new ≡ self.old }
-        ensures none { result ≡ false → (passes.new ≡ passes.old) × (gone.new ≡ None) }
-        ensures some { result ≡ true → (d : Due) → IsServing direct passes.old cpu d (Runs d.n) → IsFinished direct passes.old cpu act d told.new gone.new passes.new }
+        ensures tried { IsEndTried direct passes.old cpu act result told.new gone.new passes.new }
     {
         let desk = self.desks[cpu as usize].desk.get_mut();
         desk.end(&self.places, passes, cpu, act, direct, told, gone)
@@ -196,10 +173,7 @@ impl<N: Name> Service<N> {
         told: &mut Finished,
         gone: &mut Option<Moving<N>>,
     )
-        requires cpu { cpu < self.now.cpus }
-        requires passes { AreOf N.name self.now passes.old }
-        requires serves { (d : Due) × IsServing direct passes.old cpu d (Runs d.n) }
-        requires none { gone.old ≡ None }
+        requires { MayTryEnd N.name self.now direct passes.old cpu gone.old }
         ensures { (d : Due) → IsServing direct passes.old cpu d (Runs d.n) → IsFinished direct passes.old cpu act d told.new gone.new passes.new }
     {
         self.end_found(rt, passes, cpu, act, direct, told, gone);
@@ -217,10 +191,7 @@ impl<N: Name> Service<N> {
         told: &mut Finished,
         gone: &mut Option<Moving<N>>,
     )
-        requires cpu { cpu < self.old.cpus }
-        requires passes { AreOf N.name self.old passes.old }
-        requires serves { (d : Due) × IsServing direct passes.old cpu d (Runs d.n) }
-        requires none { gone.old ≡ None }
+        requires { MayTryEnd N.name self.old direct passes.old cpu gone.old }
         ensures params { self.new ≡ self.old }
         ensures finished { (d : Due) → IsServing direct passes.old cpu d (Runs d.n) → IsFinished direct passes.old cpu act d told.new gone.new passes.new }
     {
@@ -241,9 +212,7 @@ impl<N: Name> Service<N> {
         direct: bool,
         told: &mut Finished,
     )
-        requires cpu { cpu < self.old.cpus }
-        requires passes { AreOf N.name self.old passes.old }
-        requires serves { (d : Due) × IsServing direct passes.old cpu d (Runs d.n) }
+        requires { MayEnd N.name self.old direct passes.old cpu }
         ensures params { self.new ≡ self.old }
         ensures ended { (d : Due) → IsServing direct passes.old cpu d (Runs d.n) → IsEnded direct passes.old cpu act d told.new.out.reply (finished_notes passes.old.actor act told.new) passes.new }
     {
@@ -268,9 +237,7 @@ impl<N: Name> Service<N> {
         requires serves { (d : Due) × IsServing direct passes.old cpu d (Runs d.n) }
         ensures params { self.new ≡ self.old }
         ensures ended { (d : Due) → IsServing direct passes.old cpu d (Runs d.n) → IsEnded direct passes.old cpu act d told.new.out.reply (finished_notes passes.old.actor act told.new) passes.new }
-        ensures of { AreOf N.name self.old passes.new }
-        ensures actor { passes.new.actor ≡ passes.old.actor }
-        ensures free { IsFree direct passes.new cpu }
+        ensures kept { KeepsFree N.name self.old passes.old.actor direct cpu passes.new }
     {
         self.end_lane_alone(rt, passes, cpu, act, direct, told);
     }
@@ -288,8 +255,7 @@ impl<N: Name> Service<N> {
         gone: &mut Option<Moving<N>>,
     ) -> bool
         requires cpu { cpu < self.old.cpus }
-        requires passes { AreOf N.name self.old passes.old }
-        requires none { gone.old ≡ None }
+        requires may { MayTry N.name self.old passes.old gone.old }
         ensures params { self.new ≡ self.old }
         ensures tried { IsTried passes.old act i op.now result told.new gone.new passes.new }
     {
@@ -311,8 +277,7 @@ impl<N: Name> Service<N> {
         told: &mut Told,
         gone: &mut Option<Moving<N>>,
     )
-        requires passes { AreOf N.name self.now passes.old }
-        requires none { gone.old ≡ None }
+        requires { MayTry N.name self.now passes.old gone.old }
         ensures { IsTried passes.old act i op.now true told.new gone.new passes.new }
     {
         self.call_found(rt, passes, act, i, op, told, gone);
@@ -330,8 +295,7 @@ impl<N: Name> Service<N> {
         told: &mut Told,
         gone: &mut Option<Moving<N>>,
     )
-        requires passes { AreOf N.name self.old passes.old }
-        requires none { gone.old ≡ None }
+        requires { MayTry N.name self.old passes.old gone.old }
         ensures params { self.new ≡ self.old }
         ensures tried { IsTried passes.old act i op.now true told.new gone.new passes.new }
     {
@@ -378,12 +342,8 @@ impl<N: Name> Service<N> {
         requires callout { i < length self.old.specs }
         requires cpu { NamesCpu self.old.cpus op.now }
         requires covered { covers (option_copied hold) (spec_at self.old i) op.now ≡ true }
-        ensures params { self.new ≡ self.old }
         ensures called { IsCalled passes.old act i op.now told.new.out.reply (told_notes passes.old.actor act i op.now told.new) passes.new }
-        ensures of { AreOf N.name self.old passes.new }
-        ensures actor { passes.new.actor ≡ passes.old.actor }
-        ensures free { (direct : Bool) (cpu : ℕ) → IsFree direct passes.old cpu → IsFree direct passes.new cpu }
-        ensures serving { (direct : Bool) (cpu : ℕ) (d : Due) (far : Progress) → IsServing direct passes.old cpu d far → IsServing direct passes.new cpu d far }
+        ensures kept { KeepsAlone N.name self.old self.new passes.old passes.new }
     {
         let _ = hold;
         self.call_landed_alone(rt, passes, act, i, op, told);

@@ -1,13 +1,11 @@
 //! What a CPU has before the locks.
-ghost use Rattle.std.specs.Prelude.{◌≡◌, ◌+◌, ◌<◌, ◌≤◌, ◌^◌, [], IfOk, OnOk, length, map, replicate};
+ghost use Rattle.std.specs.Prelude.{◌≡◌, ◌+◌, ◌<◌, IfOk, OnOk, length, map, replicate};
 ghost use Rattle.std.specs.declared.option.Option.TheVariants.{Some, None};
 ghost use Rattle.co_service.specs.Books.{books_of};
-ghost use Rattle.co_service.specs.Booted.{AreBegun, AreFirst, IsBench};
+ghost use Rattle.co_service.specs.Booted.{AreAllBegun, AreFirst, IsBench, IsNewKeeper};
 ghost use Rattle.co_service.specs.Fresh.{AreBenches};
-ghost use Rattle.co_service.specs.Lines.{made};
 ghost use Rattle.co_service.specs.Params.{AreParams, directs as directs_of};
 ghost use Rattle.co_service.specs.Stories.{IsHistory, IsJournal};
-ghost use Rattle.co_service.specs.Views.{IsKeeperOf};
 
 use crate::books::Books;
 use crate::boot::{apart, push};
@@ -90,8 +88,7 @@ fn make_bench(
     requires params { AreParams params.now }
     requires direct { direct.now ≡ directs_of params.now }
     requires here { AreFirst places.now.timers params.now cpu here.old.items }
-    requires journal { IsKeeperOf IsJournal places.now.cpus params.now cpu journal }
-    requires nothing { made journal.history ≡ [] }
+    requires journal { IsNewKeeper IsJournal places.now.cpus params.now cpu journal }
     ensures bench { IfOk result (λ bench. IsBench places.now params.now cpu bench.wheel bench.keepers.items bench.journal) }
     ensures here { OnOk result (AreFirst places.now.timers params.now (cpu + 1) here.new.items) }
 {
@@ -114,10 +111,8 @@ pub(crate) fn make_benches(
     journals: Vec<Keeper<CpuStory>>,
 ) -> Result<Vec<Bench>, NoMemory>
     requires params { AreParams params.now }
-    requires timers { AreBegun IsHistory places.now.timers params.now timers.items }
-    requires callouts { length timers.items ≡ length params.now.specs }
-    requires journals { AreBegun IsJournal places.now.cpus params.now journals.items }
-    requires cpus { length journals.items ≡ params.now.cpus }
+    requires timers { AreAllBegun IsHistory places.now.timers params.now (length params.now.specs) timers.items }
+    requires journals { AreAllBegun IsJournal places.now.cpus params.now params.now.cpus journals.items }
     ensures { IfOk result (λ benches. AreBenches places.now params.now benches.items) }
 {
     let direct = directs(alloc, params.specs.as_slice())?;

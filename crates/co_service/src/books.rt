@@ -1,15 +1,14 @@
 //! The histories that stand at a desk.
-ghost use Rattle.std.specs.Prelude.{◌≡◌, ◌<◌, [], ◌∷◌, ◌++◌, List, true, false, length, is_some, slice_get};
+ghost use Rattle.std.specs.Prelude.{◌≡◌, ◌<◌, true, false, length, is_some};
 ghost use Rattle.std.specs.declared.option.Option.TheVariants.{Some, None};
-ghost use Rattle.co_service.specs.Books.{entries_at, history_at, is_kept, with_history};
+ghost use Rattle.co_service.specs.Books.{IsTakenOut, is_kept, with_history};
 ghost use Rattle.co_service.specs.Lines.{made};
 ghost use Rattle.co_service.specs.May.{MayEnter, MayHappen};
-ghost use Rattle.co_service.specs.Seats.{IsShown};
-ghost use Rattle.co_service.specs.Stories.{IsHistory, IsJournal, by, queue_by};
-ghost use Rattle.co_service.specs.Views.{IsKeeperOf, journal_seen, seen_of};
-ghost use Rattle.co_service.specs.Writes.{WritesCpu, WritesTimer};
+ghost use Rattle.co_service.specs.Stories.{IsHistory, IsJournal};
+ghost use Rattle.co_service.specs.Views.{IsKeeperOf};
+ghost use Rattle.co_service.specs.Written.{AreHere, AreTogether, HasMet, HasMetTimer, IsEntryWritten, IsTurnWritten};
 
-use crate::seats::Lives;
+use crate::places::Places;
 use crate::{CpuStory, Name, Params, Passes, TimerStory};
 use co_life::{Keeper, Shown};
 use co_object::{Entry, QEntry};
@@ -69,74 +68,54 @@ impl<N: Name> Books<N> {
 
     /// Compares the actor's pass of the CPU with the journal. Nothing changes.
     #[inline(always)]
-    pub(crate) fn meet(&mut self, lives: &Lives<CpuStory>, passes: &mut Passes)
-        requires lives { lives.now ≡ N.name.cpus }
-        requires name { passes.old.name ≡ N.name }
-        ensures kept { self.new ≡ self.old }
-        ensures passes { passes.new ≡ passes.old }
-        ensures params { self.old.params ≡ passes.old.params }
-        ensures shown { IsShown queue_by passes.old.actor self.old.journal (journal_seen passes.old self.old.cpu) }
-        ensures legal { IsJournal self.old.params self.old.cpu self.old.journal }
+    pub(crate) fn meet(&mut self, places: &Places, passes: &mut Passes)
+        requires { AreHere N.name places.now passes.old }
+        ensures { HasMet passes.old self.old passes.new self.new }
     {
-        passes.meet_cpu(lives.get(self.cpu), &mut self.journal, self.cpu);
+        passes.meet_cpu(places.cpus().get(self.cpu), &mut self.journal, self.cpu);
     }
 
     /// Compares the actor's pass of callout `i` with its history. Nothing changes.
     #[inline(always)]
-    pub(crate) fn meet_timer(&mut self, lives: &Lives<TimerStory>, passes: &mut Passes, i: u32)
-        requires lives { lives.now ≡ N.name.timers }
-        requires name { passes.old.name ≡ N.name }
+    pub(crate) fn meet_timer(&mut self, places: &Places, passes: &mut Passes, i: u32)
+        requires service { AreHere N.name places.now passes.old }
         requires here { is_kept self.old i ≡ true }
-        ensures kept { self.new ≡ self.old }
-        ensures passes { passes.new ≡ passes.old }
-        ensures shown { IsShown by passes.old.actor (entries_at self.old i) (seen_of passes.old i) }
-        ensures legal { IsHistory self.old.params i (entries_at self.old i) }
+        ensures { HasMetTimer passes.old self.old i passes.new self.new }
     {
         match &mut self.keepers[i as usize] {
-            Some(keeper) => passes.meet_timer(lives.get(i), keeper, i),
+            Some(keeper) => passes.meet_timer(places.timers().get(i), keeper, i),
             None => unreachable!(),
         }
     }
 
     /// Writes an entry of the CPU's journal, and gives its position.
     #[inline(always)]
-    pub(crate) fn write(
-        &mut self,
-        lives: &Lives<CpuStory>,
-        passes: &mut Passes,
-        entry: &QEntry,
-    ) -> u64
-        requires lives { lives.now ≡ N.name.cpus }
-        requires name { passes.old.name ≡ N.name }
-        requires params { self.old.params ≡ passes.old.params }
+    pub(crate) fn write(&mut self, places: &Places, passes: &mut Passes, entry: &QEntry) -> u64
+        requires together { AreTogether N.name places.now passes.old self.old }
         requires may { MayEnter self.old entry.now }
         requires own { entry.now.actor ≡ passes.old.actor }
-        ensures books { self.new ≡ record self.old { journal = self.old.journal ++ entry.now ∷ [] } }
-        ensures written { WritesCpu passes.old self.old.cpu entry.now result self.new.journal passes.new }
+        ensures { IsTurnWritten passes.old self.old entry.now result passes.new self.new }
     {
-        passes.write_cpu(lives, &mut self.journal, self.cpu, *entry)
+        passes.write_cpu(places.cpus(), &mut self.journal, self.cpu, *entry)
     }
 
     /// Writes an entry of the history of callout `i`, and gives its position.
     #[inline(always)]
     pub(crate) fn write_timer(
         &mut self,
-        lives: &Lives<TimerStory>,
+        places: &Places,
         passes: &mut Passes,
         i: u32,
         entry: &Entry,
     ) -> u64
-        requires lives { lives.now ≡ N.name.timers }
-        requires name { passes.old.name ≡ N.name }
-        requires params { self.old.params ≡ passes.old.params }
+        requires together { AreTogether N.name places.now passes.old self.old }
         requires here { is_kept self.old i ≡ true }
         requires may { MayHappen self.old i entry.now }
         requires own { entry.now.actor ≡ passes.old.actor }
-        ensures books { self.new ≡ with_history self.old i (Some (entries_at self.old i ++ entry.now ∷ [])) }
-        ensures written { WritesTimer passes.old i entry.now result (entries_at self.old i ++ entry.now ∷ []) passes.new }
+        ensures { IsEntryWritten passes.old self.old i entry.now result passes.new self.new }
     {
         match &mut self.keepers[i as usize] {
-            Some(keeper) => passes.write_timer(lives, keeper, i, *entry),
+            Some(keeper) => passes.write_timer(places.timers(), keeper, i, *entry),
             None => unreachable!(),
         }
     }
@@ -145,9 +124,7 @@ impl<N: Name> Books<N> {
     #[inline(always)]
     pub(crate) fn take(&mut self, i: u32) -> Keeper<TimerStory>
         requires { is_kept self.old i ≡ true }
-        ensures keeper { IsKeeperOf IsHistory N.name.timers self.old.params i result }
-        ensures history { history_at self.old i ≡ Some (made result.history) }
-        ensures books { self.new ≡ with_history self.old i None }
+        ensures { IsTakenOut N.name self.old i result self.new }
     {
         self.keepers[i as usize].take().unwrap()
     }

@@ -1,9 +1,8 @@
 //! The places of a service, made one after the other.
-ghost use Rattle.std.specs.Prelude.{◌≡◌, ◌≤◌, ◌+◌, ◌<◌, ◌^◌, ℕ, [], ◌∷◌, ◌++◌, List, length, map, IfOk, OnOk, vec_len};
+ghost use Rattle.std.specs.Prelude.{◌≡◌, ◌≤◌, ◌+◌, ◌<◌, ◌^◌, ℕ, [], ◌∷◌, ◌++◌, IfOk, OnOk, vec_len};
 ghost use Rattle.co_life.specs.Views.{AreFresh};
-ghost use Rattle.co_service.specs.Booted.{ArePlaces, AreSeated, IsOpened, IsSeated, opener, seats_at as seats_in};
+ghost use Rattle.co_service.specs.Booted.{ArePlaces, AreWaiting, IsOpened, IsPlaced, IsSigned, MaySign, seats_at as seats_in};
 ghost use Rattle.co_service.specs.Seats.{fresh_seats};
-ghost use Rattle.co_service.specs.declared.line.Line.{Line as LineOf};
 
 use crate::seats::{Lives, Seats};
 use crate::{Line, Params};
@@ -23,12 +22,8 @@ fn sign<E: Drop, S: Story<Entry = Line<E>>>(
     requires keeper { keeper.old.life ≡ life.now }
     requires pass { (pass.life ≡ life.now) × (pass.actor ≡ actor) }
     requires opened { IsOpened params.now place actor keeper.old.history }
-    requires legal { (h : List (LineOf E)) (n : ℕ) → IsOpened params.now place n h → S.legal h }
-    requires by { (l : LineOf E) → opener l (S.actor l) }
-    ensures keeper { keeper.new ≡ record keeper.old { history = keeper.new.history } }
-    ensures opened { IsOpened params.now place (actor + 1) keeper.new.history }
-    ensures pass { result ≡ record pass { seen = keeper.new.history } }
-    ensures seated { IsSeated params.now place keeper.new.history }
+    requires may { MaySign params.now place S.legal S.actor }
+    ensures { IsSigned params.now place actor pass keeper.old result keeper.new }
 {
     let entry = Line::Opening {
         actor,
@@ -51,13 +46,9 @@ fn add_place<E: Drop, S: Story<Entry = Line<E>>>(
     requires keeper { (keeper.old.life ≡ life.now) × (keeper.old.history ≡ []) }
     requires few { vec_len seats.old < 2 ^ 32 }
     requires passes { AreFresh life.now (vec_len seats.old) passes.items }
-    requires seats { AreSeated params.now lives.now (life.now ∷ []) (vec_len seats.old) 0 seats.old.items }
-    requires place { place ≡ length lives.now }
-    requires legal { (h : List (LineOf E)) (n : ℕ) → IsOpened params.now place n h → S.legal h }
-    requires by { (l : LineOf E) → opener l (S.actor l) }
-    ensures keeper { OnOk result (keeper.new ≡ record keeper.old { history = keeper.new.history }) }
-    ensures opened { OnOk result (IsOpened params.now place (vec_len seats.old) keeper.new.history) }
-    ensures seats { OnOk result (AreSeated params.now lives.now (life.now ∷ []) (vec_len seats.old) (vec_len seats.old) seats.new.items) }
+    requires seats { AreWaiting params.now lives.now life.now place (vec_len seats.old) seats.old.items }
+    requires may { MaySign params.now place S.legal S.actor }
+    ensures { OnOk result (IsPlaced params.now lives.now life.now place (vec_len seats.old) keeper.old keeper.new seats.new.items) }
 {
     let mut actor = 0;
     for pass in passes {
@@ -119,8 +110,7 @@ pub(crate) fn make_places<E: Drop, S: Story<Entry = Line<E>>>(
     actors: u32,
 ) -> Result<(Lives<S>, Vec<Keeper<S>>, Vec<Seats<S>>), NoMemory>
     requires some { 1 ≤ actors }
-    requires legal { (i n : ℕ) (h : List (LineOf E)) → IsOpened params.now i n h → S.legal h }
-    requires by { (l : LineOf E) → opener l (S.actor l) }
+    requires may { (i : ℕ) → MaySign params.now i S.legal S.actor }
     ensures { IfOk result (λ made. ArePlaces params.now count actors made.0 made.1.items made.2.items) }
 {
     let mut lives = Lives::new(alloc);

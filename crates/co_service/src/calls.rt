@@ -5,6 +5,7 @@ ghost use Rattle.co_object.specs.declared.op.CallOp.{CallOp};
 ghost use Rattle.co_service.specs.Call.{IsAnswer, IsCalled, told_notes};
 ghost use Rattle.co_service.specs.Moving.{IsOfService, IsTried, target_of};
 ghost use Rattle.co_service.specs.Views.{AreOf, PassesView};
+ghost use Rattle.co_service.specs.Kept.{MayTry};
 
 use crate::moving::Moving;
 use crate::told::Told;
@@ -40,8 +41,7 @@ impl<N: Name> Service<N> {
         gone: &mut Option<Moving<N>>,
     ) -> bool
         requires cpu { cpu < self.now.cpus }
-        requires passes { AreOf N.name self.now passes.old }
-        requires none { gone.old ≡ None }
+        requires may { MayTry N.name self.now passes.old gone.old }
         ensures { IsTried passes.old act i op.now result told.new gone.new passes.new }
     {
         let locked = &self.desks[cpu];
@@ -66,8 +66,7 @@ impl<N: Name> Service<N> {
         told: &mut Told,
         gone: &mut Option<Moving<N>>,
     ) -> bool
-        requires passes { AreOf N.name self.now passes.old }
-        requires none { gone.old ≡ None }
+        requires { MayTry N.name self.now passes.old gone.old }
         ensures { IsTried passes.old act i op.now result told.new gone.new passes.new }
     {
         for cpu in 0..self.desks.len() {
@@ -91,8 +90,7 @@ impl<N: Name> Service<N> {
         told: &mut Told,
         gone: &mut Option<Moving<N>>,
     ) -> bool
-        requires passes { AreOf N.name self.now passes.old }
-        requires none { gone.old ≡ None }
+        requires { MayTry N.name self.now passes.old gone.old }
         ensures { IsTried passes.old act i op.now result told.new gone.new passes.new }
     {
         let first = self.hint(i);
@@ -114,8 +112,7 @@ impl<N: Name> Service<N> {
         told: &mut Told,
         gone: &mut Option<Moving<N>>,
     )
-        requires passes { AreOf N.name self.now passes.old }
-        requires none { gone.old ≡ None }
+        requires { MayTry N.name self.now passes.old gone.old }
         ensures { IsTried passes.old act i op.now true told.new gone.new passes.new }
     {
         for _ in rt.forever() {

@@ -3,7 +3,7 @@ ghost use Rattle.std.specs.Prelude.{◌≡◌, ◌<◌, ◌≤◌, ◌^◌, ℕ,
 ghost use Rattle.std.specs.List.{All};
 ghost use Rattle.std.specs.declared.option.Option.TheVariants.{Some};
 ghost use Rattle.co_service.specs.declared.params.Params.{Params};
-ghost use Rattle.co_service.specs.Closing.{EndCpus, EndTimers, EndsCpu, EndsTimer, MeetsCpu, MeetsTimer, of_actor};
+ghost use Rattle.co_service.specs.Closing.{AreMeeting, EndCpus, EndTimers, EndsCpu, EndsTimer, HasEnded, HaveEnded, IsClosing, MayEndAll, MeetsCpu, MeetsTimer, of_actor};
 ghost use Rattle.co_service.specs.Lines.{made, opening_of};
 ghost use Rattle.co_service.specs.Stories.{IsHistory, IsJournal};
 ghost use Rattle.co_service.specs.Views.{IsKeeperOf};
@@ -154,9 +154,7 @@ fn meet_timer(
     requires at { All (λ q. slice_get q.name.timers i ≡ Some life.now) passes.old.items }
     requires life { keeper.old.life ≡ life.now }
     requires opened { (params : Params) × (opening_of keeper.old.history ≡ Some (params, i)) }
-    ensures keeper { keeper.new ≡ keeper.old }
-    ensures passes { passes.new.items ≡ passes.old.items }
-    ensures met { All (MeetsTimer keeper.old i) passes.old.items }
+    ensures { AreMeeting keeper.old keeper.new passes.old.items passes.new.items (MeetsTimer keeper.old i) }
 {
     for at in 0..passes.len() {
         let one = &mut passes[at];
@@ -174,9 +172,7 @@ fn meet_cpu(
     requires at { All (λ q. slice_get q.name.cpus cpu ≡ Some life.now) passes.old.items }
     requires life { keeper.old.life ≡ life.now }
     requires opened { (params : Params) × (opening_of keeper.old.history ≡ Some (params, cpu)) }
-    ensures keeper { keeper.new ≡ keeper.old }
-    ensures passes { passes.new.items ≡ passes.old.items }
-    ensures met { All (MeetsCpu keeper.old cpu) passes.old.items }
+    ensures { AreMeeting keeper.old keeper.new passes.old.items passes.new.items (MeetsCpu keeper.old cpu) }
 {
     for at in 0..passes.len() {
         let one = &mut passes[at];
@@ -194,8 +190,7 @@ fn end_timer<N: Name, R: Wait>(
 ) -> Closed<TimerStory>
     requires at { slice_get N.name.timers i ≡ Some life }
     requires passes { All (λ q. q.name ≡ N.name) passes.old.items }
-    ensures passes { passes.new.items ≡ passes.old.items }
-    ensures ends { All (EndsTimer (made result) i) passes.old.items }
+    ensures { HasEnded passes.old.items passes.new.items (EndsTimer (made result) i) }
 {
     let mut keeper = take_timer(rt, books, i);
     meet_timer(passes, &life, &mut keeper, i);
@@ -210,13 +205,9 @@ fn end_timers<N: Name, R: Wait>(
     passes: &mut Vec<Passes>,
     room: Room<Closed<TimerStory>>,
 ) -> Seq<Closed<TimerStory>>
-    requires lives { lives ≡ N.name.timers }
-    requires few { length N.name.timers < 2 ^ 32 }
-    requires room { (room.items ≡ []) × (length N.name.timers ≤ room.spare) }
+    requires may { MayEndAll N.name.timers lives room }
     requires passes { All (λ q. q.name ≡ N.name) passes.old.items }
-    ensures passes { passes.new.items ≡ passes.old.items }
-    ensures count { length result ≡ length N.name.timers }
-    ensures ends { EndTimers passes.old.items (map made result) }
+    ensures { HaveEnded (length N.name.timers) passes.old.items passes.new.items result (EndTimers passes.old.items (map made result)) }
 {
     let mut room = room;
     let mut i = 0;
@@ -238,8 +229,7 @@ fn end_cpu<N: Name, R: Wait>(
 ) -> Closed<CpuStory>
     requires at { slice_get N.name.cpus cpu ≡ Some life }
     requires passes { All (λ q. q.name ≡ N.name) passes.old.items }
-    ensures passes { passes.new.items ≡ passes.old.items }
-    ensures ends { All (EndsCpu (made result) cpu) passes.old.items }
+    ensures { HasEnded passes.old.items passes.new.items (EndsCpu (made result) cpu) }
 {
     let mut keeper = take_journal(rt, books, cpu);
     meet_cpu(passes, &life, &mut keeper, cpu);
@@ -254,13 +244,9 @@ fn end_cpus<N: Name, R: Wait>(
     passes: &mut Vec<Passes>,
     room: Room<Closed<CpuStory>>,
 ) -> Seq<Closed<CpuStory>>
-    requires lives { lives ≡ N.name.cpus }
-    requires few { length N.name.cpus < 2 ^ 32 }
-    requires room { (room.items ≡ []) × (length N.name.cpus ≤ room.spare) }
+    requires may { MayEndAll N.name.cpus lives room }
     requires passes { All (λ q. q.name ≡ N.name) passes.old.items }
-    ensures passes { passes.new.items ≡ passes.old.items }
-    ensures count { length result ≡ length N.name.cpus }
-    ensures ends { EndCpus passes.old.items (map made result) }
+    ensures { HaveEnded (length N.name.cpus) passes.old.items passes.new.items result (EndCpus passes.old.items (map made result)) }
 {
     let mut room = room;
     let mut cpu = 0;
@@ -286,11 +272,7 @@ pub(crate) fn end_all<N: Name, R: Wait>(
     requires timers { (timers.items ≡ []) × (length N.name.timers ≤ timers.spare) }
     requires cpus { (cpus.items ≡ []) × (length N.name.cpus ≤ cpus.spare) }
     requires passes { All (λ q. q.name ≡ N.name) passes.items }
-    ensures name { result.name ≡ N.name }
-    ensures timers_count { length result.timers ≡ length N.name.timers }
-    ensures timers { EndTimers passes.items result.timers }
-    ensures cpus_count { length result.cpus ≡ length N.name.cpus }
-    ensures cpus { EndCpus passes.items result.cpus }
+    ensures { IsClosing N.name passes.items result }
 {
     let mut books = books;
     let mut passes = passes;

@@ -9,6 +9,7 @@ ghost use Rattle.co_service.specs.Params.{actor_count, actors_of};
 ghost use Rattle.co_service.specs.Services.{IsFree};
 ghost use Rattle.co_service.specs.Serving.{lane_actor};
 ghost use Rattle.co_service.specs.Views.{AreOf};
+ghost use Rattle.co_service.specs.Kept.{KeepsFree};
 
 use crate::{Name, Passes, Service};
 use co_life::Shown;
@@ -48,9 +49,7 @@ impl<N: Name> Service<N> {
     pub fn leave_cpu(&self, all: &mut Vec<Passes>, cpu: u32) -> Passes
         requires cpu { cpu < self.now.cpus }
         requires all { AreNew N.name self.now (self.now.clients + cpu + 1) all.old.items }
-        ensures of { AreOf N.name self.now result }
-        ensures actor { result.actor ≡ cpu_actor (actors_of self.now) cpu }
-        ensures free { IsFree false result cpu }
+        ensures kept { KeepsFree N.name self.now (cpu_actor (actors_of self.now) cpu) false cpu result }
         ensures scans { self.now.version ≡ 1 → result.actor ≡ scanner (actors_of self.now) cpu }
         ensures rest { AreNew N.name self.now (self.now.clients + cpu) all.new.items }
     {
@@ -63,9 +62,7 @@ impl<N: Name> Service<N> {
         requires cpu { cpu < self.now.cpus }
         requires version { self.now.version ≡ 2 }
         requires all { AreNew N.name self.now (self.now.clients + self.now.cpus + cpu + 1) all.old.items }
-        ensures of { AreOf N.name self.now result }
-        ensures actor { result.actor ≡ interrupt_actor (actors_of self.now) cpu }
-        ensures free { IsFree true result cpu }
+        ensures kept { KeepsFree N.name self.now (interrupt_actor (actors_of self.now) cpu) true cpu result }
         ensures scans { result.actor ≡ scanner (actors_of self.now) cpu }
         ensures rest { AreNew N.name self.now (self.now.clients + self.now.cpus + cpu) all.new.items }
     {

@@ -1,25 +1,22 @@
 //! What one lock guards.
-ghost use Rattle.std.specs.Prelude.{◌≡◌, ◌≢◌, ◌<◌, ◌+◌, ◌^◌, [], ◌∷◌, ◌++◌, List, IfSome, IfNone, false, is_some, length, true};
+ghost use Rattle.std.specs.Prelude.{◌≡◌, ◌≢◌, ◌<◌, ◌^◌, false, true};
 ghost use Rattle.std.specs.declared.option.Option.TheVariants.{Some, None};
 ghost use Rattle.co_object.specs.Journal.{scanner, step, reply_of, IsOfItsActor};
 ghost use Rattle.co_service.specs.Books.{is_kept};
 ghost use Rattle.co_service.specs.Params.{actors_of, directs};
-ghost use Rattle.co_service.specs.Call.{IsAnswer, told_notes};
 ghost use Rattle.co_service.specs.May.{queue_of};
 ghost use Rattle.co_service.specs.Moving.{IsTried};
-ghost use Rattle.co_service.specs.Desk.{Owes, IsOf};
 ghost use Rattle.co_service.specs.Outcomes.{IsScan, IsTurn, turn};
-ghost use Rattle.co_service.specs.Writes.{WritesCpu};
 ghost use Rattle.co_wheel.specs.Cpu.{Cpu};
-ghost use Rattle.co_wheel.specs.Turns.{Turn};
+ghost use Rattle.co_service.specs.Written.{AreHere, AreTogether, IsTurnWritten};
+ghost use Rattle.co_service.specs.Kept.{Answers};
 
 use crate::books::Books;
 use crate::calling::write_group;
 use crate::moving::{Moving, depart};
 use crate::places::Places;
-use crate::seats::Lives;
 use crate::told::{Told, number, time};
-use crate::{CpuStory, Name, Passes, Scanned};
+use crate::{Name, Passes, Scanned};
 use co_bucket::WheelQueue;
 use co_object::{AnyEntry, CallOp, Note, Place, QEntry, QOp, QReply};
 use co_queue::Looks;
@@ -54,20 +51,16 @@ impl<N: Name> Model for Desk<N> {
 #[inline(always)]
 pub(crate) fn write_turn<N: Name>(
     books: &mut Books<N>,
-    lives: &Lives<CpuStory>,
+    places: &Places,
     passes: &mut Passes,
     act: u64,
     op: QOp,
     reply: QReply,
 ) -> u64
-    requires lives { lives.now ≡ N.name.cpus }
-    requires name { passes.old.name ≡ N.name }
-    requires params { books.old.params ≡ passes.old.params }
+    requires together { AreTogether N.name places.now passes.old books.old }
     requires possible { reply_of (step books.old.params.buckets (directs books.old.params) (queue_of books.old) op) ≡ Some reply }
     requires actor { IsOfItsActor (actors_of books.old.params) books.old.cpu passes.old.actor op }
-    ensures books { books.new ≡ record books.old { journal = books.old.journal ++ turn passes.old act op reply ∷ [] } }
-    ensures written { WritesCpu passes.old books.old.cpu (turn passes.old act op reply) result books.new.journal passes.new }
-    ensures goes_on { (turns : List Turn) (w : Cpu) → Owes ((op, reply) ∷ turns) w books.old → Owes turns w books.new }
+    ensures { IsTurnWritten passes.old books.old (turn passes.old act op reply) result passes.new books.new }
 {
     let entry = QEntry {
         actor: passes.actor(),
@@ -75,28 +68,24 @@ pub(crate) fn write_turn<N: Name>(
         op,
         reply,
     };
-    books.write(lives, passes, &entry)
+    books.write(places, passes, &entry)
 }
 
 /// Writes what the queue did next, and notes it.
 #[inline(always)]
 pub(crate) fn note_turn<N: Name>(
     books: &mut Books<N>,
-    lives: &Lives<CpuStory>,
+    places: &Places,
     passes: &mut Passes,
     act: u64,
     op: QOp,
     reply: QReply,
 ) -> Note
-    requires lives { lives.now ≡ N.name.cpus }
-    requires name { passes.old.name ≡ N.name }
-    requires params { books.old.params ≡ passes.old.params }
+    requires together { AreTogether N.name places.now passes.old books.old }
     requires possible { reply_of (step books.old.params.buckets (directs books.old.params) (queue_of books.old) op) ≡ Some reply }
     requires actor { IsOfItsActor (actors_of books.old.params) books.old.cpu passes.old.actor op }
-    ensures books { books.new ≡ record books.old { journal = books.old.journal ++ turn passes.old act op reply ∷ [] } }
     ensures note { IsTurn books.old.cpu (turn passes.old act op reply) result }
-    ensures written { WritesCpu passes.old books.old.cpu (turn passes.old act op reply) result.pos books.new.journal passes.new }
-    ensures goes_on { (turns : List Turn) (w : Cpu) → Owes ((op, reply) ∷ turns) w books.old → Owes turns w books.new }
+    ensures written { IsTurnWritten passes.old books.old (turn passes.old act op reply) result.pos passes.new books.new }
 {
     let place = Place::Cpu(books.cpu());
     let entry = QEntry {
@@ -105,7 +94,7 @@ pub(crate) fn note_turn<N: Name>(
         op,
         reply,
     };
-    let pos = books.write(lives, passes, &entry);
+    let pos = books.write(places, passes, &entry);
     Note {
         place,
         pos,
@@ -139,29 +128,26 @@ impl<N: Name> Desk<N> {
     #[inline(always)]
     pub(crate) fn scan(
         &mut self,
-        lives: &Lives<CpuStory>,
+        places: &Places,
         passes: &mut Passes,
         cpu: u32,
         act: u64,
         now: Sbt,
     ) -> Option<Scanned>
-        requires lives { lives.now ≡ N.name.cpus }
-        requires name { passes.old.name ≡ N.name }
+        requires service { AreHere N.name places.now passes.old }
         requires scanner { passes.old.actor ≡ scanner (actors_of passes.old.params) cpu }
-        ensures none { IfNone result (passes.new ≡ passes.old) }
-        ensures why { IfNone result (self.old.cpu ≢ cpu) }
-        ensures some { IfSome result (λ out. IsScan passes.old cpu act now out passes.new) }
+        ensures { Answers passes.old result (self.old.cpu ≢ cpu) (λ out. IsScan passes.old cpu act now out passes.new) passes.new }
     {
         if self.books.cpu() != cpu {
             return None;
         }
-        self.books.meet(lives, passes);
+        self.books.meet(places, passes);
         let mut looks = Looks::new();
         let count = self.wheel.scan(now, &mut looks);
         let op = QOp::Scan { now };
         let note = note_turn(
             &mut self.books,
-            lives,
+            places,
             passes,
             act,
             op,
@@ -188,8 +174,7 @@ impl<N: Name> Desk<N> {
         told: &mut Told,
         gone: &mut Option<Moving<N>>,
     ) -> bool
-        requires places { places.now ≡ N.name }
-        requires name { passes.old.name ≡ N.name }
+        requires service { AreHere N.name places.now passes.old }
         requires none { gone.old ≡ None }
         ensures why { result ≡ false → is_kept self.old i ≡ false }
         ensures tried { IsTried passes.old act i op.now result told.new gone.new passes.new }
@@ -197,7 +182,7 @@ impl<N: Name> Desk<N> {
         if !self.has(i) {
             return false;
         }
-        self.books.meet(places.cpus(), passes);
+        self.books.meet(places, passes);
         self.wheel.call_into(i, op, &mut told.out);
         write_group(&mut self.books, places, passes, act, i, op, told);
         let n = number(&told.out.reply);

@@ -1,13 +1,14 @@
 //! The end of a service, of the CPU or of its interrupt.
-ghost use Rattle.std.specs.Prelude.{◌≡◌, ◌<◌, ℕ, Bool, false, true};
+ghost use Rattle.std.specs.Prelude.{◌<◌, ℕ, Bool, false, true};
 ghost use Rattle.std.specs.declared.option.Option.TheVariants.{None};
 ghost use Rattle.co_object.specs.Queue.{Due};
 ghost use Rattle.co_service.specs.Call.{notes_in};
 ghost use Rattle.co_service.specs.Ends.{IsFinished, finished_notes};
 ghost use Rattle.co_service.specs.Moving.{IsOfService};
-ghost use Rattle.co_service.specs.Services.{IsEnded, IsFree, IsServing};
+ghost use Rattle.co_service.specs.Services.{IsEnded, IsServing};
 ghost use Rattle.co_service.specs.Serving.{Runs};
 ghost use Rattle.co_service.specs.Views.{AreOf, PassesView};
+ghost use Rattle.co_service.specs.Kept.{KeepsFree, MayEnd, MayTryEnd};
 
 use crate::finished::Finished;
 use crate::moving::Moving;
@@ -27,10 +28,7 @@ impl<N: Name> Service<N> {
         told: &mut Finished,
         gone: &mut Option<Moving<N>>,
     )
-        requires cpu { cpu < self.now.cpus }
-        requires passes { AreOf N.name self.now passes.old }
-        requires serves { (d : Due) × IsServing direct passes.old cpu d (Runs d.n) }
-        requires none { gone.old ≡ None }
+        requires { MayTryEnd N.name self.now direct passes.old cpu gone.old }
         ensures { (d : Due) → IsServing direct passes.old cpu d (Runs d.n) → IsFinished direct passes.old cpu act d told.new gone.new passes.new }
     {
         for _ in rt.forever() {
@@ -77,9 +75,7 @@ impl<N: Name> Service<N> {
         direct: bool,
         told: &mut Finished,
     )
-        requires cpu { cpu < self.now.cpus }
-        requires passes { AreOf N.name self.now passes.old }
-        requires serves { (d : Due) × IsServing direct passes.old cpu d (Runs d.n) }
+        requires { MayEnd N.name self.now direct passes.old cpu }
         ensures { (d : Due) → IsServing direct passes.old cpu d (Runs d.n) → IsEnded direct passes.old cpu act d told.new.out.reply (finished_notes passes.old.actor act told.new) passes.new }
     {
         let mut leaves = None;
@@ -96,9 +92,7 @@ impl<N: Name> Service<N> {
         requires passes { AreOf N.name self.now passes.old }
         requires serves { (d : Due) × IsServing false passes.old cpu d (Runs d.n) }
         ensures ended { (d : Due) → IsServing false passes.old cpu d (Runs d.n) → IsEnded false passes.old cpu act d result.reply (notes_in result.notes) passes.new }
-        ensures of { AreOf N.name self.now passes.new }
-        ensures actor { passes.new.actor ≡ passes.old.actor }
-        ensures free { IsFree false passes.new cpu }
+        ensures kept { KeepsFree N.name self.now passes.old.actor false cpu passes.new }
     {
         let actor = passes.actor();
         let mut told = Finished::none();
@@ -115,9 +109,7 @@ impl<N: Name> Service<N> {
         requires passes { AreOf N.name self.now passes.old }
         requires serves { (d : Due) × IsServing true passes.old cpu d (Runs d.n) }
         ensures ended { (d : Due) → IsServing true passes.old cpu d (Runs d.n) → IsEnded true passes.old cpu act d result.reply (notes_in result.notes) passes.new }
-        ensures of { AreOf N.name self.now passes.new }
-        ensures actor { passes.new.actor ≡ passes.old.actor }
-        ensures free { IsFree true passes.new cpu }
+        ensures kept { KeepsFree N.name self.now passes.old.actor true cpu passes.new }
     {
         let actor = passes.actor();
         let mut told = Finished::none();
@@ -141,9 +133,7 @@ impl<N: Name> Service<N> {
         requires passes { AreOf N.name self.now passes.old }
         requires serves { (d : Due) × IsServing direct passes.old cpu d (Runs d.n) }
         ensures ended { (d : Due) → IsServing direct passes.old cpu d (Runs d.n) → IsEnded direct passes.old cpu act d told.new.out.reply (finished_notes passes.old.actor act told.new) passes.new }
-        ensures of { AreOf N.name self.now passes.new }
-        ensures actor { passes.new.actor ≡ passes.old.actor }
-        ensures free { IsFree direct passes.new cpu }
+        ensures kept { KeepsFree N.name self.now passes.old.actor direct cpu passes.new }
     {
         self.end_lane(rt, passes, cpu, act, direct, told);
     }

@@ -1,7 +1,7 @@
 //! A service before its locks.
 ghost use Rattle.std.specs.Prelude.{◌≡◌, ◌≤◌, IfOk, length};
 ghost use Rattle.co_service.specs.Booted.{AreBooted, AreSetUp};
-ghost use Rattle.co_service.specs.Fresh.{AreBenches, AreNamed};
+ghost use Rattle.co_service.specs.Fresh.{AreJoined, AreNamed, IsMade};
 ghost use Rattle.co_service.specs.Params.{AreParams, actor_count};
 ghost use Rattle.co_service.specs.Stories.{IsHistory, IsJournal};
 
@@ -99,9 +99,7 @@ fn join_fresh(
     requires actors { actors ≡ actor_count params.now }
     requires callouts { AreSetUp IsHistory params.now (length params.now.specs) callouts.0 callouts.1.items callouts.2.items }
     requires cpus { AreSetUp IsJournal params.now params.now.cpus cpus.0 cpus.1.items cpus.2.items }
-    ensures benches { IfOk result (λ made. AreBenches made.0 params.now made.1.items) }
-    ensures passes { IfOk result (λ made. AreBooted made.0 params.now made.2) }
-    ensures named { IfOk result (λ made. AreNamed made.0 params.now) }
+    ensures { IfOk result (λ made. AreJoined made.0 params.now made.1.items made.2) }
 {
     let (lives, timers, timer_seats) = callouts;
     let (wheels, journals, cpu_seats) = cpus;
@@ -114,9 +112,7 @@ fn join_fresh(
 /// A service of these parameters before its locks, and each actor's passes of it.
 fn make_fresh(alloc: Global, params: Params) -> Result<(Fresh, Seq<Passes>), NoMemory>
     requires { AreParams params }
-    ensures params { IfOk result (λ made. made.0.params ≡ params) }
-    ensures passes { IfOk result (λ made. AreBooted made.0.name params made.1) }
-    ensures named { IfOk result (λ made. AreNamed made.0.name params) }
+    ensures { IfOk result (λ made. IsMade params made.0 made.1) }
 {
     let actors = count_actors(&params);
     let callouts = make_callouts(alloc, &params, actors)?;

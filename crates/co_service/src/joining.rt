@@ -1,7 +1,8 @@
 //! Each actor's passes of all places of a service.
-ghost use Rattle.std.specs.Prelude.{◌≡◌, ◌<◌, IfOk, length};
+ghost use Rattle.std.specs.Prelude.{◌≡◌, ◌<◌, IfOk};
 ghost use Rattle.co_service.specs.Booted.{AreBooted, AreLeft, AreSeatedAt, booted};
 ghost use Rattle.co_service.specs.Params.{actor_count};
+ghost use Rattle.co_service.specs.Fresh.{AreNamed};
 
 use crate::places::Places;
 use crate::seats::Seats;
@@ -22,8 +23,7 @@ fn join(
     requires count { actors ≡ actor_count params.now }
     requires timers { AreSeatedAt params.now timers.name actor timers }
     requires cpus { AreSeatedAt params.now cpus.name actor cpus }
-    requires callouts { length timers.name ≡ length params.now.specs }
-    requires wheels { length cpus.name ≡ params.now.cpus }
+    requires named { AreNamed (record { timers = timers.name; cpus = cpus.name }) params.now }
     ensures { result ≡ booted (record { timers = timers.name; cpus = cpus.name }) params.now actor }
 {
     Passes {
@@ -47,8 +47,7 @@ pub(crate) fn join_all(
     requires count { actors ≡ actor_count params.now }
     requires timers { AreLeft params.now places.now.timers actors 0 timers.items }
     requires cpus { AreLeft params.now places.now.cpus actors 0 cpus.items }
-    requires callouts { length places.now.timers ≡ length params.now.specs }
-    requires wheels { length places.now.cpus ≡ params.now.cpus }
+    requires named { AreNamed places.now params.now }
     ensures { IfOk result (λ all. AreBooted places.now params.now all) }
 {
     let mut timers = timers;

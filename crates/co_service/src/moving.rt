@@ -1,7 +1,7 @@
 //! A callout on its way from one desk to another.
 ghost use Rattle.std.specs.Prelude.{◌≡◌};
 ghost use Rattle.std.specs.declared.option.Option.TheVariants.{None};
-ghost use Rattle.co_service.specs.Moving.{MayDepart, departed, moving_from};
+ghost use Rattle.co_service.specs.Moving.{HasLeft, MayDepart};
 
 use crate::books::Books;
 use crate::{Name, TimerStory};
@@ -63,8 +63,7 @@ fn send<N: Name>(
 )
     requires may { MayDepart books.old n due leaves }
     requires none { gone.old ≡ None }
-    ensures books { books.new ≡ departed books.old leaves }
-    ensures moving { gone.new ≡ moving_from books.old n due leaves }
+    ensures { HasLeft books.old n due leaves books.new gone.new }
 {
     if let Some(parcel) = leaves {
         let keeper = books.take(parcel.callout());
@@ -89,8 +88,7 @@ pub(crate) fn depart<N: Name>(
 )
     requires may { MayDepart books.old n due leaves.old }
     requires none { gone.old ≡ None }
-    ensures books { books.new ≡ departed books.old leaves.old }
-    ensures moving { gone.new ≡ moving_from books.old n due leaves.old }
+    ensures { HasLeft books.old n due leaves.old books.new gone.new }
 {
     if let Some(_) = leaves {
         send(books, leaves.take(), n, due, gone);

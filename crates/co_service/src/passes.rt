@@ -1,13 +1,13 @@
 //! What one actor has seen of a service.
-ghost use Rattle.std.specs.Prelude.{◌≡◌, [], ◌∷◌, ◌++◌, slice_get};
+ghost use Rattle.std.specs.Prelude.{◌≡◌};
 ghost use Rattle.std.specs.declared.option.Option.TheVariants.{Some};
 ghost use Rattle.co_service.specs.declared.params.Params.{Params};
-ghost use Rattle.co_service.specs.Closing.{MeetsCpu, MeetsTimer};
+ghost use Rattle.co_service.specs.Closing.{IsMeeting, MeetsCpu, MeetsTimer};
 ghost use Rattle.co_service.specs.Lines.{made, opening_of};
-ghost use Rattle.co_service.specs.Params.{actor_count};
 ghost use Rattle.co_service.specs.Stories.{IsHistory, IsJournal};
-ghost use Rattle.co_service.specs.Views.{IsKeeperOf};
 ghost use Rattle.co_service.specs.Writes.{WritesCpu, WritesTimer};
+ghost use Rattle.co_service.specs.Views.{HasEntry, TakesEntry};
+ghost use Rattle.co_service.specs.Seats.{IsAt};
 
 use crate::seats::{Lives, Seats};
 use crate::{CpuStory, Line, Params, TimerStory};
@@ -57,11 +57,9 @@ impl Passes {
         entry: Entry,
     ) -> u64
         requires name { self.old.name.timers ≡ lives.now }
-        requires keeper { IsKeeperOf IsHistory lives.now self.old.params i keeper.old }
-        requires legal { IsHistory self.old.params i (made keeper.old.history ++ entry ∷ []) }
+        requires may { TakesEntry IsHistory lives.now self.old.params i keeper.old entry }
         requires own { entry.actor ≡ self.old.actor }
-        ensures keeper { IsKeeperOf IsHistory lives.now self.old.params i keeper.new }
-        ensures history { made keeper.new.history ≡ made keeper.old.history ++ entry ∷ [] }
+        ensures kept { HasEntry IsHistory lives.now self.old.params i keeper.old entry keeper.new }
         ensures written { WritesTimer self.old i entry result (made keeper.new.history) self.new }
     {
         let number = self
@@ -80,11 +78,9 @@ impl Passes {
         entry: QEntry,
     ) -> u64
         requires name { self.old.name.cpus ≡ lives.now }
-        requires keeper { IsKeeperOf IsJournal lives.now self.old.params cpu keeper.old }
-        requires legal { IsJournal self.old.params cpu (made keeper.old.history ++ entry ∷ []) }
+        requires may { TakesEntry IsJournal lives.now self.old.params cpu keeper.old entry }
         requires own { entry.actor ≡ self.old.actor }
-        ensures keeper { IsKeeperOf IsJournal lives.now self.old.params cpu keeper.new }
-        ensures history { made keeper.new.history ≡ made keeper.old.history ++ entry ∷ [] }
+        ensures kept { HasEntry IsJournal lives.now self.old.params cpu keeper.old entry keeper.new }
         ensures written { WritesCpu self.old cpu entry result (made keeper.new.history) self.new }
     {
         let number = self
@@ -101,12 +97,9 @@ impl Passes {
         keeper: &mut Keeper<TimerStory>,
         i: u32,
     )
-        requires at { slice_get self.old.name.timers i ≡ Some life.now }
-        requires life { keeper.old.life ≡ life.now }
+        requires place { IsAt self.old.name.timers i life.now keeper.old }
         requires opened { (params : Params) × (opening_of keeper.old.history ≡ Some (params, i)) }
-        ensures keeper { keeper.new ≡ keeper.old }
-        ensures same { self.new ≡ self.old }
-        ensures met { MeetsTimer keeper.old i self.old }
+        ensures { IsMeeting keeper.old keeper.new self.old self.new (MeetsTimer keeper.old i self.old) }
     {
         self.timers.meet(life, keeper, i);
     }
@@ -119,12 +112,9 @@ impl Passes {
         keeper: &mut Keeper<CpuStory>,
         cpu: u32,
     )
-        requires at { slice_get self.old.name.cpus cpu ≡ Some life.now }
-        requires life { keeper.old.life ≡ life.now }
+        requires place { IsAt self.old.name.cpus cpu life.now keeper.old }
         requires opened { (params : Params) × (opening_of keeper.old.history ≡ Some (params, cpu)) }
-        ensures keeper { keeper.new ≡ keeper.old }
-        ensures same { self.new ≡ self.old }
-        ensures met { MeetsCpu keeper.old cpu self.old }
+        ensures { IsMeeting keeper.old keeper.new self.old self.new (MeetsCpu keeper.old cpu self.old) }
     {
         self.cpus.meet(life, keeper, cpu);
     }

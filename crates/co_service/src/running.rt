@@ -1,30 +1,28 @@
 //! What a service writes in the books of a desk.
-ghost use Rattle.std.specs.Prelude.{◌≡◌, ◌≤◌, Bool, [], ◌∷◌, ◌++◌, List, IfSome, true, is_some};
+ghost use Rattle.std.specs.Prelude.{◌≡◌, [], ◌∷◌, IfSome, true};
 ghost use Rattle.std.specs.Option.{option_map};
 ghost use Rattle.std.specs.declared.option.Option.TheVariants.{Some, None};
 ghost use Rattle.co_object.specs.declared.op.Op.TheVariants.{Run};
 ghost use Rattle.co_object.specs.declared.note.AnyEntry.TheVariants as of;
 ghost use Rattle.co_object.specs.declared.note.Place.TheVariants as at;
-ghost use Rattle.co_service.specs.Books.{entries_at, is_kept, with_history};
+ghost use Rattle.co_service.specs.Books.{is_kept};
 ghost use Rattle.co_service.specs.Desk.{Owes};
 ghost use Rattle.co_service.specs.May.{MayHappen};
 ghost use Rattle.co_service.specs.Outcomes.{noted_entry};
 ghost use Rattle.co_service.specs.Params.{actors_of};
-ghost use Rattle.co_service.specs.Services.{IsTaken, MayPick, next_due, next_number, picked_histories, pop_entry, run_entry, taken_of};
+ghost use Rattle.co_service.specs.Services.{MayPick, next_due, next_number, run_entry};
 ghost use Rattle.co_service.specs.Serving.{lane_actor};
-ghost use Rattle.co_service.specs.Views.{journal_seen};
-ghost use Rattle.co_service.specs.Writes.{WritesTimer};
 ghost use Rattle.co_wheel.specs.Cpu.{Cpu};
 ghost use Rattle.co_wheel.specs.Callouts.{in_service, is_here};
 ghost use Rattle.co_wheel.specs.Next.{next_out, popping};
 ghost use Rattle.co_wheel.specs.Turns.{free_of, pop_of};
+ghost use Rattle.co_service.specs.Written.{AreTogether, IsEntryWritten, IsTakingWritten};
 
 use crate::books::Books;
 use crate::desk::write_turn;
 use crate::places::Places;
 use crate::popped::Popped;
-use crate::seats::Lives;
-use crate::{Name, Passes, TimerStory};
+use crate::{Name, Passes};
 use co_bucket::WheelQueue;
 use co_object::{AnyEntry, Entry, Note, Op, Place, QOp, QReply, Reply, RunOp};
 use co_sbt::Sbt;
@@ -34,20 +32,17 @@ use co_wheel::{Started, Wheel};
 #[inline(always)]
 pub(crate) fn enter_run<N: Name>(
     books: &mut Books<N>,
-    lives: &Lives<TimerStory>,
+    places: &Places,
     passes: &mut Passes,
     act: u64,
     i: u32,
     op: &RunOp,
     reply: &Reply,
 ) -> u64
-    requires lives { lives.now ≡ N.name.timers }
-    requires name { passes.old.name ≡ N.name }
-    requires params { books.old.params ≡ passes.old.params }
+    requires together { AreTogether N.name places.now passes.old books.old }
     requires here { is_kept books.old i ≡ true }
     requires may { MayHappen books.old i (run_entry passes.old act op.now reply.now) }
-    ensures books { books.new ≡ with_history books.old i (Some (entries_at books.old i ++ run_entry passes.old act op.now reply.now ∷ [])) }
-    ensures written { WritesTimer passes.old i (run_entry passes.old act op.now reply.now) result (entries_at books.old i ++ run_entry passes.old act op.now reply.now ∷ []) passes.new }
+    ensures { IsEntryWritten passes.old books.old i (run_entry passes.old act op.now reply.now) result passes.new books.new }
 {
     let entry = Entry {
         actor: passes.actor(),
@@ -55,7 +50,7 @@ pub(crate) fn enter_run<N: Name>(
         op: Op::Run(*op),
         reply: *reply,
     };
-    books.write_timer(lives, passes, i, &entry)
+    books.write_timer(places, passes, i, &entry)
 }
 
 /// The note of the entry of a service's operation.
@@ -79,24 +74,21 @@ pub(crate) fn run_note(actor: u32, act: u64, i: u32, op: &RunOp, reply: &Reply, 
 #[inline(always)]
 pub(crate) fn write_run<N: Name>(
     books: &mut Books<N>,
-    lives: &Lives<TimerStory>,
+    places: &Places,
     passes: &mut Passes,
     act: u64,
     i: u32,
     op: &RunOp,
     reply: &Reply,
 ) -> Note
-    requires lives { lives.now ≡ N.name.timers }
-    requires name { passes.old.name ≡ N.name }
-    requires params { books.old.params ≡ passes.old.params }
+    requires together { AreTogether N.name places.now passes.old books.old }
     requires here { is_kept books.old i ≡ true }
     requires may { MayHappen books.old i (run_entry passes.old act op.now reply.now) }
-    ensures books { books.new ≡ with_history books.old i (Some (entries_at books.old i ++ run_entry passes.old act op.now reply.now ∷ [])) }
     ensures note { (result.place ≡ at.Timer i) × (result.entry ≡ of.Timer (run_entry passes.old act op.now reply.now)) }
-    ensures written { WritesTimer passes.old i (run_entry passes.old act op.now reply.now) result.pos (entries_at books.old i ++ run_entry passes.old act op.now reply.now ∷ []) passes.new }
+    ensures written { IsEntryWritten passes.old books.old i (run_entry passes.old act op.now reply.now) result.pos passes.new books.new }
 {
     let actor = passes.actor();
-    let pos = enter_run(books, lives, passes, act, i, op, reply);
+    let pos = enter_run(books, places, passes, act, i, op, reply);
     run_note(actor, act, i, op, reply, pos)
 }
 
@@ -130,30 +122,26 @@ pub(crate) fn write_taken<N: Name>(
     direct: bool,
     out: Option<Started>,
 ) -> Popped
-    requires places { places.now ≡ N.name }
-    requires name { passes.old.name ≡ N.name }
-    requires params { books.old.params ≡ passes.old.params }
+    requires together { AreTogether N.name places.now passes.old books.old }
     requires actor { passes.old.actor ≡ lane_actor direct (actors_of books.old.params) books.old.cpu }
     requires owes { (w : Cpu) × Owes (popping direct (next_out out)) w books.old }
     requires may { MayPick books.old passes.old act (next_out out) }
-    ensures books { books.new ≡ record books.old { timers = picked_histories books.old passes.old act (next_out out); journal = books.old.journal ++ pop_entry direct passes.old act (next_out out) ∷ [] } }
-    ensures told { IsTaken direct passes.old books.old.cpu act (taken_of direct passes.old.actor act books.old.cpu result) passes.new }
-    ensures seen { journal_seen passes.new books.old.cpu ≡ books.new.journal }
+    ensures { IsTakingWritten direct passes.old books.old act (next_out out) result passes.new books.new }
 {
     let op = pop(direct);
     match out {
         None => {
-            let pop = write_turn(books, places.cpus(), passes, act, op, QReply::Empty);
+            let pop = write_turn(books, places, passes, act, op, QReply::Empty);
             Popped::Empty { pop }
         }
         Some(started) => {
             let (i, n, at) = (started.i, started.n, started.at);
             let got = QReply::Got { i, n, at };
-            let pop = write_turn(books, places.cpus(), passes, act, op, got);
+            let pop = write_turn(books, places, passes, act, op, got);
             let cpu = books.cpu();
             let picks = RunOp::Pick { n, cpu, at };
             let said = started.reply.reply();
-            let pick = enter_run(books, places.timers(), passes, act, i, &picks, &said);
+            let pick = enter_run(books, places, passes, act, i, &picks, &said);
             Popped::Took {
                 i,
                 n,

@@ -1,10 +1,8 @@
 //! One actor's passes of many places, and the lives of these places.
-ghost use Rattle.std.specs.Prelude.{◌≡◌, ◌<◌, [], ◌∷◌, ◌++◌, length, Some, slice_get, slice_set, slice_index_or, IfOk, OnOk};
+ghost use Rattle.std.specs.Prelude.{◌≡◌, ◌<◌, [], ◌∷◌, ◌++◌, length, Some, slice_get, IfOk, OnOk};
 ghost use Rattle.std.specs.List.{All};
-ghost use Rattle.co_life.specs.Rule.{capped};
-ghost use Rattle.co_life.specs.Seen.{Extends};
 ghost use Rattle.co_life.specs.Views.{};
-ghost use Rattle.co_service.specs.Seats.{IsShown, fresh_seats, seen_at};
+ghost use Rattle.co_service.specs.Seats.{IsAt, IsCompared, IsWritten, fresh_seats};
 
 use crate::boot::apart;
 use co_life::{Keeper, Life, Pass, Story};
@@ -133,16 +131,10 @@ impl<S: Story> Seats<S> {
         i: u32,
         entry: S::Entry,
     ) -> u64
-        requires at { slice_get self.old.name i ≡ Some life.now }
-        requires keeper { keeper.old.life ≡ life.now }
+        requires place { IsAt self.old.name i life.now keeper.old }
         requires legal { S.legal (keeper.old.history ++ entry ∷ []) }
         requires actor { S.actor entry ≡ self.old.actor }
-        ensures keeper { keeper.new ≡ record keeper.old { history = keeper.old.history ++ entry ∷ [] } }
-        ensures same { (self.new.name ≡ self.old.name) × (self.new.actor ≡ self.old.actor) }
-        ensures seen { self.new.seen ≡ slice_set self.old.seen i keeper.new.history }
-        ensures extends { Extends S.actor self.old.actor (seen_at self.old i) entry keeper.new.history }
-        ensures position { result ≡ capped (length keeper.old.history) }
-        ensures actors { All (λ e. S.actor e < keeper.new.actors) keeper.new.history }
+        ensures { IsWritten S.actor self.old i entry keeper.old result keeper.new self.new }
     {
         let at = i as usize;
         let pass = self.passes[at].take().unwrap();
@@ -154,13 +146,8 @@ impl<S: Story> Seats<S> {
     /// Shows the history of a place to the actor's pass of it. Nothing changes.
     #[inline(always)]
     pub(crate) fn meet(&mut self, life: &Life<S>, keeper: &mut Keeper<S>, i: u32)
-        requires at { slice_get self.old.name i ≡ Some life.now }
-        requires keeper { keeper.old.life ≡ life.now }
-        ensures keeper { keeper.new ≡ keeper.old }
-        ensures same { self.new ≡ self.old }
-        ensures shown { IsShown S.actor self.old.actor keeper.old.history (seen_at self.old i) }
-        ensures actors { All (λ e. S.actor e < keeper.old.actors) keeper.old.history }
-        ensures legal { S.legal keeper.old.history }
+        requires { IsAt self.old.name i life.now keeper.old }
+        ensures { IsCompared S.actor S.legal self.old i keeper.old keeper.new self.new }
     {
         let at = i as usize;
         let pass = self.passes[at].take().unwrap();

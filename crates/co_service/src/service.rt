@@ -1,6 +1,6 @@
 //! The running service: each CPU's desk behind a lock of its own.
-ghost use Rattle.std.specs.Prelude.{◌≡◌, ◌<◌, ◌≤◌, ◌^◌, ℕ, Bool, IfErr, IfOk, false, length, true, vec_len};
-ghost use Rattle.std.specs.declared.option.Option.TheVariants.{Some, None};
+ghost use Rattle.std.specs.Prelude.{◌≡◌, ◌<◌, IfErr, IfOk, false, length, true, vec_len};
+ghost use Rattle.std.specs.declared.option.Option.TheVariants.{Some};
 ghost use Rattle.co_object.specs.Queue.{Due};
 ghost use Rattle.co_object.specs.Journal.{scanner};
 ghost use Rattle.std.specs.Option.{option_copied};
@@ -12,9 +12,10 @@ ghost use Rattle.co_service.specs.Closing.{AreAll, AreEnded, AreEndedCpus, HasEa
 ghost use Rattle.co_service.specs.Fresh.{AreNamed};
 ghost use Rattle.co_service.specs.Outcomes.{IsScan};
 ghost use Rattle.co_service.specs.Params.{AreParams, actors_of, spec_at};
-ghost use Rattle.co_service.specs.Services.{IsBegun, IsFree, IsLanded, IsServing};
-ghost use Rattle.co_service.specs.Serving.{Runs, Service as Progress, Waits};
-ghost use Rattle.co_service.specs.Views.{AreOf, journal_seen};
+ghost use Rattle.co_service.specs.Services.{IsBegun, IsLanded, IsServing};
+ghost use Rattle.co_service.specs.Serving.{Waits};
+ghost use Rattle.co_service.specs.Views.{AreOf};
+ghost use Rattle.co_service.specs.Kept.{Keeps, KeepsBegun, MayLand};
 
 use crate::closing::{Closing, Ending, check_each, end_all};
 use crate::desk::Desk;
@@ -111,8 +112,7 @@ impl<N: Name> Service<N> {
         act: u64,
         moving: Moving<N>,
     ) -> Result<Inserted, Moving<N>>
-        requires passes { AreOf N.name self.now passes.old }
-        requires params { moving.params ≡ passes.old.params }
+        requires { MayLand N.name self.now passes.old moving }
         ensures back { IfErr result (λ m. (m ≡ moving) × (passes.new ≡ passes.old)) }
         ensures landed { IfOk result (λ x. IsLanded passes.old act moving.i moving.target x passes.new) }
     {
@@ -137,8 +137,7 @@ impl<N: Name> Service<N> {
         act: u64,
         moving: Moving<N>,
     ) -> Inserted
-        requires passes { AreOf N.name self.now passes.old }
-        requires params { moving.params ≡ passes.old.params }
+        requires { MayLand N.name self.now passes.old moving }
         ensures { IsLanded passes.old act moving.i moving.target result passes.new }
     {
         let mut moving = moving;
@@ -168,10 +167,7 @@ impl<N: Name> Service<N> {
         requires cpu { NamesCpu self.now.cpus op.now }
         requires covered { covers (option_copied hold) (spec_at self.now i) op.now ≡ true }
         ensures called { IsCalled passes.old act i op.now result.reply (notes_in result.notes) passes.new }
-        ensures of { AreOf N.name self.now passes.new }
-        ensures actor { passes.new.actor ≡ passes.old.actor }
-        ensures free { (direct : Bool) (cpu : ℕ) → IsFree direct passes.old cpu → IsFree direct passes.new cpu }
-        ensures serving { (direct : Bool) (cpu : ℕ) (d : Due) (far : Progress) → IsServing direct passes.old cpu d far → IsServing direct passes.new cpu d far }
+        ensures kept { Keeps N.name self.now passes.old passes.new }
     {
         let actor = passes.actor();
         let mut told = Told::none();
@@ -196,10 +192,7 @@ impl<N: Name> Service<N> {
         requires cpu { NamesCpu self.now.cpus op.now }
         requires covered { covers (option_copied hold) (spec_at self.now i) op.now ≡ true }
         ensures called { IsCalled passes.old act i op.now told.new.out.reply (told_notes passes.old.actor act i op.now told.new) passes.new }
-        ensures of { AreOf N.name self.now passes.new }
-        ensures actor { passes.new.actor ≡ passes.old.actor }
-        ensures free { (direct : Bool) (cpu : ℕ) → IsFree direct passes.old cpu → IsFree direct passes.new cpu }
-        ensures serving { (direct : Bool) (cpu : ℕ) (d : Due) (far : Progress) → IsServing direct passes.old cpu d far → IsServing direct passes.new cpu d far }
+        ensures kept { Keeps N.name self.now passes.old passes.new }
     {
         let _ = hold;
         self.call_landed(rt, passes, act, i, op, told);
@@ -221,17 +214,14 @@ impl<N: Name> Service<N> {
         requires passes { AreOf N.name self.now passes.old }
         requires scanner { passes.old.actor ≡ scanner (actors_of self.now) cpu }
         ensures scanned { IsScan passes.old cpu act now result passes.new }
-        ensures of { AreOf N.name self.now passes.new }
-        ensures actor { passes.new.actor ≡ passes.old.actor }
-        ensures free { (direct : Bool) (x : ℕ) → IsFree direct passes.old x → IsFree direct passes.new x }
-        ensures serving { (direct : Bool) (x : ℕ) (d : Due) (far : Progress) → IsServing direct passes.old x d far → IsServing direct passes.new x d far }
+        ensures kept { Keeps N.name self.now passes.old passes.new }
     {
         for _ in rt.forever() {
             let locked = &self.desks[cpu as usize];
             let out = locked
                 .desk
                 .lock(rt)
-                .scan(self.places.cpus(), passes, cpu, act, now);
+                .scan(&self.places, passes, cpu, act, now);
             if let Some(out) = out {
                 locked.changed.notify_all();
                 return out;
@@ -256,9 +246,7 @@ impl<N: Name> Service<N> {
         requires serves { (d : Due) × IsServing false passes.old cpu d (Waits d.n) }
         requires held { (d : Due) → IsServing false passes.old cpu d (Waits d.n) → hold_of (spec_at self.now d.i).lock ≡ Some hold.now }
         ensures begun { (d : Due) → IsServing false passes.old cpu d (Waits d.n) → IsBegun passes.old cpu act d result passes.new }
-        ensures of { AreOf N.name self.now passes.new }
-        ensures actor { passes.new.actor ≡ passes.old.actor }
-        ensures serving { (d : Due) → IsServing false passes.old cpu d (Waits d.n) → IsServing false passes.new cpu d (Runs d.n) }
+        ensures kept { KeepsBegun N.name self.now cpu passes.old passes.new }
     {
         let _ = hold;
         for _ in rt.forever() {

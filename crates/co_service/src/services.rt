@@ -1,5 +1,5 @@
 //! The sections of a desk in which a callout is serviced, and its landing.
-ghost use Rattle.std.specs.Prelude.{◌≡◌, ◌≢◌, ◌<◌, ◌⊎◌, [], ◌∷◌, ◌++◌, IfErr, IfNone, IfOk, IfSome, false, nat_lt, true};
+ghost use Rattle.std.specs.Prelude.{◌≡◌, ◌≢◌, ◌<◌, ◌⊎◌, IfErr, IfOk, false, nat_lt, true};
 ghost use Rattle.std.specs.Option.{option_map};
 ghost use Rattle.std.specs.declared.option.Option.TheVariants.{Some, None};
 ghost use Rattle.co_object.specs.declared.queue.QOp.TheVariants.{Insert};
@@ -7,14 +7,13 @@ ghost use Rattle.co_object.specs.declared.queue.QReply.TheVariants.{At};
 ghost use Rattle.co_object.specs.Journal.{reply_of, step};
 ghost use Rattle.co_object.specs.Queue.{Due};
 ghost use Rattle.co_service.specs.Desk.{is_entry, scans_in, services};
-ghost use Rattle.co_service.specs.Ends.{IsFinished};
 ghost use Rattle.co_service.specs.May.{queue_of};
 ghost use Rattle.co_service.specs.Outcomes.{turn};
 ghost use Rattle.co_service.specs.Params.{directs};
-ghost use Rattle.co_service.specs.Services.{FollowsScans, IsBegun, IsFree, IsLanded, IsServing, IsTaken, taken_of};
+ghost use Rattle.co_service.specs.Services.{IsBegun, IsFree, IsLanded, IsServing};
 ghost use Rattle.co_service.specs.Serving.{Runs, Waits};
-ghost use Rattle.co_service.specs.Views.{journal_seen};
-ghost use Rattle.co_service.specs.Writes.{WritesCpu};
+ghost use Rattle.co_service.specs.Written.{AreHere, AreTogether, IsTurnWritten};
+ghost use Rattle.co_service.specs.Kept.{Answers, AnswersEnd, IsStarted};
 
 use crate::books::Books;
 use crate::desk::{Desk, write_turn};
@@ -23,9 +22,8 @@ use crate::moving::{Moving, depart};
 use crate::places::Places;
 use crate::popped::Popped;
 use crate::running::{enter_run, free, serviced, three, waited, write_run, write_taken};
-use crate::seats::Lives;
 use crate::told::Inserted;
-use crate::{CpuStory, Made, Name, Passes};
+use crate::{Made, Name, Passes};
 use co_object::{QOp, QReply, RunOp};
 use co_sbt::Sbt;
 
@@ -42,7 +40,7 @@ fn is_of(service: Option<(u32, u64)>, i: u32, n: u64) -> bool
 #[inline(always)]
 fn write_landed<N: Name>(
     books: &mut Books<N>,
-    lives: &Lives<CpuStory>,
+    places: &Places,
     passes: &mut Passes,
     act: u64,
     i: u32,
@@ -50,17 +48,14 @@ fn write_landed<N: Name>(
     t: Sbt,
     at: Sbt,
 ) -> Inserted
-    requires lives { lives.now ≡ N.name.cpus }
-    requires name { passes.old.name ≡ N.name }
-    requires params { books.old.params ≡ passes.old.params }
+    requires together { AreTogether N.name places.now passes.old books.old }
     requires possible { reply_of (step books.old.params.buckets (directs books.old.params) (queue_of books.old) (Insert i n t)) ≡ Some (At at) }
-    ensures books { books.new ≡ record books.old { journal = books.old.journal ++ turn passes.old act (Insert i n t) (At at) ∷ [] } }
     ensures told { result ≡ record { cpu = books.old.cpu; n = n; due = t; at = at; pos = result.pos } }
-    ensures written { WritesCpu passes.old books.old.cpu (turn passes.old act (Insert i n t) (At at)) result.pos books.new.journal passes.new }
+    ensures written { IsTurnWritten passes.old books.old (turn passes.old act (Insert i n t) (At at)) result.pos passes.new books.new }
 {
     let cpu = books.cpu();
     let op = QOp::Insert { i, n, t };
-    let pos = write_turn(books, lives, passes, act, op, QReply::At(at));
+    let pos = write_turn(books, places, passes, act, op, QReply::At(at));
     Inserted {
         cpu,
         n,
@@ -99,13 +94,9 @@ impl<N: Name> Desk<N> {
         scans: u64,
         direct: bool,
     ) -> Option<Popped>
-        requires places { places.now ≡ N.name }
-        requires name { passes.old.name ≡ N.name }
+        requires service { AreHere N.name places.now passes.old }
         requires free { IsFree direct passes.old cpu }
-        ensures none { IfNone result (passes.new ≡ passes.old) }
-        ensures why { IfNone result ((self.old.cpu ≢ cpu) ⊎ (scans_in self.old.journal < scans)) }
-        ensures some { IfSome result (λ out. IsTaken direct passes.old cpu act (taken_of direct passes.old.actor act cpu out) passes.new) }
-        ensures scans { IfSome result (λ _. FollowsScans scans (journal_seen passes.new cpu)) }
+        ensures { Answers passes.old result ((self.old.cpu ≢ cpu) ⊎ (scans_in self.old.journal < scans)) (λ out. IsStarted direct passes.old cpu act scans out passes.new) passes.new }
     {
         if self.books.cpu() != cpu {
             return None;
@@ -113,7 +104,7 @@ impl<N: Name> Desk<N> {
         if self.lacks(scans) {
             return None;
         }
-        self.books.meet(places.cpus(), passes);
+        self.books.meet(places, passes);
         let out = self.wheel.start(direct);
         Some(write_taken(&mut self.books, places, passes, act, direct, out))
     }
@@ -128,32 +119,21 @@ impl<N: Name> Desk<N> {
         cpu: u32,
         act: u64,
     ) -> Option<Made>
-        requires places { places.now ≡ N.name }
-        requires name { passes.old.name ≡ N.name }
+        requires service { AreHere N.name places.now passes.old }
         requires serves { (d : Due) × IsServing false passes.old cpu d (Waits d.n) }
-        ensures none { IfNone result (passes.new ≡ passes.old) }
-        ensures why { IfNone result (self.old.cpu ≢ cpu) }
-        ensures some { IfSome result (λ out. (d : Due) → IsServing false passes.old cpu d (Waits d.n) → IsBegun passes.old cpu act d out passes.new) }
+        ensures { Answers passes.old result (self.old.cpu ≢ cpu) (λ out. (d : Due) → IsServing false passes.old cpu d (Waits d.n) → IsBegun passes.old cpu act d out passes.new) passes.new }
     {
         if self.books.cpu() != cpu {
             return None;
         }
-        self.books.meet(places.cpus(), passes);
+        self.books.meet(places, passes);
         let Some((i, n)) = serviced(&self.wheel, false) else {
             unreachable!()
         };
-        self.books.meet_timer(places.timers(), passes, i);
+        self.books.meet_timer(places, passes, i);
         let reply = self.wheel.begin();
         let op = RunOp::Begin { n, cpu };
-        let note = write_run(
-            &mut self.books,
-            places.timers(),
-            passes,
-            act,
-            i,
-            &op,
-            &reply,
-        );
+        let note = write_run(&mut self.books, places, passes, act, i, &op, &reply);
         let notes = three(Some(note), None, None);
         Some(Made { reply, notes })
     }
@@ -171,27 +151,24 @@ impl<N: Name> Desk<N> {
         told: &mut Finished,
         gone: &mut Option<Moving<N>>,
     ) -> bool
-        requires places { places.now ≡ N.name }
-        requires name { passes.old.name ≡ N.name }
+        requires service { AreHere N.name places.now passes.old }
         requires serves { (d : Due) × IsServing direct passes.old cpu d (Runs d.n) }
         requires none { gone.old ≡ None }
-        ensures none { result ≡ false → (passes.new ≡ passes.old) × (gone.new ≡ None) }
-        ensures why { result ≡ false → self.old.cpu ≢ cpu }
-        ensures some { result ≡ true → (d : Due) → IsServing direct passes.old cpu d (Runs d.n) → IsFinished direct passes.old cpu act d told.new gone.new passes.new }
+        ensures { AnswersEnd direct passes.old cpu act result (self.old.cpu ≢ cpu) told.new gone.new passes.new }
     {
         if self.books.cpu() != cpu {
             return false;
         }
-        self.books.meet(places.cpus(), passes);
+        self.books.meet(places, passes);
         let Some((i, n)) = serviced(&self.wheel, direct) else {
             unreachable!()
         };
-        self.books.meet_timer(places.timers(), passes, i);
+        self.books.meet_timer(places, passes, i);
         self.wheel.end_into(direct, &mut told.out);
         let op = RunOp::End { n, cpu };
         let entry = enter_run(
             &mut self.books,
-            places.timers(),
+            places,
             passes,
             act,
             i,
@@ -200,7 +177,7 @@ impl<N: Name> Desk<N> {
         );
         let freed = write_turn(
             &mut self.books,
-            places.cpus(),
+            places,
             passes,
             act,
             free(direct),
@@ -221,8 +198,7 @@ impl<N: Name> Desk<N> {
         act: u64,
         moving: Moving<N>,
     ) -> Result<Inserted, Moving<N>>
-        requires places { places.now ≡ N.name }
-        requires name { passes.old.name ≡ N.name }
+        requires service { AreHere N.name places.now passes.old }
         requires params { moving.params ≡ passes.old.params }
         ensures back { IfErr result (λ m. (m ≡ moving) × (passes.new ≡ passes.old)) }
         ensures landed { IfOk result (λ x. IsLanded passes.old act moving.i moving.target x passes.new) }
@@ -232,12 +208,11 @@ impl<N: Name> Desk<N> {
         if self.books.cpu() != cpu || self.books.size() <= i as usize || self.books.has(i) {
             return Err(moving);
         }
-        self.books.meet(places.cpus(), passes);
+        self.books.meet(places, passes);
         let n = moving.n;
         let t = moving.due;
         let at = self.wheel.land(moving.parcel);
         self.books.put(i, moving.keeper);
-        let lives = places.cpus();
-        Ok(write_landed(&mut self.books, lives, passes, act, i, n, t, at))
+        Ok(write_landed(&mut self.books, places, passes, act, i, n, t, at))
     }
 }

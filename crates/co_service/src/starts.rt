@@ -1,7 +1,8 @@
 //! The start of a service, of the CPU or of its interrupt.
-ghost use Rattle.std.specs.Prelude.{◌≡◌, ◌<◌, false, true};
-ghost use Rattle.co_service.specs.Services.{FollowsScans, HasNext, IsFree, IsTaken, taken_of};
+ghost use Rattle.std.specs.Prelude.{◌<◌, false, true};
+ghost use Rattle.co_service.specs.Services.{FollowsScans, IsFree, IsTaken, taken_of};
 ghost use Rattle.co_service.specs.Views.{AreOf, journal_seen};
+ghost use Rattle.co_service.specs.Kept.{IsStarted, KeepsTaken, MayStart};
 
 use crate::desk::Desk;
 use crate::popped::Popped;
@@ -21,11 +22,8 @@ impl<N: Name> Service<N> {
         scans: u64,
         direct: bool,
     ) -> Popped
-        requires cpu { cpu < self.now.cpus }
-        requires passes { AreOf N.name self.now passes.old }
-        requires free { IsFree direct passes.old cpu }
-        ensures taken { IsTaken direct passes.old cpu act (taken_of direct passes.old.actor act cpu result) passes.new }
-        ensures scans { FollowsScans scans (journal_seen passes.new cpu) }
+        requires { MayStart N.name self.now direct passes.old cpu }
+        ensures { IsStarted direct passes.old cpu act scans result passes.new }
     {
         for _ in rt.forever() {
             let locked = &self.desks[cpu as usize];
@@ -58,9 +56,7 @@ impl<N: Name> Service<N> {
         requires free { IsFree false passes.old cpu }
         ensures taken { IsTaken false passes.old cpu act result passes.new }
         ensures scans { FollowsScans scans (journal_seen passes.new cpu) }
-        ensures of { AreOf N.name self.now passes.new }
-        ensures actor { passes.new.actor ≡ passes.old.actor }
-        ensures next { HasNext false passes.new cpu result }
+        ensures kept { KeepsTaken N.name self.now passes.old.actor false cpu result passes.new }
     {
         let actor = passes.actor();
         let popped = self.pop(rt, passes, cpu, act, scans, false);
@@ -75,9 +71,7 @@ impl<N: Name> Service<N> {
         requires passes { AreOf N.name self.now passes.old }
         requires free { IsFree true passes.old cpu }
         ensures taken { IsTaken true passes.old cpu act result passes.new }
-        ensures of { AreOf N.name self.now passes.new }
-        ensures actor { passes.new.actor ≡ passes.old.actor }
-        ensures next { HasNext true passes.new cpu result }
+        ensures kept { KeepsTaken N.name self.now passes.old.actor true cpu result passes.new }
     {
         let actor = passes.actor();
         let popped = self.pop(rt, passes, cpu, act, 0, true);
@@ -98,11 +92,8 @@ impl<N: Name> Service<N> {
         requires cpu { cpu < self.now.cpus }
         requires passes { AreOf N.name self.now passes.old }
         requires free { IsFree direct passes.old cpu }
-        ensures taken { IsTaken direct passes.old cpu act (taken_of direct passes.old.actor act cpu result) passes.new }
-        ensures scans { FollowsScans scans (journal_seen passes.new cpu) }
-        ensures of { AreOf N.name self.now passes.new }
-        ensures actor { passes.new.actor ≡ passes.old.actor }
-        ensures next { HasNext direct passes.new cpu (taken_of direct passes.old.actor act cpu result) }
+        ensures started { IsStarted direct passes.old cpu act scans result passes.new }
+        ensures kept { KeepsTaken N.name self.now passes.old.actor direct cpu (taken_of direct passes.old.actor act cpu result) passes.new }
     {
         self.next_lane(rt, passes, cpu, act, scans, direct)
     }

@@ -1,5 +1,5 @@
 //! What a call did, and the notes of it.
-ghost use Rattle.std.specs.Prelude.{◌≡◌, ℕ, [], ◌∷◌};
+ghost use Rattle.std.specs.Prelude.{◌≡◌};
 ghost use Rattle.co_object.specs.declared.op.Op.TheVariants.{Call};
 ghost use Rattle.co_object.specs.Group.{off_of};
 ghost use Rattle.co_service.specs.Call.{due_in, insertion_told, noted, noted_insert, notes_in, number_in, removal_told, told_notes};

@@ -3,7 +3,7 @@ ghost use Rattle.std.specs.Prelude.{◌≡◌, ◌<◌, length, map, IfOk};
 ghost use Rattle.co_queue.specs.Timers.{IsSize, IsWheel, empty_timers};
 ghost use Rattle.co_wheel.specs.Callouts.{empty_callouts};
 ghost use Rattle.co_wheel.specs.Cpu.{cpu_of};
-ghost use Rattle.co_service.specs.Booted.{AreCome, IsFirst};
+ghost use Rattle.co_service.specs.Booted.{AreCome, HaveCome, IsFirst};
 ghost use Rattle.co_service.specs.Params.{AreParams, directs};
 
 use crate::Params;
@@ -47,8 +47,7 @@ fn put_all(wheel: &mut Wheel<WheelQueue>, specs: &[Spec])
     requires empty { AreCome specs.now 0 wheel.old.callouts.here }
     requires few { length specs.now < 1025 }
     requires direct { wheel.old.timers.direct ≡ map (λ spec. spec.direct) specs.now }
-    ensures come { AreCome specs.now (length specs.now) wheel.new.callouts.here }
-    ensures rest { wheel.new ≡ record wheel.old { callouts = record wheel.old.callouts { here = wheel.new.callouts.here } } }
+    ensures { HaveCome specs.now wheel.old wheel.new }
 {
     for (i, spec) in specs.iter().enumerate() {
         wheel.put(Record::new(i as u32, *spec, 0));

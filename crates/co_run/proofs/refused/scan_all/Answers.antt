@@ -8,8 +8,8 @@ loop-tick-preserved g c =
     let more = scan_counts c.loop-tick.passes c.scan-scanned.new.passes c.args.cpu c.args.act _ c.scan-scanned.result c.scan-scanned.ensures.scanned in
     let before = c.loop-tick.invariant.scans in
     record {
-      of = c.scan-scanned.ensures.of;
-      actor = c.scan-scanned.ensures.actor ∙ c.loop-tick.invariant.actor;
+      of = c.scan-scanned.ensures.kept.of;
+      actor = c.scan-scanned.ensures.kept.actor ∙ c.loop-tick.invariant.actor;
       scans = omega (arith, before, more);
-      free = λ direct x h. c.scan-scanned.ensures.free direct x (c.loop-tick.invariant.free direct x h);
+      free = λ direct x h. c.scan-scanned.ensures.kept.free direct x (c.loop-tick.invariant.free direct x h);
     }

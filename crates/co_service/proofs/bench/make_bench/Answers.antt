@@ -8,8 +8,8 @@ returns-clause-bench c =
     record {
       wheel = c.in_ok-wheel.ensures;
       first = subst (AreFirst c.args.places.now.timers c.args.params.now c.args.cpu) (ap (λ v. v.items) (sym c.replace-keepers.ensures.value)) c.requires.here;
-      own = c.requires.journal;
-      nothing = c.requires.nothing;
+      own = c.requires.journal.kept;
+      nothing = c.requires.journal.nothing;
     }
 
 pub returns-clause-here : goal.returns-clause-here

@@ -15,7 +15,7 @@ loop-journal-init c =
       yields = λ _. into_iter_items c.into_iter-journal-iterator.result;
       left = (let a = ap length c.into_iter-journal-iterator.ensures.into_iter_gives.0 in let b = c.into_iter-journal-iterator.ensures.into_iter_gives.1 in let m = c.args.journals.ok.0 in omega arith);
       at = λ _. 0;
-      here = all_first c.args.places.now.timers c.args.params.now c.args.timers.items c.in_ok-here.here.items c.requires.timers c.requires.callouts c.in_ok-here.ensures;
+      here = all_first c.args.places.now.timers c.args.params.now c.args.timers.items c.in_ok-here.here.items c.requires.timers.begun c.requires.timers.keepers_are c.in_ok-here.ensures;
       count = ap length none;
       each = λ k b is. (let bad = ap (λ l. slice_get l k) (sym none) ∙ is in absurd (cc));
     }
@@ -28,17 +28,7 @@ make_bench-requires-clause-journal c =
     let steps : into_iter_items at.journal-iterator ≡ x ∷ into_iter_items c.next.new.self = c.in-Some.ensures.steps.0 in
     let all = ap (λ l. at.yielded ++ l) (sym steps) ∙ (i.yields ∙ c.into_iter-journal-iterator.ensures.into_iter_gives.0) in
     let here : slice_get c.args.journals.items at.cpu ≡ Some x = ap (λ l. slice_get l at.cpu) (sym all) ∙ (ap (slice_get (at.yielded ++ x ∷ into_iter_items c.next.new.self)) i.at ∙ get_mid at.yielded x (into_iter_items c.next.new.self)) in
-    c.requires.journals.each at.cpu x here
-
-pub make_bench-requires-clause-nothing : goal.make_bench-requires-clause-nothing
-make_bench-requires-clause-nothing c =
-    let at = c.loop-journal in
-    let i = at.invariant in
-    let x = c.in-Some.journal in
-    let steps : into_iter_items at.journal-iterator ≡ x ∷ into_iter_items c.next.new.self = c.in-Some.ensures.steps.0 in
-    let all = ap (λ l. at.yielded ++ l) (sym steps) ∙ (i.yields ∙ c.into_iter-journal-iterator.ensures.into_iter_gives.0) in
-    let here : slice_get c.args.journals.items at.cpu ≡ Some x = ap (λ l. slice_get l at.cpu) (sym all) ∙ (ap (slice_get (at.yielded ++ x ∷ into_iter_items c.next.new.self)) i.at ∙ get_mid at.yielded x (into_iter_items c.next.new.self)) in
-    c.requires.journals.nothing at.cpu x here
+    record { kept = c.requires.journals.begun.each at.cpu x here; nothing = c.requires.journals.begun.nothing at.cpu x here }
 
 pub loop-journal-preserved : goal.loop-journal-preserved
 loop-journal-preserved c =

@@ -23,7 +23,7 @@ loop-pass-preserved g c =
     let one = c.index_mut-one.result.now in
     let within : at.actor < length at.seats.items = (let n = i.seats.count in omega arith) in
     let was : AreSeatedAt p lives at.actor one = subst (AreSeatedAt p lives at.actor) (get_or_of at.seats.items at.actor (fresh_seats [] 0) one (get_here at.seats.items at.actor one within c.index_mut-one.ensures.value)) (i.seats.behind at.actor (omega arith) few) in
-    let seated : IsSeated p (length lives) c.sign-signed.new.keeper.history = subst (λ n. IsSeated p n c.sign-signed.new.keeper.history) c.requires.place s.seated in
+    let seated : IsSeated p (length lives) c.sign-signed.new.keeper.history = subst (λ n. IsSeated p n c.sign-signed.new.keeper.history) c.requires.seats.place_is s.seated in
     record {
       yields = append_assoc at.yielded (x ∷ []) _ ∙ rw (← steps) i.yields;
       left = (let was = i.left in let gone = c.in-Some.ensures.steps.1 in let short = ap length steps in omega arith);
@@ -52,11 +52,8 @@ sign-signed-requires-clause-pass g c =
 pub sign-signed-requires-clause-opened : goal.sign-signed-requires-clause-opened
 sign-signed-requires-clause-opened g c = c.loop-pass.invariant.opened
 
-pub sign-signed-requires-clause-legal : goal.sign-signed-requires-clause-legal
-sign-signed-requires-clause-legal g c = c.requires.legal
-
-pub sign-signed-requires-clause-by : goal.sign-signed-requires-clause-by
-sign-signed-requires-clause-by g c = c.requires.by
+pub sign-signed-requires-clause-may : goal.sign-signed-requires-clause-may
+sign-signed-requires-clause-may g c = c.requires.may
 
 pub add-requires : goal.add-requires
 add-requires g c =

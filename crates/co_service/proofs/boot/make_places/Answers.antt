@@ -14,7 +14,7 @@ pub add_place-requires-clause-seats : goal.add_place-requires-clause-seats
 add_place-requires-clause-seats g c =
     let at = c.loop-place in
     let n : vec_len at.seats ≡ c.args.actors = (let k = at.invariant.seated.count in let m = at.seats.ok.0 in omega arith) in
-    ready_for c.args.params.now at.lives (c.in_ok-life.life ∷ []) c.args.actors (vec_len at.seats) at.seats.items (sym n) at.invariant.seated
+    record { place_is = sym at.invariant.lives_are; seats = ready_for c.args.params.now at.lives (c.in_ok-life.life ∷ []) c.args.actors (vec_len at.seats) at.seats.items (sym n) at.invariant.seated }
 
 pub loop-place-preserved : goal.loop-place-preserved
 loop-place-preserved g c =
@@ -32,11 +32,5 @@ add_place-requires-clause-keeper g c =
     let made = c.in_ok-life.ensures.keeper in
     (ap (λ k. k.life) made, ap (λ k. k.history) made)
 
-pub add_place-requires-clause-place : goal.add_place-requires-clause-place
-add_place-requires-clause-place g c = sym c.loop-place.invariant.lives_are
-
-pub add_place-requires-clause-legal : goal.add_place-requires-clause-legal
-add_place-requires-clause-legal g c = λ h n is. c.requires.legal c.loop-place.place n h is
-
-pub add_place-requires-clause-by : goal.add_place-requires-clause-by
-add_place-requires-clause-by g c = c.requires.by
+pub add_place-requires-clause-may : goal.add_place-requires-clause-may
+add_place-requires-clause-may g c = c.requires.may c.loop-place.place

@@ -5,8 +5,12 @@ use Rattle.co_service.specs.Lines.{made}
 use Rattle.co_service.proofs.Ended.{ends_cpu}
 use Rattle.co_service.proofs.closing.end_cpu.Goals as goal
 
-pub returns-clause-ends : goal.returns-clause-ends
-returns-clause-ends g c =
+pub returns : goal.returns
+returns g c =
     let k = c.take_journal-keeper.result in
-    subst (λ h. All (EndsCpu (made h) c.args.cpu) c.args.passes.now.items) (sym (c.close.ensures.history ∙ ap (λ v. v.history) c.meet_cpu.ensures.keeper))
-    (ends_cpu g.N.Name.name.cpus c.take_journal-keeper.ensures.0 c.args.cpu k c.args.passes.now.items c.take_journal-keeper.ensures.1 c.meet_cpu.ensures.met)
+    record {
+      passes = c.meet_cpu.ensures.passes;
+      ends =
+          subst (λ h. All (EndsCpu (made h) c.args.cpu) c.args.passes.now.items) (sym (c.close.ensures.history ∙ ap (λ v. v.history) c.meet_cpu.ensures.keeper))
+          (ends_cpu g.N.Name.name.cpus c.take_journal-keeper.ensures.0 c.args.cpu k c.args.passes.now.items c.take_journal-keeper.ensures.1 c.meet_cpu.ensures.met);
+    }

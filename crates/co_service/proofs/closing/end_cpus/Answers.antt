@@ -2,6 +2,7 @@ use Rattle.std.proofs.Common.{◌≡◌, ◌+◌, List, [], ◌∷◌, ◌++◌,
 use Rattle.std.specs.Prelude.{slice_get}
 use Rattle.std.specs.List.{All}
 use Rattle.std.specs.Vec.Iter.{into_iter_items}
+use Rattle.std.proofs.lemmas.Grind.{common_steps}
 use Rattle.std.proofs.lemmas.List.{length-map}
 use Rattle.co_object.specs.declared.note.QEntry.{QEntry}
 use Rattle.co_service.specs.Closing.{EndsCpu, EndCpus}
@@ -31,5 +32,9 @@ loop-life-preserved g c =
           (subst (λ n. All (EndsCpu (made closed) n) all) (sym (length-map at.room.items made ∙ i.count)) ended) k H (ap (λ l. slice_get l k) (sym (ap (map made) pushed ∙ map_more made at.room.items closed)) ∙ is);
     }
 
-pub returns-clause-ends : goal.returns-clause-ends
-returns-clause-ends g c = subst (λ l. EndCpus c.args.passes.now.items (map made l)) (sym c.into_seq.ensures) c.loop-life.invariant.ends
+pub returns : goal.returns
+returns g c = record {
+  passes = c.loop-life.invariant.passes;
+  count = grind (arith, common_steps);
+  ends = subst (λ l. EndCpus c.args.passes.now.items (map made l)) (sym c.into_seq.ensures) c.loop-life.invariant.ends;
+}

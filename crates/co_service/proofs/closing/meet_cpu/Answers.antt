@@ -5,15 +5,18 @@ use Rattle.co_service.specs.Closing.{MeetsCpu}
 use Rattle.co_service.proofs.Items.{all_at, all_taken, all_of_taken, set_same, get_here}
 use Rattle.co_service.proofs.closing.meet_cpu.Goals as goal
 
-pub meet_cpu-requires-clause-at : goal.meet_cpu-requires-clause-at
-meet_cpu-requires-clause-at c =
+pub meet_cpu-requires-clause-place : goal.meet_cpu-requires-clause-place
+meet_cpu-requires-clause-place c =
     let at = c.loop-at in
     let i = at.invariant in
     let x = c.index_mut-one.result.now in
     let xs = c.args.passes.now.items in
     let here = c.index_mut-one.ensures.value ∙ ap (λ l. slice_index_or l at.at x) i.passes in
     let few : at.at < length xs = (let n = c.len-at-end.ensures in let t = c.loop-at-test.true in let l = c.args.passes.now.ok.0 in omega arith) in
-    all_at (λ q. slice_get q.name.cpus c.args.cpu ≡ Some c.args.life.now) xs at.at x c.requires.at (get_here xs at.at x few here)
+    record {
+      at = all_at (λ q. slice_get q.name.cpus c.args.cpu ≡ Some c.args.life.now) xs at.at x c.requires.at (get_here xs at.at x few here);
+      keeper = ap (λ k. k.life) i.keeper ∙ c.requires.life;
+    }
 
 pub loop-at-preserved : goal.loop-at-preserved
 loop-at-preserved c =
@@ -30,7 +33,11 @@ loop-at-preserved c =
       met = all_taken (MeetsCpu c.args.keeper.now c.args.cpu) xs at.at x few i.met here (subst (λ k. MeetsCpu k c.args.cpu x) i.keeper m.met);
     }
 
-pub returns-clause-met : goal.returns-clause-met
-returns-clause-met c =
+pub returns : goal.returns
+returns c =
     let at = c.loop-at in
-    all_of_taken (MeetsCpu c.args.keeper.now c.args.cpu) c.args.passes.now.items at.at (let n = c.len-at-end.ensures in let t = c.loop-at-test.false in let l = c.args.passes.now.ok.0 in omega arith) at.invariant.met
+    record {
+      keeper = at.invariant.keeper;
+      passes = at.invariant.passes;
+      met = all_of_taken (MeetsCpu c.args.keeper.now c.args.cpu) c.args.passes.now.items at.at (let n = c.len-at-end.ensures in let t = c.loop-at-test.false in let l = c.args.passes.now.ok.0 in omega arith) at.invariant.met;
+    }

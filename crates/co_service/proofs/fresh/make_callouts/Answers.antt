@@ -5,11 +5,8 @@ use Rattle.co_service.specs.Stories.{IsHistory}
 use Rattle.co_service.proofs.SetUp.{no_history, timer_opener, set_up, story_opened}
 use Rattle.co_service.proofs.fresh.make_callouts.Goals as goal
 
-pub make_places-requires-clause-legal : goal.make_places-requires-clause-legal
-make_places-requires-clause-legal c = λ i n h is. story_opened IsHistory c.args.params.now i n h (no_history c.args.params.now i) is
-
-pub make_places-requires-clause-by : goal.make_places-requires-clause-by
-make_places-requires-clause-by c = timer_opener
+pub make_places-requires-clause-may : goal.make_places-requires-clause-may
+make_places-requires-clause-may c = λ i. record { legal = λ h n is. story_opened IsHistory c.args.params.now i n h (no_history c.args.params.now i) is; by = timer_opener }
 
 pub returns : goal.returns
 returns c =

@@ -3,11 +3,8 @@ use Rattle.co_service.specs.Stories.{IsJournal}
 use Rattle.co_service.proofs.SetUp.{no_journal, cpu_opener, set_up, story_opened}
 use Rattle.co_service.proofs.fresh.make_cpus.Goals as goal
 
-pub make_places-requires-clause-legal : goal.make_places-requires-clause-legal
-make_places-requires-clause-legal c = λ i n h is. story_opened IsJournal c.args.params.now i n h (no_journal c.args.params.now i) is
-
-pub make_places-requires-clause-by : goal.make_places-requires-clause-by
-make_places-requires-clause-by c = cpu_opener
+pub make_places-requires-clause-may : goal.make_places-requires-clause-may
+make_places-requires-clause-may c = λ i. record { legal = λ h n is. story_opened IsJournal c.args.params.now i n h (no_journal c.args.params.now i) is; by = cpu_opener }
 
 pub returns : goal.returns
 returns c =

@@ -14,13 +14,19 @@ join-requires-clause-timers c =
     let was : AreSeatedAt c.args.params.now c.args.places.now.timers at.actor one = subst (AreSeatedAt c.args.params.now c.args.places.now.timers at.actor) (get_or_of at.timers.items at.actor (fresh_seats [] 0) one (get_here at.timers.items at.actor one within c.index_mut.ensures.value)) (at.invariant.timers.left at.actor (omega arith) (omega arith)) in
     seated_own c.args.params.now c.args.places.now.timers at.actor c.replace-callouts.result (subst (AreSeatedAt c.args.params.now c.args.places.now.timers at.actor) (sym c.replace-callouts.ensures.value) was)
 
-pub join-requires-clause-callouts : goal.join-requires-clause-callouts
-join-requires-clause-callouts c =
+pub join-requires-clause-named : goal.join-requires-clause-named
+join-requires-clause-named c =
     let at = c.loop-actor in
     let one = c.index_mut.result.now in
     let within : at.actor < length at.timers.items = (let n = at.invariant.timers.count in let t = c.loop-actor-test.true in omega arith) in
     let was : AreSeatedAt c.args.params.now c.args.places.now.timers at.actor one = subst (AreSeatedAt c.args.params.now c.args.places.now.timers at.actor) (get_or_of at.timers.items at.actor (fresh_seats [] 0) one (get_here at.timers.items at.actor one within c.index_mut.ensures.value)) (at.invariant.timers.left at.actor (omega arith) (omega arith)) in
-    ap (λ s. length s.name) c.replace-callouts.ensures.value ∙ (ap length was.name_is ∙ c.requires.callouts)
+    let two = c.index_mut-in-loop-actor.result.now in
+    let within' : at.actor < length at.cpus.items = (let n = at.invariant.cpus.count in let t = c.loop-actor-test.true in omega arith) in
+    let was' : AreSeatedAt c.args.params.now c.args.places.now.cpus at.actor two = subst (AreSeatedAt c.args.params.now c.args.places.now.cpus at.actor) (get_or_of at.cpus.items at.actor (fresh_seats [] 0) two (get_here at.cpus.items at.actor two within' c.index_mut-in-loop-actor.ensures.value)) (at.invariant.cpus.left at.actor (omega arith) (omega arith)) in
+    record {
+      timers = ap (λ s. length s.name) c.replace-callouts.ensures.value ∙ (ap length was.name_is ∙ c.requires.named.timers);
+      cpus = ap (λ s. length s.name) c.replace-wheels.ensures.value ∙ (ap length was'.name_is ∙ c.requires.named.cpus);
+    }
 
 pub loop-actor-preserved : goal.loop-actor-preserved
 loop-actor-preserved c =

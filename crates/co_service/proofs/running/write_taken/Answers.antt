@@ -1,4 +1,4 @@
-use Rattle.std.proofs.Common.{◌≡◌, ℕ, [], ◌∷◌, ◌++◌, refl, sym, ap, ◌∙◌, subst}
+use Rattle.std.proofs.Common.{◌≡◌, ℕ, [], ◌∷◌, ◌++◌, refl, sym, ap, ◌∙◌, subst, rules}
 use Rattle.co_object.specs.declared.op.Op.TheVariants.{Run}
 use Rattle.co_object.specs.declared.op.RunOp.TheVariants.{Pick}
 use Rattle.co_object.specs.declared.reply.Reply.{Reply}
@@ -14,17 +14,21 @@ use Rattle.co_service.specs.Writes.{WritesCpu, WritesTimer}
 use Rattle.co_service.proofs.ServedDesk.{lane_pops}
 use Rattle.co_service.proofs.running.write_taken.Goals as goal
 
-pub returns-in-None-clause-told : goal.returns-in-None-clause-told
-returns-in-None-clause-told g c =
+pub returns-in-None : goal.returns-in-None
+returns-in-None g c =
     let p = c.args.passes.now in
     let q = c.write_turn-pop.new.passes in
     record {
-      popped = record { place = refl; entry = refl };
-      written = (q, (c.write_turn-pop.new.books.journal, subst (λ (o : QOp). WritesCpu p c.args.books.now.cpu (turn p c.args.act o Empty) c.write_turn-pop.result c.write_turn-pop.new.books.journal q) c.pop-op.ensures c.write_turn-pop.ensures.written), refl);
+      books = search rules;
+      told = record {
+        popped = record { place = refl; entry = refl };
+        written = (q, (c.write_turn-pop.new.books.journal, subst (λ (o : QOp). WritesCpu p c.args.books.now.cpu (turn p c.args.act o Empty) c.write_turn-pop.result c.write_turn-pop.new.books.journal q) c.pop-op.ensures c.write_turn-pop.ensures.written), refl);
+      };
+      seen = search rules;
     }
 
-pub returns-in-Some-clause-told : goal.returns-in-Some-clause-told
-returns-in-Some-clause-told g c =
+pub returns-in-Some : goal.returns-in-Some
+returns-in-Some g c =
     let p = c.args.passes.now in
     let q = c.write_turn-pop-in-Some.new.passes in
     let r = c.enter_run-pick.new.passes in
@@ -34,14 +38,18 @@ returns-in-Some-clause-told g c =
     let said : c.reply-said.result ≡ x.reply = c.reply-said.ensures in
     let after = entries_at c.write_turn-pop-in-Some.new.books x.i ++ run_entry q c.args.act (Pick x.n c.cpu-cpu.result x.at) c.reply-said.result ∷ [] in
     record {
-      popped = record { place = refl; entry = refl };
-      place = refl;
-      entry = refl;
-      written = (
-        q,
-        (c.write_turn-pop-in-Some.new.books.journal, subst (λ (o : QOp). WritesCpu p c.args.books.now.cpu (turn p c.args.act o (Got x.i x.n x.at)) c.write_turn-pop-in-Some.result c.write_turn-pop-in-Some.new.books.journal q) c.pop-op.ensures c.write_turn-pop-in-Some.ensures.written),
-        (r, (after, subst (λ (t : ℕ × ℕ × Reply). WritesTimer q x.i (record { actor = t.0; act = c.args.act; op = Run (Pick x.n t.1 x.at); reply = t.2 }) c.enter_run-pick.result after r) (λ k. (acted k, cpu k, said k)) c.enter_run-pick.ensures.written), refl),
-      );
+      books = search rules;
+      told = record {
+        popped = record { place = refl; entry = refl };
+        place = refl;
+        entry = refl;
+        written = (
+          q,
+          (c.write_turn-pop-in-Some.new.books.journal, subst (λ (o : QOp). WritesCpu p c.args.books.now.cpu (turn p c.args.act o (Got x.i x.n x.at)) c.write_turn-pop-in-Some.result c.write_turn-pop-in-Some.new.books.journal q) c.pop-op.ensures c.write_turn-pop-in-Some.ensures.written),
+          (r, (after, subst (λ (t : ℕ × ℕ × Reply). WritesTimer q x.i (record { actor = t.0; act = c.args.act; op = Run (Pick x.n t.1 x.at); reply = t.2 }) c.enter_run-pick.result after r) (λ k. (acted k, cpu k, said k)) c.enter_run-pick.ensures.written), refl),
+        );
+      };
+      seen = search rules;
     }
 
 pub write_turn-pop-requires-clause-actor : goal.write_turn-pop-requires-clause-actor

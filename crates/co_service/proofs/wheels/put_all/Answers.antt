@@ -22,7 +22,10 @@ loop-i-preserved c =
       rest = rest_then c.args.wheel.now at.wheel c.put.new.self _ at.invariant.rest put;
     }
 
-pub returns-clause-come : goal.returns-clause-come
-returns-clause-come c =
+pub returns : goal.returns
+returns c =
     let long : c.loop-i.i ≡ length c.args.specs.now = omega (arith, c.loop-i.auto.i-end, c.loop-i-test.false) in
-    subst (λ (n : ℕ). AreCome c.args.specs.now n c.loop-i.wheel.callouts.here) long c.loop-i.invariant.come
+    record {
+      come = subst (λ (n : ℕ). AreCome c.args.specs.now n c.loop-i.wheel.callouts.here) long c.loop-i.invariant.come;
+      rest = c.loop-i.invariant.rest;
+    }

@@ -3,6 +3,7 @@ use Rattle.std.specs.Prelude.{slice_get}
 use Rattle.std.specs.declared.option.Option.TheVariants.{Some}
 use Rattle.co_service.specs.Books.{BooksView, books_of}
 use Rattle.co_service.specs.Moving.{params_in}
+use Rattle.co_service.specs.Name.{ServiceName}
 use Rattle.co_service.specs.Seats.{IsShown}
 use Rattle.co_service.specs.Stories.{IsJournal, queue_by}
 use Rattle.co_service.specs.Views.{journal_seen}
@@ -11,27 +12,26 @@ use Rattle.co_service.proofs.Writing.{below_get}
 use Rattle.co_service.proofs.books.Books.meet.Goals as goal
 
 pub get-requires : goal.get-requires
-get-requires g c = below_get c.args.lives.now c.self.inside.cpu c.self.inside.journal.life (subst (λ l. slice_get l c.self.inside.cpu ≡ Some c.self.inside.journal.life) (sym c.requires.lives) c.self.invariant.own.life)
+get-requires g c =
+    let lives = c.cpus.ensures ∙ ap (λ (n : ServiceName). n.cpus) c.requires.places_are in
+    below_get c.cpus.result.now c.self.inside.cpu c.self.inside.journal.life (subst (λ l. slice_get l c.self.inside.cpu ≡ Some c.self.inside.journal.life) (sym lives) c.self.invariant.own.life)
 
-pub meet_cpu-requires-clause-at : goal.meet_cpu-requires-clause-at
-meet_cpu-requires-clause-at g c = (λ d. slice_get (c.requires.name d).cpus c.self.inside.cpu) ∙ ((λ d. slice_get (sym c.requires.lives d) c.self.inside.cpu) ∙ c.get.ensures)
-
-pub meet_cpu-requires-clause-life : goal.meet_cpu-requires-clause-life
-meet_cpu-requires-clause-life g c =
-    same_life g.N.Name.name.cpus c.args.lives.now c.self.inside.cpu c.self.inside.journal.life c.get.result.now (sym c.requires.lives) c.self.invariant.own.life c.get.ensures
+pub meet_cpu-requires-clause-place : goal.meet_cpu-requires-clause-place
+meet_cpu-requires-clause-place g c =
+    let lives = c.cpus.ensures ∙ ap (λ (n : ServiceName). n.cpus) c.requires.places_are in
+    record {
+      at = (λ d. slice_get (c.requires.passes_are d).cpus c.self.inside.cpu) ∙ ((λ d. slice_get (sym lives d) c.self.inside.cpu) ∙ c.get.ensures);
+      keeper = same_life g.N.Name.name.cpus c.cpus.result.now c.self.inside.cpu c.self.inside.journal.life c.get.result.now (sym lives) c.self.invariant.own.life c.get.ensures;
+    }
 
 pub meet_cpu-requires-clause-opened : goal.meet_cpu-requires-clause-opened
 meet_cpu-requires-clause-opened g c = (c.self.inside.params.value, c.self.invariant.own.opened)
 
-pub returns-clause-kept : goal.returns-clause-kept
-returns-clause-kept g c = (λ d. books_of c.self.inside.params.value c.self.inside.cpu c.self.inside.keepers.items (c.meet_cpu.ensures.keeper d)) ∙ c.self.view_is
-
-pub returns-clause-params : goal.returns-clause-params
-returns-clause-params g c = ap (λ (b : BooksView). b.params) (sym c.self.view_is) ∙ ap params_in (sym c.self.invariant.own.opened ∙ c.meet_cpu.ensures.met.opened)
-
-pub returns-clause-shown : goal.returns-clause-shown
-returns-clause-shown g c =
-    subst (λ (b : BooksView). IsShown queue_by c.args.passes.now.actor b.journal (journal_seen c.args.passes.now b.cpu)) c.self.view_is c.meet_cpu.ensures.met.shown
-
-pub returns-clause-legal : goal.returns-clause-legal
-returns-clause-legal g c = subst (λ (b : BooksView). IsJournal b.params b.cpu b.journal) c.self.view_is c.self.invariant.own.legal
+pub returns : goal.returns
+returns g c = record {
+  kept = (λ d. books_of c.self.inside.params.value c.self.inside.cpu c.self.inside.keepers.items (c.meet_cpu.ensures.keeper d)) ∙ c.self.view_is;
+  passes = c.meet_cpu.ensures.same;
+  params = ap (λ (b : BooksView). b.params) (sym c.self.view_is) ∙ ap params_in (sym c.self.invariant.own.opened ∙ c.meet_cpu.ensures.met.opened);
+  shown = subst (λ (b : BooksView). IsShown queue_by c.args.passes.now.actor b.journal (journal_seen c.args.passes.now b.cpu)) c.self.view_is c.meet_cpu.ensures.met.shown;
+  legal = subst (λ (b : BooksView). IsJournal b.params b.cpu b.journal) c.self.view_is c.self.invariant.own.legal;
+}

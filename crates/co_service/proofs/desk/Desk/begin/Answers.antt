@@ -34,18 +34,24 @@ invariant_of-self g c =
     let here : c.meet_timer.new.self.cpu ≡ c.args.cpu = (let k = ap (λ (b : BooksView). b.cpu) c.meet.ensures.kept in let m = ap (λ (b : BooksView). b.cpu) c.meet_timer.ensures.kept in let n = c.cpu.ensures in let f = c.if-cpu.false in omega arith) in
     let e : Due = record { i = c.in-Some.i; n = c.in-Some.n } in
     let s : (H : List Entry) × IsServed false c.self.inside.wheel c.meet_timer.new.self c.self.inside.scans c.meet_timer.new.passes e (Waits c.in-Some.n) H = served_after false c.self.inside.wheel c.self.inside.books c.meet.new.self c.meet_timer.new.self c.self.inside.scans c.args.cpu c.args.passes.now c.meet.new.passes c.meet_timer.new.passes c.requires.serves.0 e (λ n. Waits n) met c.meet.ensures.kept c.meet.ensures.passes c.meet_timer.ensures.kept c.meet_timer.ensures.passes c.requires.serves.1 c.in-Some.ensures.which (here_kept c.self.inside.wheel c.self.inside.books c.meet.new.self c.self.inside.scans c.in-Some.i c.self.invariant c.meet.ensures.kept c.in-Some.ensures.here) c.meet_timer.ensures.legal c.meet_timer.ensures.shown in
-    subst (λ b. IsDesk c.begin-reply.new.self b c.self.inside.scans) (sym c.write_run-note.ensures.books)
+    subst (λ b. IsDesk c.begin-reply.new.self b c.self.inside.scans) (sym c.write_run-note.ensures.written.books)
     (subst (λ (k : ℕ). IsDesk c.begin-reply.new.self (with_history c.meet_timer.new.self e.i (Some (entries_at c.meet_timer.new.self e.i ++ run_entry c.meet_timer.new.passes c.args.act (Begin e.n k) c.begin-reply.result ∷ []))) c.self.inside.scans) here
     (begun_desk c.self.inside.wheel c.begin-reply.new.self c.meet_timer.new.self c.self.inside.scans c.meet_timer.new.passes c.args.act e s.0 s.1 c.begin-reply.result c.begin-reply.ensures.callouts c.begin-reply.ensures.queue))
 
-pub returns-clause-some : goal.returns-clause-some
-returns-clause-some g c = λ d is.
-    let met : Meets c.self.inside.wheel c.self.inside.books c.self.inside.scans c.args.cpu c.args.passes.now = record { desk = c.self.invariant; legal = c.meet.ensures.legal; shown = c.meet.ensures.shown; params = c.meet.ensures.params; here = (let n = c.cpu.ensures in let f = c.if-cpu.false in omega arith) } in
-    let e : Due = record { i = c.in-Some.i; n = c.in-Some.n } in
-    begun_told c.args.passes.now c.meet_timer.new.passes c.write_run-note.new.passes c.args.cpu c.args.act d e c.begin-reply.result c.write_run-note.result c.three-notes.result
-    (entries_at c.meet_timer.new.self e.i ++ run_entry c.meet_timer.new.passes c.args.act (Begin e.n c.args.cpu) c.begin-reply.result ∷ []) (c.meet_timer.ensures.passes ∙ c.meet.ensures.passes)
-    (serves_one c.self.inside.wheel c.self.inside.books c.self.inside.scans c.args.cpu c.args.passes.now met false d e (Waits d.n) is c.in-Some.ensures.which)
-    c.write_run-note.ensures.note.0 c.write_run-note.ensures.note.1 c.write_run-note.ensures.written c.three-notes.ensures
+pub returns : goal.returns
+returns g c = record {
+  asked = record {
+    none = tt;
+    some = λ d is.
+        let met : Meets c.self.inside.wheel c.self.inside.books c.self.inside.scans c.args.cpu c.args.passes.now = record { desk = c.self.invariant; legal = c.meet.ensures.legal; shown = c.meet.ensures.shown; params = c.meet.ensures.params; here = (let n = c.cpu.ensures in let f = c.if-cpu.false in omega arith) } in
+        let e : Due = record { i = c.in-Some.i; n = c.in-Some.n } in
+        begun_told c.args.passes.now c.meet_timer.new.passes c.write_run-note.new.passes c.args.cpu c.args.act d e c.begin-reply.result c.write_run-note.result c.three-notes.result
+        (entries_at c.meet_timer.new.self e.i ++ run_entry c.meet_timer.new.passes c.args.act (Begin e.n c.args.cpu) c.begin-reply.result ∷ []) (c.meet_timer.ensures.passes ∙ c.meet.ensures.passes)
+        (serves_one c.self.inside.wheel c.self.inside.books c.self.inside.scans c.args.cpu c.args.passes.now met false d e (Waits d.n) is c.in-Some.ensures.which)
+        c.write_run-note.ensures.note.0 c.write_run-note.ensures.note.1 c.write_run-note.ensures.written.written c.three-notes.ensures;
+  };
+  why = tt;
+}
 
 pub unreachable-requires : goal.unreachable-requires
 unreachable-requires g c =

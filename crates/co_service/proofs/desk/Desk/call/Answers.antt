@@ -1,4 +1,4 @@
-use Rattle.std.proofs.Common.{◌≡◌, ℕ, List, sym, ap, ◌∙◌, subst, arith, true≢false}
+use Rattle.std.proofs.Common.{◌≡◌, ℕ, List, sym, ap, ◌∙◌, subst, arith, rules, true≢false}
 use Rattle.std.specs.Prelude.{is_some}
 use Rattle.std.specs.declared.option.Option.{Option}
 use Rattle.std.specs.declared.option.Option.TheVariants.{Some}
@@ -15,26 +15,19 @@ use Rattle.co_service.proofs.CallSection.{answer_section, desk_section, leaves_n
 use Rattle.co_service.proofs.ServedDesk.{some_of}
 use Rattle.co_service.proofs.desk.Desk.call.Goals as goal
 
-pub write_group-requires-clause-reply : goal.write_group-requires-clause-reply
-write_group-requires-clause-reply g c =
+pub write_group-requires-clause-may : goal.write_group-requires-clause-may
+write_group-requires-clause-may g c =
     let desk : IsDesk c.self.inside.wheel c.meet.new.self c.self.inside.scans = subst (λ b. IsDesk c.self.inside.wheel b c.self.inside.scans) (sym c.meet.ensures.kept) c.self.invariant in
     let same : is_kept c.meet.new.self c.args.i ≡ is_kept c.self.inside.books c.args.i = ap (λ (b : BooksView). is_kept b c.args.i) c.meet.ensures.kept in
     let here : (H : List Entry) × (history_at c.meet.new.self c.args.i ≡ Some H) = some_of (history_at c.meet.new.self c.args.i) (cc) in
-    reply_here c.self.inside.wheel c.call_into.new.self c.meet.new.self c.self.inside.scans c.args.i c.args.op.now c.call_into.new.out here.0 desk here.1 c.call_into.ensures
-
-pub write_group-requires-clause-off : goal.write_group-requires-clause-off
-write_group-requires-clause-off g c =
-    let desk : IsDesk c.self.inside.wheel c.meet.new.self c.self.inside.scans = subst (λ b. IsDesk c.self.inside.wheel b c.self.inside.scans) (sym c.meet.ensures.kept) c.self.invariant in
-    let same : is_kept c.meet.new.self c.args.i ≡ is_kept c.self.inside.books c.args.i = ap (λ (b : BooksView). is_kept b c.args.i) c.meet.ensures.kept in
-    let here : (H : List Entry) × (history_at c.meet.new.self c.args.i ≡ Some H) = some_of (history_at c.meet.new.self c.args.i) (cc) in
-    off_here c.self.inside.wheel c.call_into.new.self c.meet.new.self c.self.inside.scans c.args.i c.args.op.now c.call_into.new.out here.0 desk here.1 c.call_into.ensures
-
-pub write_group-requires-clause-owes : goal.write_group-requires-clause-owes
-write_group-requires-clause-owes g c =
-    let desk : IsDesk c.self.inside.wheel c.meet.new.self c.self.inside.scans = subst (λ b. IsDesk c.self.inside.wheel b c.self.inside.scans) (sym c.meet.ensures.kept) c.self.invariant in
-    let same : is_kept c.meet.new.self c.args.i ≡ is_kept c.self.inside.books c.args.i = ap (λ (b : BooksView). is_kept b c.args.i) c.meet.ensures.kept in
-    let here : (H : List Entry) × (history_at c.meet.new.self c.args.i ≡ Some H) = some_of (history_at c.meet.new.self c.args.i) (cc) in
-    (c.call_into.new.self, owes_section c.self.inside.wheel c.call_into.new.self c.meet.new.self c.self.inside.scans c.args.i c.args.op.now c.call_into.new.out here.0 desk here.1 c.call_into.ensures)
+    let at = c.self.inside.scans in
+    record {
+      here = ap is_some here.1;
+      reply = reply_here c.self.inside.wheel c.call_into.new.self c.meet.new.self at c.args.i c.args.op.now c.call_into.new.out here.0 desk here.1 c.call_into.ensures;
+      removed = search rules;
+      off = off_here c.self.inside.wheel c.call_into.new.self c.meet.new.self at c.args.i c.args.op.now c.call_into.new.out here.0 desk here.1 c.call_into.ensures;
+      owes = (c.call_into.new.self, owes_section c.self.inside.wheel c.call_into.new.self c.meet.new.self at c.args.i c.args.op.now c.call_into.new.out here.0 desk here.1 c.call_into.ensures);
+    }
 
 pub depart-requires-clause-may : goal.depart-requires-clause-may
 depart-requires-clause-may g c =

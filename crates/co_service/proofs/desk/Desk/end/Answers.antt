@@ -1,4 +1,4 @@
-use Rattle.std.proofs.Common.{◌≡◌, ℕ, List, [], ◌∷◌, ◌++◌, refl, sym, ap, ◌∙◌, subst, arith}
+use Rattle.std.proofs.Common.{◌≡◌, ℕ, List, [], ◌∷◌, ◌++◌, refl, sym, ap, ◌∙◌, subst, arith, true≢false}
 use Rattle.co_object.specs.declared.note.Entry.{Entry}
 use Rattle.co_object.specs.declared.op.RunOp.TheVariants.{End}
 use Rattle.co_object.specs.declared.queue.QOp.{QOp}
@@ -72,24 +72,30 @@ invariant_of-self g c =
     subst (λ b. IsDesk c.end_into.new.self b c.self.inside.scans) (sym c.depart.ensures.books)
     (freed_desk c.args.direct c.self.inside.wheel c.end_into.new.self c.meet_timer.new.self c.self.inside.scans c.meet_timer.new.passes c.args.act e s.0 s.1 c.end_into.new.out c.end_into.ensures c.args.cpu here c.enter_run-entry.new.books c.enter_run-entry.ensures.books (turn c.enter_run-entry.new.passes c.args.act c.free.result Freed) c.free.ensures refl c.write_turn-freed.new.books c.write_turn-freed.ensures.books)
 
-pub returns-clause-some : goal.returns-clause-some
-returns-clause-some g c = λ _ d is.
-    let met : Meets c.self.inside.wheel c.self.inside.books c.self.inside.scans c.args.cpu c.args.passes.now = record { desk = c.self.invariant; legal = c.meet.ensures.legal; shown = c.meet.ensures.shown; params = c.meet.ensures.params; here = (let n = c.cpu.ensures in let f = c.if-cpu.false in omega arith) } in
-    let here : c.meet_timer.new.self.cpu ≡ c.args.cpu = (let k = ap (λ (b : BooksView). b.cpu) c.meet.ensures.kept in let m = ap (λ (b : BooksView). b.cpu) c.meet_timer.ensures.kept in let n = c.cpu.ensures in let f = c.if-cpu.false in omega arith) in
-    let e : Due = record { i = c.in-Some.i; n = c.in-Some.n } in
-    let s : (H : List Entry) × IsServed c.args.direct c.self.inside.wheel c.meet_timer.new.self c.self.inside.scans c.meet_timer.new.passes e (Runs c.in-Some.n) H = served_after c.args.direct c.self.inside.wheel c.self.inside.books c.meet.new.self c.meet_timer.new.self c.self.inside.scans c.args.cpu c.args.passes.now c.meet.new.passes c.meet_timer.new.passes c.requires.serves.0 e (λ n. Runs n) met c.meet.ensures.kept c.meet.ensures.passes c.meet_timer.ensures.kept c.meet_timer.ensures.passes c.requires.serves.1 c.in-Some.ensures.which (here_kept c.self.inside.wheel c.self.inside.books c.meet.new.self c.self.inside.scans c.in-Some.i c.self.invariant c.meet.ensures.kept c.in-Some.ensures.here) c.meet_timer.ensures.legal c.meet_timer.ensures.shown in
-    let one : e ≡ d = serves_one c.self.inside.wheel c.self.inside.books c.self.inside.scans c.args.cpu c.args.passes.now met c.args.direct d e (Runs d.n) is c.in-Some.ensures.which in
-    let same : c.meet_timer.new.passes ≡ c.args.passes.now = c.meet_timer.ensures.passes ∙ c.meet.ensures.passes in
-    let moves : c.depart.new.gone ≡ moving_from c.write_turn-freed.new.books (next_number c.end_into.new.out.reply) (next_due c.end_into.new.out.reply) c.end_into.new.out.leaves = c.depart.ensures.moving ∙ (λ k. moving_from c.write_turn-freed.new.books (c.waited-next.ensures.number k) (c.waited-next.ensures.due k) c.end_into.new.out.leaves) in
-    let books : c.enter_run-entry.new.books.cpu ≡ c.args.cpu = ap (λ (b : BooksView). b.cpu) c.enter_run-entry.ensures.books ∙ here in
-    let acted : c.enter_run-entry.new.passes.actor ≡ c.meet_timer.new.passes.actor = ap (λ (p : PassesView). p.actor) c.enter_run-entry.ensures.written.passes in
-    let left : IsOfService c.meet_timer.new.passes.params e.i (moving_from c.write_turn-freed.new.books (next_number c.end_into.new.out.reply) (next_due c.end_into.new.out.reply) c.end_into.new.out.leaves) = freed_service c.args.direct c.self.inside.wheel c.end_into.new.self c.meet_timer.new.self c.self.inside.scans c.meet_timer.new.passes c.args.act e s.0 s.1 c.end_into.new.out c.end_into.ensures c.args.cpu here c.enter_run-entry.new.books c.enter_run-entry.ensures.books (turn c.enter_run-entry.new.passes c.args.act c.free.result Freed) c.free.ensures refl c.write_turn-freed.new.books c.write_turn-freed.ensures.books in
-    subst (λ (f : Finished). IsFinished c.args.direct c.args.passes.now c.args.cpu c.args.act d f c.depart.new.gone c.write_turn-freed.new.passes) (sym c.tell.ensures)
-    (ended_told c.args.direct c.args.passes.now c.meet_timer.new.passes c.enter_run-entry.new.passes c.write_turn-freed.new.passes c.args.cpu c.enter_run-entry.new.books.cpu c.args.act d e (record c.end_into.new.out { leaves = c.depart.new.leaves }) c.depart.new.gone c.enter_run-entry.result c.write_turn-freed.result
-    (entries_at c.meet_timer.new.self e.i ++ run_entry c.meet_timer.new.passes c.args.act (End e.n c.args.cpu) c.end_into.new.out.reply ∷ []) c.write_turn-freed.new.books.journal same one
-    (ap target_of moves ∙ freed_target c.args.direct c.self.inside.wheel c.end_into.new.self c.meet_timer.new.self c.self.inside.scans c.meet_timer.new.passes c.args.act e s.0 s.1 c.end_into.new.out c.end_into.ensures c.args.cpu here c.enter_run-entry.new.books c.enter_run-entry.ensures.books (turn c.enter_run-entry.new.passes c.args.act c.free.result Freed) c.free.ensures refl c.write_turn-freed.new.books c.write_turn-freed.ensures.books)
-    (subst (IsOfService c.meet_timer.new.passes.params e.i) (sym moves) left)
-    c.enter_run-entry.ensures.written c.free.result c.free.ensures books acted c.write_turn-freed.ensures.written)
+pub returns : goal.returns
+returns g c = record {
+  tried = record {
+    none = λ no. absurd (true≢false no);
+    some = λ _ d is.
+        let met : Meets c.self.inside.wheel c.self.inside.books c.self.inside.scans c.args.cpu c.args.passes.now = record { desk = c.self.invariant; legal = c.meet.ensures.legal; shown = c.meet.ensures.shown; params = c.meet.ensures.params; here = (let n = c.cpu.ensures in let f = c.if-cpu.false in omega arith) } in
+        let here : c.meet_timer.new.self.cpu ≡ c.args.cpu = (let k = ap (λ (b : BooksView). b.cpu) c.meet.ensures.kept in let m = ap (λ (b : BooksView). b.cpu) c.meet_timer.ensures.kept in let n = c.cpu.ensures in let f = c.if-cpu.false in omega arith) in
+        let e : Due = record { i = c.in-Some.i; n = c.in-Some.n } in
+        let s : (H : List Entry) × IsServed c.args.direct c.self.inside.wheel c.meet_timer.new.self c.self.inside.scans c.meet_timer.new.passes e (Runs c.in-Some.n) H = served_after c.args.direct c.self.inside.wheel c.self.inside.books c.meet.new.self c.meet_timer.new.self c.self.inside.scans c.args.cpu c.args.passes.now c.meet.new.passes c.meet_timer.new.passes c.requires.serves.0 e (λ n. Runs n) met c.meet.ensures.kept c.meet.ensures.passes c.meet_timer.ensures.kept c.meet_timer.ensures.passes c.requires.serves.1 c.in-Some.ensures.which (here_kept c.self.inside.wheel c.self.inside.books c.meet.new.self c.self.inside.scans c.in-Some.i c.self.invariant c.meet.ensures.kept c.in-Some.ensures.here) c.meet_timer.ensures.legal c.meet_timer.ensures.shown in
+        let one : e ≡ d = serves_one c.self.inside.wheel c.self.inside.books c.self.inside.scans c.args.cpu c.args.passes.now met c.args.direct d e (Runs d.n) is c.in-Some.ensures.which in
+        let same : c.meet_timer.new.passes ≡ c.args.passes.now = c.meet_timer.ensures.passes ∙ c.meet.ensures.passes in
+        let moves : c.depart.new.gone ≡ moving_from c.write_turn-freed.new.books (next_number c.end_into.new.out.reply) (next_due c.end_into.new.out.reply) c.end_into.new.out.leaves = c.depart.ensures.moving ∙ (λ k. moving_from c.write_turn-freed.new.books (c.waited-next.ensures.number k) (c.waited-next.ensures.due k) c.end_into.new.out.leaves) in
+        let books : c.enter_run-entry.new.books.cpu ≡ c.args.cpu = ap (λ (b : BooksView). b.cpu) c.enter_run-entry.ensures.books ∙ here in
+        let acted : c.enter_run-entry.new.passes.actor ≡ c.meet_timer.new.passes.actor = ap (λ (p : PassesView). p.actor) c.enter_run-entry.ensures.written.passes in
+        let left : IsOfService c.meet_timer.new.passes.params e.i (moving_from c.write_turn-freed.new.books (next_number c.end_into.new.out.reply) (next_due c.end_into.new.out.reply) c.end_into.new.out.leaves) = freed_service c.args.direct c.self.inside.wheel c.end_into.new.self c.meet_timer.new.self c.self.inside.scans c.meet_timer.new.passes c.args.act e s.0 s.1 c.end_into.new.out c.end_into.ensures c.args.cpu here c.enter_run-entry.new.books c.enter_run-entry.ensures.books (turn c.enter_run-entry.new.passes c.args.act c.free.result Freed) c.free.ensures refl c.write_turn-freed.new.books c.write_turn-freed.ensures.books in
+        subst (λ (f : Finished). IsFinished c.args.direct c.args.passes.now c.args.cpu c.args.act d f c.depart.new.gone c.write_turn-freed.new.passes) (sym c.tell.ensures)
+        (ended_told c.args.direct c.args.passes.now c.meet_timer.new.passes c.enter_run-entry.new.passes c.write_turn-freed.new.passes c.args.cpu c.enter_run-entry.new.books.cpu c.args.act d e (record c.end_into.new.out { leaves = c.depart.new.leaves }) c.depart.new.gone c.enter_run-entry.result c.write_turn-freed.result
+        (entries_at c.meet_timer.new.self e.i ++ run_entry c.meet_timer.new.passes c.args.act (End e.n c.args.cpu) c.end_into.new.out.reply ∷ []) c.write_turn-freed.new.books.journal same one
+        (ap target_of moves ∙ freed_target c.args.direct c.self.inside.wheel c.end_into.new.self c.meet_timer.new.self c.self.inside.scans c.meet_timer.new.passes c.args.act e s.0 s.1 c.end_into.new.out c.end_into.ensures c.args.cpu here c.enter_run-entry.new.books c.enter_run-entry.ensures.books (turn c.enter_run-entry.new.passes c.args.act c.free.result Freed) c.free.ensures refl c.write_turn-freed.new.books c.write_turn-freed.ensures.books)
+        (subst (IsOfService c.meet_timer.new.passes.params e.i) (sym moves) left)
+        c.enter_run-entry.ensures.written c.free.result c.free.ensures books acted c.write_turn-freed.ensures.written);
+  };
+  why = λ no. absurd (true≢false no);
+}
 
 pub unreachable-requires : goal.unreachable-requires
 unreachable-requires g c =

@@ -44,7 +44,7 @@ invariant_of-self g c =
     } in
     let put : c.put.new.self ≡ with_history b i (Some H) = c.put.ensures.books ∙ (λ d. with_history b (at_is d) (Some H)) in
     let wrote : c.write_landed.new.books ≡ record b { timers = slice_set b.timers i (Some H); journal = b.journal ++ turn c.meet.new.passes c.args.act (Insert c.callout-i.result m.n m.due) (At c.land-at.result) ∷ [] } =
-    c.write_landed.ensures.books ∙ (λ d. record (put d) { journal = (put d).journal ++ turn c.meet.new.passes c.args.act (Insert c.callout-i.result m.n m.due) (At c.land-at.result) ∷ [] }) in
+    c.write_landed.ensures.written.books ∙ (λ d. record (put d) { journal = (put d).journal ++ turn c.meet.new.passes c.args.act (Insert c.callout-i.result m.n m.due) (At c.land-at.result) ∷ [] }) in
     subst (λ v. IsDesk c.land-at.new.self v c.self.inside.scans) (sym wrote)
     (landed_desk c.self.inside.wheel b c.self.inside.scans m.parcel H m.n m.due desk comes c.land-at.new.self c.land-at.result c.land-at.ensures
     (turn c.meet.new.passes c.args.act (Insert c.callout-i.result m.n m.due) (At c.land-at.result)) (ap (λ (k : ℕ). Insert k m.n m.due) at_is) refl)
@@ -64,5 +64,5 @@ returns-clause-landed g c =
       due_is = ap (λ (y : Inserted). y.due) told ∙ ap (λ (v : MovingView). v.target.due) c.moving.view_is;
       written = subst (λ (t : PassesView × QOp × QReply). Writes t.0 (noted_turn t.0.actor c.args.act x.cpu t.1 t.2 x.pos ∷ []) c.write_landed.new.passes)
           (λ d. (c.meet.ensures.passes d, Insert (c.callout-i.ensures d) (sym (ap (λ (y : Inserted). y.n) told) d) (sym (ap (λ (y : Inserted). y.due) told) d), At (sym (ap (λ (y : Inserted). y.at) told) d)))
-          (turn_written c.meet.new.passes c.write_landed.new.passes c.args.act c.put.new.self.cpu x.cpu (Insert c.callout-i.result m.n m.due) (At c.land-at.result) x.pos c.write_landed.new.books.journal (ap (λ (y : Inserted). y.cpu) told) w.written);
+          (turn_written c.meet.new.passes c.write_landed.new.passes c.args.act c.put.new.self.cpu x.cpu (Insert c.callout-i.result m.n m.due) (At c.land-at.result) x.pos c.write_landed.new.books.journal (ap (λ (y : Inserted). y.cpu) told) w.written.written);
     }

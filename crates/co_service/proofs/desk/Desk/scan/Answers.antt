@@ -12,15 +12,22 @@ use Rattle.co_service.proofs.desk.Desk.scan.Goals as goal
 pub invariant_of-self : goal.invariant_of-self
 invariant_of-self g c =
     let desk = subst (λ b. IsDesk c.self.inside.wheel b c.self.inside.scans) (sym c.meet.ensures.kept) c.self.invariant in
-    subst (λ b. IsDesk c.scan-count.new.self b c.saturating_add-self-inside.result) (sym c.note_turn-note.ensures.books)
+    subst (λ b. IsDesk c.scan-count.new.self b c.saturating_add-self-inside.result) (sym c.note_turn-note.ensures.written.books)
     (scanned_desk c.self.inside.wheel c.scan-count.new.self c.meet.new.self c.self.inside.scans c.saturating_add-self-inside.result (turn c.meet.new.passes c.args.act (Scan c.args.now) (Count c.scan-count.result)) c.args.now desk c.scan-count.ensures.callouts c.scan-count.ensures.queue refl (omega arith))
 
-pub returns-clause-some : goal.returns-clause-some
-returns-clause-some g c =
+pub returns : goal.returns
+returns g c =
     let desk = subst (λ b. IsDesk c.self.inside.wheel b c.self.inside.scans) (sym c.meet.ensures.kept) c.self.invariant in
     let params = ap (λ b. b.params) c.meet.ensures.kept ∙ (c.meet.ensures.params ∙ ap (λ p. p.params) (sym c.meet.ensures.passes)) in
     let here : c.meet.new.self.cpu ≡ c.args.cpu = (let k = ap (λ b. b.cpu) c.meet.ensures.kept in let n = c.cpu.ensures in let f = c.if-cpu.false in omega arith) in
-    let written = subst (λ b. WritesCpu c.meet.new.passes c.meet.new.self.cpu (turn c.meet.new.passes c.args.act (Scan c.args.now) (Count c.scan-count.result)) c.note_turn-note.result.pos b.journal c.note_turn-note.new.passes) c.note_turn-note.ensures.books c.note_turn-note.ensures.written in
+    let written = subst (λ b. WritesCpu c.meet.new.passes c.meet.new.self.cpu (turn c.meet.new.passes c.args.act (Scan c.args.now) (Count c.scan-count.result)) c.note_turn-note.result.pos b.journal c.note_turn-note.new.passes) c.note_turn-note.ensures.written.books c.note_turn-note.ensures.written.written in
     let looks : c.scan-count.new.looks ≡ looks_at_visited c.self.inside.wheel.timers c.args.now = (let l = c.scan-count.ensures.looks in let n = c.new-looks.ensures in omega arith) in
-    subst (λ p. IsScan p c.args.cpu c.args.act c.args.now (record { count = c.scan-count.result; note = c.note_turn-note.result; looks = c.count.result }) c.note_turn-note.new.passes) c.meet.ensures.passes
-    (scan_told c.meet.new.passes c.note_turn-note.new.passes c.self.inside.wheel c.meet.new.self c.self.inside.scans c.args.cpu c.args.act c.args.now c.scan-count.new.looks (record { count = c.scan-count.result; note = c.note_turn-note.result; looks = c.count.result }) desk params here c.note_turn-note.ensures.note written looks c.count.ensures)
+    record {
+      asked = record {
+        none = tt;
+        some =
+            subst (λ p. IsScan p c.args.cpu c.args.act c.args.now (record { count = c.scan-count.result; note = c.note_turn-note.result; looks = c.count.result }) c.note_turn-note.new.passes) c.meet.ensures.passes
+            (scan_told c.meet.new.passes c.note_turn-note.new.passes c.self.inside.wheel c.meet.new.self c.self.inside.scans c.args.cpu c.args.act c.args.now c.scan-count.new.looks (record { count = c.scan-count.result; note = c.note_turn-note.result; looks = c.count.result }) desk params here c.note_turn-note.ensures.note written looks c.count.ensures);
+      };
+      why = tt;
+    }

@@ -1,33 +1,27 @@
 use Rattle.std.proofs.Common.{◌-◌, ap, ◌∙◌, arith}
 use Rattle.co_service.specs.Stories.{by, IsHistory}
 use Rattle.co_service.proofs.PassesKept.{timer_written, timers_kept}
-use Rattle.co_service.proofs.Writing.{Written, story_next, keeper_next, history_next}
+use Rattle.co_service.proofs.Writing.{story_next, keeper_next, history_next}
 use Rattle.co_service.proofs.passes.Passes.write_timer.Goals as goal
 
 pub write-number-requires-clause-legal : goal.write-number-requires-clause-legal
 write-number-requires-clause-legal c =
-    story_next by IsHistory c.args.lives.now c.args.self.now.params c.args.i c.args.keeper.now c.args.entry c.requires.keeper c.requires.legal
+    story_next by IsHistory c.args.lives.now c.args.self.now.params c.args.i c.args.keeper.now c.args.entry c.requires.may.keeper c.requires.may.legal
 
-pub returns-clause-keeper : goal.returns-clause-keeper
-returns-clause-keeper c =
-    keeper_next by IsHistory c.args.lives.now c.args.self.now.params c.args.i c.args.keeper.now c.args.entry c.requires.keeper c.requires.legal c.write-number.new.keeper c.write-number.ensures.keeper
-
-pub returns-clause-history : goal.returns-clause-history
-returns-clause-history c =
-    history_next by IsHistory c.args.lives.now c.args.self.now.params c.args.i c.args.keeper.now c.args.entry c.requires.keeper c.requires.legal c.write-number.new.keeper c.write-number.ensures.keeper
+pub returns-clause-kept : goal.returns-clause-kept
+returns-clause-kept c = record {
+  keeper = keeper_next by IsHistory c.args.lives.now c.args.self.now.params c.args.i c.args.keeper.now c.args.entry c.requires.may.keeper c.requires.may.legal c.write-number.new.keeper c.write-number.ensures.keeper;
+  history = history_next by IsHistory c.args.lives.now c.args.self.now.params c.args.i c.args.keeper.now c.args.entry c.requires.may.keeper c.requires.may.legal c.write-number.new.keeper c.write-number.ensures.keeper;
+}
 
 pub returns-clause-written : goal.returns-clause-written
 returns-clause-written c =
-    let w = c.write-number.ensures in
-    let told : Written by IsHistory c.args.i c.args.entry c.args.keeper.now c.write-number.new.keeper c.self.inside.timers c.write-number.new.self c.write-number.result = record { keeper = w.keeper; name = w.same.0; actor = w.same.1; seen = w.seen; extends = w.extends; position = w.position; actors = w.actors } in
     timer_written c.self.inside.actors c.self.inside.actor c.self.inside.params.value c.self.inside.timers c.self.inside.cpus c.args.self.now c.self.invariant c.self.view_is c.args.i c.write-number.result c.saturating_sub.result (omega arith)
     (c.saturating_sub.ensures ∙ ap (λ n. c.write-number.result - n) c.from.ensures)
-    c.args.lives.now c.args.entry c.args.keeper.now c.write-number.new.keeper c.write-number.new.self told c.requires.name c.requires.keeper c.requires.legal c.requires.own
+    c.args.lives.now c.args.entry c.args.keeper.now c.write-number.new.keeper c.write-number.new.self c.write-number.ensures c.requires.name c.requires.may.keeper c.requires.may.legal c.requires.own
 
 pub invariant_of-self : goal.invariant_of-self
 invariant_of-self c =
-    let w = c.write-number.ensures in
-    let told : Written by IsHistory c.args.i c.args.entry c.args.keeper.now c.write-number.new.keeper c.self.inside.timers c.write-number.new.self c.write-number.result = record { keeper = w.keeper; name = w.same.0; actor = w.same.1; seen = w.seen; extends = w.extends; position = w.position; actors = w.actors } in
     timers_kept c.self.inside.actors c.self.inside.actor c.self.inside.params.value c.self.inside.timers c.self.inside.cpus c.args.self.now c.self.invariant c.self.view_is c.args.i c.write-number.result c.saturating_sub.result (omega arith)
     (c.saturating_sub.ensures ∙ ap (λ n. c.write-number.result - n) c.from.ensures)
-    c.args.lives.now c.args.entry c.args.keeper.now c.write-number.new.keeper c.write-number.new.self told c.requires.keeper c.requires.legal
+    c.args.lives.now c.args.entry c.args.keeper.now c.write-number.new.keeper c.write-number.new.self c.write-number.ensures c.requires.may.keeper c.requires.may.legal

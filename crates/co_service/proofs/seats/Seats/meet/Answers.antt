@@ -1,24 +1,23 @@
-use Rattle.std.proofs.Common.{ℕ, List, sym, ap, ◌∙◌, subst, arith}
+use Rattle.std.proofs.Common.{ℕ, List, sym, ap, ◌∙◌, subst, arith, rules}
 use Rattle.std.specs.Prelude.{slice_get, IsSome}
 use Rattle.co_service.specs.Seats.{IsShown, seats_of, seen_at}
 use Rattle.co_service.proofs.Found.{found, seen_is, own_at, owned, same_all, stands, within}
 use Rattle.co_service.proofs.seats.Seats.meet.Goals as goal
 
-pub returns-clause-same : goal.returns-clause-same
-returns-clause-same g c =
-    let ps = c.self.inside.passes.items in
-    let name = ap (λ s. s.name) c.self.view_is in
-    let f = found ps c.args.i c.args.life.now _ c.unwrap-pass.result (ap (λ l. slice_get l c.args.i) name ∙ c.requires.at) c.index_mut.ensures.value (sym c.take.ensures.value ∙ c.unwrap-pass.ensures) in
-    ap (seats_of c.self.inside.actor) (same_all ps c.args.i c.args.life.now c.unwrap-pass.result c.meet-pass.result _ f c.meet-pass.ensures.pass) ∙ c.self.view_is
-
-pub returns-clause-shown : goal.returns-clause-shown
-returns-clause-shown g c =
+pub returns : goal.returns
+returns g c =
     let ps = c.self.inside.passes.items in
     let name = ap (λ s. s.name) c.self.view_is in
     let f = found ps c.args.i c.args.life.now _ c.unwrap-pass.result (ap (λ l. slice_get l c.args.i) name ∙ c.requires.at) c.index_mut.ensures.value (sym c.take.ensures.value ∙ c.unwrap-pass.ensures) in
     let mine = own_at ps c.args.i c.args.life.now c.unwrap-pass.result c.self.inside.actor f c.self.invariant ∙ ap (λ s. s.actor) c.self.view_is in
     let seen = sym (seen_is ps c.args.i c.args.life.now c.unwrap-pass.result f) ∙ ap (λ s. seen_at s c.args.i) c.self.view_is in
-    subst (λ (t : ℕ × List g.row.S-Entry.Denot). IsShown g.S.Story.actor t.0 c.args.keeper.now.history t.1) (λ j. (mine j, seen j)) record { prefix = c.meet-pass.ensures.seen; all_own = c.meet-pass.ensures.own }
+    record {
+      keeper = search rules;
+      same = ap (seats_of c.self.inside.actor) (same_all ps c.args.i c.args.life.now c.unwrap-pass.result c.meet-pass.result _ f c.meet-pass.ensures.pass) ∙ c.self.view_is;
+      shown = subst (λ (t : ℕ × List g.row.S-Entry.Denot). IsShown g.S.Story.actor t.0 c.args.keeper.now.history t.1) (λ j. (mine j, seen j)) record { prefix = c.meet-pass.ensures.seen; all_own = c.meet-pass.ensures.own };
+      actors = search rules;
+      legal = search rules;
+    }
 
 pub index_mut-requires : goal.index_mut-requires
 index_mut-requires g c =

@@ -7,10 +7,14 @@ pub returns-clause-taken : goal.returns-clause-taken
 returns-clause-taken g c =
     let out = c.pop-popped in
     let told : c.answer.result ≡ taken_of true c.args.passes.now.actor c.args.act c.args.cpu out.result = c.answer.ensures ∙ ap (λ (a : ℕ). taken_of true a c.args.act c.args.cpu out.result) c.actor-actor.ensures in
-    subst (λ (t : Taken). IsTaken true c.args.passes.now c.args.cpu c.args.act t out.new.passes) (sym told) out.ensures.taken
+    subst (λ (t : Taken). IsTaken true c.args.passes.now c.args.cpu c.args.act t out.new.passes) (sym told) out.ensures.started.taken
 
-pub returns-clause-next : goal.returns-clause-next
-returns-clause-next g c =
+pub returns-clause-kept : goal.returns-clause-kept
+returns-clause-kept g c =
     let out = c.pop-popped in
     let told : c.answer.result ≡ taken_of true c.args.passes.now.actor c.args.act c.args.cpu out.result = c.answer.ensures ∙ ap (λ (a : ℕ). taken_of true a c.args.act c.args.cpu out.result) c.actor-actor.ensures in
-    subst (λ (t : Taken). HasNext true out.new.passes c.args.cpu t) (sym told) out.ensures.next
+    record {
+      of = out.ensures.kept.of;
+      actor_is = out.ensures.kept.actor_is;
+      next = subst (λ (t : Taken). HasNext true out.new.passes c.args.cpu t) (sym told) out.ensures.kept.next;
+    }

@@ -15,10 +15,10 @@ invariant_of-self g c =
     let called = c.call_alone.ensures.called in
     let written = written_is n p q _ _ c.self.invariant.single called.group_is called.written in
     let low : c.args.i < count_of p = subst (λ v. c.args.i < count_of v) (sym c.self.view_is) c.requires.callout in
-    subst (λ (s : Params). IsSingle g.N.Name.name s q c.self.inside.ending) (sym c.call_alone.ensures.params) record {
-      of = c.call_alone.ensures.of;
+    subst (λ (s : Params). IsSingle g.N.Name.name s q c.self.inside.ending) (sym c.call_alone.ensures.kept.params_are) record {
+      of = c.call_alone.ensures.kept.keeps.of;
       single = written.1;
-      free = c.call_alone.ensures.free false 0 c.self.invariant.free;
+      free = c.call_alone.ensures.kept.keeps.free false 0 c.self.invariant.free;
       rest = rests_disarmed n p q c.self.invariant.single written.1 c.self.invariant.rest c.args.i c.args.act called.time low c.call_alone.new.told.out.reply written.0;
       nothing = c.self.invariant.nothing;
       room = c.self.invariant.room;

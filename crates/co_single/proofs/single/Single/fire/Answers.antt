@@ -23,13 +23,13 @@ invariant_of-self g c =
     let n = length c.self.inside.service.specs in
     let p = c.self.inside.passes in
     let q = c.pop_alone.new.passes in
-    let taken = c.in-Empty.ensures.taken in
+    let taken = c.in-Empty.ensures.started.taken in
     let note = noted_turn p.actor c.args.act 0 (pop_of false) Nothing c.in-Empty.pop in
     let written = written_is n p q (note ∷ []) (none_entries p c.args.act) c.self.invariant.single (one_is note _ _ taken.popped.place taken.popped.entry) taken.written in
     subst (λ (s : Params). IsSingle g.N.Name.name s q c.self.inside.ending) (sym c.pop_alone.ensures.params) record {
-      of = c.pop_alone.ensures.of;
+      of = c.pop_alone.ensures.kept.of;
       single = written.1;
-      free = c.in-Empty.ensures.next;
+      free = c.in-Empty.ensures.kept.next;
       rest = rests_idle n p q c.self.invariant.single written.1 c.self.invariant.rest c.args.act written.0;
       nothing = c.self.invariant.nothing;
       room = c.self.invariant.room;
@@ -40,7 +40,7 @@ returns-in-Empty-clause-none g c =
     let n = length c.self.inside.service.specs in
     let p = c.self.inside.passes in
     let q = c.pop_alone.new.passes in
-    let taken = c.in-Empty.ensures.taken in
+    let taken = c.in-Empty.ensures.started.taken in
     let note = noted_turn p.actor c.args.act 0 (pop_of false) Nothing c.in-Empty.pop in
     let written = written_is n p q (note ∷ []) (none_entries p c.args.act) c.self.invariant.single (one_is note _ _ taken.popped.place taken.popped.entry) taken.written in
     subst (λ v. IsIdle v q) c.self.view_is (is_idle_now n p q c.self.invariant.single written.1 c.self.invariant.rest c.args.act written.0)
@@ -48,15 +48,15 @@ returns-in-Empty-clause-none g c =
 pub end_alone-requires-clause-serves : goal.end_alone-requires-clause-serves
 end_alone-requires-clause-serves g c =
     let d : Due = record { i = c.in-Took.i; n = c.in-Took.n } in
-    let taken = c.in-Took.ensures.taken in
+    let taken = c.in-Took.ensures.started.taken in
     let pop = noted_turn c.self.inside.passes.actor c.args.act 0 (pop_of false) (Got c.in-Took.i c.in-Took.n c.in-Took.at) c.in-Took.pop in
     let pick = noted_entry c.in-Took.i (record { actor = c.self.inside.passes.actor; act = c.args.act; op = Run (Pick c.in-Took.n 0 c.in-Took.at); reply = c.in-Took.reply }) c.in-Took.pick in
-    (d, subst (λ far. IsServing false c.pop_alone.new.passes 0 d far) (runs_at_once (length c.self.inside.service.specs) c.self.inside.passes c.pop_alone.new.passes pop pick c.args.act c.in-Took.i c.in-Took.n c.in-Took.at c.in-Took.reply c.self.invariant.single taken.place taken.entry taken.written) c.in-Took.ensures.next)
+    (d, subst (λ far. IsServing false c.pop_alone.new.passes 0 d far) (runs_at_once (length c.self.inside.service.specs) c.self.inside.passes c.pop_alone.new.passes pop pick c.args.act c.in-Took.i c.in-Took.n c.in-Took.at c.in-Took.reply c.self.invariant.single taken.place taken.entry taken.written) c.in-Took.ensures.kept.next)
 
 pub invariant_of-self-in-Took : goal.invariant_of-self-in-Took
 invariant_of-self-in-Took g c =
     let d : Due = record { i = c.in-Took.i; n = c.in-Took.n } in
-    let taken = c.in-Took.ensures.taken in
+    let taken = c.in-Took.ensures.started.taken in
     let pop = noted_turn c.self.inside.passes.actor c.args.act 0 (pop_of false) (Got c.in-Took.i c.in-Took.n c.in-Took.at) c.in-Took.pop in
     let pick = noted_entry c.in-Took.i (record { actor = c.self.inside.passes.actor; act = c.args.act; op = Run (Pick c.in-Took.n 0 c.in-Took.at); reply = c.in-Took.reply }) c.in-Took.pick in
     let m = length c.self.inside.service.specs in
@@ -64,13 +64,13 @@ invariant_of-self-in-Took g c =
     let r = c.pop_alone.new.passes in
     let q = c.end_alone.new.passes in
     let middle = written_is m p r (pop ∷ pick ∷ []) (taken_entries p c.args.act c.in-Took.i c.in-Took.n c.in-Took.at c.in-Took.reply) c.self.invariant.single (two_are pop pick _ _ _ _ taken.popped.place taken.popped.entry taken.place taken.entry) taken.written in
-    let runs : IsServing false r 0 d (Runs d.n) = subst (λ far. IsServing false r 0 d far) (runs_at_once m p r pop pick c.args.act c.in-Took.i c.in-Took.n c.in-Took.at c.in-Took.reply c.self.invariant.single taken.place taken.entry taken.written) c.in-Took.ensures.next in
+    let runs : IsServing false r 0 d (Runs d.n) = subst (λ far. IsServing false r 0 d far) (runs_at_once m p r pop pick c.args.act c.in-Took.i c.in-Took.n c.in-Took.at c.in-Took.reply c.self.invariant.single taken.place taken.entry taken.written) c.in-Took.ensures.kept.next in
     let ended = c.end_alone.ensures.ended d runs in
     let last = written_is m r q (finished_notes r.actor c.args.act c.end_alone.new.told) _ middle.1 ended.notes_are ended.written in
     subst (λ (s : Params). IsSingle g.N.Name.name s q c.self.inside.ending) (sym (c.end_alone.ensures.params ∙ c.pop_alone.ensures.params)) record {
-      of = subst (λ (s : Params). AreOf g.N.Name.name s q) c.pop_alone.ensures.params c.end_alone.ensures.of;
+      of = subst (λ (s : Params). AreOf g.N.Name.name s q) c.pop_alone.ensures.params c.end_alone.ensures.kept.of;
       single = last.1;
-      free = c.end_alone.ensures.free;
+      free = c.end_alone.ensures.kept.free;
       rest = rests_fired m p r q c.self.invariant.single middle.1 last.1 c.self.invariant.rest c.args.act c.in-Took.i c.in-Took.n c.in-Took.at c.in-Took.reply c.end_alone.new.told.out.reply ended.time middle.0 last.0;
       nothing = c.self.invariant.nothing;
       room = c.self.invariant.room;
@@ -79,7 +79,7 @@ invariant_of-self-in-Took g c =
 pub returns-in-Took-clause-some : goal.returns-in-Took-clause-some
 returns-in-Took-clause-some g c =
     let d : Due = record { i = c.in-Took.i; n = c.in-Took.n } in
-    let taken = c.in-Took.ensures.taken in
+    let taken = c.in-Took.ensures.started.taken in
     let pop = noted_turn c.self.inside.passes.actor c.args.act 0 (pop_of false) (Got c.in-Took.i c.in-Took.n c.in-Took.at) c.in-Took.pop in
     let pick = noted_entry c.in-Took.i (record { actor = c.self.inside.passes.actor; act = c.args.act; op = Run (Pick c.in-Took.n 0 c.in-Took.at); reply = c.in-Took.reply }) c.in-Took.pick in
     let m = length c.self.inside.service.specs in
@@ -87,7 +87,7 @@ returns-in-Took-clause-some g c =
     let r = c.pop_alone.new.passes in
     let q = c.end_alone.new.passes in
     let middle = written_is m p r (pop ∷ pick ∷ []) (taken_entries p c.args.act c.in-Took.i c.in-Took.n c.in-Took.at c.in-Took.reply) c.self.invariant.single (two_are pop pick _ _ _ _ taken.popped.place taken.popped.entry taken.place taken.entry) taken.written in
-    let runs : IsServing false r 0 d (Runs d.n) = subst (λ far. IsServing false r 0 d far) (runs_at_once m p r pop pick c.args.act c.in-Took.i c.in-Took.n c.in-Took.at c.in-Took.reply c.self.invariant.single taken.place taken.entry taken.written) c.in-Took.ensures.next in
+    let runs : IsServing false r 0 d (Runs d.n) = subst (λ far. IsServing false r 0 d far) (runs_at_once m p r pop pick c.args.act c.in-Took.i c.in-Took.n c.in-Took.at c.in-Took.reply c.self.invariant.single taken.place taken.entry taken.written) c.in-Took.ensures.kept.next in
     let ended = c.end_alone.ensures.ended d runs in
     let last = written_is m r q (finished_notes r.actor c.args.act c.end_alone.new.told) _ middle.1 ended.notes_are ended.written in
     subst (λ v. IsFired v c.in-Took.i c.arg_of-arg.result q) c.self.view_is

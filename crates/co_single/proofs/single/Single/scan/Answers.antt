@@ -16,10 +16,10 @@ invariant_of-self g c =
     let out = c.scan_alone.result in
     let scanned = c.scan_alone.ensures.scanned in
     let written = written_is n p q (out.note ∷ []) (scan_entries p c.args.act c.args.now out.count) c.self.invariant.single (one_is out.note _ _ scanned.note.place scanned.note.entry) scanned.written in
-    subst (λ (s : Params). IsSingle g.N.Name.name s q c.self.inside.ending) (sym c.scan_alone.ensures.params) record {
-      of = c.scan_alone.ensures.of;
+    subst (λ (s : Params). IsSingle g.N.Name.name s q c.self.inside.ending) (sym c.scan_alone.ensures.kept.params_are) record {
+      of = c.scan_alone.ensures.kept.keeps.of;
       single = written.1;
-      free = c.scan_alone.ensures.free false 0 c.self.invariant.free;
+      free = c.scan_alone.ensures.kept.keeps.free false 0 c.self.invariant.free;
       rest = rests_scanned n p q c.self.invariant.single written.1 c.self.invariant.rest c.args.act c.args.now out.count written.0 (subst (λ v. waiting_of v ≡ []) (sym c.self.view_is) c.requires.served);
       nothing = c.self.invariant.nothing;
       room = c.self.invariant.room;

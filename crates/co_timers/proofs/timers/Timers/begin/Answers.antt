@@ -11,5 +11,5 @@ returns-clause-about g c =
     let mine : Due = record { i = c.args.i; n = c.args.n } in record {
       below = c.requires.about.below;
       handle = handle_after g.N.Name.name c.args.self.now.params c.args.passes.now c.begin.new.passes (notes_in c.begin.result.notes) c.requires.about.handle (c.begin.ensures.begun mine c.requires.about.serving).written;
-      serving = c.begin.ensures.serving mine c.requires.about.serving;
+      serving = c.begin.ensures.kept.serving mine c.requires.about.serving;
     }

@@ -32,7 +32,7 @@ returns-clause-handle g c =
     let q = out.new.passes in
     let same = c.self.invariant.same ∙ ap (λ v. v.params) c.self.view_is in
     handle_of g.N.Name.name c.args.self.now.params p q c.args.act c.args.i c.args.op.now out.new.told.out.reply (told_notes p.actor c.args.act c.args.i c.args.op.now out.new.told) c.requires.handle
-    (subst (λ r. AreOf g.N.Name.name r q) same out.ensures.of) out.ensures.called
+    (subst (λ r. AreOf g.N.Name.name r q) same out.ensures.kept.of) out.ensures.called
 
 pub returns-clause-made : goal.returns-clause-made
 returns-clause-made g c =

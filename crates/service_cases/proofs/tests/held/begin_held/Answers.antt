@@ -19,4 +19,4 @@ begin-made-requires-clause-held g c = λ d is.
     ap (λ (k : ℕ). hold_of (spec_at c.args.service.now k).lock) here ∙ (ap hold_of c.requires.scene.lock ∙ ap Some (sym c.requires.hold))
 
 pub returns-clause-serving : goal.returns-clause-serving
-returns-clause-serving g c = (due c.args.n, c.begin-made.ensures.serving (due c.args.n) c.requires.serving)
+returns-clause-serving g c = (due c.args.n, c.begin-made.ensures.kept.serving (due c.args.n) c.requires.serving)

@@ -1,0 +1,106 @@
+-- What a caller of the running service has before a section, what the section answers, and what the caller has then.
+use Rattle.std.specs.Prelude.{◌≡◌, ℕ, ◌<◌, Bool, true, false, IfNone, IfSome}
+use Rattle.std.specs.declared.option.Option.{Option}
+use Rattle.std.specs.declared.option.Option.TheVariants.{None}
+use Rattle.co_object.specs.Journal.{scanner}
+use Rattle.co_object.specs.Queue.{Due}
+use Rattle.co_service.specs.declared.finished.Finished.{Finished}
+use Rattle.co_service.specs.declared.outs.Taken.{Taken}
+use Rattle.co_service.specs.declared.params.Params.{Params}
+use Rattle.co_service.specs.declared.popped.Popped.{Popped}
+use Rattle.co_service.specs.Ends.{IsFinished}
+use Rattle.co_service.specs.Moving.{MovingView}
+use Rattle.co_service.specs.Name.{ServiceName}
+use Rattle.co_service.specs.Params.{actors_of}
+use Rattle.co_service.specs.Services.{FollowsScans, HasNext, IsFree, IsServing, IsTaken, taken_of}
+use Rattle.co_service.specs.Serving.{Runs, Service, Waits}
+use Rattle.co_service.specs.Views.{AreOf, PassesView, journal_seen}
+
+-- after a call or a scan the passes are still of the service and of their actor, and it has in service what it had
+pub record Keeps (service : ServiceName) (params : Params) (p q : PassesView) : Type 0 where
+  pub of : AreOf service params q
+  pub actor : q.actor ≡ p.actor
+  -- where nothing was in service nothing is, and what was in service is as far as it was
+  pub free : (direct : Bool) (cpu : ℕ) → IsFree direct p cpu → IsFree direct q cpu
+  pub serving : (direct : Bool) (cpu : ℕ) (d : Due) (far : Service) → IsServing direct p cpu d far → IsServing direct q cpu d far
+
+-- the same of one who has the service to himself: its parameters stay too
+pub record KeepsAlone (service : ServiceName) (params after : Params) (p q : PassesView) : Type 0 where
+  pub params_are : after ≡ params
+  pub keeps : Keeps service params p q
+
+-- the passes are of the service and of this actor, which has this in service on the CPU, or as its interrupt where `direct`: what it took
+pub record KeepsTaken (service : ServiceName) (params : Params) (actor : ℕ) (direct : Bool) (cpu : ℕ) (taken : Taken) (q : PassesView) : Type 0 where
+  pub of : AreOf service params q
+  pub actor_is : q.actor ≡ actor
+  pub next : HasNext direct q cpu taken
+
+-- the same where it has nothing in service
+pub record KeepsFree (service : ServiceName) (params : Params) (actor : ℕ) (direct : Bool) (cpu : ℕ) (q : PassesView) : Type 0 where
+  pub of : AreOf service params q
+  pub actor_is : q.actor ≡ actor
+  pub free : IsFree direct q cpu
+
+-- the same where what waited for its lock is to end
+pub record KeepsBegun (service : ServiceName) (params : Params) (cpu : ℕ) (p q : PassesView) : Type 0 where
+  pub of : AreOf service params q
+  pub actor : q.actor ≡ p.actor
+  pub serving : (d : Due) → IsServing false p cpu d (Waits d.n) → IsServing false q cpu d (Runs d.n)
+
+-- the passes are the service's, and their actor serves this lane of one of its CPUs, and has nothing in service
+pub record MayStart (service : ServiceName) (params : Params) (direct : Bool) (p : PassesView) (cpu : ℕ) : Type 0 where
+  pub cpu_is : cpu < params.cpus
+  pub passes : AreOf service params p
+  pub free : IsFree direct p cpu
+
+-- the same, and it has an arming in service, which is to end
+pub record MayEnd (service : ServiceName) (params : Params) (direct : Bool) (p : PassesView) (cpu : ℕ) : Type 0 where
+  pub cpu_is : cpu < params.cpus
+  pub passes : AreOf service params p
+  pub serves : (d : Due) × IsServing direct p cpu d (Runs d.n)
+
+-- a desk was asked: where it doesn't answer nothing has changed, and else this holds of the answer
+pub record IsAsked {A : Type 0} (p : PassesView) (out : Option A) (told : A → Type 0) (q : PassesView) : Type 0 where
+  pub none : IfNone out (q ≡ p)
+  pub some : IfSome out told
+
+-- what came due first was taken into service, after so many Scans
+pub record IsStarted (direct : Bool) (p : PassesView) (cpu act scans : ℕ) (out : Popped) (q : PassesView) : Type 0 where
+  pub taken : IsTaken direct p cpu act (taken_of direct p.actor act cpu out) q
+  pub follows : FollowsScans scans (journal_seen q cpu)
+
+-- a desk was asked for the end of a service: where it doesn't end it nothing has changed
+pub record IsEndTried (direct : Bool) (p : PassesView) (cpu act : ℕ) (ended : Bool) (told : Finished) (gone : Option MovingView) (q : PassesView) : Type 0 where
+  pub none : ended ≡ false → (q ≡ p) × (gone ≡ None)
+  pub some : ended ≡ true → (d : Due) → IsServing direct p cpu d (Runs d.n) → IsFinished direct p cpu act d told gone q
+
+-- a caller may try a call at a desk: its passes are the service's, and nothing is on its way
+pub record MayTry (service : ServiceName) (params : Params) (p : PassesView) (gone : Option MovingView) : Type 0 where
+  pub passes : AreOf service params p
+  pub none : gone ≡ None
+
+-- the end of a service may be tried at a desk
+pub record MayTryEnd (service : ServiceName) (params : Params) (direct : Bool) (p : PassesView) (cpu : ℕ) (gone : Option MovingView) : Type 0 where
+  pub may : MayEnd service params direct p cpu
+  pub none : gone ≡ None
+
+-- the passes are the service's, and their actor scans this CPU
+pub record MayScan (service : ServiceName) (params : Params) (p : PassesView) (cpu : ℕ) : Type 0 where
+  pub cpu_is : cpu < params.cpus
+  pub passes : AreOf service params p
+  pub scanner : p.actor ≡ scanner (actors_of params) cpu
+
+-- the passes are the service's, and so is what is on its way
+pub record MayLand (service : ServiceName) (params : Params) (p : PassesView) (moving : MovingView) : Type 0 where
+  pub passes : AreOf service params p
+  pub params_are : moving.params ≡ p.params
+
+-- a desk was asked, and this is why where it doesn't answer
+pub record Answers {A : Type 0} (p : PassesView) (out : Option A) (Why : Type 0) (told : A → Type 0) (q : PassesView) : Type 0 where
+  pub asked : IsAsked p out told q
+  pub why : IfNone out Why
+
+-- the same of the end of a service
+pub record AnswersEnd (direct : Bool) (p : PassesView) (cpu act : ℕ) (ended : Bool) (Why : Type 0) (told : Finished) (gone : Option MovingView) (q : PassesView) : Type 0 where
+  pub tried : IsEndTried direct p cpu act ended told gone q
+  pub why : ended ≡ false → Why
