@@ -1,3 +1,2 @@
 -- Before the first step.
 pub mod Shown
-pub mod Wheels

@@ -1,18 +1,14 @@
 -- The depot before the first step.
 use Rattle.std.specs.Prelude.{ℕ, ◌==◌, List, map, length, replicate, if◌then◌else◌}
 use Rattle.std.specs.declared.option.Option.{Option}
-use Rattle.std.specs.declared.option.Option.TheVariants.{Some, None}
+use Rattle.std.specs.declared.option.Option.TheVariants.{None}
 use Rattle.co_object.specs.declared.alone.Alone.{Alone}
 use Rattle.co_object.specs.declared.spec.Spec.{Spec}
-use Rattle.co_object.specs.Callout.{opening}
 use Rattle.co_program.specs.declared.script.Script.{Script}
 use Rattle.co_queue.specs.Timers.{empty_timers}
+use Rattle.co_wheel.specs.Callouts.{new_callout}
 use Rattle.co_wheel.specs.Cpu.{Cpu, cpu_of}
 use Rattle.co_world.specs.Step.{are_direct}
-
--- a callout as it is made
-abbrev pub new_callout : Spec → Option Alone
-new_callout spec = Some (record { spec = spec; state = opening 0 })
 
 -- all callouts begin at CPU 0
 abbrev pub first_callouts : List Spec → ℕ → List (Option Alone)

@@ -12,7 +12,8 @@ use Rattle.co_script.specs.Fits.{fits}
 use Rattle.co_script.proofs.parts.Fitting.{fitting}
 use Rattle.co_report.specs.Histories.{Shown}
 use Rattle.co_report.specs.Reports.{shown_words}
-use Rattle.co_report.specs.NoteTexts.{entry_actor, entry_act, entry_words}
+use Rattle.co_object.specs.Lists.{act_of, actor_of}
+use Rattle.co_report.specs.NoteTexts.{entry_words}
 use Rattle.co_report.specs.NoteValues.{names_of, IsSmall}
 use Rattle.co_report.specs.NoteForms.{note_form, whole, or_note, note_of}
 use Rattle.co_report.specs.NoteFits.{ShownFits}
@@ -55,6 +56,6 @@ note-read s small p line x h =
 
 pub note-shown : (s : Script) (small : IsSmall s) (p : Place) (x : Shown) → ShownFits s p x → note_of (names_of s) (Some p) (joined (shown_words s x)) ≡ Ok x
 note-shown s small p x h =
-    let rest : List Word = (actor_word s (entry_actor x.entry) ++ 47 ∷ decimal (entry_act x.entry)) ∷ entry_words x.entry in
+    let rest : List Word = (actor_word s (actor_of x.entry) ++ 47 ∷ decimal (act_of x.entry)) ∷ entry_words x.entry in
     ap (λ ws. or_note (whole (note_form (names_of s) p) ws)) (parts-joined (decimal x.number) rest ((note_exact s small p).ink x h))
     ∙ ap (λ r. or_note r) (whole-back (note_exact s small p) x h)

@@ -17,7 +17,8 @@ use Rattle.co_report.proofs.PartSplits.{line_of}
 use Rattle.co_grammar.specs.Spelling.{actor_word}
 use Rattle.co_report.specs.declared.line.Line.{Line as NoteLine}
 use Rattle.co_report.specs.Histories.{Shown, Histories}
-use Rattle.co_report.specs.NoteTexts.{entry_actor, entry_act, entry_words}
+use Rattle.co_object.specs.Lists.{act_of, actor_of}
+use Rattle.co_report.specs.NoteTexts.{entry_words}
 use Rattle.co_report.specs.Reports.{heading, shown_words, place_lines}
 use Rattle.co_report.specs.NoteFits.{ShownFits}
 use Rattle.co_report.specs.Laws.{note_lines, section_notes, line_behind}
@@ -54,7 +55,7 @@ module _ (s : Script) (small : IsSmall s) where
   note-step k p ps done x h =
       let d : Progress = reached (Some p) ps done in
       let bytes : List ℕ = joined (shown_words s x) in
-      ap (λ b. if b then Ok (closed_by k d ps) else note_read s k d bytes) (not-closing s x.number ((actor_word s (entry_actor x.entry) ++ 47 ∷ decimal (entry_act x.entry)) ∷ entry_words x.entry) ps h.0)
+      ap (λ b. if b then Ok (closed_by k d ps) else note_read s k d bytes) (not-closing s x.number ((actor_word s (actor_of x.entry) ++ 47 ∷ decimal (act_of x.entry)) ∷ entry_words x.entry) ps h.0)
       ∙ ap (λ r. r >>= λ y. Ok (noted k d (Some p) y)) (note-shown s small p x h)
 
   notes-steps : (k : ℕ) (p : Place) (ps : List Place) (done : List NoteLine) (xs : List Shown) (more : List Line) → AllByRecursion (ShownFits s p) xs

@@ -18,6 +18,7 @@ use Rattle.co_object.specs.declared.OwnKind.{OwnKind}
 use Rattle.co_object.specs.declared.OwnKind.TheVariants.{NotHeld, HoldsLock, Holding, NotHolding}
 use Rattle.co_object.specs.declared.AnyEntry.{AnyEntry}
 use Rattle.co_object.specs.declared.AnyEntry.TheVariants.{Timer, Cpu, Own}
+use Rattle.co_object.specs.Lists.{act_of, actor_of}
 use Rattle.co_text.specs.Values.{Word}
 use Rattle.co_text.specs.Written.{units_word, func_word, argument_word}
 use Rattle.co_grammar.specs.Spelling.{actor_word}
@@ -131,17 +132,7 @@ own_words NotHolding = codes "notholding" ∷ []
 abbrev pub answered : List Word → List Word → List Word
 answered op reply = op ++ codes "=" ∷ reply
 
--- who made the entry, at which act, and what it says
-abbrev pub entry_actor : AnyEntry → ℕ
-entry_actor (Timer e) = e.actor
-entry_actor (Cpu e) = e.actor
-entry_actor (Own e) = e.actor
-
-abbrev pub entry_act : AnyEntry → ℕ
-entry_act (Timer e) = e.act
-entry_act (Cpu e) = e.act
-entry_act (Own e) = e.act
-
+-- what an entry says
 abbrev pub entry_words : AnyEntry → List Word
 entry_words (Timer e) = answered (op_words e.op) (reply_words e.reply)
 entry_words (Cpu e) = answered (queue_words e.op) (answer_words e.reply)
@@ -149,4 +140,4 @@ entry_words (Own e) = own_words e.kind
 
 -- `K A/M X`
 abbrev pub note_words : Script → ℕ → AnyEntry → List Word
-note_words s k e = decimal k ∷ (actor_word s (entry_actor e) ++ 47 ∷ decimal (entry_act e)) ∷ entry_words e
+note_words s k e = decimal k ∷ (actor_word s (actor_of e) ++ 47 ∷ decimal (act_of e)) ∷ entry_words e

@@ -2,26 +2,16 @@
 use Rattle.std.specs.Prelude.{◌≡◌, ◌<◌, ◌≤◌, ◌⊎◌, ℕ, ◌+◌, ◌^◌, true, List, [], ◌∷◌, length, map, ◌==◌, count_by, Option, Some, IsSome, slice_index, slice_index_or, slice_range}
 use Rattle.std.specs.List.{flat_map}
 use Rattle.co_object.specs.declared.Place.{Place}
-use Rattle.co_object.specs.declared.Place.TheVariants as at
 use Rattle.co_object.specs.declared.Note.{Note}
 use Rattle.co_object.specs.Lists.{history}
 use Rattle.co_program.specs.declared.Script.{Script}
-use Rattle.co_program.specs.Actors.{actor_count}
 use Rattle.co_report.specs.declared.origin.Origin.{Origin}
 use Rattle.co_report.specs.declared.order.Order.{Order}
 use Rattle.co_report.specs.Origins.{note_at, note_from, entries_from, lines_from}
 use Rattle.co_report.specs.Histories.{shown_history}
 use Rattle.co_report.specs.Reports.{shown_words}
+pub use Rattle.co_program.specs.Places.{place_index, place_count}
 use Rattle.co_program.specs.Places.{place_exists, AllHavePlaces}
-
--- the number of a place among those of a report
-abbrev pub place_index : Script → Place → ℕ
-place_index s (at.Timer i) = i
-place_index s (at.Cpu c) = length s.timers + c
-place_index s (at.Actor a) = length s.timers + s.cpus + a
-
-abbrev pub place_count : Script → ℕ
-place_count s = length s.timers + s.cpus + actor_count s
 
 -- how many of these notes stand in the place of this number
 abbrev pub count_in : Script → ℕ → List Note → ℕ

@@ -2,7 +2,7 @@
 ghost use Rattle.std.specs.Prelude.{◌≡◌, ◌++◌, ◌∷◌, [], codes, decimal, OnOk};
 ghost use Rattle.co_text.specs.Lines.{line_text, spaced};
 ghost use Rattle.co_grammar.specs.Spelling.{actor_word};
-ghost use Rattle.co_report.specs.NoteTexts.{op_words, reply_words, queue_words, answer_words, own_words, answered, entry_actor, entry_act, entry_words, note_words};
+ghost use Rattle.co_report.specs.NoteTexts.{op_words, reply_words, queue_words, answer_words, own_words, answered, entry_words, note_words};
 
 mod call;
 mod queue;
@@ -75,26 +75,6 @@ fn print_entry(page: &mut Page, entry: &AnyEntry) -> Result<(), NoMemory>
     }
 }
 
-fn entry_actor(entry: &AnyEntry) -> u32
-    ensures { result ≡ entry_actor entry.now }
-{
-    match entry {
-        AnyEntry::Timer(entry) => entry.actor,
-        AnyEntry::Cpu(entry) => entry.actor,
-        AnyEntry::Own(entry) => entry.actor,
-    }
-}
-
-fn entry_act(entry: &AnyEntry) -> u64
-    ensures { result ≡ entry_act entry.now }
-{
-    match entry {
-        AnyEntry::Timer(entry) => entry.act,
-        AnyEntry::Cpu(entry) => entry.act,
-        AnyEntry::Own(entry) => entry.act,
-    }
-}
-
 /// The first words of a note.
 #[tactic(auto, using(crate::proofs::NoteHeads::note_head))]
 fn print_head(page: &mut Page, number: u64, letter: u8, name: u64, act: u64) -> Result<(), NoMemory>
@@ -120,8 +100,8 @@ pub fn print_note(
 ) -> Result<(), NoMemory>
     ensures { OnOk result (page.new ≡ page.old ++ line_text (note_words script.now number entry.now)) }
 {
-    let (letter, name) = actor_name(script, entry_actor(entry));
-    print_head(page, number, letter, name, entry_act(entry))?;
+    let (letter, name) = actor_name(script, entry.actor());
+    print_head(page, number, letter, name, entry.act())?;
     print_entry(page, entry)?;
     page.end()?;
     Ok(())

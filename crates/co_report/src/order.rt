@@ -1,14 +1,14 @@
 //! The notes of all lists, place by place and in each place by position: counted first, then put where they belong.
-ghost use Rattle.std.specs.Prelude.{◌≡◌, ◌≤◌, ◌<◌, ◌+◌, ◌^◌, ℕ, true, replicate, length, slice_index, OnOk, IfOk};
+ghost use Rattle.std.specs.Prelude.{◌≡◌, ◌≤◌, ◌<◌, ◌+◌, ◌^◌, ℕ, true, length, slice_index, OnOk, IfOk};
 ghost use Rattle.co_object.specs.Lists.{IsWellFormed};
 ghost use Rattle.co_program.specs.Places.{place_exists, HavePlaces, AllHavePlaces};
 ghost use Rattle.co_report.specs.Order.{place_index, place_count, count_in, all_of, AreCounts, starts_from, HasRoom, location, AreWritten, origins_in, ShowsHistories};
 
 use crate::origin::Origin;
 use crate::packing::packed_lists;
-use co_object::{Note, Place};
+use co_object::Note;
 use co_packed::PackedNote;
-use co_program::Script;
+use co_program::{Script, place_index};
 use co_sbt::{NoMemory, Seq};
 use std::alloc::Global;
 
@@ -79,36 +79,12 @@ fn place_count(script: &Script) -> Result<usize, NoMemory>
     }
 }
 
-/// The number of a place among those of a report.
-fn place_index(script: &Script, place: Place) -> usize
-    requires { place_index script.now place < 2 ^ 64 }
-    ensures { result ≡ place_index script.now place }
-{
-    let timers = script.timers.as_slice().len();
-    match place {
-        Place::Timer(timer) => timer as usize,
-        Place::Cpu(cpu) => timers + cpu as usize,
-        Place::Actor(actor) => timers + script.cpus as usize + actor as usize,
-    }
-}
-
 /// The number of a note's place among those of a report.
 fn place_number(script: &Script, note: &PackedNote) -> usize
     requires { place_index script.now note.now.place < 2 ^ 64 }
     ensures { result ≡ place_index script.now note.now.place }
 {
     place_index(script, note.place())
-}
-
-/// A list of copies of one item.
-fn filled<T: Copy + Drop>(alloc: Global, count: usize, item: T) -> Result<Seq<T>, NoMemory>
-    ensures { IfOk result (λ list. list ≡ replicate count item) }
-{
-    let mut list = Seq::new(alloc);
-    for _ in 0..count {
-        list.push(item)?;
-    }
-    Ok(list)
 }
 
 /// One more than a count.
@@ -147,7 +123,7 @@ pub(crate) fn counts_of(
     requires { AllHavePlaces script.now lists.now }
     ensures { IfOk result (λ counts. AreCounts script.now lists.now counts) }
 {
-    let mut counts = filled(alloc, place_count(script)?, 0)?;
+    let mut counts = Seq::filled(alloc, place_count(script)?, 0)?;
     for notes in lists {
         count_list(script, &mut counts, notes.as_slice())?;
     }
@@ -226,7 +202,7 @@ fn origins_of(
         actor: actors,
         number: 0,
     };
-    let mut origins = filled(alloc, room, nowhere)?;
+    let mut origins = Seq::filled(alloc, room, nowhere)?;
     for actor in 0..actors {
         write_list(script, lists, starts, &mut origins, actor)?;
     }

@@ -1,5 +1,5 @@
 //! A listener that prints: a report is written section by section, note by note as they are told.
-ghost use Rattle.std.specs.Prelude.{◌≡◌, ◌<◌, ◌+◌, ◌^◌, ◌++◌, ◌∷◌, [], true, false, replicate, List, map, OnOk, IfOk, MatchOption};
+ghost use Rattle.std.specs.Prelude.{◌≡◌, ◌<◌, ◌+◌, ◌^◌, ◌++◌, ◌∷◌, [], true, false, List, map, OnOk, IfOk, MatchOption};
 ghost use Rattle.std.specs.List.{concat};
 ghost use Rattle.co_text.specs.Lines.{line_text};
 ghost use Rattle.co_listener.specs.Made.{Made, IsInOrder, lists_by};
@@ -16,7 +16,7 @@ use crate::reading::places::places;
 use crate::typed::note_is_typed;
 use co_listener::Listener;
 use co_object::{Note, Place};
-use co_program::{Script, actor_count};
+use co_program::{Script, actor_count, place_exists, place_index};
 use co_sbt::{NoMemory, Seq};
 use co_text::Page;
 use std::alloc::Global;
@@ -65,17 +65,6 @@ fn all_opened(alloc: Global, script: &Script) -> Result<Vec<Page>, NoMemory>
     Ok(pages.into_vec())
 }
 
-/// `count` counts, each 0. `NoMemory` where there is no room for them.
-fn zeros(alloc: Global, count: u32) -> Result<Vec<u64>, NoMemory>
-    ensures { IfOk result (λ counts. counts.items ≡ replicate count 0) }
-{
-    let mut counts = Seq::new(alloc);
-    for _ in 0..count {
-        counts.push(0_u64)?;
-    }
-    Ok(counts.into_vec())
-}
-
 /// One more than a count.
 fn next(count: u64) -> Result<u64, NoMemory>
     ensures next { IfOk result (λ next. next ≡ count + 1) }
@@ -85,17 +74,15 @@ fn next(count: u64) -> Result<u64, NoMemory>
 }
 
 /// The number of a place among those of the report; None where the script has no such place.
+#[tactic(auto, using(co_program::proofs::Places::index_fits))]
 fn existing_index(script: &Script, place: Place) -> Option<usize>
     requires { IsScript script.now }
     ensures { MatchOption result (place_exists script.now place ≡ false) (λ index. (place_exists script.now place ≡ true) × (index ≡ place_index script.now place)) }
 {
-    let timers = script.timers.as_slice().len();
-    let cpus = script.cpus as usize;
-    match place {
-        Place::Timer(timer) if (timer as usize) < timers => Some(timer as usize),
-        Place::Cpu(cpu) if cpu < script.cpus => Some(timers + cpu as usize),
-        Place::Actor(actor) if actor < actor_count(script) => Some(timers + cpus + actor as usize),
-        _ => None,
+    if place_exists(script, place) {
+        Some(place_index(script, place))
+    } else {
+        None
     }
 }
 
@@ -117,7 +104,7 @@ impl<'a> Sections<'a> {
         ensures empty { IfOk result (λ sections. HasTold sections []) }
     {
         let pages = all_opened(alloc, script)?;
-        let counts = zeros(alloc, actor_count(script))?;
+        let counts = Seq::filled(alloc, actor_count(script) as usize, 0_u64)?.into_vec();
         Ok(Sections {
             script,
             pages,

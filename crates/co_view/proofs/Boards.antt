@@ -1,5 +1,5 @@
 -- What a board says of its lines, and what the code keeps of an order that is being made.
-use Rattle.std.proofs.Common.{◌≡◌, ℕ, zero, suc, ◌+◌, ◌<◌, ◌≤◌, ◌==◌, ◌&&◌, Bool, true, false, inl, inr, set, get_or, List, [], ◌∷◌, ◌++◌, length, take, refl, ap, sym, subst, ◌∙◌, arith}
+use Rattle.std.proofs.Common.{◌≡◌, ℕ, zero, suc, ◌+◌, ◌^◌, ◌<◌, ◌≤◌, ◌==◌, ◌&&◌, Bool, true, false, inl, inr, set, get_or, List, [], ◌∷◌, ◌++◌, length, take, refl, ap, sym, subst, ◌∙◌, arith}
 use Rattle.std.specs.Prelude.{◌↔◌, IsTrue, Option, Some, None, slice_get, replicate}
 use Rattle.std.specs.List.{AllByRecursion}
 use Rattle.std.proofs.lemmas.Bool.{cases_lt}
@@ -9,6 +9,8 @@ use Rattle.std.proofs.lemmas.Option.{slice_get_within, get_or_from_slice_get, sl
 use Rattle.co_program.specs.declared.script.Script.{Script}
 use Rattle.co_program.specs.Actors.{actor_count}
 use Rattle.co_report.specs.Order.{place_index, place_count}
+use Rattle.co_program.specs.Scripts.{IsScript}
+use Rattle.co_program.proofs.Places.{index_fits}
 use Rattle.co_report.proofs.Places.{index_below}
 use Rattle.co_report.specs.declared.line.Line.{Line}
 use Rattle.co_check.specs.Lines.{AreLinesOf, IsLineOf}
@@ -37,6 +39,9 @@ actor_below s lines i l h e = (line_is s lines i l h e).actor
 
 pub place_below : (s : Script) (lines : List Line) (i : ℕ) (l : Line) → AreLinesOf s lines → slice_get lines i ≡ Some l → place_key s l < place_count s
 place_below s lines i l h e = index_below s l.place (line_is s lines i l h e).place
+
+pub place_fits : (s : Script) (lines : List Line) (i : ℕ) (l : Line) → IsScript s → AreLinesOf s lines → slice_get lines i ≡ Some l → place_index s l.place < 2 ^ 64
+place_fits s lines i l ok h e = index_fits s l.place ok (line_is s lines i l h e).place
 
 -- before the first note
 pub opened : (s : Script) (lines : List Line) (x : Merge) → x.numbers ≡ replicate (actor_count s) 0 → x.positions ≡ replicate (place_count s) 0 → x.come ≡ replicate (length lines) 0 → x.order ≡ [] → IsMerging s lines x

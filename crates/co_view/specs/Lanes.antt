@@ -16,7 +16,7 @@ use Rattle.co_program.specs.declared.script.Script.{Script}
 use Rattle.co_program.specs.Actors.{actor_count}
 use Rattle.co_grammar.specs.Spelling.{actor_word}
 use Rattle.co_report.specs.declared.line.Line.{Line}
-use Rattle.co_check.specs.Shown.{actor_of}
+use Rattle.co_object.specs.Lists.{actor_of}
 use Rattle.co_view.specs.declared.lanes.Focus.{Focus}
 use Rattle.co_view.specs.declared.lanes.Focus.TheVariants as focus
 use Rattle.co_view.specs.Words.{note_text}

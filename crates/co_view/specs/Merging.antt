@@ -5,7 +5,7 @@ use Rattle.co_program.specs.Scripts.{IsScript}
 use Rattle.co_report.specs.Order.{place_index, place_count}
 use Rattle.co_report.specs.declared.line.Line.{Line}
 use Rattle.co_check.specs.Lines.{AreLinesOf}
-use Rattle.co_check.specs.Shown.{actor_of}
+use Rattle.co_object.specs.Lists.{actor_of}
 use Rattle.co_program.specs.declared.script.Script.{Script}
 use Rattle.co_view.specs.declared.order.board.Board.{Board}
 use Rattle.co_view.specs.declared.order.merge.Merge.{Merge}

@@ -5,7 +5,7 @@ use Rattle.co_program.specs.declared.script.Script.{Script}
 use Rattle.co_report.specs.declared.line.Line.{Line}
 use Rattle.co_report.specs.Order.{place_index}
 use Rattle.co_check.specs.Numbers.{count_of}
-use Rattle.co_check.specs.Shown.{actor_of}
+use Rattle.co_object.specs.Lists.{actor_of}
 use Rattle.co_view.specs.declared.order.Ordered.{Ordered}
 use Rattle.co_view.specs.declared.order.Ordered.TheVariants.{Whole, Stuck}
 

@@ -13,7 +13,7 @@ use Rattle.co_program.specs.declared.script.Script.{Script}
 use Rattle.co_program.specs.Actors.{actor_count}
 use Rattle.co_grammar.specs.Spelling.{actor_word}
 use Rattle.co_report.specs.declared.line.Line.{Line}
-use Rattle.co_check.specs.Shown.{actor_of}
+use Rattle.co_object.specs.Lists.{actor_of}
 use Rattle.co_view.specs.declared.scene.Watch.{Watch}
 use Rattle.co_view.specs.Scenes.{watch_of}
 use Rattle.co_view.specs.Trace.{text_if, wakes}

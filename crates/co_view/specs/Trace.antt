@@ -15,8 +15,7 @@ use Rattle.co_program.specs.declared.script.Script.{Script}
 use Rattle.co_program.specs.Actors.{actor_count}
 use Rattle.co_grammar.specs.Spelling.{actor_word}
 use Rattle.co_report.specs.declared.line.Line.{Line}
-use Rattle.co_report.specs.NoteTexts.{entry_act}
-use Rattle.co_check.specs.Shown.{actor_of}
+use Rattle.co_object.specs.Lists.{act_of, actor_of}
 use Rattle.co_view.specs.declared.scene.Watch.{Watch}
 use Rattle.co_view.specs.Scenes.{armed_by, watch_of}
 use Rattle.co_view.specs.Words.{note_text}
@@ -111,7 +110,7 @@ effect_text step scene p entry = []
 abbrev pub note_event : (step : ℕ) → Line → List ℕ
 note_event step l = codes ",\n{\"ph\":\"X\",\"pid\":2,\"tid\":" ++ (at_text (actor_of l.entry) step
     ++ (codes ",\"dur\":1,\"name\":\"" ++ (note_text l.place l.entry
-    ++ (codes "\",\"args\":{\"line\":" ++ (decimal l.line ++ (codes ",\"act\":" ++ (decimal (entry_act l.entry) ++ codes "}}")))))))
+    ++ (codes "\",\"args\":{\"line\":" ++ (decimal l.line ++ (codes ",\"act\":" ++ (decimal (act_of l.entry) ++ codes "}}")))))))
 
 abbrev pub events : (step : ℕ) → List Watch → Line → List ℕ
 events step scene l = note_event step l ++ effect_text step scene l.place l.entry

@@ -9,7 +9,6 @@ ghost use Rattle.co_grammar.specs.Spelling.{actor_word};
 ghost use Rattle.co_view.specs.Rolls.{roll_text};
 ghost use Rattle.co_view.specs.Lanes.{asks_of, concerns, header_text, is_of_cpu, is_of_timer, lanes_text, passing, row_at, row_text, serves_on, shown_row, tells_of};
 
-use crate::actors::actor_of;
 use crate::roll::Roll;
 use crate::words::print_note;
 use co_grammar::actor_name;
@@ -124,7 +123,7 @@ fn print_row(page: &mut Page, line: &Line) -> Result<(), NoMemory>
 {
     page.number(line.line)?;
     page.text(b"\t".as_slice())?;
-    print_passing(page, actor_of(&line.entry))?;
+    print_passing(page, line.entry.actor())?;
     print_note(page, line.place, &line.entry)?;
     page.end()
 }

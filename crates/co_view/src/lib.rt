@@ -1,7 +1,6 @@
 //! Reports as one looks at them: all notes of a report in one order, and the texts that show them.
 #![tactic(auto)]
 
-mod actors;
 mod lanes;
 mod order;
 mod picture;

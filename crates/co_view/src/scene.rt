@@ -2,7 +2,6 @@
 ghost use Rattle.std.specs.Prelude.{◌≡◌, length, replicate, slice_set, IfOk, if◌then◌else◌};
 ghost use Rattle.co_view.specs.Scenes.{armed_by, armed_by_call, is_hold, is_wait, quiet, scene_after, scene_behind, serviced_by, since_by, waits_by, waits_by_call, watch_of, watched};
 
-use crate::order::counts::filled;
 use co_object::{AnyEntry, CallOp, Entry, Op, Place, PlainOp, Reply, RunOp};
 use co_report::Line;
 use co_sbt::{NoMemory, Seq};
@@ -154,7 +153,7 @@ pub(crate) fn watched(step: usize, watch: Watch, entry: &Entry) -> Watch
 pub(crate) fn opened(alloc: Global, timers: usize) -> Result<Seq<Watch>, NoMemory>
     ensures { IfOk result (λ scene. scene ≡ replicate timers quiet) }
 {
-    filled(alloc, timers, quiet())
+    Seq::filled(alloc, timers, quiet())
 }
 
 /// What is known of a callout; nothing of one that there is not.

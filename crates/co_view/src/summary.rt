@@ -5,7 +5,7 @@ ghost use Rattle.co_check.specs.Lines.{IsReport};
 ghost use Rattle.co_view.specs.Scenes.{watch_of};
 ghost use Rattle.co_view.specs.Summary.{cell_at, cell_text, coded_column, column_name, counted, fate_column, fates_text, is_open, more, noted, one_if, opened_tally, replaced_column, reply_column, row_text, stopped_column, summary_text, tally_entry, tally_of, tallied, timer_row, width};
 
-use crate::order::counts::{filled, raise};
+use crate::order::counts::raise;
 use crate::scene::{Watch, opened, take, watch_of, watched};
 use co_object::{AnyEntry, Entry, Place, Reply};
 use co_report::{Line, Report};
@@ -146,7 +146,7 @@ impl Tally {
         requires { timers ≤ 1024 }
         ensures { IfOk result (λ t. t ≡ opened_tally timers) }
     {
-        let counts = filled(alloc, (timers + 1) * WIDTH, 0_u64)?;
+        let counts = Seq::filled(alloc, (timers + 1) * WIDTH, 0_u64)?;
         let scene = opened(alloc, timers)?;
         Ok(Tally { counts, scene })
     }

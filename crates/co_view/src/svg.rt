@@ -5,7 +5,6 @@ ghost use Rattle.co_program.specs.Scripts.{IsScript};
 ghost use Rattle.co_program.specs.Actors.{actor_count};
 ghost use Rattle.co_view.specs.Svg.{arrow_text, bar_text, below_of, callout_marks, column_head, figure, foot_of, frame_text, is_end, legend_text, marks_of, point_head, point_text, style_text, x_of, y_of};
 
-use crate::actors::actor_of;
 use crate::scene::{Watch, watch_of};
 use crate::trace::wakes;
 use crate::words::print_note;
@@ -50,7 +49,7 @@ fn print_point(page: &mut Page, step: usize, line: u64, actor: u32) -> Result<()
 fn print_note_point(page: &mut Page, step: usize, line: &Line) -> Result<(), NoMemory>
     ensures { OnOk result (page.new ≡ page.old ++ point_text step line.now) }
 {
-    let actor = actor_of(&line.entry);
+    let actor = line.entry.actor();
     print_point(page, step, line.line, actor)?;
     page.tagged(
         b"\" r=\"3\"/><text x=\"".as_slice(),

@@ -5,7 +5,6 @@ ghost use Rattle.co_program.specs.Scripts.{IsScript};
 ghost use Rattle.co_program.specs.Actors.{actor_count};
 ghost use Rattle.co_view.specs.Trace.{actor_lane, begin_text, arming_text, armed_begin, armed_text, at_text, callout_text, doing_word, effect_text, end_text, ends_armed, events, flow_text, head_text, is_armed_reply, is_run, lane_head, note_event, opening_text, service_begin, service_text, text_if, timer_lane, timer_lanes, wait_text, wake_text, wakes};
 
-use crate::actors::{act_of, actor_of};
 use crate::scene::{Watch, armed_by, watch_of};
 use crate::words::print_note;
 use co_grammar::actor_name;
@@ -286,11 +285,11 @@ fn print_event(page: &mut Page, step: usize, line: &Line) -> Result<(), NoMemory
     ensures { OnOk result (page.new ≡ page.old ++ note_event step line.now) }
 {
     page.text(b",\n{\"ph\":\"X\",\"pid\":2,\"tid\":".as_slice())?;
-    print_at(page, u64::from(actor_of(&line.entry)), step)?;
+    print_at(page, u64::from(line.entry.actor()), step)?;
     page.text(b",\"dur\":1,\"name\":\"".as_slice())?;
     print_note(page, line.place, &line.entry)?;
     page.tagged(b"\",\"args\":{\"line\":".as_slice(), line.line)?;
-    page.tagged(b",\"act\":".as_slice(), act_of(&line.entry))?;
+    page.tagged(b",\"act\":".as_slice(), line.entry.act())?;
     page.text(b"}}".as_slice())
 }
 

@@ -4,13 +4,12 @@ ghost use Rattle.co_text.specs.Lines.{spaced};
 ghost use Rattle.co_text.specs.Written.{token_word, token_words};
 ghost use Rattle.co_report.specs.Reading.{joined};
 ghost use Rattle.co_view.specs.Seconds.{seconds_word};
-ghost use Rattle.co_view.specs.Words.{cpu_text, note_text, op_words, own_text, reply_words, queue_words, answer_words};
+ghost use Rattle.co_view.specs.Words.{cpu_text, note_text, op_words, own_text, place_number, reply_words, queue_words, answer_words};
 
 mod operation;
 mod queue;
 mod reply;
 
-use crate::actors::place_number;
 use crate::seconds::print_seconds;
 use co_object::{AnyEntry, Entry, OwnKind, Place, QEntry};
 use co_sbt::{NoMemory, Sbt};
@@ -18,6 +17,17 @@ use co_text::{Page, Token};
 use operation::print_op;
 use queue::{print_answer, print_queue_op};
 use reply::print_reply;
+
+/// The number of a place among those of its kind.
+fn place_number(place: Place) -> u32
+    ensures { result ≡ place_number place }
+{
+    match place {
+        Place::Timer(timer) => timer,
+        Place::Cpu(cpu) => cpu,
+        Place::Actor(actor) => actor,
+    }
+}
 
 /// Further words, `at` and a time.
 #[tactic(auto, using(crate::proofs::Pieces::more_at))]

@@ -5,18 +5,20 @@ use Rattle.std.specs.List.{list_any}
 use Rattle.std.proofs.lemmas.Bool.{eqb-true, eq-eqb}
 use Rattle.std.proofs.lemmas.List.{length-replicate, length-map, get_or-map, get_or-replicate}
 use Rattle.co_object.specs.declared.note.Note.{Note}
+use Rattle.co_object.specs.declared.spec.Spec.{Spec}
+use Rattle.co_object.specs.declared.spec.LockUse.TheVariants.{Free}
 use Rattle.co_object.specs.Queue.{empty_queue}
 use Rattle.co_queue.proofs.Standing.{stands_for-empty}
 use Rattle.co_program.specs.declared.script.Script.{Script}
 use Rattle.co_program.specs.Actors.{actor_count}
 use Rattle.co_world.specs.World.{open_world, all_actors}
 use Rattle.co_world.specs.Blocked.{is_moving}
-use Rattle.co_core.specs.Booted.{first_wheel, first_callouts, new_callout}
+use Rattle.co_wheel.specs.Callouts.{new_callout}
+use Rattle.co_core.specs.Booted.{first_wheel, first_callouts}
 use Rattle.co_core.specs.Stored.{Stored, no_wheel}
 use Rattle.co_world.specs.Step.{are_direct}
 use Rattle.co_core.specs.Table.{table}
 use Rattle.co_core.proofs.tables.Values.{table_long, table_at, fills, same}
-use Rattle.co_core.proofs.opening.Wheels.{plain_spec}
 use Rattle.co_world.specs.Placed.{IsPlaced, IsBound, slot_of, callout_in}
 use Rattle.co_core.specs.Stands.{IsWritten, IsStored, StandsFor, IsAtWheel, at_home, alone_of}
 use Rattle.co_object.specs.declared.state.Arming.{Arming}
@@ -65,6 +67,9 @@ none-any (x ∷ xs) = none-any xs
 
 still : (s : Script) (i : ℕ) → is_moving s (open_world s) i ≡ false
 still s i = none-any (all_actors s)
+
+abbrev plain_spec : Spec
+plain_spec = record { lock = Free; returns_unlocked = false; direct = false }
 
 -- where the callouts are before the first step
 callouts-home : (s : Script) (cpu : ℕ) → first_callouts s.timers cpu ≡ table (length s.timers) (at_home s (open_world s) cpu)

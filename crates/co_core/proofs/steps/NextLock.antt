@@ -22,7 +22,7 @@ use Rattle.co_program.specs.declared.action.Asked.TheVariants.{Itself}
 use Rattle.co_program.specs.Actors.{role_of, client_count, acts_at, program_of}
 use Rattle.co_program.specs.Stages.{Beginning}
 use Rattle.co_program.specs.Cursor.{Cursor}
-use Rattle.co_program.specs.Action.{Action, Nothing, Silent, Take, Asks, action_for, action_with, action_in, begins, locks, over, spec_at}
+use Rattle.co_program.specs.Action.{Take, Asks, action_for, action_with, action_in, begins, locks, over, spec_at}
 use Rattle.co_program.specs.Indexed.{cursor_of, stage_of}
 use Rattle.co_program.proofs.Remaining.{first_does}
 use Rattle.co_core.specs.Taking.{lock_of}

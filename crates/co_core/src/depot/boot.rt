@@ -2,10 +2,7 @@
 ghost use Rattle.std.specs.Prelude.{◌≡◌, ◌<◌, ◌++◌, ◌∷◌, [], None, length, map, replicate, IfOk, OnOk};
 ghost use Rattle.co_program.specs.Actors.{actor_count};
 ghost use Rattle.co_program.specs.Scripts.{IsScript};
-ghost use Rattle.co_queue.specs.Timers.{IsSize, IsWheel, empty_timers};
-ghost use Rattle.co_wheel.specs.Callouts.{empty_callouts};
-ghost use Rattle.co_wheel.specs.Cpu.{cpu_of};
-ghost use Rattle.co_core.specs.Booted.{first_wheel, new_callout};
+ghost use Rattle.co_core.specs.Booted.{first_wheel};
 ghost use Rattle.co_core.specs.Stands.{IsStored};
 ghost use Rattle.co_core.specs.Table.{table};
 ghost use Rattle.co_world.specs.World.{open_world};
@@ -14,50 +11,9 @@ use super::Depot;
 use co_bucket::WheelQueue;
 use co_object::Spec;
 use co_program::{Script, actor_count};
-use co_record::Record;
-use co_sbt::{NoMemory, Seq};
+use co_sbt::NoMemory;
 use co_wheel::{Parcel, Wheel};
 use std::alloc::{AllocError, Global};
-
-/// Which of the callouts are direct.
-fn directs(alloc: Global, specs: &[Spec]) -> Result<Seq<bool>, NoMemory>
-    ensures { IfOk result (λ directs. directs ≡ map (λ spec. spec.direct) specs.now) }
-{
-    let mut directs = Seq::new(alloc);
-    for spec in specs {
-        directs.push(spec.direct)?;
-    }
-    Ok(directs)
-}
-
-/// The wheel of a CPU at which no callout is.
-fn empty_wheel(
-    alloc: Global,
-    cpu: u32,
-    size: u32,
-    buckets: u32,
-    direct: &[bool],
-) -> Result<Wheel<WheelQueue>, NoMemory>
-    requires size { IsSize size }
-    requires buckets { IsWheel buckets }
-    requires direct { length direct.now ≡ size }
-    ensures { IfOk result (λ wheel. wheel ≡ cpu_of (empty_callouts cpu size) (empty_timers size buckets direct.now)) }
-{
-    let queue = WheelQueue::new(alloc, size, buckets, direct)?;
-    Wheel::new(alloc, cpu, size, queue)
-}
-
-/// All callouts come to a wheel at which none is.
-fn put_all(wheel: &mut Wheel<WheelQueue>, specs: &[Spec])
-    requires empty { wheel.old.callouts.here ≡ replicate (length specs.now) None }
-    requires few { length specs.now < 1025 }
-    requires direct { wheel.old.timers.direct ≡ map (λ spec. spec.direct) specs.now }
-    ensures { wheel.new ≡ record wheel.old { callouts = record wheel.old.callouts { here = map new_callout specs.now } } }
-{
-    for (i, spec) in specs.iter().enumerate() {
-        wheel.put(Record::new(i as u32, *spec, 0));
-    }
-}
 
 /// The wheel of a CPU before the first step: all callouts begin at CPU 0.
 fn first_wheel(
@@ -71,9 +27,11 @@ fn first_wheel(
     ensures { IfOk result (λ wheel. wheel ≡ first_wheel script.now cpu) }
 {
     let specs = script.timers.as_slice();
-    let mut wheel = empty_wheel(alloc, cpu, specs.len() as u32, script.buckets, direct)?;
+    let size = specs.len() as u32;
+    let queue = WheelQueue::new(alloc, size, script.buckets, direct)?;
+    let mut wheel = Wheel::new(alloc, cpu, size, queue)?;
     if cpu == 0 {
-        put_all(&mut wheel, specs);
+        wheel.put_all(specs);
     }
     Ok(wheel)
 }
@@ -130,7 +88,7 @@ impl Depot {
         requires { IsScript script.now }
         ensures { IfOk result (λ depot. IsStored script.now depot (open_world script.now)) }
     {
-        let direct = directs(alloc, script.timers.as_slice())?;
+        let direct = Spec::directs(alloc, script.timers.as_slice())?;
         let wheels = first_wheels(alloc, script, direct.as_slice())?;
         let bags = empty_bags(alloc, actor_count(script) as usize)?;
         let Ok(stands) = zeros(alloc, script.timers.as_slice().len()) else {

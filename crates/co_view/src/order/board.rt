@@ -2,12 +2,10 @@
 ghost use Rattle.std.specs.Prelude.{◌≡◌, IfOk};
 ghost use Rattle.co_check.specs.Lines.{AreLinesOf};
 ghost use Rattle.co_program.specs.Scripts.{IsScript};
-ghost use Rattle.co_report.specs.Order.{place_count};
 ghost use Rattle.co_view.specs.Merging.{AreRanks, IsBoard};
 
-use crate::actors::place_index;
-use crate::order::counts::{filled, raise};
-use co_program::{Script, actor_count};
+use crate::order::counts::raise;
+use co_program::{Script, place_count, place_index};
 use co_report::Line;
 use co_sbt::{NoMemory, Seq};
 use std::alloc::Global;
@@ -41,21 +39,13 @@ impl<'a> Board<'a> {
     }
 }
 
-/// How many places a report of the script has.
-pub(crate) fn place_count(script: &Script) -> usize
-    requires { IsScript script.now }
-    ensures { result ≡ place_count script.now }
-{
-    script.timers.as_slice().len() + script.cpus as usize + actor_count(script) as usize
-}
-
 /// How many lines of its place stand above each line.
 fn ranks_of(alloc: Global, script: &Script, lines: &[Line]) -> Result<Seq<u64>, NoMemory>
     requires script { IsScript script.now }
     requires lines { AreLinesOf script.now lines.now }
     ensures { IfOk result (AreRanks script.now lines.now) }
 {
-    let mut counts = filled(alloc, place_count(script), 0_u64)?;
+    let mut counts = Seq::filled(alloc, place_count(script), 0_u64)?;
     let mut ranks = Seq::new(alloc);
     for line in lines {
         let place = place_index(script, line.place);

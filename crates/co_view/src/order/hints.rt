@@ -1,8 +1,7 @@
 //! Where the next note of an actor stands. No contract rests on it: whoever is sent somewhere looks whether the note there may come.
 ghost use Rattle.co_program.specs.Scripts.{IsScript};
 
-use crate::actors::actor_of;
-use crate::order::counts::{filled, raise};
+use crate::order::counts::raise;
 use co_program::{Script, actor_count};
 use co_report::Line;
 use co_sbt::{NoMemory, Seq};
@@ -32,15 +31,15 @@ impl Hints {
     pub(crate) fn new(alloc: Global, script: &Script, lines: &[Line]) -> Result<Hints, NoMemory>
         requires { IsScript script.now }
     {
-        let mut counts = filled(alloc, actor_count(script) as usize, 0_u64)?;
+        let mut counts = Seq::filled(alloc, actor_count(script) as usize, 0_u64)?;
         for line in lines {
-            let actor = actor_of(&line.entry) as usize;
+            let actor = line.entry.actor() as usize;
             if actor < counts.as_slice().len() {
                 raise(&mut counts, actor)?;
             }
         }
         let starts = starts_of(alloc, counts.as_slice())?;
-        let slots = filled(alloc, lines.len(), lines.len())?;
+        let slots = Seq::filled(alloc, lines.len(), lines.len())?;
         let mut hints = Hints { starts, slots };
         hints.fill(lines);
         Ok(hints)
@@ -49,7 +48,7 @@ impl Hints {
     fn fill(&mut self, lines: &[Line]) {
         for i in 0..lines.len() {
             let line = &lines[i];
-            if let Some(slot) = self.slot(actor_of(&line.entry), line.number) {
+            if let Some(slot) = self.slot(line.entry.actor(), line.number) {
                 if slot < self.slots.as_slice().len() {
                     self.slots.replace(slot, i);
                 }
@@ -77,7 +76,7 @@ impl Hints {
     fn next(&self, lines: &[Line], index: usize) -> Option<usize> {
         let line = lines.get(index)?;
         let number = line.number.checked_add(1)?;
-        let slot = self.slot(actor_of(&line.entry), number)?;
+        let slot = self.slot(line.entry.actor(), number)?;
         self.slots.as_slice().get(slot).copied()
     }
 }

@@ -3,10 +3,9 @@ ghost use Rattle.std.specs.Prelude.{◌≡◌, ◌<◌, ◌+◌, ◌++◌, ◌�
 ghost use Rattle.co_view.specs.Merging.{IsBoard, IsMerging, left_of};
 ghost use Rattle.co_view.specs.Order.{MayCome, is_next};
 
-use crate::actors::{actor_of, place_index};
-use crate::order::board::{Board, place_count};
-use crate::order::counts::{filled, raise};
-use co_program::actor_count;
+use crate::order::board::Board;
+use crate::order::counts::raise;
+use co_program::{actor_count, place_count, place_index};
 use co_report::Line;
 use co_sbt::{NoMemory, Seq};
 use std::alloc::Global;
@@ -38,9 +37,9 @@ impl Merge {
         requires { IsBoard board.now }
         ensures { IfOk result (IsMerging board.now.script.now board.now.lines.now) }
     {
-        let numbers = filled(alloc, actor_count(board.script) as usize, 0_u64)?;
-        let positions = filled(alloc, place_count(board.script), 0_u64)?;
-        let come = filled(alloc, board.lines.len(), 0_u64)?;
+        let numbers = Seq::filled(alloc, actor_count(board.script) as usize, 0_u64)?;
+        let positions = Seq::filled(alloc, place_count(board.script), 0_u64)?;
+        let come = Seq::filled(alloc, board.lines.len(), 0_u64)?;
         Ok(Merge {
             numbers,
             positions,
@@ -57,7 +56,7 @@ impl Merge {
         ensures { result ≡ is_next board.now.script.now board.now.lines.now self.now.order i line.now }
     {
         let come = self.come.as_slice()[i];
-        let number = self.numbers.as_slice()[actor_of(&line.entry) as usize];
+        let number = self.numbers.as_slice()[line.entry.actor() as usize];
         let position = self.positions.as_slice()[place_index(board.script, line.place)];
         let rank = board.ranks.as_slice()[i];
         fits(come, line.number, number, rank, position)
@@ -85,7 +84,7 @@ impl Merge {
         ensures left { OnOk result (left_of self.new < left_of self.old) }
     {
         let line = &board.lines[i];
-        raise(&mut self.numbers, actor_of(&line.entry) as usize)?;
+        raise(&mut self.numbers, line.entry.actor() as usize)?;
         raise(&mut self.positions, place_index(board.script, line.place))?;
         raise(&mut self.come, i)?;
         self.order.push(i)

@@ -1,4 +1,4 @@
-use Rattle.std.proofs.Common.{◌≡◌, ◌∙◌, subst, sym, inl, refl, arith}
+use Rattle.std.proofs.Common.{◌∙◌, subst, inl, refl, arith}
 use Rattle.co_core.specs.Resting.{IsKnown}
 use Rattle.co_core.specs.Telling.{GoesOn}
 use Rattle.co_world.specs.Walk.{round, rounds}

@@ -1,13 +1,22 @@
-use Rattle.std.proofs.Common.{◌<◌, ◌∷◌, [], ◌++◌, get_or, replicate, ap, ◌∙◌, arith}
+use Rattle.std.proofs.Common.{◌<◌, ◌^◌, ◌∷◌, [], ◌++◌, get_or, replicate, ap, sym, subst, ◌∙◌, arith}
 use Rattle.std.specs.Prelude.{ℕ, List}
 use Rattle.std.proofs.lemmas.Option.{slice_get-get_or}
 use Rattle.co_report.specs.Order.{place_count, place_index}
 use Rattle.co_report.specs.declared.line.Line.{Line}
-use Rattle.co_view.proofs.Boards.{place_below, ranking_all, ranking_more, ranking_none}
+use Rattle.co_view.proofs.Boards.{place_below, place_fits, ranking_all, ranking_more, ranking_none}
 use Rattle.co_view.proofs.order.board.ranks_of.Goals as goal
 
 pub loop-line-init : goal.loop-line-init
 loop-line-init c = ranking_none c.args.script.now c.args.lines.now _ _ (c.in_ok-counts.ensures ∙ ap (λ (n : ℕ). replicate n 0) c.place_count.ensures) c.new-ranks.ensures
+
+pub place_index-place-requires : goal.place_index-place-requires
+place_index-place-requires c =
+    let s = c.args.script.now in
+    let lines = c.args.lines.now in
+    let i = c.loop-line.line-index in
+    let l = get_or lines i c.line-item.result in
+    let at = slice_get-get_or lines i c.line-item.result c.loop-line-test.true in
+    subst (λ (m : Line). place_index s m.place < 2 ^ 64) (sym c.line-item.is) (place_fits s lines i l c.requires.script c.requires.lines at)
 
 pub loop-line-preserved : goal.loop-line-preserved
 loop-line-preserved c =
