@@ -7,9 +7,6 @@ ghost use Rattle.co_packed.specs.Rows.{flags, flagged_bytes, row_bytes, flagged_
 use crate::numbers::{number_at, push_number};
 use co_sbt::{NoMemory, Seq};
 
-/// How many numbers a row has.
-pub(crate) const NUMBERS: usize = 16;
-
 /// Which of the numbers are not 0. The lowest bit is the first number's.
 #[tactic(auto, using(crate::proofs::Flagged::flags_before, crate::proofs::Flagged::flags_none, crate::proofs::Flagged::flags_low))]
 fn flags_of(numbers: &[u64]) -> u32
