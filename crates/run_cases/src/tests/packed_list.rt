@@ -223,13 +223,13 @@ struct Making {
 
 impl Making {
     /// Adds an entry at each kind of place.
-    fn add(&mut self, entry: AnyEntry) -> Result<(), NoMemory> {
+    fn add(&mut self, entry: &AnyEntry) -> Result<(), NoMemory> {
         let Numbers { long, short, .. } = self.numbers;
         for place in [Place::Timer(short), Place::Cpu(short), Place::Actor(short)] {
             self.notes.push(Note {
                 place,
                 pos: long,
-                entry,
+                entry: *entry,
             })?;
         }
         Ok(())
@@ -238,7 +238,7 @@ impl Making {
     /// Adds an entry of a callout.
     fn add_timer(&mut self, op: Op, reply: Reply) -> Result<(), NoMemory> {
         let Numbers { long, short, .. } = self.numbers;
-        self.add(AnyEntry::Timer(Entry {
+        self.add(&AnyEntry::Timer(Entry {
             actor: short,
             act: long,
             op,
@@ -264,7 +264,6 @@ impl Making {
     /// Adds replies with numbers, and the ends of services.
     fn add_replies(&mut self, time: Sbt) -> Result<(), NoMemory> {
         let numbers = self.numbers;
-        let stop = Op::Call(CallOp::Plain(PlainOp::Stop));
         let next = Next {
             n: numbers.long,
             cpu: numbers.short,
@@ -272,7 +271,7 @@ impl Making {
         };
         for off in [None, Some(numbers.short)] {
             for reply in replies(&numbers, off) {
-                self.add_timer(stop, reply)?;
+                self.add_timer(Op::Call(CallOp::Plain(PlainOp::Stop)), reply)?;
             }
             for (next, woke) in [
                 (None, false),
@@ -281,7 +280,10 @@ impl Making {
                 (Some(next), true),
             ] {
                 let drain = off;
-                self.add_timer(stop, Reply::Ended { drain, next, woke })?;
+                self.add_timer(
+                    Op::Call(CallOp::Plain(PlainOp::Stop)),
+                    Reply::Ended { drain, next, woke },
+                )?;
             }
         }
         Ok(())
@@ -296,7 +298,7 @@ impl Making {
             ..
         } = numbers;
         for (op, reply) in queue_entries(&numbers, time) {
-            self.add(AnyEntry::Cpu(QEntry {
+            self.add(&AnyEntry::Cpu(QEntry {
                 actor,
                 act,
                 op,
@@ -304,7 +306,7 @@ impl Making {
             }))?;
         }
         for kind in OWN {
-            self.add(AnyEntry::Own(OwnEntry { actor, act, kind }))?;
+            self.add(&AnyEntry::Own(OwnEntry { actor, act, kind }))?;
         }
         Ok(())
     }
