@@ -20,7 +20,7 @@ use Rattle.co_program.specs.Follows.{one_scan, scan_count}
 use Rattle.co_program.specs.Runs.{actors_of, are_direct}
 use Rattle.co_check.specs.declared.cpu.CpuQueue.{CpuQueue}
 use Rattle.co_report.specs.declared.line.Line.{Line}
-use Rattle.co_check.specs.declared.replay.Fact.{Fact}
+use Rattle.co_check.specs.Facts.{Fact}
 use Rattle.co_check.specs.declared.replay.Replay.{Replay}
 use Rattle.co_check.specs.declared.verdict.Unfit.{Unfit}
 use Rattle.co_check.specs.Cpu.{IsFor, IsOutcome}
@@ -137,5 +137,5 @@ scans-few cpu (l ∷ ls) = at_entry (queue_entry cpu l.place l.entry) (scans-few
   at_entry (Some e) rest = omega (arith, rest, one_scan-few e.op)
 
 -- the count of Scans has room for one more
-pub room : (s : Script) (above : List Line) (r : Replay) (cpu scans : ℕ) (op : QOp) → IsAfter s above r → length above < lines_max → cpu < s.cpus → scans ≡ get_or r.scans.items cpu 0 → scans + one_scan op < 2 ^ 32
+pub room : (s : Script) (above : List Line) (r : Replay) (cpu scans : ℕ) (op : QOp) → IsAfter s above r → length above < lines_max → cpu < s.cpus → scans ≡ get_or r.scans.items cpu 0 → scans + one_scan op < 2 ^ 31
 room s above r cpu scans op h few below count = omega (arith, scans-few cpu above, one_scan-few op, h.scans cpu below)

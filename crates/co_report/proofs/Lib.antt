@@ -33,3 +33,5 @@ mod ReadRows
 mod NoteHeads
 mod LinesEnded
 mod LineByLine
+mod LinesPacked
+mod ReadPacked
