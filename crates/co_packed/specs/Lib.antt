@@ -6,3 +6,11 @@ pub mod Parts
 pub mod Unpacked
 -- what their types say of the values of notes
 pub mod Typed
+-- the bytes of a number
+pub mod Numbers
+-- the bytes of a row of numbers
+pub mod Rows
+-- the note that numbers stand for
+pub mod Numbered
+-- rows one behind another
+pub mod Stored

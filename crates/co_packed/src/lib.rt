@@ -1,11 +1,15 @@
 //! Notes in few bytes.
 #![tactic(auto)]
 
+mod kind_numbers;
 mod kinds;
+mod note_numbers;
 mod notes;
+mod numbers;
 mod operations;
 mod packed;
 mod replies;
+mod rows;
 mod typed;
 mod words;
 

@@ -1,27 +1,101 @@
 //! A growing list of notes in few bytes.
-ghost use Rattle.std.specs.Prelude.{◌≡◌, ◌<◌, [], ◌∷◌, ◌++◌, OnOk, OnErr, Some, length, slice_get};
+ghost use Rattle.std.specs.Prelude.{◌≡◌, ◌+◌, ◌/◌, ◌<◌, ◌≤◌, [], ◌∷◌, ◌++◌, OnOk, OnErr, Some, length, slice_get};
+ghost use Rattle.co_packed.specs.Rows.{row_in, after_row};
+ghost use Rattle.co_packed.specs.Stored.{after_rows, marked, start_of, rest_at};
 
-use crate::packed::PackedNote;
+use crate::note_numbers::{note_of, numbers_of};
+use crate::rows::{row_at, write_row};
 use co_object::Note;
 use co_sbt::{NoMemory, Seq};
 use std::alloc::Global;
 use std::marker::Model;
 
-/// A growing list of notes, of which a usual one takes 20 to 25 bytes.
+/// A growing list of notes. A usual note takes 20 to 25 bytes, where a [`PackedNote`](crate::PackedNote) has 88: only its
+/// numbers that are not 0 are there, in as many bytes as they need.
+///
+/// A note takes as many bytes as it needs, so the list keeps where each sixteenth one starts, half a byte a note. A reader
+/// goes on from there by the notes' lengths.
 ///
 /// Contracts see the notes.
 #[derive(Drop)]
 pub struct PackedNotes {
-    notes: Seq<PackedNote>,
+    bytes: Seq<u8>,
+    starts: Seq<usize>,
+    count: usize,
+    /// The bytes of the note that comes next, kept so that their memory is taken once.
+    next: Seq<u8>,
 }
 
 impl Model for PackedNotes {
-    ghost use Rattle.std.specs.Prelude.{List};
+    ghost use Rattle.std.specs.Prelude.{List, map};
     ghost use Rattle.co_object.specs.declared.note.Note.{Note};
+    ghost use Rattle.co_packed.specs.Numbered.{numbered_note};
+    ghost use Rattle.co_packed.specs.Stored.{rows_in, IsStored};
 
     ghost Value = { List Note };
 
-    ghost view = { λ s. s.notes };
+    ghost view = { λ s. map numbered_note (rows_in s.count s.bytes) };
+
+    ghost invariant = { λ s. IsStored s.bytes s.starts s.count };
+}
+
+/// Notes down that the next row starts at `end`, where it is a sixteenth one. After `NoMemory` the list is as before.
+#[tactic(auto, unfolding(crate::specs::Stored::marked))]
+fn mark(starts: &mut Seq<usize>, count: usize, end: usize) -> Result<(), NoMemory>
+    ensures ok { OnOk result (starts.new ≡ marked starts.old count end) }
+    ensures err { OnErr result (starts.new ≡ starts.old) }
+{
+    if count / 16 < starts.as_slice().len() {
+        return Ok(());
+    }
+    starts.push(end)
+}
+
+/// The bytes after the row that they begin with.
+fn after_row(bytes: &[u8]) -> &[u8]
+    ensures { result.now ≡ after_row bytes.now }
+{
+    match bytes {
+        [] => bytes,
+        [after, rest @ ..] => {
+            let after = usize::from(*after);
+            if after <= rest.len() {
+                &rest[after..]
+            } else {
+                &[]
+            }
+        }
+    }
+}
+
+/// The bytes after so many rows.
+fn after_rows(bytes: &[u8], count: usize) -> &[u8]
+    ensures { result.now ≡ after_rows count bytes.now }
+{
+    let mut rest = bytes;
+    for _at in 0..count {
+        rest = after_row(rest);
+    }
+    rest
+}
+
+/// One note more. There are fewer notes than bytes of them, so their number fits.
+fn one_more(count: usize, end: usize) -> usize
+    requires { count ≤ end / 3 }
+    ensures { result ≡ count + 1 }
+{
+    count + 1
+}
+
+/// The row at `at`, by the start before it.
+fn row_on(bytes: &[u8], starts: &[usize], at: usize) -> [u64; 16]
+    requires marked { at / 16 < length starts.now }
+    requires within { start_of starts.now at ≤ length bytes.now }
+    requires there { 3 ≤ length (rest_at bytes.now starts.now at) }
+    ensures { result ≡ row_in (rest_at bytes.now starts.now at) }
+{
+    let rest = &bytes[starts[at / 16]..];
+    row_at(after_rows(rest, at % 16))
 }
 
 impl PackedNotes {
@@ -30,7 +104,10 @@ impl PackedNotes {
         ensures { result ≡ [] }
     {
         PackedNotes {
-            notes: Seq::new(alloc),
+            bytes: Seq::new(alloc),
+            starts: Seq::new(alloc),
+            count: 0,
+            next: Seq::new(alloc),
         }
     }
 
@@ -39,14 +116,20 @@ impl PackedNotes {
         ensures ok { OnOk result (self.new ≡ self.old ++ note.now ∷ []) }
         ensures err { OnErr result (self.new ≡ self.old) }
     {
-        self.notes.push(PackedNote::of(note))
+        let end = self.bytes.as_slice().len();
+        let count = one_more(self.count, end);
+        write_row(&mut self.next, &numbers_of(note))?;
+        mark(&mut self.starts, self.count, end)?;
+        self.bytes.extend_from_slice(self.next.as_slice())?;
+        self.count = count;
+        Ok(())
     }
 
     /// How many notes there are.
     pub fn len(&self) -> usize
         ensures { result ≡ length self.now }
     {
-        self.notes.as_slice().len()
+        self.count
     }
 
     /// The note at `at`, counted from 0.
@@ -54,6 +137,7 @@ impl PackedNotes {
         requires { at < length self.now }
         ensures { slice_get self.now at ≡ Some result }
     {
-        self.notes.as_slice()[at].note()
+        let row = row_on(self.bytes.as_slice(), self.starts.as_slice(), at);
+        note_of(&row)
     }
 }

@@ -49,12 +49,12 @@ impl Model for PackedNote {
 }
 
 /// An entry in kinds and numbers.
-struct EntryParts {
-    actor: u32,
-    act: u64,
-    sort: Sort,
-    op: OpWords,
-    reply: ReplyWords,
+pub(crate) struct EntryParts {
+    pub(crate) actor: u32,
+    pub(crate) act: u64,
+    pub(crate) sort: Sort,
+    pub(crate) op: OpWords,
+    pub(crate) reply: ReplyWords,
 }
 
 /// An entry of a callout in kinds and numbers.
@@ -88,7 +88,7 @@ fn cpu_parts(entry: &QEntry) -> EntryParts
 }
 
 /// An entry of any history in kinds and numbers.
-fn entry_parts(entry: &AnyEntry) -> EntryParts
+pub(crate) fn entry_parts(entry: &AnyEntry) -> EntryParts
     ensures { entry_of result.sort result.actor result.act result.op result.reply ≡ entry.now }
 {
     match entry {
@@ -105,7 +105,13 @@ fn entry_parts(entry: &AnyEntry) -> EntryParts
 }
 
 /// The entry of this sort, by this actor in this act.
-fn entry_of(sort: Sort, actor: u32, act: u64, op: &OpWords, reply: &ReplyWords) -> AnyEntry
+pub(crate) fn entry_of(
+    sort: Sort,
+    actor: u32,
+    act: u64,
+    op: &OpWords,
+    reply: &ReplyWords,
+) -> AnyEntry
     ensures { result ≡ entry_of sort actor act op.now reply.now }
 {
     match sort {
@@ -126,7 +132,7 @@ fn entry_of(sort: Sort, actor: u32, act: u64, op: &OpWords, reply: &ReplyWords) 
 }
 
 /// A place as its kind and its number.
-fn place_parts(place: Place) -> (Whose, u32)
+pub(crate) fn place_parts(place: Place) -> (Whose, u32)
     ensures { place_of result.0 result.1 ≡ place }
 {
     match place {
@@ -137,7 +143,7 @@ fn place_parts(place: Place) -> (Whose, u32)
 }
 
 /// The place of this kind and of this number.
-fn place_of(whose: Whose, number: u32) -> Place
+pub(crate) fn place_of(whose: Whose, number: u32) -> Place
     ensures { result ≡ place_of whose number }
 {
     match whose {

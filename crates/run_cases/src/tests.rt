@@ -2,6 +2,7 @@
 mod crowd;
 mod held;
 mod packed;
+mod packed_list;
 mod ports;
 mod running;
 mod scene;

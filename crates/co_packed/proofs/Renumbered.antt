@@ -1,0 +1,50 @@
+-- The note whose numbers they are.
+use Rattle.std.proofs.Common.{ℕ, ◌≡◌, ◌<◌, ◌+◌, ◌*◌, ◌/◌, ◌%◌, ◌^◌, List, [], ◌∷◌, refl, arith}
+use Rattle.co_object.specs.declared.note.Note.{Note}
+use Rattle.co_packed.specs.declared.kinds.Sort.{Sort}
+use Rattle.co_packed.specs.declared.kinds.Whose.{Whose}
+use Rattle.co_packed.specs.declared.words.OpWords.{OpWords}
+use Rattle.co_packed.specs.declared.words.ReplyWords.{ReplyWords}
+use Rattle.co_packed.specs.Numbered.{sort_at, whose_at, code_at, short_at, time_at, op_words_at, reply_words_at, numbered_note}
+use Rattle.co_packed.specs.Parts.{entry_of, place_of}
+
+short_again : (n : ℕ) → n < 2 ^ 32 → short_at n ≡ n
+unfolding short_at
+short_again n h = omega arith
+
+time_again : (n : ℕ) → n < 2 ^ 63 → time_at n ≡ n
+unfolding time_at
+time_again n h = omega arith
+
+-- what the numbers of an operation and of a reply are below
+pub record OpFits (w : OpWords) : Type 0 where
+  pub time : w.time < 2 ^ 63
+  pub prec : w.prec < 2 ^ 63
+  pub number : w.number < 2 ^ 32
+  pub cpu : w.cpu < 2 ^ 32
+
+pub record ReplyFits (w : ReplyWords) : Type 0 where
+  pub time : w.time < 2 ^ 63
+  pub number : w.number < 2 ^ 32
+  pub off : w.off < 2 ^ 32
+
+op_words_again : (w : OpWords) (a b c d e f : ℕ) (rest : List ℕ) → OpFits w → op_words_at (a ∷ b ∷ c ∷ d ∷ e ∷ f ∷ w.time ∷ w.prec ∷ w.word ∷ w.number ∷ w.cpu ∷ rest) ≡ w
+unfolding op_words_at
+op_words_again w a b c d e f rest h = rw (time_again w.time h.time, time_again w.prec h.prec, short_again w.number h.number, short_again w.cpu h.cpu) refl
+
+reply_words_again : (w : ReplyWords) (a b c d e f g h i j k code : ℕ) → ReplyFits w → code_at code ≡ w.code → reply_words_at (a ∷ b ∷ c ∷ d ∷ e ∷ f ∷ g ∷ h ∷ i ∷ j ∷ k ∷ w.time ∷ w.word ∷ code ∷ w.number ∷ w.off ∷ []) ≡ w
+unfolding reply_words_at
+reply_words_again w a b c d e f g h i j k code fits is = rw (time_again w.time fits.time, is, short_again w.number fits.number, short_again w.off fits.off) refl
+
+pub note_again : (note : Note) (whose : Whose) (sort : Sort) (op : OpWords) (reply : ReplyWords) (w k answer act place actor code : ℕ)
+    → k < 27 → whose_at w ≡ whose → sort_at k answer ≡ sort → code_at code ≡ reply.code
+    → place < 2 ^ 32 → actor < 2 ^ 32 → OpFits op → ReplyFits reply
+    → place_of whose place ≡ note.place → entry_of sort actor act op reply ≡ note.entry
+    → numbered_note ((32 * w + k) ∷ answer ∷ note.pos ∷ act ∷ place ∷ actor ∷ op.time ∷ op.prec ∷ op.word ∷ op.number ∷ op.cpu ∷ reply.time ∷ reply.word ∷ code ∷ reply.number ∷ reply.off ∷ []) ≡ note
+unfolding numbered_note
+note_again note whose sort op reply w k answer act place actor code few whose_is sort_is code_is place_fits actor_fits op_fits reply_fits at said =
+    let high : (32 * w + k) / 32 ≡ w = omega arith in
+    let low : (32 * w + k) % 32 ≡ k = omega arith in
+    let op_is = op_words_again op (32 * w + k) answer note.pos act place actor (reply.time ∷ reply.word ∷ code ∷ reply.number ∷ reply.off ∷ []) op_fits in
+    let reply_is = reply_words_again reply (32 * w + k) answer note.pos act place actor op.time op.prec op.word op.number op.cpu code reply_fits code_is in
+    rw (op_is, reply_is, high, low, whose_is, sort_is, short_again place place_fits, short_again actor actor_fits, at, said) refl
