@@ -2,10 +2,15 @@
 use Rattle.std.proofs.Common.{◌≡◌, ℕ, zero, suc, ◌+◌, List, [], ◌∷◌, refl, ap, subst, arith}
 use Rattle.std.specs.Prelude.{Some, None, slice_get}
 use Rattle.co_object.specs.declared.note.Note.{Note}
+use Rattle.co_object.specs.declared.Entry.{Entry}
+use Rattle.co_object.specs.declared.QEntry.{QEntry}
+use Rattle.co_object.specs.declared.Place.TheVariants as place
+use Rattle.co_object.specs.declared.AnyEntry.{AnyEntry}
+use Rattle.co_object.specs.declared.AnyEntry.TheVariants as of
 use Rattle.co_program.specs.declared.script.Script.{Script}
 use Rattle.co_report.specs.declared.line.Line.{Line}
 use Rattle.co_report.specs.PackedLines.{line_of}
-use Rattle.co_check.specs.Lines.{AreLinesOf, IsLineOf}
+use Rattle.co_check.specs.Lines.{AreLinesOf, IsLineOf, IsOfKind}
 use Rattle.co_check.specs.Slots.{slot_in}
 use Rattle.co_check.proofs.Taking.{some-is}
 
@@ -30,3 +35,15 @@ slot-taken (suc n) line h = let e : n ≡ line = omega (arith, h) in ap Some e
 pub slot-free : (above : ℕ) → above ≡ 0 → slot_in above ≡ None
 slot-free zero h = refl
 slot-free (suc n) h = absurd (omega (arith, h))
+
+-- ---- the kind of a place
+
+pub not-timer : (i : ℕ) (e : AnyEntry) → IsOfKind (place.Timer i) e → ((x : Entry) → e ≡ of.Timer x → ⊥) → ⊥
+not-timer i (of.Timer x) h other = other x refl
+not-timer i (of.Cpu x) h other = h
+not-timer i (of.Own x) h other = h
+
+pub not-cpu : (cpu : ℕ) (e : AnyEntry) → IsOfKind (place.Cpu cpu) e → ((x : QEntry) → e ≡ of.Cpu x → ⊥) → ⊥
+not-cpu cpu (of.Timer x) h other = h
+not-cpu cpu (of.Cpu x) h other = other x refl
+not-cpu cpu (of.Own x) h other = h

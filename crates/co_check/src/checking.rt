@@ -1,12 +1,13 @@
 //! The verdict on a report.
-ghost use Rattle.std.specs.Prelude.{◌≡◌, ◌||◌, not, map, IfOk};
+ghost use Rattle.std.specs.Prelude.{◌≡◌, ◌≤◌, ◌||◌, not, length, map, IfOk};
 ghost use Rattle.co_program.specs.Actors.{actor_count};
+ghost use Rattle.co_program.specs.Scripts.{IsScript};
 ghost use Rattle.co_check.specs.Astray.{seen};
 ghost use Rattle.co_check.specs.Index.{IsIndexed};
-ghost use Rattle.co_check.specs.Lines.{IsReport};
+ghost use Rattle.co_check.specs.Lines.{AreLinesOf, IsReport, lines_max};
 ghost use Rattle.co_check.specs.Numbers.{AreCounts};
 ghost use Rattle.co_check.specs.Replayed.{fact_of};
-ghost use Rattle.co_check.specs.Verdict.{verdict, verdict_at_end, verdict_by_numbers, verdict_by_programs};
+ghost use Rattle.co_check.specs.Verdict.{verdict, verdict_at_end, verdict_by_numbers, verdict_by_programs, verdict_of};
 
 use crate::fact::PackedFact;
 use crate::index::{Index, Indexed, index_all};

@@ -127,10 +127,11 @@ impl Replay {
         requires after { (above : List Line) × IsAfter script.now above self.old × (length above < lines_max) }
         ensures { (line : ℕ) (above : List Line) → IsAfter script.now above self.old → IsTaken script.now above (line_of line note.now) result self.new }
     {
+        let nothing = PackedFact::new(false, 0);
         match (note.place, &note.entry) {
             (Place::Timer(i), AnyEntry::Timer(entry)) => self.take_timer(script, i, entry),
             (Place::Cpu(cpu), AnyEntry::Cpu(entry)) => self.take_cpu(script, cpu, entry),
-            _ => Ok(PackedFact::new(false, 0)),
+            _ => Ok(nothing),
         }
     }
 

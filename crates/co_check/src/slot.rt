@@ -13,7 +13,8 @@ pub(crate) struct Slot {
 }
 
 impl Model for Slot {
-    ghost use Rattle.std.specs.Prelude.{ℕ, Option, ap};
+    ghost use Rattle.std.proofs.Common.{ap};
+    ghost use Rattle.std.specs.Prelude.{ℕ, Option};
     ghost use Rattle.co_check.specs.Slots.{above_of, slot_back, slot_in};
 
     ghost Value = { Option ℕ };

@@ -1,5 +1,5 @@
 -- One line more is replayed and counted.
-use Rattle.std.proofs.Common.{ℕ, ◌+◌, ◌<◌, List, [], ◌++◌, ◌∷◌, map, length, take, drop, refl, ap, sym, subst, ◌∙◌, append_assoc, arith}
+use Rattle.std.proofs.Common.{ℕ, ◌+◌, ◌<◌, List, [], ◌++◌, ◌∷◌, map, length, take, drop, ap, sym, subst, ◌∙◌, append_assoc, arith}
 use Rattle.std.specs.Prelude.{Some}
 use Rattle.std.proofs.lemmas.List.{length-take-le}
 use Rattle.co_program.specs.declared.script.Script.{Script}
@@ -24,15 +24,15 @@ loop-at-preserved c =
     let s = c.args.script.now in
     let lines = c.args.lines.now in
     let i = c.loop-at.at in
-    let l = line_of c.note.ensures.0 c.note.result in
-    let here = c.note.ensures.1 in
-    let taken = c.in-Ok.ensures c.note.ensures.0 (take i lines) c.loop-at.invariant.after in
+    let l = line_of c.note-note.ensures.0 c.note-note.result in
+    let here = c.note-note.ensures.1 in
+    let taken = c.in-Ok.ensures c.note-note.ensures.0 (take i lines) c.loop-at.invariant.after in
     record {
       after = subst (λ above. IsAfter s above c.take.new.self) (sym (front lines i l here)) taken.1;
       rest = c.loop-at.invariant.rest ∙ first-on (λ above x. unfit_at s above x.place x.entry) lines i l here taken.0;
       counted =
           subst (λ above. AreCounts (actor_count s) above c.count_note.new.counts.items) (sym (front lines i l here))
-          (c.count_note.ensures (actor_count s) c.note.ensures.0 (take i lines) c.loop-at.invariant.counted);
+          (c.count_note.ensures (actor_count s) c.note-note.ensures.0 (take i lines) c.loop-at.invariant.counted);
       facts =
           ap (λ xs. xs ++ map fact_of (rest s lines i)) c.in_ok-push-in-Ok.ensures.ok
           ∙ (append_assoc c.loop-at.facts (c.in-Ok.fact ∷ []) (map fact_of (rest s lines i))
@@ -46,15 +46,15 @@ take-requires-clause-after c =
     (take c.loop-at.at c.args.lines.now, c.loop-at.invariant.after, few)
 
 pub take-requires-clause-line : goal.take-requires-clause-line
-take-requires-clause-line c = fits-at c.args.script.now c.args.lines.now c.loop-at.at c.note.ensures.0 c.note.result c.requires.lines c.note.ensures.1
+take-requires-clause-line c = fits-at c.args.script.now c.args.lines.now c.loop-at.at c.note-note.ensures.0 c.note-note.result c.requires.lines c.note-note.ensures.1
 
 pub returns-in-Err : goal.returns-in-Err
 returns-in-Err c =
     let s = c.args.script.now in
     let lines = c.args.lines.now in
     let i = c.loop-at.at in
-    let l = line_of c.note.ensures.0 c.note.result in
-    let here = c.note.ensures.1 in
+    let l = line_of c.note-note.ensures.0 c.note-note.result in
+    let here = c.note-note.ensures.1 in
     c.loop-at.invariant.rest
-    ∙ (first-at (λ above x. unfit_at s above x.place x.entry) lines i l here c.in-Err.cause (c.in-Err.ensures c.note.ensures.0 (take i lines) c.loop-at.invariant.after)
+    ∙ (first-at (λ above x. unfit_at s above x.place x.entry) lines i l here c.in-Err.cause (c.in-Err.ensures c.note-note.ensures.0 (take i lines) c.loop-at.invariant.after)
     ∙ ap (λ line. Some (record { line = line; cause = c.in-Err.cause })) (sym (c.number.ensures l here)))
