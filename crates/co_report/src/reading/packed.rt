@@ -13,7 +13,7 @@ use co_text::ScriptFault;
 use std::alloc::Global;
 use std::marker::Model;
 
-/// What a report says, in few bytes: a `Report` takes 160 for each note line, and this one some 25.
+/// What a report says, in few bytes: a `Report` takes 168 for each note line, and this one some 25.
 ///
 /// Contracts see the report. Our own decision.
 #[derive(Drop)]
