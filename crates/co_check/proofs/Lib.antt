@@ -2,6 +2,7 @@ pub mod Rows
 pub mod Along
 pub mod Opening
 pub mod Numbering
+pub mod Noted
 pub mod Numbered
 pub mod Indexing
 pub mod ByActor

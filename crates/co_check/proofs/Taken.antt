@@ -20,7 +20,7 @@ use Rattle.co_program.specs.Follows.{one_scan, scan_count}
 use Rattle.co_program.specs.Runs.{actors_of, are_direct}
 use Rattle.co_check.specs.declared.cpu.CpuQueue.{CpuQueue}
 use Rattle.co_report.specs.declared.line.Line.{Line}
-use Rattle.co_check.specs.declared.replay.Fact.{Fact}
+use Rattle.co_check.specs.Facts.{Fact}
 use Rattle.co_check.specs.declared.replay.Replay.{Replay}
 use Rattle.co_check.specs.declared.verdict.Unfit.{Unfit}
 use Rattle.co_check.specs.Cpu.{IsFor, IsOutcome}
@@ -45,11 +45,11 @@ refused-callout s above l i e r before after cause p q h at is = unfit-callout s
 
 pub taken-callout : (s : Script) (above : List Line) (l : Line) (i : ℕ) (e : Entry) (r : Replay) (before after : Alone) (listed : Bool) → l.place ≡ place.Timer i → l.entry ≡ of.Timer e → IsAfter s above r
     → slice_get r.callouts.items i ≡ Some before → IsCalloutTaken (actors_of s) before e (Ok listed) after
-    → (new : Replay) → new.callouts.items ≡ set r.callouts.items i after → new.cpus.items ≡ r.cpus.items → new.scans.items ≡ r.scans.items → IsTaken s above l (Ok (fact listed 0)) new
-taken-callout s above l i e r before after listed p q h at is new callouts cpus scans = (
+    → (f : Fact) → f ≡ fact listed 0 → (new : Replay) → new.callouts.items ≡ set r.callouts.items i after → new.cpus.items ≡ r.cpus.items → new.scans.items ≡ r.scans.items → IsTaken s above l (Ok f) new
+taken-callout s above l i e r before after listed p q h at is f f_is new callouts cpus scans = (
   unfit-callout s above l i e before p q (h.callout i before at) ∙ is.0,
   then,
-  ap (λ b. fact b 0) (is.2 ∙ (ap (λ (x : Alone). is_some (off x.state)) now ∙ ap (is_listed s (above ++ l ∷ [])) (sym p))) ∙ ap (fact (is_listed s (above ++ l ∷ []) l.place)) (ap (scans_of above) (sym p)),
+  f_is ∙ (ap (λ b. fact b 0) (is.2 ∙ (ap (λ (x : Alone). is_some (off x.state)) now ∙ ap (is_listed s (above ++ l ∷ [])) (sym p))) ∙ ap (fact (is_listed s (above ++ l ∷ []) l.place)) (ap (scans_of above) (sym p))),
 )
   where
     then : IsAfter s (above ++ l ∷ []) new
@@ -72,11 +72,11 @@ refused-queue s above l cpu e r before after cause p q h at is = unfit-queue s a
 pub taken-queue : (s : Script) (above : List Line) (l : Line) (cpu : ℕ) (e : QEntry) (r : Replay) (before after : CpuQueue) (scans : ℕ) → l.place ≡ place.Cpu cpu → l.entry ≡ of.Cpu e → IsAfter s above r → cpu < s.cpus
     → slice_get r.cpus.items cpu ≡ Some before → after.queue.size ≡ before.queue.size → after.queue.buckets ≡ before.queue.buckets → after.queue.direct ≡ before.queue.direct
     → IsQueueTaken (actors_of s) cpu before.queue.buckets before.queue.direct (queue_after s above cpu) e (Ok tt) after → scans ≡ get_or r.scans.items cpu 0
-    → (new : Replay) → new.cpus.items ≡ set r.cpus.items cpu after → new.callouts.items ≡ r.callouts.items → new.scans.items ≡ set r.scans.items cpu (scans + one_scan e.op) → IsTaken s above l (Ok (fact false scans)) new
-taken-queue s above l cpu e r before after scans p q h below at size buckets direct is count new cpus callouts scans_are = (
+    → (f : Fact) → f ≡ fact false scans → (new : Replay) → new.cpus.items ≡ set r.cpus.items cpu after → new.callouts.items ≡ r.callouts.items → new.scans.items ≡ set r.scans.items cpu (scans + one_scan e.op) → IsTaken s above l (Ok f) new
+taken-queue s above l cpu e r before after scans p q h below at size buckets direct is count f f_is new cpus callouts scans_are = (
   unfit-queue s above l cpu e before p q (h.cpu cpu before at) ∙ is.0,
   after-queue s above l cpu e r before after scans p q h below at size buckets direct is.1 count new cpus callouts scans_are,
-  ap (fact false) (count ∙ (h.scans cpu below ∙ ap (scans_of above) (sym p))) ∙ ap (λ b. fact b (scans_of above l.place)) (ap (is_listed s (above ++ l ∷ [])) (sym p)),
+  f_is ∙ (ap (fact false) (count ∙ (h.scans cpu below ∙ ap (scans_of above) (sym p))) ∙ ap (λ b. fact b (scans_of above l.place)) (ap (is_listed s (above ++ l ∷ [])) (sym p))),
 )
 
 -- ---- a note of an actor's own
@@ -97,11 +97,11 @@ module _ (a : ℕ) where
   fit-own s above (of.Cpu x) = refl
   fit-own s above (of.Own x) = refl
 
-pub taken-own : (s : Script) (above : List Line) (l : Line) (a : ℕ) (r : Replay) → l.place ≡ place.Actor a → IsAfter s above r → IsTaken s above l (Ok (fact false 0)) r
-taken-own s above l a r p h = (
+pub taken-own : (s : Script) (above : List Line) (l : Line) (a : ℕ) (r : Replay) → l.place ≡ place.Actor a → IsAfter s above r → (f : Fact) → f ≡ fact false 0 → IsTaken s above l (Ok f) r
+taken-own s above l a r p h f f_is = (
   ap (λ x. unfit_at s above x l.entry) p ∙ fit-own a s above l.entry,
   after-other s above l r (λ i. ap (λ x. callout_entry i x l.entry) p ∙ no_callout-own a i l.entry) (λ cpu. ap (λ x. queue_entry cpu x l.entry) p ∙ no_queue-own a cpu l.entry) h,
-  ap (λ b. fact b 0) (ap (is_listed s (above ++ l ∷ [])) (sym p)) ∙ ap (fact (is_listed s (above ++ l ∷ []) l.place)) (ap (scans_of above) (sym p)),
+  f_is ∙ (ap (λ b. fact b 0) (ap (is_listed s (above ++ l ∷ [])) (sym p)) ∙ ap (fact (is_listed s (above ++ l ∷ []) l.place)) (ap (scans_of above) (sym p))),
 )
 
 -- ---- a CPU's queue
@@ -137,5 +137,5 @@ scans-few cpu (l ∷ ls) = at_entry (queue_entry cpu l.place l.entry) (scans-few
   at_entry (Some e) rest = omega (arith, rest, one_scan-few e.op)
 
 -- the count of Scans has room for one more
-pub room : (s : Script) (above : List Line) (r : Replay) (cpu scans : ℕ) (op : QOp) → IsAfter s above r → length above < lines_max → cpu < s.cpus → scans ≡ get_or r.scans.items cpu 0 → scans + one_scan op < 2 ^ 32
+pub room : (s : Script) (above : List Line) (r : Replay) (cpu scans : ℕ) (op : QOp) → IsAfter s above r → length above < lines_max → cpu < s.cpus → scans ≡ get_or r.scans.items cpu 0 → scans + one_scan op < 2 ^ 31
 room s above r cpu scans op h few below count = omega (arith, scans-few cpu above, one_scan-few op, h.scans cpu below)

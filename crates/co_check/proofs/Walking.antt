@@ -13,7 +13,7 @@ use Rattle.co_program.specs.Cursor.{Cursor}
 use Rattle.co_program.specs.Indexed.{cursor_of}
 use Rattle.co_program.specs.Follows.{past, settled}
 use Rattle.co_report.specs.declared.line.Line.{Line}
-use Rattle.co_check.specs.declared.replay.Fact.{Fact}
+use Rattle.co_check.specs.Facts.{Fact}
 use Rattle.co_check.specs.Astray.{Seen, seen_at, seen_from, seen, is_next, goes_on, first_astray, place_after}
 use Rattle.co_check.specs.Replayed.{fact_of}
 use Rattle.co_check.specs.Walked.{by_row, IsQuietStep, IsNoteWalked}

@@ -24,6 +24,10 @@ pub mod Programs
 pub mod Runs
 -- a CPU's queue in code: for which plain queues it stands, and how it answers
 pub mod Cpu
+-- what is said of a line besides what it shows, as the code keeps it
+pub mod Facts
+-- which line has a note, as the code keeps it
+pub mod Slots
 -- what the code keeps of the lines above: callouts, queues, Scans
 pub mod Replayed
 -- what the code keeps of the numbers above: which line has each note, the highest in each place

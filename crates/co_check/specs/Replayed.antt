@@ -17,7 +17,7 @@ use Rattle.co_program.specs.Follows.{scan_count}
 use Rattle.co_program.specs.Runs.{are_direct}
 use Rattle.co_check.specs.declared.cpu.CpuQueue.{CpuQueue}
 use Rattle.co_report.specs.declared.line.Line.{Line}
-use Rattle.co_check.specs.declared.replay.Fact.{Fact}
+use Rattle.co_check.specs.Facts.{Fact}
 use Rattle.co_check.specs.declared.replay.Replay.{Replay}
 use Rattle.co_check.specs.declared.replay.Replayed.{Replayed}
 use Rattle.co_check.specs.declared.replay.Replayed.TheVariants.{Fits, Bad as BadLine}

@@ -1,19 +1,21 @@
 //! The verdict on a report.
-ghost use Rattle.std.specs.Prelude.{◌≡◌, ◌||◌, not, map, IfOk};
+ghost use Rattle.std.specs.Prelude.{◌≡◌, ◌≤◌, ◌||◌, not, length, map, IfOk};
 ghost use Rattle.co_program.specs.Actors.{actor_count};
+ghost use Rattle.co_program.specs.Scripts.{IsScript};
 ghost use Rattle.co_check.specs.Astray.{seen};
 ghost use Rattle.co_check.specs.Index.{IsIndexed};
-ghost use Rattle.co_check.specs.Lines.{IsReport};
+ghost use Rattle.co_check.specs.Lines.{AreLinesOf, IsReport, lines_max};
 ghost use Rattle.co_check.specs.Numbers.{AreCounts};
 ghost use Rattle.co_check.specs.Replayed.{fact_of};
-ghost use Rattle.co_check.specs.Verdict.{verdict, verdict_at_end, verdict_by_numbers, verdict_by_programs};
+ghost use Rattle.co_check.specs.Verdict.{verdict, verdict_at_end, verdict_by_numbers, verdict_by_programs, verdict_of};
 
+use crate::fact::PackedFact;
 use crate::index::{Index, Indexed, index_all};
-use crate::replay::{Fact, Replayed, replay_all};
+use crate::replay::{Replayed, replay_all};
 use crate::verdict::{Unfit, Verdict};
 use crate::walk::{Walked, is_finished, walk};
-use co_program::actor_count;
-use co_report::Report;
+use co_program::{Script, actor_count};
+use co_report::{PackedLines, PackedReport, Report};
 use co_sbt::NoMemory;
 use std::alloc::Global;
 
@@ -28,9 +30,34 @@ pub fn check(alloc: Global, report: &Report) -> Result<Verdict, NoMemory>
     requires { IsReport report.now }
     ensures { IfOk result (λ found. found ≡ verdict report.now) }
 {
-    match replay_all(alloc, &report.script, report.lines.as_slice())? {
+    let lines = PackedLines::of(alloc, report.lines.as_slice())?;
+    check_lines(alloc, &report.script, &lines, report.end)
+}
+
+/// The verdict on a report in few bytes, as `check` gives it.
+pub fn check_packed(alloc: Global, report: &PackedReport) -> Result<Verdict, NoMemory>
+    requires { IsReport report.now }
+    ensures { IfOk result (λ found. found ≡ verdict report.now) }
+{
+    check_lines(alloc, report.script(), report.lines(), report.end())
+}
+
+/// The verdict on the lines of a report.
+fn check_lines(
+    alloc: Global,
+    script: &Script,
+    lines: &PackedLines,
+    end: u64,
+) -> Result<Verdict, NoMemory>
+    requires script { IsScript script.now }
+    requires lines { AreLinesOf script.now lines.now }
+    requires few { length lines.now ≤ lines_max }
+    ensures { IfOk result (λ found. found ≡ verdict_of script.now lines.now end) }
+{
+    match replay_all(alloc, script, lines)? {
         Replayed::Fits { facts, counts } => {
-            check_numbers(alloc, report, facts.as_slice(), counts.as_slice())
+            let facts = facts.as_slice();
+            check_numbers(alloc, script, lines, end, facts, counts.as_slice())
         }
         Replayed::Bad { line, cause } => Ok(Verdict::Not { line, cause }),
     }
@@ -39,17 +66,21 @@ pub fn check(alloc: Global, report: &Report) -> Result<Verdict, NoMemory>
 /// The verdict where the histories are possible.
 fn check_numbers(
     alloc: Global,
-    report: &Report,
-    facts: &[Fact],
+    script: &Script,
+    lines: &PackedLines,
+    end: u64,
+    facts: &[PackedFact],
     counts: &[u32],
 ) -> Result<Verdict, NoMemory>
-    requires report { IsReport report.now }
-    requires facts { facts.now ≡ map fact_of (seen report.now.script report.now.lines) }
-    requires counts { AreCounts (actor_count report.now.script) report.now.lines counts.now }
-    ensures { IfOk result (λ found. found ≡ verdict_by_numbers report.now.script report.now.lines report.now.end) }
+    requires script { IsScript script.now }
+    requires lines { AreLinesOf script.now lines.now }
+    requires few { length lines.now ≤ lines_max }
+    requires facts { facts.now ≡ map fact_of (seen script.now lines.now) }
+    requires counts { AreCounts (actor_count script.now) lines.now counts.now }
+    ensures { IfOk result (λ found. found ≡ verdict_by_numbers script.now lines.now end) }
 {
-    match index_all(alloc, &report.script, report.lines.as_slice(), counts)? {
-        Indexed::Fits(index) => Ok(check_programs(report, facts, &index)),
+    match index_all(alloc, script, lines, counts)? {
+        Indexed::Fits(index) => Ok(check_programs(script, lines, end, facts, &index)),
         Indexed::Bad { line } => Ok(Verdict::Not {
             line,
             cause: Unfit::Number,
@@ -58,14 +89,19 @@ fn check_numbers(
 }
 
 /// The verdict where the numbers are right too.
-fn check_programs(report: &Report, facts: &[Fact], index: &Index) -> Verdict
-    requires report { IsReport report.now }
-    requires facts { facts.now ≡ map fact_of (seen report.now.script report.now.lines) }
-    requires index { IsIndexed report.now.script report.now.lines report.now.lines index.now }
-    ensures { result ≡ verdict_by_programs report.now.script report.now.lines report.now.end }
+fn check_programs(
+    script: &Script,
+    lines: &PackedLines,
+    end: u64,
+    facts: &[PackedFact],
+    index: &Index,
+) -> Verdict
+    requires script { IsScript script.now }
+    requires few { length lines.now ≤ lines_max }
+    requires facts { facts.now ≡ map fact_of (seen script.now lines.now) }
+    requires index { IsIndexed script.now lines.now lines.now index.now }
+    ensures { result ≡ verdict_by_programs script.now lines.now end }
 {
-    let script = &report.script;
-    let lines = report.lines.as_slice();
     let mut unfinished = false;
     for actor in 0..actor_count(script) {
         match walk(script, actor, index.row(actor), lines, facts) {
@@ -81,7 +117,7 @@ fn check_programs(report: &Report, facts: &[Fact], index: &Index) -> Verdict
             }
         }
     }
-    at_end(unfinished, report.end)
+    at_end(unfinished, end)
 }
 
 /// Whether an actor's program goes on, after one more.

@@ -5,13 +5,16 @@ ghost use Rattle.co_program.specs.declared.script.Script.{Script};
 ghost use Rattle.co_program.specs.Scripts.{IsScript};
 ghost use Rattle.co_report.specs.Order.{place_index, place_count};
 ghost use Rattle.co_report.specs.declared.line.Line.{Line};
+ghost use Rattle.co_report.specs.PackedLines.{line_of};
 ghost use Rattle.co_check.specs.Index.{AreIndexed, AreSlots, IsIndexed, IsNumbered, IsPut, IsRaised};
 ghost use Rattle.co_check.specs.Lines.{AreLinesOf, IsLineOf, lines_max};
 ghost use Rattle.co_check.specs.Numbers.{AreCounts};
 ghost use Rattle.co_check.specs.Shown.{actor_of};
 
+use crate::slot::Slot;
+use co_object::Note;
 use co_program::{Script, actor_count, place_count, place_index};
-use co_report::Line;
+use co_report::PackedLines;
 use co_sbt::{NoMemory, Seq};
 use std::alloc::Global;
 
@@ -19,7 +22,7 @@ use std::alloc::Global;
 #[derive(Drop)]
 pub(crate) struct Index {
     /// By actor and number: which line has the note.
-    slots: Vec<Vec<Option<u32>>>,
+    slots: Vec<Vec<Slot>>,
     /// By place and actor: a number above those of the actor's notes there.
     latest: Vec<Vec<u64>>,
 }
@@ -37,7 +40,7 @@ pub(crate) enum Indexed {
 pub(crate) fn index_all(
     alloc: Global,
     script: &Script,
-    lines: &[Line],
+    lines: &PackedLines,
     counts: &[u32],
 ) -> Result<Indexed, NoMemory>
     requires script { IsScript script.now }
@@ -48,9 +51,11 @@ pub(crate) fn index_all(
 {
     let mut index = Index::open(alloc, script, counts)?;
     for i in 0..lines.len() {
-        let line = &lines[i];
-        if !index.take(script, line, i as u32) {
-            return Ok(Indexed::Bad { line: line.line });
+        let note = lines.note(i);
+        if !index.take(script, &note, i as u32) {
+            return Ok(Indexed::Bad {
+                line: lines.number(i),
+            });
         }
     }
     Ok(Indexed::Fits(index))
@@ -58,7 +63,7 @@ pub(crate) fn index_all(
 
 impl Index {
     /// Which line has the actor's note of each number.
-    pub(crate) fn row(&self, actor: u32) -> &[Option<u32>]
+    pub(crate) fn row(&self, actor: u32) -> &[Slot]
         requires { actor < length self.now.slots.items }
         ensures { (s : Script) (lines : List Line) (above : List Line) → IsIndexed s lines above self.now → AreSlots lines above actor result.now }
     {
@@ -71,7 +76,7 @@ impl Index {
         requires { IsScript script.now }
         ensures { IfOk result (λ index. (lines : List Line) → AreCounts (actor_count script.now) lines counts.now → IsIndexed script.now lines [] index) }
     {
-        let slots = rows_of(alloc, counts, None)?;
+        let slots = rows_of(alloc, counts, Slot::free())?;
         let widths = Seq::filled(alloc, place_count(script), actor_count(script))?;
         let latest = rows_of(alloc, widths.as_slice(), 0)?;
         Ok(Index { slots, latest })
@@ -79,33 +84,34 @@ impl Index {
 
     /// Takes the number of the next line, the one at `at` of all. False where something is wrong with it; then the index is
     /// of no more use.
-    fn take(&mut self, script: &Script, line: &Line, at: u32) -> bool
+    fn take(&mut self, script: &Script, note: &Note, at: u32) -> bool
         requires script { IsScript script.now }
-        requires line { IsLineOf script.now line.now }
+        requires line { IsLineOf script.now (line_of 0 note.now) }
         requires indexed { (lines : List Line) × (above : List Line) × IsIndexed script.now lines above self.old × (length lines ≤ lines_max) }
-        ensures { (lines : List Line) (above : List Line) → at ≡ length above → IsIndexed script.now lines above self.old → IsNumbered script.now lines above line.now result self.new }
+        requires at { at < lines_max }
+        ensures { (line : ℕ) (lines : List Line) (above : List Line) → at ≡ length above → IsIndexed script.now lines above self.old → IsNumbered script.now lines above (line_of line note.now) result self.new }
     {
-        let actor = line.entry.actor() as usize;
+        let actor = note.entry.actor() as usize;
         let row = &mut self.slots[actor];
-        if !put(row, line.number, at) {
+        if !put(row, note.pos, at) {
             return false;
         }
-        let place = place_index(script, line.place);
+        let place = place_index(script, note.place);
         let high = &mut self.latest[place];
-        if !raise(high, actor, line.number) {
+        if !raise(high, actor, note.pos) {
             return false;
         }
         true
     }
 }
 
-/// Counts a line, for the actor that made it.
-pub(crate) fn count_line(counts: &mut Vec<u32>, line: &Line)
-    requires actor { actor_of line.now.entry < length counts.old.items }
+/// Counts a note, for the actor that made it.
+pub(crate) fn count_note(counts: &mut Vec<u32>, note: &Note)
+    requires actor { actor_of note.now.entry < length counts.old.items }
     requires counted { (above : List Line) × AreCounts (length counts.old.items) above counts.old.items × (length above < lines_max) }
-    ensures { (actors : ℕ) (above : List Line) → AreCounts actors above counts.old.items → AreCounts actors (above ++ line.now ∷ []) counts.new.items }
+    ensures { (actors : ℕ) (line : ℕ) (above : List Line) → AreCounts actors above counts.old.items → AreCounts actors (above ++ line_of line note.now ∷ []) counts.new.items }
 {
-    let actor = line.entry.actor() as usize;
+    let actor = note.entry.actor() as usize;
     counts[actor] += 1;
 }
 
@@ -122,16 +128,18 @@ fn rows_of<T: Copy + Drop>(alloc: Global, lengths: &[u32], item: T) -> Result<Ve
 }
 
 /// Puts a line where its number belongs, if nothing is there yet.
-fn put(row: &mut Vec<Option<u32>>, number: u64, line: u32) -> bool
+fn put(row: &mut Vec<Slot>, number: u64, line: u32) -> bool
+    requires { line < lines_max }
     ensures { IsPut row.old.items number line result row.new.items }
 {
-    match row.get(number as usize) {
-        Some(None) => {
-            row[number as usize] = Some(line);
-            true
-        }
-        _ => false,
+    let Some(slot) = row.get(number as usize) else {
+        return false;
+    };
+    if slot.line().is_some() {
+        return false;
     }
+    row[number as usize] = Slot::taken(line);
+    true
 }
 
 /// Notes the number of an actor's last note, if it is above those before.

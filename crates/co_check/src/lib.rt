@@ -5,12 +5,14 @@ mod actors;
 mod asking;
 mod checking;
 mod cpu;
+mod fact;
 mod index;
 pub mod laws;
 mod replay;
 mod same;
+mod slot;
 mod verdict;
 mod walk;
 
-pub use checking::check;
+pub use checking::{check, check_packed};
 pub use verdict::{Unfit, Verdict};

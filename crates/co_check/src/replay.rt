@@ -1,5 +1,5 @@
 //! The histories of timers and CPUs, line by line.
-ghost use Rattle.std.specs.Prelude.{◌≡◌, ◌<◌, ◌≤◌, ◌++◌, ◌∷◌, [], List, is_some, length, map, replicate, IfOk};
+ghost use Rattle.std.specs.Prelude.{◌≡◌, ℕ, ◌<◌, ◌≤◌, ◌++◌, ◌∷◌, [], List, is_some, length, map, replicate, IfOk};
 ghost use Rattle.co_object.specs.Callout.{opening};
 ghost use Rattle.co_object.specs.declared.Place.TheVariants as places;
 ghost use Rattle.co_object.specs.declared.AnyEntry.TheVariants as of;
@@ -8,29 +8,22 @@ ghost use Rattle.co_program.specs.Follows.{one_scan};
 ghost use Rattle.co_program.specs.Runs.{actors_of, are_direct};
 ghost use Rattle.co_program.specs.Scripts.{IsScript};
 ghost use Rattle.co_report.specs.declared.line.Line.{Line};
+ghost use Rattle.co_report.specs.PackedLines.{line_of};
 ghost use Rattle.co_check.specs.Cpu.{IsFor, NamesCallout, empty_cpu};
 ghost use Rattle.co_check.specs.Lines.{AreLinesOf, IsLineOf, lines_max};
 ghost use Rattle.co_check.specs.Replayed.{IsAfter, IsCalloutTaken, IsQueueTaken, IsReplayed, IsTaken, opened};
 
 use crate::actors::{may_serve, may_work};
 use crate::cpu::CpuQueue;
-use crate::index::count_line;
+use crate::fact::PackedFact;
+use crate::index::count_note;
 use crate::same::{same_answer, same_reply};
 use crate::verdict::Unfit;
-use co_object::{Alone, AnyEntry, Arming, Entry, Place, QEntry, QOp, Run, Spec, State};
+use co_object::{Alone, AnyEntry, Arming, Entry, Note, Place, QEntry, QOp, Run, Spec, State};
 use co_program::{Script, actor_count};
-use co_report::Line;
+use co_report::PackedLines;
 use co_sbt::{NoMemory, Seq};
 use std::alloc::Global;
-
-/// What the lines of its place say of a line, up to it.
-#[derive(Clone, Copy)]
-pub(crate) struct Fact {
-    /// Its callout stands in a queue once the note is made.
-    pub listed: bool,
-    /// How many Scans stand above it in its CPU's journal.
-    pub scans: u32,
-}
 
 /// Each callout and each CPU after the lines so far.
 #[derive(Drop)]
@@ -47,7 +40,7 @@ pub(crate) enum Replayed {
     /// Each is possible where it stands.
     Fits {
         /// What is said of each of them.
-        facts: Vec<Fact>,
+        facts: Vec<PackedFact>,
         /// By actor: how many of them it made.
         counts: Vec<u32>,
     },
@@ -62,7 +55,7 @@ pub(crate) enum Replayed {
 pub(crate) fn replay_all(
     alloc: Global,
     script: &Script,
-    lines: &[Line],
+    lines: &PackedLines,
 ) -> Result<Replayed, NoMemory>
     requires script { IsScript script.now }
     requires lines { AreLinesOf script.now lines.now }
@@ -94,7 +87,7 @@ impl Replay {
         &mut self,
         alloc: Global,
         script: &Script,
-        lines: &[Line],
+        lines: &PackedLines,
     ) -> Result<Replayed, NoMemory>
         requires script { IsScript script.now }
         requires lines { AreLinesOf script.now lines.now }
@@ -104,15 +97,16 @@ impl Replay {
     {
         let mut facts = Seq::new(alloc);
         let mut counts = Seq::filled(alloc, actor_count(script) as usize, 0)?.into_vec();
-        for line in lines {
-            match self.take(script, line) {
+        for at in 0..lines.len() {
+            let note = lines.note(at);
+            match self.take(script, &note) {
                 Ok(fact) => {
                     facts.push(fact)?;
-                    count_line(&mut counts, line);
+                    count_note(&mut counts, &note);
                 }
                 Err(cause) => {
                     return Ok(Replayed::Bad {
-                        line: line.line,
+                        line: lines.number(at),
                         cause,
                     });
                 }
@@ -124,38 +118,36 @@ impl Replay {
         })
     }
 
-    /// Takes the next line. Err says what is wrong with it; then the replay is of no more use.
-    pub(crate) fn take(&mut self, script: &Script, line: &Line) -> Result<Fact, Unfit>
+    /// Takes the note of the next line. Err says what is wrong with it; then the replay is of no more use.
+    pub(crate) fn take(&mut self, script: &Script, note: &Note) -> Result<PackedFact, Unfit>
         requires script { IsScript script.now }
-        requires line { IsLineOf script.now line.now }
+        requires line { IsLineOf script.now (line_of 0 note.now) }
         requires after { (above : List Line) × IsAfter script.now above self.old × (length above < lines_max) }
-        ensures { (above : List Line) → IsAfter script.now above self.old → IsTaken script.now above line.now result self.new }
+        ensures { (line : ℕ) (above : List Line) → IsAfter script.now above self.old → IsTaken script.now above (line_of line note.now) result self.new }
     {
-        match (line.place, &line.entry) {
+        let nothing = PackedFact::new(false, 0);
+        match (note.place, &note.entry) {
             (Place::Timer(i), AnyEntry::Timer(entry)) => self.take_timer(script, i, entry),
             (Place::Cpu(cpu), AnyEntry::Cpu(entry)) => self.take_cpu(script, cpu, entry),
-            _ => Ok(Fact {
-                listed: false,
-                scans: 0,
-            }),
+            _ => Ok(nothing),
         }
     }
 
     /// Takes the next entry of callout `i`.
-    fn take_timer(&mut self, script: &Script, i: u32, entry: &Entry) -> Result<Fact, Unfit>
+    fn take_timer(&mut self, script: &Script, i: u32, entry: &Entry) -> Result<PackedFact, Unfit>
         requires few { length script.now.clients ≤ 16 }
         requires i { i < length self.old.callouts.items }
         ensures { (above : List Line) (l : Line) → l.place ≡ places.Timer i → l.entry ≡ of.Timer entry.now → IsAfter script.now above self.old → IsTaken script.now above l result self.new }
     {
         let callout = &mut self.callouts[i as usize];
         match take_callout(script, callout, entry) {
-            Ok(listed) => Ok(Fact { listed, scans: 0 }),
+            Ok(listed) => Ok(PackedFact::new(listed, 0)),
             Err(cause) => Err(cause),
         }
     }
 
     /// Takes the next entry of a CPU's journal.
-    fn take_cpu(&mut self, script: &Script, cpu: u32, entry: &QEntry) -> Result<Fact, Unfit>
+    fn take_cpu(&mut self, script: &Script, cpu: u32, entry: &QEntry) -> Result<PackedFact, Unfit>
         requires few { length script.now.clients ≤ 16 }
         requires cpu { cpu < script.now.cpus }
         requires names { NamesCallout (length script.now.timers) entry.now.op }
@@ -167,10 +159,7 @@ impl Replay {
             Ok(()) => {
                 let scans = self.scans[cpu as usize];
                 self.scans[cpu as usize] = scans + one_scan(&entry.op);
-                Ok(Fact {
-                    listed: false,
-                    scans,
-                })
+                Ok(PackedFact::new(false, scans))
             }
             Err(cause) => Err(cause),
         }

@@ -5,6 +5,7 @@ ghost use Rattle.co_program.specs.Action.{action_for};
 ghost use Rattle.co_program.specs.Follows.{settled};
 ghost use Rattle.co_program.specs.Indexed.{Counts, IsCounted, cursor_of};
 ghost use Rattle.co_program.specs.Scripts.{IsScript};
+ghost use Rattle.co_report.specs.PackedLines.{line_of};
 ghost use Rattle.co_check.specs.Asking.{is_nothing};
 ghost use Rattle.co_check.specs.Astray.{is_next, seen};
 ghost use Rattle.co_check.specs.Lines.{lines_max};
@@ -12,11 +13,13 @@ ghost use Rattle.co_check.specs.Replayed.{fact_of};
 ghost use Rattle.co_check.specs.Walked.{IsActionAt, IsNoteWalked, IsQuietStep, IsWalked, by_row};
 
 use crate::asking::asks;
-use crate::replay::Fact;
+use crate::fact::PackedFact;
+use crate::slot::Slot;
+use co_object::Note;
 use co_program::{
     Action, Acts, Cursor, Role, Script, action_for, advance, go, role_of, scans_first,
 };
-use co_report::Line;
+use co_report::PackedLines;
 use co_sbt::Seq;
 
 /// Where an actor's notes lead.
@@ -32,9 +35,9 @@ pub(crate) enum Walked {
 pub(crate) fn walk(
     script: &Script,
     actor: u32,
-    row: &[Option<u32>],
-    lines: &[Line],
-    facts: &[Fact],
+    row: &[Slot],
+    lines: &PackedLines,
+    facts: &[PackedFact],
 ) -> Walked
     requires script { IsScript script.now }
     requires row { (k i : ℕ) → slice_get row.now k ≡ Some (Some i) → i < length lines.now }
@@ -44,30 +47,36 @@ pub(crate) fn walk(
 {
     let mut cursor = Cursor::start();
     for slot in row {
-        let Some(i) = *slot else {
+        let Some(i) = slot.line() else {
             continue;
         };
-        let line = &lines[i as usize];
-        if !walk_note(script, actor, &mut cursor, line, facts[i as usize]) {
-            return Walked::Astray(line.line);
+        let note = lines.note(i as usize);
+        if !walk_note(script, actor, &mut cursor, &note, &facts[i as usize]) {
+            return Walked::Astray(lines.number(i as usize));
         }
     }
     Walked::At(cursor)
 }
 
 /// Goes on past the actor's next note. False where the program doesn't give it.
-fn walk_note(script: &Script, actor: u32, cursor: &mut Cursor, line: &Line, fact: Fact) -> bool
+fn walk_note(
+    script: &Script,
+    actor: u32,
+    cursor: &mut Cursor,
+    note: &Note,
+    fact: &PackedFact,
+) -> bool
     requires script { IsScript script.now }
     requires counted { IsCounted cursor.old lines_max }
-    ensures note { IsNoteWalked script.now actor cursor.old (record { line = line.now; listed = fact.listed; scans = fact.scans }) result cursor.new }
+    ensures note { (line : ℕ) → IsNoteWalked script.now actor cursor.old (record { line = line_of line note.now; listed = fact.now.listed; scans = fact.now.scans }) result cursor.new }
     ensures counted { result ≡ true → Counts cursor.old cursor.new 1 }
 {
     let action = settle(script, actor, cursor);
-    if !is_next(script, actor, cursor, &action, line, fact.scans) {
+    if !is_next(script, actor, cursor, &action, note, fact.scans()) {
         return false;
     }
     let _over = cursor.task;
-    advance(script, cursor, fact.listed, line.place, &line.entry);
+    advance(script, cursor, fact.listed(), note.place, &note.entry);
     true
 }
 
@@ -88,15 +97,15 @@ fn is_next(
     actor: u32,
     cursor: &Cursor,
     action: &Action,
-    line: &Line,
+    note: &Note,
     scans: u32,
 ) -> bool
     requires script { IsScript script.now }
     requires action { IsActionAt script.now actor cursor.now action.now }
-    ensures { (listed : Bool) → let s = script.now in
-        result ≡ is_next s actor (cursor_of s actor cursor.now) (record { line = line.now; listed = listed; scans = scans }) }
+    ensures { (line : ℕ) (listed : Bool) → let s = script.now in
+        result ≡ is_next s actor (cursor_of s actor cursor.now) (record { line = line_of line note.now; listed = listed; scans = scans }) }
 {
-    asks(actor, cursor.removed, action, line.place, &line.entry)
+    asks(actor, cursor.removed, action, note.place, &note.entry)
         && scans_first(script, actor, cursor) <= scans
 }
 

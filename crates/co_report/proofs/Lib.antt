@@ -37,3 +37,5 @@ mod ReadRows
 mod NoteHeads
 mod LinesEnded
 mod LineByLine
+mod LinesPacked
+mod ReadPacked

@@ -28,5 +28,7 @@ pub mod Reading
 pub mod ReadingViews
 -- a report that is read line by line: what of it is still ahead
 pub mod LineByLine
+-- note lines in few bytes: their notes, and where the numbers of lines follow each other
+pub mod PackedLines
 -- each history is shown; a note has one spelling; a report reads back as its script and notes
 pub mod Laws

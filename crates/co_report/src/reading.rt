@@ -14,6 +14,7 @@ pub mod line_by_line;
 mod names;
 mod notes;
 mod operations;
+pub mod packed;
 mod parts;
 pub mod places;
 mod progress;

@@ -1,7 +1,9 @@
 //! The commands that read an input: what they make of its bytes.
 ghost use Rattle.std.specs.Prelude.{◌≡◌, true, IfOk};
 ghost use Rattle.std.specs.List.{concat};
+ghost use Rattle.co_text.specs.Fallible.{GivesOrNoMemory};
 ghost use Rattle.co_script.specs.Fits.{fits};
+ghost use Rattle.co_report.specs.Reading.{report_read};
 ghost use Rattle.co_check.specs.Lines.{IsReport};
 ghost use Rattle.co_check.specs.Verdict.{verdict};
 ghost use Rattle.co_top.specs.Headline.{Gives, IsJudged, IsReportOfWalk};
@@ -12,11 +14,11 @@ use crate::command::Reading;
 use crate::status::Status;
 use crate::texts::{legal_text, unfit_word};
 use co_batch_text::event::run_event;
-use co_check::{Verdict, check};
+use co_check::{Verdict, check_packed};
 use co_core::tell_walk;
 use co_front::fault_text;
 use co_program::Script;
-use co_report::{Report, SectionsOf, Subject, read_report};
+use co_report::{PackedReport, SectionsOf, Subject, read_packed_report};
 use co_sbt::{NoMemory, Seq};
 use co_script::read_script;
 use co_text::ScriptFault;
@@ -57,11 +59,11 @@ fn steps(alloc: Global, bytes: &[u8]) -> Result<Answer, NoMemory>
 }
 
 /// The verdict on a report, as an answer.
-fn judged(alloc: Global, report: &Report) -> Result<Answer, NoMemory>
+fn judged(alloc: Global, report: &PackedReport) -> Result<Answer, NoMemory>
     requires { IsReport report.now }
     ensures { IfOk result (λ answer. IsJudged (verdict report.now) answer.status (concat answer.pieces)) }
 {
-    match check(alloc, report)? {
+    match check_packed(alloc, report)? {
         Verdict::Legal => Ok(Answer {
             status: Status::Done,
             pieces: whole(alloc, Seq::copy_of(alloc, legal_text())?)?,
@@ -73,11 +75,18 @@ fn judged(alloc: Global, report: &Report) -> Result<Answer, NoMemory>
     }
 }
 
-/// What `check` makes of these bytes.
-fn check_report(alloc: Global, bytes: &[u8]) -> Result<Answer, NoMemory>
-    ensures { IfOk result (λ answer. Gives readings.Check bytes.now answer.status (concat answer.pieces)) }
+/// The report that these bytes are. Their memory is free again before it is judged.
+fn report_of(alloc: Global, bytes: Seq<u8>) -> Result<PackedReport, ScriptFault>
+    ensures { GivesOrNoMemory (λ r. r) result (report_read bytes) }
 {
-    match read_report(alloc, bytes) {
+    read_packed_report(alloc, bytes.as_slice())
+}
+
+/// What `check` makes of these bytes.
+fn check_report(alloc: Global, bytes: Seq<u8>) -> Result<Answer, NoMemory>
+    ensures { IfOk result (λ answer. Gives readings.Check bytes answer.status (concat answer.pieces)) }
+{
+    match report_of(alloc, bytes) {
         Ok(report) => judged(alloc, &report),
         Err(ScriptFault::Bad { line, cause }) => refused(alloc, line, cause),
         Err(ScriptFault::NoMemory) => Err(NoMemory {}),
@@ -99,12 +108,16 @@ fn events(alloc: Global, bytes: &[u8]) -> Result<Answer, NoMemory>
 }
 
 /// What a command makes of the bytes that it read.
-pub(crate) fn answer_to(alloc: Global, reading: Reading, bytes: &[u8]) -> Result<Answer, NoMemory>
-    ensures { IfOk result (λ answer. Gives reading bytes.now answer.status (concat answer.pieces)) }
+pub(crate) fn answer_to(
+    alloc: Global,
+    reading: Reading,
+    bytes: Seq<u8>,
+) -> Result<Answer, NoMemory>
+    ensures { IfOk result (λ answer. Gives reading bytes answer.status (concat answer.pieces)) }
 {
     match reading {
-        Reading::Steps => steps(alloc, bytes),
+        Reading::Steps => steps(alloc, bytes.as_slice()),
         Reading::Check => check_report(alloc, bytes),
-        Reading::Event => events(alloc, bytes),
+        Reading::Event => events(alloc, bytes.as_slice()),
     }
 }

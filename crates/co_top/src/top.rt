@@ -88,7 +88,7 @@ fn read_and_answer<S: Source, K: Sink>(
         Err(ReadEnd::NoMemory) => return Status::NoMemory,
         Err(ReadEnd::Fault) => return Status::ReadFault,
     };
-    match answer_to(alloc, reading, input.bytes.as_slice()) {
+    match answer_to(alloc, reading, input.bytes) {
         Ok(answer) => write_answer(sink, &answer),
         Err(_) => Status::NoMemory,
     }

@@ -107,6 +107,13 @@ impl<'a> OpenReport<'a> {
         &self.script
     }
 
+    /// The report's script alone.
+    pub fn into_script(self) -> Script
+        ensures { result ≡ self.entry.script }
+    {
+        self.script
+    }
+
     /// The number and the entry of the note that the line at this byte of the histories' text shows, where it is of this
     /// place; `Note` where it shows none.
     pub fn note_at(&self, at: usize, place: Place) -> Result<(u64, AnyEntry), Cause>

@@ -1,39 +1,36 @@
 -- One actor more is done, or its notes are not of its program.
-use Rattle.std.proofs.Common.{◌<◌, ◌+◌, length, ap, sym, subst, ◌∙◌, arith}
+use Rattle.std.proofs.Common.{◌<◌, ◌+◌, sym, subst, arith}
 use Rattle.co_program.specs.Actors.{actor_count}
-use Rattle.co_program.specs.Cursor.{start_of}
 use Rattle.co_program.specs.Indexed.{cursor_of}
-use Rattle.co_check.specs.Astray.{seen, first_astray, place_after}
-use Rattle.co_check.specs.Walked.{by_row}
 use Rattle.co_check.proofs.ByActor.{slot-within, row-few}
 use Rattle.co_check.proofs.Programs.{AreDone, one-done, astray-found}
 use Rattle.co_check.proofs.checking.check_programs.Goals as goal
 
 pub walk-requires-clause-row : goal.walk-requires-clause-row
 walk-requires-clause-row c k i here =
-    let slots = c.row.ensures c.args.report.now.script c.args.report.now.lines c.args.report.now.lines c.requires.index in
-    omega (arith, slot-within c.args.report.now.lines c.loop-actor.actor c.row.result.now slots k i here, ap length c.as_slice-lines.ensures)
+    let slots = c.row.ensures c.args.script.now c.args.lines.now c.args.lines.now c.requires.index in
+    slot-within c.args.lines.now c.loop-actor.actor c.row.result.now slots k i here
 
 pub walk-requires-clause-few : goal.walk-requires-clause-few
 walk-requires-clause-few c =
-    let slots = c.row.ensures c.args.report.now.script c.args.report.now.lines c.args.report.now.lines c.requires.index in
-    row-few c.args.report.now.lines c.loop-actor.actor c.row.result.now slots c.requires.report.few
+    let slots = c.row.ensures c.args.script.now c.args.lines.now c.args.lines.now c.requires.index in
+    row-few c.args.lines.now c.loop-actor.actor c.row.result.now slots c.requires.few
 
 pub returns-in-Astray : goal.returns-in-Astray
 returns-in-Astray c =
-    let s = c.args.report.now.script in
-    let slots = c.row.ensures s c.args.report.now.lines c.args.report.now.lines c.requires.index in
+    let s = c.args.script.now in
+    let slots = c.row.ensures s c.args.lines.now c.args.lines.now c.requires.index in
     let below : c.loop-actor.actor < actor_count s = omega (arith, c.loop-actor-test.true, c.actor_count-actor-end.ensures) in
-    sym (astray-found s c.args.report.now.lines c.loop-actor.actor c.row.result.now slots c.loop-actor.unfinished c.in-Astray.line c.args.report.now.end below c.loop-actor.invariant
-    (ap (λ lines. first_astray s c.loop-actor.actor (start_of s c.loop-actor.actor) (by_row (seen s lines) c.row.result.now)) (sym c.as_slice-lines.ensures) ∙ c.in-Astray.ensures))
+    sym (astray-found s c.args.lines.now c.loop-actor.actor c.row.result.now slots c.loop-actor.unfinished c.in-Astray.line c.args.end below c.loop-actor.invariant
+    c.in-Astray.ensures)
 
 pub loop-actor-preserved : goal.loop-actor-preserved
 loop-actor-preserved c =
-    let s = c.args.report.now.script in
-    let slots = c.row.ensures s c.args.report.now.lines c.args.report.now.lines c.requires.index in
+    let s = c.args.script.now in
+    let slots = c.row.ensures s c.args.lines.now c.args.lines.now c.requires.index in
     let below : c.loop-actor.actor < actor_count s = omega (arith, c.loop-actor-test.true, c.actor_count-actor-end.ensures) in
-    subst (AreDone s c.args.report.now.lines (c.loop-actor.actor + 1)) (sym c.unfinished_after-unfinished.ensures)
-    (one-done s c.args.report.now.lines c.loop-actor.actor c.row.result.now slots c.loop-actor.unfinished c.is_finished-finished.result (cursor_of s c.loop-actor.actor c.in-At.cursor) below c.loop-actor.invariant
-    (ap (λ lines. first_astray s c.loop-actor.actor (start_of s c.loop-actor.actor) (by_row (seen s lines) c.row.result.now)) (sym c.as_slice-lines.ensures) ∙ c.in-At.ensures.0)
-    (c.in-At.ensures.1 ∙ ap (λ lines. place_after s c.loop-actor.actor (start_of s c.loop-actor.actor) (by_row (seen s lines) c.row.result.now)) c.as_slice-lines.ensures)
+    subst (AreDone s c.args.lines.now (c.loop-actor.actor + 1)) (sym c.unfinished_after-unfinished.ensures)
+    (one-done s c.args.lines.now c.loop-actor.actor c.row.result.now slots c.loop-actor.unfinished c.is_finished-finished.result (cursor_of s c.loop-actor.actor c.in-At.cursor) below c.loop-actor.invariant
+    c.in-At.ensures.0
+    c.in-At.ensures.1
     c.is_finished-finished.ensures)

@@ -3,4 +3,4 @@ use Rattle.co_check.proofs.checking.check_programs.Given as goal
 
 -- the actors so far are done
 abbrev pub invariant-loop-actor : goal.invariant-loop-actor
-invariant-loop-actor l = AreDone l.report.script l.report.lines l.actor l.unfinished
+invariant-loop-actor l = AreDone l.script l.lines l.actor l.unfinished

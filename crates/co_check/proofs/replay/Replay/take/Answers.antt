@@ -1,6 +1,17 @@
--- A note of an actor's own.
+-- A note of an actor's own: the others are of the kind of their place.
+use Rattle.std.proofs.Common.{subst}
+use Rattle.co_report.specs.PackedLines.{line_of}
+use Rattle.co_check.specs.Lines.{IsOfKind}
+use Rattle.co_check.proofs.Noted.{not-timer, not-cpu}
 use Rattle.co_check.proofs.Taken.{taken-own}
 use Rattle.co_check.proofs.replay.Replay.take.Goals as goal
+use Rattle.co_check.proofs.replay.Replay.take.Goals.{in_default-via-in-Timer+in_default, in_default-via-in-Cpu+in_default, in_default-via-in_default}
 
-pub returns-in_default-3 : goal.returns-in_default-3
-returns-in_default-3 c above h = taken-own c.args.script.now above c.args.line.now c.in_default.field-0-0 c.args.self.now c.in_default.is-0 h
+pub returns-in_default : goal.returns-in_default
+returns-in_default c line above h =
+    let e = c.args.note.now.entry in
+    elim c.in_default.branch [
+      | in_default-via-in-Timer+in_default w ↦ absurd (not-timer w.in_default.field-0-0 e (subst (λ p. IsOfKind p e) w.in_default.is-0 c.requires.line.kind) w.in_default.not-Timer-1)
+      | in_default-via-in-Cpu+in_default w ↦ absurd (not-cpu w.in_default.field-0-0 e (subst (λ p. IsOfKind p e) w.in_default.is-0 c.requires.line.kind) w.in_default.not-Cpu-1)
+      | in_default-via-in_default w ↦ taken-own c.args.script.now above (line_of line c.args.note.now) w.in_default.field-0-0 c.args.self.now w.in_default.is-0 h c.new-nothing.result c.new-nothing.ensures
+    ]

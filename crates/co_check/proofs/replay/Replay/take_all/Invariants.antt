@@ -7,10 +7,10 @@ use Rattle.co_check.specs.Replayed.{IsAfter, fact_of}
 use Rattle.co_check.proofs.replay.Replay.take_all.Given as goal
 
 -- the lines above are replayed and nothing is wrong with them; what is left decides
-abbrev pub invariant-loop-line : goal.invariant-loop-line
-invariant-loop-line l = record {
-  after : IsAfter l.script (take l.line-index l.lines) l.self;
-  rest : first_unfit l.script l.lines ≡ first_bad (λ above x. unfit_at l.script above x.place x.entry) (take l.line-index l.lines) (drop l.line-index l.lines);
-  counted : AreCounts (actor_count l.script) (take l.line-index l.lines) l.counts.items;
-  facts : l.facts ++ map fact_of (seen_from l.script (take l.line-index l.lines) (drop l.line-index l.lines)) ≡ map fact_of (seen l.script l.lines);
+abbrev pub invariant-loop-at : goal.invariant-loop-at
+invariant-loop-at l = record {
+  after : IsAfter l.script (take l.at l.lines) l.self;
+  rest : first_unfit l.script l.lines ≡ first_bad (λ above x. unfit_at l.script above x.place x.entry) (take l.at l.lines) (drop l.at l.lines);
+  counted : AreCounts (actor_count l.script) (take l.at l.lines) l.counts.items;
+  facts : l.facts ++ map fact_of (seen_from l.script (take l.at l.lines) (drop l.at l.lines)) ≡ map fact_of (seen l.script l.lines);
 }
