@@ -108,11 +108,7 @@ fn events(alloc: Global, bytes: &[u8]) -> Result<Answer, NoMemory>
 }
 
 /// What a command makes of the bytes that it read.
-pub(crate) fn answer_to(
-    alloc: Global,
-    reading: Reading,
-    bytes: Seq<u8>,
-) -> Result<Answer, NoMemory>
+pub(crate) fn answer_to(alloc: Global, reading: Reading, bytes: Seq<u8>) -> Result<Answer, NoMemory>
     ensures { IfOk result (λ answer. Gives reading bytes answer.status (concat answer.pieces)) }
 {
     match reading {
