@@ -1,28 +1,11 @@
--- The lines of a text have its bytes, and a text that is cut before a line.
+-- A text that is cut before a line.
 use Rattle.std.proofs.Common.{◌≡◌, ℕ, ◌+◌, ◌-◌, Bool, true, false, List, [], ◌∷◌, ◌++◌, length, take, refl, ap, sym, ◌∙◌, arith, append_assoc, append-nil, length-append}
 use Rattle.std.specs.Prelude.{Option, Some, None, codes, if◌then◌else◌}
 use Rattle.std.specs.Option.{option_map}
-use Rattle.std.proofs.lemmas.Bool.{eqb-true}
-use Rattle.co_text.specs.Lines.{Line, lines_of, lines_behind, is_feed}
-use Rattle.co_report.specs.Reading.{is_line, line_bytes, Halves, line_before, halves}
-
--- the bytes of lines
-abbrev pub bytes_of : List Line → List ℕ
-bytes_of [] = []
-bytes_of (l ∷ ls) = line_bytes l ++ bytes_of ls
-
-bytes-behind : (b : Bool) (c : ℕ) (ls : List Line) → is_feed c ≡ b → bytes_of (lines_behind b c ls) ≡ c ∷ bytes_of ls
-bytes-behind true c ls e = ap (λ d. d ∷ bytes_of ls) (sym (eqb-true c 10 e))
-bytes-behind false c [] e = refl
-bytes-behind false c (l ∷ ls) e = refl
-
-pub bytes-back : (bs : List ℕ) → bytes_of (lines_of bs) ≡ bs
-bytes-back [] = refl
-bytes-back (c ∷ cs) = bytes-behind (is_feed c) c (lines_of cs) refl ∙ ap (λ l. c ∷ l) (bytes-back cs)
-
--- a text is its first line and the text behind it
-pub first-bytes : (rest after : List ℕ) (l : Line) → lines_of rest ≡ l ∷ lines_of after → rest ≡ line_bytes l ++ after
-first-bytes rest after l e = sym (bytes-back rest) ∙ (ap bytes_of e ∙ ap (λ t. line_bytes l ++ t) (bytes-back after))
+use Rattle.co_text.specs.Lines.{Line, lines_of}
+use Rattle.co_script.specs.LineBytes.{line_bytes}
+use Rattle.co_script.proofs.WholeLines.{first-bytes}
+use Rattle.co_report.specs.Reading.{is_line, Halves, line_before, halves}
 
 take-all-front : (xs ys : List ℕ) → take (length xs) (xs ++ ys) ≡ xs
 take-all-front [] ys = refl

@@ -35,13 +35,14 @@ use Rattle.co_report.specs.Histories.{Shown, Histories}
 use Rattle.co_report.specs.Reports.{places, heading, shown_words, place_lines, report, report_lines}
 use Rattle.co_report.specs.NoteFits.{ShownFits}
 use Rattle.co_report.specs.Laws.{report_of_histories, HistoriesFit}
-use Rattle.co_report.specs.Reading.{joined, is_line, none_cut, first_line, line_bytes, Halves, halves, line_before, in_report, same_lines, end_read, notes_read, halves_read, lines_report, report_read}
+use Rattle.co_report.specs.Reading.{joined, is_line, none_cut, first_line, Halves, halves, line_before, in_report, same_lines, end_read, notes_read, halves_read, lines_report, report_read}
 use Rattle.co_report.proofs.Exact.{lit}
 use Rattle.co_report.specs.NoteValues.{IsSmall}
 use Rattle.co_report.proofs.ExactActors.{actor-ink}
 use Rattle.co_report.proofs.ExactNotes.{note_exact}
 use Rattle.co_report.proofs.OneSpelling.{small_script}
-use Rattle.co_report.proofs.LinesWhole.{bytes_of, bytes-back}
+use Rattle.co_script.specs.LineBytes.{line_bytes}
+use Rattle.co_script.proofs.WholeLines.{bytes_of, bytes-back}
 use Rattle.co_report.proofs.ReadsBack.{sections-steps, sections}
 
 -- ---- the lines of a text that ends with a line feed, and of what follows it

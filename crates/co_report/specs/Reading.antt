@@ -10,6 +10,7 @@ use Rattle.co_text.specs.declared.Cause.{Cause}
 use Rattle.co_text.specs.declared.Cause.TheVariants as cause
 use Rattle.co_script.specs.Reading.{script_of}
 use Rattle.co_script.specs.Canonical.{canonical}
+use Rattle.co_script.specs.LineBytes.{line_bytes}
 use Rattle.co_report.specs.declared.line.Line.{Line as NoteLine}
 use Rattle.co_report.specs.declared.line.Report.{Report}
 use Rattle.co_report.specs.Histories.{Shown}
@@ -38,13 +39,6 @@ first_line [] = at_line 0 (Err cause.Version)
 first_line (l ∷ ls) = at_line 1 (unless (is_line (codes "callout-report 1") l) cause.Version) >> Ok ls
 
 -- ---- the script
-
-abbrev pub feed_of : Bool → List ℕ
-feed_of true = 10 ∷ []
-feed_of false = []
-
-abbrev pub line_bytes : Line → List ℕ
-line_bytes l = l.bytes ++ feed_of l.ended
 
 -- the text before the first line `histories`, the number of its lines, and the lines after it
 pub record Halves : Type 0 where

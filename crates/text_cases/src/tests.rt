@@ -1,3 +1,4 @@
+mod beside;
 mod ends;
 mod pages;
 mod reports;
