@@ -12,7 +12,7 @@ use co_program::Script;
 use co_report::print_by_threads;
 use co_run::{fitting_scripts_can_run, run_packed};
 use co_sbt::{NoMemory, Seq};
-use co_script::read_script;
+use co_script::read_script_by_threads;
 use co_service::Closing;
 use co_text::ScriptFault;
 use std::alloc::Global;
@@ -55,7 +55,7 @@ pub(crate) fn run<G: Gate + Sync, R: Threads + Wait + Sync>(
 ) -> Result<Served, NoMemory>
     ensures { IfOk result (λ served. GivesServed servings.Run bytes.now served.answer.status served.closing (concat served.answer.pieces)) }
 {
-    match read_script(alloc, bytes) {
+    match read_script_by_threads(rt, alloc, bytes) {
         Ok(script) => {
             let report = report_of_run(rt, alloc, &script, gate)?;
             Ok(Served::done(report.pieces, report.closing))
