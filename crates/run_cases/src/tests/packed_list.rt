@@ -152,6 +152,15 @@ fn replies(numbers: &Numbers, off: Option<u32>) -> [Reply; 7] {
     ]
 }
 
+/// An arming that moves to another CPU.
+fn next_of(numbers: &Numbers, time: Sbt) -> Option<Next> {
+    Some(Next {
+        n: numbers.long,
+        cpu: numbers.short,
+        due: time,
+    })
+}
+
 /// Replies of a callout with none.
 const BARE: [Reply; 14] = [
     Reply::NoHandler,
@@ -264,11 +273,6 @@ impl Making {
     /// Adds replies with numbers, and the ends of services.
     fn add_replies(&mut self, time: Sbt) -> Result<(), NoMemory> {
         let numbers = self.numbers;
-        let next = Next {
-            n: numbers.long,
-            cpu: numbers.short,
-            due: time,
-        };
         for off in [None, Some(numbers.short)] {
             for reply in replies(&numbers, off) {
                 self.add_timer(Op::Call(CallOp::Plain(PlainOp::Stop)), reply)?;
@@ -276,8 +280,8 @@ impl Making {
             for (next, woke) in [
                 (None, false),
                 (None, true),
-                (Some(next), false),
-                (Some(next), true),
+                (next_of(&numbers, time), false),
+                (next_of(&numbers, time), true),
             ] {
                 let drain = off;
                 self.add_timer(
