@@ -1,8 +1,8 @@
 -- Rows one behind another: what is stored is read again, at each place.
-use Rattle.std.proofs.Common.{ℕ, zero, suc, ◌≡◌, ◌<◌, ◌≤◌, ◌+◌, ◌-◌, ◌*◌, ◌/◌, ◌%◌, List, [], ◌∷◌, ◌++◌, length, get_or, take, drop, refl, sym, ap, ◌∙◌, ⊎_elim, append_assoc, length-append, length-drop, arith}
+use Rattle.std.proofs.Common.{ℕ, zero, suc, ◌≡◌, ◌<◌, ◌≤◌, ◌+◌, ◌-◌, ◌*◌, ◌/◌, ◌%◌, List, [], ◌∷◌, ◌++◌, length, get_or, take, drop, refl, sym, ap, ◌∙◌, ⊎_elim, append_assoc, length-append, arith}
 use Rattle.std.proofs.lemmas.Grind.{common_steps}
 use Rattle.std.proofs.lemmas.Bool.{cases_lt}
-use Rattle.std.proofs.lemmas.List.{append-nil, drop_at, drop_more, drop_all, take_rest, take_all, take-append-le, take-append-drop, drop-drop, length_push, get_or_append_left, get_or_push}
+use Rattle.std.proofs.lemmas.List.{append-nil, drop_at, drop_more, take_all, take-append-le, take-append-drop, drop-drop, length_push, get_or_append_left, get_or_push}
 use Rattle.std.proofs.lemmas.List.Concat.{flat_map-append}
 use Rattle.std.specs.List.{flat_map, AllByRecursion}
 use Rattle.std.proofs.lemmas.Option.{slice_get-map, slice_get-get_or}
@@ -165,7 +165,6 @@ row_there (row ∷ rows) (suc i) h within = row_there rows i h.1 (omega arith)
 pub record IsPlaced (bytes row rest : List ℕ) (start : ℕ) : Type 0 where
   pub in_range : start ≤ length bytes
   pub row_is : row_in rest ≡ row
-  pub long : 3 ≤ length rest
 
 start_at : (bytes starts : List ℕ) (count k : ℕ) → IsStored bytes starts count → k < length starts → drop (get_or starts k 0) bytes ≡ flat_map row_bytes (drop (8 * k) (rows_in count bytes))
 start_at bytes starts count k h within =
@@ -197,30 +196,18 @@ stored_at bytes starts count at h within =
     record {
       in_range = start_within bytes starts count (at / 8) h (omega arith);
       row_is = rw rest (row_again (get_or (rows_in count bytes) at []) (flat_map row_bytes (drop (at + 1) (rows_in count bytes))) row);
-      long = rw (rest, length-append (row_bytes (get_or (rows_in count bytes) at [])) (flat_map row_bytes (drop (at + 1) (rows_in count bytes)))) (omega (arith, row_length (get_or (rows_in count bytes) at [])));
     }
-
--- the bytes after the first and as many more as it says
-after_is : (bs : List ℕ) (after : ℕ) → after ≡ get_or bs 0 0 → after_row bs ≡ drop (after + 1) bs
-unfolding after_row
-after_is bs after e = rw e refl
-
-pub after_cut : (bs : List ℕ) (after : ℕ) → after ≡ get_or bs 0 0 → take (length (take (length bs - 1) (drop 1 bs)) - after) (drop after (take (length bs - 1) (drop 1 bs))) ≡ after_row bs
-after_cut bs after e =
-    let turned : 1 + after ≡ after + 1 = omega arith in
-    rw (take_rest bs 1, take_rest (drop 1 bs) after, drop-drop after 1 bs, after_is bs after e, turned) refl
-
-pub after_past : (bs : List ℕ) (after : ℕ) → after ≡ get_or bs 0 0 → length (take (length bs - 1) (drop 1 bs)) < after → [] ≡ after_row bs
-after_past bs after e past =
-    let short : length (drop 1 bs) < after = rw (take_rest bs 1) at past in
-    sym (after_is bs after e ∙ drop_all (after + 1) bs (omega (arith, length-drop 1 bs)))
-
-pub after_empty : (bs : List ℕ) → length bs < 1 → bs ≡ after_row bs
-after_empty [] h = sym after_nothing
-after_empty (b ∷ bs) h = absurd (omega arith)
 
 -- the note of a row
 pub note_there : (bytes : List ℕ) (count at : ℕ) (notes : List Note) (note : Note) → map numbered_note (rows_in count bytes) ≡ notes → at < count → note ≡ numbered_note (get_or (rows_in count bytes) at []) → slice_get notes at ≡ Some note
 note_there bytes count at notes note view within is =
     let many = length_of_rows count bytes in
     rw (← view, is) (slice_get-map numbered_note (rows_in count bytes) at ∙ ap (option_map numbered_note) (slice_get-get_or (rows_in count bytes) at [] (omega arith)))
+
+-- the notes of so many rows: none, or that of the first row and those behind it
+pub no_notes : (left : ℕ) (bytes : List ℕ) → left ≡ 0 → map numbered_note (rows_in left bytes) ≡ []
+no_notes left bytes h = rw (h, rows_none bytes) refl
+
+pub notes_next : (left : ℕ) (bytes : List ℕ) → 0 < left → map numbered_note (rows_in left bytes) ≡ numbered_note (row_in bytes) ∷ map numbered_note (rows_in (left - 1) (after_row bytes))
+notes_next zero bytes h = absurd (omega arith)
+notes_next (suc left) bytes h = let e : suc left - 1 ≡ left = omega arith in rw (e, rows_next left bytes) refl

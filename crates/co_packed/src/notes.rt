@@ -1,10 +1,11 @@
 //! A growing list of notes in few bytes.
 ghost use Rattle.std.specs.Prelude.{◌≡◌, ◌+◌, ◌/◌, ◌<◌, ◌≤◌, [], ◌∷◌, ◌++◌, OnOk, OnErr, Some, length, slice_get};
-ghost use Rattle.co_packed.specs.Rows.{row_in, after_row};
+ghost use Rattle.co_packed.specs.Rows.{row_in};
 ghost use Rattle.co_packed.specs.Stored.{after_rows, marked, start_of, rest_at};
 
+use crate::ahead::NotesAhead;
 use crate::note_numbers::{note_of, numbers_of};
-use crate::rows::{row_at, write_row};
+use crate::rows::{after_row, row_at, write_row};
 use co_object::Note;
 use co_sbt::{NoMemory, Seq};
 use std::alloc::Global;
@@ -51,23 +52,6 @@ fn mark(starts: &mut Seq<usize>, count: usize, end: usize) -> Result<(), NoMemor
     starts.push(end)
 }
 
-/// The bytes after the row that they begin with.
-fn after_row(bytes: &[u8]) -> &[u8]
-    ensures { result.now ≡ after_row bytes.now }
-{
-    match bytes {
-        [] => bytes,
-        [after, rest @ ..] => {
-            let after = usize::from(*after);
-            if after <= rest.len() {
-                &rest[after..]
-            } else {
-                &[]
-            }
-        }
-    }
-}
-
 /// The bytes after so many rows.
 fn after_rows(bytes: &[u8], count: usize) -> &[u8]
     ensures { result.now ≡ after_rows count bytes.now }
@@ -91,7 +75,6 @@ fn one_more(count: usize, end: usize) -> usize
 fn row_on(bytes: &[u8], starts: &[usize], at: usize) -> [u64; 16]
     requires marked { at / 8 < length starts.now }
     requires within { start_of starts.now at ≤ length bytes.now }
-    requires there { 3 ≤ length (rest_at bytes.now starts.now at) }
     ensures { result ≡ row_in (rest_at bytes.now starts.now at) }
 {
     let rest = &bytes[starts[at / 8]..];
@@ -139,5 +122,11 @@ impl PackedNotes {
     {
         let row = row_on(self.bytes.as_slice(), self.starts.as_slice(), at);
         note_of(&row)
+    }
+    /// All notes, in their order, to be taken one by one.
+    pub fn ahead(&self) -> NotesAhead<'_>
+        ensures { result ≡ self.now }
+    {
+        NotesAhead::new(self.bytes.as_slice(), self.count)
     }
 }

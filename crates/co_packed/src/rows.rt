@@ -1,8 +1,8 @@
 //! Rows of sixteen numbers as bytes. Most numbers of a note are 0 or small, so a row has a flag for each number that is not 0,
 //! and the bytes of these alone. Before them it has how many bytes they are, by which a reader skips a row that it does not want.
-ghost use Rattle.std.specs.Prelude.{◌≡◌, ◌<◌, ◌≤◌, ◌++◌, OnOk, length};
+ghost use Rattle.std.specs.Prelude.{◌≡◌, ◌<◌, ◌≤◌, ◌++◌, OnOk, length, get_or, drop};
 ghost use Rattle.std.specs.List.{flat_map};
-ghost use Rattle.co_packed.specs.Rows.{flags, flagged_bytes, row_bytes, flagged_in, after_flagged, numbers_in, row_in, IsRow};
+ghost use Rattle.co_packed.specs.Rows.{flags, flagged_bytes, row_bytes, flagged_in, after_flagged, numbers_in, row_in, after_row, IsRow};
 
 use crate::numbers::{number_at, push_number};
 use co_sbt::{NoMemory, Seq};
@@ -87,12 +87,40 @@ fn numbers_at(flags: u32, bytes: &[u8]) -> [u64; 16]
     numbers
 }
 
+/// The byte at `at`, or 0 past the last.
+#[inline]
+fn byte_at(bytes: &[u8], at: usize) -> u32
+    ensures value { result ≡ get_or bytes.now at 0 }
+    ensures bounded { result < 256 }
+{
+    match bytes.get(at) {
+        Some(byte) => u32::from(*byte),
+        None => 0,
+    }
+}
+
+/// The bytes from `at` on, if there are any.
+#[inline]
+fn rest_from(bytes: &[u8], at: usize) -> &[u8]
+    ensures { result.now ≡ drop at bytes.now }
+{
+    if at <= bytes.len() { &bytes[at..] } else { &[] }
+}
+
 /// The row that the bytes begin with.
+#[inline]
 #[tactic(auto, unfolding(crate::specs::Rows::row_in))]
 pub(crate) fn row_at(bytes: &[u8]) -> [u64; 16]
-    requires { 3 ≤ length bytes.now }
     ensures { result ≡ row_in bytes.now }
 {
-    let flags = u32::from(bytes[1]) + 256 * u32::from(bytes[2]);
-    numbers_at(flags, &bytes[3..])
+    let flags = byte_at(bytes, 1) + 256 * byte_at(bytes, 2);
+    numbers_at(flags, rest_from(bytes, 3))
+}
+
+/// The bytes after the row that they begin with.
+#[tactic(auto, unfolding(crate::specs::Rows::after_row))]
+pub(crate) fn after_row(bytes: &[u8]) -> &[u8]
+    ensures { result.now ≡ after_row bytes.now }
+{
+    rest_from(bytes, byte_at(bytes, 0) as usize + 1)
 }
