@@ -4,7 +4,7 @@ ghost use Rattle.co_packed.specs.Numbered.{numbered_note};
 ghost use Rattle.co_packed.specs.Stored.{rows_in};
 
 use crate::note_numbers::note_of;
-use crate::rows::{after_row, row_at};
+use crate::rows::{rest_from, row_at};
 use co_object::Note;
 use std::marker::Model;
 
@@ -44,8 +44,8 @@ impl<'a> NotesAhead<'a> {
         if self.left == 0 {
             return None;
         }
-        let row = row_at(self.rest);
-        self.rest = after_row(self.rest);
+        let (row, size) = row_at(self.rest);
+        self.rest = rest_from(self.rest, size);
         self.left -= 1;
         Some(note_of(&row))
     }
