@@ -1,113 +1,117 @@
 -- The bytes of a number, and what reads them.
-use Rattle.std.proofs.Common.{ℕ, zero, suc, ◌≡◌, ◌<◌, ◌≤◌, ◌+◌, ◌-◌, ◌*◌, ◌/◌, ◌%◌, List, [], ◌∷◌, ◌++◌, length, refl, ◌∙◌, ⊎_elim, arith}
-use Rattle.std.proofs.lemmas.Grind.{common_steps}
-use Rattle.std.proofs.lemmas.Bool.{cases_lt}
-use Rattle.co_packed.proofs.Limits.{low_limit, next_limit}
-use Rattle.co_packed.specs.Numbers.{bytes_of, number_in, after_number, limit}
+use Rattle.std.proofs.Common.{ℕ, zero, suc, ◌≡◌, ◌<◌, ◌+◌, ◌-◌, ◌*◌, ◌/◌, ◌%◌, ◌^◌, List, [], ◌∷◌, ◌++◌, length, get_or, take, drop, min, bit_and, refl, sym, ap, ◌∙◌, arith}
+use Rattle.std.proofs.Math.Nat.{pow-suc, mul_assoc}
+use Rattle.std.proofs.lemmas.List.{get_or-drop, drop-drop}
+use Rattle.std.proofs.lemmas.Nat.{mod-mul-add, mod_below, and_mask}
+use Rattle.co_packed.proofs.Limits.{limit_pos, limit_low, few_bytes, below_width, same_width, bytes_bits}
+use Rattle.std.specs.Int.{w64, to_le_bytes}
+use Rattle.co_packed.specs.Numbers.{width, bytes_of, value, number_in}
 
-pub bytes_of_one : (more n : ℕ) → n < 128 → bytes_of more n ≡ n ∷ []
+value_none : (bs : List ℕ) → value zero bs ≡ 0
+unfolding value
+value_none bs = refl
+
+value_next : (more : ℕ) (bs : List ℕ) → value (suc more) bs ≡ get_or bs 0 0 + 256 * value more (drop 1 bs)
+unfolding value
+value_next more bs = refl
+
+bytes_next : (more n : ℕ) (rest : List ℕ) → bytes_of (suc more) n ++ rest ≡ n % 256 ∷ (bytes_of more (n / 256) ++ rest)
 unfolding bytes_of
-bytes_of_one zero n h = refl
-bytes_of_one (suc more) n h = grind (arith, common_steps)
+bytes_next more n rest = refl
 
--- the bytes of a number that is not below 128
-pub bytes_of_more : (more n : ℕ) → 0 < more → 128 ≤ n → bytes_of more n ≡ (n % 128 + 128) ∷ bytes_of (more - 1) (n / 128)
+bytes_none : (n : ℕ) → bytes_of zero n ≡ []
 unfolding bytes_of
-bytes_of_more zero n h k = absurd (omega arith)
-bytes_of_more (suc more) n h k = let e : suc more - 1 ≡ more = omega arith in rw e (grind (arith, common_steps))
+bytes_none n = refl
 
-number_in_one : (more b : ℕ) (bs : List ℕ) → b < 128 → number_in (suc more) (b ∷ bs) ≡ b
-unfolding number_in
-number_in_one more b bs h = grind (arith, common_steps)
+pub length_of_bytes : (more n : ℕ) → length (bytes_of more n) ≡ more
+unfolding bytes_of
+length_of_bytes zero n = refl
+length_of_bytes (suc more) n = ap suc (length_of_bytes more (n / 256))
 
-number_in_more : (more b : ℕ) (bs : List ℕ) → 128 ≤ b → number_in (suc more) (b ∷ bs) ≡ b % 128 + 128 * number_in more bs
-unfolding number_in
-number_in_more more b bs h = grind (arith, common_steps)
+-- what reads at least the bytes of a number reads it, and above it what follows
+value_again : (w more n : ℕ) (rest : List ℕ) → n < 256 ^ w → value (w + more) (bytes_of w n ++ rest) ≡ value more rest * 256 ^ w + n
+value_again zero more n rest h = let e : 0 + more ≡ more = omega arith in rw (e, bytes_none n) (omega arith)
+value_again (suc w) more n rest h =
+    let e : suc w + more ≡ suc (w + more) = omega arith in
+    let more_limit = pow-suc 256 w in
+    let again = value_again w more (n / 256) rest (omega arith) in
+    let turned = mul_assoc (value more rest) (256 ^ w) 256 in
+    rw (e, bytes_next w n rest, value_next (w + more) (n % 256 ∷ (bytes_of w (n / 256) ++ rest)), again, more_limit) (omega arith)
 
-after_one : (more b : ℕ) (bs : List ℕ) → b < 128 → after_number (suc more) (b ∷ bs) ≡ bs
-unfolding after_number
-after_one more b bs h = grind (arith, common_steps)
-
-after_more : (more b : ℕ) (bs : List ℕ) → 128 ≤ b → after_number (suc more) (b ∷ bs) ≡ after_number more bs
-unfolding after_number
-after_more more b bs h = grind (arith, common_steps)
-
-high_below : (more n : ℕ) → n < limit (suc more) → n / 128 < limit more
-unfolding limit
-high_below more n h = omega arith
-
-first_again : (n : ℕ) (rest : List ℕ) → n < limit zero → number_in zero (bytes_of zero n ++ rest) ≡ n
-unfolding bytes_of number_in limit
-first_again n rest h = omega arith
-
-after_first : (n : ℕ) (rest : List ℕ) → after_number zero (bytes_of zero n ++ rest) ≡ rest
-unfolding bytes_of after_number
-after_first n rest = refl
+-- eight bytes are a word
+pub word_again : (n : ℕ) (rest : List ℕ) → n < 2 ^ 64 → value 8 (bytes_of 8 n ++ rest) ≡ n
+word_again n rest h = value_again 8 0 n rest h ∙ rw (value_none rest) (omega arith)
 
 -- what was written is read again, whatever follows
-pub number_again : (more n : ℕ) (rest : List ℕ) → n < limit more → number_in more (bytes_of more n ++ rest) ≡ n
-number_again zero n rest h = first_again n rest h
-number_again (suc more) n rest h = ⊎_elim
-    (λ (k : n < 128). rw (bytes_of_one (suc more) n k) (number_in_one more n rest k))
-    (λ (k : 128 ≤ n).
-    let again : number_in more (bytes_of more (n / 128) ++ rest) ≡ n / 128 = number_again more (n / 128) rest (high_below more n h) in
-    let e : suc more - 1 ≡ more = omega arith in
-    rw (bytes_of_more (suc more) n (omega arith) k, e)
-    (number_in_more more (n % 128 + 128) (bytes_of more (n / 128) ++ rest) (omega arith)
-    ∙ rw again (omega arith)))
-    (cases_lt n 128)
-
--- and so is what follows
-pub after_again : (more n : ℕ) (rest : List ℕ) → n < limit more → after_number more (bytes_of more n ++ rest) ≡ rest
-after_again zero n rest h = after_first n rest
-after_again (suc more) n rest h = ⊎_elim
-    (λ (k : n < 128). rw (bytes_of_one (suc more) n k) (after_one more n rest k))
-    (λ (k : 128 ≤ n).
-    let e : suc more - 1 ≡ more = omega arith in
-    rw (bytes_of_more (suc more) n (omega arith) k, e)
-    (after_more more (n % 128 + 128) (bytes_of more (n / 128) ++ rest) (omega arith)
-    ∙ after_again more (n / 128) rest (high_below more n h)))
-    (cases_lt n 128)
-
-within_zero : (more : ℕ) → 2 ≤ limit more → number_in more [] < limit more
+pub number_again : (n : ℕ) (rest : List ℕ) → n < 2 ^ 64 → number_in (width n) (bytes_of (width n) n ++ rest) ≡ n
 unfolding number_in
-within_zero zero h = omega arith
-within_zero (suc more) h = omega arith
+number_again n rest h =
+    let few = few_bytes n in
+    let below = below_width n h in
+    let e : width n + (8 - width n) ≡ 8 = omega arith in
+    let again : value 8 (bytes_of (width n) n ++ rest) ≡ value (8 - width n) rest * 256 ^ width n + n = rw e at (value_again (width n) (8 - width n) n rest below) in
+    rw (same_width n, again) (mod-mul-add (value (8 - width n) rest) (256 ^ width n) n below)
 
-within_none : (more : ℕ) → number_in more [] < limit more
-within_none more = let low = low_limit more in within_zero more low
+-- what is read is a number of 64 bits
+pub number_long : (wide : ℕ) (bs : List ℕ) → number_in wide bs < 2 ^ 64
+unfolding number_in
+number_long wide bs = omega (arith, limit_low wide, mod_below (value 8 bs) (256 ^ min wide 8) (limit_pos (min wide 8)))
 
-within_last : (b : ℕ) (bs : List ℕ) → number_in zero (b ∷ bs) < limit zero
-unfolding number_in limit
-within_last b bs = omega arith
+-- bytes that are alike, those that are missing too, are one number
+pub same_value : (more : ℕ) (bs cs : List ℕ) → ((i : ℕ) → get_or bs i 0 ≡ get_or cs i 0) → value more bs ≡ value more cs
+same_value zero bs cs h = rw (value_none bs, value_none cs) refl
+same_value (suc more) bs cs h =
+    let rest = same_value more (drop 1 bs) (drop 1 cs) (λ i. rw (get_or-drop 1 bs i 0, get_or-drop 1 cs i 0) (h (1 + i))) in
+    rw (value_next more bs, value_next more cs, h 0, rest) refl
 
-within_more : (more b : ℕ) (bs : List ℕ) → number_in more bs < limit more → number_in (suc more) (b ∷ bs) < limit (suc more)
-within_more more b bs h =
-    let low = low_limit more in
-    let above = next_limit (suc more) (omega arith) in
-    let e : suc more - 1 ≡ more = omega arith in
-    let above : limit (suc more) ≡ 128 * limit more = rw e at above in
-    ⊎_elim
-    (λ (k : b < 128). rw (number_in_one more b bs k) (omega arith))
-    (λ (k : 128 ≤ b). rw (number_in_more more b bs k) (omega arith))
-    (cases_lt b 128)
+one_on : (more at next : ℕ) (bs : List ℕ) → next ≡ at + 1 → value (suc more) (drop at bs) ≡ get_or bs at 0 + 256 * value more (drop next bs)
+one_on more at next bs e =
+    let turned : at + 0 ≡ at = omega arith in
+    let first : get_or (drop at bs) 0 0 ≡ get_or bs at 0 = get_or-drop at bs 0 0 ∙ ap (λ (k : ℕ). get_or bs k 0) turned in
+    let rest : drop 1 (drop at bs) ≡ drop next bs = drop-drop 1 at bs ∙ ap (λ (k : ℕ). drop k bs) (sym e) in
+    value_next more (drop at bs)
+    ∙ ap (λ (x : ℕ). x + 256 * value more (drop 1 (drop at bs))) first
+    ∙ ap (λ (xs : List ℕ). get_or bs at 0 + 256 * value more xs) rest
 
--- what is read is never more than a number may be
-pub number_within : (more : ℕ) (bytes : List ℕ) → number_in more bytes < limit more
-number_within zero [] = within_none zero
-number_within zero (b ∷ bs) = within_last b bs
-number_within (suc more) [] = within_none (suc more)
-number_within (suc more) (b ∷ bs) = within_more more b bs (number_within more bs)
+-- the bytes of a word, each with what it is worth
+pub word_is : (bs : List ℕ) (at : ℕ) → value 8 (drop at bs) ≡ get_or bs at 0 + 256 * get_or bs (at + 1) 0 + 65536 * get_or bs (at + 2) 0 + 16777216 * get_or bs (at + 3) 0 + 4294967296 * get_or bs (at + 4) 0 + 1099511627776 * get_or bs (at + 5) 0 + 281474976710656 * get_or bs (at + 6) 0 + 72057594037927936 * get_or bs (at + 7) 0
+word_is bs at = omega (arith, one_on 7 at (at + 1) bs (omega arith), one_on 6 (at + 1) (at + 2) bs (omega arith), one_on 5 (at + 2) (at + 3) bs (omega arith), one_on 4 (at + 3) (at + 4) bs (omega arith), one_on 3 (at + 4) (at + 5) bs (omega arith), one_on 2 (at + 5) (at + 6) bs (omega arith), one_on 1 (at + 6) (at + 7) bs (omega arith), one_on 0 (at + 7) (at + 8) bs (omega arith), value_none (drop (at + 8) bs))
 
-bytes_of_first : (n : ℕ) → bytes_of zero n ≡ n ∷ []
+pub bytes_of_word : (n : ℕ) → to_le_bytes w64 n ≡ bytes_of 8 n
 unfolding bytes_of
-bytes_of_first n = refl
+bytes_of_word n =
+    let b : n / 256 / 256 ≡ n / 65536 = omega arith in
+    let c : n / 65536 / 256 ≡ n / 16777216 = omega arith in
+    let d : n / 16777216 / 256 ≡ n / 4294967296 = omega arith in
+    let e : n / 4294967296 / 256 ≡ n / 1099511627776 = omega arith in
+    let f : n / 1099511627776 / 256 ≡ n / 281474976710656 = omega arith in
+    let g : n / 281474976710656 / 256 ≡ n / 72057594037927936 = omega arith in
+    rw (b, c, d, e, f, g) refl
 
-pub length_of_bytes : (more n : ℕ) → length (bytes_of more n) ≤ more + 1
-length_of_bytes zero n = rw (bytes_of_first n) (omega arith)
-length_of_bytes (suc more) n = ⊎_elim
-    (λ (k : n < 128). rw (bytes_of_one (suc more) n k) (omega arith))
-    (λ (k : 128 ≤ n).
-    let e : suc more - 1 ≡ more = omega arith in
-    rw (bytes_of_more (suc more) n (omega arith) k, e) (omega (arith, length_of_bytes more (n / 128))))
-    (cases_lt n 128)
+-- the lowest bytes of a number are the first of its bytes
+pub first_bytes : (w more n : ℕ) → take w (bytes_of (w + more) n) ≡ bytes_of w n
+unfolding bytes_of
+first_bytes zero more n = refl
+first_bytes (suc w) more n = let e : suc w + more ≡ suc (w + more) = omega arith in rw e (ap (λ (xs : List ℕ). n % 256 ∷ xs) (first_bytes w more (n / 256)))
+
+-- the bits of so many bytes, for each width
+abbrev pub masks : List ℕ
+masks = 0 ∷ 255 ∷ 65535 ∷ 16777215 ∷ 4294967295 ∷ 1099511627775 ∷ 281474976710655 ∷ 72057594037927935 ∷ 18446744073709551615 ∷ 18446744073709551615 ∷ 18446744073709551615 ∷ 18446744073709551615 ∷ 18446744073709551615 ∷ 18446744073709551615 ∷ 18446744073709551615 ∷ 18446744073709551615 ∷ []
+
+abbrev AreMasks : ℕ → List ℕ → Type 0
+AreMasks k [] = Unit {0}
+AreMasks k (m ∷ ms) = (m ≡ 2 ^ (8 * min k 8) - 1) × AreMasks (k + 1) ms
+
+mask_within : (k i : ℕ) (ms : List ℕ) → AreMasks k ms → i < length ms → get_or ms i 0 ≡ 2 ^ (8 * min (k + i) 8) - 1
+mask_within k i [] h within = absurd (omega arith)
+mask_within k zero (m ∷ ms) h within = let e : k + 0 ≡ k = omega arith in rw e h.0
+mask_within k (suc i) (m ∷ ms) h within = let e : k + suc i ≡ k + 1 + i = omega arith in rw e (mask_within (k + 1) i ms h.1 (omega arith))
+
+are_masks : AreMasks 0 masks
+are_masks = (refl, (refl, (refl, (refl, (refl, (refl, (refl, (refl, (refl, (refl, (refl, (refl, (refl, (refl, (refl, (refl, tt))))))))))))))))
+
+pub masked : (word wide : ℕ) → wide < 16 → bit_and word (get_or masks wide 0) ≡ word % 256 ^ min wide 8
+masked word wide h =
+    let e : 0 + wide ≡ wide = omega arith in
+    let is : get_or masks wide 0 ≡ 2 ^ (8 * min wide 8) - 1 = rw e at (mask_within 0 wide masks are_masks h) in
+    rw (is, bytes_bits (min wide 8)) (and_mask word (8 * min wide 8))

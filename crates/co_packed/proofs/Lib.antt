@@ -1,6 +1,6 @@
 pub mod Limits
 pub mod Again
-pub mod Flagged
+pub mod Widths
 pub mod RowAgain
 pub mod Tables
 pub mod Renumbered

@@ -1,34 +1,35 @@
--- What a number in so many bytes is below.
-use Rattle.std.proofs.Common.{ℕ, zero, suc, ◌≡◌, ◌<◌, ◌≤◌, ◌+◌, ◌-◌, ◌*◌, ◌^◌, refl, arith}
-use Rattle.co_packed.specs.Numbers.{limit}
+-- What a number of so many bytes is below.
+use Rattle.std.proofs.Common.{ℕ, zero, suc, ◌≡◌, ◌<◌, ◌≤◌, ◌+◌, ◌*◌, ◌^◌, min, refl, arith}
+use Rattle.std.proofs.Math.Nat.{pow-suc, pow-le-pow_right, min-eq_left, min-le_right}
+use Rattle.std.proofs.lemmas.Nat.{leading_length, pow_pos, pow-add}
+use Rattle.co_packed.specs.Numbers.{width}
 
-pub low_limit : (more : ℕ) → 2 ≤ limit more
-unfolding limit
-low_limit zero = omega arith
-low_limit (suc more) = omega (arith, low_limit more)
+-- eight bits a byte
+pub bytes_bits : (w : ℕ) → 256 ^ w ≡ 2 ^ (8 * w)
+bytes_bits zero = refl
+bytes_bits (suc w) =
+    let e : 8 * suc w ≡ 8 * w + 8 = omega arith in
+    rw e (omega (arith, bytes_bits w, pow-suc 256 w, pow-add 2 (8 * w) 8))
 
-pub next_limit : (more : ℕ) → 0 < more → limit more ≡ 128 * limit (more - 1)
-unfolding limit
-next_limit zero h = absurd (omega arith)
-next_limit (suc more) h = let e : suc more - 1 ≡ more = omega arith in rw e refl
+pub limit_pos : (w : ℕ) → 0 < 256 ^ w
+limit_pos w = rw (bytes_bits w) (pow_pos (8 * w))
 
--- nine bytes after the first are enough
-pub limit_rises : (more left : ℕ) → limit more ≤ limit (left + more)
-unfolding limit
-limit_rises more zero = let e : 0 + more ≡ more = omega arith in rw e (omega arith)
-limit_rises more (suc left) = let e : suc left + more ≡ suc (left + more) = omega arith in rw e (omega (arith, limit_rises more left))
+-- a number takes eight bytes at most
+pub few_bytes : (n : ℕ) → width n ≤ 8
+unfolding width
+few_bytes n = omega arith
 
-pub top_limit : limit 9 ≡ 2 ^ 64
-unfolding limit
-top_limit = refl
+-- and its bytes hold it
+pub below_width : (n : ℕ) → n < 2 ^ 64 → n < 256 ^ width n
+unfolding width
+below_width n h =
+    let long = leading_length 64 n h in
+    let up : 2 ^ long.0 ≤ 2 ^ (8 * width n) = pow-le-pow_right (omega arith) (omega arith) in
+    rw (bytes_bits (width n)) (omega arith)
 
-pub high_limit : (more : ℕ) → more ≤ 9 → limit more ≤ 2 ^ 64
-high_limit more h = let e : 9 - more + more ≡ 9 = omega arith in let up = limit_rises more (9 - more) in let at : limit more ≤ limit 9 = rw e at up in omega (arith, top_limit)
+-- no number of eight bytes, or fewer, is more than 64 bits
+pub limit_low : (wide : ℕ) → 256 ^ min wide 8 ≤ 2 ^ 64
+limit_low wide = rw (bytes_bits (min wide 8)) (pow-le-pow_right {n = 2} (omega arith) {i = 8 * min wide 8} {j = 64} (omega (arith, min-le_right wide 8)))
 
--- what no single byte holds takes more than one
-pub more_for_limit : (more : ℕ) → 2 < limit more → 0 < more
-unfolding limit
-more_for_limit zero h = absurd (omega arith)
-more_for_limit (suc more) h = omega arith
-
-pub ruleset limits = (low_limit, next_limit, high_limit, more_for_limit)
+pub same_width : (n : ℕ) → min (width n) 8 ≡ width n
+same_width n = min-eq_left (few_bytes n)

@@ -1,98 +1,80 @@
 -- A row that was written is read again, and so is what follows.
-use Rattle.std.proofs.Common.{get_or, ◌<◌, ◌^◌, ℕ, zero, suc, Bool, true, false, ◌≡◌, ◌≢◌, ◌+◌, ◌*◌, ◌/◌, ◌%◌, List, [], ◌∷◌, ◌++◌, length, refl, ◌∙◌, eqb, ⊎_elim, append_assoc, arith}
-use Rattle.std.proofs.lemmas.Grind.{common_steps}
-use Rattle.std.proofs.lemmas.Bool.{cases_eq}
+use Rattle.std.proofs.Common.{ℕ, zero, suc, ◌≡◌, ◌+◌, ◌/◌, ◌%◌, List, [], ◌∷◌, ◌++◌, length, drop, refl, sym, ap, ◌∙◌, append_assoc, length-append, arith}
 use Rattle.std.proofs.lemmas.List.{drop_at}
 use Rattle.std.specs.List.{flat_map, AllByRecursion}
-use Rattle.co_packed.proofs.Again.{number_again, after_again, number_within}
-use Rattle.co_packed.proofs.Flagged.{flags_some, flags_low, numbers_none, length_of_numbers}
-use Rattle.co_packed.proofs.Limits.{top_limit}
-use Rattle.co_packed.specs.Numbers.{bytes_of}
-use Rattle.co_packed.specs.Rows.{flags, flagged_bytes, flagged_in, after_flagged, numbers_in, body, row_bytes, row_in, after_row, IsRow}
+use Rattle.co_packed.proofs.Again.{length_of_bytes, word_again, number_again, number_long}
+use Rattle.co_packed.proofs.Limits.{few_bytes}
+use Rattle.co_packed.proofs.Widths.{widths_some, widths_low, numbers_none, numbers_next, length_of_numbers, size_none, size_next}
+use Rattle.co_packed.specs.Numbers.{width, bytes_of, value, number_in}
+use Rattle.co_packed.specs.Rows.{widths, number_bytes, row_bytes, numbers_in, row_in, size_in, row_size, after_row, IsRow}
 use Rattle.co_packed.specs.Typed.{IsLong}
 
-numbers_next : (count f : ℕ) (bs : List ℕ) → numbers_in (suc count) f bs ≡ flagged_in (eqb (f % 2) 1) bs ∷ numbers_in count (f / 2) (after_flagged (eqb (f % 2) 1) bs)
-unfolding numbers_in
-numbers_next count f bs = refl
+first_again : (n : ℕ) (rest : List ℕ) → IsLong n → number_in (width n) (number_bytes n ++ rest) ≡ n
+unfolding number_bytes
+first_again n rest long = number_again n rest long
 
--- a number that is not 0 is read by its flag, and one that is 0 has no bytes
-flagged_zero : (rest : List ℕ) → (flagged_in false (flagged_bytes 0 ++ rest) ≡ 0) × (after_flagged false (flagged_bytes 0 ++ rest) ≡ rest)
-unfolding flagged_bytes flagged_in after_flagged
-flagged_zero rest = (refl, refl)
+length_of_number : (n : ℕ) → length (number_bytes n) ≡ width n
+unfolding number_bytes
+length_of_number n = length_of_bytes (width n) n
 
-written : (n : ℕ) → n ≢ 0 → flagged_bytes n ≡ bytes_of 9 n
-unfolding flagged_bytes
-written n h = grind (arith, common_steps)
+behind_first : (n : ℕ) (rest : List ℕ) → drop (width n) (number_bytes n ++ rest) ≡ rest
+behind_first n rest = drop_at (number_bytes n) rest (width n) (length_of_number n)
 
-flagged_some : (n : ℕ) (rest : List ℕ) → n ≢ 0 → IsLong n → (flagged_in true (flagged_bytes n ++ rest) ≡ n) × (after_flagged true (flagged_bytes n ++ rest) ≡ rest)
-unfolding flagged_in after_flagged
-flagged_some n rest h long =
-    let below = top_limit in
-    rw (written n h) (number_again 9 n rest (omega arith), after_again 9 n rest (omega arith))
+width_first : (n : ℕ) (ns : List ℕ) → widths (n ∷ ns) % 16 ≡ width n
+width_first n ns = omega (arith, widths_some n ns, few_bytes n)
 
--- what reads the first number, by its flag
-first_again : (n : ℕ) (ns rest : List ℕ) → IsLong n → (flagged_in (eqb (flags (n ∷ ns) % 2) 1) (flagged_bytes n ++ rest) ≡ n) × (after_flagged (eqb (flags (n ∷ ns) % 2) 1) (flagged_bytes n ++ rest) ≡ rest) × (flags (n ∷ ns) / 2 ≡ flags ns)
-first_again n ns rest long = ⊎_elim
-    (λ (k : n ≡ 0).
-    let low : flags (n ∷ ns) ≡ 2 * flags ns = rw (flags_some n ns, k) (omega arith) in
-    let bit : eqb (flags (n ∷ ns) % 2) 1 ≡ false = grind (arith, common_steps) in
-    let half : flags (n ∷ ns) / 2 ≡ flags ns = omega arith in
-    let read = flagged_zero rest in
-    rw bit (rw (half, k) (read.0, read.1, refl)))
-    (λ (k : n ≢ 0).
-    let is : eqb n 0 ≡ false = grind (arith, common_steps) in
-    let low : flags (n ∷ ns) ≡ 1 + 2 * flags ns = rw (flags_some n ns, is) refl in
-    let bit : eqb (flags (n ∷ ns) % 2) 1 ≡ true = grind (arith, common_steps) in
-    let read = flagged_some n rest k long in
-    let half : flags (n ∷ ns) / 2 ≡ flags ns = omega arith in
-    rw bit (read.0, read.1, half))
-    (cases_eq n 0)
+widths_behind : (n : ℕ) (ns : List ℕ) → widths (n ∷ ns) / 16 ≡ widths ns
+widths_behind n ns = omega (arith, widths_some n ns, few_bytes n)
 
--- the numbers, by their flags
-numbers_again : (ns rest : List ℕ) → AllByRecursion IsLong ns → numbers_in (length ns) (flags ns) (flat_map flagged_bytes ns ++ rest) ≡ ns
-numbers_again [] rest h = numbers_none (flags []) rest
+-- the numbers, by their widths
+numbers_again : (ns rest : List ℕ) → AllByRecursion IsLong ns → numbers_in (length ns) (widths ns) (flat_map number_bytes ns ++ rest) ≡ ns
+numbers_again [] rest h = numbers_none (widths []) rest
 numbers_again (n ∷ ns) rest h =
-    let first = first_again n ns (flat_map flagged_bytes ns ++ rest) h.0 in
-    rw (append_assoc (flagged_bytes n) (flat_map flagged_bytes ns) rest) (numbers_next (length ns) (flags (n ∷ ns)) (flagged_bytes n ++ (flat_map flagged_bytes ns ++ rest))
-    ∙ rw (first.0, first.1, first.2, numbers_again ns rest h.1) refl)
+    rw (append_assoc (number_bytes n) (flat_map number_bytes ns) rest)
+    (numbers_next (length ns) (widths (n ∷ ns)) (number_bytes n ++ (flat_map number_bytes ns ++ rest))
+    ∙ rw (width_first n ns, widths_behind n ns, first_again n (flat_map number_bytes ns ++ rest) h.0, behind_first n (flat_map number_bytes ns ++ rest), numbers_again ns rest h.1) refl)
+
+size_again : (ns : List ℕ) → size_in (length ns) (widths ns) ≡ length (flat_map number_bytes ns)
+size_again [] = size_none (widths [])
+size_again (n ∷ ns) =
+    size_next (length ns) (widths (n ∷ ns))
+    ∙ rw (width_first n ns, widths_behind n ns, size_again ns, length-append (number_bytes n) (flat_map number_bytes ns), length_of_number n) refl
+
+pub row_length : (ns : List ℕ) → length (row_bytes ns) ≡ 8 + length (flat_map number_bytes ns)
+unfolding row_bytes
+row_length ns = length-append (bytes_of 8 (widths ns)) (flat_map number_bytes ns) ∙ ap (λ (k : ℕ). k + length (flat_map number_bytes ns)) (length_of_bytes 8 (widths ns))
+
+row_parts : (ns rest : List ℕ) → row_bytes ns ++ rest ≡ bytes_of 8 (widths ns) ++ (flat_map number_bytes ns ++ rest)
+unfolding row_bytes
+row_parts ns rest = append_assoc (bytes_of 8 (widths ns)) (flat_map number_bytes ns) rest
+
+widths_again : (ns rest : List ℕ) → length ns ≡ 16 → value 8 (row_bytes ns ++ rest) ≡ widths ns
+widths_again ns rest few = rw (row_parts ns rest) (word_again (widths ns) (flat_map number_bytes ns ++ rest) (widths_low ns (omega arith)))
+
+numbers_behind : (ns rest : List ℕ) → drop 8 (row_bytes ns ++ rest) ≡ flat_map number_bytes ns ++ rest
+numbers_behind ns rest = ap (drop 8) (row_parts ns rest) ∙ drop_at (bytes_of 8 (widths ns)) (flat_map number_bytes ns ++ rest) 8 (length_of_bytes 8 (widths ns))
 
 -- a whole row
 pub row_again : (ns rest : List ℕ) → IsRow ns → row_in (row_bytes ns ++ rest) ≡ ns
-unfolding row_in row_bytes body
+unfolding row_in
 row_again ns rest h =
     let few : length ns ≡ 16 = h.0 in
-    let low = flags_low ns (omega arith) in
-    let e : flags ns % 256 + 256 * (flags ns / 256) ≡ flags ns = omega arith in
-    rw (e, ← few) (numbers_again ns rest h.1)
+    ap (λ (w : ℕ). numbers_in 16 w (drop 8 (row_bytes ns ++ rest))) (widths_again ns rest few)
+    ∙ ap (numbers_in 16 (widths ns)) (numbers_behind ns rest)
+    ∙ ap (λ (k : ℕ). numbers_in k (widths ns) (flat_map number_bytes ns ++ rest)) (sym few)
+    ∙ numbers_again ns rest h.1
 
-pub after_row_again : (ns rest : List ℕ) → after_row (row_bytes ns ++ rest) ≡ rest
-unfolding after_row row_bytes
-after_row_again ns rest =
-    let e : length (body ns) + 1 ≡ suc (length (body ns)) = omega arith in
-    rw e (drop_at (body ns) rest (length (body ns)) refl)
+pub after_row_again : (ns rest : List ℕ) → length ns ≡ 16 → after_row (row_bytes ns ++ rest) ≡ rest
+unfolding after_row row_size
+after_row_again ns rest few =
+    let sized : size_in 16 (widths ns) ≡ length (flat_map number_bytes ns) = ap (λ (k : ℕ). size_in k (widths ns)) (sym few) ∙ size_again ns in
+    drop_at (row_bytes ns) rest (8 + size_in 16 (value 8 (row_bytes ns ++ rest))) (row_length ns ∙ ap (λ (k : ℕ). 8 + k) (sym sized ∙ ap (size_in 16) (sym (widths_again ns rest few))))
+
+numbers_long : (count ws : ℕ) (bs : List ℕ) → AllByRecursion IsLong (numbers_in count ws bs)
+numbers_long zero ws bs = rw (numbers_none ws bs) tt
+numbers_long (suc count) ws bs = rw (numbers_next count ws bs) (number_long (ws % 16) bs, numbers_long count (ws / 16) (drop (ws % 16) bs))
 
 -- what is read is a row
-flagged_long : (flag : Bool) (bs : List ℕ) → IsLong (flagged_in flag bs)
-unfolding flagged_in
-flagged_long true bs = omega (arith, number_within 9 bs, top_limit)
-flagged_long false bs = omega arith
-
-numbers_long : (count f : ℕ) (bs : List ℕ) → AllByRecursion IsLong (numbers_in count f bs)
-numbers_long zero f bs = rw (numbers_none f bs) tt
-numbers_long (suc count) f bs = rw (numbers_next count f bs) (flagged_long (eqb (f % 2) 1) bs, numbers_long count (f / 2) (after_flagged (eqb (f % 2) 1) bs))
-
 pub row_is_row : (bs : List ℕ) → IsRow (row_in bs)
 unfolding row_in
 row_is_row bs = (length_of_numbers 16 _ _, numbers_long 16 _ _)
-
-pub row_length : (ns : List ℕ) → length (row_bytes ns) ≡ length (flat_map flagged_bytes ns) + 3
-unfolding row_bytes body
-row_length ns = omega arith
-
-all_long : (ns : List ℕ) → ((i : ℕ) → get_or ns i 0 < 2 ^ 64) → AllByRecursion IsLong ns
-all_long [] h = tt
-all_long (n ∷ ns) h = (h 0, all_long ns (λ i. h (suc i)))
-
--- what sixteen numbers of 64 bits are
-pub numbers_are_row : (ns : List ℕ) → length ns ≡ 16 → ((i : ℕ) → get_or ns i 0 < 2 ^ 64) → IsRow ns
-numbers_are_row ns few h = (few, all_long ns h)

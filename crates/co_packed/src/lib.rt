@@ -1,6 +1,7 @@
 //! Notes in few bytes.
 #![tactic(auto)]
 
+mod ahead;
 mod kind_numbers;
 mod kinds;
 mod note_numbers;
@@ -13,5 +14,6 @@ mod rows;
 mod typed;
 mod words;
 
+pub use ahead::NotesAhead;
 pub use notes::PackedNotes;
 pub use packed::PackedNote;

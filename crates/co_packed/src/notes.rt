@@ -1,20 +1,21 @@
 //! A growing list of notes in few bytes.
 ghost use Rattle.std.specs.Prelude.{◌≡◌, ◌+◌, ◌/◌, ◌<◌, ◌≤◌, [], ◌∷◌, ◌++◌, OnOk, OnErr, Some, length, slice_get};
-ghost use Rattle.co_packed.specs.Rows.{row_in, after_row};
+ghost use Rattle.co_packed.specs.Rows.{row_in};
 ghost use Rattle.co_packed.specs.Stored.{after_rows, marked, start_of, rest_at};
 
+use crate::ahead::NotesAhead;
 use crate::note_numbers::{note_of, numbers_of};
-use crate::rows::{row_at, write_row};
+use crate::rows::{after_row, row_at, write_row};
 use co_object::Note;
 use co_sbt::{NoMemory, Seq};
 use std::alloc::Global;
 use std::marker::Model;
 
-/// A growing list of notes. A usual note takes 20 to 25 bytes, where a [`PackedNote`](crate::PackedNote) has 88: only its
-/// numbers that are not 0 are there, in as many bytes as they need.
+/// A growing list of notes. A usual note takes 20 to 26 bytes, where a [`PackedNote`](crate::PackedNote) has 88: its numbers
+/// are there in as many bytes as they need.
 ///
-/// A note takes as many bytes as it needs, so the list keeps where each eighth one starts, a byte a note. A reader
-/// goes on from there by the notes' lengths.
+/// A note takes as many bytes as it needs, so the list keeps where each fourth one starts, two bytes a note. A reader
+/// goes on from there by the notes' sizes.
 ///
 /// Contracts see the notes.
 #[derive(Drop)]
@@ -22,8 +23,6 @@ pub struct PackedNotes {
     bytes: Seq<u8>,
     starts: Seq<usize>,
     count: usize,
-    /// The bytes of the note that comes next, kept so that their memory is taken once.
-    next: Seq<u8>,
 }
 
 impl Model for PackedNotes {
@@ -39,33 +38,16 @@ impl Model for PackedNotes {
     ghost invariant = { λ s. IsStored s.bytes s.starts s.count };
 }
 
-/// Notes down that the next row starts at `end`, where it is an eighth one. After `NoMemory` the list is as before.
+/// Notes down that the next row starts at `end`, where it is a fourth one. After `NoMemory` the list is as before.
 #[tactic(auto, unfolding(crate::specs::Stored::marked))]
 fn mark(starts: &mut Seq<usize>, count: usize, end: usize) -> Result<(), NoMemory>
     ensures ok { OnOk result (starts.new ≡ marked starts.old count end) }
     ensures err { OnErr result (starts.new ≡ starts.old) }
 {
-    if count / 8 < starts.as_slice().len() {
+    if count / 4 < starts.as_slice().len() {
         return Ok(());
     }
     starts.push(end)
-}
-
-/// The bytes after the row that they begin with.
-fn after_row(bytes: &[u8]) -> &[u8]
-    ensures { result.now ≡ after_row bytes.now }
-{
-    match bytes {
-        [] => bytes,
-        [after, rest @ ..] => {
-            let after = usize::from(*after);
-            if after <= rest.len() {
-                &rest[after..]
-            } else {
-                &[]
-            }
-        }
-    }
 }
 
 /// The bytes after so many rows.
@@ -81,7 +63,7 @@ fn after_rows(bytes: &[u8], count: usize) -> &[u8]
 
 /// One note more. There are fewer notes than bytes of them, so their number fits.
 fn one_more(count: usize, end: usize) -> usize
-    requires { count ≤ end / 3 }
+    requires { count ≤ end / 8 }
     ensures { result ≡ count + 1 }
 {
     count + 1
@@ -89,13 +71,12 @@ fn one_more(count: usize, end: usize) -> usize
 
 /// The row at `at`, by the start before it.
 fn row_on(bytes: &[u8], starts: &[usize], at: usize) -> [u64; 16]
-    requires marked { at / 8 < length starts.now }
+    requires marked { at / 4 < length starts.now }
     requires within { start_of starts.now at ≤ length bytes.now }
-    requires there { 3 ≤ length (rest_at bytes.now starts.now at) }
     ensures { result ≡ row_in (rest_at bytes.now starts.now at) }
 {
-    let rest = &bytes[starts[at / 8]..];
-    row_at(after_rows(rest, at % 8))
+    let rest = &bytes[starts[at / 4]..];
+    row_at(after_rows(rest, at % 4)).0
 }
 
 impl PackedNotes {
@@ -107,7 +88,6 @@ impl PackedNotes {
             bytes: Seq::new(alloc),
             starts: Seq::new(alloc),
             count: 0,
-            next: Seq::new(alloc),
         }
     }
 
@@ -118,9 +98,10 @@ impl PackedNotes {
     {
         let end = self.bytes.as_slice().len();
         let count = one_more(self.count, end);
-        write_row(&mut self.next, &numbers_of(note))?;
+        let mut buffer = [0; 136];
+        let size = write_row(&mut buffer, &numbers_of(note));
         mark(&mut self.starts, self.count, end)?;
-        self.bytes.extend_from_slice(self.next.as_slice())?;
+        self.bytes.extend_from_slice(&buffer[..size])?;
         self.count = count;
         Ok(())
     }
@@ -139,5 +120,11 @@ impl PackedNotes {
     {
         let row = row_on(self.bytes.as_slice(), self.starts.as_slice(), at);
         note_of(&row)
+    }
+    /// All notes, in their order, to be taken one by one.
+    pub fn ahead(&self) -> NotesAhead<'_>
+        ensures { result ≡ self.now }
+    {
+        NotesAhead::new(self.bytes.as_slice(), self.count)
     }
 }

@@ -1,68 +1,70 @@
-//! Numbers as bytes, the lowest seven bits first. A byte from 128 on says that more follow; the tenth is the last, since ten
-//! bytes have more than the 64 bits of a number. So a small number takes few bytes.
-ghost use Rattle.std.specs.Prelude.{◌≡◌, ◌<◌, ◌≤◌, ◌++◌, OnOk};
-ghost use Rattle.co_packed.specs.Numbers.{bytes_of, number_in, after_number, limit};
+//! Numbers as bytes, the lowest first, in as many bytes as they need. So a small number takes few bytes, and 0 takes none.
+ghost use Rattle.std.specs.Prelude.{◌≡◌, ◌+◌, ◌-◌, ◌<◌, ◌≤◌, ◌^◌, ◌++◌, length, take, drop, min};
+ghost use Rattle.co_packed.specs.Numbers.{width, bytes_of, value, number_in};
 
-use co_sbt::{NoMemory, Seq};
+/// The numbers of so many lowest bytes have these bits. More than eight bytes count as eight.
+static MASKS: [u64; 16] = [
+    0,
+    0xff,
+    0xffff,
+    0xff_ffff,
+    0xffff_ffff,
+    0xff_ffff_ffff,
+    0xffff_ffff_ffff,
+    0xff_ffff_ffff_ffff,
+    0xffff_ffff_ffff_ffff,
+    0xffff_ffff_ffff_ffff,
+    0xffff_ffff_ffff_ffff,
+    0xffff_ffff_ffff_ffff,
+    0xffff_ffff_ffff_ffff,
+    0xffff_ffff_ffff_ffff,
+    0xffff_ffff_ffff_ffff,
+    0xffff_ffff_ffff_ffff,
+];
 
-/// How many bytes may follow the first one of a number.
-pub(crate) const MORE: u32 = 9;
-
-/// Appends the bytes of a number, `more` of them at most after the first.
-#[tactic(auto, using(crate::proofs::Limits::limits, crate::proofs::Again::bytes_of_more), unfolding(crate::specs::Numbers::bytes_of))]
-fn push_low(bytes: &mut Seq<u8>, number: u64, more: u32) -> Result<(), NoMemory>
-    requires few { more ≤ 9 }
-    requires within { number < limit more }
-    ensures { OnOk result (bytes.new ≡ bytes.old ++ bytes_of more number) }
-{
-    if number < 128 {
-        return bytes.push(number as u8);
-    }
-    bytes.push((number % 128 + 128) as u8)?;
-    push_low(bytes, number / 128, more - 1)
-}
-
-/// Appends the bytes of a number.
-pub(crate) fn push_number(bytes: &mut Seq<u8>, number: u64) -> Result<(), NoMemory>
-    ensures { OnOk result (bytes.new ≡ bytes.old ++ bytes_of 9 number) }
-{
-    push_low(bytes, number, MORE)
-}
-
-/// The number that the bytes begin with, in `more` bytes at most after the first, and the bytes after it.
-#[tactic(auto, using(crate::proofs::Limits::limits), unfolding(crate::specs::Numbers::number_in, crate::specs::Numbers::after_number))]
-fn low_in(bytes: &[u8], more: u32) -> (u64, &[u8])
-    requires { more ≤ 9 }
-    ensures value { result.0 ≡ number_in more bytes.now }
-    ensures rest { result.1.now ≡ after_number more bytes.now }
-    ensures bounded { result.0 < limit more }
-{
-    match bytes {
-        [] => (0, bytes),
-        [byte, rest @ ..] => {
-            let byte = u64::from(*byte);
-            if more == 0 {
-                (byte % 2, rest)
-            } else if byte < 128 {
-                (byte, rest)
-            } else {
-                let (high, rest) = low_in(rest, more - 1);
-                (byte % 128 + 128 * high, rest)
-            }
-        }
-    }
-}
-
-/// The number that the bytes begin with, and the bytes after it.
+/// How many bytes the number needs.
 #[inline]
-#[tactic(auto, unfolding(crate::specs::Numbers::number_in, crate::specs::Numbers::after_number))]
-pub(crate) fn number_at(bytes: &[u8]) -> (u64, &[u8])
-    ensures value { result.0 ≡ number_in 9 bytes.now }
-    ensures rest { result.1.now ≡ after_number 9 bytes.now }
+#[tactic(auto, unfolding(crate::specs::Numbers::width))]
+pub(crate) fn width_of(number: u64) -> u64
+    ensures value { result ≡ width number }
+    ensures bounded { result ≤ 8 }
 {
-    match bytes {
-        // Most numbers have one byte.
-        [byte, rest @ ..] if *byte < 128 => (u64::from(*byte), rest),
-        _ => low_in(bytes, MORE),
-    }
+    u64::from((64 - number.leading_zeros() + 7) / 8)
+}
+
+/// Puts the eight bytes of a number in the place of those at `at`.
+#[inline]
+pub(crate) fn put_word(buffer: &mut [u8; 136], at: usize, word: u64)
+    requires { at ≤ 128 }
+    ensures { take (at + 8) buffer.new ≡ take at buffer.old ++ bytes_of 8 word }
+{
+    buffer[at..at + 8].copy_from_slice(&word.to_le_bytes());
+}
+
+/// The number that eight bytes are, from `at` on.
+#[inline]
+#[tactic(auto, using(crate::proofs::Again::word_is))]
+pub(crate) fn word_at(bytes: &[u8], at: usize) -> u64
+    requires { at + 8 ≤ length bytes.now }
+    ensures { result ≡ value 8 (drop at bytes.now) }
+{
+    u64::from(bytes[at])
+        + 0x100 * u64::from(bytes[at + 1])
+        + 0x1_0000 * u64::from(bytes[at + 2])
+        + 0x100_0000 * u64::from(bytes[at + 3])
+        + 0x1_0000_0000 * u64::from(bytes[at + 4])
+        + 0x100_0000_0000 * u64::from(bytes[at + 5])
+        + 0x1_0000_0000_0000 * u64::from(bytes[at + 6])
+        + 0x100_0000_0000_0000 * u64::from(bytes[at + 7])
+}
+
+/// The number of this width, from `at` on.
+#[inline]
+#[tactic(auto, unfolding(crate::specs::Numbers::number_in))]
+pub(crate) fn number_at(bytes: &[u8], at: usize, width: usize) -> u64
+    requires within { at + 8 ≤ length bytes.now }
+    requires few { width < 16 }
+    ensures { result ≡ number_in width (drop at bytes.now) }
+{
+    word_at(bytes, at) & MASKS[width]
 }

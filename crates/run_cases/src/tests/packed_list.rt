@@ -347,3 +347,18 @@ fn a_packed_list_has_the_notes(rt: HostRuntime) -> Result<(), Fail> {
     }
     Ok(())
 }
+
+#[test]
+fn a_pass_over_a_packed_list_has_the_notes(rt: HostRuntime) -> Result<(), Fail> {
+    let mut packed = PackedNotes::new(rt.alloc());
+    let all = notes_of(rt.alloc(), NUMBERS[2])?;
+    for note in all.as_slice() {
+        packed.push(note)?;
+    }
+    let mut ahead = packed.ahead();
+    for note in all.as_slice() {
+        assert!(rt; ahead.next() == Some(*note));
+    }
+    assert!(rt; ahead.next() == None);
+    Ok(())
+}

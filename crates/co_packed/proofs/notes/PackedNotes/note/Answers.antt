@@ -10,7 +10,7 @@ row_on-row-requires c =
     let many : length c.args.self.now ≡ c.self.inside.count = ap length (sym c.self.view_is) ∙ length-map (rows_in c.self.inside.count c.self.inside.bytes) numbered_note ∙ length_of_rows c.self.inside.count c.self.inside.bytes in
     let enough = c.self.invariant.enough in
     let placed = stored_at c.self.inside.bytes c.self.inside.starts c.self.inside.count c.args.at c.self.invariant (omega arith) in
-    rw (c.as_slice.ensures, c.as_slice-2.ensures) (record { marked = omega arith; within = placed.in_range; there = placed.long })
+    rw (c.as_slice.ensures, c.as_slice-2.ensures) (record { marked = omega arith; within = placed.in_range })
 
 pub returns : goal.returns
 returns c =

@@ -18,13 +18,13 @@ one_more-count-requires c =
 pub invariant_of-self-2 : goal.invariant_of-self-2
 invariant_of-self-2 c =
     let end : c.as_slice-end.result.now ≡ c.self.inside.bytes = c.as_slice-end.ensures in
-    rw (c.one_more-count.ensures, c.in_ok-extend_from_slice.ensures.ok, c.as_slice.ensures, c.in_ok-write_row.ensures.written, c.in_ok-mark.ensures.ok, end)
+    rw (c.one_more-count.ensures, c.in_ok-extend_from_slice.ensures.ok, c.write_row-size.ensures.written, c.in_ok-mark.ensures.ok, end)
     (stored_more c.self.inside.bytes (marked c.self.inside.starts c.self.inside.count (length c.self.inside.bytes)) c.numbers_of.result c.self.inside.count
     (stored_marked c.self.inside.bytes c.self.inside.starts c.self.inside.count c.self.invariant)
     (marked_more c.self.inside.bytes c.self.inside.starts c.self.inside.count c.self.invariant)
-    c.write_row.ensures.row)
+    c.write_row-size.ensures.row)
 
 pub returns-clause-ok : goal.returns-clause-ok
 returns-clause-ok c =
-    let pushed = rows_pushed c.self.inside.bytes c.numbers_of.result c.self.inside.count c.self.invariant.whole c.write_row.ensures.row in
-    rw (c.one_more-count.ensures, c.in_ok-extend_from_slice.ensures.ok, c.as_slice.ensures, c.in_ok-write_row.ensures.written, pushed, map_push numbered_note (rows_in c.self.inside.count c.self.inside.bytes) c.numbers_of.result, c.numbers_of.ensures, c.self.view_is) refl
+    let pushed = rows_pushed c.self.inside.bytes c.numbers_of.result c.self.inside.count c.self.invariant.whole c.write_row-size.ensures.row in
+    rw (c.one_more-count.ensures, c.in_ok-extend_from_slice.ensures.ok, c.write_row-size.ensures.written, pushed, map_push numbered_note (rows_in c.self.inside.count c.self.inside.bytes) c.numbers_of.result, c.numbers_of.ensures, c.self.view_is) refl
