@@ -55,15 +55,15 @@ module _ (s : Script) (small : IsSmall s) where
   pub queue-tells : EachTells (QueueFits s) queue_words (queue_forms names)
   unfolding queue_forms
   queue-tells = (
-    tells-made (QueueFits s) queue_words (codes "insert") inserts insert_exact (λ a h. h) (λ a rest. refl),
+    tells-made (QueueFits s) queue_words (codes "insert") inserts insert_exact (λ a h. (h.1, h.0)) (λ a rest. refl),
     (
-      tells-made (QueueFits s) queue_words (codes "remove") (λ i. queue.Remove i) (one (callouts s small)) (λ a h. h) (λ a rest. refl),
+      tells-made (QueueFits s) queue_words (codes "remove") (λ i. queue.Remove i) (one (callouts s small)) (λ a h. (tt, h)) (λ a rest. refl),
       (
-        tells-made (QueueFits s) queue_words (codes "scan") (λ t. queue.Scan t) (one times) (λ a h. h) (λ a rest. refl),
+        tells-made (QueueFits s) queue_words (codes "scan") (λ t. queue.Scan t) (one times) (λ a h. (h, tt)) (λ a rest. refl),
         (
-          tells-direct (codes "pop") queue.PopDirect queue.Pop tt tt (λ rest. refl) (λ rest. refl),
+          tells-direct (codes "pop") queue.PopDirect queue.Pop (tt, tt) (tt, tt) (λ rest. refl) (λ rest. refl),
           (
-            tells-direct (codes "free") queue.FreeDirect queue.Free tt tt (λ rest. refl) (λ rest. refl),
+            tells-direct (codes "free") queue.FreeDirect queue.Free (tt, tt) (tt, tt) (λ rest. refl) (λ rest. refl),
             tt,
           ),
         ),
@@ -74,18 +74,18 @@ module _ (s : Script) (small : IsSmall s) where
   -- before `=`
   pub queue-back : (o : QOp) (ws : List Word) → QueueFits s o → queue_form names (queue_words o ++ codes "=" ∷ ws) ≡ Ok (o, codes "=" ∷ ws)
   unfolding queue_forms
-  queue-back (queue.Insert i n t) ws h = made-back inserts insert_exact (i, (n, t)) (codes "=" ∷ ws) h
-  queue-back (queue.Remove i) ws h = made-back (λ i. queue.Remove i) (one (callouts s small)) i (codes "=" ∷ ws) h
-  queue-back (queue.Scan now) ws h = made-back (λ t. queue.Scan t) (one times) now (codes "=" ∷ ws) h
+  queue-back (queue.Insert i n t) ws h = made-back inserts insert_exact (i, (n, t)) (codes "=" ∷ ws) (h.1, h.0)
+  queue-back (queue.Remove i) ws h = made-back (λ i. queue.Remove i) (one (callouts s small)) i (codes "=" ∷ ws) h.1
+  queue-back (queue.Scan now) ws h = made-back (λ t. queue.Scan t) (one times) now (codes "=" ∷ ws) h.0
   queue-back queue.Pop ws h = refl
   queue-back queue.Free ws h = refl
   queue-back queue.PopDirect ws h = refl
   queue-back queue.FreeDirect ws h = refl
 
   pub queue-ink : (o : QOp) → QueueFits s o → AreParts (queue_words o)
-  queue-ink (queue.Insert i n t) h = (lit (codes "insert") refl, insert_exact.ink (i, (n, t)) h)
-  queue-ink (queue.Remove i) h = (lit (codes "remove") refl, ((callouts s small).ink i h, tt))
-  queue-ink (queue.Scan now) h = (lit (codes "scan") refl, (times.ink now h, tt))
+  queue-ink (queue.Insert i n t) h = (lit (codes "insert") refl, insert_exact.ink (i, (n, t)) (h.1, h.0))
+  queue-ink (queue.Remove i) h = (lit (codes "remove") refl, ((callouts s small).ink i h.1, tt))
+  queue-ink (queue.Scan now) h = (lit (codes "scan") refl, (times.ink now h.0, tt))
   queue-ink queue.Pop h = (lit (codes "pop") refl, tt)
   queue-ink queue.Free h = (lit (codes "free") refl, tt)
   queue-ink queue.PopDirect h = (lit (codes "pop") refl, (lit (codes "direct") refl, tt))
@@ -94,19 +94,19 @@ module _ (s : Script) (small : IsSmall s) where
   answer-tells : EachTells (AnswerFits s) answer_words (answer_forms names)
   unfolding answer_forms
   answer-tells = (
-    tells-made (AnswerFits s) answer_words (codes "at") (λ t. answer.At t) (one times) (λ a h. h) (λ a rest. refl),
+    tells-made (AnswerFits s) answer_words (codes "at") (λ t. answer.At t) (one times) (λ a h. (h, tt)) (λ a rest. refl),
     (
-      tells-nothing (AnswerFits s) answer_words (codes "off") answer.Off tt (λ rest. refl),
+      tells-nothing (AnswerFits s) answer_words (codes "off") answer.Off (tt, tt) (λ rest. refl),
       (
-        tells-nothing (AnswerFits s) answer_words (codes "missing") answer.Missing tt (λ rest. refl),
+        tells-nothing (AnswerFits s) answer_words (codes "missing") answer.Missing (tt, tt) (λ rest. refl),
         (
-          tells-made (AnswerFits s) answer_words (codes "count") (λ k. answer.Count k) (one counts) (λ a h. h) (λ a rest. refl),
+          tells-made (AnswerFits s) answer_words (codes "count") (λ k. answer.Count k) (one counts) (λ a h. (h, tt)) (λ a rest. refl),
           (
-            tells-made (AnswerFits s) answer_words (codes "got") gots insert_exact (λ a h. h) (λ a rest. refl),
+            tells-made (AnswerFits s) answer_words (codes "got") gots insert_exact (λ a h. (h.1, h.0)) (λ a rest. refl),
             (
-              tells-nothing (AnswerFits s) answer_words (codes "empty") answer.Empty tt (λ rest. refl),
+              tells-nothing (AnswerFits s) answer_words (codes "empty") answer.Empty (tt, tt) (λ rest. refl),
               (
-                tells-nothing (AnswerFits s) answer_words (codes "freed") answer.Freed tt (λ rest. refl),
+                tells-nothing (AnswerFits s) answer_words (codes "freed") answer.Freed (tt, tt) (λ rest. refl),
                 tt,
               ),
             ),
@@ -118,20 +118,20 @@ module _ (s : Script) (small : IsSmall s) where
 
   answer-back : (a : QReply) (ws : List Word) → AnswerFits s a → answer_form names (answer_words a ++ ws) ≡ Ok (a, ws)
   unfolding answer_forms
-  answer-back (answer.At t) ws h = made-back (λ t. answer.At t) (one times) t ws h
+  answer-back (answer.At t) ws h = made-back (λ t. answer.At t) (one times) t ws h.0
   answer-back answer.Off ws h = refl
   answer-back answer.Missing ws h = refl
-  answer-back (answer.Count k) ws h = made-back (λ k. answer.Count k) (one counts) k ws h
-  answer-back (answer.Got i n at) ws h = made-back gots insert_exact (i, (n, at)) ws h
+  answer-back (answer.Count k) ws h = made-back (λ k. answer.Count k) (one counts) k ws h.0
+  answer-back (answer.Got i n at) ws h = made-back gots insert_exact (i, (n, at)) ws (h.1, h.0)
   answer-back answer.Empty ws h = refl
   answer-back answer.Freed ws h = refl
 
   answer-ink : (a : QReply) → AnswerFits s a → AreParts (answer_words a)
-  answer-ink (answer.At t) h = (lit (codes "at") refl, (times.ink t h, tt))
+  answer-ink (answer.At t) h = (lit (codes "at") refl, (times.ink t h.0, tt))
   answer-ink answer.Off h = (lit (codes "off") refl, tt)
   answer-ink answer.Missing h = (lit (codes "missing") refl, tt)
-  answer-ink (answer.Count k) h = (lit (codes "count") refl, (counts.ink k h, tt))
-  answer-ink (answer.Got i n at) h = (lit (codes "got") refl, insert_exact.ink (i, (n, at)) h)
+  answer-ink (answer.Count k) h = (lit (codes "count") refl, (counts.ink k h.0, tt))
+  answer-ink (answer.Got i n at) h = (lit (codes "got") refl, insert_exact.ink (i, (n, at)) (h.1, h.0))
   answer-ink answer.Empty h = (lit (codes "empty") refl, tt)
   answer-ink answer.Freed h = (lit (codes "freed") refl, tt)
 

@@ -1,6 +1,6 @@
 -- The values of notes are read exactly from the words that they are written by.
 use Rattle.std.proofs.Common.{◌≡◌, ℕ, zero, suc, ◌+◌, ◌-◌, ◌*◌, ◌^◌, ◌<◌, ◌≤◌, Bool, true, false, not, ◌&&◌, ◌||◌, List, [], ◌∷◌, length, get_or, refl, ap, sym, subst, ◌∙◌, arith, rules, ℤ, pos, negsuc, decimal}
-use Rattle.std.specs.Prelude.{Option, Some, None, Result, Ok, Err, nat_lt, nat_le, ◌==◌, if◌then◌else◌, codes, neg_ℤ, fold, IfSome}
+use Rattle.std.specs.Prelude.{Option, Some, None, Result, Ok, Err, nat_lt, nat_le, ◌==◌, if◌then◌else◌, codes, neg_ℤ, fold}
 use Rattle.std.specs.List.{list_all}
 use Rattle.std.specs.Char.{is_ascii_digit, digit_value}
 use Rattle.std.specs.Fmt.{signed_decimal}
@@ -194,27 +194,28 @@ codes-exact = record { back = back; told = told; ink = ink } where
 
 -- ---- a value or `-`
 
-pub or_dashes : {X : Type 0} (F : X → Type 0) (word : X → Word) (value : Word → Result X Cause) → IsSpelling F word value → ((x : X) → is_word (word x) (codes "-") ≡ false)
-    → IsSpelling (λ o. IfSome o F) (word_or_dash word) (or_dash value)
-or_dashes {X} F word value s other = record { back = back; told = told; ink = ink } where
-  back : (o : Option X) → IfSome o F → or_dash value (word_or_dash word o) ≡ Ok o
+-- `G` says of an option what `F` says of its value
+pub or_dashes : {X : Type 0} (F : X → Type 0) (G : Option X → Type 0) (word : X → Word) (value : Word → Result X Cause) → G None → ((x : X) → F x → G (Some x)) → ((x : X) → G (Some x) → F x)
+    → IsSpelling F word value → ((x : X) → is_word (word x) (codes "-") ≡ false) → IsSpelling G (word_or_dash word) (or_dash value)
+or_dashes {X} F G word value none some of_some s other = record { back = back; told = told; ink = ink } where
+  back : (o : Option X) → G o → or_dash value (word_or_dash word o) ≡ Ok o
   back None h = refl
-  back (Some x) h = ap (λ b. if b then Ok None else (value (word x) >>= λ v. Ok (Some v))) (other x) ∙ ap (λ r. r >>= λ v. Ok (Some v)) (s.back x h)
+  back (Some x) h = ap (λ b. if b then Ok None else (value (word x) >>= λ v. Ok (Some v))) (other x) ∙ ap (λ r. r >>= λ v. Ok (Some v)) (s.back x (of_some x h))
 
-  told : (w : Word) (o : Option X) → or_dash value w ≡ Ok o → IfSome o F × (w ≡ word_or_dash word o)
+  told : (w : Word) (o : Option X) → or_dash value w ≡ Ok o → G o × (w ≡ word_or_dash word o)
   told w o h =
-      cond-ok (IfSome o F × (w ≡ word_or_dash word o)) (is_word w (codes "-")) (Ok None) (value w >>= λ v. Ok (Some v)) o
-      (λ e k. let same : None ≡ o = cc in subst (λ (p : Option X). IfSome p F × (w ≡ word_or_dash word p)) same (tt, same_word w (codes "-") e))
+      cond-ok (G o × (w ≡ word_or_dash word o)) (is_word w (codes "-")) (Ok None) (value w >>= λ v. Ok (Some v)) o
+      (λ e k. let same : None ≡ o = cc in subst (λ (p : Option X). G p × (w ≡ word_or_dash word p)) same (none, same_word w (codes "-") e))
       (λ k.
       let b = bind-ok (value w) (λ v. Ok (Some v)) o k in
       let t = s.told w b.0 b.1 in
       let same : Some b.0 ≡ o = cc in
-      subst (λ (p : Option X). IfSome p F × (w ≡ word_or_dash word p)) same t)
+      subst (λ (p : Option X). G p × (w ≡ word_or_dash word p)) same (some b.0 t.0, t.1))
       h
 
-  ink : (o : Option X) → IfSome o F → IsPart (word_or_dash word o)
+  ink : (o : Option X) → G o → IsPart (word_or_dash word o)
   ink None h = lit (codes "-") refl
-  ink (Some x) h = s.ink x h
+  ink (Some x) h = s.ink x (of_some x h)
 
 -- ---- own notes
 
