@@ -1,6 +1,4 @@
 -- What queues, actors and notes name exists in the script.
-pub mod Queues
-pub mod Schedules
 pub mod Calls
 pub mod Places
 pub mod Notes

@@ -5,11 +5,11 @@ use Rattle.co_object.specs.Queue.{Queue as TimerQueue, Due}
 use Rattle.co_object.proofs.Each.{Each}
 use Rattle.co_object.proofs.Passing.{passing}
 use Rattle.co_program.specs.declared.Script.{Script}
+use Rattle.co_program.specs.Existing.{IsCallout}
 use Rattle.co_world.proofs.kept.Invariant.{IsLane}
 use Rattle.co_object.proofs.EntriesKept.{EntriesFit}
 use Rattle.co_world.proofs.basics.Sums.{total, total_above, total_at, total_of_both, total_of_ones, total_of_zeros}
 use Rattle.co_world.proofs.measure.Queues.{crowd}
-use Rattle.co_world.proofs.names.Queues.{Exists}
 
 -- elements whose numbers are below n, counted number by number
 counted : {X : Type 0} (key : X → ℕ) (n : ℕ) (xs : List X) → Each (λ x. key x < n) xs → length xs ≤ total (λ i. passing (λ x. key x == i) xs) 0 n
@@ -22,7 +22,7 @@ counted key n (x ∷ xs) below =
     let more : total rest 0 n + all (key x) ≤ total all 0 n + total (λ i. 0) 0 n + rest (key x) = total_at all rest (λ i. 0) 0 n (key x) (omega arith) within (λ i other. omega arith) in
     omega (arith, one, more, total_of_zeros 0 n, counted key n xs below.1)
 
-pub few_due : (s : Script) (q : TimerQueue) → EntriesFit (λ i n t. Exists s i) q → IsLane s q → crowd q ≤ length s.timers
+pub few_due : (s : Script) (q : TimerQueue) → EntriesFit (λ i n t. IsCallout s i) q → IsLane s q → crowd q ≤ length s.timers
 few_due s q names lane =
     let n : ℕ = length s.timers in
     let slow : ℕ → ℕ = λ i. passing (λ (d : Due). d.i == i) q.expired in

@@ -25,6 +25,7 @@ use Rattle.co_program.specs.declared.Parcel.{Parcel}
 use Rattle.co_program.specs.Action.{Action, Nothing, Silent, Take, Asks, action_for, spec_at}
 use Rattle.co_program.specs.declared.Asked.{Asked}
 use Rattle.co_program.specs.declared.Asked.TheVariants.{Callout, Queue, Itself}
+use Rattle.co_program.specs.Existing.{IsCallout}
 use Rattle.co_program.specs.Scripts.{IsScript}
 use Rattle.co_world.specs.declared.turn.Why.{Why}
 use Rattle.co_world.specs.declared.turn.Why.TheVariants.{Moving, Serviced}
@@ -45,8 +46,7 @@ use Rattle.co_object.proofs.EntriesKept.{entries_change}
 use Rattle.co_world.proofs.measure.Possible.{insert_possible, pop_possible, begin_possible, end_possible}
 use Rattle.co_world.proofs.kept.BySteps.{IsSteady}
 use Rattle.co_world.proofs.schedules.DueAnswers.{removed_due}
-use Rattle.co_world.proofs.names.Queues.{Exists}
-use Rattle.co_world.proofs.names.Schedules.{IsNamed}
+use Rattle.co_world.proofs.names.Places.{IsPut}
 use Rattle.co_world.proofs.measure.Crowds.{few_due}
 use Rattle.co_world.proofs.measure.Actors.{HasWaited}
 use Rattle.co_world.proofs.measure.Queues.{crowd, is_scan}
@@ -59,7 +59,7 @@ some_of (Some x) h = (x, refl)
 
 -- ---- the step
 
-module _ (s : Script) (ok : IsScript s) (w : World) (steady : IsSteady s w) (named : IsNamed s w) (a : ℕ) (may : a < actor_count s) where
+module _ (s : Script) (ok : IsScript s) (w : World) (steady : IsSteady s w) (put : IsPut s w) (a : ℕ) (may : a < actor_count s) where
   abbrev c : Cursor
   c = places_of w a
 
@@ -99,7 +99,7 @@ module _ (s : Script) (ok : IsScript s) (w : World) (steady : IsSteady s w) (nam
   few_after : (cpu : ℕ) (op : QOp) (o : TimerQueue × QReply) → QChange s.buckets (are_direct s) (queues_of w cpu) op o.1 o.0 → is_scan op ≡ true → crowd o.0 ≤ length s.timers
   few_after cpu op o change scan =
       few_due s o.0
-      (entries_change (λ i n t. Exists s i) (λ i n t u later h. h) s.buckets (are_direct s) (queues_of w cpu) op o.1 o.0 change (λ i n t is. (let clash : false ≡ true = sym (ap is_scan is) ∙ scan in cc)) (named.queues cpu))
+      (entries_change (λ i n t. IsCallout s i) (λ i n t u later h. h) s.buckets (are_direct s) (queues_of w cpu) op o.1 o.0 change (λ i n t is. (let clash : false ≡ true = sym (ap is_scan is) ∙ scan in cc)) (put.queues cpu))
       (lane_kept s (queues_of w cpu) op o.1 o.0 change (steady.good.holds.lanes cpu))
 
   queue_step_falls : (act cpu : ℕ) (op : QOp) → action_for s a c ≡ Asks act (Queue cpu op) → Falls (answered s w a act (Queue cpu op))

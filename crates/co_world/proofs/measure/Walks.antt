@@ -16,7 +16,7 @@ use Rattle.co_world.specs.Laws.{Falls, IsIdle, NeverStuck, IsSchedule, reached, 
 use Rattle.co_world.proofs.basics.Ranges.{all_range, at_range}
 use Rattle.co_world.proofs.legal.Schedules.{never_stuck_all}
 use Rattle.co_world.proofs.kept.BySchedules.{reached_steady}
-use Rattle.co_world.proofs.names.Schedules.{reached_named}
+use Rattle.co_world.proofs.names.Places.{reached_put}
 use Rattle.co_world.proofs.measure.Steps.{step_falls}
 
 -- ---- finished actors change nothing
@@ -77,7 +77,7 @@ idle_steps_stay s w a (inl finished) = finished_step s w a finished
 idle_steps_stay s w a (inr waits) = blocked_step s w a waits.0 waits.1
 
 pub every_step_falls : EveryStepFalls
-every_step_falls s ok schedule may a within unfinished free = step_falls s ok (reached s schedule) (reached_steady s ok schedule may) (reached_named s ok schedule) a within unfinished free
+every_step_falls s ok schedule may a within unfinished free = step_falls s ok (reached s schedule) (reached_steady s ok schedule may) (reached_put s ok schedule may) a within unfinished free
 
 module _ (s : Script) (ok : IsScript s) where
   -- some schedule reaches the world

@@ -57,7 +57,7 @@ put_last s [] note have there = (there, tt)
 put_last s (x ∷ notes) note have there = (have.0, put_last s notes note have.1 there)
 
 -- what stands in the world exists in the script
-record IsPut (s : Script) (w : World) : Type 0 where
+pub record IsPut (s : Script) (w : World) : Type 0 where
   pub places : (a : ℕ) → a < actor_count s → IsIn s (places_of w a)
   pub states : (i : ℕ) → CpusFit s.cpus (states_of w i)
   pub queues : (cpu : ℕ) → EntriesFit (λ i n t. IsCallout s i) (queues_of w cpu)
@@ -161,7 +161,7 @@ module _ (s : Script) (ok : IsScript s) where
     notes = λ a may. tt;
   }
 
-  reached_put : (schedule : List ℕ) → IsSchedule s schedule → IsPut s (reached s schedule)
+  pub reached_put : (schedule : List ℕ) → IsSchedule s schedule → IsPut s (reached s schedule)
   reached_put schedule may =
       may_run s (λ a. a < actor_count s) (IsPut s) answer_put remove_put
       (λ w a to may is put. moved w a to (due_at w a (Silent to) may is put) put)

@@ -1,6 +1,6 @@
 -- What each answer that is due and each step without a note keeps of the world holds after every schedule.
 use Rattle.std.proofs.Common.{◌≡◌, ℕ, List, [], ◌∷◌, false, refl, ap, ◌∙◌, Option, Some, None}
-use Rattle.std.specs.Prelude.{⊤, is_some}
+use Rattle.std.specs.Prelude.{is_some}
 use Rattle.std.specs.List.{AllByRecursion}
 use Rattle.co_object.specs.declared.CallOp.{CallOp}
 use Rattle.co_object.specs.declared.Op.TheVariants.{Call, Run}
@@ -72,18 +72,3 @@ module _ (s : Script) (May : ℕ → Type 0) (Q : World → Type 0)
   may_run (a ∷ schedule) w may q =
       may_run schedule (step s w a) may.1
       (cond_kept Q (is_some (blocked s w a)) w (stepped s w a (action_for s a (places_of w a))) q (stepped_kept w a (action_for s a (places_of w a)) may.0 refl q))
-
-anyone : (schedule : List ℕ) → AllByRecursion (λ a. ⊤) schedule
-anyone [] = tt
-anyone (a ∷ schedule) = (tt, anyone schedule)
-
--- of any schedule
-module _ (s : Script) (Q : World → Type 0)
-    (answer : (w : World) (a act : ℕ) (asked : Asked) → action_for s a (places_of w a) ≡ Asks act asked → Q w → Q (answered s w a act asked))
-    (remove : (w : World) (a act i cpu : ℕ) → Q w → Q (answered s w a act (Queue cpu (Remove i))))
-    (silent : (w : World) (a : ℕ) (to : Cursor) → action_for s a (places_of w a) ≡ Silent to → Q w → Q (with_cursor w a to))
-    (take : (w : World) (a : ℕ) (held : Held) (to : Cursor) → action_for s a (places_of w a) ≡ Take held to → Q w → Q (with_cursor w a to)) where
-  pub due_run : (schedule : List ℕ) (w : World) → Q w → Q (run s w schedule)
-  due_run schedule w q =
-      may_run s (λ a. ⊤) Q (λ w a act asked may is q. answer w a act asked is q) (λ w a act i cpu op may is gone q. remove w a act i cpu q) (λ w a to may is q. silent w a to is q) (λ w a held to may is q. take w a held to is q)
-      schedule w (anyone schedule) q

@@ -4,7 +4,6 @@ use Rattle.std.specs.Prelude.{nat_lt}
 use Rattle.co_object.specs.declared.Op.TheVariants.{Call, Run}
 use Rattle.co_object.specs.declared.CallOp.{CallOp}
 use Rattle.co_program.specs.declared.Script.{Script}
-use Rattle.co_program.specs.declared.Act.TheVariants.{Tick}
 use Rattle.co_program.specs.Actors.{actor_count}
 use Rattle.co_object.specs.declared.QOp.{QOp}
 use Rattle.co_program.specs.Action.{Action, Nothing, Silent, Take, Asks, action_for, scans_first}
