@@ -73,7 +73,12 @@ impl<N: Name> Books<N> {
         requires { AreHere N.name places.now passes.old }
         ensures { HasMet passes.old self.old passes.new self.new }
     {
-        CpuStory::meet_at(passes, places.cpus().get(self.cpu), &mut self.journal, self.cpu);
+        CpuStory::meet_at(
+            passes,
+            places.cpus().get(self.cpu),
+            &mut self.journal,
+            self.cpu,
+        );
     }
 
     /// Compares the actor's pass of callout `i` with its history. Nothing changes.

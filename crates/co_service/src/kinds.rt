@@ -72,11 +72,7 @@ impl Kind<Entry> for TimerStory {
         passes.timers.meet(life, keeper, i);
     }
 
-    fn take_at<N: Name, R: Wait>(
-        rt: &R,
-        books: &mut Vec<Books<N>>,
-        i: u32,
-    ) -> Keeper<TimerStory> {
+    fn take_at<N: Name, R: Wait>(rt: &R, books: &mut Vec<Books<N>>, i: u32) -> Keeper<TimerStory> {
         for _ in rt.forever() {
             for at in 0..books.len() {
                 let one = &mut books[at];
