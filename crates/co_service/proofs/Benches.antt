@@ -3,7 +3,7 @@ use Rattle.std.proofs.Common.{◌≡◌, ℕ, zero, suc, ◌+◌, ◌<◌, ◌�
 use Rattle.std.specs.Prelude.{slice_get, slice_index_or}
 use Rattle.std.specs.declared.option.Option.{Option}
 use Rattle.std.specs.declared.option.Option.TheVariants.{Some, None}
-use Rattle.std.proofs.lemmas.List.{length-map}
+use Rattle.std.proofs.lemmas.List.{length-map, length-replicate}
 use Rattle.co_life.specs.Identity.{LifeId}
 use Rattle.co_life.specs.Views.{KeeperView}
 use Rattle.co_object.specs.declared.note.Entry.{Entry}
@@ -12,7 +12,7 @@ use Rattle.co_service.specs.declared.line.Line.{Line}
 use Rattle.co_service.specs.Booted.{AreBegun, AreFirst}
 use Rattle.co_service.specs.Books.{IsKept, kept_of}
 use Rattle.co_service.specs.Stories.{IsHistory}
-use Rattle.co_service.proofs.Coming.{not_first}
+use Rattle.co_service.proofs.Coming.{none_at, not_first}
 use Rattle.co_service.proofs.Writing.{below_get}
 
 abbrev pub Kept : Type 0
@@ -23,15 +23,6 @@ away = None
 
 abbrev pub kept : KeeperView (Line Entry) → Kept
 kept k = Some k
-
-none_there : (n i : ℕ) → slice_index_or (replicate n away) i None ≡ None
-none_there zero i = refl
-none_there (suc n) zero = refl
-none_there (suc n) (suc i) = none_there n i
-
-long_away : (n : ℕ) → length (replicate n away) ≡ n
-long_away zero = refl
-long_away (suc n) = let h = long_away n in omega arith
 
 -- one of these, or beyond them
 Found : List (KeeperView (Line Entry)) → ℕ → Type 0
@@ -70,8 +61,8 @@ pub none_first : (lives : List LifeId) (p : Params) (cpu n : ℕ) (here : List K
 none_first lives p cpu n here long is =
     let other : (cpu + 1 == 0) ≡ false = not_first (cpu + 1) (λ e. omega arith) in
     subst (AreFirst lives p (cpu + 1)) (sym is) record {
-      each = λ i. subst (IsKept lives p i) (sym (none_there n i)) tt;
-      size = long_away n ∙ long;
+      each = λ i. subst (IsKept lives p i) (sym (none_at n i)) tt;
+      size = length-replicate n away ∙ long;
       come = λ i below. absurd (let less : i < cond false (length p.specs) 0 = subst (λ (b : Bool). i < cond b (length p.specs) 0) other below in omega arith);
-      missing = λ i from. ap kept_of (none_there n i);
+      missing = λ i from. ap kept_of (none_at n i);
     }

@@ -12,10 +12,10 @@ use Rattle.co_object.specs.declared.note.QEntry.{QEntry}
 use Rattle.co_service.specs.declared.params.Params.{Params}
 use Rattle.co_service.specs.declared.line.Line.{Line}
 use Rattle.co_service.specs.Name.{ServiceName}
-use Rattle.co_service.specs.Lines.{made, opening_of}
+use Rattle.co_service.specs.Lines.{actor_in, made, opening_of}
 use Rattle.co_service.specs.Seats.{SeatsView, seen_at, IsShown}
-use Rattle.co_service.specs.Stories.{by, queue_by, timer_actor, cpu_actor, IsHistory}
-use Rattle.co_service.specs.Views.{PassesView, passes_of, seen_of, journal_seen, ArePasses, IsKeeperOf}
+use Rattle.co_service.specs.Stories.{IsHistory}
+use Rattle.co_service.specs.Views.{AreOpened, IsKeeperOf}
 use Rattle.co_service.specs.Books.{BooksView, books_of, history_at, entries_in, entries_at, is_kept, with_history, kept_of, IsKept, AreBooks}
 use Rattle.co_service.proofs.Items.{get_here, get_or_of, set_map, set_same, index_set, index_else}
 use Rattle.co_service.proofs.Entries.{shown_made, same_opening}
@@ -79,21 +79,10 @@ module _ (name : ServiceName) (p : Params) (cpu : ℕ) (ks : List (Option (Keepe
   pub of_params : (k : KeeperView (Line Entry)) → IsKeeperOf IsHistory name.timers b.params i k → IsKept name.timers p i (Some k)
   of_params k at = subst (λ (r : Params). IsKeeperOf IsHistory name.timers r i k) params_are at
 
-module _ (actors a : ℕ) (params : Params) (t : SeatsView (Line Entry)) (q : SeatsView (Line QEntry)) (p : PassesView) (are : ArePasses actors a params t q) (view : passes_of a params t q ≡ p) (i : ℕ) where
-  pub timer_shown : (h : List (Line Entry)) → IsShown timer_actor t.actor h (seen_at t i) → IsShown by p.actor (made h) (seen_of p i)
-  timer_shown h shown =
-      subst (λ (v : PassesView). IsShown by v.actor (made h) (seen_of v i)) view
-      (subst (λ (s : ℕ × List Entry). IsShown by s.0 (made h) s.1) (λ d. (are.timers_opened.own d, sym (index-map made t.seen i []) d)) (shown_made by t.actor h (seen_at t i) shown))
+-- what a pass has met at place i, whose history this is
+module _ {E : Type 0} (made_by : E → ℕ) (params : Params) (actor count i : ℕ) (s : SeatsView (Line E)) (o : AreOpened params actor count s) (h : List (Line E)) (shown : IsShown (actor_in made_by) s.actor h (seen_at s i)) where
+  pub seat_shown : IsShown made_by actor (made h) (slice_index_or (map made s.seen) i [])
+  seat_shown = subst (λ (t : ℕ × List E). IsShown made_by t.0 (made h) t.1) (λ d. (o.own d, sym (index-map made s.seen i []) d)) (shown_made made_by s.actor h (seen_at s i) shown)
 
-  pub cpu_shown : (h : List (Line QEntry)) → IsShown cpu_actor q.actor h (seen_at q i) → IsShown queue_by p.actor (made h) (journal_seen p i)
-  cpu_shown h shown =
-      subst (λ (v : PassesView). IsShown queue_by v.actor (made h) (journal_seen v i)) view
-      (subst (λ (s : ℕ × List QEntry). IsShown queue_by s.0 (made h) s.1) (λ d. (are.cpus_opened.own d, sym (index-map made q.seen i []) d)) (shown_made queue_by q.actor h (seen_at q i) shown))
-
-  pub timer_params : (h : List (Line Entry)) (r : Params) → IsShown timer_actor t.actor h (seen_at t i) → i < length t.name → opening_of h ≡ Some (r, i) → opening_of h ≡ Some (p.params, i)
-  timer_params h r shown below opened =
-      opened ∙ (ap (λ (o : Params × ℕ). Some o) (same_opening h (seen_at t i) (r, i) (params, i) shown.prefix (are.timers_opened.opened i (let n = are.timers_opened.named in omega arith)) opened) ∙ ap (λ (v : PassesView). Some (v.params, i)) view)
-
-  pub cpu_params : (h : List (Line QEntry)) (r : Params) → IsShown cpu_actor q.actor h (seen_at q i) → i < length q.name → opening_of h ≡ Some (r, i) → opening_of h ≡ Some (p.params, i)
-  cpu_params h r shown below opened =
-      opened ∙ (ap (λ (o : Params × ℕ). Some o) (same_opening h (seen_at q i) (r, i) (params, i) shown.prefix (are.cpus_opened.opened i (let n = are.cpus_opened.named in omega arith)) opened) ∙ ap (λ (v : PassesView). Some (v.params, i)) view)
+  pub seat_opened : (r : Params) → i < length s.name → opening_of h ≡ Some (r, i) → opening_of h ≡ Some (params, i)
+  seat_opened r below opened = opened ∙ ap (λ (t : Params × ℕ). Some t) (same_opening h (seen_at s i) (r, i) (params, i) shown.prefix (o.opened i (let n = o.named in omega arith)) opened)

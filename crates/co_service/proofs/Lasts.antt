@@ -33,14 +33,15 @@ use Rattle.co_service.specs.Booted.{booted}
 use Rattle.co_service.specs.Call.{IsCalled, Target, landing, notes_in, removal_notes}
 use Rattle.co_service.specs.Name.{ServiceName}
 use Rattle.co_service.specs.declared.params.Params.{Params}
+use Rattle.co_service.specs.Kept.{Keeps, KeepsFree, KeepsTaken}
 use Rattle.co_service.specs.Outcomes.{IsScan, turn}
 use Rattle.co_service.specs.Params.{actors_of, spec_at}
 use Rattle.co_service.specs.Services.{AreSame, HasNext, IsBegun, IsEnded, IsFree, IsNothing, IsServing, IsTaken, IsTaking, far_of, next_target, run_entry, service_of}
 use Rattle.co_service.specs.Serving.{Runs, Service, Waits, begun, lane_actor, picked, served, served_in}
 use Rattle.co_service.specs.Stories.{queue_by}
-use Rattle.co_service.specs.Views.{PassesView, seen_of}
+use Rattle.co_service.specs.Views.{AreOf, PassesView, seen_of}
 use Rattle.co_service.proofs.CallGroup.{entry_of, group_listed, head, listed_notes, unarmed_group}
-use Rattle.co_service.proofs.Lasting.{AreQuiet, free_still, gone_by, goes, is_free, is_serving, quiet-append, quiet_turns, serving_still, turned_by, turns}
+use Rattle.co_service.proofs.Lasting.{AreQuiet, free_still, gone_by, goes, is_free, is_serving, quiet-append, quiet_turns, serving_still, still_of, turned_by, turns}
 use Rattle.co_service.proofs.WholeCall.{writes_keep}
 
 -- ---- a caller's operation
@@ -112,10 +113,13 @@ module _ (p q : PassesView) (act i : ℕ) (op : CallOp) (reply : Reply) (notes :
   pub called_serving : (direct : Bool) (cpu : ℕ) (d : Due) (far : Service) → IsServing direct p cpu d far → IsServing direct q cpu d far
   called_serving = serving_still p q notes called_same is.written quiet_call
 
+  pub called_keeps : (name : ServiceName) (params : Params) → AreOf name params p → Keeps name params p q
+  called_keeps name params are = record { of = still_of name params p q called_same are; actor = called_same.actor; free = called_free; serving = called_serving }
+
 -- ---- a scan
 
 module _ (p q : PassesView) (cpu act now : ℕ) (out : Scanned) (is : IsScan p cpu act now out q) where
-  pub scanned_same : AreSame p q
+  scanned_same : AreSame p q
   scanned_same = writes_keep p q (out.note ∷ []) is.written
 
   placed_turn : placed out.note ≡ (at.Cpu cpu, of.Cpu (turn p act (Scan now) (Count out.count)))
@@ -124,16 +128,19 @@ module _ (p q : PassesView) (cpu act now : ℕ) (out : Scanned) (is : IsScan p c
   quiet_scan : AreQuiet (map placed (out.note ∷ []))
   quiet_scan = subst (λ (n : Placed). AreQuiet (n ∷ [])) (sym placed_turn) ((λ direct s. rest_scan direct s now out.count), tt)
 
-  pub scanned_free : (direct : Bool) (x : ℕ) → IsFree direct p x → IsFree direct q x
+  scanned_free : (direct : Bool) (x : ℕ) → IsFree direct p x → IsFree direct q x
   scanned_free = free_still p q (out.note ∷ []) scanned_same is.written quiet_scan
 
-  pub scanned_serving : (direct : Bool) (x : ℕ) (d : Due) (far : Service) → IsServing direct p x d far → IsServing direct q x d far
+  scanned_serving : (direct : Bool) (x : ℕ) (d : Due) (far : Service) → IsServing direct p x d far → IsServing direct q x d far
   scanned_serving = serving_still p q (out.note ∷ []) scanned_same is.written quiet_scan
+
+  pub scanned_keeps : (name : ServiceName) (params : Params) → AreOf name params p → Keeps name params p q
+  scanned_keeps name params are = record { of = still_of name params p q scanned_same are; actor = scanned_same.actor; free = scanned_free; serving = scanned_serving }
 
 -- ---- the start of a service
 
 module _ (direct : Bool) (p q : PassesView) (cpu act : ℕ) where
-  pub taken_same : (out : Taken) → IsTaken direct p cpu act out q → AreSame p q
+  taken_same : (out : Taken) → IsTaken direct p cpu act out q → AreSame p q
   taken_same (Empty note) is = writes_keep p q (note ∷ []) is.written
   taken_same (Took i n time reply pop pick) is = writes_keep p q (pop ∷ pick ∷ []) is.written
 
@@ -167,9 +174,12 @@ module _ (direct : Bool) (p q : PassesView) (cpu act : ℕ) where
       ∙ (ap (gone_by i (far_of p i)) ends
       ∙ here i (picked n reply) (far_of p i)))
 
-  pub has_next : (out : Taken) → IsFree direct p cpu → IsTaken direct p cpu act out q → HasNext direct q cpu out
+  has_next : (out : Taken) → IsFree direct p cpu → IsTaken direct p cpu act out q → HasNext direct q cpu out
   has_next (Empty note) f is = nothing_next note f is
   has_next (Took i n time reply pop pick) f is = taken_next i n time reply pop pick f is
+
+  pub taken_keeps : (out : Taken) (name : ServiceName) (params : Params) → AreOf name params p → IsFree direct p cpu → IsTaken direct p cpu act out q → KeepsTaken name params p.actor direct cpu out q
+  taken_keeps out name params are f is = record { of = still_of name params p q (taken_same out is) are; actor_is = (taken_same out is).actor; next = has_next out f is }
 
 -- ---- its begin
 
@@ -187,7 +197,7 @@ module _ (p q : PassesView) (cpu act : ℕ) (out : Made) (d : Due) (is : IsBegun
 -- ---- its end
 
 module _ (direct : Bool) (p q : PassesView) (cpu act : ℕ) (d : Due) (reply : Reply) (notes : List Note) (is : IsEnded direct p cpu act d reply notes q) where
-  pub ended_same : AreSame p q
+  ended_same : AreSame p q
   ended_same = writes_keep p q notes is.written
 
   quiet_landing : (t : Option Target) → AreQuiet (landing p act d.i t is.time)
@@ -198,12 +208,15 @@ module _ (direct : Bool) (p q : PassesView) (cpu act : ℕ) (d : Due) (reply : R
   freed false s = refl
   freed true s = refl
 
-  pub ended_free : IsServing direct p cpu d (Runs d.n) → IsFree direct q cpu
+  ended_free : IsServing direct p cpu d (Runs d.n) → IsFree direct q cpu
   ended_free s = is_free direct p q cpu ended_same s.actor
       (turns direct cpu p q notes is.written
       ∙ (ap (turned_by direct cpu (service_of direct p cpu)) is.notes_are
       ∙ (ap (λ (t : Option Due). turned_by direct cpu t (landing p act d.i (next_target reply) is.time)) (here direct p q cpu act cpu (served direct (service_of direct p cpu) (free_of direct) Freed) (service_of direct p cpu) ∙ freed direct (service_of direct p cpu))
       ∙ quiet_turns direct cpu (landing p act d.i (next_target reply) is.time) None (quiet_landing (next_target reply)))))
+
+  pub ended_keeps : (name : ServiceName) (params : Params) → AreOf name params p → IsServing direct p cpu d (Runs d.n) → KeepsFree name params p.actor direct cpu q
+  ended_keeps name params are s = record { of = still_of name params p q ended_same are; actor_is = ended_same.actor; free = ended_free s }
 
 -- ---- before the first call
 

@@ -7,8 +7,6 @@ use Rattle.co_life.specs.Seen.{own}
 use Rattle.co_object.specs.declared.alone.Alone.{Alone}
 use Rattle.co_object.specs.declared.note.Entry.{Entry}
 use Rattle.co_object.specs.declared.note.Note.{Note}
-use Rattle.co_object.specs.declared.note.Place.TheVariants as at
-use Rattle.co_object.specs.declared.note.AnyEntry.TheVariants as of
 use Rattle.co_object.specs.declared.op.Op.TheVariants.{Run}
 use Rattle.co_object.specs.declared.op.RunOp.TheVariants.{Begin}
 use Rattle.co_object.specs.declared.reply.Reply.{Reply}
@@ -24,6 +22,7 @@ use Rattle.co_wheel.specs.Service.{moved_on, begin_outcome, begin_it, begin_serv
 use Rattle.co_wheel.specs.Turns.{Turns, free_of}
 use Rattle.co_wheel.proofs.Turning.{no-turns}
 use Rattle.co_service.specs.declared.params.Params.{Params}
+use Rattle.co_service.specs.Outcomes.{noted_entry}
 use Rattle.co_service.specs.Params.{actors_of, directs, spec_at}
 use Rattle.co_service.specs.Books.{BooksView, history_at, entries_in, entries_at, with_history}
 use Rattle.co_service.specs.Desk.{IsAt, IsDesk, alone_after}
@@ -37,7 +36,6 @@ use Rattle.co_service.specs.Writes.{WritesTimer}
 use Rattle.co_service.proofs.CalledDesk.{alone_then, at_now, of_changed, stand_after, there_now, within_history}
 use Rattle.co_service.proofs.DeskKept.{owes_turns}
 use Rattle.co_service.proofs.Lanes.{direct_spec, serves_lane}
-use Rattle.co_service.proofs.Noting.{one_note, timer_noted}
 use Rattle.co_service.proofs.NextSection.{service_is, slot_shown}
 use Rattle.co_service.proofs.ServedDesk.{at_begun, changed_so, lane_frees, lane_server, one_of, some_of}
 use Rattle.co_service.proofs.Serving.{may_begin, may_end}
@@ -167,10 +165,10 @@ module _ (w w' : Cpu) (b : BooksView) (scans : ℕ) (p : PassesView) (act : ℕ)
     begun_desk = subst (λ (G : List Entry). IsDesk w' (with_history b d.i (Some (G ++ entry ∷ []))) scans) (ap entries_in (sym is.kept)) begun_here
 
 -- what the caller is told of a begin
-pub begun_told : (p p' q : PassesView) (cpu act : ℕ) (d e : Due) (reply : Reply) (note : Note) (notes : List (Option Note)) (after : List Entry) → p' ≡ p → e ≡ d → note.place ≡ at.Timer e.i → note.entry ≡ of.Timer (run_entry p' act (Begin e.n cpu) reply)
-    → WritesTimer p' e.i (run_entry p' act (Begin e.n cpu) reply) note.pos after q → notes ≡ Some note ∷ None ∷ None ∷ [] → IsBegun p cpu act d (record { reply = reply; notes = notes }) q
-begun_told p p' q cpu act d e reply note notes after same one place entry wrote notes_is =
-    subst (λ (t : PassesView × Due × List (Option Note)). IsBegun t.0 cpu act t.1 (record { reply = reply; notes = t.2 }) q) (λ k. (same k, one k, sym notes_is k)) record {
-      notes_are = λ k. (place k, entry k) ∷ [];
-      written = one_note p' q note (timer_noted p' q note e.i (run_entry p' act (Begin e.n cpu) reply) after place entry wrote);
+pub begun_told : (p p' q : PassesView) (cpu act pos : ℕ) (d e : Due) (reply : Reply) (note : Note) (after : List Entry) → p' ≡ p → e ≡ d → note ≡ noted_entry e.i (run_entry p' act (Begin e.n cpu) reply) pos
+    → WritesTimer p' e.i (run_entry p' act (Begin e.n cpu) reply) pos after q → IsBegun p cpu act d (record { reply = reply; notes = Some note ∷ None ∷ None ∷ [] }) q
+begun_told p p' q cpu act pos d e reply note after same one is wrote =
+    subst (λ (t : PassesView × Due × Note). IsBegun t.0 cpu act t.1 (record { reply = reply; notes = Some t.2 ∷ None ∷ None ∷ [] }) q) (λ k. (same k, one k, sym is k)) record {
+      notes_are = refl;
+      written = (q, (after, wrote), refl);
     }

@@ -1,5 +1,5 @@
 -- What boot makes, place by place.
-use Rattle.std.specs.Prelude.{◌≡◌, ℕ, ◌+◌, ◌<◌, ◌≤◌, List, [], ◌∷◌, ◌++◌, length, map, slice_get, slice_index_or, ◌==◌, get_or, if◌then◌else◌}
+use Rattle.std.specs.Prelude.{◌≡◌, ℕ, ◌+◌, ◌<◌, ◌≤◌, List, [], ◌∷◌, ◌++◌, length, map, replicate, slice_get, slice_index_or, ◌==◌, if◌then◌else◌}
 use Rattle.std.specs.declared.option.Option.TheVariants.{Some, None}
 use Rattle.std.specs.declared.option.Option.{Option}
 use Rattle.co_life.specs.Identity.{LifeId}
@@ -8,14 +8,14 @@ use Rattle.co_object.specs.declared.alone.Alone.{Alone}
 use Rattle.co_object.specs.declared.note.Entry.{Entry}
 use Rattle.co_object.specs.declared.note.QEntry.{QEntry}
 use Rattle.co_object.specs.declared.spec.Spec.{Spec}
-use Rattle.co_object.specs.Callout.{opening}
 use Rattle.co_queue.specs.Timers.{empty_timers}
-use Rattle.co_wheel.specs.Cpu.{Cpu}
+use Rattle.co_wheel.specs.Callouts.{new_callout}
+use Rattle.co_wheel.specs.Cpu.{Cpu, cpu_of}
 use Rattle.co_service.specs.declared.params.Params.{Params}
 use Rattle.co_service.specs.declared.line.Line.{Line}
 use Rattle.co_service.specs.declared.line.Line.TheVariants.{Opening, Made}
 use Rattle.co_service.specs.Name.{ServiceName}
-use Rattle.co_service.specs.Params.{actor_count, directs, no_spec}
+use Rattle.co_service.specs.Params.{actor_count, directs}
 use Rattle.co_service.specs.Lines.{made, openings, opening_of, AllCarry}
 use Rattle.co_service.specs.Seats.{SeatsView, fresh_seats}
 use Rattle.co_service.specs.Views.{PassesView, IsKeeperOf}
@@ -131,32 +131,17 @@ pub record AreBooted (name : ServiceName) (p : Params) (all : List PassesView) :
   pub count : length all ≡ actor_count p
   pub each : (j : ℕ) → j < actor_count p → slice_get all j ≡ Some (booted name p j)
 
--- a callout before the first call
-abbrev pub new_callout : Spec → Option Alone
-new_callout spec = Some (record { spec = spec; state = opening 0 })
-
--- the callouts below k are at a wheel, and no others
-pub record AreCome (specs : List Spec) (k : ℕ) (here : List (Option Alone)) : Type 0 where
-  pub count : length here ≡ length specs
-  pub come : (i : ℕ) → i < k → get_or here i None ≡ new_callout (slice_index_or specs i no_spec)
-  pub missing : (i : ℕ) → k ≤ i → get_or here i None ≡ None
-
--- all callouts have come to a wheel, and nothing else has changed
-pub record HaveCome (specs : List Spec) (w w' : Cpu) : Type 0 where
-  pub come : AreCome specs (length specs) w'.callouts.here
-  pub rest : w' ≡ record w { callouts = record w.callouts { here = w'.callouts.here } }
-
--- the callouts of a CPU: all begin at CPU 0
+-- how many callouts begin at a CPU: all begin at CPU 0
 abbrev pub come_to : ℕ → List Spec → ℕ
 come_to cpu specs = if cpu == 0 then length specs else 0
 
+-- these callouts
+abbrev pub first_callouts : ℕ → List Spec → List (Option Alone)
+first_callouts cpu specs = if cpu == 0 then map new_callout specs else replicate (length specs) None
+
 -- the wheel of a CPU before the first call
-pub record IsFirst (p : Params) (cpu : ℕ) (w : Cpu) : Type 0 where
-  pub come : AreCome p.specs (come_to cpu p.specs) w.callouts.here
-  pub cpu_is : w.callouts.cpu ≡ cpu
-  pub serving : w.callouts.serving ≡ None
-  pub directing : w.callouts.directing ≡ None
-  pub timers : w.timers ≡ empty_timers (length p.specs) p.buckets (directs p)
+abbrev pub first_wheel : Params → ℕ → Cpu
+first_wheel p cpu = cpu_of (record { cpu = cpu; here = first_callouts cpu p.specs; serving = None; directing = None }) (empty_timers (length p.specs) p.buckets (directs p))
 
 -- the keepers of the callouts of a CPU, in whose histories no call has made an entry
 pub record AreFirst (lives : List LifeId) (p : Params) (cpu : ℕ) (keepers : List (Option (KeeperView (Line Entry)))) : Type 0 where
@@ -167,7 +152,7 @@ pub record AreFirst (lives : List LifeId) (p : Params) (cpu : ℕ) (keepers : Li
 
 -- what a CPU has before the first call: its wheel, and keepers of the service in whose histories no call has made an entry
 pub record IsBench (name : ServiceName) (p : Params) (cpu : ℕ) (w : Cpu) (keepers : List (Option (KeeperView (Line Entry)))) (journal : KeeperView (Line QEntry)) : Type 0 where
-  pub wheel : IsFirst p cpu w
+  pub wheel : w ≡ first_wheel p cpu
   pub first : AreFirst name.timers p cpu keepers
   pub own : IsKeeperOf IsJournal name.cpus p cpu journal
   pub nothing : made journal.history ≡ []

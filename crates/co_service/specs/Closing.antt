@@ -12,10 +12,10 @@ use Rattle.co_service.specs.declared.params.Params.{Params}
 use Rattle.co_service.specs.declared.line.Line.{Line}
 use Rattle.co_service.specs.Name.{ServiceName}
 use Rattle.co_service.specs.Params.{actor_count}
+use Rattle.co_service.specs.Kinds.{KindOf, cpu_kind, timer_kind}
 use Rattle.co_service.specs.Lines.{made, opening_of}
 use Rattle.co_service.specs.Seats.{IsShown}
-use Rattle.co_service.specs.Stories.{by, queue_by, IsHistory, IsJournal}
-use Rattle.co_service.specs.Views.{PassesView, AreOf, journal_seen, seen_of}
+use Rattle.co_service.specs.Views.{PassesView, AreOf}
 
 -- a service's name, and the final history of each callout and each CPU
 pub record ClosingView : Type 0 where
@@ -23,17 +23,36 @@ pub record ClosingView : Type 0 where
   pub timers : List (List Entry)
   pub cpus : List (List QEntry)
 
-module _ {E : Type 0} (made_by : E → ℕ) where
+module _ {E : Type 0} (kind : KindOf E) where
   -- an actor's pass of place i has met the keeper
-  pub record IsMet (actor : ℕ) (p : Params) (i : ℕ) (k : KeeperView (Line E)) (seen : List E) : Type 0 where
-    pub shown : IsShown made_by actor (made k.history) seen
-    pub opened : opening_of k.history ≡ Some (p, i)
-    pub actors : All (λ e. made_by e < k.actors) (made k.history)
+  pub record IsMet (i : ℕ) (k : KeeperView (Line E)) (q : PassesView) : Type 0 where
+    pub shown : IsShown kind.made_by q.actor (made k.history) (kind.seen q i)
+    pub opened : opening_of k.history ≡ Some (q.params, i)
+    pub actors : All (λ e. kind.made_by e < k.actors) (made k.history)
 
   -- a final history is legal, each entry is of one of the service's actors
-  pub record IsFinal (Legal : Params → ℕ → List E → Type 0) (p : Params) (i : ℕ) (H : List E) : Type 0 where
-    pub legal : Legal p i H
-    pub actors : All (λ e. made_by e < actor_count p) H
+  pub record IsFinal (p : Params) (i : ℕ) (H : List E) : Type 0 where
+    pub legal : kind.Legal p i H
+    pub actors : All (λ e. kind.made_by e < actor_count p) H
+
+  -- what an actor has seen of place i begins its final history, which has no more entries of the actor
+  abbrev pub Shows : List E → ℕ → PassesView → Type 0
+  Shows H i q = IsShown kind.made_by q.actor H (kind.seen q i)
+
+  -- a final history of place i, by one actor's passes
+  pub record Ends (H : List E) (i : ℕ) (q : PassesView) : Type 0 where
+    pub shown : Shows H i q
+    pub final : IsFinal q.params i H
+
+  -- each of these is the final history of its place, by all these passes
+  abbrev pub EndEach : List PassesView → List (List E) → Type 0
+  EndEach all Hs = (i : ℕ) (H : List E) → slice_get Hs i ≡ Some H → All (Ends H i) all
+
+  -- the final histories of so many places, and what the actors had seen of each
+  pub record AreFinal (n : ℕ) (p : Params) (all : List PassesView) (Hs : List (List E)) : Type 0 where
+    pub count : length Hs ≡ n
+    pub final : (i : ℕ) (H : List E) → slice_get Hs i ≡ Some H → IsFinal p i H
+    pub shown : (i : ℕ) (H : List E) → slice_get Hs i ≡ Some H → All (Shows H i) all
 
 -- an actor's passes were compared with a keeper's history: nothing has changed, and this is known
 pub record IsMeeting {E : Type 0} (k k' : KeeperView E) (q q' : PassesView) (Met : Type 0) : Type 0 where
@@ -46,19 +65,6 @@ pub record AreMeeting {E : Type 0} (k k' : KeeperView E) (all all' : List Passes
   pub keeper : k' ≡ k
   pub passes : all' ≡ all
   pub met : All Met all
-
-abbrev pub MeetsTimer : KeeperView (Line Entry) → ℕ → PassesView → Type 0
-MeetsTimer k i q = IsMet by q.actor q.params i k (seen_of q i)
-
-abbrev pub MeetsCpu : KeeperView (Line QEntry) → ℕ → PassesView → Type 0
-MeetsCpu k cpu q = IsMet queue_by q.actor q.params cpu k (journal_seen q cpu)
-
--- what an actor has seen of callout i begins its final history, which has no more entries of the actor
-abbrev pub ShowsTimer : List Entry → ℕ → PassesView → Type 0
-ShowsTimer H i q = IsShown by q.actor H (seen_of q i)
-
-abbrev pub ShowsCpu : List QEntry → ℕ → PassesView → Type 0
-ShowsCpu J cpu q = IsShown queue_by q.actor J (journal_seen q cpu)
 
 -- all actors' passes of a service
 pub record AreAll (name : ServiceName) (p : Params) (all : List PassesView) : Type 0 where
@@ -73,33 +79,13 @@ of_actor all actor = count_by (λ (q : PassesView). q.actor == actor) all
 pub record HasEach (p : Params) (all : List PassesView) : Type 0 where
   pub once : (actor : ℕ) → actor < actor_count p → of_actor all actor ≡ 1
 
--- a final history of callout i, by one actor's passes
-pub record EndsTimer (H : List Entry) (i : ℕ) (q : PassesView) : Type 0 where
-  pub shown : ShowsTimer H i q
-  pub final : IsFinal by IsHistory q.params i H
-
-pub record EndsCpu (J : List QEntry) (cpu : ℕ) (q : PassesView) : Type 0 where
-  pub shown : ShowsCpu J cpu q
-  pub final : IsFinal queue_by IsJournal q.params cpu J
-
--- each of these is the final history of its callout, by all these passes
-abbrev pub EndTimers : List PassesView → List (List Entry) → Type 0
-EndTimers all Hs = (i : ℕ) (H : List Entry) → slice_get Hs i ≡ Some H → All (EndsTimer H i) all
-
-abbrev pub EndCpus : List PassesView → List (List QEntry) → Type 0
-EndCpus all Js = (cpu : ℕ) (J : List QEntry) → slice_get Js cpu ≡ Some J → All (EndsCpu J cpu) all
-
 -- the final history of each callout, and what the actors had seen of it
-pub record AreEnded (p : Params) (all : List PassesView) (Hs : List (List Entry)) : Type 0 where
-  pub count : length Hs ≡ length p.specs
-  pub final : (i : ℕ) (H : List Entry) → slice_get Hs i ≡ Some H → IsFinal by IsHistory p i H
-  pub shown : (i : ℕ) (H : List Entry) → slice_get Hs i ≡ Some H → All (ShowsTimer H i) all
+abbrev pub AreEnded : Params → List PassesView → List (List Entry) → Type 0
+AreEnded p all Hs = AreFinal timer_kind (length p.specs) p all Hs
 
 -- the same of the CPUs' journals
-pub record AreEndedCpus (p : Params) (all : List PassesView) (Js : List (List QEntry)) : Type 0 where
-  pub count : length Js ≡ p.cpus
-  pub final : (cpu : ℕ) (J : List QEntry) → slice_get Js cpu ≡ Some J → IsFinal queue_by IsJournal p cpu J
-  pub shown : (cpu : ℕ) (J : List QEntry) → slice_get Js cpu ≡ Some J → All (ShowsCpu J cpu) all
+abbrev pub AreEndedCpus : Params → List PassesView → List (List QEntry) → Type 0
+AreEndedCpus p all Js = AreFinal cpu_kind p.cpus p all Js
 
 -- what there is room for
 pub record EndingView : Type 0 where
@@ -135,6 +121,6 @@ pub record HaveEnded {H : Type 0} (n : ℕ) (all all' : List PassesView) (finals
 pub record IsClosing (name : ServiceName) (all : List PassesView) (c : ClosingView) : Type 0 where
   pub name_is : c.name ≡ name
   pub timers_count : length c.timers ≡ length name.timers
-  pub timers : EndTimers all c.timers
+  pub timers : EndEach timer_kind all c.timers
   pub cpus_count : length c.cpus ≡ length name.cpus
-  pub cpus : EndCpus all c.cpus
+  pub cpus : EndEach cpu_kind all c.cpus

@@ -53,12 +53,6 @@ pub record MayStart (service : ServiceName) (params : Params) (direct : Bool) (p
   pub passes : AreOf service params p
   pub free : IsFree direct p cpu
 
--- the same, and it has an arming in service, which is to end
-pub record MayEnd (service : ServiceName) (params : Params) (direct : Bool) (p : PassesView) (cpu : ℕ) : Type 0 where
-  pub cpu_is : cpu < params.cpus
-  pub passes : AreOf service params p
-  pub serves : (d : Due) × IsServing direct p cpu d (Runs d.n)
-
 -- a desk was asked: where it doesn't answer nothing has changed, and else this holds of the answer
 pub record IsAsked {A : Type 0} (p : PassesView) (out : Option A) (told : A → Type 0) (q : PassesView) : Type 0 where
   pub none : IfNone out (q ≡ p)
@@ -79,9 +73,11 @@ pub record MayTry (service : ServiceName) (params : Params) (p : PassesView) (go
   pub passes : AreOf service params p
   pub none : gone ≡ None
 
--- the end of a service may be tried at a desk
+-- the end of a service may be tried at a desk: the passes' actor has an arming in service, which is to end
 pub record MayTryEnd (service : ServiceName) (params : Params) (direct : Bool) (p : PassesView) (cpu : ℕ) (gone : Option MovingView) : Type 0 where
-  pub may : MayEnd service params direct p cpu
+  pub cpu_is : cpu < params.cpus
+  pub passes : AreOf service params p
+  pub serves : (d : Due) × IsServing direct p cpu d (Runs d.n)
   pub none : gone ≡ None
 
 -- the passes are the service's, and their actor scans this CPU

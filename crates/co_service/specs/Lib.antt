@@ -23,6 +23,8 @@ pub mod Lines
 pub mod Stories
 -- one actor's passes of many places, with the lives of these places
 pub mod Seats
+-- the two kinds of places, the callouts and the CPUs
+pub mod Kinds
 -- a desk's books: the journal of its CPU, and the histories of the callouts that stand there
 pub mod Books
 -- which entry may stand next at a desk, by the queue after the journal and each callout's state

@@ -15,7 +15,7 @@ ghost use Rattle.co_service.specs.Params.{actors_of, spec_at};
 ghost use Rattle.co_service.specs.Services.{IsEnded, IsFree, IsServing, taken_of};
 ghost use Rattle.co_service.specs.Serving.{Runs};
 ghost use Rattle.co_service.specs.Views.{AreOf};
-ghost use Rattle.co_service.specs.Kept.{IsAsked, IsEndTried, IsStarted, KeepsAlone, KeepsFree, KeepsTaken, MayEnd, MayScan, MayStart, MayTry, MayTryEnd};
+ghost use Rattle.co_service.specs.Kept.{IsAsked, IsEndTried, IsStarted, KeepsAlone, KeepsFree, KeepsTaken, MayScan, MayStart, MayTry, MayTryEnd};
 
 use crate::finished::Finished;
 use crate::moving::Moving;
@@ -95,28 +95,7 @@ impl<N: Name> Service<N> {
         requires { MayStart N.name self.now direct passes.old cpu }
         ensures { IsStarted direct passes.old cpu act scans result passes.new }
     {
-        self.next_lane(rt, passes, cpu, act, scans, direct)
-    }
-
-    /// A start on the CPU's desk, and where it doesn't answer by the lock.
-    #[inline(always)]
-    fn next_lane_alone<R: Wait>(
-        &mut self,
-        rt: &R,
-        passes: &mut Passes,
-        cpu: u32,
-        act: u64,
-        scans: u64,
-        direct: bool,
-    ) -> Popped
-        requires { MayStart N.name self.old direct passes.old cpu }
-        ensures params { self.new ≡ self.old }
-        ensures started { IsStarted direct passes.old cpu act scans result passes.new }
-    {
-        if let Some(out) = self.next_here(passes, cpu, act, scans, direct) {
-            return out;
-        }
-        self.next_apart(rt, passes, cpu, act, scans, direct)
+        self.pop(rt, passes, cpu, act, scans, direct)
     }
 
     /// The first callout that has come due goes into service, as with [`Service::pop`].
@@ -137,7 +116,10 @@ impl<N: Name> Service<N> {
         ensures started { IsStarted direct passes.old cpu act scans result passes.new }
         ensures kept { KeepsTaken N.name self.old passes.old.actor direct cpu (taken_of direct passes.old.actor act cpu result) passes.new }
     {
-        self.next_lane_alone(rt, passes, cpu, act, scans, direct)
+        if let Some(out) = self.next_here(passes, cpu, act, scans, direct) {
+            return out;
+        }
+        self.next_apart(rt, passes, cpu, act, scans, direct)
     }
 
     /// The end of a service on the CPU's desk. False where the desk is of another CPU.
@@ -201,26 +183,6 @@ impl<N: Name> Service<N> {
         self.end_apart(rt, passes, cpu, act, direct, told, gone);
     }
 
-    /// The end of a service, the landing of what leaves included.
-    #[inline(always)]
-    fn end_lane_alone<R: Wait>(
-        &mut self,
-        rt: &R,
-        passes: &mut Passes,
-        cpu: u32,
-        act: u64,
-        direct: bool,
-        told: &mut Finished,
-    )
-        requires { MayEnd N.name self.old direct passes.old cpu }
-        ensures params { self.new ≡ self.old }
-        ensures ended { (d : Due) → IsServing direct passes.old cpu d (Runs d.n) → IsEnded direct passes.old cpu act d told.new.out.reply (finished_notes passes.old.actor act told.new) passes.new }
-    {
-        let mut leaves = None;
-        self.end_found_alone(rt, passes, cpu, act, direct, told, &mut leaves);
-        self.land_ended(rt, passes, act, leaves, told);
-    }
-
     /// A service is over, as with [`Service::end_into`].
     #[inline(always)]
     pub fn end_alone<R: Wait>(
@@ -239,7 +201,9 @@ impl<N: Name> Service<N> {
         ensures ended { (d : Due) → IsServing direct passes.old cpu d (Runs d.n) → IsEnded direct passes.old cpu act d told.new.out.reply (finished_notes passes.old.actor act told.new) passes.new }
         ensures kept { KeepsFree N.name self.old passes.old.actor direct cpu passes.new }
     {
-        self.end_lane_alone(rt, passes, cpu, act, direct, told);
+        let mut leaves = None;
+        self.end_found_alone(rt, passes, cpu, act, direct, told, &mut leaves);
+        self.land_ended(rt, passes, act, leaves, told);
     }
 
     /// A call on one desk. What it did and what leaves go to their places. False where the callout isn't there.
@@ -306,26 +270,6 @@ impl<N: Name> Service<N> {
         self.call_apart(rt, passes, act, i, op, told, gone);
     }
 
-    /// A call, the landing of what leaves included.
-    #[inline(always)]
-    fn call_landed_alone<R: Wait>(
-        &mut self,
-        rt: &R,
-        passes: &mut Passes,
-        act: u64,
-        i: u32,
-        op: &CallOp,
-        told: &mut Told,
-    )
-        requires passes { AreOf N.name self.old passes.old }
-        ensures params { self.new ≡ self.old }
-        ensures called { IsCalled passes.old act i op.now told.new.out.reply (told_notes passes.old.actor act i op.now told.new) passes.new }
-    {
-        let mut leaves = None;
-        self.call_found_alone(rt, passes, act, i, op, told, &mut leaves);
-        self.land_left(rt, passes, act, i, leaves, told);
-    }
-
     /// A call on callout `i`, as with [`Service::call_into`].
     #[inline(always)]
     pub fn call_alone<R: Wait>(
@@ -346,6 +290,8 @@ impl<N: Name> Service<N> {
         ensures kept { KeepsAlone N.name self.old self.new passes.old passes.new }
     {
         let _ = hold;
-        self.call_landed_alone(rt, passes, act, i, op, told);
+        let mut leaves = None;
+        self.call_found_alone(rt, passes, act, i, op, told, &mut leaves);
+        self.land_left(rt, passes, act, i, leaves, told);
     }
 }

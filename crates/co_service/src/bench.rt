@@ -11,10 +11,11 @@ use crate::books::Books;
 use crate::boot::{apart, push};
 use crate::desk::Desk;
 use crate::places::Places;
-use crate::wheels::{directs, first_wheel};
+use crate::wheels::first_wheel;
 use crate::{CpuStory, Name, Params, TimerStory};
 use co_bucket::WheelQueue;
 use co_life::{Keeper, Shown};
+use co_object::Spec;
 use co_sbt::NoMemory;
 use co_wheel::Wheel;
 use std::alloc::Global;
@@ -115,7 +116,7 @@ pub(crate) fn make_benches(
     requires journals { AreAllBegun IsJournal places.now.cpus params.now params.now.cpus journals.items }
     ensures { IfOk result (λ benches. AreBenches places.now params.now benches.items) }
 {
-    let direct = directs(alloc, params.specs.as_slice())?;
+    let direct = Spec::directs(alloc, params.specs.as_slice())?;
     let mut here = all_here(alloc, timers)?;
     let mut benches = Vec::new(alloc);
     let mut cpu = 0;

@@ -8,6 +8,7 @@ ghost use Rattle.co_service.specs.Stories.{IsHistory, IsJournal};
 ghost use Rattle.co_service.specs.Views.{IsKeeperOf};
 ghost use Rattle.co_service.specs.Written.{AreHere, AreTogether, HasMet, HasMetTimer, IsEntryWritten, IsTurnWritten};
 
+use crate::kinds::Kind;
 use crate::places::Places;
 use crate::{CpuStory, Name, Params, Passes, TimerStory};
 use co_life::{Keeper, Shown};
@@ -72,7 +73,12 @@ impl<N: Name> Books<N> {
         requires { AreHere N.name places.now passes.old }
         ensures { HasMet passes.old self.old passes.new self.new }
     {
-        passes.meet_cpu(places.cpus().get(self.cpu), &mut self.journal, self.cpu);
+        CpuStory::meet_at(
+            passes,
+            places.cpus().get(self.cpu),
+            &mut self.journal,
+            self.cpu,
+        );
     }
 
     /// Compares the actor's pass of callout `i` with its history. Nothing changes.
@@ -83,7 +89,7 @@ impl<N: Name> Books<N> {
         ensures { HasMetTimer passes.old self.old i passes.new self.new }
     {
         match &mut self.keepers[i as usize] {
-            Some(keeper) => passes.meet_timer(places.timers().get(i), keeper, i),
+            Some(keeper) => TimerStory::meet_at(passes, places.timers().get(i), keeper, i),
             None => unreachable!(),
         }
     }
@@ -96,7 +102,7 @@ impl<N: Name> Books<N> {
         requires own { entry.now.actor ≡ passes.old.actor }
         ensures { IsTurnWritten passes.old self.old entry.now result passes.new self.new }
     {
-        passes.write_cpu(places.cpus(), &mut self.journal, self.cpu, *entry)
+        CpuStory::write_at(passes, places.cpus(), &mut self.journal, self.cpu, *entry)
     }
 
     /// Writes an entry of the history of callout `i`, and gives its position.
@@ -115,7 +121,7 @@ impl<N: Name> Books<N> {
         ensures { IsEntryWritten passes.old self.old i entry.now result passes.new self.new }
     {
         match &mut self.keepers[i as usize] {
-            Some(keeper) => passes.write_timer(places.timers(), keeper, i, *entry),
+            Some(keeper) => TimerStory::write_at(passes, places.timers(), keeper, i, *entry),
             None => unreachable!(),
         }
     }

@@ -77,30 +77,8 @@ impl<N: Name> Service<N> {
         false
     }
 
-    /// A call on the desk that the callout's hint names, and where it isn't there on the others in rising order. False where it is on
-    /// none of them.
-    #[inline(always)]
-    fn call_once<R: Wait>(
-        &self,
-        rt: &R,
-        passes: &mut Passes,
-        act: u64,
-        i: u32,
-        op: &CallOp,
-        told: &mut Told,
-        gone: &mut Option<Moving<N>>,
-    ) -> bool
-        requires { MayTry N.name self.now passes.old gone.old }
-        ensures { IsTried passes.old act i op.now result told.new gone.new passes.new }
-    {
-        let first = self.hint(i);
-        if self.call_at(rt, passes, act, i, op, first, told, gone) {
-            return true;
-        }
-        self.call_elsewhere(rt, passes, act, i, op, first, told, gone)
-    }
-
-    /// A call, where the record stands. What it did and what leaves go to their places.
+    /// A call, where the record stands: on the desk that the callout's hint names, and where it isn't there on the others in rising
+    /// order. What it did and what leaves go to their places.
     #[inline(always)]
     pub(crate) fn call_found<R: Wait>(
         &self,
@@ -116,7 +94,11 @@ impl<N: Name> Service<N> {
         ensures { IsTried passes.old act i op.now true told.new gone.new passes.new }
     {
         for _ in rt.forever() {
-            if self.call_once(rt, passes, act, i, op, told, gone) {
+            let first = self.hint(i);
+            if self.call_at(rt, passes, act, i, op, first, told, gone) {
+                return;
+            }
+            if self.call_elsewhere(rt, passes, act, i, op, first, told, gone) {
                 return;
             }
         }
@@ -142,24 +124,5 @@ impl<N: Name> Service<N> {
         if let Some(moving) = leaves {
             told.insertion = Some(self.land(rt, passes, act, moving));
         }
-    }
-
-    /// A call, the landing of what leaves included. What it did goes to its place.
-    #[inline(always)]
-    pub(crate) fn call_landed<R: Wait>(
-        &self,
-        rt: &R,
-        passes: &mut Passes,
-        act: u64,
-        i: u32,
-        op: &CallOp,
-        told: &mut Told,
-    )
-        requires passes { AreOf N.name self.now passes.old }
-        ensures { IsCalled passes.old act i op.now told.new.out.reply (told_notes passes.old.actor act i op.now told.new) passes.new }
-    {
-        let mut leaves = None;
-        self.call_found(rt, passes, act, i, op, told, &mut leaves);
-        self.land_left(rt, passes, act, i, leaves, told);
     }
 }

@@ -3,12 +3,11 @@ ghost use Rattle.std.specs.Prelude.{◌≡◌, ◌<◌, ◌≤◌, ◌^◌, ℕ,
 ghost use Rattle.std.specs.List.{All};
 ghost use Rattle.std.specs.declared.option.Option.TheVariants.{Some};
 ghost use Rattle.co_service.specs.declared.params.Params.{Params};
-ghost use Rattle.co_service.specs.Closing.{AreMeeting, EndCpus, EndTimers, EndsCpu, EndsTimer, HasEnded, HaveEnded, IsClosing, MayEndAll, MeetsCpu, MeetsTimer, of_actor};
+ghost use Rattle.co_service.specs.Closing.{AreMeeting, EndEach, Ends, HasEnded, HaveEnded, IsClosing, IsMet, MayEndAll, of_actor};
 ghost use Rattle.co_service.specs.Lines.{made, opening_of};
-ghost use Rattle.co_service.specs.Stories.{IsHistory, IsJournal};
-ghost use Rattle.co_service.specs.Views.{IsKeeperOf};
 
 use crate::books::Books;
+use crate::kinds::Kind;
 use crate::places::Places;
 use crate::seats::Lives;
 use crate::{CpuStory, Name, Passes, TimerStory};
@@ -115,145 +114,59 @@ pub(crate) fn check_each<R: Wait>(rt: &R, passes: &Vec<Passes>)
     }
 }
 
-/// Takes the keeper of callout `i` from the books where it is. It is asked for again where none has it.
-fn take_timer<N: Name, R: Wait>(rt: &R, books: &mut Vec<Books<N>>, i: u32) -> Keeper<TimerStory>
-    ensures { (params : Params) × IsKeeperOf IsHistory N.name.timers params i result }
-{
-    for _ in rt.forever() {
-        for at in 0..books.len() {
-            let one = &mut books[at];
-            if one.has(i) {
-                return one.take(i);
-            }
-        }
-    }
-    unreachable!()
-}
-
-/// Takes the keeper of a CPU's journal from the books where it is. It is asked for again where none has it.
-fn take_journal<N: Name, R: Wait>(rt: &R, books: &mut Vec<Books<N>>, cpu: u32) -> Keeper<CpuStory>
-    ensures { (params : Params) × IsKeeperOf IsJournal N.name.cpus params cpu result }
-{
-    for _ in rt.forever() {
-        for at in 0..books.len() {
-            if books[at].cpu() == cpu {
-                return books.swap_remove(at).into_journal();
-            }
-        }
-    }
-    unreachable!()
-}
-
-/// Compares each actor's pass of callout `i` with its history.
-fn meet_timer(
+/// Compares each actor's pass of place `i` with its history.
+fn meet_all<E: Drop, S: Kind<E>>(
     passes: &mut Vec<Passes>,
-    life: &Life<TimerStory>,
-    keeper: &mut Keeper<TimerStory>,
+    life: &Life<S>,
+    keeper: &mut Keeper<S>,
     i: u32,
 )
-    requires at { All (λ q. slice_get q.name.timers i ≡ Some life.now) passes.old.items }
+    requires at { All (λ q. slice_get (S.kind.lives q.name) i ≡ Some life.now) passes.old.items }
     requires life { keeper.old.life ≡ life.now }
     requires opened { (params : Params) × (opening_of keeper.old.history ≡ Some (params, i)) }
-    ensures { AreMeeting keeper.old keeper.new passes.old.items passes.new.items (MeetsTimer keeper.old i) }
+    ensures { AreMeeting keeper.old keeper.new passes.old.items passes.new.items (IsMet S.kind i keeper.old) }
 {
     for at in 0..passes.len() {
         let one = &mut passes[at];
-        one.meet_timer(life, keeper, i);
+        S::meet_at(one, life, keeper, i);
     }
 }
 
-/// Compares each actor's pass of a CPU with its journal.
-fn meet_cpu(
-    passes: &mut Vec<Passes>,
-    life: &Life<CpuStory>,
-    keeper: &mut Keeper<CpuStory>,
-    cpu: u32,
-)
-    requires at { All (λ q. slice_get q.name.cpus cpu ≡ Some life.now) passes.old.items }
-    requires life { keeper.old.life ≡ life.now }
-    requires opened { (params : Params) × (opening_of keeper.old.history ≡ Some (params, cpu)) }
-    ensures { AreMeeting keeper.old keeper.new passes.old.items passes.new.items (MeetsCpu keeper.old cpu) }
-{
-    for at in 0..passes.len() {
-        let one = &mut passes[at];
-        one.meet_cpu(life, keeper, cpu);
-    }
-}
-
-/// Ends the history of callout `i`, once each actor's pass was compared with it.
-fn end_timer<N: Name, R: Wait>(
+/// Ends the history of place `i`, once each actor's pass was compared with it.
+fn end_place<E: Drop, S: Kind<E>, N: Name, R: Wait>(
     rt: &R,
-    life: Life<TimerStory>,
+    life: Life<S>,
     books: &mut Vec<Books<N>>,
     passes: &mut Vec<Passes>,
     i: u32,
-) -> Closed<TimerStory>
-    requires at { slice_get N.name.timers i ≡ Some life }
+) -> Closed<S>
+    requires at { slice_get (S.kind.lives N.name) i ≡ Some life }
     requires passes { All (λ q. q.name ≡ N.name) passes.old.items }
-    ensures { HasEnded passes.old.items passes.new.items (EndsTimer (made result) i) }
+    ensures { HasEnded passes.old.items passes.new.items (Ends S.kind (made result) i) }
 {
-    let mut keeper = take_timer(rt, books, i);
-    meet_timer(passes, &life, &mut keeper, i);
+    let mut keeper = S::take_at(rt, books, i);
+    meet_all(passes, &life, &mut keeper, i);
     life.close(keeper)
 }
 
-/// Ends the histories of all callouts.
-fn end_timers<N: Name, R: Wait>(
+/// Ends the histories of all places of a kind.
+fn end_places<E: Drop, S: Kind<E>, N: Name, R: Wait>(
     rt: &R,
-    lives: Lives<TimerStory>,
+    lives: Lives<S>,
     books: &mut Vec<Books<N>>,
     passes: &mut Vec<Passes>,
-    room: Room<Closed<TimerStory>>,
-) -> Seq<Closed<TimerStory>>
-    requires may { MayEndAll N.name.timers lives room }
+    room: Room<Closed<S>>,
+) -> Seq<Closed<S>>
+    requires may { MayEndAll (S.kind.lives N.name) lives room }
     requires passes { All (λ q. q.name ≡ N.name) passes.old.items }
-    ensures { HaveEnded (length N.name.timers) passes.old.items passes.new.items result (EndTimers passes.old.items (map made result)) }
+    ensures { HaveEnded (length (S.kind.lives N.name)) passes.old.items passes.new.items result (EndEach S.kind passes.old.items (map made result)) }
 {
     let mut room = room;
     let mut i = 0;
     for life in lives.into_vec() {
-        let closed = end_timer(rt, life, books, passes, i);
+        let closed = end_place(rt, life, books, passes, i);
         room.push(closed);
         i += 1;
-    }
-    room.into_seq()
-}
-
-/// Ends a CPU's journal, once each actor's pass was compared with it.
-fn end_cpu<N: Name, R: Wait>(
-    rt: &R,
-    life: Life<CpuStory>,
-    books: &mut Vec<Books<N>>,
-    passes: &mut Vec<Passes>,
-    cpu: u32,
-) -> Closed<CpuStory>
-    requires at { slice_get N.name.cpus cpu ≡ Some life }
-    requires passes { All (λ q. q.name ≡ N.name) passes.old.items }
-    ensures { HasEnded passes.old.items passes.new.items (EndsCpu (made result) cpu) }
-{
-    let mut keeper = take_journal(rt, books, cpu);
-    meet_cpu(passes, &life, &mut keeper, cpu);
-    life.close(keeper)
-}
-
-/// Ends the journals of all CPUs.
-fn end_cpus<N: Name, R: Wait>(
-    rt: &R,
-    lives: Lives<CpuStory>,
-    books: &mut Vec<Books<N>>,
-    passes: &mut Vec<Passes>,
-    room: Room<Closed<CpuStory>>,
-) -> Seq<Closed<CpuStory>>
-    requires may { MayEndAll N.name.cpus lives room }
-    requires passes { All (λ q. q.name ≡ N.name) passes.old.items }
-    ensures { HaveEnded (length N.name.cpus) passes.old.items passes.new.items result (EndCpus passes.old.items (map made result)) }
-{
-    let mut room = room;
-    let mut cpu = 0;
-    for life in lives.into_vec() {
-        let closed = end_cpu(rt, life, books, passes, cpu);
-        room.push(closed);
-        cpu += 1;
     }
     room.into_seq()
 }
@@ -278,7 +191,7 @@ pub(crate) fn end_all<N: Name, R: Wait>(
     let mut passes = passes;
     let name = Shown::of(&places);
     let (callouts, wheels) = places.into_lives();
-    let timers = end_timers(rt, callouts, &mut books, &mut passes, timers);
-    let cpus = end_cpus(rt, wheels, &mut books, &mut passes, cpus);
+    let timers = end_places(rt, callouts, &mut books, &mut passes, timers);
+    let cpus = end_places(rt, wheels, &mut books, &mut passes, cpus);
     Closing { name, timers, cpus }
 }

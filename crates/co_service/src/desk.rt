@@ -6,7 +6,7 @@ ghost use Rattle.co_service.specs.Books.{is_kept};
 ghost use Rattle.co_service.specs.Params.{actors_of, directs};
 ghost use Rattle.co_service.specs.May.{queue_of};
 ghost use Rattle.co_service.specs.Moving.{IsTried};
-ghost use Rattle.co_service.specs.Outcomes.{IsScan, IsTurn, turn};
+ghost use Rattle.co_service.specs.Outcomes.{IsScan, turn};
 ghost use Rattle.co_wheel.specs.Cpu.{Cpu};
 ghost use Rattle.co_service.specs.Written.{AreHere, AreTogether, IsTurnWritten};
 ghost use Rattle.co_service.specs.Kept.{Answers};
@@ -15,10 +15,10 @@ use crate::books::Books;
 use crate::calling::write_group;
 use crate::moving::{Moving, depart};
 use crate::places::Places;
-use crate::told::{Told, number, time};
+use crate::told::{Told, number, time, turn_note};
 use crate::{Name, Passes, Scanned};
 use co_bucket::WheelQueue;
-use co_object::{AnyEntry, CallOp, Note, Place, QEntry, QOp, QReply};
+use co_object::{CallOp, QEntry, QOp, QReply};
 use co_queue::Looks;
 use co_sbt::Sbt;
 use co_wheel::Wheel;
@@ -71,37 +71,6 @@ pub(crate) fn write_turn<N: Name>(
     books.write(places, passes, &entry)
 }
 
-/// Writes what the queue did next, and notes it.
-#[inline(always)]
-pub(crate) fn note_turn<N: Name>(
-    books: &mut Books<N>,
-    places: &Places,
-    passes: &mut Passes,
-    act: u64,
-    op: QOp,
-    reply: QReply,
-) -> Note
-    requires together { AreTogether N.name places.now passes.old books.old }
-    requires possible { reply_of (step books.old.params.buckets (directs books.old.params) (queue_of books.old) op) ≡ Some reply }
-    requires actor { IsOfItsActor (actors_of books.old.params) books.old.cpu passes.old.actor op }
-    ensures note { IsTurn books.old.cpu (turn passes.old act op reply) result }
-    ensures written { IsTurnWritten passes.old books.old (turn passes.old act op reply) result.pos passes.new books.new }
-{
-    let place = Place::Cpu(books.cpu());
-    let entry = QEntry {
-        actor: passes.actor(),
-        act,
-        op,
-        reply,
-    };
-    let pos = books.write(places, passes, &entry);
-    Note {
-        place,
-        pos,
-        entry: AnyEntry::Cpu(entry),
-    }
-}
-
 impl<N: Name> Desk<N> {
     /// The desk's CPU.
     #[inline(always)]
@@ -109,14 +78,6 @@ impl<N: Name> Desk<N> {
         ensures { result ≡ self.now.cpu }
     {
         self.books.cpu()
-    }
-
-    /// Whether callout `i` is here.
-    #[inline(always)]
-    fn has(&self, i: u32) -> bool
-        ensures { result ≡ is_kept self.now i }
-    {
-        self.books.has(i)
     }
 
     /// The books, where nothing else is wanted any more.
@@ -145,7 +106,8 @@ impl<N: Name> Desk<N> {
         let mut looks = Looks::new();
         let count = self.wheel.scan(now, &mut looks);
         let op = QOp::Scan { now };
-        let note = note_turn(
+        let actor = passes.actor();
+        let pos = write_turn(
             &mut self.books,
             places,
             passes,
@@ -156,7 +118,14 @@ impl<N: Name> Desk<N> {
         self.scans = self.scans.saturating_add(1);
         Some(Scanned {
             count,
-            note,
+            note: turn_note(
+                actor,
+                act,
+                cpu,
+                QOp::Scan { now },
+                QReply::Count(count),
+                pos,
+            ),
             looks: looks.count(),
         })
     }
@@ -179,7 +148,7 @@ impl<N: Name> Desk<N> {
         ensures why { result ≡ false → is_kept self.old i ≡ false }
         ensures tried { IsTried passes.old act i op.now result told.new gone.new passes.new }
     {
-        if !self.has(i) {
+        if !self.books.has(i) {
             return false;
         }
         self.books.meet(places, passes);

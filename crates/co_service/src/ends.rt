@@ -8,7 +8,7 @@ ghost use Rattle.co_service.specs.Moving.{IsOfService};
 ghost use Rattle.co_service.specs.Services.{IsEnded, IsServing};
 ghost use Rattle.co_service.specs.Serving.{Runs};
 ghost use Rattle.co_service.specs.Views.{AreOf, PassesView};
-ghost use Rattle.co_service.specs.Kept.{KeepsFree, MayEnd, MayTryEnd};
+ghost use Rattle.co_service.specs.Kept.{KeepsFree, MayTryEnd};
 
 use crate::finished::Finished;
 use crate::moving::Moving;
@@ -64,25 +64,6 @@ impl<N: Name> Service<N> {
         }
     }
 
-    /// The end of a service, the landing of what leaves included. What was done goes to its place.
-    #[inline(always)]
-    fn end_lane<R: Wait>(
-        &self,
-        rt: &R,
-        passes: &mut Passes,
-        cpu: u32,
-        act: u64,
-        direct: bool,
-        told: &mut Finished,
-    )
-        requires { MayEnd N.name self.now direct passes.old cpu }
-        ensures { (d : Due) → IsServing direct passes.old cpu d (Runs d.n) → IsEnded direct passes.old cpu act d told.new.out.reply (finished_notes passes.old.actor act told.new) passes.new }
-    {
-        let mut leaves = None;
-        self.end_found(rt, passes, cpu, act, direct, told, &mut leaves);
-        self.land_ended(rt, passes, act, leaves, told);
-    }
-
     /// The CPU's service is over: the function has returned, or was skipped. Where an arming at another CPU waited for this
     /// end, the callout lands there.
     ///
@@ -135,6 +116,8 @@ impl<N: Name> Service<N> {
         ensures ended { (d : Due) → IsServing direct passes.old cpu d (Runs d.n) → IsEnded direct passes.old cpu act d told.new.out.reply (finished_notes passes.old.actor act told.new) passes.new }
         ensures kept { KeepsFree N.name self.now passes.old.actor direct cpu passes.new }
     {
-        self.end_lane(rt, passes, cpu, act, direct, told);
+        let mut leaves = None;
+        self.end_found(rt, passes, cpu, act, direct, told, &mut leaves);
+        self.land_ended(rt, passes, act, leaves, told);
     }
 }

@@ -15,6 +15,7 @@ mod ends;
 mod finished;
 mod fresh;
 mod joining;
+mod kinds;
 mod laws;
 mod line;
 mod locked;

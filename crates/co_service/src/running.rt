@@ -1,10 +1,8 @@
 //! What a service writes in the books of a desk.
-ghost use Rattle.std.specs.Prelude.{◌≡◌, [], ◌∷◌, IfSome, true};
+ghost use Rattle.std.specs.Prelude.{◌≡◌, IfSome, true};
 ghost use Rattle.std.specs.Option.{option_map};
 ghost use Rattle.std.specs.declared.option.Option.TheVariants.{Some, None};
 ghost use Rattle.co_object.specs.declared.op.Op.TheVariants.{Run};
-ghost use Rattle.co_object.specs.declared.note.AnyEntry.TheVariants as of;
-ghost use Rattle.co_object.specs.declared.note.Place.TheVariants as at;
 ghost use Rattle.co_service.specs.Books.{is_kept};
 ghost use Rattle.co_service.specs.Desk.{Owes};
 ghost use Rattle.co_service.specs.May.{MayHappen};
@@ -68,40 +66,6 @@ pub(crate) fn run_note(actor: u32, act: u64, i: u32, op: &RunOp, reply: &Reply, 
             reply: *reply,
         }),
     }
-}
-
-/// The entry of a service's operation, with its note.
-#[inline(always)]
-pub(crate) fn write_run<N: Name>(
-    books: &mut Books<N>,
-    places: &Places,
-    passes: &mut Passes,
-    act: u64,
-    i: u32,
-    op: &RunOp,
-    reply: &Reply,
-) -> Note
-    requires together { AreTogether N.name places.now passes.old books.old }
-    requires here { is_kept books.old i ≡ true }
-    requires may { MayHappen books.old i (run_entry passes.old act op.now reply.now) }
-    ensures note { (result.place ≡ at.Timer i) × (result.entry ≡ of.Timer (run_entry passes.old act op.now reply.now)) }
-    ensures written { IsEntryWritten passes.old books.old i (run_entry passes.old act op.now reply.now) result.pos passes.new books.new }
-{
-    let actor = passes.actor();
-    let pos = enter_run(books, places, passes, act, i, op, reply);
-    run_note(actor, act, i, op, reply, pos)
-}
-
-/// Up to three notes, in their order.
-#[inline(always)]
-pub(crate) fn three(
-    first: Option<Note>,
-    second: Option<Note>,
-    third: Option<Note>,
-) -> [Option<Note>; 3]
-    ensures { result ≡ first ∷ second ∷ third ∷ [] }
-{
-    [first, second, third]
 }
 
 /// The queue's operation that takes from a lane.

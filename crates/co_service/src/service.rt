@@ -195,7 +195,9 @@ impl<N: Name> Service<N> {
         ensures kept { Keeps N.name self.now passes.old passes.new }
     {
         let _ = hold;
-        self.call_landed(rt, passes, act, i, op, told);
+        let mut leaves = None;
+        self.call_found(rt, passes, act, i, op, told, &mut leaves);
+        self.land_left(rt, passes, act, i, leaves, told);
     }
 
     /// What is due at this CPU has come due. It waits for the desk's lock.

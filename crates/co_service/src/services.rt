@@ -21,7 +21,7 @@ use crate::finished::Finished;
 use crate::moving::{Moving, depart};
 use crate::places::Places;
 use crate::popped::Popped;
-use crate::running::{enter_run, free, serviced, three, waited, write_run, write_taken};
+use crate::running::{enter_run, free, run_note, serviced, waited, write_taken};
 use crate::told::Inserted;
 use crate::{Made, Name, Passes};
 use co_object::{QOp, QReply, RunOp};
@@ -133,9 +133,13 @@ impl<N: Name> Desk<N> {
         self.books.meet_timer(places, passes, i);
         let reply = self.wheel.begin();
         let op = RunOp::Begin { n, cpu };
-        let note = write_run(&mut self.books, places, passes, act, i, &op, &reply);
-        let notes = three(Some(note), None, None);
-        Some(Made { reply, notes })
+        let actor = passes.actor();
+        let pos = enter_run(&mut self.books, places, passes, act, i, &op, &reply);
+        let note = run_note(actor, act, i, &op, &reply, pos);
+        Some(Made {
+            reply,
+            notes: [Some(note), None, None],
+        })
     }
 
     /// The service is over: of this CPU, or of its interrupt where `direct`. What was done goes to its place, and so does the callout where

@@ -2,7 +2,7 @@
 ghost use Rattle.std.specs.Prelude.{◌<◌, false, true};
 ghost use Rattle.co_service.specs.Services.{FollowsScans, IsFree, IsTaken, taken_of};
 ghost use Rattle.co_service.specs.Views.{AreOf, journal_seen};
-ghost use Rattle.co_service.specs.Kept.{IsStarted, KeepsTaken, MayStart};
+ghost use Rattle.co_service.specs.Kept.{IsStarted, KeepsTaken};
 
 use crate::desk::Desk;
 use crate::popped::Popped;
@@ -10,35 +10,6 @@ use crate::{Name, Passes, Service, Taken};
 use std::sync::Wait;
 
 impl<N: Name> Service<N> {
-    /// The first callout that has come due goes into service, of the CPU or of its interrupt where `direct`. It waits until the
-    /// CPU's journal has so many Scans.
-    #[inline(always)]
-    pub(crate) fn next_lane<R: Wait>(
-        &self,
-        rt: &R,
-        passes: &mut Passes,
-        cpu: u32,
-        act: u64,
-        scans: u64,
-        direct: bool,
-    ) -> Popped
-        requires { MayStart N.name self.now direct passes.old cpu }
-        ensures { IsStarted direct passes.old cpu act scans result passes.new }
-    {
-        for _ in rt.forever() {
-            let locked = &self.desks[cpu as usize];
-            let mut desk = locked
-                .changed
-                .wait_while(rt, locked.desk.lock(rt), |desk: &mut Desk<N>| -> bool {
-                    desk.lacks(scans)
-                });
-            if let Some(out) = desk.next(&self.places, passes, cpu, act, scans, direct) {
-                return out;
-            }
-        }
-        unreachable!()
-    }
-
     /// The first callout that has come due goes into the CPU's service. It waits until the CPU's journal has so many Scans,
     /// which the desk counts. That they come no clause says.
     ///
@@ -78,7 +49,8 @@ impl<N: Name> Service<N> {
         popped.answer(actor, act, cpu, true)
     }
 
-    /// The same start, of the CPU's service or of its interrupt's where `direct`. No note is made of it: for a caller that keeps none.
+    /// The same start, of the CPU's service or of its interrupt's where `direct`, once the journal has so many Scans. No note is made
+    /// of it: for a caller that keeps none.
     #[inline(always)]
     pub fn pop<R: Wait>(
         &self,
@@ -95,6 +67,17 @@ impl<N: Name> Service<N> {
         ensures started { IsStarted direct passes.old cpu act scans result passes.new }
         ensures kept { KeepsTaken N.name self.now passes.old.actor direct cpu (taken_of direct passes.old.actor act cpu result) passes.new }
     {
-        self.next_lane(rt, passes, cpu, act, scans, direct)
+        for _ in rt.forever() {
+            let locked = &self.desks[cpu as usize];
+            let mut desk = locked
+                .changed
+                .wait_while(rt, locked.desk.lock(rt), |desk: &mut Desk<N>| -> bool {
+                    desk.lacks(scans)
+                });
+            if let Some(out) = desk.next(&self.places, passes, cpu, act, scans, direct) {
+                return out;
+            }
+        }
+        unreachable!()
     }
 }

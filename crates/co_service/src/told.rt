@@ -61,20 +61,6 @@ pub(crate) fn time(op: &CallOp) -> Sbt
     }
 }
 
-/// The CPU from whose queue an arming went, by the reply.
-#[inline(always)]
-fn off(reply: &Reply) -> Option<u32>
-    ensures { result ≡ off_of reply.now }
-{
-    match *reply {
-        Reply::Armed { off, .. } => off,
-        Reply::Stopped { off, .. } => off,
-        Reply::Wait { off, .. } => off,
-        Reply::Drained { off, .. } => off,
-        _ => None,
-    }
-}
-
 /// The note of an entry of a CPU's journal.
 #[inline(always)]
 pub(crate) fn turn_note(actor: u32, act: u64, cpu: u32, op: QOp, reply: QReply, pos: u64) -> Note
@@ -114,7 +100,7 @@ fn call_note(actor: u32, act: u64, i: u32, op: &CallOp, reply: &Reply, pos: u64)
 fn removal_note(actor: u32, act: u64, i: u32, reply: &Reply, pos: u64) -> Option<Note>
     ensures { noted result ≡ removal_told actor act i (off_of reply.now) pos }
 {
-    let Some(cpu) = off(reply) else {
+    let Some(cpu) = reply.off() else {
         return None;
     };
     let op = QOp::Remove { i };

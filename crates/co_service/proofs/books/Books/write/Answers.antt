@@ -8,24 +8,24 @@ use Rattle.co_service.proofs.BooksWritten.{journal_back, journal_books, journal_
 use Rattle.co_service.proofs.DeskKept.{owes_next}
 use Rattle.co_service.proofs.books.Books.write.Goals as goal
 
-pub write_cpu-requires-clause-name : goal.write_cpu-requires-clause-name
-write_cpu-requires-clause-name g c = ap (λ (n : ServiceName). n.cpus) c.requires.together.here.passes_are ∙ sym (c.cpus.ensures ∙ ap (λ (n : ServiceName). n.cpus) c.requires.together.here.places_are)
+pub write_at-requires-clause-name : goal.write_at-requires-clause-name
+write_at-requires-clause-name g c = ap (λ (n : ServiceName). n.cpus) c.requires.together.here.passes_are ∙ sym (c.cpus.ensures ∙ ap (λ (n : ServiceName). n.cpus) c.requires.together.here.places_are)
 
-pub write_cpu-requires-clause-may : goal.write_cpu-requires-clause-may
-write_cpu-requires-clause-may g c = record {
+pub write_at-requires-clause-may : goal.write_at-requires-clause-may
+write_at-requires-clause-may g c = record {
   keeper = journal_keeper g.N.Name.name c.self.inside.params.value c.self.inside.cpu c.self.inside.keepers.items c.self.inside.journal c.args.self.now c.self.invariant c.self.view_is c.cpus.result.now c.args.passes.now.params c.requires.together.params_are (c.cpus.ensures ∙ ap (λ (n : ServiceName). n.cpus) c.requires.together.here.places_are) c.args.entry.now;
   legal = journal_legal g.N.Name.name c.self.inside.params.value c.self.inside.cpu c.self.inside.keepers.items c.self.inside.journal c.args.self.now c.self.invariant c.self.view_is c.cpus.result.now c.args.passes.now.params c.requires.together.params_are (c.cpus.ensures ∙ ap (λ (n : ServiceName). n.cpus) c.requires.together.here.places_are) c.args.entry.now c.requires.may;
 }
 
 pub invariant_of-self : goal.invariant_of-self
 invariant_of-self g c =
-    journal_back g.N.Name.name c.self.inside.params.value c.self.inside.cpu c.self.inside.keepers.items c.self.inside.journal c.args.self.now c.self.invariant c.self.view_is c.cpus.result.now c.args.passes.now.params c.requires.together.params_are (c.cpus.ensures ∙ ap (λ (n : ServiceName). n.cpus) c.requires.together.here.places_are) c.args.entry.now c.write_cpu.new.keeper c.write_cpu.ensures.kept.keeper
+    journal_back g.N.Name.name c.self.inside.params.value c.self.inside.cpu c.self.inside.keepers.items c.self.inside.journal c.args.self.now c.self.invariant c.self.view_is c.cpus.result.now c.args.passes.now.params c.requires.together.params_are (c.cpus.ensures ∙ ap (λ (n : ServiceName). n.cpus) c.requires.together.here.places_are) c.args.entry.now c.write_at.new.keeper c.write_at.ensures.kept.keeper
 
 pub returns : goal.returns
 returns g c =
-    let books = journal_books g.N.Name.name c.self.inside.params.value c.self.inside.cpu c.self.inside.keepers.items c.self.inside.journal c.args.self.now c.self.invariant c.self.view_is c.cpus.result.now c.args.passes.now.params c.requires.together.params_are (c.cpus.ensures ∙ ap (λ (n : ServiceName). n.cpus) c.requires.together.here.places_are) c.args.entry.now c.write_cpu.new.keeper c.write_cpu.ensures.kept.history in
+    let books = journal_books g.N.Name.name c.self.inside.params.value c.self.inside.cpu c.self.inside.keepers.items c.self.inside.journal c.args.self.now c.self.invariant c.self.view_is c.cpus.result.now c.args.passes.now.params c.requires.together.params_are (c.cpus.ensures ∙ ap (λ (n : ServiceName). n.cpus) c.requires.together.here.places_are) c.args.entry.now c.write_at.new.keeper c.write_at.ensures.kept.history in
     record {
       books = books;
-      written = subst (λ (k : ℕ). WritesCpu c.args.passes.now k c.args.entry.now c.write_cpu.result (made c.write_cpu.new.keeper.history) c.write_cpu.new.self) (ap (λ (b : BooksView). b.cpu) c.self.view_is) c.write_cpu.ensures.written;
+      written = subst (λ (k : ℕ). WritesCpu c.args.passes.now k c.args.entry.now c.write_at.result (made c.write_at.new.keeper.history) c.write_at.new.passes) (ap (λ (b : BooksView). b.cpu) c.self.view_is) c.write_at.ensures.written;
       goes_on = λ turns w o. subst (Owes turns w) (sym books) (owes_next c.args.self.now c.args.entry.now turns w o);
     }

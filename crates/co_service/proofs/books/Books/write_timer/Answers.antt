@@ -3,21 +3,21 @@ use Rattle.co_service.specs.Name.{ServiceName}
 use Rattle.co_service.proofs.BooksWritten.{timer_keeper, timer_legal, timer_back, timer_books, timer_noted}
 use Rattle.co_service.proofs.books.Books.write_timer.Goals as goal
 
-pub write_timer-requires-clause-may : goal.write_timer-requires-clause-may
-write_timer-requires-clause-may g c = record {
+pub write_at-requires-clause-may : goal.write_at-requires-clause-may
+write_at-requires-clause-may g c = record {
   keeper = timer_keeper g.N.Name.name c.self.inside.params.value c.self.inside.cpu c.self.inside.keepers.items c.self.inside.journal c.args.self.now c.self.invariant c.self.view_is c.timers.result.now c.args.passes.now.params c.requires.together.params_are (c.timers.ensures ∙ ap (λ (n : ServiceName). n.timers) c.requires.together.here.places_are) c.args.i c.args.entry.now c.index_mut.result.now c.in-Some.keeper c.requires.here c.index_mut.ensures.value c.in-Some.is;
   legal = timer_legal g.N.Name.name c.self.inside.params.value c.self.inside.cpu c.self.inside.keepers.items c.self.inside.journal c.args.self.now c.self.invariant c.self.view_is c.timers.result.now c.args.passes.now.params c.requires.together.params_are (c.timers.ensures ∙ ap (λ (n : ServiceName). n.timers) c.requires.together.here.places_are) c.args.i c.args.entry.now c.index_mut.result.now c.in-Some.keeper c.requires.here c.index_mut.ensures.value c.in-Some.is c.requires.may;
 }
 
 pub invariant_of-self : goal.invariant_of-self
 invariant_of-self g c =
-    timer_back g.N.Name.name c.self.inside.params.value c.self.inside.cpu c.self.inside.keepers.items c.self.inside.journal c.args.self.now c.self.invariant c.self.view_is c.timers.result.now c.args.passes.now.params c.requires.together.params_are (c.timers.ensures ∙ ap (λ (n : ServiceName). n.timers) c.requires.together.here.places_are) c.args.i c.args.entry.now c.index_mut.result.now c.in-Some.keeper c.requires.here c.index_mut.ensures.value c.in-Some.is c.write_timer.new.keeper c.write_timer.ensures.kept.keeper
+    timer_back g.N.Name.name c.self.inside.params.value c.self.inside.cpu c.self.inside.keepers.items c.self.inside.journal c.args.self.now c.self.invariant c.self.view_is c.timers.result.now c.args.passes.now.params c.requires.together.params_are (c.timers.ensures ∙ ap (λ (n : ServiceName). n.timers) c.requires.together.here.places_are) c.args.i c.args.entry.now c.index_mut.result.now c.in-Some.keeper c.requires.here c.index_mut.ensures.value c.in-Some.is c.write_at.new.keeper c.write_at.ensures.kept.keeper
 
 pub returns : goal.returns
 returns g c = record {
-  books = timer_books g.N.Name.name c.self.inside.params.value c.self.inside.cpu c.self.inside.keepers.items c.self.inside.journal c.args.self.now c.self.invariant c.self.view_is c.timers.result.now c.args.passes.now.params c.requires.together.params_are (c.timers.ensures ∙ ap (λ (n : ServiceName). n.timers) c.requires.together.here.places_are) c.args.i c.args.entry.now c.index_mut.result.now c.in-Some.keeper c.requires.here c.index_mut.ensures.value c.in-Some.is c.write_timer.new.keeper c.write_timer.ensures.kept.history;
-  written = timer_noted g.N.Name.name c.self.inside.params.value c.self.inside.cpu c.self.inside.keepers.items c.self.inside.journal c.args.self.now c.self.invariant c.self.view_is c.timers.result.now c.args.passes.now.params c.requires.together.params_are (c.timers.ensures ∙ ap (λ (n : ServiceName). n.timers) c.requires.together.here.places_are) c.args.i c.args.entry.now c.index_mut.result.now c.in-Some.keeper c.requires.here c.index_mut.ensures.value c.in-Some.is c.args.passes.now c.write_timer.new.self c.write_timer.result c.write_timer.new.keeper c.write_timer.ensures.kept.history c.write_timer.ensures.written;
+  books = timer_books g.N.Name.name c.self.inside.params.value c.self.inside.cpu c.self.inside.keepers.items c.self.inside.journal c.args.self.now c.self.invariant c.self.view_is c.timers.result.now c.args.passes.now.params c.requires.together.params_are (c.timers.ensures ∙ ap (λ (n : ServiceName). n.timers) c.requires.together.here.places_are) c.args.i c.args.entry.now c.index_mut.result.now c.in-Some.keeper c.requires.here c.index_mut.ensures.value c.in-Some.is c.write_at.new.keeper c.write_at.ensures.kept.history;
+  written = timer_noted g.N.Name.name c.self.inside.params.value c.self.inside.cpu c.self.inside.keepers.items c.self.inside.journal c.args.self.now c.self.invariant c.self.view_is c.timers.result.now c.args.passes.now.params c.requires.together.params_are (c.timers.ensures ∙ ap (λ (n : ServiceName). n.timers) c.requires.together.here.places_are) c.args.i c.args.entry.now c.index_mut.result.now c.in-Some.keeper c.requires.here c.index_mut.ensures.value c.in-Some.is c.args.passes.now c.write_at.new.passes c.write_at.result c.write_at.new.keeper c.write_at.ensures.kept.history c.write_at.ensures.written;
 }
 
-pub write_timer-requires-clause-name : goal.write_timer-requires-clause-name
-write_timer-requires-clause-name g c = ap (λ (n : ServiceName). n.timers) c.requires.together.here.passes_are ∙ sym (c.timers.ensures ∙ ap (λ (n : ServiceName). n.timers) c.requires.together.here.places_are)
+pub write_at-requires-clause-name : goal.write_at-requires-clause-name
+write_at-requires-clause-name g c = ap (λ (n : ServiceName). n.timers) c.requires.together.here.passes_are ∙ sym (c.timers.ensures ∙ ap (λ (n : ServiceName). n.timers) c.requires.together.here.places_are)

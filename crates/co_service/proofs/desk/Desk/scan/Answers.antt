@@ -1,9 +1,10 @@
-use Rattle.std.proofs.Common.{◌≡◌, refl, sym, ap, ◌∙◌, subst, arith}
+use Rattle.std.proofs.Common.{◌≡◌, ℕ, refl, sym, ap, ◌∙◌, subst, arith}
 use Rattle.co_object.specs.declared.queue.QOp.TheVariants.{Scan}
 use Rattle.co_object.specs.declared.queue.QReply.TheVariants.{Count}
 use Rattle.co_bucket.specs.Visits.{looks_at_visited}
 use Rattle.co_service.specs.Desk.{IsDesk}
-use Rattle.co_service.specs.Outcomes.{turn, IsScan}
+use Rattle.co_service.specs.declared.outs.Scanned.{Scanned}
+use Rattle.co_service.specs.Outcomes.{noted_turn, turn, IsScan}
 use Rattle.co_service.specs.Writes.{WritesCpu}
 use Rattle.co_service.proofs.DeskKept.{scanned_desk}
 use Rattle.co_service.proofs.ScanTold.{scan_told}
@@ -12,7 +13,7 @@ use Rattle.co_service.proofs.desk.Desk.scan.Goals as goal
 pub invariant_of-self : goal.invariant_of-self
 invariant_of-self g c =
     let desk = subst (λ b. IsDesk c.self.inside.wheel b c.self.inside.scans) (sym c.meet.ensures.kept) c.self.invariant in
-    subst (λ b. IsDesk c.scan-count.new.self b c.saturating_add-self-inside.result) (sym c.note_turn-note.ensures.written.books)
+    subst (λ b. IsDesk c.scan-count.new.self b c.saturating_add-self-inside.result) (sym c.write_turn-pos.ensures.books)
     (scanned_desk c.self.inside.wheel c.scan-count.new.self c.meet.new.self c.self.inside.scans c.saturating_add-self-inside.result (turn c.meet.new.passes c.args.act (Scan c.args.now) (Count c.scan-count.result)) c.args.now desk c.scan-count.ensures.callouts c.scan-count.ensures.queue refl (omega arith))
 
 pub returns : goal.returns
@@ -20,14 +21,16 @@ returns g c =
     let desk = subst (λ b. IsDesk c.self.inside.wheel b c.self.inside.scans) (sym c.meet.ensures.kept) c.self.invariant in
     let params = ap (λ b. b.params) c.meet.ensures.kept ∙ (c.meet.ensures.params ∙ ap (λ p. p.params) (sym c.meet.ensures.passes)) in
     let here : c.meet.new.self.cpu ≡ c.args.cpu = (let k = ap (λ b. b.cpu) c.meet.ensures.kept in let n = c.cpu.ensures in let f = c.if-cpu.false in omega arith) in
-    let written = subst (λ b. WritesCpu c.meet.new.passes c.meet.new.self.cpu (turn c.meet.new.passes c.args.act (Scan c.args.now) (Count c.scan-count.result)) c.note_turn-note.result.pos b.journal c.note_turn-note.new.passes) c.note_turn-note.ensures.written.books c.note_turn-note.ensures.written.written in
+    let written = subst (λ b. WritesCpu c.meet.new.passes c.meet.new.self.cpu (turn c.meet.new.passes c.args.act (Scan c.args.now) (Count c.scan-count.result)) c.write_turn-pos.result b.journal c.write_turn-pos.new.passes) c.write_turn-pos.ensures.books c.write_turn-pos.ensures.written in
+    let out : Scanned = record { count = c.scan-count.result; note = c.turn_note.result; looks = c.count.result } in
+    let note = c.turn_note.ensures ∙ ap (λ (a : ℕ). noted_turn a c.args.act c.args.cpu (Scan c.args.now) (Count c.scan-count.result) c.write_turn-pos.result) c.actor-actor.ensures in
     let looks : c.scan-count.new.looks ≡ looks_at_visited c.self.inside.wheel.timers c.args.now = (let l = c.scan-count.ensures.looks in let n = c.new-looks.ensures in omega arith) in
     record {
       asked = record {
         none = tt;
         some =
-            subst (λ p. IsScan p c.args.cpu c.args.act c.args.now (record { count = c.scan-count.result; note = c.note_turn-note.result; looks = c.count.result }) c.note_turn-note.new.passes) c.meet.ensures.passes
-            (scan_told c.meet.new.passes c.note_turn-note.new.passes c.self.inside.wheel c.meet.new.self c.self.inside.scans c.args.cpu c.args.act c.args.now c.scan-count.new.looks (record { count = c.scan-count.result; note = c.note_turn-note.result; looks = c.count.result }) desk params here c.note_turn-note.ensures.note written looks c.count.ensures);
+            subst (λ p. IsScan p c.args.cpu c.args.act c.args.now out c.write_turn-pos.new.passes) c.meet.ensures.passes
+            (scan_told c.meet.new.passes c.write_turn-pos.new.passes c.self.inside.wheel c.meet.new.self c.self.inside.scans c.args.cpu c.args.act c.args.now c.scan-count.new.looks c.write_turn-pos.result out desk params here note written looks c.count.ensures);
       };
       why = tt;
     }

@@ -1,25 +1,26 @@
 use Rattle.std.proofs.Common.{◌≡◌, ◌<◌, ◌≤◌, ℕ, List, length, sym, ap, ◌∙◌, subst}
 use Rattle.co_service.specs.declared.params.Params.{Params}
-use Rattle.co_service.specs.Closing.{EndCpus, EndTimers, of_actor}
+use Rattle.co_service.specs.Closing.{EndEach, of_actor}
+use Rattle.co_service.specs.Kinds.{cpu_kind, timer_kind}
 use Rattle.co_service.specs.Views.{PassesView}
-use Rattle.co_service.proofs.Ended.{cpus_ended, timers_ended}
+use Rattle.co_service.proofs.Ended.{all_ended}
 use Rattle.co_service.proofs.service.Service.close.Goals as goal
 
 pub returns-clause-timers : goal.returns-clause-timers
 returns-clause-timers g c =
     let is = c.self.invariant in
     let out = c.end_all.result in
-    timers_ended g.N.Name.name c.args.self c.args.passes c.requires (subst (λ (p : Params). 1 ≤ p.cpus) c.self.view_is is.some) out.timers
+    all_ended timer_kind g.N.Name.name c.args.self c.args.passes c.requires (subst (λ (p : Params). 1 ≤ p.cpus) c.self.view_is is.some) _ out.timers
     (c.end_all.ensures.timers_count ∙ (is.named.timers ∙ ap (λ (p : Params). length p.specs) c.self.view_is))
-    (subst (λ l. EndTimers l out.timers) c.into_vec-passes.ensures c.end_all.ensures.timers)
+    (subst (λ l. EndEach timer_kind l out.timers) c.into_vec-passes.ensures c.end_all.ensures.timers)
 
 pub returns-clause-cpus : goal.returns-clause-cpus
 returns-clause-cpus g c =
     let is = c.self.invariant in
     let out = c.end_all.result in
-    cpus_ended g.N.Name.name c.args.self c.args.passes c.requires (subst (λ (p : Params). 1 ≤ p.cpus) c.self.view_is is.some) out.cpus
+    all_ended cpu_kind g.N.Name.name c.args.self c.args.passes c.requires (subst (λ (p : Params). 1 ≤ p.cpus) c.self.view_is is.some) _ out.cpus
     (c.end_all.ensures.cpus_count ∙ (is.named.cpus ∙ ap (λ (p : Params). p.cpus) c.self.view_is))
-    (subst (λ l. EndCpus l out.cpus) c.into_vec-passes.ensures c.end_all.ensures.cpus)
+    (subst (λ l. EndEach cpu_kind l out.cpus) c.into_vec-passes.ensures c.end_all.ensures.cpus)
 
 pub returns-clause-each : goal.returns-clause-each
 returns-clause-each g c = record {

@@ -6,4 +6,4 @@ use Rattle.co_service.specs.Views.{PassesView}
 use Rattle.co_service.proofs.service.Service.end_found.Goals as goal
 
 pub end-ended-requires-clause-serves : goal.end-ended-requires-clause-serves
-end-ended-requires-clause-serves g c = subst (λ (p : PassesView). (d : Due) × IsServing c.args.direct p c.args.cpu d (Runs d.n)) (sym c.loop.invariant.0) c.requires.may.serves
+end-ended-requires-clause-serves g c = subst (λ (p : PassesView). (d : Due) × IsServing c.args.direct p c.args.cpu d (Runs d.n)) (sym c.loop.invariant.0) c.requires.serves

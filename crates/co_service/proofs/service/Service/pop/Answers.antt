@@ -1,16 +1,20 @@
-use Rattle.co_service.specs.Services.{AreSame, taken_of}
-use Rattle.co_service.proofs.Lasting.{still_of}
-use Rattle.co_service.proofs.Lasts.{has_next, taken_same}
+use Rattle.std.proofs.Common.{sym, subst}
+use Rattle.co_service.specs.Services.{IsFree, IsTaken, taken_of}
+use Rattle.co_service.specs.Views.{PassesView}
+use Rattle.co_service.proofs.Lasts.{taken_keeps}
 use Rattle.co_service.proofs.service.Service.pop.Goals as goal
 
-pub returns-clause-kept : goal.returns-clause-kept
-returns-clause-kept g c =
-    let out = c.next_lane in
+pub next-requires-in-loop-clause-free : goal.next-requires-in-loop-clause-free
+next-requires-in-loop-clause-free g c = subst (λ (p : PassesView). IsFree c.args.direct p c.args.cpu) (sym c.loop.invariant) c.requires.free
+
+-- what was taken, by the passes before the wait
+taken : (g : _) (c : goal.After-drop-iterator g) → IsTaken c.args.direct c.args.passes.now c.args.cpu c.args.act (taken_of c.args.direct c.args.passes.now.actor c.args.act c.args.cpu c.in-Some-next.out) c.next-in-loop.new.passes
+taken g c = subst (λ (p : PassesView). IsTaken c.args.direct p c.args.cpu c.args.act (taken_of c.args.direct p.actor c.args.act c.args.cpu c.in-Some-next.out) c.next-in-loop.new.passes) c.loop.invariant c.in-Some-next.ensures.asked.some.taken
+
+pub returns-in-Some-next-clause-started : goal.returns-in-Some-next-clause-started
+returns-in-Some-next-clause-started g c = record { taken = taken g c; follows = c.in-Some-next.ensures.asked.some.follows }
+
+pub returns-in-Some-next-clause-kept : goal.returns-in-Some-next-clause-kept
+returns-in-Some-next-clause-kept g c =
     let p = c.args.passes.now in
-    let taken = taken_of c.args.direct p.actor c.args.act c.args.cpu out.result in
-    let same : AreSame p out.new.passes = taken_same c.args.direct p out.new.passes c.args.cpu c.args.act taken out.ensures.taken in
-    record {
-      of = still_of g.N.Name.name c.args.self.now p out.new.passes same c.requires.passes;
-      actor_is = same.actor;
-      next = has_next c.args.direct p out.new.passes c.args.cpu c.args.act taken c.requires.free out.ensures.taken;
-    }
+    taken_keeps c.args.direct p c.next-in-loop.new.passes c.args.cpu c.args.act (taken_of c.args.direct p.actor c.args.act c.args.cpu c.in-Some-next.out) g.N.Name.name c.args.self.now c.requires.passes c.requires.free (taken g c)

@@ -1,9 +1,7 @@
 use Rattle.std.proofs.Common.{subst}
 use Rattle.co_service.specs.Outcomes.{IsScan}
-use Rattle.co_service.specs.Services.{AreSame}
 use Rattle.co_service.specs.Views.{PassesView}
-use Rattle.co_service.proofs.Lasting.{still_of}
-use Rattle.co_service.proofs.Lasts.{scanned_free, scanned_same, scanned_serving}
+use Rattle.co_service.proofs.Lasts.{scanned_keeps}
 use Rattle.co_service.proofs.service.Service.scan.Goals as goal
 
 -- the scan, by the passes before the wait
@@ -15,10 +13,4 @@ returns-in-Some-out-clause-scanned g c = scanned g c
 
 pub returns-in-Some-out-clause-kept : goal.returns-in-Some-out-clause-kept
 returns-in-Some-out-clause-kept g c =
-    let same : AreSame c.args.passes.now c.scan-out.new.passes = scanned_same c.args.passes.now c.scan-out.new.passes c.args.cpu c.args.act c.args.now c.in-Some-out.out (scanned g c) in
-    record {
-      of = still_of g.N.Name.name c.args.self.now c.args.passes.now c.scan-out.new.passes same c.requires.passes;
-      actor = same.actor;
-      free = scanned_free c.args.passes.now c.scan-out.new.passes c.args.cpu c.args.act c.args.now c.in-Some-out.out (scanned g c);
-      serving = scanned_serving c.args.passes.now c.scan-out.new.passes c.args.cpu c.args.act c.args.now c.in-Some-out.out (scanned g c);
-    }
+    scanned_keeps c.args.passes.now c.scan-out.new.passes c.args.cpu c.args.act c.args.now c.in-Some-out.out (scanned g c) g.N.Name.name c.args.self.now c.requires.passes
