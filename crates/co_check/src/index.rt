@@ -11,6 +11,7 @@ ghost use Rattle.co_check.specs.Lines.{AreLinesOf, IsLineOf, lines_max};
 ghost use Rattle.co_check.specs.Numbers.{AreCounts};
 ghost use Rattle.co_check.specs.Shown.{actor_of};
 
+use crate::pass::next_note;
 use crate::slot::Slot;
 use co_object::Note;
 use co_program::{Script, actor_count, place_count, place_index};
@@ -50,8 +51,9 @@ pub(crate) fn index_all(
     ensures { IfOk result (AreIndexed script.now lines.now) }
 {
     let mut index = Index::open(alloc, script, counts)?;
+    let mut notes = lines.notes();
     for i in 0..lines.len() {
-        let note = lines.note(i);
+        let note = next_note(&mut notes);
         if !index.take(script, &note, i as u32) {
             return Ok(Indexed::Bad {
                 line: lines.number(i),

@@ -8,6 +8,7 @@ mod cpu;
 mod fact;
 mod index;
 pub mod laws;
+mod pass;
 mod replay;
 mod same;
 mod slot;

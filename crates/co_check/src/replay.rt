@@ -17,6 +17,7 @@ use crate::actors::{may_serve, may_work};
 use crate::cpu::CpuQueue;
 use crate::fact::PackedFact;
 use crate::index::count_note;
+use crate::pass::next_note;
 use crate::same::{same_answer, same_reply};
 use crate::verdict::Unfit;
 use co_object::{Alone, AnyEntry, Arming, Entry, Note, Place, QEntry, QOp, Run, Spec, State};
@@ -97,8 +98,9 @@ impl Replay {
     {
         let mut facts = Seq::new(alloc);
         let mut counts = Seq::filled(alloc, actor_count(script) as usize, 0)?.into_vec();
+        let mut notes = lines.notes();
         for at in 0..lines.len() {
-            let note = lines.note(at);
+            let note = next_note(&mut notes);
             match self.take(script, &note) {
                 Ok(fact) => {
                     facts.push(fact)?;

@@ -1,12 +1,12 @@
 -- Note lines in few bytes: what one more of them makes, and the line at an index.
-use Rattle.std.proofs.Common.{◌≡◌, ℕ, zero, suc, ◌+◌, ◌<◌, ◌≤◌, ◌==◌, true, false, List, [], ◌∷◌, ◌++◌, length, take, refl, ap, sym, ◌∙◌, arith}
+use Rattle.std.proofs.Common.{◌≡◌, ℕ, zero, suc, ◌+◌, ◌<◌, ◌≤◌, ◌==◌, true, false, List, [], ◌∷◌, ◌++◌, length, map, take, refl, ap, sym, ◌∙◌, arith}
 use Rattle.std.specs.Prelude.{Result, Ok, Err, OnOk, Some, slice_get, nat_le, if◌then◌else◌}
 use Rattle.std.proofs.lemmas.Bool.{and_parts, leb-true, eqb-true}
 use Rattle.std.proofs.lemmas.Bool.Decides.{nat_tests}
 use Rattle.co_object.specs.declared.note.Note.{Note}
 use Rattle.co_report.specs.declared.line.Line.{Line}
 use Rattle.co_report.specs.declared.packed_lines.Stretch.{Stretch}
-use Rattle.co_report.specs.PackedLines.{is_next_of, line_of, lines_from, no_stretch, number_in, stretch_at}
+use Rattle.co_report.specs.PackedLines.{is_next_of, line_of, lines_from, no_stretch, note_of, number_in, stretch_at}
 
 -- ---- stretches
 
@@ -43,6 +43,11 @@ lines-before xs x at (n ∷ ns) h =
 pub length-lines : (xs : List Stretch) (at : ℕ) (ns : List Note) → length (lines_from xs at ns) ≡ length ns
 length-lines xs at [] = refl
 length-lines xs at (n ∷ ns) = ap suc (length-lines xs (at + 1) ns)
+
+-- the notes of the lines are those that they were made of
+pub notes-back : (xs : List Stretch) (at : ℕ) (ns : List Note) → map note_of (lines_from xs at ns) ≡ ns
+notes-back xs at [] = refl
+notes-back xs at (n ∷ ns) = ap (λ rest. n ∷ rest) (notes-back xs (at + 1) ns)
 
 -- its number
 pub number-here : (xs : List Stretch) (at m k : ℕ) (ns : List Note) (line : Line) → m ≡ at + k → slice_get (lines_from xs at ns) k ≡ Some line → number_in (stretch_at no_stretch xs m) m ≡ line.line

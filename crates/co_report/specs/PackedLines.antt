@@ -25,6 +25,10 @@ is_next_of x at line = nat_le x.at at && number_in x at == line
 abbrev pub line_of : ℕ → Note → Line
 line_of line note = record { line = line; place = note.place; number = note.pos; entry = note.entry }
 
+-- the note of a line
+abbrev pub note_of : Line → Note
+note_of l = record { place = l.place; pos = l.number; entry = l.entry }
+
 -- the lines of notes, the first of which has this index
 abbrev pub lines_from : List Stretch → ℕ → List Note → List Line
 lines_from stretches at [] = []

@@ -1,11 +1,11 @@
 //! Note lines in few bytes.
-ghost use Rattle.std.specs.Prelude.{nat_le, if◌then◌else◌, ◌≡◌, ℕ, ◌<◌, ◌++◌, ◌∷◌, [], Some, length, slice_get, OnOk, IfOk};
+ghost use Rattle.std.specs.Prelude.{nat_le, if◌then◌else◌, ◌≡◌, ℕ, ◌<◌, ◌++◌, ◌∷◌, [], Some, length, map, slice_get, OnOk, IfOk};
 ghost use Rattle.co_report.specs.declared.line.Line.{Line};
-ghost use Rattle.co_report.specs.PackedLines.{is_next_of, line_of, no_stretch, number_in, stretch_at};
+ghost use Rattle.co_report.specs.PackedLines.{is_next_of, line_of, no_stretch, note_of, number_in, stretch_at};
 
 use crate::line::Line;
 use co_object::Note;
-use co_packed::PackedNotes;
+use co_packed::{NotesAhead, PackedNotes};
 use co_sbt::{NoMemory, Seq};
 use std::alloc::Global;
 use std::marker::Model;
@@ -131,6 +131,14 @@ impl PackedLines {
         ensures { (line : ℕ) × (slice_get self.now at ≡ Some (line_of line result)) }
     {
         self.notes.note(at)
+    }
+
+    /// What the lines say, in their order, to be taken one by one: a pass over all of them reads each straight behind the last
+    /// one. A note's position is its number.
+    pub fn notes(&self) -> NotesAhead<'_>
+        ensures { result ≡ map note_of self.now }
+    {
+        self.notes.ahead()
     }
 
     /// The number of the line at this index in the report. It takes a look at each place up to its own.

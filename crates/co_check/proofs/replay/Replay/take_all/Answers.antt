@@ -11,7 +11,7 @@ use Rattle.co_check.specs.Numbers.{AreCounts}
 use Rattle.co_check.specs.Replay.{unfit_at}
 use Rattle.co_check.specs.Replayed.{IsAfter, fact_of}
 use Rattle.co_check.specs.Lines.{lines_max}
-use Rattle.co_check.proofs.Along.{front, first-on, first-at, seen-on}
+use Rattle.co_check.proofs.Along.{front, first-on, first-at, line-ahead, some-ahead, seen-on}
 use Rattle.co_check.proofs.Noted.{fits-at}
 use Rattle.co_check.proofs.replay.Replay.take_all.Goals as goal
 
@@ -24,15 +24,17 @@ loop-at-preserved c =
     let s = c.args.script.now in
     let lines = c.args.lines.now in
     let i = c.loop-at.at in
-    let l = line_of c.note-note.ensures.0 c.note-note.result in
-    let here = c.note-note.ensures.1 in
-    let taken = c.in-Ok.ensures c.note-note.ensures.0 (take i lines) c.loop-at.invariant.after in
+    let ahead = line-ahead c.args.lines.now c.loop-at.at c.loop-at.invariant.notes c.next_note-note.ensures in
+    let l = line_of ahead.0 c.next_note-note.result in
+    let here = ahead.1 in
+    let taken = c.in-Ok.ensures ahead.0 (take i lines) c.loop-at.invariant.after in
     record {
+      notes = ahead.2;
       after = subst (λ above. IsAfter s above c.take.new.self) (sym (front lines i l here)) taken.1;
       rest = c.loop-at.invariant.rest ∙ first-on (λ above x. unfit_at s above x.place x.entry) lines i l here taken.0;
       counted =
           subst (λ above. AreCounts (actor_count s) above c.count_note.new.counts.items) (sym (front lines i l here))
-          (c.count_note.ensures (actor_count s) c.note-note.ensures.0 (take i lines) c.loop-at.invariant.counted);
+          (c.count_note.ensures (actor_count s) ahead.0 (take i lines) c.loop-at.invariant.counted);
       facts =
           ap (λ xs. xs ++ map fact_of (rest s lines i)) c.in_ok-push-in-Ok.ensures.ok
           ∙ (append_assoc c.loop-at.facts (c.in-Ok.fact ∷ []) (map fact_of (rest s lines i))
@@ -46,15 +48,27 @@ take-requires-clause-after c =
     (take c.loop-at.at c.args.lines.now, c.loop-at.invariant.after, few)
 
 pub take-requires-clause-line : goal.take-requires-clause-line
-take-requires-clause-line c = fits-at c.args.script.now c.args.lines.now c.loop-at.at c.note-note.ensures.0 c.note-note.result c.requires.lines c.note-note.ensures.1
+take-requires-clause-line c =
+    let ahead = line-ahead c.args.lines.now c.loop-at.at c.loop-at.invariant.notes c.next_note-note.ensures in
+    fits-at c.args.script.now c.args.lines.now c.loop-at.at ahead.0 c.next_note-note.result c.requires.lines ahead.1
+
+pub next_note-note-requires : goal.next_note-note-requires
+next_note-note-requires c = some-ahead c.args.lines.now c.loop-at.at (omega arith) c.loop-at.invariant.notes
+
+pub count_note-requires-clause-actor : goal.count_note-requires-clause-actor
+count_note-requires-clause-actor c =
+    let ahead = line-ahead c.args.lines.now c.loop-at.at c.loop-at.invariant.notes c.next_note-note.ensures in
+    let fits = fits-at c.args.script.now c.args.lines.now c.loop-at.at ahead.0 c.next_note-note.result c.requires.lines ahead.1 in
+    omega (arith, fits.actor, c.loop-at.invariant.counted.long)
 
 pub returns-in-Err : goal.returns-in-Err
 returns-in-Err c =
     let s = c.args.script.now in
     let lines = c.args.lines.now in
     let i = c.loop-at.at in
-    let l = line_of c.note-note.ensures.0 c.note-note.result in
-    let here = c.note-note.ensures.1 in
+    let ahead = line-ahead c.args.lines.now c.loop-at.at c.loop-at.invariant.notes c.next_note-note.ensures in
+    let l = line_of ahead.0 c.next_note-note.result in
+    let here = ahead.1 in
     c.loop-at.invariant.rest
-    ∙ (first-at (λ above x. unfit_at s above x.place x.entry) lines i l here c.in-Err.cause (c.in-Err.ensures c.note-note.ensures.0 (take i lines) c.loop-at.invariant.after)
+    ∙ (first-at (λ above x. unfit_at s above x.place x.entry) lines i l here c.in-Err.cause (c.in-Err.ensures ahead.0 (take i lines) c.loop-at.invariant.after)
     ∙ ap (λ line. Some (record { line = line; cause = c.in-Err.cause })) (sym (c.number.ensures l here)))

@@ -1,13 +1,8 @@
 -- One line more, of the last stretch or of one that begins with it.
 use Rattle.std.proofs.Common.{◌≤◌, [], ◌∷◌, ◌++◌, ap, sym, ◌∙◌, arith}
-use Rattle.co_object.specs.declared.note.Note.{Note}
-use Rattle.co_report.specs.declared.line.Line.{Line}
-use Rattle.co_report.specs.PackedLines.{lines_from}
+use Rattle.co_report.specs.PackedLines.{lines_from, note_of}
 use Rattle.co_report.proofs.LinesPacked.{begun, pushed-apart, pushed-on, then-ok}
 use Rattle.co_report.proofs.packed_lines.PackedLines.push.Goals as goal
-
-abbrev note_of : Line → Note
-note_of l = record { place = l.place; pos = l.number; entry = l.entry }
 
 pub returns-then-is_next_of : goal.returns-then-is_next_of
 returns-then-is_next_of c =
