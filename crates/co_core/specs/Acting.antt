@@ -24,6 +24,13 @@ pub record IsRunning (s : Script) (e : Engine) : Type 0 where
   pub world : World
   pub stands : Stands s e world
 
+-- the engine runs, and this actor is one of its script's
+pub record RunsActor (s : Script) (e : Engine) (a : ℕ) : Type 0 where
+  -- it stands for some world of a sound script
+  pub running : IsRunning s e
+  -- the script has the actor
+  pub actor : a < actor_count s
+
 -- this is what the actor does next, and nothing blocks it
 pub record IsDue (s : Script) (w : World) (a : ℕ) (action : Action) : Type 0 where
   pub may : a < actor_count s

@@ -1,5 +1,5 @@
 -- How many actors hold each lock.
-use Rattle.std.specs.Prelude.{◌≡◌, ℕ, ◌+◌, ◌-◌, ◌==◌, ◌&&◌, ◌||◌, Bool, true, false, not, nat_lt, if◌then◌else◌, List, length, get_or, set}
+use Rattle.std.specs.Prelude.{◌≡◌, ℕ, ◌+◌, ◌-◌, ◌^◌, ◌<◌, ◌==◌, ◌&&◌, ◌||◌, Bool, true, false, not, nat_lt, if◌then◌else◌, List, length, get_or, set}
 use Rattle.std.specs.List.{sum_by}
 use Rattle.std.specs.declared.option.Option.{Option}
 use Rattle.std.specs.declared.option.Option.TheVariants.{Some, None}
@@ -28,6 +28,17 @@ AreHolders holders places = holders ≡ table (length holders) (holders_at place
 
 abbrev pub no_holders : Holders
 no_holders = record { shared = 0; exclusive = 0 }
+
+-- there may be one holder more of either kind
+pub record HasRoom (h : Holders) : Type 0 where
+  -- the count of those that share the lock does not wrap
+  pub shared : h.shared < 2 ^ 64 - 1
+  -- nor does that of those that have it alone
+  pub exclusive : h.exclusive < 2 ^ 64 - 1
+
+-- so it is of each lock in the table
+abbrev pub HaveRoom : List Holders → Type 0
+HaveRoom holders = (k : ℕ) → k < length holders → HasRoom (get_or holders k no_holders)
 
 -- one hold more, and one less
 abbrev pub more : Bool → Holders → Holders

@@ -36,6 +36,13 @@ pub record MayWrite (s : Script) (x : Written) (hand : Hand) : Type 0 where
   pub few : x.made < 2 ^ 63 + 3
   pub room : 0 < hand.notes.spare
 
+-- so may one that writes in the journal of this CPU
+pub record MayWriteJournal (s : Script) (x : Written) (hand : Hand) (cpu : ℕ) : Type 0 where
+  -- the actor may make a note
+  pub may : MayWrite s x hand
+  -- the script has the CPU
+  pub known : cpu < s.cpus
+
 -- the same of books in which a history has been counted, and its note is still to come
 pub record MayNote (s : Script) (x : Written) (hand : Hand) : Type 0 where
   pub script : IsScript s
@@ -62,3 +69,21 @@ pub record HasWritten (number : ℕ) (x : Written) (hand : Hand) (x2 : Written) 
 -- where a world was written, the one after it is
 abbrev pub Follows : Script → Written → Hand → Written → Hand → (World → World) → Type 0
 Follows s x hand x2 hand2 after = (w : World) → IsWritten s (with_hand x hand) w → IsWritten s (with_hand x2 hand2) (after w)
+
+-- a note has been made, and this is known of what is written then
+pub record IsNoteMade (x : Written) (hand : Hand) (x2 : Written) (hand2 : Hand) (Known : Type 0) : Type 0 where
+  -- how the world goes on with the note
+  pub written : Known
+  -- it is one
+  pub wrote : HasWritten 1 x hand x2 hand2
+
+-- a note has been made where there was something to note, and else none
+pub record IsNoteMadeIf (x : Written) (hand : Hand) (x2 : Written) (hand2 : Hand) (number : ℕ) (Nothing Known : Type 0) : Type 0 where
+  -- where there was nothing, what is written stays
+  pub stays : Nothing → with_hand x2 hand2 ≡ with_hand x hand
+  -- how the world goes on where there was something
+  pub written : Known
+  -- so many notes have been made
+  pub wrote : HasWritten number x hand x2 hand2
+  -- at most one
+  pub few : number ≤ 1

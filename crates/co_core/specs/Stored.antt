@@ -58,6 +58,15 @@ is_entry (Some d) i n = d.i == i && d.n == n
 abbrev pub services : Callouts → (i n : ℕ) → Bool
 services c i n = is_entry c.serving i n || is_entry c.directing i n
 
+-- what a section at this CPU's wheel has leave it may go with the actor
+pub record MayCarry (x : Stored) (a at : ℕ) : Type 0 where
+  -- there is such a wheel
+  pub cpu : at < length x.wheels
+  -- the actor has a bag
+  pub actor : a < length x.bags
+  -- and is moving nothing
+  pub empty : bag_at x a ≡ None
+
 -- what an actor moves may land at this CPU
 pub record MayLand (x : Stored) (a at : ℕ) : Type 0 where
   pub parcel : Parcel

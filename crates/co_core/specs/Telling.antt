@@ -1,5 +1,5 @@
 -- The notes of a script's walk, told as they are made.
-use Rattle.std.specs.Prelude.{◌≡◌, ℕ, ◌<◌, ◌≤◌, Bool, false, nat_lt, List, length, map}
+use Rattle.std.specs.Prelude.{◌≡◌, ℕ, ◌<◌, ◌≤◌, Bool, true, false, nat_lt, List, length, map, Result, IfOk, OnOk}
 use Rattle.std.specs.List.{range_with_len}
 use Rattle.co_object.specs.declared.note.Note.{Note}
 use Rattle.co_object.specs.declared.note.Place.{Place}
@@ -59,6 +59,20 @@ pub record MayTell (s : Script) (e : Engine) (actors : ℕ) : Type 0 where
   pub world : World
   pub told : HasTold s e world
 
+-- what a step of this actor makes may be told too
+pub record MayTellStep (s : Script) (e : Engine) (actors a : ℕ) : Type 0 where
+  -- all notes so far have been told
+  pub may : MayTell s e actors
+  -- the actor is one of the script's
+  pub actor : a < actor_count s
+
+-- a listener was told something
+pub record IsToldTo {B X E : Type 0} (count : B → ℕ) (old new : B) (result : Result X E) (What : Type 0) : Type 0 where
+  -- this, unless memory was wanting
+  pub told : OnOk result What
+  -- it is a listener of as many actors
+  pub actors : count new ≡ count old
+
 -- the listener has the notes of this world
 pub record HasNotes (s : Script) {B : Type 0} (has : B → List Made → Type 0) (book : B) (w : World) : Type 0 where
   pub made : List Made
@@ -73,3 +87,14 @@ pub record GoesOn (s : Script) {B : Type 0} (has : B → List Made → Type 0) (
 -- the same from each world that it may stand for, and of what is known of the actors
 abbrev pub GoesOnKnowing : (s : Script) {B : Type 0} (has : B → List Made → Type 0) (e e2 : Engine) (old new : B) (known known2 : Resting) (after : World → World) → Type 0
 GoesOnKnowing s has e e2 old new known known2 after = (w : World) → HasTold s e w → IsKnown s w known → GoesOn s has e2 old new w (after w) × IsKnown s (after w) known2
+
+-- actors were asked for steps, whose notes were told; the answer is whether they had ended
+pub record HasAsked {B X : Type 0} (s : Script) (has : B → List Made → Type 0) (count : B → ℕ) (e e2 : Engine) (old new : B) (known known2 : Resting) (result : Result Bool X) (after : World → World) (Ended : World → Type 0) : Type 0 where
+  -- the engine has told all notes of some world
+  pub world : OnOk result ((w : World) × HasTold s e2 w)
+  -- it has come from each world that it may have stood for to the one after the steps
+  pub told : OnOk result (GoesOnKnowing s has e e2 old new known known2 after)
+  -- where the answer is so, they had ended in the world before
+  pub finished : IfOk result (λ finished. finished ≡ true → (w : World) → HasTold s e w → IsKnown s w known → Ended w)
+  -- the listener is one of as many actors
+  pub actors : count new ≡ count old

@@ -7,7 +7,8 @@ use Rattle.co_program.specs.declared.cursor.Stage.TheVariants.{Ready}
 use Rattle.co_program.specs.declared.script.Script.{Script}
 use Rattle.co_program.specs.Advance.{advance}
 use Rattle.co_program.specs.declared.action.Move.{Move}
-use Rattle.co_program.specs.Indexed.{Counts, cursor_of, moved}
+use Rattle.co_program.specs.Indexed.{Counts, MoveCounts, cursor_of, moved}
+use Rattle.co_program.specs.Scripts.{IsScript}
 
 pub record Written : Type 0 where
   -- by actor: its place in its program, and its notes but for those that have been told and let go
@@ -52,6 +53,15 @@ pub record MayLetGo (x : Written) (a : ℕ) : Type 0 where
 -- an actor's notes have been told, and are let go
 abbrev pub let_go : Written → ℕ → Written
 let_go x a = record x { lists = set x.lists a []; told = set x.told a (told_at x a + length (list_at x a)) }
+
+-- an actor of a sound script may go on in its program without a note
+pub record MayMove (s : Script) (x : Written) (a : ℕ) (to : Move) : Type 0 where
+  -- the script is a sound one
+  pub script : IsScript s
+  -- the actor has a place
+  pub actor : a < length x.places
+  -- no count of its acts wraps
+  pub counted : MoveCounts (place_at x a) to
 
 -- an actor goes on in its program without a note
 pub record IsMoved (s : Script) (a : ℕ) (move : Move) (before after : Written) : Type 0 where

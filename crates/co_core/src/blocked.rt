@@ -7,7 +7,7 @@ ghost use Rattle.co_program.specs.Follows.{scan_count};
 ghost use Rattle.co_program.specs.Indexed.{action_of, cursor_of, stage_of};
 ghost use Rattle.co_program.specs.Scripts.{IsScript};
 ghost use Rattle.co_world.specs.Blocked.{blocked, is_locked, is_moving, is_waiting};
-ghost use Rattle.co_core.specs.Acting.{IsRunning, Stands};
+ghost use Rattle.co_core.specs.Acting.{RunsActor, Stands};
 ghost use Rattle.co_core.specs.Resting.{IsKeptOut, TakesNext};
 ghost use Rattle.co_core.specs.Stands.{IsWritten};
 ghost use Rattle.co_lock.specs.declared.held.Held.{Held as HeldOf};
@@ -118,8 +118,7 @@ impl Engine {
         place: &Cursor,
         action: &Action,
     ) -> Option<Why>
-        requires running { IsRunning script.now self.now }
-        requires actor { actor < actor_count script.now }
+        requires runs { RunsActor script.now self.now actor }
         requires place { place.now ≡ place_at self.now.books actor }
         requires action { action_of script.now actor place.now action.now ≡ action_for script.now actor (cursor_of script.now actor place.now) }
         ensures { (w : PlainWorld) → Stands script.now self.now w → result ≡ blocked script.now w actor }

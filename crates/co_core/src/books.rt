@@ -1,7 +1,5 @@
 //! What has been written: each actor's place in its program and its notes, and how long each history is.
 ghost use Rattle.std.specs.Prelude.{◌≡◌, ℕ, ◌+◌, ◌<◌, ◌≤◌, ◌^◌, true, false, [], ◌∷◌, ◌++◌, length, is_some, Some, IfOk, OnErr};
-ghost use Rattle.co_program.specs.Scripts.{IsScript};
-ghost use Rattle.co_program.specs.Indexed.{MoveCounts};
 ghost use Rattle.std.specs.declared.option.Option.TheVariants.{None};
 ghost use Rattle.co_object.specs.declared.queue.QOp.TheVariants.{Insert, Remove};
 ghost use Rattle.co_object.specs.declared.queue.QReply.TheVariants.{At, Off};
@@ -11,9 +9,9 @@ ghost use Rattle.co_object.specs.Entries.{is_armed};
 ghost use Rattle.co_object.specs.Stand.{off};
 ghost use Rattle.co_object.specs.Queue.{Queue as TimerQueue};
 ghost use Rattle.co_program.specs.Follows.{one_scan};
-ghost use Rattle.co_core.specs.InHand.{Follows, HasWritten, IsOpened, MayNote, MayWrite, with_hand};
+ghost use Rattle.co_core.specs.InHand.{Follows, HasWritten, IsNoteMade, IsNoteMadeIf, IsOpened, MayNote, MayWrite, MayWriteJournal, with_hand};
 ghost use Rattle.co_world.specs.Step.{callout_answers, own_note, queue_answers};
-ghost use Rattle.co_core.specs.Written.{IsMoved, IsNoted, place_at};
+ghost use Rattle.co_core.specs.Written.{IsMoved, IsNoted, MayMove, place_at};
 
 mod boot;
 mod holders;
@@ -95,9 +93,7 @@ impl Books {
 
     /// The actor goes on in its program without a note.
     pub(crate) fn go(&mut self, script: &Script, actor: u32, to: &Move)
-        requires script { IsScript script.now }
-        requires actor { actor < length self.old.places }
-        requires counted { MoveCounts (place_at self.old actor) to.now }
+        requires { MayMove script.now self.old actor to.now }
         ensures { IsMoved script.now actor to.now self.old self.new }
     {
         let place = &mut self.places[actor as usize];
@@ -173,8 +169,7 @@ impl Books {
     )
         requires may { MayWrite script.now self.old hand.old }
         requires known { i < length script.now.timers }
-        ensures written { (state : State) → (is_armed reply ≡ true → listed ≡ is_some (off state)) → Follows script.now self.old hand.old self.new hand.new (λ w. callout_answers script.now w hand.old.actor act i op (Some (state, reply))) }
-        ensures wrote { HasWritten 1 self.old hand.old self.new hand.new }
+        ensures { IsNoteMade self.old hand.old self.new hand.new ((state : State) → (is_armed reply ≡ true → listed ≡ is_some (off state)) → Follows script.now self.old hand.old self.new hand.new (λ w. callout_answers script.now w hand.old.actor act i op (Some (state, reply)))) }
     {
         let pos = self.histories[i as usize];
         self.histories[i as usize] = pos + 1;
@@ -201,10 +196,8 @@ impl Books {
         op: QOp,
         reply: QReply,
     )
-        requires may { MayWrite script.now self.old hand.old }
-        requires known { cpu < script.now.cpus }
-        ensures written { (queue : TimerQueue) → Follows script.now self.old hand.old self.new hand.new (λ w. queue_answers script.now w hand.old.actor act cpu op (Some (queue, reply))) }
-        ensures wrote { HasWritten 1 self.old hand.old self.new hand.new }
+        requires { MayWriteJournal script.now self.old hand.old cpu }
+        ensures { IsNoteMade self.old hand.old self.new hand.new ((queue : TimerQueue) → Follows script.now self.old hand.old self.new hand.new (λ w. queue_answers script.now w hand.old.actor act cpu op (Some (queue, reply)))) }
     {
         let pos = self.journals[cpu as usize];
         self.journals[cpu as usize] = pos + 1;
@@ -233,12 +226,9 @@ impl Books {
         i: u32,
         removed: bool,
     ) -> u32
-        requires may { MayWrite script.now self.old hand.old }
-        requires known { cpu < script.now.cpus }
-        ensures stays { removed ≡ false → with_hand self.new hand.new ≡ with_hand self.old hand.old }
-        ensures written { (queue : TimerQueue) → removed ≡ true → Follows script.now self.old hand.old self.new hand.new (λ w. queue_answers script.now w hand.old.actor act cpu (Remove i) (Some (queue, Off))) }
-        ensures wrote { HasWritten result self.old hand.old self.new hand.new }
-        ensures few { result ≤ 1 }
+        requires { MayWriteJournal script.now self.old hand.old cpu }
+        ensures { IsNoteMadeIf self.old hand.old self.new hand.new result (removed ≡ false)
+            ((queue : TimerQueue) → removed ≡ true → Follows script.now self.old hand.old self.new hand.new (λ w. queue_answers script.now w hand.old.actor act cpu (Remove i) (Some (queue, Off)))) }
     {
         if !removed {
             return 0;
@@ -257,11 +247,9 @@ impl Books {
     ) -> u32
         requires may { MayWrite script.now self.old hand.old }
         requires known { is_some at ≡ true → (parcel : ParcelOf) × ((place_at self.old hand.old.actor).parcel ≡ Some parcel) × (parcel.cpu < script.now.cpus) }
-        ensures stays { at ≡ None → with_hand self.new hand.new ≡ with_hand self.old hand.old }
-        ensures written { (queue : TimerQueue) (parcel : ParcelOf) (t : ℕ) → at ≡ Some t → (place_at self.old hand.old.actor).parcel ≡ Some parcel →
-            Follows script.now self.old hand.old self.new hand.new (λ w. queue_answers script.now w hand.old.actor parcel.act parcel.cpu (Insert parcel.i parcel.n parcel.due) (Some (queue, At t))) }
-        ensures wrote { HasWritten result self.old hand.old self.new hand.new }
-        ensures few { result ≤ 1 }
+        ensures { IsNoteMadeIf self.old hand.old self.new hand.new result (at ≡ None)
+            ((queue : TimerQueue) (parcel : ParcelOf) (t : ℕ) → at ≡ Some t → (place_at self.old hand.old.actor).parcel ≡ Some parcel →
+            Follows script.now self.old hand.old self.new hand.new (λ w. queue_answers script.now w hand.old.actor parcel.act parcel.cpu (Insert parcel.i parcel.n parcel.due) (Some (queue, At t)))) }
     {
         let Some(at) = at else {
             return 0;
@@ -281,10 +269,8 @@ impl Books {
         parcel: &Parcel,
         at: Sbt,
     )
-        requires may { MayWrite script.now self.old hand.old }
-        requires known { parcel.now.cpu < script.now.cpus }
-        ensures written { (queue : TimerQueue) → Follows script.now self.old hand.old self.new hand.new (λ w. queue_answers script.now w hand.old.actor parcel.now.act parcel.now.cpu (Insert parcel.now.i parcel.now.n parcel.now.due) (Some (queue, At at))) }
-        ensures wrote { HasWritten 1 self.old hand.old self.new hand.new }
+        requires { MayWriteJournal script.now self.old hand.old parcel.now.cpu }
+        ensures { IsNoteMade self.old hand.old self.new hand.new ((queue : TimerQueue) → Follows script.now self.old hand.old self.new hand.new (λ w. queue_answers script.now w hand.old.actor parcel.now.act parcel.now.cpu (Insert parcel.now.i parcel.now.n parcel.now.due) (Some (queue, At at)))) }
     {
         let op = QOp::Insert {
             i: parcel.i,
@@ -297,8 +283,7 @@ impl Books {
     /// An entry of the actor's own: an act that came to no callout.
     pub(crate) fn write_own(&mut self, script: &Script, hand: &mut Hand, act: u64, kind: OwnKind)
         requires { MayWrite script.now self.old hand.old }
-        ensures written { Follows script.now self.old hand.old self.new hand.new (λ w. own_note script.now w hand.old.actor act kind) }
-        ensures wrote { HasWritten 1 self.old hand.old self.new hand.new }
+        ensures { IsNoteMade self.old hand.old self.new hand.new (Follows script.now self.old hand.old self.new hand.new (λ w. own_note script.now w hand.old.actor act kind)) }
     {
         let actor = hand.actor;
         let pos = self.own[actor as usize];

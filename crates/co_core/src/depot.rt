@@ -7,7 +7,7 @@ ghost use Rattle.co_wheel.specs.Callouts.{is_here, in_service};
 ghost use Rattle.co_wheel.specs.Cpu.{Cpu};
 ghost use Rattle.co_wheel.specs.Parcel.{Parcel as Travelling};
 ghost use Rattle.co_wheel.specs.Service.{begin_here, end_here};
-ghost use Rattle.co_core.specs.Stored.{IsBegun, IsCalled, IsEnded, IsLanded, IsNext, IsScanned, MayLand, bag_at, is_entry, services, stand_at, wheel_at, with_bag, with_stand, with_wheel};
+ghost use Rattle.co_core.specs.Stored.{IsBegun, IsCalled, IsEnded, IsLanded, IsNext, IsScanned, MayCarry, MayLand, bag_at, is_entry, services, stand_at, wheel_at, with_bag, with_stand, with_wheel};
 
 mod boot;
 
@@ -74,10 +74,8 @@ impl Depot {
         actor: u32,
         out: &mut CallOut,
     ) -> bool
-        requires cpu { cpu < length self.old.wheels }
-        requires actor { actor < length self.old.bags }
+        requires may { MayCarry self.old actor cpu }
         requires here { is_here (wheel_at self.old cpu).callouts i ≡ true }
-        requires empty { bag_at self.old actor ≡ None }
         ensures { (after : Cpu) × (leaves : Option Travelling) × IsCalled (wheel_at self.old cpu) i op.now out.new.reply out.new.removed result out.new.inserted leaves after × (self.new ≡ with_bag (with_wheel self.old cpu after) actor leaves) }
     {
         let wheel = &mut self.wheels[cpu as usize];
@@ -98,10 +96,8 @@ impl Depot {
     /// The service of this CPU is over, or of its interrupt where `direct`. Where a record leaves it goes into the actor's
     /// bag, which is empty.
     pub(crate) fn end(&mut self, cpu: u32, direct: bool, actor: u32) -> Reply
-        requires cpu { cpu < length self.old.wheels }
-        requires actor { actor < length self.old.bags }
+        requires may { MayCarry self.old actor cpu }
         requires possible { is_some (end_here direct (wheel_at self.old cpu).callouts) ≡ true }
-        requires empty { bag_at self.old actor ≡ None }
         ensures { (after : Cpu) × (leaves : Option Travelling) × IsEnded direct (wheel_at self.old cpu) result leaves after × (self.new ≡ with_bag (with_wheel self.old cpu after) actor leaves) }
     {
         let wheel = &mut self.wheels[cpu as usize];

@@ -1,12 +1,11 @@
 //! One step after another: the books and the depot of a world.
-ghost use Rattle.std.specs.Prelude.{◌≡◌, ◌<◌, length};
+ghost use Rattle.std.specs.Prelude.{◌≡◌};
 ghost use Rattle.co_lock.specs.declared.held.Held.{Held};
 ghost use Rattle.co_program.specs.Action.{Asks, Silent, Take};
-ghost use Rattle.co_program.specs.Scripts.{IsScript};
-ghost use Rattle.co_program.specs.Indexed.{MoveCounts, cursor_of, moved};
+ghost use Rattle.co_program.specs.Indexed.{cursor_of, moved};
 ghost use Rattle.co_wheel.specs.Turns.{pop_of, free_of};
 ghost use Rattle.co_core.specs.Acting.{HasActed, HasStepped, MayAct};
-ghost use Rattle.co_core.specs.Written.{place_at};
+ghost use Rattle.co_core.specs.Written.{MayMove, place_at};
 
 mod acting;
 
@@ -27,9 +26,7 @@ pub(crate) struct Engine {
 impl Engine {
     /// A step without a note.
     fn go(&mut self, script: &Script, actor: u32, to: &Move)
-        requires script { IsScript script.now }
-        requires actor { actor < length self.old.books.places }
-        requires counted { MoveCounts (place_at self.old.books actor) to.now }
+        requires { MayMove script.now self.old.books actor to.now }
         ensures silent { HasStepped script.now actor (Silent (moved (cursor_of script.now actor (place_at self.old.books actor)) to.now)) 0 self.old self.new }
         ensures take { (held : Held) → HasStepped script.now actor (Take held (moved (cursor_of script.now actor (place_at self.old.books actor)) to.now)) 0 self.old self.new }
     {

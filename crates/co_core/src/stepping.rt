@@ -1,9 +1,8 @@
 //! One step of one actor.
-ghost use Rattle.std.specs.Prelude.{◌≡◌, ◌<◌, OnOk, OnErr, IfOk};
+ghost use Rattle.std.specs.Prelude.{◌≡◌, OnOk, OnErr, IfOk};
 ghost use Rattle.co_object.specs.declared.note.Note.{Note};
-ghost use Rattle.co_program.specs.Actors.{actor_count};
 ghost use Rattle.co_program.specs.Scripts.{IsScript};
-ghost use Rattle.co_core.specs.Acting.{IsRunning, Stands};
+ghost use Rattle.co_core.specs.Acting.{RunsActor, Stands};
 ghost use Rattle.co_world.specs.Step.{step, turn_of};
 ghost use Rattle.co_world.specs.World.{World as PlainWorld, open_world};
 
@@ -38,8 +37,7 @@ impl Engine {
     /// short beside the cost of calling them.
     #[inline(always)]
     pub(crate) fn step(&mut self, script: &Script, actor: u32) -> Result<Turn, NoMemory>
-        requires running { IsRunning script.now self.old }
-        requires actor { actor < actor_count script.now }
+        requires { RunsActor script.now self.old actor }
         ensures stands { OnOk result ((w : PlainWorld) → Stands script.now self.old w → Stands script.now self.new (step script.now w actor)) }
         ensures turn { IfOk result (λ turn. (w : PlainWorld) → Stands script.now self.old w → turn ≡ turn_of script.now w actor) }
         ensures told { self.new.books.told ≡ self.old.books.told }

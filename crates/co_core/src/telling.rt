@@ -5,7 +5,7 @@ ghost use Rattle.co_program.specs.Actors.{actor_count};
 ghost use Rattle.co_program.specs.Scripts.{IsScript};
 ghost use Rattle.co_core.specs.Resting.{IsKnown};
 ghost use Rattle.co_world.specs.Step.{step, turn_of};
-ghost use Rattle.co_core.specs.Telling.{GoesOn, GoesOnKnowing, HasTold, IsTelling, MayTell, makes_notes};
+ghost use Rattle.co_core.specs.Telling.{GoesOn, GoesOnKnowing, HasAsked, HasTold, IsTelling, IsToldTo, MayTell, MayTellStep, makes_notes};
 ghost use Rattle.co_world.specs.Walk.{AllFinished, HasFinished, IsWalk, round, rounds, run};
 ghost use Rattle.co_world.specs.World.{World as PlainWorld};
 
@@ -47,11 +47,9 @@ impl Engine {
         actor: u32,
         listener: &mut N,
     ) -> Result<Turn, NoMemory>
-        requires may { MayTell script.now self.old (N.actors listener.old) }
-        requires actor { actor < actor_count script.now }
-        ensures told { OnOk result ((w : PlainWorld) → HasTold script.now self.old w → GoesOn script.now N.has self.new listener.old listener.new w (step script.now w actor)) }
+        requires { MayTellStep script.now self.old (N.actors listener.old) actor }
+        ensures told { IsToldTo N.actors listener.old listener.new result ((w : PlainWorld) → HasTold script.now self.old w → GoesOn script.now N.has self.new listener.old listener.new w (step script.now w actor)) }
         ensures turn { IfOk result (λ turn. (w : PlainWorld) → HasTold script.now self.old w → turn ≡ turn_of script.now w actor) }
-        ensures actors { N.actors listener.new ≡ N.actors listener.old }
     {
         let turn = self.step(script, actor)?;
         if !makes_notes(turn) {
@@ -73,12 +71,8 @@ impl Engine {
         resting: &mut Resting,
         listener: &mut N,
     ) -> Result<bool, NoMemory>
-        requires may { MayTell script.now self.old (N.actors listener.old) }
-        requires actor { actor < actor_count script.now }
-        ensures world { OnOk result ((w : PlainWorld) × HasTold script.now self.new w) }
-        ensures told { OnOk result (GoesOnKnowing script.now N.has self.old self.new listener.old listener.new resting.old resting.new (λ w. step script.now w actor)) }
-        ensures finished { IfOk result (λ finished. finished ≡ true → (w : PlainWorld) → HasTold script.now self.old w → IsKnown script.now w resting.old → HasFinished script.now w actor) }
-        ensures actors { N.actors listener.new ≡ N.actors listener.old }
+        requires { MayTellStep script.now self.old (N.actors listener.old) actor }
+        ensures { HasAsked script.now N.has N.actors self.old self.new listener.old listener.new resting.old resting.new result (λ w. step script.now w actor) (λ w. HasFinished script.now w actor) }
     {
         let turn = self.tell_step(script, actor, listener)?;
         let finished = is_finished(turn);
@@ -97,12 +91,8 @@ impl Engine {
         resting: &mut Resting,
         listener: &mut N,
     ) -> Result<bool, NoMemory>
-        requires may { MayTell script.now self.old (N.actors listener.old) }
-        requires actor { actor < actor_count script.now }
-        ensures world { OnOk result ((w : PlainWorld) × HasTold script.now self.new w) }
-        ensures told { OnOk result (GoesOnKnowing script.now N.has self.old self.new listener.old listener.new resting.old resting.new (λ w. step script.now w actor)) }
-        ensures finished { IfOk result (λ finished. finished ≡ true → (w : PlainWorld) → HasTold script.now self.old w → IsKnown script.now w resting.old → HasFinished script.now w actor) }
-        ensures actors { N.actors listener.new ≡ N.actors listener.old }
+        requires { MayTellStep script.now self.old (N.actors listener.old) actor }
+        ensures { HasAsked script.now N.has N.actors self.old self.new listener.old listener.new resting.old resting.new result (λ w. step script.now w actor) (λ w. HasFinished script.now w actor) }
     {
         if resting.has_ended(actor) {
             return Ok(true);
@@ -121,8 +111,7 @@ impl Engine {
         listener: &mut N,
     ) -> Result<(), NoMemory>
         requires { MayTell script.now self.old (N.actors listener.old) }
-        ensures told { OnOk result (GoesOnKnowing script.now N.has self.old self.new listener.old listener.new resting.old resting.new (λ w. run script.now w script.now.turns)) }
-        ensures actors { N.actors listener.new ≡ N.actors listener.old }
+        ensures { IsToldTo N.actors listener.old listener.new result (GoesOnKnowing script.now N.has self.old self.new listener.old listener.new resting.old resting.new (λ w. run script.now w script.now.turns)) }
     {
         for actor in script.turns.as_slice() {
             let _finished = self.tell_unless_resting(script, *actor, resting, listener)?;
@@ -138,11 +127,7 @@ impl Engine {
         listener: &mut N,
     ) -> Result<bool, NoMemory>
         requires { MayTell script.now self.old (N.actors listener.old) }
-        ensures world { OnOk result ((w : PlainWorld) × HasTold script.now self.new w) }
-        ensures told { OnOk result (GoesOnKnowing script.now N.has self.old self.new listener.old listener.new resting.old resting.new (round script.now)) }
-        ensures finished { IfOk result (λ finished. finished ≡ true → (w : PlainWorld) → HasTold script.now self.old w → IsKnown script.now w resting.old →
-            AllFinished script.now w × (round script.now w ≡ w)) }
-        ensures actors { N.actors listener.new ≡ N.actors listener.old }
+        ensures { HasAsked script.now N.has N.actors self.old self.new listener.old listener.new resting.old resting.new result (round script.now) (λ w. AllFinished script.now w × (round script.now w ≡ w)) }
     {
         let mut finished = true;
         for actor in 0..actor_count(script) {
@@ -160,9 +145,8 @@ impl Engine {
         listener: &mut N,
     ) -> Result<(), NoMemory>
         requires { MayTell script.now self.old (N.actors listener.old) }
-        ensures ends { OnOk result ((w : PlainWorld) → HasTold script.now self.old w → IsKnown script.now w resting.old →
+        ensures { IsToldTo N.actors listener.old listener.new result ((w : PlainWorld) → HasTold script.now self.old w → IsKnown script.now w resting.old →
             (number : ℕ) × GoesOn script.now N.has self.new listener.old listener.new w (rounds script.now w number) × AllFinished script.now (rounds script.now w number)) }
-        ensures actors { N.actors listener.new ≡ N.actors listener.old }
     {
         // What is left to do falls with every round, so it ends long before it has counted so far.
         for _round in 0..u64::MAX {

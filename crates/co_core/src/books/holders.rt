@@ -1,6 +1,6 @@
 //! How many actors hold each lock.
-ghost use Rattle.std.specs.Prelude.{◌≡◌, ℕ, ◌<◌, ◌^◌, ◌-◌, get_or, length};
-ghost use Rattle.co_core.specs.Holders.{excludes_any, fewer, more, no_holders, released, taken};
+ghost use Rattle.std.specs.Prelude.{◌≡◌};
+ghost use Rattle.co_core.specs.Holders.{HasRoom, HaveRoom, excludes_any, fewer, more, no_holders, released, taken};
 
 use co_lock::Held;
 
@@ -32,8 +32,7 @@ impl Holders {
     }
 
     fn more(self, exclusive: bool) -> Holders
-        requires shared { self.shared < 2 ^ 64 - 1 }
-        requires exclusive { self.exclusive < 2 ^ 64 - 1 }
+        requires { HasRoom self }
         ensures { result ≡ more exclusive self }
     {
         if exclusive {
@@ -67,8 +66,7 @@ impl Holders {
 }
 
 fn take(holders: &mut Vec<Holders>, hold: Option<Held>)
-    requires shared { (k : ℕ) → k < length holders.old.items → (get_or holders.old.items k no_holders).shared < 2 ^ 64 - 1 }
-    requires exclusive { (k : ℕ) → k < length holders.old.items → (get_or holders.old.items k no_holders).exclusive < 2 ^ 64 - 1 }
+    requires { HaveRoom holders.old.items }
     ensures { holders.new.items ≡ taken hold holders.old.items }
 {
     let Some(held) = hold else {
@@ -94,8 +92,7 @@ fn release(holders: &mut Vec<Holders>, hold: Option<Held>)
 
 /// An actor that had one hold, if any, has another now.
 pub(crate) fn rehold(holders: &mut Vec<Holders>, from: Option<Held>, to: Option<Held>)
-    requires shared { (k : ℕ) → k < length (released from holders.old.items) → (get_or (released from holders.old.items) k no_holders).shared < 2 ^ 64 - 1 }
-    requires exclusive { (k : ℕ) → k < length (released from holders.old.items) → (get_or (released from holders.old.items) k no_holders).exclusive < 2 ^ 64 - 1 }
+    requires { HaveRoom (released from holders.old.items) }
     ensures { holders.new.items ≡ taken to (released from holders.old.items) }
 {
     release(holders, from);

@@ -1,7 +1,7 @@
 //! Notes are told to a listener, and let go.
 ghost use Rattle.std.specs.Prelude.{◌≡◌, ◌<◌, ◌++◌, List, OnOk};
 ghost use Rattle.co_listener.specs.Made.{Made};
-ghost use Rattle.co_core.specs.Telling.{made_by};
+ghost use Rattle.co_core.specs.Telling.{IsToldTo, made_by};
 ghost use Rattle.co_core.specs.Written.{MayLetGo, let_go, list_at};
 
 use super::Books;
@@ -12,8 +12,7 @@ use co_sbt::NoMemory;
 /// Tells these notes of an actor, in their order.
 fn tell_all<N: Listener>(listener: &mut N, actor: u32, notes: &[Note]) -> Result<(), NoMemory>
     requires { actor < N.actors listener.old }
-    ensures has { OnOk result ((made : List Made) → N.has listener.old made → N.has listener.new (made ++ made_by actor notes.now)) }
-    ensures actors { N.actors listener.new ≡ N.actors listener.old }
+    ensures { IsToldTo N.actors listener.old listener.new result ((made : List Made) → N.has listener.old made → N.has listener.new (made ++ made_by actor notes.now)) }
 {
     for note in notes {
         listener.write(actor, note)?;
@@ -27,8 +26,7 @@ impl Books {
     pub(crate) fn tell<N: Listener>(&mut self, actor: u32, listener: &mut N) -> Result<(), NoMemory>
         requires may { MayLetGo self.old actor }
         requires room { actor < N.actors listener.old }
-        ensures has { OnOk result ((made : List Made) → N.has listener.old made → N.has listener.new (made ++ made_by actor (list_at self.old actor))) }
-        ensures actors { N.actors listener.new ≡ N.actors listener.old }
+        ensures has { IsToldTo N.actors listener.old listener.new result ((made : List Made) → N.has listener.old made → N.has listener.new (made ++ made_by actor (list_at self.old actor))) }
         ensures let_go { OnOk result (self.new ≡ let_go self.old actor) }
     {
         let index = actor as usize;

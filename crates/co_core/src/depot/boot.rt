@@ -1,8 +1,8 @@
 //! The depot before the first step.
-ghost use Rattle.std.specs.Prelude.{◌≡◌, ◌<◌, ◌++◌, ◌∷◌, [], None, length, map, replicate, IfOk, OnOk};
+ghost use Rattle.std.specs.Prelude.{◌≡◌, ◌<◌, ◌++◌, ◌∷◌, [], None, length, replicate, IfOk, OnOk};
 ghost use Rattle.co_program.specs.Actors.{actor_count};
 ghost use Rattle.co_program.specs.Scripts.{IsScript};
-ghost use Rattle.co_core.specs.Booted.{first_wheel};
+ghost use Rattle.co_core.specs.Booted.{MayBoot, first_wheel};
 ghost use Rattle.co_core.specs.Stands.{IsStored};
 ghost use Rattle.co_core.specs.Table.{table};
 ghost use Rattle.co_world.specs.World.{open_world};
@@ -22,8 +22,7 @@ fn first_wheel(
     direct: &[bool],
     cpu: u32,
 ) -> Result<Wheel<WheelQueue>, NoMemory>
-    requires script { IsScript script.now }
-    requires direct { direct.now ≡ map (λ spec. spec.direct) script.now.timers }
+    requires { MayBoot script.now direct.now }
     ensures { IfOk result (λ wheel. wheel ≡ first_wheel script.now cpu) }
 {
     let specs = script.timers.as_slice();
@@ -52,8 +51,7 @@ fn first_wheels(
     script: &Script,
     direct: &[bool],
 ) -> Result<Vec<Wheel<WheelQueue>>, NoMemory>
-    requires script { IsScript script.now }
-    requires direct { direct.now ≡ map (λ spec. spec.direct) script.now.timers }
+    requires { MayBoot script.now direct.now }
     ensures { IfOk result (λ wheels. wheels.items ≡ table script.now.cpus (first_wheel script.now)) }
 {
     let mut wheels = Vec::new(alloc);

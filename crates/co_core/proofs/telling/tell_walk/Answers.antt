@@ -32,4 +32,4 @@ returns-clause-told g c =
     on_ok_weaker c.tell_rounds.result
     (λ ends empty. (let end = ends (run s (open_world s) s.turns) turns.0.told turns.1 in
     walk_told s g.N.Listener.has c.tell_turns.new.self c.tell_rounds.new.self c.args.listener.now c.tell_turns.new.listener c.tell_rounds.new.listener end.0 turns.0 end.1 end.2 empty))
-    c.tell_rounds.ensures.ends
+    c.tell_rounds.ensures.told

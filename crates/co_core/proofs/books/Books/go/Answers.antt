@@ -1,28 +1,23 @@
 -- The table of holders follows the actor to its new place.
-use Rattle.std.proofs.Common.{rules, arith, ◌≡◌, ◌<◌, ◌^◌, ◌-◌, ℕ, List, sym, subst, ap, ◌∙◌, length, get_or, set}
+use Rattle.std.proofs.Common.{rules, arith, ◌≡◌, ◌<◌, ◌^◌, List, sym, subst, ap, ◌∙◌, length, get_or, set}
 use Rattle.std.proofs.lemmas.List.{get_or_read}
 use Rattle.co_program.specs.declared.cursor.Cursor.{Cursor as CursorAt}
 use Rattle.co_core.specs.declared.books.holders.Holders.{Holders}
-use Rattle.co_core.specs.Holders.{AreHolders, no_holders, released, taken}
+use Rattle.co_core.specs.Holders.{AreHolders, HaveRoom, released, taken}
 use Rattle.co_core.specs.Written.{Written, first_place}
 use Rattle.co_core.proofs.written.LockHolders.{moved, few-left}
 use Rattle.co_core.proofs.books.Books.go.Goals as goal
 
-pub rehold-requires-clause-shared : goal.rehold-requires-clause-shared
-rehold-requires-clause-shared c =
+pub rehold-requires : goal.rehold-requires
+rehold-requires c =
     let within : c.args.actor < length c.self.inside.places.items = subst (λ (x : Written). c.args.actor < length x.places) (sym c.self.view_is) c.requires.actor in
     let read : c.index_mut-place.result.now ≡ get_or c.self.inside.places.items c.args.actor first_place = get_or_read c.self.inside.places.items c.args.actor c.index_mut-place.result.now within c.index_mut-place.ensures.value first_place in
     let long : length c.self.inside.places.items < 2 ^ 64 = search rules in
-    subst (λ (p : CursorAt). (k : ℕ) → k < length (released p.hold c.self.inside.holders.items) → (get_or (released p.hold c.self.inside.holders.items) k no_holders).shared < 2 ^ 64 - 1) (sym read)
-    (λ k below. (let few = (few-left c.self.inside.holders.items c.self.inside.places.items c.args.actor c.self.invariant within k below).0 in omega (arith, few, long)))
-
-pub rehold-requires-clause-exclusive : goal.rehold-requires-clause-exclusive
-rehold-requires-clause-exclusive c =
-    let within : c.args.actor < length c.self.inside.places.items = subst (λ (x : Written). c.args.actor < length x.places) (sym c.self.view_is) c.requires.actor in
-    let read : c.index_mut-place.result.now ≡ get_or c.self.inside.places.items c.args.actor first_place = get_or_read c.self.inside.places.items c.args.actor c.index_mut-place.result.now within c.index_mut-place.ensures.value first_place in
-    let long : length c.self.inside.places.items < 2 ^ 64 = search rules in
-    subst (λ (p : CursorAt). (k : ℕ) → k < length (released p.hold c.self.inside.holders.items) → (get_or (released p.hold c.self.inside.holders.items) k no_holders).exclusive < 2 ^ 64 - 1) (sym read)
-    (λ k below. (let few = (few-left c.self.inside.holders.items c.self.inside.places.items c.args.actor c.self.invariant within k below).1 in omega (arith, few, long)))
+    subst (λ (p : CursorAt). HaveRoom (released p.hold c.self.inside.holders.items)) (sym read) (λ k below.
+    (let few = few-left c.self.inside.holders.items c.self.inside.places.items c.args.actor c.self.invariant within k below in
+    let shared = few.0 in
+    let exclusive = few.1 in
+    record { shared = omega (arith, shared, long); exclusive = omega (arith, exclusive, long) }))
 
 pub invariant_of-self : goal.invariant_of-self
 invariant_of-self c =

@@ -36,19 +36,19 @@ pub write-requires : goal.write-requires
 write-requires c =
     may_note c.args.script.now c.args.self.now _ c.args.hand.now c.requires.may (ap (λ (x : Written). x.places) c.self.view_is) (ap (λ (x : Written). x.lists) c.self.view_is) (ap (λ (x : Written). x.made) c.self.view_is)
 
-pub returns-clause-written : goal.returns-clause-written
-returns-clause-written c = λ state is w written.
-    (let x : Written = with_hand c.args.self.now c.args.hand.now in
-    let x2 : Written = with_hand c.write.new.self c.write.new.hand in
-    let there = history_there c.args.script.now x w written c.args.i c.requires.known in
-    let within : c.args.i < length c.self.inside.histories.items = subst (λ (x : Written). c.args.i < length x.histories) (sym c.self.view_is) there.0 in
-    let pos = c.index-pos.result.now in
-    let at : pos ≡ get_or c.args.self.now.histories c.args.i 0 =
-    get_or_read c.self.inside.histories.items c.args.i pos within c.index-pos.ensures 0 ∙ ap (λ (x : Written). get_or x.histories c.args.i 0) c.self.view_is in
-    written_callout c.args.script.now x x2 w c.args.hand.now.actor c.args.act c.args.i pos c.args.op (state, c.args.reply) c.args.listed written c.requires.may.exists c.requires.known is at
-    (subst (λ (y : Written). IsNoted c.args.script.now c.args.hand.now.actor c.args.listed (callout_note c.args.hand.now.actor c.args.act c.args.i pos c.args.op c.args.reply)
-    (record (with_hand y c.args.hand.now) { histories = set y.histories c.args.i (pos + 1) }) x2) c.self.view_is c.write.ensures.noted))
-
-pub returns-clause-wrote : goal.returns-clause-wrote
-returns-clause-wrote c =
-    counts_from 1 c.args.self.now _ c.args.hand.now c.write.new.self c.write.new.hand (ap (λ (x : Written). x.told) c.self.view_is) (ap (λ (x : Written). x.made) c.self.view_is) c.write.ensures.wrote
+pub returns : goal.returns
+returns c = record {
+  written = λ state is w written.
+      (let x : Written = with_hand c.args.self.now c.args.hand.now in
+      let x2 : Written = with_hand c.write.new.self c.write.new.hand in
+      let there = history_there c.args.script.now x w written c.args.i c.requires.known in
+      let within : c.args.i < length c.self.inside.histories.items = subst (λ (x : Written). c.args.i < length x.histories) (sym c.self.view_is) there.0 in
+      let pos = c.index-pos.result.now in
+      let at : pos ≡ get_or c.args.self.now.histories c.args.i 0 =
+      get_or_read c.self.inside.histories.items c.args.i pos within c.index-pos.ensures 0 ∙ ap (λ (x : Written). get_or x.histories c.args.i 0) c.self.view_is in
+      written_callout c.args.script.now x x2 w c.args.hand.now.actor c.args.act c.args.i pos c.args.op (state, c.args.reply) c.args.listed written c.requires.may.exists c.requires.known is at
+      (subst (λ (y : Written). IsNoted c.args.script.now c.args.hand.now.actor c.args.listed (callout_note c.args.hand.now.actor c.args.act c.args.i pos c.args.op c.args.reply)
+      (record (with_hand y c.args.hand.now) { histories = set y.histories c.args.i (pos + 1) }) x2) c.self.view_is c.write.ensures.noted));
+  wrote =
+      counts_from 1 c.args.self.now _ c.args.hand.now c.write.new.self c.write.new.hand (ap (λ (x : Written). x.told) c.self.view_is) (ap (λ (x : Written). x.made) c.self.view_is) c.write.ensures.wrote;
+}

@@ -1,4 +1,4 @@
 use Rattle.co_core.proofs.books.Books.write_landing.Goals as goal
 
-pub returns-clause-written : goal.returns-clause-written
-returns-clause-written c = c.write_queue.ensures.written
+pub returns : goal.returns
+returns c = record { written = c.write_queue.ensures.written; wrote = c.write_queue.ensures.wrote }

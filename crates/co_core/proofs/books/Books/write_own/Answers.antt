@@ -36,19 +36,19 @@ pub write-requires : goal.write-requires
 write-requires c =
     may_note c.args.script.now c.args.self.now _ c.args.hand.now c.requires (ap (λ (x : Written). x.places) c.self.view_is) (ap (λ (x : Written). x.lists) c.self.view_is) (ap (λ (x : Written). x.made) c.self.view_is)
 
-pub returns-clause-written : goal.returns-clause-written
-returns-clause-written c = λ w written.
-    (let x : Written = with_hand c.args.self.now c.args.hand.now in
-    let x2 : Written = with_hand c.write.new.self c.write.new.hand in
-    let there = own_there c.args.script.now x w written c.args.hand.now.actor c.requires.exists in
-    let within : c.args.hand.now.actor < length c.self.inside.own.items = subst (λ (x : Written). c.args.hand.now.actor < length x.own) (sym c.self.view_is) there.0 in
-    let pos = c.index-pos.result.now in
-    let at : pos ≡ get_or c.args.self.now.own c.args.hand.now.actor 0 =
-    get_or_read c.self.inside.own.items c.args.hand.now.actor pos within c.index-pos.ensures 0 ∙ ap (λ (x : Written). get_or x.own c.args.hand.now.actor 0) c.self.view_is in
-    written_own c.args.script.now x x2 w c.args.hand.now.actor c.args.act pos c.args.kind written c.requires.exists at
-    (subst (λ (y : Written). IsNoted c.args.script.now c.args.hand.now.actor false (own_entry c.args.hand.now.actor c.args.act pos c.args.kind)
-    (record (with_hand y c.args.hand.now) { own = set y.own c.args.hand.now.actor (pos + 1) }) x2) c.self.view_is c.write.ensures.noted))
-
-pub returns-clause-wrote : goal.returns-clause-wrote
-returns-clause-wrote c =
-    counts_from 1 c.args.self.now _ c.args.hand.now c.write.new.self c.write.new.hand (ap (λ (x : Written). x.told) c.self.view_is) (ap (λ (x : Written). x.made) c.self.view_is) c.write.ensures.wrote
+pub returns : goal.returns
+returns c = record {
+  written = λ w written.
+      (let x : Written = with_hand c.args.self.now c.args.hand.now in
+      let x2 : Written = with_hand c.write.new.self c.write.new.hand in
+      let there = own_there c.args.script.now x w written c.args.hand.now.actor c.requires.exists in
+      let within : c.args.hand.now.actor < length c.self.inside.own.items = subst (λ (x : Written). c.args.hand.now.actor < length x.own) (sym c.self.view_is) there.0 in
+      let pos = c.index-pos.result.now in
+      let at : pos ≡ get_or c.args.self.now.own c.args.hand.now.actor 0 =
+      get_or_read c.self.inside.own.items c.args.hand.now.actor pos within c.index-pos.ensures 0 ∙ ap (λ (x : Written). get_or x.own c.args.hand.now.actor 0) c.self.view_is in
+      written_own c.args.script.now x x2 w c.args.hand.now.actor c.args.act pos c.args.kind written c.requires.exists at
+      (subst (λ (y : Written). IsNoted c.args.script.now c.args.hand.now.actor false (own_entry c.args.hand.now.actor c.args.act pos c.args.kind)
+      (record (with_hand y c.args.hand.now) { own = set y.own c.args.hand.now.actor (pos + 1) }) x2) c.self.view_is c.write.ensures.noted));
+  wrote =
+      counts_from 1 c.args.self.now _ c.args.hand.now c.write.new.self c.write.new.hand (ap (λ (x : Written). x.told) c.self.view_is) (ap (λ (x : Written). x.made) c.self.view_is) c.write.ensures.wrote;
+}

@@ -62,26 +62,26 @@ pub write-requires : goal.write-requires
 write-requires c =
     may_note c.args.script.now c.args.self.now _ c.args.hand.now c.requires.may (ap (λ (x : Written). x.places) c.self.view_is) (ap (λ (x : Written). x.lists) c.self.view_is) (ap (λ (x : Written). x.made) c.self.view_is)
 
-pub returns-clause-written : goal.returns-clause-written
-returns-clause-written c = λ queue w written.
-    (let x : Written = with_hand c.args.self.now c.args.hand.now in
-    let x2 : Written = with_hand c.write.new.self c.write.new.hand in
-    let there = journal_there c.args.script.now x w written c.args.cpu c.requires.known in
-    let there' = scan_there c.args.script.now x w written c.args.cpu c.requires.known in
-    let within : c.args.cpu < length c.self.inside.journals.items = subst (λ (x : Written). c.args.cpu < length x.journals) (sym c.self.view_is) there.0 in
-    let within' : c.args.cpu < length c.self.inside.scans.items = subst (λ (x : Written). c.args.cpu < length x.scans) (sym c.self.view_is) there'.0 in
-    let pos = c.index-pos.result.now in
-    let scans = c.index-scans.result.now in
-    let at : pos ≡ get_or c.args.self.now.journals c.args.cpu 0 =
-    get_or_read c.self.inside.journals.items c.args.cpu pos within c.index-pos.ensures 0 ∙ ap (λ (x : Written). get_or x.journals c.args.cpu 0) c.self.view_is in
-    let at' : scans ≡ get_or c.args.self.now.scans c.args.cpu 0 =
-    get_or_read c.self.inside.scans.items c.args.cpu scans within' c.index-scans.ensures 0 ∙ ap (λ (x : Written). get_or x.scans c.args.cpu 0) c.self.view_is in
-    written_queue c.args.script.now x x2 w c.args.hand.now.actor c.args.act c.args.cpu pos scans c.args.op (queue, c.args.reply) written c.requires.may.exists c.requires.known at at'
-    (subst (λ (y : Written). IsNoted c.args.script.now c.args.hand.now.actor false (queue_note c.args.hand.now.actor c.args.act c.args.cpu pos c.args.op c.args.reply)
-    (record (with_hand y c.args.hand.now) { journals = set y.journals c.args.cpu (pos + 1); scans = set y.scans c.args.cpu (scans + one_scan c.args.op) }) x2) c.self.view_is
-    (subst (λ (n : ℕ). IsNoted c.args.script.now c.args.hand.now.actor false (queue_note c.args.hand.now.actor c.args.act c.args.cpu pos c.args.op c.args.reply)
-    (record (with_hand (the_view c.self.inside) c.args.hand.now) { journals = set c.self.inside.journals.items c.args.cpu (pos + 1); scans = set c.self.inside.scans.items c.args.cpu (scans + n) }) x2) c.one_scan.ensures.scans c.write.ensures.noted)))
-
-pub returns-clause-wrote : goal.returns-clause-wrote
-returns-clause-wrote c =
-    counts_from 1 c.args.self.now _ c.args.hand.now c.write.new.self c.write.new.hand (ap (λ (x : Written). x.told) c.self.view_is) (ap (λ (x : Written). x.made) c.self.view_is) c.write.ensures.wrote
+pub returns : goal.returns
+returns c = record {
+  written = λ queue w written.
+      (let x : Written = with_hand c.args.self.now c.args.hand.now in
+      let x2 : Written = with_hand c.write.new.self c.write.new.hand in
+      let there = journal_there c.args.script.now x w written c.args.cpu c.requires.known in
+      let there' = scan_there c.args.script.now x w written c.args.cpu c.requires.known in
+      let within : c.args.cpu < length c.self.inside.journals.items = subst (λ (x : Written). c.args.cpu < length x.journals) (sym c.self.view_is) there.0 in
+      let within' : c.args.cpu < length c.self.inside.scans.items = subst (λ (x : Written). c.args.cpu < length x.scans) (sym c.self.view_is) there'.0 in
+      let pos = c.index-pos.result.now in
+      let scans = c.index-scans.result.now in
+      let at : pos ≡ get_or c.args.self.now.journals c.args.cpu 0 =
+      get_or_read c.self.inside.journals.items c.args.cpu pos within c.index-pos.ensures 0 ∙ ap (λ (x : Written). get_or x.journals c.args.cpu 0) c.self.view_is in
+      let at' : scans ≡ get_or c.args.self.now.scans c.args.cpu 0 =
+      get_or_read c.self.inside.scans.items c.args.cpu scans within' c.index-scans.ensures 0 ∙ ap (λ (x : Written). get_or x.scans c.args.cpu 0) c.self.view_is in
+      written_queue c.args.script.now x x2 w c.args.hand.now.actor c.args.act c.args.cpu pos scans c.args.op (queue, c.args.reply) written c.requires.may.exists c.requires.known at at'
+      (subst (λ (y : Written). IsNoted c.args.script.now c.args.hand.now.actor false (queue_note c.args.hand.now.actor c.args.act c.args.cpu pos c.args.op c.args.reply)
+      (record (with_hand y c.args.hand.now) { journals = set y.journals c.args.cpu (pos + 1); scans = set y.scans c.args.cpu (scans + one_scan c.args.op) }) x2) c.self.view_is
+      (subst (λ (n : ℕ). IsNoted c.args.script.now c.args.hand.now.actor false (queue_note c.args.hand.now.actor c.args.act c.args.cpu pos c.args.op c.args.reply)
+      (record (with_hand (the_view c.self.inside) c.args.hand.now) { journals = set c.self.inside.journals.items c.args.cpu (pos + 1); scans = set c.self.inside.scans.items c.args.cpu (scans + n) }) x2) c.one_scan.ensures.scans c.write.ensures.noted)));
+  wrote =
+      counts_from 1 c.args.self.now _ c.args.hand.now c.write.new.self c.write.new.hand (ap (λ (x : Written). x.told) c.self.view_is) (ap (λ (x : Written). x.made) c.self.view_is) c.write.ensures.wrote;
+}

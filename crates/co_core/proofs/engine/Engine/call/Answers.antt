@@ -22,23 +22,28 @@ use Rattle.co_core.proofs.engine.Engine.call.Goals as goal
 pub stand-cpu-requires : goal.stand-cpu-requires
 stand-cpu-requires c = let m = c.requires in stand_there c.args.script.now c.requires.script (with_hand c.args.self.now.books c.args.hand.now) c.args.self.now.depot m.world m.held c.args.hand.now.actor c.args.act c.args.i c.args.op.now m.due
 
-pub call-listed-requires-clause-cpu : goal.call-listed-requires-clause-cpu
-call-listed-requires-clause-cpu c = let m = c.requires in cpu_there c.args.script.now c.requires.script (with_hand c.args.self.now.books c.args.hand.now) c.args.self.now.depot m.world m.held c.args.hand.now.actor c.args.act c.args.i c.args.op.now m.due c.stand-cpu.result c.stand-cpu.ensures
+pub call-listed-requires-clause-may : goal.call-listed-requires-clause-may
+call-listed-requires-clause-may c =
+    let m = c.requires in
+    let long = m.held.stored.bags_long in
+    let below = m.due.may in record {
+      cpu = cpu_there c.args.script.now c.requires.script (with_hand c.args.self.now.books c.args.hand.now) c.args.self.now.depot m.world m.held c.args.hand.now.actor c.args.act c.args.i c.args.op.now m.due c.stand-cpu.result c.stand-cpu.ensures;
+      actor = omega (arith, long, below);
+      empty = bag_empty c.args.script.now c.requires.script (with_hand c.args.self.now.books c.args.hand.now) c.args.self.now.depot m.world m.held c.args.hand.now.actor c.args.act c.args.i c.args.op.now m.due;
+    }
 
 pub call-listed-requires-clause-here : goal.call-listed-requires-clause-here
 call-listed-requires-clause-here c = let m = c.requires in here c.args.script.now c.requires.script (with_hand c.args.self.now.books c.args.hand.now) c.args.self.now.depot m.world m.held c.args.hand.now.actor c.args.act c.args.i c.args.op.now m.due c.stand-cpu.result c.stand-cpu.ensures
 
-pub call-listed-requires-clause-empty : goal.call-listed-requires-clause-empty
-call-listed-requires-clause-empty c = let m = c.requires in bag_empty c.args.script.now c.requires.script (with_hand c.args.self.now.books c.args.hand.now) c.args.self.now.depot m.world m.held c.args.hand.now.actor c.args.act c.args.i c.args.op.now m.due
-
-pub write_removal-removed-requires-clause-known : goal.write_removal-removed-requires-clause-known
-write_removal-removed-requires-clause-known c = let m = c.requires in cpu_below c.args.script.now c.requires.script (with_hand c.args.self.now.books c.args.hand.now) c.args.self.now.depot m.world m.held c.args.hand.now.actor c.args.act c.args.i c.args.op.now m.due c.stand-cpu.result c.stand-cpu.ensures
+pub write_removal-removed-requires : goal.write_removal-removed-requires
+write_removal-removed-requires c =
+    let m = c.requires in record {
+      may = may_write c.args.script.now c.args.self.now c.args.hand.now _ c.requires;
+      known = cpu_below c.args.script.now c.requires.script (with_hand c.args.self.now.books c.args.hand.now) c.args.self.now.depot m.world m.held c.args.hand.now.actor c.args.act c.args.i c.args.op.now m.due c.stand-cpu.result c.stand-cpu.ensures;
+    }
 
 pub write_callout-requires-clause-known : goal.write_callout-requires-clause-known
 write_callout-requires-clause-known c = let m = c.requires in known c.args.script.now c.requires.script (with_hand c.args.self.now.books c.args.hand.now) c.args.self.now.depot m.world m.held c.args.hand.now.actor c.args.act c.args.i c.args.op.now m.due
-
-pub write_removal-removed-requires-clause-may : goal.write_removal-removed-requires-clause-may
-write_removal-removed-requires-clause-may c = may_write c.args.script.now c.args.self.now c.args.hand.now _ c.requires
 
 pub write_callout-requires-clause-may : goal.write_callout-requires-clause-may
 write_callout-requires-clause-may c =

@@ -33,21 +33,21 @@ bounds-as_slice-i c =
     let below = end_known c.args.script.now c.requires.script (with_hand c.args.self.now.books c.args.hand.now) c.args.self.now.depot m.world m.held c.args.hand.now.actor c.args.act c.args.i c.args.n c.args.cpu m.due in
     subst (λ (timers : List Spec). c.args.i < length timers) (sym c.as_slice.ensures) below
 
-pub end-reply-requires-clause-cpu : goal.end-reply-requires-clause-cpu
-end-reply-requires-clause-cpu c =
+pub end-reply-requires-clause-may : goal.end-reply-requires-clause-may
+end-reply-requires-clause-may c =
     let m = c.requires in
-    end_there c.args.script.now c.requires.script (with_hand c.args.self.now.books c.args.hand.now) c.args.self.now.depot m.world m.held c.args.hand.now.actor c.args.act c.args.i c.args.n c.args.cpu m.due
+    let long = m.held.stored.bags_long in
+    let below = m.due.may in record {
+      cpu = end_there c.args.script.now c.requires.script (with_hand c.args.self.now.books c.args.hand.now) c.args.self.now.depot m.world m.held c.args.hand.now.actor c.args.act c.args.i c.args.n c.args.cpu m.due;
+      actor = omega (arith, long, below);
+      empty = end_empty c.args.script.now c.requires.script (with_hand c.args.self.now.books c.args.hand.now) c.args.self.now.depot m.world m.held c.args.hand.now.actor c.args.act c.args.i c.args.n c.args.cpu m.due;
+    }
 
 pub end-reply-requires-clause-possible : goal.end-reply-requires-clause-possible
 end-reply-requires-clause-possible c =
     let m = c.requires in
     ap (λ (timers : List Spec). is_some (end_here (lane_of timers c.args.i) (wheel_at c.args.self.now.depot c.args.cpu).callouts)) c.as_slice.ensures
     ∙ ends_here c.args.script.now c.requires.script (with_hand c.args.self.now.books c.args.hand.now) c.args.self.now.depot m.world m.held c.args.hand.now.actor c.args.act c.args.i c.args.n c.args.cpu m.due
-
-pub end-reply-requires-clause-empty : goal.end-reply-requires-clause-empty
-end-reply-requires-clause-empty c =
-    let m = c.requires in
-    end_empty c.args.script.now c.requires.script (with_hand c.args.self.now.books c.args.hand.now) c.args.self.now.depot m.world m.held c.args.hand.now.actor c.args.act c.args.i c.args.n c.args.cpu m.due
 
 pub write_callout-requires-clause-may : goal.write_callout-requires-clause-may
 write_callout-requires-clause-may c = may_write c.args.script.now c.args.self.now c.args.hand.now _ c.requires
@@ -57,8 +57,8 @@ write_callout-requires-clause-known c =
     let m = c.requires in
     end_known c.args.script.now c.requires.script (with_hand c.args.self.now.books c.args.hand.now) c.args.self.now.depot m.world m.held c.args.hand.now.actor c.args.act c.args.i c.args.n c.args.cpu m.due
 
-pub write_queue-requires-clause-may : goal.write_queue-requires-clause-may
-write_queue-requires-clause-may c =
+pub write_queue-requires : goal.write_queue-requires
+write_queue-requires c =
     let m = c.requires in
     let a = c.args.hand.now.actor in
     let s = c.args.script.now in
@@ -69,8 +69,13 @@ write_queue-requires-clause-may c =
     let lane : lane_of c.as_slice.result.now i ≡ (spec_at s i).direct = ap (λ (timers : List Spec). lane_of timers i) c.as_slice.ensures in
     let ended = subst (λ (direct : Bool). IsEnded direct (wheel_at c.args.self.now.depot c.args.cpu) reply out.1 out.0) lane out.2 in
     let none : is_armed reply ≡ false = end_unarmed s c.requires.script books c.args.self.now.depot m.world m.held a c.args.act i c.args.n c.args.cpu m.due reply out.1 out.0 ended in
-    may_go_on s c.args.self.now c.args.hand.now _ 1 c.write_callout.new.self c.write_callout.new.hand (callout_answers s m.world a c.args.act i (Run (End c.args.n c.args.cpu)) (Some (states_of m.world i, reply))) m c.write_callout.ensures.wrote (omega arith)
-    (c.write_callout.ensures.written (states_of m.world i) (λ e. absurd (let clash : true ≡ false = sym e ∙ none in cc)) m.world m.held.written)
+    let there = end_there c.args.script.now c.requires.script (with_hand c.args.self.now.books c.args.hand.now) c.args.self.now.depot m.world m.held c.args.hand.now.actor c.args.act c.args.i c.args.n c.args.cpu m.due in
+    let long = m.held.stored.wheels_long in record {
+      may =
+          may_go_on s c.args.self.now c.args.hand.now _ 1 c.write_callout.new.self c.write_callout.new.hand (callout_answers s m.world a c.args.act i (Run (End c.args.n c.args.cpu)) (Some (states_of m.world i, reply))) m c.write_callout.ensures.wrote (omega arith)
+          (c.write_callout.ensures.written (states_of m.world i) (λ e. absurd (let clash : true ≡ false = sym e ∙ none in cc)) m.world m.held.written);
+      known = omega (arith, there, long);
+    }
 
 pub returns : goal.returns
 returns c =

@@ -19,13 +19,12 @@ land-at-requires-clause-may c =
     let m = c.requires in
     may_land c.args.script.now c.requires.script (with_hand c.args.self.now.books c.args.hand.now) c.args.self.now.depot m.world m.held c.args.hand.now.actor c.args.parcel.now m.due
 
-pub write_landing-requires-clause-may : goal.write_landing-requires-clause-may
-write_landing-requires-clause-may c = may_write c.args.script.now c.args.self.now c.args.hand.now _ c.requires
-
-pub write_landing-requires-clause-known : goal.write_landing-requires-clause-known
-write_landing-requires-clause-known c =
-    let m = c.requires in
-    cpu_below c.args.script.now c.requires.script (with_hand c.args.self.now.books c.args.hand.now) c.args.self.now.depot m.world m.held c.args.hand.now.actor c.args.parcel.now m.due
+pub write_landing-requires : goal.write_landing-requires
+write_landing-requires c =
+    let m = c.requires in record {
+      may = may_write c.args.script.now c.args.self.now c.args.hand.now _ c.requires;
+      known = cpu_below c.args.script.now c.requires.script (with_hand c.args.self.now.books c.args.hand.now) c.args.self.now.depot m.world m.held c.args.hand.now.actor c.args.parcel.now m.due;
+    }
 
 pub returns : goal.returns
 returns c =

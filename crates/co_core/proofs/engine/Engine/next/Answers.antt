@@ -31,16 +31,19 @@ next-requires-clause-free c =
     let m = c.requires in
     lane_free c.args.script.now c.requires.script (with_hand c.args.self.now.books c.args.hand.now) c.args.self.now.depot m.world m.held c.args.hand.now.actor c.args.act c.args.cpu c.args.direct m.due
 
-pub write_queue-requires-clause-known : goal.write_queue-requires-clause-known
-write_queue-requires-clause-known c =
-    let m = c.requires in
-    pop_below c.args.script.now c.requires.script (with_hand c.args.self.now.books c.args.hand.now) c.args.self.now.depot m.world m.held c.args.hand.now.actor c.args.act c.args.cpu c.args.direct m.due
+pub write_queue-requires : goal.write_queue-requires
+write_queue-requires c =
+    let m = c.requires in record {
+      may = may_write c.args.script.now c.args.self.now c.args.hand.now _ c.requires;
+      known = pop_below c.args.script.now c.requires.script (with_hand c.args.self.now.books c.args.hand.now) c.args.self.now.depot m.world m.held c.args.hand.now.actor c.args.act c.args.cpu c.args.direct m.due;
+    }
 
-pub write_queue-requires-clause-may : goal.write_queue-requires-clause-may
-write_queue-requires-clause-may c = may_write c.args.script.now c.args.self.now c.args.hand.now _ c.requires
-
-pub write_queue-requires-in-Took-clause-may : goal.write_queue-requires-in-Took-clause-may
-write_queue-requires-in-Took-clause-may c = may_write c.args.script.now c.args.self.now c.args.hand.now _ c.requires
+pub write_queue-requires-in-Took : goal.write_queue-requires-in-Took
+write_queue-requires-in-Took c =
+    let m = c.requires in record {
+      may = may_write c.args.script.now c.args.self.now c.args.hand.now _ c.requires;
+      known = pop_below c.args.script.now c.requires.script (with_hand c.args.self.now.books c.args.hand.now) c.args.self.now.depot m.world m.held c.args.hand.now.actor c.args.act c.args.cpu c.args.direct m.due;
+    }
 
 pub write_callout-requires-clause-may : goal.write_callout-requires-clause-may
 write_callout-requires-clause-may c =

@@ -14,13 +14,12 @@ scan-count-requires c =
     let m = c.requires in
     scan_there c.args.script.now c.requires.script (with_hand c.args.self.now.books c.args.hand.now) c.args.self.now.depot m.world m.held c.args.hand.now.actor c.args.act c.args.cpu c.args.now m.due
 
-pub write_queue-requires-clause-may : goal.write_queue-requires-clause-may
-write_queue-requires-clause-may c = may_write c.args.script.now c.args.self.now c.args.hand.now _ c.requires
-
-pub write_queue-requires-clause-known : goal.write_queue-requires-clause-known
-write_queue-requires-clause-known c =
-    let m = c.requires in
-    scan_below c.args.script.now c.requires.script (with_hand c.args.self.now.books c.args.hand.now) c.args.self.now.depot m.world m.held c.args.hand.now.actor c.args.act c.args.cpu c.args.now m.due
+pub write_queue-requires : goal.write_queue-requires
+write_queue-requires c =
+    let m = c.requires in record {
+      may = may_write c.args.script.now c.args.self.now c.args.hand.now _ c.requires;
+      known = scan_below c.args.script.now c.requires.script (with_hand c.args.self.now.books c.args.hand.now) c.args.self.now.depot m.world m.held c.args.hand.now.actor c.args.act c.args.cpu c.args.now m.due;
+    }
 
 pub returns : goal.returns
 returns c =

@@ -8,27 +8,24 @@ use Rattle.co_core.proofs.engine.Engine.tell_asked.Goals as goal
 pub wanted_after-wanted-requires : goal.wanted_after-wanted-requires
 wanted_after-wanted-requires g c =
     let at = c.requires.may in
-    let long = (c.in_ok-turn.ensures.told at.world at.told).told.stands.written.places_long in
+    let long = (c.in_ok-turn.ensures.told.told at.world at.told).told.stands.written.places_long in
     let actor = c.requires.actor in
     omega (arith, long, actor)
 
-pub returns-clause-world : goal.returns-clause-world
-returns-clause-world g c =
-    let at = c.requires.may in
-    (step c.args.script.now at.world c.args.actor, (c.in_ok-turn.ensures.told at.world at.told).told)
-
-pub returns-clause-told : goal.returns-clause-told
-returns-clause-told g c w h have =
+pub returns : goal.returns
+returns g c =
     let s = c.args.script.now in
     let a = c.args.actor in
-    let goes = c.in_ok-turn.ensures.told w h in (
-      goes,
-      learnt s w a c.args.resting.now c.learn.new.self c.is_finished-finished.result c.wanted_after-wanted.result c.learn.ensures.ended c.learn.ensures.wanted
-          (λ done. turn-finished s w a (sym (c.in_ok-turn.ensures.turn w h) ∙ c.is_finished-finished.ensures done))
-          (λ held is. c.wanted_after-wanted.ensures held (step s w a) is goes.told.stands.written c.requires.actor)
-          have,
-    )
-
-pub returns-clause-finished : goal.returns-clause-finished
-returns-clause-finished g c said w h have =
-    turn-finished c.args.script.now w c.args.actor (sym (c.in_ok-turn.ensures.turn w h) ∙ c.is_finished-finished.ensures said)
+    let at = c.requires.may in record {
+      world = (step s at.world a, (c.in_ok-turn.ensures.told.told at.world at.told).told);
+      told = λ w h have.
+          (let goes = c.in_ok-turn.ensures.told.told w h in (
+            goes,
+            learnt s w a c.args.resting.now c.learn.new.self c.is_finished-finished.result c.wanted_after-wanted.result c.learn.ensures.ended c.learn.ensures.wanted
+                (λ done. turn-finished s w a (sym (c.in_ok-turn.ensures.turn w h) ∙ c.is_finished-finished.ensures done))
+                (λ held is. c.wanted_after-wanted.ensures held (step s w a) is goes.told.stands.written c.requires.actor)
+                have,
+          ));
+      finished = λ said w h have. turn-finished s w a (sym (c.in_ok-turn.ensures.turn w h) ∙ c.is_finished-finished.ensures said);
+      actors = c.tell_step.ensures.told.actors;
+    }

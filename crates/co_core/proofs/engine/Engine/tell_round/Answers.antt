@@ -1,4 +1,4 @@
-use Rattle.std.proofs.Common.{◌≡◌, ℕ, List, ◌∙◌, ap, subst, sym, true, false, refl, arith}
+use Rattle.std.proofs.Common.{rules, ◌≡◌, ℕ, List, ◌∙◌, ap, subst, sym, true, false, refl, arith}
 use Rattle.std.specs.List.{range_with_len}
 use Rattle.co_program.specs.Actors.{actor_count}
 use Rattle.co_core.specs.Resting.{IsKnown}
@@ -48,20 +48,24 @@ loop-actor-preserved g c =
       actors = c.tell_unless_resting.ensures.actors ∙ c.loop-actor.invariant.actors;
     }
 
-pub returns-clause-told : goal.returns-clause-told
-returns-clause-told g c w h have =
+pub returns : goal.returns
+returns g c =
     let s = c.args.script.now in
-    let whole : c.loop-actor.actor ≡ actor_count s = omega (arith, c.loop-actor.auto.actor-end, c.loop-actor-test.false, c.actor_count-actor-end.ensures) in
-    subst (λ (n : ℕ). GoesOn s g.N.Listener.has c.loop-actor.self c.args.listener.now c.loop-actor.listener w (run s w (range_with_len 0 n)) × IsKnown s (run s w (range_with_len 0 n)) c.loop-actor.resting) whole (c.loop-actor.invariant.told w h have)
+    let whole : c.loop-actor.actor ≡ actor_count s = omega (arith, c.loop-actor.auto.actor-end, c.loop-actor-test.false, c.actor_count-actor-end.ensures) in record {
+      world = c.loop-actor.invariant.world;
+      told = λ w h have.
+          subst (λ (n : ℕ). GoesOn s g.N.Listener.has c.loop-actor.self c.args.listener.now c.loop-actor.listener w (run s w (range_with_len 0 n)) × IsKnown s (run s w (range_with_len 0 n)) c.loop-actor.resting) whole
+          (c.loop-actor.invariant.told w h have);
+      finished = λ all w h have.
+          (let rest = c.loop-actor.invariant.finished all w h have in (
+            λ a within. rest.0 a (omega (arith, within, whole)),
+            subst (λ (n : ℕ). run s w (range_with_len 0 n) ≡ w) whole rest.1,
+          ));
+      actors = c.loop-actor.invariant.actors;
+    }
 
-pub returns-clause-finished : goal.returns-clause-finished
-returns-clause-finished g c all w h have =
-    let s = c.args.script.now in
-    let whole : c.loop-actor.actor ≡ actor_count s = omega (arith, c.loop-actor.auto.actor-end, c.loop-actor-test.false, c.actor_count-actor-end.ensures) in
-    let rest = c.loop-actor.invariant.finished all w h have in (
-      λ a within. rest.0 a (omega (arith, within, whole)),
-      subst (λ (n : ℕ). run s w (range_with_len 0 n) ≡ w) whole rest.1,
-    )
-
-pub tell_unless_resting-requires-clause-may : goal.tell_unless_resting-requires-clause-may
-tell_unless_resting-requires-clause-may g c = may_tell c.args.script.now c.args.self.now c.loop-actor.self _ _ c.requires c.loop-actor.invariant.actors c.loop-actor.invariant.world
+pub tell_unless_resting-requires : goal.tell_unless_resting-requires
+tell_unless_resting-requires g c = record {
+  may = may_tell c.args.script.now c.args.self.now c.loop-actor.self _ _ c.requires c.loop-actor.invariant.actors c.loop-actor.invariant.world;
+  actor = search rules;
+}

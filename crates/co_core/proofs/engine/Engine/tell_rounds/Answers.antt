@@ -18,15 +18,18 @@ loop-round-init g c = record {
   actors = refl;
 }
 
-pub returns-then-branch-clause-ends : goal.returns-then-branch-clause-ends
-returns-then-branch-clause-ends g c w h have =
+pub returns-then-branch : goal.returns-then-branch
+returns-then-branch g c =
     let s = c.args.script.now in
-    let k = c.loop-round._round in
-    let at = c.loop-round.invariant.told w h have in
-    let all = c.in_ok-tell_round.ensures.finished c.if-branch.true (rounds s w k) at.0.told at.1 in
-    let after = c.in_ok-tell_round.ensures.told (rounds s w k) at.0.told at.1 in
-    let both = further s g.N.Listener.has c.loop-round.self c.tell_round.new.self c.args.listener.now c.loop-round.listener c.tell_round.new.listener w (rounds s w k) (round s (rounds s w k)) at.0 after.0 in
-    (k, subst (λ (v : World). GoesOn s g.N.Listener.has c.tell_round.new.self c.args.listener.now c.tell_round.new.listener w v) all.1 both, all.0)
+    let k = c.loop-round._round in record {
+      told = λ w h have.
+          (let at = c.loop-round.invariant.told w h have in
+          let all = c.in_ok-tell_round.ensures.finished c.if-branch.true (rounds s w k) at.0.told at.1 in
+          let after = c.in_ok-tell_round.ensures.told (rounds s w k) at.0.told at.1 in
+          let both = further s g.N.Listener.has c.loop-round.self c.tell_round.new.self c.args.listener.now c.loop-round.listener c.tell_round.new.listener w (rounds s w k) (round s (rounds s w k)) at.0 after.0 in
+          (k, subst (λ (v : World). GoesOn s g.N.Listener.has c.tell_round.new.self c.args.listener.now c.tell_round.new.listener w v) all.1 both, all.0));
+      actors = c.tell_round.ensures.actors ∙ c.loop-round.invariant.actors;
+    }
 
 pub loop-round-preserved : goal.loop-round-preserved
 loop-round-preserved g c =
@@ -44,12 +47,15 @@ loop-round-preserved g c =
       actors = c.tell_round.ensures.actors ∙ c.loop-round.invariant.actors;
     }
 
-pub returns-clause-ends : goal.returns-clause-ends
-returns-clause-ends g c w h have =
+pub returns : goal.returns
+returns g c =
     let s = c.args.script.now in
-    let k = c.loop-round._round in
-    let before = c.loop-round.invariant.told w h have in
-    (k, before.0, counted-all s c.requires.script w k h.stands.reached before.0.told.stands.reached (omega (arith, c.loop-round-test.false)) (before.2 c.requires.script))
+    let k = c.loop-round._round in record {
+      told = λ w h have.
+          (let before = c.loop-round.invariant.told w h have in
+          (k, before.0, counted-all s c.requires.script w k h.stands.reached before.0.told.stands.reached (omega (arith, c.loop-round-test.false)) (before.2 c.requires.script)));
+      actors = c.loop-round.invariant.actors;
+    }
 
 pub tell_round-requires : goal.tell_round-requires
 tell_round-requires g c = may_tell c.args.script.now c.args.self.now c.loop-round.self _ _ c.requires c.loop-round.invariant.actors c.loop-round.invariant.world

@@ -1,11 +1,14 @@
-use Rattle.std.proofs.Common.{◌≡◌, ℕ, List, ◌+◌, ◌∙◌, ◌++◌, ◌∷◌, [], ap, subst, sym, take, get_or, refl}
+use Rattle.std.proofs.Common.{◌≡◌, ◌<◌, ℕ, List, ◌+◌, ◌∙◌, ◌++◌, ◌∷◌, [], ap, subst, sym, take, get_or, refl}
+use Rattle.std.specs.List.{AllByRecursion}
 use Rattle.std.proofs.lemmas.List.{take_more}
+use Rattle.co_program.specs.Actors.{actor_count}
 use Rattle.co_world.specs.Step.{step}
 use Rattle.co_core.specs.Resting.{IsKnown}
 use Rattle.co_core.specs.Telling.{GoesOn}
 use Rattle.co_world.specs.Walk.{run}
 use Rattle.co_world.specs.World.{World}
 use Rattle.co_core.proofs.walked.Told.{further, may_tell, not_yet}
+use Rattle.co_world.proofs.measure.Rounds.{all-at}
 use Rattle.co_world.proofs.measure.Walks.{run_more}
 use Rattle.co_core.proofs.engine.Engine.tell_turns.Goals as goal
 
@@ -33,5 +36,11 @@ loop-actor-preserved g c =
       actors = c.tell_unless_resting.ensures.actors ∙ c.loop-actor.invariant.actors;
     }
 
-pub tell_unless_resting-requires-clause-may : goal.tell_unless_resting-requires-clause-may
-tell_unless_resting-requires-clause-may g c = may_tell c.args.script.now c.args.self.now c.loop-actor.self _ _ c.requires c.loop-actor.invariant.actors c.loop-actor.invariant.world
+pub tell_unless_resting-requires : goal.tell_unless_resting-requires
+tell_unless_resting-requires g c =
+    let s = c.args.script.now in
+    let turns = c.as_slice-actor-items.result.now in
+    let exist : AllByRecursion (λ (a : ℕ). a < actor_count s) turns = subst (AllByRecursion (λ (a : ℕ). a < actor_count s)) (sym c.as_slice-actor-items.ensures) c.requires.script.turns in record {
+      may = may_tell s c.args.self.now c.loop-actor.self _ _ c.requires c.loop-actor.invariant.actors c.loop-actor.invariant.world;
+      actor = all-at (λ (a : ℕ). a < actor_count s) turns c.loop-actor.actor-index 0 exist c.loop-actor-test.true;
+    }
