@@ -85,7 +85,8 @@ fn put_first(room: &mut [u8; 256], bytes: &[u8])
     room[..bytes.len()].copy_from_slice(bytes);
 }
 
-/// Fewer bytes, with zeros behind them.
+/// Fewer bytes, with zeros behind them. Only the last rows of a list want it.
+#[inline(never)]
 fn with_room(bytes: &[u8]) -> [u8; 256]
     requires { length bytes.now < 256 }
     ensures { (i : ℕ) → get_or result i 0 ≡ get_or bytes.now i 0 }
