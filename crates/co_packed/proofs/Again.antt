@@ -4,7 +4,7 @@ use Rattle.std.proofs.Math.Nat.{pow-suc, mul_assoc}
 use Rattle.std.proofs.lemmas.List.{get_or-drop, drop-drop}
 use Rattle.std.proofs.lemmas.Nat.{mod-mul-add, mod_below, and_mask}
 use Rattle.co_packed.proofs.Limits.{limit_pos, limit_low, few_bytes, below_width, same_width, bytes_bits}
-use Rattle.std.specs.Int.{w64, to_le_bytes}
+use Rattle.std.specs.Int.{w64, to_le_bytes, from_le_bytes}
 use Rattle.co_packed.specs.Numbers.{width, bytes_of, value, number_in}
 
 value_none : (bs : List ℕ) → value zero bs ≡ 0
@@ -74,8 +74,20 @@ one_on more at next bs e =
     ∙ ap (λ (xs : List ℕ). get_or bs at 0 + 256 * value more xs) rest
 
 -- the bytes of a word, each with what it is worth
-pub word_is : (bs : List ℕ) (at : ℕ) → value 8 (drop at bs) ≡ get_or bs at 0 + 256 * get_or bs (at + 1) 0 + 65536 * get_or bs (at + 2) 0 + 16777216 * get_or bs (at + 3) 0 + 4294967296 * get_or bs (at + 4) 0 + 1099511627776 * get_or bs (at + 5) 0 + 281474976710656 * get_or bs (at + 6) 0 + 72057594037927936 * get_or bs (at + 7) 0
+word_is : (bs : List ℕ) (at : ℕ) → value 8 (drop at bs) ≡ get_or bs at 0 + 256 * get_or bs (at + 1) 0 + 65536 * get_or bs (at + 2) 0 + 16777216 * get_or bs (at + 3) 0 + 4294967296 * get_or bs (at + 4) 0 + 1099511627776 * get_or bs (at + 5) 0 + 281474976710656 * get_or bs (at + 6) 0 + 72057594037927936 * get_or bs (at + 7) 0
 word_is bs at = omega (arith, one_on 7 at (at + 1) bs (omega arith), one_on 6 (at + 1) (at + 2) bs (omega arith), one_on 5 (at + 2) (at + 3) bs (omega arith), one_on 4 (at + 3) (at + 4) bs (omega arith), one_on 3 (at + 4) (at + 5) bs (omega arith), one_on 2 (at + 5) (at + 6) bs (omega arith), one_on 1 (at + 6) (at + 7) bs (omega arith), one_on 0 (at + 7) (at + 8) bs (omega arith), value_none (drop (at + 8) bs))
+
+-- the number of a word's bytes, whatever stands behind them
+value_front : (more : ℕ) (bs : List ℕ) → value more (take more bs) ≡ value more bs
+value_front zero bs = rw (value_none (take zero bs), value_none bs) refl
+value_front (suc more) [] = refl
+value_front (suc more) (b ∷ bs) = value_next more (b ∷ take more bs) ∙ ap (λ (n : ℕ). b + 256 * n) (value_front more bs) ∙ sym (value_next more (b ∷ bs))
+
+word_of : (bs : List ℕ) → from_le_bytes w64 bs ≡ value 8 bs
+word_of bs = omega (arith, word_is bs 0)
+
+pub word_in_front : (word rest bs : List ℕ) (at : ℕ) → word ≡ take 8 rest → rest ≡ drop at bs → from_le_bytes w64 word ≡ value 8 (drop at bs)
+word_in_front word rest bs at front is = word_of word ∙ ap (value 8) front ∙ value_front 8 rest ∙ ap (value 8) is
 
 pub bytes_of_word : (n : ℕ) → to_le_bytes w64 n ≡ bytes_of 8 n
 unfolding bytes_of

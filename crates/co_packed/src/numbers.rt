@@ -43,19 +43,14 @@ pub(crate) fn put_word(buffer: &mut [u8; 136], at: usize, word: u64)
 
 /// The number that eight bytes are, from `at` on.
 #[inline]
-#[tactic(auto, using(crate::proofs::Again::word_is))]
 pub(crate) fn word_at(bytes: &[u8], at: usize) -> u64
     requires { at + 8 ≤ length bytes.now }
     ensures { result ≡ value 8 (drop at bytes.now) }
 {
-    u64::from(bytes[at])
-        + 0x100 * u64::from(bytes[at + 1])
-        + 0x1_0000 * u64::from(bytes[at + 2])
-        + 0x100_0000 * u64::from(bytes[at + 3])
-        + 0x1_0000_0000 * u64::from(bytes[at + 4])
-        + 0x100_0000_0000 * u64::from(bytes[at + 5])
-        + 0x1_0000_0000_0000 * u64::from(bytes[at + 6])
-        + 0x100_0000_0000_0000 * u64::from(bytes[at + 7])
+    match bytes[at..].first_chunk::<8>() {
+        Some(word) => u64::from_le_bytes(*word),
+        None => unreachable!(),
+    }
 }
 
 /// The number of this width, from `at` on.
