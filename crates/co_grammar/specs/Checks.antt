@@ -8,7 +8,7 @@ use Rattle.co_lock.specs.declared.LockKind.TheVariants as lock
 use Rattle.co_program.specs.declared.Script.{Script}
 use Rattle.co_program.specs.declared.Act.{Act}
 use Rattle.co_program.specs.declared.Act.TheVariants as act
-use Rattle.co_program.specs.Scripts.{who_exists, cpu_exists}
+use Rattle.co_program.specs.Scripts.{names_exist}
 
 -- ranges
 
@@ -39,23 +39,17 @@ is_i32 k = int_le (negsuc 2147483647) k && int_le k (pos 2147483647)
 abbrev pub call_fits : ℕ → ℕ → ℕ → Bool
 call_fits funcs f a = nat_lt f funcs && nat_lt a (2 ^ 64)
 
+-- the locks, functions and numbers of an act are there and in their ranges
+abbrev pub values_fit : ℕ → Script → Act → Bool
+values_fit funcs s (act.Lock l) = lock_exists s l
+values_fit funcs s (act.ReadLock l) = lock_exists s l
+values_fit funcs s (act.Reset w m f a c p) = call_fits funcs f a
+values_fit funcs s (act.Ticks w k f a c) = is_i32 k && call_fits funcs f a
+values_fit funcs s (act.AsyncDrain w f) = nat_lt f funcs
+values_fit funcs s _ = true
+
 abbrev pub act_fits : ℕ → Script → Act → Bool
-act_fits funcs s (act.Now t) = true
-act_fits funcs s (act.Lock l) = lock_exists s l
-act_fits funcs s (act.ReadLock l) = lock_exists s l
-act_fits funcs s act.Unlock = true
-act_fits funcs s (act.Reset w m f a c p) = who_exists s w && (call_fits funcs f a && cpu_exists s c)
-act_fits funcs s (act.Ticks w k f a c) = who_exists s w && (is_i32 k && (call_fits funcs f a && cpu_exists s c))
-act_fits funcs s (act.Schedule w m c p) = who_exists s w && cpu_exists s c
-act_fits funcs s (act.Stop w) = who_exists s w
-act_fits funcs s (act.Drain i) = nat_lt i (length s.timers)
-act_fits funcs s (act.AsyncDrain w f) = who_exists s w && nat_lt f funcs
-act_fits funcs s (act.Active w) = who_exists s w
-act_fits funcs s (act.Pending w) = who_exists s w
-act_fits funcs s (act.Deactivate w) = who_exists s w
-act_fits funcs s (act.Init w) = who_exists s w
-act_fits funcs s (act.Retire w) = who_exists s w
-act_fits funcs s (act.Tick t) = true
+act_fits funcs s a = names_exist s a && values_fit funcs s a
 
 -- kinds of locks
 
