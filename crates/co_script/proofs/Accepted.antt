@@ -1,8 +1,8 @@
 -- A script that fits is one that the service runs: what the core asks of a script is among what the reader grants.
 use Rattle.std.proofs.Common.{◌≡◌, ℕ, zero, suc, ◌^◌, ◌<◌, ◌≤◌, Bool, true, false, not, ◌&&◌, ◌||◌, List, [], ◌∷◌, length, refl, ◌∙◌, arith, inl, inr, lit≤}
 use Rattle.std.specs.Prelude.{◌==◌, nat_lt, nat_le, slice_index_or, ◌⊎◌}
-use Rattle.std.specs.List.{list_all, list_any, AllByRecursion}
-use Rattle.std.proofs.lemmas.Bool.{and_from, ltb-true, leb-true, eqb-true}
+use Rattle.std.specs.List.{list_all, list_any}
+use Rattle.std.proofs.lemmas.Bool.{ltb-true, leb-true, eqb-true}
 use Rattle.co_object.specs.declared.Spec.{Spec}
 use Rattle.co_object.specs.declared.LockUse.{LockUse}
 use Rattle.co_object.specs.declared.LockUse.TheVariants.{Free, Mtx, Rw, RwShared}
@@ -11,13 +11,15 @@ use Rattle.co_program.specs.declared.Script.{Script}
 use Rattle.co_program.specs.declared.Act.{Act}
 use Rattle.co_program.specs.declared.Act.TheVariants as act
 use Rattle.co_program.specs.Actors.{acts_at, actor_count}
-use Rattle.co_program.specs.Scripts.{IsScript, is_tick, is_call, names_exist, who_exists, cpu_exists}
+use Rattle.co_program.specs.Scripts.{IsScript, is_tick, is_call, names_exist}
 use Rattle.co_grammar.specs.declared.Kind.{Kind}
 use Rattle.co_grammar.specs.declared.Kind.TheVariants as kind
-use Rattle.co_grammar.specs.Keywords.{is_func, may_act, verb_of_act}
-use Rattle.co_grammar.specs.Checks.{is_within, is_wheel_size, spec_exists, spec_kind_fits, act_fits, act_kind_fits, call_fits, is_i32}
+use Rattle.co_grammar.specs.Keywords.{is_func}
+use Rattle.co_grammar.specs.Checks.{is_within, is_wheel_size, spec_exists, spec_kind_fits}
 use Rattle.co_script.specs.Refusals.{most_acts}
-use Rattle.co_script.specs.Fits.{fits, is_of_version, act_names_me, has_times, rises_after, spec_fits, act_stands, section_fits, is_free, total_acts}
+use Rattle.co_script.specs.Fits.{fits, rises_after, spec_fits, act_stands, section_fits, is_free}
+use Rattle.co_script.proofs.parts.Fitting.{fitting}
+use Rattle.co_script.proofs.Standing.{Standing, AllOf, at-any, each-act}
 
 within : (low high n : ℕ) → is_within low high n ≡ true → (low ≤ n) × (n ≤ high)
 within low high n h = let both = both_true (nat_le low n) (nat_le n high) h in (leb-true low n both.0, leb-true n high both.1)
@@ -74,29 +76,7 @@ is-wheel n h = size_16 h where
 
 -- ---- acts
 
-AllOf : {X : Type 0} (p : X → Bool) (P : X → Type 0) → ((x : X) → p x ≡ true → P x) → (xs : List X) → list_all p xs ≡ true → AllByRecursion P xs
-AllOf p P step [] h = tt
-AllOf p P step (x ∷ xs) h = let both = both_true (p x) (list_all p xs) h in (step x both.0, AllOf p P step xs both.1)
-
--- what holds of each list of acts, and of none, holds of the list of any number
-at-any : (P : List Act → Type 0) (p : List Act → Bool) → P [] → ((acts : List Act) → p acts ≡ true → P acts) → (lists : List (List Act)) → list_all p lists ≡ true → (i : ℕ) → P (acts_at lists i)
-at-any P p none step [] h i = none
-at-any P p none step (acts ∷ lists) h zero = step acts ((both_true (p acts) (list_all p lists) h).0)
-at-any P p none step (acts ∷ lists) h (suc i) = at-any P p none step lists ((both_true (p acts) (list_all p lists) h).1) i
-
-pub record Stands (s : Script) (k : Kind) (a : Act) : Type 0 where
-  pub verb : may_act k (verb_of_act a) ≡ true
-  pub fits : act_fits (length s.funcs) s a ≡ true
-
-stands-parts : (s : Script) (k : Kind) (a : Act) → act_stands s k a ≡ true → Stands s k a
-stands-parts s k a h =
-    let one = both_true (may_act k (verb_of_act a)) (is_of_version s.version (verb_of_act a) && ((is_func k || not (act_names_me a)) && (has_times a && (act_fits (length s.funcs) s a && act_kind_fits s a)))) h in
-    let two = both_true (is_of_version s.version (verb_of_act a)) ((is_func k || not (act_names_me a)) && (has_times a && (act_fits (length s.funcs) s a && act_kind_fits s a))) one.1 in
-    let three = both_true (is_func k || not (act_names_me a)) (has_times a && (act_fits (length s.funcs) s a && act_kind_fits s a)) two.1 in
-    let four = both_true (has_times a) (act_fits (length s.funcs) s a && act_kind_fits s a) three.1 in
-    record { verb = one.0; fits = (both_true (act_fits (length s.funcs) s a) (act_kind_fits s a) four.1).0 }
-
-tick-of : (s : Script) (a : Act) → Stands s kind.Cpu a → is_tick a ≡ true
+tick-of : (s : Script) (a : Act) → Standing (length s.funcs) s kind.Cpu a → is_tick a ≡ true
 tick-of s (act.Now t) h = let never : false ≡ true = h.verb in cc
 tick-of s (act.Lock l) h = let never : false ≡ true = h.verb in cc
 tick-of s (act.ReadLock l) h = let never : false ≡ true = h.verb in cc
@@ -114,7 +94,7 @@ tick-of s (act.Init w) h = let never : false ≡ true = h.verb in cc
 tick-of s (act.Retire w) h = let never : false ≡ true = h.verb in cc
 tick-of s (act.Tick t) h = h.verb
 
-no-tick-of : (s : Script) (a : Act) → Stands s kind.Client a → is_tick a ≡ false
+no-tick-of : (s : Script) (a : Act) → Standing (length s.funcs) s kind.Client a → is_tick a ≡ false
 no-tick-of s (act.Now t) h = refl
 no-tick-of s (act.Lock l) h = refl
 no-tick-of s (act.ReadLock l) h = refl
@@ -132,7 +112,7 @@ no-tick-of s (act.Init w) h = refl
 no-tick-of s (act.Retire w) h = refl
 no-tick-of s (act.Tick t) h = let never : false ≡ true = h.verb in cc
 
-call-of : (s : Script) (a : Act) → Stands s kind.Func a → is_call a ≡ true
+call-of : (s : Script) (a : Act) → Standing (length s.funcs) s kind.Func a → is_call a ≡ true
 call-of s (act.Now t) h = let never : false ≡ true = h.verb in cc
 call-of s (act.Lock l) h = let never : false ≡ true = h.verb in cc
 call-of s (act.ReadLock l) h = let never : false ≡ true = h.verb in cc
@@ -150,35 +130,11 @@ call-of s (act.Init w) h = refl
 call-of s (act.Retire w) h = refl
 call-of s (act.Tick t) h = let never : false ≡ true = h.verb in cc
 
-names-of : (s : Script) (k : Kind) (a : Act) → Stands s k a → names_exist s a ≡ true
-names-of s k (act.Now t) h = refl
-names-of s k (act.Lock l) h = refl
-names-of s k (act.ReadLock l) h = refl
-names-of s k act.Unlock h = refl
-names-of s k (act.Reset w m f x c p) h = let both = both_true (who_exists s w) (call_fits (length s.funcs) f x && cpu_exists s c) h.fits in and_from (who_exists s w) (cpu_exists s c) both.0 ((both_true (call_fits (length s.funcs) f x) (cpu_exists s c) both.1).1)
-names-of s j (act.Ticks w k f x c) h = let both = both_true (who_exists s w) (is_i32 k && (call_fits (length s.funcs) f x && cpu_exists s c)) h.fits in let more = both_true (is_i32 k) (call_fits (length s.funcs) f x && cpu_exists s c) both.1 in and_from (who_exists s w) (cpu_exists s c) both.0 ((both_true (call_fits (length s.funcs) f x) (cpu_exists s c) more.1).1)
-names-of s k (act.Schedule w m c p) h = h.fits
-names-of s k (act.Stop w) h = h.fits
-names-of s k (act.Drain i) h = h.fits
-names-of s k (act.AsyncDrain w f) h = (both_true (who_exists s w) (nat_lt f (length s.funcs)) h.fits).0
-names-of s k (act.Active w) h = h.fits
-names-of s k (act.Pending w) h = h.fits
-names-of s k (act.Deactivate w) h = h.fits
-names-of s k (act.Init w) h = h.fits
-names-of s k (act.Retire w) h = h.fits
-names-of s k (act.Tick t) h = refl
-
 -- ---- sections
 
 module _ (s : Script) (k : Kind) where
   section-short : (acts : List Act) → section_fits s k acts ≡ true → length acts ≤ most_acts (is_func k)
   section-short acts h = leb-true (length acts) (most_acts (is_func k)) ((both_true (nat_le (length acts) (most_acts (is_func k))) (list_all (act_stands s k) acts && rises_after 0 acts) h).0)
-
-  section-acts : (P : Act → Type 0) → ((a : Act) → Stands s k a → P a) → (acts : List Act) → section_fits s k acts ≡ true → AllByRecursion P acts
-  section-acts P step acts h =
-      let outer = both_true (nat_le (length acts) (most_acts (is_func k))) (list_all (act_stands s k) acts && rises_after 0 acts) h in
-      let inner = both_true (list_all (act_stands s k) acts) (rises_after 0 acts) outer.1 in
-      AllOf (act_stands s k) P (λ a is. step a (stands-parts s k a is)) acts inner.0
 
 -- ---- specs
 
@@ -218,42 +174,23 @@ version-is n h = let range = within 1 2 n h in go n range.0 range.1 where
 
 -- a script that fits keeps all that the service needs
 pub fits-accepted : (s : Script) → fits s ≡ true → IsScript s
-unfolding fits
 fits-accepted s h =
-    let head_of = is_within 1 2 s.version && (is_within 1 1000000 s.hz && (is_within 1 16 s.cpus && is_wheel_size s.buckets)) in
-    let counts_of = nat_le (length s.funcs) 1024 && (nat_le (length s.locks) 256 && (is_within 1 1024 (length s.timers) && (nat_le (length s.clients) 16 && (length s.ticks == s.cpus)))) in
-    let parts_of = list_all (spec_fits s) s.timers && (list_all (section_fits s kind.Func) s.funcs && (list_all (section_fits s kind.Client) s.clients && list_all (section_fits s kind.Cpu) s.ticks)) in
-    let turns_of = nat_le (length s.turns) 1000000 && list_all (λ a. nat_lt a (actor_count s)) s.turns in
-    let one = both_true head_of (counts_of && (parts_of && (nat_le (total_acts s) 262144 && turns_of))) h in
-    let two = both_true counts_of (parts_of && (nat_le (total_acts s) 262144 && turns_of)) one.1 in
-    let three = both_true parts_of (nat_le (total_acts s) 262144 && turns_of) two.1 in
-    let four = both_true (nat_le (total_acts s) 262144) turns_of three.1 in
-    let version = both_true (is_within 1 2 s.version) (is_within 1 1000000 s.hz && (is_within 1 16 s.cpus && is_wheel_size s.buckets)) one.0 in
-    let hz = both_true (is_within 1 1000000 s.hz) (is_within 1 16 s.cpus && is_wheel_size s.buckets) version.1 in
-    let cpus = both_true (is_within 1 16 s.cpus) (is_wheel_size s.buckets) hz.1 in
-    let c1 = both_true (nat_le (length s.funcs) 1024) (nat_le (length s.locks) 256 && (is_within 1 1024 (length s.timers) && (nat_le (length s.clients) 16 && (length s.ticks == s.cpus)))) two.0 in
-    let c2 = both_true (nat_le (length s.locks) 256) (is_within 1 1024 (length s.timers) && (nat_le (length s.clients) 16 && (length s.ticks == s.cpus))) c1.1 in
-    let c3 = both_true (is_within 1 1024 (length s.timers)) (nat_le (length s.clients) 16 && (length s.ticks == s.cpus)) c2.1 in
-    let c4 = both_true (nat_le (length s.clients) 16) (length s.ticks == s.cpus) c3.1 in
-    let p1 = both_true (list_all (spec_fits s) s.timers) (list_all (section_fits s kind.Func) s.funcs && (list_all (section_fits s kind.Client) s.clients && list_all (section_fits s kind.Cpu) s.ticks)) three.0 in
-    let p2 = both_true (list_all (section_fits s kind.Func) s.funcs) (list_all (section_fits s kind.Client) s.clients && list_all (section_fits s kind.Cpu) s.ticks) p1.1 in
-    let p3 = both_true (list_all (section_fits s kind.Client) s.clients) (list_all (section_fits s kind.Cpu) s.ticks) p2.1 in
-    let turns = both_true (nat_le (length s.turns) 1000000) (list_all (λ a. nat_lt a (actor_count s)) s.turns) four.1 in
+    let f = fitting s h in
     record {
-      version = version-is s.version version.0;
-      hz = within 1 1000000 s.hz hz.0;
-      cpus = within 1 16 s.cpus cpus.0;
-      buckets = is-wheel s.buckets cpus.1;
-      timers = within 1 1024 (length s.timers) c3.0;
-      direct = spec-any s s.timers p1.0;
-      few_clients = leb-true (length s.clients) 16 c4.0;
-      ticks = at-any (λ acts. AllByRecursion (λ a. is_tick a ≡ true) acts) (section_fits s kind.Cpu) tt (section-acts s kind.Cpu (λ a. is_tick a ≡ true) (tick-of s)) s.ticks p3.1;
-      clients = at-any (λ acts. AllByRecursion (λ a. is_tick a ≡ false) acts) (section_fits s kind.Client) tt (section-acts s kind.Client (λ a. is_tick a ≡ false) (no-tick-of s)) s.clients p3.0;
-      funcs = at-any (λ acts. AllByRecursion (λ a. is_call a ≡ true) acts) (section_fits s kind.Func) tt (section-acts s kind.Func (λ a. is_call a ≡ true) (call-of s)) s.funcs p2.0;
-      clients_name = at-any (λ acts. AllByRecursion (λ a. names_exist s a ≡ true) acts) (section_fits s kind.Client) tt (section-acts s kind.Client (λ a. names_exist s a ≡ true) (names-of s kind.Client)) s.clients p3.0;
-      funcs_name = at-any (λ acts. AllByRecursion (λ a. names_exist s a ≡ true) acts) (section_fits s kind.Func) tt (section-acts s kind.Func (λ a. names_exist s a ≡ true) (names-of s kind.Func)) s.funcs p2.0;
-      short_clients = at-any (λ acts. length acts ≤ 65536) (section_fits s kind.Client) (omega arith) (section-short s kind.Client) s.clients p3.0;
-      short_ticks = at-any (λ acts. length acts ≤ 65536) (section_fits s kind.Cpu) (omega arith) (section-short s kind.Cpu) s.ticks p3.1;
-      short_funcs = at-any (λ acts. length acts ≤ 4096) (section_fits s kind.Func) (omega arith) (section-short s kind.Func) s.funcs p2.0;
-      turns = AllOf (λ a. nat_lt a (actor_count s)) (λ a. a < actor_count s) (λ a is. ltb-true a (actor_count s) is) s.turns turns.1;
+      version = version-is s.version f.version;
+      hz = within 1 1000000 s.hz f.hz;
+      cpus = within 1 16 s.cpus f.cpus;
+      buckets = is-wheel s.buckets f.buckets;
+      timers = (f.timers_some, f.small.timers);
+      direct = spec-any s s.timers f.specs;
+      few_clients = f.clients_few;
+      ticks = each-act s kind.Cpu (λ a. is_tick a ≡ true) (tick-of s) s.ticks f.ticks;
+      clients = each-act s kind.Client (λ a. is_tick a ≡ false) (no-tick-of s) s.clients f.clients;
+      funcs = each-act s kind.Func (λ a. is_call a ≡ true) (call-of s) s.funcs f.funcs;
+      clients_name = each-act s kind.Client (λ a. names_exist s a ≡ true) (λ a stands. stands.names) s.clients f.clients;
+      funcs_name = each-act s kind.Func (λ a. names_exist s a ≡ true) (λ a stands. stands.names) s.funcs f.funcs;
+      short_clients = at-any (λ acts. length acts ≤ 65536) (section_fits s kind.Client) (omega arith) (section-short s kind.Client) s.clients f.clients;
+      short_ticks = at-any (λ acts. length acts ≤ 65536) (section_fits s kind.Cpu) (omega arith) (section-short s kind.Cpu) s.ticks f.ticks;
+      short_funcs = at-any (λ acts. length acts ≤ 4096) (section_fits s kind.Func) (omega arith) (section-short s kind.Func) s.funcs f.funcs;
+      turns = AllOf (λ a. nat_lt a (actor_count s)) (λ a. a < actor_count s) (λ a is. ltb-true a (actor_count s) is) s.turns f.turns;
     }

@@ -15,13 +15,13 @@ use Rattle.co_program.specs.declared.When.{When}
 use Rattle.co_program.specs.declared.When.TheVariants as when
 use Rattle.co_program.specs.declared.Where.{Where}
 use Rattle.co_program.specs.declared.Where.TheVariants as cpu
-use Rattle.co_program.specs.Scripts.{who_exists, cpu_exists}
+use Rattle.co_program.specs.Scripts.{who_exists, cpu_exists, names_exist}
 use Rattle.co_grammar.specs.declared.Kind.{Kind}
 use Rattle.co_grammar.specs.declared.Opener.TheVariants.{Frame}
-use Rattle.co_grammar.specs.Keywords.{is_section, is_func, may_act, verb_of_act}
+use Rattle.co_grammar.specs.Keywords.{is_section, is_func, verb_of_act}
 use Rattle.co_grammar.specs.Statements.{Statement}
 use Rattle.co_grammar.specs.Forms.{frame_form}
-use Rattle.co_grammar.specs.Checks.{IsSmall, is_i32, call_fits, act_fits, act_kind_fits, act_rises}
+use Rattle.co_grammar.specs.Checks.{IsSmall, is_i32, call_fits, values_fit, act_fits, act_kind_fits, act_rises}
 use Rattle.co_grammar.specs.Spelling.{numbered, act_words}
 use Rattle.co_grammar.proofs.ActsBack.{IsShort, WhoStands, MomentStands, WhereStands, ActStands, act-words}
 use Rattle.co_grammar.proofs.Sizes.{act-short, numbered-short}
@@ -29,9 +29,10 @@ use Rattle.co_script.specs.Drafts.{Draft, closed, with_section, time_after}
 use Rattle.co_script.specs.Refusals.{draft_with, most_acts}
 use Rattle.co_script.specs.Reading.{opener_of, may_stand}
 use Rattle.co_script.specs.Canonical.{section_lines}
-use Rattle.co_script.specs.Fits.{is_of_version, names_me, act_names_me, is_time, is_moment, has_times, rises_after, act_stands, section_fits}
+use Rattle.co_script.specs.Fits.{is_of_version, names_me, is_time, is_moment, rises_after, act_stands, section_fits}
 use Rattle.co_script.proofs.drafts.Named.{named_by, fits-named, kind-named}
 use Rattle.co_script.proofs.LinesFold.{Passes, MayAdd, with_act, act-read, frame-read}
+use Rattle.co_script.proofs.Standing.{Standing, standing}
 use Rattle.co_script.proofs.Leads.{Leads, no-lines, one-more, at-most}
 
 -- ---- what an act that fits names can be written and read
@@ -48,10 +49,10 @@ moment-stands : (m : When) → is_moment m ≡ true → MomentStands m
 moment-stands (when.After t) h = ltb-true t (2 ^ 63) h
 moment-stands (when.At t) h = ltb-true t (2 ^ 63) h
 
-module _ (serviced : Bool) (funcs : ℕ) (s : Script) (small : IsSmall s funcs) where
-  who-stands : (w : Who) → (serviced || not (names_me w)) ≡ true → who_exists s w ≡ true → WhoStands serviced w
+module _ (k : Kind) (funcs : ℕ) (s : Script) (small : IsSmall s funcs) where
+  who-stands : (w : Who) → (is_func k || not (names_me w)) ≡ true → who_exists s w ≡ true → WhoStands (is_func k) w
   who-stands (callout.Timer i) me exists = let below : i < length s.timers = ltb-true i (length s.timers) exists in omega (arith, below, small.timers)
-  who-stands callout.Me me exists = or-false serviced me
+  who-stands callout.Me me exists = or-false (is_func k) me
 
   where-stands : (c : Where) → cpu_exists s c ≡ true → WhereStands c
   where-stands cpu.Home exists = tt
@@ -64,36 +65,34 @@ module _ (serviced : Bool) (funcs : ℕ) (s : Script) (small : IsSmall s funcs) 
   func-stands : (f : ℕ) → nat_lt f funcs ≡ true → IsShort f
   func-stands f exists = let below : f < funcs = ltb-true f funcs exists in omega (arith, below, small.funcs_fit)
 
-  act-stands : (a : Act) → (serviced || not (act_names_me a)) ≡ true → has_times a ≡ true → act_fits funcs s a ≡ true → ActStands serviced a
-  act-stands (act.Now t) me times fits = ltb-true t (2 ^ 63) times
-  act-stands (act.Lock l) me times fits = lock-stands l fits
-  act-stands (act.ReadLock l) me times fits = lock-stands l fits
-  act-stands act.Unlock me times fits = tt
-  act-stands (act.Reset w m f a c p) me times fits =
-      let t = and_parts (is_moment m) (is_time p) times in
-      let n = and_parts (who_exists s w) (call_fits funcs f a && cpu_exists s c) fits in
-      let k = and_parts (call_fits funcs f a) (cpu_exists s c) n.1 in
-      let j = and_parts (nat_lt f funcs) (nat_lt a (2 ^ 64)) k.0 in
-      (who-stands w me n.0, moment-stands m t.0, func-stands f j.0, ltb-true a (2 ^ 64) j.1, where-stands c k.1, ltb-true p (2 ^ 63) t.1)
-  act-stands (act.Ticks w i f a c) me times fits =
-      let n = and_parts (who_exists s w) (is_i32 i && (call_fits funcs f a && cpu_exists s c)) fits in
-      let h = and_parts (is_i32 i) (call_fits funcs f a && cpu_exists s c) n.1 in
-      let k = and_parts (call_fits funcs f a) (cpu_exists s c) h.1 in
-      let j = and_parts (nat_lt f funcs) (nat_lt a (2 ^ 64)) k.0 in
-      (who-stands w me n.0, i32-stands i h.0, func-stands f j.0, ltb-true a (2 ^ 64) j.1, where-stands c k.1)
-  act-stands (act.Schedule w m c p) me times fits =
-      let t = and_parts (is_moment m) (is_time p) times in
-      let n = and_parts (who_exists s w) (cpu_exists s c) fits in
-      (who-stands w me n.0, moment-stands m t.0, where-stands c n.1, ltb-true p (2 ^ 63) t.1)
-  act-stands (act.Stop w) me times fits = who-stands w me fits
-  act-stands (act.Drain i) me times fits = let below : i < length s.timers = ltb-true i (length s.timers) fits in omega (arith, below, small.timers)
-  act-stands (act.AsyncDrain w f) me times fits = let n = and_parts (who_exists s w) (nat_lt f funcs) fits in (who-stands w me n.0, func-stands f n.1)
-  act-stands (act.Active w) me times fits = who-stands w me fits
-  act-stands (act.Pending w) me times fits = who-stands w me fits
-  act-stands (act.Deactivate w) me times fits = who-stands w me fits
-  act-stands (act.Init w) me times fits = who-stands w me fits
-  act-stands (act.Retire w) me times fits = who-stands w me fits
-  act-stands (act.Tick t) me times fits = ltb-true t (2 ^ 63) times
+  act-stands : (a : Act) → Standing funcs s k a → ActStands (is_func k) a
+  act-stands (act.Now t) h = ltb-true t (2 ^ 63) h.times
+  act-stands (act.Lock l) h = lock-stands l h.values
+  act-stands (act.ReadLock l) h = lock-stands l h.values
+  act-stands act.Unlock h = tt
+  act-stands (act.Reset w m f a c p) h =
+      let t = and_parts (is_moment m) (is_time p) h.times in
+      let n = and_parts (who_exists s w) (cpu_exists s c) h.names in
+      let j = and_parts (nat_lt f funcs) (nat_lt a (2 ^ 64)) h.values in
+      (who-stands w h.me n.0, moment-stands m t.0, func-stands f j.0, ltb-true a (2 ^ 64) j.1, where-stands c n.1, ltb-true p (2 ^ 63) t.1)
+  act-stands (act.Ticks w i f a c) h =
+      let n = and_parts (who_exists s w) (cpu_exists s c) h.names in
+      let v = and_parts (is_i32 i) (call_fits funcs f a) h.values in
+      let j = and_parts (nat_lt f funcs) (nat_lt a (2 ^ 64)) v.1 in
+      (who-stands w h.me n.0, i32-stands i v.0, func-stands f j.0, ltb-true a (2 ^ 64) j.1, where-stands c n.1)
+  act-stands (act.Schedule w m c p) h =
+      let t = and_parts (is_moment m) (is_time p) h.times in
+      let n = and_parts (who_exists s w) (cpu_exists s c) h.names in
+      (who-stands w h.me n.0, moment-stands m t.0, where-stands c n.1, ltb-true p (2 ^ 63) t.1)
+  act-stands (act.Stop w) h = who-stands w h.me h.names
+  act-stands (act.Drain i) h = let below : i < length s.timers = ltb-true i (length s.timers) h.names in omega (arith, below, small.timers)
+  act-stands (act.AsyncDrain w f) h = (who-stands w h.me h.names, func-stands f h.values)
+  act-stands (act.Active w) h = who-stands w h.me h.names
+  act-stands (act.Pending w) h = who-stands w h.me h.names
+  act-stands (act.Deactivate w) h = who-stands w h.me h.names
+  act-stands (act.Init w) h = who-stands w h.me h.names
+  act-stands (act.Retire w) h = who-stands w h.me h.names
+  act-stands (act.Tick t) h = ltb-true t (2 ^ 63) h.times
 
 -- ---- the acts of a section
 
@@ -113,18 +112,14 @@ module _ (s : Script) (small : IsSmall s (length s.funcs)) where
 
   may-add : (d : Draft) (a : Act) → IsOpen s d → act_stands s d.stage a ≡ true → act_rises d.clock a ≡ true → length d.acts < most_acts (is_func d.stage) → d.count < 262144 → MayAdd d a
   may-add d a o stands rises few room =
-      let m = and_parts (may_act d.stage (verb_of_act a)) (is_of_version s.version (verb_of_act a) && ((is_func d.stage || not (act_names_me a)) && (has_times a && (act_fits (length s.funcs) s a && act_kind_fits s a)))) stands in
-      let v = and_parts (is_of_version s.version (verb_of_act a)) ((is_func d.stage || not (act_names_me a)) && (has_times a && (act_fits (length s.funcs) s a && act_kind_fits s a))) m.1 in
-      let n = and_parts (is_func d.stage || not (act_names_me a)) (has_times a && (act_fits (length s.funcs) s a && act_kind_fits s a)) v.1 in
-      let t = and_parts (has_times a) (act_fits (length s.funcs) s a && act_kind_fits s a) n.1 in
-      let f = and_parts (act_fits (length s.funcs) s a) (act_kind_fits s a) t.1 in
+      let h = standing (length s.funcs) s d.stage a stands in
       record {
         section = o.section;
-        may = m.0;
-        version = ap (λ x. is_of_version x (verb_of_act a)) o.version ∙ v.0;
-        stands = act-stands (is_func d.stage) (length s.funcs) s small a n.0 t.0 f.0;
-        fits = fits-alike d a o ∙ f.0;
-        kind = kind-alike d a o ∙ f.1;
+        may = h.verb;
+        version = ap (λ x. is_of_version x (verb_of_act a)) o.version ∙ h.version;
+        stands = act-stands d.stage (length s.funcs) s small a h;
+        fits = fits-alike d a o ∙ and_from (names_exist s a) (values_fit (length s.funcs) s a) h.names h.values;
+        kind = kind-alike d a o ∙ h.kind;
         rises = rises;
         room = and_from (nat_lt (length d.acts) (most_acts (is_func d.stage))) (nat_lt d.count 262144) (lt-ltb (length d.acts) (most_acts (is_func d.stage)) few) (lt-ltb d.count 262144 room);
       }

@@ -6,6 +6,7 @@ use Rattle.std.proofs.lemmas.Bool.{and_from, ltb-true, le-leb}
 use Rattle.co_object.proofs.Changes.{both_true}
 use Rattle.co_text.specs.Values.{Word, is_word}
 use Rattle.co_program.specs.declared.Act.{Act}
+use Rattle.co_program.specs.Scripts.{names_exist}
 use Rattle.co_grammar.specs.declared.Kind.{Kind}
 use Rattle.co_grammar.specs.declared.Verb.{Verb}
 use Rattle.co_grammar.specs.declared.Verb.TheVariants as verb
@@ -13,16 +14,17 @@ use Rattle.co_grammar.specs.declared.Opener.TheVariants.{Act as Does}
 use Rattle.co_grammar.specs.Keywords.{verb_of, old_verb_of, is_func, may_act, verb_of_act}
 use Rattle.co_grammar.specs.Statements as states
 use Rattle.co_grammar.specs.Forms.{act_form}
-use Rattle.co_grammar.specs.Checks.{act_fits, act_kind_fits, act_rises}
+use Rattle.co_grammar.specs.Checks.{values_fit, act_fits, act_kind_fits, act_rises}
 use Rattle.co_script.specs.Drafts.{Draft, time_after}
 use Rattle.co_script.specs.Refusals.{most_acts, draft_with, draft_after}
 use Rattle.co_script.specs.Reading.{opener_by, act_line}
 use Rattle.co_script.specs.Fits.{is_of_version, act_names_me, has_times, rises_after}
 use Rattle.co_script.proofs.LinesFold.{Passes}
+use Rattle.co_script.proofs.Standing.{stands, stands-from}
 use Rattle.co_script.proofs.told.Steps.{bind-ok}
 use Rattle.co_script.proofs.told.Acts.{act-ok}
 use Rattle.co_script.proofs.drafts.Named.{named_by, fits-named, kind-named}
-use Rattle.co_script.proofs.drafts.Sections.{stands, clock_after, rises-more, clock-more}
+use Rattle.co_script.proofs.drafts.Sections.{clock_after, rises-more, clock-more}
 use Rattle.co_script.proofs.drafts.Firm.{Fine}
 use Rattle.co_script.proofs.AllPass.{more-pass, one-passes}
 use Rattle.co_script.proofs.drafts.Passed.{passes-ok}
@@ -82,12 +84,8 @@ act-fine d v ws e h version order read =
           let few : d.count < 262144 = ltb-true d.count 262144 room.1 in
           let fits_here : act_fits d.funcs s a ≡ true = sym (fits-named d.funcs d.script a) ∙ p.numbers in
           let kinds_here : act_kind_fits s a ≡ true = sym (kind-named d.script a) ∙ p.kinds in
-          let here : stands d.funcs s d.stage a ≡ true =
-          and_from (may_act d.stage (verb_of_act a)) (is_of_version s.version (verb_of_act a) && ((is_func d.stage || not (act_names_me a)) && (has_times a && (act_fits d.funcs s a && act_kind_fits s a)))) order
-          (and_from (is_of_version s.version (verb_of_act a)) ((is_func d.stage || not (act_names_me a)) && (has_times a && (act_fits d.funcs s a && act_kind_fits s a))) version
-          (and_from (is_func d.stage || not (act_names_me a)) (has_times a && (act_fits d.funcs s a && act_kind_fits s a)) me
-          (and_from (has_times a) (act_fits d.funcs s a && act_kind_fits s a) times
-          (and_from (act_fits d.funcs s a) (act_kind_fits s a) fits_here kinds_here)))) in
+          let fit = both_true (names_exist s a) (values_fit d.funcs s a) fits_here in
+          let here = stands-from d.funcs s d.stage a (record { verb = order; version = version; me = me; times = times; names = fit.0; values = fit.1; kind = kinds_here }) in
           let rising : act_rises (clock_after 0 d.acts) a ≡ true = subst (λ t. act_rises t a ≡ true) h.clock p.times in
           let f = h.firm in
           record {

@@ -16,7 +16,8 @@ use Rattle.co_script.specs.Drafts.{padded}
 use Rattle.co_script.specs.Refusals.{most_acts}
 use Rattle.co_script.specs.Fits.{fits, rises_after, spec_fits, section_fits, total_acts}
 use Rattle.co_script.proofs.drafts.Named.{named_by, locked_by, fits-named, kind-named, exists-locked, use-locked}
-use Rattle.co_script.proofs.drafts.Sections.{stands, section, empty-section}
+use Rattle.co_script.proofs.Standing.{stands}
+use Rattle.co_script.proofs.drafts.Sections.{section, empty-section}
 use Rattle.co_script.proofs.drafts.Firm.{acts_in, Firm, copies-sum}
 use Rattle.co_script.proofs.Pads.{padded-long}
 use Rattle.co_script.proofs.AllPass.{more-pass, copies-pass}

@@ -37,14 +37,14 @@ fits-named funcs s act.Unlock = refl
 fits-named funcs s (act.Reset w m f a c p) = rw (who-named s w, cpu-named s c) refl
 fits-named funcs s (act.Ticks w k f a c) = rw (who-named s w, cpu-named s c) refl
 fits-named funcs s (act.Schedule w m c p) = rw (who-named s w, cpu-named s c) refl
-fits-named funcs s (act.Stop w) = who-named s w
+fits-named funcs s (act.Stop w) = rw (who-named s w) refl
 fits-named funcs s (act.Drain i) = refl
 fits-named funcs s (act.AsyncDrain w f) = rw (who-named s w) refl
-fits-named funcs s (act.Active w) = who-named s w
-fits-named funcs s (act.Pending w) = who-named s w
-fits-named funcs s (act.Deactivate w) = who-named s w
-fits-named funcs s (act.Init w) = who-named s w
-fits-named funcs s (act.Retire w) = who-named s w
+fits-named funcs s (act.Active w) = rw (who-named s w) refl
+fits-named funcs s (act.Pending w) = rw (who-named s w) refl
+fits-named funcs s (act.Deactivate w) = rw (who-named s w) refl
+fits-named funcs s (act.Init w) = rw (who-named s w) refl
+fits-named funcs s (act.Retire w) = rw (who-named s w) refl
 fits-named funcs s (act.Tick t) = refl
 
 pub kind-named : (s : Script) (a : Act) → act_kind_fits s a ≡ act_kind_fits (named_by s) a

@@ -1,5 +1,5 @@
 -- The acts of a section, each where it may stand, and one more behind them.
-use Rattle.std.proofs.Common.{◌≡◌, ℕ, Bool, true, not, ◌&&◌, ◌||◌, List, [], ◌∷◌, ◌++◌, length, refl, arith}
+use Rattle.std.proofs.Common.{◌≡◌, ℕ, Bool, true, ◌&&◌, List, [], ◌∷◌, ◌++◌, length, refl, arith}
 use Rattle.std.specs.Prelude.{nat_le}
 use Rattle.std.specs.List.{list_all}
 use Rattle.std.proofs.lemmas.Bool.{and_from, le-leb}
@@ -7,15 +7,12 @@ use Rattle.co_object.proofs.Changes.{both_true}
 use Rattle.co_program.specs.declared.Script.{Script}
 use Rattle.co_program.specs.declared.Act.{Act}
 use Rattle.co_grammar.specs.declared.Kind.{Kind}
-use Rattle.co_grammar.specs.Keywords.{is_func, may_act, verb_of_act}
-use Rattle.co_grammar.specs.Checks.{act_fits, act_kind_fits, act_rises}
+use Rattle.co_grammar.specs.Keywords.{is_func}
+use Rattle.co_grammar.specs.Checks.{act_rises}
 use Rattle.co_script.specs.Drafts.{time_after}
 use Rattle.co_script.specs.Refusals.{most_acts}
-use Rattle.co_script.specs.Fits.{is_of_version, act_names_me, has_times, rises_after}
-
--- an act may stand in such a section, where this is how many functions there are
-abbrev pub stands : ℕ → Script → Kind → Act → Bool
-stands funcs s k a = may_act k (verb_of_act a) && (is_of_version s.version (verb_of_act a) && ((is_func k || not (act_names_me a)) && (has_times a && (act_fits funcs s a && act_kind_fits s a))))
+use Rattle.co_script.specs.Fits.{rises_after}
+use Rattle.co_script.proofs.Standing.{stands}
 
 abbrev pub section : ℕ → Script → Kind → List Act → Bool
 section funcs s k acts = nat_le (length acts) (most_acts (is_func k)) && (list_all (stands funcs s k) acts && rises_after 0 acts)
