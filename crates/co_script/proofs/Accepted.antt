@@ -77,58 +77,21 @@ is-wheel n h = size_16 h where
 -- ---- acts
 
 tick-of : (s : Script) (a : Act) → Standing (length s.funcs) s kind.Cpu a → is_tick a ≡ true
-tick-of s (act.Now t) h = let never : false ≡ true = h.verb in cc
-tick-of s (act.Lock l) h = let never : false ≡ true = h.verb in cc
-tick-of s (act.ReadLock l) h = let never : false ≡ true = h.verb in cc
-tick-of s act.Unlock h = let never : false ≡ true = h.verb in cc
-tick-of s (act.Reset w m f x c p) h = let never : false ≡ true = h.verb in cc
-tick-of s (act.Ticks w k f x c) h = let never : false ≡ true = h.verb in cc
-tick-of s (act.Schedule w m c p) h = let never : false ≡ true = h.verb in cc
-tick-of s (act.Stop w) h = let never : false ≡ true = h.verb in cc
-tick-of s (act.Drain i) h = let never : false ≡ true = h.verb in cc
-tick-of s (act.AsyncDrain w f) h = let never : false ≡ true = h.verb in cc
-tick-of s (act.Active w) h = let never : false ≡ true = h.verb in cc
-tick-of s (act.Pending w) h = let never : false ≡ true = h.verb in cc
-tick-of s (act.Deactivate w) h = let never : false ≡ true = h.verb in cc
-tick-of s (act.Init w) h = let never : false ≡ true = h.verb in cc
-tick-of s (act.Retire w) h = let never : false ≡ true = h.verb in cc
-tick-of s (act.Tick t) h = h.verb
+tick-of s (act.Tick t) h = refl
+tick-of s a h = let never : false ≡ true = h.verb in cc
 
 no-tick-of : (s : Script) (a : Act) → Standing (length s.funcs) s kind.Client a → is_tick a ≡ false
-no-tick-of s (act.Now t) h = refl
-no-tick-of s (act.Lock l) h = refl
-no-tick-of s (act.ReadLock l) h = refl
-no-tick-of s act.Unlock h = refl
-no-tick-of s (act.Reset w m f x c p) h = refl
-no-tick-of s (act.Ticks w k f x c) h = refl
-no-tick-of s (act.Schedule w m c p) h = refl
-no-tick-of s (act.Stop w) h = refl
-no-tick-of s (act.Drain i) h = refl
-no-tick-of s (act.AsyncDrain w f) h = refl
-no-tick-of s (act.Active w) h = refl
-no-tick-of s (act.Pending w) h = refl
-no-tick-of s (act.Deactivate w) h = refl
-no-tick-of s (act.Init w) h = refl
-no-tick-of s (act.Retire w) h = refl
 no-tick-of s (act.Tick t) h = let never : false ≡ true = h.verb in cc
+no-tick-of s a h = refl
 
 call-of : (s : Script) (a : Act) → Standing (length s.funcs) s kind.Func a → is_call a ≡ true
 call-of s (act.Now t) h = let never : false ≡ true = h.verb in cc
 call-of s (act.Lock l) h = let never : false ≡ true = h.verb in cc
 call-of s (act.ReadLock l) h = let never : false ≡ true = h.verb in cc
 call-of s act.Unlock h = let never : false ≡ true = h.verb in cc
-call-of s (act.Reset w m f x c p) h = refl
-call-of s (act.Ticks w k f x c) h = refl
-call-of s (act.Schedule w m c p) h = refl
-call-of s (act.Stop w) h = refl
 call-of s (act.Drain i) h = let never : false ≡ true = h.verb in cc
-call-of s (act.AsyncDrain w f) h = refl
-call-of s (act.Active w) h = refl
-call-of s (act.Pending w) h = refl
-call-of s (act.Deactivate w) h = refl
-call-of s (act.Init w) h = refl
-call-of s (act.Retire w) h = refl
 call-of s (act.Tick t) h = let never : false ≡ true = h.verb in cc
+call-of s a h = refl
 
 -- ---- sections
 

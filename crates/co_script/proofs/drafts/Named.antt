@@ -30,40 +30,21 @@ cpu-named s (cpu.Cpu c) = refl
 cpu-named s cpu.Here = refl
 
 pub fits-named : (funcs : ℕ) (s : Script) (a : Act) → act_fits funcs s a ≡ act_fits funcs (named_by s) a
-fits-named funcs s (act.Now t) = refl
-fits-named funcs s (act.Lock l) = refl
-fits-named funcs s (act.ReadLock l) = refl
-fits-named funcs s act.Unlock = refl
 fits-named funcs s (act.Reset w m f a c p) = rw (who-named s w, cpu-named s c) refl
 fits-named funcs s (act.Ticks w k f a c) = rw (who-named s w, cpu-named s c) refl
 fits-named funcs s (act.Schedule w m c p) = rw (who-named s w, cpu-named s c) refl
 fits-named funcs s (act.Stop w) = rw (who-named s w) refl
-fits-named funcs s (act.Drain i) = refl
 fits-named funcs s (act.AsyncDrain w f) = rw (who-named s w) refl
 fits-named funcs s (act.Active w) = rw (who-named s w) refl
 fits-named funcs s (act.Pending w) = rw (who-named s w) refl
 fits-named funcs s (act.Deactivate w) = rw (who-named s w) refl
 fits-named funcs s (act.Init w) = rw (who-named s w) refl
 fits-named funcs s (act.Retire w) = rw (who-named s w) refl
-fits-named funcs s (act.Tick t) = refl
+fits-named funcs s a = refl
 
 pub kind-named : (s : Script) (a : Act) → act_kind_fits s a ≡ act_kind_fits (named_by s) a
-kind-named s (act.Now t) = refl
-kind-named s (act.Lock l) = refl
 kind-named s (act.ReadLock l) = refl
-kind-named s act.Unlock = refl
-kind-named s (act.Reset w m f a c p) = refl
-kind-named s (act.Ticks w k f a c) = refl
-kind-named s (act.Schedule w m c p) = refl
-kind-named s (act.Stop w) = refl
-kind-named s (act.Drain i) = refl
-kind-named s (act.AsyncDrain w f) = refl
-kind-named s (act.Active w) = refl
-kind-named s (act.Pending w) = refl
-kind-named s (act.Deactivate w) = refl
-kind-named s (act.Init w) = refl
-kind-named s (act.Retire w) = refl
-kind-named s (act.Tick t) = refl
+kind-named s a = refl
 
 pub exists-locked : (s : Script) (l : LockUse) → spec_exists s l ≡ spec_exists (locked_by s) l
 exists-locked s Free = refl

@@ -79,7 +79,7 @@ module _ (serviced : Bool) where
       let same : act.Reset w.0.0 m.0.0 f.0.0 a.0.0 c.0.0 p.0.0 ≡ x = cc in
       let who_read = next-ok (who serviced) ws w.0 w.1 in
       let moment_read = next-ok moment w.0.1 m.0 m.1 in
-      subst (λ y. IsFormed serviced verb.Reset y) same (record {
+      subst (λ y. IsFormed serviced verb.Reset y) {x = act.Reset w.0.0 m.0.0 f.0.0 a.0.0 c.0.0 p.0.0} same (record {
         verb = refl;
         me = who-ok serviced who_read.0 w.0.0 who_read.1;
         times = and_from (is_moment m.0.0) (is_time p.0.0) (moment-ok moment_read.0 m.0.0 moment_read.1) (precision-ok c.0.1 p.0 p.1);
