@@ -10,7 +10,7 @@ use Rattle.co_object.proofs.Changes.{both_true}
 use Rattle.co_program.specs.declared.Script.{Script}
 use Rattle.co_program.specs.declared.Act.{Act}
 use Rattle.co_program.specs.declared.Act.TheVariants as act
-use Rattle.co_program.specs.Actors.{acts_at, actor_count}
+use Rattle.co_program.specs.Actors.{actor_count}
 use Rattle.co_program.specs.Scripts.{IsScript, is_tick, is_call, names_exist}
 use Rattle.co_grammar.specs.declared.Kind.{Kind}
 use Rattle.co_grammar.specs.declared.Kind.TheVariants as kind

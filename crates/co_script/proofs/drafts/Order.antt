@@ -7,7 +7,6 @@ use Rattle.co_grammar.specs.declared.Kind.{Kind}
 use Rattle.co_grammar.specs.declared.Opener.TheVariants.{Frame}
 use Rattle.co_grammar.specs.Keywords.{rank, is_single}
 use Rattle.co_grammar.specs.Checks.{is_next_of}
-use Rattle.co_script.specs.Refusals.{below}
 use Rattle.co_script.specs.Reading.{may_stand}
 
 pub rank-rises : (stage k : Kind) → may_stand stage (Frame k) ≡ true → rank stage ≤ rank k

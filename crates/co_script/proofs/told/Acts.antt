@@ -80,7 +80,7 @@ module _ (serviced : Bool) where
       let who_read = next-ok (who serviced) ws w.0 w.1 in
       let moment_read = next-ok moment w.0.1 m.0 m.1 in
       subst (λ y. IsFormed serviced verb.Reset y) {x = act.Reset w.0.0 m.0.0 f.0.0 a.0.0 c.0.0 p.0.0} same (record {
-        verb = refl;
+        verb = refl {a = verb.Reset};
         me = who-ok serviced who_read.0 w.0.0 who_read.1;
         times = and_from (is_moment m.0.0) (is_time p.0.0) (moment-ok moment_read.0 m.0.0 moment_read.1) (precision-ok c.0.1 p.0 p.1);
       })
@@ -110,7 +110,7 @@ module _ (serviced : Bool) where
       let e = bind-ok (ended c.0.1) (λ _. Ok (act.Ticks w.0.0 k.0.0 f.0.0 a.0.0 c.0.0)) x c.2 in
       let same : act.Ticks w.0.0 k.0.0 f.0.0 a.0.0 c.0.0 ≡ x = cc in
       let who_read = next-ok (who serviced) ws w.0 w.1 in
-      subst (λ y. IsFormed serviced verb.Ticks y) same (record { verb = refl; me = who-ok serviced who_read.0 w.0.0 who_read.1; times = refl })
+      subst (λ y. IsFormed serviced verb.Ticks y) {x = act.Ticks w.0.0 k.0.0 f.0.0 a.0.0 c.0.0} same (record { verb = refl {a = verb.Ticks}; me = who-ok serviced who_read.0 w.0.0 who_read.1; times = refl {a = true} })
 
   abbrev schedule_ends : Who → When → Where → ℕ → List Word → Result Act Cause
   schedule_ends w m c p ws = ended ws >>= λ _. Ok (act.Schedule w m c p)
@@ -134,8 +134,8 @@ module _ (serviced : Bool) where
       let same : act.Schedule w.0.0 m.0.0 c.0.0 p.0.0 ≡ x = cc in
       let who_read = next-ok (who serviced) ws w.0 w.1 in
       let moment_read = next-ok moment w.0.1 m.0 m.1 in
-      subst (λ y. IsFormed serviced verb.Schedule y) same (record {
-        verb = refl;
+      subst (λ y. IsFormed serviced verb.Schedule y) {x = act.Schedule w.0.0 m.0.0 c.0.0 p.0.0} same (record {
+        verb = refl {a = verb.Schedule};
         me = who-ok serviced who_read.0 w.0.0 who_read.1;
         times = and_from (is_moment m.0.0) (is_time p.0.0) (moment-ok moment_read.0 m.0.0 moment_read.1) (precision-ok c.0.1 p.0 p.1);
       })

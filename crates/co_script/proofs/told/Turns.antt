@@ -9,7 +9,6 @@ use Rattle.co_text.specs.Values.{Word, number}
 use Rattle.co_text.specs.declared.Cause.TheVariants.{Form}
 use Rattle.co_program.specs.declared.Role.{Role}
 use Rattle.co_program.specs.declared.Role.TheVariants.{Client, Cpu, Interrupt}
-use Rattle.co_grammar.specs.Operands.{who}
 use Rattle.co_grammar.specs.Turns.{Turn, turn, role, repeats, is_star}
 use Rattle.co_grammar.specs.Forms.{all_turns}
 use Rattle.co_script.proofs.told.Steps.{bind-ok, cond-ok}

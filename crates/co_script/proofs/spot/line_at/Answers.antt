@@ -1,4 +1,4 @@
-use Rattle.std.proofs.Common.{◌≡◌, ◌∷◌, [], length, drop, ap, sym, ◌∙◌}
+use Rattle.std.proofs.Common.{◌≡◌, ◌∷◌, drop, ap, sym, ◌∙◌}
 use Rattle.co_text.specs.Lines.{Line, lines_of}
 use Rattle.co_script.proofs.WholeLines.{behind, no-lines}
 use Rattle.co_script.proofs.spot.line_at.Goals as goal

@@ -1,8 +1,7 @@
-use Rattle.std.proofs.Common.{rules, ◌≡◌, true, refl, sym, ◌∙◌, ap, arith, length}
+use Rattle.std.proofs.Common.{rules, ◌≡◌, true, refl, sym, ◌∙◌, length}
 use Rattle.co_lock.specs.declared.LockKind.{LockKind}
 use Rattle.co_lock.specs.declared.LockKind.TheVariants as lock
 use Rattle.co_lock.specs.contracts.lock_kind.LockKindPartialEq.TheImpl as kinds
-use Rattle.co_script.specs.Drafts.{Draft}
 use Rattle.co_script.proofs.Beside.{same_by, frame_of_parts}
 use Rattle.co_script.proofs.TurnLines.{not-false}
 use Rattle.co_script.proofs.draft.Draft.has_frame_of.Goals as goal
