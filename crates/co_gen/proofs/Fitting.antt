@@ -93,13 +93,14 @@ module _ (s : Script) (frame : IsFrame s) where
   call-stands : (c : Choice) → IsSmall c → (k : Kind) → stands (call_of_kind c k) ≡ true
   call-stands c h kind.Reset =
       let time = lt-true c.span (2 ^ 63) h.span in
-      let names = both (timer-exists c.timer h.timer) (both (both (func-exists (c.timer % 4) (omega arith)) (lt-true c.timer (2 ^ 64) (omega (arith, h.timer)))) (where-exists c.cpu)) in
-      both (both time refl) (both names refl)
-  call-stands c h kind.Schedule = both (both (lt-true c.span (2 ^ 63) h.span) refl) (both (both (timer-exists c.timer h.timer) refl) refl)
-  call-stands c h kind.Stop = both (timer-exists c.timer h.timer) refl
+      let names = both (timer-exists c.timer h.timer) (where-exists c.cpu) in
+      let values = both (func-exists (c.timer % 4) (omega arith)) (lt-true c.timer (2 ^ 64) (omega (arith, h.timer))) in
+      both (both time refl) (both (both names values) refl)
+  call-stands c h kind.Schedule = both (both (lt-true c.span (2 ^ 63) h.span) refl) (both (both (both (timer-exists c.timer h.timer) refl) refl) refl)
+  call-stands c h kind.Stop = both (both (timer-exists c.timer h.timer) refl) refl
   call-stands c h kind.AsyncDrain = both (both (timer-exists c.timer h.timer) (func-exists 3 (omega arith))) refl
-  call-stands c h kind.Pending = both (timer-exists c.timer h.timer) refl
-  call-stands c h kind.Drain = both (timer-exists c.timer h.timer) refl
+  call-stands c h kind.Pending = both (both (timer-exists c.timer h.timer) refl) refl
+  call-stands c h kind.Drain = both (both (timer-exists c.timer h.timer) refl) refl
 
   under-stands : (o : Option ℕ) (a : Act) → IsLock o → stands a ≡ true → list_all stands (under o a) ≡ true
   under-stands None a h is = both is refl
