@@ -1,8 +1,8 @@
 //! Acts and specs whose numbers are known to be in their ranges.
-ghost use Rattle.std.specs.Prelude.{◌≡◌, ◌<◌, ◌≤◌, ◌^◌, true, nat_lt, length};
+ghost use Rattle.std.specs.Prelude.{◌≡◌, ◌<◌, ◌≤◌, ◌^◌, true, length};
 ghost use Rattle.co_text.specs.Values.{signed_value};
 ghost use Rattle.co_grammar.specs.Views.{who_view, where_view, lock_view, spec_view, act_view};
-ghost use Rattle.co_grammar.specs.Checks.{spec_exists, is_i32, call_fits, act_fits};
+ghost use Rattle.co_grammar.specs.Checks.{spec_exists, is_i32, act_fits};
 ghost use Rattle.co_program.specs.Scripts.{who_exists, cpu_exists};
 ghost use Rattle.co_grammar.specs.Checks.{IsSmall};
 

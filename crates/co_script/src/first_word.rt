@@ -1,5 +1,5 @@
 //! How the first word of a line is read.
-ghost use Rattle.std.specs.Prelude.{◌≡◌, true, false};
+ghost use Rattle.std.specs.Prelude.{true, false};
 ghost use Rattle.co_text.specs.Fallible.{Gives};
 ghost use Rattle.co_script.specs.Reading.{opener_by};
 ghost use Rattle.co_grammar.specs.Keywords.{kind_of, verb_of};

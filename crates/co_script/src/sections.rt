@@ -1,5 +1,5 @@
 //! The long sections of a text, each read by itself.
-ghost use Rattle.std.specs.Prelude.{◌≡◌, ◌≤◌, IfOk, length};
+ghost use Rattle.std.specs.Prelude.{◌≤◌, IfOk, length};
 ghost use Rattle.co_script.specs.Beside.{IsSection};
 
 use crate::draft::Draft;

@@ -1,6 +1,6 @@
 //! The word of an actor.
 ghost use Rattle.std.specs.Prelude.{◌≡◌, ◌∷◌, decimal};
-ghost use Rattle.co_grammar.specs.Spelling.{actor_word, role_word};
+ghost use Rattle.co_grammar.specs.Spelling.{actor_word};
 
 use co_program::{Role, Script, role_of};
 
