@@ -1,6 +1,6 @@
 -- A script that fits has all that a run on threads needs: the locks that it names exist, and a service takes its parameters.
 use Rattle.std.proofs.Common.{◌≡◌, ℕ, zero, suc, Bool, true, false, not, ◌&&◌, ◌||◌, List, [], ◌∷◌, length, refl, subst, inl, inr, arith}
-use Rattle.std.specs.Prelude.{◌==◌, ◌⊎◌, Option, Some, None, nat_lt, nat_le, slice_get, slice_index_or}
+use Rattle.std.specs.Prelude.{◌==◌, ◌⊎◌, Option, Some, None, slice_get, slice_index_or}
 use Rattle.std.specs.List.{list_all, AllByRecursion}
 use Rattle.std.proofs.lemmas.Bool.{ltb-true, eqb-true}
 use Rattle.std.proofs.lemmas.List.Elements.{All-from_recursion}
@@ -16,13 +16,11 @@ use Rattle.co_program.specs.declared.Act.{Act}
 use Rattle.co_program.specs.declared.Act.TheVariants as act
 use Rattle.co_program.specs.declared.Script.{Script}
 use Rattle.co_program.specs.declared.Task.TheVariants.{Does}
-use Rattle.co_program.specs.Actors.{actor_count, acts_at}
-use Rattle.co_grammar.specs.declared.Kind.{Kind}
 use Rattle.co_grammar.specs.declared.Kind.TheVariants as kind
-use Rattle.co_grammar.specs.Checks.{act_fits, act_kind_fits, is_rw, is_wheel_size, is_within, spec_exists, spec_kind_fits}
-use Rattle.co_grammar.specs.Keywords.{is_func, may_act, verb_of_act}
-use Rattle.co_script.specs.Fits.{act_names_me, act_stands, fits, has_times, is_free, is_of_version, rises_after, section_fits, spec_fits, total_acts}
-use Rattle.co_script.specs.Refusals.{most_acts}
+use Rattle.co_grammar.specs.Checks.{values_fit, act_kind_fits, is_rw, spec_exists, spec_kind_fits}
+use Rattle.co_script.specs.Fits.{fits, is_free, spec_fits}
+use Rattle.co_script.proofs.parts.Fitting.{fitting}
+use Rattle.co_script.proofs.Standing.{each-act}
 use Rattle.co_script.proofs.Accepted.{fits-accepted}
 use Rattle.co_service.specs.Params.{AreParams, IsSpec}
 use Rattle.co_run.specs.Acting.{HasLocks, HeldExists, TaskLocks, params_of}
@@ -34,46 +32,10 @@ rw-there None h = cc
 rw-there (Some lock.Mtx) h = cc
 rw-there (Some lock.Rw) h = refl
 
-act-locks : (s : Script) (a : Act) → act_fits (length s.funcs) s a ≡ true → act_kind_fits s a ≡ true → TaskLocks s (Does a)
+act-locks : (s : Script) (a : Act) → values_fit (length s.funcs) s a ≡ true → act_kind_fits s a ≡ true → TaskLocks s (Does a)
 act-locks s (act.Lock l) there kind-is = ltb-true l (length s.locks) there
 act-locks s (act.ReadLock l) there kind-is = rw-there (slice_get s.locks l) kind-is
-act-locks s (act.Now t) there kind-is = tt
-act-locks s act.Unlock there kind-is = tt
-act-locks s (act.Reset w m f x c p) there kind-is = tt
-act-locks s (act.Ticks w k f x c) there kind-is = tt
-act-locks s (act.Schedule w m c p) there kind-is = tt
-act-locks s (act.Stop w) there kind-is = tt
-act-locks s (act.Drain i) there kind-is = tt
-act-locks s (act.AsyncDrain w f) there kind-is = tt
-act-locks s (act.Active w) there kind-is = tt
-act-locks s (act.Pending w) there kind-is = tt
-act-locks s (act.Deactivate w) there kind-is = tt
-act-locks s (act.Init w) there kind-is = tt
-act-locks s (act.Retire w) there kind-is = tt
-act-locks s (act.Tick t) there kind-is = tt
-
-stands-locks : (s : Script) (k : Kind) (a : Act) → act_stands s k a ≡ true → TaskLocks s (Does a)
-stands-locks s k a h =
-    let one = both_true (may_act k (verb_of_act a)) (is_of_version s.version (verb_of_act a) && ((is_func k || not (act_names_me a)) && (has_times a && (act_fits (length s.funcs) s a && act_kind_fits s a)))) h in
-    let two = both_true (is_of_version s.version (verb_of_act a)) ((is_func k || not (act_names_me a)) && (has_times a && (act_fits (length s.funcs) s a && act_kind_fits s a))) one.1 in
-    let three = both_true (is_func k || not (act_names_me a)) (has_times a && (act_fits (length s.funcs) s a && act_kind_fits s a)) two.1 in
-    let four = both_true (has_times a) (act_fits (length s.funcs) s a && act_kind_fits s a) three.1 in
-    let five = both_true (act_fits (length s.funcs) s a) (act_kind_fits s a) four.1 in
-    act-locks s a five.0 five.1
-
-all-lock : (s : Script) (k : Kind) (acts : List Act) → list_all (act_stands s k) acts ≡ true → AllByRecursion (λ a. TaskLocks s (Does a)) acts
-all-lock s k [] h = tt
-all-lock s k (a ∷ acts) h = let both = both_true (act_stands s k a) (list_all (act_stands s k) acts) h in (stands-locks s k a both.0, all-lock s k acts both.1)
-
-section-locks : (s : Script) (k : Kind) (acts : List Act) → section_fits s k acts ≡ true → AllByRecursion (λ a. TaskLocks s (Does a)) acts
-section-locks s k acts h =
-    let one = both_true (nat_le (length acts) (most_acts (is_func k))) (list_all (act_stands s k) acts && rises_after 0 acts) h in
-    all-lock s k acts (both_true (list_all (act_stands s k) acts) (rises_after 0 acts) one.1).0
-
-sections-lock : (s : Script) (k : Kind) (lists : List (List Act)) → list_all (section_fits s k) lists ≡ true → (i : ℕ) → AllByRecursion (λ a. TaskLocks s (Does a)) (acts_at lists i)
-sections-lock s k [] h i = tt
-sections-lock s k (acts ∷ lists) h zero = section-locks s k acts (both_true (section_fits s k acts) (list_all (section_fits s k) lists) h).0
-sections-lock s k (acts ∷ lists) h (suc i) = sections-lock s k lists (both_true (section_fits s k acts) (list_all (section_fits s k) lists) h).1 i
+act-locks s a there kind-is = tt
 
 -- ---- the callouts
 
@@ -137,28 +99,8 @@ spec-locks s (x ∷ timers) h (suc i) held is = spec-locks s timers (both_true (
 
 -- ---- the whole
 
--- the parts of a script that fits of which a run on threads asks
-record Parts (s : Script) : Type 0 where
-  pub timers : list_all (spec_fits s) s.timers ≡ true
-  pub clients : list_all (section_fits s kind.Client) s.clients ≡ true
-
-parts : (s : Script) → fits s ≡ true → Parts s
-unfolding fits
-parts s h =
-    let head_of = is_within 1 2 s.version && (is_within 1 1000000 s.hz && (is_within 1 16 s.cpus && is_wheel_size s.buckets)) in
-    let counts_of = nat_le (length s.funcs) 1024 && (nat_le (length s.locks) 256 && (is_within 1 1024 (length s.timers) && (nat_le (length s.clients) 16 && (length s.ticks == s.cpus)))) in
-    let parts_of = list_all (spec_fits s) s.timers && (list_all (section_fits s kind.Func) s.funcs && (list_all (section_fits s kind.Client) s.clients && list_all (section_fits s kind.Cpu) s.ticks)) in
-    let turns_of = nat_le (length s.turns) 1000000 && list_all (λ a. nat_lt a (actor_count s)) s.turns in
-    let one = both_true head_of (counts_of && (parts_of && (nat_le (total_acts s) 262144 && turns_of))) h in
-    let two = both_true counts_of (parts_of && (nat_le (total_acts s) 262144 && turns_of)) one.1 in
-    let three = both_true parts_of (nat_le (total_acts s) 262144 && turns_of) two.1 in
-    let p1 = both_true (list_all (spec_fits s) s.timers) (list_all (section_fits s kind.Func) s.funcs && (list_all (section_fits s kind.Client) s.clients && list_all (section_fits s kind.Cpu) s.ticks)) three.0 in
-    let p2 = both_true (list_all (section_fits s kind.Func) s.funcs) (list_all (section_fits s kind.Client) s.clients && list_all (section_fits s kind.Cpu) s.ticks) p1.1 in
-    let p3 = both_true (list_all (section_fits s kind.Client) s.clients) (list_all (section_fits s kind.Cpu) s.ticks) p2.1 in
-    record { timers = p1.0; clients = p3.0 }
-
 pub fits_locks : (s : Script) → fits s ≡ true → HasLocks s
-fits_locks s h = let p = parts s h in record { clients = sections-lock s kind.Client s.clients p.clients; specs = spec-locks s s.timers p.timers }
+fits_locks s h = let f = fitting s h in record { clients = each-act s kind.Client (λ a. TaskLocks s (Does a)) (λ a stands. act-locks s a stands.values stands.kind) s.clients f.clients; specs = spec-locks s s.timers f.specs }
 
 pub fits_params : (s : Script) → fits s ≡ true → AreParams (params_of s)
 fits_params s h =
@@ -169,5 +111,5 @@ fits_params s h =
       cpus = ok.cpus;
       buckets = ok.buckets;
       size = ok.timers;
-      specs = All-from_recursion (IsSpec s.version) s.timers (all-specs s s.timers (parts s h).timers);
+      specs = All-from_recursion (IsSpec s.version) s.timers (all-specs s s.timers (fitting s h).specs);
     }
