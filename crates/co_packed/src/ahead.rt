@@ -48,7 +48,8 @@ impl<'a> NotesAhead<'a> {
         if self.left == 0 {
             return None;
         }
-        let (row, size) = row_at(self.rest);
+        let mut row = [0; 16];
+        let size = row_at(self.rest, &mut row);
         self.rest = rest_from(self.rest, size);
         self.left -= 1;
         Some(note_of(&row))

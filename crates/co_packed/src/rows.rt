@@ -81,24 +81,24 @@ fn four_at(bytes: &[u8], at: usize, widths: u64) -> ([u64; 4], usize)
     (numbers, d + fourth)
 }
 
-/// The row that the bytes begin with, and how many bytes it has.
+/// Reads the row that the bytes begin with to where it is wanted, and gives how many bytes it has.
 #[inline]
 #[tactic(auto, unfolding(crate::specs::Rows::row_in, crate::specs::Rows::row_size))]
-fn row_within(bytes: &[u8]) -> ([u64; 16], usize)
+fn row_within(bytes: &[u8], row: &mut [u64; 16]) -> usize
     requires { 256 ≤ length bytes.now }
-    ensures row { result.0 ≡ row_in bytes.now }
-    ensures size { result.1 ≡ row_size bytes.now }
+    ensures row { row.new ≡ row_in bytes.now }
+    ensures size { result ≡ row_size bytes.now }
 {
     let widths = word_at(bytes, 0);
     let (a, b_at) = four_at(bytes, 8, widths);
     let (b, c_at) = four_at(bytes, b_at, widths / 0x1_0000);
     let (c, d_at) = four_at(bytes, c_at, widths / 0x1_0000_0000);
     let (d, end) = four_at(bytes, d_at, widths / 0x1_0000_0000_0000);
-    let numbers = [
+    *row = [
         a[0], a[1], a[2], a[3], b[0], b[1], b[2], b[3], c[0], c[1], c[2], c[3], d[0], d[1], d[2],
         d[3],
     ];
-    (numbers, end)
+    end
 }
 
 /// The first four numbers of the row that the bytes begin with, and how many bytes the row has.
@@ -133,27 +133,28 @@ fn with_room(bytes: &[u8]) -> [u8; 256]
     room
 }
 
-/// The row that the bytes begin with, and how many bytes it has. Bytes that are missing count as 0.
+/// Reads the row that the bytes begin with to where it is wanted, and gives how many bytes it has. Bytes that are missing
+/// count as 0.
 #[inline]
-pub(crate) fn row_at(bytes: &[u8]) -> ([u64; 16], usize)
-    ensures row { result.0 ≡ row_in bytes.now }
-    ensures size { result.1 ≡ row_size bytes.now }
+pub(crate) fn row_at(bytes: &[u8], row: &mut [u64; 16]) -> usize
+    ensures row { row.new ≡ row_in bytes.now }
+    ensures size { result ≡ row_size bytes.now }
 {
     if bytes.len() >= ROOM {
-        row_within(bytes)
+        row_within(bytes, row)
     } else {
-        last_row(bytes)
+        last_row(bytes, row)
     }
 }
 
 /// The same where fewer bytes are left than a look may reach. Only the last rows of a list want it.
 #[inline(never)]
-fn last_row(bytes: &[u8]) -> ([u64; 16], usize)
+fn last_row(bytes: &[u8], row: &mut [u64; 16]) -> usize
     requires { length bytes.now < 256 }
-    ensures row { result.0 ≡ row_in bytes.now }
-    ensures size { result.1 ≡ row_size bytes.now }
+    ensures row { row.new ≡ row_in bytes.now }
+    ensures size { result ≡ row_size bytes.now }
 {
-    row_within(&with_room(bytes))
+    row_within(&with_room(bytes), row)
 }
 
 /// The first four numbers of the row that the bytes begin with, and how many bytes the row has. Bytes that are missing count
