@@ -1,11 +1,15 @@
 -- The note whose numbers they are.
-use Rattle.std.proofs.Common.{ℕ, ◌≡◌, ◌<◌, ◌+◌, ◌*◌, ◌/◌, ◌%◌, ◌^◌, List, [], ◌∷◌, refl, arith}
+use Rattle.std.proofs.Common.{ℕ, ◌≡◌, ◌<◌, ◌+◌, ◌*◌, ◌/◌, ◌%◌, ◌^◌, List, [], ◌∷◌, get_or, take, refl, arith}
+use Rattle.std.proofs.lemmas.List.{get_or-take}
+use Rattle.co_object.specs.Lists.{actor_of}
 use Rattle.co_object.specs.declared.note.Note.{Note}
 use Rattle.co_packed.specs.declared.kinds.Sort.{Sort}
+use Rattle.co_packed.specs.declared.kinds.Sort.TheVariants as sorts
 use Rattle.co_packed.specs.declared.kinds.Whose.{Whose}
 use Rattle.co_packed.specs.declared.words.OpWords.{OpWords}
 use Rattle.co_packed.specs.declared.words.ReplyWords.{ReplyWords}
-use Rattle.co_packed.specs.Numbered.{sort_at, whose_at, code_at, short_at, time_at, op_words_at, reply_words_at, numbered_note}
+use Rattle.co_packed.specs.Numbered.{sort_at, whose_at, code_at, short_at, time_at, op_words_at, reply_words_at, numbered_head, numbered_note}
+use Rattle.co_packed.specs.Heads.{head_of}
 use Rattle.co_packed.specs.Parts.{entry_of, place_of}
 
 short_again : (n : ℕ) → n < 2 ^ 32 → short_at n ≡ n
@@ -40,11 +44,22 @@ pub note_again : (note : Note) (whose : Whose) (sort : Sort) (op : OpWords) (rep
     → k < 27 → whose_at w ≡ whose → sort_at k answer ≡ sort → code_at code ≡ reply.code
     → place < 2 ^ 32 → actor < 2 ^ 32 → OpFits op → ReplyFits reply
     → place_of whose place ≡ note.place → entry_of sort actor act op reply ≡ note.entry
-    → numbered_note ((32 * w + k) ∷ answer ∷ note.pos ∷ act ∷ place ∷ actor ∷ op.time ∷ op.prec ∷ op.word ∷ op.number ∷ op.cpu ∷ reply.time ∷ reply.word ∷ code ∷ reply.number ∷ reply.off ∷ []) ≡ note
+    → numbered_note ((32 * w + k) ∷ note.pos ∷ place ∷ actor ∷ answer ∷ act ∷ op.time ∷ op.prec ∷ op.word ∷ op.number ∷ op.cpu ∷ reply.time ∷ reply.word ∷ code ∷ reply.number ∷ reply.off ∷ []) ≡ note
 unfolding numbered_note
 note_again note whose sort op reply w k answer act place actor code few whose_is sort_is code_is place_fits actor_fits op_fits reply_fits at said =
     let high : (32 * w + k) / 32 ≡ w = omega arith in
     let low : (32 * w + k) % 32 ≡ k = omega arith in
-    let op_is = op_words_again op (32 * w + k) answer note.pos act place actor (reply.time ∷ reply.word ∷ code ∷ reply.number ∷ reply.off ∷ []) op_fits in
-    let reply_is = reply_words_again reply (32 * w + k) answer note.pos act place actor op.time op.prec op.word op.number op.cpu code reply_fits code_is in
+    let op_is = op_words_again op (32 * w + k) note.pos place actor answer act (reply.time ∷ reply.word ∷ code ∷ reply.number ∷ reply.off ∷ []) op_fits in
+    let reply_is = reply_words_again reply (32 * w + k) note.pos place actor answer act op.time op.prec op.word op.number op.cpu code reply_fits code_is in
     rw (op_is, reply_is, high, low, whose_is, sort_is, short_again place place_fits, short_again actor actor_fits, at, said) refl
+
+actor_is : (sort : Sort) (actor act : ℕ) (op : OpWords) (reply : ReplyWords) → actor_of (entry_of sort actor act op reply) ≡ actor
+actor_is (sorts.Timer kind answer) actor act op reply = refl
+actor_is (sorts.Cpu kind answer) actor act op reply = refl
+actor_is (sorts.Own kind) actor act op reply = refl
+
+-- the head of the note is that of its first numbers
+pub head_again : (ns : List ℕ) → numbered_head (take 4 ns) ≡ head_of (numbered_note ns)
+unfolding numbered_head numbered_note
+head_again ns =
+    rw (actor_is (sort_at (get_or ns 0 0 % 32) (get_or ns 4 0)) (short_at (get_or ns 3 0)) (get_or ns 5 0) (op_words_at ns) (reply_words_at ns), get_or-take 4 ns 0 0 (omega arith), get_or-take 4 ns 1 0 (omega arith), get_or-take 4 ns 2 0 (omega arith), get_or-take 4 ns 3 0 (omega arith)) refl

@@ -1,9 +1,8 @@
 -- The widths of the numbers of a row, and what reads the numbers by them.
-use Rattle.std.proofs.Common.{ℕ, zero, suc, ◌≡◌, ◌<◌, ◌≤◌, ◌+◌, ◌-◌, ◌*◌, ◌/◌, ◌%◌, ◌^◌, List, [], ◌∷◌, ◌++◌, length, get_or, take, drop, replicate, refl, sym, ap, ◌∙◌, ⊎_elim, append_assoc, length-drop, arith}
+use Rattle.std.proofs.Common.{ℕ, zero, suc, ◌≡◌, ◌<◌, ◌≤◌, ◌+◌, ◌-◌, ◌*◌, ◌/◌, ◌%◌, ◌^◌, List, [], ◌∷◌, ◌++◌, length, get_or, take, drop, replicate, refl, sym, ap, ◌∙◌, ⊎_elim, length-drop, arith}
 use Rattle.std.proofs.lemmas.Bool.{cases_lt}
-use Rattle.std.proofs.lemmas.List.{drop_more, take_more, take_more_set, take_all, append-nil, take-take, length-take-le, drop-drop, flat_map_more, get_or_append_left, get_or_past, get_or-drop, get_or-replicate, length-replicate}
+use Rattle.std.proofs.lemmas.List.{drop_more, take_more, take-take, take_at, length-take-le, drop-drop, flat_map_more, get_or_append_left, get_or_past, get_or-drop, get_or-replicate, length-replicate}
 use Rattle.std.proofs.Math.Nat.{pow-suc}
-use Rattle.std.proofs.Math.ListN.{set}
 use Rattle.std.proofs.Math.Seq.{take-append-add, take-append_seam, get_or-append_right}
 use Rattle.std.specs.List.{flat_map}
 use Rattle.co_packed.proofs.Again.{first_bytes, same_value}
@@ -84,28 +83,10 @@ pub numbers_next : (count ws : ℕ) (bs : List ℕ) → numbers_in (suc count) w
 unfolding numbers_in
 numbers_next count ws bs = refl
 
-numbers_more : (count ws : ℕ) (bs : List ℕ) → 0 < count → numbers_in count ws bs ≡ number_in (ws % 16) bs ∷ numbers_in (count - 1) (ws / 16) (drop (ws % 16) bs)
-numbers_more zero ws bs h = absurd (omega arith)
-numbers_more (suc count) ws bs h = let e : suc count - 1 ≡ count = omega arith in rw e (numbers_next count ws bs)
-
 pub length_of_numbers : (count ws : ℕ) (bs : List ℕ) → length (numbers_in count ws bs) ≡ count
 unfolding numbers_in
 length_of_numbers zero ws bs = refl
 length_of_numbers (suc count) ws bs = ap suc (length_of_numbers count (ws / 16) (drop (ws % 16) bs))
-
--- one more number is read
-pub numbers_step : (numbers bs whole : List ℕ) (at ws end n : ℕ) → length numbers ≡ 16 → at < 16 → n ≡ number_in (ws % 16) (drop end bs) → take at numbers ++ numbers_in (16 - at) ws (drop end bs) ≡ whole → take (at + 1) (set numbers at n) ++ numbers_in (16 - (at + 1)) (ws / 16) (drop (end + ws % 16) bs) ≡ whole
-numbers_step numbers bs whole at ws end n all h is so_far =
-    let e : 16 - (at + 1) ≡ 16 - at - 1 = omega arith in
-    let more = numbers_more (16 - at) ws (drop end bs) (omega arith) in
-    let taken = take_more_set numbers at n (omega arith) in
-    rw (e, taken, append_assoc, is, ← drop-drop (ws % 16) end bs) (ap (λ (x : List ℕ). take at numbers ++ x) (sym more) ∙ so_far)
-
-pub numbers_done : (numbers bs whole : List ℕ) (at ws : ℕ) → length numbers ≡ 16 → 16 ≤ at → take at numbers ++ numbers_in (16 - at) ws bs ≡ whole → numbers ≡ whole
-numbers_done numbers bs whole at ws all h so_far =
-    let e : 16 - at ≡ 0 = omega arith in
-    let taken = take_all at numbers (omega arith) in
-    sym (append-nil numbers) ∙ ap (λ (x : List ℕ). numbers ++ x) (sym (numbers_none ws bs)) ∙ rw (e, taken) at so_far
 
 pub size_none : (ws : ℕ) → size_in 0 ws ≡ 0
 unfolding size_in
@@ -115,21 +96,109 @@ pub size_next : (count ws : ℕ) → size_in (suc count) ws ≡ ws % 16 + size_i
 unfolding size_in
 size_next count ws = refl
 
-size_more : (count ws : ℕ) → 0 < count → size_in count ws ≡ ws % 16 + size_in (count - 1) (ws / 16)
-size_more zero ws h = absurd (omega arith)
-size_more (suc count) ws h = let e : suc count - 1 ≡ count = omega arith in rw e (size_next count ws)
+-- four numbers, one by one
+pub four_numbers : (ws at : ℕ) (bs : List ℕ)
+    → number_in (ws % 16) (drop at bs) ∷ number_in (ws / 16 % 16) (drop (at + ws % 16) bs) ∷ number_in (ws / 256 % 16) (drop (at + ws % 16 + ws / 16 % 16) bs) ∷ number_in (ws / 4096 % 16) (drop (at + ws % 16 + ws / 16 % 16 + ws / 256 % 16) bs) ∷ []
+    ≡ numbers_in 4 ws (drop at bs)
+four_numbers ws at bs =
+    let second : ws / 16 / 16 ≡ ws / 256 = omega arith in
+    let third : ws / 256 / 16 ≡ ws / 4096 = omega arith in
+    sym (rw (
+      numbers_next 3 ws (drop at bs),
+      drop-drop (ws % 16) at bs,
+      numbers_next 2 (ws / 16) (drop (at + ws % 16) bs),
+      drop-drop (ws / 16 % 16) (at + ws % 16) bs,
+      second,
+      numbers_next 1 (ws / 256) (drop (at + ws % 16 + ws / 16 % 16) bs),
+      drop-drop (ws / 256 % 16) (at + ws % 16 + ws / 16 % 16) bs,
+      third,
+      numbers_next 0 (ws / 4096) (drop (at + ws % 16 + ws / 16 % 16 + ws / 256 % 16) bs),
+      numbers_none (ws / 4096 / 16) _,
+    ) refl)
 
--- one width more is added
-pub size_step : (at ws so_far whole : ℕ) → at < 16 → so_far + size_in (16 - at) ws ≡ whole → so_far + ws % 16 + size_in (16 - (at + 1)) (ws / 16) ≡ whole
-size_step at ws so_far whole h is =
-    let e : 16 - (at + 1) ≡ 16 - at - 1 = omega arith in
-    rw e (omega (arith, size_more (16 - at) ws (omega arith)))
+pub four_sizes : (ws : ℕ) → size_in 4 ws ≡ ws % 16 + ws / 16 % 16 + ws / 256 % 16 + ws / 4096 % 16
+four_sizes ws = omega (arith, size_next 3 ws, size_next 2 (ws / 16), size_next 1 (ws / 16 / 16), size_next 0 (ws / 16 / 16 / 16), size_none (ws / 16 / 16 / 16 / 16))
 
-pub size_done : (at ws so_far whole : ℕ) → 16 ≤ at → so_far + size_in (16 - at) ws ≡ whole → so_far ≡ whole
-size_done at ws so_far whole h is =
-    let e : 16 - at ≡ 0 = omega arith in
-    let last : so_far + size_in 0 ws ≡ whole = rw e at is in
-    omega (arith, size_none ws)
+-- four numbers, and those behind them
+fours_next : (count ws : ℕ) (bs : List ℕ) → numbers_in (suc (suc (suc (suc count)))) ws bs ≡ numbers_in 4 ws bs ++ numbers_in count (ws / 65536) (drop (size_in 4 ws) bs)
+fours_next count ws bs =
+    let second : ws / 16 / 16 ≡ ws / 256 = omega arith in
+    let third : ws / 256 / 16 ≡ ws / 4096 = omega arith in
+    let fourth : ws / 4096 / 16 ≡ ws / 65536 = omega arith in
+    rw (
+      numbers_next (suc (suc (suc count))) ws bs,
+      numbers_next 3 ws bs,
+      numbers_next (suc (suc count)) (ws / 16) (drop (ws % 16) bs),
+      numbers_next 2 (ws / 16) (drop (ws % 16) bs),
+      drop-drop (ws / 16 % 16) (ws % 16) bs,
+      second,
+      numbers_next (suc count) (ws / 256) (drop (ws % 16 + ws / 16 % 16) bs),
+      numbers_next 1 (ws / 256) (drop (ws % 16 + ws / 16 % 16) bs),
+      drop-drop (ws / 256 % 16) (ws % 16 + ws / 16 % 16) bs,
+      third,
+      numbers_next count (ws / 4096) (drop (ws % 16 + ws / 16 % 16 + ws / 256 % 16) bs),
+      numbers_next 0 (ws / 4096) (drop (ws % 16 + ws / 16 % 16 + ws / 256 % 16) bs),
+      drop-drop (ws / 4096 % 16) (ws % 16 + ws / 16 % 16 + ws / 256 % 16) bs,
+      fourth,
+      numbers_none (ws / 65536) _,
+      four_sizes ws,
+    ) refl
+
+sizes_next : (count ws : ℕ) → size_in (suc (suc (suc (suc count)))) ws ≡ size_in 4 ws + size_in count (ws / 65536)
+sizes_next count ws =
+    let e : ws / 16 / 16 / 16 / 16 ≡ ws / 65536 = omega arith in
+    let last : size_in count (ws / 16 / 16 / 16 / 16) ≡ size_in count (ws / 65536) = ap (size_in count) e in
+    omega (arith, size_next (suc (suc (suc count))) ws, size_next (suc (suc count)) (ws / 16), size_next (suc count) (ws / 16 / 16), size_next count (ws / 16 / 16 / 16), four_sizes ws, last)
+
+abbrev pub four : List ℕ → List ℕ
+four xs = get_or xs 0 0 ∷ get_or xs 1 0 ∷ get_or xs 2 0 ∷ get_or xs 3 0 ∷ []
+
+four_items : (xs : List ℕ) → length xs ≡ 4 → four xs ≡ xs
+four_items [] h = absurd (omega arith)
+four_items (a ∷ []) h = absurd (omega arith)
+four_items (a ∷ b ∷ []) h = absurd (omega arith)
+four_items (a ∷ b ∷ c ∷ []) h = absurd (omega arith)
+four_items (a ∷ b ∷ c ∷ d ∷ []) h = refl
+four_items (a ∷ b ∷ c ∷ d ∷ e ∷ xs) h = absurd (omega arith)
+
+four_read : (xs : List ℕ) (ws : ℕ) (bs : List ℕ) → xs ≡ numbers_in 4 ws bs → four xs ≡ numbers_in 4 ws bs
+four_read xs ws bs is = rw is (four_items (numbers_in 4 ws bs) (length_of_numbers 4 ws bs))
+
+-- sixteen numbers, by fours
+pub row_of_fours : (ws : ℕ) (bs a b c d : List ℕ) (b_at c_at d_at : ℕ)
+    → a ≡ numbers_in 4 ws (drop 8 bs) → b ≡ numbers_in 4 (ws / 65536) (drop b_at bs)
+    → c ≡ numbers_in 4 (ws / 4294967296) (drop c_at bs) → d ≡ numbers_in 4 (ws / 281474976710656) (drop d_at bs)
+    → b_at ≡ 8 + size_in 4 ws → c_at ≡ b_at + size_in 4 (ws / 65536) → d_at ≡ c_at + size_in 4 (ws / 4294967296)
+    → four a ++ (four b ++ (four c ++ four d)) ≡ numbers_in 16 ws (drop 8 bs)
+row_of_fours ws bs a b c d b_at c_at d_at a_is b_is c_is d_is b_on c_on d_on =
+    let second : ws / 65536 / 65536 ≡ ws / 4294967296 = omega arith in
+    let third : ws / 4294967296 / 65536 ≡ ws / 281474976710656 = omega arith in
+    sym (rw (
+      fours_next 12 ws (drop 8 bs),
+      drop-drop (size_in 4 ws) 8 bs,
+      ← b_on,
+      fours_next 8 (ws / 65536) (drop b_at bs),
+      drop-drop (size_in 4 (ws / 65536)) b_at bs,
+      ← c_on,
+      second,
+      fours_next 4 (ws / 4294967296) (drop c_at bs),
+      drop-drop (size_in 4 (ws / 4294967296)) c_at bs,
+      ← d_on,
+      third,
+      ← four_read a ws (drop 8 bs) a_is,
+      ← four_read b (ws / 65536) (drop b_at bs) b_is,
+      ← four_read c (ws / 4294967296) (drop c_at bs) c_is,
+      ← four_read d (ws / 281474976710656) (drop d_at bs) d_is,
+    ) refl)
+
+pub size_of_fours : (ws : ℕ) → size_in 16 ws ≡ size_in 4 ws + size_in 4 (ws / 65536) + size_in 4 (ws / 4294967296) + size_in 4 (ws / 281474976710656)
+size_of_fours ws =
+    let second : ws / 65536 / 65536 ≡ ws / 4294967296 = omega arith in
+    let third : ws / 4294967296 / 65536 ≡ ws / 281474976710656 = omega arith in
+    rw (sizes_next 12 ws, sizes_next 8 (ws / 65536), second, sizes_next 4 (ws / 4294967296), third) (omega arith)
+
+pub front_of_row : (ws : ℕ) (bs : List ℕ) → numbers_in 4 ws bs ≡ take 4 (numbers_in 16 ws bs)
+front_of_row ws bs = rw (fours_next 12 ws bs) (sym (take_at (numbers_in 4 ws bs) _ 4 (length_of_numbers 4 ws bs)))
 
 -- bytes that are alike, those that are missing too, are one row
 same_number : (wide : ℕ) (bs cs : List ℕ) → ((i : ℕ) → get_or bs i 0 ≡ get_or cs i 0) → number_in wide bs ≡ number_in wide cs

@@ -10,6 +10,8 @@ pub mod Typed
 pub mod Numbers
 -- the bytes of a row of numbers
 pub mod Rows
+-- the head of a note
+pub mod Heads
 -- the note that numbers stand for
 pub mod Numbered
 -- rows one behind another

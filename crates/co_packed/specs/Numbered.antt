@@ -1,8 +1,9 @@
--- The note that sixteen numbers stand for.
+-- The note that sixteen numbers stand for, of which the first four are its head.
 use Rattle.std.specs.Prelude.{ℕ, ℤ, pos, negsuc, ◌-◌, ◌/◌, ◌%◌, ◌^◌, ◌==◌, List, [], ◌∷◌, get_or, nat_lt, if◌then◌else◌}
 use Rattle.co_object.specs.declared.note.Note.{Note}
 use Rattle.co_object.specs.declared.note.OwnKind.{OwnKind}
 use Rattle.co_object.specs.declared.note.OwnKind.TheVariants.{NotHeld, HoldsLock, Holding, NotHolding}
+use Rattle.co_packed.specs.declared.heads.Head.{Head}
 use Rattle.co_packed.specs.declared.kinds.Answer.{Answer}
 use Rattle.co_packed.specs.declared.kinds.Answer.TheVariants.{Armed, ArmedOff, NotArmed, NoHandler, Worn, Stopped, StoppedOff, Wait, WaitOff, WaitTook, WaitTookOff, Drained, DrainedOff, Busy, Yes, No, Done, Go, Hold, Skip, Ended, EndedWoke, EndedDrain, EndedDrainWoke, EndedNext, EndedNextWoke, EndedNextDrain, EndedNextDrainWoke, Live, Retired, InUse, InUseArmed, InUseServiced, InUseBoth}
 use Rattle.co_packed.specs.declared.kinds.Kind.{Kind}
@@ -78,9 +79,12 @@ unfoldable pub reply_words_at : List ℕ → ReplyWords
 reply_words_at ns = record { time = time_at (get_or ns 11 0); word = get_or ns 12 0; code = code_at (get_or ns 13 0); number = short_at (get_or ns 14 0); off = short_at (get_or ns 15 0) }
 
 -- the first number has both the operation and whose it is
+unfoldable pub numbered_head : List ℕ → Head
+numbered_head ns = record { place = place_of (whose_at (get_or ns 0 0 / 32)) (short_at (get_or ns 2 0)); pos = get_or ns 1 0; actor = short_at (get_or ns 3 0) }
+
 unfoldable pub numbered_note : List ℕ → Note
 numbered_note ns = record {
-  place = place_of (whose_at (get_or ns 0 0 / 32)) (short_at (get_or ns 4 0));
-  pos = get_or ns 2 0;
-  entry = entry_of (sort_at (get_or ns 0 0 % 32) (get_or ns 1 0)) (short_at (get_or ns 5 0)) (get_or ns 3 0) (op_words_at ns) (reply_words_at ns);
+  place = place_of (whose_at (get_or ns 0 0 / 32)) (short_at (get_or ns 2 0));
+  pos = get_or ns 1 0;
+  entry = entry_of (sort_at (get_or ns 0 0 % 32) (get_or ns 4 0)) (short_at (get_or ns 3 0)) (get_or ns 5 0) (op_words_at ns) (reply_words_at ns);
 }

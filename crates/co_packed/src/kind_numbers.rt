@@ -6,7 +6,7 @@ use crate::kinds::{Answer, Kind, QAnswer, QKind, Sort, Whose};
 use co_object::OwnKind;
 
 /// The operations on a callout, by their numbers.
-const KINDS: [Kind; 16] = [
+static KINDS: [Kind; 16] = [
     Kind::Reset,
     Kind::ResetOn,
     Kind::Schedule,
@@ -26,7 +26,7 @@ const KINDS: [Kind; 16] = [
 ];
 
 /// The replies of a callout, by their numbers.
-const ANSWERS: [Answer; 34] = [
+static ANSWERS: [Answer; 34] = [
     Answer::Armed,
     Answer::ArmedOff,
     Answer::NotArmed,
@@ -64,7 +64,7 @@ const ANSWERS: [Answer; 34] = [
 ];
 
 /// The operations on a queue, by their numbers.
-const QUEUE_KINDS: [QKind; 7] = [
+static QUEUE_KINDS: [QKind; 7] = [
     QKind::Insert,
     QKind::Remove,
     QKind::Scan,
@@ -75,7 +75,7 @@ const QUEUE_KINDS: [QKind; 7] = [
 ];
 
 /// The replies of a queue, by their numbers.
-const QUEUE_ANSWERS: [QAnswer; 7] = [
+static QUEUE_ANSWERS: [QAnswer; 7] = [
     QAnswer::At,
     QAnswer::Off,
     QAnswer::Missing,
@@ -86,7 +86,7 @@ const QUEUE_ANSWERS: [QAnswer; 7] = [
 ];
 
 /// The kinds of acts that were refused, by their numbers.
-const OWN_KINDS: [OwnKind; 4] = [
+static OWN_KINDS: [OwnKind; 4] = [
     OwnKind::NotHeld,
     OwnKind::HoldsLock,
     OwnKind::Holding,

@@ -2,6 +2,7 @@
 #![tactic(auto)]
 
 mod ahead;
+mod heads;
 mod kind_numbers;
 mod kinds;
 mod note_numbers;
@@ -15,5 +16,6 @@ mod typed;
 mod words;
 
 pub use ahead::NotesAhead;
+pub use heads::Head;
 pub use notes::PackedNotes;
 pub use packed::PackedNote;

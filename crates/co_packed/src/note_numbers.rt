@@ -1,8 +1,9 @@
-//! A note as sixteen numbers, of which most are 0 or small.
+//! A note as sixteen numbers, of which most are 0 or small. The first four are its head.
 ghost use Rattle.std.specs.Prelude.{◌≡◌, ◌<◌, ◌^◌};
-ghost use Rattle.co_packed.specs.Numbered.{code_at, short_at, time_at, op_words_at, reply_words_at, numbered_note};
+ghost use Rattle.co_packed.specs.Numbered.{code_at, short_at, time_at, op_words_at, reply_words_at, numbered_head, numbered_note};
 ghost use Rattle.co_packed.specs.Parts.{entry_of, place_of};
 
+use crate::heads::Head;
 use crate::kind_numbers::{sort_at, sort_numbers, whose_at, whose_number};
 use crate::packed::{EntryParts, entry_of, entry_parts, place_of, place_parts};
 use crate::words::{OpWords, ReplyWords};
@@ -100,11 +101,11 @@ pub(crate) fn numbers_of(note: &Note) -> [u64; 16]
     let (kind, answer) = sort_numbers(sort);
     [
         32 * whose_number(whose) + kind,
-        answer,
         note.pos,
-        act,
         long_of(place),
         long_of(actor),
+        answer,
+        act,
         op.time.raw(),
         op.prec.raw(),
         op.word,
@@ -118,17 +119,31 @@ pub(crate) fn numbers_of(note: &Note) -> [u64; 16]
     ]
 }
 
+/// The head of the note whose first numbers these are.
+#[inline]
+#[tactic(auto, unfolding(crate::specs::Numbered::numbered_head))]
+pub(crate) fn head_of(numbers: &[u64; 4]) -> Head
+    ensures { result ≡ numbered_head numbers.now }
+{
+    Head {
+        place: place_of(whose_at(numbers[0] / 32), short_at(numbers[2])),
+        pos: numbers[1],
+        actor: short_at(numbers[3]),
+    }
+}
+
 /// The note that the numbers stand for.
+#[inline]
 #[tactic(auto, unfolding(crate::specs::Numbered::numbered_note))]
 pub(crate) fn note_of(numbers: &[u64; 16]) -> Note
     ensures { result ≡ numbered_note numbers.now }
 {
     let op = op_words_at(numbers);
     let reply = reply_words_at(numbers);
-    let sort = sort_at(numbers[0] % 32, numbers[1]);
+    let sort = sort_at(numbers[0] % 32, numbers[4]);
     Note {
-        place: place_of(whose_at(numbers[0] / 32), short_at(numbers[4])),
-        pos: numbers[2],
-        entry: entry_of(sort, short_at(numbers[5]), numbers[3], &op, &reply),
+        place: place_of(whose_at(numbers[0] / 32), short_at(numbers[2])),
+        pos: numbers[1],
+        entry: entry_of(sort, short_at(numbers[3]), numbers[5], &op, &reply),
     }
 }

@@ -1,5 +1,6 @@
 //! A growing list of notes in few bytes.
 ghost use Rattle.std.specs.Prelude.{◌≡◌, ◌+◌, ◌/◌, ◌<◌, ◌≤◌, [], ◌∷◌, ◌++◌, OnOk, OnErr, Some, length, slice_get};
+ghost use Rattle.co_packed.specs.Numbered.{numbered_note};
 ghost use Rattle.co_packed.specs.Rows.{row_in};
 ghost use Rattle.co_packed.specs.Stored.{after_rows, marked, start_of, rest_at};
 
@@ -69,14 +70,22 @@ fn one_more(count: usize, end: usize) -> usize
     count + 1
 }
 
-/// The row at `at`, by the start before it.
-fn row_on(bytes: &[u8], starts: &[usize], at: usize) -> [u64; 16]
+/// The bytes from the row at `at` on, by the start before it.
+fn rest_at<'a>(bytes: &'a [u8], starts: &[usize], at: usize) -> &'a [u8]
     requires marked { at / 4 < length starts.now }
     requires within { start_of starts.now at ≤ length bytes.now }
-    ensures { result ≡ row_in (rest_at bytes.now starts.now at) }
+    ensures { result.now ≡ rest_at bytes.now starts.now at }
 {
-    let rest = &bytes[starts[at / 4]..];
-    row_at(after_rows(rest, at % 4)).0
+    after_rows(&bytes[starts[at / 4]..], at % 4)
+}
+
+/// The note of the row that the bytes begin with.
+fn note_in(bytes: &[u8]) -> Note
+    ensures { result ≡ numbered_note (row_in bytes.now) }
+{
+    let mut row = [0; 16];
+    let _size = row_at(bytes, &mut row);
+    note_of(&row)
 }
 
 impl PackedNotes {
@@ -118,8 +127,8 @@ impl PackedNotes {
         requires { at < length self.now }
         ensures { slice_get self.now at ≡ Some result }
     {
-        let row = row_on(self.bytes.as_slice(), self.starts.as_slice(), at);
-        note_of(&row)
+        let rest = rest_at(self.bytes.as_slice(), self.starts.as_slice(), at);
+        note_in(rest)
     }
     /// All notes, in their order, to be taken one by one.
     pub fn ahead(&self) -> NotesAhead<'_>

@@ -57,24 +57,61 @@ pub(crate) fn write_row(buffer: &mut [u8; 136], numbers: &[u64; 16]) -> usize
 /// As many bytes as a row may have, were all widths as great as four bits can say, and as a look at eight bytes may reach.
 const ROOM: usize = 256;
 
-/// The row that the bytes begin with, and how many bytes it has.
+/// Four numbers from `at` on, by the lowest four widths, and where they end.
+#[inline]
+fn four_at(bytes: &[u8], at: usize, widths: u64) -> ([u64; 4], usize)
+    requires { at + 64 ≤ length bytes.now }
+    ensures numbers { result.0 ≡ numbers_in 4 widths (drop at bytes.now) }
+    ensures end { result.1 ≡ at + size_in 4 widths }
+    ensures bounded { result.1 ≤ at + 60 }
+{
+    let first = (widths % 16) as usize;
+    let second = (widths / 16 % 16) as usize;
+    let third = (widths / 256 % 16) as usize;
+    let fourth = (widths / 4096 % 16) as usize;
+    let b = at + first;
+    let c = b + second;
+    let d = c + third;
+    let numbers = [
+        number_at(bytes, at, first),
+        number_at(bytes, b, second),
+        number_at(bytes, c, third),
+        number_at(bytes, d, fourth),
+    ];
+    (numbers, d + fourth)
+}
+
+/// Reads the row that the bytes begin with to where it is wanted, and gives how many bytes it has.
 #[inline]
 #[tactic(auto, unfolding(crate::specs::Rows::row_in, crate::specs::Rows::row_size))]
-fn row_within(bytes: &[u8]) -> ([u64; 16], usize)
+fn row_within(bytes: &[u8], row: &mut [u64; 16]) -> usize
     requires { 256 ≤ length bytes.now }
-    ensures row { result.0 ≡ row_in bytes.now }
+    ensures row { row.new ≡ row_in bytes.now }
+    ensures size { result ≡ row_size bytes.now }
+{
+    let widths = word_at(bytes, 0);
+    let (a, b_at) = four_at(bytes, 8, widths);
+    let (b, c_at) = four_at(bytes, b_at, widths / 0x1_0000);
+    let (c, d_at) = four_at(bytes, c_at, widths / 0x1_0000_0000);
+    let (d, end) = four_at(bytes, d_at, widths / 0x1_0000_0000_0000);
+    *row = [
+        a[0], a[1], a[2], a[3], b[0], b[1], b[2], b[3], c[0], c[1], c[2], c[3], d[0], d[1], d[2],
+        d[3],
+    ];
+    end
+}
+
+/// The first four numbers of the row that the bytes begin with, and how many bytes the row has.
+#[inline]
+#[tactic(auto, unfolding(crate::specs::Rows::row_in, crate::specs::Rows::row_size))]
+fn front_within(bytes: &[u8]) -> ([u64; 4], usize)
+    requires { 256 ≤ length bytes.now }
+    ensures front { result.0 ≡ take 4 (row_in bytes.now) }
     ensures size { result.1 ≡ row_size bytes.now }
 {
-    let mut numbers = [0; 16];
-    let mut widths = word_at(bytes, 0);
-    let mut end = 8_usize;
-    for at in 0..16 {
-        let width = (widths % 16) as usize;
-        numbers[at] = number_at(bytes, end, width);
-        end += width;
-        widths /= 16;
-    }
-    (numbers, end)
+    let widths = word_at(bytes, 0);
+    let (front, _) = four_at(bytes, 8, widths);
+    (front, 8 + size_of(widths))
 }
 
 /// Puts bytes in the place of the first ones.
@@ -96,17 +133,52 @@ fn with_room(bytes: &[u8]) -> [u8; 256]
     room
 }
 
-/// The row that the bytes begin with, and how many bytes it has. Bytes that are missing count as 0.
+/// Reads the row that the bytes begin with to where it is wanted, and gives how many bytes it has. Bytes that are missing
+/// count as 0.
 #[inline]
-pub(crate) fn row_at(bytes: &[u8]) -> ([u64; 16], usize)
-    ensures row { result.0 ≡ row_in bytes.now }
+pub(crate) fn row_at(bytes: &[u8], row: &mut [u64; 16]) -> usize
+    ensures row { row.new ≡ row_in bytes.now }
+    ensures size { result ≡ row_size bytes.now }
+{
+    if bytes.len() >= ROOM {
+        row_within(bytes, row)
+    } else {
+        last_row(bytes, row)
+    }
+}
+
+/// The same where fewer bytes are left than a look may reach. Only the last rows of a list want it.
+#[inline(never)]
+fn last_row(bytes: &[u8], row: &mut [u64; 16]) -> usize
+    requires { length bytes.now < 256 }
+    ensures row { row.new ≡ row_in bytes.now }
+    ensures size { result ≡ row_size bytes.now }
+{
+    row_within(&with_room(bytes), row)
+}
+
+/// The first four numbers of the row that the bytes begin with, and how many bytes the row has. Bytes that are missing count
+/// as 0.
+#[inline]
+pub(crate) fn front_at(bytes: &[u8]) -> ([u64; 4], usize)
+    ensures front { result.0 ≡ take 4 (row_in bytes.now) }
     ensures size { result.1 ≡ row_size bytes.now }
 {
     if bytes.len() >= ROOM {
-        row_within(bytes)
+        front_within(bytes)
     } else {
-        row_within(&with_room(bytes))
+        last_front(bytes)
     }
+}
+
+/// The same where fewer bytes are left than a look may reach.
+#[inline(never)]
+fn last_front(bytes: &[u8]) -> ([u64; 4], usize)
+    requires { length bytes.now < 256 }
+    ensures front { result.0 ≡ take 4 (row_in bytes.now) }
+    ensures size { result.1 ≡ row_size bytes.now }
+{
+    front_within(&with_room(bytes))
 }
 
 /// The first eight bytes as a number. Bytes that are missing count as 0.
@@ -127,13 +199,8 @@ fn size_of(word: u64) -> usize
     ensures value { result ≡ size_in 16 word }
     ensures bounded { result < 256 }
 {
-    let mut size = 0_usize;
-    let mut widths = word;
-    for _at in 0..16_usize {
-        size += (widths % 16) as usize;
-        widths /= 16;
-    }
-    size
+    let pairs = (word & 0x0f0f_0f0f_0f0f_0f0f) + (word / 16 & 0x0f0f_0f0f_0f0f_0f0f);
+    (pairs % 255) as usize
 }
 
 /// The bytes from `at` on, if there are any.

@@ -1,18 +1,18 @@
 use Rattle.std.proofs.Common.{arith}
-use Rattle.std.proofs.lemmas.Grind.{common_steps}
-use Rattle.co_packed.proofs.Widths.{numbers_step, numbers_done, size_step, size_done}
+use Rattle.co_packed.proofs.Widths.{row_of_fours, size_of_fours}
+use Rattle.co_packed.specs.Rows.{row_in, row_size}
 use Rattle.co_packed.proofs.rows.row_within.Goals as goal
 
-pub loop-at-preserved : goal.loop-at-preserved
-loop-at-preserved c = record {
-  all = grind (arith, common_steps);
-  low = omega arith;
-  so_far = numbers_step c.loop-at.numbers c.args.bytes.now _ c.loop-at.at c.loop-at.widths c.loop-at.end c.number_at.result c.loop-at.invariant.all (omega arith) c.number_at.ensures c.loop-at.invariant.so_far;
-  size = size_step c.loop-at.at c.loop-at.widths c.loop-at.end _ (omega arith) c.loop-at.invariant.size;
-}
-
 pub returns-clause-row : goal.returns-clause-row
-returns-clause-row c = numbers_done c.loop-at.numbers _ _ c.loop-at.at c.loop-at.widths c.loop-at.invariant.all (omega arith) c.loop-at.invariant.so_far
+unfolding row_in
+returns-clause-row c =
+    rw (← c.word_at-widths.ensures)
+    (row_of_fours c.word_at-widths.result c.args.bytes.now c.four_at-b_at.result.0 c.four_at-c_at.result.0 c.four_at-d_at.result.0 c.four_at-end.result.0 c.four_at-b_at.result.1 c.four_at-c_at.result.1 c.four_at-d_at.result.1
+    c.four_at-b_at.ensures.numbers c.four_at-c_at.ensures.numbers c.four_at-d_at.ensures.numbers c.four_at-end.ensures.numbers
+    c.four_at-b_at.ensures.end c.four_at-c_at.ensures.end c.four_at-d_at.ensures.end)
 
 pub returns-clause-size : goal.returns-clause-size
-returns-clause-size c = size_done c.loop-at.at c.loop-at.widths c.loop-at.end _ (omega arith) c.loop-at.invariant.size
+unfolding row_size
+returns-clause-size c =
+    rw (← c.word_at-widths.ensures)
+    (omega (arith, size_of_fours c.word_at-widths.result, c.four_at-b_at.ensures.end, c.four_at-c_at.ensures.end, c.four_at-d_at.ensures.end, c.four_at-end.ensures.end))

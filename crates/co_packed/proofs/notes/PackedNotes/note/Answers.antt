@@ -5,8 +5,8 @@ use Rattle.co_packed.specs.Numbered.{numbered_note}
 use Rattle.co_packed.specs.Stored.{rows_in}
 use Rattle.co_packed.proofs.notes.PackedNotes.note.Goals as goal
 
-pub row_on-row-requires : goal.row_on-row-requires
-row_on-row-requires c =
+pub rest_at-rest-requires : goal.rest_at-rest-requires
+rest_at-rest-requires c =
     let many : length c.args.self.now ≡ c.self.inside.count = ap length (sym c.self.view_is) ∙ length-map (rows_in c.self.inside.count c.self.inside.bytes) numbered_note ∙ length_of_rows c.self.inside.count c.self.inside.bytes in
     let enough = c.self.invariant.enough in
     let placed = stored_at c.self.inside.bytes c.self.inside.starts c.self.inside.count c.args.at c.self.invariant (omega arith) in
@@ -16,5 +16,5 @@ pub returns : goal.returns
 returns c =
     let many : length c.args.self.now ≡ c.self.inside.count = ap length (sym c.self.view_is) ∙ length-map (rows_in c.self.inside.count c.self.inside.bytes) numbered_note ∙ length_of_rows c.self.inside.count c.self.inside.bytes in
     let placed = stored_at c.self.inside.bytes c.self.inside.starts c.self.inside.count c.args.at c.self.invariant (omega arith) in
-    note_there c.self.inside.bytes c.self.inside.count c.args.at c.args.self.now c.note_of.result c.self.view_is (omega arith)
-    (c.note_of.ensures ∙ rw (c.row_on-row.ensures, c.as_slice.ensures, c.as_slice-2.ensures, placed.row_is) refl)
+    note_there c.self.inside.bytes c.self.inside.count c.args.at c.args.self.now c.note_in.result c.self.view_is (omega arith)
+    (c.note_in.ensures ∙ rw (c.rest_at-rest.ensures, c.as_slice.ensures, c.as_slice-2.ensures, placed.row_is) refl)
