@@ -1,5 +1,5 @@
 //! Numbers as bytes, the lowest first, in as many bytes as they need. So a small number takes few bytes, and 0 takes none.
-ghost use Rattle.std.specs.Prelude.{◌≡◌, ◌+◌, ◌-◌, ◌<◌, ◌≤◌, ◌^◌, ◌++◌, length, take, drop, min};
+ghost use Rattle.std.specs.Prelude.{◌≡◌, ◌+◌, ◌-◌, ◌<◌, ◌≤◌, ◌++◌, length, take, drop};
 ghost use Rattle.co_packed.specs.Numbers.{width, bytes_of, value, number_in};
 
 /// The numbers of so many lowest bytes have these bits. More than eight bytes count as eight.
