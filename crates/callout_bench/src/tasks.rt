@@ -1,7 +1,6 @@
 //! What the words of a command ask for.
-ghost use Rattle.std.specs.Prelude.{◌≡◌, ◌≤◌};
+ghost use Rattle.std.specs.Prelude.{◌≤◌};
 ghost use Rattle.co_program.specs.Scripts.{IsScript};
-ghost use denote.Param.Send.{IsSync};
 
 use crate::failed::Failed;
 use crate::queues::{self, Kind};

@@ -1,5 +1,5 @@
 //! What the words of a command say.
-ghost use Rattle.std.specs.Prelude.{◌≡◌, ◌≤◌, IfOk};
+ghost use Rattle.std.specs.Prelude.{◌≤◌, IfOk};
 ghost use Rattle.co_queue.specs.Timers.{IsWheel};
 
 use crate::failed::Failed;

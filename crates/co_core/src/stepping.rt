@@ -1,6 +1,5 @@
 //! One step of one actor.
 ghost use Rattle.std.specs.Prelude.{◌≡◌, OnOk, OnErr, IfOk};
-ghost use Rattle.co_object.specs.declared.note.Note.{Note};
 ghost use Rattle.co_program.specs.Scripts.{IsScript};
 ghost use Rattle.co_core.specs.Acting.{RunsActor, Stands};
 ghost use Rattle.co_world.specs.Step.{step, turn_of};

@@ -1,6 +1,6 @@
 //! The interval timers alone, without a service.
 ghost use Rattle.std.specs.Prelude.{◌≡◌, ◌≤◌, ◌<◌, ◌+◌, true, length, IfOk, replicate, ◌-◌, ◌^◌, ◌++◌, ◌∷◌, [], OnOk, slice_set};
-ghost use Rattle.co_itimer.specs.Timers.{Timers, idle, opening, timer_of, with_timer, value_of, set, set_timer, until, has_come, expires, expired, alarm_of, alarmed, following, next_after, clock_after};
+ghost use Rattle.co_itimer.specs.Timers.{idle, opening, timer_of, with_timer, value_of, set, set_timer, until, expires, expired, alarm_of, alarmed, following, clock_after};
 
 use crate::timer::{Itimerval, Timer};
 use co_sbt::{NoMemory, Sbt, Seq};

@@ -1,5 +1,5 @@
 //! What is due expires.
-ghost use Rattle.std.specs.Prelude.{◌≡◌, ◌<◌, ◌^◌, IfNone, IfSome, IfOk, length};
+ghost use Rattle.std.specs.Prelude.{◌<◌, ◌^◌};
 ghost use Rattle.co_itimer.specs.Serving.{AllWait, AreServed, IsArmedAgain, IsSetTo};
 ghost use Rattle.co_single.specs.Alarms.{count_of, made_at};
 

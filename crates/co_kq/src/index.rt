@@ -1,5 +1,5 @@
 //! Keys by ident.
-ghost use Rattle.std.specs.Prelude.{◌≢◌, true, false, ◌≡◌, ℕ, ◌≤◌, ◌<◌, None, Some, [], length, slice_index_or, IfOk, IfNone, IfSome};
+ghost use Rattle.std.specs.Prelude.{◌≢◌, true, false, ◌≡◌, ℕ, ◌≤◌, ◌<◌, None, Some, [], length, IfOk, IfNone, IfSome};
 ghost use Rattle.co_kq.specs.Index.{AreFalling, IsChanged, IsFirst, key_of, place_at};
 
 use co_sbt::NoMemory;

@@ -1,9 +1,8 @@
 //! Knotes in the slots of a slab, found by their idents.
-ghost use Rattle.std.specs.Prelude.{◌≡◌, ◌≢◌, ◌≤◌, ◌<◌, ◌+◌, ℕ, [], true, false, Some, None, IfOk, IfSome, IfNone, map, min, ◌^◌, ◌-◌, length, slice_set, ◌⊎◌};
-ghost use Rattle.std.specs.List.{count_by};
+ghost use Rattle.std.specs.Prelude.{◌≡◌, ◌≤◌, ◌<◌, ◌+◌, [], true, false, Some, None, IfOk, IfSome, IfNone, ◌-◌, length, slice_set};
 ghost use Rattle.slab.specs.Slab.{Slab as SlabView, get, slab_len, ContainsKey, HasRoomFor, Updates};
-ghost use Rattle.co_kq.specs.Kevents.{begun, knote_of, put, without, expires, expired, ticked_knote, has_come, next_after, counted, event_of};
-ghost use Rattle.co_kq.specs.Slots.{knotes_in, slot_at, IsAlone, IsAbsent, AreDistinct, IsAt, ticked_slot, slot_expires, IsFirstReady, AreQuiet, Tells};
+ghost use Rattle.co_kq.specs.Kevents.{knote_of, put, without, expires, expired, next_after, event_of};
+ghost use Rattle.co_kq.specs.Slots.{knotes_in, slot_at, IsAbsent, AreDistinct, IsAt, ticked_slot, IsFirstReady, AreQuiet, Tells};
 ghost use Rattle.co_kq.specs.declared.knote.Slot.{Slot as SlotOf};
 ghost use Rattle.co_kq.specs.Index.{IsChanged, key_of};
 ghost use Rattle.co_kq.specs.Numbers.{HasTimer, next_of};

@@ -1,11 +1,9 @@
 //! The kevent list over a running service.
-ghost use Rattle.std.specs.Prelude.{◌≡◌, ◌≤◌, ◌<◌, ◌+◌, ◌^◌, ◌*◌, ℕ, [], Some, replicate, true, false, length, slice_set, take, max, IfOk, IfSome, IfNone, MatchOption};
-ghost use Rattle.co_single.specs.Alarms.{all_gos, scans_of};
-ghost use Rattle.co_kq.specs.Kevents.{opening, span_of, is_span, begun, add_answer, added, deleted_count, deleted, ticked, expirations, events, delivered, put};
-ghost use Rattle.co_kq.specs.Numbers.{AreKept, FiresCounted, IsOpened, IsPut, NothingFires, left_use};
+ghost use Rattle.std.specs.Prelude.{◌≡◌, ◌≤◌, ◌<◌, ◌+◌, ◌^◌, ◌*◌, Some, true, false, length, take, max, IfOk, IfSome, IfNone, MatchOption};
+ghost use Rattle.co_kq.specs.Kevents.{span_of, is_span, begun, add_answer, added, deleted_count, deleted, ticked, expirations, events, delivered, put};
+ghost use Rattle.co_kq.specs.Numbers.{AreKept, FiresCounted, IsOpened, IsPut, NothingFires};
 ghost use Rattle.co_kq.specs.Slots.{IsAbsent, IsAt, IsQuiet, Tells};
 ghost use Rattle.slab.specs.Slab.{slab_len};
-ghost use Rattle.co_kq.specs.declared.numbers.Use.TheVariants.{Free};
 
 use crate::fresh::KqFresh;
 use crate::kevent::{Add, Event, Unit};

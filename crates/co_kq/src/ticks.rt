@@ -1,5 +1,5 @@
 //! What a tick does with the callouts.
-ghost use Rattle.std.specs.Prelude.{◌≡◌, ◌≢◌, ◌<◌, ◌≤◌, ◌+◌, ◌^◌, ℕ, [], length, true, false, IfNone, IfSome};
+ghost use Rattle.std.specs.Prelude.{◌≡◌, ◌≢◌, ◌<◌, ◌≤◌, ℕ, [], length, true, false};
 ghost use Rattle.co_single.specs.Alarms.{count_of, waiting_of};
 ghost use Rattle.co_kq.specs.declared.numbers.Use.TheVariants.{Stale};
 ghost use Rattle.co_kq.specs.Numbers.{use_at};

@@ -1,9 +1,8 @@
 //! The port through which a function makes calls on a running service.
-ghost use Rattle.std.specs.Prelude.{◌≡◌, ◌<◌, ◌≤◌, ◌∷◌, ◌↔◌, [], IfOk, length, true, false};
+ghost use Rattle.std.specs.Prelude.{◌≡◌, ◌<◌, ◌≤◌, ◌↔◌, [], IfOk, length, false};
 ghost use Rattle.co_object.specs.declared.CallOp.TheVariants.{Plain};
 ghost use Rattle.co_lock.specs.Covers.{covers};
 ghost use Rattle.std.specs.Option.{option_copied};
-ghost use Rattle.co_service.specs.Call.{NamesCpu};
 ghost use Rattle.co_service.specs.Params.{spec_at};
 ghost use Rattle.co_service.specs.Views.{AreOf};
 ghost use Rattle.co_hand.specs.Ports.{NamesCpuBelow};
@@ -130,7 +129,6 @@ fn call_of(i: u32, op: &PlainOp, answer: &PortReply) -> PortCall
 }
 
 impl<'a, N: Name, G: Gate, R: Wait> Port for ServicePort<'a, N, G, R> {
-    ghost use Rattle.co_hand.specs.Ports.{PortState};
 
     type Origin = PortOrigin;
 

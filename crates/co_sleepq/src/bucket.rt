@@ -1,6 +1,6 @@
 //! The sleeps on channels that share a bucket.
-ghost use Rattle.std.specs.Prelude.{◌≡◌, ◌+◌, ◌<◌, ◌≤◌, [], ◌∷◌, ◌++◌, ◌==◌, length, IfOk, IfSome};
-ghost use Rattle.std.specs.List.{Contains, find};
+ghost use Rattle.std.specs.Prelude.{◌≡◌, ◌+◌, ◌<◌, ◌≤◌, [], ◌∷◌, ◌++◌, ◌==◌, length, IfOk};
+ghost use Rattle.std.specs.List.{find};
 ghost use Rattle.co_sleepq.specs.Sleepers.{elsewhere, without};
 ghost use Rattle.co_sleepq.specs.Slots.{bucket_of, BucketView};
 

@@ -1,5 +1,5 @@
 //! A client's handle.
-ghost use Rattle.std.specs.Prelude.{◌≡◌, Bool, is_some, true};
+ghost use Rattle.std.specs.Prelude.{◌≡◌, is_some, true};
 ghost use Rattle.std.specs.Option.{option_copied};
 ghost use Rattle.std.specs.declared.option.Option.TheVariants.{Some};
 ghost use Rattle.co_object.specs.declared.op.CallOp.TheVariants.{Plain};

@@ -1,9 +1,8 @@
 //! A CPU's handle.
 ghost use Rattle.std.specs.Prelude.{◌≡◌, ◌<◌, false, true};
 ghost use Rattle.co_service.specs.Outcomes.{IsScan};
-ghost use Rattle.co_service.specs.Services.{IsFree};
 ghost use Rattle.co_service.specs.Views.{AreOf, PassesView};
-ghost use Rattle.co_timers.specs.Handles.{IsHandle, next_act};
+ghost use Rattle.co_timers.specs.Handles.{next_act};
 ghost use Rattle.co_timers.specs.Ports.{handle_of};
 ghost use Rattle.co_timers.specs.Rounds.{IsAtEase, IsFor, IsServed};
 

@@ -1,5 +1,5 @@
 //! One actor of a CPU as a handle.
-ghost use Rattle.std.specs.Prelude.{◌≡◌, ◌<◌, ◌↔◌, false, length, true};
+ghost use Rattle.std.specs.Prelude.{◌<◌, length};
 ghost use Rattle.std.specs.Option.{option_copied};
 ghost use Rattle.co_hand.specs.Ports.{IsAnswered, NamesCpuBelow};
 ghost use Rattle.co_timers.specs.Handles.{IsHandle};

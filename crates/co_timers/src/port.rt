@@ -83,7 +83,6 @@ impl<'a, N: Name, R: Wait, H: Handler> CpuPort<'a, N, R, H> {
 
 impl<'a, N: Name, R: Wait, H: Handler> Port for CpuPort<'a, N, R, H> {
     ghost use Rattle.std.specs.Prelude.{◌-◌, length};
-    ghost use Rattle.co_hand.specs.Ports.{PortState};
 
     type Origin = Lane;
 

@@ -1,10 +1,6 @@
 //! The rounds of a turn: one for each callout that has come due.
-ghost use Rattle.std.specs.Prelude.{◌≡◌, ◌<◌, false, is_some, length, true};
-ghost use Rattle.co_object.specs.Serve.{has_lock};
-ghost use Rattle.co_service.specs.Params.{spec_at};
-ghost use Rattle.co_service.specs.Services.{IsFree, IsServing};
+ghost use Rattle.std.specs.Prelude.{◌≡◌, ◌<◌, is_some, true};
 ghost use Rattle.co_service.specs.Serving.{picked};
-ghost use Rattle.co_timers.specs.Handles.{IsHandle};
 ghost use Rattle.co_timers.specs.Ports.{handle_of};
 ghost use Rattle.co_timers.specs.Rounds.{IsAbout, IsAtEase, IsFor, IsNext, IsServed, IsService, MayBeServed, counted, fire_of, served_after};
 

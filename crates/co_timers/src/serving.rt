@@ -1,5 +1,5 @@
 //! The parts of a service, each one call of the service for an actor of a CPU.
-ghost use Rattle.std.specs.Prelude.{◌≡◌, ◌≢◌, ◌<◌, false, length, true};
+ghost use Rattle.std.specs.Prelude.{◌≡◌, ◌<◌, false, true};
 ghost use Rattle.std.specs.declared.option.Option.TheVariants.{Some};
 ghost use Rattle.co_lock.specs.Service.{hold_of};
 ghost use Rattle.co_object.specs.Queue.{Due};
@@ -7,10 +7,9 @@ ghost use Rattle.co_object.specs.Serve.{has_lock};
 ghost use Rattle.co_service.specs.Call.{notes_in};
 ghost use Rattle.co_service.specs.Outcomes.{IsScan};
 ghost use Rattle.co_service.specs.Params.{spec_at};
-ghost use Rattle.co_service.specs.Services.{FollowsScans, HasNext, IsBegun, IsEnded, IsFree, IsServing, IsTaken};
+ghost use Rattle.co_service.specs.Services.{FollowsScans, IsBegun, IsEnded, IsFree, IsServing, IsTaken};
 ghost use Rattle.co_service.specs.Serving.{Runs, Waits, picked};
 ghost use Rattle.co_service.specs.Views.{AreOf, journal_seen};
-ghost use Rattle.co_timers.specs.Handles.{IsHandle};
 ghost use Rattle.co_timers.specs.Rounds.{HasTaken, IsAbout, IsAtEase, IsBegin, MayBeServed, called_by, drain_of, waits};
 
 use crate::Timers;

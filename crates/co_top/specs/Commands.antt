@@ -1,5 +1,5 @@
 -- The words that are a command, and the texts that the program itself writes.
-use Rattle.std.specs.Prelude.{◌≡◌, ℕ, ◌^◌, Bool, true, false, List, [], ◌∷◌, ◌++◌, Option, Some, None, Result, Ok, Err, codes, decimal, nat_lt, if◌then◌else◌}
+use Rattle.std.specs.Prelude.{◌≡◌, ℕ, ◌^◌, Bool, true, false, List, [], ◌∷◌, Option, Some, None, Result, Ok, Err, codes, nat_lt, if◌then◌else◌}
 use Rattle.co_text.specs.Values.{Word, is_word, number}
 use Rattle.co_text.specs.declared.cause.Cause.{Cause}
 use Rattle.co_front.specs.Texts.{line}

@@ -1,5 +1,5 @@
 //! The commands that work on a running service: what they make of the bytes that they read.
-ghost use Rattle.std.specs.Prelude.{◌≡◌, IfOk};
+ghost use Rattle.std.specs.Prelude.{IfOk};
 ghost use Rattle.std.specs.List.{concat};
 ghost use Rattle.co_top.specs.Headline.{GivesServed};
 ghost use Rattle.co_top.specs.declared.command.Serving.TheVariants as servings;

@@ -5,7 +5,7 @@ ghost use Rattle.co_top.specs.declared.command.Command.TheVariants as commands;
 ghost use Rattle.co_top.specs.declared.status.Status.TheVariants.{WriteFault};
 ghost use Rattle.co_top.specs.Commands.{IsPlain};
 ghost use Rattle.co_top.specs.Headline.{IsHeadline, IsComplete, Says, Tells, limit_of, plain, served_limit};
-ghost use Rattle.co_front.specs.Outside.{Input, Output, outside};
+ghost use Rattle.co_front.specs.Outside.{Output, outside};
 
 use crate::answer::Answer;
 use crate::command::{Command, Making, Reading, Serving, command_of, served};

@@ -1,5 +1,5 @@
 //! The text of `lanes`: a column for each actor, a row for each note.
-ghost use Rattle.std.specs.Prelude.{◌≡◌, ◌++◌, ◌||◌, OnOk, IfOk, flat_map, ◌∷◌, decimal, None, Some, MatchOption};
+ghost use Rattle.std.specs.Prelude.{◌≡◌, ◌++◌, ◌||◌, OnOk, IfOk, flat_map, ◌∷◌, None, Some};
 ghost use Rattle.std.specs.List.{concat, range_with_len};
 ghost use Rattle.co_check.specs.Lines.{IsReport};
 ghost use Rattle.co_program.specs.Scripts.{IsScript};
@@ -7,7 +7,7 @@ ghost use Rattle.co_program.specs.Actors.{actor_count};
 ghost use Rattle.co_object.specs.History.{cpu_of};
 ghost use Rattle.co_grammar.specs.Spelling.{actor_word};
 ghost use Rattle.co_view.specs.Rolls.{roll_text};
-ghost use Rattle.co_view.specs.Lanes.{asks_of, concerns, header_text, is_of_cpu, is_of_timer, lanes_text, passing, row_at, row_text, serves_on, shown_row, tells_of};
+ghost use Rattle.co_view.specs.Lanes.{asks_of, concerns, header_text, is_of_cpu, is_of_timer, lanes_text, passing, row_at, row_text, serves_on, tells_of};
 
 use crate::roll::Roll;
 use crate::words::print_note;

@@ -1,5 +1,5 @@
 //! One order of all notes of a report, which keeps each actor's numbers and each place's positions.
-ghost use Rattle.std.specs.Prelude.{◌≡◌, ◌≤◌, ◌<◌, length, slice_index, MatchOption, OnOk, IfOk};
+ghost use Rattle.std.specs.Prelude.{◌≤◌, ◌<◌, OnOk, IfOk};
 ghost use Rattle.co_check.specs.Lines.{IsReport};
 ghost use Rattle.co_view.specs.Merging.{FirstNext, FirstZero, IsBoard, IsMerging, left_of};
 ghost use Rattle.co_view.specs.Order.{IsOrdered, MayCome};

@@ -1,5 +1,5 @@
 //! Pictures: what is told of each note of an order, one by one.
-ghost use Rattle.std.specs.Prelude.{◌≡◌, ◌++◌, OnOk, IfOk, length};
+ghost use Rattle.std.specs.Prelude.{◌≡◌, ◌++◌, OnOk, IfOk};
 ghost use Rattle.std.specs.List.{concat};
 ghost use Rattle.co_check.specs.Lines.{IsReport};
 ghost use Rattle.co_program.specs.Scripts.{IsScript};

@@ -1,5 +1,5 @@
 //! Texts in pieces, so that a long one need not stand in one stretch of memory.
-ghost use Rattle.std.specs.Prelude.{◌≡◌, ◌++◌, [], OnOk, IfOk};
+ghost use Rattle.std.specs.Prelude.{◌≡◌, [], OnOk, IfOk};
 ghost use Rattle.std.specs.List.{concat};
 ghost use Rattle.co_view.specs.Rolls.{roll_text};
 

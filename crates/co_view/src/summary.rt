@@ -1,9 +1,9 @@
 //! The text of `summary`: of each callout, and in all, how often each reply came and what became of the armings.
-ghost use Rattle.std.specs.Prelude.{◌≡◌, ◌≤◌, ◌<◌, ◌+◌, ◌*◌, ◌++◌, ◌∷◌, [], OnOk, IfOk, codes, flat_map, count_by, length};
+ghost use Rattle.std.specs.Prelude.{◌≡◌, ◌≤◌, ◌<◌, ◌+◌, ◌*◌, ◌++◌, OnOk, IfOk, codes, flat_map, count_by, length};
 ghost use Rattle.std.specs.List.{range_with_len};
 ghost use Rattle.co_check.specs.Lines.{IsReport};
 ghost use Rattle.co_view.specs.Scenes.{watch_of};
-ghost use Rattle.co_view.specs.Summary.{cell_at, cell_text, coded_column, column_name, counted, fate_column, fates_text, is_open, more, noted, one_if, opened_tally, replaced_column, reply_column, row_text, stopped_column, summary_text, tally_entry, tally_of, tallied, timer_row, width};
+ghost use Rattle.co_view.specs.Summary.{cell_at, cell_text, coded_column, column_name, counted, fate_column, fates_text, is_open, noted, one_if, opened_tally, replaced_column, reply_column, row_text, stopped_column, summary_text, tally_entry, tally_of, tallied, timer_row};
 
 use crate::order::counts::raise;
 use crate::scene::{Watch, opened, take, watch_of, watched};

@@ -3,7 +3,7 @@ ghost use Rattle.std.specs.Prelude.{◌≡◌, ◌+◌, ◌*◌, ◌++◌, OnOk,
 ghost use Rattle.std.specs.List.{range_with_len};
 ghost use Rattle.co_program.specs.Scripts.{IsScript};
 ghost use Rattle.co_program.specs.Actors.{actor_count};
-ghost use Rattle.co_view.specs.Svg.{arrow_text, bar_text, below_of, callout_marks, column_head, figure, foot_of, frame_text, is_end, legend_text, marks_of, point_head, point_text, style_text, x_of, y_of};
+ghost use Rattle.co_view.specs.Svg.{arrow_text, bar_text, callout_marks, column_head, figure, frame_text, is_end, legend_text, marks_of, point_head, point_text, style_text, x_of};
 
 use crate::scene::{Watch, watch_of};
 use crate::trace::wakes;

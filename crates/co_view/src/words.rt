@@ -1,5 +1,5 @@
 //! Notes in words.
-ghost use Rattle.std.specs.Prelude.{◌≡◌, ◌++◌, ◌∷◌, OnOk, decimal, codes, []};
+ghost use Rattle.std.specs.Prelude.{◌≡◌, ◌++◌, ◌∷◌, OnOk, codes, []};
 ghost use Rattle.co_text.specs.Lines.{spaced};
 ghost use Rattle.co_text.specs.Written.{token_word, token_words};
 ghost use Rattle.co_report.specs.Reading.{joined};

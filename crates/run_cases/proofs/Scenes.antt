@@ -1,14 +1,13 @@
 -- What the tests run can run.
-use Rattle.std.proofs.Common.{◌≡◌, true, [], ◌∷◌, List, refl, sym, subst, inl, inr, arith}
+use Rattle.std.proofs.Common.{◌≡◌, true, [], ◌∷◌, List, refl, sym, subst, inl, arith}
 use Rattle.std.proofs.lemmas.List.Elements.{All-nil, All-cons}
 use Rattle.co_object.specs.declared.spec.Spec.{Spec}
 use Rattle.co_program.specs.declared.script.Script.{Script}
 use Rattle.co_script.specs.Fits.{fits}
 use Rattle.co_script.proofs.Accepted.{fits-accepted}
-use Rattle.co_service.specs.declared.params.Params.{Params}
 use Rattle.co_service.specs.Params.{AreParams, IsSpec}
 use Rattle.co_run.proofs.FittingScripts.{fits_locks, fits_params}
-use Rattle.run_cases.specs.Scenes.{CanRun, free_spec, two_clients}
+use Rattle.run_cases.specs.Scenes.{CanRun, free_spec}
 
 -- a script that fits can run
 pub fitting_can_run : (s : Script) → fits s ≡ true → CanRun s

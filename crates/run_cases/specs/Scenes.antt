@@ -1,5 +1,5 @@
 -- What the tests run.
-use Rattle.std.specs.Prelude.{◌≡◌, false, [], ◌∷◌}
+use Rattle.std.specs.Prelude.{false, [], ◌∷◌}
 use Rattle.co_object.specs.declared.spec.Spec.{Spec}
 use Rattle.co_object.specs.declared.spec.LockUse.TheVariants.{Free}
 use Rattle.co_program.specs.declared.script.Script.{Script}

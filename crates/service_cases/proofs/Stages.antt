@@ -1,24 +1,19 @@
 -- The services that the tests play on, and their actors.
-use Rattle.std.proofs.Common.{◌≡◌, inl, inr, ℕ, zero, suc, ◌+◌, ◌-◌, ◌<◌, ◌≤◌, ◌==◌, Bool, true, false, cond, List, [], ◌∷◌, ◌++◌, length, take, refl, sym, ap, ◌∙◌, subst, arith, length-append}
-use Rattle.std.specs.Prelude.{◌⊎◌, slice_get, slice_index_or}
+use Rattle.std.proofs.Common.{◌≡◌, inl, inr, ℕ, zero, suc, ◌+◌, ◌-◌, ◌≤◌, ◌==◌, Bool, true, false, cond, List, [], ◌∷◌, ◌++◌, length, refl, sym, ap, ◌∙◌, subst, arith}
+use Rattle.std.specs.Prelude.{◌⊎◌, slice_index_or}
 use Rattle.std.specs.List.{All}
 use Rattle.std.proofs.lemmas.List.Elements.{All-nil, All-cons, All-head, All-tail}
 use Rattle.std.specs.declared.option.Option.TheVariants.{Some}
 use Rattle.co_object.specs.declared.spec.LockUse.TheVariants.{Free, Mtx}
 use Rattle.co_object.specs.declared.spec.Spec.{Spec}
-use Rattle.co_object.specs.Journal.{scanner}
 use Rattle.co_service.specs.declared.params.Params.{Params}
-use Rattle.co_service.specs.Booted.{AreBooted, booted}
-use Rattle.co_service.specs.Closing.{AreAll}
-use Rattle.co_service.specs.Name.{ServiceName}
-use Rattle.co_service.specs.Params.{AreParams, IsSpec, actor_count, actors_of, no_spec, spec_at}
+use Rattle.co_service.specs.Params.{AreParams, IsSpec, no_spec}
 use Rattle.service_cases.specs.Scenes.{IsFreeSpec, IsLocked, IsScene}
 use Rattle.co_object.specs.Queue.{Due}
-use Rattle.co_service.specs.Services.{IsFree, IsServing}
+use Rattle.co_service.specs.Services.{IsServing}
 use Rattle.co_service.specs.Serving.{Service}
-use Rattle.co_service.specs.Views.{AreOf, PassesView}
+use Rattle.co_service.specs.Views.{PassesView}
 use Rattle.co_service.proofs.Items.{all_more}
-use Rattle.co_service.proofs.Lasts.{booted_free}
 
 -- ---- the callouts
 

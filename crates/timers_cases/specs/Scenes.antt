@@ -1,5 +1,5 @@
 -- Two clients, two CPUs, and three callouts: one without a lock, one with a mutex, and a direct one.
-use Rattle.std.specs.Prelude.{ℕ, true, false, List, [], ◌∷◌}
+use Rattle.std.specs.Prelude.{true, false, List, [], ◌∷◌}
 use Rattle.co_hand.specs.Handlers.{Needs}
 use Rattle.co_lock.specs.declared.lock_kind.LockKind.{LockKind}
 use Rattle.co_object.specs.declared.spec.LockUse.TheVariants.{Free, Mtx}

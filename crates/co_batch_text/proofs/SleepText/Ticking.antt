@@ -6,7 +6,7 @@ use Rattle.std.specs.declared.option.Option.{Option}
 use Rattle.std.specs.declared.option.Option.TheVariants.{Some, None}
 use Rattle.std.proofs.lemmas.Bool.Decides.{nat_tests}
 use Rattle.std.proofs.lemmas.List.Sums.{sum_by-cons}
-use Rattle.co_single.specs.Alarms.{alarm_at, all_gos, clock_of, count_of, due_once, made_at, scans_of, times_in, waiting_of}
+use Rattle.co_single.specs.Alarms.{due_once, times_in}
 use Rattle.co_single.specs.Alarms as single
 use Rattle.co_sleepq.specs.declared.op.SleepOp.TheVariants as op
 use Rattle.co_sleepq.specs.declared.reply.SleepReply.{SleepReply}

@@ -1,7 +1,4 @@
 //! The commands of a text.
-ghost use Rattle.std.specs.Prelude.{◌≡◌};
-ghost use Rattle.co_text.specs.Fallible.{Gives};
-ghost use Rattle.co_batch.specs.Reading.{statement};
 ghost use Rattle.co_batch_text.specs.Itimer.Commands.{timer_language};
 
 use co_batch::{Command, object};

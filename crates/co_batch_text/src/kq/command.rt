@@ -1,7 +1,5 @@
 //! The commands of a text.
-ghost use Rattle.std.specs.Prelude.{◌≡◌};
 ghost use Rattle.co_text.specs.Fallible.{Gives};
-ghost use Rattle.co_text.specs.Taking.{next};
 ghost use Rattle.co_batch_text.specs.Kq.Commands.{kq_language, unit_of};
 
 use crate::number::narrow;

@@ -19,7 +19,7 @@ use Rattle.co_program.specs.Advance.{called, due_of_call}
 use Rattle.co_wheel.specs.Call.{is_away}
 use Rattle.co_world.proofs.kept.ByCalls.{off_same, off_none}
 use Rattle.co_world.proofs.kept.Listed.{off_listed}
-use Rattle.co_world.proofs.kept.Operations.{Did, GoesOn, is_plain}
+use Rattle.co_world.proofs.kept.Operations.{Did, is_plain}
 use Rattle.co_world.proofs.kept.Operations as deed
 use Rattle.co_world.proofs.basics.Changes.{decide}
 use Rattle.co_world.proofs.kept.Stages.{plain_called}

@@ -29,7 +29,7 @@ use Rattle.co_program.specs.declared.Asked.TheVariants.{Queue, Callout}
 use Rattle.co_program.specs.Scripts.{IsScript}
 use Rattle.co_program.specs.Stages.{Stage, Ready, Popping, Picking}
 use Rattle.co_program.specs.Cursor.{Cursor}
-use Rattle.co_program.specs.Action.{Asks, action_with, spec_at, firing, action_for, scans_first, scans_with, scans_at, pop_of, free_of}
+use Rattle.co_program.specs.Action.{Asks, action_with, spec_at, firing, action_for, scans_first, pop_of, free_of}
 use Rattle.co_program.specs.Actors.{role_of, cpu_of}
 use Rattle.co_program.specs.Advance.{tail_of, advance, advance_queue, popped, got, picked}
 use Rattle.co_program.specs.Existing.{ActionExists, IsCallout}

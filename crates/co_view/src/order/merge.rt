@@ -1,5 +1,5 @@
 //! An order that is being made.
-ghost use Rattle.std.specs.Prelude.{◌≡◌, ◌<◌, ◌+◌, ◌++◌, ◌∷◌, ◌↔◌, ◌==◌, ◌&&◌, [], IsTrue, slice_get, OnOk, IfOk};
+ghost use Rattle.std.specs.Prelude.{◌≡◌, ◌<◌, ◌↔◌, ◌==◌, ◌&&◌, IsTrue, slice_get, OnOk, IfOk};
 ghost use Rattle.co_view.specs.Merging.{IsBoard, IsMerging, left_of};
 ghost use Rattle.co_view.specs.Order.{MayCome, is_next};
 

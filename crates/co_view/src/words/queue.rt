@@ -1,5 +1,5 @@
 //! Operations on a timer queue, and its answers.
-ghost use Rattle.std.specs.Prelude.{◌≡◌, ◌++◌, ◌∷◌, [], codes, decimal, OnOk};
+ghost use Rattle.std.specs.Prelude.{◌≡◌, ◌++◌, ◌∷◌, [], OnOk};
 ghost use Rattle.co_object.specs.declared.QOp.TheVariants.{Insert, Remove};
 ghost use Rattle.co_object.specs.declared.QReply.TheVariants.{Count, Got};
 ghost use Rattle.co_text.specs.Lines.{spaced};

@@ -1,9 +1,9 @@
 //! A service of two clients, three CPUs and two callouts without locks, on which clients call through ports.
-ghost use Rattle.std.specs.Prelude.{◌≡◌, ◌<◌, ◌∷◌, [], IfOk, length};
+ghost use Rattle.std.specs.Prelude.{◌≡◌, ◌<◌, IfOk};
 ghost use Rattle.co_hand.specs.Ports.{NamesCpuBelow};
 ghost use Rattle.co_service.specs.Booted.{AreBooted};
 ghost use Rattle.co_service.specs.Views.{AreOf};
-ghost use Rattle.run_cases.specs.Scenes.{free_spec, two_clients};
+ghost use Rattle.run_cases.specs.Scenes.{two_clients};
 
 use co_hand::{OpenGate, Port, PortReply};
 use co_object::{LockUse, PlainOp, Spec};

@@ -1,6 +1,6 @@
 //! Calls of one who has the service to himself, which take no lock: a callout that lands at another CPU, its service there, and an
 //! arming that is taken away again.
-ghost use Rattle.std.specs.Prelude.{◌≡◌, ◌<◌, ℕ, Bool, false, length};
+ghost use Rattle.std.specs.Prelude.{◌≡◌, ◌<◌, ℕ, false, length};
 ghost use Rattle.co_object.specs.Journal.{scanner};
 ghost use Rattle.co_object.specs.declared.op.CallOp.TheVariants.{Plain};
 ghost use Rattle.co_object.specs.declared.op.PlainOp.TheVariants.{Reset};

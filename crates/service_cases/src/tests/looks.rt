@@ -1,10 +1,7 @@
 //! A scan looks at what stands in the buckets that it visits.
 ghost use Rattle.std.specs.Prelude.{◌≡◌, ◌<◌};
-ghost use Rattle.co_object.specs.declared.spec.LockUse.TheVariants.{Free};
 ghost use Rattle.co_service.specs.Booted.{AreBooted};
-ghost use Rattle.co_service.specs.Params.{spec_at};
 ghost use Rattle.service_cases.specs.Scenes.{IsScene};
-ghost use Rattle.co_service.specs.Views.{AreOf};
 
 use super::cast::close_two;
 use super::stage::{arm, boot};

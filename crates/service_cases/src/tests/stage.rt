@@ -1,5 +1,5 @@
 //! A service to play on, and calls on it.
-ghost use Rattle.std.specs.Prelude.{◌≡◌, ◌+◌, ◌==◌, ◌<◌, ◌≤◌, if◌then◌else◌, ℕ, IfOk, length, true, false};
+ghost use Rattle.std.specs.Prelude.{◌≡◌, ◌+◌, ◌==◌, ◌<◌, ◌≤◌, if◌then◌else◌, ℕ, IfOk, length, false};
 ghost use Rattle.std.specs.List.{All};
 ghost use Rattle.std.specs.declared.option.Option.{Option};
 ghost use Rattle.co_object.specs.declared.op.CallOp.TheVariants.{Plain};
@@ -7,7 +7,7 @@ ghost use Rattle.co_object.specs.declared.op.PlainOp.TheVariants.{Reset};
 ghost use Rattle.co_object.specs.declared.spec.LockUse.TheVariants.{Free};
 ghost use Rattle.co_service.specs.Booted.{AreBooted};
 ghost use Rattle.co_service.specs.Call.{NamesCpu};
-ghost use Rattle.co_service.specs.Params.{actor_count, spec_at};
+ghost use Rattle.co_service.specs.Params.{spec_at};
 ghost use Rattle.service_cases.specs.Scenes.{IsFreeSpec, IsScene};
 ghost use Rattle.co_service.specs.Views.{AreOf};
 

@@ -1,8 +1,5 @@
-use Rattle.std.proofs.Common.{◌≡◌, List, [], ◌∷◌, ◌++◌, ◌∙◌}
-use Rattle.std.specs.Prelude.{false}
+use Rattle.std.proofs.Common.{[], ◌∷◌, ◌++◌, ◌∙◌}
 use Rattle.std.proofs.lemmas.Result.{IfOk-weaker}
-use Rattle.co_object.specs.declared.spec.LockUse.TheVariants.{Mtx}
-use Rattle.co_object.specs.declared.spec.Spec.{Spec}
 use Rattle.service_cases.proofs.Stages.{locked_allowed, locked_is}
 use Rattle.service_cases.proofs.tests.held.boot_locked.Goals as goal
 

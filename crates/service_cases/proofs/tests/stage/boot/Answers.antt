@@ -1,7 +1,6 @@
-use Rattle.std.proofs.Common.{◌≡◌, ◌+◌, ◌==◌, List, length, ap, cond, sym, ◌∙◌, subst}
+use Rattle.std.proofs.Common.{length, ap, sym, ◌∙◌, subst}
 use Rattle.std.specs.List.{All}
 use Rattle.std.proofs.lemmas.Result.{IfOk-weaker}
-use Rattle.co_object.specs.declared.spec.Spec.{Spec}
 use Rattle.service_cases.specs.Scenes.{IsFreeSpec}
 use Rattle.service_cases.proofs.Stages.{scene_allowed, scene_is}
 use Rattle.service_cases.proofs.tests.stage.boot.Goals as goal

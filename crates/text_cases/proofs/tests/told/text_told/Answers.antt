@@ -1,4 +1,3 @@
-use Rattle.std.proofs.Common.{refl}
 use Rattle.co_script.proofs.Accepted.{fits-accepted}
 use Rattle.co_script.proofs.ReadFits.{read-fits}
 use Rattle.text_cases.proofs.tests.told.text_told.Goals as goal

@@ -1,5 +1,5 @@
 -- The service is within the limits, and the lock that a callout names is there.
-use Rattle.std.proofs.Common.{◌≡◌, ℕ, zero, suc, refl, arith, inl, inr, [], ◌∷◌, true, subst}
+use Rattle.std.proofs.Common.{◌≡◌, ℕ, zero, suc, refl, arith, inl, inr, true, subst}
 use Rattle.std.specs.declared.option.Option.TheVariants.{Some}
 use Rattle.std.proofs.lemmas.List.Elements.{All-from_recursion}
 use Rattle.co_lock.specs.declared.held.Held.{Held}
