@@ -1,5 +1,5 @@
 -- A call with its landing: its notes are its group.
-use Rattle.std.proofs.Common.{◌≡◌, ℕ, Bool, true, List, [], ◌∷◌, ◌++◌, append_assoc, map, refl, sym, ap, ◌∙◌, subst}
+use Rattle.std.proofs.Common.{◌≡◌, ℕ, Bool, List, [], ◌∷◌, ◌++◌, append_assoc, map, refl, sym, ap, ◌∙◌, subst}
 use Rattle.std.specs.declared.option.Option.{Option}
 use Rattle.std.specs.declared.option.Option.TheVariants.{Some, None}
 use Rattle.co_object.specs.declared.note.Entry.{Entry}
@@ -27,7 +27,7 @@ use Rattle.co_service.specs.declared.told.Inserted.{Inserted}
 use Rattle.co_service.specs.declared.told.Told.{Told}
 use Rattle.co_service.specs.Call.{IsAnswer, IsCalled, Target, call_entry, landing, noted_insert, removal_told, told_notes}
 use Rattle.co_service.specs.Ends.{IsFinished, finished_notes}
-use Rattle.co_service.specs.Moving.{IsOfService, IsTried, MovingView}
+use Rattle.co_service.specs.Moving.{IsDone, IsOfService, MovingView}
 use Rattle.co_service.specs.Outcomes.{noted_entry, turn}
 use Rattle.co_service.specs.Services.{AreSame, IsEnded, IsEndedBut, IsLanded, run_entry}
 use Rattle.co_service.specs.Views.{PassesView, seen_of}
@@ -120,13 +120,13 @@ told_landed actor act i op t x none =
 pub finished_landed : (actor act : ℕ) (f : Finished) (x : Inserted) (i : ℕ) → f.i ≡ i → f.insertion ≡ None → finished_notes actor act f ++ noted_insert actor act i x ∷ [] ≡ finished_notes actor act (record f { insertion = Some x })
 finished_landed actor act f x i here none = λ k. finished_notes actor act (record f { insertion = none k }) ++ noted_insert actor act (sym here k) x ∷ []
 
--- a call that was answered on a desk: the passes are the same actor's, and what leaves is its callout
-module _ (p q : PassesView) (act i : ℕ) (op : CallOp) (told : Told) (gone : Option MovingView) (tried : IsTried p act i op true told gone q) where
-  pub tried_same : AreSame p q
-  tried_same = writes_keep p q (told_notes p.actor act i op told) (tried.answer refl).written
+-- a call that was made on a desk: the passes are the same actor's, and what leaves is its callout
+module _ (p q : PassesView) (act i : ℕ) (op : CallOp) (told : Told) (gone : Option MovingView) (done : IsDone p act i op told gone q) where
+  pub done_same : AreSame p q
+  done_same = writes_keep p q (told_notes p.actor act i op told) done.answer.written
 
-  pub tried_leaves : IsOfService q.params i gone
-  tried_leaves = subst (λ (r : Params). IsOfService r i gone) (sym tried_same.params) (tried.leaving refl)
+  pub done_leaves : IsOfService q.params i gone
+  done_leaves = subst (λ (r : Params). IsOfService r i gone) (sym done_same.params) done.leaving
 
 -- the end of a service on a desk: the passes are the same actor's, and what leaves is the callout that was told of
 module _ (direct : Bool) (p q : PassesView) (cpu act : ℕ) (d : Due) (f : Finished) (gone : Option MovingView) (done : IsFinished direct p cpu act d f gone q) where

@@ -68,11 +68,6 @@ pub record IsEndTried (direct : Bool) (p : PassesView) (cpu act : ℕ) (ended : 
   pub none : ended ≡ false → (q ≡ p) × (gone ≡ None)
   pub some : ended ≡ true → (d : Due) → IsServing direct p cpu d (Runs d.n) → IsFinished direct p cpu act d told gone q
 
--- a caller may try a call at a desk: its passes are the service's, and nothing is on its way
-pub record MayTry (service : ServiceName) (params : Params) (p : PassesView) (gone : Option MovingView) : Type 0 where
-  pub passes : AreOf service params p
-  pub none : gone ≡ None
-
 -- the end of a service may be tried at a desk: the passes' actor has an arming in service, which is to end
 pub record MayTryEnd (service : ServiceName) (params : Params) (direct : Bool) (p : PassesView) (cpu : ℕ) (gone : Option MovingView) : Type 0 where
   pub cpu_is : cpu < params.cpus

@@ -83,10 +83,13 @@ abbrev pub IsOfService : Params → ℕ → Option MovingView → Type 0
 IsOfService p i None = Unit {0}
 IsOfService p i (Some m) = (m.params ≡ p) × (m.i ≡ i)
 
--- a call was tried at a desk: nothing has changed where the callout isn't there; else what it did stands in its place, with the callout where
--- it leaves, which then was put in no queue
+-- a call was made at a desk: what it did stands in its place, with the callout where it leaves, which then was put in no queue
+pub record IsDone (p : PassesView) (act i : ℕ) (op : CallOp) (told : Told) (leaves : Option MovingView) (q : PassesView) : Type 0 where
+  pub answer : IsAnswer p act i op told.out.reply (target_of leaves) (told_notes p.actor act i op told) q
+  pub leaving : IsOfService p.params i leaves
+  pub room : is_some leaves ≡ true → told.insertion ≡ None
+
+-- a desk was asked for a call: where the callout isn't there nothing has changed
 pub record IsTried (p : PassesView) (act i : ℕ) (op : CallOp) (here : Bool) (told : Told) (leaves : Option MovingView) (q : PassesView) : Type 0 where
   pub none : here ≡ false → (q ≡ p) × (leaves ≡ None)
-  pub answer : here ≡ true → IsAnswer p act i op told.out.reply (target_of leaves) (told_notes p.actor act i op told) q
-  pub leaving : here ≡ true → IsOfService p.params i leaves
-  pub room : here ≡ true → is_some leaves ≡ true → told.insertion ≡ None
+  pub some : here ≡ true → IsDone p act i op told leaves q

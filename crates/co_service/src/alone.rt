@@ -1,21 +1,19 @@
 //! Calls of one who has the service to himself: no lock is taken and nobody is woken, since nobody can wait.
 //!
-//! Where a desk doesn't answer, the locked call is made.
+//! Where a CPU's desk doesn't answer, the locked call is made; a call on a callout goes on to the next desk.
 ghost use Rattle.std.specs.Prelude.{◌≡◌, ◌<◌, length, true};
-ghost use Rattle.std.specs.declared.option.Option.TheVariants.{None};
 ghost use Rattle.std.specs.Option.{option_copied};
 ghost use Rattle.co_lock.specs.Covers.{covers};
 ghost use Rattle.co_object.specs.Journal.{scanner};
 ghost use Rattle.co_object.specs.Queue.{Due};
 ghost use Rattle.co_service.specs.Call.{IsCalled, NamesCpu, told_notes};
 ghost use Rattle.co_service.specs.Ends.{IsFinished, finished_notes};
-ghost use Rattle.co_service.specs.Moving.{IsTried};
 ghost use Rattle.co_service.specs.Outcomes.{IsScan};
 ghost use Rattle.co_service.specs.Params.{actors_of, spec_at};
 ghost use Rattle.co_service.specs.Services.{IsEnded, IsFree, IsServing, taken_of};
 ghost use Rattle.co_service.specs.Serving.{Runs};
 ghost use Rattle.co_service.specs.Views.{AreOf};
-ghost use Rattle.co_service.specs.Kept.{IsAsked, IsEndTried, IsStarted, KeepsAlone, KeepsFree, KeepsTaken, MayScan, MayStart, MayTry, MayTryEnd};
+ghost use Rattle.co_service.specs.Kept.{IsAsked, IsEndTried, IsStarted, KeepsAlone, KeepsFree, KeepsTaken, MayScan, MayStart, MayTryEnd};
 
 use crate::finished::Finished;
 use crate::moving::Moving;
@@ -206,70 +204,6 @@ impl<N: Name> Service<N> {
         self.land_ended(rt, passes, act, leaves, told);
     }
 
-    /// A call on one desk. What it did and what leaves go to their places. False where the callout isn't there.
-    #[inline(always)]
-    fn call_here(
-        &mut self,
-        passes: &mut Passes,
-        act: u64,
-        i: u32,
-        op: &CallOp,
-        cpu: usize,
-        told: &mut Told,
-        gone: &mut Option<Moving<N>>,
-    ) -> bool
-        requires cpu { cpu < self.old.cpus }
-        requires may { MayTry N.name self.old passes.old gone.old }
-        ensures params { self.new ≡ self.old }
-        ensures tried { IsTried passes.old act i op.now result told.new gone.new passes.new }
-    {
-        let desk = self.desks[cpu].desk.get_mut();
-        desk.call(&self.places, passes, act, i, op, told, gone)
-    }
-
-    /// A call by the locks.
-    ///
-    /// It stands apart, since a callout is seldom elsewhere than where its hint says.
-    #[inline(never)]
-    fn call_apart<R: Wait>(
-        &self,
-        rt: &R,
-        passes: &mut Passes,
-        act: u64,
-        i: u32,
-        op: &CallOp,
-        told: &mut Told,
-        gone: &mut Option<Moving<N>>,
-    )
-        requires { MayTry N.name self.now passes.old gone.old }
-        ensures { IsTried passes.old act i op.now true told.new gone.new passes.new }
-    {
-        self.call_found(rt, passes, act, i, op, told, gone);
-    }
-
-    /// A call on the desk that the callout's hint names, and where it isn't there by the locks.
-    #[inline(always)]
-    fn call_found_alone<R: Wait>(
-        &mut self,
-        rt: &R,
-        passes: &mut Passes,
-        act: u64,
-        i: u32,
-        op: &CallOp,
-        told: &mut Told,
-        gone: &mut Option<Moving<N>>,
-    )
-        requires { MayTry N.name self.old passes.old gone.old }
-        ensures params { self.new ≡ self.old }
-        ensures tried { IsTried passes.old act i op.now true told.new gone.new passes.new }
-    {
-        let first = self.hint(i);
-        if self.call_here(passes, act, i, op, first, told, gone) {
-            return;
-        }
-        self.call_apart(rt, passes, act, i, op, told, gone);
-    }
-
     /// A call on callout `i`, as with [`Service::call_into`].
     #[inline(always)]
     pub fn call_alone<R: Wait>(
@@ -291,7 +225,16 @@ impl<N: Name> Service<N> {
     {
         let _ = hold;
         let mut leaves = None;
-        self.call_found_alone(rt, passes, act, i, op, told, &mut leaves);
-        self.land_left(rt, passes, act, i, leaves, told);
+        let mut cpu = self.hint(i);
+        for _ in rt.forever() {
+            let desk = self.desks[cpu].desk.get_mut();
+            let here = desk.call(&self.places, passes, act, i, op, told, &mut leaves);
+            if here {
+                self.land_left(rt, passes, act, i, leaves, told);
+                return;
+            }
+            cpu = self.next_desk(cpu);
+        }
+        unreachable!()
     }
 }

@@ -1,15 +1,18 @@
-//! A caller's operation: the desk that has the callout is found.
-ghost use Rattle.std.specs.Prelude.{◌≡◌, ◌<◌, false, is_some, true};
-ghost use Rattle.std.specs.declared.option.Option.TheVariants.{None};
+//! A caller's operation: the desk that has the callout is found, and what leaves it lands.
+ghost use Rattle.std.specs.Prelude.{◌≡◌, ◌<◌, length, true};
+ghost use Rattle.std.specs.Option.{option_copied};
+ghost use Rattle.co_lock.specs.Covers.{covers};
 ghost use Rattle.co_object.specs.declared.op.CallOp.{CallOp};
-ghost use Rattle.co_service.specs.Call.{IsAnswer, IsCalled, told_notes};
-ghost use Rattle.co_service.specs.Moving.{IsOfService, IsTried, target_of};
+ghost use Rattle.co_service.specs.Call.{IsCalled, NamesCpu, notes_in, told_notes};
+ghost use Rattle.co_service.specs.Kept.{Keeps};
+ghost use Rattle.co_service.specs.Moving.{IsDone};
+ghost use Rattle.co_service.specs.Params.{spec_at};
 ghost use Rattle.co_service.specs.Views.{AreOf, PassesView};
-ghost use Rattle.co_service.specs.Kept.{MayTry};
 
 use crate::moving::Moving;
 use crate::told::Told;
-use crate::{Name, Passes, Service};
+use crate::{Made, Name, Passes, Service};
+use co_lock::Hold;
 use co_object::CallOp;
 use std::sync::Wait;
 use std::sync::atomic::Ordering;
@@ -27,82 +30,14 @@ impl<N: Name> Service<N> {
         if cpu < self.desks.len() { cpu } else { 0 }
     }
 
-    /// A call on one desk. What it did and what leaves go to their places. False where the callout isn't there.
+    /// The CPU whose desk is asked where this one's doesn't have the callout.
     #[inline(always)]
-    fn call_at<R: Wait>(
-        &self,
-        rt: &R,
-        passes: &mut Passes,
-        act: u64,
-        i: u32,
-        op: &CallOp,
-        cpu: usize,
-        told: &mut Told,
-        gone: &mut Option<Moving<N>>,
-    ) -> bool
-        requires cpu { cpu < self.now.cpus }
-        requires may { MayTry N.name self.now passes.old gone.old }
-        ensures { IsTried passes.old act i op.now result told.new gone.new passes.new }
+    pub(crate) fn next_desk(&self, cpu: usize) -> usize
+        requires { cpu < self.now.cpus }
+        ensures { result < self.now.cpus }
     {
-        let locked = &self.desks[cpu];
-        locked
-            .desk
-            .lock(rt)
-            .call(&self.places, passes, act, i, op, told, gone)
-    }
-
-    /// A call on the desks but this one, in rising order. False where the callout is on none of them.
-    ///
-    /// It stands apart, since a callout is seldom elsewhere than where its hint says.
-    #[inline(never)]
-    fn call_elsewhere<R: Wait>(
-        &self,
-        rt: &R,
-        passes: &mut Passes,
-        act: u64,
-        i: u32,
-        op: &CallOp,
-        but: usize,
-        told: &mut Told,
-        gone: &mut Option<Moving<N>>,
-    ) -> bool
-        requires { MayTry N.name self.now passes.old gone.old }
-        ensures { IsTried passes.old act i op.now result told.new gone.new passes.new }
-    {
-        for cpu in 0..self.desks.len() {
-            if cpu != but && self.call_at(rt, passes, act, i, op, cpu, told, gone) {
-                return true;
-            }
-        }
-        false
-    }
-
-    /// A call, where the record stands: on the desk that the callout's hint names, and where it isn't there on the others in rising
-    /// order. What it did and what leaves go to their places.
-    #[inline(always)]
-    pub(crate) fn call_found<R: Wait>(
-        &self,
-        rt: &R,
-        passes: &mut Passes,
-        act: u64,
-        i: u32,
-        op: &CallOp,
-        told: &mut Told,
-        gone: &mut Option<Moving<N>>,
-    )
-        requires { MayTry N.name self.now passes.old gone.old }
-        ensures { IsTried passes.old act i op.now true told.new gone.new passes.new }
-    {
-        for _ in rt.forever() {
-            let first = self.hint(i);
-            if self.call_at(rt, passes, act, i, op, first, told, gone) {
-                return;
-            }
-            if self.call_elsewhere(rt, passes, act, i, op, first, told, gone) {
-                return;
-            }
-        }
-        unreachable!()
+        let count = self.desks.len();
+        if cpu + 1 < count { cpu + 1 } else { 0 }
     }
 
     /// What left with a call lands.
@@ -116,13 +51,74 @@ impl<N: Name> Service<N> {
         leaves: Option<Moving<N>>,
         told: &mut Told,
     )
-        requires passes { AreOf N.name self.now passes.old }
-        requires leaving { IsOfService passes.old.params i leaves }
-        requires room { is_some leaves ≡ true → told.old.insertion ≡ None }
-        ensures { (p : PassesView) (op : CallOp) → IsAnswer p act i op told.old.out.reply (target_of leaves) (told_notes p.actor act i op told.old) passes.old → IsCalled p act i op told.new.out.reply (told_notes p.actor act i op told.new) passes.new }
+        requires { (p : PassesView) × (op : CallOp) × AreOf N.name self.now p × IsDone p act i op told.old leaves passes.old }
+        ensures called { (p : PassesView) (op : CallOp) → IsDone p act i op told.old leaves passes.old → IsCalled p act i op told.new.out.reply (told_notes p.actor act i op told.new) passes.new }
+        ensures kept { (p : PassesView) (op : CallOp) → AreOf N.name self.now p → IsDone p act i op told.old leaves passes.old → Keeps N.name self.now p passes.new }
     {
         if let Some(moving) = leaves {
             told.insertion = Some(self.land(rt, passes, act, moving));
         }
+    }
+
+    /// A call on callout `i`, the landing of its record at another CPU included. The caller's hold covers it.
+    ///
+    /// It waits for the desks' locks, and while the record is on its way. The caller still has in service what it had.
+    pub fn call<R: Wait>(
+        &self,
+        rt: &R,
+        passes: &mut Passes,
+        act: u64,
+        i: u32,
+        op: &CallOp,
+        hold: Option<&Hold<'_>>,
+    ) -> Made
+        requires passes { AreOf N.name self.now passes.old }
+        requires callout { i < length self.now.specs }
+        requires cpu { NamesCpu self.now.cpus op.now }
+        requires covered { covers (option_copied hold) (spec_at self.now i) op.now ≡ true }
+        ensures called { IsCalled passes.old act i op.now result.reply (notes_in result.notes) passes.new }
+        ensures kept { Keeps N.name self.now passes.old passes.new }
+    {
+        let actor = passes.actor();
+        let mut told = Told::none();
+        self.call_into(rt, passes, act, i, op, hold, &mut told);
+        told.answer(actor, act, i, op)
+    }
+
+    /// The same call. What it did goes to its place, and no note is made of it: for a caller that keeps none.
+    #[inline(always)]
+    pub fn call_into<R: Wait>(
+        &self,
+        rt: &R,
+        passes: &mut Passes,
+        act: u64,
+        i: u32,
+        op: &CallOp,
+        hold: Option<&Hold<'_>>,
+        told: &mut Told,
+    )
+        requires passes { AreOf N.name self.now passes.old }
+        requires callout { i < length self.now.specs }
+        requires cpu { NamesCpu self.now.cpus op.now }
+        requires covered { covers (option_copied hold) (spec_at self.now i) op.now ≡ true }
+        ensures called { IsCalled passes.old act i op.now told.new.out.reply (told_notes passes.old.actor act i op.now told.new) passes.new }
+        ensures kept { Keeps N.name self.now passes.old passes.new }
+    {
+        let _ = hold;
+        let mut leaves = None;
+        let mut cpu = self.hint(i);
+        for _ in rt.forever() {
+            let locked = &self.desks[cpu];
+            let here = locked
+                .desk
+                .lock(rt)
+                .call(&self.places, passes, act, i, op, told, &mut leaves);
+            if here {
+                self.land_left(rt, passes, act, i, leaves, told);
+                return;
+            }
+            cpu = self.next_desk(cpu);
+        }
+        unreachable!()
     }
 }

@@ -1,13 +1,10 @@
 //! The running service: each CPU's desk behind a lock of its own.
-ghost use Rattle.std.specs.Prelude.{◌≡◌, ◌<◌, IfErr, IfOk, false, length, true, vec_len};
+ghost use Rattle.std.specs.Prelude.{◌≡◌, ◌<◌, IfErr, IfOk, false, vec_len};
 ghost use Rattle.std.specs.declared.option.Option.TheVariants.{Some};
 ghost use Rattle.co_object.specs.Queue.{Due};
 ghost use Rattle.co_object.specs.Journal.{scanner};
-ghost use Rattle.std.specs.Option.{option_copied};
-ghost use Rattle.co_lock.specs.Covers.{covers};
 ghost use Rattle.co_lock.specs.Service.{hold_of};
 ghost use Rattle.co_service.specs.Booted.{AreBooted};
-ghost use Rattle.co_service.specs.Call.{IsCalled, NamesCpu, notes_in, told_notes};
 ghost use Rattle.co_service.specs.Closing.{AreAll, AreEnded, AreEndedCpus, HasEach};
 ghost use Rattle.co_service.specs.Fresh.{AreNamed};
 ghost use Rattle.co_service.specs.Outcomes.{IsScan};
@@ -22,11 +19,11 @@ use crate::desk::Desk;
 use crate::locked::{DeskHold, Inside, Locked, make_inside, open_desks};
 use crate::moving::Moving;
 use crate::places::Places;
-use crate::told::{Inserted, Told};
-use crate::{Fresh, Made, Name, Params, Passes, Scanned, Taken};
+use crate::told::Inserted;
+use crate::{Fresh, Made, Name, Params, Passes, Scanned};
 use co_life::Shown;
 use co_lock::Hold;
-use co_object::{CallOp, Spec};
+use co_object::Spec;
 use co_sbt::{NoMemory, Sbt, Seq};
 use std::alloc::Global;
 use std::marker::{Brand, Model};
@@ -148,56 +145,6 @@ impl<N: Name> Service<N> {
             }
         }
         unreachable!()
-    }
-
-    /// A call on callout `i`, the landing of its record at another CPU included. The caller's hold covers it.
-    ///
-    /// It waits for the desks' locks, and while the record is on its way. The caller still has in service what it had.
-    pub fn call<R: Wait>(
-        &self,
-        rt: &R,
-        passes: &mut Passes,
-        act: u64,
-        i: u32,
-        op: &CallOp,
-        hold: Option<&Hold<'_>>,
-    ) -> Made
-        requires passes { AreOf N.name self.now passes.old }
-        requires callout { i < length self.now.specs }
-        requires cpu { NamesCpu self.now.cpus op.now }
-        requires covered { covers (option_copied hold) (spec_at self.now i) op.now ≡ true }
-        ensures called { IsCalled passes.old act i op.now result.reply (notes_in result.notes) passes.new }
-        ensures kept { Keeps N.name self.now passes.old passes.new }
-    {
-        let actor = passes.actor();
-        let mut told = Told::none();
-        self.call_into(rt, passes, act, i, op, hold, &mut told);
-        told.answer(actor, act, i, op)
-    }
-
-    /// The same call. What it did goes to its place, and no note is made of it: for a caller that keeps none.
-    #[inline(always)]
-    pub fn call_into<R: Wait>(
-        &self,
-        rt: &R,
-        passes: &mut Passes,
-        act: u64,
-        i: u32,
-        op: &CallOp,
-        hold: Option<&Hold<'_>>,
-        told: &mut Told,
-    )
-        requires passes { AreOf N.name self.now passes.old }
-        requires callout { i < length self.now.specs }
-        requires cpu { NamesCpu self.now.cpus op.now }
-        requires covered { covers (option_copied hold) (spec_at self.now i) op.now ≡ true }
-        ensures called { IsCalled passes.old act i op.now told.new.out.reply (told_notes passes.old.actor act i op.now told.new) passes.new }
-        ensures kept { Keeps N.name self.now passes.old passes.new }
-    {
-        let _ = hold;
-        let mut leaves = None;
-        self.call_found(rt, passes, act, i, op, told, &mut leaves);
-        self.land_left(rt, passes, act, i, leaves, told);
     }
 
     /// What is due at this CPU has come due. It waits for the desk's lock.

@@ -7,7 +7,7 @@ use Rattle.co_object.specs.declared.reply.Reply.{Reply}
 use Rattle.co_service.specs.Books.{BooksView, history_at, is_kept}
 use Rattle.co_wheel.specs.declared.outs.CallOut.{CallOut}
 use Rattle.co_wheel.specs.Parcel.{Parcel}
-use Rattle.co_service.specs.Call.{IsAnswer, number_in, told_notes}
+use Rattle.co_service.specs.Call.{IsAnswer, due_in, number_in, told_notes}
 use Rattle.co_service.specs.Desk.{IsDesk}
 use Rattle.co_service.specs.Moving.{IsOfService, MayDepart, MovingView, departed, moving_from, target_of}
 use Rattle.co_service.specs.Views.{PassesView}
@@ -53,31 +53,31 @@ invariant_of-self g c =
 pub returns-clause-tried : goal.returns-clause-tried
 returns-clause-tried g c = record {
   none = λ gone. absurd (true≢false gone);
-  answer = λ _.
-      let desk : IsDesk c.self.inside.wheel c.meet.new.self c.self.inside.scans = subst (λ b. IsDesk c.self.inside.wheel b c.self.inside.scans) (sym c.meet.ensures.kept) c.self.invariant in
-      let same : is_kept c.meet.new.self c.args.i ≡ is_kept c.self.inside.books c.args.i = ap (λ (b : BooksView). is_kept b c.args.i) c.meet.ensures.kept in
-      let here : (H : List Entry) × (history_at c.meet.new.self c.args.i ≡ Some H) = some_of (history_at c.meet.new.self c.args.i) (cc) in
-      let params : c.meet.new.self.params ≡ c.meet.new.passes.params = ap (λ (b : BooksView). b.params) c.meet.ensures.kept ∙ (c.meet.ensures.params ∙ ap (λ (p : PassesView). p.params) (sym c.meet.ensures.passes)) in
+  some = λ _.
+      let p = c.args.passes.now in
+      let i = c.args.i in
+      let act = c.args.act in
+      let op = c.args.op.now in
+      let w = c.self.inside.wheel in
+      let w' = c.call_into.new.self in
+      let b = c.meet.new.self in
+      let b' = c.write_group.new.books in
+      let at = c.self.inside.scans in
+      let answer = c.call_into.new.out in
+      let desk : IsDesk w b at = subst (λ b. IsDesk w b at) (sym c.meet.ensures.kept) c.self.invariant in
+      let same : is_kept b i ≡ is_kept c.self.inside.books i = ap (λ (b : BooksView). is_kept b i) c.meet.ensures.kept in
+      let here : (H : List Entry) × (history_at b i ≡ Some H) = some_of (history_at b i) (cc) in
+      let params : b.params ≡ p.params = ap (λ (b : BooksView). b.params) c.meet.ensures.kept ∙ c.meet.ensures.params in
       let out = c.write_group.ensures.out in
-      let number : c.number-n.result ≡ number_in c.call_into.new.out.reply = c.number-n.ensures ∙ ap (λ (o : CallOut). number_in o.reply) out in
-      let moves = c.depart.ensures.moving ∙ (λ d. moving_from c.write_group.new.books (number d) (c.time.ensures d) (out d).leaves) in
-      subst (λ (t : PassesView × Option MovingView × Reply). IsAnswer t.0 c.args.act c.args.i c.args.op.now t.2 (target_of t.1) (told_notes t.0.actor c.args.act c.args.i c.args.op.now c.write_group.new.told) c.write_group.new.passes) (λ d. (c.meet.ensures.passes d, sym moves d, sym (ap (λ (o : CallOut). o.reply) c.write_group.ensures.out) d))
-      (answer_section c.self.inside.wheel c.call_into.new.self c.meet.new.self c.self.inside.scans c.args.i c.args.op.now c.call_into.new.out here.0 desk here.1 c.call_into.ensures c.meet.new.passes c.args.act c.write_group.new.books c.write_group.ensures.books
-      c.write_group.new.passes (told_notes c.meet.new.passes.actor c.args.act c.args.i c.args.op.now c.write_group.new.told) params c.write_group.ensures.placed c.write_group.ensures.seen c.write_group.ensures.written);
-  leaving = λ _.
-      let desk : IsDesk c.self.inside.wheel c.meet.new.self c.self.inside.scans = subst (λ b. IsDesk c.self.inside.wheel b c.self.inside.scans) (sym c.meet.ensures.kept) c.self.invariant in
-      let same : is_kept c.meet.new.self c.args.i ≡ is_kept c.self.inside.books c.args.i = ap (λ (b : BooksView). is_kept b c.args.i) c.meet.ensures.kept in
-      let here : (H : List Entry) × (history_at c.meet.new.self c.args.i ≡ Some H) = some_of (history_at c.meet.new.self c.args.i) (cc) in
-      let params : c.meet.new.self.params ≡ c.args.passes.now.params = ap (λ (b : BooksView). b.params) c.meet.ensures.kept ∙ c.meet.ensures.params in
-      let out = c.write_group.ensures.out in
-      let number : c.number-n.result ≡ number_in c.call_into.new.out.reply = c.number-n.ensures ∙ ap (λ (o : CallOut). number_in o.reply) out in
-      let moves = c.depart.ensures.moving ∙ (λ d. moving_from c.write_group.new.books (number d) (c.time.ensures d) (out d).leaves) in
-      subst (λ (m : Option MovingView). IsOfService c.args.passes.now.params c.args.i m) (sym moves)
-      (service_section c.self.inside.wheel c.call_into.new.self c.meet.new.self c.self.inside.scans c.args.i c.args.op.now c.call_into.new.out here.0 desk here.1 c.call_into.ensures c.meet.new.passes c.args.act c.write_group.new.books c.write_group.ensures.books c.args.passes.now.params params);
-  room = λ _ some.
-      let desk : IsDesk c.self.inside.wheel c.meet.new.self c.self.inside.scans = subst (λ b. IsDesk c.self.inside.wheel b c.self.inside.scans) (sym c.meet.ensures.kept) c.self.invariant in
-      let same : is_kept c.meet.new.self c.args.i ≡ is_kept c.self.inside.books c.args.i = ap (λ (b : BooksView). is_kept b c.args.i) c.meet.ensures.kept in
-      let here : (H : List Entry) × (history_at c.meet.new.self c.args.i ≡ Some H) = some_of (history_at c.meet.new.self c.args.i) (cc) in
-      c.write_group.ensures.room (leaves_nothing c.self.inside.wheel c.call_into.new.self c.meet.new.self c.self.inside.scans c.args.i c.args.op.now c.call_into.new.out here.0 desk here.1 c.call_into.ensures
-      c.write_group.new.books c.number-n.result c.time.result (ap is_some (sym (c.depart.ensures.moving ∙ (λ d. moving_from c.write_group.new.books c.number-n.result c.time.result (c.write_group.ensures.out d).leaves))) ∙ some));
+      let number : c.number-n.result ≡ number_in answer.reply = c.number-n.ensures ∙ ap (λ (o : CallOut). number_in o.reply) out in
+      let moves = c.depart.ensures.moving ∙ (λ d. moving_from b' (number d) (c.time.ensures d) (out d).leaves) in
+      record {
+        answer =
+            let written = answer_section w w' b at i op answer here.0 desk here.1 c.call_into.ensures c.meet.new.passes act b' c.write_group.ensures.books
+            c.write_group.new.passes (told_notes c.meet.new.passes.actor act i op c.write_group.new.told) (params ∙ ap (λ (p : PassesView). p.params) (sym c.meet.ensures.passes)) c.write_group.ensures.placed c.write_group.ensures.seen c.write_group.ensures.written in
+            subst (λ (t : PassesView × Option MovingView × Reply). IsAnswer t.0 act i op t.2 (target_of t.1) (told_notes t.0.actor act i op c.write_group.new.told) c.write_group.new.passes)
+            (λ d. (c.meet.ensures.passes d, sym moves d, sym (ap (λ (o : CallOut). o.reply) out) d)) written;
+        leaving = subst (λ (m : Option MovingView). IsOfService p.params i m) (sym moves) (service_section w w' b at i op answer here.0 desk here.1 c.call_into.ensures c.meet.new.passes act b' c.write_group.ensures.books p.params params);
+        room = λ some. c.write_group.ensures.room (leaves_nothing w w' b at i op answer here.0 desk here.1 c.call_into.ensures b' (number_in answer.reply) (due_in op) (ap is_some (sym moves) ∙ some));
+      };
 }
