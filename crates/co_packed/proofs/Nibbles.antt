@@ -1,5 +1,5 @@
 -- The sum of the widths of a row, by the halves of its bytes.
-use Rattle.std.proofs.Common.{ℕ, zero, suc, ◌≡◌, ◌<◌, ◌≤◌, ◌+◌, ◌*◌, ◌/◌, ◌%◌, ◌^◌, bit_and, ap, ◌∙◌, arith}
+use Rattle.std.proofs.Common.{ℕ, zero, suc, ◌≡◌, ◌≤◌, ◌+◌, ◌*◌, ◌/◌, ◌%◌, bit_and, ap, ◌∙◌, arith}
 use Rattle.std.proofs.lemmas.Nat.{and_mask, and_mod, and_shr, and_le_r}
 use Rattle.co_packed.proofs.Widths.{size_none, size_next}
 use Rattle.co_packed.specs.Rows.{size_in}
@@ -38,9 +38,6 @@ pairs_sum (suc more) n =
 size_low : (count n : ℕ) → size_in count n ≤ 15 * count
 size_low zero n = omega (arith, size_none n)
 size_low (suc count) n = omega (arith, size_next count n, size_low count (n / 16))
-
-pub pairs_fit : (n : ℕ) → bit_and n 1085102592571150095 + bit_and (n / 16) 1085102592571150095 < 2 ^ 64
-pairs_fit n = omega (arith, and_le_r n 1085102592571150095, and_le_r (n / 16) 1085102592571150095)
 
 pub size_of_pairs : (n : ℕ) → (bit_and n 1085102592571150095 + bit_and (n / 16) 1085102592571150095) % 255 ≡ size_in 16 n
 unfolding lower

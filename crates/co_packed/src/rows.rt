@@ -69,16 +69,16 @@ fn four_at(bytes: &[u8], at: usize, widths: u64) -> ([u64; 4], usize)
     let second = (widths / 16 % 16) as usize;
     let third = (widths / 256 % 16) as usize;
     let fourth = (widths / 4096 % 16) as usize;
-    let b = at + first;
-    let c = b + second;
-    let d = c + third;
+    let second_at = at + first;
+    let third_at = second_at + second;
+    let fourth_at = third_at + third;
     let numbers = [
         number_at(bytes, at, first),
-        number_at(bytes, b, second),
-        number_at(bytes, c, third),
-        number_at(bytes, d, fourth),
+        number_at(bytes, second_at, second),
+        number_at(bytes, third_at, third),
+        number_at(bytes, fourth_at, fourth),
     ];
-    (numbers, d + fourth)
+    (numbers, fourth_at + fourth)
 }
 
 /// Reads the row that the bytes begin with to where it is wanted, and gives how many bytes it has.
@@ -90,13 +90,13 @@ fn row_within(bytes: &[u8], row: &mut [u64; 16]) -> usize
     ensures size { result ≡ row_size bytes.now }
 {
     let widths = word_at(bytes, 0);
-    let (a, b_at) = four_at(bytes, 8, widths);
-    let (b, c_at) = four_at(bytes, b_at, widths / 0x1_0000);
-    let (c, d_at) = four_at(bytes, c_at, widths / 0x1_0000_0000);
-    let (d, end) = four_at(bytes, d_at, widths / 0x1_0000_0000_0000);
+    let (head, second_at) = four_at(bytes, 8, widths);
+    let (second, third_at) = four_at(bytes, second_at, widths / 0x1_0000);
+    let (third, fourth_at) = four_at(bytes, third_at, widths / 0x1_0000_0000);
+    let (fourth, end) = four_at(bytes, fourth_at, widths / 0x1_0000_0000_0000);
     *row = [
-        a[0], a[1], a[2], a[3], b[0], b[1], b[2], b[3], c[0], c[1], c[2], c[3], d[0], d[1], d[2],
-        d[3],
+        head[0], head[1], head[2], head[3], second[0], second[1], second[2], second[3], third[0],
+        third[1], third[2], third[3], fourth[0], fourth[1], fourth[2], fourth[3],
     ];
     end
 }
@@ -193,7 +193,8 @@ fn widths_at(bytes: &[u8]) -> u64
     }
 }
 
-/// The sum of sixteen widths.
+/// The sum of sixteen widths. The two of each byte are added first, and what is left of a number by 255 is the sum of its
+/// bytes, where that is less.
 #[inline]
 fn size_of(word: u64) -> usize
     ensures value { result ≡ size_in 16 word }
