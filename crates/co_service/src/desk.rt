@@ -1,5 +1,5 @@
 //! What one lock guards.
-ghost use Rattle.std.specs.Prelude.{◌≡◌, ◌≢◌, ◌<◌, ◌^◌, false, true};
+ghost use Rattle.std.specs.Prelude.{◌≡◌, ◌≢◌, ◌<◌, false, true};
 ghost use Rattle.std.specs.declared.option.Option.TheVariants.{Some, None};
 ghost use Rattle.co_object.specs.Journal.{scanner, step, reply_of, IsOfItsActor};
 ghost use Rattle.co_service.specs.Books.{is_kept};
@@ -7,7 +7,6 @@ ghost use Rattle.co_service.specs.Params.{actors_of, directs};
 ghost use Rattle.co_service.specs.May.{queue_of};
 ghost use Rattle.co_service.specs.Moving.{IsTried};
 ghost use Rattle.co_service.specs.Outcomes.{IsScan, turn};
-ghost use Rattle.co_wheel.specs.Cpu.{Cpu};
 ghost use Rattle.co_service.specs.Written.{AreHere, AreTogether, IsTurnWritten};
 ghost use Rattle.co_service.specs.Kept.{Answers};
 
