@@ -17,6 +17,7 @@ use Rattle.co_program.specs.declared.Role.TheVariants.{Client, Cpu, Interrupt}
 use Rattle.co_program.specs.Actors.{actor_count, role_of}
 use Rattle.co_grammar.specs.Spelling.{role_word, actor_word}
 use Rattle.co_script.proofs.told.Steps.{bind-ok, unless-ok, cond-ok}
+use Rattle.co_report.specs.declared.reading.names.Names.{Names}
 use Rattle.co_report.specs.declared.reading.values.Maker.{Maker}
 use Rattle.co_report.specs.NoteValues.{names_of, IsSmall, below, lettered, actor_in, is_slash, maker, maker_is}
 use Rattle.co_report.specs.NoteFits.{IsActor, IsLong, MakerFits}
@@ -25,7 +26,7 @@ use Rattle.co_report.proofs.ExactValues.{numbers, letters, lettered-part}
 
 -- ---- the slash
 
-abbrev no_slash : Word → Bool
+abbrev pub no_slash : Word → Bool
 no_slash w = list_all (λ c. not (is_slash c)) w
 
 digit-plain : (c : ℕ) → digit_value c < 10 → not (is_slash c) ≡ true
@@ -35,7 +36,7 @@ digits-plain : (ds : Word) → AllDigits 10 ds → no_slash ds ≡ true
 digits-plain [] all = refl
 digits-plain (d ∷ ds) all = and_from (not (is_slash d)) (no_slash ds) (digit-plain d all.0) (digits-plain ds all.1)
 
-lettered-plain : (c n : ℕ) → not (is_slash c) ≡ true → n < 2 ^ 64 → no_slash (c ∷ decimal n) ≡ true
+pub lettered-plain : (c n : ℕ) → not (is_slash c) ≡ true → n < 2 ^ 64 → no_slash (c ∷ decimal n) ≡ true
 lettered-plain c n e h = and_from (not (is_slash c)) (no_slash (decimal n)) e (digits-plain (decimal n) (decimal_is_IsNumeral n h).0.1)
 
 slash-place : (w v : Word) → no_slash w ≡ true → position_or_len is_slash (w ++ 47 ∷ v) ≡ length w
@@ -52,6 +53,17 @@ take-front (c ∷ w) v = ap (λ l. c ∷ l) (take-front w v)
 drop-front : (w v : Word) → drop (length w) (w ++ v) ≡ v
 drop-front [] v = refl
 drop-front (c ∷ w) v = drop-front w v
+
+-- an actor and an act, read apart
+abbrev pub maker_parts : Names → Word → Word → Result Maker Cause
+maker_parts n name rest = actor_in n name >>= λ a. lettered 47 (2 ^ 64) rest >>= λ m. Ok (record { actor = a; act = m })
+
+pub maker-parts : (n : Names) (name v : Word) → no_slash name ≡ true → maker n (name ++ 47 ∷ v) ≡ maker_parts n name (47 ∷ v)
+maker-parts n name v plain =
+    let w : Word = name ++ 47 ∷ v in
+    let front : before_first is_slash w ≡ name = ap (λ k. take k w) (slash-place name v plain) ∙ take-front name (47 ∷ v) in
+    let back : drop (length (before_first is_slash w)) w ≡ 47 ∷ v = ap (λ (x : Word). drop (length x) w) front ∙ drop-front name (47 ∷ v) in
+    ap (λ x. maker_parts n x (drop (length (before_first is_slash w)) w)) front ∙ ap (maker_parts n name) back
 
 rejoin : (k : ℕ) (w : Word) → take k w ++ drop (length (take k w)) w ≡ w
 rejoin zero w = refl
@@ -198,20 +210,11 @@ module _ (s : Script) (small : IsSmall s) where
   acts-exact : IsSpelling IsLong (λ n. 47 ∷ decimal n) (lettered 47 (2 ^ 64))
   acts-exact = letters 47 (2 ^ 64) refl (omega arith)
 
-  abbrev maker_parts : Word → Word → Result Maker Cause
-  maker_parts name rest = actor_in (names_of s) name >>= λ a. lettered 47 (2 ^ 64) rest >>= λ m. Ok (record { actor = a; act = m })
-
   maker-back : (m : Maker) → MakerFits s m.actor m.act → maker (names_of s) (maker_word m) ≡ Ok m
   maker-back m h =
-      let name : Word = actor_word s m.actor in
-      let place : position_or_len is_slash (maker_word m) ≡ length name = slash-place name (decimal m.act) (actor-plain m.actor h.0) in
-      let front : before_first is_slash (maker_word m) ≡ name = ap (λ k. take k (maker_word m)) place ∙ take-front name (47 ∷ decimal m.act) in
-      let back : drop (length (before_first is_slash (maker_word m))) (maker_word m) ≡ 47 ∷ decimal m.act =
-      ap (λ (w : Word). drop (length w) (maker_word m)) front ∙ drop-front name (47 ∷ decimal m.act) in
-      ap (λ n. maker_parts n (drop (length (before_first is_slash (maker_word m))) (maker_word m))) front
-      ∙ (ap (maker_parts name) back
+      maker-parts (names_of s) (actor_word s m.actor) (decimal m.act) (actor-plain m.actor h.0)
       ∙ (ap (λ r. r >>= λ a. lettered 47 (2 ^ 64) (47 ∷ decimal m.act) >>= λ x. Ok (record { actor = a; act = x })) (actor-back m.actor h.0)
-      ∙ ap (λ r. r >>= λ x. Ok (record { actor = m.actor; act = x })) (acts-exact.back m.act h.1)))
+      ∙ ap (λ r. r >>= λ x. Ok (record { actor = m.actor; act = x })) (acts-exact.back m.act h.1))
 
   maker-told : (w : Word) (m : Maker) → maker (names_of s) w ≡ Ok m → MakerFits s m.actor m.act × (w ≡ maker_word m)
   maker-told w m h =

@@ -19,7 +19,7 @@ use Rattle.co_report.proofs.PartSplits.{IsPart, is_mark, part_of}
 use Rattle.co_text.proofs.ValuesBack.{number-back, decimal-word, signed-word}
 use Rattle.co_script.proofs.told.Steps.{bind-ok, unless-ok, cond-ok}
 use Rattle.co_report.specs.NoteTexts.{arming_word, truth_word, word_or_dash}
-use Rattle.co_report.specs.NoteValues.{is_shortest, below, lettered, count64, count32, time_in_units, arming, given, or_dash, truth, negative, code, own_kind}
+use Rattle.co_report.specs.NoteValues.{is_shortest, below, lettered, count64, count32, time_in_units, arming, given, or_dash, truth, negative, positive, code, own_kind}
 use Rattle.co_report.specs.NoteFits.{IsTime, IsLong, IsCode}
 use Rattle.co_object.specs.declared.OwnKind.{OwnKind}
 use Rattle.co_object.specs.declared.OwnKind.TheVariants.{NotHeld, HoldsLock, Holding, NotHolding}
@@ -45,7 +45,7 @@ above-zero (c ∷ w) f =
     let other : (c == 48) ≡ false = grind (arith, nat_tests) in
     ap (λ b. (length w == 0) || not b) other ∙ or-true (length w == 0)
 
-shortest : (n : ℕ) → n < 2 ^ 64 → is_shortest (decimal n) ≡ true
+pub shortest : (n : ℕ) → n < 2 ^ 64 → is_shortest (decimal n) ≡ true
 shortest zero h = ap is_shortest (decimal_digit 0 (omega arith))
 shortest (suc n) h = above-zero (decimal (suc n)) (first_decimal (suc n) (omega arith) h)
 
@@ -59,7 +59,7 @@ zero-alone [] e z = absurd (omega (arith, z))
 zero-alone (c ∷ w) e z = alone c w (length w == 0) (c == 48) refl refl e z
 
 -- a word of digits without a zero in front is what its number is written by
-shortest-told : (w : Word) → is_shortest w ≡ true → list_all is_ascii_digit w ≡ true → 0 < length w → spelled w < 2 ^ 64 → w ≡ decimal (spelled w)
+pub shortest-told : (w : Word) → is_shortest w ≡ true → list_all is_ascii_digit w ≡ true → 0 < length w → spelled w < 2 ^ 64 → w ≡ decimal (spelled w)
 shortest-told w s all some small = sym (decimal-digits_value numerals w all some (zero-alone w s) small)
 
 -- a number below a bound of at most 64 bits
@@ -93,7 +93,7 @@ behind-told c (d ∷ w) v h = go (d == c) refl h where
   go true e k = let same : w ≡ v = cc in ap (λ x. x ∷ w) (eqb-true d c e) ∙ ap (λ x. c ∷ x) same
   go false e k = cc
 
-behind-back : (c : ℕ) (w : Word) → behind c (c ∷ w) ≡ Ok w
+pub behind-back : (c : ℕ) (w : Word) → behind c (c ∷ w) ≡ Ok w
 behind-back c w = ap (λ b. if b then Ok w else Err Form) (eq-eqb c c refl)
 
 pub lettered-part : (c n : ℕ) → is_mark c ≡ true → n < 2 ^ 64 → IsPart (c ∷ decimal n)
@@ -145,16 +145,14 @@ truths = record { back = back; told = told; ink = ink } where
   ink true h = lit (codes "1") refl
   ink false h = lit (codes "0") refl
 
-code-digits : (w : Word) (n : ℕ) → AllDigits 10 w → below (2 ^ 31) w ≡ Ok n → code w ≡ Ok (pos n)
-code-digits [] n all e = cc
-code-digits (c ∷ w) n all e = not-minus (c == 45) (differs c all.0)
-  where
-    differs : (c : ℕ) → digit_value c < 10 → (c == 45) ≡ false
-    differs c d = grind (arith, nat_tests)
+pub code-plain : (w : Word) → AllDigits 10 w → code w ≡ positive w
+code-plain [] all = refl
+code-plain (c ∷ w) all = ap (λ b. if b then (below (2 ^ 31 + 1) w >>= negative) else positive (c ∷ w)) (differs c all.0) where
+  differs : (c : ℕ) → digit_value c < 10 → (c == 45) ≡ false
+  differs c d = grind (arith, nat_tests)
 
-    not-minus : (b : Bool) → b ≡ false → (if b then (below (2 ^ 31 + 1) w >>= negative) else (below (2 ^ 31) (c ∷ w) >>= λ n. Ok (pos n))) ≡ Ok (pos n)
-    not-minus true f = cc
-    not-minus false f = ap (λ r. r >>= λ k. Ok (pos k)) e
+code-digits : (w : Word) (n : ℕ) → AllDigits 10 w → below (2 ^ 31) w ≡ Ok n → code w ≡ Ok (pos n)
+code-digits w n all e = code-plain w all ∙ ap (λ r. r >>= λ k. Ok (pos k)) e
 
 negative-told : (m : ℕ) (z : ℤ) (w : Word) → negative m ≡ Ok z → m < 2 ^ 31 + 1 → w ≡ decimal m → IsCode z × (45 ∷ w ≡ signed_decimal z)
 negative-told zero z w h small e = cc

@@ -18,6 +18,7 @@ pub mod PartSplits
 pub mod Exact
 pub mod ExactValues
 pub mod ExactActors
+pub mod PlainParts
 pub mod ExactNames
 pub mod ExactOperations
 pub mod ExactReplies

@@ -69,7 +69,7 @@ pub record IsPart (w : Word) : Type 0 where
 abbrev pub AreParts : List Word → Type 0
 AreParts ws = AllByRecursion IsPart ws
 
-mark-space : (c : ℕ) → is_mark c ≡ true → is_space c ≡ false
+pub mark-space : (c : ℕ) → is_mark c ≡ true → is_space c ≡ false
 mark-space c e = grind (arith, nat_tests)
 
 mark-feed : (c : ℕ) → is_mark c ≡ true → is_feed c ≡ false

@@ -14,6 +14,8 @@ pub mod Order
 pub mod Sections
 -- the parts of a line between its spaces
 pub mod Parts
+-- what is read straight from the text of a line: `A/M`
+pub mod Plain
 -- words of notes as values, each in one spelling: `#N`, `iN`, `pN`, `uN`, codes, `A/M`
 pub mod NoteValues
 -- the note that a line shows: NoteTexts read the other way

@@ -17,6 +17,7 @@ mod operations;
 pub mod packed;
 mod parts;
 pub mod places;
+mod plain;
 mod progress;
 mod queue;
 mod replies;

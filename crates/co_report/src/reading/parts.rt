@@ -1,10 +1,12 @@
 //! The parts of a line between its spaces, taken one by one.
-ghost use Rattle.std.specs.Prelude.{◌≡◌, ◌≤◌, ◌∷◌, [], Ok, true, length, MatchOption};
+ghost use Rattle.std.specs.Prelude.{◌≡◌, ◌≤◌, ◌∷◌, [], Ok, true, false, length, decimal, MatchOption};
 ghost use Rattle.std.specs.List.{position_or_len};
 ghost use Rattle.co_text.specs.Fallible.{Gives};
 ghost use Rattle.co_text.specs.Taking.{next, ended, option};
 ghost use Rattle.co_report.specs.Parts.{parts, parts_left, is_space};
+ghost use Rattle.co_report.specs.Plain.{by_word, is_actor_letter};
 
+use crate::reading::plain::{ActorAct, behind_word, lettered_part, maker_part, number_part};
 use co_text::Cause;
 use std::marker::Model;
 
@@ -64,19 +66,52 @@ impl<'a> Parts<'a> {
         }
     }
 
+    /// A number of up to 19 digits that is next in its shortest spelling. Then it is taken.
+    #[inline(always)]
+    pub fn number(&mut self) -> Option<u64>
+        ensures { MatchOption result (self.new ≡ self.old) (λ n. self.old ≡ decimal n ∷ self.new) }
+    {
+        let (number, rest) = number_part(self.rest?)?;
+        self.rest = rest;
+        Some(number)
+    }
+
+    /// The same of a number behind a letter.
+    #[inline(always)]
+    pub fn lettered(&mut self, letter: u8) -> Option<u64>
+        requires { is_space letter ≡ false }
+        ensures { MatchOption result (self.new ≡ self.old) (λ n. self.old ≡ (letter ∷ decimal n) ∷ self.new) }
+    {
+        let (number, rest) = lettered_part(letter, self.rest?)?;
+        self.rest = rest;
+        Some(number)
+    }
+
+    /// The same of the numbers of `A/M`.
+    #[inline(always)]
+    pub fn maker(&mut self) -> Option<ActorAct>
+        ensures { MatchOption result (self.new ≡ self.old) (λ by. (is_actor_letter by.letter ≡ true) × (self.old ≡ by_word by ∷ self.new)) }
+    {
+        let (by, rest) = maker_part(self.rest?)?;
+        self.rest = rest;
+        Some(by)
+    }
+
     /// Whether this word is next. Then it is taken.
+    #[tactic(auto, using(crate::proofs::PlainParts::is_taken, crate::proofs::PlainParts::not_next))]
+    #[inline(always)]
     pub fn option(&mut self, wanted: &[u8]) -> bool
         ensures { option wanted.now self.old ≡ Ok (result, self.new) }
     {
         let Some(text) = self.rest else {
             return false;
         };
-        let (part, rest) = split(text);
-        if part == wanted {
-            self.rest = rest;
-            true
-        } else {
-            false
+        match behind_word(wanted, text) {
+            Some(rest) => {
+                self.rest = rest;
+                true
+            }
+            None => false,
         }
     }
 

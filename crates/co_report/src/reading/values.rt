@@ -1,28 +1,21 @@
 //! The values that words of a note carry, each in its one spelling: no zero stands before another digit. Each function takes
 //! the next part of a line; it answers `Form` where there is none, or where it is not spelled so.
-ghost use Rattle.std.specs.Prelude.{◌≡◌, ◌==◌, ◌∷◌, ◌+◌, ◌≤◌, ◌<◌, ◌^◌, true, codes, length, IfOk};
+ghost use Rattle.std.specs.Prelude.{◌≡◌, ◌==◌, ◌∷◌, ◌++◌, ◌+◌, ◌≤◌, ◌<◌, ◌^◌, true, false, codes, decimal, length, IfOk};
 ghost use Rattle.std.specs.List.{position_or_len};
 ghost use Rattle.co_text.specs.Fallible.{Gives};
 ghost use Rattle.co_text.specs.Values.{behind};
 ghost use Rattle.co_text.specs.Taking.{next, is_next, after_next};
-ghost use Rattle.co_report.specs.NoteValues.{is_shortest, below, lettered, count64, count32, time_in_units, arming, given, callout_of, func_of, cpu_in, or_dash, truth, negative, positive, code, actor_in, is_slash, maker, maker_is, own_kind, HasFewActors};
+ghost use Rattle.co_report.specs.NoteValues.{below, lettered, count64, count32, time_in_units, arming, given, callout_of, func_of, cpu_in, or_dash, truth, negative, positive, code, actor_in, is_slash, maker, maker_is, own_kind, HasFewActors};
 ghost use Rattle.co_report.specs.NoteForms.{literal};
+ghost use Rattle.co_report.specs.Parts.{is_space};
+ghost use Rattle.co_report.specs.Plain.{is_actor_letter};
 
 use crate::reading::names::Names;
 use crate::reading::parts::Parts;
+use crate::reading::plain::is_shortest;
 use co_object::OwnKind;
 use co_sbt::Sbt;
 use co_text::{Cause, number};
-
-/// No zero stands before another digit.
-fn is_shortest(word: &[u8]) -> bool
-    ensures { result ≡ is_shortest word.now }
-{
-    match word {
-        [] => true,
-        [first, rest @ ..] => rest.is_empty() || *first != b'0',
-    }
-}
 
 /// A number below a bound.
 #[inline(always)]
@@ -61,7 +54,7 @@ fn lettered(letter: u8, bound: u128, word: &[u8]) -> Result<u128, Cause>
 }
 
 /// A letter and a number of 64 bits.
-#[inline(always)]
+#[inline(never)]
 fn lettered64(letter: u8, word: &[u8]) -> Result<u64, Cause>
     ensures { Gives (λ n. n) result (lettered letter (2 ^ 64) word.now) }
 {
@@ -69,14 +62,14 @@ fn lettered64(letter: u8, word: &[u8]) -> Result<u64, Cause>
 }
 
 /// A letter and a number below a bound of 32 bits.
-#[inline(always)]
+#[inline(never)]
 fn lettered32(letter: u8, bound: u32, word: &[u8]) -> Result<u32, Cause>
     ensures { Gives (λ n. n) result (lettered letter bound word.now) }
 {
     Ok(lettered(letter, u128::from(bound), word)? as u32)
 }
 
-#[inline(always)]
+#[inline(never)]
 fn count64(word: &[u8]) -> Result<u64, Cause>
     ensures { Gives (λ n. n) result (count64 word.now) }
 {
@@ -89,7 +82,7 @@ fn count32(word: &[u8]) -> Result<u32, Cause>
     Ok(below(0x1_0000_0000, word)? as u32)
 }
 
-#[inline(always)]
+#[inline(never)]
 fn time_in_units(word: &[u8]) -> Result<Sbt, Cause>
     ensures { Gives (λ t. t) result (time_in_units word.now) }
 {
@@ -97,38 +90,6 @@ fn time_in_units(word: &[u8]) -> Result<Sbt, Cause>
     match Sbt::new(units) {
         Some(time) => Ok(time),
         None => Err(Cause::Form),
-    }
-}
-
-fn cpu_or_dash(names: &Names, word: &[u8]) -> Result<Option<u32>, Cause>
-    ensures { Gives (λ c. c) result (or_dash (cpu_in names.now) word.now) }
-{
-    if word == b"-".as_slice() {
-        Ok(None)
-    } else {
-        Ok(Some(lettered32(b'p', names.cpus, word)?))
-    }
-}
-
-fn func_or_dash(names: &Names, word: &[u8]) -> Result<Option<u32>, Cause>
-    ensures { Gives (λ f. f) result (or_dash (func_of names.now) word.now) }
-{
-    if word == b"-".as_slice() {
-        Ok(None)
-    } else {
-        Ok(Some(lettered32(b'f', names.funcs, word)?))
-    }
-}
-
-fn truth_of(word: &[u8]) -> Result<bool, Cause>
-    ensures { Gives (λ b. b) result (truth word.now) }
-{
-    if word == b"1".as_slice() {
-        Ok(true)
-    } else if word == b"0".as_slice() {
-        Ok(false)
-    } else {
-        Err(Cause::Form)
     }
 }
 
@@ -223,7 +184,7 @@ fn name_length(word: &[u8]) -> usize
     word.iter().take_while(|c| **c != b'/').count()
 }
 
-#[inline(always)]
+#[inline(never)]
 fn maker_of(names: &Names, word: &[u8]) -> Result<Maker, Cause>
     requires { HasFewActors names.now }
     ensures { Gives (λ m. m) result (maker names.now word.now) }
@@ -268,12 +229,104 @@ fn own_kind_of(word: &[u8]) -> Result<OwnKind, Cause>
     }
 }
 
+/// A number that is to be below a bound.
+#[tactic(auto, using(crate::proofs::PlainParts::below_bound, crate::proofs::PlainParts::not_below))]
+#[inline(always)]
+fn small(bound: u32, number: u64) -> Result<u32, Cause>
+    ensures { Gives (λ n. n) result (below bound (decimal number)) }
+{
+    if number < u64::from(bound) {
+        Ok(number as u32)
+    } else {
+        Err(Cause::Form)
+    }
+}
+
+/// A number of 64 bits, which every one is.
+#[tactic(auto, using(crate::proofs::PlainParts::below_bound))]
+#[inline(always)]
+fn whole(number: u64) -> Result<u64, Cause>
+    ensures { Gives (λ n. n) result (below (2 ^ 64) (decimal number)) }
+{
+    Ok(number)
+}
+
+/// The time of so many units.
+#[tactic(auto, using(crate::proofs::PlainParts::below_bound, crate::proofs::PlainParts::not_below))]
+#[inline(always)]
+fn units_of(units: u64) -> Result<Sbt, Cause>
+    ensures { Gives (λ t. t) result (below (2 ^ 63) (decimal units)) }
+{
+    match Sbt::new(units) {
+        Some(time) => Ok(time),
+        None => Err(Cause::Form),
+    }
+}
+
+/// The number of an actor, by its letter and the number behind it.
+#[inline(always)]
+fn plain_actor(names: &Names, letter: u8, number: u64) -> Result<u32, Cause>
+    requires { HasFewActors names.now }
+    ensures { Gives (λ a. a) result (actor_in names.now (letter ∷ decimal number)) }
+{
+    match letter {
+        b'c' => small(names.clients, number),
+        b'p' => Ok(names.clients + small(names.cpus, number)?),
+        b'h' if names.version == 2 => {
+            Ok(names.clients + names.cpus + small(names.cpus, number)?)
+        }
+        _ => Err(Cause::Form),
+    }
+}
+
+/// Who made a note, by what was read of it.
+#[tactic(auto, using(crate::proofs::PlainParts::maker_ok, crate::proofs::PlainParts::maker_failed))]
+#[inline(always)]
+fn plain_maker(names: &Names, letter: u8, number: u64, act: u64) -> Result<Maker, Cause>
+    requires few { HasFewActors names.now }
+    requires letter { is_actor_letter letter ≡ true }
+    ensures { Gives (λ m. m) result (maker names.now (letter ∷ (decimal number ++ 47 ∷ decimal act))) }
+{
+    let actor = plain_actor(names, letter, number)?;
+    Ok(Maker { actor, act })
+}
+
+/// A letter and a number of 64 bits.
+#[tactic(auto, using(crate::proofs::PlainParts::lettered_carried))]
+#[inline(always)]
+fn next_lettered64(letter: u8, parts: &mut Parts) -> Result<u64, Cause>
+    requires { is_space letter ≡ false }
+    ensures { Gives (λ x. (x, parts.new)) result (next (lettered letter (2 ^ 64)) parts.old) }
+{
+    match parts.lettered(letter) {
+        Some(number) => whole(number),
+        None => lettered64(letter, parts.word()?),
+    }
+}
+
+/// A letter and a number below a bound of 32 bits.
+#[tactic(auto, using(crate::proofs::PlainParts::lettered_carried))]
+#[inline(always)]
+fn next_lettered32(letter: u8, bound: u32, parts: &mut Parts) -> Result<u32, Cause>
+    requires { is_space letter ≡ false }
+    ensures { Gives (λ x. (x, parts.new)) result (next (lettered letter bound) parts.old) }
+{
+    match parts.lettered(letter) {
+        Some(number) => small(bound, number),
+        None => lettered32(letter, bound, parts.word()?),
+    }
+}
+
 /// A number of 64 bits. `Form` where the next word is none.
+#[tactic(auto, using(crate::proofs::PlainParts::count_carried))]
 #[inline(always)]
 pub fn number64(parts: &mut Parts) -> Result<u64, Cause>
     ensures { Gives (λ x. (x, parts.new)) result (next count64 parts.old) }
 {
-    count64(parts.word()?)
+    match parts.number() {
+        Some(number) => whole(number),
+        None => count64(parts.word()?),
+    }
 }
 
 /// A number of 32 bits. `Form` where the next word is none.
@@ -284,66 +337,93 @@ pub fn number32(parts: &mut Parts) -> Result<u32, Cause>
 }
 
 /// `uN`: a time in units of 2^-32 s, below 2^63. `Form` where the next word is none.
+#[tactic(auto, using(crate::proofs::PlainParts::lettered_carried))]
 pub fn time(parts: &mut Parts) -> Result<Sbt, Cause>
     ensures { Gives (λ x. (x, parts.new)) result (next time_in_units parts.old) }
 {
-    time_in_units(parts.word()?)
+    match parts.lettered(b'u') {
+        Some(units) => units_of(units),
+        None => time_in_units(parts.word()?),
+    }
 }
 
 /// `#N`: the number of an arming, below 2^64. `Form` where the next word is none.
 pub fn arming(parts: &mut Parts) -> Result<u64, Cause>
     ensures { Gives (λ x. (x, parts.new)) result (next arming parts.old) }
 {
-    lettered64(b'#', parts.word()?)
+    next_lettered64(b'#', parts)
 }
 
 /// `aN`: a function's argument, below 2^64. `Form` where the next word is none.
 pub fn argument(parts: &mut Parts) -> Result<u64, Cause>
     ensures { Gives (λ x. (x, parts.new)) result (next given parts.old) }
 {
-    lettered64(b'a', parts.word()?)
+    next_lettered64(b'a', parts)
 }
 
 /// `iN`, a callout of the script.
 pub fn callout(names: &Names, parts: &mut Parts) -> Result<u32, Cause>
     ensures { Gives (λ x. (x, parts.new)) result (next (callout_of names.now) parts.old) }
 {
-    lettered32(b'i', names.timers, parts.word()?)
+    next_lettered32(b'i', names.timers, parts)
 }
 
 /// `fN`, a function of the script.
 pub fn func(names: &Names, parts: &mut Parts) -> Result<u32, Cause>
     ensures { Gives (λ x. (x, parts.new)) result (next (func_of names.now) parts.old) }
 {
-    lettered32(b'f', names.funcs, parts.word()?)
+    next_lettered32(b'f', names.funcs, parts)
 }
 
 /// `pN`, a CPU of the script.
 pub fn cpu(names: &Names, parts: &mut Parts) -> Result<u32, Cause>
     ensures { Gives (λ x. (x, parts.new)) result (next (cpu_in names.now) parts.old) }
 {
-    lettered32(b'p', names.cpus, parts.word()?)
+    next_lettered32(b'p', names.cpus, parts)
 }
 
 /// A CPU, or `-`.
+#[tactic(auto, using(crate::proofs::PlainParts::dash_taken, crate::proofs::PlainParts::dash_some))]
 pub fn cpu_or_none(names: &Names, parts: &mut Parts) -> Result<Option<u32>, Cause>
     ensures { Gives (λ x. (x, parts.new)) result (next (or_dash (cpu_in names.now)) parts.old) }
 {
-    cpu_or_dash(names, parts.word()?)
+    if parts.option(b"-".as_slice()) {
+        Ok(None)
+    } else {
+        match cpu(names, parts) {
+            Ok(cpu) => Ok(Some(cpu)),
+            Err(cause) => Err(cause),
+        }
+    }
 }
 
 /// A function, or `-`.
+#[tactic(auto, using(crate::proofs::PlainParts::dash_taken, crate::proofs::PlainParts::dash_some))]
 pub fn func_or_none(names: &Names, parts: &mut Parts) -> Result<Option<u32>, Cause>
     ensures { Gives (λ x. (x, parts.new)) result (next (or_dash (func_of names.now)) parts.old) }
 {
-    func_or_dash(names, parts.word()?)
+    if parts.option(b"-".as_slice()) {
+        Ok(None)
+    } else {
+        match func(names, parts) {
+            Ok(func) => Ok(Some(func)),
+            Err(cause) => Err(cause),
+        }
+    }
 }
 
 /// `1` for true, `0` for false. `Form` where the next word is neither.
+#[tactic(auto, using(crate::proofs::PlainParts::one_taken, crate::proofs::PlainParts::zero_taken, crate::proofs::PlainParts::neither_taken))]
 pub fn truth(parts: &mut Parts) -> Result<bool, Cause>
     ensures { Gives (λ x. (x, parts.new)) result (next truth parts.old) }
 {
-    truth_of(parts.word()?)
+    if parts.option(b"1".as_slice()) {
+        Ok(true)
+    } else if parts.option(b"0".as_slice()) {
+        Ok(false)
+    } else {
+        Err(Cause::Form)
+    }
 }
 
 /// A number of 32 bits with a sign. `Form` where the next word is none.
@@ -354,12 +434,16 @@ pub fn code(parts: &mut Parts) -> Result<i32, Cause>
 }
 
 /// `A/M`: an actor of the script, and the number of its act. `Form` where the next word is none.
+#[tactic(auto, using(crate::proofs::PlainParts::carried))]
 #[inline(always)]
 pub fn made_by(names: &Names, parts: &mut Parts) -> Result<Maker, Cause>
     requires { HasFewActors names.now }
     ensures { Gives (λ x. (x, parts.new)) result (next (maker names.now) parts.old) }
 {
-    maker_of(names, parts.word()?)
+    match parts.maker() {
+        Some(by) => plain_maker(names, by.letter, by.number, by.act),
+        None => maker_of(names, parts.word()?),
+    }
 }
 
 /// `A/M`, where A is this actor.
@@ -378,10 +462,12 @@ pub fn own_kind(parts: &mut Parts) -> Result<OwnKind, Cause>
 }
 
 /// This very word. `Form` where the next word is another.
+#[tactic(auto, using(crate::proofs::PlainParts::literal_taken, crate::proofs::PlainParts::literal_left))]
+#[inline(always)]
 pub fn literal(wanted: &[u8], parts: &mut Parts) -> Result<(), Cause>
     ensures { Gives (λ _. (true, parts.new)) result (literal wanted.now parts.old) }
 {
-    if parts.word()? == wanted {
+    if parts.option(wanted) {
         Ok(())
     } else {
         Err(Cause::Form)
