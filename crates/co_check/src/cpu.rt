@@ -1,8 +1,8 @@
 //! A CPU's timer queue alone, as a value that answers operations.
-ghost use Rattle.std.specs.Prelude.{◌≡◌, ◌<◌, ◌≤◌, false, length, IfOk, Some};
+ghost use Rattle.std.specs.Prelude.{◌≡◌, ◌<◌, false, length, IfOk, Some};
 ghost use Rattle.co_object.specs.declared.QOp.TheVariants as ops;
 ghost use Rattle.co_object.specs.declared.QReply.TheVariants as replies;
-ghost use Rattle.co_queue.specs.Timers.{IsSize, IsWheel, empty_timers};
+ghost use Rattle.co_queue.specs.Timers.{IsSize, IsWheel};
 ghost use Rattle.co_queue.specs.StandsFor.{taken};
 ghost use Rattle.co_check.specs.Cpu.{Answers, NamesCallout, empty_cpu};
 

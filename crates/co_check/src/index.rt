@@ -1,5 +1,7 @@
 //! The notes of each actor by their numbers.
-ghost use Rattle.std.specs.Prelude.{◌≡◌, ◌<◌, ◌≤◌, ◌^◌, ◌++◌, ◌∷◌, [], ℕ, List, length, map, replicate, slice_index, IfOk};
+ghost use Rattle.std.specs.Prelude.{◌≡◌, ◌<◌, ◌≤◌, ◌^◌, ◌++◌, ◌∷◌, [], ℕ, List, length, map, replicate, IfOk};
+ghost use Rattle.co_object.specs.declared.note.Note.{Note};
+ghost use Rattle.co_packed.specs.Heads.{head_of};
 ghost use Rattle.co_program.specs.Actors.{actor_count};
 ghost use Rattle.co_program.specs.declared.script.Script.{Script};
 ghost use Rattle.co_program.specs.Scripts.{IsScript};
@@ -11,9 +13,10 @@ ghost use Rattle.co_check.specs.Lines.{AreLinesOf, IsLineOf, lines_max};
 ghost use Rattle.co_check.specs.Numbers.{AreCounts};
 ghost use Rattle.co_check.specs.Shown.{actor_of};
 
-use crate::pass::next_note;
+use crate::pass::next_head;
 use crate::slot::Slot;
 use co_object::Note;
+use co_packed::Head;
 use co_program::{Script, actor_count, place_count, place_index};
 use co_report::PackedLines;
 use co_sbt::{NoMemory, Seq};
@@ -53,8 +56,8 @@ pub(crate) fn index_all(
     let mut index = Index::open(alloc, script, counts)?;
     let mut notes = lines.notes();
     for i in 0..lines.len() {
-        let note = next_note(&mut notes);
-        if !index.take(script, &note, i as u32) {
+        let head = next_head(&mut notes);
+        if !index.take(script, head, i as u32) {
             return Ok(Indexed::Bad {
                 line: lines.number(i),
             });
@@ -84,23 +87,24 @@ impl Index {
         Ok(Index { slots, latest })
     }
 
-    /// Takes the number of the next line, the one at `at` of all. False where something is wrong with it; then the index is
-    /// of no more use.
-    fn take(&mut self, script: &Script, note: &Note, at: u32) -> bool
+    /// Takes the number of the next line, the one at `at` of all, by the head of its note. False where something is wrong with
+    /// it; then the index is of no more use.
+    #[inline]
+    fn take(&mut self, script: &Script, head: Head, at: u32) -> bool
         requires script { IsScript script.now }
-        requires line { IsLineOf script.now (line_of 0 note.now) }
+        requires line { (note : Note) × (head ≡ head_of note) × IsLineOf script.now (line_of 0 note) }
         requires indexed { (lines : List Line) × (above : List Line) × IsIndexed script.now lines above self.old × (length lines ≤ lines_max) }
         requires at { at < lines_max }
-        ensures { (line : ℕ) (lines : List Line) (above : List Line) → at ≡ length above → IsIndexed script.now lines above self.old → IsNumbered script.now lines above (line_of line note.now) result self.new }
+        ensures { (note : Note) (line : ℕ) (lines : List Line) (above : List Line) → head ≡ head_of note → IsLineOf script.now (line_of 0 note) → at ≡ length above → IsIndexed script.now lines above self.old → IsNumbered script.now lines above (line_of line note) result self.new }
     {
-        let actor = note.entry.actor() as usize;
+        let actor = head.actor as usize;
         let row = &mut self.slots[actor];
-        if !put(row, note.pos, at) {
+        if !put(row, head.pos, at) {
             return false;
         }
-        let place = place_index(script, note.place);
+        let place = place_index(script, head.place);
         let high = &mut self.latest[place];
-        if !raise(high, actor, note.pos) {
+        if !raise(high, actor, head.pos) {
             return false;
         }
         true

@@ -1,8 +1,10 @@
 //! A pass over the notes of the lines, in order.
 ghost use Rattle.std.specs.Prelude.{◌≡◌, ◌≢◌, [], ◌∷◌};
+ghost use Rattle.co_object.specs.declared.note.Note.{Note};
+ghost use Rattle.co_packed.specs.Heads.{head_of};
 
 use co_object::Note;
-use co_packed::NotesAhead;
+use co_packed::{Head, NotesAhead};
 
 /// The next note of a pass that is not over.
 pub(crate) fn next_note(notes: &mut NotesAhead<'_>) -> Note
@@ -11,6 +13,18 @@ pub(crate) fn next_note(notes: &mut NotesAhead<'_>) -> Note
 {
     match notes.next() {
         Some(note) => note,
+        None => unreachable!(),
+    }
+}
+
+/// The head of the next note of a pass that is not over.
+#[inline]
+pub(crate) fn next_head(notes: &mut NotesAhead<'_>) -> Head
+    requires { notes.old ≢ [] }
+    ensures { (note : Note) × (notes.old ≡ note ∷ notes.new) × (result ≡ head_of note) }
+{
+    match notes.next_head() {
+        Some(head) => head,
         None => unreachable!(),
     }
 }

@@ -1,7 +1,6 @@
 //! Notes as lines.
 ghost use Rattle.std.specs.Prelude.{◌≡◌, ◌++◌, ◌∷◌, [], codes, decimal, OnOk};
 ghost use Rattle.co_text.specs.Lines.{line_text, spaced};
-ghost use Rattle.co_grammar.specs.Spelling.{actor_word};
 ghost use Rattle.co_report.specs.NoteTexts.{op_words, reply_words, queue_words, answer_words, own_words, answered, entry_words, note_words};
 
 mod call;

@@ -2,7 +2,7 @@
 ghost use Rattle.std.specs.Prelude.{◌≡◌, ◌≤◌, ◌<◌, ◌+◌, ◌^◌, ℕ, true, length, slice_index, OnOk, IfOk};
 ghost use Rattle.co_object.specs.Lists.{IsWellFormed};
 ghost use Rattle.co_program.specs.Places.{place_exists, HavePlaces, AllHavePlaces};
-ghost use Rattle.co_report.specs.Order.{place_index, place_count, count_in, all_of, AreCounts, starts_from, HasRoom, location, AreWritten, origins_in, ShowsHistories};
+ghost use Rattle.co_report.specs.Order.{place_index, place_count, count_in, AreCounts, starts_from, HasRoom, location, AreWritten, origins_in, ShowsHistories};
 
 use crate::origin::Origin;
 use crate::packing::packed_lists;

@@ -1,5 +1,5 @@
 //! Operations on a callout.
-ghost use Rattle.std.specs.Prelude.{◌≡◌, ◌++◌, ◌∷◌, [], codes, decimal, OnOk};
+ghost use Rattle.std.specs.Prelude.{◌≡◌, ◌++◌, ◌∷◌, [], codes, OnOk};
 ghost use Rattle.co_text.specs.Lines.{spaced};
 ghost use Rattle.co_report.specs.NoteTexts.{plain_words, op_words, truth_word};
 ghost use Rattle.co_object.specs.declared.Op.TheVariants as ops;

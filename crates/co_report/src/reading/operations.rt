@@ -1,7 +1,7 @@
 //! Operations on a callout, read from the words of a note.
 ghost use Rattle.std.specs.Prelude.{◌≡◌};
 ghost use Rattle.co_text.specs.Fallible.{Gives};
-ghost use Rattle.co_report.specs.NoteForms.{due_and_precision, target, reset_form, schedule_form, arming_and_cpu, pick_form, op_form, drain_form, adrain_form, begin_form, end_form, choice, run_forms, op_forms};
+ghost use Rattle.co_report.specs.NoteForms.{due_and_precision, target, reset_form, schedule_form, pick_form, op_form, drain_form, adrain_form, begin_form, end_form, choice, run_forms, op_forms};
 ghost use Rattle.co_object.specs.declared.Op.TheVariants as ops;
 ghost use Rattle.co_object.specs.declared.CallOp.TheVariants as calls;
 

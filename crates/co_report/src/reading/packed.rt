@@ -1,7 +1,7 @@
 //! A report that is read into few bytes.
-ghost use Rattle.std.specs.Prelude.{◌≡◌, IfOk};
+ghost use Rattle.std.specs.Prelude.{◌≡◌};
 ghost use Rattle.co_text.specs.Fallible.{GivesOrNoMemory};
-ghost use Rattle.co_report.specs.LineByLine.{before_all, standing, IsReading, Opening};
+ghost use Rattle.co_report.specs.LineByLine.{before_all, standing, IsReading};
 ghost use Rattle.co_report.specs.Reading.{report_read};
 
 use crate::packed_lines::PackedLines;

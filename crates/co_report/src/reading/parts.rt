@@ -1,5 +1,5 @@
 //! The parts of a line between its spaces, taken one by one.
-ghost use Rattle.std.specs.Prelude.{◌≡◌, ◌≤◌, ◌∷◌, [], Ok, true, false, length, decimal, MatchOption};
+ghost use Rattle.std.specs.Prelude.{◌≡◌, ◌≤◌, ◌∷◌, Ok, true, false, length, decimal, MatchOption};
 ghost use Rattle.std.specs.List.{position_or_len};
 ghost use Rattle.co_text.specs.Fallible.{Gives};
 ghost use Rattle.co_text.specs.Taking.{next, ended, option};

@@ -1,10 +1,10 @@
 //! The values that words of a note carry, each in its one spelling: no zero stands before another digit. Each function takes
 //! the next part of a line; it answers `Form` where there is none, or where it is not spelled so.
-ghost use Rattle.std.specs.Prelude.{◌≡◌, ◌==◌, ◌∷◌, ◌++◌, ◌+◌, ◌≤◌, ◌<◌, ◌^◌, true, false, codes, decimal, length, IfOk};
+ghost use Rattle.std.specs.Prelude.{◌≡◌, ◌==◌, ◌∷◌, ◌++◌, ◌+◌, ◌≤◌, ◌<◌, ◌^◌, true, false, decimal, length, IfOk};
 ghost use Rattle.std.specs.List.{position_or_len};
 ghost use Rattle.co_text.specs.Fallible.{Gives};
 ghost use Rattle.co_text.specs.Values.{behind};
-ghost use Rattle.co_text.specs.Taking.{next, is_next, after_next};
+ghost use Rattle.co_text.specs.Taking.{next};
 ghost use Rattle.co_report.specs.NoteValues.{below, lettered, count64, count32, time_in_units, arming, given, callout_of, func_of, cpu_in, or_dash, truth, negative, positive, code, actor_in, is_slash, maker, maker_is, own_kind, HasFewActors};
 ghost use Rattle.co_report.specs.NoteForms.{literal};
 ghost use Rattle.co_report.specs.Parts.{is_space};

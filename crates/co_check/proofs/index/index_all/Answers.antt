@@ -13,21 +13,21 @@ use Rattle.co_check.proofs.index.index_all.Goals as goal
 pub returns-then-not-take : goal.returns-then-not-take
 returns-then-not-take c =
     let lines = c.args.lines.now in
-    let ahead = line-ahead c.args.lines.now c.loop-i.i c.loop-i.invariant.notes c.next_note-note.ensures in
-    let l = line_of ahead.0 c.next_note-note.result in
+    let ahead = line-ahead c.args.lines.now c.loop-i.i c.loop-i.invariant.notes c.next_head-head.ensures.1 in
+    let l = line_of ahead.0 c.next_head-head.ensures.0 in
     let here = ahead.1 in
     c.loop-i.invariant.rest
     ∙ (first-at (number_at lines) lines c.loop-i.i l here Number
-    (c.if-not-take.ensures ahead.0 lines (take c.loop-i.i lines) (sym (length-take-le c.loop-i.i lines (omega arith))) c.loop-i.invariant.after)
+    (c.if-not-take.ensures c.next_head-head.ensures.0 ahead.0 lines (take c.loop-i.i lines) c.next_head-head.ensures.2 (fits-at c.args.script.now lines c.loop-i.i ahead.0 c.next_head-head.ensures.0 c.requires.lines ahead.1) (sym (length-take-le c.loop-i.i lines (omega arith))) c.loop-i.invariant.after)
     ∙ ap (λ line. Some (record { line = line; cause = Number })) (sym (c.number.ensures l here)))
 
 pub loop-i-preserved : goal.loop-i-preserved
 loop-i-preserved c =
     let lines = c.args.lines.now in
-    let ahead = line-ahead c.args.lines.now c.loop-i.i c.loop-i.invariant.notes c.next_note-note.ensures in
-    let l = line_of ahead.0 c.next_note-note.result in
+    let ahead = line-ahead c.args.lines.now c.loop-i.i c.loop-i.invariant.notes c.next_head-head.ensures.1 in
+    let l = line_of ahead.0 c.next_head-head.ensures.0 in
     let here = ahead.1 in
-    let taken = c.if-not-take.ensures ahead.0 lines (take c.loop-i.i lines) (sym (length-take-le c.loop-i.i lines (omega arith))) c.loop-i.invariant.after in
+    let taken = c.if-not-take.ensures c.next_head-head.ensures.0 ahead.0 lines (take c.loop-i.i lines) c.next_head-head.ensures.2 (fits-at c.args.script.now lines c.loop-i.i ahead.0 c.next_head-head.ensures.0 c.requires.lines ahead.1) (sym (length-take-le c.loop-i.i lines (omega arith))) c.loop-i.invariant.after in
     record {
       notes = ahead.2;
       after = subst (λ above. IsIndexed c.args.script.now lines above c.take.new.self) (sym (front lines c.loop-i.i l here)) taken.1;
@@ -36,11 +36,11 @@ loop-i-preserved c =
 
 pub take-requires-clause-line : goal.take-requires-clause-line
 take-requires-clause-line c =
-    let ahead = line-ahead c.args.lines.now c.loop-i.i c.loop-i.invariant.notes c.next_note-note.ensures in
-    fits-at c.args.script.now c.args.lines.now c.loop-i.i ahead.0 c.next_note-note.result c.requires.lines ahead.1
+    let ahead = line-ahead c.args.lines.now c.loop-i.i c.loop-i.invariant.notes c.next_head-head.ensures.1 in
+    (c.next_head-head.ensures.0, c.next_head-head.ensures.2, fits-at c.args.script.now c.args.lines.now c.loop-i.i ahead.0 c.next_head-head.ensures.0 c.requires.lines ahead.1)
 
-pub next_note-note-requires : goal.next_note-note-requires
-next_note-note-requires c = some-ahead c.args.lines.now c.loop-i.i (omega arith) c.loop-i.invariant.notes
+pub next_head-head-requires : goal.next_head-head-requires
+next_head-head-requires c = some-ahead c.args.lines.now c.loop-i.i (omega arith) c.loop-i.invariant.notes
 
 pub take-requires-clause-indexed : goal.take-requires-clause-indexed
 take-requires-clause-indexed c = (c.args.lines.now, take c.loop-i.i c.args.lines.now, c.loop-i.invariant.after, c.requires.few)
