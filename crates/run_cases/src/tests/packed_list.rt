@@ -3,7 +3,7 @@ use co_object::{
     AnyEntry, CallOp, Entry, Next, Note, Op, OwnEntry, OwnKind, Place, PlainOp, QEntry, QOp,
     QReply, Reply, RunOp,
 };
-use co_packed::PackedNotes;
+use co_packed::{Head, PackedNotes};
 use co_sbt::{NoMemory, Sbt, Seq};
 use std::alloc::Global;
 use std::test::Fail;
@@ -360,5 +360,30 @@ fn a_pass_over_a_packed_list_has_the_notes(rt: HostRuntime) -> Result<(), Fail> 
         assert!(rt; ahead.next() == Some(*note));
     }
     assert!(rt; ahead.next() == None);
+    Ok(())
+}
+
+/// Whether this is the head of this note.
+fn is_head_of(head: Option<Head>, note: &Note) -> bool {
+    match head {
+        Some(head) => {
+            head.place == note.place && head.pos == note.pos && head.actor == note.entry.actor()
+        }
+        None => false,
+    }
+}
+
+#[test]
+fn a_pass_over_the_heads_has_those_of_the_notes(rt: HostRuntime) -> Result<(), Fail> {
+    let mut packed = PackedNotes::new(rt.alloc());
+    let all = notes_of(rt.alloc(), NUMBERS[2])?;
+    for note in all.as_slice() {
+        packed.push(note)?;
+    }
+    let mut ahead = packed.ahead();
+    for note in all.as_slice() {
+        assert!(rt; is_head_of(ahead.next_head(), note));
+    }
+    assert!(rt; ahead.next_head().is_none());
     Ok(())
 }
