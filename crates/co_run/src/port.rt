@@ -129,7 +129,6 @@ fn call_of(i: u32, op: &PlainOp, answer: &PortReply) -> PortCall
 }
 
 impl<'a, N: Name, G: Gate, R: Wait> Port for ServicePort<'a, N, G, R> {
-
     type Origin = PortOrigin;
 
     ghost state = { λ p. record { specs = p.specs.now; cpus = p.service.now.cpus; origin = p.origin; made = p.calls.items; room = p.room } };
