@@ -1,10 +1,11 @@
 #!/usr/bin/env python3
-"""clients_apart.py PROGRAM ..: what `run` takes where four clients are each at a CPU of their own, and where all are at one, as a table.
+"""clients_apart.py PROGRAM ..: what `run` takes where four clients are each at a CPU of their own, where all are at one, and where each is at
+its own but the machine gives the program one processor alone, as a table.
 
 PROGRAM is the built callout; of further programs with the same texts the same is measured. A client calls 16 callouts of its own in
 turn, ACTS acts in all (default 60000): it resets and stops them, or stops them alone, or asks whether they are pending. The script is
 read from a file, and the report goes to /dev/null. Programs and places take turns. The times are by the clock, the least of RUNS (default 9) and the median; the ratios are those of the times at one
-CPU to those at CPUs of their own."""
+CPU, and of those on one processor, to those at CPUs of their own."""
 import os, subprocess, sys, tempfile, time
 
 RUNS, ACTS, CALLOUTS, CPUS = int(os.environ.get("RUNS", 9)), int(os.environ.get("ACTS", 60_000)), 16, 4
@@ -24,11 +25,11 @@ def script(acts, apart):
     return "\n".join(lines + [f"cpu {cpu}" for cpu in range(CPUS)] + [""]).encode()
 
 
-def once(program, text):
-    """Seconds by the clock of a run of the script that stands in this file."""
+def once(program, text, processors):
+    """Seconds by the clock of a run of the script that stands in this file, on these processors."""
     text.seek(0)
     start = time.perf_counter()
-    subprocess.run([program, "run"], stdin=text, stdout=subprocess.DEVNULL, check=True)
+    subprocess.run([program, "run"], stdin=text, stdout=subprocess.DEVNULL, check=True, preexec_fn=lambda: os.sched_setaffinity(0, processors))
     return time.perf_counter() - start
 
 
@@ -42,17 +43,20 @@ def file_of(text):
 
 def main():
     programs = sys.argv[1:] or sys.exit(__doc__)
-    print("| Program, acts | A CPU each: least | median | One CPU: least | median | Ratios |\n|---|---|---|---|---|---|")
+    print("| Program, acts | A CPU each: least | median | One CPU: least | median | One processor: least | median | Ratios |\n|---|---|---|---|---|---|---|---|")
+    every = os.sched_getaffinity(0)
     for name, acts in KINDS.items():
-        texts = [file_of(script(acts, apart)) for apart in (True, False)]
-        times = {(program, at): [] for program in programs for at in (0, 1)}
+        apart, together = (file_of(script(acts, at)) for at in (True, False))
+        ways = [(apart, every), (together, every), (apart, {max(every)})]
+        times = {(program, way): [] for program in programs for way in range(len(ways))}
         for _ in range(RUNS):
-            for program, at in times:
-                times[program, at].append(once(program, texts[at]))
+            for program, way in times:
+                times[program, way].append(once(program, *ways[way]))
         for program in programs:
-            apart, one = (sorted(times[program, at]) for at in (0, 1))
-            cells = [f"{seconds:.3f} s" for seconds in (apart[0], apart[RUNS // 2], one[0], one[RUNS // 2])]
-            ratios = f"{one[0] / apart[0]:.1f}, {one[RUNS // 2] / apart[RUNS // 2]:.1f}"
+            found = [sorted(times[program, way]) for way in range(len(ways))]
+            ends = [(one[0], one[RUNS // 2]) for one in found]
+            cells = [f"{seconds:.3f} s" for pair in ends for seconds in pair]
+            ratios = "; ".join(f"{least / ends[0][0]:.1f}, {median / ends[0][1]:.1f}" for least, median in ends[1:])
             print(f"| {os.path.basename(program)}, {name} | " + " | ".join(cells) + f" | {ratios} |", flush=True)
 
 
