@@ -3,7 +3,6 @@ use Rattle.std.proofs.Common.{◌≡◌, ℕ, Bool, true, List, [], ◌∷◌, �
 use Rattle.std.specs.Prelude.{Ok, codes, decimal}
 use Rattle.co_object.specs.declared.Op.{Op}
 use Rattle.co_object.specs.declared.Reply.{Reply}
-use Rattle.co_object.specs.declared.Reply.TheVariants as reply
 use Rattle.co_object.specs.declared.QOp.{QOp}
 use Rattle.co_object.specs.declared.QReply.{QReply}
 use Rattle.co_object.specs.declared.OwnKind.{OwnKind}

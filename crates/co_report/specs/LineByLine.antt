@@ -5,8 +5,10 @@ use Rattle.co_object.specs.declared.Place.{Place}
 use Rattle.co_program.specs.declared.Script.{Script}
 use Rattle.co_program.specs.Places.{place_exists}
 use Rattle.co_program.specs.Scripts.{IsScript}
-use Rattle.co_text.specs.Fallible.{◌>>=◌, Refusal, Faults}
+use Rattle.co_text.specs.Fallible.{◌>>=◌, Refusal, Faults, LineFails}
 use Rattle.co_text.specs.Lines.{Line, lines_of}
+use Rattle.co_text.specs.declared.cause.Cause.{Cause}
+use Rattle.co_text.specs.declared.cause.LineFault.{LineFault}
 use Rattle.co_text.specs.declared.cause.ScriptFault.{ScriptFault}
 use Rattle.co_report.specs.declared.line.Line.{Line as NoteLine}
 use Rattle.co_report.specs.declared.line.Report.{Report}
@@ -19,7 +21,7 @@ use Rattle.co_report.specs.NoteFits.{LineFits}
 use Rattle.co_report.specs.NoteForms.{note_of}
 use Rattle.co_report.specs.NoteValues.{names_of, IsSmall, HasFewActors}
 use Rattle.co_report.specs.Reading.{Progress, histories_read, opening, end_read}
-use Rattle.co_report.specs.ReadingViews.{IsSetting, IsReady, so_far}
+use Rattle.co_report.specs.ReadingViews.{IsSetting, IsReady, listed, so_far, with_line}
 use Rattle.co_report.specs.Reports.{places}
 
 -- note lines, and the number of the line `end` behind them
@@ -135,3 +137,13 @@ abbrev pub IsNext : Reader → Result Next ScriptFault → Reader → Type 0
 IsNext before (Ok (next.Note found)) after = IsFound before found after
 IsNext before (Ok (next.End end)) after = (standing before).ahead ≡ Ok (record { lines = []; end = end })
 IsNext before (Err e) after = Faults e (standing before).ahead
+
+-- a line is read, and behind these lines stands the note that it shows, if it shows one
+abbrev pub IsNotePacked : List NoteLine → Progress → Result (Unit {0}) LineFault → Result Progress Cause → List NoteLine → Type 0
+IsNotePacked lines d (Ok ok) read more = (found : Option NoteLine) × (read ≡ Ok (with_line d found)) × (more ≡ lines ++ listed found)
+IsNotePacked lines d (Err e) read more = LineFails e read
+
+-- so the reader has gone on, and with what is ahead of it these lines are the same; or the line is refused
+abbrev pub IsLinePacked : Reader → List NoteLine → Result (Unit {0}) ScriptFault → Reader → List NoteLine → Type 0
+IsLinePacked before lines (Ok ok) after more = GoesOn before after × (behind more (standing after).ahead ≡ behind lines (standing before).ahead)
+IsLinePacked before lines (Err e) after more = Faults e (standing before).ahead

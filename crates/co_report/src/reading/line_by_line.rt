@@ -1,15 +1,16 @@
 //! A report that is read line by line: first its script, and then each note line when it is asked for.
-ghost use Rattle.std.specs.Prelude.{◌≡◌, ◌≤◌, ◌<◌, ◌∷◌, Some, [], length, IfOk, OnOk, Option};
+ghost use Rattle.std.specs.Prelude.{◌≡◌, ◌≤◌, ◌<◌, ◌∷◌, ◌++◌, Some, [], length, IfOk, OnOk, Option};
 ghost use Rattle.co_program.specs.Scripts.{IsScript};
-ghost use Rattle.co_text.specs.Fallible.{Gives, LineGives};
+ghost use Rattle.co_text.specs.Fallible.{Gives, GivesOrNoMemory, LineGives};
 ghost use Rattle.co_text.specs.Lines.{lines_of, Line as TextLine};
-ghost use Rattle.co_report.specs.LineByLine.{before_all, line_at, standing, IsOpened, IsReading, IsLineRead, IsNext};
+ghost use Rattle.co_report.specs.LineByLine.{before_all, line_at, standing, IsOpened, IsReading, IsLinePacked, IsLineRead, IsNext, IsNotePacked};
 ghost use Rattle.co_report.specs.NoteForms.{note_of};
 ghost use Rattle.co_report.specs.NoteValues.{names_of};
 ghost use Rattle.co_report.specs.Reading.{halves_read, line_after, lines_report, report_read};
 ghost use Rattle.co_report.specs.ReadingViews.{halves_view, so_far, with_line, listed, AreAtMost, IsReady, IsSetting};
 
 use crate::line::Line;
+use crate::packed_lines::PackedLines;
 use crate::reading::names::{Names, names_of};
 use crate::reading::notes::note_of;
 use crate::reading::places::places;
@@ -216,7 +217,88 @@ fn take_note(
     Ok(found)
 }
 
+/// Packs the line that a list has behind others, if it has one, and takes it out of the list.
+fn pack_found(found: &mut Seq<Line>, lines: &mut PackedLines) -> Result<(), NoMemory>
+    requires { length found.old ≤ 1 }
+    ensures packed { OnOk result (lines.new ≡ lines.old ++ found.old) }
+    ensures none { OnOk result (found.new ≡ []) }
+{
+    if let [line, ..] = found.as_slice() {
+        lines.push(line)?;
+    }
+    found.clear();
+    Ok(())
+}
+
+/// Reads a line, and packs the note that it shows behind these lines, if it shows one.
+fn pack_note(
+    alloc: Global,
+    setting: &Setting,
+    progress: &mut Progress,
+    number: u64,
+    line: &[u8],
+    lines: &mut PackedLines,
+) -> Result<(), LineFault>
+    requires setting { IsSetting setting.now }
+    requires spelled { IsReady setting.now progress.old }
+    requires none { progress.old.lines ≡ [] }
+    ensures value { IsNotePacked lines.old (so_far setting.now progress.new) result (line_after setting.now.script.now number (so_far setting.now progress.old) line.now) lines.new }
+    ensures spelled { OnOk result (IsReady setting.now progress.new) }
+    ensures none { OnOk result (progress.new.lines ≡ []) }
+{
+    progress.line(alloc, setting, number, line)?;
+    pack_found(&mut progress.lines, lines)?;
+    Ok(())
+}
+
 impl<'a> Reader<'a> {
+    /// Reads the next line, behind which `after` stands, and packs the note that it shows behind these lines, if it shows one.
+    fn pack_line(
+        &mut self,
+        alloc: Global,
+        line: &[u8],
+        after: &'a [u8],
+        lines: &mut PackedLines,
+    ) -> Result<(), ScriptFault>
+        requires reading { IsReading self.old }
+        requires next { (l : TextLine) × (l.bytes ≡ line.now) × (lines_of self.old.rest.now ≡ l ∷ lines_of after.now) }
+        requires shorter { length after.now < length self.old.rest.now }
+        ensures { IsLinePacked self.old lines.old result self.new lines.new }
+    {
+        let number = self.number;
+        match pack_note(
+            alloc,
+            &self.setting,
+            &mut self.progress,
+            number,
+            line,
+            lines,
+        ) {
+            Ok(()) => {
+                self.rest = after;
+                self.number = number + 1;
+                Ok(())
+            }
+            Err(fault) => Err(fault.at(number)),
+        }
+    }
+
+    /// Packs all note lines that are ahead, with the number of the line `end` behind them; or tells the first bad line, as
+    /// `read_report` refuses it. No line is handed on by value: it is packed from where it was read.
+    pub fn pack(&mut self, alloc: Global) -> Result<(PackedLines, u64), ScriptFault>
+        requires { IsReading self.old }
+        ensures { GivesOrNoMemory (λ x. record { lines = x.0; end = x.1 }) result (standing self.old).ahead }
+    {
+        let mut lines = PackedLines::new(alloc);
+        while let Some((line, _, after)) = next_line(self.rest) {
+            self.pack_line(alloc, line, after, &mut lines)?;
+        }
+        match self.progress.end {
+            Some(end) => Ok((lines, end)),
+            None => Err(bad(self.number, Cause::Note)),
+        }
+    }
+
     /// Reads the next line, behind which `after` stands.
     fn read_line(
         &mut self,

@@ -1,13 +1,12 @@
 //! A report that is read into few bytes.
 ghost use Rattle.std.specs.Prelude.{◌≡◌};
 ghost use Rattle.co_text.specs.Fallible.{GivesOrNoMemory};
-ghost use Rattle.co_report.specs.LineByLine.{before_all, standing, IsReading};
+ghost use Rattle.co_report.specs.LineByLine.{before_all};
 ghost use Rattle.co_report.specs.Reading.{report_read};
 
 use crate::packed_lines::PackedLines;
-use crate::reading::line_by_line::{Next, OpenReport, Reader, open_report};
+use crate::reading::line_by_line::{OpenReport, open_report};
 use crate::reading::texts::no_memory;
-use co_object::{AnyEntry, CallOp, Entry, Op, PlainOp, QEntry, QOp, QReply, Reply, RunOp};
 use co_program::Script;
 use co_text::ScriptFault;
 use std::alloc::Global;
@@ -54,37 +53,14 @@ impl PackedReport {
     }
 }
 
-/// The lines that are ahead of a reader, and the number of the line `end`.
-fn lines_ahead(alloc: Global, reader: &mut Reader) -> Result<(PackedLines, u64), ScriptFault>
-    requires { IsReading reader.old }
-    ensures { GivesOrNoMemory (λ x. record { lines = x.0; end = x.1 }) result (standing reader.old).ahead }
-{
-    // The checker wants each enum inside a line that holds a time to be named where a line is passed on.
-    let _call = Op::Call(CallOp::Plain(PlainOp::Stop));
-    let _run = Op::Run(RunOp::Begin { n: 0, cpu: 0 });
-    let _parts: (Option<Entry>, Option<QEntry>, Option<AnyEntry>) = (None, None, None);
-    let _answers = (Reply::Busy, QOp::Pop, QReply::Empty);
-    let mut lines = PackedLines::new(alloc);
-    loop {
-        match reader.next(alloc)? {
-            Next::Note(found) => match lines.push(&found.line) {
-                Ok(()) => {}
-                Err(fault) => return Err(no_memory(fault)),
-            },
-            Next::End(end) => return Ok((lines, end)),
-        }
-    }
-}
-
 /// The lines of the histories of an open report, and the number of the line `end`.
 fn lines_of(alloc: Global, report: &OpenReport) -> Result<(PackedLines, u64), ScriptFault>
     ensures { GivesOrNoMemory (λ x. record { lines = x.0; end = x.1 }) result (before_all report.now).ahead }
 {
-    let mut reader = match report.reader(alloc) {
-        Ok(reader) => reader,
-        Err(fault) => return Err(no_memory(fault)),
-    };
-    lines_ahead(alloc, &mut reader)
+    match report.reader(alloc) {
+        Ok(mut reader) => reader.pack(alloc),
+        Err(fault) => Err(no_memory(fault)),
+    }
 }
 
 /// The report that a text stands for, as `read_report` gives it, in few bytes; or the same refusal.
