@@ -241,6 +241,9 @@ code_too_low n small more = ap (λ x. x >>= negative) (not_below (2 ^ 31 + 1) n 
 pub code_carried : (w : Word) (ws us : List Word) (r : Result ℤ Cause) → ws ≡ w ∷ us → Gives (λ z. z) r (code w) → Gives (λ x. (x, us)) r (next code ws)
 code_carried w ws us r e h = carried code (λ z. z) w ws us r e h
 
+pub code_left : {X : Type 0} (view : X → ℤ × List Word) (r : Result X Cause) (ws us : List Word) → us ≡ ws → Gives view r (next code us) → Gives view r (next code ws)
+code_left view r ws us e h = subst (λ (vs : List Word). Gives view r (next code vs)) e h
+
 -- ---- words that are next
 
 pub dash_taken : {X : Type 0} (value : Word → Result X Cause) (ws us : List Word) → option (codes "-") ws ≡ Ok (true, us) → next (or_dash value) ws ≡ Ok (None, us)

@@ -68,6 +68,13 @@ fn plain_negative(size: u64) -> Result<i32, Cause>
     }
 }
 
+/// A code, taken as a word.
+fn code_by_word(parts: &mut Parts) -> Result<i32, Cause>
+    ensures { Gives (λ x. (x, parts.new)) result (next code parts.old) }
+{
+    code_of(parts.word()?)
+}
+
 /// A code that is no number in its shortest spelling.
 #[tactic(auto, using(crate::proofs::PlainParts::code_carried))]
 #[inline(always)]
@@ -76,7 +83,7 @@ fn signed_code(parts: &mut Parts) -> Result<i32, Cause>
 {
     match parts.lettered(b'-') {
         Some(size) => plain_negative(size),
-        None => code_of(parts.word()?),
+        None => code_by_word(parts),
     }
 }
 
