@@ -19,6 +19,7 @@ pub mod Exact
 pub mod ExactValues
 pub mod ExactActors
 pub mod PlainParts
+mod Keywords
 pub mod ExactNames
 pub mod ExactOperations
 pub mod ExactReplies

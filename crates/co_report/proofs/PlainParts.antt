@@ -1,8 +1,8 @@
 -- What stands at the front of a text is its first part, or the front of it.
-use Rattle.std.proofs.Common.{◌≡◌, ℕ, ◌+◌, ◌^◌, ◌<◌, ◌≤◌, Bool, true, false, not, ◌&&◌, List, [], ◌∷◌, ◌++◌, length, take, drop, get_or, refl, ap, sym, subst, ◌∙◌, arith, decimal, append-nil}
-use Rattle.std.specs.Prelude.{Option, Some, None, MatchOption, Result, Ok, Err, codes, nat_lt, ◌==◌, if◌then◌else◌}
-use Rattle.std.specs.Borrow.{Bor}
-use Rattle.std.proofs.lemmas.List.{drop_more, drop_all, length-take-le, take-append-drop}
+use Rattle.std.proofs.Common.{◌≡◌, ℕ, ◌+◌, ◌^◌, ◌<◌, ◌≤◌, Bool, true, false, not, ◌&&◌, List, [], ◌∷◌, ◌++◌, length, take, drop, get_or, refl, ap, sym, subst, ◌∙◌, arith, decimal, append-nil, ℤ, pos}
+use Rattle.std.specs.Prelude.{Option, Some, None, Result, Ok, Err, codes, nat_lt, ◌==◌, if◌then◌else◌}
+use Rattle.std.proofs.lemmas.Fmt.{decimal_is_IsNumeral}
+use Rattle.std.proofs.lemmas.List.{drop_more, length-take-le, take-append-drop}
 use Rattle.std.specs.List.{list_all}
 use Rattle.std.specs.Char.{is_ascii_digit}
 use Rattle.std.proofs.lemmas.Bool.{and_parts, and_from, not-true, eqb-true, eq-eqb, lt-ltb, le-ltb}
@@ -17,14 +17,14 @@ use Rattle.co_text.specs.declared.cause.Cause.TheVariants.{Form}
 use Rattle.co_text.proofs.ValuesBack.{number-back, decimal-word}
 use Rattle.co_report.proofs.PartSplits.{is_mark, part_of, mark-space, parts-some}
 use Rattle.co_report.proofs.Exact.{same_word, same_pair}
-use Rattle.co_report.proofs.ExactValues.{shortest, shortest-told, letters, behind-back}
+use Rattle.co_report.proofs.ExactValues.{shortest, shortest-told, letters, behind-back, code-plain, codes-exact}
 use Rattle.co_report.proofs.ExactActors.{maker-parts, lettered-plain}
 use Rattle.co_report.specs.declared.reading.names.Names.{Names}
 use Rattle.co_report.specs.declared.reading.plain.ActorAct.{ActorAct}
 use Rattle.co_report.specs.Plain.{behind_end, behind_word, is_actor_letter, by_word}
 use Rattle.co_report.specs.NoteForms.{literal}
-use Rattle.co_report.specs.Parts.{is_space, parts_behind, parts, parts_left}
-use Rattle.co_report.specs.NoteValues.{is_shortest, below, lettered, or_dash, truth, count64, actor_in, is_slash, maker}
+use Rattle.co_report.specs.Parts.{is_space, parts_behind, parts}
+use Rattle.co_report.specs.NoteValues.{is_shortest, below, lettered, or_dash, truth, count64, count32, negative, code, actor_in, is_slash, maker}
 
 -- ---- no space
 
@@ -95,44 +95,15 @@ told [] (c ∷ text) = told_end (is_space c) c (parts text)
 told (c ∷ w) [] = refl
 told (c ∷ w) (d ∷ text) = told_byte (c == d) (is_space c) c d w (parts text) (behind_word w text) refl refl (parts-some text) (told w text)
 
--- ---- the comparison, byte by byte
+-- ---- a text shorter than the word
 
-pub ends_short : (w text : List ℕ) (i : ℕ) → i < length w → length text ≤ i → behind_word (drop i w) (drop i text) ≡ None
-ends_short w text i inside over = ap (λ v. behind_word v (drop i text)) (drop_more w i 0 inside) ∙ ap (behind_word (get_or w i 0 ∷ drop (i + 1) w)) (drop_all i text over)
-
-compared : (w text : List ℕ) (i : ℕ) → i < length w → i < length text
-    → behind_word (drop i w) (drop i text) ≡ (if (get_or w i 0 == get_or text i 0) && not (is_space (get_or w i 0)) then behind_word (drop (i + 1) w) (drop (i + 1) text) else None)
-compared w text i inside within = ap (λ v. behind_word v (drop i text)) (drop_more w i 0 inside) ∙ ap (behind_word (get_or w i 0 ∷ drop (i + 1) w)) (drop_more text i 0 within)
-
-pub ends_space : (w text : List ℕ) (i : ℕ) → i < length w → i < length text → get_or w i 0 ≡ 32 → behind_word (drop i w) (drop i text) ≡ None
-ends_space w text i inside within e = compared w text i inside within ∙ go (get_or w i 0 == get_or text i 0) (is_space (get_or w i 0)) (eq-eqb (get_or w i 0) 32 e) where
-  go : (a b : Bool) → b ≡ true → (if a && not b then behind_word (drop (i + 1) w) (drop (i + 1) text) else None) ≡ None
-  go true true f = refl
-  go false true f = refl
-  go a false f = cc
-
-pub ends_other : (w text : List ℕ) (i : ℕ) → i < length w → i < length text → (get_or text i 0 ≡ get_or w i 0 → ⊥) → behind_word (drop i w) (drop i text) ≡ None
-ends_other w text i inside within e = compared w text i inside within ∙ ap (λ a. if a && not (is_space (get_or w i 0)) then behind_word (drop (i + 1) w) (drop (i + 1) text) else None) (differs (get_or w i 0) (get_or text i 0) e) where
-  differs : (a b : ℕ) → (b ≡ a → ⊥) → (a == b) ≡ false
-  differs a b e = grind (arith, nat_tests)
-
-pub one_more : (w text : List ℕ) (i : ℕ) → i < length w → i < length text → (get_or w i 0 ≡ 32 → ⊥) → get_or text i 0 ≡ get_or w i 0
-    → behind_word (drop i w) (drop i text) ≡ behind_word (drop (i + 1) w) (drop (i + 1) text)
-one_more w text i inside within other same =
-    compared w text i inside within
-    ∙ (ap (λ a. if a && not (is_space (get_or w i 0)) then behind_word (drop (i + 1) w) (drop (i + 1) text) else None) (eq-eqb (get_or w i 0) (get_or text i 0) (sym same))
-    ∙ ap (λ b. if not b then behind_word (drop (i + 1) w) (drop (i + 1) text) else None) (tight (get_or w i 0) other))
-  where
-    tight : (c : ℕ) → (c ≡ 32 → ⊥) → is_space c ≡ false
-    tight c e = grind (arith, nat_tests)
-
-pub all_of_it : (w text : List ℕ) (i : ℕ) (rest : List ℕ) → length w ≤ i → i ≤ length w → rest ≡ drop (length w) text → behind_word (drop i w) (drop i text) ≡ behind_end rest
-all_of_it w text i rest over within e =
-    let end : i ≡ length w = omega arith in
-    ap (λ v. behind_word v (drop i text)) (drop_all i w over) ∙ (ap (λ k. behind_end (drop k text)) end ∙ ap behind_end (sym e))
-
-pub carry_end : (r : Option (Option (Bor (List ℕ)))) (a b : Option (List Word)) → a ≡ b → MatchOption r (b ≡ None) (λ rest. b ≡ Some (parts_left rest)) → MatchOption r (a ≡ None) (λ rest. a ≡ Some (parts_left rest))
-carry_end r a b e h = subst (λ x. MatchOption r (x ≡ None) (λ rest. x ≡ Some (parts_left rest))) (sym e) h
+pub too_short : (w text : List ℕ) → length text < length w → behind_word w text ≡ None
+too_short [] text less = absurd (omega arith)
+too_short (c ∷ w) [] less = refl
+too_short (c ∷ w) (d ∷ text) less = ap (λ (o : Option (List Word)). if (c == d) && not (is_space c) then o else None) (too_short w text (omega arith)) ∙ none ((c == d) && not (is_space c)) where
+  none : (b : Bool) → ◌≡◌ {A = Option (List Word)} (if b then None else None) None
+  none true = refl
+  none false = refl
 
 -- what taking a word from the front gives
 pub not_next : (w : Word) (text : List ℕ) → behind_word w text ≡ None → option w (parts text) ≡ Ok (false, parts text)
@@ -154,14 +125,14 @@ next_if {X} v x f (w ∷ ws) = go (is_word w v) where
   go true = refl
   go false = refl
 
-taken-head : (v : Word) (ws us : List Word) → option v ws ≡ Ok (true, us) → ws ≡ v ∷ us
-taken-head v [] us e = let f : false ≡ true = (same_pair false true [] us e).0 in cc
-taken-head v (w ∷ ws) us e = go (is_word w v) refl e where
+pub taken_head : (v : Word) (ws us : List Word) → option v ws ≡ Ok (true, us) → ws ≡ v ∷ us
+taken_head v [] us e = let f : false ≡ true = (same_pair false true [] us e).0 in cc
+taken_head v (w ∷ ws) us e = go (is_word w v) refl e where
   go : (b : Bool) → is_word w v ≡ b → ◌≡◌ {A = Read Bool} (if b then Ok (true, ws) else Ok (false, w ∷ ws)) (Ok (true, us)) → w ∷ ws ≡ v ∷ us
   go true f h = ap (λ x. x ∷ ws) (same_word w v f) ∙ ap (λ xs. v ∷ xs) (same_pair true true ws us h).1
   go false f h = let g : false ≡ true = (same_pair false true (w ∷ ws) us h).0 in cc
 
-not_taken : (v : Word) (ws us : List Word) → option v ws ≡ Ok (false, us) → us ≡ ws
+pub not_taken : (v : Word) (ws us : List Word) → option v ws ≡ Ok (false, us) → us ≡ ws
 not_taken v [] us e = sym (same_pair false false [] us e).1
 not_taken v (w ∷ ws) us e = go (is_word w v) e where
   go : (b : Bool) → ◌≡◌ {A = Read Bool} (if b then Ok (true, ws) else Ok (false, w ∷ ws)) (Ok (false, us)) → us ≡ w ∷ ws
@@ -250,10 +221,33 @@ lettered-below c bound n = ap (λ r. r >>= below bound) (behind-back c (decimal 
 pub lettered_carried : (c bound n : ℕ) (ws us : List Word) (r : Result ℕ Cause) → ws ≡ (c ∷ decimal n) ∷ us → Gives (λ x. x) r (below bound (decimal n)) → Gives (λ x. (x, us)) r (next (lettered c bound) ws)
 lettered_carried c bound n ws us r e h = carried (lettered c bound) (λ x. x) (c ∷ decimal n) ws us r e (subst (Gives (λ x. x) r) (sym (lettered-below c bound n)) h)
 
+pub half_carried : (n : ℕ) (ws us : List Word) (r : Result ℕ Cause) → ws ≡ decimal n ∷ us → Gives (λ x. x) r (below (2 ^ 32) (decimal n)) → Gives (λ x. (x, us)) r (next count32 ws)
+half_carried n ws us r e h = carried count32 (λ x. x) (decimal n) ws us r e h
+
+-- ---- codes
+
+pub code_below : (n : ℕ) → n < 2 ^ 31 → code (decimal n) ≡ Ok (pos n)
+code_below n h = codes-exact.back (pos n) h
+
+pub code_above : (n : ℕ) → n < 2 ^ 64 → 2 ^ 31 ≤ n → code (decimal n) ≡ Err Form
+code_above n small more = code-plain (decimal n) (decimal_is_IsNumeral n small).0.1 ∙ ap (λ r. r >>= λ k. Ok (pos k)) (not_below (2 ^ 31) n small more)
+
+pub code_negative : (n : ℕ) (r : Result ℤ Cause) → n < 2 ^ 64 → n < 2 ^ 31 + 1 → Gives (λ z. z) r (negative n) → Gives (λ z. z) r (code (45 ∷ decimal n))
+code_negative n r small less h = subst (Gives (λ z. z) r) (sym (ap (λ x. x >>= negative) (below_bound (2 ^ 31 + 1) n small less))) h
+
+pub code_too_low : (n : ℕ) → n < 2 ^ 64 → 2 ^ 31 + 1 ≤ n → code (45 ∷ decimal n) ≡ Err Form
+code_too_low n small more = ap (λ x. x >>= negative) (not_below (2 ^ 31 + 1) n small more)
+
+pub code_carried : (w : Word) (ws us : List Word) (r : Result ℤ Cause) → ws ≡ w ∷ us → Gives (λ z. z) r (code w) → Gives (λ x. (x, us)) r (next code ws)
+code_carried w ws us r e h = carried code (λ z. z) w ws us r e h
+
+pub code_left : {X : Type 0} (view : X → ℤ × List Word) (r : Result X Cause) (ws us : List Word) → us ≡ ws → Gives view r (next code us) → Gives view r (next code ws)
+code_left view r ws us e h = subst (λ (vs : List Word). Gives view r (next code vs)) e h
+
 -- ---- words that are next
 
 pub dash_taken : {X : Type 0} (value : Word → Result X Cause) (ws us : List Word) → option (codes "-") ws ≡ Ok (true, us) → next (or_dash value) ws ≡ Ok (None, us)
-dash_taken value ws us e = ap (next (or_dash value)) (taken-head (codes "-") ws us e)
+dash_taken value ws us e = ap (next (or_dash value)) (taken_head (codes "-") ws us e)
 
 some-next : {X : Type 0} (value : Word → Result X Cause) (us : List Word) → next (λ w. value w >>= λ v. Ok (Some v)) us ≡ ◌>>=◌ {A = X × List Word} {B = Option X × List Word} (next value us) (λ x. Ok (Some x.0, x.1))
 some-next value [] = refl
@@ -278,10 +272,10 @@ dash_failed {X} value v ws us b c is e f h =
     dash-left value ws us left ∙ ap (λ r. ◌>>=◌ {A = X × List Word} {B = Option X × List Word} r (λ y. Ok (Some y.0, y.1))) h
 
 pub one_taken : (ws us : List Word) → option (codes "1") ws ≡ Ok (true, us) → next truth ws ≡ Ok (true, us)
-one_taken ws us e = ap (next truth) (taken-head (codes "1") ws us e)
+one_taken ws us e = ap (next truth) (taken_head (codes "1") ws us e)
 
 pub zero_taken : (ws us vs : List Word) → option (codes "1") ws ≡ Ok (false, us) → option (codes "0") us ≡ Ok (true, vs) → next truth ws ≡ Ok (false, vs)
-zero_taken ws us vs e f = ap (next truth) (sym (not_taken (codes "1") ws us e) ∙ taken-head (codes "0") us vs f)
+zero_taken ws us vs e f = ap (next truth) (sym (not_taken (codes "1") ws us e) ∙ taken_head (codes "0") us vs f)
 
 no-word : {X : Type 0} (us : List Word) → ◌≡◌ {A = Read X} (next (λ w. Err Form) us) (Err Form)
 no-word [] = refl
@@ -296,7 +290,7 @@ neither_taken ws us vs e f =
     ∙ no-word vs)))
 
 pub literal_taken : (v : Word) (ws us : List Word) → option v ws ≡ Ok (true, us) → literal v ws ≡ Ok (true, us)
-literal_taken v ws us e = ap (literal v) (taken-head v ws us e) ∙ ap (λ b. unless b Form >>= λ x. Ok (x, us)) ((bytes_eq-Decides v v).1 refl)
+literal_taken v ws us e = ap (literal v) (taken_head v ws us e) ∙ ap (λ b. unless b Form >>= λ x. Ok (x, us)) ((bytes_eq-Decides v v).1 refl)
 
 pub literal_left : (v : Word) (ws us : List Word) → option v ws ≡ Ok (false, us) → literal v ws ≡ Err Form
 literal_left v [] us e = refl

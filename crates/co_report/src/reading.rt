@@ -10,6 +10,7 @@ ghost use Rattle.co_report.specs.Reports.{places};
 ghost use Rattle.co_report.specs.Reading.{in_report, same_lines, histories_read, opening, notes_read, halves_read, lines_report, report_read};
 ghost use Rattle.co_report.specs.ReadingViews.{halves_view, AreAtMost, progress_view};
 
+mod codes;
 pub mod line_by_line;
 mod names;
 mod notes;

@@ -155,10 +155,47 @@ fn op_by(names: &Names, word: &[u8], parts: &mut Parts) -> Result<Op, Cause>
     }
 }
 
-/// An operation; `Form` where the parts begin none.
-pub fn operation(names: &Names, parts: &mut Parts) -> Result<Op, Cause>
+/// An operation, looked up by its word.
+fn operation_by_word(names: &Names, parts: &mut Parts) -> Result<Op, Cause>
     ensures { Gives (λ x. (x, parts.new)) result (op_form names.now parts.old) }
 {
     let word = parts.word()?;
     op_by(names, word, parts)
+}
+
+/// An operation of few values. The frequent ones are compared in place.
+#[inline(always)]
+fn short_operation(names: &Names, parts: &mut Parts) -> Result<Op, Cause>
+    ensures { Gives (λ x. (x, parts.new)) result (op_form names.now parts.old) }
+{
+    if parts.option(b"begin".as_slice()) {
+        begin(names, parts)
+    } else if parts.option(b"pending".as_slice()) {
+        Ok(plain(PlainOp::Pending))
+    } else if parts.option(b"stop".as_slice()) {
+        Ok(plain(PlainOp::Stop))
+    } else if parts.option(b"adrain".as_slice()) {
+        async_drain(names, parts)
+    } else if parts.option(b"drain".as_slice()) {
+        drain(parts)
+    } else {
+        operation_by_word(names, parts)
+    }
+}
+
+/// An operation; `Form` where the parts begin none. The most frequent ones are compared first.
+pub fn operation(names: &Names, parts: &mut Parts) -> Result<Op, Cause>
+    ensures { Gives (λ x. (x, parts.new)) result (op_form names.now parts.old) }
+{
+    if parts.option(b"pick".as_slice()) {
+        pick(names, parts)
+    } else if parts.option(b"schedule".as_slice()) {
+        schedule(names, parts)
+    } else if parts.option(b"end".as_slice()) {
+        end(names, parts)
+    } else if parts.option(b"reset".as_slice()) {
+        reset(names, parts)
+    } else {
+        short_operation(names, parts)
+    }
 }

@@ -132,8 +132,11 @@ pub fn behind_word<'a>(wanted: &[u8], text: &'a [u8]) -> Option<Option<&'a [u8]>
     ensures { MatchOption result (behind_word wanted.now text.now ≡ None)
         (λ rest. behind_word wanted.now text.now ≡ Some (parts_left rest)) }
 {
+    if text.len() < wanted.len() {
+        return None;
+    }
     for i in 0..wanted.len() {
-        if i >= text.len() || wanted[i] == b' ' || text[i] != wanted[i] {
+        if wanted[i] == b' ' || text[i] != wanted[i] {
             return None;
         }
     }

@@ -1,7 +1,7 @@
 //! Operations on a timer queue and their answers, read from the words of a note.
 ghost use Rattle.std.specs.Prelude.{◌≡◌};
 ghost use Rattle.co_text.specs.Fallible.{Gives};
-ghost use Rattle.co_report.specs.NoteForms.{insert_form, remove_form, scan_form, direct_or, queue_form, at_form, count_form, got_form, answer_form, choice, queue_forms, answer_forms, may_answer};
+ghost use Rattle.co_report.specs.NoteForms.{insert_form, remove_form, scan_form, direct_or, queue_form, at_form, count_form, got_form, answer_form, may_answer};
 
 use crate::reading::names::Names;
 use crate::reading::parts::Parts;
@@ -43,32 +43,23 @@ fn direct_or(direct: QOp, other: QOp, parts: &mut Parts) -> Result<QOp, Cause>
     }
 }
 
-/// The operation that a word begins.
-#[tactic(auto, unfolding(crate::specs::NoteForms::queue_forms))]
-fn queue_op_by(names: &Names, word: &[u8], parts: &mut Parts) -> Result<QOp, Cause>
-    ensures { Gives (λ x. (x, parts.new)) result (choice (queue_forms names.now) word.now parts.old) }
-{
-    if word == b"insert".as_slice() {
-        insert(names, parts)
-    } else if word == b"remove".as_slice() {
-        remove(names, parts)
-    } else if word == b"scan".as_slice() {
-        scan(parts)
-    } else if word == b"pop".as_slice() {
-        direct_or(QOp::PopDirect, QOp::Pop, parts)
-    } else if word == b"free".as_slice() {
-        direct_or(QOp::FreeDirect, QOp::Free, parts)
-    } else {
-        Err(Cause::Form)
-    }
-}
-
 /// An operation on a timer queue; `Form` where the parts begin none.
 pub fn queue_op(names: &Names, parts: &mut Parts) -> Result<QOp, Cause>
     ensures { Gives (λ x. (x, parts.new)) result (queue_form names.now parts.old) }
 {
-    let word = parts.word()?;
-    queue_op_by(names, word, parts)
+    if parts.option(b"insert".as_slice()) {
+        insert(names, parts)
+    } else if parts.option(b"remove".as_slice()) {
+        remove(names, parts)
+    } else if parts.option(b"scan".as_slice()) {
+        scan(parts)
+    } else if parts.option(b"pop".as_slice()) {
+        direct_or(QOp::PopDirect, QOp::Pop, parts)
+    } else if parts.option(b"free".as_slice()) {
+        direct_or(QOp::FreeDirect, QOp::Free, parts)
+    } else {
+        Err(Cause::Form)
+    }
 }
 
 fn at(parts: &mut Parts) -> Result<QReply, Cause>
@@ -92,36 +83,27 @@ fn got(names: &Names, parts: &mut Parts) -> Result<QReply, Cause>
     Ok(QReply::Got { i, n, at })
 }
 
-/// The answer that a word begins.
-#[tactic(auto, unfolding(crate::specs::NoteForms::answer_forms))]
-fn answer_by(names: &Names, word: &[u8], parts: &mut Parts) -> Result<QReply, Cause>
-    ensures { Gives (λ x. (x, parts.new)) result (choice (answer_forms names.now) word.now parts.old) }
-{
-    if word == b"at".as_slice() {
-        at(parts)
-    } else if word == b"off".as_slice() {
-        Ok(QReply::Off)
-    } else if word == b"missing".as_slice() {
-        Ok(QReply::Missing)
-    } else if word == b"count".as_slice() {
-        count(parts)
-    } else if word == b"got".as_slice() {
-        got(names, parts)
-    } else if word == b"empty".as_slice() {
-        Ok(QReply::Empty)
-    } else if word == b"freed".as_slice() {
-        Ok(QReply::Freed)
-    } else {
-        Err(Cause::Form)
-    }
-}
-
 /// An answer of a timer queue; `Form` where the parts begin none.
 pub fn answer(names: &Names, parts: &mut Parts) -> Result<QReply, Cause>
     ensures { Gives (λ x. (x, parts.new)) result (answer_form names.now parts.old) }
 {
-    let word = parts.word()?;
-    answer_by(names, word, parts)
+    if parts.option(b"at".as_slice()) {
+        at(parts)
+    } else if parts.option(b"off".as_slice()) {
+        Ok(QReply::Off)
+    } else if parts.option(b"missing".as_slice()) {
+        Ok(QReply::Missing)
+    } else if parts.option(b"count".as_slice()) {
+        count(parts)
+    } else if parts.option(b"got".as_slice()) {
+        got(names, parts)
+    } else if parts.option(b"empty".as_slice()) {
+        Ok(QReply::Empty)
+    } else if parts.option(b"freed".as_slice()) {
+        Ok(QReply::Freed)
+    } else {
+        Err(Cause::Form)
+    }
 }
 
 /// The answer is one that the operation may have.

@@ -2,10 +2,11 @@
 ghost use Rattle.co_text.specs.Fallible.{Gives};
 ghost use Rattle.co_report.specs.NoteForms.{off_form, armed_form, not_armed_form, stopped_form, wait_form, drained_form, in_use_form, go_form, later_form, next_form, drain_named, next_named, woke_form, ended_form, choice, valued_replies, reply_forms, reply_form};
 
+use crate::reading::codes::code;
 use crate::reading::names::Names;
 use crate::reading::parts::Parts;
 use crate::reading::values::{
-    argument, arming, code, cpu, cpu_or_none, func, func_or_none, literal, time, truth,
+    argument, arming, cpu, cpu_or_none, func, func_or_none, literal, time, truth,
 };
 use co_object::{Next, Reply};
 use co_text::Cause;
@@ -187,10 +188,45 @@ fn reply_by(names: &Names, word: &[u8], parts: &mut Parts) -> Result<Reply, Caus
     }
 }
 
-/// A reply; `Form` where the parts begin none.
-pub fn reply(names: &Names, parts: &mut Parts) -> Result<Reply, Cause>
+/// A reply, looked up by its word.
+fn reply_by_word(names: &Names, parts: &mut Parts) -> Result<Reply, Cause>
     ensures { Gives (λ x. (x, parts.new)) result (reply_form names.now parts.old) }
 {
     let word = parts.word()?;
     reply_by(names, word, parts)
+}
+
+/// A reply to a client or to a pick. The frequent ones are compared in place.
+#[inline(always)]
+fn short_reply(names: &Names, parts: &mut Parts) -> Result<Reply, Cause>
+    ensures { Gives (λ x. (x, parts.new)) result (reply_form names.now parts.old) }
+{
+    if parts.option(b"stopped".as_slice()) {
+        stopped(names, parts)
+    } else if parts.option(b"hold".as_slice()) {
+        Ok(Reply::Hold)
+    } else if parts.option(b"drained".as_slice()) {
+        drained(names, parts)
+    } else if parts.option(b"no".as_slice()) {
+        Ok(Reply::No)
+    } else if parts.option(b"yes".as_slice()) {
+        Ok(Reply::Yes)
+    } else {
+        reply_by_word(names, parts)
+    }
+}
+
+/// A reply; `Form` where the parts begin none. The most frequent ones are compared first.
+pub fn reply(names: &Names, parts: &mut Parts) -> Result<Reply, Cause>
+    ensures { Gives (λ x. (x, parts.new)) result (reply_form names.now parts.old) }
+{
+    if parts.option(b"armed".as_slice()) {
+        armed(names, parts)
+    } else if parts.option(b"go".as_slice()) {
+        go(names, parts)
+    } else if parts.option(b"ended".as_slice()) {
+        ended(names, parts)
+    } else {
+        short_reply(names, parts)
+    }
 }

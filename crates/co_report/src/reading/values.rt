@@ -5,7 +5,7 @@ ghost use Rattle.std.specs.List.{position_or_len};
 ghost use Rattle.co_text.specs.Fallible.{Gives};
 ghost use Rattle.co_text.specs.Values.{behind};
 ghost use Rattle.co_text.specs.Taking.{next};
-ghost use Rattle.co_report.specs.NoteValues.{below, lettered, count64, count32, time_in_units, arming, given, callout_of, func_of, cpu_in, or_dash, truth, negative, positive, code, actor_in, is_slash, maker, maker_is, own_kind, HasFewActors};
+ghost use Rattle.co_report.specs.NoteValues.{below, lettered, count64, count32, time_in_units, arming, given, callout_of, func_of, cpu_in, or_dash, truth, actor_in, is_slash, maker, maker_is, own_kind, HasFewActors};
 ghost use Rattle.co_report.specs.NoteForms.{literal};
 ghost use Rattle.co_report.specs.Parts.{is_space};
 ghost use Rattle.co_report.specs.Plain.{is_actor_letter};
@@ -19,7 +19,7 @@ use co_text::{Cause, number};
 
 /// A number below a bound.
 #[inline(always)]
-fn below(bound: u128, word: &[u8]) -> Result<u128, Cause>
+pub fn below(bound: u128, word: &[u8]) -> Result<u128, Cause>
     ensures bounded { IfOk result (λ n. n < bound) }
     ensures value { Gives (λ n. n) result (below bound word.now) }
 {
@@ -90,41 +90,6 @@ fn time_in_units(word: &[u8]) -> Result<Sbt, Cause>
     match Sbt::new(units) {
         Some(time) => Ok(time),
         None => Err(Cause::Form),
-    }
-}
-
-/// A number below 0, by its size.
-fn negative(size: u128) -> Result<i32, Cause>
-    requires { size < 2 ^ 31 + 1 }
-    ensures { Gives (λ z. z) result (negative size) }
-{
-    if size == 0 {
-        return Err(Cause::Form);
-    }
-    Ok((-(size as i64)) as i32)
-}
-
-/// A code below 0, by the digits behind its sign.
-fn negative_code(digits: &[u8]) -> Result<i32, Cause>
-    ensures { Gives (λ z. z) result (code (45 ∷ digits.now)) }
-{
-    negative(below(0x8000_0001, digits)?)
-}
-
-/// A code without a sign.
-fn positive_code(word: &[u8]) -> Result<i32, Cause>
-    ensures { Gives (λ z. z) result (positive word.now) }
-{
-    Ok(below(0x8000_0000, word)? as i32)
-}
-
-fn code_of(word: &[u8]) -> Result<i32, Cause>
-    ensures { Gives (λ z. z) result (code word.now) }
-{
-    match word {
-        [] => Err(Cause::Form),
-        [b'-', digits @ ..] => negative_code(digits),
-        [_, ..] => positive_code(word),
     }
 }
 
@@ -251,6 +216,19 @@ fn whole(number: u64) -> Result<u64, Cause>
     Ok(number)
 }
 
+/// A number that is to have 32 bits.
+#[tactic(auto, using(crate::proofs::PlainParts::below_bound, crate::proofs::PlainParts::not_below))]
+#[inline(always)]
+fn half(number: u64) -> Result<u32, Cause>
+    ensures { Gives (λ n. n) result (below (2 ^ 32) (decimal number)) }
+{
+    if number < 0x1_0000_0000 {
+        Ok(number as u32)
+    } else {
+        Err(Cause::Form)
+    }
+}
+
 /// The time of so many units.
 #[tactic(auto, using(crate::proofs::PlainParts::below_bound, crate::proofs::PlainParts::not_below))]
 #[inline(always)]
@@ -330,10 +308,14 @@ pub fn number64(parts: &mut Parts) -> Result<u64, Cause>
 }
 
 /// A number of 32 bits. `Form` where the next word is none.
+#[tactic(auto, using(crate::proofs::PlainParts::half_carried))]
 pub fn number32(parts: &mut Parts) -> Result<u32, Cause>
     ensures { Gives (λ x. (x, parts.new)) result (next count32 parts.old) }
 {
-    count32(parts.word()?)
+    match parts.number() {
+        Some(number) => half(number),
+        None => count32(parts.word()?),
+    }
 }
 
 /// `uN`: a time in units of 2^-32 s, below 2^63. `Form` where the next word is none.
@@ -424,13 +406,6 @@ pub fn truth(parts: &mut Parts) -> Result<bool, Cause>
     } else {
         Err(Cause::Form)
     }
-}
-
-/// A number of 32 bits with a sign. `Form` where the next word is none.
-pub fn code(parts: &mut Parts) -> Result<i32, Cause>
-    ensures { Gives (λ x. (x, parts.new)) result (next code parts.old) }
-{
-    code_of(parts.word()?)
 }
 
 /// `A/M`: an actor of the script, and the number of its act. `Form` where the next word is none.
