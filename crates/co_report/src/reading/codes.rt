@@ -1,5 +1,5 @@
 //! Codes of replies: numbers of 32 bits with a sign, each in its one spelling.
-ghost use Rattle.std.specs.Prelude.{◌≡◌, ◌∷◌, ◌+◌, ◌<◌, ◌^◌, decimal};
+ghost use Rattle.std.specs.Prelude.{◌∷◌, ◌+◌, ◌<◌, ◌^◌, decimal};
 ghost use Rattle.co_text.specs.Fallible.{Gives};
 ghost use Rattle.co_text.specs.Taking.{next};
 ghost use Rattle.co_report.specs.NoteValues.{negative, positive, code};
