@@ -10,3 +10,5 @@ pub mod Answers
 pub mod Ends
 -- the passes of the one actor stand for the sleep queue with a clock
 pub mod Matching
+-- what the answering of a text begins with, and what it comes to
+pub mod Running

@@ -5,7 +5,7 @@ use Rattle.co_program.specs.declared.script.Script.{Script}
 use Rattle.co_program.specs.Actors.{actor_count, client_count}
 use Rattle.co_program.specs.Scripts.{IsScript}
 use Rattle.co_service.specs.declared.params.Params.{Params}
-use Rattle.co_service.specs.Booted.{booted}
+use Rattle.co_service.specs.Booted.{AreBooted, booted}
 use Rattle.co_service.specs.Fresh.{AreNamed}
 use Rattle.co_service.specs.Name.{ServiceName}
 use Rattle.co_service.specs.Views.{PassesView}
@@ -17,8 +17,8 @@ use Rattle.co_run.specs.declared.jobs.Group.{Group}
 use Rattle.co_run.specs.declared.jobs.Job.{Job}
 use Rattle.co_run.specs.declared.jobs.Played.{Played}
 
--- a service of this name and of these parameters can run the script
-pub record CanRun (s : Script) (name : ServiceName) (p : Params) : Type 0 where
+-- the script may be run over a service of this name and of these parameters, by actors with these passes
+pub record MayRun (s : Script) (name : ServiceName) (p : Params) (passes : List PassesView) : Type 0 where
   -- the script keeps what every script keeps
   pub script : IsScript s
   -- the locks that it names exist
@@ -27,6 +27,8 @@ pub record CanRun (s : Script) (name : ServiceName) (p : Params) : Type 0 where
   pub params : p ≡ params_of s
   -- each of its places has a life
   pub named : AreNamed name (params_of s)
+  -- the passes are those of the service's boot, and have seen nothing
+  pub passes_are : AreBooted name (params_of s) passes
 
 -- a book without notes, and with room for fewer than one list ever has
 pub record IsEmpty (notes : List Note) (spare : ℕ) : Type 0 where
@@ -36,6 +38,13 @@ pub record IsEmpty (notes : List Note) (spare : ℕ) : Type 0 where
 -- each of these books is empty
 abbrev pub AreEmpty : {B : Type 0} → (B → List Note) → (B → ℕ) → List B → Type 0
 AreEmpty {B} notes spare books = (k : ℕ) (book : B) → slice_get books k ≡ Some book → IsEmpty (notes book) (spare book)
+
+-- each actor of the script has a book
+pub record HaveBooks {B : Type 0} (notes : B → List Note) (spare : B → ℕ) (s : Script) (books : List B) : Type 0 where
+  -- there is one for each
+  pub count : length books ≡ actor_count s
+  -- all are empty
+  pub empty : AreEmpty notes spare books
 
 -- each of these has no notes and no room
 abbrev pub AreBlank : {T : Type 0} → List (KeptBook T) → Type 0

@@ -24,3 +24,5 @@ pub mod Over
 pub mod Ready
 -- what the actors begin with and bring back, in groups: clients, CPUs, interrupts
 pub mod Jobs
+-- a port over a running service that was just made
+pub mod Ports

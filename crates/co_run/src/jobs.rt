@@ -1,10 +1,9 @@
 //! The job of one actor: its whole program.
 ghost use Rattle.std.specs.Prelude.{◌≡◌, ◌+◌, ◌<◌, ◌≤◌, ◌^◌, IfOk, length};
-ghost use Rattle.co_program.specs.Actors.{actor_count};
 ghost use Rattle.co_program.specs.Scripts.{IsScript};
 ghost use Rattle.co_service.specs.Booted.{AreBooted};
 ghost use Rattle.co_run.specs.Acting.{params_of};
-ghost use Rattle.co_run.specs.Jobs.{AreDealt, AreEmpty, AreLeft, IsDealt, IsJob};
+ghost use Rattle.co_run.specs.Jobs.{AreDealt, AreLeft, HaveBooks, IsDealt, IsJob};
 ghost use Rattle.co_run.specs.Over.{IsOver};
 
 use crate::actor::Actor;
@@ -103,8 +102,7 @@ pub(crate) fn deal_all<N: Name, B: Book>(
 ) -> Result<Crew<Group<B>>, NoMemory>
     requires script { IsScript script.now }
     requires passes { AreBooted N.name (params_of script.now) passes }
-    requires books { length books ≡ actor_count script.now }
-    requires empty { AreEmpty B.notes B.spare books }
+    requires books { HaveBooks B.notes B.spare script.now books }
     ensures { IfOk result (λ crew. AreDealt B.notes B.spare script.now N.name crew) }
 {
     let mut passes = passes.into_vec();

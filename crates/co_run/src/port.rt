@@ -1,5 +1,5 @@
 //! The port through which a function makes calls on a running service.
-ghost use Rattle.std.specs.Prelude.{◌≡◌, ◌<◌, ◌≤◌, ◌↔◌, [], IfOk, length, false};
+ghost use Rattle.std.specs.Prelude.{◌≡◌, ◌<◌, ◌≤◌, ◌↔◌, IfOk, length, false};
 ghost use Rattle.co_object.specs.declared.CallOp.TheVariants.{Plain};
 ghost use Rattle.co_lock.specs.Covers.{covers};
 ghost use Rattle.std.specs.Option.{option_copied};
@@ -45,6 +45,8 @@ pub struct ServicePort<'a, N: Name, G: Gate, R: Wait> {
 }
 
 impl<'a, N: Name, G: Gate, R: Wait> ServicePort<'a, N, G, R> {
+    ghost use Rattle.co_run.specs.Ports.{IsNewPort};
+
     /// A port with room for `room` calls, the first of which has the number `act`. `specs` are those of the service's
     /// callouts. `NoMemory` where there is no room for the calls.
     pub fn new(
@@ -59,11 +61,7 @@ impl<'a, N: Name, G: Gate, R: Wait> ServicePort<'a, N, G, R> {
     ) -> Result<ServicePort<'a, N, G, R>, NoMemory>
         requires specs { specs.now ≡ service.now.specs }
         requires passes { AreOf N.name service.now passes }
-        ensures specs { IfOk result (λ port. port.specs.now ≡ specs.now) }
-        ensures service { IfOk result (λ port. port.service.now ≡ service.now) }
-        ensures origin { IfOk result (λ port. port.origin ≡ record { actor = passes.actor; act = act }) }
-        ensures calls { IfOk result (λ port. port.calls.items ≡ []) }
-        ensures room { IfOk result (λ port. port.room ≡ room) }
+        ensures { IfOk result (IsNewPort specs.now service.now (record { actor = passes.actor; act = act }) room) }
     {
         let mut calls = Room::from_seq(Seq::new(alloc));
         calls.reserve(room as usize)?;

@@ -2,11 +2,9 @@
 ghost use Rattle.std.specs.Prelude.{◌≡◌, ◌+◌, ◌<◌, IfOk, OnOk, map, length};
 ghost use Rattle.co_program.specs.Actors.{actor_count};
 ghost use Rattle.co_program.specs.Scripts.{IsScript};
-ghost use Rattle.co_service.specs.Booted.{AreBooted};
-ghost use Rattle.co_service.specs.Fresh.{AreNamed};
 ghost use Rattle.co_service.specs.Params.{AreParams};
 ghost use Rattle.co_run.specs.Acting.{HasLocks, params_of};
-ghost use Rattle.co_run.specs.Jobs.{AreBlank, AreEmpty, CanRun, HavePlayed, IsCrew, IsGroup};
+ghost use Rattle.co_run.specs.Jobs.{AreBlank, HaveBooks, HavePlayed, IsCrew, IsGroup, MayRun};
 ghost use Rattle.co_run.specs.Over.{AreOver, IsOver};
 ghost use Rattle.co_run.specs.Ran.{IsRan};
 
@@ -167,10 +165,8 @@ fn play_books<N: Name + Send + Sync, G: Gate + Sync, B: Book + Send, R: Threads 
     passes: Seq<Passes>,
     books: Seq<B>,
 ) -> Result<Brought<B>, NoMemory>
-    requires can { CanRun script.now N.name service.now }
-    requires passes { AreBooted N.name (params_of script.now) passes }
-    requires books { length books ≡ actor_count script.now }
-    requires empty { AreEmpty B.notes B.spare books }
+    requires may { MayRun script.now N.name service.now passes }
+    requires books { HaveBooks B.notes B.spare script.now books }
     ensures over { IfOk result (λ all. AreOver script.now N.name 0 all.passes (map B.notes all.books)) }
     ensures count { IfOk result (λ all. length all.books ≡ actor_count script.now) }
 {
@@ -201,10 +197,8 @@ fn run_open<N: Name + Send + Sync, G: Gate + Sync, B: Book + Send, R: Threads + 
     passes: Seq<Passes>,
     books: Seq<B>,
 ) -> Result<Left<B>, NoMemory>
-    requires can { CanRun script.now N.name service }
-    requires passes { AreBooted N.name (params_of script.now) passes }
-    requires books { length books ≡ actor_count script.now }
-    requires empty { AreEmpty B.notes B.spare books }
+    requires may { MayRun script.now N.name service passes }
+    requires books { HaveBooks B.notes B.spare script.now books }
     ensures name { IfOk result (λ left. left.closing.name ≡ N.name) }
     ensures run { IfOk result (λ left. IsRan script.now (record { lists = map B.notes left.books; closing = left.closing })) }
 {
@@ -271,13 +265,8 @@ pub fn run_books<
     passes: Seq<Passes>,
     books: Seq<B>,
 ) -> Result<Ran, NoMemory>
-    requires script { IsScript script.now }
-    requires locks { HasLocks script.now }
-    requires service { service ≡ params_of script.now }
-    requires named { AreNamed N.name (params_of script.now) }
-    requires passes { AreBooted N.name (params_of script.now) passes }
-    requires books { length books ≡ actor_count script.now }
-    requires empty { AreEmpty B.notes B.spare books }
+    requires may { MayRun script.now N.name service passes }
+    requires books { HaveBooks B.notes B.spare script.now books }
     ensures name { IfOk result (λ ran. ran.closing.name ≡ N.name) }
     ensures run { IfOk result (IsRan script.now) }
 {
@@ -309,11 +298,7 @@ pub fn run_on<N: Name + Send + Sync, G: Gate + Sync, R: Threads + Wait + Sync>(
     service: Service<N>,
     passes: Seq<Passes>,
 ) -> Result<Ran, NoMemory>
-    requires script { IsScript script.now }
-    requires locks { HasLocks script.now }
-    requires service { service ≡ params_of script.now }
-    requires named { AreNamed N.name (params_of script.now) }
-    requires passes { AreBooted N.name (params_of script.now) passes }
+    requires { MayRun script.now N.name service passes }
     ensures name { IfOk result (λ ran. ran.closing.name ≡ N.name) }
     ensures run { IfOk result (IsRan script.now) }
 {
@@ -331,11 +316,9 @@ fn run_fresh<N: Name + Send + Sync, G: Gate + Sync, B: Book + Send, R: Threads +
     passes: Seq<Passes>,
     books: Seq<B>,
 ) -> Result<Left<B>, NoMemory>
-    requires can { CanRun script.now N.name fresh.params }
     requires name { fresh.name ≡ N.name }
-    requires passes { AreBooted fresh.name fresh.params passes }
-    requires books { length books ≡ actor_count script.now }
-    requires empty { AreEmpty B.notes B.spare books }
+    requires may { MayRun script.now N.name fresh.params passes }
+    requires books { HaveBooks B.notes B.spare script.now books }
     ensures { IfOk result (λ left. IsRan script.now (record { lists = map B.notes left.books; closing = left.closing })) }
 {
     let service = Service::<N>::open(alloc, fresh)?;
@@ -354,8 +337,7 @@ fn run_booted<G: Gate + Sync, B: Book + Send, R: Threads + Wait + Sync>(
     requires script { IsScript script.now }
     requires locks { HasLocks script.now }
     requires params { AreParams (params_of script.now) }
-    requires books { length books ≡ actor_count script.now }
-    requires empty { AreEmpty B.notes B.spare books }
+    requires books { HaveBooks B.notes B.spare script.now books }
     ensures { IfOk result (λ left. IsRan script.now (record { lists = map B.notes left.books; closing = left.closing })) }
 {
     let clients = script.clients.as_slice().len() as u32;

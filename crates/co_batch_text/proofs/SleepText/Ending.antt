@@ -7,7 +7,7 @@ use Rattle.co_service.specs.Fresh.{AreNamed}
 use Rattle.co_service.specs.Params.{no_spec}
 use Rattle.co_service.specs.Services.{IsFree}
 use Rattle.co_service.specs.declared.params.Params.{Params}
-use Rattle.co_single.specs.Alarms.{all_gos, made_at, scan_times, scans_of}
+use Rattle.co_single.specs.Alarms.{all_gos, scan_times, scans_of}
 use Rattle.co_single.specs.Seen.{AreSingle, single_params}
 use Rattle.co_single.proofs.Ended.{cpus_whole, timers_whole}
 use Rattle.co_single.proofs.Opening.{is_new, length-replicate, new_free, new_single, rests_new}
@@ -17,7 +17,8 @@ use Rattle.co_sleepq.specs.Views.{SleepPassesView}
 use Rattle.co_batch_text.specs.Sleep.Clock.{clock_opening}
 use Rattle.co_batch_text.specs.Ends.{IsEnd, all_counted, tick_times}
 use Rattle.co_batch_text.specs.Sleep.Ends.{sleep_served}
-use Rattle.co_batch_text.specs.Sleep.Matching.{AreObeyed, IsMatched}
+use Rattle.co_batch_text.specs.Sleep.Matching.{AreObeyed}
+use Rattle.co_batch_text.specs.Sleep.Running.{AreOpening}
 use Rattle.co_batch_text.specs.declared.sleep.command.SleepCommand.{SleepCommand}
 
 pub sleepers-are : (n : ℕ) (params : Params) → params ≡ single_params n → sleepers params ≡ n
@@ -31,22 +32,22 @@ module _ (n : ℕ) (name : QueueName) (params : Params) (named : AreNamed name.s
   abbrev first : SleepPassesView
   first = fresh_passes name params 0
 
-  pub opens : IsMatched n clock_opening first
+  pub opens : AreOpening n first
   opens =
       let new = is_new n name.service params named are in
       record {
-        quiet = record { single = new_single n name.service params named are; rest = rests_new n name.service params named are };
-        none = new.waiting;
-        queue = refl;
-        clock = new.clock;
-        alarms = new.alarms;
+        matched = record {
+          quiet = record { single = new_single n name.service params named are; rest = rests_new n name.service params named are };
+          none = new.waiting;
+          queue = refl;
+          clock = new.clock;
+          alarms = new.alarms;
+        };
+        unmade = new.made;
       }
 
   pub free : IsFree false first.service 0
   free = new_free n name.service params named are
-
-  pub unmade : (i : ℕ) → made_at first.service i ≡ 0
-  unmade = (is_new n name.service params named are).made
 
   pub unscanned : scans_of first.service ≡ []
   unscanned = (is_new n name.service params named are).scans

@@ -1,23 +1,18 @@
 //! What the commands of a text are answered.
-ghost use Rattle.std.specs.Prelude.{◌≡◌, ◌<◌, ◌++◌, ◌^◌, ℕ, List, true, false, length, max, OnOk, IfOk};
-ghost use Rattle.std.specs.List.{list_all};
+ghost use Rattle.std.specs.Prelude.{◌≡◌, ◌<◌, ◌^◌, ℕ, List, true, max, OnOk, IfOk};
 ghost use Rattle.co_text.specs.Fallible.{GivesOrNoMemory};
-ghost use Rattle.co_text.specs.Lines.{text};
 ghost use Rattle.co_batch.specs.Laws.{AllFit};
-ghost use Rattle.co_batch.specs.Answers.{answers, batch_text};
+ghost use Rattle.co_batch.specs.Answers.{batch_text};
 ghost use Rattle.co_service.specs.Closing.{ClosingView};
-ghost use Rattle.co_service.specs.Fresh.{AreNamed};
-ghost use Rattle.co_service.specs.Services.{IsFree};
 ghost use Rattle.co_single.specs.Alarms.{made_at};
-ghost use Rattle.co_single.specs.Seen.{single_params};
-ghost use Rattle.co_sleepq.specs.Fresh.{AreFreshPasses};
 ghost use Rattle.co_sleepq.specs.Params.{ArePasses, actors, sleepers};
 ghost use Rattle.co_batch_text.specs.Sleep.Answers.{answering, sleep_text};
-ghost use Rattle.co_batch_text.specs.Sleep.Clock.{Clocked, clock_opening, obey};
+ghost use Rattle.co_batch_text.specs.Sleep.Clock.{Clocked, obey};
 ghost use Rattle.co_batch_text.specs.Sleep.Commands.{fits, sleep_language};
 ghost use Rattle.co_batch_text.specs.Ends.{IsEnd};
 ghost use Rattle.co_batch_text.specs.Sleep.Ends.{EndsRun, sleep_served};
-ghost use Rattle.co_batch_text.specs.Sleep.Matching.{AreObeyed, IsMatched, IsObeyed, answer_of, now_after};
+ghost use Rattle.co_batch_text.specs.Sleep.Matching.{IsMatched, IsObeyed, answer_of, now_after};
+ghost use Rattle.co_batch_text.specs.Sleep.Running.{AreAnswered, AreCommands, AreFree, AreOpening, IsBooted};
 
 use crate::sleep::command::SleepCommand;
 use crate::sleep::said::{Said, print_said};
@@ -38,13 +33,11 @@ fn obey<N: SleepName, R: Wait>(
     now: Sbt,
     command: SleepCommand,
 ) -> Said
-    requires cpu { ArePasses N.name N.book queue.now cpu.old }
-    requires free { IsFree false cpu.old.service 0 }
+    requires cpu { AreFree N.name N.book queue.now cpu.old }
     requires alone { actors queue.now ≡ 1 }
     requires fits { fits (sleepers queue.now) command ≡ true }
     requires made { (i : ℕ) → made_at cpu.old.service i < 2 ^ 62 }
-    ensures cpu { ArePasses N.name N.book queue.now cpu.new }
-    ensures free { IsFree false cpu.new.service 0 }
+    ensures cpu { AreFree N.name N.book queue.now cpu.new }
     ensures obeyed { (c : Clocked) → IsMatched (sleepers queue.now) c cpu.old → c.now ≡ now →
         IsObeyed (sleepers queue.now) c command cpu.old cpu.new × (answer_of result ≡ (obey (sleepers queue.now) c command).1) }
 {
@@ -85,16 +78,12 @@ fn answer_all<N: SleepName, R: Wait>(
     cpu: &mut SleepPasses,
     commands: &[SleepCommand],
 ) -> Result<(), NoMemory>
-    requires cpu { ArePasses N.name N.book queue.now cpu.old }
-    requires free { IsFree false cpu.old.service 0 }
+    requires cpu { AreFree N.name N.book queue.now cpu.old }
     requires alone { actors queue.now ≡ 1 }
-    requires fit { list_all (fits (sleepers queue.now)) commands.now ≡ true }
-    requires few { length commands.now < 2 ^ 62 }
-    requires opening { IsMatched (sleepers queue.now) clock_opening cpu.old }
-    requires none { (i : ℕ) → made_at cpu.old.service i ≡ 0 }
+    requires opening { AreOpening (sleepers queue.now) cpu.old }
+    requires commands { AreCommands (sleepers queue.now) commands.now }
     ensures cpu { ArePasses N.name N.book queue.now cpu.new }
-    ensures text { OnOk result (page.new ≡ page.old ++ text (answers answering (sleepers queue.now) clock_opening commands.now)) }
-    ensures done { OnOk result (AreObeyed (sleepers queue.now) commands.now cpu.old cpu.new) }
+    ensures answered { OnOk result (AreAnswered (sleepers queue.now) commands.now cpu.old cpu.new page.old page.new) }
 {
     let mut now = Sbt::zero();
     for command in commands {
@@ -114,9 +103,7 @@ fn answer_on<N: SleepName, R: Wait>(
     batch: &Batch<SleepCommand>,
 ) -> Result<(Seq<u8>, Closing), NoMemory>
     requires name { fresh.name ≡ record { service = N.name; book = N.book } }
-    requires params { fresh.params ≡ single_params batch.now.count }
-    requires passes { AreFreshPasses fresh.name fresh.params 1 passes }
-    requires named { AreNamed fresh.name.service fresh.params }
+    requires booted { IsBooted batch.now.count fresh passes }
     requires fit { AllFit sleep_language batch.now }
     ensures text { IfOk result (λ out. out.0 ≡ batch_text answering batch.now) }
     ensures end { IfOk result (λ out. IsEnd sleep_served batch.now out.1) }

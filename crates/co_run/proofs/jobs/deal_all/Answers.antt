@@ -10,12 +10,12 @@ pub deal-requires-clause-left : goal.deal-requires-clause-left
 deal-requires-clause-left g c =
     let s = c.args.script.now in
     let count : length c.into_vec-passes.result.items ≡ actor_count s = ap length c.into_vec-passes.ensures ∙ booted_count s c.requires.script g.N.Name.name c.args.passes c.requires.passes in
-    let books : length c.into_vec-books.result.items ≡ actor_count s = ap length c.into_vec-books.ensures ∙ c.requires.books in
+    let books : length c.into_vec-books.result.items ≡ actor_count s = ap length c.into_vec-books.ensures ∙ c.requires.books.count in
     record {
       few = omega (arith, count);
       count = books ∙ sym count;
       first = subst (AreFirst g.N.Name.name (params_of s)) (sym c.into_vec-passes.ensures) (booted_first s c.requires.script g.N.Name.name c.args.passes c.requires.passes);
-      empty = subst (AreEmpty g.B.Book.notes g.B.Book.spare) (sym c.into_vec-books.ensures) c.requires.empty;
+      empty = subst (AreEmpty g.B.Book.notes g.B.Book.spare) (sym c.into_vec-books.ensures) c.requires.books.empty;
     }
 
 pub returns : goal.returns

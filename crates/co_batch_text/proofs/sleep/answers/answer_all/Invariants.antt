@@ -1,13 +1,11 @@
 -- What is to come ends as all of it does.
-use Rattle.std.proofs.Common.{false}
-use Rattle.co_service.specs.Services.{IsFree}
-use Rattle.co_sleepq.specs.Params.{ArePasses, sleepers}
+use Rattle.co_sleepq.specs.Params.{sleepers}
 use Rattle.co_batch_text.specs.Sleep.Matching.{IsObeying}
+use Rattle.co_batch_text.specs.Sleep.Running.{AreFree}
 use Rattle.co_batch_text.proofs.sleep.answers.answer_all.Given as goal
 
 abbrev pub invariant-loop-command : goal.invariant-loop-command
 invariant-loop-command g l = record {
-  of : ArePasses g.N.Name.name g.N.SleepName.book l.queue l.cpu;
-  free : IsFree false l.cpu.service 0;
+  cpu : AreFree g.N.Name.name g.N.SleepName.book l.queue l.cpu;
   way : IsObeying (sleepers l.queue) l.commands l.command-index l.now l.fn.cpu l.cpu l.fn.page l.page;
 }
