@@ -19,7 +19,8 @@ use Rattle.co_service.specs.Params.{actors_of, spec_at, directs}
 use Rattle.co_service.specs.Lines.{made}
 use Rattle.co_service.specs.Stories.{IsHistory, IsJournal}
 use Rattle.co_service.specs.Views.{PassesView, IsKeeperOf}
-use Rattle.co_service.specs.Writes.{WritesTimer}
+use Rattle.co_service.specs.Kinds.{timer_kind}
+use Rattle.co_service.specs.Writes.{WritesEntry}
 use Rattle.co_service.specs.Books.{BooksView, books_of, kept_of, entries_in, entries_at, is_kept, with_history, AreBooks}
 use Rattle.co_service.specs.May.{MayEnter, MayHappen}
 use Rattle.co_service.proofs.BooksKept.{keeper_of, history_here, kept_once, below_here, set_once}
@@ -74,5 +75,5 @@ module _ (name : ServiceName) (p : Params) (cpu : ℕ) (ks : List (Option (Keepe
     timer_books k' history =
         set_once name p cpu ks j b are view i (Some k') ∙ ap (λ (H : List Entry). with_history b i (Some H)) (history ∙ ap (λ (H : List Entry). H ++ e ∷ []) (sym entries_are))
 
-    pub timer_noted : (P Q : PassesView) (pos : ℕ) (k' : KeeperView (Line Entry)) → made k'.history ≡ made k.history ++ e ∷ [] → WritesTimer P i e pos (made k'.history) Q → WritesTimer P i e pos (entries_at b i ++ e ∷ []) Q
-    timer_noted P Q pos k' history w = subst (λ (H : List Entry). WritesTimer P i e pos H Q) (history ∙ ap (λ (H : List Entry). H ++ e ∷ []) (sym entries_are)) w
+    pub timer_noted : (P Q : PassesView) (pos : ℕ) (k' : KeeperView (Line Entry)) → made k'.history ≡ made k.history ++ e ∷ [] → WritesEntry timer_kind P i e pos (made k'.history) Q → WritesEntry timer_kind P i e pos (entries_at b i ++ e ∷ []) Q
+    timer_noted P Q pos k' history w = subst (λ (H : List Entry). WritesEntry timer_kind P i e pos H Q) (history ∙ ap (λ (H : List Entry). H ++ e ∷ []) (sym entries_are)) w

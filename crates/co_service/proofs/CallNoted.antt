@@ -18,7 +18,8 @@ use Rattle.co_service.specs.Call.{call_entry, due_in, insertion_notes, insertion
 use Rattle.co_service.specs.Desk.{scans_in}
 use Rattle.co_service.specs.Outcomes.{noted_entry, turn}
 use Rattle.co_service.specs.Views.{PassesView}
-use Rattle.co_service.specs.Writes.{Writes, WritesTimer}
+use Rattle.co_service.specs.Kinds.{timer_kind}
+use Rattle.co_service.specs.Writes.{Writes, WritesEntry}
 use Rattle.co_service.specs.Written.{IsInsertionWritten, IsTurnWritten}
 use Rattle.co_service.proofs.DeskKept.{scans_same}
 use Rattle.co_service.proofs.Noting.{turn_written, writes-append}
@@ -62,9 +63,9 @@ module _ (p : PassesView) (act cpu i : ℕ) (op : CallOp) (t : Told) (inserted :
 
   -- a section, entry after entry
   pub told_written : (q r s : PassesView) (after : List Entry) → q.actor ≡ p.actor → r.actor ≡ p.actor → Writes p (removal_told p.actor act i (off_of t.out.reply) t.removal) q
-      → WritesTimer q i (call_entry q act op t.out.reply) t.entry after r → Writes r (insertion_told r.actor act i t.insertion) s → Writes p (told_notes p.actor act i op t) s
+      → WritesEntry timer_kind q i (call_entry q act op t.out.reply) t.entry after r → Writes r (insertion_told r.actor act i t.insertion) s → Writes p (told_notes p.actor act i op t) s
   told_written q r s after mine still a w b = writes-append p q s (removal_told p.actor act i (off_of t.out.reply) t.removal) (noted_entry i entry t.entry ∷ put) a (
     r,
-    (after, subst (λ (n : ℕ). WritesTimer q i (record { actor = n; act = act; op = Call op; reply = t.out.reply }) t.entry after r) mine w),
+    (after, subst (λ (n : ℕ). WritesEntry timer_kind q i (record { actor = n; act = act; op = Call op; reply = t.out.reply }) t.entry after r) mine w),
     subst (λ (n : ℕ). Writes r (insertion_told n act i t.insertion) s) still b,
   )

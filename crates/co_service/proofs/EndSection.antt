@@ -43,7 +43,8 @@ use Rattle.co_service.specs.Services.{next_due, next_number, next_target, run_en
 use Rattle.co_service.specs.Outcomes.{turn}
 use Rattle.co_service.specs.Serving.{Runs}
 use Rattle.co_service.specs.Views.{PassesView}
-use Rattle.co_service.specs.Writes.{WritesCpu, WritesTimer}
+use Rattle.co_service.specs.Kinds.{cpu_kind, timer_kind}
+use Rattle.co_service.specs.Writes.{WritesEntry}
 use Rattle.co_service.proofs.CalledDesk.{alone_then}
 use Rattle.co_service.proofs.DeskKept.{owes_next, owes_turns, frees_no_scan, scans_same, with_turn}
 use Rattle.co_service.proofs.Departing.{Goes, IsLeaving, goes_desk, goes_of_service, may_depart, target_same}
@@ -223,14 +224,14 @@ module _ (lane : Bool) (w w' : Cpu) (b : BooksView) (scans : ℕ) (p : PassesVie
 
 -- what the caller is told of an end
 pub ended_told : (lane : Bool) (p p' q r : PassesView) (cpu place act : ℕ) (d e : Due) (out : EndOut) (gone : Option MovingView) (pos freed : ℕ) (after : List Entry) (J : List QEntry) → p' ≡ p → e ≡ d
-    → target_of gone ≡ next_target out.reply → IsOfService p'.params e.i gone → WritesTimer p' e.i (run_entry p' act (End e.n cpu) out.reply) pos after q
-    → (o : QOp) → o ≡ free_of lane → place ≡ cpu → q.actor ≡ p'.actor → WritesCpu q place (turn q act o Freed) freed J r → IsFinished lane p cpu act d (told_end lane cpu e.i e.n out pos freed) gone r
+    → target_of gone ≡ next_target out.reply → IsOfService p'.params e.i gone → WritesEntry timer_kind p' e.i (run_entry p' act (End e.n cpu) out.reply) pos after q
+    → (o : QOp) → o ≡ free_of lane → place ≡ cpu → q.actor ≡ p'.actor → WritesEntry cpu_kind q place (turn q act o Freed) freed J r → IsFinished lane p cpu act d (told_end lane cpu e.i e.n out pos freed) gone r
 ended_told lane p p' q r cpu place act d e out gone pos freed after J same one goes service wrote o o_is here acted wrote' =
     subst (λ (t : PassesView × Due). IsFinished lane t.0 cpu act t.1 (told_end lane cpu e.i e.n out pos freed) gone r) (λ k. (same k, one k)) record {
       ended = record {
         leaves_is = goes;
         notes_are = refl;
-        written = (q, (after, wrote), (r, (J, subst (λ (t : ℕ × ℕ × QOp). WritesCpu q t.0 (record { actor = t.1; act = act; op = t.2; reply = Freed }) freed J r) (λ k. (here k, acted k, o_is k)) wrote'), refl));
+        written = (q, (after, wrote), (r, (J, subst (λ (t : ℕ × ℕ × QOp). WritesEntry cpu_kind q t.0 (record { actor = t.1; act = act; op = t.2; reply = Freed }) freed J r) (λ k. (here k, acted k, o_is k)) wrote'), refl));
       };
       callout = refl;
       room = refl;

@@ -24,7 +24,8 @@ use Rattle.co_service.specs.Stories.{by, queue_by}
 use Rattle.co_service.specs.Views.{AreOf, PassesView, journal_seen, seen_of}
 use Rattle.co_service.specs.Name.{ServiceName}
 use Rattle.co_service.specs.declared.params.Params.{Params}
-use Rattle.co_service.specs.Writes.{Writes, WritesAt, WritesCpu, WritesTimer}
+use Rattle.co_service.specs.Kinds.{cpu_kind, timer_kind}
+use Rattle.co_service.specs.Writes.{Writes, WritesAt, WritesEntry}
 use Rattle.co_service.proofs.Items.{index_else, index_set}
 
 no_more : {A : Type 0} (xs : List A) → xs ++ [] ≡ xs
@@ -45,7 +46,7 @@ module _ {E : Type 0} (made_by : E → ℕ) (a : ℕ) where
     folded_more : (before between : List E) (e : E) → own made_by a between ≡ [] → made_by e ≡ a → fold f s (own made_by a ((before ++ between) ++ e ∷ [])) ≡ f (fold f s (own made_by a before)) e
     folded_more before between e none is = ap (fold f s) (own_more before between e none is) ∙ fold-append f s (own made_by a before) (e ∷ [])
 
-module _ (p q : PassesView) (c pos : ℕ) (e : QEntry) (after : List QEntry) (w : WritesCpu p c e pos after q) (direct : Bool) where
+module _ (p q : PassesView) (c pos : ℕ) (e : QEntry) (after : List QEntry) (w : WritesEntry cpu_kind p c e pos after q) (direct : Bool) where
   cpu_here : service_of direct q c ≡ served direct (service_of direct p c) e.op e.reply
   cpu_here =
       let j : journal_seen q c ≡ after = ap (λ (v : PassesView). journal_seen v c) w.passes ∙ index_set p.cpus c after [] w.below in
@@ -65,7 +66,7 @@ module _ (p q : PassesView) (c pos : ℕ) (e : QEntry) (after : List QEntry) (w 
   cpu_far : (j : ℕ) → far_of q j ≡ far_of p j
   cpu_far j = ap (λ (v : PassesView). far_of v j) w.passes
 
-module _ (p q : PassesView) (i pos : ℕ) (e : Entry) (after : List Entry) (w : WritesTimer p i e pos after q) where
+module _ (p q : PassesView) (i pos : ℕ) (e : Entry) (after : List Entry) (w : WritesEntry timer_kind p i e pos after q) where
   timer_here : far_of q i ≡ service_after (far_of p i) e.op e.reply
   timer_here =
       let j : seen_of q i ≡ after = ap (λ (v : PassesView). seen_of v i) w.passes ∙ index_set p.timers i after [] w.below in

@@ -10,7 +10,8 @@ use Rattle.co_wheel.specs.Cpu.{Cpu}
 use Rattle.co_service.specs.declared.outs.Scanned.{Scanned}
 use Rattle.co_service.specs.Params.{directs}
 use Rattle.co_service.specs.Views.{PassesView, journal_seen}
-use Rattle.co_service.specs.Writes.{Writes, WritesCpu}
+use Rattle.co_service.specs.Kinds.{cpu_kind}
+use Rattle.co_service.specs.Writes.{Writes, WritesEntry}
 use Rattle.co_service.specs.Books.{BooksView}
 use Rattle.co_service.specs.Desk.{IsDesk}
 use Rattle.co_service.specs.Outcomes.{noted_turn, turn, looks_in, IsScan}
@@ -20,11 +21,11 @@ use Rattle.co_service.proofs.Looking.{looks_shown}
 use Rattle.co_service.proofs.Noting.{turn_written}
 
 -- after a write in a CPU's journal the actor has seen all of it
-pub journal_after : (p q : PassesView) (cpu : ℕ) (e : QEntry) (pos : ℕ) (after : List QEntry) → WritesCpu p cpu e pos after q → journal_seen q cpu ≡ after
+pub journal_after : (p q : PassesView) (cpu : ℕ) (e : QEntry) (pos : ℕ) (after : List QEntry) → WritesEntry cpu_kind p cpu e pos after q → journal_seen q cpu ≡ after
 journal_after p q cpu e pos after w = ap (λ (v : PassesView). journal_seen v cpu) w.passes ∙ index_set p.cpus cpu after [] w.below
 
 pub scan_told : (p q : PassesView) (w : Cpu) (b : BooksView) (scans cpu act now looks pos : ℕ) (out : Scanned) → IsDesk w b scans → b.params ≡ p.params → b.cpu ≡ cpu
-    → out.note ≡ noted_turn p.actor act cpu (Scan now) (Count out.count) pos → WritesCpu p b.cpu (turn p act (Scan now) (Count out.count)) pos (b.journal ++ turn p act (Scan now) (Count out.count) ∷ []) q
+    → out.note ≡ noted_turn p.actor act cpu (Scan now) (Count out.count) pos → WritesEntry cpu_kind p b.cpu (turn p act (Scan now) (Count out.count)) pos (b.journal ++ turn p act (Scan now) (Count out.count) ∷ []) q
     → looks ≡ looks_at_visited w.timers now → out.looks ≡ looks → IsScan p cpu act now out q
 scan_told p q w b scans cpu act now looks pos out desk params here note_is written looks_are out_is =
     let e : QEntry = turn p act (Scan now) (Count out.count) in

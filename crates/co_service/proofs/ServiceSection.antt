@@ -32,7 +32,8 @@ use Rattle.co_service.specs.Services.{IsBegun, IsServing, run_entry}
 use Rattle.co_service.specs.Serving.{Service, Runs, Waits, lane_actor, service_in}
 use Rattle.co_service.specs.Stories.{IsHistory, IsJournal, by, queue_by}
 use Rattle.co_service.specs.Views.{PassesView, journal_seen, seen_of}
-use Rattle.co_service.specs.Writes.{WritesTimer}
+use Rattle.co_service.specs.Kinds.{timer_kind}
+use Rattle.co_service.specs.Writes.{WritesEntry}
 use Rattle.co_service.proofs.CalledDesk.{alone_then, at_now, of_changed, stand_after, there_now, within_history}
 use Rattle.co_service.proofs.DeskKept.{owes_turns}
 use Rattle.co_service.proofs.Lanes.{direct_spec, serves_lane}
@@ -166,7 +167,7 @@ module _ (w w' : Cpu) (b : BooksView) (scans : ℕ) (p : PassesView) (act : ℕ)
 
 -- what the caller is told of a begin
 pub begun_told : (p p' q : PassesView) (cpu act pos : ℕ) (d e : Due) (reply : Reply) (note : Note) (after : List Entry) → p' ≡ p → e ≡ d → note ≡ noted_entry e.i (run_entry p' act (Begin e.n cpu) reply) pos
-    → WritesTimer p' e.i (run_entry p' act (Begin e.n cpu) reply) pos after q → IsBegun p cpu act d (record { reply = reply; notes = Some note ∷ None ∷ None ∷ [] }) q
+    → WritesEntry timer_kind p' e.i (run_entry p' act (Begin e.n cpu) reply) pos after q → IsBegun p cpu act d (record { reply = reply; notes = Some note ∷ None ∷ None ∷ [] }) q
 begun_told p p' q cpu act pos d e reply note after same one is wrote =
     subst (λ (t : PassesView × Due × Note). IsBegun t.0 cpu act t.1 (record { reply = reply; notes = Some t.2 ∷ None ∷ None ∷ [] }) q) (λ k. (same k, one k, sym is k)) record {
       notes_are = refl;

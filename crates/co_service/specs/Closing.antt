@@ -12,7 +12,7 @@ use Rattle.co_service.specs.declared.params.Params.{Params}
 use Rattle.co_service.specs.declared.line.Line.{Line}
 use Rattle.co_service.specs.Name.{ServiceName}
 use Rattle.co_service.specs.Params.{actor_count}
-use Rattle.co_service.specs.Kinds.{KindOf, cpu_kind, timer_kind}
+use Rattle.co_service.specs.Kinds.{KindOf, cpu_kind, seen, timer_kind}
 use Rattle.co_service.specs.Lines.{made, opening_of}
 use Rattle.co_service.specs.Seats.{IsShown}
 use Rattle.co_service.specs.Views.{PassesView, AreOf}
@@ -26,7 +26,7 @@ pub record ClosingView : Type 0 where
 module _ {E : Type 0} (kind : KindOf E) where
   -- an actor's pass of place i has met the keeper
   pub record IsMet (i : ℕ) (k : KeeperView (Line E)) (q : PassesView) : Type 0 where
-    pub shown : IsShown kind.made_by q.actor (made k.history) (kind.seen q i)
+    pub shown : IsShown kind.made_by q.actor (made k.history) (seen kind q i)
     pub opened : opening_of k.history ≡ Some (q.params, i)
     pub actors : All (λ e. kind.made_by e < k.actors) (made k.history)
 
@@ -37,7 +37,7 @@ module _ {E : Type 0} (kind : KindOf E) where
 
   -- what an actor has seen of place i begins its final history, which has no more entries of the actor
   abbrev pub Shows : List E → ℕ → PassesView → Type 0
-  Shows H i q = IsShown kind.made_by q.actor H (kind.seen q i)
+  Shows H i q = IsShown kind.made_by q.actor H (seen kind q i)
 
   -- a final history of place i, by one actor's passes
   pub record Ends (H : List E) (i : ℕ) (q : PassesView) : Type 0 where

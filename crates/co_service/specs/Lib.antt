@@ -7,6 +7,8 @@ pub mod Params
 pub mod Name
 -- an actor's passes as contracts see them: what it has seen of each callout and each CPU
 pub mod Views
+-- the two kinds of places, the callouts and the CPUs
+pub mod Kinds
 -- what an entry, or the notes of a section, add to the passes of the actor that makes them
 pub mod Writes
 -- a caller's operation section by section: its reply, its notes, and what leaves for another CPU
@@ -23,8 +25,6 @@ pub mod Lines
 pub mod Stories
 -- one actor's passes of many places, with the lives of these places
 pub mod Seats
--- the two kinds of places, the callouts and the CPUs
-pub mod Kinds
 -- a desk's books: the journal of its CPU, and the histories of the callouts that stand there
 pub mod Books
 -- which entry may stand next at a desk, by the queue after the journal and each callout's state

@@ -11,8 +11,8 @@ use Rattle.co_object.specs.declared.note.Place.TheVariants.{Timer, Cpu, Actor}
 use Rattle.co_object.specs.declared.note.Note.{Note}
 use Rattle.co_service.specs.declared.params.Params.{Params}
 use Rattle.co_service.specs.Params.{actor_count}
-use Rattle.co_service.specs.Stories.{by, queue_by, IsHistory, IsJournal}
-use Rattle.co_service.specs.Views.{PassesView, IsPlace, seen_of, journal_seen}
+use Rattle.co_service.specs.Kinds.{KindOf, cpu_kind, seen, timer_kind}
+use Rattle.co_service.specs.Views.{PassesView, IsPlace}
 
 -- the actor's entry ends the history, which begins with what the actor had seen, followed by entries of others
 pub record Adds {E : Type 0} (made_by : E → ℕ) (Legal : Params → ℕ → List E → Type 0) (p : Params) (actor i : ℕ) (e : E) (pos : ℕ) (seen after : List E) : Type 0 where
@@ -22,21 +22,15 @@ pub record Adds {E : Type 0} (made_by : E → ℕ) (Legal : Params → ℕ → L
   pub place : (before : ℕ) → before + 1 ≡ length after → IsPlace pos before
   pub actors : All (λ x. made_by x < actor_count p) after
 
--- an entry in callout i's history, which is then `after`. The passes of all other places stay
-pub record WritesTimer (p : PassesView) (i : ℕ) (e : Entry) (pos : ℕ) (after : List Entry) (q : PassesView) : Type 0 where
-  pub below : i < length p.timers
-  pub adds : Adds by IsHistory p.params p.actor i e pos (seen_of p i) after
-  pub passes : q ≡ record p { timers = slice_set p.timers i after }
-
--- the same of an entry in a CPU's journal
-pub record WritesCpu (p : PassesView) (cpu : ℕ) (e : QEntry) (pos : ℕ) (after : List QEntry) (q : PassesView) : Type 0 where
-  pub below : cpu < length p.cpus
-  pub adds : Adds queue_by IsJournal p.params p.actor cpu e pos (journal_seen p cpu) after
-  pub passes : q ≡ record p { cpus = slice_set p.cpus cpu after }
+-- an entry in the history of place i of this kind, which is then `after`. The passes of all other places stay
+pub record WritesEntry {E : Type 0} (kind : KindOf E) (p : PassesView) (i : ℕ) (e : E) (pos : ℕ) (after : List E) (q : PassesView) : Type 0 where
+  pub below : i < length (kind.all p)
+  pub adds : Adds kind.made_by kind.Legal p.params p.actor i e pos (seen kind p i) after
+  pub passes : q ≡ kind.with_all p (slice_set (kind.all p) i after)
 
 abbrev pub WritesAt : PassesView → Place → AnyEntry → ℕ → PassesView → Type 0
-WritesAt p (Timer i) (of.Timer e) pos q = (after : List Entry) × WritesTimer p i e pos after q
-WritesAt p (Cpu cpu) (of.Cpu e) pos q = (after : List QEntry) × WritesCpu p cpu e pos after q
+WritesAt p (Timer i) (of.Timer e) pos q = (after : List Entry) × WritesEntry timer_kind p i e pos after q
+WritesAt p (Cpu cpu) (of.Cpu e) pos q = (after : List QEntry) × WritesEntry cpu_kind p cpu e pos after q
 WritesAt p (Actor a) e pos q = ⊥
 WritesAt p (Timer i) (of.Cpu e) pos q = ⊥
 WritesAt p (Timer i) (of.Own e) pos q = ⊥

@@ -17,13 +17,14 @@ use Rattle.co_service.specs.declared.told.Told.{Told}
 use Rattle.co_service.specs.Books.{BooksView, entries_at, is_kept, with_history}
 use Rattle.co_service.specs.Call.{call_entry, call_turns, insert_turns, insertion_notes, insertion_told, removal_told, section_notes, told_notes}
 use Rattle.co_service.specs.Desk.{Owes, scans_in}
+use Rattle.co_service.specs.Kinds.{cpu_kind, timer_kind}
 use Rattle.co_service.specs.May.{state_at}
 use Rattle.co_service.specs.Name.{ServiceName}
 use Rattle.co_service.specs.Seats.{IsShown}
 use Rattle.co_service.specs.Services.{IsTaken, picked_histories, pop_entry, taken_of}
 use Rattle.co_service.specs.Stories.{IsHistory, IsJournal, by, queue_by}
 use Rattle.co_service.specs.Views.{PassesView, journal_seen, seen_of}
-use Rattle.co_service.specs.Writes.{Writes, WritesCpu, WritesTimer}
+use Rattle.co_service.specs.Writes.{Writes, WritesEntry}
 
 -- the places and an actor's passes are of this service
 pub record AreHere (service places : ServiceName) (p : PassesView) : Type 0 where
@@ -57,14 +58,14 @@ pub record HasMetTimer (p : PassesView) (b : BooksView) (i : ℕ) (q : PassesVie
 pub record IsTurnWritten (p : PassesView) (b : BooksView) (e : QEntry) (pos : ℕ) (q : PassesView) (b' : BooksView) : Type 0 where
   -- it stands at the end, and nothing else in the books changes
   pub books : b' ≡ record b { journal = b.journal ++ e ∷ [] }
-  pub written : WritesCpu p b.cpu e pos b'.journal q
+  pub written : WritesEntry cpu_kind p b.cpu e pos b'.journal q
   -- the queue still owes what was to come after it
   pub goes_on : (turns : List Turn) (w : Cpu) → Owes ((e.op, e.reply) ∷ turns) w b → Owes turns w b'
 
 -- an entry is written in the history of callout i
 pub record IsEntryWritten (p : PassesView) (b : BooksView) (i : ℕ) (e : Entry) (pos : ℕ) (q : PassesView) (b' : BooksView) : Type 0 where
   pub books : b' ≡ with_history b i (Some (entries_at b i ++ e ∷ []))
-  pub written : WritesTimer p i e pos (entries_at b i ++ e ∷ []) q
+  pub written : WritesEntry timer_kind p i e pos (entries_at b i ++ e ∷ []) q
 
 -- what a wheel answered to a call on callout i is what may be written now
 pub record MayAnswer (b : BooksView) (i : ℕ) (op : CallOp) (out : CallOut) : Type 0 where

@@ -16,6 +16,7 @@ pub(crate) trait Kind<E: Drop>: Story<Entry = Line<E>> + Sized {
     ghost use Rattle.co_service.specs.Lines.{made, opening_of};
     ghost use Rattle.co_service.specs.Seats.{IsAt};
     ghost use Rattle.co_service.specs.Views.{HasEntry, IsKeeperOf, TakesEntry};
+    ghost use Rattle.co_service.specs.Writes.{WritesEntry};
 
     ghost kind: { KindOf E };
 
@@ -31,7 +32,7 @@ pub(crate) trait Kind<E: Drop>: Story<Entry = Line<E>> + Sized {
         requires may { TakesEntry kind.Legal lives.now passes.old.params i keeper.old entry }
         requires own { kind.made_by entry ≡ passes.old.actor }
         ensures kept { HasEntry kind.Legal lives.now passes.old.params i keeper.old entry keeper.new }
-        ensures written { kind.Writes passes.old i entry result (made keeper.new.history) passes.new };
+        ensures written { WritesEntry kind passes.old i entry result (made keeper.new.history) passes.new };
 
     /// Compares the actor's pass of place `i` with its history. Nothing changes.
     fn meet_at(passes: &mut Passes, life: &Life<Self>, keeper: &mut Keeper<Self>, i: u32)

@@ -19,7 +19,8 @@ use Rattle.co_service.specs.Call.{IsCalled, call_entry}
 use Rattle.co_service.specs.Params.{actors_of, spec_at}
 use Rattle.co_service.specs.Stories.{IsHistory, by}
 use Rattle.co_service.specs.Views.{PassesView, seen_of}
-use Rattle.co_service.specs.Writes.{Adds, Writes, WritesAt, WritesTimer}
+use Rattle.co_service.specs.Kinds.{timer_kind}
+use Rattle.co_service.specs.Writes.{Adds, Writes, WritesAt, WritesEntry}
 use Rattle.co_timers.specs.Acts.{IsReply}
 use Rattle.co_timers.proofs.Groups.{AreAside, HasOne, one_in_group}
 
@@ -64,7 +65,7 @@ record IsTold (p : PassesView) (i : ℕ) (e : Entry) (q : PassesView) : Type 0 w
   here : seen_of q i ≡ after
   rest : (j : ℕ) → j ≢ i → seen_of q j ≡ seen_of p j
 
-one_told : (p m b q : PassesView) (i pos : ℕ) (e : Entry) (after : List Entry) → IsBeside p m → WritesTimer m i e pos after b → IsBeside b q → IsTold p i e q
+one_told : (p m b q : PassesView) (i pos : ℕ) (e : Entry) (after : List Entry) → IsBeside p m → WritesEntry timer_kind m i e pos after b → IsBeside b q → IsTold p i e q
 one_told p m b q i pos e after f w l =
     let own : Adds by IsHistory m.params m.actor i e pos (seen_of m i) after = w.adds in
     let as_p : Adds by IsHistory p.params p.actor i e pos (seen_of p i) after =

@@ -10,7 +10,8 @@ use Rattle.co_service.specs.Outcomes.{turn}
 use Rattle.co_service.specs.Params.{actors_of}
 use Rattle.co_service.specs.Services.{run_entry}
 use Rattle.co_service.specs.Views.{PassesView}
-use Rattle.co_service.specs.Writes.{WritesCpu, WritesTimer}
+use Rattle.co_service.specs.Kinds.{cpu_kind, timer_kind}
+use Rattle.co_service.specs.Writes.{WritesEntry}
 use Rattle.co_service.proofs.ServedDesk.{lane_pops}
 use Rattle.co_service.proofs.running.write_taken.Goals as goal
 
@@ -22,7 +23,7 @@ returns-in-None g c =
       books = search rules;
       told = record {
         popped = record { place = refl; entry = refl };
-        written = (q, (c.write_turn-pop.new.books.journal, subst (λ (o : QOp). WritesCpu p c.args.books.now.cpu (turn p c.args.act o Empty) c.write_turn-pop.result c.write_turn-pop.new.books.journal q) c.pop-op.ensures c.write_turn-pop.ensures.written), refl);
+        written = (q, (c.write_turn-pop.new.books.journal, subst (λ (o : QOp). WritesEntry cpu_kind p c.args.books.now.cpu (turn p c.args.act o Empty) c.write_turn-pop.result c.write_turn-pop.new.books.journal q) c.pop-op.ensures c.write_turn-pop.ensures.written), refl);
       };
       seen = search rules;
     }
@@ -45,8 +46,8 @@ returns-in-Some g c =
         entry = refl;
         written = (
           q,
-          (c.write_turn-pop-in-Some.new.books.journal, subst (λ (o : QOp). WritesCpu p c.args.books.now.cpu (turn p c.args.act o (Got x.i x.n x.at)) c.write_turn-pop-in-Some.result c.write_turn-pop-in-Some.new.books.journal q) c.pop-op.ensures c.write_turn-pop-in-Some.ensures.written),
-          (r, (after, subst (λ (t : ℕ × ℕ × Reply). WritesTimer q x.i (record { actor = t.0; act = c.args.act; op = Run (Pick x.n t.1 x.at); reply = t.2 }) c.enter_run-pick.result after r) (λ k. (acted k, cpu k, said k)) c.enter_run-pick.ensures.written), refl),
+          (c.write_turn-pop-in-Some.new.books.journal, subst (λ (o : QOp). WritesEntry cpu_kind p c.args.books.now.cpu (turn p c.args.act o (Got x.i x.n x.at)) c.write_turn-pop-in-Some.result c.write_turn-pop-in-Some.new.books.journal q) c.pop-op.ensures c.write_turn-pop-in-Some.ensures.written),
+          (r, (after, subst (λ (t : ℕ × ℕ × Reply). WritesEntry timer_kind q x.i (record { actor = t.0; act = c.args.act; op = Run (Pick x.n t.1 x.at); reply = t.2 }) c.enter_run-pick.result after r) (λ k. (acted k, cpu k, said k)) c.enter_run-pick.ensures.written), refl),
         );
       };
       seen = search rules;

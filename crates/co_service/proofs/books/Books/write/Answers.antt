@@ -3,7 +3,8 @@ use Rattle.co_service.specs.Books.{BooksView}
 use Rattle.co_service.specs.Desk.{Owes}
 use Rattle.co_service.specs.Lines.{made}
 use Rattle.co_service.specs.Name.{ServiceName}
-use Rattle.co_service.specs.Writes.{WritesCpu}
+use Rattle.co_service.specs.Kinds.{cpu_kind}
+use Rattle.co_service.specs.Writes.{WritesEntry}
 use Rattle.co_service.proofs.BooksWritten.{journal_back, journal_books, journal_keeper, journal_legal}
 use Rattle.co_service.proofs.DeskKept.{owes_next}
 use Rattle.co_service.proofs.books.Books.write.Goals as goal
@@ -26,6 +27,6 @@ returns g c =
     let books = journal_books g.N.Name.name c.self.inside.params.value c.self.inside.cpu c.self.inside.keepers.items c.self.inside.journal c.args.self.now c.self.invariant c.self.view_is c.cpus.result.now c.args.passes.now.params c.requires.together.params_are (c.cpus.ensures ∙ ap (λ (n : ServiceName). n.cpus) c.requires.together.here.places_are) c.args.entry.now c.write_at.new.keeper c.write_at.ensures.kept.history in
     record {
       books = books;
-      written = subst (λ (k : ℕ). WritesCpu c.args.passes.now k c.args.entry.now c.write_at.result (made c.write_at.new.keeper.history) c.write_at.new.passes) (ap (λ (b : BooksView). b.cpu) c.self.view_is) c.write_at.ensures.written;
+      written = subst (λ (k : ℕ). WritesEntry cpu_kind c.args.passes.now k c.args.entry.now c.write_at.result (made c.write_at.new.keeper.history) c.write_at.new.passes) (ap (λ (b : BooksView). b.cpu) c.self.view_is) c.write_at.ensures.written;
       goes_on = λ turns w o. subst (Owes turns w) (sym books) (owes_next c.args.self.now c.args.entry.now turns w o);
     }
