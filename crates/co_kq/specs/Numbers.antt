@@ -95,10 +95,10 @@ pub record CanPlace (work : ℕ) (knote : Knote) (due : ℕ) (knotes : Slab Slot
   pub kept : AreKept work knotes.slots uses p
   -- a callout is left that no knote has
   pub room : slab_len knotes < length uses
-  -- so is a slot: the slab has one for each callout's knote
+  -- the slab has room for a knote of each callout
   pub has : length uses ≤ knotes.capacity
   pub absent : IsAbsent knotes.slots knote.ident
-  -- no callout was made so often that the service cannot arm it once more
+  -- no callout was armed so often that the service cannot arm it once more
   pub low : work < 2 ^ 62
   pub next : knote.next ≡ Some due
   -- it has not expired yet
