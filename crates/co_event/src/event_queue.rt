@@ -1,12 +1,12 @@
 //! The queue of what is pending, and the moment for which its clock is programmed.
-ghost use Rattle.std.specs.Prelude.{◌≡◌, ℕ, ◌<◌, ◌≤◌, All, length, map, take as list_take, IfOk, IfSome};
+ghost use Rattle.std.specs.Prelude.{◌≡◌, ℕ, ◌<◌, ◌≤◌, length, map, take as list_take, IfOk, IfSome};
 ghost use Rattle.std.specs.Option.{option_map};
 ghost use Rattle.co_sbt.specs.Time.{sat_add};
 ghost use Rattle.co_event.specs.Queue.{IsSize};
 ghost use Rattle.co_event.specs.Calls.{arm, stop, take, settle};
 ghost use Rattle.co_event.specs.EventTimers.{first_deadline};
 ghost use Rattle.co_event.specs.Events.{Events, next_moment};
-ghost use Rattle.co_event.specs.GiveOut.{cleared, IsGivenOut};
+ghost use Rattle.co_event.specs.GiveOut.{cleared, CanGiveOut, IsGivenOut};
 ghost use Rattle.co_event.specs.StandsFor.{Answers, IsNew, StandsFor, written};
 
 use crate::tournament::Tournament;
@@ -160,9 +160,7 @@ fn end_of(due: Sbt, prec: Sbt) -> Sbt
 
 /// Gives out the expired list: writes its numbers, in order, and takes their deadlines away. The answer is how many there are.
 fn give_out(wheel: &mut WheelQueue, deadlines: &mut Tournament, out: &mut [u32]) -> u32
-    requires room { length wheel.old.expired ≤ length out.old }
-    requires few { length wheel.old.expired ≤ 1024 }
-    requires below { All (λ due. due.i < length deadlines.old) wheel.old.expired }
+    requires { CanGiveOut wheel.old.expired deadlines.old out.old }
     ensures wheel { IsGivenOut wheel.old wheel.new }
     ensures deadlines { deadlines.new ≡ cleared (map (λ due. due.i) wheel.old.expired) deadlines.old }
     ensures count { result ≡ length wheel.old.expired }

@@ -2,7 +2,7 @@
 use Rattle.std.proofs.Common.{◌≡◌, ℕ, ◌+◌, ◌<◌, ◌≤◌, true, false, cond, List, length, get_or, set, refl, ap, sym, subst, ◌∙◌, arith, Option, Some, None, is_some, count_by, inl, inr}
 use Rattle.std.proofs.lemmas.Bool.{cases_eq, cases_lt}
 use Rattle.std.proofs.lemmas.List.{get_or-set_same, get_or-set_other, get_or_past, length-set}
-use Rattle.slab.specs.Slab.{Slab, Updates, get, slab_len}
+use Rattle.slab.specs.Slab.{Slab, Updates, get}
 use Rattle.co_service.specs.Views.{PassesView}
 use Rattle.co_single.specs.Acts.{IsArmed}
 use Rattle.co_single.specs.Alarms.{fired_at, but}
@@ -10,9 +10,8 @@ use Rattle.co_kq.specs.declared.knote.Knote.{Knote}
 use Rattle.co_kq.specs.declared.knote.Slot.{Slot}
 use Rattle.co_kq.specs.declared.numbers.Use.{Use}
 use Rattle.co_kq.specs.declared.numbers.Use.TheVariants.{Free, Held}
-use Rattle.co_kq.specs.Kevents.{put}
-use Rattle.co_kq.specs.Slots.{knotes_in, AreDistinct}
-use Rattle.co_kq.specs.Numbers.{is_held, use_at, alarm_for, use_after, left_use, AreKept, HasTimer, IsPut, NothingFires}
+use Rattle.co_kq.specs.Changes.{told_slot, IsKnotePut, IsSlotChanged}
+use Rattle.co_kq.specs.Numbers.{is_held, use_at, alarm_for, use_after, left_use, AreKept, CanPlace, HasTimer, IsPut, NothingFires}
 use Rattle.co_kq.proofs.InSlots.{some_is}
 use Rattle.co_kq.proofs.Counting.{one_if, count_changed, gos_same}
 use Rattle.co_kq.proofs.Keeping.{ChangesUse, IsOwn, IsSole, held_is, numbered_put, armed_put, numbered_gone, armed_gone}
@@ -46,17 +45,16 @@ armed_fires p q number due arg a = record {
   ]
 
 module _ (work : ℕ) (knote : Knote) (due : ℕ) (old new : Slab Slot) (before after : List Use) (p q : PassesView) (key number : ℕ) where
-  pub put_kept : AreKept work old.slots before p → AreDistinct new.slots → knotes_in new.slots ≡ put knote (knotes_in old.slots) → new.capacity ≡ old.capacity
-      → Updates old new key (Some (record { knote = knote; timer = number })) → ChangesUse before after number (Held key) → length after ≡ length before
-      → IsOwn old key number → IsSole before key number → count_by is_held after ≡ count_by is_some new.slots
+  pub put_kept : (stood : ℕ) → AreKept work old.slots before p → IsKnotePut old new key (record { knote = knote; timer = number }) stood
+      → ChangesUse before after number (Held key) → length after ≡ length before → IsOwn old key number → IsSole before key number → count_by is_held after ≡ count_by is_some new.slots
       → knote.next ≡ Some due → knote.count ≡ 0 → IsArmed p number due 0 q → IsPut work knote old p new after q
-  put_kept kept distinct list capacity updates uses long own sole many next fresh a = record {
-    list = list;
+  put_kept stood kept is_put uses long own sole many next fresh a = record {
+    list = is_put.list;
     kept = record {
-      distinct = distinct;
-      numbered = numbered_put old new before after key number (record { knote = knote; timer = number }) refl updates uses long own sole many kept.numbered;
+      distinct = is_put.changed.distinct;
+      numbered = numbered_put old new before after key number (record { knote = knote; timer = number }) refl is_put.changed.updates uses long own sole many kept.numbered;
       armed =
-          armed_put old new before after key number work (work + 1) p q (record { knote = knote; timer = number }) refl updates uses own (omega arith) (omega (arith, fresh))
+          armed_put old new before after key number work (work + 1) p q (record { knote = knote; timer = number }) refl is_put.changed.updates uses own (omega arith) (omega (arith, fresh))
           (a.alarm ∙ ap alarm_for (sym next)) (omega (arith, a.made, kept.armed.made number)) a.others.alarms a.others.made kept.armed;
       callouts = a.others.count ∙ (kept.callouts ∙ sym long);
       few = omega (arith, long, kept.few);
@@ -64,60 +62,56 @@ module _ (work : ℕ) (knote : Knote) (due : ℕ) (old new : Slab Slot) (before 
     };
     fires = armed_fires p q number due 0 a;
     clock = a.time.clock;
-    capacity = capacity;
+    capacity = is_put.changed.capacity;
   }
 
 -- in the place of an old one
 pub put_old : (work : ℕ) (knote : Knote) (due : ℕ) (old new : Slab Slot) (uses : List Use) (p q : PassesView) (key number : ℕ)
-    → AreKept work old.slots uses p → HasTimer old.slots key number → AreDistinct new.slots → knotes_in new.slots ≡ put knote (knotes_in old.slots) → new.capacity ≡ old.capacity
-    → slab_len new ≡ slab_len old → Updates old new key (Some (record { knote = knote; timer = number })) → knote.next ≡ Some due → knote.count ≡ 0 → IsArmed p number due 0 q
-    → IsPut work knote old p new uses q
-put_old work knote due old new uses p q key number kept had distinct list capacity len updates next fresh a =
+    → AreKept work old.slots uses p → HasTimer old.slots key number → IsKnotePut old new key (record { knote = knote; timer = number }) 1
+    → knote.next ≡ Some due → knote.count ≡ 0 → IsArmed p number due 0 q → IsPut work knote old p new uses q
+put_old work knote due old new uses p q key number kept had is_put next fresh a =
     let of_key : use_at uses number ≡ Held key = ap (use_at uses) (sym had.timer) ∙ kept.numbered.held key had.slot had.there in
-    put_kept work knote due old new uses uses p q key number kept distinct list capacity updates
+    put_kept work knote due old new uses uses p q key number 1 kept is_put
     (record { changed = of_key; others = λ j differs. refl })
     refl
     (λ j s there at is. there (held_is j key (sym (kept.numbered.held j s at) ∙ (ap (use_at uses) is ∙ of_key))))
     (λ j there held.
     let h : HasTimer old.slots key j = kept.numbered.kept j key held in
     there (sym h.timer ∙ (ap (λ v. v.timer) (some_is h.slot had.slot (sym h.there ∙ had.there)) ∙ had.timer)))
-    (kept.numbered.many ∙ sym len)
+    (omega (arith, kept.numbered.many, is_put.changed.len))
     next fresh a
 
 -- of a new ident
 pub put_new : (work : ℕ) (knote : Knote) (due : ℕ) (old new : Slab Slot) (uses : List Use) (p q : PassesView) (key number : ℕ)
-    → AreKept work old.slots uses p → get old key ≡ None → number < length uses → is_held (use_at uses number) ≡ false → AreDistinct new.slots
-    → knotes_in new.slots ≡ put knote (knotes_in old.slots) → new.capacity ≡ old.capacity
-    → slab_len new ≡ slab_len old + 1 → Updates old new key (Some (record { knote = knote; timer = number })) → knote.next ≡ Some due → knote.count ≡ 0 → IsArmed p number due 0 q
-    → IsPut work knote old p new (set uses number (Held key)) q
-put_new work knote due old new uses p q key number kept vacant low loose distinct list capacity len updates next fresh a =
-    put_kept work knote due old new uses (set uses number (Held key)) p q key number kept distinct list capacity updates
+    → CanPlace work knote due old uses p → get old key ≡ None → number < length uses → is_held (use_at uses number) ≡ false
+    → IsKnotePut old new key (record { knote = knote; timer = number }) 0 → IsArmed p number due 0 q → IsPut work knote old p new (set uses number (Held key)) q
+put_new work knote due old new uses p q key number can vacant low loose is_put a =
+    put_kept work knote due old new uses (set uses number (Held key)) p q key number 0 can.kept is_put
     (set_changes uses number (Held key) low)
     (length-set uses number (Held key))
     (λ j s there at is.
-    let e : is_held (use_at uses number) ≡ true = ap (λ t. is_held (use_at uses t)) (sym is) ∙ ap is_held (kept.numbered.held j s at) in
+    let e : is_held (use_at uses number) ≡ true = ap (λ t. is_held (use_at uses t)) (sym is) ∙ ap is_held (can.kept.numbered.held j s at) in
     let never : true ≡ false = sym e ∙ loose in cc)
     (λ j there held.
-    let h : HasTimer old.slots key j = kept.numbered.kept j key held in
+    let h : HasTimer old.slots key j = can.kept.numbered.kept j key held in
     let never : None ≡ Some h.slot = sym vacant ∙ h.there in cc)
     many
-    next fresh a
+    can.next can.fresh a
   where
     many : count_by is_held (set uses number (Held key)) ≡ count_by is_some new.slots
     many =
         let change = count_changed is_held Free uses (set uses number (Held key)) number low (length-set uses number (Held key)) (λ j differs. get_or-set_other uses number j (Held key) Free differs) in
         let was : cond (is_held (get_or uses number Free)) 1 0 ≡ 0 = ap one_if loose in
         let is : one_if (is_held (get_or (set uses number (Held key)) number Free)) ≡ 1 = ap (λ u. one_if (is_held u)) (get_or-set_same uses number (Held key) Free low) in
-        omega (arith, change, was, is, len, kept.numbered.many)
+        omega (arith, change, was, is, is_put.changed.len, can.kept.numbered.many)
 
 -- a knote leaves
 pub gone_kept : (work : ℕ) (old new : Slab Slot) (uses : List Use) (p : PassesView) (key : ℕ) (x : Slot)
-    → AreKept work old.slots uses p → get old key ≡ Some x → AreDistinct new.slots → slab_len new + 1 ≡ slab_len old → Updates old new key None
-    → AreKept work new.slots (set uses x.timer (left_use x)) p
-gone_kept work old new uses p key x kept was distinct len updates = record {
-  distinct = distinct;
-  numbered = numbered_gone old new uses after key x.timer x was refl updates changes long many kept.numbered;
-  armed = armed_gone old new uses after key x.timer work p x was refl updates changes kept.armed;
+    → AreKept work old.slots uses p → get old key ≡ Some x → IsSlotChanged old new key None 1 0 → AreKept work new.slots (set uses x.timer (left_use x)) p
+gone_kept work old new uses p key x kept was gone = record {
+  distinct = gone.distinct;
+  numbered = numbered_gone old new uses after key x.timer x was refl gone.updates changes long many kept.numbered;
+  armed = armed_gone old new uses after key x.timer work p x was refl gone.updates changes kept.armed;
   callouts = kept.callouts ∙ sym long;
   few = omega (arith, long, kept.few);
   nothing = kept.nothing;
@@ -143,25 +137,25 @@ gone_kept work old new uses p key x kept was distinct len updates = record {
       let change = count_changed is_held Free uses after x.timer low long (λ j differs. changes.others j differs) in
       let held : cond (is_held (get_or uses x.timer Free)) 1 0 ≡ 1 = ap (λ u. one_if (is_held u)) (kept.numbered.held key x was) in
       let is : cond (is_held (get_or after x.timer Free)) 1 0 ≡ 0 = ap (λ u. one_if (is_held u)) changes.changed ∙ ap one_if (not_held x.knote.next) in
-      omega (arith, change, held, is, len, kept.numbered.many)
+      omega (arith, change, held, is, gone.len, kept.numbered.many)
 
 -- a knote's count is told
 pub told_kept : (work : ℕ) (old new : Slab Slot) (uses : List Use) (p : PassesView) (key : ℕ) (x : Slot)
-    → AreKept work old.slots uses p → get old key ≡ Some x → AreDistinct new.slots → slab_len new ≡ slab_len old → Updates old new key (Some (record x { knote = record x.knote { count = 0 } }))
-    → AreKept work new.slots uses p
-told_kept work old new uses p key x kept was distinct len updates =
+    → AreKept work old.slots uses p → get old key ≡ Some x → IsSlotChanged old new key (told_slot (get old key)) 1 1 → AreKept work new.slots uses p
+told_kept work old new uses p key x kept was told =
     let of_key : use_at uses x.timer ≡ Held key = kept.numbered.held key x was in
     let y : Slot = record x { knote = record x.knote { count = 0 } } in
+    let updates : Updates old new key (Some y) = subst (λ o. Updates old new key (told_slot o)) was told.updates in
     let own : IsOwn old key x.timer = λ j s there at is. there (held_is j key (sym (kept.numbered.held j s at) ∙ (ap (use_at uses) is ∙ of_key))) in
     let same : ChangesUse uses uses x.timer (Held key) = record { changed = of_key; others = λ j differs. refl } in
     record {
-      distinct = distinct;
+      distinct = told.distinct;
       numbered =
           numbered_put old new uses uses key x.timer y refl updates same refl own
           (λ j there held.
           let h : HasTimer old.slots key j = kept.numbered.kept j key held in
           there (sym h.timer ∙ ap (λ v. v.timer) (some_is h.slot x (sym h.there ∙ was))))
-          (kept.numbered.many ∙ sym len) kept.numbered;
+          (omega (arith, kept.numbered.many, told.len)) kept.numbered;
       armed =
           armed_put old new uses uses key x.timer work work p p y refl updates same own (omega arith) (omega arith)
           (kept.armed.knotes key x was) (kept.armed.made x.timer) (λ j differs. refl) (λ j differs. refl) kept.armed;

@@ -4,6 +4,8 @@
 pub mod Kevents
 -- a kevent list whose knotes stand in slots
 pub mod Slots
+-- how the slab of the knotes changes, one slot at a time
+pub mod Changes
 -- the keys of slots by ident
 pub mod Index
 -- where the knotes of a slab stand by ident, and which of them have expirations

@@ -1,7 +1,7 @@
 -- Which callout each knote has.
-use Rattle.std.specs.Prelude.{◌≡◌, ◌≢◌, ℕ, ◌≤◌, ◌+◌, ◌==◌, Bool, true, false, List, [], ◌∷◌, ◌++◌, length, Option, Some, None, is_some, slice_index_or, if◌then◌else◌}
+use Rattle.std.specs.Prelude.{◌≡◌, ◌≢◌, ℕ, ◌<◌, ◌≤◌, ◌+◌, ◌^◌, ◌==◌, Bool, true, false, List, [], ◌∷◌, ◌++◌, length, Option, Some, None, is_some, slice_index_or, if◌then◌else◌}
 use Rattle.std.specs.List.{count_by}
-use Rattle.slab.specs.Slab.{Slab}
+use Rattle.slab.specs.Slab.{Slab, slab_len}
 use Rattle.co_service.specs.Views.{PassesView}
 use Rattle.co_single.specs.Alarms.{Alarm, count_of, alarm_at, made_at, fired_at, all_gos, scans_of, clock_of, waiting_of}
 use Rattle.co_kq.specs.declared.knote.Slot.{Slot}
@@ -9,7 +9,7 @@ use Rattle.co_kq.specs.declared.numbers.Use.{Use}
 use Rattle.co_kq.specs.declared.numbers.Use.TheVariants.{Free, Stale, Held}
 use Rattle.co_kq.specs.declared.knote.Knote.{Knote}
 use Rattle.co_kq.specs.Kevents.{Kevents, opening, put, knote_of, expires, expired}
-use Rattle.co_kq.specs.Slots.{slot_at, knotes_in, AreDistinct}
+use Rattle.co_kq.specs.Slots.{slot_at, knotes_in, AreDistinct, IsAbsent}
 
 abbrev pub is_held : Use → Bool
 is_held Free = false
@@ -89,6 +89,20 @@ pub record NothingFires (p q : PassesView) : Type 0 where
   pub fired : (i : ℕ) → fired_at q i ≡ fired_at p i
   pub all : all_gos q.timers ≡ all_gos p.timers
   pub scans : scans_of q ≡ scans_of p
+
+-- a knote of a new ident may be put into the list, and its callout armed for its time
+pub record CanPlace (work : ℕ) (knote : Knote) (due : ℕ) (knotes : Slab Slot) (uses : List Use) (p : PassesView) : Type 0 where
+  pub kept : AreKept work knotes.slots uses p
+  -- a callout is left that no knote has
+  pub room : slab_len knotes < length uses
+  -- the slab has room for a knote of each callout
+  pub has : length uses ≤ knotes.capacity
+  pub absent : IsAbsent knotes.slots knote.ident
+  -- no callout was armed so often that the service cannot arm it once more
+  pub low : work < 2 ^ 62
+  pub next : knote.next ≡ Some due
+  -- it has not expired yet
+  pub fresh : knote.count ≡ 0
 
 -- a knote is put into the list, and its callout is armed
 pub record IsPut (work : ℕ) (knote : Knote) (old : Slab Slot) (p : PassesView) (new : Slab Slot) (uses : List Use) (q : PassesView) : Type 0 where

@@ -1,8 +1,9 @@
 //! Knotes in the slots of a slab, found by their idents.
-ghost use Rattle.std.specs.Prelude.{◌≡◌, ◌≤◌, ◌<◌, ◌+◌, [], true, false, Some, None, IfOk, IfSome, IfNone, ◌-◌, length, slice_set};
-ghost use Rattle.slab.specs.Slab.{Slab as SlabView, get, slab_len, ContainsKey, HasRoomFor, Updates};
-ghost use Rattle.co_kq.specs.Kevents.{knote_of, put, without, expires, expired, next_after, event_of};
+ghost use Rattle.std.specs.Prelude.{◌≡◌, ◌≤◌, ◌<◌, [], true, false, Some, None, IfOk, IfSome, IfNone, ◌-◌, length, slice_set};
+ghost use Rattle.slab.specs.Slab.{Slab as SlabView, get, slab_len, ContainsKey, HasRoomFor};
+ghost use Rattle.co_kq.specs.Kevents.{knote_of, without, expires, expired, next_after, event_of};
 ghost use Rattle.co_kq.specs.Slots.{knotes_in, slot_at, IsAbsent, AreDistinct, IsAt, ticked_slot, IsFirstReady, AreQuiet, Tells};
+ghost use Rattle.co_kq.specs.Changes.{told_slot, IsKnotePut, IsSlotChanged};
 ghost use Rattle.co_kq.specs.declared.knote.Slot.{Slot as SlotOf};
 ghost use Rattle.co_kq.specs.Index.{IsChanged, key_of};
 ghost use Rattle.co_kq.specs.Numbers.{HasTimer, next_of};
@@ -75,12 +76,8 @@ impl Knotes {
         requires there { IsAt self.old.slots key knote.ident }
         requires distinct { AreDistinct self.old.slots }
         requires fresh { knote.count ≡ 0 }
-        ensures list { knotes_in self.new.slots ≡ put knote (knotes_in self.old.slots) }
-        ensures distinct { AreDistinct self.new.slots }
         ensures had { HasTimer self.old.slots key result }
-        ensures updates { Updates self.old self.new key (Some (record { knote = knote; timer = result })) }
-        ensures len { slab_len self.new ≡ slab_len self.old }
-        ensures capacity { self.new.capacity ≡ self.old.capacity }
+        ensures put { IsKnotePut self.old self.new key (record { knote = knote; timer = result }) 1 }
     {
         let ident = knote.ident;
         let slot = self.slab.remove(key);
@@ -96,12 +93,8 @@ impl Knotes {
         requires absent { IsAbsent self.old.slots knote.ident }
         requires distinct { AreDistinct self.old.slots }
         requires fresh { knote.count ≡ 0 }
-        ensures list { knotes_in self.new.slots ≡ put knote (knotes_in self.old.slots) }
-        ensures distinct { AreDistinct self.new.slots }
         ensures vacant { get self.old result ≡ None }
-        ensures updates { Updates self.old self.new result (Some (record { knote = knote; timer = timer })) }
-        ensures len { slab_len self.new ≡ slab_len self.old + 1 }
-        ensures capacity { self.new.capacity ≡ self.old.capacity }
+        ensures put { IsKnotePut self.old self.new result (record { knote = knote; timer = timer }) 0 }
     {
         let ident = knote.ident;
         let key = self.slab.insert_reserved(Slot { knote, timer });
@@ -116,10 +109,7 @@ impl Knotes {
         ensures was { get self.old key ≡ Some result }
         ensures found { knote_of result.knote.ident (knotes_in self.old.slots) ≡ Some result.knote }
         ensures list { knotes_in self.new.slots ≡ without result.knote.ident (knotes_in self.old.slots) }
-        ensures distinct { AreDistinct self.new.slots }
-        ensures updates { Updates self.old self.new key None }
-        ensures len { slab_len self.new + 1 ≡ slab_len self.old }
-        ensures capacity { self.new.capacity ≡ self.old.capacity }
+        ensures changed { IsSlotChanged self.old self.new key None 1 0 }
     {
         let slot = self.slab.remove(key);
         self.order.remove(slot.knote.ident);
@@ -153,10 +143,7 @@ impl Knotes {
         requires distinct { AreDistinct self.old.slots }
         ensures was { get self.old key ≡ Some result }
         ensures tells { Tells (knotes_in self.old.slots) (event_of result.knote) (knotes_in self.new.slots) }
-        ensures distinct { AreDistinct self.new.slots }
-        ensures updates { Updates self.old self.new key None }
-        ensures len { slab_len self.new + 1 ≡ slab_len self.old }
-        ensures capacity { self.new.capacity ≡ self.old.capacity }
+        ensures changed { IsSlotChanged self.old self.new key None 1 0 }
     {
         self.remove(key)
     }
@@ -167,10 +154,7 @@ impl Knotes {
         requires again { (s : SlotOf) → slot_at self.old.slots key ≡ Some s → s.knote.oneshot ≡ false }
         requires distinct { AreDistinct self.old.slots }
         ensures tells { Tells (knotes_in self.old.slots) result (knotes_in self.new.slots) }
-        ensures distinct { AreDistinct self.new.slots }
-        ensures updates { (s : SlotOf) → slot_at self.old.slots key ≡ Some s → Updates self.old self.new key (Some (record s { knote = record s.knote { count = 0 } })) }
-        ensures len { slab_len self.new ≡ slab_len self.old }
-        ensures capacity { self.new.capacity ≡ self.old.capacity }
+        ensures changed { IsSlotChanged self.old self.new key (told_slot (slot_at self.old.slots key)) 1 1 }
     {
         let Some(slot) = self.slab.get_mut(key) else {
             unreachable!()

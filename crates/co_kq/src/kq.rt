@@ -1,9 +1,8 @@
 //! The kevent list over a running service.
 ghost use Rattle.std.specs.Prelude.{◌≡◌, ◌≤◌, ◌<◌, ◌+◌, ◌^◌, ◌*◌, Some, true, false, length, take, max, IfOk, IfSome, IfNone, MatchOption};
 ghost use Rattle.co_kq.specs.Kevents.{span_of, is_span, begun, add_answer, added, deleted_count, deleted, ticked, expirations, events, delivered, put};
-ghost use Rattle.co_kq.specs.Numbers.{AreKept, FiresCounted, IsOpened, IsPut, NothingFires};
-ghost use Rattle.co_kq.specs.Slots.{IsAbsent, IsAt, IsQuiet, Tells};
-ghost use Rattle.slab.specs.Slab.{slab_len};
+ghost use Rattle.co_kq.specs.Numbers.{AreKept, CanPlace, FiresCounted, IsOpened, IsPut, NothingFires};
+ghost use Rattle.co_kq.specs.Slots.{IsAt, IsQuiet, Tells};
 
 use crate::fresh::KqFresh;
 use crate::kevent::{Add, Event, Unit};
@@ -107,13 +106,7 @@ fn place<N: Name, R: Wait>(
     knote: Knote,
     due: Sbt,
 )
-    requires kept { AreKept act knotes.old.slots uses.old single.old }
-    requires room { slab_len knotes.old < length uses.old }
-    requires has { length uses.old ≤ knotes.old.capacity }
-    requires absent { IsAbsent knotes.old.slots knote.ident }
-    requires low { act < 2 ^ 62 }
-    requires due { knote.next ≡ Some due }
-    requires fresh { knote.count ≡ 0 }
+    requires { CanPlace act knote due knotes.old uses.old single.old }
     ensures put { IsPut act knote knotes.old single.old knotes.new uses.new single.new }
     ensures all { length uses.new ≡ length uses.old }
 {

@@ -8,5 +8,5 @@ returns-clause-put g c =
     let e = c.insert-key.ensures in
     let f = c.first_loose-timer.ensures in
     subst (λ u. IsPut c.args.act c.args.knote c.args.knotes.now c.args.single.now c.insert-key.new.self u c.arm.new.self) (sym c.hold.ensures)
-    (put_new c.args.act c.args.knote c.args.due c.args.knotes.now c.insert-key.new.self c.args.uses.now c.args.single.now c.arm.new.self c.insert-key.result c.first_loose-timer.result c.requires.kept
-    e.vacant f.below f.loose e.distinct e.list e.capacity e.len e.updates c.requires.due c.requires.fresh c.arm.ensures)
+    (put_new c.args.act c.args.knote c.args.due c.args.knotes.now c.insert-key.new.self c.args.uses.now c.args.single.now c.arm.new.self c.insert-key.result c.first_loose-timer.result c.requires
+    e.vacant f.below f.loose e.put c.arm.ensures)

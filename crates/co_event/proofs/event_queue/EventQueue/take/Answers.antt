@@ -26,26 +26,18 @@ returns-in_err-at-clause-answers c =
     let none : first_deadline c.args.self.now ≡ None = sym c.next_event.ensures.deadline ∙ c.in_err-at.was in
     subst (λ (event : Option Event). Answers c.args.self.now c.args.self.now take (event, written event c.args.out.now)) (sym gone) (none-answers c.args.self.now none)
 
-pub give_out-count-requires-clause-room : goal.give_out-count-requires-clause-room
-give_out-count-requires-clause-room c =
+pub give_out-count-requires : goal.give_out-count-requires
+give_out-count-requires c =
     let a = c.self.inside in
     let w = c.self.invariant in
-    let few = room (event_timers a) c.in_ok-at.at c.scan.result c.scan.new.self w.buckets w.direct (programmed a _ _ _ c.self.view_is c.next_event.ensures.deadline c.in_ok-at.was) c.scan.ensures.answer w.stands_for.0 w.stands_for.1 in
+    let first = programmed a _ _ _ c.self.view_is c.next_event.ensures.deadline c.in_ok-at.was in
+    let fits = room (event_timers a) c.in_ok-at.at c.scan.result c.scan.new.self w.buckets w.direct first c.scan.ensures.answer w.stands_for.0 w.stands_for.1 in
     let wide : a.wheel.size ≤ length c.args.out.now = subst (λ (s : EventTimers). s.timers.size ≤ length c.args.out.now) (sym c.self.view_is) c.requires in
-    omega (arith, few, w.long, wide)
-
-pub give_out-count-requires-clause-few : goal.give_out-count-requires-clause-few
-give_out-count-requires-clause-few c =
-    let a = c.self.inside in
-    let w = c.self.invariant in
-    let few = room (event_timers a) c.in_ok-at.at c.scan.result c.scan.new.self w.buckets w.direct (programmed a _ _ _ c.self.view_is c.next_event.ensures.deadline c.in_ok-at.was) c.scan.ensures.answer w.stands_for.0 w.stands_for.1 in
-    omega (arith, few, w.long, w.small)
-
-pub give_out-count-requires-clause-below : goal.give_out-count-requires-clause-below
-give_out-count-requires-clause-below c =
-    let a = c.self.inside in
-    let w = c.self.invariant in
-    places (event_timers a) c.in_ok-at.at c.scan.result c.scan.new.self w.buckets w.direct (programmed a _ _ _ c.self.view_is c.next_event.ensures.deadline c.in_ok-at.was) c.scan.ensures.answer w.stands_for.0 w.stands_for.1
+    record {
+      room = omega (arith, fits, w.long, wide);
+      few = omega (arith, fits, w.long, w.small);
+      below = places (event_timers a) c.in_ok-at.at c.scan.result c.scan.new.self w.buckets w.direct first c.scan.ensures.answer w.stands_for.0 w.stands_for.1;
+    }
 
 pub invariant_of-self : goal.invariant_of-self
 invariant_of-self c =

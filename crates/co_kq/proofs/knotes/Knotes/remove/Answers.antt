@@ -1,7 +1,8 @@
-use Rattle.std.proofs.Common.{◌≡◌, Some, sym, ap, subst, ◌∙◌}
+use Rattle.std.proofs.Common.{◌≡◌, Some, None, sym, ap, subst, ◌∙◌, arith}
 use Rattle.co_kq.specs.Kevents.{knote_of, without}
 use Rattle.co_kq.specs.Slots.{knotes_in, AreDistinct}
-use Rattle.co_kq.proofs.InSlots.{found, removed}
+use Rattle.co_kq.specs.Changes.{IsSlotChanged}
+use Rattle.co_kq.proofs.InSlots.{found, removed, distinct_removed}
 use Rattle.co_kq.proofs.Listing.{listed_gone}
 use Rattle.co_kq.proofs.knotes.Knotes.remove.Goals as goal
 
@@ -28,3 +29,17 @@ returns-clause-list c =
     ap knotes_in c.remove-slot.ensures.slots
     ∙ (removed c.self.inside.slab.slots c.args.key x at (distinct c.args.key x at)
     ∙ ap (λ k. without x.knote.ident (knotes_in k.slots)) c.self.view_is)
+
+pub returns-clause-changed : goal.returns-clause-changed
+returns-clause-changed c =
+    let old = c.self.inside.slab in
+    let new = c.remove-slot.new.self in
+    let e = c.remove-slot.ensures in
+    let distinct = subst (λ k. AreDistinct k.slots) (sym c.self.view_is) c.requires.distinct in
+    let changed : IsSlotChanged old new c.args.key None 1 0 = record {
+      distinct = distinct_removed old new c.args.key e.updates distinct;
+      updates = e.updates;
+      len = omega (arith, e.len);
+      capacity = e.capacity;
+    } in
+    subst (λ k. IsSlotChanged k new c.args.key None 1 0) c.self.view_is changed

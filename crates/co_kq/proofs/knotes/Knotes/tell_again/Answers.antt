@@ -1,8 +1,9 @@
-use Rattle.std.proofs.Common.{◌≡◌, ap, sym, subst, refl, ◌∙◌, Some, None, set, false}
-use Rattle.slab.specs.Slab.{Slab, get, with_value}
+use Rattle.std.proofs.Common.{◌≡◌, ap, sym, subst, refl, ◌∙◌, arith, Some, None, set, false}
+use Rattle.slab.specs.Slab.{Slab, Updates, get, with_value}
 use Rattle.co_kq.specs.declared.knote.Slot.{Slot}
 use Rattle.co_kq.specs.Kevents.{placed, event_of}
 use Rattle.co_kq.specs.Slots.{knotes_in, slot_at, AreDistinct, IsFirstReady, Tells}
+use Rattle.co_kq.specs.Changes.{told_slot, IsSlotChanged}
 use Rattle.co_kq.proofs.InSlots.{taken_out, written, IsFree, free_where_alone, distinct_put}
 use Rattle.co_kq.proofs.Listing.{listed_quiet, first_of, with_updates, with_len}
 use Rattle.co_kq.proofs.Telling.{tells_first, behind_first, first_at, quieted}
@@ -39,12 +40,20 @@ returns-clause-tells c =
     subst (λ l. Tells l (event_of x.knote) (knotes_in new.slots)) (sym base ∙ ap (λ k. knotes_in k.slots) c.self.view_is)
     (subst (λ l. Tells (placed x.knote rest) (event_of x.knote) l) (sym end) tells)
 
-pub returns-clause-distinct : goal.returns-clause-distinct
-returns-clause-distinct c =
+pub returns-clause-changed : goal.returns-clause-changed
+returns-clause-changed c =
     let old = c.self.inside.slab in
     let x = c.in-Some.slot.now in
     let y : Slot = record { knote = quieted x.knote; timer = x.timer } in
     let there : get old c.args.key ≡ Some x = sym c.in-Some.ensures.value in
     let distinct = subst (λ k. AreDistinct k.slots) (sym c.self.view_is) c.requires.distinct in
     let free : IsFree old.slots c.args.key y.knote.ident = free_where_alone old.slots c.args.key x.knote.ident (distinct c.args.key x there) in
-    distinct_put old (with_value old c.args.key y) c.args.key y (with_updates old c.args.key x y there) free distinct
+    let new : Slab Slot = with_value old c.args.key y in
+    let updates : Updates old new c.args.key (told_slot (Some x)) = with_updates old c.args.key x y there in
+    let changed : IsSlotChanged old new c.args.key (told_slot (get old c.args.key)) 1 1 = record {
+      distinct = distinct_put old new c.args.key y updates free distinct;
+      updates = subst (λ o. Updates old new c.args.key (told_slot o)) (sym there) updates;
+      len = omega (arith, with_len old c.args.key x y there);
+      capacity = refl;
+    } in
+    subst (λ k. IsSlotChanged k new c.args.key (told_slot (get k c.args.key)) 1 1) c.self.view_is changed

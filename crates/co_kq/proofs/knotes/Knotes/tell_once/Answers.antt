@@ -15,4 +15,4 @@ returns-clause-tells c =
     let first : IsFirstReady old.slots c.args.key = first_at old.slots c.args.key x c.requires.first there in
     let tells : Tells (placed x.knote rest) (event_of x.knote) rest = tells_first true x.knote rest (c.requires.once x there) first.ready (behind_first old.slots c.args.key first c.requires.distinct) in
     subst (λ l. Tells l (event_of x.knote) (knotes_in c.remove.new.self.slots)) (sym base)
-    (subst (λ l. Tells (placed x.knote rest) (event_of x.knote) l) (sym (emptied old c.remove.new.self c.args.key x there c.remove.ensures.updates)) tells)
+    (subst (λ l. Tells (placed x.knote rest) (event_of x.knote) l) (sym (emptied old c.remove.new.self c.args.key x there c.remove.ensures.changed.updates)) tells)

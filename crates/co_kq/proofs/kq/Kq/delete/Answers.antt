@@ -28,10 +28,10 @@ invariant_of-self g c =
     let uses = c.self.inside.uses in
     let all : length c.release.new.self ≡ length uses = ap length c.release.ensures ∙ length-set uses x.timer (left_use x) in
     let kept : AreKept c.self.inside.work c.remove-slot.new.self.slots (set uses x.timer (left_use x)) c.self.inside.single =
-    gone_kept c.self.inside.work c.self.inside.knotes c.remove-slot.new.self uses c.self.inside.single c.in_ok-key.key x c.self.invariant.kept e.was e.distinct e.len e.updates in
+    gone_kept c.self.inside.work c.self.inside.knotes c.remove-slot.new.self uses c.self.inside.single c.in_ok-key.key x c.self.invariant.kept e.was e.changed in
     record {
       kept = subst (λ u. AreKept c.self.inside.work c.remove-slot.new.self.slots u c.self.inside.single) (sym c.release.ensures) kept;
       all = all ∙ c.self.invariant.all;
-      has = omega (arith, e.capacity, c.self.invariant.has);
+      has = omega (arith, e.changed.capacity, c.self.invariant.has);
       last = c.self.invariant.last;
     }

@@ -24,11 +24,11 @@ invariant_of-self g c =
     let uses = c.self.inside.uses in
     let all : length c.release.new.self ≡ length uses = ap length c.release.ensures ∙ length-set uses x.timer (left_use x) in
     let kept : AreKept c.self.inside.work c.tell_once-slot.new.self.slots (set uses x.timer (left_use x)) c.self.inside.single =
-    gone_kept c.self.inside.work c.self.inside.knotes c.tell_once-slot.new.self uses c.self.inside.single c.in_ok-key.key x c.self.invariant.kept e.was e.distinct e.len e.updates in
+    gone_kept c.self.inside.work c.self.inside.knotes c.tell_once-slot.new.self uses c.self.inside.single c.in_ok-key.key x c.self.invariant.kept e.was e.changed in
     record {
       kept = subst (λ u. AreKept c.self.inside.work c.tell_once-slot.new.self.slots u c.self.inside.single) (sym c.release.ensures) kept;
       all = all ∙ c.self.invariant.all;
-      has = omega (arith, e.capacity, c.self.invariant.has);
+      has = omega (arith, e.changed.capacity, c.self.invariant.has);
       last = c.self.invariant.last;
     }
 
@@ -37,8 +37,8 @@ invariant_of-self-2 g c =
     let e = c.tell_again.ensures in
     let first = c.in_ok-key.ensures.first in
     record {
-      kept = told_kept c.self.inside.work c.self.inside.knotes c.tell_again.new.self c.self.inside.uses c.self.inside.single c.in_ok-key.key first.slot c.self.invariant.kept first.there e.distinct e.len (e.updates first.slot first.there);
+      kept = told_kept c.self.inside.work c.self.inside.knotes c.tell_again.new.self c.self.inside.uses c.self.inside.single c.in_ok-key.key first.slot c.self.invariant.kept first.there e.changed;
       all = c.self.invariant.all;
-      has = omega (arith, e.capacity, c.self.invariant.has);
+      has = omega (arith, e.changed.capacity, c.self.invariant.has);
       last = c.self.invariant.last;
     }
