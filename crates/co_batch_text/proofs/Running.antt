@@ -9,7 +9,7 @@ use Rattle.co_text.specs.Lines.{line_text, text}
 use Rattle.co_text.specs.Values.{Word}
 use Rattle.co_batch.proofs.Answering.{answers_step}
 use Rattle.co_service.specs.Views.{PassesView}
-use Rattle.co_single.specs.Alarms.{scans_of}
+use Rattle.co_single.specs.Alarms.{scan_times_of}
 use Rattle.co_batch_text.specs.Ends.{Served, IsServed, IsUnderWay, all_counted, tick_times}
 
 -- the first command's tick, and then the others
@@ -40,7 +40,7 @@ module _ {C S : Type 0} (served : Served C S) (n : ℕ) (s : S) (p : PassesView)
         record {
           text_is = answers_step served.answering n t u cs i d c _ written then way.text_is inside is told one.state;
           scans = ap (λ l. l ++ later) one.scans
-              ∙ (append_assoc (scans_of q) (option_to_list (served.language.moment c)) later
-              ∙ (ap (λ l. scans_of q ++ l) (sym (tick-first (served.language.moment c) later) ∙ sym (ap (tick_times served) rest-is)) ∙ way.scans));
+              ∙ (append_assoc (scan_times_of q) (option_to_list (served.language.moment c)) later
+              ∙ (ap (λ l. scan_times_of q ++ l) (sym (tick-first (served.language.moment c) later) ∙ sym (ap (tick_times served) rest-is)) ∙ way.scans));
           gos = omega (arith, gos, split, next, before);
         }

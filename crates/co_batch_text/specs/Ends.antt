@@ -9,7 +9,7 @@ use Rattle.co_batch.specs.Batches.{Batch}
 use Rattle.co_batch.specs.Reading.{batch_of}
 use Rattle.co_service.specs.Closing.{ClosingView}
 use Rattle.co_service.specs.Views.{PassesView}
-use Rattle.co_single.specs.Alarms.{all_gos, scan_times, scans_of}
+use Rattle.co_single.specs.Alarms.{all_gos, scan_times, scan_times_of}
 
 -- a command whose texts such a service answers
 pub record Served (C S : Type 0) : Type 0 where
@@ -31,18 +31,18 @@ module _ {C S : Type 0} (served : Served C S) where
 -- one command: what stands after it, its scan, if it is a tick, and as many functions called as it counts
 pub record IsServed {C S : Type 0} (served : Served C S) (n : ℕ) (s : S) (p : PassesView) (c : C) (t : S) (q : PassesView) : Type 0 where
   pub state : t ≡ served.answering.after n s c
-  pub scans : scans_of q ≡ scans_of p ++ option_to_list (served.language.moment c)
+  pub scans : scan_times_of q ≡ scan_times_of p ++ option_to_list (served.language.moment c)
   pub gos : all_gos q.timers ≡ all_gos p.timers + served.counted n s c
 
 -- commands, one after the other
 pub record AreServed {C S : Type 0} (served : Served C S) (n : ℕ) (s : S) (p : PassesView) (cs : List C) (q : PassesView) : Type 0 where
-  pub scans : scans_of q ≡ scans_of p ++ tick_times served cs
+  pub scans : scan_times_of q ≡ scan_times_of p ++ tick_times served cs
   pub gos : all_gos q.timers ≡ all_gos p.timers + all_counted served n s cs
 
 -- i commands were answered, and what is to come ends as all of it does
 pub record IsUnderWay {C S : Type 0} (served : Served C S) (n : ℕ) (s : S) (p : PassesView) (page : List ℕ) (cs : List C) (i : ℕ) (t : S) (q : PassesView) (written : List ℕ) : Type 0 where
   pub text_is : written ++ text (answers served.answering n t (drop i cs)) ≡ page ++ text (answers served.answering n s cs)
-  pub scans : scans_of q ++ tick_times served (drop i cs) ≡ scans_of p ++ tick_times served cs
+  pub scans : scan_times_of q ++ tick_times served (drop i cs) ≡ scan_times_of p ++ tick_times served cs
   pub gos : all_gos q.timers + all_counted served n t (drop i cs) ≡ all_gos p.timers + all_counted served n s cs
 
 -- CPU 0's scans are the ticks, in order; all callouts together have called their functions as often as the answers count

@@ -5,7 +5,7 @@ use Rattle.co_io.specs.Counts.{Rose}
 use Rattle.co_service.specs.Closing.{ClosingView}
 use Rattle.co_text.specs.Values.{Word}
 use Rattle.co_top.specs.Commands.{command_of, usage_text}
-use Rattle.co_top.specs.Headline.{ComesTo, HasNoFault, IsAnswered, IsComplete, IsHeadline, Says}
+use Rattle.co_top.specs.Headline.{ComesTo, HasNoFault, IsCommandAnswered, IsComplete, IsHeadline, Says}
 use Rattle.co_front.specs.Outside.{Outside, outside, WriteFails}
 use Rattle.co_top.specs.declared.command.Command.{Command}
 use Rattle.co_top.specs.declared.status.Finish.{Finish}
@@ -29,8 +29,8 @@ module _ (left left_after held held_after : Option (List ℕ)) (room : ℕ) (roo
   writes text fits (inl rose) = stays rose
   writes text fits (inr stalled) = let short : room < length text = stalled.1 in absurd (omega (arith, fits, short))
 
-  answered_by : (asked : Option Command) (result : Status) → IfSome asked (λ command. HasNoFault before after command → IsAnswered command before result) →
-      IfSome asked (λ command. ((status : Status) (closing : Option ClosingView) (text : List ℕ) → ComesTo before after (Some command) status closing text → length text ≤ room) → IsAnswered command before result)
+  answered_by : (asked : Option Command) (result : Status) → IfSome asked (λ command. HasNoFault before after command → IsCommandAnswered command before result) →
+      IfSome asked (λ command. ((status : Status) (closing : Option ClosingView) (text : List ℕ) → ComesTo before after (Some command) status closing text → length text ≤ room) → IsCommandAnswered command before result)
   answered_by None result complete = tt
   answered_by (Some command) result complete = λ fits. complete (record { reads = stays; writes = λ status closing text comes. writes text (fits status closing text comes) })
 

@@ -7,7 +7,7 @@ use Rattle.std.proofs.lemmas.Option.{slice_get_within, get_or_from_slice_get}
 use Rattle.co_object.specs.declared.note.Note.{Note}
 use Rattle.co_program.specs.declared.script.Script.{Script}
 use Rattle.co_report.specs.declared.line.Line.{Line}
-use Rattle.co_report.specs.PackedLines.{line_of, note_of}
+use Rattle.co_report.specs.PackedLines.{line_of, note_from_line}
 use Rattle.co_check.specs.declared.verdict.Unfit.{Unfit}
 use Rattle.co_check.specs.Astray.{seen_at, seen_from}
 use Rattle.co_check.specs.Replay.{bad_or, first_bad}
@@ -21,21 +21,21 @@ back xs k x h = drop-cons xs k x (slice_get_within xs k x h) ∙ (ap (λ y. y �
 -- ---- a pass over the notes
 
 -- one is ahead where there is a line
-pub some-ahead : {notes : List Note} (lines : List Line) (k : ℕ) → k < length lines → notes ≡ map note_of (drop k lines) → notes ≢ []
+pub some-ahead : {notes : List Note} (lines : List Line) (k : ℕ) → k < length lines → notes ≡ map note_from_line (drop k lines) → notes ≢ []
 some-ahead lines k h ahead none = left lines k h (sym ahead ∙ none) where
-  left : (lines : List Line) (k : ℕ) → k < length lines → map note_of (drop k lines) ≢ []
+  left : (lines : List Line) (k : ℕ) → k < length lines → map note_from_line (drop k lines) ≢ []
   left [] k h = absurd (omega (arith, h))
   left (l ∷ ls) zero h = λ none. cc
   left (l ∷ ls) (suc k) h = left ls k (omega (arith, h))
 
 -- the next one is that of the line, and behind it are those of the lines that follow
-pub line-ahead : {notes rest : List Note} {n : Note} (lines : List Line) (k : ℕ) → notes ≡ map note_of (drop k lines) → notes ≡ n ∷ rest →
-    (line : ℕ) × (slice_get lines k ≡ Some (line_of line n)) × (rest ≡ map note_of (drop (k + 1) lines))
-line-ahead {notes} {rest} {n} lines k ahead next = let x = from lines k (sym ahead ∙ next) in (x.0, x.1, x.2 ∙ ap (λ m. map note_of (drop m lines)) (sym (add-one k))) where
-  from : (lines : List Line) (k : ℕ) → map note_of (drop k lines) ≡ n ∷ rest → (line : ℕ) × (slice_get lines k ≡ Some (line_of line n)) × (rest ≡ map note_of (drop (suc k) lines))
+pub line-ahead : {notes rest : List Note} {n : Note} (lines : List Line) (k : ℕ) → notes ≡ map note_from_line (drop k lines) → notes ≡ n ∷ rest →
+    (line : ℕ) × (slice_get lines k ≡ Some (line_of line n)) × (rest ≡ map note_from_line (drop (k + 1) lines))
+line-ahead {notes} {rest} {n} lines k ahead next = let x = from lines k (sym ahead ∙ next) in (x.0, x.1, x.2 ∙ ap (λ m. map note_from_line (drop m lines)) (sym (add-one k))) where
+  from : (lines : List Line) (k : ℕ) → map note_from_line (drop k lines) ≡ n ∷ rest → (line : ℕ) × (slice_get lines k ≡ Some (line_of line n)) × (rest ≡ map note_from_line (drop (suc k) lines))
   from [] zero h = cc
   from [] (suc k) h = cc
-  from (l ∷ ls) zero h = let first : note_of l ≡ n = cc in (l.line, ap (λ m. Some (line_of l.line m)) first, cc)
+  from (l ∷ ls) zero h = let first : note_from_line l ≡ n = cc in (l.line, ap (λ m. Some (line_of l.line m)) first, cc)
   from (l ∷ ls) (suc k) h = from ls k h
 
 -- ---- the first line that is wrong

@@ -7,7 +7,7 @@ use Rattle.co_object.proofs.Passing.{passing, count-passing}
 use Rattle.co_report.specs.declared.line.Line.{Line}
 use Rattle.co_check.specs.declared.verdict.Unfit.{Unfit}
 use Rattle.co_check.specs.Index.{index_of}
-use Rattle.co_check.specs.Numbers.{count_of}
+use Rattle.co_check.specs.Numbers.{lines_made_by}
 use Rattle.co_check.specs.Replay.{first_bad}
 use Rattle.co_check.specs.Shown.{is_by, is_note}
 use Rattle.co_check.proofs.Along.{first-on}
@@ -115,7 +115,7 @@ below-few a n [] = omega arith
 below-few a n (x ∷ xs) = omega (arith, one-few (is_by a x) (nat_lt x.number n), below-few a n xs)
 
 -- where each number below n stands, there are so many lines of the actor
-pub count-enough : (lines : List Line) (a n : ℕ) → ((k : ℕ) → k < n → list_any (is_note a k) lines ≡ true) → n ≤ count_of a lines
+pub count-enough : (lines : List Line) (a n : ℕ) → ((k : ℕ) → k < n → list_any (is_note a k) lines ≡ true) → n ≤ lines_made_by a lines
 count-enough lines a n each = omega (arith, enough n each, below-few a n lines, count-passing (is_by a) lines) where
   enough : (m : ℕ) → ((k : ℕ) → k < m → list_any (is_note a k) lines ≡ true) → m ≤ passing (is_below a m) lines
   enough zero each = omega arith

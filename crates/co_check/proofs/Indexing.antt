@@ -13,8 +13,8 @@ use Rattle.co_program.specs.Actors.{actor_count}
 use Rattle.co_report.specs.Order.{place_index, place_count}
 use Rattle.co_check.specs.declared.index.Index.{Index}
 use Rattle.co_report.specs.declared.line.Line.{Line}
-use Rattle.co_check.specs.Index.{AreSlots, AreLatest, IsIndexed}
-use Rattle.co_check.specs.Numbers.{AreCounts, count_of}
+use Rattle.co_check.specs.Index.{AreActorSlots, AreLatest, IsIndexed}
+use Rattle.co_check.specs.Numbers.{AreActorCounts, lines_made_by}
 use Rattle.co_check.specs.Shown.{actor_of, is_by}
 use Rattle.co_check.proofs.Taking.{some-is}
 
@@ -48,14 +48,14 @@ empty_slots n = replicate n None
 abbrev pub zeros : ℕ → List ℕ
 zeros n = replicate n 0
 
-pub opened-index : (s : Script) (lines : List Line) (counts widths : List ℕ) (x : Index) → length counts ≡ actor_count s → ((a : ℕ) → a < actor_count s → get_or counts a 0 ≡ count_of a lines)
+pub opened-index : (s : Script) (lines : List Line) (counts widths : List ℕ) (x : Index) → length counts ≡ actor_count s → ((a : ℕ) → a < actor_count s → get_or counts a 0 ≡ lines_made_by a lines)
     → map (λ (row : Vec (Option ℕ) _). row.items) x.slots.items ≡ map empty_slots counts → widths ≡ replicate (place_count s) (actor_count s)
     → map (λ (row : Vec ℕ _). row.items) x.latest.items ≡ map zeros widths → IsIndexed s lines [] x
 opened-index s lines counts widths x long each slots_are widths_are latest_are = record {
   actors = sym (length-mapped (λ (row : Vec (Option ℕ) _). row.items) x.slots.items) ∙ (ap length slots_are ∙ (length-mapped empty_slots counts ∙ long));
   places = sym (length-mapped (λ (row : Vec ℕ _). row.items) x.latest.items) ∙ (ap length latest_are ∙ (length-mapped zeros widths ∙ (ap length widths_are ∙ length-replicate (place_count s) (actor_count s))));
   slots = λ a row there. (let r = mapped-read empty_slots counts a row.items (at_slots a row there) in
-      subst (AreSlots lines [] a) (sym r.2) (free a r.0 (sym (get_or_from_slice_get counts a r.0 0 r.1) ∙ each a (omega (arith, slice_get_within counts a r.0 r.1, long)))));
+      subst (AreActorSlots lines [] a) (sym r.2) (free a r.0 (sym (get_or_from_slice_get counts a r.0 0 r.1) ∙ each a (omega (arith, slice_get_within counts a r.0 r.1, long)))));
   latest = λ p row exists there. (let r = mapped-read zeros widths (place_index s p) row.items (at_latest (place_index s p) row there) in
       subst (AreLatest (actor_count s) [] p) (sym r.2) (low p r.0 (copy-at (place_count s) (place_index s p) (actor_count s) r.0 (ap (λ ns. slice_get ns (place_index s p)) (sym widths_are) ∙ r.1))));
 }
@@ -66,7 +66,7 @@ opened-index s lines counts widths x long each slots_are widths_are latest_are =
     at_latest : (a : ℕ) (row : Vec ℕ _) → slice_get x.latest.items a ≡ Some row → slice_get (map zeros widths) a ≡ Some row.items
     at_latest a row there = ap (λ rows. slice_get rows a) (sym latest_are) ∙ (slice_get-map (λ (r : Vec ℕ _). r.items) x.latest.items a ∙ ap (option_map (λ (r : Vec ℕ _). r.items)) there)
 
-    free : (a n : ℕ) → n ≡ count_of a lines → AreSlots lines [] a (empty_slots n)
+    free : (a n : ℕ) → n ≡ lines_made_by a lines → AreActorSlots lines [] a (empty_slots n)
     free a n h = record {
       count = length-replicate n None ∙ h;
       each = λ k below. copies-at n k None (omega (arith, below, h));
@@ -81,29 +81,29 @@ opened-index s lines counts widths x long each slots_are widths_are latest_are =
 -- ---- counts
 
 -- before the first line
-pub no-counts : (n : ℕ) → AreCounts n [] (replicate n 0)
+pub no-counts : (n : ℕ) → AreActorCounts n [] (replicate n 0)
 no-counts n = record { long = length-replicate n 0; each = λ a below. zero-at n a }
 
-pub count-few : (actors : ℕ) (above : List Line) (counts : List ℕ) (a : ℕ) → AreCounts actors above counts → a < actors → get_or counts a 0 ≤ length above
+pub count-few : (actors : ℕ) (above : List Line) (counts : List ℕ) (a : ℕ) → AreActorCounts actors above counts → a < actors → get_or counts a 0 ≤ length above
 count-few actors above counts a h below = omega (arith, h.each a below, count_by-le-length (is_by a) above)
 
 -- one line more
-count-own : (above : List Line) (x : Line) (a : ℕ) → is_by a x ≡ true → count_of a (above ++ x ∷ []) ≡ count_of a above + 1
+count-own : (above : List Line) (x : Line) (a : ℕ) → is_by a x ≡ true → lines_made_by a (above ++ x ∷ []) ≡ lines_made_by a above + 1
 count-own above x a own =
     let one : passing (is_by a) (x ∷ []) ≡ 1 = ap (λ b. cond b 1 0 + 0) own in
     omega (arith, one, passing-append (is_by a) above (x ∷ []), count-passing (is_by a) above, count-passing (is_by a) (above ++ x ∷ []))
 
-count-other : (above : List Line) (x : Line) (a : ℕ) → is_by a x ≡ false → count_of a (above ++ x ∷ []) ≡ count_of a above
+count-other : (above : List Line) (x : Line) (a : ℕ) → is_by a x ≡ false → lines_made_by a (above ++ x ∷ []) ≡ lines_made_by a above
 count-other above x a other =
     let none : passing (is_by a) (x ∷ []) ≡ 0 = ap (λ b. cond b 1 0 + 0) other in
     omega (arith, none, passing-append (is_by a) above (x ∷ []), count-passing (is_by a) above, count-passing (is_by a) (above ++ x ∷ []))
 
-pub counted-more : (actors : ℕ) (above : List Line) (x : Line) (counts : List ℕ) (a n : ℕ) → AreCounts actors above counts → a ≡ actor_of x.entry → a < actors → n ≡ get_or counts a 0
-    → AreCounts actors (above ++ x ∷ []) (set counts a (n + 1))
+pub counted-more : (actors : ℕ) (above : List Line) (x : Line) (counts : List ℕ) (a n : ℕ) → AreActorCounts actors above counts → a ≡ actor_of x.entry → a < actors → n ≡ get_or counts a 0
+    → AreActorCounts actors (above ++ x ∷ []) (set counts a (n + 1))
 counted-more actors above x counts a n h is below count = record {
   long = length-set counts a (n + 1) ∙ h.long;
   each = λ b b_below. elim (cases_eq b a) [
-    | inl same ↦ ap (λ m. get_or (set counts a (n + 1)) m 0) same ∙ (own ∙ ap (λ m. count_of m (above ++ x ∷ [])) (sym same))
+    | inl same ↦ ap (λ m. get_or (set counts a (n + 1)) m 0) same ∙ (own ∙ ap (λ m. lines_made_by m (above ++ x ∷ [])) (sym same))
     | inr apart ↦ get_or-set_other counts a b (n + 1) 0 apart ∙ (h.each b b_below ∙ sym (count-other above x b (apart-is (actor_of x.entry) b (λ e. apart (sym e ∙ sym is)))))
   ];
 }
@@ -114,7 +114,7 @@ counted-more actors above x counts a n h is below count = record {
     apart-is : (m n : ℕ) → m ≢ n → (m == n) ≡ false
     apart-is m n h = grind (arith, nat_tests)
 
-    own : get_or (set counts a (n + 1)) a 0 ≡ count_of a (above ++ x ∷ [])
+    own : get_or (set counts a (n + 1)) a 0 ≡ lines_made_by a (above ++ x ∷ [])
     own = get_or-set_same counts a (n + 1) 0 (omega (arith, below, h.long))
         ∙ (ap (λ m. m + 1) (count ∙ h.each a below)
         ∙ sym (count-own above x a (equal (actor_of x.entry) a (sym is))))

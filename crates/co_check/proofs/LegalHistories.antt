@@ -30,24 +30,24 @@ use Rattle.co_check.specs.declared.verdict.Unfit.{Unfit}
 use Rattle.co_check.specs.declared.verdict.Verdict.{Verdict}
 use Rattle.co_check.specs.declared.verdict.Verdict.TheVariants.{Legal}
 use Rattle.co_check.specs.Laws.{AreLegal, HistoriesOfLegalReports, LegalHistoriesFit}
-use Rattle.co_check.specs.Replay.{Bad, bad_or, first_bad, first_unfit, unfit_at, unless, is_reply, is_answer, may_serve, may_work, callout_unfit, queue_unfit, state_after, queue_after}
-use Rattle.co_check.specs.Shown.{callout_entry, queue_entry, callout_history, cpu_journal}
+use Rattle.co_check.specs.Replay.{Bad, bad_or, first_bad, first_unfit, unfit_at, unfit_unless, is_reply, is_answer, may_serve, may_work, callout_unfit, queue_unfit, state_after, queue_after}
+use Rattle.co_check.specs.Shown.{callout_entry_at, queue_entry_at, callout_history, cpu_journal}
 use Rattle.co_check.specs.Verdict.{unless_bad, verdict_by_numbers}
 use Rattle.co_check.proofs.SameValues.{equal, itself, reply-equal, reply-itself, answer-equal, answer-itself}
 use Rattle.co_check.proofs.Taking.{callout-grows, journal-grows, callout-unmoved, journal-unmoved, own-callout, other-callout, no-callout, own-queue, other-queue, no-queue}
 
 -- ---- one entry
 
-actor-may : (may legal : Bool) → unless may legal ≡ None → may ≡ true
+actor-may : (may legal : Bool) → unfit_unless may legal ≡ None → may ≡ true
 actor-may true legal h = refl
 actor-may false legal h = cc
 
-is-legal : (may legal : Bool) → unless may legal ≡ None → legal ≡ true
+is-legal : (may legal : Bool) → unfit_unless may legal ≡ None → legal ≡ true
 is-legal true true h = refl
 is-legal true false h = cc
 is-legal false legal h = cc
 
-nothing : (may legal : Bool) → may ≡ true → legal ≡ true → unless may legal ≡ None
+nothing : (may legal : Bool) → may ≡ true → legal ≡ true → unfit_unless may legal ≡ None
 nothing true true h g = refl
 nothing true false h g = cc
 nothing false legal h g = cc
@@ -123,18 +123,18 @@ module _ (s : Script) where
 
   -- ---- one line more
 
-  callout-same : (i : ℕ) (above : List Line) (l : Line) → callout_entry i l.place l.entry ≡ None → IsLegal (actors_of s) (spec_at s i) (callout_history i above) → IsLegal (actors_of s) (spec_at s i) (callout_history i (above ++ l ∷ []))
+  callout-same : (i : ℕ) (above : List Line) (l : Line) → callout_entry_at i l.place l.entry ≡ None → IsLegal (actors_of s) (spec_at s i) (callout_history i above) → IsLegal (actors_of s) (spec_at s i) (callout_history i (above ++ l ∷ []))
   callout-same i above l none h = subst (IsLegal (actors_of s) (spec_at s i)) (sym (callout-unmoved i above l none)) h
 
-  queue-same : (cpu : ℕ) (above : List Line) (l : Line) → queue_entry cpu l.place l.entry ≡ None → journal.IsLegalQueue (actors_of s) cpu s.buckets (are_direct s) (cpu_journal cpu above) → journal.IsLegalQueue (actors_of s) cpu s.buckets (are_direct s) (cpu_journal cpu (above ++ l ∷ []))
+  queue-same : (cpu : ℕ) (above : List Line) (l : Line) → queue_entry_at cpu l.place l.entry ≡ None → journal.IsLegalQueue (actors_of s) cpu s.buckets (are_direct s) (cpu_journal cpu above) → journal.IsLegalQueue (actors_of s) cpu s.buckets (are_direct s) (cpu_journal cpu (above ++ l ∷ []))
   queue-same cpu above l none h = subst (journal.IsLegalQueue (actors_of s) cpu s.buckets (are_direct s)) (sym (journal-unmoved cpu above l none)) h
 
-  no_own-callout : (i a : ℕ) (e : AnyEntry) → callout_entry i (place.Actor a) e ≡ None
+  no_own-callout : (i a : ℕ) (e : AnyEntry) → callout_entry_at i (place.Actor a) e ≡ None
   no_own-callout i a (of.Timer x) = refl
   no_own-callout i a (of.Cpu x) = refl
   no_own-callout i a (of.Own x) = refl
 
-  no_own-queue : (i a : ℕ) (e : AnyEntry) → queue_entry i (place.Actor a) e ≡ None
+  no_own-queue : (i a : ℕ) (e : AnyEntry) → queue_entry_at i (place.Actor a) e ≡ None
   no_own-queue i a (of.Timer x) = refl
   no_own-queue i a (of.Cpu x) = refl
   no_own-queue i a (of.Own x) = refl
@@ -166,7 +166,7 @@ module _ (s : Script) where
         own = subst (journal.IsLegalQueue (actors_of s) cpu s.buckets (are_direct s)) (sym (journal-grows cpu above l e (own-queue cpu l e p q)))
             (legal-snoc (journal.next s.buckets (are_direct s)) (journal.May (actors_of s) cpu s.buckets (are_direct s)) empty_queue (cpu_journal cpu above) e (h.cpus cpu) may)
 
-    by-none : ((i : ℕ) → callout_entry i l.place l.entry ≡ None) → ((cpu : ℕ) → queue_entry cpu l.place l.entry ≡ None) → AreLegal s (above ++ l ∷ [])
+    by-none : ((i : ℕ) → callout_entry_at i l.place l.entry ≡ None) → ((cpu : ℕ) → queue_entry_at cpu l.place l.entry ≡ None) → AreLegal s (above ++ l ∷ [])
     by-none no_call no_queue = record {
       callouts = λ i. callout-same i above l (no_call i) (h.callouts i);
       cpus = λ cpu. queue-same cpu above l (no_queue cpu) (h.cpus cpu);
@@ -175,11 +175,11 @@ module _ (s : Script) where
     by-entry : (p : Place) (e : AnyEntry) → l.place ≡ p → l.entry ≡ e → unfit_at s above p e ≡ None → AreLegal s (above ++ l ∷ [])
     by-entry (place.Timer i) (of.Timer e) p q fit = by-callout i e p q (callout-may i above e fit)
     by-entry (place.Cpu cpu) (of.Cpu e) p q fit = by-queue cpu e p q (queue-may cpu above e fit)
-    by-entry (place.Timer i) (of.Cpu e) p q fit = by-none (λ j. ap (λ x. callout_entry j x l.entry) p ∙ ap (callout_entry j (place.Timer i)) q) (λ j. no-queue j i l p)
-    by-entry (place.Timer i) (of.Own e) p q fit = by-none (λ j. ap (λ x. callout_entry j x l.entry) p ∙ ap (callout_entry j (place.Timer i)) q) (λ j. no-queue j i l p)
-    by-entry (place.Cpu cpu) (of.Timer e) p q fit = by-none (λ j. no-callout j cpu l p) (λ j. ap (λ x. queue_entry j x l.entry) p ∙ ap (queue_entry j (place.Cpu cpu)) q)
-    by-entry (place.Cpu cpu) (of.Own e) p q fit = by-none (λ j. no-callout j cpu l p) (λ j. ap (λ x. queue_entry j x l.entry) p ∙ ap (queue_entry j (place.Cpu cpu)) q)
-    by-entry (place.Actor a) e p q fit = by-none (λ j. ap (λ x. callout_entry j x l.entry) p ∙ no_own-callout j a l.entry) (λ j. ap (λ x. queue_entry j x l.entry) p ∙ no_own-queue j a l.entry)
+    by-entry (place.Timer i) (of.Cpu e) p q fit = by-none (λ j. ap (λ x. callout_entry_at j x l.entry) p ∙ ap (callout_entry_at j (place.Timer i)) q) (λ j. no-queue j i l p)
+    by-entry (place.Timer i) (of.Own e) p q fit = by-none (λ j. ap (λ x. callout_entry_at j x l.entry) p ∙ ap (callout_entry_at j (place.Timer i)) q) (λ j. no-queue j i l p)
+    by-entry (place.Cpu cpu) (of.Timer e) p q fit = by-none (λ j. no-callout j cpu l p) (λ j. ap (λ x. queue_entry_at j x l.entry) p ∙ ap (queue_entry_at j (place.Cpu cpu)) q)
+    by-entry (place.Cpu cpu) (of.Own e) p q fit = by-none (λ j. no-callout j cpu l p) (λ j. ap (λ x. queue_entry_at j x l.entry) p ∙ ap (queue_entry_at j (place.Cpu cpu)) q)
+    by-entry (place.Actor a) e p q fit = by-none (λ j. ap (λ x. callout_entry_at j x l.entry) p ∙ no_own-callout j a l.entry) (λ j. ap (λ x. queue_entry_at j x l.entry) p ∙ no_own-queue j a l.entry)
 
   abbrev test : List Line → Line → Option Unfit
   test above l = unfit_at s above l.place l.entry
@@ -202,9 +202,9 @@ module _ (s : Script) where
   front : (above more : List Line) → AreLegal s (above ++ more) → AreLegal s above
   front above more h = record {
     callouts = λ i. legal-front (next (spec_at s i)) (May (actors_of s) (spec_at s i)) (opening 0) (callout_history i above) (callout_history i more)
-        (subst (IsLegal (actors_of s) (spec_at s i)) (filter_map-append (λ (x : Line). callout_entry i x.place x.entry) above more) (h.callouts i));
+        (subst (IsLegal (actors_of s) (spec_at s i)) (filter_map-append (λ (x : Line). callout_entry_at i x.place x.entry) above more) (h.callouts i));
     cpus = λ cpu. legal-front (journal.next s.buckets (are_direct s)) (journal.May (actors_of s) cpu s.buckets (are_direct s)) empty_queue (cpu_journal cpu above) (cpu_journal cpu more)
-        (subst (journal.IsLegalQueue (actors_of s) cpu s.buckets (are_direct s)) (filter_map-append (λ (x : Line). queue_entry cpu x.place x.entry) above more) (h.cpus cpu));
+        (subst (journal.IsLegalQueue (actors_of s) cpu s.buckets (are_direct s)) (filter_map-append (λ (x : Line). queue_entry_at cpu x.place x.entry) above more) (h.cpus cpu));
   }
 
   fits-last : (above : List Line) (l : Line) → AreLegal s (above ++ l ∷ []) → (p : Place) (e : AnyEntry) → l.place ≡ p → l.entry ≡ e → unfit_at s above p e ≡ None

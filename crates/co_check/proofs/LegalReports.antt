@@ -23,28 +23,29 @@ use Rattle.co_object.proofs.QueueChanges.{change}
 use Rattle.co_program.specs.declared.action.Asked.TheVariants.{Callout, Queue, Itself}
 use Rattle.co_program.specs.declared.script.Script.{Script}
 use Rattle.co_program.specs.Action.{Action, Nothing, Silent, Take, Asks, action_for, spec_at}
-use Rattle.co_program.specs.Actors.{actor_count}
+use Rattle.co_program.specs.Actors.{actor_count, all_actors}
 use Rattle.co_program.specs.Cursor.{Cursor, start_of}
-use Rattle.co_program.specs.Follows.{Histories, Follows, Fits, FitsCallout, AreNext, goes_on, settled}
+use Rattle.co_program.specs.Follows.{Histories, Follows, Fits, FitsCallout, AreNext, goes_on, at_next_note}
 use Rattle.co_program.specs.Places.{place_exists, HavePlaces, AllHavePlaces}
 use Rattle.co_program.specs.Runs.{IsRunOf, actors_of, are_direct, notes_by, shown_histories}
 use Rattle.co_report.specs.declared.line.Line.{Line}
-use Rattle.co_report.specs.Histories.{Shown, shown_at, shown_history, all_numbered_of}
+use Rattle.co_report.specs.Histories.{shown_at, shown_history, all_numbered_of}
+use Rattle.co_report.specs.declared.reading.notes.NumberedEntry.{NumberedEntry}
 use Rattle.co_report.specs.Origins.{note_at}
 use Rattle.co_report.proofs.Counted.{note-actor}
 use Rattle.co_object.proofs.Members.{Has, find-has}
 use Rattle.co_report.proofs.ShownHistories.{histories_shown}
 use Rattle.co_check.specs.declared.verdict.Verdict.{Verdict}
 use Rattle.co_check.specs.declared.verdict.Verdict.TheVariants.{Legal}
-use Rattle.co_check.specs.Astray.{by_actor, astray_of, is_unfinished, first_of, or_later, all_actors, place_after}
+use Rattle.co_check.specs.Astray.{by_actor, astray_of, is_unfinished, first_astray_of, or_later, cursor_after_lines}
 use Rattle.co_check.specs.Asking.{is_nothing}
 use Rattle.co_check.specs.Laws.{AreLegal}
 use Rattle.co_check.specs.Lines.{AreLinesOf}
-use Rattle.co_check.specs.Numbers.{count_of, first_misnumbered}
+use Rattle.co_check.specs.Numbers.{lines_made_by, first_misnumbered}
 use Rattle.co_check.specs.Programs.{IsOfProgram}
 use Rattle.co_check.specs.Replay.{Bad, first_unfit, unfit_at, queue_after}
-use Rattle.co_check.specs.Runs.{Show, IsLineOfNote, count_in, shown_line, lines_at, LegalReportsAreOfRuns}
-use Rattle.co_check.specs.Shown.{actor_of, is_note, cpu_journal, queue_entry}
+use Rattle.co_check.specs.Runs.{Show, IsLineOfNote, lines_in, shown_line, lines_at, LegalReportsAreOfRuns}
+use Rattle.co_check.specs.Shown.{actor_of, is_note, cpu_journal, queue_entry_at}
 use Rattle.co_check.specs.Verdict.{unless_bad, unless_astray, verdict_at_end, verdict_by_numbers, verdict_by_programs}
 use Rattle.co_check.proofs.LegalHistories.{histories-legal, queue-may}
 use Rattle.co_check.proofs.Nexts.{then-follows}
@@ -76,12 +77,12 @@ later-none : (o later : Option ℕ) → or_later o later ≡ None → (o ≡ Non
 later-none None later h = (refl, h)
 later-none (Some line) later h = cc
 
-none-wrong : (wrong : ℕ → Option ℕ) (n from : ℕ) → first_of wrong (range_with_len from n) ≡ None → (k : ℕ) → k < n → wrong (from + k) ≡ None
+none-wrong : (wrong : ℕ → Option ℕ) (n from : ℕ) → first_astray_of wrong (range_with_len from n) ≡ None → (k : ℕ) → k < n → wrong (from + k) ≡ None
 none-wrong wrong zero from h k below = absurd (omega (arith, below))
-none-wrong wrong (suc n) from h zero below = ap wrong (start from) ∙ (later-none (wrong from) (first_of wrong (range_with_len (from + 1) n)) h).0 where
+none-wrong wrong (suc n) from h zero below = ap wrong (start from) ∙ (later-none (wrong from) (first_astray_of wrong (range_with_len (from + 1) n)) h).0 where
   start : (m : ℕ) → m + 0 ≡ m
   start m = omega arith
-none-wrong wrong (suc n) from h (suc k) below = ap wrong (next from k) ∙ none-wrong wrong n (from + 1) (later-none (wrong from) (first_of wrong (range_with_len (from + 1) n)) h).1 k (omega (arith, below)) where
+none-wrong wrong (suc n) from h (suc k) below = ap wrong (next from k) ∙ none-wrong wrong n (from + 1) (later-none (wrong from) (first_astray_of wrong (range_with_len (from + 1) n)) h).1 k (omega (arith, below)) where
   next : (m j : ℕ) → m + suc j ≡ m + 1 + j
   next m j = omega arith
 
@@ -163,7 +164,7 @@ module _ (s : Script) (lines : List Line) (of_script : AreLinesOf s lines) (righ
   each-line : (j : ℕ) (l : Line) → slice_get lines j ≡ Some l → (note : Note) × (note_at (lists_by s lines) (actor_of l.entry) l.number ≡ Some note) × IsLineOfNote lines j (actor_of l.entry) l.number l note
   each-line j l at = ((noted_at (take j lines) l).note, noted-line j l at, record { at = at; actor = refl; number_is = refl; place = refl; entry = refl; pos = refl })
 
-  number-of : (a k : ℕ) (n : Note) → note_at (lists_by s lines) a k ≡ Some n → (k < count_of a lines) × (note_numbered lines a k ≡ Some n)
+  number-of : (a k : ℕ) (n : Note) → note_at (lists_by s lines) a k ≡ Some n → (k < lines_made_by a lines) × (note_numbered lines a k ≡ Some n)
   number-of a k n h =
       let inside : a < length (lists_by s lines) = note-actor (lists_by s lines) a k n h in
       let below : a < actor_count s = omega (arith, inside, length-map-range_with_len (list_by lines) 0 (actor_count s)) in
@@ -201,7 +202,7 @@ module _ (s : Script) (lines : List Line) (of_script : AreLinesOf s lines) (righ
   shown-at p m l at =
       let st = filter-index (λ (x : Line). same_place x.place p) lines m l at in
       let place : l.place ≡ p = same-equal l.place p st.here in
-      let pos : count_in l.place (take st.index lines) ≡ m = ap (λ q. count_in q (take st.index lines)) place ∙ (count-passing (λ (x : Line). same_place x.place p) (take st.index lines) ∙ st.above) in
+      let pos : lines_in l.place (take st.index lines) ≡ m = ap (λ q. lines_in q (take st.index lines)) place ∙ (count-passing (λ (x : Line). same_place x.place p) (take st.index lines) ∙ st.above) in
       let within : m < length (all_notes_of p (lists_by s lines)) = omega (arith, as-many s lines of_script right p, slice_get_within (lines_at p lines) m l at, length-filter (λ (x : Line). same_place x.place p) lines, count-passing (λ (x : Line). same_place x.place p) lines) in
       history-get (lists_by s lines) p m formed within
       ∙ (ap (λ q. shown_at (all_numbered_of q (lists_by s lines)) m) (sym place)
@@ -224,9 +225,9 @@ module _ (s : Script) (lines : List Line) (of_script : AreLinesOf s lines) (righ
   pub show : Show (lists_by s lines) lines
   show = record {
     callouts = λ i. sym (callouts-of _ (λ e. refl) (λ e. refl) (λ e. refl) i lines)
-        ∙ ap (filter_map _) (ap (map (λ (x : Shown). x.entry)) (shows (place.Timer i)) ∙ histories_shown (place.Timer i) (lists_by s lines));
+        ∙ ap (filter_map _) (ap (map (λ (x : NumberedEntry). x.entry)) (shows (place.Timer i)) ∙ histories_shown (place.Timer i) (lists_by s lines));
     cpus = λ cpu. sym (queues-of _ (λ e. refl) (λ e. refl) (λ e. refl) cpu lines)
-        ∙ ap (filter_map _) (ap (map (λ (x : Shown). x.entry)) (shows (place.Cpu cpu)) ∙ histories_shown (place.Cpu cpu) (lists_by s lines));
+        ∙ ap (filter_map _) (ap (map (λ (x : NumberedEntry). x.entry)) (shows (place.Cpu cpu)) ∙ histories_shown (place.Cpu cpu) (lists_by s lines));
     each_line = each-line;
     each_note = each-note;
   }
@@ -240,7 +241,7 @@ module _ (s : Script) (lines : List Line) (of_script : AreLinesOf s lines) (righ
 
   pub places : AllHavePlaces s (lists_by s lines)
   places = all-mapped (HavePlaces s) (list_by lines) (actor_count s) 0
-      (λ a. all-found (λ (n : Note). place_exists s n.place ≡ true) (note_numbered lines a) (count_of a lines) 0 (λ k n h. place-of a k n h))
+      (λ a. all-found (λ (n : Note). place_exists s n.place ≡ true) (note_numbered lines a) (lines_made_by a lines) 0 (λ k n h. place-of a k n h))
 
 -- ---- no Remove is answered Missing
 
@@ -260,10 +261,10 @@ next-found : (s : Script) (H : Histories) (a : ℕ) (c : Cursor) (notes : List N
 next-found s H a c [] k n cpu e h at p q = cc
 next-found s H a c (x ∷ xs) zero n cpu e h at p q =
     let is : x ≡ n = some-is x n at in
-    found-entry s a (settled s a c) (action_for s a (settled s a c)) cpu e (never_removes s a (settled s a c))
-    (subst (Fits a (settled s a c) (action_for s a (settled s a c)) (place.Cpu cpu)) (ap (λ (y : Note). y.entry) is ∙ q)
-    (subst (λ (y : Place). Fits a (settled s a c) (action_for s a (settled s a c)) y x.entry) (ap (λ (y : Note). y.place) is ∙ p) h.0.fits))
-next-found s H a c (x ∷ xs) (suc k) n cpu e h at p q = next-found s H a (goes_on s H (settled s a c) x) xs k n cpu e h.1 at p q
+    found-entry s a (at_next_note s a c) (action_for s a (at_next_note s a c)) cpu e (never_removes s a (at_next_note s a c))
+    (subst (Fits a (at_next_note s a c) (action_for s a (at_next_note s a c)) (place.Cpu cpu)) (ap (λ (y : Note). y.entry) is ∙ q)
+    (subst (λ (y : Place). Fits a (at_next_note s a c) (action_for s a (at_next_note s a c)) y x.entry) (ap (λ (y : Note). y.place) is ∙ p) h.0.fits))
+next-found s H a c (x ∷ xs) (suc k) n cpu e h at p q = next-found s H a (goes_on s H (at_next_note s a c) x) xs k n cpu e h.1 at p q
 
 -- ---- the run
 
@@ -293,12 +294,12 @@ legal-reports s lines end of_script legal = (lists_by s lines, run, shows s line
   programs : (a : ℕ) → a < actor_count s → IsOfProgram s a (by_actor s lines a)
   programs a below = (
     ap (astray_of s lines) (sym (start a)) ∙ none-wrong (astray_of s lines) (actor_count s) 0 both.0 a below,
-    not-not (is_nothing (action_for s a (settled s a (place_after s a (start_of s a) (by_actor s lines a)))))
+    not-not (is_nothing (action_for s a (at_next_note s a (cursor_after_lines s a (start_of s a) (by_actor s lines a)))))
         (ap (is_unfinished s lines) (sym (start a)) ∙ none-of (is_unfinished s lines) (actor_count s) 0 (not-unfinished (list_any (is_unfinished s lines) (all_actors s)) end both.1) a below),
   )
     where
-      both : (first_of (astray_of s lines) (all_actors s) ≡ None) × (verdict_at_end (list_any (is_unfinished s lines) (all_actors s)) end ≡ Legal)
-      both = not-astray (first_of (astray_of s lines) (all_actors s)) (verdict_at_end (list_any (is_unfinished s lines) (all_actors s)) end) parts.1
+      both : (first_astray_of (astray_of s lines) (all_actors s) ≡ None) × (verdict_at_end (list_any (is_unfinished s lines) (all_actors s)) end ≡ Legal)
+      both = not-astray (first_astray_of (astray_of s lines) (all_actors s)) (verdict_at_end (list_any (is_unfinished s lines) (all_actors s)) end) parts.1
 
       start : (m : ℕ) → 0 + m ≡ m
       start m = omega arith
@@ -334,7 +335,7 @@ legal-reports s lines end of_script legal = (lists_by s lines, run, shows s line
     at_test true i e is p q rest = (λ missing. found-line (from + 0) l i e (at 0 l refl) p q missing, rest)
     at_test false i e is p q rest = rest
 
-    at_place : (p : Place) (e : AnyEntry) → l.place ≡ p → l.entry ≡ e → AllByRecursion (λ x. x.reply ≡ Missing → ⊥) (cpu_journal cpu ls) → AllByRecursion (λ x. x.reply ≡ Missing → ⊥) (cons_option (queue_entry cpu p e) (cpu_journal cpu ls))
+    at_place : (p : Place) (e : AnyEntry) → l.place ≡ p → l.entry ≡ e → AllByRecursion (λ x. x.reply ≡ Missing → ⊥) (cpu_journal cpu ls) → AllByRecursion (λ x. x.reply ≡ Missing → ⊥) (cons_option (queue_entry_at cpu p e) (cpu_journal cpu ls))
     at_place (place.Cpu i) (of.Cpu e) p q rest = at_test (i == cpu) i e refl p q rest
     at_place (place.Cpu i) (of.Timer e) p q rest = rest
     at_place (place.Cpu i) (of.Own e) p q rest = rest

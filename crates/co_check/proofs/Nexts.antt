@@ -22,10 +22,10 @@ use Rattle.co_program.specs.declared.script.Script.{Script}
 use Rattle.co_program.specs.Action.{Action, Nothing, Silent, Take, Asks, action_for, scans_first}
 use Rattle.co_program.specs.Advance.{advance}
 use Rattle.co_program.specs.Cursor.{Cursor, start_of}
-use Rattle.co_program.specs.Follows.{Histories, Fits, FitsCallout, FitsQueue, FitsOwn, IsNext, AreNext, Follows, cursor_after, listed_after, settled}
+use Rattle.co_program.specs.Follows.{Histories, Fits, FitsCallout, FitsQueue, FitsOwn, IsNextNote, AreNext, Follows, cursor_after, listed_after, at_next_note}
 use Rattle.co_program.specs.Follows as follows
 use Rattle.co_check.specs.Asking.{asks, asks_callout, asks_queue, asks_itself, is_nothing}
-use Rattle.co_check.specs.Astray.{Seen, is_next, goes_on, first_astray, place_after}
+use Rattle.co_check.specs.Astray.{SeenLine, is_next_note, goes_on, first_astray, cursor_after_lines}
 use Rattle.co_check.specs.Programs.{IsSeenAs, AreSeenAs, IsOfProgram}
 use Rattle.co_check.specs.Same.{same_number, same_op, same_queue_op, same_answer, same_kind}
 use Rattle.co_check.proofs.Walking.{astray-on}
@@ -197,7 +197,7 @@ module _ (s : Script) (H : Histories) (a : ℕ) where
   true-le : (m n : ℕ) → nat_le m n ≡ true → m ≤ n
   true-le m n h = grind (arith, nat_tests)
 
-  pub next-is : (c : Cursor) (note : Note) (x : Seen) → IsSeenAs s H note x → is_next s a c x ≡ true → IsNext s H a c note
+  pub next-is : (c : Cursor) (note : Note) (x : SeenLine) → IsSeenAs s H note x → is_next_note s a c x ≡ true → IsNextNote s H a c note
   next-is c note x as_seen h =
       let asked = first (asks a c.removed (action_for s a c) x.line.place x.line.entry) (nat_le (scans_first c) x.scans) h in
       let scanned = second (asks a c.removed (action_for s a c) x.line.place x.line.entry) (nat_le (scans_first c) x.scans) h in
@@ -206,39 +206,39 @@ module _ (s : Script) (H : Histories) (a : ℕ) where
         scanned = subst (λ n. scans_first c ≤ n) as_seen.scans (true-le (scans_first c) x.scans scanned);
       }
 
-  pub is-next : (c : Cursor) (note : Note) (x : Seen) → IsSeenAs s H note x → IsNext s H a c note → is_next s a c x ≡ true
+  pub is-next : (c : Cursor) (note : Note) (x : SeenLine) → IsSeenAs s H note x → IsNextNote s H a c note → is_next_note s a c x ≡ true
   is-next c note x as_seen h =
       all (asks a c.removed (action_for s a c) x.line.place x.line.entry) (nat_le (scans_first c) x.scans)
       (fits-asks a c (action_for s a c) x.line.place x.line.entry (subst (Fits a c (action_for s a c) x.line.place) (sym as_seen.entry) (subst (λ p. Fits a c (action_for s a c) p note.entry) (sym as_seen.place) h.fits)))
       (le-true (scans_first c) x.scans (subst (λ n. scans_first c ≤ n) (sym as_seen.scans) h.scanned))
 
-  on-is : (c : Cursor) (note : Note) (x : Seen) → IsSeenAs s H note x → goes_on s c x ≡ follows.goes_on s H c note
+  on-is : (c : Cursor) (note : Note) (x : SeenLine) → IsSeenAs s H note x → goes_on s c x ≡ follows.goes_on s H c note
   on-is c note x as_seen =
       ap (λ b. advance s c b x.line.place x.line.entry) as_seen.listed
       ∙ (ap (λ p. advance s c (listed_after s H note.place note.pos) p x.line.entry) as_seen.place
       ∙ ap (advance s c (listed_after s H note.place note.pos) note.place) as_seen.entry)
 
-  place-is : (c : Cursor) (notes : List Note) (xs : List Seen) → AreSeenAs s H notes xs → place_after s a c xs ≡ cursor_after s H a c notes
+  place-is : (c : Cursor) (notes : List Note) (xs : List SeenLine) → AreSeenAs s H notes xs → cursor_after_lines s a c xs ≡ cursor_after s H a c notes
   place-is c [] [] h = refl
   place-is c (note ∷ notes) (x ∷ xs) (h, hs) =
-      ap (λ y. place_after s a y xs) (on-is (settled s a c) note x h) ∙ place-is (follows.goes_on s H (settled s a c) note) notes xs hs
+      ap (λ y. cursor_after_lines s a y xs) (on-is (at_next_note s a c) note x h) ∙ place-is (follows.goes_on s H (at_next_note s a c) note) notes xs hs
   place-is c [] (x ∷ xs) h = absurd h
   place-is c (note ∷ notes) [] h = absurd h
 
-  none-astray : (c : Cursor) (notes : List Note) (xs : List Seen) → AreSeenAs s H notes xs → AreNext s H a c notes → first_astray s a c xs ≡ None
+  none-astray : (c : Cursor) (notes : List Note) (xs : List SeenLine) → AreSeenAs s H notes xs → AreNext s H a c notes → first_astray s a c xs ≡ None
   none-astray c [] [] h next = refl
   none-astray c (note ∷ notes) (x ∷ xs) (h, hs) (is, next) =
-      astray-on s a c x xs (is-next (settled s a c) note x h is)
-      ∙ (ap (λ y. first_astray s a y xs) (on-is (settled s a c) note x h) ∙ none-astray (follows.goes_on s H (settled s a c) note) notes xs hs next)
+      astray-on s a c x xs (is-next (at_next_note s a c) note x h is)
+      ∙ (ap (λ y. first_astray s a y xs) (on-is (at_next_note s a c) note x h) ∙ none-astray (follows.goes_on s H (at_next_note s a c) note) notes xs hs next)
   none-astray c [] (x ∷ xs) h next = absurd h
   none-astray c (note ∷ notes) [] h next = absurd h
 
-  are-next : (c : Cursor) (notes : List Note) (xs : List Seen) → AreSeenAs s H notes xs → first_astray s a c xs ≡ None → AreNext s H a c notes
+  are-next : (c : Cursor) (notes : List Note) (xs : List SeenLine) → AreSeenAs s H notes xs → first_astray s a c xs ≡ None → AreNext s H a c notes
   are-next c [] [] h fine = tt
   are-next c (note ∷ notes) (x ∷ xs) (h, hs) fine =
-      let both = on-or-off (is_next s a (settled s a c) x) (first_astray s a (goes_on s (settled s a c) x) xs) x.line.line fine in (
-        next-is (settled s a c) note x h both.0,
-        are-next (follows.goes_on s H (settled s a c) note) notes xs hs (ap (λ y. first_astray s a y xs) (sym (on-is (settled s a c) note x h)) ∙ both.1),
+      let both = on-or-off (is_next_note s a (at_next_note s a c) x) (first_astray s a (goes_on s (at_next_note s a c) x) xs) x.line.line fine in (
+        next-is (at_next_note s a c) note x h both.0,
+        are-next (follows.goes_on s H (at_next_note s a c) note) notes xs hs (ap (λ y. first_astray s a y xs) (sym (on-is (at_next_note s a c) note x h)) ∙ both.1),
       )
   are-next c [] (x ∷ xs) h fine = absurd h
   are-next c (note ∷ notes) [] h fine = absurd h
@@ -250,14 +250,14 @@ module _ (s : Script) (H : Histories) (a : ℕ) where
   nothing-is (Asks act asked) h = cc
 
   -- the notes follow exactly where none is astray and nothing is to come
-  pub follows-then : (notes : List Note) (xs : List Seen) → AreSeenAs s H notes xs → Follows s H a notes → IsOfProgram s a xs
+  pub follows-then : (notes : List Note) (xs : List SeenLine) → AreSeenAs s H notes xs → Follows s H a notes → IsOfProgram s a xs
   follows-then notes xs h f = (
     none-astray (start_of s a) notes xs h f.each,
-    ap (λ y. is_nothing (action_for s a (settled s a y))) (place-is (start_of s a) notes xs h) ∙ ap is_nothing f.whole,
+    ap (λ y. is_nothing (action_for s a (at_next_note s a y))) (place-is (start_of s a) notes xs h) ∙ ap is_nothing f.whole,
   )
 
-  pub then-follows : (notes : List Note) (xs : List Seen) → AreSeenAs s H notes xs → IsOfProgram s a xs → Follows s H a notes
+  pub then-follows : (notes : List Note) (xs : List SeenLine) → AreSeenAs s H notes xs → IsOfProgram s a xs → Follows s H a notes
   then-follows notes xs h (fine, ended) = record {
     each = are-next (start_of s a) notes xs h fine;
-    whole = ap (λ y. action_for s a (settled s a y)) (sym (place-is (start_of s a) notes xs h)) ∙ nothing-is (action_for s a (settled s a (place_after s a (start_of s a) xs))) ended;
+    whole = ap (λ y. action_for s a (at_next_note s a y)) (sym (place-is (start_of s a) notes xs h)) ∙ nothing-is (action_for s a (at_next_note s a (cursor_after_lines s a (start_of s a) xs))) ended;
   }

@@ -16,10 +16,10 @@ use Rattle.co_check.specs.declared.index.Index.{Index}
 use Rattle.co_report.specs.declared.line.Line.{Line}
 use Rattle.co_check.specs.declared.verdict.Unfit.{Unfit}
 use Rattle.co_check.specs.declared.verdict.Unfit.TheVariants.{Number}
-use Rattle.co_check.specs.Index.{slot_of, highest, AreSlots, AreLatest, IsIndexed}
+use Rattle.co_check.specs.Index.{note_slot, highest, AreActorSlots, AreLatest, IsIndexed}
 use Rattle.co_check.specs.Lines.{IsLineOf}
-use Rattle.co_check.specs.Numbers.{count_of, is_beyond, is_taken, falls, number_at}
-use Rattle.co_check.specs.Shown.{actor_of, is_note, is_of}
+use Rattle.co_check.specs.Numbers.{lines_made_by, is_beyond, is_taken, falls, number_at}
+use Rattle.co_check.specs.Shown.{actor_of, is_note, is_in_place_by}
 use Rattle.co_check.proofs.Numbering.{any-index, index-other, index-same, highest-other, highest-same, none-above, some-above}
 use Rattle.co_check.proofs.Taking.{get-set-same, get-set-other, some-is}
 
@@ -64,13 +64,13 @@ note-number a k l h = not-second (actor_of l.entry == a) (l.number == k) (apart-
 note-actor : (b k : ℕ) (l : Line) → b ≢ actor_of l.entry → is_note b k l ≡ false
 note-actor b k l h = not-first (actor_of l.entry == b) (l.number == k) (apart-is (actor_of l.entry) b (λ e. h (sym e)))
 
-of-own : (p : Place) (l : Line) → same_place l.place p ≡ true → is_of (actor_of l.entry) p l ≡ true
+of-own : (p : Place) (l : Line) → same_place l.place p ≡ true → is_in_place_by (actor_of l.entry) p l ≡ true
 of-own p l h = both (actor_of l.entry == actor_of l.entry) (same_place l.place p) (equal (actor_of l.entry)) h
 
-of-actor : (b : ℕ) (p : Place) (l : Line) → b ≢ actor_of l.entry → is_of b p l ≡ false
+of-actor : (b : ℕ) (p : Place) (l : Line) → b ≢ actor_of l.entry → is_in_place_by b p l ≡ false
 of-actor b p l h = not-first (actor_of l.entry == b) (same_place l.place p) (apart-is (actor_of l.entry) b (λ e. h (sym e)))
 
-of-place : (b : ℕ) (p : Place) (l : Line) → same_place l.place p ≡ false → is_of b p l ≡ false
+of-place : (b : ℕ) (p : Place) (l : Line) → same_place l.place p ≡ false → is_in_place_by b p l ≡ false
 of-place b p l h = not-second (actor_of l.entry == b) (same_place l.place p) h
 
 -- ---- the answer
@@ -98,24 +98,24 @@ taken-bad b c d x = ap (λ c. found_if (b || c || d)) x ∙ or-second b d
 falls-bad : (b c d : Bool) → d ≡ true → found_if (b || c || d) ≡ Some Number
 falls-bad b c d x = ap (λ d. found_if (b || c || d)) x ∙ or-last (b || c)
 
-module _ (s : Script) (lines above : List Line) (l : Line) (row : List (Option ℕ)) (slots : AreSlots lines above (actor_of l.entry) row) where
+module _ (s : Script) (lines above : List Line) (l : Line) (row : List (Option ℕ)) (slots : AreActorSlots lines above (actor_of l.entry) row) where
   -- the slot is free
   module _ (free : slice_get row l.number ≡ Some None) where
-    pub in_range : l.number < count_of (actor_of l.entry) lines
+    pub in_range : l.number < lines_made_by (actor_of l.entry) lines
     in_range = omega (arith, slice_get_within row l.number None free, slots.count)
 
-    none : slot_of above (actor_of l.entry) l.number ≡ None
-    none = some-is (slot_of above (actor_of l.entry) l.number) None (sym (slots.each l.number in_range) ∙ free)
+    none : note_slot above (actor_of l.entry) l.number ≡ None
+    none = some-is (note_slot above (actor_of l.entry) l.number) None (sym (slots.each l.number in_range) ∙ free)
 
     pub untaken : is_taken above l ≡ false
     untaken = any-index (is_note (actor_of l.entry) l.number) 0 above ∙ ap is_some none
 
-    pub fine : highest (is_of (actor_of l.entry) l.place) above ≤ l.number → number_at lines above l ≡ None
-    fine low = all-fine (is_beyond lines l) (is_taken above l) (falls above l) (le-false (count_of (actor_of l.entry) lines) l.number in_range) untaken (none-above (is_of (actor_of l.entry) l.place) l.number above low)
+    pub fine : highest (is_in_place_by (actor_of l.entry) l.place) above ≤ l.number → number_at lines above l ≡ None
+    fine low = all-fine (is_beyond lines l) (is_taken above l) (falls above l) (le-false (lines_made_by (actor_of l.entry) lines) l.number in_range) untaken (none-above (is_in_place_by (actor_of l.entry) l.place) l.number above low)
 
-    pub too_low : l.number < highest (is_of (actor_of l.entry) l.place) above → number_at lines above l ≡ Some Number
+    pub too_low : l.number < highest (is_in_place_by (actor_of l.entry) l.place) above → number_at lines above l ≡ Some Number
     too_low high = falls-bad (is_beyond lines l) (is_taken above l) (falls above l)
-        (some-above (is_of (actor_of l.entry) l.place) (is_note (actor_of l.entry) l.number) l.number above
+        (some-above (is_in_place_by (actor_of l.entry) l.place) (is_note (actor_of l.entry) l.number) l.number above
         (λ x h e. both (actor_of x.entry == actor_of l.entry) (x.number == l.number) (first-of (actor_of x.entry == actor_of l.entry) (same_place x.place l.place) h) (ap (λ n. n == l.number) e ∙ equal l.number))
         high untaken)
 
@@ -125,22 +125,22 @@ module _ (s : Script) (lines above : List Line) (l : Line) (row : List (Option �
 
   -- it is not, or there is none
   pub not_free : slice_get row l.number ≢ Some None → number_at lines above l ≡ Some Number
-  not_free full = at_test (nat_le (count_of (actor_of l.entry) lines) l.number) refl where
-    within : nat_le (count_of (actor_of l.entry) lines) l.number ≡ false → l.number < count_of (actor_of l.entry) lines
-    within h = lower (count_of (actor_of l.entry) lines) l.number h where
+  not_free full = at_test (nat_le (lines_made_by (actor_of l.entry) lines) l.number) refl where
+    within : nat_le (lines_made_by (actor_of l.entry) lines) l.number ≡ false → l.number < lines_made_by (actor_of l.entry) lines
+    within h = lower (lines_made_by (actor_of l.entry) lines) l.number h where
       lower : (m n : ℕ) → nat_le m n ≡ false → n < m
       lower m n h = grind (arith, nat_tests)
 
-    at_test : (b : Bool) → nat_le (count_of (actor_of l.entry) lines) l.number ≡ b → number_at lines above l ≡ Some Number
+    at_test : (b : Bool) → nat_le (lines_made_by (actor_of l.entry) lines) l.number ≡ b → number_at lines above l ≡ Some Number
     at_test true is = beyond-bad (is_beyond lines l) (is_taken above l) (falls above l) is
     at_test false is = taken-bad (is_beyond lines l) (is_taken above l) (falls above l)
         (any-index (is_note (actor_of l.entry) l.number) 0 above
-        ∙ slot-taken (slot_of above (actor_of l.entry) l.number) (λ e. full (slots.each l.number (within is) ∙ e)))
+        ∙ slot-taken (note_slot above (actor_of l.entry) l.number) (λ e. full (slots.each l.number (within is) ∙ e)))
 
 -- ---- one line more
 
-own-slots : (lines above : List Line) (l : Line) (row : List (Option ℕ)) (at : ℕ) → at ≡ length above → AreSlots lines above (actor_of l.entry) row → slice_get row l.number ≡ Some None
-    → is_taken above l ≡ false → AreSlots lines (above ++ l ∷ []) (actor_of l.entry) (set row l.number (Some at))
+own-slots : (lines above : List Line) (l : Line) (row : List (Option ℕ)) (at : ℕ) → at ≡ length above → AreActorSlots lines above (actor_of l.entry) row → slice_get row l.number ≡ Some None
+    → is_taken above l ≡ false → AreActorSlots lines (above ++ l ∷ []) (actor_of l.entry) (set row l.number (Some at))
 own-slots lines above l row at is h free untaken = record {
   count = length-set row l.number (Some at) ∙ h.count;
   each = λ k below. elim (cases_eq k l.number) [
@@ -149,15 +149,15 @@ own-slots lines above l row at is h free untaken = record {
   ];
 }
   where
-    here : (k : ℕ) → k ≡ l.number → slice_get (set row l.number (Some at)) k ≡ Some (slot_of (above ++ l ∷ []) (actor_of l.entry) k)
+    here : (k : ℕ) → k ≡ l.number → slice_get (set row l.number (Some at)) k ≡ Some (note_slot (above ++ l ∷ []) (actor_of l.entry) k)
     here k same =
         ap (slice_get (set row l.number (Some at))) same
         ∙ (get-set-same row l.number None (Some at) free
         ∙ (ap (λ (n : ℕ). Some (Some n)) (is ∙ omega arith)
         ∙ (ap Some (sym (index-same (is_note (actor_of l.entry) l.number) 0 above l untaken (note-own l)))
-        ∙ ap (λ n. Some (slot_of (above ++ l ∷ []) (actor_of l.entry) n)) (sym same))))
+        ∙ ap (λ n. Some (note_slot (above ++ l ∷ []) (actor_of l.entry) n)) (sym same))))
 
-other-slots : (lines above : List Line) (l : Line) (b : ℕ) (row : List (Option ℕ)) → b ≢ actor_of l.entry → AreSlots lines above b row → AreSlots lines (above ++ l ∷ []) b row
+other-slots : (lines above : List Line) (l : Line) (b : ℕ) (row : List (Option ℕ)) → b ≢ actor_of l.entry → AreActorSlots lines above b row → AreActorSlots lines (above ++ l ∷ []) b row
 other-slots lines above l b row apart h = record {
   count = h.count;
   each = λ k below. h.each k below ∙ ap Some (sym (index-other (is_note b k) 0 above l (note-actor b k l apart)));
@@ -169,24 +169,24 @@ own-latest actors above l p row here h inside low = record {
   count = length-set row (actor_of l.entry) (l.number + 1) ∙ h.count;
   each = λ b below. elim (cases_eq b (actor_of l.entry)) [
     | inl same ↦ own b same
-    | inr apart ↦ get_or-set_other row (actor_of l.entry) b (l.number + 1) 0 apart ∙ (h.each b below ∙ sym (highest-other (is_of b p) above l (of-actor b p l apart)))
+    | inr apart ↦ get_or-set_other row (actor_of l.entry) b (l.number + 1) 0 apart ∙ (h.each b below ∙ sym (highest-other (is_in_place_by b p) above l (of-actor b p l apart)))
   ];
 }
   where
     in_row : actor_of l.entry < length row
     in_row = omega (arith, h.count, inside)
 
-    own : (b : ℕ) → b ≡ actor_of l.entry → get_or (set row (actor_of l.entry) (l.number + 1)) b 0 ≡ highest (is_of b p) (above ++ l ∷ [])
+    own : (b : ℕ) → b ≡ actor_of l.entry → get_or (set row (actor_of l.entry) (l.number + 1)) b 0 ≡ highest (is_in_place_by b p) (above ++ l ∷ [])
     own b same =
         ap (λ n. get_or (set row (actor_of l.entry) (l.number + 1)) n 0) same
         ∙ (get_or-set_same row (actor_of l.entry) (l.number + 1) 0 in_row
-        ∙ (sym (highest-same (is_of (actor_of l.entry) p) above l (of-own p l here) (omega (arith, low, h.each (actor_of l.entry) inside)))
-        ∙ ap (λ n. highest (is_of n p) (above ++ l ∷ [])) (sym same)))
+        ∙ (sym (highest-same (is_in_place_by (actor_of l.entry) p) above l (of-own p l here) (omega (arith, low, h.each (actor_of l.entry) inside)))
+        ∙ ap (λ n. highest (is_in_place_by n p) (above ++ l ∷ [])) (sym same)))
 
 other-latest : (actors : ℕ) (above : List Line) (l : Line) (p : Place) (row : List ℕ) → same_place l.place p ≡ false → AreLatest actors above p row → AreLatest actors (above ++ l ∷ []) p row
 other-latest actors above l p row apart h = record {
   count = h.count;
-  each = λ b below. h.each b below ∙ sym (highest-other (is_of b p) above l (of-place b p l apart));
+  each = λ b below. h.each b below ∙ sym (highest-other (is_in_place_by b p) above l (of-place b p l apart));
 }
 
 pub numbered : (s : Script) (lines above : List Line) (l : Line) (x new : Index) (row slots' : Vec (Option ℕ) _) (high high' : Vec ℕ _) (at : ℕ) → IsLineOf s l → at ≡ length above → IsIndexed s lines above x
@@ -210,17 +210,17 @@ numbered s lines above l x new row slots' high high' at of is h row_is free slot
   },
 )
   where
-    old : AreSlots lines above (actor_of l.entry) row.items
+    old : AreActorSlots lines above (actor_of l.entry) row.items
     old = h.slots (actor_of l.entry) row row_is
 
     old_latest : AreLatest (actor_count s) above l.place high.items
     old_latest = h.latest l.place high of.place high_is
 
-    own_row : (b : ℕ) (r : Vec (Option ℕ) _) → b ≡ actor_of l.entry → slice_get new.slots.items b ≡ Some r → AreSlots lines (above ++ l ∷ []) b r.items
+    own_row : (b : ℕ) (r : Vec (Option ℕ) _) → b ≡ actor_of l.entry → slice_get new.slots.items b ≡ Some r → AreActorSlots lines (above ++ l ∷ []) b r.items
     own_row b r same there =
         let it : r ≡ slots' = some-is r slots' (sym there ∙ (ap (λ xs. slice_get xs b) slots_are ∙ (ap (slice_get (set x.slots.items (actor_of l.entry) slots')) same ∙ get-set-same x.slots.items (actor_of l.entry) row slots' row_is))) in
-        subst (λ n. AreSlots lines (above ++ l ∷ []) n r.items) (sym same)
-        (subst (λ rs. AreSlots lines (above ++ l ∷ []) (actor_of l.entry) rs) (sym (ap (λ (v : Vec (Option ℕ) _). v.items) it ∙ slots'_is)) (own-slots lines above l row.items at is old free (untaken s lines above l row.items old free)))
+        subst (λ n. AreActorSlots lines (above ++ l ∷ []) n r.items) (sym same)
+        (subst (λ rs. AreActorSlots lines (above ++ l ∷ []) (actor_of l.entry) rs) (sym (ap (λ (v : Vec (Option ℕ) _). v.items) it ∙ slots'_is)) (own-slots lines above l row.items at is old free (untaken s lines above l row.items old free)))
 
     is_place : (p : Place) → place_exists s p ≡ true → (place_index s l.place == place_index s p) ≡ same_place l.place p
     is_place p exists = same_index s l.place p of.place exists

@@ -8,7 +8,7 @@ use Rattle.co_object.specs.Queue.{empty_queue}
 use Rattle.co_program.specs.declared.script.Script.{Script}
 use Rattle.co_program.specs.Runs.{are_direct}
 use Rattle.co_check.specs.declared.replay.Replay.{Replay}
-use Rattle.co_check.specs.Cpu.{IsFor, empty_cpu}
+use Rattle.co_check.specs.Cpu.{ShowsQueue, empty_cpu}
 use Rattle.co_check.specs.Replayed.{IsAfter, IsCpuAfter, opened}
 use Rattle.co_check.proofs.Taking.{some-is}
 
@@ -31,7 +31,7 @@ zero-at zero i = refl
 zero-at (suc n) zero = refl
 zero-at (suc n) (suc i) = zero-at n i
 
-empty-for : (callouts buckets : ℕ) (direct : List Bool) → IsFor empty_queue (empty_cpu callouts buckets direct)
+empty-for : (callouts buckets : ℕ) (direct : List Bool) → ShowsQueue empty_queue (empty_cpu callouts buckets direct)
 empty-for callouts buckets direct = record {
   timers = record { expired = refl; urgent = refl; last = refl; content = λ b. refl; numbered = refl };
   serving = refl;

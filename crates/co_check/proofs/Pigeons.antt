@@ -7,7 +7,7 @@ use Rattle.co_object.proofs.Passing.{passing, count-passing, passing-none}
 use Rattle.co_report.specs.declared.line.Line.{Line}
 use Rattle.co_check.specs.declared.verdict.Unfit.{Unfit}
 use Rattle.co_check.specs.declared.verdict.Unfit.TheVariants.{Number}
-use Rattle.co_check.specs.Numbers.{count_of, is_beyond, is_taken, falls, number_at, first_misnumbered}
+use Rattle.co_check.specs.Numbers.{lines_made_by, is_beyond, is_taken, falls, number_at, first_misnumbered}
 use Rattle.co_check.specs.Replay.{Bad, bad_or, first_bad}
 use Rattle.co_check.specs.Shown.{actor_of, is_by, is_note}
 use Rattle.co_check.proofs.Counting.{none-any, is_below, below-split}
@@ -40,7 +40,7 @@ none-found false false false h = (refl, refl, refl)
 
 -- what is right about a line's number
 pub record IsNumbered (lines : List Line) (j : ℕ) (l : Line) : Type 0 where
-  pub below : l.number < count_of (actor_of l.entry) lines
+  pub below : l.number < lines_made_by (actor_of l.entry) lines
   pub free : list_any (is_note (actor_of l.entry) l.number) (take j lines) ≡ false
   pub rises : falls (take j lines) l ≡ false
 
@@ -50,7 +50,7 @@ within n m h = grind (arith, nat_tests)
 pub numbers-right : (lines : List Line) → first_misnumbered lines ≡ None → (j : ℕ) (l : Line) → slice_get lines j ≡ Some l → IsNumbered lines j l
 numbers-right lines h j l at =
     let r = none-found (is_beyond lines l) (is_taken (take j lines) l) (falls (take j lines) l) (fine-behind (number_at lines) [] lines h j l at) in
-    record { below = within (count_of (actor_of l.entry) lines) l.number r.0; free = r.1; rises = r.2 }
+    record { below = within (lines_made_by (actor_of l.entry) lines) l.number r.0; free = r.1; rises = r.2 }
 
 -- ---- each number once
 
@@ -119,28 +119,28 @@ module _ (lines : List Line) (right : (j : ℕ) (l : Line) → slice_get lines j
     then less e = omega (arith, e, below-split a (m + d) lines, few a (m + d), less)
 
   -- all of an actor's lines have numbers below their count
-  pub all-below : (a : ℕ) (l : Line) (j : ℕ) → slice_get lines j ≡ Some l → is_below a (count_of a lines) l ≡ is_by a l
+  pub all-below : (a : ℕ) (l : Line) (j : ℕ) → slice_get lines j ≡ Some l → is_below a (lines_made_by a lines) l ≡ is_by a l
   all-below a l j at = at_test (is_by a l) refl where
     lower : (m n : ℕ) → m < n → nat_lt m n ≡ true
     lower m n h = grind (arith, nat_tests)
 
-    at_test : (b : Bool) → is_by a l ≡ b → (b && nat_lt l.number (count_of a lines)) ≡ b
+    at_test : (b : Bool) → is_by a l ≡ b → (b && nat_lt l.number (lines_made_by a lines)) ≡ b
     at_test false is = refl
     at_test true is =
         let by : actor_of l.entry ≡ a = equal (actor_of l.entry) a is in
-        let below : l.number < count_of (actor_of l.entry) lines = (right j l at).below in
-        lower l.number (count_of a lines) (omega (arith, below, ap (λ b. count_of b lines) by))
+        let below : l.number < lines_made_by (actor_of l.entry) lines = (right j l at).below in
+        lower l.number (lines_made_by a lines) (omega (arith, below, ap (λ b. lines_made_by b lines) by))
 
   -- each number below the count has exactly one line
-  pub one-note : (a k : ℕ) → k < count_of a lines → passing (is_note a k) lines ≡ 1
-  one-note a k below = then (count_of a lines) refl below where
-    whole : passing (is_below a (count_of a lines)) lines ≡ count_of a lines
-    whole = passing-alike (is_below a (count_of a lines)) (is_by a) lines (λ j l at. all-below a l j at) ∙ sym (count-passing (is_by a) lines)
+  pub one-note : (a k : ℕ) → k < lines_made_by a lines → passing (is_note a k) lines ≡ 1
+  one-note a k below = then (lines_made_by a lines) refl below where
+    whole : passing (is_below a (lines_made_by a lines)) lines ≡ lines_made_by a lines
+    whole = passing-alike (is_below a (lines_made_by a lines)) (is_by a) lines (λ j l at. all-below a l j at) ∙ sym (count-passing (is_by a) lines)
 
-    sum : (n d : ℕ) → suc k + d ≡ n → n ≡ count_of a lines → passing (is_below a (suc k + d)) lines ≡ suc k + d
+    sum : (n d : ℕ) → suc k + d ≡ n → n ≡ lines_made_by a lines → passing (is_below a (suc k + d)) lines ≡ suc k + d
     sum n d e is = ap (λ m. passing (is_below a m) lines) (e ∙ is) ∙ (whole ∙ sym (e ∙ is))
 
-    then : (n : ℕ) → n ≡ count_of a lines → k < n → passing (is_note a k) lines ≡ 1
+    then : (n : ℕ) → n ≡ lines_made_by a lines → k < n → passing (is_note a k) lines ≡ 1
     then n is below = by_rest (rest-of n below) where
       rest-of : (n : ℕ) → k < n → (d : ℕ) × (suc k + d ≡ n)
       rest-of zero h = absurd (omega arith)

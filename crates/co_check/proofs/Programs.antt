@@ -4,13 +4,13 @@ use Rattle.std.specs.Prelude.{Option, Some, None}
 use Rattle.std.specs.List.{list_any, range_with_len}
 use Rattle.co_program.specs.declared.script.Script.{Script}
 use Rattle.co_program.specs.Action.{action_for}
-use Rattle.co_program.specs.Actors.{actor_count}
+use Rattle.co_program.specs.Actors.{actor_count, all_actors}
 use Rattle.co_program.specs.Cursor.{Cursor, start_of}
-use Rattle.co_program.specs.Follows.{settled}
+use Rattle.co_program.specs.Follows.{at_next_note}
 use Rattle.co_report.specs.declared.line.Line.{Line}
 use Rattle.co_check.specs.Asking.{is_nothing}
-use Rattle.co_check.specs.Astray.{seen, first_astray, place_after, astray_of, is_unfinished, first_of, or_later, all_actors}
-use Rattle.co_check.specs.Index.{AreSlots}
+use Rattle.co_check.specs.Astray.{seen_lines, first_astray, cursor_after_lines, astray_of, is_unfinished, first_astray_of, or_later}
+use Rattle.co_check.specs.Index.{AreActorSlots}
 use Rattle.co_check.specs.Verdict.{unless_astray, verdict_at_end, verdict_by_programs}
 use Rattle.co_check.specs.declared.verdict.Unfit.TheVariants.{Follows}
 use Rattle.co_check.specs.declared.verdict.Verdict.TheVariants.{Not}
@@ -38,28 +38,28 @@ from-none s a h = ap (range_with_len a) (nothing (actor_count s) a h) where
 
 -- what is kept from actor to actor
 pub record AreDone (s : Script) (lines : List Line) (a : ℕ) (unfinished : Bool) : Type 0 where
-  pub astray : first_of (astray_of s lines) (all_actors s) ≡ first_of (astray_of s lines) (from_actor s a)
+  pub astray : first_astray_of (astray_of s lines) (all_actors s) ≡ first_astray_of (astray_of s lines) (from_actor s a)
   pub unfinished_so_far : list_any (is_unfinished s lines) (all_actors s) ≡ (unfinished || list_any (is_unfinished s lines) (from_actor s a))
 
 pub none-done : (s : Script) (lines : List Line) → AreDone s lines 0 false
 none-done s lines = record {
-  astray = ap (first_of (astray_of s lines)) (sym (from-first s));
+  astray = ap (first_astray_of (astray_of s lines)) (sym (from-first s));
   unfinished_so_far = ap (list_any (is_unfinished s lines)) (sym (from-first s));
 }
 
-module _ (s : Script) (lines : List Line) (a : ℕ) (row : List (Option ℕ)) (slots : AreSlots lines lines a row) where
-  astray-is : (found : Option ℕ) → first_astray s a (start_of s a) (by_row (seen s lines) row) ≡ found → astray_of s lines a ≡ found
+module _ (s : Script) (lines : List Line) (a : ℕ) (row : List (Option ℕ)) (slots : AreActorSlots lines lines a row) where
+  astray-is : (found : Option ℕ) → first_astray s a (start_of s a) (by_row (seen_lines s lines) row) ≡ found → astray_of s lines a ≡ found
   astray-is found h = ap (first_astray s a (start_of s a)) (sym (row-by-actor s lines a row slots)) ∙ h
 
-  unfinished-is : (c : Cursor) (ended : Bool) → c ≡ place_after s a (start_of s a) (by_row (seen s lines) row) → ended ≡ is_nothing (action_for s a (settled s a c)) → is_unfinished s lines a ≡ not ended
+  unfinished-is : (c : Cursor) (ended : Bool) → c ≡ cursor_after_lines s a (start_of s a) (by_row (seen_lines s lines) row) → ended ≡ is_nothing (action_for s a (at_next_note s a c)) → is_unfinished s lines a ≡ not ended
   unfinished-is c ended h e =
-      ap (λ x. not (is_nothing (action_for s a (settled s a x)))) (sym (h ∙ ap (place_after s a (start_of s a)) (row-by-actor s lines a row slots))) ∙ ap not (sym e)
+      ap (λ x. not (is_nothing (action_for s a (at_next_note s a x)))) (sym (h ∙ ap (cursor_after_lines s a (start_of s a)) (row-by-actor s lines a row slots))) ∙ ap not (sym e)
 
   -- the actor's notes are of its program
-  pub one-done : (unfinished ended : Bool) (c : Cursor) → a < actor_count s → AreDone s lines a unfinished → first_astray s a (start_of s a) (by_row (seen s lines) row) ≡ None
-      → c ≡ place_after s a (start_of s a) (by_row (seen s lines) row) → ended ≡ is_nothing (action_for s a (settled s a c)) → AreDone s lines (a + 1) (unfinished || not ended)
+  pub one-done : (unfinished ended : Bool) (c : Cursor) → a < actor_count s → AreDone s lines a unfinished → first_astray s a (start_of s a) (by_row (seen_lines s lines) row) ≡ None
+      → c ≡ cursor_after_lines s a (start_of s a) (by_row (seen_lines s lines) row) → ended ≡ is_nothing (action_for s a (at_next_note s a c)) → AreDone s lines (a + 1) (unfinished || not ended)
   one-done unfinished ended c below done none place e = record {
-    astray = done.astray ∙ (ap (first_of (astray_of s lines)) (from-next s a below) ∙ ap (λ o. or_later o (first_of (astray_of s lines) (from_actor s (a + 1)))) (astray-is None none));
+    astray = done.astray ∙ (ap (first_astray_of (astray_of s lines)) (from-next s a below) ∙ ap (λ o. or_later o (first_astray_of (astray_of s lines) (from_actor s (a + 1)))) (astray-is None none));
     unfinished_so_far =
         done.unfinished_so_far
         ∙ (ap (λ actors. unfinished || list_any (is_unfinished s lines) actors) (from-next s a below)
@@ -72,14 +72,14 @@ module _ (s : Script) (lines : List Line) (a : ℕ) (row : List (Option ℕ)) (s
       regroup false y z = refl
 
   -- one of them is not
-  pub astray-found : (unfinished : Bool) (line end : ℕ) → a < actor_count s → AreDone s lines a unfinished → first_astray s a (start_of s a) (by_row (seen s lines) row) ≡ Some line → verdict_by_programs s lines end ≡ Not line Follows
+  pub astray-found : (unfinished : Bool) (line end : ℕ) → a < actor_count s → AreDone s lines a unfinished → first_astray s a (start_of s a) (by_row (seen_lines s lines) row) ≡ Some line → verdict_by_programs s lines end ≡ Not line Follows
   astray-found unfinished line end below done h =
       ap (λ o. unless_astray o (verdict_at_end (list_any (is_unfinished s lines) (all_actors s)) end))
-      (done.astray ∙ (ap (first_of (astray_of s lines)) (from-next s a below) ∙ ap (λ o. or_later o (first_of (astray_of s lines) (from_actor s (a + 1)))) (astray-is (Some line) h)))
+      (done.astray ∙ (ap (first_astray_of (astray_of s lines)) (from-next s a below) ∙ ap (λ o. or_later o (first_astray_of (astray_of s lines) (from_actor s (a + 1)))) (astray-is (Some line) h)))
 
 pub all-done : (s : Script) (lines : List Line) (a : ℕ) (unfinished : Bool) (end : ℕ) → actor_count s ≤ a → AreDone s lines a unfinished → verdict_by_programs s lines end ≡ verdict_at_end unfinished end
 all-done s lines a unfinished end past done =
-    ap (λ o. unless_astray o (verdict_at_end (list_any (is_unfinished s lines) (all_actors s)) end)) (done.astray ∙ ap (first_of (astray_of s lines)) (from-none s a past))
+    ap (λ o. unless_astray o (verdict_at_end (list_any (is_unfinished s lines) (all_actors s)) end)) (done.astray ∙ ap (first_astray_of (astray_of s lines)) (from-none s a past))
     ∙ ap (λ b. verdict_at_end b end) (done.unfinished_so_far ∙ (ap (λ actors. unfinished || list_any (is_unfinished s lines) actors) (from-none s a past) ∙ or_false unfinished)) where
       or_false : (b : Bool) → (b || false) ≡ b
       or_false true = refl

@@ -12,9 +12,9 @@ use Rattle.co_program.specs.declared.script.Script.{Script}
 use Rattle.co_program.specs.Actors.{actor_count}
 use Rattle.co_report.specs.declared.line.Line.{Line}
 use Rattle.co_check.specs.Lines.{IsLineOf, AreLinesOf}
-use Rattle.co_check.specs.Numbers.{count_of}
-use Rattle.co_check.specs.Runs.{count_in}
-use Rattle.co_check.specs.Shown.{actor_of, is_by, is_note, is_of}
+use Rattle.co_check.specs.Numbers.{lines_made_by}
+use Rattle.co_check.specs.Runs.{lines_in}
+use Rattle.co_check.specs.Shown.{actor_of, is_by, is_note, is_in_place_by}
 use Rattle.co_check.proofs.Counting.{any-at, count-rises}
 use Rattle.co_check.proofs.Pigeons.{passing-alike, IsNumbered}
 use Rattle.co_check.proofs.Relisting.{Noted, noted_from, noted, note_numbered, list_by, lists_by, noted-back, passing-never, passing-filter, numbered-one, list-passing}
@@ -36,7 +36,7 @@ abbrev is_there : Place → ℕ → Noted → Bool
 is_there p q x = same_place x.note.place p && x.note.pos == q
 
 module _ (p : Place) (q : ℕ) where
-  counted : (above : List Line) → count_in p above ≡ passing (in_place p) above
+  counted : (above : List Line) → lines_in p above ≡ passing (in_place p) above
   counted above = count-passing (λ (l : Line). same_place l.place p) above
 
   more : (above : List Line) (l : Line) → passing (in_place p) (above ++ l ∷ []) ≡ passing (in_place p) above + cond (same_place l.place p) 1 0
@@ -45,11 +45,11 @@ module _ (p : Place) (q : ℕ) where
     nothing m n = omega arith
 
   -- the note of one line
-  here : (above : List Line) (l : Line) → (same_place l.place p && count_in l.place above == q) ≡ (same_place l.place p && passing (in_place p) above == q)
+  here : (above : List Line) (l : Line) → (same_place l.place p && lines_in l.place above == q) ≡ (same_place l.place p && passing (in_place p) above == q)
   here above l = at_test (same_place l.place p) refl where
-    at_test : (b : Bool) → same_place l.place p ≡ b → (b && count_in l.place above == q) ≡ (b && passing (in_place p) above == q)
+    at_test : (b : Bool) → same_place l.place p ≡ b → (b && lines_in l.place above == q) ≡ (b && passing (in_place p) above == q)
     at_test false is = refl
-    at_test true is = ap (λ n. n == q) (ap (λ r. count_in r above) (same-equal l.place p is) ∙ counted above)
+    at_test true is = ap (λ n. n == q) (ap (λ r. lines_in r above) (same-equal l.place p is) ∙ counted above)
 
   low : (above lines : List Line) → q < passing (in_place p) above → passing (is_there p q) (noted_from above lines) ≡ 0
   low above [] h = refl
@@ -61,7 +61,7 @@ module _ (p : Place) (q : ℕ) where
     none true = apart (passing (in_place p) above) q h
     none false = refl
 
-    then : passing (is_there p q) (noted_from (above ++ l ∷ []) ls) ≡ 0 → (b : Bool) → same_place l.place p ≡ b → cond (same_place l.place p && count_in l.place above == q) 1 0 + passing (is_there p q) (noted_from (above ++ l ∷ []) ls) ≡ 0
+    then : passing (is_there p q) (noted_from (above ++ l ∷ []) ls) ≡ 0 → (b : Bool) → same_place l.place p ≡ b → cond (same_place l.place p && lines_in l.place above == q) 1 0 + passing (is_there p q) (noted_from (above ++ l ∷ []) ls) ≡ 0
     then rest b is = omega (arith, rest, ap (λ c. cond {A = ℕ} c 1 0) (here above l ∙ none (same_place l.place p)))
 
   high : (above lines : List Line) → passing (in_place p) above + passing (in_place p) lines ≤ q → passing (is_there p q) (noted_from above lines) ≡ 0
@@ -70,7 +70,7 @@ module _ (p : Place) (q : ℕ) where
     apart : (m n : ℕ) → m < n → (m == n) ≡ false
     apart m n h = grind (arith, nat_tests)
 
-    then : (passing (in_place p) (above ++ l ∷ []) + passing (in_place p) ls ≤ q → passing (is_there p q) (noted_from (above ++ l ∷ []) ls) ≡ 0) → (b : Bool) → same_place l.place p ≡ b → cond (same_place l.place p && count_in l.place above == q) 1 0 + passing (is_there p q) (noted_from (above ++ l ∷ []) ls) ≡ 0
+    then : (passing (in_place p) (above ++ l ∷ []) + passing (in_place p) ls ≤ q → passing (is_there p q) (noted_from (above ++ l ∷ []) ls) ≡ 0) → (b : Bool) → same_place l.place p ≡ b → cond (same_place l.place p && lines_in l.place above == q) 1 0 + passing (is_there p q) (noted_from (above ++ l ∷ []) ls) ≡ 0
     then later true is =
         let up : cond {A = ℕ} (same_place l.place p) 1 0 ≡ 1 = ap (λ c. cond {A = ℕ} c 1 0) is in
         let rest = later (omega (arith, h, more above l, up)) in
@@ -79,7 +79,7 @@ module _ (p : Place) (q : ℕ) where
     then later false is =
         let up : cond {A = ℕ} (same_place l.place p) 1 0 ≡ 0 = ap (λ c. cond {A = ℕ} c 1 0) is in
         let rest = later (omega (arith, h, more above l, up)) in
-        let none : (same_place l.place p && count_in l.place above == q) ≡ false = ap (λ b. b && count_in l.place above == q) is in
+        let none : (same_place l.place p && lines_in l.place above == q) ≡ false = ap (λ b. b && lines_in l.place above == q) is in
         omega (arith, rest, ap (λ c. cond {A = ℕ} c 1 0) none)
 
   once : (above lines : List Line) → passing (in_place p) above ≤ q → q < passing (in_place p) above + passing (in_place p) lines → passing (is_there p q) (noted_from above lines) ≡ 1
@@ -92,7 +92,7 @@ module _ (p : Place) (q : ℕ) where
     is-past m n le h = grind (arith, nat_tests)
 
     then : (passing (in_place p) (above ++ l ∷ []) ≤ q → q < passing (in_place p) (above ++ l ∷ []) + passing (in_place p) ls → passing (is_there p q) (noted_from (above ++ l ∷ []) ls) ≡ 1) → (b : Bool) → same_place l.place p ≡ b → (c : Bool) → (passing (in_place p) above == q) ≡ c →
-        cond (same_place l.place p && count_in l.place above == q) 1 0 + passing (is_there p q) (noted_from (above ++ l ∷ []) ls) ≡ 1
+        cond (same_place l.place p && lines_in l.place above == q) 1 0 + passing (is_there p q) (noted_from (above ++ l ∷ []) ls) ≡ 1
     then later true is true this =
         let up : cond {A = ℕ} (same_place l.place p) 1 0 ≡ 1 = ap (λ c. cond {A = ℕ} c 1 0) is in
         let rest = low (above ++ l ∷ []) ls (omega (arith, more above l, up, is-it (passing (in_place p) above) q this)) in
@@ -107,7 +107,7 @@ module _ (p : Place) (q : ℕ) where
     then later false is c other =
         let up : cond {A = ℕ} (same_place l.place p) 1 0 ≡ 0 = ap (λ c. cond {A = ℕ} c 1 0) is in
         let rest = later (omega (arith, more above l, up, le)) (omega (arith, more above l, up, below)) in
-        let none : (same_place l.place p && count_in l.place above == q) ≡ false = ap (λ b. b && count_in l.place above == q) is in
+        let none : (same_place l.place p && lines_in l.place above == q) ≡ false = ap (λ b. b && lines_in l.place above == q) is in
         omega (arith, rest, ap (λ c. cond {A = ℕ} c 1 0) none)
 
 -- ---- the notes of all lists
@@ -238,8 +238,8 @@ module _ (s : Script) (lines : List Line) (of_script : AreLinesOf s lines) (righ
     lower : (m n : ℕ) → m < n → nat_lt m n ≡ true
     lower m n h = grind (arith, nat_tests)
 
-    there : (is_of (actor_of x.entry) x.place y && nat_lt x.number y.number) ≡ true
-    there = all (is_of (actor_of x.entry) x.place y) (nat_lt x.number y.number)
+    there : (is_in_place_by (actor_of x.entry) x.place y && nat_lt x.number y.number) ≡ true
+    there = all (is_in_place_by (actor_of x.entry) x.place y) (nat_lt x.number y.number)
         (all (actor_of y.entry == actor_of x.entry) (same_place y.place x.place) (ap (λ n. n == actor_of x.entry) by ∙ itself (actor_of x.entry)) (ap (λ q. same_place q x.place) (py ∙ sym px) ∙ same-itself x.place))
         (lower x.number y.number (omega (arith, nx, ny, less)))
 
@@ -259,7 +259,7 @@ module _ (s : Script) (lines : List Line) (of_script : AreLinesOf s lines) (righ
     go false h = past (nat_lt i j) refl where
       above : i < j → ⊥
       above h =
-          let found = any-at (λ z. is_of (actor_of x.entry) x.place z && nat_lt x.number z.number) (take j lines) i y (keeps lines i j y at_y h) there in
+          let found = any-at (λ z. is_in_place_by (actor_of x.entry) x.place z && nat_lt x.number z.number) (take j lines) i y (keeps lines i j y at_y h) there in
           let none = (right j x at_x).rises in
           cc
 
@@ -272,7 +272,7 @@ module _ (s : Script) (lines : List Line) (of_script : AreLinesOf s lines) (righ
         eq-of : nat_lt i j ≡ false → i ≤ j → i ≡ j
         eq-of h le = grind (arith, nat_tests)
 
-  risen : (a k m : ℕ) (n n2 : Note) (p : Place) → k < m → m < count_of a lines → note_numbered lines a k ≡ Some n → note_numbered lines a m ≡ Some n2 → Rise p n n2
+  risen : (a k m : ℕ) (n n2 : Note) (p : Place) → k < m → m < lines_made_by a lines → note_numbered lines a k ≡ Some n → note_numbered lines a m ≡ Some n2 → Rise p n n2
   risen a k m n n2 p less below is is2 pn pn2 =
       let r = numbered-one lines right a k (omega (arith, less, below)) in
       let r2 = numbered-one lines right a m below in
@@ -282,8 +282,8 @@ module _ (s : Script) (lines : List Line) (of_script : AreLinesOf s lines) (righ
       let e2 : r2.one.note ≡ n2 = some-is r2.one.note n2 (sym (ap (option_map (λ (x : Noted). x.note)) r2.found) ∙ is2) in
       let place : r.one.line.place ≡ p = sym (ap (λ (x : Noted). x.note.place) b.is) ∙ (ap (λ (x : Note). x.place) e ∙ same-equal n.place p pn) in
       let place2 : r2.one.line.place ≡ p = sym (ap (λ (x : Noted). x.note.place) b2.is) ∙ (ap (λ (x : Note). x.place) e2 ∙ same-equal n2.place p pn2) in
-      let pos : n.pos ≡ count_in p (take r.index lines) = ap (λ (x : Note). x.pos) (sym e) ∙ (ap (λ (x : Noted). x.note.pos) b.is ∙ ap (λ q. count_in q (take r.index lines)) place) in
-      let pos2 : n2.pos ≡ count_in p (take r2.index lines) = ap (λ (x : Note). x.pos) (sym e2) ∙ (ap (λ (x : Noted). x.note.pos) b2.is ∙ ap (λ q. count_in q (take r2.index lines)) place2) in
+      let pos : n.pos ≡ lines_in p (take r.index lines) = ap (λ (x : Note). x.pos) (sym e) ∙ (ap (λ (x : Noted). x.note.pos) b.is ∙ ap (λ q. lines_in q (take r.index lines)) place) in
+      let pos2 : n2.pos ≡ lines_in p (take r2.index lines) = ap (λ (x : Note). x.pos) (sym e2) ∙ (ap (λ (x : Noted). x.note.pos) b2.is ∙ ap (λ q. lines_in q (take r2.index lines)) place2) in
       let order = below-it a k m r.index r2.index r.one.line r2.one.line p less b.at b2.at r.passes r2.passes place place2 in
       let up = count-rises (λ (l : Line). same_place l.place p) lines r.index r2.index r.one.line b.at (ap (λ q. same_place q p) place ∙ same-itself p) order in
       omega (arith, pos, pos2, up)
@@ -297,7 +297,7 @@ module _ (s : Script) (lines : List Line) (of_script : AreLinesOf s lines) (righ
 
   module _ (a : ℕ) (p : Place) where
     -- what comes later in the list is above
-    later-above : (k : ℕ) (n : Note) → note_numbered lines a k ≡ Some n → same_place n.place p ≡ true → (count from : ℕ) → from + count ≡ count_of a lines → k < from →
+    later-above : (k : ℕ) (n : Note) → note_numbered lines a k ≡ Some n → same_place n.place p ≡ true → (count from : ℕ) → from + count ≡ lines_made_by a lines → k < from →
         AllByRecursion (λ y. n.pos < y) (map (λ x. x.pos) (notes_of p (filter_map (note_numbered lines a) (range_with_len from count))))
     later-above k n is here zero from sum less = tt
     later-above k n is here (suc count) from sum less = at_note (note_numbered lines a from) refl (later-above k n is here count (from + 1) (omega (arith, sum)) (omega (arith, less))) where
@@ -311,7 +311,7 @@ module _ (s : Script) (lines : List Line) (of_script : AreLinesOf s lines) (righ
       at_note None is2 h = h
       at_note (Some x) is2 h = at_place x is2 (same_place x.place p) refl (filter_map (note_numbered lines a) (range_with_len (from + 1) count)) h
 
-    rises-from : (count from : ℕ) → from + count ≡ count_of a lines → IsRising (map (λ x. x.pos) (notes_of p (filter_map (note_numbered lines a) (range_with_len from count))))
+    rises-from : (count from : ℕ) → from + count ≡ lines_made_by a lines → IsRising (map (λ x. x.pos) (notes_of p (filter_map (note_numbered lines a) (range_with_len from count))))
     rises-from zero from sum = tt
     rises-from (suc count) from sum = at_note (note_numbered lines a from) refl (rises-from count (from + 1) (omega (arith, sum))) where
       at_place : (x : Note) → note_numbered lines a from ≡ Some x → (b : Bool) → same_place x.place p ≡ b → IsRising (map (λ x. x.pos) (notes_of p (filter_map (note_numbered lines a) (range_with_len (from + 1) count)))) →
@@ -326,7 +326,7 @@ module _ (s : Script) (lines : List Line) (of_script : AreLinesOf s lines) (righ
 
   each-rises : (p : Place) (n from : ℕ) → AllByRecursion (λ notes. IsRising (map (λ x. x.pos) (notes_of p notes))) (map (list_by lines) (range_with_len from n))
   each-rises p zero from = tt
-  each-rises p (suc n) from = (rises-from from p (count_of from lines) 0 (start (count_of from lines)), each-rises p n (from + 1)) where
+  each-rises p (suc n) from = (rises-from from p (lines_made_by from lines) 0 (start (lines_made_by from lines)), each-rises p n (from + 1)) where
     start : (m : ℕ) → 0 + m ≡ m
     start m = omega arith
 

@@ -10,8 +10,8 @@ use Rattle.co_object.proofs.Passing.{passing}
 use Rattle.co_program.specs.declared.script.Script.{Script}
 use Rattle.co_program.specs.Actors.{actor_count}
 use Rattle.co_report.specs.declared.line.Line.{Line}
-use Rattle.co_check.specs.Numbers.{count_of}
-use Rattle.co_check.specs.Runs.{count_in}
+use Rattle.co_check.specs.Numbers.{lines_made_by}
+use Rattle.co_check.specs.Runs.{lines_in}
 use Rattle.co_check.specs.Shown.{is_by, is_note}
 use Rattle.co_check.proofs.Counting.{is_below, one-split}
 use Rattle.co_check.proofs.Pigeons.{append-nil, passing-alike, IsNumbered, all-below, one-note}
@@ -24,7 +24,7 @@ pub record Noted : Type 0 where
   pub note : Note
 
 abbrev pub noted_at : List Line → Line → Noted
-noted_at above l = record { line = l; note = record { place = l.place; pos = count_in l.place above; entry = l.entry } }
+noted_at above l = record { line = l; note = record { place = l.place; pos = lines_in l.place above; entry = l.entry } }
 
 abbrev pub noted_from : List Line → List Line → List Noted
 noted_from above [] = []
@@ -38,7 +38,7 @@ abbrev pub note_numbered : List Line → ℕ → ℕ → Option Note
 note_numbered lines a k = option_map (λ x. x.note) (find (λ x. is_note a k x.line) (noted lines))
 
 abbrev pub list_by : List Line → ℕ → List Note
-list_by lines a = filter_map (note_numbered lines a) (range_with_len 0 (count_of a lines))
+list_by lines a = filter_map (note_numbered lines a) (range_with_len 0 (lines_made_by a lines))
 
 abbrev pub lists_by : Script → List Line → List (List Note)
 lists_by s lines = map (list_by lines) (range_with_len 0 (actor_count s))
@@ -160,10 +160,10 @@ not-below-zero a n false c = refl
 
 module _ (lines : List Line) (right : (j : ℕ) (l : Line) → slice_get lines j ≡ Some l → IsNumbered lines j l) where
   -- the line of a number
-  pub numbered-one : (a k : ℕ) → k < count_of a lines → TheOne (λ (x : Noted). is_note a k x.line) (noted lines)
+  pub numbered-one : (a k : ℕ) → k < lines_made_by a lines → TheOne (λ (x : Noted). is_note a k x.line) (noted lines)
   numbered-one a k below = the-one (λ (x : Noted). is_note a k x.line) (noted lines) (passing-noted (is_note a k) [] lines ∙ one-note lines right a k below)
 
-  collected : (a : ℕ) (t : Note → Bool) (n from : ℕ) → from + n ≤ count_of a lines →
+  collected : (a : ℕ) (t : Note → Bool) (n from : ℕ) → from + n ≤ lines_made_by a lines →
       passing t (filter_map (note_numbered lines a) (range_with_len from n)) + passing (λ (x : Noted). is_below a from x.line && t x.note) (noted lines)
       ≡ passing (λ (x : Noted). is_below a (from + n) x.line && t x.note) (noted lines)
   collected a t zero from below = start (ap (λ m. passing (λ (x : Noted). is_below a m x.line && t x.note) (noted lines)) (none from)) where
@@ -197,33 +197,33 @@ module _ (lines : List Line) (right : (j : ℕ) (l : Line) → slice_get lines j
 
   -- the notes of an actor's list are those of its lines
   pub list-passing : (a : ℕ) (t : Note → Bool) → passing t (list_by lines a) ≡ passing (λ (x : Noted). is_by a x.line && t x.note) (noted lines)
-  list-passing a t = then (collected a t (count_of a lines) 0 (omega arith)) where
+  list-passing a t = then (collected a t (lines_made_by a lines) 0 (omega arith)) where
     start : (m : ℕ) → 0 + m ≡ m
     start m = omega arith
 
-    same : passing (λ (x : Noted). is_below a (count_of a lines) x.line && t x.note) (noted lines) ≡ passing (λ (x : Noted). is_by a x.line && t x.note) (noted lines)
+    same : passing (λ (x : Noted). is_below a (lines_made_by a lines) x.line && t x.note) (noted lines) ≡ passing (λ (x : Noted). is_by a x.line && t x.note) (noted lines)
     same = passing-alike _ _ (noted lines) (λ i x at. ap (λ b. b && t x.note) (all-below lines right a x.line i (noted-back [] lines i x at).at))
 
     none : passing (λ (x : Noted). is_below a 0 x.line && t x.note) (noted lines) ≡ 0
     none = passing-never _ (noted lines) (λ x. not-below-zero a x.line.number (is_by a x.line) (t x.note))
 
-    then : passing t (list_by lines a) + passing (λ (x : Noted). is_below a 0 x.line && t x.note) (noted lines) ≡ passing (λ (x : Noted). is_below a (0 + count_of a lines) x.line && t x.note) (noted lines)
+    then : passing t (list_by lines a) + passing (λ (x : Noted). is_below a 0 x.line && t x.note) (noted lines) ≡ passing (λ (x : Noted). is_below a (0 + lines_made_by a lines) x.line && t x.note) (noted lines)
         → passing t (list_by lines a) ≡ passing (λ (x : Noted). is_by a x.line && t x.note) (noted lines)
-    then h = omega (arith, h, same, none, ap (λ m. passing (λ (x : Noted). is_below a m x.line && t x.note) (noted lines)) (start (count_of a lines)))
+    then h = omega (arith, h, same, none, ap (λ m. passing (λ (x : Noted). is_below a m x.line && t x.note) (noted lines)) (start (lines_made_by a lines)))
 
   -- ---- notes by actor and number
 
-  each-number : (a k : ℕ) → k < count_of a lines → (n : Note) × (note_numbered lines a k ≡ Some n)
+  each-number : (a k : ℕ) → k < lines_made_by a lines → (n : Note) × (note_numbered lines a k ≡ Some n)
   each-number a k below = let r = numbered-one a k below in (r.one.note, ap (option_map (λ (x : Noted). x.note)) r.found)
 
-  pub list-get : (a k : ℕ) → k < count_of a lines → slice_get (list_by lines a) k ≡ note_numbered lines a k
+  pub list-get : (a k : ℕ) → k < lines_made_by a lines → slice_get (list_by lines a) k ≡ note_numbered lines a k
   list-get a k below =
-      get-range (note_numbered lines a) 0 (count_of a lines) k (λ m h le. each-number a m (omega (arith, h))) below ∙ ap (note_numbered lines a) (start k) where
+      get-range (note_numbered lines a) 0 (lines_made_by a lines) k (λ m h le. each-number a m (omega (arith, h))) below ∙ ap (note_numbered lines a) (start k) where
         start : (m : ℕ) → 0 + m ≡ m
         start m = omega arith
 
-  pub list-few : (a k : ℕ) (n : Note) → slice_get (list_by lines a) k ≡ Some n → k < count_of a lines
-  list-few a k n at = omega (arith, slice_get_within (list_by lines a) k n at, length-range (note_numbered lines a) 0 (count_of a lines))
+  pub list-few : (a k : ℕ) (n : Note) → slice_get (list_by lines a) k ≡ Some n → k < lines_made_by a lines
+  list-few a k n at = omega (arith, slice_get_within (list_by lines a) k n at, length-range (note_numbered lines a) 0 (lines_made_by a lines))
 
 pub range-get : (from n i : ℕ) → i < n → slice_get (range_with_len from n) i ≡ Some (from + i)
 range-get from zero i h = absurd (omega (arith, h))

@@ -18,14 +18,14 @@ use Rattle.co_program.specs.declared.act.Act.{Act}
 use Rattle.co_program.specs.declared.act.Act.TheVariants as does
 use Rattle.co_program.specs.declared.act.Scene.{Scene}
 use Rattle.co_program.specs.declared.action.Asked.TheVariants.{Callout, Queue, Itself}
-use Rattle.co_program.specs.declared.cursor.Parcel.{Parcel}
-use Rattle.co_program.specs.declared.cursor.Service.{Service}
+use Rattle.co_program.specs.declared.cursor.PendingInsert.{PendingInsert}
+use Rattle.co_program.specs.declared.cursor.InService.{InService}
 use Rattle.co_program.specs.declared.program.Task.{Task}
 use Rattle.co_program.specs.declared.program.Task.TheVariants.{Does, Soft}
 use Rattle.co_program.specs.declared.role.Role.{Role}
 use Rattle.co_program.specs.declared.role.Role.TheVariants.{Client, Cpu, Interrupt}
 use Rattle.co_program.specs.declared.script.Script.{Script}
-use Rattle.co_program.specs.Action.{Action, Nothing, Silent, Take, Asks, action_for, action_with, action_in, begins, takes, asks_covered, asks_call, asks_within, asks_drain, drained_of, locks, over, pop_of, free_of, spec_at}
+use Rattle.co_program.specs.Action.{Action, Nothing, Silent, Take, Asks, action_for, action_with, action_in, begins_next, takes, asks_covered, asks_call, asks_within, asks_drain, drained_of, locks, over, pop_of, free_of, spec_at}
 use Rattle.co_program.specs.Actors.{role_of, cpu_of}
 use Rattle.co_program.specs.Calls.{plain_op}
 use Rattle.co_program.specs.Cursor.{Cursor}
@@ -59,7 +59,7 @@ covered s hold act (Some (i, op)) = either (covers hold (spec_at s i) (Plain op)
 called : (s : Script) (c : Cursor) (act : Act) (at : Scene) → AsksNoRemove (asks_call s c act at)
 called s c act at = covered s c.hold c.act (plain_op act s.hz at)
 
-within : (s : Script) (cpu : ℕ) (c : Cursor) (v : Service) (acts : List Act) → AsksNoRemove (asks_within s cpu c v acts)
+within : (s : Script) (cpu : ℕ) (c : Cursor) (v : InService) (acts : List Act) → AsksNoRemove (asks_within s cpu c v acts)
 within s cpu c v [] = tt
 within s cpu c v (act ∷ acts) = called s c act (record { time = v.at; here = cpu; me = v.i })
 
@@ -79,11 +79,11 @@ taken c left held = either (is_some c.hold) (Asks c.act (Itself Holding)) (Take 
 drains : (c : Cursor) (i : ℕ) (took : Bool) → AsksNoRemove (asks_drain c i took)
 drains c i took = either (is_some c.hold) (Asks c.act (Itself HoldsLock)) _ tt tt
 
-locked : (s : Script) (c : Cursor) (v : Service) (o : Option Held) → AsksNoRemove (locks s c v o)
+locked : (s : Script) (c : Cursor) (v : InService) (o : Option Held) → AsksNoRemove (locks s c v o)
 locked s c v None = tt
 locked s c v (Some held) = tt
 
-began : (s : Script) (r : Role) (c : Cursor) (left : List Task) → AsksNoRemove (begins s r c left)
+began : (s : Script) (r : Role) (c : Cursor) (left : List Task) → AsksNoRemove (begins_next s r c left)
 began s r c [] = either (is_some c.hold) (Silent (record c { left = []; hold = None; stage = Ready })) Nothing tt tt
 began s r c (Soft j ∷ left) = popping r
 began s r c (Does (does.Now time) ∷ left) = tt
@@ -117,7 +117,7 @@ staged s r c (Ending v) = tt
 staged s r c (Freeing v drain next) = frees_slot r
 staged s r c (Drained v acts) = within s (cpu_of s r) c v acts
 
-sent : (s : Script) (r : Role) (c : Cursor) (p : Option Parcel) → AsksNoRemove (action_with s r c p)
+sent : (s : Script) (r : Role) (c : Cursor) (p : Option PendingInsert) → AsksNoRemove (action_with s r c p)
 sent s r c None = staged s r c c.stage
 sent s r c (Some p) = tt
 

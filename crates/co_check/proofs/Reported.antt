@@ -19,23 +19,24 @@ use Rattle.co_program.specs.declared.action.Asked.TheVariants.{Callout, Queue, I
 use Rattle.co_program.specs.declared.script.Script.{Script}
 use Rattle.co_program.specs.Action.{Action, Nothing, Silent, Take, Asks, action_for}
 use Rattle.co_program.specs.Cursor.{Cursor, start_of}
-use Rattle.co_program.specs.Follows.{Histories, Fits, FitsCallout, AreNext, goes_on, settled}
+use Rattle.co_program.specs.Follows.{Histories, Fits, FitsCallout, AreNext, goes_on, at_next_note}
 use Rattle.co_program.specs.Runs.{IsRunOf, notes_by, shown_histories}
 use Rattle.co_report.specs.declared.line.Line.{Line}
-use Rattle.co_report.specs.Histories.{Numbered, Shown, shown, shown_at, shown_history, all_numbered_of}
+use Rattle.co_report.specs.Histories.{Numbered, shown, shown_at, shown_history, all_numbered_of}
+use Rattle.co_report.specs.declared.reading.notes.NumberedEntry.{NumberedEntry}
 use Rattle.co_report.specs.Origins.{note_at}
 use Rattle.co_report.proofs.Counted.{passing-numbered, pos-below, note-actor}
 use Rattle.co_object.proofs.Members.{find-has}
 use Rattle.co_report.proofs.Numbering.{numbered, has-note, found, Found, all-notes-of}
 use Rattle.co_report.proofs.ShownHistories.{histories_shown}
-use Rattle.co_check.specs.Runs.{IsLineOfNote, count_in, shown_line, lines_at, ReportsOfRunsAreLegal}
-use Rattle.co_check.specs.Shown.{actor_of, callout_entry, queue_entry, callout_history, cpu_journal}
+use Rattle.co_check.specs.Runs.{IsLineOfNote, lines_in, shown_line, lines_at, ReportsOfRunsAreLegal}
+use Rattle.co_check.specs.Shown.{actor_of, callout_entry_at, queue_entry_at, callout_history, cpu_journal}
 use Rattle.co_check.proofs.Taking.{some-is}
 use Rattle.co_check.proofs.SameValues.{equal, itself}
 use Rattle.co_check.proofs.Showing.{same-equal, same-itself}
 use Rattle.co_check.proofs.RunsLegal.{runs-legal}
 
-none-some : (x : Shown) → ◌≡◌ {A = Option Shown} None (Some x) → ⊥
+none-some : (x : NumberedEntry) → ◌≡◌ {A = Option NumberedEntry} None (Some x) → ⊥
 none-some x h = cc
 
 -- ---- the lines of a place
@@ -132,7 +133,7 @@ history-get lists p m formed below =
       start : (k : ℕ) → 0 + k ≡ k
       start k = omega arith
 
-      some : (k : ℕ) → k < length (all_notes_of p lists) → (x : Shown) × (shown_at (all_numbered_of p lists) k ≡ Some x)
+      some : (k : ℕ) → k < length (all_notes_of p lists) → (x : NumberedEntry) × (shown_at (all_numbered_of p lists) k ≡ Some x)
       some k b =
           let f = noted lists p k formed b in (
             record { number = f.number; entry = f.note.entry },
@@ -174,8 +175,8 @@ fits-actor a c (Take held to) p e h = absurd h
 
 next-actor : (s : Script) (H : Histories) (a : ℕ) (c : Cursor) (notes : List Note) (k : ℕ) (n : Note) → AreNext s H a c notes → slice_get notes k ≡ Some n → actor_of n.entry ≡ a
 next-actor s H a c [] k n h at = cc
-next-actor s H a c (x ∷ xs) zero n h at = ap (λ (y : Note). actor_of y.entry) (sym (some-is x n at)) ∙ fits-actor a (settled s a c) (action_for s a (settled s a c)) x.place x.entry h.0.fits
-next-actor s H a c (x ∷ xs) (suc k) n h at = next-actor s H a (goes_on s H (settled s a c) x) xs k n h.1 at
+next-actor s H a c (x ∷ xs) zero n h at = ap (λ (y : Note). actor_of y.entry) (sym (some-is x n at)) ∙ fits-actor a (at_next_note s a c) (action_for s a (at_next_note s a c)) x.place x.entry h.0.fits
+next-actor s H a c (x ∷ xs) (suc k) n h at = next-actor s H a (goes_on s H (at_next_note s a c) x) xs k n h.1 at
 
 own-note : (s : Script) (lists : List (List Note)) (a k : ℕ) (n : Note) → IsRunOf s lists → note_at lists a k ≡ Some n → actor_of n.entry ≡ a
 own-note s lists a k n run at =
@@ -232,10 +233,10 @@ module _ (s : Script) (lists : List (List Note)) (lines : List Line) (run : IsRu
           ∙ (ap (shown_at (all_numbered_of f.note.place lists)) (sym pos_is) ∙ shown-note lists f.actor f.number f.note run.formed f.at))))
 
       number : l.number ≡ f.number
-      number = ap (λ (x : Shown). x.number) same
+      number = ap (λ (x : NumberedEntry). x.number) same
 
       entry_is : l.entry ≡ f.note.entry
-      entry_is = ap (λ (x : Shown). x.entry) same
+      entry_is = ap (λ (x : NumberedEntry). x.entry) same
 
       by : actor_of l.entry ≡ f.actor
       by = ap actor_of entry_is ∙ own-note s lists f.actor f.number f.note run f.at
@@ -253,38 +254,38 @@ module _ (s : Script) (lists : List (List Note)) (lines : List Line) (run : IsRu
         let same : shown_line l ≡ record { number = k; entry = n.entry } = some-is (shown_line l) (record { number = k; entry = n.entry }) (sym (slice_get-map shown_line (lines_at n.place lines) n.pos ∙ ap (option_map shown_line) is) ∙ there) in
         let r = filter-index (λ (x : Line). same_place x.place n.place) lines n.pos l is in
         let place_is : l.place ≡ n.place = same-equal l.place n.place r.here in
-        let entry_is : l.entry ≡ n.entry = ap (λ (x : Shown). x.entry) same in (
+        let entry_is : l.entry ≡ n.entry = ap (λ (x : NumberedEntry). x.entry) same in (
           r.index,
           l,
           record {
             at = r.at;
             actor = ap actor_of entry_is ∙ own-note s lists a k n run at;
-            number_is = ap (λ (x : Shown). x.number) same;
+            number_is = ap (λ (x : NumberedEntry). x.number) same;
             place = place_is;
             entry = entry_is;
-            pos = ap (λ p. count_in p (take r.index lines)) place_is ∙ (count-passing (λ (x : Line). same_place x.place n.place) (take r.index lines) ∙ r.above);
+            pos = ap (λ p. lines_in p (take r.index lines)) place_is ∙ (count-passing (λ (x : Line). same_place x.place n.place) (take r.index lines) ∙ r.above);
           },
         )
 
 -- ---- histories
 
 pub callouts-of : (f : AnyEntry → Option Entry) → ((e : Entry) → f (of.Timer e) ≡ Some e) → ((e : QEntry) → f (of.Cpu e) ≡ None) → ((e : _) → f (of.Own e) ≡ None)
-    → (i : ℕ) (lines : List Line) → filter_map f (map (λ (x : Shown). x.entry) (map shown_line (lines_at (place.Timer i) lines))) ≡ callout_history i lines
+    → (i : ℕ) (lines : List Line) → filter_map f (map (λ (x : NumberedEntry). x.entry) (map shown_line (lines_at (place.Timer i) lines))) ≡ callout_history i lines
 callouts-of f timer cpu own i [] = refl
 callouts-of f timer cpu own i (l ∷ ls) = at_place l.place l.entry (callouts-of f timer cpu own i ls) where
-  at_place : (p : Place) (e : AnyEntry) → filter_map f (map (λ (x : Shown). x.entry) (map shown_line (lines_at (place.Timer i) ls))) ≡ callout_history i ls
-      → filter_map f (map (λ (x : Shown). x.entry) (map shown_line (cond {A = List Line} (same_place p (place.Timer i)) (record l { place = p; entry = e } ∷ lines_at (place.Timer i) ls) (lines_at (place.Timer i) ls)))) ≡ cons_option (callout_entry i p e) (callout_history i ls)
+  at_place : (p : Place) (e : AnyEntry) → filter_map f (map (λ (x : NumberedEntry). x.entry) (map shown_line (lines_at (place.Timer i) ls))) ≡ callout_history i ls
+      → filter_map f (map (λ (x : NumberedEntry). x.entry) (map shown_line (cond {A = List Line} (same_place p (place.Timer i)) (record l { place = p; entry = e } ∷ lines_at (place.Timer i) ls) (lines_at (place.Timer i) ls)))) ≡ cons_option (callout_entry_at i p e) (callout_history i ls)
   at_place (place.Timer j) (of.Timer e) rest = at_test (j == i) where
-    at_test : (b : Bool) → filter_map f (map (λ (x : Shown). x.entry) (map shown_line (cond {A = List Line} b (record l { place = place.Timer j; entry = of.Timer e } ∷ lines_at (place.Timer i) ls) (lines_at (place.Timer i) ls)))) ≡ cons_option (cond {A = Option Entry} b (Some e) None) (callout_history i ls)
-    at_test true = ap (λ o. cons_option o (filter_map f (map (λ (x : Shown). x.entry) (map shown_line (lines_at (place.Timer i) ls))))) (timer e) ∙ ap (cons_option (Some e)) rest
+    at_test : (b : Bool) → filter_map f (map (λ (x : NumberedEntry). x.entry) (map shown_line (cond {A = List Line} b (record l { place = place.Timer j; entry = of.Timer e } ∷ lines_at (place.Timer i) ls) (lines_at (place.Timer i) ls)))) ≡ cons_option (cond {A = Option Entry} b (Some e) None) (callout_history i ls)
+    at_test true = ap (λ o. cons_option o (filter_map f (map (λ (x : NumberedEntry). x.entry) (map shown_line (lines_at (place.Timer i) ls))))) (timer e) ∙ ap (cons_option (Some e)) rest
     at_test false = rest
   at_place (place.Timer j) (of.Cpu e) rest = at_test (j == i) where
-    at_test : (b : Bool) → filter_map f (map (λ (x : Shown). x.entry) (map shown_line (cond {A = List Line} b (record l { place = place.Timer j; entry = of.Cpu e } ∷ lines_at (place.Timer i) ls) (lines_at (place.Timer i) ls)))) ≡ callout_history i ls
-    at_test true = ap (λ o. cons_option o (filter_map f (map (λ (x : Shown). x.entry) (map shown_line (lines_at (place.Timer i) ls))))) (cpu e) ∙ rest
+    at_test : (b : Bool) → filter_map f (map (λ (x : NumberedEntry). x.entry) (map shown_line (cond {A = List Line} b (record l { place = place.Timer j; entry = of.Cpu e } ∷ lines_at (place.Timer i) ls) (lines_at (place.Timer i) ls)))) ≡ callout_history i ls
+    at_test true = ap (λ o. cons_option o (filter_map f (map (λ (x : NumberedEntry). x.entry) (map shown_line (lines_at (place.Timer i) ls))))) (cpu e) ∙ rest
     at_test false = rest
   at_place (place.Timer j) (of.Own e) rest = at_test (j == i) where
-    at_test : (b : Bool) → filter_map f (map (λ (x : Shown). x.entry) (map shown_line (cond {A = List Line} b (record l { place = place.Timer j; entry = of.Own e } ∷ lines_at (place.Timer i) ls) (lines_at (place.Timer i) ls)))) ≡ callout_history i ls
-    at_test true = ap (λ o. cons_option o (filter_map f (map (λ (x : Shown). x.entry) (map shown_line (lines_at (place.Timer i) ls))))) (own e) ∙ rest
+    at_test : (b : Bool) → filter_map f (map (λ (x : NumberedEntry). x.entry) (map shown_line (cond {A = List Line} b (record l { place = place.Timer j; entry = of.Own e } ∷ lines_at (place.Timer i) ls) (lines_at (place.Timer i) ls)))) ≡ callout_history i ls
+    at_test true = ap (λ o. cons_option o (filter_map f (map (λ (x : NumberedEntry). x.entry) (map shown_line (lines_at (place.Timer i) ls))))) (own e) ∙ rest
     at_test false = rest
   at_place (place.Cpu j) (of.Timer e) rest = rest
   at_place (place.Cpu j) (of.Cpu e) rest = rest
@@ -294,22 +295,22 @@ callouts-of f timer cpu own i (l ∷ ls) = at_place l.place l.entry (callouts-of
   at_place (place.Actor j) (of.Own e) rest = rest
 
 pub queues-of : (f : AnyEntry → Option QEntry) → ((e : Entry) → f (of.Timer e) ≡ None) → ((e : QEntry) → f (of.Cpu e) ≡ Some e) → ((e : _) → f (of.Own e) ≡ None)
-    → (i : ℕ) (lines : List Line) → filter_map f (map (λ (x : Shown). x.entry) (map shown_line (lines_at (place.Cpu i) lines))) ≡ cpu_journal i lines
+    → (i : ℕ) (lines : List Line) → filter_map f (map (λ (x : NumberedEntry). x.entry) (map shown_line (lines_at (place.Cpu i) lines))) ≡ cpu_journal i lines
 queues-of f timer cpu own i [] = refl
 queues-of f timer cpu own i (l ∷ ls) = at_place l.place l.entry (queues-of f timer cpu own i ls) where
-  at_place : (p : Place) (e : AnyEntry) → filter_map f (map (λ (x : Shown). x.entry) (map shown_line (lines_at (place.Cpu i) ls))) ≡ cpu_journal i ls
-      → filter_map f (map (λ (x : Shown). x.entry) (map shown_line (cond {A = List Line} (same_place p (place.Cpu i)) (record l { place = p; entry = e } ∷ lines_at (place.Cpu i) ls) (lines_at (place.Cpu i) ls)))) ≡ cons_option (queue_entry i p e) (cpu_journal i ls)
+  at_place : (p : Place) (e : AnyEntry) → filter_map f (map (λ (x : NumberedEntry). x.entry) (map shown_line (lines_at (place.Cpu i) ls))) ≡ cpu_journal i ls
+      → filter_map f (map (λ (x : NumberedEntry). x.entry) (map shown_line (cond {A = List Line} (same_place p (place.Cpu i)) (record l { place = p; entry = e } ∷ lines_at (place.Cpu i) ls) (lines_at (place.Cpu i) ls)))) ≡ cons_option (queue_entry_at i p e) (cpu_journal i ls)
   at_place (place.Cpu j) (of.Cpu e) rest = at_test (j == i) where
-    at_test : (b : Bool) → filter_map f (map (λ (x : Shown). x.entry) (map shown_line (cond {A = List Line} b (record l { place = place.Cpu j; entry = of.Cpu e } ∷ lines_at (place.Cpu i) ls) (lines_at (place.Cpu i) ls)))) ≡ cons_option (cond {A = Option QEntry} b (Some e) None) (cpu_journal i ls)
-    at_test true = ap (λ o. cons_option o (filter_map f (map (λ (x : Shown). x.entry) (map shown_line (lines_at (place.Cpu i) ls))))) (cpu e) ∙ ap (cons_option (Some e)) rest
+    at_test : (b : Bool) → filter_map f (map (λ (x : NumberedEntry). x.entry) (map shown_line (cond {A = List Line} b (record l { place = place.Cpu j; entry = of.Cpu e } ∷ lines_at (place.Cpu i) ls) (lines_at (place.Cpu i) ls)))) ≡ cons_option (cond {A = Option QEntry} b (Some e) None) (cpu_journal i ls)
+    at_test true = ap (λ o. cons_option o (filter_map f (map (λ (x : NumberedEntry). x.entry) (map shown_line (lines_at (place.Cpu i) ls))))) (cpu e) ∙ ap (cons_option (Some e)) rest
     at_test false = rest
   at_place (place.Cpu j) (of.Timer e) rest = at_test (j == i) where
-    at_test : (b : Bool) → filter_map f (map (λ (x : Shown). x.entry) (map shown_line (cond {A = List Line} b (record l { place = place.Cpu j; entry = of.Timer e } ∷ lines_at (place.Cpu i) ls) (lines_at (place.Cpu i) ls)))) ≡ cpu_journal i ls
-    at_test true = ap (λ o. cons_option o (filter_map f (map (λ (x : Shown). x.entry) (map shown_line (lines_at (place.Cpu i) ls))))) (timer e) ∙ rest
+    at_test : (b : Bool) → filter_map f (map (λ (x : NumberedEntry). x.entry) (map shown_line (cond {A = List Line} b (record l { place = place.Cpu j; entry = of.Timer e } ∷ lines_at (place.Cpu i) ls) (lines_at (place.Cpu i) ls)))) ≡ cpu_journal i ls
+    at_test true = ap (λ o. cons_option o (filter_map f (map (λ (x : NumberedEntry). x.entry) (map shown_line (lines_at (place.Cpu i) ls))))) (timer e) ∙ rest
     at_test false = rest
   at_place (place.Cpu j) (of.Own e) rest = at_test (j == i) where
-    at_test : (b : Bool) → filter_map f (map (λ (x : Shown). x.entry) (map shown_line (cond {A = List Line} b (record l { place = place.Cpu j; entry = of.Own e } ∷ lines_at (place.Cpu i) ls) (lines_at (place.Cpu i) ls)))) ≡ cpu_journal i ls
-    at_test true = ap (λ o. cons_option o (filter_map f (map (λ (x : Shown). x.entry) (map shown_line (lines_at (place.Cpu i) ls))))) (own e) ∙ rest
+    at_test : (b : Bool) → filter_map f (map (λ (x : NumberedEntry). x.entry) (map shown_line (cond {A = List Line} b (record l { place = place.Cpu j; entry = of.Own e } ∷ lines_at (place.Cpu i) ls) (lines_at (place.Cpu i) ls)))) ≡ cpu_journal i ls
+    at_test true = ap (λ o. cons_option o (filter_map f (map (λ (x : NumberedEntry). x.entry) (map shown_line (lines_at (place.Cpu i) ls))))) (own e) ∙ rest
     at_test false = rest
   at_place (place.Timer j) (of.Timer e) rest = rest
   at_place (place.Timer j) (of.Cpu e) rest = rest
@@ -321,9 +322,9 @@ queues-of f timer cpu own i (l ∷ ls) = at_place l.place l.entry (queues-of f t
 pub reports-legal : ReportsOfRunsAreLegal
 reports-legal s lists lines end run of_script shows = runs-legal s lists lines end run of_script (record {
   callouts = λ i. sym (callouts-of _ (λ e. refl) (λ e. refl) (λ e. refl) i lines)
-      ∙ ap (filter_map _) (ap (map (λ (x : Shown). x.entry)) (shows (place.Timer i)) ∙ histories_shown (place.Timer i) lists);
+      ∙ ap (filter_map _) (ap (map (λ (x : NumberedEntry). x.entry)) (shows (place.Timer i)) ∙ histories_shown (place.Timer i) lists);
   cpus = λ cpu. sym (queues-of _ (λ e. refl) (λ e. refl) (λ e. refl) cpu lines)
-      ∙ ap (filter_map _) (ap (map (λ (x : Shown). x.entry)) (shows (place.Cpu cpu)) ∙ histories_shown (place.Cpu cpu) lists);
+      ∙ ap (filter_map _) (ap (map (λ (x : NumberedEntry). x.entry)) (shows (place.Cpu cpu)) ∙ histories_shown (place.Cpu cpu) lists);
   each_line = each-line s lists lines run shows;
   each_note = each-note s lists lines run shows;
 })

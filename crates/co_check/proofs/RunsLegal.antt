@@ -15,17 +15,17 @@ use Rattle.co_object.specs.History.{IsLegal}
 use Rattle.co_object.specs.Journal.{IsLegalQueue}
 use Rattle.co_program.specs.declared.script.Script.{Script}
 use Rattle.co_program.specs.Action.{spec_at}
-use Rattle.co_program.specs.Actors.{actor_count}
+use Rattle.co_program.specs.Actors.{actor_count, all_actors}
 use Rattle.co_program.specs.Places.{place_exists}
 use Rattle.co_program.specs.Runs.{IsRunOf, actors_of, are_direct, notes_by, shown_histories}
 use Rattle.co_report.specs.declared.line.Line.{Line}
-use Rattle.co_check.specs.Astray.{by_actor, astray_of, is_unfinished, first_of, or_later, all_actors}
+use Rattle.co_check.specs.Astray.{by_actor, astray_of, is_unfinished, first_astray_of, or_later}
 use Rattle.co_check.specs.Laws.{AreLegal}
 use Rattle.co_check.specs.Lines.{AreLinesOf}
 use Rattle.co_check.specs.Numbers.{number_at, first_misnumbered}
 use Rattle.co_check.specs.Programs.{IsOfProgram}
 use Rattle.co_check.specs.Runs.{Show, RunsAreLegal}
-use Rattle.co_check.specs.Shown.{callout_entry, queue_entry, callout_history, cpu_journal}
+use Rattle.co_check.specs.Shown.{callout_entry_at, queue_entry_at, callout_history, cpu_journal}
 use Rattle.co_check.specs.Verdict.{unless_bad, unless_astray, verdict_at_end, verdict_by_numbers, verdict_by_programs}
 use Rattle.co_check.proofs.Counting.{none-bad}
 use Rattle.co_check.proofs.LegalHistories.{legal-fit}
@@ -41,7 +41,7 @@ lower m n h = grind (arith, nat_tests)
 apart-is : (m n : ℕ) → m < n → (m == n) ≡ false
 apart-is m n h = grind (arith, nat_tests)
 
-no-callout-there : (s : Script) (i : ℕ) (p : Place) (e : AnyEntry) → place_exists s p ≡ true → length s.timers ≤ i → callout_entry i p e ≡ None
+no-callout-there : (s : Script) (i : ℕ) (p : Place) (e : AnyEntry) → place_exists s p ≡ true → length s.timers ≤ i → callout_entry_at i p e ≡ None
 no-callout-there s i (place.Timer j) (of.Timer e) exists past = ap (λ b. cond {A = Option Entry} b (Some e) None) (apart-is j i (omega (arith, lower j (length s.timers) exists)))
 no-callout-there s i (place.Timer j) (of.Cpu e) exists past = refl
 no-callout-there s i (place.Timer j) (of.Own e) exists past = refl
@@ -52,7 +52,7 @@ no-callout-there s i (place.Actor j) (of.Timer e) exists past = refl
 no-callout-there s i (place.Actor j) (of.Cpu e) exists past = refl
 no-callout-there s i (place.Actor j) (of.Own e) exists past = refl
 
-no-queue-there : (s : Script) (i : ℕ) (p : Place) (e : AnyEntry) → place_exists s p ≡ true → s.cpus ≤ i → queue_entry i p e ≡ None
+no-queue-there : (s : Script) (i : ℕ) (p : Place) (e : AnyEntry) → place_exists s p ≡ true → s.cpus ≤ i → queue_entry_at i p e ≡ None
 no-queue-there s i (place.Cpu j) (of.Cpu e) exists past = ap (λ b. cond {A = Option QEntry} b (Some e) None) (apart-is j i (omega (arith, lower j s.cpus exists)))
 no-queue-there s i (place.Cpu j) (of.Timer e) exists past = refl
 no-queue-there s i (place.Cpu j) (of.Own e) exists past = refl
@@ -90,9 +90,9 @@ legal s lists lines run of_script show = record {
 
 -- ---- all actors
 
-none-of : (wrong : ℕ → Option ℕ) (from n : ℕ) → ((a : ℕ) → a < from + n → wrong a ≡ None) → first_of wrong (range_with_len from n) ≡ None
+none-of : (wrong : ℕ → Option ℕ) (from n : ℕ) → ((a : ℕ) → a < from + n → wrong a ≡ None) → first_astray_of wrong (range_with_len from n) ≡ None
 none-of wrong from zero fine = refl
-none-of wrong from (suc n) fine = ap (λ o. or_later o (first_of wrong (range_with_len (from + 1) n))) (fine from (omega arith)) ∙ none-of wrong (from + 1) n (λ a below. fine a (omega arith))
+none-of wrong from (suc n) fine = ap (λ o. or_later o (first_astray_of wrong (range_with_len (from + 1) n))) (fine from (omega arith)) ∙ none-of wrong (from + 1) n (λ a below. fine a (omega arith))
 
 no-any : (p : ℕ → Bool) (from n : ℕ) → ((a : ℕ) → a < from + n → p a ≡ false) → list_any p (range_with_len from n) ≡ false
 no-any p from zero fine = refl

@@ -13,9 +13,10 @@ use Rattle.co_program.specs.declared.Script.{Script}
 use Rattle.co_program.specs.Actors.{actor_count}
 use Rattle.co_program.specs.Places.{place_exists, HavePlaces, AllHavePlaces}
 use Rattle.co_report.specs.declared.line.Line.{Line}
-use Rattle.co_report.specs.Histories.{Numbered, numbered_from, all_numbered_of, Shown, shown_at, shown_history, Histories}
+use Rattle.co_report.specs.Histories.{Numbered, numbered_from, all_numbered_of, shown_at, shown_history, PlaceHistories}
+use Rattle.co_report.specs.declared.reading.notes.NumberedEntry.{NumberedEntry}
 use Rattle.co_report.specs.Reports.{places}
-use Rattle.co_report.specs.Laws.{note_lines, section_notes}
+use Rattle.co_report.specs.Laws.{note_lines, lines_of_places}
 use Rattle.co_check.specs.Runs.{lines_at, shown_line}
 
 map-append : {X Y : Type 0} (f : X → Y) (xs ys : List X) → map f (xs ++ ys) ≡ map f xs ++ map f ys
@@ -24,17 +25,17 @@ map-append f (x ∷ xs) ys = ap (λ rest. f x ∷ rest) (map-append f xs ys)
 
 -- ---- the lines of one place among those of several
 
-module _ (h : Histories) (p : Place) where
-  abbrev shown_in : List Line → List Shown
+module _ (h : PlaceHistories) (p : Place) where
+  abbrev shown_in : List Line → List NumberedEntry
   shown_in lines = map shown_line (lines_at p lines)
 
   -- what a place gives
-  abbrev part : Place → List Shown
+  abbrev part : Place → List NumberedEntry
   part q = cond (same_place q p) (h q) []
 
-  of_notes : (q : Place) (k : ℕ) (xs : List Shown) → shown_in (note_lines k q xs) ≡ cond (same_place q p) xs []
+  of_notes : (q : Place) (k : ℕ) (xs : List NumberedEntry) → shown_in (note_lines k q xs) ≡ cond (same_place q p) xs []
   of_notes q k [] = both (same_place q p) where
-    both : (b : Bool) → ◌≡◌ {A = List Shown} [] (cond b [] [])
+    both : (b : Bool) → ◌≡◌ {A = List NumberedEntry} [] (cond b [] [])
     both true = refl
     both false = refl
   of_notes q k (x ∷ xs) = go (same_place q p) (of_notes q (k + 1) xs) where
@@ -43,11 +44,11 @@ module _ (h : Histories) (p : Place) where
     go true rest = ap (λ ys. x ∷ ys) rest
     go false rest = rest
 
-  of_sections : (k : ℕ) (ps : List Place) → shown_in (section_notes h k ps) ≡ flat_map part ps
+  of_sections : (k : ℕ) (ps : List Place) → shown_in (lines_of_places h k ps) ≡ flat_map part ps
   of_sections k [] = refl
   of_sections k (q ∷ ps) =
       let here : List Line = note_lines (k + 1) q (h q) in
-      let rest : List Line = section_notes h (k + 1 + length (h q)) ps in
+      let rest : List Line = lines_of_places h (k + 1 + length (h q)) ps in
       ap (map shown_line) (filter-append (λ (l : Line). same_place l.place p) here rest)
       ∙ (map-append shown_line (lines_at p here) (lines_at p rest)
       ∙ (ap (λ xs. xs ++ shown_in rest) (of_notes q (k + 1) (h q))
@@ -56,17 +57,17 @@ module _ (h : Histories) (p : Place) where
   -- ---- places of one kind
 
   module _ (kind : ℕ → Place) where
-    abbrev parts_from : (from n : ℕ) → List Shown
+    abbrev parts_from : (from n : ℕ) → List NumberedEntry
     parts_from from n = flat_map part (map kind (range_with_len from n))
 
     -- of another kind than the place
     apart : ((k : ℕ) → same_place (kind k) p ≡ false) → (from n : ℕ) → parts_from from n ≡ []
     apart other from zero = refl
-    apart other from (suc n) = ap (λ b. cond {A = List Shown} b (h (kind from)) [] ++ parts_from (from + 1) n) (other from) ∙ apart other (from + 1) n
+    apart other from (suc n) = ap (λ b. cond {A = List NumberedEntry} b (h (kind from)) [] ++ parts_from (from + 1) n) (other from) ∙ apart other (from + 1) n
 
     module _ (i : ℕ) (alike : (k : ℕ) → same_place (kind k) p ≡ (k == i)) where
-      head_part : (from n : ℕ) (b : Bool) → (from == i) ≡ b → parts_from from (suc n) ≡ cond {A = List Shown} b (h (kind from)) [] ++ parts_from (from + 1) n
-      head_part from n b is = ap (λ c. cond {A = List Shown} c (h (kind from)) [] ++ parts_from (from + 1) n) (alike from ∙ is)
+      head_part : (from n : ℕ) (b : Bool) → (from == i) ≡ b → parts_from from (suc n) ≡ cond {A = List NumberedEntry} b (h (kind from)) [] ++ parts_from (from + 1) n
+      head_part from n b is = ap (λ c. cond {A = List NumberedEntry} c (h (kind from)) [] ++ parts_from (from + 1) n) (alike from ∙ is)
 
       differs : (m : ℕ) → m < i → (m == i) ≡ false
       differs m less = grind (arith, nat_tests)
@@ -134,14 +135,14 @@ module _ (s : Script) where
 
   -- ---- all places
 
-  module _ (h : Histories) (none : (p : Place) → place_exists s p ≡ false → h p ≡ []) where
-    abbrev timers_of : Place → List Shown
+  module _ (h : PlaceHistories) (none : (p : Place) → place_exists s p ≡ false → h p ≡ []) where
+    abbrev timers_of : Place → List NumberedEntry
     timers_of p = parts_from h p place.Timer 0 (length s.timers)
 
-    abbrev cpus_of : Place → List Shown
+    abbrev cpus_of : Place → List NumberedEntry
     cpus_of p = parts_from h p place.Cpu 0 s.cpus
 
-    abbrev actors_of : Place → List Shown
+    abbrev actors_of : Place → List NumberedEntry
     actors_of p = parts_from h p place.Actor 0 (actor_count s)
 
     whole : (p : Place) → flat_map (part h p) (places s) ≡ timers_of p ++ (cpus_of p ++ actors_of p)
@@ -173,5 +174,5 @@ module _ (s : Script) where
         ∙ (ap (λ xs. xs ++ actors_of p) (apart h p place.Cpu (λ k. refl) 0 s.cpus)
         ∙ own p place.Actor a (actor_count s) refl (λ k. refl) refl)
 
-    pub sections_show : (k : ℕ) (p : Place) → map shown_line (lines_at p (section_notes h k (places s))) ≡ h p
+    pub sections_show : (k : ℕ) (p : Place) → map shown_line (lines_at p (lines_of_places h k (places s))) ≡ h p
     sections_show k p = of_sections h p k (places s) ∙ (whole p ∙ gathered p)

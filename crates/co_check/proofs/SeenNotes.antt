@@ -21,13 +21,13 @@ use Rattle.co_program.specs.Follows.{Histories, listed_after, scans_before, scan
 use Rattle.co_program.specs.Runs.{shown_histories}
 use Rattle.co_report.specs.declared.line.Line.{Line}
 use Rattle.co_report.specs.Origins.{note_at}
-use Rattle.co_check.specs.Astray.{Seen, seen_at, seen_from, seen, note_of, notes_of}
-use Rattle.co_check.specs.Index.{slot_of}
+use Rattle.co_check.specs.Astray.{SeenLine, seen_at, seen_from, seen_lines, note_numbered, lines_numbered}
+use Rattle.co_check.specs.Index.{note_slot}
 use Rattle.co_check.specs.Lines.{AreLinesOf, IsOfKind}
-use Rattle.co_check.specs.Numbers.{count_of}
+use Rattle.co_check.specs.Numbers.{lines_made_by}
 use Rattle.co_check.specs.Programs.{IsSeenAs, AreSeenAs}
-use Rattle.co_check.specs.Runs.{Show, count_in}
-use Rattle.co_check.specs.Shown.{is_note, callout_entry, queue_entry, callout_history, cpu_journal, is_listed, scans_of}
+use Rattle.co_check.specs.Runs.{Show, lines_in}
+use Rattle.co_check.specs.Shown.{is_note, callout_entry_at, queue_entry_at, callout_history, cpu_journal, is_queued, scans_above}
 use Rattle.co_check.proofs.ByActor.{note-found}
 use Rattle.co_check.proofs.Counting.{none-any, index-is, count-enough}
 use Rattle.co_check.proofs.Along.{front}
@@ -52,7 +52,7 @@ kinds s lines zero h = tt
 kinds s [] (suc k) h = tt
 kinds s (l ∷ ls) (suc k) h = (h.0, kinds s ls k h.1)
 
-callout-one : (i : ℕ) (p : Place) (e : AnyEntry) (rest : List Entry) → IsOfKind p e → length (cons_option (callout_entry i p e) rest) ≡ cond (same_place p (place.Timer i)) 1 0 + length rest
+callout-one : (i : ℕ) (p : Place) (e : AnyEntry) (rest : List Entry) → IsOfKind p e → length (cons_option (callout_entry_at i p e) rest) ≡ cond (same_place p (place.Timer i)) 1 0 + length rest
 callout-one i (place.Timer j) (of.Timer e) rest kind = at_test (j == i) where
   at_test : (b : Bool) → length (cons_option (cond {A = Option Entry} b (Some e) None) rest) ≡ cond b 1 0 + length rest
   at_test true = omega arith
@@ -66,7 +66,7 @@ callout-one i (place.Cpu j) (of.Own e) rest kind = absurd kind
 callout-one i (place.Actor j) (of.Timer e) rest kind = absurd kind
 callout-one i (place.Actor j) (of.Cpu e) rest kind = absurd kind
 
-queue-one : (i : ℕ) (p : Place) (e : AnyEntry) (rest : List QEntry) → IsOfKind p e → length (cons_option (queue_entry i p e) rest) ≡ cond (same_place p (place.Cpu i)) 1 0 + length rest
+queue-one : (i : ℕ) (p : Place) (e : AnyEntry) (rest : List QEntry) → IsOfKind p e → length (cons_option (queue_entry_at i p e) rest) ≡ cond (same_place p (place.Cpu i)) 1 0 + length rest
 queue-one i (place.Cpu j) (of.Cpu e) rest kind = at_test (j == i) where
   at_test : (b : Bool) → length (cons_option (cond {A = Option QEntry} b (Some e) None) rest) ≡ cond b 1 0 + length rest
   at_test true = omega arith
@@ -93,14 +93,14 @@ callout-front : (s : Script) (i : ℕ) (lines : List Line) (k : ℕ) → AreLine
 callout-front s i lines k h =
     ap (λ n. take n (callout_history i lines)) (sym (callout-count s i (take k lines) (kinds s lines k h)))
     ∙ (ap (λ (ls : List Line). take (length (callout_history i (take k lines))) (callout_history i ls)) (sym (split lines k))
-    ∙ (ap (take (length (callout_history i (take k lines)))) (filter_map-append (λ (l : Line). callout_entry i l.place l.entry) (take k lines) (drop k lines))
+    ∙ (ap (take (length (callout_history i (take k lines)))) (filter_map-append (λ (l : Line). callout_entry_at i l.place l.entry) (take k lines) (drop k lines))
     ∙ take-front (callout_history i (take k lines)) (callout_history i (drop k lines))))
 
 queue-front : (s : Script) (i : ℕ) (lines : List Line) (k : ℕ) → AreLinesOf s lines → take (passing (λ l. same_place l.place (place.Cpu i)) (take k lines)) (cpu_journal i lines) ≡ cpu_journal i (take k lines)
 queue-front s i lines k h =
     ap (λ n. take n (cpu_journal i lines)) (sym (queue-count s i (take k lines) (kinds s lines k h)))
     ∙ (ap (λ (ls : List Line). take (length (cpu_journal i (take k lines))) (cpu_journal i ls)) (sym (split lines k))
-    ∙ (ap (take (length (cpu_journal i (take k lines)))) (filter_map-append (λ (l : Line). queue_entry i l.place l.entry) (take k lines) (drop k lines))
+    ∙ (ap (take (length (cpu_journal i (take k lines)))) (filter_map-append (λ (l : Line). queue_entry_at i l.place l.entry) (take k lines) (drop k lines))
     ∙ take-front (cpu_journal i (take k lines)) (cpu_journal i (drop k lines))))
 
 seen-get : (s : Script) (above lines : List Line) (j : ℕ) (l : Line) → slice_get lines j ≡ Some l → slice_get (seen_from s above lines) j ≡ Some (seen_at s (above ++ take j lines) l)
@@ -115,7 +115,7 @@ module _ (s : Script) (lists : List (List Note)) (lines : List Line) (formed : I
   abbrev H : Histories
   H = shown_histories lists
 
-  listed-is : (j : ℕ) (l : Line) (p : Place) (pos : ℕ) → slice_get lines j ≡ Some l → l.place ≡ p → same_place p p ≡ true → count_in p (take j lines) ≡ pos → is_listed s (take j lines ++ l ∷ []) p ≡ listed_after s H p pos
+  listed-is : (j : ℕ) (l : Line) (p : Place) (pos : ℕ) → slice_get lines j ≡ Some l → l.place ≡ p → same_place p p ≡ true → lines_in p (take j lines) ≡ pos → is_queued s (take j lines ++ l ∷ []) p ≡ listed_after s H p pos
   listed-is j l (place.Timer i) pos at is here count =
       let up : passing (λ x. same_place x.place (place.Timer i)) (take (j + 1) lines) ≡ pos + 1 =
       ap (passing (λ x. same_place x.place (place.Timer i))) (front lines j l at)
@@ -129,7 +129,7 @@ module _ (s : Script) (lists : List (List Note)) (lines : List Line) (formed : I
   listed-is j l (place.Cpu i) pos at is here count = refl
   listed-is j l (place.Actor i) pos at is here count = refl
 
-  scans-is : (j : ℕ) (p : Place) (pos : ℕ) → count_in p (take j lines) ≡ pos → scans_of (take j lines) p ≡ scans_before H p pos
+  scans-is : (j : ℕ) (p : Place) (pos : ℕ) → lines_in p (take j lines) ≡ pos → scans_above (take j lines) p ≡ scans_before H p pos
   scans-is j (place.Timer i) pos count = refl
   scans-is j (place.Cpu i) pos count =
       ap scan_count (sym (queue-front s i lines j of_script)
@@ -137,13 +137,13 @@ module _ (s : Script) (lists : List (List Note)) (lines : List Line) (formed : I
   scans-is j (place.Actor i) pos count = refl
 
   -- the note of a number is seen
-  seen-note : (a k : ℕ) (n : Note) → note_at lists a k ≡ Some n → (x : Seen) × (note_of (seen s lines) a k ≡ Some x) × IsSeenAs s H n x
+  seen-note : (a k : ℕ) (n : Note) → note_at lists a k ≡ Some n → (x : SeenLine) × (note_numbered (seen_lines s lines) a k ≡ Some x) × IsSeenAs s H n x
   seen-note a k n h =
       let r = show.each_note a k n h in
       let is = is-note lists lines formed show r.0 a k r.1 n r.2 in
-      let slot : slot_of lines a k ≡ Some r.0 = index-is (is_note a k) 0 lines r.0 r.1 r.2.at is (first-one lists lines formed show r.0 a k r.1 r.2.at is) ∙ ap Some (omega arith) in (
+      let slot : note_slot lines a k ≡ Some r.0 = index-is (is_note a k) 0 lines r.0 r.1 r.2.at is (first-one lists lines formed show r.0 a k r.1 r.2.at is) ∙ ap Some (omega arith) in (
         seen_at s (take r.0 lines) r.1,
-        sym (note-found s lines a k) ∙ (ap (option_and_then (slice_get (seen s lines))) slot ∙ seen-get s [] lines r.0 r.1 r.2.at),
+        sym (note-found s lines a k) ∙ (ap (option_and_then (slice_get (seen_lines s lines))) slot ∙ seen-get s [] lines r.0 r.1 r.2.at),
         record {
           place = r.2.place;
           entry = r.2.entry;
@@ -153,37 +153,37 @@ module _ (s : Script) (lists : List (List Note)) (lines : List Line) (formed : I
       )
 
   -- no other number is
-  no-note : (a k : ℕ) → note_at lists a k ≡ None → note_of (seen s lines) a k ≡ None
+  no-note : (a k : ℕ) → note_at lists a k ≡ None → note_numbered (seen_lines s lines) a k ≡ None
   no-note a k none =
       sym (note-found s lines a k)
-      ∙ ap (option_and_then (slice_get (seen s lines)))
-      (nothing (slot_of lines a k) (sym (any-index (is_note a k) 0 lines)
+      ∙ ap (option_and_then (slice_get (seen_lines s lines)))
+      (nothing (note_slot lines a k) (sym (any-index (is_note a k) 0 lines)
       ∙ none-any (is_note a k) lines (λ i x at h. (let r = shows lists lines formed show i a k x at h in let bad : Some r.0 ≡ None = sym r.1 ∙ none in cc)))) where
         nothing : (o : Option ℕ) → is_some o ≡ false → o ≡ None
         nothing None h = refl
         nothing (Some i) h = cc
 
-  nothing-more : (a from c : ℕ) → ((k : ℕ) → from ≤ k → note_of (seen s lines) a k ≡ None) → filter_map (note_of (seen s lines) a) (range_with_len from c) ≡ []
+  nothing-more : (a from c : ℕ) → ((k : ℕ) → from ≤ k → note_numbered (seen_lines s lines) a k ≡ None) → filter_map (note_numbered (seen_lines s lines) a) (range_with_len from c) ≡ []
   nothing-more a from zero none = refl
   nothing-more a from (suc c) none =
-      ap (λ o. cons_option o (filter_map (note_of (seen s lines) a) (range_with_len (from + 1) c))) (none from (omega arith)) ∙ nothing-more a (from + 1) c (λ k le. none k (omega arith))
+      ap (λ o. cons_option o (filter_map (note_numbered (seen_lines s lines) a) (range_with_len (from + 1) c))) (none from (omega arith)) ∙ nothing-more a (from + 1) c (λ k le. none k (omega arith))
 
   collect : (a from c : ℕ) (notes : List Note) → length notes ≤ c → ((k : ℕ) (n : Note) → slice_get notes k ≡ Some n → note_at lists a (from + k) ≡ Some n) → ((k : ℕ) → from + length notes ≤ k → note_at lists a k ≡ None)
-      → AreSeenAs s H notes (filter_map (note_of (seen s lines) a) (range_with_len from c))
+      → AreSeenAs s H notes (filter_map (note_numbered (seen_lines s lines) a) (range_with_len from c))
   collect a from c [] few each none = subst (AreSeenAs s H []) (sym (nothing-more a from c (λ k le. no-note a k (none k (omega arith))))) tt
   collect a from zero (n ∷ ns) few each none = absurd (omega arith)
   collect a from (suc c) (n ∷ ns) few each none =
       let r = seen-note a from n (ap (note_at lists a) (start from) ∙ each zero n refl) in
       let rest = collect a (from + 1) c ns (omega arith) (λ k m at. ap (note_at lists a) (shifted from k) ∙ each (suc k) m at) (λ k le. none k (omega arith)) in
-      subst (λ o. AreSeenAs s H (n ∷ ns) (cons_option o (filter_map (note_of (seen s lines) a) (range_with_len (from + 1) c)))) (sym r.1) (r.2, rest) where
+      subst (λ o. AreSeenAs s H (n ∷ ns) (cons_option o (filter_map (note_numbered (seen_lines s lines) a) (range_with_len (from + 1) c)))) (sym r.1) (r.2, rest) where
         start : (m : ℕ) → m ≡ m + zero
         start m = omega arith
 
         shifted : (m k : ℕ) → m + 1 + k ≡ m + suc k
         shifted m k = omega arith
 
-  pub actor-seen : (a : ℕ) (notes : List Note) → slice_get lists a ≡ Some notes → AreSeenAs s H notes (notes_of (seen s lines) a (count_of a lines))
-  actor-seen a notes is = collect a 0 (count_of a lines) notes
+  pub actor-seen : (a : ℕ) (notes : List Note) → slice_get lists a ≡ Some notes → AreSeenAs s H notes (lines_numbered (seen_lines s lines) a (lines_made_by a lines))
+  actor-seen a notes is = collect a 0 (lines_made_by a lines) notes
       (count-enough lines a (length notes) (λ k below. (let n = some_note notes k below in stands lists lines formed show a k n.0 (ap (option_and_then (λ (ns : List Note). slice_get ns k)) is ∙ n.1))))
       (λ k n at. ap (note_at lists a) (start k) ∙ (ap (option_and_then (λ (ns : List Note). slice_get ns k)) is ∙ at))
       (λ k le. ap (option_and_then (λ (ns : List Note). slice_get ns k)) is ∙ slice_get_past notes k (omega arith)) where

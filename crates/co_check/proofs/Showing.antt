@@ -9,9 +9,9 @@ use Rattle.co_object.specs.declared.Place.TheVariants as place
 use Rattle.co_object.specs.Lists.{same_place, notes_of, IsRising, IsWellFormed}
 use Rattle.co_report.specs.declared.line.Line.{Line}
 use Rattle.co_report.specs.Origins.{note_at}
-use Rattle.co_check.specs.Numbers.{count_of, is_beyond, is_taken, falls, number_at}
-use Rattle.co_check.specs.Runs.{Show, IsLineOfNote, count_in}
-use Rattle.co_check.specs.Shown.{actor_of, is_note, is_of}
+use Rattle.co_check.specs.Numbers.{lines_made_by, is_beyond, is_taken, falls, number_at}
+use Rattle.co_check.specs.Runs.{Show, IsLineOfNote, lines_in}
+use Rattle.co_check.specs.Shown.{actor_of, is_note, is_in_place_by}
 use Rattle.co_check.proofs.Counting.{any-at, none-any, take-get, count-rises, count-enough}
 use Rattle.co_check.proofs.Numbered.{all-fine, le-false}
 use Rattle.co_check.proofs.Taking.{some-is}
@@ -107,7 +107,7 @@ module _ (lists : List (List Note)) (lines : List Line) (formed : IsWellFormed l
   stands a k n h = let r = show.each_note a k n h in any-at (is_note a k) lines r.0 r.1 r.2.at (is-note r.0 a k r.1 n r.2)
 
   -- a line by its actor and number
-  pub shows : (i a k : ℕ) (x : Line) → slice_get lines i ≡ Some x → is_note a k x ≡ true → (n : Note) × (note_at lists a k ≡ Some n) × (x.place ≡ n.place) × (count_in x.place (take i lines) ≡ n.pos)
+  pub shows : (i a k : ℕ) (x : Line) → slice_get lines i ≡ Some x → is_note a k x ≡ true → (n : Note) × (note_at lists a k ≡ Some n) × (x.place ≡ n.place) × (lines_in x.place (take i lines) ≡ n.pos)
   shows i a k x at h =
       let r = show.each_line i x at in
       let by : actor_of x.entry ≡ a = equal (actor_of x.entry) a (first (actor_of x.entry == a) (x.number == k) h) in
@@ -120,7 +120,7 @@ module _ (lists : List (List Note)) (lines : List Line) (formed : IsWellFormed l
       let rx = shows i a k x at_i hx in let ry = shows j a k y at_j hy in
       let same : rx.0 ≡ ry.0 = some-is rx.0 ry.0 (sym rx.1 ∙ ry.1) in
       let place : y.place ≡ x.place = ry.2 ∙ (ap (λ (n : Note). n.place) (sym same) ∙ sym rx.2) in
-      let pos : count_in x.place (take j lines) ≡ rx.0.pos = ap (λ p. count_in p (take j lines)) (sym place) ∙ (ry.3 ∙ ap (λ (n : Note). n.pos) (sym same)) in
+      let pos : lines_in x.place (take j lines) ≡ rx.0.pos = ap (λ p. lines_in p (take j lines)) (sym place) ∙ (ry.3 ∙ ap (λ (n : Note). n.pos) (sym same)) in
       let less = count-rises (λ l. same_place l.place x.place) lines i j x at_i (same-itself x.place) below in
       absurd (omega (arith, less, pos, rx.3))
 
@@ -130,13 +130,13 @@ module _ (lists : List (List Note)) (lines : List Line) (formed : IsWellFormed l
   own : (l : Line) → is_note (actor_of l.entry) l.number l ≡ true
   own l = all (actor_of l.entry == actor_of l.entry) (l.number == l.number) (itself (actor_of l.entry)) (itself l.number)
 
-  enough : (j : ℕ) (l : Line) → slice_get lines j ≡ Some l → l.number < count_of (actor_of l.entry) lines
+  enough : (j : ℕ) (l : Line) → slice_get lines j ≡ Some l → l.number < lines_made_by (actor_of l.entry) lines
   enough j l at =
       let r = show.each_line j l at in
       let count = count-enough lines (actor_of l.entry) (l.number + 1) (λ k below. (let e = earlier-in (slice_get lists (actor_of l.entry)) k l.number r.0 r.1 (omega arith) in stands (actor_of l.entry) k e.0 e.1)) in
       omega (arith, count)
 
-  lower : (j : ℕ) (l : Line) → slice_get lines j ≡ Some l → (i : ℕ) (x : Line) → slice_get lines i ≡ Some x → i < j → is_of (actor_of l.entry) l.place x ≡ true → l.number < x.number → ⊥
+  lower : (j : ℕ) (l : Line) → slice_get lines j ≡ Some l → (i : ℕ) (x : Line) → slice_get lines i ≡ Some x → i < j → is_in_place_by (actor_of l.entry) l.place x ≡ true → l.number < x.number → ⊥
   lower j l at i x at_i below here less =
       let by : actor_of x.entry ≡ actor_of l.entry = equal (actor_of x.entry) (actor_of l.entry) (first (actor_of x.entry == actor_of l.entry) (same_place x.place l.place) here) in
       let place : x.place ≡ l.place = same-equal x.place l.place (second (actor_of x.entry == actor_of l.entry) (same_place x.place l.place) here) in
@@ -145,7 +145,7 @@ module _ (lists : List (List Note)) (lines : List Line) (formed : IsWellFormed l
       let places : rl.0.place ≡ rx.0.place = sym rl.2.place ∙ (sym place ∙ rx.2.place) in
       let rise = in-list-order lists (actor_of l.entry) l.number x.number rl.0 rx.0 formed rl.1 x_at less (ap (λ p. same_place p rx.0.place) places ∙ same-itself rx.0.place) (same-itself rx.0.place) in
       let up = count-rises (λ y. same_place y.place l.place) lines i j x at_i (ap (λ p. same_place p l.place) place ∙ same-itself l.place) below in
-      let x_pos : count_in l.place (take i lines) ≡ rx.0.pos = ap (λ p. count_in p (take i lines)) (sym place) ∙ rx.2.pos in
+      let x_pos : lines_in l.place (take i lines) ≡ rx.0.pos = ap (λ p. lines_in p (take i lines)) (sym place) ∙ rx.2.pos in
       absurd (omega (arith, rise, up, x_pos, rl.2.pos))
 
   lt-true : (m n : ℕ) → nat_lt m n ≡ true → m < n
@@ -153,8 +153,8 @@ module _ (lists : List (List Note)) (lines : List Line) (formed : IsWellFormed l
 
   pub number-fine : (j : ℕ) (l : Line) → slice_get lines j ≡ Some l → number_at lines (take j lines) l ≡ None
   number-fine j l at = all-fine (is_beyond lines l) (is_taken (take j lines) l) (falls (take j lines) l)
-      (le-false (count_of (actor_of l.entry) lines) l.number (enough j l at))
+      (le-false (lines_made_by (actor_of l.entry) lines) l.number (enough j l at))
       (first-one j (actor_of l.entry) l.number l at (own l))
-      (none-any (λ x. is_of (actor_of l.entry) l.place x && nat_lt l.number x.number) (take j lines)
+      (none-any (λ x. is_in_place_by (actor_of l.entry) l.place x && nat_lt l.number x.number) (take j lines)
       (λ i x there h. (let r = take-get j lines i x there in
-      lower j l at i x r.1 r.0 (first (is_of (actor_of l.entry) l.place x) (nat_lt l.number x.number) h) (lt-true l.number x.number (second (is_of (actor_of l.entry) l.place x) (nat_lt l.number x.number) h)))))
+      lower j l at i x r.1 r.0 (first (is_in_place_by (actor_of l.entry) l.place x) (nat_lt l.number x.number) h) (lt-true l.number x.number (second (is_in_place_by (actor_of l.entry) l.place x) (nat_lt l.number x.number) h)))))

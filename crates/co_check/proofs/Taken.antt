@@ -23,12 +23,12 @@ use Rattle.co_report.specs.declared.line.Line.{Line}
 use Rattle.co_check.specs.Facts.{Fact}
 use Rattle.co_check.specs.declared.replay.Replay.{Replay}
 use Rattle.co_check.specs.declared.verdict.Unfit.{Unfit}
-use Rattle.co_check.specs.Cpu.{IsFor, IsOutcome}
+use Rattle.co_check.specs.Cpu.{ShowsQueue, IsOutcome}
 use Rattle.co_check.specs.Lines.{lines_max}
-use Rattle.co_check.specs.Replay.{callout_unfit, queue_unfit, queue_after, unfit_at, unless, is_answer, may_work}
+use Rattle.co_check.specs.Replay.{callout_unfit, queue_unfit, queue_after, unfit_at, unfit_unless, is_answer, may_work}
 use Rattle.co_check.specs.Same.{same_answer}
-use Rattle.co_check.specs.Replayed.{IsAfter, IsCpuAfter, IsCalloutTaken, IsQueueTaken, IsTaken, alone_after}
-use Rattle.co_check.specs.Shown.{callout_entry, queue_entry, cpu_journal, is_listed, scans_of}
+use Rattle.co_check.specs.Replayed.{IsAfter, IsCpuAfter, IsCalloutTaken, IsQueueTaken, IsLineTaken, alone_after}
+use Rattle.co_check.specs.Shown.{callout_entry_at, queue_entry_at, cpu_journal, is_queued, scans_above}
 use Rattle.co_check.proofs.Taking.{get-set-same, some-is, after-callout, after-queue, after-other}
 
 abbrev fact : Bool → ℕ → Fact
@@ -45,11 +45,11 @@ refused-callout s above l i e r before after cause p q h at is = unfit-callout s
 
 pub taken-callout : (s : Script) (above : List Line) (l : Line) (i : ℕ) (e : Entry) (r : Replay) (before after : Alone) (listed : Bool) → l.place ≡ place.Timer i → l.entry ≡ of.Timer e → IsAfter s above r
     → slice_get r.callouts.items i ≡ Some before → IsCalloutTaken (actors_of s) before e (Ok listed) after
-    → (f : Fact) → f ≡ fact listed 0 → (new : Replay) → new.callouts.items ≡ set r.callouts.items i after → new.cpus.items ≡ r.cpus.items → new.scans.items ≡ r.scans.items → IsTaken s above l (Ok f) new
+    → (f : Fact) → f ≡ fact listed 0 → (new : Replay) → new.callouts.items ≡ set r.callouts.items i after → new.cpus.items ≡ r.cpus.items → new.scans.items ≡ r.scans.items → IsLineTaken s above l (Ok f) new
 taken-callout s above l i e r before after listed p q h at is f f_is new callouts cpus scans = (
   unfit-callout s above l i e before p q (h.callout i before at) ∙ is.0,
   then,
-  f_is ∙ (ap (λ b. fact b 0) (is.2 ∙ (ap (λ (x : Alone). is_some (off x.state)) now ∙ ap (is_listed s (above ++ l ∷ [])) (sym p))) ∙ ap (fact (is_listed s (above ++ l ∷ []) l.place)) (ap (scans_of above) (sym p))),
+  f_is ∙ (ap (λ b. fact b 0) (is.2 ∙ (ap (λ (x : Alone). is_some (off x.state)) now ∙ ap (is_queued s (above ++ l ∷ [])) (sym p))) ∙ ap (fact (is_queued s (above ++ l ∷ []) l.place)) (ap (scans_above above) (sym p))),
 )
   where
     then : IsAfter s (above ++ l ∷ []) new
@@ -72,22 +72,22 @@ refused-queue s above l cpu e r before after cause p q h at is = unfit-queue s a
 pub taken-queue : (s : Script) (above : List Line) (l : Line) (cpu : ℕ) (e : QEntry) (r : Replay) (before after : CpuQueue) (scans : ℕ) → l.place ≡ place.Cpu cpu → l.entry ≡ of.Cpu e → IsAfter s above r → cpu < s.cpus
     → slice_get r.cpus.items cpu ≡ Some before → after.queue.size ≡ before.queue.size → after.queue.buckets ≡ before.queue.buckets → after.queue.direct ≡ before.queue.direct
     → IsQueueTaken (actors_of s) cpu before.queue.buckets before.queue.direct (queue_after s above cpu) e (Ok tt) after → scans ≡ get_or r.scans.items cpu 0
-    → (f : Fact) → f ≡ fact false scans → (new : Replay) → new.cpus.items ≡ set r.cpus.items cpu after → new.callouts.items ≡ r.callouts.items → new.scans.items ≡ set r.scans.items cpu (scans + one_scan e.op) → IsTaken s above l (Ok f) new
+    → (f : Fact) → f ≡ fact false scans → (new : Replay) → new.cpus.items ≡ set r.cpus.items cpu after → new.callouts.items ≡ r.callouts.items → new.scans.items ≡ set r.scans.items cpu (scans + one_scan e.op) → IsLineTaken s above l (Ok f) new
 taken-queue s above l cpu e r before after scans p q h below at size buckets direct is count f f_is new cpus callouts scans_are = (
   unfit-queue s above l cpu e before p q (h.cpu cpu before at) ∙ is.0,
   after-queue s above l cpu e r before after scans p q h below at size buckets direct is.1 count new cpus callouts scans_are,
-  f_is ∙ (ap (fact false) (count ∙ (h.scans cpu below ∙ ap (scans_of above) (sym p))) ∙ ap (λ b. fact b (scans_of above l.place)) (ap (is_listed s (above ++ l ∷ [])) (sym p))),
+  f_is ∙ (ap (fact false) (count ∙ (h.scans cpu below ∙ ap (scans_above above) (sym p))) ∙ ap (λ b. fact b (scans_above above l.place)) (ap (is_queued s (above ++ l ∷ [])) (sym p))),
 )
 
 -- ---- a note of an actor's own
 
 module _ (a : ℕ) where
-  no_callout-own : (j : ℕ) (e : AnyEntry) → callout_entry j (place.Actor a) e ≡ None
+  no_callout-own : (j : ℕ) (e : AnyEntry) → callout_entry_at j (place.Actor a) e ≡ None
   no_callout-own j (of.Timer x) = refl
   no_callout-own j (of.Cpu x) = refl
   no_callout-own j (of.Own x) = refl
 
-  no_queue-own : (j : ℕ) (e : AnyEntry) → queue_entry j (place.Actor a) e ≡ None
+  no_queue-own : (j : ℕ) (e : AnyEntry) → queue_entry_at j (place.Actor a) e ≡ None
   no_queue-own j (of.Timer x) = refl
   no_queue-own j (of.Cpu x) = refl
   no_queue-own j (of.Own x) = refl
@@ -97,21 +97,21 @@ module _ (a : ℕ) where
   fit-own s above (of.Cpu x) = refl
   fit-own s above (of.Own x) = refl
 
-pub taken-own : (s : Script) (above : List Line) (l : Line) (a : ℕ) (r : Replay) → l.place ≡ place.Actor a → IsAfter s above r → (f : Fact) → f ≡ fact false 0 → IsTaken s above l (Ok f) r
+pub taken-own : (s : Script) (above : List Line) (l : Line) (a : ℕ) (r : Replay) → l.place ≡ place.Actor a → IsAfter s above r → (f : Fact) → f ≡ fact false 0 → IsLineTaken s above l (Ok f) r
 taken-own s above l a r p h f f_is = (
   ap (λ x. unfit_at s above x l.entry) p ∙ fit-own a s above l.entry,
-  after-other s above l r (λ i. ap (λ x. callout_entry i x l.entry) p ∙ no_callout-own a i l.entry) (λ cpu. ap (λ x. queue_entry cpu x l.entry) p ∙ no_queue-own a cpu l.entry) h,
-  f_is ∙ (ap (λ b. fact b 0) (ap (is_listed s (above ++ l ∷ [])) (sym p)) ∙ ap (fact (is_listed s (above ++ l ∷ []) l.place)) (ap (scans_of above) (sym p))),
+  after-other s above l r (λ i. ap (λ x. callout_entry_at i x l.entry) p ∙ no_callout-own a i l.entry) (λ cpu. ap (λ x. queue_entry_at cpu x l.entry) p ∙ no_queue-own a cpu l.entry) h,
+  f_is ∙ (ap (λ b. fact b 0) (ap (is_queued s (above ++ l ∷ [])) (sym p)) ∙ ap (fact (is_queued s (above ++ l ∷ []) l.place)) (ap (scans_above above) (sym p))),
 )
 
 -- ---- a CPU's queue
 
 took : (o : Option (Queue × QReply)) (may : Bool) (reply given : QReply) (q : Queue) (after : CpuQueue) → may ≡ true → IsOutcome o (Some reply) after → same_answer reply given ≡ true
-    → (unless may (is_answer (journal.reply_of o) given) ≡ None) × IsFor (journal.queue_of o q) after
+    → (unfit_unless may (is_answer (journal.reply_of o) given) ≡ None) × ShowsQueue (journal.queue_of o q) after
 took None may reply given q after ok is same = cc
 took (Some x) may reply given q after ok is same =
     let answered : same_answer x.1 given ≡ true = ap (λ r. same_answer r given) (some-is x.1 reply (sym is.0)) ∙ same in
-    (ap (λ b. unless b (same_answer x.1 given)) ok ∙ ap (unless true) answered, is.1)
+    (ap (λ b. unfit_unless b (same_answer x.1 given)) ok ∙ ap (unfit_unless true) answered, is.1)
 
 -- the queue's reply is the one given
 pub queue-took : (actors : Actors) (cpu m : ℕ) (direct : List Bool) (q : Queue) (e : QEntry) (reply : QReply) (after : CpuQueue) → may_work actors cpu e.actor e.op ≡ true
@@ -131,7 +131,7 @@ one_scan-few FreeDirect = omega arith
 
 scans-few : (cpu : ℕ) (above : List Line) → scan_count (cpu_journal cpu above) ≤ length above
 scans-few cpu [] = omega arith
-scans-few cpu (l ∷ ls) = at_entry (queue_entry cpu l.place l.entry) (scans-few cpu ls) where
+scans-few cpu (l ∷ ls) = at_entry (queue_entry_at cpu l.place l.entry) (scans-few cpu ls) where
   at_entry : (o : Option QEntry) → scan_count (cpu_journal cpu ls) ≤ length ls → scan_count (cons_option o (cpu_journal cpu ls)) ≤ suc (length ls)
   at_entry None rest = omega (arith, rest)
   at_entry (Some e) rest = omega (arith, rest, one_scan-few e.op)

@@ -25,10 +25,10 @@ use Rattle.co_program.specs.Runs.{are_direct}
 use Rattle.co_check.specs.declared.cpu.CpuQueue.{CpuQueue}
 use Rattle.co_report.specs.declared.line.Line.{Line}
 use Rattle.co_check.specs.declared.replay.Replay.{Replay}
-use Rattle.co_check.specs.Cpu.{IsFor}
+use Rattle.co_check.specs.Cpu.{ShowsQueue}
 use Rattle.co_check.specs.Replay.{state_after, queue_after}
 use Rattle.co_check.specs.Replayed.{IsAfter, IsCpuAfter, alone_after}
-use Rattle.co_check.specs.Shown.{callout_entry, queue_entry, callout_history, cpu_journal}
+use Rattle.co_check.specs.Shown.{callout_entry_at, queue_entry_at, callout_history, cpu_journal}
 
 -- ---- an array with one item set
 
@@ -49,63 +49,63 @@ some-is x y h = cc
 
 -- ---- one line more
 
-callout-more : (i : ℕ) (above : List Line) (l : Line) → callout_history i (above ++ l ∷ []) ≡ callout_history i above ++ cons_option (callout_entry i l.place l.entry) []
-callout-more i above l = filter_map-append (λ (x : Line). callout_entry i x.place x.entry) above (l ∷ [])
+callout-more : (i : ℕ) (above : List Line) (l : Line) → callout_history i (above ++ l ∷ []) ≡ callout_history i above ++ cons_option (callout_entry_at i l.place l.entry) []
+callout-more i above l = filter_map-append (λ (x : Line). callout_entry_at i x.place x.entry) above (l ∷ [])
 
-journal-more : (cpu : ℕ) (above : List Line) (l : Line) → cpu_journal cpu (above ++ l ∷ []) ≡ cpu_journal cpu above ++ cons_option (queue_entry cpu l.place l.entry) []
-journal-more cpu above l = filter_map-append (λ (x : Line). queue_entry cpu x.place x.entry) above (l ∷ [])
+journal-more : (cpu : ℕ) (above : List Line) (l : Line) → cpu_journal cpu (above ++ l ∷ []) ≡ cpu_journal cpu above ++ cons_option (queue_entry_at cpu l.place l.entry) []
+journal-more cpu above l = filter_map-append (λ (x : Line). queue_entry_at cpu x.place x.entry) above (l ∷ [])
 
 append-none : {X : Type 0} (xs ys : List X) → ys ≡ xs ++ [] → ys ≡ xs
 append-none [] ys h = h
 append-none (x ∷ xs) ys h = h ∙ ap (λ zs. x ∷ zs) (append-none xs (xs ++ []) refl)
 
 -- a line that is no entry of this callout, or of this CPU
-pub callout-unmoved : (i : ℕ) (above : List Line) (l : Line) → callout_entry i l.place l.entry ≡ None → callout_history i (above ++ l ∷ []) ≡ callout_history i above
+pub callout-unmoved : (i : ℕ) (above : List Line) (l : Line) → callout_entry_at i l.place l.entry ≡ None → callout_history i (above ++ l ∷ []) ≡ callout_history i above
 callout-unmoved i above l none = append-none _ _ (callout-more i above l ∙ ap (λ o. callout_history i above ++ cons_option o []) none)
 
-pub journal-unmoved : (cpu : ℕ) (above : List Line) (l : Line) → queue_entry cpu l.place l.entry ≡ None → cpu_journal cpu (above ++ l ∷ []) ≡ cpu_journal cpu above
+pub journal-unmoved : (cpu : ℕ) (above : List Line) (l : Line) → queue_entry_at cpu l.place l.entry ≡ None → cpu_journal cpu (above ++ l ∷ []) ≡ cpu_journal cpu above
 journal-unmoved cpu above l none = append-none _ _ (journal-more cpu above l ∙ ap (λ o. cpu_journal cpu above ++ cons_option o []) none)
 
-pub callout-grows : (i : ℕ) (above : List Line) (l : Line) (e : Entry) → callout_entry i l.place l.entry ≡ Some e → callout_history i (above ++ l ∷ []) ≡ callout_history i above ++ e ∷ []
+pub callout-grows : (i : ℕ) (above : List Line) (l : Line) (e : Entry) → callout_entry_at i l.place l.entry ≡ Some e → callout_history i (above ++ l ∷ []) ≡ callout_history i above ++ e ∷ []
 callout-grows i above l e some = callout-more i above l ∙ ap (λ o. callout_history i above ++ cons_option o []) some
 
-pub journal-grows : (cpu : ℕ) (above : List Line) (l : Line) (e : QEntry) → queue_entry cpu l.place l.entry ≡ Some e → cpu_journal cpu (above ++ l ∷ []) ≡ cpu_journal cpu above ++ e ∷ []
+pub journal-grows : (cpu : ℕ) (above : List Line) (l : Line) (e : QEntry) → queue_entry_at cpu l.place l.entry ≡ Some e → cpu_journal cpu (above ++ l ∷ []) ≡ cpu_journal cpu above ++ e ∷ []
 journal-grows cpu above l e some = journal-more cpu above l ∙ ap (λ o. cpu_journal cpu above ++ cons_option o []) some
 
 -- whose entry it is
 abbrev some_if : {X : Type 0} → Bool → X → Option X
 some_if b x = cond {A = Option _} b (Some x) None
 
-pub own-callout : (i : ℕ) (l : Line) (e : Entry) → l.place ≡ place.Timer i → l.entry ≡ of.Timer e → callout_entry i l.place l.entry ≡ Some e
-own-callout i l e p q = ap (λ x. callout_entry i x l.entry) p ∙ (ap (callout_entry i (place.Timer i)) q ∙ itself i e) where
+pub own-callout : (i : ℕ) (l : Line) (e : Entry) → l.place ≡ place.Timer i → l.entry ≡ of.Timer e → callout_entry_at i l.place l.entry ≡ Some e
+own-callout i l e p q = ap (λ x. callout_entry_at i x l.entry) p ∙ (ap (callout_entry_at i (place.Timer i)) q ∙ itself i e) where
   itself : (i : ℕ) (e : Entry) → cond {A = Option Entry} (i == i) (Some e) None ≡ Some e
   itself i e = grind (arith, nat_tests)
 
-pub other-callout : (i j : ℕ) (l : Line) (e : Entry) → l.place ≡ place.Timer i → l.entry ≡ of.Timer e → j ≢ i → callout_entry j l.place l.entry ≡ None
-other-callout i j l e p q apart = ap (λ x. callout_entry j x l.entry) p ∙ (ap (callout_entry j (place.Timer i)) q ∙ another i j e apart) where
+pub other-callout : (i j : ℕ) (l : Line) (e : Entry) → l.place ≡ place.Timer i → l.entry ≡ of.Timer e → j ≢ i → callout_entry_at j l.place l.entry ≡ None
+other-callout i j l e p q apart = ap (λ x. callout_entry_at j x l.entry) p ∙ (ap (callout_entry_at j (place.Timer i)) q ∙ another i j e apart) where
   another : (i j : ℕ) (e : Entry) → j ≢ i → cond {A = Option Entry} (i == j) (Some e) None ≡ None
   another i j e apart = grind (arith, nat_tests)
 
-pub no-callout : (j cpu : ℕ) (l : Line) → l.place ≡ place.Cpu cpu → callout_entry j l.place l.entry ≡ None
-no-callout j cpu l p = ap (λ x. callout_entry j x l.entry) p ∙ none l.entry where
-  none : (e : AnyEntry) → callout_entry j (place.Cpu cpu) e ≡ None
+pub no-callout : (j cpu : ℕ) (l : Line) → l.place ≡ place.Cpu cpu → callout_entry_at j l.place l.entry ≡ None
+no-callout j cpu l p = ap (λ x. callout_entry_at j x l.entry) p ∙ none l.entry where
+  none : (e : AnyEntry) → callout_entry_at j (place.Cpu cpu) e ≡ None
   none (of.Timer e) = refl
   none (of.Cpu e) = refl
   none (of.Own e) = refl
 
-pub own-queue : (cpu : ℕ) (l : Line) (e : QEntry) → l.place ≡ place.Cpu cpu → l.entry ≡ of.Cpu e → queue_entry cpu l.place l.entry ≡ Some e
-own-queue cpu l e p q = ap (λ x. queue_entry cpu x l.entry) p ∙ (ap (queue_entry cpu (place.Cpu cpu)) q ∙ itself cpu e) where
+pub own-queue : (cpu : ℕ) (l : Line) (e : QEntry) → l.place ≡ place.Cpu cpu → l.entry ≡ of.Cpu e → queue_entry_at cpu l.place l.entry ≡ Some e
+own-queue cpu l e p q = ap (λ x. queue_entry_at cpu x l.entry) p ∙ (ap (queue_entry_at cpu (place.Cpu cpu)) q ∙ itself cpu e) where
   itself : (i : ℕ) (e : QEntry) → cond {A = Option QEntry} (i == i) (Some e) None ≡ Some e
   itself i e = grind (arith, nat_tests)
 
-pub other-queue : (cpu j : ℕ) (l : Line) (e : QEntry) → l.place ≡ place.Cpu cpu → l.entry ≡ of.Cpu e → j ≢ cpu → queue_entry j l.place l.entry ≡ None
-other-queue cpu j l e p q apart = ap (λ x. queue_entry j x l.entry) p ∙ (ap (queue_entry j (place.Cpu cpu)) q ∙ another cpu j e apart) where
+pub other-queue : (cpu j : ℕ) (l : Line) (e : QEntry) → l.place ≡ place.Cpu cpu → l.entry ≡ of.Cpu e → j ≢ cpu → queue_entry_at j l.place l.entry ≡ None
+other-queue cpu j l e p q apart = ap (λ x. queue_entry_at j x l.entry) p ∙ (ap (queue_entry_at j (place.Cpu cpu)) q ∙ another cpu j e apart) where
   another : (i j : ℕ) (e : QEntry) → j ≢ i → cond {A = Option QEntry} (i == j) (Some e) None ≡ None
   another i j e apart = grind (arith, nat_tests)
 
-pub no-queue : (j i : ℕ) (l : Line) → l.place ≡ place.Timer i → queue_entry j l.place l.entry ≡ None
-no-queue j i l p = ap (λ x. queue_entry j x l.entry) p ∙ none l.entry where
-  none : (e : AnyEntry) → queue_entry j (place.Timer i) e ≡ None
+pub no-queue : (j i : ℕ) (l : Line) → l.place ≡ place.Timer i → queue_entry_at j l.place l.entry ≡ None
+no-queue j i l p = ap (λ x. queue_entry_at j x l.entry) p ∙ none l.entry where
+  none : (e : AnyEntry) → queue_entry_at j (place.Timer i) e ≡ None
   none (of.Timer e) = refl
   none (of.Cpu e) = refl
   none (of.Own e) = refl
@@ -117,7 +117,7 @@ pub state-moved : (s : Script) (above : List Line) (l : Line) (i : ℕ) (e : Ent
 state-moved s above l i e p q =
     ap (state (spec_at s i)) (callout-grows i above l e (own-callout i l e p q)) ∙ state-snoc (next (spec_at s i)) (λ a b. Unit {0}) (opening 0) (callout_history i above) e
 
-pub state-unmoved : (s : Script) (above : List Line) (l : Line) (i : ℕ) → callout_entry i l.place l.entry ≡ None → state_after s (above ++ l ∷ []) i ≡ state_after s above i
+pub state-unmoved : (s : Script) (above : List Line) (l : Line) (i : ℕ) → callout_entry_at i l.place l.entry ≡ None → state_after s (above ++ l ∷ []) i ≡ state_after s above i
 state-unmoved s above l i none = ap (state (spec_at s i)) (callout-unmoved i above l none)
 
 pub queue-moved : (s : Script) (above : List Line) (l : Line) (cpu : ℕ) (e : QEntry) → l.place ≡ place.Cpu cpu → l.entry ≡ of.Cpu e →
@@ -125,7 +125,7 @@ pub queue-moved : (s : Script) (above : List Line) (l : Line) (cpu : ℕ) (e : Q
 queue-moved s above l cpu e p q =
     ap (journal.queue s.buckets (are_direct s)) (journal-grows cpu above l e (own-queue cpu l e p q)) ∙ state-snoc (journal.next s.buckets (are_direct s)) (λ a b. Unit {0}) empty_queue (cpu_journal cpu above) e
 
-pub queue-unmoved : (s : Script) (above : List Line) (l : Line) (cpu : ℕ) → queue_entry cpu l.place l.entry ≡ None → queue_after s (above ++ l ∷ []) cpu ≡ queue_after s above cpu
+pub queue-unmoved : (s : Script) (above : List Line) (l : Line) (cpu : ℕ) → queue_entry_at cpu l.place l.entry ≡ None → queue_after s (above ++ l ∷ []) cpu ≡ queue_after s above cpu
 queue-unmoved s above l cpu none = ap (journal.queue s.buckets (are_direct s)) (journal-unmoved cpu above l none)
 
 scan_count-snoc : (J : List QEntry) (e : QEntry) → scan_count (J ++ e ∷ []) ≡ scan_count J + one_scan e.op
@@ -138,15 +138,15 @@ scans-moved above l cpu e p q = ap scan_count (journal-grows cpu above l e (own-
 
 -- ---- what the code keeps
 
-kept-cpu : (s : Script) (above : List Line) (l : Line) (cpu : ℕ) (kept : CpuQueue) → queue_entry cpu l.place l.entry ≡ None → IsCpuAfter s above cpu kept → IsCpuAfter s (above ++ l ∷ []) cpu kept
+kept-cpu : (s : Script) (above : List Line) (l : Line) (cpu : ℕ) (kept : CpuQueue) → queue_entry_at cpu l.place l.entry ≡ None → IsCpuAfter s above cpu kept → IsCpuAfter s (above ++ l ∷ []) cpu kept
 kept-cpu s above l cpu kept none h = record {
   size = h.size;
   buckets = h.buckets;
   direct = h.direct;
-  queue = subst (λ (q : Queue). IsFor q kept) (sym (queue-unmoved s above l cpu none)) h.queue;
+  queue = subst (λ (q : Queue). ShowsQueue q kept) (sym (queue-unmoved s above l cpu none)) h.queue;
 }
 
-kept-alone : (s : Script) (above : List Line) (l : Line) (i : ℕ) (alone : Alone) → callout_entry i l.place l.entry ≡ None → alone ≡ alone_after s above i → alone ≡ alone_after s (above ++ l ∷ []) i
+kept-alone : (s : Script) (above : List Line) (l : Line) (i : ℕ) (alone : Alone) → callout_entry_at i l.place l.entry ≡ None → alone ≡ alone_after s above i → alone ≡ alone_after s (above ++ l ∷ []) i
 kept-alone s above l i alone none h = h ∙ ap (λ (x : State). record { spec = spec_at s i; state = x }) (sym (state-unmoved s above l i none))
 
 -- an entry of a callout
@@ -182,7 +182,7 @@ after-callout s above l i e r before after callouts p q h at is set_is new new_i
 -- an entry of a CPU's journal
 pub after-queue : (s : Script) (above : List Line) (l : Line) (cpu : ℕ) (e : QEntry) (r : Replay) (before after : CpuQueue) (scans : ℕ) → l.place ≡ place.Cpu cpu → l.entry ≡ of.Cpu e → IsAfter s above r → cpu < s.cpus
     → slice_get r.cpus.items cpu ≡ Some before → after.queue.size ≡ before.queue.size → after.queue.buckets ≡ before.queue.buckets → after.queue.direct ≡ before.queue.direct
-    → IsFor (journal.next before.queue.buckets before.queue.direct (queue_after s above cpu) e) after → scans ≡ get_or r.scans.items cpu 0
+    → ShowsQueue (journal.next before.queue.buckets before.queue.direct (queue_after s above cpu) e) after → scans ≡ get_or r.scans.items cpu 0
     → (new : Replay) → new.cpus.items ≡ set r.cpus.items cpu after → new.callouts.items ≡ r.callouts.items → new.scans.items ≡ set r.scans.items cpu (scans + one_scan e.op) → IsAfter s (above ++ l ∷ []) new
 after-queue s above l cpu e r before after scans p q h below at size buckets direct for count new cpus_are callouts_are scans_are = record {
   callouts = ap length callouts_are ∙ h.callouts;
@@ -207,7 +207,7 @@ after-queue s above l cpu e r before after scans p q h below at size buckets dir
       size = size ∙ was.size;
       buckets = buckets ∙ was.buckets;
       direct = direct ∙ was.direct;
-      queue = subst (λ (x : Queue). IsFor x after)
+      queue = subst (λ (x : Queue). ShowsQueue x after)
           (ap (λ m. journal.next m before.queue.direct (queue_after s above cpu) e) was.buckets
           ∙ (ap (λ d. journal.next s.buckets d (queue_after s above cpu) e) was.direct ∙ sym (queue-moved s above l cpu e p q))) for;
     }
@@ -228,7 +228,7 @@ after-queue s above l cpu e r before after scans p q h below at size buckets dir
         ∙ (sym (scans-moved above l cpu e p q) ∙ ap (λ x. scan_count (cpu_journal x (above ++ l ∷ []))) (sym same))))
 
 -- an entry of no callout and no CPU
-pub after-other : (s : Script) (above : List Line) (l : Line) (r : Replay) → ((i : ℕ) → callout_entry i l.place l.entry ≡ None) → ((cpu : ℕ) → queue_entry cpu l.place l.entry ≡ None) → IsAfter s above r → IsAfter s (above ++ l ∷ []) r
+pub after-other : (s : Script) (above : List Line) (l : Line) (r : Replay) → ((i : ℕ) → callout_entry_at i l.place l.entry ≡ None) → ((cpu : ℕ) → queue_entry_at cpu l.place l.entry ≡ None) → IsAfter s above r → IsAfter s (above ++ l ∷ []) r
 after-other s above l r no_call no_queue h = record {
   callouts = h.callouts;
   cpus = h.cpus;

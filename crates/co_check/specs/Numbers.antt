@@ -5,20 +5,20 @@ use Rattle.co_report.specs.declared.line.Line.{Line}
 use Rattle.co_check.specs.declared.verdict.Unfit.{Unfit}
 use Rattle.co_check.specs.declared.verdict.Unfit.TheVariants.{Number}
 use Rattle.co_check.specs.Replay.{Bad, first_bad}
-use Rattle.co_check.specs.Shown.{actor_of, is_by, is_note, is_of}
+use Rattle.co_check.specs.Shown.{actor_of, is_by, is_note, is_in_place_by}
 
 -- how many of these lines the actor made
-abbrev pub count_of : ℕ → List Line → ℕ
-count_of a lines = count_by (is_by a) lines
+abbrev pub lines_made_by : ℕ → List Line → ℕ
+lines_made_by a lines = count_by (is_by a) lines
 
 -- so many of them each of these actors made
-pub record AreCounts (actors : ℕ) (lines : List Line) (counts : List ℕ) : Type 0 where
+pub record AreActorCounts (actors : ℕ) (lines : List Line) (counts : List ℕ) : Type 0 where
   pub long : length counts ≡ actors
-  pub each : (a : ℕ) → a < actors → slice_index counts a ≡ count_of a lines
+  pub each : (a : ℕ) → a < actors → slice_index counts a ≡ lines_made_by a lines
 
 -- there are not so many
 abbrev pub is_beyond : List Line → Line → Bool
-is_beyond lines l = nat_le (count_of (actor_of l.entry) lines) l.number
+is_beyond lines l = nat_le (lines_made_by (actor_of l.entry) lines) l.number
 
 -- another note has it
 abbrev pub is_taken : List Line → Line → Bool
@@ -26,7 +26,7 @@ is_taken above l = list_any (is_note (actor_of l.entry) l.number) above
 
 -- another note of the place has a higher one
 abbrev pub falls : List Line → Line → Bool
-falls above l = list_any (λ x. is_of (actor_of l.entry) l.place x && nat_lt l.number x.number) above
+falls above l = list_any (λ x. is_in_place_by (actor_of l.entry) l.place x && nat_lt l.number x.number) above
 
 -- what is wrong with the number of a line among all lines, after those above
 abbrev pub number_at : List Line → List Line → Line → Option Unfit

@@ -55,17 +55,17 @@ abbrev pub is_answer : Option QReply → QReply → Bool
 is_answer None given = false
 is_answer (Some reply) given = same_answer reply given
 
-abbrev pub unless : (actor legal : Bool) → Option Unfit
-unless false legal = Some Actor
-unless true false = Some Illegal
-unless true true = None
+abbrev pub unfit_unless : (actor legal : Bool) → Option Unfit
+unfit_unless false legal = Some Actor
+unfit_unless true false = Some Illegal
+unfit_unless true true = None
 
 -- what is wrong with an entry of a callout in this state, and of a CPU with this queue
 abbrev pub callout_unfit : Actors → Spec → State → Entry → Option Unfit
-callout_unfit actors spec at e = unless (may_serve actors spec e.actor e.op) (is_reply (reply_of (step spec at e.op)) e.reply)
+callout_unfit actors spec at e = unfit_unless (may_serve actors spec e.actor e.op) (is_reply (reply_of (step spec at e.op)) e.reply)
 
 abbrev pub queue_unfit : Actors → (cpu m : ℕ) → List Bool → Queue → QEntry → Option Unfit
-queue_unfit actors cpu m direct q e = unless (may_work actors cpu e.actor e.op) (is_answer (journal.reply_of (journal.step m direct q e.op)) e.reply)
+queue_unfit actors cpu m direct q e = unfit_unless (may_work actors cpu e.actor e.op) (is_answer (journal.reply_of (journal.step m direct q e.op)) e.reply)
 
 -- the state of callout i, and the queue of a CPU, after these lines
 abbrev pub state_after : Script → List Line → ℕ → State

@@ -22,9 +22,9 @@ use Rattle.co_check.specs.declared.replay.Replay.{Replay}
 use Rattle.co_check.specs.declared.replay.Replayed.{Replayed}
 use Rattle.co_check.specs.declared.replay.Replayed.TheVariants.{Fits, Bad as BadLine}
 use Rattle.co_check.specs.declared.verdict.Unfit.{Unfit}
-use Rattle.co_check.specs.Astray.{Seen, seen_at, seen}
-use Rattle.co_check.specs.Cpu.{IsFor}
-use Rattle.co_check.specs.Numbers.{AreCounts}
+use Rattle.co_check.specs.Astray.{SeenLine, seen_at, seen_lines}
+use Rattle.co_check.specs.Cpu.{ShowsQueue}
+use Rattle.co_check.specs.Numbers.{AreActorCounts}
 use Rattle.co_check.specs.Replay.{callout_unfit, queue_unfit, state_after, queue_after, unfit_at, first_unfit}
 use Rattle.co_check.specs.Shown.{cpu_journal}
 
@@ -38,7 +38,7 @@ IsCalloutTaken actors before e (Err cause) after = callout_unfit actors before.s
 
 -- the same of a CPU's queue, which stands for this plain one
 abbrev pub IsQueueTaken : Actors → (cpu m : ℕ) → List Bool → Queue → QEntry → Result (Unit {0}) Unfit → CpuQueue → Type 0
-IsQueueTaken actors cpu m direct q e (Ok done) after = (queue_unfit actors cpu m direct q e ≡ None) × IsFor (journal.next m direct q e) after
+IsQueueTaken actors cpu m direct q e (Ok done) after = (queue_unfit actors cpu m direct q e ≡ None) × ShowsQueue (journal.next m direct q e) after
 IsQueueTaken actors cpu m direct q e (Err cause) after = queue_unfit actors cpu m direct q e ≡ Some cause
 
 -- ---- all lines
@@ -51,7 +51,7 @@ pub record IsCpuAfter (s : Script) (above : List Line) (cpu : ℕ) (kept : CpuQu
   pub size : kept.queue.size ≡ length s.timers
   pub buckets : kept.queue.buckets ≡ s.buckets
   pub direct : kept.queue.direct ≡ are_direct s
-  pub queue : IsFor (queue_after s above cpu) kept
+  pub queue : ShowsQueue (queue_after s above cpu) kept
 
 pub record IsAfter (s : Script) (above : List Line) (r : Replay) : Type 0 where
   pub callouts : length r.callouts.items ≡ length s.timers
@@ -61,13 +61,13 @@ pub record IsAfter (s : Script) (above : List Line) (r : Replay) : Type 0 where
   pub cpu : (cpu : ℕ) (kept : CpuQueue) → slice_get r.cpus.items cpu ≡ Some kept → IsCpuAfter s above cpu kept
   pub scans : (cpu : ℕ) → cpu < s.cpus → slice_index r.scans.items cpu ≡ scan_count (cpu_journal cpu above)
 
-abbrev pub fact_of : Seen → Fact
+abbrev pub fact_of : SeenLine → Fact
 fact_of x = record { listed = x.listed; scans = x.scans }
 
 -- the line is taken, and what the lines of its place say of it; or what is wrong with it
-abbrev pub IsTaken : Script → List Line → Line → Result Fact Unfit → Replay → Type 0
-IsTaken s above l (Ok fact) after = (unfit_at s above l.place l.entry ≡ None) × IsAfter s (above ++ l ∷ []) after × (fact ≡ fact_of (seen_at s above l))
-IsTaken s above l (Err cause) after = unfit_at s above l.place l.entry ≡ Some cause
+abbrev pub IsLineTaken : Script → List Line → Line → Result Fact Unfit → Replay → Type 0
+IsLineTaken s above l (Ok fact) after = (unfit_at s above l.place l.entry ≡ None) × IsAfter s (above ++ l ∷ []) after × (fact ≡ fact_of (seen_at s above l))
+IsLineTaken s above l (Err cause) after = unfit_at s above l.place l.entry ≡ Some cause
 
 -- a callout as it is made
 abbrev pub opened : Spec → Alone
@@ -75,5 +75,5 @@ opened spec = record { spec = spec; state = opening 0 }
 
 -- no line is unfit, and this is said of each of them and of their counts; or the first that is
 abbrev pub IsReplayed : Script → List Line → Replayed → Type 0
-IsReplayed s lines (Fits facts counts) = (first_unfit s lines ≡ None) × (facts.items ≡ map fact_of (seen s lines)) × AreCounts (actor_count s) lines counts.items
+IsReplayed s lines (Fits facts counts) = (first_unfit s lines ≡ None) × (facts.items ≡ map fact_of (seen_lines s lines)) × AreActorCounts (actor_count s) lines counts.items
 IsReplayed s lines (BadLine line cause) = first_unfit s lines ≡ Some (record { line = line; cause = cause })

@@ -9,7 +9,8 @@ use Rattle.co_program.specs.declared.script.Script.{Script}
 use Rattle.co_program.specs.Runs.{IsRunOf}
 use Rattle.co_script.specs.Fits.{fits}
 use Rattle.co_report.specs.declared.line.Line.{Line}
-use Rattle.co_report.specs.Histories.{Shown, shown_history}
+use Rattle.co_report.specs.Histories.{shown_history}
+use Rattle.co_report.specs.declared.reading.notes.NumberedEntry.{NumberedEntry}
 use Rattle.co_report.specs.Laws.{report_of_histories}
 use Rattle.co_report.specs.Origins.{note_at}
 use Rattle.co_report.specs.Reading.{report_read}
@@ -21,8 +22,8 @@ use Rattle.co_check.specs.Shown.{actor_of, callout_history, cpu_journal}
 use Rattle.co_check.specs.Verdict.{verdict, verdict_of}
 
 -- how many of these lines stand in a place
-abbrev pub count_in : Place → List Line → ℕ
-count_in p lines = count_by (λ l. same_place l.place p) lines
+abbrev pub lines_in : Place → List Line → ℕ
+lines_in p lines = count_by (λ l. same_place l.place p) lines
 
 -- the line shows the note of this number of the actor, below as many of its place as the note's position says
 pub record IsLineOfNote (lines : List Line) (j a number : ℕ) (l : Line) (note : Note) : Type 0 where
@@ -31,7 +32,7 @@ pub record IsLineOfNote (lines : List Line) (j a number : ℕ) (l : Line) (note 
   pub number_is : l.number ≡ number
   pub place : l.place ≡ note.place
   pub entry : l.entry ≡ note.entry
-  pub pos : count_in l.place (take j lines) ≡ note.pos
+  pub pos : lines_in l.place (take j lines) ≡ note.pos
 
 -- each place's lines are its history, each line shows a note, and each note has a line
 pub record Show (lists : List (List Note)) (lines : List Line) : Type 0 where
@@ -50,7 +51,7 @@ abbrev pub lines_at : Place → List Line → List Line
 lines_at p lines = filter (λ l. same_place l.place p) lines
 
 -- what a line shows
-abbrev pub shown_line : Line → Shown
+abbrev pub shown_line : Line → NumberedEntry
 shown_line l = record { number = l.number; entry = l.entry }
 
 -- where the lines of each place are its shown history, they are legal

@@ -10,7 +10,8 @@ use Rattle.co_check.specs.declared.verdict.Verdict.{Verdict}
 use Rattle.co_check.specs.declared.verdict.Verdict.TheVariants.{Legal, Not}
 use Rattle.co_check.specs.Replay.{Bad, first_unfit}
 use Rattle.co_check.specs.Numbers.{first_misnumbered}
-use Rattle.co_check.specs.Astray.{astray_of, is_unfinished, first_of, all_actors}
+use Rattle.co_check.specs.Astray.{astray_of, is_unfinished, first_astray_of}
+use Rattle.co_program.specs.Actors.{all_actors}
 
 -- nobody's program goes on, or the report ends too early
 abbrev pub verdict_at_end : Bool → ℕ → Verdict
@@ -28,7 +29,7 @@ unless_bad None later = later
 -- the verdict by the actors' programs
 abbrev pub verdict_by_programs : Script → List Line → ℕ → Verdict
 verdict_by_programs s lines end =
-    unless_astray (first_of (astray_of s lines) (all_actors s))
+    unless_astray (first_astray_of (astray_of s lines) (all_actors s))
     (verdict_at_end (list_any (is_unfinished s lines) (all_actors s)) end)
 
 -- by the numbers before that

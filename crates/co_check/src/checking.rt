@@ -2,10 +2,10 @@
 ghost use Rattle.std.specs.Prelude.{◌≡◌, ◌≤◌, ◌||◌, not, length, map, IfOk};
 ghost use Rattle.co_program.specs.Actors.{actor_count};
 ghost use Rattle.co_program.specs.Scripts.{IsScript};
-ghost use Rattle.co_check.specs.Astray.{seen};
+ghost use Rattle.co_check.specs.Astray.{seen_lines};
 ghost use Rattle.co_check.specs.Index.{IsIndexed};
 ghost use Rattle.co_check.specs.Lines.{AreLinesOf, IsReport, lines_max};
-ghost use Rattle.co_check.specs.Numbers.{AreCounts};
+ghost use Rattle.co_check.specs.Numbers.{AreActorCounts};
 ghost use Rattle.co_check.specs.Replayed.{fact_of};
 ghost use Rattle.co_check.specs.Verdict.{verdict, verdict_at_end, verdict_by_numbers, verdict_by_programs, verdict_of};
 
@@ -75,8 +75,8 @@ fn check_numbers(
     requires script { IsScript script.now }
     requires lines { AreLinesOf script.now lines.now }
     requires few { length lines.now ≤ lines_max }
-    requires facts { facts.now ≡ map fact_of (seen script.now lines.now) }
-    requires counts { AreCounts (actor_count script.now) lines.now counts.now }
+    requires facts { facts.now ≡ map fact_of (seen_lines script.now lines.now) }
+    requires counts { AreActorCounts (actor_count script.now) lines.now counts.now }
     ensures { IfOk result (λ found. found ≡ verdict_by_numbers script.now lines.now end) }
 {
     match index_all(alloc, script, lines, counts)? {
@@ -98,7 +98,7 @@ fn check_programs(
 ) -> Verdict
     requires script { IsScript script.now }
     requires few { length lines.now ≤ lines_max }
-    requires facts { facts.now ≡ map fact_of (seen script.now lines.now) }
+    requires facts { facts.now ≡ map fact_of (seen_lines script.now lines.now) }
     requires index { IsIndexed script.now lines.now lines.now index.now }
     ensures { result ≡ verdict_by_programs script.now lines.now end }
 {

@@ -8,9 +8,9 @@ ghost use Rattle.co_program.specs.Scripts.{IsScript};
 ghost use Rattle.co_report.specs.Order.{place_index, place_count};
 ghost use Rattle.co_report.specs.declared.line.Line.{Line};
 ghost use Rattle.co_report.specs.PackedLines.{line_of};
-ghost use Rattle.co_check.specs.Index.{AreIndexed, AreSlots, IsIndexed, IsNumbered, IsPut, IsRaised};
+ghost use Rattle.co_check.specs.Index.{AreNotesIndexed, AreActorSlots, IsIndexed, IsNumbered, IsLinePut, IsRaised};
 ghost use Rattle.co_check.specs.Lines.{AreLinesOf, IsLineOf, lines_max};
-ghost use Rattle.co_check.specs.Numbers.{AreCounts};
+ghost use Rattle.co_check.specs.Numbers.{AreActorCounts};
 ghost use Rattle.co_check.specs.Shown.{actor_of};
 
 use crate::pass::next_head;
@@ -48,10 +48,10 @@ pub(crate) fn index_all(
     counts: &[u32],
 ) -> Result<Indexed, NoMemory>
     requires script { IsScript script.now }
-    requires counts { AreCounts (actor_count script.now) lines.now counts.now }
+    requires counts { AreActorCounts (actor_count script.now) lines.now counts.now }
     requires lines { AreLinesOf script.now lines.now }
     requires few { length lines.now ≤ lines_max }
-    ensures { IfOk result (AreIndexed script.now lines.now) }
+    ensures { IfOk result (AreNotesIndexed script.now lines.now) }
 {
     let mut index = Index::open(alloc, script, counts)?;
     let mut notes = lines.notes();
@@ -70,7 +70,7 @@ impl Index {
     /// Which line has the actor's note of each number.
     pub(crate) fn row(&self, actor: u32) -> &[Slot]
         requires { actor < length self.now.slots.items }
-        ensures { (s : Script) (lines : List Line) (above : List Line) → IsIndexed s lines above self.now → AreSlots lines above actor result.now }
+        ensures { (s : Script) (lines : List Line) (above : List Line) → IsIndexed s lines above self.now → AreActorSlots lines above actor result.now }
     {
         let row = &self.slots[actor as usize];
         row.as_slice()
@@ -79,7 +79,7 @@ impl Index {
     /// Before the first line, with room for as many notes as these of each actor.
     fn open(alloc: Global, script: &Script, counts: &[u32]) -> Result<Index, NoMemory>
         requires { IsScript script.now }
-        ensures { IfOk result (λ index. (lines : List Line) → AreCounts (actor_count script.now) lines counts.now → IsIndexed script.now lines [] index) }
+        ensures { IfOk result (λ index. (lines : List Line) → AreActorCounts (actor_count script.now) lines counts.now → IsIndexed script.now lines [] index) }
     {
         let slots = rows_of(alloc, counts, Slot::free())?;
         let widths = Seq::filled(alloc, place_count(script), actor_count(script))?;
@@ -114,8 +114,8 @@ impl Index {
 /// Counts a note, for the actor that made it.
 pub(crate) fn count_note(counts: &mut Vec<u32>, note: &Note)
     requires actor { actor_of note.now.entry < length counts.old.items }
-    requires counted { (above : List Line) × AreCounts (length counts.old.items) above counts.old.items × (length above < lines_max) }
-    ensures { (actors : ℕ) (line : ℕ) (above : List Line) → AreCounts actors above counts.old.items → AreCounts actors (above ++ line_of line note.now ∷ []) counts.new.items }
+    requires counted { (above : List Line) × AreActorCounts (length counts.old.items) above counts.old.items × (length above < lines_max) }
+    ensures { (actors : ℕ) (line : ℕ) (above : List Line) → AreActorCounts actors above counts.old.items → AreActorCounts actors (above ++ line_of line note.now ∷ []) counts.new.items }
 {
     let actor = note.entry.actor() as usize;
     counts[actor] += 1;
@@ -136,7 +136,7 @@ fn rows_of<T: Copy + Drop>(alloc: Global, lengths: &[u32], item: T) -> Result<Ve
 /// Puts a line where its number belongs, if nothing is there yet.
 fn put(row: &mut Vec<Slot>, number: u64, line: u32) -> bool
     requires { line < lines_max }
-    ensures { IsPut row.old.items number line result row.new.items }
+    ensures { IsLinePut row.old.items number line result row.new.items }
 {
     let Some(slot) = row.get(number as usize) else {
         return false;

@@ -8,9 +8,9 @@ ghost use Rattle.co_program.specs.Runs.{actors_of, are_direct};
 ghost use Rattle.co_program.specs.Scripts.{IsScript};
 ghost use Rattle.co_report.specs.declared.line.Line.{Line};
 ghost use Rattle.co_report.specs.PackedLines.{line_of};
-ghost use Rattle.co_check.specs.Cpu.{IsFor, NamesCallout, empty_cpu};
+ghost use Rattle.co_check.specs.Cpu.{ShowsQueue, NamesCallout, empty_cpu};
 ghost use Rattle.co_check.specs.Lines.{AreLinesOf, IsLineOf, lines_max};
-ghost use Rattle.co_check.specs.Replayed.{IsAfter, IsCalloutTaken, IsQueueTaken, IsReplayed, IsTaken, opened};
+ghost use Rattle.co_check.specs.Replayed.{IsAfter, IsCalloutTaken, IsQueueTaken, IsReplayed, IsLineTaken, opened};
 
 use crate::actors::{may_serve, may_work};
 use crate::cpu::CpuQueue;
@@ -124,7 +124,7 @@ impl Replay {
         requires script { IsScript script.now }
         requires line { IsLineOf script.now (line_of 0 note.now) }
         requires after { (above : List Line) × IsAfter script.now above self.old × (length above < lines_max) }
-        ensures { (line : ℕ) (above : List Line) → IsAfter script.now above self.old → IsTaken script.now above (line_of line note.now) result self.new }
+        ensures { (line : ℕ) (above : List Line) → IsAfter script.now above self.old → IsLineTaken script.now above (line_of line note.now) result self.new }
     {
         let nothing = PackedFact::new(false, 0);
         match (note.place, &note.entry) {
@@ -138,7 +138,7 @@ impl Replay {
     fn take_timer(&mut self, script: &Script, i: u32, entry: &Entry) -> Result<PackedFact, Unfit>
         requires few { length script.now.clients ≤ 16 }
         requires i { i < length self.old.callouts.items }
-        ensures { (above : List Line) (l : Line) → l.place ≡ places.Timer i → l.entry ≡ of.Timer entry.now → IsAfter script.now above self.old → IsTaken script.now above l result self.new }
+        ensures { (above : List Line) (l : Line) → l.place ≡ places.Timer i → l.entry ≡ of.Timer entry.now → IsAfter script.now above self.old → IsLineTaken script.now above l result self.new }
     {
         let callout = &mut self.callouts[i as usize];
         match take_callout(script, callout, entry) {
@@ -153,7 +153,7 @@ impl Replay {
         requires cpu { cpu < script.now.cpus }
         requires names { NamesCallout (length script.now.timers) entry.now.op }
         requires after { (above : List Line) × IsAfter script.now above self.old × (length above < lines_max) }
-        ensures { (above : List Line) (l : Line) → l.place ≡ places.Cpu cpu → l.entry ≡ of.Cpu entry.now → IsAfter script.now above self.old → IsTaken script.now above l result self.new }
+        ensures { (above : List Line) (l : Line) → l.place ≡ places.Cpu cpu → l.entry ≡ of.Cpu entry.now → IsAfter script.now above self.old → IsLineTaken script.now above l result self.new }
     {
         let queue = &mut self.cpus[cpu as usize];
         match take_queue(script, cpu, queue, entry) {
@@ -224,7 +224,7 @@ fn take_queue(script: &Script, cpu: u32, queue: &mut CpuQueue, entry: &QEntry) -
     ensures size { queue.new.queue.size ≡ queue.old.queue.size }
     ensures buckets { queue.new.queue.buckets ≡ queue.old.queue.buckets }
     ensures direct { queue.new.queue.direct ≡ queue.old.queue.direct }
-    ensures taken { (q : Queue) → IsFor q queue.old → IsQueueTaken (actors_of script.now) cpu queue.old.queue.buckets queue.old.queue.direct q entry.now result queue.new }
+    ensures taken { (q : Queue) → ShowsQueue q queue.old → IsQueueTaken (actors_of script.now) cpu queue.old.queue.buckets queue.old.queue.direct q entry.now result queue.new }
 {
     if !may_work(script, cpu, entry.actor, &entry.op) {
         return Err(Unfit::Actor);

@@ -2,12 +2,12 @@
 ghost use Rattle.std.specs.Prelude.{◌≡◌, ℕ, ◌<◌, ◌≤◌, ◌-◌, Bool, true, drop, length, map, slice_get};
 ghost use Rattle.co_program.specs.Actors.{acts_at, program_of, role_of};
 ghost use Rattle.co_program.specs.Action.{action_for};
-ghost use Rattle.co_program.specs.Follows.{settled};
-ghost use Rattle.co_program.specs.Indexed.{Counts, IsCounted, cursor_of};
+ghost use Rattle.co_program.specs.Follows.{at_next_note};
+ghost use Rattle.co_program.specs.Indexed.{ActsAreCounted, IsCounted, cursor_of};
 ghost use Rattle.co_program.specs.Scripts.{IsScript};
 ghost use Rattle.co_report.specs.PackedLines.{line_of};
 ghost use Rattle.co_check.specs.Asking.{is_nothing};
-ghost use Rattle.co_check.specs.Astray.{is_next, seen};
+ghost use Rattle.co_check.specs.Astray.{is_next_note, seen_lines};
 ghost use Rattle.co_check.specs.Lines.{lines_max};
 ghost use Rattle.co_check.specs.Replayed.{fact_of};
 ghost use Rattle.co_check.specs.Walked.{IsActionAt, IsNoteWalked, IsQuietStep, IsWalked, by_row};
@@ -42,8 +42,8 @@ pub(crate) fn walk(
     requires script { IsScript script.now }
     requires row { (k i : ℕ) → slice_get row.now k ≡ Some (Some i) → i < length lines.now }
     requires few { length row.now ≤ lines_max }
-    requires facts { facts.now ≡ map fact_of (seen script.now lines.now) }
-    ensures { IsWalked script.now actor (by_row (seen script.now lines.now) row.now) result }
+    requires facts { facts.now ≡ map fact_of (seen_lines script.now lines.now) }
+    ensures { IsWalked script.now actor (by_row (seen_lines script.now lines.now) row.now) result }
 {
     let mut cursor = Cursor::start();
     for slot in row {
@@ -69,7 +69,7 @@ fn walk_note(
     requires script { IsScript script.now }
     requires counted { IsCounted cursor.old lines_max }
     ensures note { (line : ℕ) → IsNoteWalked script.now actor cursor.old (record { line = line_of line note.now; listed = fact.now.listed; scans = fact.now.scans }) result cursor.new }
-    ensures counted { result ≡ true → Counts cursor.old cursor.new 1 }
+    ensures counted { result ≡ true → ActsAreCounted cursor.old cursor.new 1 }
 {
     let action = settle(script, actor, cursor);
     if !is_next(script, actor, cursor, &action, note, fact.scans()) {
@@ -84,7 +84,7 @@ fn walk_note(
 pub(crate) fn is_finished(script: &Script, actor: u32, cursor: &Cursor) -> bool
     requires script { IsScript script.now }
     requires counted { IsCounted cursor.now lines_max }
-    ensures { let s = script.now in result ≡ is_nothing (action_for s actor (settled s actor (cursor_of s actor cursor.now))) }
+    ensures { let s = script.now in result ≡ is_nothing (action_for s actor (at_next_note s actor (cursor_of s actor cursor.now))) }
 {
     let mut at = *cursor;
     matches!(settle(script, actor, &mut at), Action::Nothing)
@@ -103,7 +103,7 @@ fn is_next(
     requires script { IsScript script.now }
     requires action { IsActionAt script.now actor cursor.now action.now }
     ensures { (line : ℕ) (listed : Bool) → let s = script.now in
-        result ≡ is_next s actor (cursor_of s actor cursor.now) (record { line = line_of line note.now; listed = listed; scans = scans }) }
+        result ≡ is_next_note s actor (cursor_of s actor cursor.now) (record { line = line_of line note.now; listed = listed; scans = scans }) }
 {
     asks(actor, cursor.removed, action, note.place, &note.entry)
         && scans_first(script, actor, cursor) <= scans
@@ -113,8 +113,8 @@ fn is_next(
 fn settle(script: &Script, actor: u32, cursor: &mut Cursor) -> Action
     requires script { IsScript script.now }
     requires counted { IsCounted cursor.old lines_max }
-    ensures cursor { let s = script.now in cursor_of s actor cursor.new ≡ settled s actor (cursor_of s actor cursor.old) }
-    ensures counted { Counts cursor.old cursor.new 0 }
+    ensures cursor { let s = script.now in cursor_of s actor cursor.new ≡ at_next_note s actor (cursor_of s actor cursor.old) }
+    ensures counted { ActsAreCounted cursor.old cursor.new 0 }
     ensures action { IsActionAt script.now actor cursor.new result }
 {
     let steps = u64::from(acts_left(script, actor, cursor.task)) + 1;
@@ -134,7 +134,7 @@ fn quiet_step(script: &Script, actor: u32, cursor: &mut Cursor) -> Option<Action
     requires script { IsScript script.now }
     requires counted { IsCounted cursor.old lines_max }
     ensures step { IsQuietStep script.now actor cursor.old result cursor.new }
-    ensures counted { Counts cursor.old cursor.new 0 }
+    ensures counted { ActsAreCounted cursor.old cursor.new 0 }
 {
     let _over = cursor.task;
     let mut action = Action::Nothing;

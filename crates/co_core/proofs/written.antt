@@ -1,4 +1,4 @@
--- What the books have after a note, and who holds each lock.
+-- What the ledger has after a note, and who holds each lock.
 pub mod Listed
 pub mod Counting
 pub mod After

@@ -8,7 +8,7 @@ use Rattle.co_program.specs.Scripts.{IsScript}
 use Rattle.co_world.specs.Blocked.{blocked}
 use Rattle.co_world.specs.Step.{step}
 use Rattle.co_world.specs.World.{World}
-use Rattle.co_core.specs.declared.books.Hand.{Hand}
+use Rattle.co_core.specs.declared.ledger.Hand.{Hand}
 use Rattle.co_core.specs.declared.engine.Engine.{Engine}
 use Rattle.co_core.specs.InHand.{with_hand}
 use Rattle.co_core.specs.Stands.{StandsFor}
@@ -16,7 +16,7 @@ use Rattle.co_core.specs.Written.{list_at}
 
 -- the engine stands for this world
 abbrev pub Stands : Script → Engine → World → Type 0
-Stands s e w = StandsFor s e.books e.depot w
+Stands s e w = StandsFor s e.ledger e.depot w
 
 -- it stands for some world of a sound script
 pub record IsRunning (s : Script) (e : Engine) : Type 0 where
@@ -49,15 +49,15 @@ pub record HasStepped (s : Script) (a : ℕ) (action : Action) (number : ℕ) (e
   -- from each world that the engine stood for, it stands for the one after the step
   pub stands : (w : World) → Stands s e w → IsDue s w a action → Stands s e2 (step s w a)
   -- nothing has been told
-  pub told : e2.books.told ≡ e.books.told
+  pub told : e2.ledger.told ≡ e.ledger.told
   -- the actor's list is longer by so many notes
-  pub count : length (list_at e2.books a) ≡ length (list_at e.books a) + number
+  pub count : length (list_at e2.ledger a) ≡ length (list_at e.ledger a) + number
 
 -- ---- in the middle of a step
 
 -- the engine stands for this world, with the acting actor's notes in hand
 abbrev pub StandsWith : Script → Engine → Hand → World → Type 0
-StandsWith s e hand w = StandsFor s (with_hand e.books hand) e.depot w
+StandsWith s e hand w = StandsFor s (with_hand e.ledger hand) e.depot w
 
 -- the actor in hand may do this now
 pub record MayAct (s : Script) (e : Engine) (hand : Hand) (action : Action) : Type 0 where
@@ -67,7 +67,7 @@ pub record MayAct (s : Script) (e : Engine) (hand : Hand) (action : Action) : Ty
   pub held : StandsWith s e hand world
   pub due : IsDue s world hand.actor action
   -- no count wraps, and there is room for a section's notes
-  pub few : e.books.made < 2 ^ 63
+  pub few : e.ledger.made < 2 ^ 63
   pub room : 3 ≤ hand.notes.spare
 
 -- the actor in hand has done this, with so many notes
@@ -77,7 +77,7 @@ pub record HasActed (s : Script) (action : Action) (number : ℕ) (e : Engine) (
   -- the hand is the same actor's still
   pub actor : hand2.actor ≡ hand.actor
   -- nothing has been told
-  pub told : e2.books.told ≡ e.books.told
+  pub told : e2.ledger.told ≡ e.ledger.told
   -- the list in hand is longer by so many notes, of which a step makes at most three
   pub count : length hand2.notes.items ≡ length hand.notes.items + number
   pub few : number ≤ 3

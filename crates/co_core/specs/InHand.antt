@@ -1,20 +1,20 @@
--- An actor in the middle of a step: its notes are in hand, and what is written is the books with them put back.
+-- An actor in the middle of a step: its notes are in hand, and what is written is the ledger with them put back.
 use Rattle.std.specs.Prelude.{◌≡◌, ℕ, ◌+◌, ◌^◌, ◌≤◌, ◌<◌, length}
 use Rattle.co_program.specs.declared.script.Script.{Script}
 use Rattle.co_program.specs.Actors.{actor_count}
 use Rattle.co_program.specs.Indexed.{IsCounted}
 use Rattle.co_program.specs.Scripts.{IsScript}
 use Rattle.co_world.specs.World.{World}
-use Rattle.co_core.specs.declared.books.Hand.{Hand}
-use Rattle.co_core.specs.Stands.{IsWritten}
-use Rattle.co_core.specs.Written.{Written, place_at, with_list}
+use Rattle.co_core.specs.declared.ledger.Hand.{Hand}
+use Rattle.co_core.specs.Stands.{ShowsWritten}
+use Rattle.co_core.specs.Written.{Written, cursor_at, with_list}
 
--- what is written: the books with the notes in hand put back
+-- what is written: the ledger with the notes in hand put back
 abbrev pub with_hand : Written → Hand → Written
 with_hand x hand = with_list x hand.actor hand.notes.items
 
 -- an actor's notes have been taken in hand
-pub record IsOpened (before : Written) (a : ℕ) (x : Written) (hand : Hand) : Type 0 where
+pub record IsTakenInHand (before : Written) (a : ℕ) (x : Written) (hand : Hand) : Type 0 where
   -- the hand is this actor's
   pub actor : hand.actor ≡ a
   -- what is written is what was
@@ -28,9 +28,9 @@ pub record IsOpened (before : Written) (a : ℕ) (x : Written) (hand : Hand) : T
 pub record MayWrite (s : Script) (x : Written) (hand : Hand) : Type 0 where
   -- the script is a sound one
   pub script : IsScript s
-  -- the books are those of this world, and the actor is one of its actors
+  -- the ledger is that of this world, and the actor is one of its actors
   pub world : World
-  pub written : IsWritten s (with_hand x hand) world
+  pub written : ShowsWritten s (with_hand x hand) world
   pub exists : hand.actor < actor_count s
   -- no count wraps, and there is room for the note
   pub few : x.made < 2 ^ 63 + 3
@@ -43,14 +43,14 @@ pub record MayWriteJournal (s : Script) (x : Written) (hand : Hand) (cpu : ℕ) 
   -- the script has the CPU
   pub known : cpu < s.cpus
 
--- the same of books in which a history has been counted, and its note is still to come
+-- the same of a ledger in which a history has been counted, and its note is still to come
 pub record MayNote (s : Script) (x : Written) (hand : Hand) : Type 0 where
   pub script : IsScript s
-  -- the actor has a place and a list
-  pub place : hand.actor < length x.places
+  -- the actor has a cursor and a list
+  pub cursor : hand.actor < length x.cursors
   pub list : hand.actor < length x.lists
   -- each of its acts that has begun is over in its program or has made a note
-  pub counted : IsCounted (place_at x hand.actor) x.made
+  pub counted : IsCounted (cursor_at x hand.actor) x.made
   pub few : x.made < 2 ^ 63 + 3
   pub room : 0 < hand.notes.spare
 
@@ -67,8 +67,8 @@ pub record HasWritten (number : ℕ) (x : Written) (hand : Hand) (x2 : Written) 
   pub spare : hand.notes.spare ≤ hand2.notes.spare + number
 
 -- where a world was written, the one after it is
-abbrev pub Follows : Script → Written → Hand → Written → Hand → (World → World) → Type 0
-Follows s x hand x2 hand2 after = (w : World) → IsWritten s (with_hand x hand) w → IsWritten s (with_hand x2 hand2) (after w)
+abbrev pub FollowsWorld : Script → Written → Hand → Written → Hand → (World → World) → Type 0
+FollowsWorld s x hand x2 hand2 after = (w : World) → ShowsWritten s (with_hand x hand) w → ShowsWritten s (with_hand x2 hand2) (after w)
 
 -- a note has been made, and this is known of what is written then
 pub record IsNoteMade (x : Written) (hand : Hand) (x2 : Written) (hand2 : Hand) (Known : Type 0) : Type 0 where

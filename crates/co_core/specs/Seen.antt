@@ -5,5 +5,5 @@ use Rattle.co_core.specs.Written.{Written}
 
 pub record Seen : Type 0 where
   pub script : Script
-  pub books : Written
+  pub ledger : Written
   pub depot : Stored

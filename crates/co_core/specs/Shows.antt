@@ -10,15 +10,15 @@ use Rattle.co_core.specs.Seen.{Seen}
 
 -- it stands for this plain world: of its script, and reached by some schedule
 abbrev pub Shows : Seen → World → Type 0
-Shows x w = StandsFor x.script x.books x.depot w
+Shows x w = StandsFor x.script x.ledger x.depot w
 
 -- no note has been told and let go
 abbrev pub HasAll : Written → Type 0
-HasAll books = (a : ℕ) → told_at books a ≡ 0
+HasAll ledger = (a : ℕ) → told_at ledger a ≡ 0
 
 -- its script is a sound one, it has all notes, and it stands for a plain world
-pub record IsWorld (s : Script) (books : Written) (depot : Stored) : Type 0 where
+pub record IsWorld (s : Script) (ledger : Written) (depot : Stored) : Type 0 where
   pub sound : IsScript s
-  pub whole : HasAll books
+  pub whole : HasAll ledger
   pub world : World
-  pub stands : StandsFor s books depot world
+  pub stands : StandsFor s ledger depot world

@@ -9,12 +9,12 @@ use Rattle.co_object.specs.declared.note.Note.{Note}
 use Rattle.co_object.specs.declared.note.Place.TheVariants.{Actor}
 use Rattle.co_program.specs.declared.script.Script.{Script}
 use Rattle.co_program.specs.Actors.{actor_count}
-use Rattle.co_program.specs.declared.cursor.Parcel.{Parcel}
+use Rattle.co_program.specs.declared.cursor.PendingInsert.{PendingInsert}
 use Rattle.co_program.specs.Action.{spec_at}
 use Rattle.co_program.specs.Follows.{scan_count}
 use Rattle.co_program.specs.Indexed.{IsCounted, cursor_of}
 use Rattle.co_wheel.specs.Cpu.{Cpu as WheelOf}
-use Rattle.co_wheel.specs.Parcel.{Parcel as Travelling}
+use Rattle.co_wheel.specs.Parcel.{Parcel}
 use Rattle.co_wheel.specs.Turns.{Shows}
 use Rattle.co_world.specs.World.{World}
 use Rattle.co_world.specs.Blocked.{is_moving}
@@ -23,7 +23,7 @@ use Rattle.co_world.specs.Laws.{IsReached}
 use Rattle.co_world.specs.Placed.{IsPlaced}
 use Rattle.co_core.specs.Stored.{Stored, bag_at, wheel_at}
 use Rattle.co_core.specs.Table.{table}
-use Rattle.co_core.specs.Written.{Written, place_at, told_at}
+use Rattle.co_core.specs.Written.{Written, cursor_at, told_at}
 
 -- ---- what has been written
 
@@ -31,10 +31,10 @@ use Rattle.co_core.specs.Written.{Written, place_at, told_at}
 abbrev pub untold : Written → World → ℕ → List Note
 untold x w a = drop (told_at x a) (w.actors a).notes
 
--- the books have each actor's place and notes, and how long each history is
-pub record IsWritten (s : Script) (x : Written) (w : World) : Type 0 where
-  pub places_long : length x.places ≡ actor_count s
-  pub each_place : (a : ℕ) → a < actor_count s → cursor_of s a (place_at x a) ≡ (w.actors a).cursor
+-- the ledger has each actor's place and notes, and how long each history is
+pub record ShowsWritten (s : Script) (x : Written) (w : World) : Type 0 where
+  pub cursors_long : length x.cursors ≡ actor_count s
+  pub each_place : (a : ℕ) → a < actor_count s → cursor_of s a (cursor_at x a) ≡ (w.actors a).cursor
   pub told_long : length x.told ≡ actor_count s
   pub each_list : x.lists ≡ table (actor_count s) (untold x w)
   pub each_history : x.histories ≡ table (length s.timers) (λ i. length (w.timers i).history)
@@ -43,7 +43,7 @@ pub record IsWritten (s : Script) (x : Written) (w : World) : Type 0 where
   pub each_own : x.own ≡ table (actor_count s) (λ a. length (notes_of (Actor a) (w.actors a).notes))
   pub few_told : (a : ℕ) → told_at x a ≤ length (w.actors a).notes
   -- each act that has begun is over in its program or has made a note, and each entry is a note
-  pub counted : (a : ℕ) → a < actor_count s → IsCounted (place_at x a) x.made
+  pub counted : (a : ℕ) → a < actor_count s → IsCounted (cursor_at x a) x.made
   pub few_entries : (i : ℕ) → length (w.timers i).history ≤ x.made
   pub few_turns : (cpu : ℕ) → length (w.cpus cpu).journal ≤ x.made
   pub few_notes : (a : ℕ) → length (w.actors a).notes ≤ x.made
@@ -51,15 +51,15 @@ pub record IsWritten (s : Script) (x : Written) (w : World) : Type 0 where
 
 -- ---- where each record is
 
-abbrev pub alone_of : Script → World → ℕ → Alone
-alone_of s w i = record { spec = spec_at s i; state = (w.timers i).state }
+abbrev pub alone_in : Script → World → ℕ → Alone
+alone_in s w i = record { spec = spec_at s i; state = (w.timers i).state }
 
 -- callout i's record is at this CPU's wheel
 abbrev pub is_home : Script → World → (cpu i : ℕ) → Bool
 is_home s w cpu i = (w.timers i).stand == cpu && not (is_moving s w i)
 
 abbrev pub at_home : Script → World → (cpu i : ℕ) → Option Alone
-at_home s w cpu i = if is_home s w cpu i then Some (alone_of s w i) else None
+at_home s w cpu i = if is_home s w cpu i then Some (alone_in s w i) else None
 
 -- a wheel has the callouts that stand at its CPU, and shows its queue
 pub record IsAtWheel (s : Script) (w : World) (cpu : ℕ) (wheel : WheelOf) : Type 0 where
@@ -70,19 +70,19 @@ pub record IsAtWheel (s : Script) (w : World) (cpu : ℕ) (wheel : WheelOf) : Ty
   pub shows : Shows wheel (w.cpus cpu).queue
 
 -- a bag has the callout that its actor is moving
-pub record IsPacked (s : Script) (w : World) (p : Parcel) (bag : Option Travelling) : Type 0 where
+pub record IsPacked (s : Script) (w : World) (p : PendingInsert) (bag : Option Parcel) : Type 0 where
   pub arming : Arming
-  pub packed : bag ≡ Some (record { i = p.i; callout = alone_of s w p.i; arming = arming })
+  pub packed : bag ≡ Some (record { i = p.i; callout = alone_in s w p.i; arming = arming })
   pub armed : (w.timers p.i).state.armed ≡ Some arming
   pub number : arming.n ≡ p.n
   pub due : arming.due ≡ p.due
   pub cpu : arming.cpu ≡ p.cpu
 
-abbrev pub IsBag : Script → World → Option Parcel → Option Travelling → Type 0
+abbrev pub IsBag : Script → World → Option PendingInsert → Option Parcel → Type 0
 IsBag s w None bag = bag ≡ None
 IsBag s w (Some p) bag = IsPacked s w p bag
 
-pub record IsStored (s : Script) (x : Stored) (w : World) : Type 0 where
+pub record ShowsStored (s : Script) (x : Stored) (w : World) : Type 0 where
   pub wheels_long : length x.wheels ≡ s.cpus
   pub each_wheel : (cpu : ℕ) → cpu < s.cpus → IsAtWheel s w cpu (wheel_at x cpu)
   pub each_stand : x.stands ≡ table (length s.timers) (λ i. (w.timers i).stand)
@@ -91,9 +91,9 @@ pub record IsStored (s : Script) (x : Stored) (w : World) : Type 0 where
 
 -- ---- the whole
 
--- the books and the depot show a world that some schedule reaches
-pub record StandsFor (s : Script) (books : Written) (depot : Stored) (w : World) : Type 0 where
-  pub written : IsWritten s books w
-  pub stored : IsStored s depot w
+-- the ledger and the depot show a world that some schedule reaches
+pub record StandsFor (s : Script) (ledger : Written) (depot : Stored) (w : World) : Type 0 where
+  pub written : ShowsWritten s ledger w
+  pub stored : ShowsStored s depot w
   pub placed : IsPlaced s w
   pub reached : IsReached s w

@@ -4,7 +4,7 @@ use Rattle.co_lock.specs.declared.held.Held.{Held}
 use Rattle.co_program.specs.declared.act.Act.{Act}
 use Rattle.co_program.specs.declared.act.Act.TheVariants.{Lock, ReadLock}
 
-abbrev pub lock_of : Act → Option Held
-lock_of (Lock id) = Some (record { id = id; exclusive = true })
-lock_of (ReadLock id) = Some (record { id = id; exclusive = false })
-lock_of act = None
+abbrev pub lock_taken_by : Act → Option Held
+lock_taken_by (Lock id) = Some (record { id = id; exclusive = true })
+lock_taken_by (ReadLock id) = Some (record { id = id; exclusive = false })
+lock_taken_by act = None

@@ -7,11 +7,11 @@ use Rattle.co_program.specs.declared.script.Script.{Script}
 use Rattle.co_program.specs.Actors.{actor_count}
 use Rattle.co_program.specs.Scripts.{IsScript}
 use Rattle.co_wheel.specs.Callouts.{callout, is_here, in_service}
-use Rattle.co_wheel.specs.Parcel.{Parcel as Travelling}
+use Rattle.co_wheel.specs.Parcel.{Parcel}
 use Rattle.co_wheel.specs.Turns.{Shows as ShowsQueue}
 use Rattle.co_core.specs.Seen.{Seen}
 use Rattle.co_core.specs.Shows.{Shows}
-use Rattle.co_core.specs.Stands.{alone_of}
+use Rattle.co_core.specs.Stands.{alone_in}
 use Rattle.co_core.specs.Stored.{Stored, wheel_at, bag_at}
 use Rattle.co_world.specs.World.{World}
 
@@ -21,7 +21,7 @@ use Rattle.co_world.specs.World.{World}
 abbrev pub is_at : Stored → (cpu i : ℕ) → Bool
 is_at x cpu i = is_here (wheel_at x cpu).callouts i
 
-abbrev pub is_packed : Option Travelling → ℕ → Bool
+abbrev pub is_packed : Option Parcel → ℕ → Bool
 is_packed None i = false
 is_packed (Some p) i = p.i == i
 
@@ -68,7 +68,7 @@ CalloutsHaveOneSlot =
 
 -- a record has its callout's state, and a wheel shows its CPU's queue
 pub record AreOfWorld (x : Seen) (w : World) : Type 0 where
-  pub records : (cpu i : ℕ) → cpu < x.script.cpus → i < length x.script.timers → is_at x.depot cpu i ≡ true → callout (wheel_at x.depot cpu).callouts i ≡ Some (alone_of x.script w i)
+  pub records : (cpu i : ℕ) → cpu < x.script.cpus → i < length x.script.timers → is_at x.depot cpu i ≡ true → callout (wheel_at x.depot cpu).callouts i ≡ Some (alone_in x.script w i)
   pub queues : (cpu : ℕ) → cpu < x.script.cpus → ShowsQueue (wheel_at x.depot cpu) (w.cpus cpu).queue
 
 abbrev pub WheelsAreOfWorlds : Type 0

@@ -1,36 +1,36 @@
-//! One step after another: the books and the depot of a world.
+//! One step after another: the ledger and the depot of a world.
 ghost use Rattle.std.specs.Prelude.{◌≡◌};
 ghost use Rattle.co_lock.specs.declared.held.Held.{Held};
 ghost use Rattle.co_program.specs.Action.{Asks, Silent, Take};
-ghost use Rattle.co_program.specs.Indexed.{cursor_of, moved};
+ghost use Rattle.co_program.specs.Indexed.{cursor_of, after_silent};
 ghost use Rattle.co_wheel.specs.Turns.{pop_of, free_of};
 ghost use Rattle.co_core.specs.Acting.{HasActed, HasStepped, MayAct};
-ghost use Rattle.co_core.specs.Written.{MayMove, place_at};
+ghost use Rattle.co_core.specs.Written.{MayMove, cursor_at};
 
 mod acting;
 
-use crate::books::{Books, Hand};
 use crate::depot::Depot;
+use crate::ledger::{Hand, Ledger};
 use co_object::{CallOp, Op, OwnKind, QOp, QReply, RunOp};
-use co_program::{Asked, Move, Parcel, Script};
+use co_program::{Asked, PendingInsert, Script, SilentStep};
 use co_sbt::Sbt;
 use co_wheel::{CallOut, NextOut};
 
 /// What is written, and where the records are.
 #[derive(Drop)]
 pub(crate) struct Engine {
-    pub books: Books,
+    pub ledger: Ledger,
     pub depot: Depot,
 }
 
 impl Engine {
     /// A step without a note.
-    fn go(&mut self, script: &Script, actor: u32, to: &Move)
-        requires { MayMove script.now self.old.books actor to.now }
-        ensures silent { HasStepped script.now actor (Silent (moved (cursor_of script.now actor (place_at self.old.books actor)) to.now)) 0 self.old self.new }
-        ensures take { (held : Held) → HasStepped script.now actor (Take held (moved (cursor_of script.now actor (place_at self.old.books actor)) to.now)) 0 self.old self.new }
+    fn go(&mut self, script: &Script, actor: u32, to: &SilentStep)
+        requires { MayMove script.now self.old.ledger actor to.now }
+        ensures silent { HasStepped script.now actor (Silent (after_silent (cursor_of script.now actor (cursor_at self.old.ledger actor)) to.now)) 0 self.old self.new }
+        ensures take { (held : Held) → HasStepped script.now actor (Take held (after_silent (cursor_of script.now actor (cursor_at self.old.ledger actor)) to.now)) 0 self.old self.new }
     {
-        self.books.go(script, actor, to);
+        self.ledger.go(script, actor, to);
     }
 
     /// An act that comes to no callout.
@@ -38,7 +38,7 @@ impl Engine {
         requires { MayAct script.now self.old hand.old (Asks act (Asked.Itself kind)) }
         ensures { HasActed script.now (Asks act (Asked.Itself kind)) 1 self.old hand.old self.new hand.new }
     {
-        self.books.write_own(script, hand, act, kind);
+        self.ledger.write_own(script, hand, act, kind);
     }
 
     /// A covered call on a callout that stands still. The answer is how many notes it makes.
@@ -50,21 +50,21 @@ impl Engine {
         let mut out = CallOut::none();
         let listed = self.depot.call(cpu, i, op, hand.actor, &mut out);
         let removed = self
-            .books
+            .ledger
             .write_removal(script, hand, act, cpu, i, out.removed);
-        self.books
+        self.ledger
             .write_callout(script, hand, act, i, Op::Call(*op), out.reply, listed);
-        let inserted = self.books.write_insertion(script, hand, out.inserted);
+        let inserted = self.ledger.write_insertion(script, hand, out.inserted);
         removed + 1 + inserted
     }
 
     /// A callout that was on its way comes to the CPU at which it is armed: one note.
-    fn land(&mut self, script: &Script, hand: &mut Hand, parcel: &Parcel)
+    fn land(&mut self, script: &Script, hand: &mut Hand, parcel: &PendingInsert)
         requires { MayAct script.now self.old hand.old (Asks parcel.now.act (Asked.Queue parcel.now.cpu (QOp.Insert parcel.now.i parcel.now.n parcel.now.due))) }
         ensures { HasActed script.now (Asks parcel.now.act (Asked.Queue parcel.now.cpu (QOp.Insert parcel.now.i parcel.now.n parcel.now.due))) 1 self.old hand.old self.new hand.new }
     {
         let at = self.depot.land(parcel.cpu, hand.actor);
-        self.books.write_landing(script, hand, parcel, at);
+        self.ledger.write_landing(script, hand, parcel, at);
     }
 
     /// A tick of a CPU: one note.
@@ -74,7 +74,7 @@ impl Engine {
     {
         let count = self.depot.scan(cpu, now);
         let op = QOp::Scan { now };
-        self.books
+        self.ledger
             .write_queue(script, hand, act, cpu, op, QReply::Count(count));
     }
 
@@ -87,15 +87,15 @@ impl Engine {
         let op = pop_of(direct);
         match self.depot.next(cpu, direct) {
             NextOut::Empty => {
-                self.books
+                self.ledger
                     .write_queue(script, hand, act, cpu, op, QReply::Empty);
                 1
             }
             NextOut::Took { i, n, at, reply } => {
                 let got = QReply::Got { i, n, at };
-                self.books.write_queue(script, hand, act, cpu, op, got);
+                self.ledger.write_queue(script, hand, act, cpu, op, got);
                 let pick = Op::Run(RunOp::Pick { n, cpu, at });
-                self.books
+                self.ledger
                     .write_callout(script, hand, act, i, pick, reply, false);
                 2
             }
@@ -109,7 +109,7 @@ impl Engine {
     {
         let reply = self.depot.begin(cpu);
         let begin = Op::Run(RunOp::Begin { n, cpu });
-        self.books
+        self.ledger
             .write_callout(script, hand, act, i, begin, reply, false);
     }
 
@@ -121,9 +121,9 @@ impl Engine {
         let direct = script.timers.as_slice()[i as usize].direct;
         let reply = self.depot.end(cpu, direct, hand.actor);
         let end = Op::Run(RunOp::End { n, cpu });
-        self.books
+        self.ledger
             .write_callout(script, hand, act, i, end, reply, false);
-        self.books
+        self.ledger
             .write_queue(script, hand, act, cpu, free_of(direct), QReply::Freed);
         2
     }

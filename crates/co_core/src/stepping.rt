@@ -5,9 +5,9 @@ ghost use Rattle.co_core.specs.Acting.{RunsActor, Stands};
 ghost use Rattle.co_world.specs.Step.{step, turn_of};
 ghost use Rattle.co_world.specs.World.{World as PlainWorld, open_world};
 
-use crate::books::Books;
 use crate::depot::Depot;
 use crate::engine::Engine;
+use crate::ledger::Ledger;
 use co_object::Lists;
 use co_program::{Action, Script, action_for};
 use co_sbt::NoMemory;
@@ -20,16 +20,16 @@ impl Engine {
         requires { IsScript script.now }
         ensures { IfOk result (λ engine. Stands script.now engine (open_world script.now)) }
     {
-        let books = Books::boot(alloc, script)?;
+        let ledger = Ledger::boot(alloc, script)?;
         let depot = Depot::boot(alloc, script)?;
-        Ok(Engine { books, depot })
+        Ok(Engine { ledger, depot })
     }
 
     /// The notes so far.
     pub(crate) fn lists(&self) -> &Lists
-        ensures { result.now ≡ self.now.books.lists }
+        ensures { result.now ≡ self.now.ledger.lists }
     {
-        self.books.lists()
+        self.ledger.lists()
     }
 
     /// One step of an actor. After NoMemory all is as it was. Inlined, as are the parts that every step goes through: they are
@@ -39,18 +39,18 @@ impl Engine {
         requires { RunsActor script.now self.old actor }
         ensures stands { OnOk result ((w : PlainWorld) → Stands script.now self.old w → Stands script.now self.new (step script.now w actor)) }
         ensures turn { IfOk result (λ turn. (w : PlainWorld) → Stands script.now self.old w → turn ≡ turn_of script.now w actor) }
-        ensures told { self.new.books.told ≡ self.old.books.told }
+        ensures told { self.new.ledger.told ≡ self.old.ledger.told }
         ensures err { OnErr result (self.new ≡ self.old) }
     {
-        if self.books.is_full() {
+        if self.ledger.is_full() {
             return Err(NoMemory {});
         }
-        let place = self.books.place(actor);
+        let cursor = self.ledger.cursor(actor);
         // The checker knows the range of a number behind a reference once it is read.
-        let _task = place.task;
+        let _task = cursor.task;
         let mut action = Action::Nothing;
-        action_for(script, actor, place, &mut action);
-        if let Some(why) = self.blocked(script, actor, place, &action) {
+        action_for(script, actor, cursor, &mut action);
+        if let Some(why) = self.blocked(script, actor, cursor, &action) {
             return Ok(Turn::Blocked(why));
         }
         match action {

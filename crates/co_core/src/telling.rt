@@ -1,11 +1,11 @@
 //! The walk of a script, its turns and then round robin until all have finished: told note by note.
 ghost use Rattle.std.specs.Prelude.{◌≡◌, ℕ, ◌<◌, ◌≤◌, List, [], true, OnOk, IfOk};
-ghost use Rattle.co_listener.specs.Made.{Made};
+ghost use Rattle.co_listener.specs.MadeNotes.{MadeNote};
 ghost use Rattle.co_program.specs.Actors.{actor_count};
 ghost use Rattle.co_program.specs.Scripts.{IsScript};
 ghost use Rattle.co_core.specs.Resting.{IsKnown};
 ghost use Rattle.co_world.specs.Step.{step, turn_of};
-ghost use Rattle.co_core.specs.Telling.{GoesOn, GoesOnKnowing, HasAsked, HasTold, IsTelling, IsToldTo, MayTell, MayTellStep, makes_notes};
+ghost use Rattle.co_core.specs.Telling.{TellsOn, GoesOnKnowing, HasAsked, EngineHasTold, IsTelling, IsToldTo, MayTell, MayTellStep, makes_notes};
 ghost use Rattle.co_world.specs.Walk.{AllFinished, HasFinished, IsWalk, round, rounds, run};
 ghost use Rattle.co_world.specs.World.{World as PlainWorld};
 
@@ -48,17 +48,17 @@ impl Engine {
         listener: &mut N,
     ) -> Result<Turn, NoMemory>
         requires { MayTellStep script.now self.old (N.actors listener.old) actor }
-        ensures told { IsToldTo N.actors listener.old listener.new result ((w : PlainWorld) → HasTold script.now self.old w → GoesOn script.now N.has self.new listener.old listener.new w (step script.now w actor)) }
-        ensures turn { IfOk result (λ turn. (w : PlainWorld) → HasTold script.now self.old w → turn ≡ turn_of script.now w actor) }
+        ensures told { IsToldTo N.actors listener.old listener.new result ((w : PlainWorld) → EngineHasTold script.now self.old w → TellsOn script.now N.has self.new listener.old listener.new w (step script.now w actor)) }
+        ensures turn { IfOk result (λ turn. (w : PlainWorld) → EngineHasTold script.now self.old w → turn ≡ turn_of script.now w actor) }
     {
         let turn = self.step(script, actor)?;
         if !makes_notes(turn) {
             return Ok(turn);
         }
-        if self.books.is_full() {
+        if self.ledger.is_full() {
             return Err(NoMemory {});
         }
-        self.books.tell(actor, listener)?;
+        self.ledger.tell(actor, listener)?;
         Ok(turn)
     }
 
@@ -145,8 +145,8 @@ impl Engine {
         listener: &mut N,
     ) -> Result<(), NoMemory>
         requires { MayTell script.now self.old (N.actors listener.old) }
-        ensures { IsToldTo N.actors listener.old listener.new result ((w : PlainWorld) → HasTold script.now self.old w → IsKnown script.now w resting.old →
-            (number : ℕ) × GoesOn script.now N.has self.new listener.old listener.new w (rounds script.now w number) × AllFinished script.now (rounds script.now w number)) }
+        ensures { IsToldTo N.actors listener.old listener.new result ((w : PlainWorld) → EngineHasTold script.now self.old w → IsKnown script.now w resting.old →
+            (number : ℕ) × TellsOn script.now N.has self.new listener.old listener.new w (rounds script.now w number) × AllFinished script.now (rounds script.now w number)) }
     {
         // What is left to do falls with every round, so it ends long before it has counted so far.
         for _round in 0..u64::MAX {
@@ -168,7 +168,7 @@ pub fn tell_walk<N: Listener>(
 ) -> Result<(), NoMemory>
     requires script { IsScript script.now }
     requires actors { actor_count script.now ≤ N.actors listener.old }
-    ensures told { OnOk result (N.has listener.old [] → (made : List Made) × N.has listener.new made × IsTelling script.now made) }
+    ensures told { OnOk result (N.has listener.old [] → (made : List MadeNote) × N.has listener.new made × IsTelling script.now made) }
     ensures actors { N.actors listener.new ≡ N.actors listener.old }
 {
     let mut engine = Engine::boot(alloc, script)?;

@@ -36,9 +36,9 @@ impl<'a> Model for World<'a> {
 
     ghost use Rattle.co_core.specs.Shows.{IsWorld};
 
-    ghost view = { λ x. record { script = x.script.now; books = x.engine.books; depot = x.engine.depot } };
+    ghost view = { λ x. record { script = x.script.now; ledger = x.engine.ledger; depot = x.engine.depot } };
 
-    ghost invariant = { λ x. IsWorld x.script.now x.engine.books x.engine.depot };
+    ghost invariant = { λ x. IsWorld x.script.now x.engine.ledger x.engine.depot };
 }
 
 impl<'a> World<'a> {

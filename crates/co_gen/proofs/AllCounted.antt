@@ -16,27 +16,28 @@ use Rattle.co_object.specs.History.{next, state, IsLegal}
 use Rattle.co_object.specs.Laws.OneFate.{is_fired}
 use Rattle.co_object.specs.Lists.{same_place, callout_history}
 use Rattle.co_object.proofs.Passing.{count-passing}
-use Rattle.co_listener.specs.Made.{Made, IsInOrder, list_by, lists_by, notes_made, made_in}
+use Rattle.co_listener.specs.MadeNotes.{MadeNote, IsInOrder, list_by, lists_by, notes_made, made_in}
 use Rattle.co_program.specs.declared.Script.{Script}
 use Rattle.co_program.specs.Action.{spec_at}
 use Rattle.co_program.specs.Actors.{actor_count}
 use Rattle.co_program.specs.Runs.{actors_of}
-use Rattle.co_report.specs.Histories.{Shown, shown}
+use Rattle.co_report.specs.Histories.{shown}
+use Rattle.co_report.specs.declared.reading.notes.NumberedEntry.{NumberedEntry}
 use Rattle.co_report.specs.Sections.{count_by, numbered_after}
 use Rattle.co_report.proofs.ShownHistories.{histories_shown}
 use Rattle.co_report.proofs.ToldShown.{shown-as-told}
 use Rattle.co_gen.specs.declared.counts.Counts.{Counts}
 use Rattle.co_gen.specs.Laws.{HaveLegalHistories}
-use Rattle.co_gen.specs.Replay.{at_end, after_entry, callout_entry, open_arming, replayed}
+use Rattle.co_gen.specs.Replay.{at_end, after_entry, timer_entry, open_arming, replayed}
 use Rattle.co_gen.specs.Soak.{is_superseded, is_stopped, is_pending, armings, with_fate, counts_of}
-use Rattle.co_gen.specs.Tally.{entries_in, walked, no_counts, callout_told, counts_in, at_ends, AreCounts}
+use Rattle.co_gen.specs.Tally.{entries_in, walked, no_counts, callout_told, counts_in, at_ends, AreFates}
 use Rattle.co_gen.proofs.Replays.{accepts, adds-replayed}
 use Rattle.co_gen.proofs.Terms.{same-terms, one-larger, both-terms, sum-mapped, zero-terms}
 use Rattle.co_gen.proofs.Totals.{met, same-counts}
 
 -- ---- before the first note
 
-pub nothing-counted : (s : Script) → AreCounts s [] no_counts
+pub nothing-counted : (s : Script) → AreFates s [] no_counts
 nothing-counted s = record {
   notes = refl;
   armed = sym (zero-terms (λ i. (counts_in s [] i).armed) (length s.timers) (λ i. refl));
@@ -48,11 +49,11 @@ nothing-counted s = record {
 
 -- ---- the entries that are told are the history
 
-entries-told : (place : Place) (before made : List Made) → map (λ (x : Shown). x.entry) (map shown (filter (λ x. same_place x.note.place place) (numbered_after before made))) ≡ map (λ (n : Note). n.entry) (filter (λ (n : Note). same_place n.place place) (notes_made made))
+entries-told : (place : Place) (before made : List MadeNote) → map (λ (x : NumberedEntry). x.entry) (map shown (filter (λ x. same_place x.note.place place) (numbered_after before made))) ≡ map (λ (n : Note). n.entry) (filter (λ (n : Note). same_place n.place place) (notes_made made))
 entries-told place before [] = refl
 entries-told place before (m ∷ made) = by_place (same_place m.note.place place) (entries-told place (before ++ m ∷ []) made) where
-  by_place : (b : Bool) → map (λ (x : Shown). x.entry) (map shown (filter (λ x. same_place x.note.place place) (numbered_after (before ++ m ∷ []) made))) ≡ map (λ (n : Note). n.entry) (filter (λ (n : Note). same_place n.place place) (notes_made made))
-      → map (λ (x : Shown). x.entry) (map shown (cond b (record { number = count_by before m.actor; note = m.note } ∷ filter (λ x. same_place x.note.place place) (numbered_after (before ++ m ∷ []) made)) (filter (λ x. same_place x.note.place place) (numbered_after (before ++ m ∷ []) made))))
+  by_place : (b : Bool) → map (λ (x : NumberedEntry). x.entry) (map shown (filter (λ x. same_place x.note.place place) (numbered_after (before ++ m ∷ []) made))) ≡ map (λ (n : Note). n.entry) (filter (λ (n : Note). same_place n.place place) (notes_made made))
+      → map (λ (x : NumberedEntry). x.entry) (map shown (cond b (record { number = count_by before m.actor; note = m.note } ∷ filter (λ x. same_place x.note.place place) (numbered_after (before ++ m ∷ []) made)) (filter (λ x. same_place x.note.place place) (numbered_after (before ++ m ∷ []) made))))
       ≡ map (λ (n : Note). n.entry) (cond b (m.note ∷ filter (λ (n : Note). same_place n.place place) (notes_made made)) (filter (λ (n : Note). same_place n.place place) (notes_made made)))
   by_place true rest = ap (λ es. m.note.entry ∷ es) rest
   by_place false rest = rest
@@ -61,27 +62,27 @@ filter-mapped : {X Y Z : Type 0} (f : X → Y) (g : Y → Option Z) (xs : List X
 filter-mapped f g [] = refl
 filter-mapped f g (x ∷ xs) = ap (λ zs. cons_option (g (f x)) zs) (filter-mapped f g xs)
 
-pub entries-are : (n : ℕ) (made : List Made) (i : ℕ) → IsInOrder made → AllByRecursion (λ m. m.actor < n) made → entries_in made i ≡ callout_history i (lists_by n made)
+pub entries-are : (n : ℕ) (made : List MadeNote) (i : ℕ) → IsInOrder made → AllByRecursion (λ m. m.actor < n) made → entries_in made i ≡ callout_history i (lists_by n made)
 entries-are n made i order actors =
-    sym (filter-mapped (λ (note : Note). note.entry) callout_entry (made_in made (Timer i)))
-    ∙ ap (filter_map callout_entry)
+    sym (filter-mapped (λ (note : Note). note.entry) timer_entry (made_in made (Timer i)))
+    ∙ ap (filter_map timer_entry)
     (sym (entries-told (Timer i) [] made)
-    ∙ (ap (map (λ (x : Shown). x.entry)) (sym (shown-as-told n made (Timer i) order actors))
+    ∙ (ap (map (λ (x : NumberedEntry). x.entry)) (sym (shown-as-told n made (Timer i) order actors))
     ∙ histories_shown (Timer i) (lists_by n made)))
 
 -- ---- all notes
 
-one-longer : (made : List Made) (m : Made) (a : ℕ) (b : Bool) → (m.actor == a) ≡ b → length (list_by (m ∷ made) a) ≡ length (list_by made a) + cond b 1 0
+one-longer : (made : List MadeNote) (m : MadeNote) (a : ℕ) (b : Bool) → (m.actor == a) ≡ b → length (list_by (m ∷ made) a) ≡ length (list_by made a) + cond b 1 0
 one-longer made m a b is = ap (λ (t : Bool). length (notes_made (cond t (m ∷ filter (λ x. x.actor == a) made) (filter (λ x. x.actor == a) made)))) is ∙ at_test b
   where
-    at_test : (t : Bool) → length (notes_made (cond {A = List Made} t (m ∷ filter (λ x. x.actor == a) made) (filter (λ x. x.actor == a) made))) ≡ length (list_by made a) + cond t 1 0
+    at_test : (t : Bool) → length (notes_made (cond {A = List MadeNote} t (m ∷ filter (λ x. x.actor == a) made) (filter (λ x. x.actor == a) made))) ≡ length (list_by made a) + cond t 1 0
     at_test true = omega arith
     at_test false = omega arith
 
 equal-test : (a b : ℕ) → a ≡ b → (a == b) ≡ true
 equal-test a b h = grind (arith, nat_tests)
 
-all-listed : (n : ℕ) (made : List Made) → AllByRecursion (λ m. m.actor < n) made → sum_by (λ a. length (list_by made a)) (range_with_len 0 n) ≡ length made
+all-listed : (n : ℕ) (made : List MadeNote) → AllByRecursion (λ m. m.actor < n) made → sum_by (λ a. length (list_by made a)) (range_with_len 0 n) ≡ length made
 all-listed n [] actors = zero-terms (λ a. length (list_by [] a)) n (λ a. refl)
 all-listed n (m ∷ made) actors =
     let larger : sum_by (λ a. length (list_by (m ∷ made) a)) (range_with_len 0 n) ≡ sum_by (λ a. length (list_by made a)) (range_with_len 0 n) + 1 =
@@ -133,14 +134,14 @@ replayed-is spec c s [] = refl
 replayed-is spec c s (e ∷ H) = replayed-is spec (after_entry spec c s e) (next spec s e) H
 
 -- what a callout's entries have decided, and what is to fire yet
-record Decided (s : Script) (lists : List (List Note)) (made : List Made) (i : ℕ) : Type 0 where
+record Decided (s : Script) (lists : List (List Note)) (made : List MadeNote) (i : ℕ) : Type 0 where
   armed : armings (callout_history i lists) ≡ (counts_in s made i).armed
   fired : with_fate is_fired s lists i ≡ (counts_in s made i).fired
   superseded : with_fate is_superseded s lists i ≡ (counts_in s made i).superseded
   stopped : with_fate is_stopped s lists i ≡ (counts_in s made i).stopped
   pending : with_fate is_pending s lists i ≡ (counts_in s made i).pending + one_of (open_arming (callout_told s made i).state)
 
-decided : (s : Script) (lists : List (List Note)) (made : List Made) (i : ℕ) → entries_in made i ≡ callout_history i lists → IsLegal (actors_of s) (spec_at s i) (callout_history i lists) → Decided s lists made i
+decided : (s : Script) (lists : List (List Note)) (made : List MadeNote) (i : ℕ) → entries_in made i ≡ callout_history i lists → IsLegal (actors_of s) (spec_at s i) (callout_history i lists) → Decided s lists made i
 decided s lists made i same legal =
     let spec : Spec = spec_at s i in
     let H : List Entry = callout_history i lists in
@@ -167,8 +168,8 @@ decided s lists made i same legal =
     }
 
 -- the counts at the end are those of the lists
-pub counted-all : (s : Script) (made : List Made) (callouts : List Alone) (c d : Counts) → d ≡ at_ends c callouts → callouts ≡ map (callout_told s made) (range_with_len 0 (length s.timers))
-    → AllByRecursion (λ m. m.actor < actor_count s) made → AreCounts s made c → IsInOrder made → HaveLegalHistories (actors_of s) s (lists_by (actor_count s) made) → d ≡ counts_of s (lists_by (actor_count s) made)
+pub counted-all : (s : Script) (made : List MadeNote) (callouts : List Alone) (c d : Counts) → d ≡ at_ends c callouts → callouts ≡ map (callout_told s made) (range_with_len 0 (length s.timers))
+    → AllByRecursion (λ m. m.actor < actor_count s) made → AreFates s made c → IsInOrder made → HaveLegalHistories (actors_of s) s (lists_by (actor_count s) made) → d ≡ counts_of s (lists_by (actor_count s) made)
 unfolding counts_of
 counted-all s made callouts c d d_is callouts_are actors h order legal =
     let n : ℕ = length s.timers in

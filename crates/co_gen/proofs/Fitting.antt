@@ -15,7 +15,7 @@ use Rattle.co_script.specs.Fits.{fits, act_stands, rises_after, section_fits, sp
 use Rattle.co_gen.specs.declared.choice.Choice.{Choice}
 use Rattle.co_gen.specs.declared.choice.Kind.{Kind}
 use Rattle.co_gen.specs.declared.choice.Kind.TheVariants as kind
-use Rattle.co_gen.specs.Generator.{first, draw, lock_kind, lock_use, spec_of, functions, choice_of, where_of, call_of_kind, call_of, wants_lock, lock_number, lock_of, under, group, group_of, client_acts, client, tick, tick_acts, generated}
+use Rattle.co_gen.specs.Generator.{first, draw, group_kind, lock_use, spec_of, functions, choice_of, where_of, call_of_kind, call_of, wants_lock, lock_number, group_lock, under, group, group_of, client_acts, client, tick, tick_acts, generated}
 use Rattle.co_gen.specs.Laws.{GeneratedScriptsFit}
 use Rattle.co_gen.proofs.Ranges.{both, all-items, all-parts, length-parts, sum-lengths}
 
@@ -63,7 +63,7 @@ lock-below i = at_first (i % 4 == 0) where
   at_first true = tt
   at_first false = at_second (i % 4 == 1)
 
-lock-of : (c : Choice) → IsLock (lock_of c)
+lock-of : (c : Choice) → IsLock (group_lock c)
 lock-of c = at_test (wants_lock c.kind) where
   at_test : (b : Bool) → IsLock (cond b (lock_number (lock_use c.timer)) None)
   at_test true = lock-below c.timer
@@ -108,7 +108,7 @@ module _ (s : Script) (frame : IsFrame s) where
 
   group-stands : (g : ℕ) (c : Choice) → g < 1024 → IsSmall c → list_all stands (group g c) ≡ true
   group-stands g c h is =
-      both (both (lt-true (g * 67108864) (2 ^ 63) (omega (arith, h))) refl) (under-stands (lock_of c) (call_of c) (lock-of c) (call-stands c is c.kind))
+      both (both (lt-true (g * 67108864) (2 ^ 63) (omega (arith, h))) refl) (under-stands (group_lock c) (call_of c) (lock-of c) (call-stands c is c.kind))
 
   client-stands : (state : ℕ) → list_all stands (client_acts state) ≡ true
   unfolding client_acts
@@ -140,7 +140,7 @@ groups-rise state t a zero h = refl
 groups-rise state t a (suc n) h =
     let c : Choice = choice_of (draw state a) in
     let rest : List Act = flat_map (group_of state) (range_with_len (a + 1) n) in
-    both (le-true t (a * 67108864) h) (under-rises (a * 67108864) (lock_of c) c rest ∙ groups-rise state (a * 67108864) (a + 1) n (omega arith))
+    both (le-true t (a * 67108864) h) (under-rises (a * 67108864) (group_lock c) c rest ∙ groups-rise state (a * 67108864) (a + 1) n (omega arith))
 
 client-rises : (state : ℕ) → rises_after 0 (client_acts state) ≡ true
 unfolding client_acts
@@ -162,7 +162,7 @@ length-under (Some l) a = omega arith
 
 client-length : (state : ℕ) → length (client_acts state) ≤ 4096
 unfolding client_acts
-client-length state = length-parts (group_of state) 4 0 1024 (λ g. (let c : Choice = choice_of (draw state g) in omega (arith, length-under (lock_of c) (call_of c))))
+client-length state = length-parts (group_of state) 4 0 1024 (λ g. (let c : Choice = choice_of (draw state g) in omega (arith, length-under (group_lock c) (call_of c))))
 
 tick-list : (a n : ℕ) → length (map tick (range_with_len a n)) ≡ n
 tick-list a zero = refl
@@ -180,7 +180,7 @@ framed clients ticks = record {
   hz = 1000;
   cpus = 4;
   buckets = 256;
-  locks = first lock_kind 8;
+  locks = first group_kind 8;
   timers = first spec_of 64;
   funcs = functions;
   clients = clients;

@@ -16,7 +16,7 @@ use Rattle.co_object.specs.declared.Place.TheVariants.{Timer}
 use Rattle.co_object.specs.Callout.{opening}
 use Rattle.co_object.specs.History.{next, state}
 use Rattle.co_object.specs.Lists.{same_place}
-use Rattle.co_listener.specs.Made.{Made, made_in}
+use Rattle.co_listener.specs.MadeNotes.{MadeNote, made_in}
 use Rattle.co_program.specs.declared.Script.{Script}
 use Rattle.co_program.specs.Action.{spec_at}
 use Rattle.co_program.specs.Actors.{actor_count}
@@ -25,26 +25,26 @@ use Rattle.co_report.proofs.ToldNotes.{made-here, made-elsewhere}
 use Rattle.co_report.proofs.ToldPages.{set-map, map-same}
 use Rattle.co_gen.specs.declared.counts.Counts.{Counts}
 use Rattle.co_gen.specs.declared.tally.Tally.{Tally}
-use Rattle.co_gen.specs.Replay.{after_entry, callout_entry}
-use Rattle.co_gen.specs.Tally.{entries_in, walked, no_counts, callout_told, counts_in, sum_in, AreCounts, HasCounted, IsEntryTaken}
+use Rattle.co_gen.specs.Replay.{after_entry, timer_entry}
+use Rattle.co_gen.specs.Tally.{entries_in, walked, no_counts, callout_told, counts_in, sum_in, AreFates, HasCounted, IsEntryTaken}
 use Rattle.co_gen.proofs.Replays.{adds-entry}
 use Rattle.co_gen.proofs.Terms.{same-terms, one-larger}
 
 -- ---- the entries of a callout
 
 abbrev entry_in : Note → Option Entry
-entry_in note = callout_entry note.entry
+entry_in note = timer_entry note.entry
 
-entries-here : (made : List Made) (m : Made) (i : ℕ) (e : Entry) → m.note.place ≡ Timer i → m.note.entry ≡ of.Timer e → entries_in (made ++ m ∷ []) i ≡ entries_in made i ++ e ∷ []
+entries-here : (made : List MadeNote) (m : MadeNote) (i : ℕ) (e : Entry) → m.note.place ≡ Timer i → m.note.entry ≡ of.Timer e → entries_in (made ++ m ∷ []) i ≡ entries_in made i ++ e ∷ []
 entries-here made m i e at is =
     ap (filter_map entry_in) (made-here made m (Timer i) (ap (λ p. same_place p (Timer i)) at ∙ same_itself (Timer i)))
     ∙ (filter_map-append entry_in (made_in made (Timer i)) (m.note ∷ [])
-    ∙ ap (λ x. entries_in made i ++ cons_option (callout_entry x) []) is)
+    ∙ ap (λ x. entries_in made i ++ cons_option (timer_entry x) []) is)
 
-pub entries-elsewhere : (made : List Made) (m : Made) (i : ℕ) → same_place m.note.place (Timer i) ≡ false → entries_in (made ++ m ∷ []) i ≡ entries_in made i
+pub entries-elsewhere : (made : List MadeNote) (m : MadeNote) (i : ℕ) → same_place m.note.place (Timer i) ≡ false → entries_in (made ++ m ∷ []) i ≡ entries_in made i
 entries-elsewhere made m i other = ap (filter_map entry_in) (made-elsewhere made m (Timer i) other)
 
-pub entries-none : (made : List Made) (m : Made) (i : ℕ) → callout_entry m.note.entry ≡ None → entries_in (made ++ m ∷ []) i ≡ entries_in made i
+pub entries-none : (made : List MadeNote) (m : MadeNote) (i : ℕ) → timer_entry m.note.entry ≡ None → entries_in (made ++ m ∷ []) i ≡ entries_in made i
 entries-none made m i none = by_place (same_place m.note.place (Timer i)) refl where
   by_place : (b : Bool) → same_place m.note.place (Timer i) ≡ b → entries_in (made ++ m ∷ []) i ≡ entries_in made i
   by_place true here =
@@ -72,12 +72,12 @@ module _ (spec : Spec) where
 
 -- ---- one note more
 
-all-more : (P : Made → Type 0) (made : List Made) (m : Made) → AllByRecursion P made → P m → AllByRecursion P (made ++ m ∷ [])
+all-more : (P : MadeNote → Type 0) (made : List MadeNote) (m : MadeNote) → AllByRecursion P made → P m → AllByRecursion P (made ++ m ∷ [])
 all-more P [] m all last = (last, tt)
 all-more P (x ∷ made) m all last = (all.0, all-more P made m all.1 last)
 
-pub actors-more : (n : ℕ) (made : List Made) (m : Made) → AllByRecursion (λ (x : Made). x.actor < n) made → m.actor < n → AllByRecursion (λ (x : Made). x.actor < n) (made ++ m ∷ [])
-actors-more n made m all last = all-more (λ (x : Made). x.actor < n) made m all last
+pub actors-more : (n : ℕ) (made : List MadeNote) (m : MadeNote) → AllByRecursion (λ (x : MadeNote). x.actor < n) made → m.actor < n → AllByRecursion (λ (x : MadeNote). x.actor < n) (made ++ m ∷ [])
+actors-more n made m all last = all-more (λ (x : MadeNote). x.actor < n) made m all last
 
 abbrev indices : Script → List ℕ
 indices s = range_with_len 0 (length s.timers)
@@ -86,7 +86,7 @@ index-at : (n j d : ℕ) → j < n → get_or (range_with_len 0 n) j d ≡ j
 index-at n j d below = let first : 0 + j ≡ j = omega arith in get_or-range_with_len 0 n j d below ∙ first
 
 -- a note that is an entry of no callout
-module _ (s : Script) (made : List Made) (m : Made) (none : (i : ℕ) → i < length s.timers → entries_in (made ++ m ∷ []) i ≡ entries_in made i) where
+module _ (s : Script) (made : List MadeNote) (m : MadeNote) (none : (i : ℕ) → i < length s.timers → entries_in (made ++ m ∷ []) i ≡ entries_in made i) where
   pub callouts-stay : map (callout_told s made) (indices s) ≡ map (callout_told s (made ++ m ∷ [])) (indices s)
   callouts-stay =
       map-same (callout_told s made) (callout_told s (made ++ m ∷ [])) (indices s) 0
@@ -98,9 +98,9 @@ module _ (s : Script) (made : List Made) (m : Made) (none : (i : ℕ) → i < le
       same-terms (λ i. kind (counts_in s made i)) (λ i. kind (counts_in s (made ++ m ∷ []) i)) (length s.timers)
       (λ i below. ap (λ H. kind (walked (spec_at s i) no_counts (opening 0) H)) (none i below))
 
-  pub counts-stay : (c d : Counts) → d ≡ record c { notes = c.notes + 1 } → AreCounts s made c → AreCounts s (made ++ m ∷ []) d
+  pub counts-stay : (c d : Counts) → d ≡ record c { notes = c.notes + 1 } → AreFates s made c → AreFates s (made ++ m ∷ []) d
   counts-stay c d is h =
-      subst (AreCounts s (made ++ m ∷ [])) (sym is)
+      subst (AreFates s (made ++ m ∷ [])) (sym is)
       record {
         notes = omega (arith, h.notes, length-append made (m ∷ []));
         armed = h.armed ∙ sym (sum-stays (λ (x : Counts). x.armed));
@@ -111,7 +111,7 @@ module _ (s : Script) (made : List Made) (m : Made) (none : (i : ℕ) → i < le
       }
 
 -- an entry of callout j
-module _ (s : Script) (made : List Made) (m : Made) (j : ℕ) (e : Entry) (below : j < length s.timers) (at : m.note.place ≡ Timer j) (is : m.note.entry ≡ of.Timer e) where
+module _ (s : Script) (made : List MadeNote) (m : MadeNote) (j : ℕ) (e : Entry) (below : j < length s.timers) (at : m.note.place ≡ Timer j) (is : m.note.entry ≡ of.Timer e) where
   other-entries : (i : ℕ) → i ≢ j → entries_in (made ++ m ∷ []) i ≡ entries_in made i
   other-entries i apart = entries-elsewhere made m i (ap (λ p. same_place p (Timer i)) at ∙ unequal-test j i apart)
 
@@ -145,12 +145,12 @@ module _ (s : Script) (made : List Made) (m : Made) (j : ℕ) (e : Entry) (below
       one-larger (λ i. kind (counts_in s made i)) (λ i. kind (counts_in s (made ++ m ∷ []) i)) j d (length s.timers) below (ap kind counts-here ∙ more)
       (λ k apart. ap (λ H. kind (walked (spec_at s k) no_counts (opening 0) H)) (other-entries k apart))
 
-  pub counts-more : (c d : Counts) → d ≡ added (record c { notes = c.notes + 1 }) → AreCounts s made c → AreCounts s (made ++ m ∷ []) d
+  pub counts-more : (c d : Counts) → d ≡ added (record c { notes = c.notes + 1 }) → AreFates s made c → AreFates s (made ++ m ∷ []) d
   counts-more c d d_is h =
       let one : Counts = record c { notes = c.notes + 1 } in
       let mine = adds-entry before.spec one before.state e in
       let its = adds-entry before.spec (counts_in s made j) before.state e in
-      subst (AreCounts s (made ++ m ∷ [])) (sym d_is)
+      subst (AreFates s (made ++ m ∷ [])) (sym d_is)
       record {
         notes = mine.notes ∙ omega (arith, h.notes, length-append made (m ∷ []));
         armed = omega (arith, mine.armed, h.armed, sum-more-by (λ (x : Counts). x.armed) _ its.armed);
@@ -163,7 +163,7 @@ module _ (s : Script) (made : List Made) (m : Made) (j : ℕ) (e : Entry) (below
 -- ---- with all that is kept
 
 -- a note that is an entry of no callout
-pub told-none : (s : Script) (made : List Made) (m : Made) (b x : Tally) → ((i : ℕ) → i < length s.timers → entries_in (made ++ m ∷ []) i ≡ entries_in made i) → m.actor < actor_count s
+pub told-none : (s : Script) (made : List MadeNote) (m : MadeNote) (b x : Tally) → ((i : ℕ) → i < length s.timers → entries_in (made ++ m ∷ []) i ≡ entries_in made i) → m.actor < actor_count s
     → x.callouts.items ≡ b.callouts.items → x.counts ≡ record b.counts { notes = b.counts.notes + 1 } → HasCounted s b made → HasCounted s x (made ++ m ∷ [])
 told-none s made m b x none actor same counts_are h = record {
   actors = actors-more (actor_count s) made m h.actors actor;
@@ -177,7 +177,7 @@ past_end (c ∷ cs) zero missing = cc
 past_end (c ∷ cs) (suc k) missing = omega (arith, past_end cs k missing)
 
 -- an entry of callout i, if there is one
-pub told-entry : (s : Script) (made : List Made) (m : Made) (b x y : Tally) (i : ℕ) (e : Entry) → m.note.place ≡ Timer i → m.note.entry ≡ of.Timer e → m.actor < actor_count s
+pub told-entry : (s : Script) (made : List MadeNote) (m : MadeNote) (b x y : Tally) (i : ℕ) (e : Entry) → m.note.place ≡ Timer i → m.note.entry ≡ of.Timer e → m.actor < actor_count s
     → x.callouts.items ≡ b.callouts.items → x.counts ≡ record b.counts { notes = b.counts.notes + 1 } → HasCounted s b made
     → IsEntryTaken (slice_get x.callouts.items i) x i e y → HasCounted s y (made ++ m ∷ [])
 told-entry s made m b x y i e at is actor same counts_are h taken = by_callout (slice_get x.callouts.items i) refl taken where

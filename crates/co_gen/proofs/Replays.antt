@@ -30,7 +30,7 @@ use Rattle.co_object.proofs.Replies.{no-armed}
 use Rattle.co_object.proofs.Sound.{sound-next, sound-opening}
 use Rattle.co_gen.specs.declared.counts.Counts.{Counts}
 use Rattle.co_gen.specs.Soak.{is_superseded, is_stopped, is_pending, all_fates}
-use Rattle.co_gen.specs.Replay.{open_in, open_arming, is_closed, counted, accepted, counted_if, after_entry, at_end, replayed}
+use Rattle.co_gen.specs.Replay.{open_in, open_arming, is_closed, fate_counted, accepted, counted_if, after_entry, at_end, replayed}
 
 -- ---- what the walk adds
 
@@ -56,7 +56,7 @@ adds-then c d e fs gs a b h k = record {
   pending = omega (arith, h.pending, k.pending, passing-append is_pending fs gs);
 }
 
-adds-fate : (c : Counts) (f : Fate) → Adds c (counted c f) (f ∷ []) 0
+adds-fate : (c : Counts) (f : Fate) → Adds c (fate_counted c f) (f ∷ []) 0
 adds-fate c Pending = record { notes = refl; armed = omega arith; fired = omega arith; superseded = omega arith; stopped = omega arith; pending = omega arith }
 adds-fate c Fired = record { notes = refl; armed = omega arith; fired = omega arith; superseded = omega arith; stopped = omega arith; pending = omega arith }
 adds-fate c Superseded = record { notes = refl; armed = omega arith; fired = omega arith; superseded = omega arith; stopped = omega arith; pending = omega arith }

@@ -43,8 +43,8 @@ draw seed k = draw_of (next_state (state_after seed k))
 -- ---- the frame: locks, callouts and functions
 
 -- mutexes and reader-writer locks take turns
-abbrev pub lock_kind : ℕ → LockKind
-lock_kind l = if l % 2 == 0 then lock.Mtx else lock.Rw
+abbrev pub group_kind : ℕ → LockKind
+group_kind l = if l % 2 == 0 then lock.Mtx else lock.Rw
 
 -- of four callouts the first has no lock, the others a mutex, a reader-writer lock and a mutex
 abbrev pub lock_use : ℕ → LockUse
@@ -69,8 +69,8 @@ functions =
 -- ---- a client's groups of acts
 
 -- the calls: three of eight are a reset
-abbrev pub kind_of : ℕ → Kind
-kind_of n = if nat_lt n 3 then kind.Reset
+abbrev pub call_kind : ℕ → Kind
+call_kind n = if nat_lt n 3 then kind.Reset
     else (if n == 3 then kind.Schedule
     else (if n == 4 then kind.Stop
     else (if n == 5 then kind.AsyncDrain
@@ -79,7 +79,7 @@ kind_of n = if nat_lt n 3 then kind.Reset
 
 -- what a draw says of a group
 abbrev pub choice_of : ℕ → Choice
-choice_of d = record { timer = d % 64; kind = kind_of (d / 64 % 8); span = d / 512 % 2048 * 4194304; cpu = d / 1048576 % 8 }
+choice_of d = record { timer = d % 64; kind = call_kind (d / 64 % 8); span = d / 512 % 2048 * 4194304; cpu = d / 1048576 % 8 }
 
 -- the CPU of a reset: half of the words name one
 abbrev pub where_of : ℕ → Where
@@ -109,8 +109,8 @@ lock_number (Rw l) = Some l
 lock_number (RwShared l) = Some l
 
 -- the lock of a group, if it has one
-abbrev pub lock_of : Choice → Option ℕ
-lock_of c = if wants_lock c.kind then lock_number (lock_use c.timer) else None
+abbrev pub group_lock : Choice → Option ℕ
+group_lock c = if wants_lock c.kind then lock_number (lock_use c.timer) else None
 
 -- a call between the taking and the release of a lock
 abbrev pub under : Option ℕ → Act → List Act
@@ -119,7 +119,7 @@ under (Some l) call = act.Lock l ∷ call ∷ act.Unlock ∷ []
 
 -- group g begins with its time
 abbrev pub group : ℕ → Choice → List Act
-group g c = act.Now (g * 67108864) ∷ under (lock_of c) (call_of c)
+group g c = act.Now (g * 67108864) ∷ under (group_lock c) (call_of c)
 
 -- group g of a client that begins in this state: one draw a group
 abbrev pub group_of : ℕ → ℕ → List Act
@@ -152,7 +152,7 @@ generated seed = record {
   hz = 1000;
   cpus = 4;
   buckets = 256;
-  locks = first lock_kind 8;
+  locks = first group_kind 8;
   timers = first spec_of 64;
   funcs = functions;
   clients = first (client seed) 8;

@@ -36,18 +36,18 @@ is_closed None after = false
 is_closed (Some n) after = not (is_open after n)
 
 -- one more arming of this fate
-abbrev pub counted : Counts → Fate → Counts
-counted c Pending = record c { pending = c.pending + 1 }
-counted c Fired = record c { fired = c.fired + 1 }
-counted c Superseded = record c { superseded = c.superseded + 1 }
-counted c Stopped = record c { stopped = c.stopped + 1 }
+abbrev pub fate_counted : Counts → Fate → Counts
+fate_counted c Pending = record c { pending = c.pending + 1 }
+fate_counted c Fired = record c { fired = c.fired + 1 }
+fate_counted c Superseded = record c { superseded = c.superseded + 1 }
+fate_counted c Stopped = record c { stopped = c.stopped + 1 }
 
 -- one more accepted arming
 abbrev pub accepted : Counts → Reply → Counts
 accepted c r = if is_armed r then record c { armed = c.armed + 1 } else c
 
 abbrev pub counted_if : Bool → Counts → Fate → Counts
-counted_if b c fate = if b then counted c fate else c
+counted_if b c fate = if b then fate_counted c fate else c
 
 -- after an entry: what it accepts and the fate that it decides
 abbrev pub after_entry : Spec → Counts → State → Entry → Counts
@@ -56,7 +56,7 @@ after_entry spec c s e = counted_if (is_closed (open_arming s) (next spec s e)) 
 -- at the end: what is open is pending
 abbrev pub at_end : Counts → Option ℕ → Counts
 at_end c None = c
-at_end c (Some n) = counted c Pending
+at_end c (Some n) = fate_counted c Pending
 
 -- after a history, from a state on
 abbrev pub replayed : Spec → Counts → State → List Entry → Counts
@@ -64,6 +64,6 @@ replayed spec c s [] = at_end c (open_arming s)
 replayed spec c s (e ∷ es) = replayed spec (after_entry spec c s e) (next spec s e) es
 
 -- the callout's entry, where it is one
-abbrev pub callout_entry : AnyEntry → Option Entry
-callout_entry (of.Timer e) = Some e
-callout_entry _ = None
+abbrev pub timer_entry : AnyEntry → Option Entry
+timer_entry (of.Timer e) = Some e
+timer_entry _ = None

@@ -8,17 +8,17 @@ use Rattle.co_object.specs.declared.Entry.{Entry}
 use Rattle.co_object.specs.declared.Place.TheVariants.{Timer}
 use Rattle.co_object.specs.Callout.{opening}
 use Rattle.co_object.specs.History.{next, state}
-use Rattle.co_listener.specs.Made.{Made, made_in}
+use Rattle.co_listener.specs.MadeNotes.{MadeNote, made_in}
 use Rattle.co_program.specs.declared.Script.{Script}
 use Rattle.co_program.specs.Action.{spec_at}
 use Rattle.co_program.specs.Actors.{actor_count}
 use Rattle.co_gen.specs.declared.counts.Counts.{Counts}
 use Rattle.co_gen.specs.declared.tally.Tally.{Tally}
-use Rattle.co_gen.specs.Replay.{after_entry, at_end, callout_entry, open_arming}
+use Rattle.co_gen.specs.Replay.{after_entry, at_end, timer_entry, open_arming}
 
 -- the entries of callout i, in the order in which they are made
-abbrev pub entries_in : List Made → ℕ → List Entry
-entries_in made i = filter_map (λ note. callout_entry note.entry) (made_in made (Timer i))
+abbrev pub entries_in : List MadeNote → ℕ → List Entry
+entries_in made i = filter_map (λ note. timer_entry note.entry) (made_in made (Timer i))
 
 -- after a history, from a state on; what is to fire yet is not counted
 abbrev pub walked : Spec → Counts → State → List Entry → Counts
@@ -29,18 +29,18 @@ abbrev pub no_counts : Counts
 no_counts = record { notes = 0; armed = 0; fired = 0; superseded = 0; stopped = 0; pending = 0 }
 
 -- callout i after its entries, and their counts
-abbrev pub callout_told : Script → List Made → ℕ → Alone
+abbrev pub callout_told : Script → List MadeNote → ℕ → Alone
 callout_told s made i = record { spec = spec_at s i; state = state (spec_at s i) (entries_in made i) }
 
-abbrev pub counts_in : Script → List Made → ℕ → Counts
+abbrev pub counts_in : Script → List MadeNote → ℕ → Counts
 counts_in s made i = walked (spec_at s i) no_counts (opening 0) (entries_in made i)
 
 -- so many of one kind in all of the script's callouts
-abbrev pub sum_in : (Counts → ℕ) → Script → List Made → ℕ
+abbrev pub sum_in : (Counts → ℕ) → Script → List MadeNote → ℕ
 sum_in kind s made = sum_by (λ i. kind (counts_in s made i)) (range_with_len 0 (length s.timers))
 
 -- these counts are those of the notes
-pub record AreCounts (s : Script) (made : List Made) (c : Counts) : Type 0 where
+pub record AreFates (s : Script) (made : List MadeNote) (c : Counts) : Type 0 where
   pub notes : c.notes ≡ length made
   pub armed : c.armed ≡ sum_in (λ (x : Counts). x.armed) s made
   pub fired : c.fired ≡ sum_in (λ (x : Counts). x.fired) s made
@@ -49,10 +49,10 @@ pub record AreCounts (s : Script) (made : List Made) (c : Counts) : Type 0 where
   pub pending : c.pending ≡ sum_in (λ (x : Counts). x.pending) s made
 
 -- these notes are counted, all by actors of the script
-pub record HasCounted (s : Script) (x : Tally) (made : List Made) : Type 0 where
+pub record HasCounted (s : Script) (x : Tally) (made : List MadeNote) : Type 0 where
   pub actors : AllByRecursion (λ m. m.actor < actor_count s) made
   pub callouts : x.callouts.items ≡ map (callout_told s made) (range_with_len 0 (length s.timers))
-  pub counts : AreCounts s made x.counts
+  pub counts : AreFates s made x.counts
 
 -- an entry of this callout is taken: the callout goes on, and the counts with it; one of no callout changes nothing
 abbrev pub IsEntryTaken : Option Alone → Tally → ℕ → Entry → Tally → Type 0

@@ -1,6 +1,6 @@
 //! The acts of clients and CPUs.
 ghost use Rattle.std.specs.Prelude.{◌≡◌, ◌++◌, ◌∷◌, [], OnOk, IfOk};
-ghost use Rattle.co_gen.specs.Generator.{call_of, client_acts, group, lock_of, lock_number, lock_use, state_after, tick_acts, under, wants_lock, where_of};
+ghost use Rattle.co_gen.specs.Generator.{call_of, client_acts, group, group_lock, lock_number, lock_use, state_after, tick_acts, under, wants_lock, where_of};
 
 use crate::choice::{Choice, Kind, choice_of, time};
 use crate::draws::Draws;
@@ -45,7 +45,7 @@ fn wants_lock(kind: Kind) -> bool
 
 /// The lock of a group, if it has one.
 fn lock_of(choice: &Choice) -> Option<u32>
-    ensures { result ≡ lock_of choice.now }
+    ensures { result ≡ group_lock choice.now }
 {
     if wants_lock(choice.kind) {
         lock_number(lock_use(choice.timer))

@@ -1,6 +1,6 @@
 //! What a draw says of a group of acts.
 ghost use Rattle.std.specs.Prelude.{◌≡◌, ◌<◌, ◌^◌};
-ghost use Rattle.co_gen.specs.Generator.{choice_of, kind_of};
+ghost use Rattle.co_gen.specs.Generator.{choice_of, call_kind};
 
 use co_sbt::Sbt;
 
@@ -47,7 +47,7 @@ pub fn time(units: u64) -> Sbt
 
 /// The call of a number below 8: three of eight are a reset.
 fn kind_of(number: u32) -> Kind
-    ensures { result ≡ kind_of number }
+    ensures { result ≡ call_kind number }
 {
     match number {
         0 | 1 | 2 => Kind::Reset,

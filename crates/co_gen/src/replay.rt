@@ -3,7 +3,7 @@ ghost use Rattle.std.specs.Prelude.{◌≡◌, ◌+◌, OnOk, IfOk};
 ghost use Rattle.co_object.specs.Fate.{fate_by, is_armed_with, is_arming, is_picked_with};
 ghost use Rattle.co_object.specs.History.{next};
 ghost use Rattle.co_object.specs.declared.Op.TheVariants.{Call as ByCaller};
-ghost use Rattle.co_gen.specs.Replay.{accepted, after_entry, counted, is_closed, open_arming, picked_arming};
+ghost use Rattle.co_gen.specs.Replay.{accepted, after_entry, fate_counted, is_closed, open_arming, picked_arming};
 
 use crate::counts::Counts;
 use co_object::{Alone, Arming, CallOp, Entry, Op, PlainOp, Reply, Run, State};
@@ -77,7 +77,7 @@ fn is_arming(op: &PlainOp) -> bool
 
 /// Counts an arming that ceases to be open by a caller's operation.
 fn count_call(counts: &mut Counts, op: &CallOp) -> Result<(), NoMemory>
-    ensures { OnOk result (counts.new ≡ counted counts.old (fate_by (ByCaller op.now))) }
+    ensures { OnOk result (counts.new ≡ fate_counted counts.old (fate_by (ByCaller op.now))) }
 {
     match op {
         CallOp::Plain(plain) => {
@@ -94,7 +94,7 @@ fn count_call(counts: &mut Counts, op: &CallOp) -> Result<(), NoMemory>
 
 /// Counts an arming that ceases to be open by an operation.
 fn count_fate(counts: &mut Counts, op: &Op) -> Result<(), NoMemory>
-    ensures { OnOk result (counts.new ≡ counted counts.old (fate_by op.now)) }
+    ensures { OnOk result (counts.new ≡ fate_counted counts.old (fate_by op.now)) }
 {
     match op {
         Op::Call(call) => count_call(counts, call),

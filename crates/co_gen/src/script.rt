@@ -1,6 +1,6 @@
 //! The generated script.
 ghost use Rattle.std.specs.Prelude.{◌≡◌, ◌∷◌, [], IfOk};
-ghost use Rattle.co_gen.specs.Generator.{client, first, functions, generated, lock_kind, spec_of, tick_acts};
+ghost use Rattle.co_gen.specs.Generator.{client, first, functions, generated, group_kind, spec_of, tick_acts};
 
 use crate::acts::{client_acts, lock_use, push_act, tick_acts};
 use crate::choice::time;
@@ -13,7 +13,7 @@ use std::alloc::Global;
 
 /// Mutexes and reader-writer locks take turns.
 fn lock_kind(lock: u32) -> LockKind
-    ensures { result ≡ lock_kind lock }
+    ensures { result ≡ group_kind lock }
 {
     if lock % 2 == 0 {
         LockKind::Mtx
@@ -23,7 +23,7 @@ fn lock_kind(lock: u32) -> LockKind
 }
 
 fn locks(alloc: Global) -> Result<Seq<LockKind>, NoMemory>
-    ensures { IfOk result (λ locks. locks ≡ first lock_kind 8) }
+    ensures { IfOk result (λ locks. locks ≡ first group_kind 8) }
 {
     let mut locks = Seq::new(alloc);
     for lock in 0..8 {

@@ -1,7 +1,7 @@
 //! A listener that counts: what becomes of the armings of a script's callouts, note by note as they are told.
 ghost use Rattle.std.specs.Prelude.{◌≡◌, ℕ, ◌<◌, ◌++◌, ◌∷◌, [], List, length, map, slice_get, IfOk, OnOk};
 ghost use Rattle.std.specs.List.{range_with_len};
-ghost use Rattle.co_listener.specs.Made.{Made, IsInOrder, lists_by};
+ghost use Rattle.co_listener.specs.MadeNotes.{MadeNote, IsInOrder, lists_by};
 ghost use Rattle.co_program.specs.declared.script.Script.{Script};
 ghost use Rattle.co_program.specs.Actors.{actor_count};
 ghost use Rattle.co_program.specs.Runs.{actors_of};
@@ -85,7 +85,7 @@ impl Tally {
 
     /// Takes a note.
     fn take(&mut self, note: &Note) -> Result<(), NoMemory>
-        ensures { OnOk result ((s : Script) (made : List Made) (actor : ℕ) → actor < actor_count s → HasCounted s self.old made →
+        ensures { OnOk result ((s : Script) (made : List MadeNote) (actor : ℕ) → actor < actor_count s → HasCounted s self.old made →
             HasCounted s self.new (made ++ record { actor = actor; note = note.now } ∷ [])) }
     {
         self.counts.notes = more(self.counts.notes)?;
@@ -102,7 +102,7 @@ impl Tally {
 
     /// The counts of all notes.
     fn total(self) -> Result<Counts, NoMemory>
-        ensures { IfOk result (λ counts. (s : Script) (made : List Made) → HasCounted s self made → IsInOrder made →
+        ensures { IfOk result (λ counts. (s : Script) (made : List MadeNote) → HasCounted s self made → IsInOrder made →
             HaveLegalHistories (actors_of s) s (lists_by (actor_count s) made) → counts ≡ counts_of s (lists_by (actor_count s) made)) }
     {
         ended(self.counts, self.callouts.as_slice())
@@ -133,7 +133,7 @@ impl<S: Subject> TallyOf<S> {
     /// of the accepted armings by what became of them. What is counted is our own decision. NoMemory where a count is 2^64
     /// or more.
     pub fn counts(self) -> Result<Counts, NoMemory>
-        ensures { IfOk result (λ counts. (made : List Made) → HasCounted S.script self.tally made → IsInOrder made →
+        ensures { IfOk result (λ counts. (made : List MadeNote) → HasCounted S.script self.tally made → IsInOrder made →
             HaveLegalHistories (actors_of S.script) S.script (lists_by (actor_count S.script) made) → counts ≡ counts_of S.script (lists_by (actor_count S.script) made)) }
     {
         self.tally.total()

@@ -78,7 +78,7 @@ act_rises t (act.Tick u) = nat_le t u
 act_rises t _ = true
 
 -- what every draft and script keeps, so that its numbers are small
-pub record IsSmall (s : Script) (funcs : ℕ) : Type 0 where
+pub record HasSmallNumbers (s : Script) (funcs : ℕ) : Type 0 where
   pub locks : length s.locks ≤ 256
   pub timers : length s.timers ≤ 1024
   pub cpus : s.cpus ≤ 16

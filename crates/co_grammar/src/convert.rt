@@ -4,7 +4,7 @@ ghost use Rattle.co_text.specs.Values.{signed_value};
 ghost use Rattle.co_grammar.specs.Views.{who_view, where_view, lock_view, spec_view, act_view};
 ghost use Rattle.co_grammar.specs.Checks.{spec_exists, is_i32, act_fits};
 ghost use Rattle.co_program.specs.Scripts.{who_exists, cpu_exists};
-ghost use Rattle.co_grammar.specs.Checks.{IsSmall};
+ghost use Rattle.co_grammar.specs.Checks.{HasSmallNumbers};
 
 use crate::raw::{RawAct, RawLock, RawSpec, RawWhere, RawWho};
 use co_object::{LockUse, Spec};
@@ -54,7 +54,7 @@ fn small_of(number: u128) -> u32
 
 /// The act that a line states, where its numbers are known to be in their ranges.
 pub fn act_of(funcs: u32, script: &Script, act: &RawAct) -> Act
-    requires small { IsSmall script.now funcs }
+    requires small { HasSmallNumbers script.now funcs }
     requires fits { act_fits funcs script.now (act_view act.now) ≡ true }
     ensures { result ≡ act_view act.now }
 {

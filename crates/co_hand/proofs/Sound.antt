@@ -12,13 +12,13 @@ use Rattle.co_program.specs.declared.act.Where.{Where}
 use Rattle.co_program.specs.declared.act.Where.TheVariants.{Home, Cpu, Here}
 use Rattle.co_program.specs.declared.script.Script.{Script}
 use Rattle.co_program.specs.Actors.{acts_at}
-use Rattle.co_program.specs.Calls.{plain_op, callout_of, cpu_named}
+use Rattle.co_program.specs.Calls.{plain_op, callout_of_who, cpu_named}
 use Rattle.co_program.specs.Scripts.{IsScript, is_call, who_exists, cpu_exists, names_exist}
 use Rattle.co_hand.specs.Ports.{IsCpuBelow}
 use Rattle.co_hand.specs.Functions.{functions_of, CallExists, IsCallIn, AreSound}
 
 module _ (s : Script) (at : Scene) (here : at.here < s.cpus) (me : at.me < length s.timers) where
-  who_in : (who : Who) → who_exists s who ≡ true → callout_of at who < length s.timers
+  who_in : (who : Who) → who_exists s who ≡ true → callout_of_who at who < length s.timers
   who_in (Timer i) exists = ltb-true i (length s.timers) exists
   who_in Me exists = me
 

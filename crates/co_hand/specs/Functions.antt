@@ -10,7 +10,7 @@ use Rattle.co_program.specs.Actors.{acts_at}
 use Rattle.co_program.specs.Calls.{plain_op}
 use Rattle.co_hand.specs.declared.fire.Fire.{Fire}
 use Rattle.co_hand.specs.declared.port_call.PortCall.{PortCall}
-use Rattle.co_hand.specs.Ports.{PortState, after_calls, NamesCpuBelow, IsAnswered}
+use Rattle.co_hand.specs.Ports.{PortState, after_calls, NamesCpuBelow, IsCoverAnswered}
 use Rattle.co_hand.specs.Handlers.{Needs}
 
 pub record Functions : Type 0 where
@@ -51,7 +51,7 @@ scene_of fire = record { time = fire.at; here = fire.cpu; me = fire.i }
 pub record Makes {Origin : Type 0} (hz : ℕ) (at : Scene) (acts : List Act) (hold : Option Held) (old new : PortState Origin) : Type 0 where
   pub calls : List PortCall
   pub asked : map (λ call. Some (call.i, call.op)) calls ≡ map (λ act. plain_op act hz at) acts
-  pub answered : AllByRecursion (IsAnswered old.specs hold) calls
+  pub answered : AllByRecursion (IsCoverAnswered old.specs hold) calls
   pub after : new ≡ after_calls old calls
 
 -- the port after the acts of this function, each once

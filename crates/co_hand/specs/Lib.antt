@@ -4,7 +4,7 @@
 pub mod Ports
 -- what a handler needs of a port (callouts, CPUs, room), and what it leaves of it
 pub mod Handlers
--- what an act asks for, and whether it is about the callout in service
+-- what an act asks for
 pub mod Operations
 -- a script's functions as a handler: the calls are the function's acts, in order
 pub mod Functions

@@ -40,5 +40,5 @@ abbrev pub spec_in : List Spec → ℕ → Spec
 spec_in specs i = slice_index_or specs i (record { lock = Free; returns_unlocked = false; direct = false })
 
 -- a call under this hold is answered NotHeld exactly where the hold doesn't cover it
-abbrev pub IsAnswered : List Spec → Option Held → PortCall → Type 0
-IsAnswered specs hold call = (call.answer ≡ NotHeld) ↔ (covers hold (spec_in specs call.i) (Plain call.op) ≡ false)
+abbrev pub IsCoverAnswered : List Spec → Option Held → PortCall → Type 0
+IsCoverAnswered specs hold call = (call.answer ≡ NotHeld) ↔ (covers hold (spec_in specs call.i) (Plain call.op) ≡ false)

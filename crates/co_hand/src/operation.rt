@@ -1,7 +1,7 @@
 //! The operation that an act asks for.
 ghost use Rattle.std.specs.Prelude.{◌≡◌, ◌≤◌, ◌↔◌, true, IsNone, IsSome, ℕ};
-ghost use Rattle.co_program.specs.Calls.{plain_op};
-ghost use Rattle.co_hand.specs.Operations.{names_me, asks_nothing, IsServed};
+ghost use Rattle.co_program.specs.Calls.{plain_op, names_me};
+ghost use Rattle.co_hand.specs.Operations.{asks_nothing, IsTheServed};
 
 use co_object::PlainOp;
 use co_program::{Act, Scene, call_of};
@@ -16,7 +16,7 @@ pub fn plain_op(act: &Act, hz: u32, now: Sbt, here: u32, me: Option<u32>) -> Opt
     requires low { 1 ≤ hz }
     requires high { hz ≤ 1000000 }
     requires me { names_me act.now ≡ true → IsSome me }
-    ensures op { (i : ℕ) → IsServed me i → result ≡ plain_op act.now hz (record { time = now; here = here; me = i }) }
+    ensures op { (i : ℕ) → IsTheServed me i → result ≡ plain_op act.now hz (record { time = now; here = here; me = i }) }
     ensures none { IsNone result ↔ (asks_nothing act.now ≡ true) }
 {
     let me = me.unwrap_or(0);

@@ -13,7 +13,7 @@ pub trait Port {
     ghost use Rattle.std.specs.Prelude.{◌≡◌, ◌<◌, ◌∷◌, [], length};
     ghost use Rattle.std.specs.Option.{option_copied};
     ghost use Rattle.co_hand.specs.declared.port_call.PortCall.{PortCall};
-    ghost use Rattle.co_hand.specs.Ports.{PortState, after_calls, NamesCpuBelow, IsAnswered};
+    ghost use Rattle.co_hand.specs.Ports.{PortState, after_calls, NamesCpuBelow, IsCoverAnswered};
 
     /// What the port was made with.
     type Origin;
@@ -28,5 +28,5 @@ pub trait Port {
         requires cpu { NamesCpuBelow (state self.old).cpus op.now }
         requires room { 0 < (state self.old).room }
         ensures made { state self.new ≡ after_calls (state self.old) (record { i = i; op = op.now; answer = result } ∷ []) }
-        ensures answered { IsAnswered (state self.old).specs (option_copied hold.entry) (record { i = i; op = op.now; answer = result }) };
+        ensures answered { IsCoverAnswered (state self.old).specs (option_copied hold.entry) (record { i = i; op = op.now; answer = result }) };
 }

@@ -5,11 +5,11 @@ use Rattle.std.specs.declared.option.Option.TheVariants.{Some, None}
 use Rattle.std.proofs.lemmas.Bool.{cases_eq}
 use Rattle.std.proofs.lemmas.List.{length-set}
 use Rattle.co_service.specs.Views.{PassesView}
-use Rattle.co_single.specs.Acts.{IsFired, IsIdle, OthersStay, TimeStays}
-use Rattle.co_single.specs.Alarms.{alarm_at, count_of, fired_at, made_at, times_in, waiting_of}
+use Rattle.co_single.specs.Acts.{IsFired, NothingWaits, OthersStay, TimeStays}
+use Rattle.co_single.specs.Alarms.{alarm_at, callout_count, fired_at, made_at, times_in, waiting_of}
 use Rattle.co_itimer.proofs.Counting.{but-same, times-head, times-other}
 use Rattle.co_itimer.proofs.Setting.{are-armed, timer-other, timer-same}
-use Rattle.co_itimer.specs.Itimers.{due_of, once}
+use Rattle.co_itimer.specs.Itimers.{alarm_due, once}
 use Rattle.co_itimer.specs.Serving.{AllWait, AreServed, AreServing, IsArmedAgain, IsServedOrWaits, served, waits}
 use Rattle.co_itimer.specs.Timers.{Timers, expired, expires, timer_of, with_timer}
 
@@ -54,8 +54,8 @@ module _ (work : ℕ) (p : PassesView) (s : Timers) where
 -- callout i has fired, and is armed for its process's next time
 pub record IsServedAt (p : PassesView) (i : ℕ) (next : Option ℕ) (q : PassesView) : Type 0 where
   pub waiting : waiting_of p ≡ i ∷ waiting_of q
-  pub below : i < count_of p
-  pub due : due_of (alarm_at q i) ≡ next
+  pub below : i < callout_count p
+  pub due : alarm_due (alarm_at q i) ≡ next
   pub made : made_at q i ≤ made_at p i + 1
   pub fired : fired_at q i ≡ fired_at p i + 1
   pub others : OthersStay p i q
@@ -65,7 +65,7 @@ pub served-at : (p : PassesView) (i arg : ℕ) (next : Option ℕ) (q r : Passes
 served-at p i arg None q r f none h = subst (IsServedAt p i None) (sym h) (record {
   waiting = f.waiting;
   below = f.below;
-  due = ap due_of f.alarm;
+  due = ap alarm_due f.alarm;
   made = omega (arith, f.made);
   fired = f.fired;
   others = f.others;
@@ -74,7 +74,7 @@ served-at p i arg None q r f none h = subst (IsServedAt p i None) (sym h) (recor
 served-at p i arg (Some due) q r f none h = record {
   waiting = f.waiting ∙ ap (λ l. i ∷ l) (sym (but-same i (waiting_of q) none) ∙ sym h.waiting);
   below = f.below;
-  due = ap due_of h.alarm;
+  due = ap alarm_due h.alarm;
   made = omega (arith, f.made, h.made);
   fired = h.fired ∙ f.fired;
   others = record {
@@ -122,7 +122,7 @@ module _ (work : ℕ) (p : PassesView) (s : Timers) (q : PassesView) (t : Timers
       }
 
 -- nothing waits any more
-module _ (work : ℕ) (p : PassesView) (s : Timers) (q : PassesView) (t : Timers) (r : PassesView) (idle : IsIdle q r) where
+module _ (work : ℕ) (p : PassesView) (s : Timers) (q : PassesView) (t : Timers) (r : PassesView) (idle : NothingWaits q r) where
   last-stage : (i : ℕ) → IsServedOrWaits work p s q t i → IsServedOrWaits work p s r t i
   last-stage i (waits w e is fired made) = absurd (let none : times_in i (waiting_of q) ≡ 0 = ap (times_in i) idle.nothing in omega (arith, none, w))
   last-stage i (served w is fired made) = served (ap (times_in i) idle.waiting) is (idle.callouts.fired i ∙ fired) (omega (arith, idle.callouts.made i, made))
@@ -130,7 +130,7 @@ module _ (work : ℕ) (p : PassesView) (s : Timers) (q : PassesView) (t : Timers
   pub serving-ends : AreServing work p s q t → AreServed work p s r t
   serving-ends h = record {
     serving = record {
-      armed = record { count = idle.callouts.count ∙ h.armed.count; clock = idle.time.clock ∙ h.armed.clock; armed = λ i. ap due_of (idle.callouts.alarms i) ∙ h.armed.armed i };
+      armed = record { count = idle.callouts.count ∙ h.armed.count; clock = idle.time.clock ∙ h.armed.clock; armed = λ i. ap alarm_due (idle.callouts.alarms i) ∙ h.armed.armed i };
       clock = h.clock;
       count = h.count;
       scans = idle.time.scans ∙ h.scans;

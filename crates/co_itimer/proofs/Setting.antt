@@ -5,10 +5,10 @@ use Rattle.std.specs.declared.option.Option.TheVariants.{Some, None}
 use Rattle.std.proofs.lemmas.Bool.{cases_eq}
 use Rattle.std.proofs.lemmas.List.{length-set}
 use Rattle.co_service.specs.Views.{PassesView}
-use Rattle.co_single.specs.Acts.{OthersStay, TimeStays}
+use Rattle.co_single.specs.Acts.{OthersStay, TimeStays, NothingFires}
 use Rattle.co_single.specs.Alarms.{alarm_at, fired_at, made_at, waiting_of, but}
 use Rattle.co_itimer.proofs.Counting.{all_gos-same}
-use Rattle.co_itimer.specs.Itimers.{AreArmed, IsKept, NoneFires, due_of}
+use Rattle.co_itimer.specs.Itimers.{AreArmed, IsBetweenTicks, alarm_due}
 use Rattle.co_itimer.specs.Serving.{IsSetTo}
 use Rattle.co_itimer.specs.Timers.{Timers, idle, timer_of, with_timer}
 use Rattle.co_itimer.specs.declared.timer.Timer.{Timer}
@@ -21,7 +21,7 @@ timer-other s i j t h = get_or-set_other s.timers i j t idle h
 
 -- callout i is armed for a time, or for none, and the others stay
 pub record IsSet (p : PassesView) (i : ℕ) (next : Option ℕ) (q : PassesView) : Type 0 where
-  pub due : due_of (alarm_at q i) ≡ next
+  pub due : alarm_due (alarm_at q i) ≡ next
   pub made : made_at q i ≤ made_at p i + 1
   pub fired : fired_at q i ≡ fired_at p i
   pub others : OthersStay p i q
@@ -29,21 +29,21 @@ pub record IsSet (p : PassesView) (i : ℕ) (next : Option ℕ) (q : PassesView)
   pub waiting : waiting_of q ≡ but i (waiting_of p)
 
 pub is-set : (p : PassesView) (i : ℕ) (next : Option ℕ) (q : PassesView) → IsSetTo p i next q → IsSet p i next q
-is-set p i None q h = record { due = ap due_of h.alarm; made = omega (arith, h.made); fired = h.fired; others = h.others; time = h.time; waiting = h.waiting }
-is-set p i (Some due) q h = record { due = ap due_of h.alarm; made = omega (arith, h.made); fired = h.fired; others = h.others; time = h.time; waiting = h.waiting }
+is-set p i None q h = record { due = ap alarm_due h.alarm; made = omega (arith, h.made); fired = h.fired; others = h.others; time = h.time; waiting = h.waiting }
+is-set p i (Some due) q h = record { due = ap alarm_due h.alarm; made = omega (arith, h.made); fired = h.fired; others = h.others; time = h.time; waiting = h.waiting }
 
 -- each callout stands as its process's timer does
-pub are-armed : (p q : PassesView) (i : ℕ) (next : Option ℕ) (s : Timers) (t : Timer) → i < length s.timers → t.next ≡ next → due_of (alarm_at q i) ≡ next → OthersStay p i q → TimeStays p q → AreArmed p s → AreArmed q (with_timer s i t)
+pub are-armed : (p q : PassesView) (i : ℕ) (next : Option ℕ) (s : Timers) (t : Timer) → i < length s.timers → t.next ≡ next → alarm_due (alarm_at q i) ≡ next → OthersStay p i q → TimeStays p q → AreArmed p s → AreArmed q (with_timer s i t)
 are-armed p q i next s t below is due others time a = record {
   count = others.count ∙ (a.count ∙ sym (length-set s.timers i t));
   clock = time.clock ∙ a.clock;
   armed = λ j. elim (cases_eq j i) [
-    | inl same ↦ subst (λ k. due_of (alarm_at q k) ≡ (timer_of (with_timer s i t) k).next) (sym same) (due ∙ (sym is ∙ sym (ap (λ x. x.next) (timer-same s i t below))))
-    | inr differs ↦ ap due_of (others.alarms j differs) ∙ (a.armed j ∙ sym (ap (λ x. x.next) (timer-other s i j t differs)))
+    | inl same ↦ subst (λ k. alarm_due (alarm_at q k) ≡ (timer_of (with_timer s i t) k).next) (sym same) (due ∙ (sym is ∙ sym (ap (λ x. x.next) (timer-same s i t below))))
+    | inr differs ↦ ap alarm_due (others.alarms j differs) ∙ (a.armed j ∙ sym (ap (λ x. x.next) (timer-other s i j t differs)))
   ];
 }
 
-pub is-kept : (p q : PassesView) (i work : ℕ) (s : Timers) (t : Timer) → i < length s.timers → IsSetTo p i t.next q → IsKept p s work → IsKept q (with_timer s i t) (work + 1)
+pub is-kept : (p q : PassesView) (i work : ℕ) (s : Timers) (t : Timer) → i < length s.timers → IsSetTo p i t.next q → IsBetweenTicks p s work → IsBetweenTicks q (with_timer s i t) (work + 1)
 is-kept p q i work s t below h k =
     let e = is-set p i t.next q h in
     record {
@@ -55,7 +55,7 @@ is-kept p q i work s t below h k =
       nothing = e.waiting ∙ ap (but i) k.nothing;
     }
 
-pub none-fires : (p q : PassesView) (i : ℕ) (next : Option ℕ) → IsSetTo p i next q → NoneFires p q
+pub none-fires : (p q : PassesView) (i : ℕ) (next : Option ℕ) → IsSetTo p i next q → NothingFires p q
 none-fires p q i next h =
     let e = is-set p i next q h in
     let each : (j : ℕ) → fired_at q j ≡ fired_at p j = λ j. elim (cases_eq j i) [

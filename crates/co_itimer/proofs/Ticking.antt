@@ -5,13 +5,13 @@ use Rattle.std.specs.declared.option.Option.TheVariants.{Some, None}
 use Rattle.std.proofs.lemmas.List.{same_lists, get_or-map, get_or_default, length-map, length-replicate}
 use Rattle.co_service.specs.Views.{PassesView}
 use Rattle.co_single.specs.Acts.{IsNew, IsScanned}
-use Rattle.co_single.specs.Alarms.{Alarm, alarm_at, all_gos, clock_of, due_once, fired_at, made_at, times_in, waiting_of}
+use Rattle.co_single.specs.Alarms.{Alarm, alarm_at, all_gos, last_scan, due_once, fired_at, made_at, times_in, waiting_of}
 use Rattle.co_itimer.proofs.Counting.{all_gos-more, all_gos-none, counted}
-use Rattle.co_itimer.specs.Itimers.{EachFires, IsKept, IsOpened, due_of, once}
+use Rattle.co_itimer.specs.Itimers.{EachFires, IsBetweenTicks, IsOpened, alarm_due, once}
 use Rattle.co_itimer.specs.Serving.{AllWait, AreServed, IsServedOrWaits, served, waits}
 use Rattle.co_itimer.specs.Timers.{Timers, clock_after, expirations, expires, has_come, idle, opening, ticked, ticked_timer, timer_of}
 
-due-once : (o : Option Alarm) (clock : ℕ) (next : Option ℕ) → due_of o ≡ next → due_once o clock ≡ once (has_come clock next)
+due-once : (o : Option Alarm) (clock : ℕ) (next : Option ℕ) → alarm_due o ≡ next → due_once o clock ≡ once (has_come clock next)
 due-once None clock next h = subst (λ n. 0 ≡ once (has_come clock n)) h refl
 due-once (Some a) clock next h = subst (λ n. due_once (Some a) clock ≡ once (has_come clock n)) h refl
 
@@ -19,8 +19,8 @@ due-once (Some a) clock next h = subst (λ n. due_once (Some a) clock ≡ once (
 abbrev pub advanced : Timers → ℕ → Timers
 advanced s now = record s { clock = clock_after s now }
 
-module _ (work now k : ℕ) (p q : PassesView) (s : Timers) (kept : IsKept p s work) (scan : IsScanned p now k q) where
-  clock-is : clock_of q ≡ clock_after s now
+module _ (work now k : ℕ) (p q : PassesView) (s : Timers) (kept : IsBetweenTicks p s work) (scan : IsScanned p now k q) where
+  clock-is : last_scan q ≡ clock_after s now
   clock-is = scan.clock ∙ ap (λ c. max c now) kept.armed.clock
 
   each-waits : (i : ℕ) → times_in i (waiting_of q) ≡ once (expires (clock_after s now) (timer_of s i))
@@ -31,7 +31,7 @@ module _ (work now k : ℕ) (p q : PassesView) (s : Timers) (kept : IsKept p s w
     armed = record {
       count = scan.callouts.count ∙ kept.armed.count;
       clock = clock-is;
-      armed = λ i. ap due_of (scan.callouts.alarms i) ∙ kept.armed.armed i;
+      armed = λ i. ap alarm_due (scan.callouts.alarms i) ∙ kept.armed.armed i;
     };
     made = λ i. omega (arith, scan.callouts.made i, kept.made i);
     waiting = each-waits;
@@ -82,7 +82,7 @@ module _ (work now k : ℕ) (p q : PassesView) (s : Timers) (kept : IsKept p s w
       all : all_gos r.timers ≡ all_gos p.timers + expirations s now
       all = all_gos-more (expires (clock_after s now)) idle s.timers p.timers r.timers kept.armed.count count fired
 
-    pub kept-after : IsKept r t (work + 1)
+    pub kept-after : IsBetweenTicks r t (work + 1)
     kept-after = record { armed = done.serving.armed; made = λ i. (each i).made; nothing = done.nothing }
 
 -- just opened
@@ -91,9 +91,9 @@ no-timer zero i = refl
 no-timer (suc n) zero = refl
 no-timer (suc n) (suc i) = no-timer n i
 
-pub opens : (n : ℕ) (p : PassesView) → IsNew n p → IsKept p (opening n) 0
+pub opens : (n : ℕ) (p : PassesView) → IsNew n p → IsBetweenTicks p (opening n) 0
 opens n p h = record {
-  armed = record { count = h.count ∙ sym (length-replicate n idle); clock = h.clock; armed = λ i. ap due_of (h.alarms i) ∙ sym (no-timer n i) };
+  armed = record { count = h.count ∙ sym (length-replicate n idle); clock = h.clock; armed = λ i. ap alarm_due (h.alarms i) ∙ sym (no-timer n i) };
   made = λ i. omega (arith, h.made i);
   nothing = h.waiting;
 }

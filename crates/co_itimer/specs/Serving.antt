@@ -2,7 +2,7 @@
 use Rattle.std.specs.Prelude.{◌≡◌, ℕ, ◌+◌, ◌≤◌, true, [], length, Option, Some, None}
 use Rattle.co_service.specs.Views.{PassesView}
 use Rattle.co_single.specs.Acts.{IsArmed, IsDisarmed}
-use Rattle.co_single.specs.Alarms.{made_at, fired_at, scans_of, times_in, waiting_of}
+use Rattle.co_single.specs.Alarms.{made_at, fired_at, scan_times_of, times_in, waiting_of}
 use Rattle.co_itimer.specs.Itimers.{AreArmed, once}
 use Rattle.co_itimer.specs.Timers.{Timers, timer_of, expires, ticked_timer}
 
@@ -32,7 +32,7 @@ pub record AreServing (work : ℕ) (p : PassesView) (s : Timers) (q : PassesView
   pub armed : AreArmed q t
   pub clock : t.clock ≡ s.clock
   pub count : length t.timers ≡ length s.timers
-  pub scans : scans_of q ≡ scans_of p
+  pub scans : scan_times_of q ≡ scan_times_of p
   pub each : (i : ℕ) → IsServedOrWaits work p s q t i
 
 -- behind all of them

@@ -1,6 +1,6 @@
 //! The interval timers alone, without a service.
 ghost use Rattle.std.specs.Prelude.{◌≡◌, ◌≤◌, ◌<◌, ◌+◌, true, length, IfOk, replicate, ◌-◌, ◌^◌, ◌++◌, ◌∷◌, [], OnOk, slice_set};
-ghost use Rattle.co_itimer.specs.Timers.{idle, opening, timer_of, with_timer, value_of, set, set_timer, until, expires, expired, alarm_of, alarmed, following, clock_after};
+ghost use Rattle.co_itimer.specs.Timers.{idle, opening, timer_of, with_timer, value_of, set, set_timer, time_left, expires, expired, alarm_of, alarmed, following, clock_after};
 
 use crate::timer::{Itimerval, Timer};
 use co_sbt::{NoMemory, Sbt, Seq};
@@ -67,7 +67,7 @@ fn idle_timers(alloc: Global, processes: u32) -> Result<Seq<Timer>, NoMemory>
 
 /// How long it is until the next expiration.
 fn until(now: Sbt, next: Option<Sbt>) -> Sbt
-    ensures { result ≡ until now next }
+    ensures { result ≡ time_left now next }
 {
     match next {
         Some(time) if time > now => difference(time, now),

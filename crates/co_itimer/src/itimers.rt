@@ -1,6 +1,7 @@
 //! Interval timers over a service.
 ghost use Rattle.std.specs.Prelude.{◌≡◌, ◌+◌, ◌<◌, ◌≤◌, ◌^◌, IfOk, length};
-ghost use Rattle.co_itimer.specs.Itimers.{EachFires, IsOpened, NoneFires};
+ghost use Rattle.co_itimer.specs.Itimers.{EachFires, IsOpened};
+ghost use Rattle.co_single.specs.Acts.{NothingFires};
 ghost use Rattle.co_itimer.specs.Timers.{alarm_of, alarmed, clock_after, expirations, set, ticked, value_of};
 
 use crate::book::Book;
@@ -26,13 +27,13 @@ pub struct Itimers<N: Name> {
 }
 
 impl<N: Name> Model for Itimers<N> {
-    ghost use Rattle.co_itimer.specs.Itimers.{IsKept, ItimersView};
+    ghost use Rattle.co_itimer.specs.Itimers.{IsBetweenTicks, ItimersView};
 
     ghost Value = { ItimersView };
 
     ghost view = { λ s. record { alone = s.book; seen = s.single; work = s.work } };
 
-    ghost invariant = { λ s. IsKept s.single s.book s.work };
+    ghost invariant = { λ s. IsBetweenTicks s.single s.book s.work };
 }
 
 impl Itimers<Brand> {
@@ -72,7 +73,7 @@ impl<N: Name> Itimers<N> {
         requires work { self.old.work < 2 ^ 62 }
         ensures answer { result ≡ value_of self.old.alone p }
         ensures alone { self.new.alone ≡ set self.old.alone p to }
-        ensures seen { NoneFires self.old.seen self.new.seen }
+        ensures seen { NothingFires self.old.seen self.new.seen }
         ensures work { self.new.work ≡ self.old.work + 1 }
     {
         let was = self.book.set(p, to);

@@ -1,7 +1,7 @@
 //! What is due expires.
 ghost use Rattle.std.specs.Prelude.{◌<◌, ◌^◌};
 ghost use Rattle.co_itimer.specs.Serving.{AllWait, AreServed, IsArmedAgain, IsSetTo};
-ghost use Rattle.co_single.specs.Alarms.{count_of, made_at};
+ghost use Rattle.co_single.specs.Alarms.{callout_count, made_at};
 
 use crate::book::Book;
 use co_sbt::Sbt;
@@ -17,7 +17,7 @@ pub(crate) fn set_to<N: Name, R: Wait>(
     p: u32,
     next: Option<Sbt>,
 )
-    requires callout { p < count_of single.old }
+    requires callout { p < callout_count single.old }
     requires made { made_at single.old p < 2 ^ 62 }
     ensures { IsSetTo single.old p next single.new }
 {
@@ -29,7 +29,7 @@ pub(crate) fn set_to<N: Name, R: Wait>(
 
 /// Arms a callout that has fired again, where its process has a next time.
 fn arm_again<N: Name, R: Wait>(rt: &R, act: u64, single: &mut Single<N>, p: u32, next: Option<Sbt>)
-    requires callout { p < count_of single.old }
+    requires callout { p < callout_count single.old }
     requires made { made_at single.old p < 2 ^ 62 }
     ensures { IsArmedAgain single.old p next single.new }
 {

@@ -6,8 +6,8 @@ use Rattle.co_single.specs.Alarms.{alarm_at}
 use Rattle.co_kq.specs.declared.knote.Slot.{Slot}
 use Rattle.co_kq.specs.declared.numbers.Use.{Use}
 use Rattle.co_kq.specs.declared.numbers.Use.TheVariants.{Free, Stale, Held}
-use Rattle.co_kq.specs.Numbers.{is_held, use_at, AreNumbered, AreArmed}
-use Rattle.co_kq.specs.Ticks.{AreCleared, IsTurned}
+use Rattle.co_kq.specs.Numbers.{is_held, use_at, HaveOwnCallouts, AreArmed}
+use Rattle.co_kq.specs.Ticks.{AreCleared, StaysOrIsFreed}
 use Rattle.co_kq.proofs.Counting.{count_same}
 
 free_stale : Free ≡ Stale → ⊥
@@ -24,7 +24,7 @@ cleared_none uses p = record {
   waiting = λ nothing. nothing;
 }
 
-turned_more : (u v w : List Use) (p q r : PassesView) (t : ℕ) → IsTurned u p v q t → IsTurned v q w r t → IsTurned u p w r t
+turned_more : (u v w : List Use) (p q r : PassesView) (t : ℕ) → StaysOrIsFreed u p v q t → StaysOrIsFreed v q w r t → StaysOrIsFreed u p w r t
 turned_more u v w p q r t (inl a) (inl b) = inl (b.0 ∙ a.0, b.1 ∙ a.1)
 turned_more u v w p q r t (inl a) (inr b) = inr (sym a.0 ∙ b.0, b.1, b.2)
 turned_more u v w p q r t (inr a) (inl b) = inr (a.0, b.0 ∙ a.1, b.1 ∙ a.2)
@@ -63,7 +63,7 @@ cleared_held u v p q t key a held = elim (a.turned t) [
   | inr turned ↦ absurd (held_stale key (sym held ∙ turned.0))
 ]
 
-pub cleared_numbered : (u v : List Use) (p q : PassesView) (slots : List (Option Slot)) → AreCleared u p v q → AreNumbered (length u) slots u → AreNumbered (length v) slots v
+pub cleared_numbered : (u v : List Use) (p q : PassesView) (slots : List (Option Slot)) → AreCleared u p v q → HaveOwnCallouts (length u) slots u → HaveOwnCallouts (length v) slots v
 cleared_numbered u v p q slots a n = record {
   all = refl;
   held = λ key s at. (cleared_held u v p q s.timer key a (n.held key s at)).0;
@@ -80,7 +80,7 @@ cleared_numbered u v p q slots a n = record {
       ∙ n.many;
 }
 
-pub cleared_armed : (u v : List Use) (p q : PassesView) (slots : List (Option Slot)) (work : ℕ) → AreCleared u p v q → AreNumbered (length u) slots u → AreArmed work slots u p → AreArmed work slots v q
+pub cleared_armed : (u v : List Use) (p q : PassesView) (slots : List (Option Slot)) (work : ℕ) → AreCleared u p v q → HaveOwnCallouts (length u) slots u → AreArmed work slots u p → AreArmed work slots v q
 cleared_armed u v p q slots work a n armed = record {
   knotes = λ key s at. (cleared_held u v p q s.timer key a (n.held key s at)).1 ∙ armed.knotes key s at;
   counts = armed.counts;

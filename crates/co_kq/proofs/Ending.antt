@@ -7,15 +7,15 @@ use Rattle.std.proofs.lemmas.List.Sums.{sum_by-cons}
 use Rattle.slab.specs.Slab.{Slab}
 use Rattle.co_service.specs.Views.{PassesView}
 use Rattle.co_single.specs.Acts.{IsScanned}
-use Rattle.co_single.specs.Alarms.{alarm_at, all_gos, clock_of, waiting_of, times_in, due_once}
+use Rattle.co_single.specs.Alarms.{alarm_at, all_gos, last_scan, waiting_of, times_in, due_once}
 use Rattle.co_kq.specs.declared.knote.Knote.{Knote}
 use Rattle.co_kq.specs.declared.knote.Slot.{Slot}
 use Rattle.co_kq.specs.declared.numbers.Use.{Use}
 use Rattle.co_kq.specs.declared.numbers.Use.TheVariants.{Stale}
 use Rattle.co_kq.specs.Kevents.{knote_of, expires, expired, ticked, ticked_knote, expirations}
 use Rattle.co_kq.specs.Slots.{slot_at, knotes_in, ticked_slot, slot_expires, AreDistinct}
-use Rattle.co_kq.specs.Numbers.{use_at, is_held, AreNumbered, AreArmed, AreKept, IsKq, KqView, HasTimer, FiresCounted, list_of, callouts_in, callout_of}
-use Rattle.co_kq.specs.Ticks.{AreCleared, AreDue, IsServing, part_ticked, slot_waits}
+use Rattle.co_kq.specs.Numbers.{use_at, is_held, HaveOwnCallouts, AreArmed, AreKept, IsKq, KqView, HasTimer, FiresCounted, kevents_in, callouts_in, ident_callout}
+use Rattle.co_kq.specs.Ticks.{AreCleared, AreDue, IsTicking, part_ticked, slot_waits}
 use Rattle.co_kq.proofs.InSlots.{some_is, found}
 use Rattle.co_kq.proofs.Counting.{one_if, count_twice, gos_same}
 use Rattle.co_kq.proofs.Clearing.{cleared_numbered, cleared_armed}
@@ -51,7 +51,7 @@ callouts_ticked now (Some s ∷ ss) =
 test_is : (a b : ℕ) → (a == b) ≡ true → a ≡ b
 test_is a b h = grind (arith, nat_tests)
 
-callout_slot : (slots : List (Option Slot)) (ident number : ℕ) → callout_of ident (callouts_in slots) ≡ Some number
+callout_slot : (slots : List (Option Slot)) (ident number : ℕ) → ident_callout ident (callouts_in slots) ≡ Some number
     → (key : ℕ) × ((s : Slot) × (slot_at slots key ≡ Some s) × (s.knote.ident ≡ ident) × (s.timer ≡ number))
 callout_slot [] ident number h = let never : None ≡ Some number = h in cc
 callout_slot (None ∷ ss) ident number h = let r = callout_slot ss ident number h in (suc r.0, r.1)
@@ -60,13 +60,13 @@ callout_slot (Some s ∷ ss) ident number h = go (s.knote.ident == ident) refl (
   number_or d None = d
   number_or d (Some n) = n
 
-  go : (b : Bool) → (s.knote.ident == ident) ≡ b → (callout_of ident (callouts_in ss) ≡ Some number → (key : ℕ) × ((t : Slot) × (slot_at ss key ≡ Some t) × (t.knote.ident ≡ ident) × (t.timer ≡ number)))
+  go : (b : Bool) → (s.knote.ident == ident) ≡ b → (ident_callout ident (callouts_in ss) ≡ Some number → (key : ℕ) × ((t : Slot) × (slot_at ss key ≡ Some t) × (t.knote.ident ≡ ident) × (t.timer ≡ number)))
       → (key : ℕ) × ((t : Slot) × (slot_at (Some s ∷ ss) key ≡ Some t) × (t.knote.ident ≡ ident) × (t.timer ≡ number))
   go true e behind =
-      let is : Some s.timer ≡ Some number = sym (ap (λ b. cond b (Some s.timer) (callout_of ident (callouts_in ss))) e) ∙ h in
+      let is : Some s.timer ≡ Some number = sym (ap (λ b. cond b (Some s.timer) (ident_callout ident (callouts_in ss))) e) ∙ h in
       (0, (s, refl, test_is s.knote.ident ident e, ap (number_or 0) is))
   go false e behind =
-      let rest : callout_of ident (callouts_in ss) ≡ Some number = sym (ap (λ b. cond b (Some s.timer) (callout_of ident (callouts_in ss))) e) ∙ h in
+      let rest : ident_callout ident (callouts_in ss) ≡ Some number = sym (ap (λ b. cond b (Some s.timer) (ident_callout ident (callouts_in ss))) e) ∙ h in
       let r = behind rest in
       (suc r.0, r.1)
 
@@ -83,7 +83,7 @@ none_wait (Some s ∷ ss) = let a = sum_by-cons (λ o. one_if (slot_waits [] o))
 
 module _ (clock now after room work k : ℕ) (knotes : Slab Slot) (u v : List Use) (p q r : PassesView)
     (kq : IsKq clock room work knotes u p) (low : work < 2 ^ 62) (cleared : AreCleared u p v q) (clear : (i : ℕ) → use_at v i ≢ Stale) (scan : IsScanned q now k r) (later : after ≡ max clock now) where
-  clock_is : clock_of r ≡ after
+  clock_is : last_scan r ≡ after
   clock_is = scan.clock ∙ (ap (λ t. max t now) (cleared.time.clock ∙ kq.last) ∙ sym later)
 
   scanned_armed : AreArmed work knotes.slots v r
@@ -107,7 +107,7 @@ module _ (clock now after room work k : ℕ) (knotes : Slab Slot) (u v : List Us
     low = low;
   }
 
-  module _ (new : Slab Slot) (w : PassesView) (far : IsServing after work knotes.slots v r new.slots w) (nothing : waiting_of w ≡ []) where
+  module _ (new : Slab Slot) (w : PassesView) (far : IsTicking after work knotes.slots v r new.slots w) (nothing : waiting_of w ≡ []) where
     ended : (o : Option Slot) → part_ticked after [] o ≡ ticked_slot after o
     ended None = refl
     ended (Some s) = refl
@@ -121,7 +121,7 @@ module _ (clock now after room work k : ℕ) (knotes : Slab Slot) (u v : List Us
     at_end : (key : ℕ) → slot_at new.slots key ≡ ticked_slot after (slot_at knotes.slots key)
     at_end key = ap (λ l. slot_at l key) all_ticked ∙ ticked_at after knotes.slots key
 
-    pub new_list : list_of after new.slots ≡ ticked (list_of clock knotes.slots) now
+    pub new_list : kevents_in after new.slots ≡ ticked (kevents_in clock knotes.slots) now
     new_list =
         ap (λ ks. record { clock = after; knotes = ks }) (ap knotes_in all_ticked ∙ ticked_list after knotes.slots)
         ∙ ap (λ t. record { clock = t; knotes = map (ticked_knote t) (knotes_in knotes.slots) }) later
@@ -141,7 +141,7 @@ module _ (clock now after room work k : ℕ) (knotes : Slab Slot) (u v : List Us
     none_long : length (waiting_of w) ≡ 0
     none_long = ap length nothing
 
-    pub new_numbered : AreNumbered (length v) new.slots v
+    pub new_numbered : HaveOwnCallouts (length v) new.slots v
     new_numbered = record {
       all = refl;
       held = λ key s at. let x = was_at key s at in ap (use_at v) (sym x.2) ∙ are_due.numbered.held key x.0 x.1;
@@ -194,7 +194,7 @@ module _ (clock now after room work k : ℕ) (knotes : Slab Slot) (u v : List Us
       test true h = ap (λ n. nat_lt 0 n) h
       test false h = ap (λ n. nat_lt 0 n) h
 
-    pub new_answer : k ≡ expirations (list_of clock knotes.slots) now
+    pub new_answer : k ≡ expirations (kevents_in clock knotes.slots) now
     new_answer =
         let same : count_by (slot_waits (waiting_of r)) knotes.slots ≡ count_by (slot_expires after) knotes.slots = count_twice (slot_waits (waiting_of r)) (slot_expires after) None knotes.slots (λ j. waits_expires j (slot_at knotes.slots j) refl) in
         let none : count_by (slot_waits (waiting_of w)) knotes.slots ≡ 0 = ap (λ ws. count_by (slot_waits ws) knotes.slots) nothing ∙ none_wait knotes.slots in
@@ -202,10 +202,10 @@ module _ (clock now after room work k : ℕ) (knotes : Slab Slot) (u v : List Us
         total ∙ (expirations_in after knotes.slots ∙ ap (λ t. count_by (expires t) (knotes_in knotes.slots)) later)
 
     abbrev old_view : KqView
-    old_view = record { room = room; work = work; list = list_of clock knotes.slots; passes = p; callouts = callouts_in knotes.slots }
+    old_view = record { room = room; work = work; list = kevents_in clock knotes.slots; passes = p; callouts = callouts_in knotes.slots }
 
     abbrev new_view : KqView
-    new_view = record { room = room; work = work + 1; list = list_of after new.slots; passes = w; callouts = callouts_in new.slots }
+    new_view = record { room = room; work = work + 1; list = kevents_in after new.slots; passes = w; callouts = callouts_in new.slots }
 
     pub new_counts : FiresCounted old_view now k new_view
     new_counts = record {
@@ -223,7 +223,7 @@ module _ (clock now after room work k : ℕ) (knotes : Slab Slot) (u v : List Us
           let counted : s.knote.count ≡ before.count = ap (λ (n : Knote). n.count) is in (
             t.knote,
             ap (λ i. knote_of i (knotes_in new.slots)) (sym ident_is) ∙ found new.slots c.0 t now_there (new_distinct c.0 t now_there),
-            ap (callout_of ident) (ap callouts_in all_ticked ∙ callouts_ticked after knotes.slots) ∙ of,
+            ap (ident_callout ident) (ap callouts_in all_ticked ∙ callouts_ticked after knotes.slots) ∙ of,
             omega (arith, count, counted, times, far.fired number, none_left number, scan.callouts.fired number, cleared.fired number),
           );
       all =

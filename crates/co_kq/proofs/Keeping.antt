@@ -7,7 +7,7 @@ use Rattle.co_single.specs.Alarms.{alarm_at, made_at}
 use Rattle.co_kq.specs.declared.knote.Slot.{Slot}
 use Rattle.co_kq.specs.declared.numbers.Use.{Use}
 use Rattle.co_kq.specs.declared.numbers.Use.TheVariants.{Free, Stale, Held}
-use Rattle.co_kq.specs.Numbers.{is_held, use_at, alarm_for, use_after, left_use, AreNumbered, AreArmed, HasTimer}
+use Rattle.co_kq.specs.Numbers.{is_held, use_at, alarm_for, use_after, left_use, HaveOwnCallouts, AreArmed, HasTimer}
 use Rattle.co_kq.proofs.InSlots.{some_is}
 
 pub held_is : (a b : ℕ) → Held a ≡ Held b → a ≡ b
@@ -35,7 +35,7 @@ IsSole uses key number = (j : ℕ) → j ≢ number → use_at uses j ≢ Held k
 module _ (old new : Slab Slot) (before after : List Use) (key number : ℕ) where
   pub numbered_put : (y : Slot) → y.timer ≡ number → Updates old new key (Some y) → ChangesUse before after number (Held key) → length after ≡ length before
       → IsOwn old key number → IsSole before key number → count_by is_held after ≡ count_by is_some new.slots
-      → AreNumbered (length before) old.slots before → AreNumbered (length after) new.slots after
+      → HaveOwnCallouts (length before) old.slots before → HaveOwnCallouts (length after) new.slots after
   numbered_put y timer updates uses long own sole many n = record {
     all = refl;
     held = λ j s at. elim (cases_eq j key) [
@@ -93,7 +93,7 @@ module _ (old new : Slab Slot) (before after : List Use) (key number : ℕ) wher
 
   pub numbered_gone : (x : Slot) → get old key ≡ Some x → x.timer ≡ number → Updates old new key None → ChangesUse before after number (left_use x) → length after ≡ length before
       → count_by is_held after ≡ count_by is_some new.slots
-      → AreNumbered (length before) old.slots before → AreNumbered (length after) new.slots after
+      → HaveOwnCallouts (length before) old.slots before → HaveOwnCallouts (length after) new.slots after
   numbered_gone x was timer updates uses long many n = record {
     all = refl;
     held = λ j s at. elim (cases_eq j key) [

@@ -4,14 +4,14 @@ use Rattle.std.proofs.lemmas.Bool.{cases_eq, cases_lt}
 use Rattle.std.proofs.lemmas.List.{get_or-set_same, get_or-set_other, get_or_past, length-set}
 use Rattle.slab.specs.Slab.{Slab, Updates, get}
 use Rattle.co_service.specs.Views.{PassesView}
-use Rattle.co_single.specs.Acts.{IsArmed}
+use Rattle.co_single.specs.Acts.{IsArmed, NothingFires}
 use Rattle.co_single.specs.Alarms.{fired_at, but}
 use Rattle.co_kq.specs.declared.knote.Knote.{Knote}
 use Rattle.co_kq.specs.declared.knote.Slot.{Slot}
 use Rattle.co_kq.specs.declared.numbers.Use.{Use}
 use Rattle.co_kq.specs.declared.numbers.Use.TheVariants.{Free, Held}
 use Rattle.co_kq.specs.Changes.{told_slot, IsKnotePut, IsSlotChanged}
-use Rattle.co_kq.specs.Numbers.{is_held, use_at, alarm_for, use_after, left_use, AreKept, CanPlace, HasTimer, IsPut, NothingFires}
+use Rattle.co_kq.specs.Numbers.{is_held, use_at, alarm_for, use_after, left_use, AreKept, CanPlace, HasTimer, IsPut}
 use Rattle.co_kq.proofs.InSlots.{some_is}
 use Rattle.co_kq.proofs.Counting.{one_if, count_changed, gos_same}
 use Rattle.co_kq.proofs.Keeping.{ChangesUse, IsOwn, IsSole, held_is, numbered_put, armed_put, numbered_gone, armed_gone}

@@ -12,8 +12,8 @@ use Rattle.co_kq.specs.declared.numbers.Use.{Use}
 use Rattle.co_kq.specs.declared.numbers.Use.TheVariants.{Free, Stale, Held}
 use Rattle.co_kq.specs.Kevents.{expires, expired, has_come}
 use Rattle.co_kq.specs.Slots.{slot_at, ticked_slot}
-use Rattle.co_kq.specs.Numbers.{use_at, is_held, alarm_for, next_of, HasTimer}
-use Rattle.co_kq.specs.Ticks.{AreDue, CanServe, IsReady, IsServed, IsServing, IsOver, part_ticked, slot_waits, waits}
+use Rattle.co_kq.specs.Numbers.{use_at, is_held, alarm_for, next_time, HasTimer}
+use Rattle.co_kq.specs.Ticks.{AreDue, CanServe, IsKnoteDue, IsKnoteExpired, IsTicking, HasNothingWaiting, part_ticked, slot_waits, is_waiting_in}
 use Rattle.co_kq.proofs.InSlots.{some_is, is_within}
 use Rattle.co_kq.proofs.Keeping.{held_is}
 use Rattle.co_kq.proofs.Counting.{one_if, count_one_more, gos_one_more, gos_same}
@@ -48,7 +48,7 @@ but_absent i (w ∷ ws) h = elim (cases_eq i w) [
 
 -- one is served
 
-pub first_ready : (now : ℕ) (slots : List (Option Slot)) (uses : List Use) (p m : PassesView) (i arg : ℕ) → CanServe now slots uses p → IsFired p i arg m → IsReady now slots uses p i
+pub first_ready : (now : ℕ) (slots : List (Option Slot)) (uses : List Use) (p m : PassesView) (i arg : ℕ) → CanServe now slots uses p → IsFired p i arg m → IsKnoteDue now slots uses p i
 first_ready now slots uses p m i arg can fired =
     let one : times_in i (waiting_of p) ≡ 1 + times_in i (waiting_of m) = ap (times_in i) fired.waiting ∙ times_head i (waiting_of m) in
     can.ready i (omega (arith, one))
@@ -58,16 +58,16 @@ rest_lacks now slots uses p m i arg can fired =
     let one : times_in i (waiting_of p) ≡ 1 + times_in i (waiting_of m) = ap (times_in i) fired.waiting ∙ times_head i (waiting_of m) in
     omega (arith, one, can.once i)
 
-next_is : (now : ℕ) (slots : List (Option Slot)) (key : ℕ) (s : Slot) → slot_at slots key ≡ Some s → expires now s.knote ≡ true → next_of now (slot_at slots key) ≡ (expired s.knote).next
-next_is now slots key s at comes = ap (next_of now) at ∙ ap (λ b. cond b (expired s.knote).next None) comes
+next_is : (now : ℕ) (slots : List (Option Slot)) (key : ℕ) (s : Slot) → slot_at slots key ≡ Some s → expires now s.knote ≡ true → next_time now (slot_at slots key) ≡ (expired s.knote).next
+next_is now slots key s at comes = ap (next_time now) at ∙ ap (λ b. cond b (expired s.knote).next None) comes
 
 ticked_is : (now : ℕ) (o : Option Slot) (s : Slot) → o ≡ Some s → expires now s.knote ≡ true → ticked_slot now o ≡ Some (record s { knote = expired s.knote })
 ticked_is now o s at comes = ap (ticked_slot now) at ∙ ap (λ b. Some (record s { knote = cond b (expired s.knote) s.knote })) comes
 
 module _ (now : ℕ) (slots after : List (Option Slot)) (uses : List Use) (p m q : PassesView) (i arg key : ℕ) where
   served_with : CanServe now slots uses p → IsFired p i arg m → use_at uses i ≡ Held key → after ≡ set slots key (ticked_slot now (slot_at slots key))
-      → (next : Option ℕ) → next_of now (slot_at slots key) ≡ next → alarm_at q i ≡ alarm_for next → made_at q i ≤ made_at m i + 1 → fired_at q i ≡ fired_at m i → OthersStay m i q → TimeStays m q → waiting_of q ≡ waiting_of m
-      → IsServed now slots uses p after q
+      → (next : Option ℕ) → next_time now (slot_at slots key) ≡ next → alarm_at q i ≡ alarm_for next → made_at q i ≤ made_at m i + 1 → fired_at q i ≡ fired_at m i → OthersStay m i q → TimeStays m q → waiting_of q ≡ waiting_of m
+      → IsKnoteExpired now slots uses p after q
   served_with can fired held written next is alarm made gos others time waiting =
       let ready = first_ready now slots uses p m i arg can fired in
       let same : ready.key ≡ key = held_is ready.key key (sym ready.held ∙ held) in
@@ -96,13 +96,13 @@ module _ (now : ℕ) (slots after : List (Option Slot)) (uses : List Use) (p m q
       }
 
   pub served_armed : CanServe now slots uses p → IsFired p i arg m → use_at uses i ≡ Held key → after ≡ set slots key (ticked_slot now (slot_at slots key))
-      → (next : ℕ) → next_of now (slot_at slots key) ≡ Some next → IsArmed m i next 0 q → IsServed now slots uses p after q
+      → (next : ℕ) → next_time now (slot_at slots key) ≡ Some next → IsArmed m i next 0 q → IsKnoteExpired now slots uses p after q
   served_armed can fired held written next is a =
       served_with can fired held written (Some next) is a.alarm (omega (arith, a.made)) a.fired a.others a.time
       (a.waiting ∙ but_absent i (waiting_of m) (rest_lacks now slots uses p m i arg can fired))
 
 pub served_bare : (now : ℕ) (slots after : List (Option Slot)) (uses : List Use) (p m : PassesView) (i arg key : ℕ) → CanServe now slots uses p → IsFired p i arg m → use_at uses i ≡ Held key
-    → after ≡ set slots key (ticked_slot now (slot_at slots key)) → next_of now (slot_at slots key) ≡ None → IsServed now slots uses p after m
+    → after ≡ set slots key (ticked_slot now (slot_at slots key)) → next_time now (slot_at slots key) ≡ None → IsKnoteExpired now slots uses p after m
 served_bare now slots after uses p m i arg key can fired held written is =
     served_with now slots after uses p m m i arg key can fired held written None is fired.alarm (omega arith) refl
     (record { count = refl; alarms = λ j d. refl; made = λ j d. refl; fired = λ j d. refl })
@@ -156,7 +156,7 @@ module _ (now work : ℕ) (before : List (Option Slot)) (uses : List Use) (p : P
   -- a slot keeps its callout
   pub part_timer : (ws : List ℕ) (o : Option Slot) (s : Slot) → part_ticked now ws o ≡ Some s → (x : Slot) × (o ≡ Some x) × (x.timer ≡ s.timer)
   part_timer ws None s h = let never : None ≡ Some s = h in cc
-  part_timer ws (Some x) s h = go (waits ws x.timer) h where
+  part_timer ws (Some x) s h = go (is_waiting_in ws x.timer) h where
     timer_or : ℕ → Option Slot → ℕ
     timer_or d None = d
     timer_or d (Some s) = s.timer
@@ -165,7 +165,7 @@ module _ (now work : ℕ) (before : List (Option Slot)) (uses : List Use) (p : P
     go true e = (x, refl, ap (timer_or 0) e)
     go false e = (x, refl, ap (timer_or 0) e)
 
-  pub begins : IsServing now work before uses p before p
+  pub begins : IsTicking now work before uses p before p
   begins = record {
     same = refl;
     part = λ key. whole key (slot_at before key) refl;
@@ -186,16 +186,16 @@ module _ (now work : ℕ) (before : List (Option Slot)) (uses : List Use) (p : P
     whole : (key : ℕ) (o : Option Slot) → slot_at before key ≡ o → slot_at before key ≡ part_ticked now (waiting_of p) (slot_at before key)
     whole key None at = subst (λ o. o ≡ part_ticked now (waiting_of p) o) (sym at) refl
     whole key (Some s) at =
-        let test : waits (waiting_of p) s.timer ≡ expires now s.knote = ap (nat_lt 0) (wait_is key s at) ∙ test_one_if (expires now s.knote) in
+        let test : is_waiting_in (waiting_of p) s.timer ≡ expires now s.knote = ap (nat_lt 0) (wait_is key s at) ∙ test_one_if (expires now s.knote) in
         subst (λ o. o ≡ part_ticked now (waiting_of p) o) (sym at)
         (stays s (expires now s.knote) refl ∙ ap (λ b. cond b (Some s) (ticked_slot now (Some s))) (sym test))
 
-  module _ (slots : List (Option Slot)) (q : PassesView) (far : IsServing now work before uses p slots q) where
+  module _ (slots : List (Option Slot)) (q : PassesView) (far : IsTicking now work before uses p slots q) where
     -- a slot whose callout still waits is as it was
     unserved : (key : ℕ) (s : Slot) → slot_at slots key ≡ Some s → 0 < times_in s.timer (waiting_of q) → slot_at before key ≡ Some s
     unserved key s at h =
         let x = part_timer (waiting_of q) (slot_at before key) s (sym (far.part key) ∙ at) in
-        let still : waits (waiting_of q) x.0.timer ≡ true = lt-ltb 0 (times_in x.0.timer (waiting_of q)) (subst (λ t. 0 < times_in t (waiting_of q)) (sym x.2) h) in
+        let still : is_waiting_in (waiting_of q) x.0.timer ≡ true = lt-ltb 0 (times_in x.0.timer (waiting_of q)) (subst (λ t. 0 < times_in t (waiting_of q)) (sym x.2) h) in
         let is : Some s ≡ Some x.0 = sym at ∙ (far.part key ∙ (ap (part_ticked now (waiting_of q)) x.1 ∙ ap (λ b. cond b (Some x.0) (ticked_slot now (Some x.0))) still)) in
         x.1 ∙ sym is
 
@@ -203,7 +203,7 @@ module _ (now work : ℕ) (before : List (Option Slot)) (uses : List Use) (p : P
     slot_of : (i key : ℕ) → use_at uses i ≡ Held key → 0 < times_in i (waiting_of q) → (s : Slot) × (slot_at before key ≡ Some s) × (slot_at slots key ≡ Some s) × (s.timer ≡ i)
     slot_of i key held h =
         let had : HasTimer before key i = due.numbered.kept i key held in
-        let still : waits (waiting_of q) had.slot.timer ≡ true = lt-ltb 0 (times_in had.slot.timer (waiting_of q)) (subst (λ t. 0 < times_in t (waiting_of q)) (sym had.timer) h) in (
+        let still : is_waiting_in (waiting_of q) had.slot.timer ≡ true = lt-ltb 0 (times_in had.slot.timer (waiting_of q)) (subst (λ t. 0 < times_in t (waiting_of q)) (sym had.timer) h) in (
           had.slot,
           had.there,
           far.part key ∙ (ap (part_ticked now (waiting_of q)) had.there ∙ ap (λ b. cond b (Some had.slot) (ticked_slot now (Some had.slot))) still),
@@ -230,7 +230,7 @@ module _ (now work : ℕ) (before : List (Option Slot)) (uses : List Use) (p : P
       callouts = far.count ∙ due.callouts;
     }
 
-    module _ (after : List (Option Slot)) (r : PassesView) (one : IsServed now slots uses q after r) where
+    module _ (after : List (Option Slot)) (r : PassesView) (one : IsKnoteExpired now slots uses q after r) where
       lacks : times_in one.number (waiting_of r) ≡ 0
       lacks = let h : times_in one.number (waiting_of q) ≡ 1 + times_in one.number (waiting_of r) = ap (times_in one.number) one.waiting ∙ times_head one.number (waiting_of r) in omega (arith, h, far.some one.number, few one.number)
 
@@ -268,16 +268,16 @@ module _ (now work : ℕ) (before : List (Option Slot)) (uses : List Use) (p : P
       same_wait key None at differs = refl
       same_wait key (Some s) at differs = ap (nat_lt 0) (same_times s.timer (other key s at differs))
 
-      waits_no_more : waits (waiting_of r) one.slot.timer ≡ false
+      waits_no_more : is_waiting_in (waiting_of r) one.slot.timer ≡ false
       waits_no_more = ap (λ t. nat_lt 0 (times_in t (waiting_of r))) one.timer ∙ ap (nat_lt 0) lacks
 
-      waited : waits (waiting_of q) one.slot.timer ≡ true
+      waited : is_waiting_in (waiting_of q) one.slot.timer ≡ true
       waited = ap (λ t. nat_lt 0 (times_in t (waiting_of q))) one.timer ∙ ap (nat_lt 0) once
 
       pub fewer : length (waiting_of q) ≡ length (waiting_of r) + 1
       fewer = let h : length (waiting_of q) ≡ length (one.number ∷ waiting_of r) = ap length one.waiting in omega (arith, h)
 
-      pub serves_on : IsServing now work before uses p after r
+      pub serves_on : IsTicking now work before uses p after r
       serves_on = record {
         same = ap length one.written ∙ (length-set slots one.key (Some new_slot) ∙ far.same);
         part = λ key. elim (cases_eq key one.key) [
@@ -328,7 +328,7 @@ module _ (now work : ℕ) (before : List (Option Slot)) (uses : List Use) (p : P
       }
 
     -- and at the end nothing changes
-    pub serves_last : (after : List (Option Slot)) (r : PassesView) → IsOver slots q after r → IsServing now work before uses p after r
+    pub serves_last : (after : List (Option Slot)) (r : PassesView) → HasNothingWaiting slots q after r → IsTicking now work before uses p after r
     serves_last after r over =
         let wait : waiting_of r ≡ waiting_of q = over.waiting ∙ sym over.nothing in
         record {

@@ -3,13 +3,14 @@ use Rattle.std.specs.Prelude.{◌≡◌, ◌≢◌, ℕ, ◌<◌, ◌≤◌, ◌
 use Rattle.std.specs.List.{count_by}
 use Rattle.slab.specs.Slab.{Slab, slab_len}
 use Rattle.co_service.specs.Views.{PassesView}
-use Rattle.co_single.specs.Alarms.{Alarm, count_of, alarm_at, made_at, fired_at, all_gos, scans_of, clock_of, waiting_of}
+use Rattle.co_single.specs.Alarms.{Alarm, callout_count, alarm_at, made_at, fired_at, all_gos, scan_times_of, last_scan, waiting_of}
 use Rattle.co_kq.specs.declared.knote.Slot.{Slot}
 use Rattle.co_kq.specs.declared.numbers.Use.{Use}
 use Rattle.co_kq.specs.declared.numbers.Use.TheVariants.{Free, Stale, Held}
 use Rattle.co_kq.specs.declared.knote.Knote.{Knote}
 use Rattle.co_kq.specs.Kevents.{Kevents, opening, put, knote_of, expires, expired}
-use Rattle.co_kq.specs.Slots.{slot_at, knotes_in, AreDistinct, IsAbsent}
+use Rattle.co_kq.specs.Slots.{slot_at, knotes_in, AreDistinct, HasNoIdent}
+use Rattle.co_single.specs.Acts.{NothingFires}
 
 abbrev pub is_held : Use → Bool
 is_held Free = false
@@ -31,7 +32,7 @@ pub record HasTimer (slots : List (Option Slot)) (key number : ℕ) : Type 0 whe
   pub timer : slot.timer ≡ number
 
 -- each knote has a callout of its own, and each callout that is held has its knote
-pub record AreNumbered (room : ℕ) (slots : List (Option Slot)) (uses : List Use) : Type 0 where
+pub record HaveOwnCallouts (room : ℕ) (slots : List (Option Slot)) (uses : List Use) : Type 0 where
   pub all : length uses ≡ room
   pub held : (key : ℕ) (s : Slot) → slot_at slots key ≡ Some s → use_at uses s.timer ≡ Held key
   pub kept : (number key : ℕ) → use_at uses number ≡ Held key → HasTimer slots key number
@@ -52,9 +53,9 @@ pub record AreArmed (work : ℕ) (slots : List (Option Slot)) (uses : List Use) 
 -- what the knotes, the uses of the callouts and the service keep between two calls
 pub record AreKept (work : ℕ) (slots : List (Option Slot)) (uses : List Use) (p : PassesView) : Type 0 where
   pub distinct : AreDistinct slots
-  pub numbered : AreNumbered (length uses) slots uses
+  pub numbered : HaveOwnCallouts (length uses) slots uses
   pub armed : AreArmed work slots uses p
-  pub callouts : count_of p ≡ length uses
+  pub callouts : callout_count p ≡ length uses
   pub few : length uses ≤ 1024
   pub nothing : waiting_of p ≡ []
 
@@ -63,7 +64,7 @@ pub record IsKq (clock room work : ℕ) (knotes : Slab Slot) (uses : List Use) (
   pub kept : AreKept work knotes.slots uses p
   pub all : length uses ≡ room
   pub has : room ≤ knotes.capacity
-  pub last : clock_of p ≡ clock
+  pub last : last_scan p ≡ clock
 
 -- each knote's ident and its callout
 abbrev pub callouts_in : List (Option Slot) → List (ℕ × ℕ)
@@ -72,23 +73,17 @@ callouts_in (None ∷ ss) = callouts_in ss
 callouts_in (Some s ∷ ss) = (s.knote.ident, s.timer) ∷ callouts_in ss
 
 -- the callout of an ident's knote
-abbrev pub callout_of : ℕ → List (ℕ × ℕ) → Option ℕ
-callout_of ident [] = None
-callout_of ident (c ∷ cs) = if c.0 == ident then Some c.1 else callout_of ident cs
+abbrev pub ident_callout : ℕ → List (ℕ × ℕ) → Option ℕ
+ident_callout ident [] = None
+ident_callout ident (c ∷ cs) = if c.0 == ident then Some c.1 else ident_callout ident cs
 
-abbrev pub list_of : ℕ → List (Option Slot) → Kevents
-list_of clock slots = record { clock = clock; knotes = knotes_in slots }
+abbrev pub kevents_in : ℕ → List (Option Slot) → Kevents
+kevents_in clock slots = record { clock = clock; knotes = knotes_in slots }
 
 -- when a slot's knote expires next, where it expires now
-abbrev pub next_of : ℕ → Option Slot → Option ℕ
-next_of now None = None
-next_of now (Some s) = if expires now s.knote then (expired s.knote).next else None
-
--- no callout fires, and nothing is scanned
-pub record NothingFires (p q : PassesView) : Type 0 where
-  pub fired : (i : ℕ) → fired_at q i ≡ fired_at p i
-  pub all : all_gos q.timers ≡ all_gos p.timers
-  pub scans : scans_of q ≡ scans_of p
+abbrev pub next_time : ℕ → Option Slot → Option ℕ
+next_time now None = None
+next_time now (Some s) = if expires now s.knote then (expired s.knote).next else None
 
 -- a knote of a new ident may be put into the list, and its callout armed for its time
 pub record CanPlace (work : ℕ) (knote : Knote) (due : ℕ) (knotes : Slab Slot) (uses : List Use) (p : PassesView) : Type 0 where
@@ -97,7 +92,7 @@ pub record CanPlace (work : ℕ) (knote : Knote) (due : ℕ) (knotes : Slab Slot
   pub room : slab_len knotes < length uses
   -- the slab has room for a knote of each callout
   pub has : length uses ≤ knotes.capacity
-  pub absent : IsAbsent knotes.slots knote.ident
+  pub absent : HasNoIdent knotes.slots knote.ident
   -- no callout was armed so often that the service cannot arm it once more
   pub low : work < 2 ^ 62
   pub next : knote.next ≡ Some due
@@ -109,7 +104,7 @@ pub record IsPut (work : ℕ) (knote : Knote) (old : Slab Slot) (p : PassesView)
   pub list : knotes_in new.slots ≡ put knote (knotes_in old.slots)
   pub kept : AreKept (work + 1) new.slots uses q
   pub fires : NothingFires p q
-  pub clock : clock_of q ≡ clock_of p
+  pub clock : last_scan q ≡ last_scan p
   pub capacity : new.capacity ≡ old.capacity
 
 -- what is left of the callout of a knote that is gone
@@ -132,11 +127,11 @@ pub record KqView : Type 0 where
 -- a tick: each knote keeps its callout, and its count rises by exactly how often that fires. In all so many fire, and the scan
 -- is the only one
 pub record FiresCounted (v : KqView) (now k : ℕ) (w : KqView) : Type 0 where
-  pub counts : (ident number : ℕ) (before : Knote) → knote_of ident v.list.knotes ≡ Some before → callout_of ident v.callouts ≡ Some number →
-      (after : Knote) × (knote_of ident w.list.knotes ≡ Some after) × (callout_of ident w.callouts ≡ Some number)
+  pub counts : (ident number : ℕ) (before : Knote) → knote_of ident v.list.knotes ≡ Some before → ident_callout ident v.callouts ≡ Some number →
+      (after : Knote) × (knote_of ident w.list.knotes ≡ Some after) × (ident_callout ident w.callouts ≡ Some number)
       × (after.count + fired_at v.passes number ≡ before.count + fired_at w.passes number)
   pub all : all_gos w.passes.timers ≡ all_gos v.passes.timers + k
-  pub scans : scans_of w.passes ≡ scans_of v.passes ++ now ∷ []
+  pub scans : scan_times_of w.passes ≡ scan_times_of v.passes ++ now ∷ []
 
 -- the list as it is opened
 pub record IsOpened (knotes : ℕ) (v : KqView) : Type 0 where
@@ -144,4 +139,4 @@ pub record IsOpened (knotes : ℕ) (v : KqView) : Type 0 where
   pub work : v.work ≡ 0
   pub list : v.list ≡ opening
   pub fired : all_gos v.passes.timers ≡ 0
-  pub scans : scans_of v.passes ≡ []
+  pub scans : scan_times_of v.passes ≡ []

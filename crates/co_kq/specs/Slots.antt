@@ -3,13 +3,13 @@ use Rattle.std.specs.Prelude.{◌≡◌, ◌≢◌, ℕ, ◌+◌, ◌<◌, ◌�
 use Rattle.co_kq.specs.declared.knote.Knote.{Knote}
 use Rattle.co_kq.specs.declared.knote.Slot.{Slot}
 use Rattle.co_kq.specs.declared.kevent.Event.{Event}
-use Rattle.co_kq.specs.Kevents.{placed, ticked_knote, expires, events_in, left_in}
+use Rattle.co_kq.specs.Kevents.{put_in_order, ticked_knote, expires, events_in, left_in}
 
 -- the knotes of these slots, by rising ident
 abbrev pub knotes_in : List (Option Slot) → List Knote
 knotes_in [] = []
 knotes_in (None ∷ ss) = knotes_in ss
-knotes_in (Some s ∷ ss) = placed s.knote (knotes_in ss)
+knotes_in (Some s ∷ ss) = put_in_order s.knote (knotes_in ss)
 
 -- the slot of a key
 abbrev pub slot_at : List (Option Slot) → ℕ → Option Slot
@@ -20,15 +20,15 @@ abbrev pub IsAlone : List (Option Slot) → (key ident : ℕ) → Type 0
 IsAlone slots key ident = (j : ℕ) (s : Slot) → slot_at slots j ≡ Some s → s.knote.ident ≡ ident → j ≡ key
 
 -- no slot has a knote of this ident
-abbrev pub IsAbsent : List (Option Slot) → ℕ → Type 0
-IsAbsent slots ident = (j : ℕ) (s : Slot) → slot_at slots j ≡ Some s → s.knote.ident ≢ ident
+abbrev pub HasNoIdent : List (Option Slot) → ℕ → Type 0
+HasNoIdent slots ident = (j : ℕ) (s : Slot) → slot_at slots j ≡ Some s → s.knote.ident ≢ ident
 
 -- no two slots have knotes of one ident
 abbrev pub AreDistinct : List (Option Slot) → Type 0
 AreDistinct slots = (key : ℕ) (s : Slot) → slot_at slots key ≡ Some s → IsAlone slots key s.knote.ident
 
 -- the knote of this ident stands at this key
-pub record IsAt (slots : List (Option Slot)) (key ident : ℕ) : Type 0 where
+pub record StandsAtKey (slots : List (Option Slot)) (key ident : ℕ) : Type 0 where
   pub slot : Slot
   pub there : slot_at slots key ≡ Some slot
   pub ident_is : slot.knote.ident ≡ ident
@@ -54,11 +54,11 @@ abbrev pub AreQuiet : List (Option Slot) → Type 0
 AreQuiet slots = (j : ℕ) (s : Slot) → slot_at slots j ≡ Some s → s.knote.count ≡ 0
 
 -- one event more is told of the list before than of that after, this one, and the same stays
-pub record Tells (before : List Knote) (e : Event) (after : List Knote) : Type 0 where
+pub record TellsOne (before : List Knote) (e : Event) (after : List Knote) : Type 0 where
   pub told : (n : ℕ) → events_in (n + 1) before ≡ e ∷ events_in n after
   pub left : (n : ℕ) → left_in (n + 1) before ≡ left_in n after
 
 -- the list has no event to tell
-pub record IsQuiet (ks : List Knote) : Type 0 where
+pub record HasNoEvent (ks : List Knote) : Type 0 where
   pub told : (n : ℕ) → events_in n ks ≡ []
   pub left : (n : ℕ) → left_in n ks ≡ ks

@@ -3,54 +3,54 @@ use Rattle.std.specs.Prelude.{◌≡◌, ◌≢◌, ◌⊎◌, ℕ, ◌≤◌, �
 use Rattle.std.specs.List.{count_by}
 use Rattle.co_service.specs.Views.{PassesView}
 use Rattle.co_single.specs.Acts.{OthersStay, TimeStays, CalloutsStay}
-use Rattle.co_single.specs.Alarms.{count_of, alarm_at, made_at, fired_at, all_gos, waiting_of, times_in, due_once}
+use Rattle.co_single.specs.Alarms.{callout_count, alarm_at, made_at, fired_at, all_gos, waiting_of, times_in, due_once}
 use Rattle.co_kq.specs.declared.knote.Slot.{Slot}
 use Rattle.co_kq.specs.declared.numbers.Use.{Use}
 use Rattle.co_kq.specs.declared.numbers.Use.TheVariants.{Free, Stale, Held}
 use Rattle.co_kq.specs.Kevents.{expires, expired}
 use Rattle.co_kq.specs.Slots.{slot_at, ticked_slot}
-use Rattle.co_kq.specs.Numbers.{use_at, is_held, alarm_for, AreNumbered, AreArmed}
+use Rattle.co_kq.specs.Numbers.{use_at, is_held, alarm_for, HaveOwnCallouts, AreArmed}
 
 -- a callout stays as it is, or it was stale and is free
-abbrev pub IsTurned : List Use → PassesView → List Use → PassesView → ℕ → Type 0
-IsTurned uses p after q number = ((use_at after number ≡ use_at uses number) × (alarm_at q number ≡ alarm_at p number))
+abbrev pub StaysOrIsFreed : List Use → PassesView → List Use → PassesView → ℕ → Type 0
+StaysOrIsFreed uses p after q number = ((use_at after number ≡ use_at uses number) × (alarm_at q number ≡ alarm_at p number))
     ⊎ ((use_at uses number ≡ Stale) × (use_at after number ≡ Free) × (alarm_at q number ≡ None))
 
 -- some stale callouts are free
 pub record AreCleared (uses : List Use) (p : PassesView) (after : List Use) (q : PassesView) : Type 0 where
   pub all : length after ≡ length uses
-  pub turned : (number : ℕ) → IsTurned uses p after q number
+  pub turned : (number : ℕ) → StaysOrIsFreed uses p after q number
   pub made : (number : ℕ) → made_at q number ≡ made_at p number
   pub fired : (number : ℕ) → fired_at q number ≡ fired_at p number
-  pub count : count_of q ≡ count_of p
+  pub count : callout_count q ≡ callout_count p
   pub time : TimeStays p q
   pub waiting : waiting_of p ≡ [] → waiting_of q ≡ []
 
 -- the callouts that wait are those of the knotes whose time has come
 pub record AreDue (now work : ℕ) (slots : List (Option Slot)) (uses : List Use) (p : PassesView) : Type 0 where
-  pub numbered : AreNumbered (length uses) slots uses
+  pub numbered : HaveOwnCallouts (length uses) slots uses
   pub armed : AreArmed work slots uses p
   pub cleared : (number : ℕ) → use_at uses number ≢ Stale
   pub waiting : (number : ℕ) → times_in number (waiting_of p) ≡ due_once (alarm_at p number) now
-  pub callouts : count_of p ≡ length uses
+  pub callouts : callout_count p ≡ length uses
   pub few : length uses ≤ 1024
   pub low : work < 2 ^ 62
 
 -- whether a callout waits
-abbrev pub waits : List ℕ → ℕ → Bool
-waits ws number = nat_lt 0 (times_in number ws)
+abbrev pub is_waiting_in : List ℕ → ℕ → Bool
+is_waiting_in ws number = nat_lt 0 (times_in number ws)
 
 -- a slot, where these callouts still wait
 abbrev pub part_ticked : ℕ → List ℕ → Option Slot → Option Slot
 part_ticked now ws None = None
-part_ticked now ws (Some s) = if waits ws s.timer then Some s else ticked_slot now (Some s)
+part_ticked now ws (Some s) = if is_waiting_in ws s.timer then Some s else ticked_slot now (Some s)
 
 abbrev pub slot_waits : List ℕ → Option Slot → Bool
 slot_waits ws None = false
-slot_waits ws (Some s) = waits ws s.timer
+slot_waits ws (Some s) = is_waiting_in ws s.timer
 
 -- how far a tick has come
-pub record IsServing (now work : ℕ) (before : List (Option Slot)) (uses : List Use) (p : PassesView) (slots : List (Option Slot)) (q : PassesView) : Type 0 where
+pub record IsTicking (now work : ℕ) (before : List (Option Slot)) (uses : List Use) (p : PassesView) (slots : List (Option Slot)) (q : PassesView) : Type 0 where
   pub same : length slots ≡ length before
   pub part : (key : ℕ) → slot_at slots key ≡ part_ticked now (waiting_of q) (slot_at before key)
   pub alarms : (key : ℕ) (s : Slot) → slot_at slots key ≡ Some s → alarm_at q s.timer ≡ alarm_for s.knote.next
@@ -60,11 +60,11 @@ pub record IsServing (now work : ℕ) (before : List (Option Slot)) (uses : List
   pub some : (number : ℕ) → times_in number (waiting_of q) ≤ times_in number (waiting_of p)
   pub all : all_gos q.timers + length (waiting_of q) ≡ all_gos p.timers + length (waiting_of p)
   pub counted : length (waiting_of q) + count_by (slot_waits (waiting_of p)) before ≡ length (waiting_of p) + count_by (slot_waits (waiting_of q)) before
-  pub count : count_of q ≡ count_of p
+  pub count : callout_count q ≡ callout_count p
   pub time : TimeStays p q
 
 -- a callout that waits is that of a knote that expires
-pub record IsReady (now : ℕ) (slots : List (Option Slot)) (uses : List Use) (p : PassesView) (number : ℕ) : Type 0 where
+pub record IsKnoteDue (now : ℕ) (slots : List (Option Slot)) (uses : List Use) (p : PassesView) (number : ℕ) : Type 0 where
   pub key : ℕ
   pub held : use_at uses number ≡ Held key
   pub slot : Slot
@@ -74,15 +74,15 @@ pub record IsReady (now : ℕ) (slots : List (Option Slot)) (uses : List Use) (p
   pub made : made_at p number < 2 ^ 62
 
 pub record CanServe (now : ℕ) (slots : List (Option Slot)) (uses : List Use) (p : PassesView) : Type 0 where
-  pub ready : (number : ℕ) → 0 < times_in number (waiting_of p) → IsReady now slots uses p number
+  pub ready : (number : ℕ) → 0 < times_in number (waiting_of p) → IsKnoteDue now slots uses p number
   pub once : (number : ℕ) → times_in number (waiting_of p) ≤ 1
-  pub callouts : count_of p ≡ length uses
+  pub callouts : callout_count p ≡ length uses
 
 -- the first knote whose callout waited has expired, and its callout is armed for its next time
-pub record IsServed (now : ℕ) (slots : List (Option Slot)) (uses : List Use) (p : PassesView) (after : List (Option Slot)) (q : PassesView) : Type 0 where
+pub record IsKnoteExpired (now : ℕ) (slots : List (Option Slot)) (uses : List Use) (p : PassesView) (after : List (Option Slot)) (q : PassesView) : Type 0 where
   pub number : ℕ
   pub waiting : waiting_of p ≡ number ∷ waiting_of q
-  pub below : number < count_of p
+  pub below : number < callout_count p
   pub key : ℕ
   pub slot : Slot
   pub held : use_at uses number ≡ Held key
@@ -97,7 +97,7 @@ pub record IsServed (now : ℕ) (slots : List (Option Slot)) (uses : List Use) (
   pub time : TimeStays p q
 
 -- nothing waited any more
-pub record IsOver (slots : List (Option Slot)) (p : PassesView) (after : List (Option Slot)) (q : PassesView) : Type 0 where
+pub record HasNothingWaiting (slots : List (Option Slot)) (p : PassesView) (after : List (Option Slot)) (q : PassesView) : Type 0 where
   pub nothing : waiting_of p ≡ []
   pub waiting : waiting_of q ≡ []
   pub same : after ≡ slots

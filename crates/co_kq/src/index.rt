@@ -1,6 +1,6 @@
 //! Keys by ident.
 ghost use Rattle.std.specs.Prelude.{◌≢◌, true, false, ◌≡◌, ℕ, ◌≤◌, ◌<◌, None, Some, [], length, IfOk, IfNone, IfSome};
-ghost use Rattle.co_kq.specs.Index.{AreFalling, IsChanged, IsFirst, key_of, place_at};
+ghost use Rattle.co_kq.specs.Index.{AreFalling, IsChanged, IsLowestKey, key_of, index_entry};
 
 use co_sbt::NoMemory;
 use std::alloc::Global;
@@ -9,7 +9,7 @@ use std::marker::Model;
 
 /// A knote, by its ident.
 #[derive(Clone, Copy)]
-pub struct Place {
+pub struct Keyed {
     /// Its ident, any 64 bits.
     pub ident: u64,
     /// The key of its slot in the slab.
@@ -22,7 +22,7 @@ pub struct Place {
 #[derive(Drop)]
 pub struct Index {
     /// The highest ident first.
-    places: VecDeque<Place>,
+    entries: VecDeque<Keyed>,
     /// For how many there is room.
     room: usize,
 }
@@ -34,23 +34,23 @@ impl Model for Index {
 
     ghost Value = { IndexView };
 
-    ghost view = { λ x. record { places = x.places.items; room = x.room } };
+    ghost view = { λ x. record { entries = x.entries.items; room = x.room } };
 
-    ghost invariant = { λ x. AreFalling x.places.items × (x.room ≤ deque_capacity x.places) };
+    ghost invariant = { λ x. AreFalling x.entries.items × (x.room ≤ deque_capacity x.entries) };
 }
 
 /// How many idents are higher than this.
-fn seek(places: &VecDeque<Place>, ident: u64) -> usize
-    requires { AreFalling places.now.items }
-    ensures within { result ≤ length places.now.items }
-    ensures above { (j : ℕ) → j < result → ident < (place_at places.now.items j).ident }
-    ensures below { (j : ℕ) → result ≤ j → j < length places.now.items → (place_at places.now.items j).ident ≤ ident }
+fn seek(entries: &VecDeque<Keyed>, ident: u64) -> usize
+    requires { AreFalling entries.now.items }
+    ensures within { result ≤ length entries.now.items }
+    ensures above { (j : ℕ) → j < result → ident < (index_entry entries.now.items j).ident }
+    ensures below { (j : ℕ) → result ≤ j → j < length entries.now.items → (index_entry entries.now.items j).ident ≤ ident }
 {
     let mut low = 0;
-    let mut high = places.len();
+    let mut high = entries.len();
     while low < high {
         let middle = low + (high - low) / 2;
-        if ident < places[middle].ident {
+        if ident < entries[middle].ident {
             low = middle + 1;
         } else {
             high = middle;
@@ -59,44 +59,44 @@ fn seek(places: &VecDeque<Place>, ident: u64) -> usize
     low
 }
 
-/// Whether an ident stands at this place.
-fn is_at(places: &VecDeque<Place>, at: usize, ident: u64) -> bool
-    ensures yes { result ≡ true → (at < length places.now.items) × ((place_at places.now.items at).ident ≡ ident) }
-    ensures no { result ≡ false → at < length places.now.items → (place_at places.now.items at).ident ≢ ident }
+/// Whether an ident stands there.
+fn is_at(entries: &VecDeque<Keyed>, at: usize, ident: u64) -> bool
+    ensures yes { result ≡ true → (at < length entries.now.items) × ((index_entry entries.now.items at).ident ≡ ident) }
+    ensures no { result ≡ false → at < length entries.now.items → (index_entry entries.now.items at).ident ≢ ident }
 {
-    at < places.len() && places[at].ident == ident
+    at < entries.len() && entries[at].ident == ident
 }
 
 /// Whether an ident is higher than all.
-fn is_highest(places: &VecDeque<Place>, ident: u64) -> bool
-    requires { AreFalling places.now.items }
-    ensures { result ≡ true → (j : ℕ) → j < length places.now.items → (place_at places.now.items j).ident < ident }
+fn is_highest(entries: &VecDeque<Keyed>, ident: u64) -> bool
+    requires { AreFalling entries.now.items }
+    ensures { result ≡ true → (j : ℕ) → j < length entries.now.items → (index_entry entries.now.items j).ident < ident }
 {
-    if places.is_empty() {
+    if entries.is_empty() {
         return true;
     }
-    places[0].ident < ident
+    entries[0].ident < ident
 }
 
 impl Index {
     /// No keys, with room for `room` of them. This alone takes memory; `NoMemory` where there is none for these.
     pub fn new(alloc: Global, room: usize) -> Result<Index, NoMemory>
-        ensures empty { IfOk result (λ index. index.places ≡ []) }
+        ensures empty { IfOk result (λ index. index.entries ≡ []) }
         ensures room { IfOk result (λ index. room ≤ index.room) }
     {
         match VecDeque::with_capacity(alloc, room) {
-            Ok(places) => Ok(Index { places, room }),
+            Ok(entries) => Ok(Index { entries, room }),
             Err(_) => Err(NoMemory {}),
         }
     }
 
     /// The key of an ident. None exactly where no knote has it.
     pub fn find(&self, ident: u64) -> Option<usize>
-        ensures { result ≡ key_of ident self.now.places }
+        ensures { result ≡ key_of ident self.now.entries }
     {
-        let at = seek(&self.places, ident);
-        if is_at(&self.places, at, ident) {
-            Some(self.places[at].key)
+        let at = seek(&self.entries, ident);
+        if is_at(&self.entries, at, ident) {
+            Some(self.entries[at].key)
         } else {
             None
         }
@@ -105,13 +105,13 @@ impl Index {
     /// Puts in the key of an ident that has none, where there is room.
     #[inline]
     pub fn insert(&mut self, ident: u64, key: usize)
-        requires absent { key_of ident self.old.places ≡ None }
-        requires room { length self.old.places < self.old.room }
-        ensures changed { IsChanged self.old.places ident (Some key) self.new.places }
+        requires absent { key_of ident self.old.entries ≡ None }
+        requires room { length self.old.entries < self.old.room }
+        ensures changed { IsChanged self.old.entries ident (Some key) self.new.entries }
         ensures room { self.new.room ≡ self.old.room }
     {
-        if is_highest(&self.places, ident) {
-            self.places.push_front_reserved(Place { ident, key });
+        if is_highest(&self.entries, ident) {
+            self.entries.push_front_reserved(Keyed { ident, key });
         } else {
             self.insert_within(ident, key);
         }
@@ -121,13 +121,13 @@ impl Index {
     // Apart, so that a new highest ident is put in with no call: where knotes expire by rising ident, each is.
     #[inline(never)]
     fn insert_within(&mut self, ident: u64, key: usize)
-        requires absent { key_of ident self.old.places ≡ None }
-        requires room { length self.old.places < self.old.room }
-        ensures changed { IsChanged self.old.places ident (Some key) self.new.places }
+        requires absent { key_of ident self.old.entries ≡ None }
+        requires room { length self.old.entries < self.old.room }
+        ensures changed { IsChanged self.old.entries ident (Some key) self.new.entries }
         ensures room { self.new.room ≡ self.old.room }
     {
-        let at = seek(&self.places, ident);
-        match self.places.insert(at, Place { ident, key }) {
+        let at = seek(&self.entries, ident);
+        match self.entries.insert(at, Keyed { ident, key }) {
             Ok(()) => {}
             Err(_) => unreachable!(),
         }
@@ -135,32 +135,32 @@ impl Index {
 
     /// Takes out the key of an ident, if it has one.
     pub fn remove(&mut self, ident: u64)
-        ensures changed { IsChanged self.old.places ident None self.new.places }
+        ensures changed { IsChanged self.old.entries ident None self.new.entries }
         ensures room { self.new.room ≡ self.old.room }
     {
-        let at = seek(&self.places, ident);
-        if is_at(&self.places, at, ident) {
-            self.places.remove(at);
+        let at = seek(&self.entries, ident);
+        if is_at(&self.entries, at, ident) {
+            self.entries.remove(at);
         }
     }
 
     /// The key of the lowest ident. None exactly where there is none.
     pub fn first(&self) -> Option<usize>
-        ensures some { IfSome result (IsFirst self.now.places) }
-        ensures none { IfNone result (self.now.places ≡ []) }
+        ensures some { IfSome result (IsLowestKey self.now.entries) }
+        ensures none { IfNone result (self.now.entries ≡ []) }
     {
-        if self.places.is_empty() {
+        if self.entries.is_empty() {
             return None;
         }
-        let last = self.places.len() - 1;
-        Some(self.places[last].key)
+        let last = self.entries.len() - 1;
+        Some(self.entries[last].key)
     }
 
     /// Takes out the key of the lowest ident, if there is one.
     pub fn take_first(&mut self)
-        ensures changed { (key : ℕ) (f : IsFirst self.old.places key) → IsChanged self.old.places f.ident None self.new.places }
+        ensures changed { (key : ℕ) (f : IsLowestKey self.old.entries key) → IsChanged self.old.entries f.ident None self.new.entries }
         ensures room { self.new.room ≡ self.old.room }
     {
-        self.places.pop_back();
+        self.entries.pop_back();
     }
 }

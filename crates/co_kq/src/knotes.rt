@@ -2,11 +2,11 @@
 ghost use Rattle.std.specs.Prelude.{◌≡◌, ◌≤◌, ◌<◌, [], true, false, Some, None, IfOk, IfSome, IfNone, ◌-◌, length, slice_set};
 ghost use Rattle.slab.specs.Slab.{Slab as SlabView, get, slab_len, ContainsKey, HasRoomFor};
 ghost use Rattle.co_kq.specs.Kevents.{knote_of, without, expires, expired, next_after, event_of};
-ghost use Rattle.co_kq.specs.Slots.{knotes_in, slot_at, IsAbsent, AreDistinct, IsAt, ticked_slot, IsFirstReady, AreQuiet, Tells};
+ghost use Rattle.co_kq.specs.Slots.{knotes_in, slot_at, HasNoIdent, AreDistinct, StandsAtKey, ticked_slot, IsFirstReady, AreQuiet, TellsOne};
 ghost use Rattle.co_kq.specs.Changes.{told_slot, IsKnotePut, IsSlotChanged};
 ghost use Rattle.co_kq.specs.declared.knote.Slot.{Slot as SlotOf};
 ghost use Rattle.co_kq.specs.Index.{IsChanged, key_of};
-ghost use Rattle.co_kq.specs.Numbers.{HasTimer, next_of};
+ghost use Rattle.co_kq.specs.Numbers.{HasTimer, next_time};
 
 use crate::index::Index;
 use crate::kevent::Event;
@@ -65,15 +65,15 @@ impl Knotes {
 
     /// The key of the knote of an ident, if there is one.
     pub fn find(&self, ident: u64) -> Option<usize>
-        ensures found { IfSome result (λ key. IsAt self.now.slots key ident) }
-        ensures absent { IfNone result (IsAbsent self.now.slots ident) }
+        ensures found { IfSome result (λ key. StandsAtKey self.now.slots key ident) }
+        ensures absent { IfNone result (HasNoIdent self.now.slots ident) }
     {
         self.order.find(ident)
     }
 
     /// Puts a knote in the place of the old one of its ident, at this key. The answer is its callout, which it keeps.
     pub fn rewrite(&mut self, key: usize, knote: Knote) -> u32
-        requires there { IsAt self.old.slots key knote.ident }
+        requires there { StandsAtKey self.old.slots key knote.ident }
         requires distinct { AreDistinct self.old.slots }
         requires fresh { knote.count ≡ 0 }
         ensures had { HasTimer self.old.slots key result }
@@ -90,7 +90,7 @@ impl Knotes {
     /// Puts in a knote of a new ident, for which there is room. The answer is its key.
     pub fn insert(&mut self, knote: Knote, timer: u32) -> usize
         requires room { HasRoomFor self.old 1 }
-        requires absent { IsAbsent self.old.slots knote.ident }
+        requires absent { HasNoIdent self.old.slots knote.ident }
         requires distinct { AreDistinct self.old.slots }
         requires fresh { knote.count ≡ 0 }
         ensures vacant { get self.old result ≡ None }
@@ -142,7 +142,7 @@ impl Knotes {
         requires once { (s : SlotOf) → slot_at self.old.slots key ≡ Some s → s.knote.oneshot ≡ true }
         requires distinct { AreDistinct self.old.slots }
         ensures was { get self.old key ≡ Some result }
-        ensures tells { Tells (knotes_in self.old.slots) (event_of result.knote) (knotes_in self.new.slots) }
+        ensures tells { TellsOne (knotes_in self.old.slots) (event_of result.knote) (knotes_in self.new.slots) }
         ensures changed { IsSlotChanged self.old self.new key None 1 0 }
     {
         self.remove(key)
@@ -153,7 +153,7 @@ impl Knotes {
         requires first { IsFirstReady self.old.slots key }
         requires again { (s : SlotOf) → slot_at self.old.slots key ≡ Some s → s.knote.oneshot ≡ false }
         requires distinct { AreDistinct self.old.slots }
-        ensures tells { Tells (knotes_in self.old.slots) result (knotes_in self.new.slots) }
+        ensures tells { TellsOne (knotes_in self.old.slots) result (knotes_in self.new.slots) }
         ensures changed { IsSlotChanged self.old self.new key (told_slot (slot_at self.old.slots key)) 1 1 }
     {
         let Some(slot) = self.slab.get_mut(key) else {
@@ -171,7 +171,7 @@ impl Knotes {
     /// The knote at a key expires where its time has come; the answer is its next time then, None where it has none or
     /// where its time has not come. Times are in units of 2^-32 s.
     pub fn expire_at(&mut self, key: usize, now: Sbt) -> Option<Sbt>
-        ensures next { result ≡ next_of now (slot_at self.old.slots key) }
+        ensures next { result ≡ next_time now (slot_at self.old.slots key) }
         ensures slots { self.new.slots ≡ slice_set self.old.slots key (ticked_slot now (slot_at self.old.slots key)) }
         ensures capacity { self.new.capacity ≡ self.old.capacity }
     {
@@ -187,10 +187,10 @@ impl Knotes {
 
 /// The knote at a key has expirations from now on.
 fn mark(ready: &mut Index, key: usize, knote: &Knote)
-    requires absent { knote.now.count ≡ 0 → key_of knote.now.ident ready.old.places ≡ None }
-    requires there { 0 < knote.now.count → key_of knote.now.ident ready.old.places ≡ Some key }
-    requires room { knote.now.count ≡ 0 → length ready.old.places < ready.old.room }
-    ensures changed { IsChanged ready.old.places knote.now.ident (Some key) ready.new.places }
+    requires absent { knote.now.count ≡ 0 → key_of knote.now.ident ready.old.entries ≡ None }
+    requires there { 0 < knote.now.count → key_of knote.now.ident ready.old.entries ≡ Some key }
+    requires room { knote.now.count ≡ 0 → length ready.old.entries < ready.old.room }
+    ensures changed { IsChanged ready.old.entries knote.now.ident (Some key) ready.new.entries }
     ensures room { ready.new.room ≡ ready.old.room }
 {
     if knote.count == 0 {

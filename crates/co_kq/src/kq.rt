@@ -1,8 +1,9 @@
 //! The kevent list over a running service.
 ghost use Rattle.std.specs.Prelude.{◌≡◌, ◌≤◌, ◌<◌, ◌+◌, ◌^◌, ◌*◌, Some, true, false, length, take, max, IfOk, IfSome, IfNone, MatchOption};
-ghost use Rattle.co_kq.specs.Kevents.{span_of, is_span, begun, add_answer, added, deleted_count, deleted, ticked, expirations, events, delivered, put};
-ghost use Rattle.co_kq.specs.Numbers.{AreKept, CanPlace, FiresCounted, IsOpened, IsPut, NothingFires};
-ghost use Rattle.co_kq.specs.Slots.{IsAt, IsQuiet, Tells};
+ghost use Rattle.co_kq.specs.Kevents.{span_of, is_span, new_knote, add_answer, added, deleted_count, deleted, ticked, expirations, events, delivered, put};
+ghost use Rattle.co_kq.specs.Numbers.{AreKept, CanPlace, FiresCounted, IsOpened, IsPut};
+ghost use Rattle.co_single.specs.Acts.{NothingFires};
+ghost use Rattle.co_kq.specs.Slots.{StandsAtKey, HasNoEvent, TellsOne};
 
 use crate::fresh::KqFresh;
 use crate::kevent::{Add, Event, Unit};
@@ -33,11 +34,11 @@ pub struct Kq<N: Name> {
 }
 
 impl<N: Name> Model for Kq<N> {
-    ghost use Rattle.co_kq.specs.Numbers.{KqView, IsKq, list_of, callouts_in};
+    ghost use Rattle.co_kq.specs.Numbers.{KqView, IsKq, kevents_in, callouts_in};
 
     ghost Value = { KqView };
 
-    ghost view = { λ k. record { room = k.room; work = k.work; list = list_of k.clock k.knotes.slots; passes = k.single; callouts = callouts_in k.knotes.slots } };
+    ghost view = { λ k. record { room = k.room; work = k.work; list = kevents_in k.clock k.knotes.slots; passes = k.single; callouts = callouts_in k.knotes.slots } };
 
     ghost invariant = { λ k. IsKq k.clock k.room k.work k.knotes k.uses k.single };
 }
@@ -56,7 +57,7 @@ fn span_of(value: u64, unit: Unit) -> Option<Sbt>
 
 /// A knote that begins now.
 fn begun(now: Sbt, ident: u64, span: Sbt, oneshot: bool) -> Knote
-    ensures { result ≡ begun now ident span oneshot }
+    ensures { result ≡ new_knote now ident span oneshot }
 {
     Knote {
         ident,
@@ -86,7 +87,7 @@ fn replace<N: Name, R: Wait>(
     due: Sbt,
 )
     requires kept { AreKept act knotes.old.slots uses.now single.old }
-    requires there { IsAt knotes.old.slots key knote.ident }
+    requires there { StandsAtKey knotes.old.slots key knote.ident }
     requires low { act < 2 ^ 62 }
     requires due { knote.next ≡ Some due }
     requires fresh { knote.count ≡ 0 }
@@ -215,8 +216,8 @@ impl<N: Name> Kq<N> {
         ensures work { self.new.work ≡ self.old.work }
         ensures passes { self.new.passes ≡ self.old.passes }
         ensures clock { self.new.list.clock ≡ self.old.list.clock }
-        ensures some { IfSome result (λ event. Tells self.old.list.knotes event self.new.list.knotes) }
-        ensures none { IfNone result ((self.new.list ≡ self.old.list) × IsQuiet self.old.list.knotes) }
+        ensures some { IfSome result (λ event. TellsOne self.old.list.knotes event self.new.list.knotes) }
+        ensures none { IfNone result ((self.new.list ≡ self.old.list) × HasNoEvent self.old.list.knotes) }
     {
         let key = self.knotes.first_ready()?;
         if self.knotes.is_once(key) {

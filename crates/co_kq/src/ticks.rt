@@ -1,9 +1,9 @@
 //! What a tick does with the callouts.
 ghost use Rattle.std.specs.Prelude.{◌≡◌, ◌≢◌, ◌<◌, ◌≤◌, ℕ, [], length, true, false};
-ghost use Rattle.co_single.specs.Alarms.{count_of, waiting_of};
+ghost use Rattle.co_single.specs.Alarms.{callout_count, waiting_of};
 ghost use Rattle.co_kq.specs.declared.numbers.Use.TheVariants.{Stale};
 ghost use Rattle.co_kq.specs.Numbers.{use_at};
-ghost use Rattle.co_kq.specs.Ticks.{AreCleared, AreDue, CanServe, IsOver, IsServed, IsServing};
+ghost use Rattle.co_kq.specs.Ticks.{AreCleared, AreDue, CanServe, HasNothingWaiting, IsKnoteExpired, IsTicking};
 
 use crate::knotes::Knotes;
 use crate::numbers::{Use, Uses};
@@ -21,7 +21,7 @@ fn clear<N: Name, R: Wait>(
     number: usize,
 )
     requires below { number < length uses.old }
-    requires callouts { count_of single.old ≡ length uses.old }
+    requires callouts { callout_count single.old ≡ length uses.old }
     requires few { length uses.old ≤ 1024 }
     ensures cleared { AreCleared uses.old single.old uses.new single.new }
     ensures free { use_at uses.new number ≢ Stale }
@@ -34,7 +34,7 @@ fn clear<N: Name, R: Wait>(
 
 /// No callout of these whose knote is gone is armed any more.
 fn clear_all<N: Name, R: Wait>(rt: &R, act: u64, single: &mut Single<N>, uses: &mut [Use])
-    requires callouts { count_of single.old ≡ length uses.old }
+    requires callouts { callout_count single.old ≡ length uses.old }
     requires few { length uses.old ≤ 1024 }
     ensures cleared { AreCleared uses.old single.old uses.new single.new }
     ensures none { (number : ℕ) → use_at uses.new number ≢ Stale }
@@ -46,7 +46,7 @@ fn clear_all<N: Name, R: Wait>(rt: &R, act: u64, single: &mut Single<N>, uses: &
 
 /// No callout whose knote is gone is armed any more. Where none may be stale, nothing is done.
 pub fn clear_stale<N: Name, R: Wait>(rt: &R, act: u64, single: &mut Single<N>, uses: &mut Uses)
-    requires callouts { count_of single.old ≡ length uses.old }
+    requires callouts { callout_count single.old ≡ length uses.old }
     requires few { length uses.old ≤ 1024 }
     ensures cleared { AreCleared uses.old single.old uses.new single.new }
     ensures none { (number : ℕ) → use_at uses.new number ≢ Stale }
@@ -68,8 +68,8 @@ fn serve_one<N: Name, R: Wait>(
     now: Sbt,
 ) -> bool
     requires { CanServe now knotes.old.slots uses.now single.old }
-    ensures served { result ≡ true → IsServed now knotes.old.slots uses.now single.old knotes.new.slots single.new }
-    ensures over { result ≡ false → IsOver knotes.old.slots single.old knotes.new.slots single.new }
+    ensures served { result ≡ true → IsKnoteExpired now knotes.old.slots uses.now single.old knotes.new.slots single.new }
+    ensures over { result ≡ false → HasNothingWaiting knotes.old.slots single.old knotes.new.slots single.new }
     ensures capacity { knotes.new.capacity ≡ knotes.old.capacity }
 {
     let Some(fired) = single.fire(rt, act) else {
@@ -92,7 +92,7 @@ pub fn serve_all<N: Name, R: Wait>(
     now: Sbt,
 )
     requires { AreDue now act knotes.old.slots uses.now single.old }
-    ensures serving { IsServing now act knotes.old.slots uses.now single.old knotes.new.slots single.new }
+    ensures serving { IsTicking now act knotes.old.slots uses.now single.old knotes.new.slots single.new }
     ensures nothing { waiting_of single.new ≡ [] }
     ensures capacity { knotes.new.capacity ≡ knotes.old.capacity }
 {

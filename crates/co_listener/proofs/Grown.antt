@@ -6,14 +6,14 @@ use Rattle.std.proofs.lemmas.List.{append-nil, get_or-set_other, get_or-set_same
 use Rattle.std.proofs.lemmas.List.FromFn.{fill_by_all, get_or-map-range_with_len, map-range_with_len_more}
 use Rattle.std.proofs.lemmas.Option.{get_or_from_slice_get}
 use Rattle.co_object.specs.declared.note.Note.{Note}
-use Rattle.co_listener.specs.Made.{Made, list_by, lists_by}
+use Rattle.co_listener.specs.MadeNotes.{MadeNote, list_by, lists_by}
 use Rattle.co_listener.proofs.OneMore.{list_more, one}
 
 -- one more actor has a list
 pub one_actor_more : (lists : List (List Note)) (n : ℕ) → lists ≡ lists_by n [] → lists ++ [] ∷ [] ≡ lists_by (n + 1) []
 one_actor_more lists n is = ap (λ (l : List (List Note)). l ++ [] ∷ []) is ∙ sym (map-range_with_len_more (list_by []) 0 n n (omega arith))
 
-module _ (lists : List (List Note)) (made : List Made) (a : ℕ) (note : Note) (notes empty : List Note)
+module _ (lists : List (List Note)) (made : List MadeNote) (a : ℕ) (note : Note) (notes empty : List Note)
     (within : a < length lists) (are : lists ≡ lists_by (length lists) made) (taken : slice_get lists a ≡ Some notes) where
   abbrev pub grown : List (List Note)
   grown = set (set lists a empty) a (notes ++ note ∷ [])

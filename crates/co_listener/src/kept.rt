@@ -1,6 +1,6 @@
 //! A listener that keeps every note: a list for each actor.
 ghost use Rattle.std.specs.Prelude.{◌≡◌, ◌++◌, ◌∷◌, [], IfOk};
-ghost use Rattle.co_listener.specs.Made.{lists_by};
+ghost use Rattle.co_listener.specs.MadeNotes.{lists_by};
 
 use crate::listener::Listener;
 use co_object::{
@@ -64,7 +64,7 @@ impl KeptLists {
 
 impl Listener for KeptLists {
     ghost use Rattle.std.specs.Prelude.{◌≡◌, length};
-    ghost use Rattle.co_listener.specs.Made.{lists_by};
+    ghost use Rattle.co_listener.specs.MadeNotes.{lists_by};
 
     ghost actors = { λ kept. length kept };
 

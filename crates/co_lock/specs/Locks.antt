@@ -1,5 +1,5 @@
 -- The client locks and their holds, as contracts see them.
-use Rattle.std.specs.Prelude.{◌≡◌, ℕ, ◌+◌, Bool, true, false, List, [], ◌∷◌}
+use Rattle.std.specs.Prelude.{◌≡◌, ℕ, ◌+◌, ◌<◌, Bool, true, false, List, [], ◌∷◌, length, slice_get, Some}
 use Rattle.co_lock.specs.declared.lock_kind.LockKind.{LockKind}
 use Rattle.co_lock.specs.declared.lock_kind.LockKind.TheVariants as kind
 use Rattle.co_lock.specs.declared.client_lock.ClientLock.{ClientLock}
@@ -11,6 +11,11 @@ use Rattle.co_lock.specs.declared.client_lock.Guard.TheVariants.{Mtx, Write, Rea
 abbrev pub latch_kind : Latch → LockKind
 latch_kind (latch.Mtx l) = kind.Mtx
 latch_kind (latch.Rw l) = kind.Rw
+
+-- a lock of this number exists, and is a reader-writer lock where it is taken to read
+abbrev pub CanBeHeld : List LockKind → (exclusive : Bool) → ℕ → Type 0
+CanBeHeld kinds true id = id < length kinds
+CanBeHeld kinds false id = slice_get kinds id ≡ Some kind.Rw
 
 abbrev pub kind_of : ClientLock → LockKind
 kind_of lock = latch_kind lock.latch

@@ -16,14 +16,14 @@ use Rattle.co_program.specs.declared.act.Act.TheVariants.{Now, Lock, ReadLock, U
 use Rattle.co_program.specs.declared.role.Role.{Role}
 use Rattle.co_program.specs.declared.program.Task.{Task}
 use Rattle.co_program.specs.declared.program.Task.TheVariants.{Does, Soft}
-use Rattle.co_program.specs.declared.cursor.Service.{Service}
-use Rattle.co_program.specs.declared.cursor.Parcel.{Parcel}
+use Rattle.co_program.specs.declared.cursor.InService.{InService}
+use Rattle.co_program.specs.declared.cursor.PendingInsert.{PendingInsert}
 use Rattle.co_program.specs.declared.action.Asked.TheVariants.{Callout, Itself}
 use Rattle.co_program.specs.Actors.{role_of, cpu_of}
 use Rattle.co_program.specs.Calls.{plain_op}
 use Rattle.co_program.specs.Cursor.{Cursor}
 use Rattle.co_program.specs.Stages.{Stage, Ready, Waiting, Popping, Picking, Locking, Beginning, Unlocking, Firing, Releasing, Ending, Freeing, Drained}
-use Rattle.co_program.specs.Action.{Action, Nothing, Silent, Take, Asks, action_for, action_with, action_in, spec_at, over, asks_covered, asks_within, asks_drain, begins, takes, locks, drained_of}
+use Rattle.co_program.specs.Action.{Action, Nothing, Silent, Take, Asks, action_for, action_with, action_in, spec_at, over, asks_covered, asks_within, asks_drain, begins_next, takes, locks, drained_of}
 
 abbrev pub IsAsked : Script → Cursor → Action → Type 0
 IsAsked s c (Asks act (Callout i (Call op))) = (act ≡ c.act) × (covers c.hold (spec_at s i) op ≡ true)
@@ -34,7 +34,7 @@ module _ (s : Script) (role : Role) (c : Cursor) where
   asked_covered None = tt
   asked_covered (Some (i, op)) = either_way (IsAsked s c) (covers c.hold (spec_at s i) (Plain op)) (Asks c.act (Callout i (Call (Plain op)))) (Asks c.act (Itself NotHeld)) (λ h. (refl, h)) (λ _. tt)
 
-  asked_within : (v : Service) (acts : List Act) → IsAsked s c (asks_within s (cpu_of s role) c v acts)
+  asked_within : (v : InService) (acts : List Act) → IsAsked s c (asks_within s (cpu_of s role) c v acts)
   asked_within v [] = tt
   asked_within v (act ∷ acts) = asked_covered (plain_op act s.hz (record { time = v.at; here = cpu_of s role; me = v.i }))
 
@@ -48,7 +48,7 @@ module _ (s : Script) (role : Role) (c : Cursor) where
   asked_takes : (left : List Task) (held : Held) → IsAsked s c (takes c left held)
   asked_takes left held = either_way (IsAsked s c) (is_some c.hold) (Asks c.act (Itself Holding)) (Take held (over c left (Some held))) (λ _. tt) (λ _. tt)
 
-  asked_begins : (left : List Task) → IsAsked s c (begins s role c left)
+  asked_begins : (left : List Task) → IsAsked s c (begins_next s role c left)
   asked_begins [] = either_way (IsAsked s c) (is_some c.hold) (Silent (record c { left = []; hold = None; stage = Ready })) Nothing (λ _. tt) (λ _. tt)
   asked_begins (Does (Now time) ∷ left) = tt
   asked_begins (Does (Lock id) ∷ left) = asked_takes left (record { id = id; exclusive = true })
@@ -59,7 +59,7 @@ module _ (s : Script) (role : Role) (c : Cursor) where
   asked_begins (Does act ∷ left) = asked_covered (plain_op act s.hz (record { time = c.now; here = cpu_of s role; me = 0 }))
   asked_begins (Soft j ∷ left) = tt
 
-  asked_locks : (v : Service) (hold : Option Held) → IsAsked s c (locks s c v hold)
+  asked_locks : (v : InService) (hold : Option Held) → IsAsked s c (locks s c v hold)
   asked_locks v None = tt
   asked_locks v (Some held) = tt
 
@@ -77,7 +77,7 @@ module _ (s : Script) (role : Role) (c : Cursor) where
   asked_stage (Freeing v drain next) = tt
   asked_stage (Drained v acts) = asked_within v acts
 
-  asked_with : (parcel : Option Parcel) → IsAsked s c (action_with s role c parcel)
+  asked_with : (parcel : Option PendingInsert) → IsAsked s c (action_with s role c parcel)
   asked_with None = asked_stage c.stage
   asked_with (Some p) = tt
 
@@ -95,7 +95,7 @@ module _ (s : Script) (role : Role) (c : Cursor) where
   drain_covered None = tt
   drain_covered (Some (i, op)) = either_way (IsDrainAsked c) (covers c.hold (spec_at s i) (Plain op)) (Asks c.act (Callout i (Call (Plain op)))) (Asks c.act (Itself NotHeld)) (λ _. tt) (λ _. tt)
 
-  drain_within : (v : Service) (acts : List Act) → IsDrainAsked c (asks_within s (cpu_of s role) c v acts)
+  drain_within : (v : InService) (acts : List Act) → IsDrainAsked c (asks_within s (cpu_of s role) c v acts)
   drain_within v [] = tt
   drain_within v (act ∷ acts) = drain_covered (plain_op act s.hz (record { time = v.at; here = cpu_of s role; me = v.i }))
 
@@ -108,7 +108,7 @@ module _ (s : Script) (role : Role) (c : Cursor) where
   drain_takes : (left : List Task) (held : Held) → IsDrainAsked c (takes c left held)
   drain_takes left held = either_way (IsDrainAsked c) (is_some c.hold) (Asks c.act (Itself Holding)) (Take held (over c left (Some held))) (λ _. tt) (λ _. tt)
 
-  drain_begins : (left : List Task) → c.left ≡ left → IsDrainAsked c (begins s role c left)
+  drain_begins : (left : List Task) → c.left ≡ left → IsDrainAsked c (begins_next s role c left)
   drain_begins [] is = either_way (IsDrainAsked c) (is_some c.hold) (Silent (record c { left = []; hold = None; stage = Ready })) Nothing (λ _. tt) (λ _. tt)
   drain_begins (Does (Now time) ∷ left) is = tt
   drain_begins (Does (Lock id) ∷ left) is = drain_takes left (record { id = id; exclusive = true })
@@ -119,7 +119,7 @@ module _ (s : Script) (role : Role) (c : Cursor) where
   drain_begins (Does act ∷ left) is = drain_covered (plain_op act s.hz (record { time = c.now; here = cpu_of s role; me = 0 }))
   drain_begins (Soft j ∷ left) is = tt
 
-  drain_locks : (v : Service) (hold : Option Held) → IsDrainAsked c (locks s c v hold)
+  drain_locks : (v : InService) (hold : Option Held) → IsDrainAsked c (locks s c v hold)
   drain_locks v None = tt
   drain_locks v (Some held) = tt
 
@@ -137,7 +137,7 @@ module _ (s : Script) (role : Role) (c : Cursor) where
   drain_stage (Freeing v drain next) = tt
   drain_stage (Drained v acts) = drain_within v acts
 
-  drain_with : (parcel : Option Parcel) → IsDrainAsked c (action_with s role c parcel)
+  drain_with : (parcel : Option PendingInsert) → IsDrainAsked c (action_with s role c parcel)
   drain_with None = drain_stage c.stage
   drain_with (Some p) = tt
 

@@ -36,18 +36,18 @@ use Rattle.co_program.specs.declared.role.Role.{Role}
 use Rattle.co_program.specs.declared.role.Role.TheVariants.{Client, Cpu, Interrupt}
 use Rattle.co_program.specs.declared.program.Task.{Task}
 use Rattle.co_program.specs.declared.program.Task.TheVariants.{Does, Soft}
-use Rattle.co_program.specs.declared.cursor.Service.{Service}
-use Rattle.co_program.specs.declared.cursor.Parcel.{Parcel}
+use Rattle.co_program.specs.declared.cursor.InService.{InService}
+use Rattle.co_program.specs.declared.cursor.PendingInsert.{PendingInsert}
 use Rattle.co_program.specs.declared.action.Asked.{Asked}
 use Rattle.co_program.specs.declared.action.Asked.TheVariants.{Callout, Queue, Itself}
 use Rattle.co_program.specs.Actors.{actor_count, acts_at, role_of, cpu_of}
 use Rattle.co_program.specs.Calls.{plain_op}
 use Rattle.co_program.specs.Stages.{Stage, Ready, Waiting, Popping, Picking, Locking, Beginning, Unlocking, Firing, Releasing, Ending, Freeing, Drained}
 use Rattle.co_program.specs.Cursor.{Cursor, start_of}
-use Rattle.co_program.specs.Action.{Action, Nothing, Silent, Take, Asks, spec_at, asks_covered, asks_call, asks_within, takes, asks_drain, pop_of, free_of, begins, drained_of, locks, firing, draining, action_in, action_with, action_for}
-use Rattle.co_program.specs.Advance.{tail_of, act_over, called, picked, begun, ended, advance_callout, parcel_of, drain_acts, freed, got, popped, advance_queue, advance}
+use Rattle.co_program.specs.Action.{Action, Nothing, Silent, Take, Asks, spec_at, asks_covered, asks_call, asks_within, takes, asks_drain, pop_of, free_of, begins_next, drained_of, locks, firing, draining, action_in, action_with, action_for}
+use Rattle.co_program.specs.Advance.{tail_of, act_over, call_made, service_picked, service_begun, service_ended, advance_callout, parcel_of, drain_acts, freed, pop_answered, popped, advance_queue, advance}
 use Rattle.co_program.specs.Existing.{IsCallout, IsCpu, ActsExist, TaskExists, OpExists, QOpExists}
-use Rattle.co_program.specs.Follows.{Histories, Fits, FitsCallout, FitsQueue, FitsOwn, AreNext, past, settled, goes_on, listed_after}
+use Rattle.co_program.specs.Follows.{Histories, Fits, FitsCallout, FitsQueue, FitsOwn, AreNext, past, at_next_note, goes_on, listed_after}
 use Rattle.co_program.specs.Names.{FuncsExist, OpNames}
 use Rattle.co_program.specs.Places.{place_exists, HavePlaces}
 use Rattle.co_program.specs.Scripts.{IsScript, names_exist}
@@ -71,7 +71,7 @@ StageKnown s (Ending v) = IsCallout s v.i
 StageKnown s (Freeing v drain next) = IsCallout s v.i
 StageKnown s (Drained v acts) = IsCallout s v.i × ActsExist s acts
 
-abbrev ParcelKnown : Script → Option Parcel → Type 0
+abbrev ParcelKnown : Script → Option PendingInsert → Type 0
 ParcelKnown s None = ⊤
 ParcelKnown s (Some p) = IsCallout s p.i
 
@@ -104,17 +104,17 @@ module _ (s : Script) (at : Scene) (here : IsCpu s at.here) (me : IsCallout s at
   asks_known c a exists = covered_known c.hold c.act (plain_op a s.hz at) (call_in s at here me a s.hz exists)
 
 module _ (s : Script) where
-  draining_known : (v : Service) (acts : List Act) → IsCallout s v.i → ActsExist s acts → StageKnown s (draining v acts)
+  draining_known : (v : InService) (acts : List Act) → IsCallout s v.i → ActsExist s acts → StageKnown s (draining v acts)
   draining_known v [] served exist = tt
   draining_known v (a ∷ acts) served exist = (served, exist)
 
-  firing_known : (v : Service) (hold : Option Held) (acts : List Act) → IsCallout s v.i → ActsExist s acts → StageKnown s (firing v hold acts)
+  firing_known : (v : InService) (hold : Option Held) (acts : List Act) → IsCallout s v.i → ActsExist s acts → StageKnown s (firing v hold acts)
   firing_known v hold (a ∷ acts) served exist = (served, exist)
   firing_known v None [] served exist = served
   firing_known v (Some held) [] served exist = served
 
 module _ (s : Script) (is : IsScript s) (role : Role) (cpu : IsCpu s (cpu_of s role)) where
-  within_known : (c : Cursor) (v : Service) (acts : List Act) → IsCallout s v.i → ActsExist s acts → ActionKnown s (asks_within s (cpu_of s role) c v acts)
+  within_known : (c : Cursor) (v : InService) (acts : List Act) → IsCallout s v.i → ActsExist s acts → ActionKnown s (asks_within s (cpu_of s role) c v acts)
   within_known c v [] served exist = tt
   within_known c v (a ∷ acts) served exist = asks_known s (record { time = v.at; here = cpu_of s role; me = v.i }) cpu served c a exist.0
 
@@ -137,7 +137,7 @@ module _ (s : Script) (is : IsScript s) (role : Role) (cpu : IsCpu s (cpu_of s r
   first_known : IsCallout s 0
   first_known = omega (arith, is.timers.0)
 
-  begins_known : (c : Cursor) (left : List Task) → AllByRecursion (TaskExists s) left → ParcelKnown s c.parcel → ActionKnown s (begins s role c left)
+  begins_known : (c : Cursor) (left : List Task) → AllByRecursion (TaskExists s) left → ParcelKnown s c.parcel → ActionKnown s (begins_next s role c left)
   begins_known c [] exist parcel = either_way (ActionKnown s) (is_some c.hold) _ _ (λ _. record { left = tt; stage = tt; parcel = parcel }) (λ _. tt)
   begins_known c (Soft j ∷ left) exist parcel = pop_known role
   begins_known c (Does (act.Now time) ∷ left) exist parcel = record { left = exist.1; stage = tt; parcel = parcel }
@@ -152,7 +152,7 @@ module _ (s : Script) (is : IsScript s) (role : Role) (cpu : IsCpu s (cpu_of s r
   drained_known (Does (act.Drain i) ∷ left) exist = ltb-true i (length s.timers) exist.0
   drained_known left exist = first_known
 
-  locks_known : (c : Cursor) (v : Service) (hold : Option Held) → AllByRecursion (TaskExists s) c.left → IsCallout s v.i → ParcelKnown s c.parcel → ActionKnown s (locks s c v hold)
+  locks_known : (c : Cursor) (v : InService) (hold : Option Held) → AllByRecursion (TaskExists s) c.left → IsCallout s v.i → ParcelKnown s c.parcel → ActionKnown s (locks s c v hold)
   locks_known c v None exist served parcel = tt
   locks_known c v (Some held) exist served parcel = record { left = exist; stage = served; parcel = parcel }
 
@@ -170,7 +170,7 @@ module _ (s : Script) (is : IsScript s) (role : Role) (cpu : IsCpu s (cpu_of s r
   stage_known c (Freeing v drain next) exist stage parcel = free_known role
   stage_known c (Drained v acts) exist stage parcel = within_known c v acts stage.0 stage.1
 
-  with_known : (c : Cursor) (parcel : Option Parcel) → ParcelKnown s parcel → IsKnown s c → ActionKnown s (action_with s role c parcel)
+  with_known : (c : Cursor) (parcel : Option PendingInsert) → ParcelKnown s parcel → IsKnown s c → ActionKnown s (action_with s role c parcel)
   with_known c (Some p) there known = there
   with_known c None there known = stage_known c c.stage known.left known.stage known.parcel
 
@@ -178,7 +178,7 @@ module _ (s : Script) (is : IsScript s) (role : Role) (cpu : IsCpu s (cpu_of s r
 
 -- the note stands in a place of the script, and that of a Pick in the callout's that was got
 abbrev Meets : Script → Cursor → Place → Type 0
-Meets s c (place.Timer i) = IsCallout s i × ((v : Service) → c.stage ≡ Picking v → i ≡ v.i)
+Meets s c (place.Timer i) = IsCallout s i × ((v : InService) → c.stage ≡ Picking v → i ≡ v.i)
 Meets s c p = ⊤
 
 module _ (s : Script) (is : IsScript s) where
@@ -187,18 +187,18 @@ module _ (s : Script) (is : IsScript s) where
   over_known c (Drained v acts) exist stage parcel = record { left = exist; stage = draining_known s v (tail_of acts) stage.0 (rest_in s acts stage.1); parcel = parcel }
   over_known c stage exist there parcel = record { left = tail_in s c.left exist; stage = tt; parcel = parcel }
 
-  called_known : (c : Cursor) (i : ℕ) (listed : Bool) (op : Op) (reply : Reply) → IsKnown s c → IsCallout s i → IsKnown s (called c i listed op reply)
+  called_known : (c : Cursor) (i : ℕ) (listed : Bool) (op : Op) (reply : Reply) → IsKnown s c → IsCallout s i → IsKnown s (call_made c i listed op reply)
   called_known c i listed op (Wait n took off) known there = record { left = known.left; stage = tt; parcel = known.parcel }
   called_known c i true op (Armed code n cpu off) known there =
       let over : IsKnown s (act_over c c.stage) = over_known c c.stage known.left known.stage known.parcel in
       record { left = over.left; stage = over.stage; parcel = there }
   called_known c i listed op reply known there = over_known c c.stage known.left known.stage known.parcel
 
-  picked_known : (c : Cursor) (v : Service) (reply : Reply) → IsKnown s c → IsCallout s v.i → IsKnown s (picked s c v reply)
+  picked_known : (c : Cursor) (v : InService) (reply : Reply) → IsKnown s c → IsCallout s v.i → IsKnown s (service_picked s c v reply)
   picked_known c v (Go func arg) known served = record { left = known.left; stage = firing_known s v c.hold (acts_at s.funcs func) served (is.funcs_name func); parcel = known.parcel }
   picked_known c v reply known served = record { left = known.left; stage = served; parcel = known.parcel }
 
-  begun_known : (c : Cursor) (v : Service) (reply : Reply) → IsKnown s c → IsCallout s v.i → IsKnown s (begun s c v reply)
+  begun_known : (c : Cursor) (v : InService) (reply : Reply) → IsKnown s c → IsCallout s v.i → IsKnown s (service_begun s c v reply)
   begun_known c v (Go func arg) known served =
       record {
         left = known.left;
@@ -207,18 +207,18 @@ module _ (s : Script) (is : IsScript s) where
       }
   begun_known c v reply known served = record { left = known.left; stage = served; parcel = known.parcel }
 
-  ended_known : (c : Cursor) (v : Service) (reply : Reply) → IsKnown s c → IsCallout s v.i → IsKnown s (ended c v reply)
+  ended_known : (c : Cursor) (v : InService) (reply : Reply) → IsKnown s c → IsCallout s v.i → IsKnown s (service_ended c v reply)
   ended_known c v (Ended drain next woke) known served = record { left = known.left; stage = served; parcel = known.parcel }
   ended_known c v reply known served = known
 
-  callout_known : (c : Cursor) (i : ℕ) (listed : Bool) (op : Op) (reply : Reply) (stage : Stage) → StageKnown s stage → IsKnown s c → IsCallout s i → ((v : Service) → stage ≡ Picking v → i ≡ v.i) →
+  callout_known : (c : Cursor) (i : ℕ) (listed : Bool) (op : Op) (reply : Reply) (stage : Stage) → StageKnown s stage → IsKnown s c → IsCallout s i → ((v : InService) → stage ≡ Picking v → i ≡ v.i) →
       IsKnown s (advance_callout s c i listed op reply stage)
   callout_known c i listed op reply (Picking v) at known there same = picked_known c v reply known (subst (IsCallout s) (same v refl) there)
   callout_known c i listed op reply (Beginning v) at known there same = begun_known c v reply known at
   callout_known c i listed op reply (Ending v) at known there same = ended_known c v reply known at
   callout_known c i listed op reply stage at known there same = called_known c i listed op reply known there
 
-  sent_known : (v : Service) (next : Option Next) → IsCallout s v.i → ParcelKnown s (parcel_of v next)
+  sent_known : (v : InService) (next : Option Next) → IsCallout s v.i → ParcelKnown s (parcel_of v next)
   sent_known v None served = tt
   sent_known v (Some next) served = served
 
@@ -231,7 +231,7 @@ module _ (s : Script) (is : IsScript s) where
       record { left = known.left; stage = draining_known s v (drain_acts s drain) served (drained_acts_known drain); parcel = sent_known v next served }
   freed_known c stage there known = known
 
-  got_known : (c : Cursor) (n : ℕ) (reply : QReply) → AllByRecursion (TaskExists s) c.left → ParcelKnown s c.parcel → IsKnown s (got c n reply)
+  got_known : (c : Cursor) (n : ℕ) (reply : QReply) → AllByRecursion (TaskExists s) c.left → ParcelKnown s c.parcel → IsKnown s (pop_answered c n reply)
   got_known c n (Got i k time) exist parcel = record { left = exist; stage = tt; parcel = parcel }
   got_known c n reply exist parcel = record { left = tail_in s c.left exist; stage = tt; parcel = parcel }
 
@@ -319,7 +319,7 @@ module _ (s : Script) (is : IsScript s) (exist : FuncsExist s) (a : ℕ) (below 
   note_asks c (Take held to) p e known names fits = absurd fits
 
   -- a Pick is of the callout that was got
-  pick_meets : (c : Cursor) (parcel : Option Parcel) (i : ℕ) (e : AnyEntry) (v : Service) → c.stage ≡ Picking v → Fits a c (action_with s (role_of s a) c parcel) (place.Timer i) e → i ≡ v.i
+  pick_meets : (c : Cursor) (parcel : Option PendingInsert) (i : ℕ) (e : AnyEntry) (v : InService) → c.stage ≡ Picking v → Fits a c (action_with s (role_of s a) c parcel) (place.Timer i) e → i ≡ v.i
   pick_meets c (Some p) i (entry.Timer e) v at fits = absurd fits
   pick_meets c (Some p) i (entry.Cpu e) v at fits = absurd fits
   pick_meets c (Some p) i (entry.Own e) v at fits = absurd fits
@@ -337,7 +337,7 @@ module _ (s : Script) (is : IsScript s) (exist : FuncsExist s) (a : ℕ) (below 
   each_asks : (H : Histories) (c : Cursor) (notes : List Note) → IsKnown s c → NamesFuncs s c → HavePlaces s notes → AreNext s H a c notes → AllByRecursion (NoteAsks s) notes
   each_asks H c [] known names have next = tt
   each_asks H c (n ∷ notes) known names have next =
-      let d : Cursor = settled s a c in
+      let d : Cursor = at_next_note s a c in
       let there : IsKnown s d = past_known (suc (length c.left)) c (action_for s a c) known (action_known c known) in
       let named : NamesFuncs s d = past_names (suc (length c.left)) c (action_for s a c) names (action_names s a c names) in
       let meets : Meets s d n.place = note_meets d n.place n.entry have.0 next.0.fits in (

@@ -10,17 +10,17 @@ use Rattle.co_object.specs.Drain.{drain_at, serviced}
 use Rattle.co_object.specs.Stand.{off}
 use Rattle.co_lock.specs.declared.Held.{Held}
 use Rattle.co_program.specs.declared.script.Script.{Script}
-use Rattle.co_program.specs.declared.cursor.Parcel.{Parcel}
+use Rattle.co_program.specs.declared.cursor.PendingInsert.{PendingInsert}
 use Rattle.co_program.specs.declared.action.Asked.TheVariants.{Callout, Itself}
 use Rattle.co_program.specs.Stages.{Waiting}
 use Rattle.co_program.specs.Cursor.{Cursor}
 use Rattle.co_program.specs.Action.{Asks, action_for, action_with, drained_of}
 use Rattle.co_program.specs.Actors.{role_of}
-use Rattle.co_program.specs.Follows.{Histories, settled}
-use Rattle.co_program.specs.Groups.{IsCallOf, IsDone, IsDrainOf, done, waits}
+use Rattle.co_program.specs.Follows.{Histories, at_next_note}
+use Rattle.co_program.specs.Groups.{IsCallOf, EndsDrain, IsDrainOf, done, waits}
 use Rattle.co_program.proofs.AskedCalls.{asked_call, asked_drain_of}
 use Rattle.co_program.proofs.Groups.{IsCallFirst, after, call-first, no-parcel}
-use Rattle.co_program.proofs.Rests.{IsRest, settled-asks}
+use Rattle.co_program.proofs.Rests.{IsRest, at-next-asks}
 
 module _ (s : Script) (H : Histories) (a act i : ℕ) where
   pub record IsDrainFirst (took : Bool) (notes : List Note) : Type 0 where
@@ -36,7 +36,7 @@ module _ (s : Script) (H : Histories) (a act i : ℕ) where
   asks-again : (d : Cursor) (took took' : Bool) (n : ℕ) → action_for s a d ≡ Asks act (Callout i (Call (DrainTry took))) → action_for s a (waiting d n took') ≡ Asks act (Callout i (Call (DrainTry took')))
   asks-again d took took' n is =
       let its = asked_drain_of s a d act i took is in
-      ap (λ (p : Option Parcel). action_with s (role_of s a) (waiting d n took') p) (no-parcel s a d act i (DrainTry took) is)
+      ap (λ (p : Option PendingInsert). action_with s (role_of s a) (waiting d n took') p) (no-parcel s a d act i (DrainTry took) is)
       ∙ ap (λ (h : Option Held). cond (is_some h) (Asks d.act (Itself HoldsLock)) (Asks d.act (Callout (drained_of d.left) (Call (DrainTry took'))))) its.0
       ∙ ap (λ (k : ℕ). Asks d.act (Callout k (Call (DrainTry took')))) its.1
       ∙ ap (λ (k : ℕ). Asks k (Callout i (Call (DrainTry took')))) (sym (asked_call s a d act i (DrainTry took) is).0)
@@ -53,12 +53,12 @@ module _ (s : Script) (H : Histories) (a act i : ℕ) where
           front = f.front;
           rest = f.rest;
           split = f.split;
-          drain = done took f.reply f.front (subst IsDone answers tt) f.call_is;
+          drain = done took f.reply f.front (subst EndsDrain answers tt) f.call_is;
         }
         at_run f (Some n) answers again =
             let b : Bool = is_some f.before.armed || took in
-            let there = subst (λ (r : Reply). IsRest s H a (settled s a (after s H a act i (DrainTry took) d r)) f.rest) (sym answers) f.later in
-            let more = again n b (subst (λ (c : Cursor). IsRest s H a c f.rest) (settled-asks s a (waiting d n b) act (Callout i (Call (DrainTry b))) (asks-again d took b n is)) there) in
+            let there = subst (λ (r : Reply). IsRest s H a (at_next_note s a (after s H a act i (DrainTry took) d r)) f.rest) (sym answers) f.later in
+            let more = again n b (subst (λ (c : Cursor). IsRest s H a c f.rest) (at-next-asks s a (waiting d n b) act (Callout i (Call (DrainTry b))) (asks-again d took b n is)) there) in
             record {
               front = f.front ++ more.front;
               rest = more.rest;

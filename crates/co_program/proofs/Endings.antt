@@ -40,17 +40,17 @@ use Rattle.co_program.specs.declared.script.Script.{Script}
 use Rattle.co_program.specs.declared.role.Role.{Role}
 use Rattle.co_program.specs.declared.program.Task.{Task}
 use Rattle.co_program.specs.declared.program.Task.TheVariants.{Does, Soft}
-use Rattle.co_program.specs.declared.cursor.Service.{Service}
-use Rattle.co_program.specs.declared.cursor.Parcel.{Parcel}
+use Rattle.co_program.specs.declared.cursor.InService.{InService}
+use Rattle.co_program.specs.declared.cursor.PendingInsert.{PendingInsert}
 use Rattle.co_program.specs.declared.action.Asked.TheVariants.{Callout, Itself}
 use Rattle.co_program.specs.Actors.{role_of, cpu_of, acts_at}
 use Rattle.co_program.specs.Calls.{plain_op}
 use Rattle.co_program.specs.Stages.{Stage, Ready, Waiting, Popping, Picking, Locking, Beginning, Unlocking, Firing, Releasing, Ending, Freeing, Drained}
 use Rattle.co_program.specs.Cursor.{Cursor, start_of}
-use Rattle.co_program.specs.Action.{Action, Nothing, Silent, Take, Asks, spec_at, asks_covered, asks_within, takes, asks_drain, begins, drained_of, locks, over, firing, draining, action_in, action_with, action_for}
-use Rattle.co_program.specs.Advance.{tail_of, act_over, called, picked, begun, ended, advance_callout, drain_acts, freed, got, popped, advance_queue, advance}
-use Rattle.co_program.specs.Follows.{Histories, Fits, AreNext, cursor_after, goes_on, past, settled, listed_after}
-use Rattle.co_program.specs.Laws.{HasEnded}
+use Rattle.co_program.specs.Action.{Action, Nothing, Silent, Take, Asks, spec_at, asks_covered, asks_within, takes, asks_drain, begins_next, drained_of, locks, over, firing, draining, action_in, action_with, action_for}
+use Rattle.co_program.specs.Advance.{tail_of, act_over, call_made, service_picked, service_begun, service_ended, advance_callout, drain_acts, freed, pop_answered, popped, advance_queue, advance}
+use Rattle.co_program.specs.Follows.{Histories, Fits, AreNext, cursor_after, goes_on, past, at_next_note, listed_after}
+use Rattle.co_program.specs.Laws.{HasNothingLeft}
 use Rattle.co_program.specs.Scripts.{IsScript, is_call}
 use Rattle.co_program.proofs.Options.{none-some, some-is}
 use Rattle.co_program.proofs.Rests.{IsKnown, IsKnownEntry, KnownAt}
@@ -86,12 +86,12 @@ StageDoes s (Drained v []) = ⊥
 StageDoes s (Drained v (x ∷ acts)) = AreCalls (x ∷ acts)
 StageDoes s stage = ⊤
 
-firing-does : (s : Script) (v : Service) (hold : Option Held) (acts : List Act) → AreCalls acts → StageDoes s (firing v hold acts)
+firing-does : (s : Script) (v : InService) (hold : Option Held) (acts : List Act) → AreCalls acts → StageDoes s (firing v hold acts)
 firing-does s v hold (x ∷ acts) h = h
 firing-does s v None [] h = tt
 firing-does s v (Some held) [] h = tt
 
-draining-does : (s : Script) (v : Service) (acts : List Act) → AreCalls acts → StageDoes s (draining v acts)
+draining-does : (s : Script) (v : InService) (acts : List Act) → AreCalls acts → StageDoes s (draining v acts)
 draining-does s v [] h = tt
 draining-does s v (x ∷ acts) h = h
 
@@ -111,7 +111,7 @@ module _ (s : Script) (role : Role) (c : Cursor) where
   to-covered None = tt
   to-covered (Some (i, op)) = either_way (ToDoes s) (covers c.hold (spec_at s i) (Plain op)) (Asks c.act (Callout i (Call (Plain op)))) (Asks c.act (Itself NotHeld)) (λ _. tt) (λ _. tt)
 
-  to-within : (v : Service) (acts : List Act) → ToDoes s (asks_within s (cpu_of s role) c v acts)
+  to-within : (v : InService) (acts : List Act) → ToDoes s (asks_within s (cpu_of s role) c v acts)
   to-within v [] = tt
   to-within v (x ∷ acts) = to-covered (plain_op x s.hz (record { time = v.at; here = cpu_of s role; me = v.i }))
 
@@ -121,7 +121,7 @@ module _ (s : Script) (role : Role) (c : Cursor) where
   to-takes : (left : List Task) (held : Held) → ToDoes s (takes c left held)
   to-takes left held = either_way (ToDoes s) (is_some c.hold) (Asks c.act (Itself Holding)) (Take held (over c left (Some held))) (λ _. tt) (λ _. tt)
 
-  to-begins : (left : List Task) → ToDoes s (begins s role c left)
+  to-begins : (left : List Task) → ToDoes s (begins_next s role c left)
   to-begins [] = either_way (ToDoes s) (is_some c.hold) (Silent (record c { left = []; hold = None; stage = Ready })) Nothing (λ _. tt) (λ _. tt)
   to-begins (Does (act.Now time) ∷ left) = tt
   to-begins (Does (act.Lock id) ∷ left) = to-takes left (record { id = id; exclusive = true })
@@ -132,7 +132,7 @@ module _ (s : Script) (role : Role) (c : Cursor) where
   to-begins (Does x ∷ left) = to-covered (plain_op x s.hz (record { time = c.now; here = cpu_of s role; me = 0 }))
   to-begins (Soft j ∷ left) = tt
 
-  to-locks : (v : Service) (hold : Option Held) → ToDoes s (locks s c v hold)
+  to-locks : (v : InService) (hold : Option Held) → ToDoes s (locks s c v hold)
   to-locks v None = tt
   to-locks v (Some held) = tt
 
@@ -150,7 +150,7 @@ module _ (s : Script) (role : Role) (c : Cursor) where
   to-stage (Freeing v drain next) h = tt
   to-stage (Drained v acts) h = to-within v acts
 
-  to-with : (parcel : Option Parcel) → StageDoes s c.stage → ToDoes s (action_with s role c parcel)
+  to-with : (parcel : Option PendingInsert) → StageDoes s c.stage → ToDoes s (action_with s role c parcel)
   to-with None h = to-stage c.stage h
   to-with (Some p) h = tt
 
@@ -161,8 +161,8 @@ past-does s a (suc fuel) c (Take held next) to h = past-does s a fuel next (acti
 past-does s a (suc fuel) c Nothing to h = h
 past-does s a (suc fuel) c (Asks n asked) to h = h
 
-settled-does : (s : Script) (a : ℕ) (c : Cursor) → StageDoes s c.stage → StageDoes s (settled s a c).stage
-settled-does s a c h = past-does s a (suc (length c.left)) c (action_for s a c) (to-with s (role_of s a) c c.parcel h) h
+at-next-does : (s : Script) (a : ℕ) (c : Cursor) → StageDoes s c.stage → StageDoes s (at_next_note s a c).stage
+at-next-does s a c h = past-does s a (suc (length c.left)) c (action_for s a c) (to-with s (role_of s a) c c.parcel h) h
 
 -- ---- notes
 
@@ -183,30 +183,30 @@ module _ (s : Script) (ok : IsScript s) where
   over-does c (Ending v) h = tt
   over-does c (Freeing v drain next) h = tt
 
-  called-does : (c : Cursor) (i : ℕ) (listed : Bool) (op : Op) (reply : Reply) → StageDoes s c.stage → StageDoes s (called c i listed op reply).stage
+  called-does : (c : Cursor) (i : ℕ) (listed : Bool) (op : Op) (reply : Reply) → StageDoes s c.stage → StageDoes s (call_made c i listed op reply).stage
   called-does c i listed op (Wait n took off) h = tt
   called-does c i true op (Armed code n cpu off) h = over-does c c.stage h
   called-does c i listed op reply h = over-does c c.stage h
 
   -- a lock is waited for where there is one
-  abbrev WaitsForIts : Service → Reply → Type 0
+  abbrev WaitsForIts : InService → Reply → Type 0
   WaitsForIts v (Go func arg) = ⊤
   WaitsForIts v reply = is_some (hold_of (spec_at s v.i).lock) ≡ true
 
-  picked-does : (c : Cursor) (v : Service) (reply : Reply) → WaitsForIts v reply → StageDoes s (picked s c v reply).stage
+  picked-does : (c : Cursor) (v : InService) (reply : Reply) → WaitsForIts v reply → StageDoes s (service_picked s c v reply).stage
   picked-does c v (Go func arg) h = firing-does s v c.hold (acts_at s.funcs func) (ok.funcs func)
   picked-does c v reply h = h
 
-  begun-does : (c : Cursor) (v : Service) (reply : Reply) → StageDoes s (begun s c v reply).stage
+  begun-does : (c : Cursor) (v : InService) (reply : Reply) → StageDoes s (service_begun s c v reply).stage
   begun-does c v (Go func arg) =
       either_way (StageDoes s) (spec_at s v.i).returns_unlocked (Unlocking v (acts_at s.funcs func)) (firing v c.hold (acts_at s.funcs func)) (λ _. ok.funcs func) (λ _. firing-does s v c.hold (acts_at s.funcs func) (ok.funcs func))
   begun-does c v reply = tt
 
-  ended-does : (c : Cursor) (v : Service) (reply : Reply) → StageDoes s c.stage → StageDoes s (ended c v reply).stage
+  ended-does : (c : Cursor) (v : InService) (reply : Reply) → StageDoes s c.stage → StageDoes s (service_ended c v reply).stage
   ended-does c v (Ended drain next woke) h = tt
   ended-does c v reply h = h
 
-  got-does : (c : Cursor) (n : ℕ) (reply : QReply) → StageDoes s (got c n reply).stage
+  got-does : (c : Cursor) (n : ℕ) (reply : QReply) → StageDoes s (pop_answered c n reply).stage
   got-does c n (Got i k at) = tt
   got-does c n reply = tt
 
@@ -240,7 +240,7 @@ module _ (s : Script) (ok : IsScript s) where
   taken-is false t m = refl
 
   -- what a Pick answers
-  pick-waits : (v : Service) (t : State) (o : Option Arming) (n cpu at : ℕ) (after : State) (reply : Reply) → pick_armed (spec_at s v.i) t o n cpu at ≡ Some (after, reply) → WaitsForIts v reply
+  pick-waits : (v : InService) (t : State) (o : Option Arming) (n cpu at : ℕ) (after : State) (reply : Reply) → pick_armed (spec_at s v.i) t o n cpu at ≡ Some (after, reply) → WaitsForIts v reply
   pick-waits v t None n cpu at after reply h = absurd (none-some {X = State × Reply} (after, reply) h)
   pick-waits v t (Some m) n cpu at after reply h = at_test (is_due m n cpu at && is_idle t.run) h where
     locked : (lock : LockUse) → has_lock lock ≡ true → is_some (hold_of lock) ≡ true
@@ -258,7 +258,7 @@ module _ (s : Script) (ok : IsScript s) where
     at_test false g = absurd (none-some {X = State × Reply} (after, reply) g)
 
 module _ (s : Script) (ok : IsScript s) (H : Histories) (a : ℕ) where
-  picking : (d : Cursor) (v : Service) (i pos : ℕ) (e : Entry) → (p : Option Parcel) → d.parcel ≡ p → d.stage ≡ Picking v →
+  picking : (d : Cursor) (v : InService) (i pos : ℕ) (e : Entry) → (p : Option PendingInsert) → d.parcel ≡ p → d.stage ≡ Picking v →
       Fits a d (action_with s (role_of s a) d p) (place.Timer i) (entry.Timer e) → IsKnownEntry s H i pos e → WaitsForIts s ok v e.reply
   picking d v i pos e (Some p) is at fits known = absurd fits
   picking d v i pos e None is at fits known =
@@ -283,13 +283,13 @@ module _ (s : Script) (ok : IsScript s) (H : Histories) (a : ℕ) where
   pub leads : (c : Cursor) (notes : List Note) → AreNext s H a c notes → AllByRecursion (IsKnown s H) notes → StageDoes s c.stage → StageDoes s (cursor_after s H a c notes).stage
   leads c [] next known h = h
   leads c (note ∷ notes) next known h =
-      leads (goes_on s H (settled s a c) note) notes next.1 known.1
-      (note-does (settled s a c) (listed_after s H note.place note.pos) note.place note.pos note.entry (settled-does s a c h) next.0.fits known.0)
+      leads (goes_on s H (at_next_note s a c) note) notes next.1 known.1
+      (note-does (at_next_note s a c) (listed_after s H note.place note.pos) note.place note.pos note.entry (at-next-does s a c h) next.0.fits known.0)
 
 -- ---- where nothing is due
 
 abbrev EndsAt : Cursor → Action → Type 0
-EndsAt c Nothing = HasEnded c
+EndsAt c Nothing = HasNothingLeft c
 EndsAt c action = ⊤
 
 module _ (s : Script) (role : Role) (c : Cursor) where
@@ -305,7 +305,7 @@ module _ (s : Script) (role : Role) (c : Cursor) where
   ends-takes : (left : List Task) (held : Held) → EndsAt c (takes c left held)
   ends-takes left held = either_way (EndsAt c) (is_some c.hold) (Asks c.act (Itself Holding)) (Take held (over c left (Some held))) (λ _. tt) (λ _. tt)
 
-  ends-begins : (left : List Task) → c.left ≡ left → c.stage ≡ Ready → c.parcel ≡ None → EndsAt c (begins s role c left)
+  ends-begins : (left : List Task) → c.left ≡ left → c.stage ≡ Ready → c.parcel ≡ None → EndsAt c (begins_next s role c left)
   ends-begins [] is at none = at_hold c.hold refl where
     at_hold : (h : Option Held) → c.hold ≡ h → EndsAt c (cond (is_some h) (Silent (record c { left = []; hold = None; stage = Ready })) Nothing)
     at_hold None free = record { left = is; hold = free; stage = at; parcel = none }
@@ -319,13 +319,13 @@ module _ (s : Script) (role : Role) (c : Cursor) where
   ends-begins (Does x ∷ left) is at none = ends-covered (plain_op x s.hz (record { time = c.now; here = cpu_of s role; me = 0 })) refl
   ends-begins (Soft j ∷ left) is at none = tt
 
-  ends-locks : (v : Service) (hold : Option Held) → is_some hold ≡ true → EndsAt c (locks s c v hold)
+  ends-locks : (v : InService) (hold : Option Held) → is_some hold ≡ true → EndsAt c (locks s c v hold)
   ends-locks v None h = absurd (no h) where
     no : is_some {T = Held} None ≡ true → ⊥
     no g = let e : false ≡ true = g in cc
   ends-locks v (Some held) h = tt
 
-  ends-within : (v : Service) (x : Act) (acts : List Act) → is_call x ≡ true → EndsAt c (asks_within s (cpu_of s role) c v (x ∷ acts))
+  ends-within : (v : InService) (x : Act) (acts : List Act) → is_call x ≡ true → EndsAt c (asks_within s (cpu_of s role) c v (x ∷ acts))
   ends-within v x acts h = ends-covered (plain_op x s.hz (record { time = v.at; here = cpu_of s role; me = v.i })) (some-call x s.hz (record { time = v.at; here = cpu_of s role; me = v.i }) h)
 
   ends-stage : (stage : Stage) → c.stage ≡ stage → c.parcel ≡ None → StageDoes s stage → EndsAt c (action_in s role c stage)
@@ -344,19 +344,19 @@ module _ (s : Script) (role : Role) (c : Cursor) where
   ends-stage (Drained v []) is none h = absurd h
   ends-stage (Drained v (x ∷ acts)) is none h = ends-within v x acts h.0
 
-  ends-with : (parcel : Option Parcel) → c.parcel ≡ parcel → StageDoes s c.stage → EndsAt c (action_with s role c parcel)
+  ends-with : (parcel : Option PendingInsert) → c.parcel ≡ parcel → StageDoes s c.stage → EndsAt c (action_with s role c parcel)
   ends-with None none h = ends-stage c.stage refl none h
   ends-with (Some p) is h = tt
 
-pub ended-there : (s : Script) (a : ℕ) (c : Cursor) → StageDoes s c.stage → action_for s a c ≡ Nothing → HasEnded c
+pub ended-there : (s : Script) (a : ℕ) (c : Cursor) → StageDoes s c.stage → action_for s a c ≡ Nothing → HasNothingLeft c
 ended-there s a c h is = subst (EndsAt c) is (ends-with s (role_of s a) c c.parcel refl h)
 
-pub nothing-there : (s : Script) (a : ℕ) (c : Cursor) → HasEnded c → action_for s a c ≡ Nothing
+pub nothing-there : (s : Script) (a : ℕ) (c : Cursor) → HasNothingLeft c → action_for s a c ≡ Nothing
 nothing-there s a c e =
-    ap (λ (p : Option Parcel). action_with s (role_of s a) c p) e.parcel
+    ap (λ (p : Option PendingInsert). action_with s (role_of s a) c p) e.parcel
     ∙ ap (λ (stage : Stage). action_in s (role_of s a) c stage) e.stage
-    ∙ ap (λ (left : List Task). begins s (role_of s a) c left) e.left
+    ∙ ap (λ (left : List Task). begins_next s (role_of s a) c left) e.left
     ∙ ap (λ (h : Option Held). cond (is_some h) (Silent (record c { left = []; hold = None; stage = Ready })) Nothing) e.hold
 
-pub does-after : (s : Script) (ok : IsScript s) (H : Histories) (a : ℕ) (notes : List Note) → AreNext s H a (start_of s a) notes → AllByRecursion (IsKnown s H) notes → StageDoes s (settled s a (cursor_after s H a (start_of s a) notes)).stage
-does-after s ok H a notes next known = settled-does s a (cursor_after s H a (start_of s a) notes) (leads s ok H a (start_of s a) notes next known tt)
+pub does-after : (s : Script) (ok : IsScript s) (H : Histories) (a : ℕ) (notes : List Note) → AreNext s H a (start_of s a) notes → AllByRecursion (IsKnown s H) notes → StageDoes s (at_next_note s a (cursor_after s H a (start_of s a) notes)).stage
+does-after s ok H a notes next known = at-next-does s a (cursor_after s H a (start_of s a) notes) (leads s ok H a (start_of s a) notes next known tt)

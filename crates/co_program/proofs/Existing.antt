@@ -36,15 +36,15 @@ use Rattle.co_program.specs.declared.role.Role.{Role}
 use Rattle.co_program.specs.declared.role.Role.TheVariants.{Client, Cpu, Interrupt}
 use Rattle.co_program.specs.declared.program.Task.{Task}
 use Rattle.co_program.specs.declared.program.Task.TheVariants.{Does, Soft}
-use Rattle.co_program.specs.declared.cursor.Service.{Service}
-use Rattle.co_program.specs.declared.cursor.Parcel.{Parcel}
+use Rattle.co_program.specs.declared.cursor.InService.{InService}
+use Rattle.co_program.specs.declared.cursor.PendingInsert.{PendingInsert}
 use Rattle.co_program.specs.declared.action.Asked.TheVariants.{Callout, Itself}
 use Rattle.co_program.specs.Actors.{client_count, actor_count, acts_at, program_of, role_of, cpu_of, softs}
-use Rattle.co_program.specs.Calls.{plain_op, callout_of, cpu_named}
+use Rattle.co_program.specs.Calls.{plain_op, callout_of_who, cpu_named}
 use Rattle.co_program.specs.Stages.{Stage, Ready, Waiting, Popping, Picking, Locking, Beginning, Unlocking, Firing, Releasing, Ending, Freeing, Drained}
 use Rattle.co_program.specs.Cursor.{Cursor, start_of}
-use Rattle.co_program.specs.Action.{Asks, spec_at, asks_covered, asks_call, asks_within, takes, asks_drain, pop_of, free_of, begins, drained_of, locks, firing, draining, action_in, action_with, action_for}
-use Rattle.co_program.specs.Advance.{tail_of, act_over, called, picked, begun, ended, advance_callout, parcel_of, drain_acts, freed, got, popped, advance_queue, advance}
+use Rattle.co_program.specs.Action.{Asks, spec_at, asks_covered, asks_call, asks_within, takes, asks_drain, pop_of, free_of, begins_next, drained_of, locks, firing, draining, action_in, action_with, action_for}
+use Rattle.co_program.specs.Advance.{tail_of, act_over, call_made, service_picked, service_begun, service_ended, advance_callout, parcel_of, drain_acts, freed, pop_answered, popped, advance_queue, advance}
 use Rattle.co_program.specs.Existing.{IsCallout, IsCpu, ActsExist, TaskExists, NextExists, StageExists, ParcelExists, IsIn, CpuExists, PlainOpExists, QOpExists, ActionExists, ReplyExists, QReplyExists, EntryExists}
 use Rattle.co_program.specs.Scripts.{IsScript, is_tick, who_exists, cpu_exists, names_exist}
 
@@ -112,7 +112,7 @@ start_in s is a = record { left = program_in s is (role_of s a); stage = tt; par
 -- ---- calls
 
 module _ (s : Script) (at : Scene) (here : IsCpu s at.here) (me : IsCallout s at.me) where
-  who_in : (who : Who) → who_exists s who ≡ true → IsCallout s (callout_of at who)
+  who_in : (who : Who) → who_exists s who ≡ true → IsCallout s (callout_of_who at who)
   who_in (Timer i) exists = ltb-true i (length s.timers) exists
   who_in Me exists = me
 
@@ -163,11 +163,11 @@ module _ (s : Script) where
   rest_in [] exist = tt
   rest_in (a ∷ acts) exist = exist.1
 
-  draining_in : (v : Service) (acts : List Act) → IsCallout s v.i → ActsExist s acts → StageExists s (draining v acts)
+  draining_in : (v : InService) (acts : List Act) → IsCallout s v.i → ActsExist s acts → StageExists s (draining v acts)
   draining_in v [] served exist = tt
   draining_in v (a ∷ acts) served exist = (served, exist)
 
-  firing_in : (v : Service) (hold : Option Held) (acts : List Act) → IsCallout s v.i → ActsExist s acts → StageExists s (firing v hold acts)
+  firing_in : (v : InService) (hold : Option Held) (acts : List Act) → IsCallout s v.i → ActsExist s acts → StageExists s (firing v hold acts)
   firing_in v hold (a ∷ acts) served exist = (served, exist)
   firing_in v None [] served exist = served
   firing_in v (Some held) [] served exist = served
@@ -175,7 +175,7 @@ module _ (s : Script) where
 -- ---- actions
 
 module _ (s : Script) (is : IsScript s) (role : Role) (cpu : IsCpu s (cpu_of s role)) where
-  within_in : (c : Cursor) (v : Service) (acts : List Act) → IsCallout s v.i → ActsExist s acts → ActionExists s (asks_within s (cpu_of s role) c v acts)
+  within_in : (c : Cursor) (v : InService) (acts : List Act) → IsCallout s v.i → ActsExist s acts → ActionExists s (asks_within s (cpu_of s role) c v acts)
   within_in c v [] served exist = tt
   within_in c v (a ∷ acts) served exist = asks_in s (record { time = v.at; here = cpu_of s role; me = v.i }) cpu served c a exist.0
 
@@ -199,7 +199,7 @@ module _ (s : Script) (is : IsScript s) (role : Role) (cpu : IsCpu s (cpu_of s r
   first_in : IsCallout s 0
   first_in = omega (arith, is.timers.0)
 
-  begins_in : (c : Cursor) (left : List Task) → AllByRecursion (TaskExists s) left → ParcelExists s c.parcel → ActionExists s (begins s role c left)
+  begins_in : (c : Cursor) (left : List Task) → AllByRecursion (TaskExists s) left → ParcelExists s c.parcel → ActionExists s (begins_next s role c left)
   begins_in c [] exist parcel = choice (ActionExists s) (is_some c.hold) _ _ (λ _. record { left = tt; stage = tt; parcel = parcel }) (λ _. tt)
   begins_in c (Soft j ∷ left) exist parcel = (cpu, pop_in role)
   begins_in c (Does (act.Now time) ∷ left) exist parcel = record { left = exist.1; stage = tt; parcel = parcel }
@@ -214,7 +214,7 @@ module _ (s : Script) (is : IsScript s) (role : Role) (cpu : IsCpu s (cpu_of s r
   drained_in (Does (act.Drain i) ∷ left) exist = ltb-true i (length s.timers) exist.0
   drained_in left exist = first_in
 
-  locks_in : (c : Cursor) (v : Service) (hold : Option Held) → AllByRecursion (TaskExists s) c.left → IsCallout s v.i → ParcelExists s c.parcel → ActionExists s (locks s c v hold)
+  locks_in : (c : Cursor) (v : InService) (hold : Option Held) → AllByRecursion (TaskExists s) c.left → IsCallout s v.i → ParcelExists s c.parcel → ActionExists s (locks s c v hold)
   locks_in c v None exist served parcel = tt
   locks_in c v (Some held) exist served parcel = record { left = exist; stage = served; parcel = parcel }
 
@@ -232,7 +232,7 @@ module _ (s : Script) (is : IsScript s) (role : Role) (cpu : IsCpu s (cpu_of s r
   stage_in c (Freeing v drain next) exist stage parcel = (cpu, free_in role)
   stage_in c (Drained v acts) exist stage parcel = within_in c v acts stage.0 stage.1
 
-  with_in : (c : Cursor) (parcel : Option Parcel) → c.parcel ≡ parcel → IsIn s c → ActionExists s (action_with s role c parcel)
+  with_in : (c : Cursor) (parcel : Option PendingInsert) → c.parcel ≡ parcel → IsIn s c → ActionExists s (action_with s role c parcel)
   with_in c (Some p) same inside = let there : ParcelExists s (Some p) = subst (ParcelExists s) same inside.parcel in (there.1, there.0)
   with_in c None same inside = stage_in c c.stage inside.left inside.stage inside.parcel
 
@@ -247,18 +247,18 @@ module _ (s : Script) (is : IsScript s) where
   over_in c (Drained v acts) exist stage parcel = record { left = exist; stage = draining_in s v (tail_of acts) stage.0 (rest_in s acts stage.1); parcel = parcel }
   over_in c stage exist there parcel = record { left = tail_in s c.left exist; stage = tt; parcel = parcel }
 
-  called_in : (c : Cursor) (i : ℕ) (listed : Bool) (op : Op) (reply : Reply) → IsIn s c → IsCallout s i → ReplyExists s reply → IsIn s (called c i listed op reply)
+  called_in : (c : Cursor) (i : ℕ) (listed : Bool) (op : Op) (reply : Reply) → IsIn s c → IsCallout s i → ReplyExists s reply → IsIn s (call_made c i listed op reply)
   called_in c i listed op (Wait n took off) inside there exists = record { left = inside.left; stage = tt; parcel = inside.parcel }
   called_in c i true op (Armed code n cpu off) inside there exists =
       let over : IsIn s (act_over c c.stage) = over_in c c.stage inside.left inside.stage inside.parcel in
       record { left = over.left; stage = over.stage; parcel = (there, exists) }
   called_in c i listed op reply inside there exists = over_in c c.stage inside.left inside.stage inside.parcel
 
-  picked_in : (c : Cursor) (v : Service) (reply : Reply) → IsIn s c → IsCallout s v.i → IsIn s (picked s c v reply)
+  picked_in : (c : Cursor) (v : InService) (reply : Reply) → IsIn s c → IsCallout s v.i → IsIn s (service_picked s c v reply)
   picked_in c v (Go func arg) inside served = record { left = inside.left; stage = firing_in s v c.hold (acts_at s.funcs func) served (is.funcs_name func); parcel = inside.parcel }
   picked_in c v reply inside served = record { left = inside.left; stage = served; parcel = inside.parcel }
 
-  begun_in : (c : Cursor) (v : Service) (reply : Reply) → IsIn s c → IsCallout s v.i → IsIn s (begun s c v reply)
+  begun_in : (c : Cursor) (v : InService) (reply : Reply) → IsIn s c → IsCallout s v.i → IsIn s (service_begun s c v reply)
   begun_in c v (Go func arg) inside served =
       record {
         left = inside.left;
@@ -267,7 +267,7 @@ module _ (s : Script) (is : IsScript s) where
       }
   begun_in c v reply inside served = record { left = inside.left; stage = served; parcel = inside.parcel }
 
-  ended_in : (c : Cursor) (v : Service) (reply : Reply) → IsIn s c → IsCallout s v.i → ReplyExists s reply → IsIn s (ended c v reply)
+  ended_in : (c : Cursor) (v : InService) (reply : Reply) → IsIn s c → IsCallout s v.i → ReplyExists s reply → IsIn s (service_ended c v reply)
   ended_in c v (Ended drain next woke) inside served exists = record { left = inside.left; stage = (served, exists); parcel = inside.parcel }
   ended_in c v reply inside served exists = inside
 
@@ -277,7 +277,7 @@ module _ (s : Script) (is : IsScript s) where
   callout_in c i listed op reply (Ending v) same inside there exists = ended_in c v reply inside (subst (StageExists s) same inside.stage) exists
   callout_in c i listed op reply stage same inside there exists = called_in c i listed op reply inside there exists
 
-  sent_in : (v : Service) (next : Option Next) → IsCallout s v.i → NextExists s next → ParcelExists s (parcel_of v next)
+  sent_in : (v : InService) (next : Option Next) → IsCallout s v.i → NextExists s next → ParcelExists s (parcel_of v next)
   sent_in v None served exists = tt
   sent_in v (Some next) served exists = (served, exists)
 
@@ -291,7 +291,7 @@ module _ (s : Script) (is : IsScript s) where
       record { left = inside.left; stage = draining_in s v (drain_acts s drain) there.0 (drained_acts_in drain); parcel = sent_in v next there.0 there.1 }
   freed_in c stage same inside = inside
 
-  got_in : (c : Cursor) (n : ℕ) (reply : QReply) → AllByRecursion (TaskExists s) c.left → ParcelExists s c.parcel → QReplyExists s reply → IsIn s (got c n reply)
+  got_in : (c : Cursor) (n : ℕ) (reply : QReply) → AllByRecursion (TaskExists s) c.left → ParcelExists s c.parcel → QReplyExists s reply → IsIn s (pop_answered c n reply)
   got_in c n (Got i k time) exist parcel there = record { left = exist; stage = there; parcel = parcel }
   got_in c n reply exist parcel there = record { left = tail_in s c.left exist; stage = tt; parcel = parcel }
 

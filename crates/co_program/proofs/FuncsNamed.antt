@@ -28,16 +28,16 @@ use Rattle.co_program.specs.declared.role.Role.{Role}
 use Rattle.co_program.specs.declared.role.Role.TheVariants.{Client, Cpu, Interrupt}
 use Rattle.co_program.specs.declared.program.Task.{Task}
 use Rattle.co_program.specs.declared.program.Task.TheVariants.{Does, Soft}
-use Rattle.co_program.specs.declared.cursor.Service.{Service}
-use Rattle.co_program.specs.declared.cursor.Parcel.{Parcel}
+use Rattle.co_program.specs.declared.cursor.InService.{InService}
+use Rattle.co_program.specs.declared.cursor.PendingInsert.{PendingInsert}
 use Rattle.co_program.specs.declared.action.Asked.{Asked}
 use Rattle.co_program.specs.declared.action.Asked.TheVariants.{Callout, Queue, Itself}
 use Rattle.co_program.specs.Actors.{acts_at, program_of, role_of, cpu_of, softs}
 use Rattle.co_program.specs.Calls.{plain_op}
 use Rattle.co_program.specs.Stages.{Stage, Ready, Waiting, Popping, Picking, Locking, Beginning, Unlocking, Firing, Releasing, Ending, Freeing, Drained}
 use Rattle.co_program.specs.Cursor.{Cursor, start_of}
-use Rattle.co_program.specs.Action.{Action, Nothing, Silent, Take, Asks, spec_at, asks_covered, asks_call, asks_within, takes, asks_drain, begins, drained_of, locks, firing, draining, action_in, action_with, action_for}
-use Rattle.co_program.specs.Advance.{tail_of, act_over, called, picked, begun, ended, advance_callout, drain_acts, freed, got, popped, advance_queue, advance}
+use Rattle.co_program.specs.Action.{Action, Nothing, Silent, Take, Asks, spec_at, asks_covered, asks_call, asks_within, takes, asks_drain, begins_next, drained_of, locks, firing, draining, action_in, action_with, action_for}
+use Rattle.co_program.specs.Advance.{tail_of, act_over, call_made, service_picked, service_begun, service_ended, advance_callout, drain_acts, freed, pop_answered, popped, advance_queue, advance}
 use Rattle.co_program.specs.Scripts.{IsScript, is_tick}
 use Rattle.co_program.specs.Names.{ActNamesFunc, ActsNameFuncs, FuncsExist, OpNamesFunc}
 
@@ -147,11 +147,11 @@ module _ (s : Script) where
   rest_names [] all = tt
   rest_names (a ∷ acts) all = all.1
 
-  draining_names : (v : Service) (acts : List Act) → ActsNameFuncs s acts → StageNamesFuncs s (draining v acts)
+  draining_names : (v : InService) (acts : List Act) → ActsNameFuncs s acts → StageNamesFuncs s (draining v acts)
   draining_names v [] all = tt
   draining_names v (a ∷ acts) all = all
 
-  firing_names : (v : Service) (hold : Option Held) (acts : List Act) → ActsNameFuncs s acts → StageNamesFuncs s (firing v hold acts)
+  firing_names : (v : InService) (hold : Option Held) (acts : List Act) → ActsNameFuncs s acts → StageNamesFuncs s (firing v hold acts)
   firing_names v hold (a ∷ acts) all = all
   firing_names v None [] all = tt
   firing_names v (Some held) [] all = tt
@@ -159,7 +159,7 @@ module _ (s : Script) where
   -- ---- actions
 
   module _ (role : Role) where
-    within_names : (c : Cursor) (v : Service) (acts : List Act) → ActsNameFuncs s acts → ActionNamesFuncs s (asks_within s (cpu_of s role) c v acts)
+    within_names : (c : Cursor) (v : InService) (acts : List Act) → ActsNameFuncs s acts → ActionNamesFuncs s (asks_within s (cpu_of s role) c v acts)
     within_names c v [] all = tt
     within_names c v (a ∷ acts) all = asks_names (record { time = v.at; here = cpu_of s role; me = v.i }) c a all.0
 
@@ -169,7 +169,7 @@ module _ (s : Script) where
     takes_names : (c : Cursor) (left : List Task) (held : Held) → TasksNameFuncs s left → ActionNamesFuncs s (takes c left held)
     takes_names c left held all = either_way (ActionNamesFuncs s) (is_some c.hold) _ _ (λ _. tt) (λ _. record { left = all; stage = tt })
 
-    begins_names : (c : Cursor) (left : List Task) → TasksNameFuncs s left → ActionNamesFuncs s (begins s role c left)
+    begins_names : (c : Cursor) (left : List Task) → TasksNameFuncs s left → ActionNamesFuncs s (begins_next s role c left)
     begins_names c [] all = either_way (ActionNamesFuncs s) (is_some c.hold) _ _ (λ _. record { left = tt; stage = tt }) (λ _. tt)
     begins_names c (Soft j ∷ left) all = tt
     begins_names c (Does (act.Now time) ∷ left) all = record { left = all.1; stage = tt }
@@ -180,7 +180,7 @@ module _ (s : Script) where
     begins_names c (Does (act.Tick time) ∷ left) all = tt
     begins_names c (Does a ∷ left) all = asks_names (record { time = c.now; here = cpu_of s role; me = 0 }) c a all.0
 
-    locks_names : (c : Cursor) (v : Service) (hold : Option Held) → TasksNameFuncs s c.left → ActionNamesFuncs s (locks s c v hold)
+    locks_names : (c : Cursor) (v : InService) (hold : Option Held) → TasksNameFuncs s c.left → ActionNamesFuncs s (locks s c v hold)
     locks_names c v None all = tt
     locks_names c v (Some held) all = record { left = all; stage = tt }
 
@@ -198,7 +198,7 @@ module _ (s : Script) where
     stage_names c (Freeing v drain next) all stage = tt
     stage_names c (Drained v acts) all stage = within_names c v acts stage
 
-    with_names : (c : Cursor) (parcel : Option Parcel) → NamesFuncs s c → ActionNamesFuncs s (action_with s role c parcel)
+    with_names : (c : Cursor) (parcel : Option PendingInsert) → NamesFuncs s c → ActionNamesFuncs s (action_with s role c parcel)
     with_names c (Some p) names = tt
     with_names c None names = stage_names c c.stage names.left names.stage
 
@@ -213,18 +213,18 @@ module _ (s : Script) where
     over_names c (Drained v acts) all stage = record { left = all; stage = draining_names v (tail_of acts) (rest_names acts stage) }
     over_names c stage all there = record { left = tail_names c.left all; stage = tt }
 
-    called_names : (c : Cursor) (i : ℕ) (listed : Bool) (op : Op) (reply : Reply) → NamesFuncs s c → NamesFuncs s (called c i listed op reply)
+    called_names : (c : Cursor) (i : ℕ) (listed : Bool) (op : Op) (reply : Reply) → NamesFuncs s c → NamesFuncs s (call_made c i listed op reply)
     called_names c i listed op (Wait n took off) names = record { left = names.left; stage = tt }
     called_names c i true op (Armed code n cpu off) names =
         let over : NamesFuncs s (act_over c c.stage) = over_names c c.stage names.left names.stage in
         record { left = over.left; stage = over.stage }
     called_names c i listed op reply names = over_names c c.stage names.left names.stage
 
-    picked_names : (c : Cursor) (v : Service) (reply : Reply) → NamesFuncs s c → NamesFuncs s (picked s c v reply)
+    picked_names : (c : Cursor) (v : InService) (reply : Reply) → NamesFuncs s c → NamesFuncs s (service_picked s c v reply)
     picked_names c v (Go func arg) names = record { left = names.left; stage = firing_names v c.hold (acts_at s.funcs func) (exist.funcs func) }
     picked_names c v reply names = record { left = names.left; stage = tt }
 
-    begun_names : (c : Cursor) (v : Service) (reply : Reply) → NamesFuncs s c → NamesFuncs s (begun s c v reply)
+    begun_names : (c : Cursor) (v : InService) (reply : Reply) → NamesFuncs s c → NamesFuncs s (service_begun s c v reply)
     begun_names c v (Go func arg) names =
         record {
           left = names.left;
@@ -232,7 +232,7 @@ module _ (s : Script) where
         }
     begun_names c v reply names = record { left = names.left; stage = tt }
 
-    ended_names : (c : Cursor) (v : Service) (reply : Reply) → NamesFuncs s c → NamesFuncs s (ended c v reply)
+    ended_names : (c : Cursor) (v : InService) (reply : Reply) → NamesFuncs s c → NamesFuncs s (service_ended c v reply)
     ended_names c v (Ended drain next woke) names = record { left = names.left; stage = tt }
     ended_names c v reply names = names
 
@@ -250,7 +250,7 @@ module _ (s : Script) where
     freed_names c (Freeing v drain next) names = record { left = names.left; stage = draining_names v (drain_acts s drain) (drain_acts_name drain) }
     freed_names c stage names = names
 
-    got_names : (c : Cursor) (n : ℕ) (reply : QReply) → TasksNameFuncs s c.left → NamesFuncs s (got c n reply)
+    got_names : (c : Cursor) (n : ℕ) (reply : QReply) → TasksNameFuncs s c.left → NamesFuncs s (pop_answered c n reply)
     got_names c n (Got i k time) all = record { left = all; stage = tt }
     got_names c n reply all = record { left = tail_names c.left all; stage = tt }
 

@@ -31,21 +31,21 @@ use Rattle.co_program.specs.declared.act.Act.{Act}
 use Rattle.co_program.specs.declared.act.Scene.{Scene}
 use Rattle.co_program.specs.declared.script.Script.{Script}
 use Rattle.co_program.specs.declared.program.Task.{Task}
-use Rattle.co_program.specs.declared.cursor.Service.{Service}
+use Rattle.co_program.specs.declared.cursor.InService.{InService}
 use Rattle.co_program.specs.declared.action.Asked.{Asked}
 use Rattle.co_program.specs.declared.action.Asked.TheVariants.{Callout, Itself}
-use Rattle.co_program.specs.declared.cursor.Parcel.{Parcel}
+use Rattle.co_program.specs.declared.cursor.PendingInsert.{PendingInsert}
 use Rattle.co_program.specs.Actors.{role_of, cpu_of}
 use Rattle.co_program.specs.Calls.{plain_op}
 use Rattle.co_program.specs.Stages.{Stage, Firing, Drained}
 use Rattle.co_program.specs.Cursor.{Cursor}
 use Rattle.co_program.specs.Action.{Asks, spec_at, asks_covered, firing, draining, action_for}
-use Rattle.co_program.specs.Advance.{act_over, called}
-use Rattle.co_program.specs.Follows.{Histories, FitsOwn, goes_on, settled}
+use Rattle.co_program.specs.Advance.{act_over, call_made}
+use Rattle.co_program.specs.Follows.{Histories, FitsOwn, goes_on, at_next_note}
 use Rattle.co_program.specs.Groups.{AreActsOf, none, calls, not_held}
 use Rattle.co_program.proofs.Endings.{some-call, AreCalls, StageDoes}
 use Rattle.co_program.proofs.Groups.{call-first}
-use Rattle.co_program.proofs.Rests.{IsRest, first, settled-asks}
+use Rattle.co_program.proofs.Rests.{IsRest, first, at-next-asks}
 
 -- ---- a call that is no drain does not wait
 
@@ -98,7 +98,7 @@ over-retired s Retire = tt
 over-call : (s : State) (op : PlainOp) → Over (call s (Plain op))
 over-call s op = either_way Over s.live (live_call s op) (retired_call s op) (λ _. over-live s op) (λ _. over-retired s op)
 
-called-over : (c : Cursor) (i : ℕ) (op : Op) (reply : Reply) → IsOver reply → called c i false op reply ≡ act_over c c.stage
+called-over : (c : Cursor) (i : ℕ) (op : Op) (reply : Reply) → IsOver reply → call_made c i false op reply ≡ act_over c c.stage
 called-over c i op (Wait n took off) h = absurd h
 called-over c i op (Armed code n cpu o) h = refl
 called-over c i op (NotArmed code) h = refl
@@ -126,14 +126,14 @@ module _ (s : Script) (H : Histories) (a : ℕ) where
     pub rest : List Note
     pub split : notes ≡ note ∷ rest
     pub at : placed note ≡ (place.Actor a, entry.Own (record { actor = a; act = act; kind = kind }))
-    pub later : IsRest s H a (settled s a (act_over d d.stage)) rest
+    pub later : IsRest s H a (at_next_note s a (act_over d d.stage)) rest
 
   pub own-first : (d : Cursor) (act : ℕ) (kind : OwnKind) (notes : List Note) → IsRest s H a d notes → action_for s a d ≡ Asks act (Itself kind) → IsOwnFirst d act kind notes
   own-first d act kind notes rest is =
       let f = first s H a d notes act (Itself kind) rest is in
       by f.note.place f.note.pos f.note.entry f.rest f.split f.fits f.later where
         by : (p : Place) (pos : ℕ) (x : AnyEntry) (later : List Note) → notes ≡ record { place = p; pos = pos; entry = x } ∷ later →
-            FitsOwn a act (Itself kind) p x → IsRest s H a (settled s a (goes_on s H d (record { place = p; pos = pos; entry = x }))) later → IsOwnFirst d act kind notes
+            FitsOwn a act (Itself kind) p x → IsRest s H a (at_next_note s a (goes_on s H d (record { place = p; pos = pos; entry = x }))) later → IsOwnFirst d act kind notes
         by (place.Actor b) pos (entry.Own e) later split fits on = record {
           note = record { place = place.Actor b; pos = pos; entry = entry.Own e };
           rest = later;
@@ -145,7 +145,7 @@ module _ (s : Script) (H : Histories) (a : ℕ) where
 
 -- ---- a function's acts
 
-module _ (s : Script) (H : Histories) (a : ℕ) (left : List Task) (now : ℕ) (v : Service) where
+module _ (s : Script) (H : Histories) (a : ℕ) (left : List Task) (now : ℕ) (v : InService) where
   abbrev cpu : ℕ
   cpu = cpu_of s (role_of s a)
 
@@ -166,20 +166,20 @@ module _ (s : Script) (H : Histories) (a : ℕ) (left : List Task) (now : ℕ) (
       pub are : AreActsOf s H a cpu v hold n acts front
       pub last : ℕ
       pub last_is : last ≡ n + length acts
-      pub later : IsRest s H a (settled s a (in_act hold last (to []))) rest
+      pub later : IsRest s H a (at_next_note s a (in_act hold last (to []))) rest
 
-    pub acts-first : (acts : List Act) (n : ℕ) (notes : List Note) → AreCalls acts → IsRest s H a (settled s a (in_act hold n (to acts))) notes → AreFirst acts n notes
+    pub acts-first : (acts : List Act) (n : ℕ) (notes : List Note) → AreCalls acts → IsRest s H a (at_next_note s a (in_act hold n (to acts))) notes → AreFirst acts n notes
     acts-first [] n notes all rest = record { front = []; rest = notes; split = refl; are = none n; last = n; last_is = omega arith; later = rest }
     acts-first (x ∷ acts) n notes all rest = at_op (plain_op x s.hz scene) refl (some-call x s.hz scene all.0) (λ notes' rest'. acts-first acts (n + 1) notes' all.1 rest') where
       d : Cursor
       d = in_act hold n (to (x ∷ acts))
 
       at_cover : (i : ℕ) (op : PlainOp) → plain_op x s.hz scene ≡ Some (i, op) → (b : Bool) → covers hold (spec_at s i) (Plain op) ≡ b →
-          ((notes' : List Note) → IsRest s H a (settled s a (in_act hold (n + 1) (to acts))) notes' → AreFirst acts (n + 1) notes') → AreFirst (x ∷ acts) n notes
+          ((notes' : List Note) → IsRest s H a (at_next_note s a (in_act hold (n + 1) (to acts))) notes' → AreFirst acts (n + 1) notes') → AreFirst (x ∷ acts) n notes
       at_cover i op is true cov again =
           let due : action_for s a d ≡ Asks n (Callout i (Call (Plain op))) = asks n x acts ∙ ap (asks_covered s hold n) is ∙ ap (λ (b : Bool). cond b (Asks n (Callout i (Call (Plain op)))) (Asks n (Itself NotHeld))) cov in
-          let f = call-first s H a n i (Plain op) d notes (subst (λ (c : Cursor). IsRest s H a c notes) (settled-asks s a d n (Callout i (Call (Plain op))) due) rest) due refl in
-          let on = subst (λ (c : Cursor). IsRest s H a (settled s a c) f.rest) (called-over d i (Call (Plain op)) f.reply (subst IsOver f.answers (over-call f.before op)) ∙ over n x acts) f.later in
+          let f = call-first s H a n i (Plain op) d notes (subst (λ (c : Cursor). IsRest s H a c notes) (at-next-asks s a d n (Callout i (Call (Plain op))) due) rest) due refl in
+          let on = subst (λ (c : Cursor). IsRest s H a (at_next_note s a c) f.rest) (called-over d i (Call (Plain op)) f.reply (subst IsOver f.answers (over-call f.before op)) ∙ over n x acts) f.later in
           let more = again f.rest on in
           record {
             front = f.front ++ more.front;
@@ -192,8 +192,8 @@ module _ (s : Script) (H : Histories) (a : ℕ) (left : List Task) (now : ℕ) (
           }
       at_cover i op is false cov again =
           let due : action_for s a d ≡ Asks n (Itself NotHeld) = asks n x acts ∙ ap (asks_covered s hold n) is ∙ ap (λ (b : Bool). cond b (Asks n (Callout i (Call (Plain op)))) (Asks n (Itself NotHeld))) cov in
-          let f = own-first s H a d n NotHeld notes (subst (λ (c : Cursor). IsRest s H a c notes) (settled-asks s a d n (Itself NotHeld) due) rest) due in
-          let on = subst (λ (c : Cursor). IsRest s H a (settled s a c) f.rest) (over n x acts) f.later in
+          let f = own-first s H a d n NotHeld notes (subst (λ (c : Cursor). IsRest s H a c notes) (at-next-asks s a d n (Itself NotHeld) due) rest) due in
+          let on = subst (λ (c : Cursor). IsRest s H a (at_next_note s a c) f.rest) (over n x acts) f.later in
           let more = again f.rest on in
           record {
             front = f.note ∷ more.front;
@@ -206,7 +206,7 @@ module _ (s : Script) (H : Histories) (a : ℕ) (left : List Task) (now : ℕ) (
           }
 
       at_op : (o : Option (ℕ × PlainOp)) → plain_op x s.hz scene ≡ o → is_some o ≡ true →
-          ((notes' : List Note) → IsRest s H a (settled s a (in_act hold (n + 1) (to acts))) notes' → AreFirst acts (n + 1) notes') → AreFirst (x ∷ acts) n notes
+          ((notes' : List Note) → IsRest s H a (at_next_note s a (in_act hold (n + 1) (to acts))) notes' → AreFirst acts (n + 1) notes') → AreFirst (x ∷ acts) n notes
       at_op None is h again = absurd (no h) where
         no : is_some {T = ℕ × PlainOp} None ≡ true → ⊥
         no g = let e : false ≡ true = g in cc
@@ -222,7 +222,7 @@ module _ (s : Script) (H : Histories) (a : ℕ) (left : List Task) (now : ℕ) (
     at_cover true = (Callout i (Call (Plain op)), refl)
     at_cover false = (Itself NotHeld, refl)
 
-module _ (s : Script) (H : Histories) (a : ℕ) (d : Cursor) (v : Service) (notes : List Note) (rest : IsRest s H a d notes) (unsent : d.parcel ≡ None) (unmade : d.removed ≡ None) where
+module _ (s : Script) (H : Histories) (a : ℕ) (d : Cursor) (v : InService) (notes : List Note) (rest : IsRest s H a d notes) (unsent : d.parcel ≡ None) (unmade : d.removed ≡ None) where
   pub record IsInside (acts : List Act) : Type 0 where
     pub front : List Note
     pub later : List Note
@@ -234,9 +234,9 @@ module _ (s : Script) (H : Histories) (a : ℕ) (d : Cursor) (v : Service) (note
       (x : Act) (acts : List Act) → d.stage ≡ to (x ∷ acts) → AreCalls (x ∷ acts) → IsInside (x ∷ acts)
   inside to asks over x acts is all =
       let here : Cursor = in_act s H a d.left d.now v d.hold d.act (to (x ∷ acts)) in
-      let same : d ≡ here = ap (λ (stage : Stage). record d { stage = stage }) is ∙ ap (λ (p : Option Parcel). record d { stage = to (x ∷ acts); parcel = p }) unsent ∙ ap (λ (r : Option ℕ). record d { stage = to (x ∷ acts); parcel = None; removed = r }) unmade in
+      let same : d ≡ here = ap (λ (stage : Stage). record d { stage = stage }) is ∙ ap (λ (p : Option PendingInsert). record d { stage = to (x ∷ acts); parcel = p }) unsent ∙ ap (λ (r : Option ℕ). record d { stage = to (x ∷ acts); parcel = None; removed = r }) unmade in
       let due = asks-some s H a d.left d.now v d.hold d.act (plain_op x s.hz (record { time = v.at; here = cpu_of s (role_of s a); me = v.i })) (some-call x s.hz (record { time = v.at; here = cpu_of s (role_of s a); me = v.i }) all.0) in
-      let still : settled s a here ≡ here = settled-asks s a here d.act due.0 (asks d.act x acts ∙ due.1) in
+      let still : at_next_note s a here ≡ here = at-next-asks s a here d.act due.0 (asks d.act x acts ∙ due.1) in
       let f = acts-first s H a d.left d.now v d.hold to asks over (x ∷ acts) d.act notes all (subst (λ (c : Cursor). IsRest s H a c notes) (same ∙ sym still) rest) in
       record { front = f.front; later = f.rest; split = f.split; are = f.are }
 

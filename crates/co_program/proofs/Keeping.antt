@@ -8,10 +8,10 @@ use Rattle.co_object.specs.declared.QOp.TheVariants.{Insert, Remove, Scan, Pop, 
 use Rattle.co_object.specs.declared.QReply.{QReply}
 use Rattle.co_object.specs.declared.QReply.TheVariants.{Got}
 use Rattle.co_program.specs.declared.script.Script.{Script}
-use Rattle.co_program.specs.declared.cursor.Service.{Service}
+use Rattle.co_program.specs.declared.cursor.InService.{InService}
 use Rattle.co_program.specs.Stages.{Stage, Popping, Picking, Beginning, Firing, Ending, Freeing, Drained}
 use Rattle.co_program.specs.Cursor.{Cursor}
-use Rattle.co_program.specs.Advance.{act_over, called, picked, begun, ended, advance_callout, freed, got, popped, advance_queue}
+use Rattle.co_program.specs.Advance.{act_over, call_made, service_picked, service_begun, service_ended, advance_callout, freed, pop_answered, popped, advance_queue}
 
 pub over_keeps : (c : Cursor) (stage : Stage) → (act_over c stage).hold ≡ c.hold
 over_keeps c (Firing v acts) = refl
@@ -20,20 +20,20 @@ over_keeps c stage = refl
 
 -- ---- after an entry of a callout
 
-called_keeps : (c : Cursor) (i : ℕ) (listed : Bool) (op : Op) (reply : Reply) → (called c i listed op reply).hold ≡ c.hold
+called_keeps : (c : Cursor) (i : ℕ) (listed : Bool) (op : Op) (reply : Reply) → (call_made c i listed op reply).hold ≡ c.hold
 called_keeps c i listed op (Wait n took off) = refl
 called_keeps c i true op (Armed code n cpu off) = over_keeps c c.stage
 called_keeps c i listed op reply = over_keeps c c.stage
 
-picked_keeps : (s : Script) (c : Cursor) (v : Service) (reply : Reply) → (picked s c v reply).hold ≡ c.hold
+picked_keeps : (s : Script) (c : Cursor) (v : InService) (reply : Reply) → (service_picked s c v reply).hold ≡ c.hold
 picked_keeps s c v (Go func arg) = refl
 picked_keeps s c v reply = refl
 
-begun_keeps : (s : Script) (c : Cursor) (v : Service) (reply : Reply) → (begun s c v reply).hold ≡ c.hold
+begun_keeps : (s : Script) (c : Cursor) (v : InService) (reply : Reply) → (service_begun s c v reply).hold ≡ c.hold
 begun_keeps s c v (Go func arg) = refl
 begun_keeps s c v reply = refl
 
-ended_keeps : (c : Cursor) (v : Service) (reply : Reply) → (ended c v reply).hold ≡ c.hold
+ended_keeps : (c : Cursor) (v : InService) (reply : Reply) → (service_ended c v reply).hold ≡ c.hold
 ended_keeps c v (Ended drain next woke) = refl
 ended_keeps c v reply = refl
 
@@ -45,7 +45,7 @@ callout_keeps s c i listed op reply stage = called_keeps c i listed op reply
 
 -- ---- after an entry of a journal
 
-got_keeps : (c : Cursor) (n : ℕ) (reply : QReply) → (got c n reply).hold ≡ c.hold
+got_keeps : (c : Cursor) (n : ℕ) (reply : QReply) → (pop_answered c n reply).hold ≡ c.hold
 got_keeps c n (Got i k at) = refl
 got_keeps c n reply = refl
 

@@ -26,7 +26,7 @@ use Rattle.co_program.specs.declared.script.Script.{Script}
 use Rattle.co_program.specs.declared.action.Asked.TheVariants.{Callout, Queue as IsQueue, Itself}
 use Rattle.co_program.specs.Action.{Action, Asks, spec_at}
 use Rattle.co_program.specs.Cursor.{Cursor, start_of}
-use Rattle.co_program.specs.Follows.{Histories, Fits, AreNext, goes_on, settled}
+use Rattle.co_program.specs.Follows.{Histories, Fits, AreNext, goes_on, at_next_note}
 use Rattle.co_program.specs.Places.{place_exists}
 use Rattle.co_program.specs.Runs.{actors_of, are_direct, notes_by, shown_histories, IsRunOf}
 use Rattle.co_program.proofs.Rests.{IsKnown, KnownAt}
@@ -49,7 +49,7 @@ fits-kinded a c action p x h = absurd h
 
 are-kinded : (s : Script) (H : Histories) (a : ℕ) (c : Cursor) (notes : List Note) → AreNext s H a c notes → AllByRecursion (λ note. IsKinded note.place note.entry) notes
 are-kinded s H a c [] next = tt
-are-kinded s H a c (note ∷ notes) next = (fits-kinded a (settled s a c) _ note.place note.entry next.0.fits, are-kinded s H a (goes_on s H (settled s a c) note) notes next.1)
+are-kinded s H a c (note ∷ notes) next = (fits-kinded a (at_next_note s a c) _ note.place note.entry next.0.fits, are-kinded s H a (goes_on s H (at_next_note s a c) note) notes next.1)
 
 -- ---- a history by its positions
 

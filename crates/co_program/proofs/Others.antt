@@ -13,14 +13,14 @@ use Rattle.co_program.specs.declared.role.Role.{Role}
 use Rattle.co_program.specs.declared.program.Task.{Task}
 use Rattle.co_program.specs.declared.program.Task.TheVariants.{Does}
 use Rattle.co_program.specs.Actors.{cpu_of}
-use Rattle.co_program.specs.declared.cursor.Service.{Service}
+use Rattle.co_program.specs.declared.cursor.InService.{InService}
 use Rattle.co_program.specs.Stages.{Ready}
 use Rattle.co_program.specs.Cursor.{Cursor}
-use Rattle.co_program.specs.Action.{asks_call, begins, over}
-use Rattle.co_program.specs.Advance.{act_over, got, tail_of}
+use Rattle.co_program.specs.Action.{asks_call, begins_next, over}
+use Rattle.co_program.specs.Advance.{act_over, pop_answered, tail_of}
 use Rattle.co_program.specs.Indexed.{stage_of}
 
-pub got_empty : (c : Cursor) (n : ℕ) (reply : QReply) → ((i k at : ℕ) → reply ≡ Got i k at → ⊥) → got c n reply ≡ record c { left = tail_of c.left; stage = Ready }
+pub got_empty : (c : Cursor) (n : ℕ) (reply : QReply) → ((i k at : ℕ) → reply ≡ Got i k at → ⊥) → pop_answered c n reply ≡ record c { left = tail_of c.left; stage = Ready }
 got_empty c n (At time) not_got = refl
 got_empty c n Off not_got = refl
 got_empty c n Missing not_got = refl
@@ -29,7 +29,7 @@ got_empty c n (Got i k time) not_got = absurd (not_got i k time refl)
 got_empty c n Empty not_got = refl
 got_empty c n Freed not_got = refl
 
-pub act_over_outside : (s : Script) (c : Cursor) (stage : StageAt) → ((v : Service) (left : ActsLeft) → stage ≡ at.Firing v left → ⊥) → ((v : Service) (left : ActsLeft) → stage ≡ at.Drained v left → ⊥) → act_over c (stage_of s stage) ≡ over c (tail_of c.left) c.hold
+pub act_over_outside : (s : Script) (c : Cursor) (stage : StageAt) → ((v : InService) (left : ActsLeft) → stage ≡ at.Firing v left → ⊥) → ((v : InService) (left : ActsLeft) → stage ≡ at.Drained v left → ⊥) → act_over c (stage_of s stage) ≡ over c (tail_of c.left) c.hold
 act_over_outside s c at.Ready not_firing not_drained = refl
 act_over_outside s c (at.Waiting n took) not_firing not_drained = refl
 act_over_outside s c (at.Popping n) not_firing not_drained = refl
@@ -48,7 +48,7 @@ module _ (s : Script) (role : Role) (c : Cursor) (left : List Task) where
       (a : Act) →
       ((time : ℕ) → a ≡ act.Now time → ⊥) → ((id : ℕ) → a ≡ act.Lock id → ⊥) → ((id : ℕ) → a ≡ act.ReadLock id → ⊥) →
       (a ≡ act.Unlock → ⊥) → ((i : ℕ) → a ≡ act.Drain i → ⊥) → ((time : ℕ) → a ≡ act.Tick time → ⊥) →
-      begins s role c (Does a ∷ left) ≡ asks_call s c a (record { time = c.now; here = cpu_of s role; me = 0 })
+      begins_next s role c (Does a ∷ left) ≡ asks_call s c a (record { time = c.now; here = cpu_of s role; me = 0 })
   begins_call (act.Now time) other _ _ _ _ _ = absurd (other time refl)
   begins_call (act.Lock id) _ other _ _ _ _ = absurd (other id refl)
   begins_call (act.ReadLock id) _ _ other _ _ _ = absurd (other id refl)

@@ -1,5 +1,5 @@
 -- What is left of a list of acts once some are over: its first act, and its rest.
--- The inductions are over the list and the number together; that a program is short makes `past` exact.
+-- The inductions are over the list and the number together; that a program is short makes `task_past` exact.
 use Rattle.std.proofs.Common.{◌≡◌, ℕ, zero, suc, ◌+◌, ◌<◌, ◌≤◌, ◌==◌, Bool, true, false, cond, List, [], ◌∷◌, map, length, drop, Option, Some, None, slice_get, refl, sym, ap, ◌∙◌, add-one, arith, inl, inr}
 use Rattle.std.proofs.Math.Nat.{min-eq_left}
 use Rattle.std.specs.Option.{option_map}
@@ -15,7 +15,7 @@ use Rattle.co_program.specs.declared.role.Role.TheVariants.{Client, Cpu, Interru
 use Rattle.co_program.specs.Actors.{acts_at, program_of, softs}
 use Rattle.co_program.specs.Action.{scans_of}
 use Rattle.co_program.specs.Advance.{tail_of}
-use Rattle.co_program.specs.Indexed.{acts_of, is_soft, past}
+use Rattle.co_program.specs.Indexed.{acts_of, is_soft, task_past}
 use Rattle.co_program.specs.Scripts.{IsScript}
 
 pub first-drop : {X : Type 0} (xs : List X) (n : ℕ) → slice_get (drop n xs) 0 ≡ slice_get xs n
@@ -43,18 +43,18 @@ drop_end [] (suc n) h = refl
 drop_end (x ∷ xs) zero h = absurd (omega arith)
 drop_end (x ∷ xs) (suc n) h = drop_end xs n (omega arith)
 
-past-low : (n : ℕ) → n < 65536 → past n ≡ n + 1
+past-low : (n : ℕ) → n < 65536 → task_past n ≡ n + 1
 past-low n low = min-eq_left (omega arith)
 
-past-high : (n : ℕ) → 65536 ≤ n → 65536 ≤ past n
+past-high : (n : ℕ) → 65536 ≤ n → 65536 ≤ task_past n
 past-high n high = omega arith
 
-pub drop-past : {X : Type 0} (xs : List X) (n : ℕ) → length xs ≤ 65536 → drop (past n) xs ≡ tail_of (drop n xs)
+pub drop-past : {X : Type 0} (xs : List X) (n : ℕ) → length xs ≤ 65536 → drop (task_past n) xs ≡ tail_of (drop n xs)
 drop-past xs n short =
     elim (cases_lt n 65536) [
       | inl low ↦ rw (past-low n low) (rw add-one (sym (tail_of-drop xs n)))
       | inr high ↦
-          let ended : drop (past n) xs ≡ [] = drop_end xs (past n) (omega (arith, past-high n high)) in
+          let ended : drop (task_past n) xs ≡ [] = drop_end xs (task_past n) (omega (arith, past-high n high)) in
           let over : drop n xs ≡ [] = drop_end xs n (omega arith) in
           ended ∙ sym (ap tail_of over)
     ]

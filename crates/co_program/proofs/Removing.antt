@@ -10,15 +10,15 @@ use Rattle.co_program.specs.declared.script.Script.{Script}
 use Rattle.co_program.specs.declared.role.Role.{Role}
 use Rattle.co_program.specs.declared.program.Task.{Task}
 use Rattle.co_program.specs.declared.program.Task.TheVariants.{Does, Soft}
-use Rattle.co_program.specs.declared.cursor.Service.{Service}
-use Rattle.co_program.specs.declared.cursor.Parcel.{Parcel}
+use Rattle.co_program.specs.declared.cursor.InService.{InService}
+use Rattle.co_program.specs.declared.cursor.PendingInsert.{PendingInsert}
 use Rattle.co_program.specs.declared.action.Asked.{Asked}
 use Rattle.co_program.specs.declared.action.Asked.TheVariants.{Itself}
 use Rattle.co_program.specs.Actors.{role_of, cpu_of}
 use Rattle.co_program.specs.Calls.{plain_op}
 use Rattle.co_program.specs.Stages.{Stage, Ready, Waiting, Popping, Picking, Locking, Beginning, Unlocking, Firing, Releasing, Ending, Freeing, Drained}
 use Rattle.co_program.specs.Cursor.{Cursor}
-use Rattle.co_program.specs.Action.{Action, Nothing, Silent, Take, Asks, spec_at, asks_covered, asks_within, takes, asks_drain, begins, drained_of, locks, over, action_in, action_with, action_for}
+use Rattle.co_program.specs.Action.{Action, Nothing, Silent, Take, Asks, spec_at, asks_covered, asks_within, takes, asks_drain, begins_next, drained_of, locks, over, action_in, action_with, action_for}
 
 abbrev SameAsks : Action → Action → Type 0
 SameAsks (Asks act asked) due = due ≡ Asks act asked
@@ -41,11 +41,11 @@ module _ (s : Script) (role : Role) (c : Cursor) (removed : Option ℕ) where
   same_takes : (left : List Task) (held : Held) → SameAsks (takes c left held) (takes c' left held)
   same_takes left held = same_choice (is_some c.hold) (Asks c.act (Itself Holding)) (Take held (over c left (Some held))) (Asks c.act (Itself Holding)) (Take held (over c' left (Some held))) refl tt
 
-  same_within : (v : Service) (acts : List Act) → SameAsks (asks_within s (cpu_of s role) c v acts) (asks_within s (cpu_of s role) c' v acts)
+  same_within : (v : InService) (acts : List Act) → SameAsks (asks_within s (cpu_of s role) c v acts) (asks_within s (cpu_of s role) c' v acts)
   same_within v [] = tt
   same_within v (act ∷ acts) = same_asks (asks_covered s c.hold c.act (plain_op act s.hz (record { time = v.at; here = cpu_of s role; me = v.i })))
 
-  same_begins : (left : List Task) → SameAsks (begins s role c left) (begins s role c' left)
+  same_begins : (left : List Task) → SameAsks (begins_next s role c left) (begins_next s role c' left)
   same_begins [] = same_choice (is_some c.hold) (Silent (record c { left = []; hold = None; stage = Ready })) Nothing (Silent (record c' { left = []; hold = None; stage = Ready })) Nothing tt tt
   same_begins (Does (Now time) ∷ left) = tt
   same_begins (Does (Lock id) ∷ left) = same_takes left (record { id = id; exclusive = true })
@@ -56,7 +56,7 @@ module _ (s : Script) (role : Role) (c : Cursor) (removed : Option ℕ) where
   same_begins (Does act ∷ left) = same_asks (asks_covered s c.hold c.act (plain_op act s.hz (record { time = c.now; here = cpu_of s role; me = 0 })))
   same_begins (Soft j ∷ left) = refl
 
-  same_locks : (v : Service) (hold : Option Held) → SameAsks (locks s c v hold) (locks s c' v hold)
+  same_locks : (v : InService) (hold : Option Held) → SameAsks (locks s c v hold) (locks s c' v hold)
   same_locks v None = tt
   same_locks v (Some held) = tt
 
@@ -74,7 +74,7 @@ module _ (s : Script) (role : Role) (c : Cursor) (removed : Option ℕ) where
   same_stage (Freeing v drain next) = refl
   same_stage (Drained v acts) = same_within v acts
 
-  same_with : (parcel : Option Parcel) → SameAsks (action_with s role c parcel) (action_with s role c' parcel)
+  same_with : (parcel : Option PendingInsert) → SameAsks (action_with s role c parcel) (action_with s role c' parcel)
   same_with None = same_stage c.stage
   same_with (Some p) = refl
 

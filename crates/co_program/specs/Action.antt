@@ -22,9 +22,9 @@ use Rattle.co_program.specs.declared.role.Role.TheVariants.{Client, Cpu, Interru
 use Rattle.co_program.specs.Actors.{role_of, cpu_of}
 use Rattle.co_program.specs.declared.act.Scene.{Scene}
 use Rattle.co_program.specs.Calls.{plain_op}
-use Rattle.co_program.specs.declared.cursor.Service.{Service}
+use Rattle.co_program.specs.declared.cursor.InService.{InService}
 use Rattle.co_program.specs.Stages.{Stage, Ready, Waiting, Popping, Picking, Locking, Beginning, Unlocking, Firing, Releasing, Ending, Freeing, Drained}
-use Rattle.co_program.specs.declared.cursor.Parcel.{Parcel}
+use Rattle.co_program.specs.declared.cursor.PendingInsert.{PendingInsert}
 use Rattle.co_program.specs.Cursor.{Cursor}
 use Rattle.co_program.specs.declared.action.Asked.{Asked}
 use Rattle.co_program.specs.declared.action.Asked.TheVariants.{Callout, Queue, Itself}
@@ -54,7 +54,7 @@ abbrev pub asks_call : Script → Cursor → Act → Scene → Action
 asks_call s c act at = asks_covered s c.hold c.act (plain_op act s.hz at)
 
 -- a function's act, about its service
-abbrev pub asks_within : Script → ℕ → Cursor → Service → List Act → Action
+abbrev pub asks_within : Script → ℕ → Cursor → InService → List Act → Action
 asks_within s cpu c v [] = Nothing
 asks_within s cpu c v (act ∷ acts) = asks_call s c act (record { time = v.at; here = cpu; me = v.i })
 
@@ -82,39 +82,39 @@ free_of (Cpu x) = FreeSlot
 free_of (Interrupt x) = FreeDirect
 
 -- how the next act begins; after the last one a lock that is still held is released
-abbrev pub begins : Script → Role → Cursor → List Task → Action
-begins s role c [] = if is_some c.hold then Silent (record c { left = []; hold = None; stage = Ready }) else Nothing
-begins s role c (Does (Now time) ∷ left) = Silent (record (over c left c.hold) { now = time })
-begins s role c (Does (Lock id) ∷ left) = takes c left (record { id = id; exclusive = true })
-begins s role c (Does (ReadLock id) ∷ left) = takes c left (record { id = id; exclusive = false })
-begins s role c (Does Unlock ∷ left) = if is_some c.hold then Silent (over c left None) else Asks c.act (Itself NotHolding)
-begins s role c (Does (Drain i) ∷ left) = asks_drain c i false
-begins s role c (Does (Tick time) ∷ left) = Asks c.act (Queue (cpu_of s role) (Scan time))
-begins s role c (Does act ∷ left) = asks_call s c act (record { time = c.now; here = cpu_of s role; me = 0 })
-begins s role c (Soft j ∷ left) = Asks c.act (Queue (cpu_of s role) (pop_of role))
+abbrev pub begins_next : Script → Role → Cursor → List Task → Action
+begins_next s role c [] = if is_some c.hold then Silent (record c { left = []; hold = None; stage = Ready }) else Nothing
+begins_next s role c (Does (Now time) ∷ left) = Silent (record (over c left c.hold) { now = time })
+begins_next s role c (Does (Lock id) ∷ left) = takes c left (record { id = id; exclusive = true })
+begins_next s role c (Does (ReadLock id) ∷ left) = takes c left (record { id = id; exclusive = false })
+begins_next s role c (Does Unlock ∷ left) = if is_some c.hold then Silent (over c left None) else Asks c.act (Itself NotHolding)
+begins_next s role c (Does (Drain i) ∷ left) = asks_drain c i false
+begins_next s role c (Does (Tick time) ∷ left) = Asks c.act (Queue (cpu_of s role) (Scan time))
+begins_next s role c (Does act ∷ left) = asks_call s c act (record { time = c.now; here = cpu_of s role; me = 0 })
+begins_next s role c (Soft j ∷ left) = Asks c.act (Queue (cpu_of s role) (pop_of role))
 
 -- the callout of the drain under way
 abbrev pub drained_of : List Task → ℕ
 drained_of (Does (Drain i) ∷ left) = i
 drained_of left = 0
 
-abbrev pub locks : Script → Cursor → Service → Option Held → Action
+abbrev pub locks : Script → Cursor → InService → Option Held → Action
 locks s c v None = Nothing
 locks s c v (Some held) = Take held (record c { hold = Some held; stage = Beginning v })
 
 -- what the function's acts lead to: the release of the lock, if it is held still, and the end of the service
-abbrev pub firing : Service → Option Held → List Act → Stage
+abbrev pub firing : InService → Option Held → List Act → Stage
 firing v hold (act ∷ acts) = Firing v (act ∷ acts)
 firing v None [] = Ending v
 firing v (Some held) [] = Releasing v
 
 -- and those of a drain function: the next callout
-abbrev pub draining : Service → List Act → Stage
+abbrev pub draining : InService → List Act → Stage
 draining v [] = Popping v.act
 draining v (act ∷ acts) = Drained v (act ∷ acts)
 
 abbrev pub action_in : Script → Role → Cursor → Stage → Action
-action_in s role c Ready = begins s role c c.left
+action_in s role c Ready = begins_next s role c c.left
 action_in s role c (Waiting n took) = asks_drain c (drained_of c.left) took
 action_in s role c (Popping act) = Asks act (Queue (cpu_of s role) (pop_of role))
 action_in s role c (Picking v) = Asks v.act (Callout v.i (Run (Pick v.n (cpu_of s role) v.at)))
@@ -128,7 +128,7 @@ action_in s role c (Freeing v drain next) = Asks v.act (Queue (cpu_of s role) (f
 action_in s role c (Drained v acts) = asks_within s (cpu_of s role) c v acts
 
 -- a callout that is on its way comes first
-abbrev pub action_with : Script → Role → Cursor → Option Parcel → Action
+abbrev pub action_with : Script → Role → Cursor → Option PendingInsert → Action
 action_with s role c (Some p) = Asks p.act (Queue p.cpu (Insert p.i p.n p.due))
 action_with s role c None = action_in s role c c.stage
 
@@ -144,7 +144,7 @@ abbrev pub scans_at : Cursor → Stage → ℕ
 scans_at c Ready = scans_of c.left
 scans_at c stage = 0
 
-abbrev pub scans_with : Cursor → Option Parcel → ℕ
+abbrev pub scans_with : Cursor → Option PendingInsert → ℕ
 scans_with c (Some p) = 0
 scans_with c None = scans_at c c.stage
 

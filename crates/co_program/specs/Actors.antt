@@ -1,5 +1,6 @@
 -- The actors of a script, in order of their numbers: the clients, the CPUs, and in version 2 an interrupt for each CPU.
 use Rattle.std.specs.Prelude.{ℕ, zero, suc, ◌+◌, ◌-◌, ◌*◌, ◌%◌, ◌==◌, nat_lt, if◌then◌else◌, List, [], ◌∷◌, map, length, slice_index_or}
+use Rattle.std.specs.List.{range_with_len}
 use Rattle.co_program.specs.declared.act.Act.{Act}
 use Rattle.co_program.specs.declared.script.Script.{Script}
 use Rattle.co_program.specs.declared.role.Role.{Role}
@@ -12,6 +13,10 @@ client_count s = length s.clients
 
 abbrev pub actor_count : Script → ℕ
 actor_count s = if s.version == 2 then client_count s + 2 * s.cpus else client_count s + s.cpus
+
+-- the numbers of the actors, in order
+abbrev pub all_actors : Script → List ℕ
+all_actors s = range_with_len 0 (actor_count s)
 
 abbrev pub role_of : Script → ℕ → Role
 role_of s a =

@@ -18,9 +18,9 @@ use Rattle.co_object.specs.declared.QReply.TheVariants.{Got}
 use Rattle.co_program.specs.declared.act.Act.{Act}
 use Rattle.co_program.specs.declared.script.Script.{Script}
 use Rattle.co_program.specs.Actors.{acts_at}
-use Rattle.co_program.specs.declared.cursor.Service.{Service}
+use Rattle.co_program.specs.declared.cursor.InService.{InService}
 use Rattle.co_program.specs.Stages.{Stage, Ready, Waiting, Popping, Picking, Locking, Beginning, Unlocking, Firing, Releasing, Ending, Freeing, Drained}
-use Rattle.co_program.specs.declared.cursor.Parcel.{Parcel}
+use Rattle.co_program.specs.declared.cursor.PendingInsert.{PendingInsert}
 use Rattle.co_program.specs.Cursor.{Cursor}
 use Rattle.co_program.specs.Action.{over, firing, draining, spec_at}
 
@@ -42,37 +42,37 @@ due_of_call (Call (Plain (Schedule due prec cpu))) = due
 due_of_call op = 0
 
 -- an accepted arming that is Listed is on its way into its CPU's queue
-abbrev pub called : Cursor → ℕ → Bool → Op → Reply → Cursor
-called c i listed op (Wait n took off) = record c { stage = Waiting n took }
-called c i true op (Armed code n cpu off) =
+abbrev pub call_made : Cursor → ℕ → Bool → Op → Reply → Cursor
+call_made c i listed op (Wait n took off) = record c { stage = Waiting n took }
+call_made c i true op (Armed code n cpu off) =
     record (act_over c c.stage) { parcel = Some (record { act = c.act; i = i; n = n; due = due_of_call op; cpu = cpu }) }
-called c i listed op reply = act_over c c.stage
+call_made c i listed op reply = act_over c c.stage
 
 -- ---- in a service
 
-abbrev pub picked : Script → Cursor → Service → Reply → Cursor
-picked s c v (Go func arg) = record c { stage = firing v c.hold (acts_at s.funcs func) }
-picked s c v reply = record c { stage = Locking v }
+abbrev pub service_picked : Script → Cursor → InService → Reply → Cursor
+service_picked s c v (Go func arg) = record c { stage = firing v c.hold (acts_at s.funcs func) }
+service_picked s c v reply = record c { stage = Locking v }
 
-abbrev pub begun : Script → Cursor → Service → Reply → Cursor
-begun s c v (Go func arg) =
+abbrev pub service_begun : Script → Cursor → InService → Reply → Cursor
+service_begun s c v (Go func arg) =
     record c { stage = if (spec_at s v.i).returns_unlocked then Unlocking v (acts_at s.funcs func) else firing v c.hold (acts_at s.funcs func) }
-begun s c v reply = record c { stage = Releasing v }
+service_begun s c v reply = record c { stage = Releasing v }
 
-abbrev pub ended : Cursor → Service → Reply → Cursor
-ended c v (Ended drain next woke) = record c { stage = Freeing v drain next }
-ended c v reply = c
+abbrev pub service_ended : Cursor → InService → Reply → Cursor
+service_ended c v (Ended drain next woke) = record c { stage = Freeing v drain next }
+service_ended c v reply = c
 
 abbrev pub advance_callout : Script → Cursor → ℕ → Bool → Op → Reply → Stage → Cursor
-advance_callout s c i listed op reply (Picking v) = picked s c v reply
-advance_callout s c i listed op reply (Beginning v) = begun s c v reply
-advance_callout s c i listed op reply (Ending v) = ended c v reply
-advance_callout s c i listed op reply stage = called c i listed op reply
+advance_callout s c i listed op reply (Picking v) = service_picked s c v reply
+advance_callout s c i listed op reply (Beginning v) = service_begun s c v reply
+advance_callout s c i listed op reply (Ending v) = service_ended c v reply
+advance_callout s c i listed op reply stage = call_made c i listed op reply
 
 -- ---- from a queue
 
 -- a callout that the end of its service sends on its way
-abbrev pub parcel_of : Service → Option Next → Option Parcel
+abbrev pub parcel_of : InService → Option Next → Option PendingInsert
 parcel_of v None = None
 parcel_of v (Some next) = Some (record { act = v.act; i = v.i; n = next.n; due = next.due; cpu = next.cpu })
 
@@ -86,14 +86,14 @@ freed s c (Freeing v drain next) = record c { stage = draining v (drain_acts s d
 freed s c stage = c
 
 -- an empty queue ends the act
-abbrev pub got : Cursor → ℕ → QReply → Cursor
-got c act (Got i n at) = record c { stage = Picking (record { act = act; i = i; n = n; at = at }) }
-got c act reply = record c { left = tail_of c.left; stage = Ready }
+abbrev pub pop_answered : Cursor → ℕ → QReply → Cursor
+pop_answered c act (Got i n at) = record c { stage = Picking (record { act = act; i = i; n = n; at = at }) }
+pop_answered c act reply = record c { left = tail_of c.left; stage = Ready }
 
 -- a soft act begins with its first Pop
 abbrev pub popped : Cursor → QReply → Stage → Cursor
-popped c reply (Popping act) = got c act reply
-popped c reply stage = got (record c { act = c.act + 1 }) c.act reply
+popped c reply (Popping act) = pop_answered c act reply
+popped c reply stage = pop_answered (record c { act = c.act + 1 }) c.act reply
 
 abbrev pub advance_queue : Script → Cursor → ℕ → QOp → QReply → Cursor
 advance_queue s c cpu (Insert i n t) reply = record c { parcel = None }

@@ -5,7 +5,7 @@ use Rattle.co_program.specs.declared.script.Script.{Script}
 use Rattle.co_program.specs.declared.program.Task.{Task}
 use Rattle.co_program.specs.Actors.{program_of, role_of}
 use Rattle.co_program.specs.Stages.{Stage, Ready}
-use Rattle.co_program.specs.declared.cursor.Parcel.{Parcel}
+use Rattle.co_program.specs.declared.cursor.PendingInsert.{PendingInsert}
 
 pub record Cursor : Type 0 where
   -- the acts that are not over; the first may be under way
@@ -17,7 +17,7 @@ pub record Cursor : Type 0 where
   pub stage : Stage
   -- the CPU from whose queue the call under way has just removed its callout
   pub removed : Option ℕ
-  pub parcel : Option Parcel
+  pub parcel : Option PendingInsert
 
 -- before the first act
 abbrev pub start_of : Script → ℕ → Cursor

@@ -23,7 +23,7 @@ use Rattle.co_program.specs.declared.act.Act.{Act}
 use Rattle.co_program.specs.declared.script.Script.{Script}
 use Rattle.co_program.specs.declared.program.Task.{Task}
 use Rattle.co_program.specs.declared.program.Task.TheVariants.{Does, Soft}
-use Rattle.co_program.specs.declared.cursor.Parcel.{Parcel}
+use Rattle.co_program.specs.declared.cursor.PendingInsert.{PendingInsert}
 use Rattle.co_program.specs.declared.action.Asked.{Asked}
 use Rattle.co_program.specs.declared.action.Asked.TheVariants.{Callout, Queue, Itself}
 use Rattle.co_program.specs.Stages.{Stage, Ready, Waiting, Popping, Picking, Locking, Beginning, Unlocking, Firing, Releasing, Ending, Freeing, Drained}
@@ -66,7 +66,7 @@ StageExists s (Ending v) = IsCallout s v.i
 StageExists s (Freeing v drain next) = IsCallout s v.i × NextExists s next
 StageExists s (Drained v acts) = IsCallout s v.i × ActsExist s acts
 
-abbrev pub ParcelExists : Script → Option Parcel → Type 0
+abbrev pub ParcelExists : Script → Option PendingInsert → Type 0
 ParcelExists s None = ⊤
 ParcelExists s (Some p) = IsCallout s p.i × IsCpu s p.cpu
 

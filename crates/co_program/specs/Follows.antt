@@ -84,11 +84,11 @@ past s a (suc fuel) c (Silent to) = past s a fuel to (action_for s a to)
 past s a (suc fuel) c (Take held to) = past s a fuel to (action_for s a to)
 past s a (suc fuel) c action = c
 
-abbrev pub settled : Script → ℕ → Cursor → Cursor
-settled s a c = past s a (suc (length c.left)) c (action_for s a c)
+abbrev pub at_next_note : Script → ℕ → Cursor → Cursor
+at_next_note s a c = past s a (suc (length c.left)) c (action_for s a c)
 
 -- the note is the next one of the program, and comes after the Scans that it waits for
-pub record IsNext (s : Script) (H : Histories) (a : ℕ) (c : Cursor) (note : Note) : Type 0 where
+pub record IsNextNote (s : Script) (H : Histories) (a : ℕ) (c : Cursor) (note : Note) : Type 0 where
   pub fits : Fits a c (action_for s a c) note.place note.entry
   pub scanned : scans_first c ≤ scans_before H note.place note.pos
 
@@ -98,14 +98,14 @@ goes_on s H c note = advance s c (listed_after s H note.place note.pos) note.pla
 -- each note is the next one of the program, from this place in it on
 abbrev pub AreNext : Script → Histories → ℕ → Cursor → List Note → Type 0
 AreNext s H a c [] = ⊤
-AreNext s H a c (note ∷ notes) = IsNext s H a (settled s a c) note × AreNext s H a (goes_on s H (settled s a c) note) notes
+AreNext s H a c (note ∷ notes) = IsNextNote s H a (at_next_note s a c) note × AreNext s H a (goes_on s H (at_next_note s a c) note) notes
 
 -- the place in the program after these notes
 abbrev pub cursor_after : Script → Histories → ℕ → Cursor → List Note → Cursor
 cursor_after s H a c [] = c
-cursor_after s H a c (note ∷ notes) = cursor_after s H a (goes_on s H (settled s a c) note) notes
+cursor_after s H a c (note ∷ notes) = cursor_after s H a (goes_on s H (at_next_note s a c) note) notes
 
 -- the notes are those of the actor's whole program, each once and in order
 pub record Follows (s : Script) (H : Histories) (a : ℕ) (notes : List Note) : Type 0 where
   pub each : AreNext s H a (start_of s a) notes
-  pub whole : action_for s a (settled s a (cursor_after s H a (start_of s a) notes)) ≡ Nothing
+  pub whole : action_for s a (at_next_note s a (cursor_after s H a (start_of s a) notes)) ≡ Nothing

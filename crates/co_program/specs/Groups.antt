@@ -19,7 +19,7 @@ use Rattle.co_lock.specs.declared.Held.{Held}
 use Rattle.co_lock.specs.Covers.{covers}
 use Rattle.co_program.specs.declared.act.Act.{Act}
 use Rattle.co_program.specs.declared.script.Script.{Script}
-use Rattle.co_program.specs.declared.cursor.Service.{Service}
+use Rattle.co_program.specs.declared.cursor.InService.{InService}
 use Rattle.co_program.specs.Calls.{plain_op}
 use Rattle.co_program.specs.Action.{spec_at, pop_of, free_of}
 use Rattle.co_program.specs.Follows.{Histories}
@@ -36,9 +36,9 @@ use Rattle.co_program.specs.Actors.{acts_at, cpu_of}
 use Rattle.co_program.specs.Advance.{drain_acts}
 
 -- the drain is over
-abbrev pub IsDone : Reply → Type 0
-IsDone (Drained code off) = Unit {0}
-IsDone reply = ⊥
+abbrev pub EndsDrain : Reply → Type 0
+EndsDrain (Drained code off) = Unit {0}
+EndsDrain reply = ⊥
 
 -- one note, wherever it stands in its history
 abbrev pub IsNote : Placed → List Note → Type 0
@@ -63,13 +63,13 @@ module _ (s : Script) (H : Histories) (a : ℕ) where
 
   -- any number of tries that wait, and then one that is done; a try knows whether an earlier one took an arming away
   pub data IsDrainOf (act i : ℕ) : Bool → List Note → Type 0 where
-    done : (took : Bool) (reply : Reply) (notes : List Note) → IsDone reply → IsCallOf act i (DrainTry took) reply notes → IsDrainOf act i took notes
+    done : (took : Bool) (reply : Reply) (notes : List Note) → EndsDrain reply → IsCallOf act i (DrainTry took) reply notes → IsDrainOf act i took notes
     waits : (took took' : Bool) (n : ℕ) (off : Option ℕ) (front rest : List Note) → IsCallOf act i (DrainTry took) (Wait n took' off) front → IsDrainOf act i took' rest → IsDrainOf act i took (front ++ rest)
 
   -- ---- a function
 
   -- the acts of a function in this service, under this hold: for each the group of its call, or NotHeld where that is not covered
-  pub data AreActsOf (cpu : ℕ) (v : Service) (hold : Option Held) : ℕ → List Act → List Note → Type 0 where
+  pub data AreActsOf (cpu : ℕ) (v : InService) (hold : Option Held) : ℕ → List Act → List Note → Type 0 where
     none : (act : ℕ) → AreActsOf cpu v hold act [] []
     calls : (act i : ℕ) (x : Act) (acts : List Act) (op : PlainOp) (reply : Reply) (front rest : List Note) → plain_op x s.hz (record { time = v.at; here = cpu; me = v.i }) ≡ Some (i, op) → covers hold (spec_at s i) (Plain op) ≡ true →
         IsCallOf act i (Plain op) reply front → AreActsOf cpu v hold (act + 1) acts rest → AreActsOf cpu v hold act (x ∷ acts) (front ++ rest)
@@ -78,28 +78,28 @@ module _ (s : Script) (H : Histories) (a : ℕ) where
 
   -- ---- a round of services
 
-  abbrev pub serves : Service → RunOp → Reply → Placed
+  abbrev pub serves : InService → RunOp → Reply → Placed
   serves v op reply = (place.Timer v.i, entry.Timer (record { actor = a; act = v.act; op = Run op; reply = reply }))
 
   abbrev pub turns : ℕ → ℕ → QOp → QReply → Placed
   turns act cpu op reply = (place.Cpu cpu, entry.Cpu (record { actor = a; act = act; op = op; reply = reply }))
 
   -- after a Pick, up to the next act's number: the function's acts, at once where the callout has no lock, and else after a Begin under it, which may skip them
-  pub data IsRun (cpu : ℕ) (v : Service) (idle : Option Held) (first : ℕ) : Reply → ℕ → List Note → Type 0 where
+  pub data IsRun (cpu : ℕ) (v : InService) (idle : Option Held) (first : ℕ) : Reply → ℕ → List Note → Type 0 where
     at_once : (func arg : ℕ) (acts : List Note) → AreActsOf cpu v idle first (acts_at s.funcs func) acts → IsRun cpu v idle first (Go func arg) (first + length (acts_at s.funcs func)) acts
     under_lock : (held : Held) (func arg : ℕ) (begin : Note) (acts : List Note) → hold_of (spec_at s v.i).lock ≡ Some held → placed begin ≡ serves v (Begin v.n cpu) (Go func arg) →
         AreActsOf cpu v (if (spec_at s v.i).returns_unlocked then None else Some held) first (acts_at s.funcs func) acts → IsRun cpu v idle first Hold (first + length (acts_at s.funcs func)) (begin ∷ acts)
     skipped : (held : Held) (begin : Note) → hold_of (spec_at s v.i).lock ≡ Some held → placed begin ≡ serves v (Begin v.n cpu) Skip → IsRun cpu v idle first Hold first (begin ∷ [])
 
   -- the Insert of the arming that the end of the service sends to its CPU
-  abbrev pub IsSent : Service → Option Next → List Note → Type 0
+  abbrev pub IsSent : InService → Option Next → List Note → Type 0
   IsSent v None notes = notes ≡ []
   IsSent v (Some next) notes = (time : ℕ) × IsNote (turns v.act next.cpu (Insert v.i next.n next.due) (At time)) notes
 
   -- a Pop that takes an arming, its Pick, what runs, the End, the Free, the Insert of what the end sends on, and the acts of the
   -- drain function that the end names
   pub record IsRoundOf (role : Role) (act first : ℕ) (idle : Option Held) (notes : List Note) : Type 0 where
-    pub service : Service
+    pub service : InService
     pub its_act : service.act ≡ act
     pub pop : Note
     pub pick : Note

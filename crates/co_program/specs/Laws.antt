@@ -13,13 +13,13 @@ use Rattle.co_program.specs.declared.act.Act.{Act}
 use Rattle.co_program.specs.declared.script.Script.{Script}
 use Rattle.co_program.specs.declared.program.Task.{Task}
 use Rattle.co_program.specs.declared.program.Task.TheVariants.{Soft}
-use Rattle.co_program.specs.declared.cursor.Service.{Service}
+use Rattle.co_program.specs.declared.cursor.InService.{InService}
 use Rattle.co_program.specs.declared.action.Asked.{Asked}
 use Rattle.co_program.specs.declared.action.Asked.TheVariants.{Callout}
 use Rattle.co_program.specs.Action.{Nothing, Asks, action_for, spec_at, pop_of}
 use Rattle.co_program.specs.Actors.{actor_count, cpu_of, role_of}
 use Rattle.co_program.specs.Cursor.{Cursor, start_of}
-use Rattle.co_program.specs.Follows.{cursor_after, scan_count, settled}
+use Rattle.co_program.specs.Follows.{cursor_after, scan_count, at_next_note}
 use Rattle.co_program.specs.Groups.{IsCallOf, IsDrainOf, AreActsOf, IsRoundOf, IsNote, turns}
 use Rattle.co_program.specs.Names.{FuncsExist, AllNotesName}
 use Rattle.co_program.specs.Runs.{notes_by, shown_histories, IsRunOf}
@@ -32,12 +32,12 @@ RunsNameWhatExists = (s : Script) (lists : List (List Note)) → IsScript s → 
 
 -- ---- what the list of an actor looks like
 
--- the actor's place in its program after these notes, past the steps that make none
-abbrev pub place_after : Script → List (List Note) → ℕ → List Note → Cursor
-place_after s lists a notes = settled s a (cursor_after s (shown_histories lists) a (start_of s a) notes)
+-- the actor's cursor after these notes, past the steps that make none: before its next note
+abbrev pub cursor_before_next : Script → List (List Note) → ℕ → List Note → Cursor
+cursor_before_next s lists a notes = at_next_note s a (cursor_after s (shown_histories lists) a (start_of s a) notes)
 
 -- nothing is left to do, no lock is held, no stage of an act is open and no callout is on its way
-pub record HasEnded (c : Cursor) : Type 0 where
+pub record HasNothingLeft (c : Cursor) : Type 0 where
   pub left : c.left ≡ []
   pub hold : c.hold ≡ None
   pub stage : c.stage ≡ Ready
@@ -45,9 +45,9 @@ pub record HasEnded (c : Cursor) : Type 0 where
 
 -- wherever the notes of its list lead, the actor's program has ended exactly where that is so; and so it is after all of them
 pub record EndsWhereNothingIsLeft (s : Script) (lists : List (List Note)) (a : ℕ) : Type 0 where
-  pub ends : (before after : List Note) → notes_by lists a ≡ before ++ after → action_for s a (place_after s lists a before) ≡ Nothing → HasEnded (place_after s lists a before)
-  pub only : (before : List Note) → HasEnded (place_after s lists a before) → action_for s a (place_after s lists a before) ≡ Nothing
-  pub ended : HasEnded (place_after s lists a (notes_by lists a))
+  pub ends : (before after : List Note) → notes_by lists a ≡ before ++ after → action_for s a (cursor_before_next s lists a before) ≡ Nothing → HasNothingLeft (cursor_before_next s lists a before)
+  pub only : (before : List Note) → HasNothingLeft (cursor_before_next s lists a before) → action_for s a (cursor_before_next s lists a before) ≡ Nothing
+  pub ended : HasNothingLeft (cursor_before_next s lists a (notes_by lists a))
 
 abbrev pub ProgramsEndWhereNothingIsLeft : Type 0
 ProgramsEndWhereNothingIsLeft = (s : Script) (lists : List (List Note)) (a : ℕ) → IsScript s → IsRunOf s lists → a < actor_count s → EndsWhereNothingIsLeft s lists a
@@ -57,9 +57,9 @@ pub record IsDueNext (s : Script) (lists : List (List Note)) (a : ℕ) (before a
   pub run : IsRunOf s lists
   pub actor : a < actor_count s
   pub notes : notes_by lists a ≡ before ++ after
-  pub next : action_for s a (place_after s lists a before) ≡ Asks act asked
+  pub next : action_for s a (cursor_before_next s lists a before) ≡ Asks act asked
   -- and no note of that has been made
-  pub begins : (place_after s lists a before).removed ≡ None
+  pub begins : (cursor_before_next s lists a before).removed ≡ None
 
 -- the notes begin so
 pub record Begin (Is : List Note → Type 0) (notes : List Note) : Type 0 where
@@ -70,7 +70,7 @@ pub record Begin (Is : List Note → Type 0) (notes : List Note) : Type 0 where
 
 -- where a call comes next, it is covered by what the actor holds, and the next notes are the call's group
 pub record IsCovered (s : Script) (lists : List (List Note)) (a : ℕ) (before after : List Note) (act i : ℕ) (op : CallOp) : Type 0 where
-  pub hold : covers (place_after s lists a before).hold (spec_at s i) op ≡ true
+  pub hold : covers (cursor_before_next s lists a before).hold (spec_at s i) op ≡ true
   pub reply : Reply
   pub notes : Begin (IsCallOf s (shown_histories lists) a act i op reply) after
 
@@ -84,49 +84,49 @@ DrainsAreGroups = (s : Script) (lists : List (List Note)) (a : ℕ) (before afte
     IsDueNext s lists a before after act (Callout i (Call (DrainTry took))) → Begin (IsDrainOf s (shown_histories lists) a act i took) after
 
 -- after these notes of its list, these acts are left of the function, or of the drain function, that the actor makes in a service
-pub record IsInFunction (s : Script) (lists : List (List Note)) (a : ℕ) (before after : List Note) (v : Service) (acts : List Act) : Type 0 where
+pub record IsInFunction (s : Script) (lists : List (List Note)) (a : ℕ) (before after : List Note) (v : InService) (acts : List Act) : Type 0 where
   pub run : IsRunOf s lists
   pub actor : a < actor_count s
   pub notes : notes_by lists a ≡ before ++ after
-  pub stage : ((place_after s lists a before).stage ≡ Firing v acts) ⊎ ((place_after s lists a before).stage ≡ Drained v acts)
+  pub stage : ((cursor_before_next s lists a before).stage ≡ Firing v acts) ⊎ ((cursor_before_next s lists a before).stage ≡ Drained v acts)
   -- and no note of the first of them has been made, and no callout is on its way
-  pub begins : (place_after s lists a before).removed ≡ None
-  pub parcel : (place_after s lists a before).parcel ≡ None
+  pub begins : (cursor_before_next s lists a before).removed ≡ None
+  pub parcel : (cursor_before_next s lists a before).parcel ≡ None
 
 -- where these acts come next, the next notes are theirs: for each the group of its call, or NotHeld where that is not covered
 abbrev pub FunctionsMakeTheirActs : Type 0
-FunctionsMakeTheirActs = (s : Script) (lists : List (List Note)) (a : ℕ) (before after : List Note) (v : Service) (acts : List Act) → IsScript s → IsInFunction s lists a before after v acts →
-    Begin (AreActsOf s (shown_histories lists) a (cpu_of s (role_of s a)) v (place_after s lists a before).hold (place_after s lists a before).act acts) after
+FunctionsMakeTheirActs = (s : Script) (lists : List (List Note)) (a : ℕ) (before after : List Note) (v : InService) (acts : List Act) → IsScript s → IsInFunction s lists a before after v acts →
+    Begin (AreActsOf s (shown_histories lists) a (cpu_of s (role_of s a)) v (cursor_before_next s lists a before).hold (cursor_before_next s lists a before).act acts) after
 
 -- after these notes of its list, the actor is about to take the next callout from its queue
 pub record IsPopping (s : Script) (lists : List (List Note)) (a : ℕ) (before after : List Note) (act : ℕ) : Type 0 where
   pub run : IsRunOf s lists
   pub actor : a < actor_count s
   pub notes : notes_by lists a ≡ before ++ after
-  pub stage : (place_after s lists a before).stage ≡ Popping act
-  pub begins : (place_after s lists a before).removed ≡ None
-  pub parcel : (place_after s lists a before).parcel ≡ None
+  pub stage : (cursor_before_next s lists a before).stage ≡ Popping act
+  pub begins : (cursor_before_next s lists a before).removed ≡ None
+  pub parcel : (cursor_before_next s lists a before).parcel ≡ None
 
 -- the next notes, in this act, are those of a round of services, whose function's acts are numbered from first on, or a Pop that finds nothing
 abbrev pub IsRoundOrEmpty : Script → List (List Note) → ℕ → List Note → List Note → ℕ → ℕ → Type 0
 IsRoundOrEmpty s lists a before after act first =
-    Begin (IsRoundOf s (shown_histories lists) a (role_of s a) act first (place_after s lists a before).hold) after
+    Begin (IsRoundOf s (shown_histories lists) a (role_of s a) act first (cursor_before_next s lists a before).hold) after
     ⊎ Begin (IsNote (turns s (shown_histories lists) a act (cpu_of s (role_of s a)) (pop_of (role_of s a)) Empty)) after
 
 abbrev pub RoundsAreOfServices : Type 0
 RoundsAreOfServices = (s : Script) (lists : List (List Note)) (a : ℕ) (before after : List Note) (act : ℕ) → IsScript s → IsPopping s lists a before after act →
-    IsRoundOrEmpty s lists a before after act (place_after s lists a before).act
+    IsRoundOrEmpty s lists a before after act (cursor_before_next s lists a before).act
 
 -- after these notes of its list, soft act j of the actor's program is due
 pub record IsSoftDue (s : Script) (lists : List (List Note)) (a : ℕ) (before after : List Note) (j : ℕ) : Type 0 where
   pub run : IsRunOf s lists
   pub actor : a < actor_count s
   pub notes : notes_by lists a ≡ before ++ after
-  pub stage : (place_after s lists a before).stage ≡ Ready
+  pub stage : (cursor_before_next s lists a before).stage ≡ Ready
   pub later : List Task
-  pub left : (place_after s lists a before).left ≡ Soft j ∷ later
-  pub begins : (place_after s lists a before).removed ≡ None
-  pub parcel : (place_after s lists a before).parcel ≡ None
+  pub left : (cursor_before_next s lists a before).left ≡ Soft j ∷ later
+  pub begins : (cursor_before_next s lists a before).removed ≡ None
+  pub parcel : (cursor_before_next s lists a before).parcel ≡ None
 
 -- it begins with a Pop, before which at least j + 1 Scans stand in the history of the actor's CPU; and that Pop, in the act of
 -- the next number, begins a round of services or finds nothing
@@ -136,7 +136,7 @@ pub record IsSoftBegun (s : Script) (lists : List (List Note)) (a : ℕ) (before
   pub split : after ≡ pop ∷ rest
   pub stands : pop.place ≡ place.Cpu (cpu_of s (role_of s a))
   pub scanned : j + 1 ≤ scan_count (take pop.pos (cpu_journal (cpu_of s (role_of s a)) lists))
-  pub round : IsRoundOrEmpty s lists a before after (place_after s lists a before).act ((place_after s lists a before).act + 1)
+  pub round : IsRoundOrEmpty s lists a before after (cursor_before_next s lists a before).act ((cursor_before_next s lists a before).act + 1)
 
 abbrev pub SoftActsBeginWithRounds : Type 0
 SoftActsBeginWithRounds = (s : Script) (lists : List (List Note)) (a : ℕ) (before after : List Note) (j : ℕ) → IsScript s → IsSoftDue s lists a before after j → IsSoftBegun s lists a before after j

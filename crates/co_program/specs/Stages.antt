@@ -2,7 +2,7 @@
 use Rattle.std.specs.Prelude.{ℕ, Bool, List, Option}
 use Rattle.co_object.specs.declared.Next.{Next}
 use Rattle.co_program.specs.declared.act.Act.{Act}
-use Rattle.co_program.specs.declared.cursor.Service.{Service}
+use Rattle.co_program.specs.declared.cursor.InService.{InService}
 
 pub data Stage : Type 0 where
   -- between two acts
@@ -12,20 +12,20 @@ pub data Stage : Type 0 where
   -- in a tick or a soft act, about to take the next callout from the queue
   Popping : (act : ℕ) → Stage
   -- in a service, about to pick the arming
-  Picking : (v : Service) → Stage
+  Picking : (v : InService) → Stage
   -- about to take the callout's lock
-  Locking : (v : Service) → Stage
+  Locking : (v : InService) → Stage
   -- under the lock, about to begin
-  Beginning : (v : Service) → Stage
+  Beginning : (v : InService) → Stage
   -- about to release the lock, before the acts of a function that returns unlocked
-  Unlocking : (v : Service) (acts : List Act) → Stage
+  Unlocking : (v : InService) (acts : List Act) → Stage
   -- in the callout's function, of which these acts are left
-  Firing : (v : Service) (acts : List Act) → Stage
+  Firing : (v : InService) (acts : List Act) → Stage
   -- about to release the lock, after the function
-  Releasing : (v : Service) → Stage
+  Releasing : (v : InService) → Stage
   -- about to end the service
-  Ending : (v : Service) → Stage
+  Ending : (v : InService) → Stage
   -- about to free the queue of it
-  Freeing : (v : Service) (drain : Option ℕ) (next : Option Next) → Stage
+  Freeing : (v : InService) (drain : Option ℕ) (next : Option Next) → Stage
   -- in the function of an asynchronous drain, of which these acts are left
-  Drained : (v : Service) (acts : List Act) → Stage
+  Drained : (v : InService) (acts : List Act) → Stage

@@ -4,17 +4,17 @@ ghost use Rattle.co_lock.specs.Service.{hold_of};
 ghost use Rattle.co_program.specs.declared.script.Script.{Script};
 ghost use Rattle.co_program.specs.declared.role.Role.{Role};
 ghost use Rattle.co_program.specs.Actors.{actor_count, cpu_of, program_of};
-ghost use Rattle.co_program.specs.Action.{Silent, Asks, action_for, action_in, action_with, asks_call, asks_drain, asks_within, begins, draining, drained_of, firing, free_of, locks, over, pop_of, scans_first, scans_of, spec_at, takes};
+ghost use Rattle.co_program.specs.Action.{Silent, Asks, action_for, action_in, action_with, asks_call, asks_drain, asks_within, begins_next, draining, drained_of, firing, free_of, locks, over, pop_of, scans_first, scans_of, spec_at, takes};
 ghost use Rattle.co_program.specs.Advance.{tail_of};
 ghost use Rattle.co_program.specs.Calls.{plain_op};
 ghost use Rattle.co_program.specs.Existing.{ActionExists, IsIn};
-ghost use Rattle.co_program.specs.Indexed.{ActionCounts, action_as, action_of, acts_left, cursor_as, cursor_of, stage_of};
+ghost use Rattle.co_program.specs.Indexed.{ActionCounts, action_as, action_of, function_acts_left, cursor_as, cursor_of, stage_of};
 ghost use Rattle.co_program.specs.Scripts.{IsScript};
 
 use crate::act::{Act, Scene};
 use crate::asks::{asks_callout, asks_itself, asks_queue, asks_run};
 use crate::call::{call_of, names_here};
-use crate::cursor::{ActsLeft, Cursor, Service, Stage};
+use crate::cursor::{ActsLeft, Cursor, InService, Stage};
 use crate::program::{Task, acts_of, is_soft, next_of, task_after};
 use crate::role::{Role, cpu_of, role_of};
 use crate::script::Script;
@@ -35,7 +35,7 @@ pub enum Asked {
 
 /// What a step without a note does to the actor's place.
 #[derive(Clone, Copy, Debug, PartialEq, Eq)]
-pub enum Move {
+pub enum SilentStep {
     /// The act is over. This is the client's now then, in units of 2^-32 s, and the lock that it holds.
     Over { time: Sbt, hold: Option<Held> },
     /// The act goes on to its next stage, with this hold.
@@ -50,10 +50,10 @@ pub enum Action {
     /// The program has ended.
     Nothing,
     /// A step without a note, which `go` makes.
-    Silent(Move),
+    Silent(SilentStep),
     /// A step without a note that takes this lock. It waits while another actor holds the lock in a mode that excludes
     /// this one.
-    Take { held: Held, to: Move },
+    Take { held: Held, to: SilentStep },
     /// A note of what is asked, in the act of this number.
     Asks { act: u64, asked: Asked },
 }
@@ -154,11 +154,11 @@ fn action_in(script: &Script, role: Role, cursor: &Cursor, next: &mut Action)
             let cpu = cpu_of(script, role);
             *next = asks_run(v, RunOp::Begin { n: v.n, cpu });
         }
-        Stage::Unlocking(_, _) => *next = Action::Silent(Move::Within { hold: None }),
+        Stage::Unlocking(_, _) => *next = Action::Silent(SilentStep::Within { hold: None }),
         Stage::Firing(v, left) => {
             asks_within(script, cpu_of(script, role), cursor, v, *left, next);
         }
-        Stage::Releasing(_) => *next = Action::Silent(Move::Within { hold: None }),
+        Stage::Releasing(_) => *next = Action::Silent(SilentStep::Within { hold: None }),
         Stage::Ending(v) => {
             let cpu = cpu_of(script, role);
             *next = asks_run(v, RunOp::End { n: v.n, cpu });
@@ -177,7 +177,7 @@ fn begins(script: &Script, role: Role, cursor: &Cursor, next: &mut Action)
     requires script { IsScript script.now }
     requires room { cursor.now.act < 2 ^ 64 - 1 }
     ensures action { let s = script.now in let c = cursor_as s role cursor.now in
-        action_as s role cursor.now next.new ≡ begins s role c c.left }
+        action_as s role cursor.now next.new ≡ begins_next s role c c.left }
     ensures counted { ActionCounts cursor.now next.new }
 {
     let acts = acts_of(script, role);
@@ -197,7 +197,7 @@ fn does(script: &Script, role: Role, cursor: &Cursor, act: &Act, next: &mut Acti
     requires next { slice_get (drop cursor.now.task (program_of script.now role)) 0 ≡ Some (Task.Does act.now) }
     requires room { cursor.now.act < 2 ^ 64 - 1 }
     ensures action { let s = script.now in let c = cursor_as s role cursor.now in
-        action_as s role cursor.now next.new ≡ begins s role c c.left }
+        action_as s role cursor.now next.new ≡ begins_next s role c c.left }
     ensures counted { ActionCounts cursor.now next.new }
 {
     match *act {
@@ -253,7 +253,7 @@ fn tells(cursor: &Cursor, time: Sbt) -> Action
         action_as s role cursor.now result ≡ Silent (record (over c (tail_of c.left) c.hold) { now = time }) }
     ensures counted { cursor.now.task < 65536 → ActionCounts cursor.now result }
 {
-    Action::Silent(Move::Over {
+    Action::Silent(SilentStep::Over {
         time,
         hold: cursor.hold,
     })
@@ -271,7 +271,7 @@ fn takes(cursor: &Cursor, held: Held) -> Action
     } else {
         Action::Take {
             held,
-            to: Move::Over {
+            to: SilentStep::Over {
                 time: cursor.time,
                 hold: Some(held),
             },
@@ -288,7 +288,7 @@ fn unlocks(cursor: &Cursor) -> Action
     ensures counted { cursor.now.task < 65536 → ActionCounts cursor.now result }
 {
     if cursor.hold.is_some() {
-        Action::Silent(Move::Over {
+        Action::Silent(SilentStep::Over {
             time: cursor.time,
             hold: None,
         })
@@ -323,11 +323,11 @@ fn drained_of(script: &Script, role: Role, over: u32) -> u32
 /// After the last act a lock that is still held is released.
 fn ends(cursor: &Cursor) -> Action
     ensures action { (s : Script) (role : Role) → let c = cursor_as s role cursor.now in
-        c.left ≡ [] → action_as s role cursor.now result ≡ begins s role c [] }
+        c.left ≡ [] → action_as s role cursor.now result ≡ begins_next s role c [] }
     ensures counted { ActionCounts cursor.now result }
 {
     if cursor.hold.is_some() {
-        Action::Silent(Move::Ends)
+        Action::Silent(SilentStep::Ends)
     } else {
         Action::Nothing
     }
@@ -340,13 +340,13 @@ fn asks_within(
     script: &Script,
     cpu: u32,
     cursor: &Cursor,
-    v: &Service,
+    v: &InService,
     left: ActsLeft,
     next: &mut Action,
 )
     requires { IsScript script.now }
     ensures action { (role : Role) → let s = script.now in
-        action_as s role cursor.now next.new ≡ asks_within s cpu (cursor_as s role cursor.now) v.now (acts_left s left) }
+        action_as s role cursor.now next.new ≡ asks_within s cpu (cursor_as s role cursor.now) v.now (function_acts_left s left) }
     ensures counted { ActionCounts cursor.now next.new }
 {
     match next_of(script, left) {
@@ -399,7 +399,7 @@ pub(crate) fn spec_at(script: &Script, i: u32) -> Spec
 // ---- services
 
 /// The callout's lock is taken.
-fn locks(script: &Script, cursor: &Cursor, v: &Service) -> Action
+fn locks(script: &Script, cursor: &Cursor, v: &InService) -> Action
     requires stage { cursor.now.stage ≡ Stage.Locking v.now }
     ensures action { (role : Role) → let s = script.now in
         action_as s role cursor.now result ≡ locks s (cursor_as s role cursor.now) v.now (hold_of (spec_at s v.now.i).lock) }
@@ -409,14 +409,14 @@ fn locks(script: &Script, cursor: &Cursor, v: &Service) -> Action
         None => Action::Nothing,
         Some(held) => Action::Take {
             held,
-            to: Move::Within { hold: Some(held) },
+            to: SilentStep::Within { hold: Some(held) },
         },
     }
 }
 
 /// What a function's acts lead to: the release of the lock, if it is held still, and the end of the service.
-pub(crate) fn firing(script: &Script, v: &Service, hold: Option<Held>, left: ActsLeft) -> Stage
-    ensures { stage_of script.now result ≡ firing v.now hold (acts_left script.now left) }
+pub(crate) fn firing(script: &Script, v: &InService, hold: Option<Held>, left: ActsLeft) -> Stage
+    ensures { stage_of script.now result ≡ firing v.now hold (function_acts_left script.now left) }
 {
     match (next_of(script, left), hold) {
         (Some(_), _) => Stage::Firing(*v, left),
@@ -426,8 +426,8 @@ pub(crate) fn firing(script: &Script, v: &Service, hold: Option<Held>, left: Act
 }
 
 /// What a drain function's acts lead to: the next callout.
-pub(crate) fn draining(script: &Script, v: &Service, left: ActsLeft) -> Stage
-    ensures { stage_of script.now result ≡ draining v.now (acts_left script.now left) }
+pub(crate) fn draining(script: &Script, v: &InService, left: ActsLeft) -> Stage
+    ensures { stage_of script.now result ≡ draining v.now (function_acts_left script.now left) }
 {
     match next_of(script, left) {
         Some(_) => Stage::Drained(*v, left),

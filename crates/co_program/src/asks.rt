@@ -2,10 +2,10 @@
 ghost use Rattle.std.specs.Prelude.{◌≡◌};
 
 use crate::action::{Action, Asked};
-use crate::cursor::Service;
+use crate::cursor::InService;
 use co_object::{Op, OwnKind, QOp, RunOp};
 
-pub(crate) fn asks_run(v: &Service, op: RunOp) -> Action
+pub(crate) fn asks_run(v: &InService, op: RunOp) -> Action
     ensures { result ≡ Action.Asks v.now.act (Asked.Callout v.now.i (Op.Run op)) }
 {
     asks_callout(v.act, v.i, Op::Run(op))

@@ -1,6 +1,6 @@
 //! The call that an act asks for.
 ghost use Rattle.std.specs.Prelude.{◌≡◌, ◌≤◌};
-ghost use Rattle.co_program.specs.Calls.{callout_of, cpu_named, due_of, names_here, plain_op};
+ghost use Rattle.co_program.specs.Calls.{callout_of_who, cpu_named, time_of_when, names_here, plain_op};
 
 use crate::act::{Act, Scene, When, Where, Who};
 use co_object::PlainOp;
@@ -96,7 +96,7 @@ pub(crate) fn names_here(act: &Act) -> bool
 }
 
 fn callout_of(scene: &Scene, who: Who) -> u32
-    ensures { result ≡ callout_of scene.now who }
+    ensures { result ≡ callout_of_who scene.now who }
 {
     match who {
         Who::Timer(i) => i,
@@ -105,7 +105,7 @@ fn callout_of(scene: &Scene, who: Who) -> u32
 }
 
 fn due_of(scene: &Scene, when: When) -> Sbt
-    ensures { result ≡ due_of scene.now when }
+    ensures { result ≡ time_of_when scene.now when }
 {
     match when {
         When::After(span) => scene.time.sat_add(span),

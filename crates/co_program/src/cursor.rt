@@ -13,7 +13,7 @@ use co_sbt::Sbt;
 
 /// The service of a callout in an act.
 #[derive(Clone, Copy)]
-pub struct Service {
+pub struct InService {
     /// The number of the act.
     pub act: u64,
     /// The callout.
@@ -26,7 +26,7 @@ pub struct Service {
 
 /// An Insert that is still to come: the callout is on its way into a CPU's queue.
 #[derive(Clone, Copy)]
-pub struct Parcel {
+pub struct PendingInsert {
     /// The number of the act.
     pub act: u64,
     /// The callout.
@@ -64,28 +64,28 @@ pub enum Stage {
         act: u64,
     },
     /// In a service, about to pick the arming.
-    Picking(Service),
+    Picking(InService),
     /// About to take the callout's lock.
-    Locking(Service),
+    Locking(InService),
     /// Under the lock, about to begin.
-    Beginning(Service),
+    Beginning(InService),
     /// About to release the lock, before the acts of a function that returns unlocked.
-    Unlocking(Service, ActsLeft),
+    Unlocking(InService, ActsLeft),
     /// In the callout's function.
-    Firing(Service, ActsLeft),
+    Firing(InService, ActsLeft),
     /// About to release the lock, after the function.
-    Releasing(Service),
+    Releasing(InService),
     /// About to end the service.
-    Ending(Service),
+    Ending(InService),
     /// About to free the queue of it. `drain` is the function of an asynchronous drain that comes then, and `next` the
     /// arming that goes to another CPU.
     Freeing {
-        service: Service,
+        service: InService,
         drain: Option<u32>,
         next: Option<Next>,
     },
     /// In the function of an asynchronous drain.
-    Drained(Service, ActsLeft),
+    Drained(InService, ActsLeft),
 }
 
 /// An actor's place in its program: what it has still to do, of which nothing is copied from the script.
@@ -104,7 +104,7 @@ pub struct Cursor {
     /// The CPU from whose queue the call under way has just removed its callout.
     pub removed: Option<u32>,
     /// What the actor has still to insert, before all else.
-    pub parcel: Option<Parcel>,
+    pub parcel: Option<PendingInsert>,
 }
 
 impl Cursor {

@@ -1,33 +1,33 @@
 //! How an actor's place in its program goes on in a step without a note.
 ghost use Rattle.std.specs.Prelude.{◌≡◌, ℕ, ◌+◌, ◌<◌, ◌≤◌, ◌-◌, ◌^◌};
 ghost use Rattle.co_program.specs.declared.role.Role.{Role};
-ghost use Rattle.co_program.specs.Indexed.{Counts, MoveCounts, cursor_as, cursor_of, moved, passed, past};
+ghost use Rattle.co_program.specs.Indexed.{ActsAreCounted, SilentCounts, cursor_as, cursor_of, after_silent, passed, task_past};
 ghost use Rattle.co_program.specs.Scripts.{IsScript};
 
-use crate::action::{Move, firing};
+use crate::action::{SilentStep, firing};
 use crate::cursor::{Cursor, Stage};
 use crate::script::Script;
 use co_lock::Held;
 
 /// A step without a note, as `action_for` gives it: the cursor goes on. `act` rises only as `task` does.
 #[inline(always)]
-pub fn go(script: &Script, cursor: &mut Cursor, to: &Move)
+pub fn go(script: &Script, cursor: &mut Cursor, to: &SilentStep)
     requires script { IsScript script.now }
-    requires counted { MoveCounts cursor.old to.now }
+    requires counted { SilentCounts cursor.old to.now }
     ensures cursor { (actor : ℕ) → let s = script.now in
-        cursor_of s actor cursor.new ≡ moved (cursor_of s actor cursor.old) to.now }
-    ensures counted { Counts cursor.old cursor.new 0 }
+        cursor_of s actor cursor.new ≡ after_silent (cursor_of s actor cursor.old) to.now }
+    ensures counted { ActsAreCounted cursor.old cursor.new 0 }
 {
     match *to {
-        Move::Over { time, hold } => {
+        SilentStep::Over { time, hold } => {
             cursor.time = time;
             over(cursor, hold);
         }
-        Move::Within { hold } => {
+        SilentStep::Within { hold } => {
             cursor.hold = hold;
             pass(script, cursor);
         }
-        Move::Ends => {
+        SilentStep::Ends => {
             cursor.hold = None;
             cursor.stage = Stage::Ready;
         }
@@ -38,7 +38,7 @@ pub fn go(script: &Script, cursor: &mut Cursor, to: &Move)
 fn pass(script: &Script, cursor: &mut Cursor)
     ensures cursor { (role : Role) → let s = script.now in let c = cursor_as s role cursor.old in
         cursor_as s role cursor.new ≡ record c { stage = passed c.stage } }
-    ensures counted { Counts cursor.old cursor.new 0 }
+    ensures counted { ActsAreCounted cursor.old cursor.new 0 }
 {
     match cursor.stage {
         Stage::Locking(v) => cursor.stage = Stage::Beginning(v),
@@ -52,8 +52,8 @@ fn pass(script: &Script, cursor: &mut Cursor)
 pub(crate) fn over(cursor: &mut Cursor, hold: Option<Held>)
     requires { cursor.old.act < 2 ^ 64 - 1 }
     ensures cursor { let c = cursor.old in
-        cursor.new ≡ record c { task = past c.task; act = c.act + 1; hold = hold; stage = Stage.Ready } }
-    ensures counted { Counts cursor.old cursor.new 1 }
+        cursor.new ≡ record c { task = task_past c.task; act = c.act + 1; hold = hold; stage = Stage.Ready } }
+    ensures counted { ActsAreCounted cursor.old cursor.new 1 }
 {
     cursor.task = past(cursor.task);
     cursor.act += 1;
@@ -63,7 +63,7 @@ pub(crate) fn over(cursor: &mut Cursor, hold: Option<Held>)
 
 /// One more act is over. No list of acts is as long as the largest number, so that past an end it stays there.
 pub(crate) fn past(over: u32) -> u32
-    ensures value { result ≡ past over }
+    ensures value { result ≡ task_past over }
     ensures no_less { over ≤ result }
 {
     over.saturating_add(1)

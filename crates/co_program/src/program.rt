@@ -1,7 +1,7 @@
 //! The acts of programs and functions, by index.
 ghost use Rattle.std.specs.Prelude.{◌≡◌, drop, length, slice_get};
 ghost use Rattle.co_program.specs.Actors.{acts_at, program_of, softs};
-ghost use Rattle.co_program.specs.Indexed.{acts_left, acts_of, is_soft};
+ghost use Rattle.co_program.specs.Indexed.{function_acts_left, acts_of, is_soft};
 ghost use Rattle.std.specs.Option.{option_map};
 
 use crate::act::Act;
@@ -60,7 +60,7 @@ pub(crate) fn task_after(script: &Script, role: Role, over: u32) -> Option<Task>
 
 /// The next act of those of a function that are left.
 pub(crate) fn next_of(script: &Script, left: ActsLeft) -> Option<Act>
-    ensures { result ≡ slice_get (acts_left script.now left) 0 }
+    ensures { result ≡ slice_get (function_acts_left script.now left) 0 }
 {
     act_at(&script.funcs, left.func, left.done)
 }

@@ -4,14 +4,14 @@ ghost use Rattle.co_program.specs.declared.script.Script.{Script};
 ghost use Rattle.co_program.specs.declared.role.Role.{Role};
 ghost use Rattle.co_program.specs.Actors.{acts_at};
 ghost use Rattle.co_program.specs.Action.{draining, firing, spec_at};
-ghost use Rattle.co_program.specs.Advance.{act_over, advance, advance_callout, advance_queue, begun, called, drain_acts, due_of_call, ended, freed, got, parcel_of, picked, popped, tail_of};
+ghost use Rattle.co_program.specs.Advance.{act_over, advance, advance_callout, advance_queue, service_begun, call_made, drain_acts, due_of_call, service_ended, freed, pop_answered, parcel_of, service_picked, popped, tail_of};
 ghost use Rattle.co_program.specs.Existing.{EntryExists, IsIn};
-ghost use Rattle.co_program.specs.Indexed.{Counts, acts_left, cursor_as, cursor_of, stage_of};
+ghost use Rattle.co_program.specs.Indexed.{ActsAreCounted, function_acts_left, cursor_as, cursor_of, stage_of};
 ghost use Rattle.co_program.specs.Stages.{Unlocking};
 ghost use Rattle.co_program.specs.Scripts.{IsScript};
 
 use crate::action::{draining, firing, spec_at};
-use crate::cursor::{ActsLeft, Cursor, Parcel, Service, Stage};
+use crate::cursor::{ActsLeft, Cursor, InService, PendingInsert, Stage};
 use crate::going::{over, past};
 use crate::script::Script;
 use co_lock::Held;
@@ -27,7 +27,7 @@ pub fn advance(script: &Script, cursor: &mut Cursor, listed: bool, place: Place,
     requires room { cursor.old.act < 2 ^ 64 - 1 }
     ensures cursor { (actor : ℕ) → let s = script.now in
         cursor_of s actor cursor.new ≡ advance s (cursor_of s actor cursor.old) listed place entry.now }
-    ensures counted { Counts cursor.old cursor.new 1 }
+    ensures counted { ActsAreCounted cursor.old cursor.new 1 }
     ensures hold { cursor.new.hold ≡ cursor.old.hold }
     ensures existing { (actor : ℕ) → let s = script.now in
         IsIn s (cursor_of s actor cursor.old) → EntryExists s place entry.now → IsIn s (cursor_of s actor cursor.new) }
@@ -56,7 +56,7 @@ fn advance_callout(
     requires room { cursor.old.act < 2 ^ 64 - 1 }
     ensures cursor { (role : Role) → let s = script.now in let c = cursor_as s role cursor.old in
         cursor_as s role cursor.new ≡ advance_callout s (record c { removed = None }) i listed op.now reply.now c.stage }
-    ensures counted { Counts cursor.old cursor.new 1 }
+    ensures counted { ActsAreCounted cursor.old cursor.new 1 }
 {
     cursor.removed = None;
     match cursor.stage {
@@ -72,15 +72,15 @@ fn called(script: &Script, cursor: &mut Cursor, i: u32, listed: bool, op: &Op, r
     requires script { IsScript script.now }
     requires room { cursor.old.act < 2 ^ 64 - 1 }
     ensures cursor { (role : Role) → let s = script.now in
-        cursor_as s role cursor.new ≡ called (cursor_as s role cursor.old) i listed op.now reply.now }
-    ensures counted { Counts cursor.old cursor.new 1 }
+        cursor_as s role cursor.new ≡ call_made (cursor_as s role cursor.old) i listed op.now reply.now }
+    ensures counted { ActsAreCounted cursor.old cursor.new 1 }
 {
     match *reply {
         Reply::Wait { n, took, .. } => cursor.stage = Stage::Waiting { n, took },
         Reply::Armed { n, cpu, .. } if listed => {
             let act = cursor.act;
             act_over(script, cursor);
-            cursor.parcel = Some(Parcel {
+            cursor.parcel = Some(PendingInsert {
                 act,
                 i,
                 n,
@@ -98,7 +98,7 @@ fn act_over(script: &Script, cursor: &mut Cursor)
     requires room { cursor.old.act < 2 ^ 64 - 1 }
     ensures cursor { (role : Role) → let s = script.now in let c = cursor_as s role cursor.old in
         cursor_as s role cursor.new ≡ act_over c c.stage }
-    ensures counted { Counts cursor.old cursor.new 1 }
+    ensures counted { ActsAreCounted cursor.old cursor.new 1 }
 {
     match cursor.stage {
         Stage::Firing(v, left) => {
@@ -115,7 +115,7 @@ fn act_over(script: &Script, cursor: &mut Cursor)
 
 /// What is left of a function once its next act is over.
 fn one_less(left: ActsLeft) -> ActsLeft
-    ensures { (s : Script) → IsScript s → acts_left s result ≡ tail_of (acts_left s left) }
+    ensures { (s : Script) → IsScript s → function_acts_left s result ≡ tail_of (function_acts_left s left) }
 {
     ActsLeft {
         func: left.func,
@@ -137,10 +137,10 @@ fn due_of_call(op: &Op) -> Sbt
 // ---- in a service
 
 /// After a Pick: the function runs, or waits for the callout's lock.
-fn picked(script: &Script, cursor: &mut Cursor, v: &Service, reply: &Reply)
+fn picked(script: &Script, cursor: &mut Cursor, v: &InService, reply: &Reply)
     ensures cursor { (role : Role) → let s = script.now in
-        cursor_as s role cursor.new ≡ picked s (cursor_as s role cursor.old) v.now reply.now }
-    ensures counted { Counts cursor.old cursor.new 1 }
+        cursor_as s role cursor.new ≡ service_picked s (cursor_as s role cursor.old) v.now reply.now }
+    ensures counted { ActsAreCounted cursor.old cursor.new 1 }
 {
     cursor.stage = match *reply {
         Reply::Go { func, .. } => firing(script, v, cursor.hold, whole(func)),
@@ -149,10 +149,10 @@ fn picked(script: &Script, cursor: &mut Cursor, v: &Service, reply: &Reply)
 }
 
 /// After a Begin: the function runs, or it was cancelled meanwhile and the lock is released.
-fn begun(script: &Script, cursor: &mut Cursor, v: &Service, reply: &Reply)
+fn begun(script: &Script, cursor: &mut Cursor, v: &InService, reply: &Reply)
     ensures cursor { (role : Role) → let s = script.now in
-        cursor_as s role cursor.new ≡ begun s (cursor_as s role cursor.old) v.now reply.now }
-    ensures counted { Counts cursor.old cursor.new 1 }
+        cursor_as s role cursor.new ≡ service_begun s (cursor_as s role cursor.old) v.now reply.now }
+    ensures counted { ActsAreCounted cursor.old cursor.new 1 }
 {
     cursor.stage = match *reply {
         Reply::Go { func, .. } => runs(script, v, cursor.hold, func),
@@ -161,7 +161,7 @@ fn begun(script: &Script, cursor: &mut Cursor, v: &Service, reply: &Reply)
 }
 
 /// The function begins, under the callout's lock or, where it returns unlocked, once that is released.
-fn runs(script: &Script, v: &Service, hold: Option<Held>, func: u32) -> Stage
+fn runs(script: &Script, v: &InService, hold: Option<Held>, func: u32) -> Stage
     ensures { let s = script.now in let acts = acts_at s.funcs func in
         stage_of s result ≡ (if (spec_at s v.now.i).returns_unlocked then Unlocking v.now acts else firing v.now hold acts) }
 {
@@ -174,16 +174,16 @@ fn runs(script: &Script, v: &Service, hold: Option<Held>, func: u32) -> Stage
 
 /// All acts of a function.
 fn whole(func: u32) -> ActsLeft
-    ensures { (s : Script) → acts_left s result ≡ acts_at s.funcs func }
+    ensures { (s : Script) → function_acts_left s result ≡ acts_at s.funcs func }
 {
     ActsLeft { func, done: 0 }
 }
 
 /// After an End.
-fn ended(cursor: &mut Cursor, v: &Service, reply: &Reply)
+fn ended(cursor: &mut Cursor, v: &InService, reply: &Reply)
     ensures cursor { (s : Script) (role : Role) →
-        cursor_as s role cursor.new ≡ ended (cursor_as s role cursor.old) v.now reply.now }
-    ensures counted { Counts cursor.old cursor.new 1 }
+        cursor_as s role cursor.new ≡ service_ended (cursor_as s role cursor.old) v.now reply.now }
+    ensures counted { ActsAreCounted cursor.old cursor.new 1 }
 {
     if let Reply::Ended { drain, next, .. } = *reply {
         cursor.stage = Stage::Freeing {
@@ -202,7 +202,7 @@ fn advance_queue(script: &Script, cursor: &mut Cursor, cpu: u32, op: &QOp, reply
     requires room { cursor.old.act < 2 ^ 64 - 1 }
     ensures cursor { (role : Role) → let s = script.now in
         cursor_as s role cursor.new ≡ advance_queue s (cursor_as s role cursor.old) cpu op.now reply.now }
-    ensures counted { Counts cursor.old cursor.new 1 }
+    ensures counted { ActsAreCounted cursor.old cursor.new 1 }
 {
     match op {
         QOp::Insert { .. } => cursor.parcel = None,
@@ -221,7 +221,7 @@ fn popped(cursor: &mut Cursor, reply: &QReply)
     requires { cursor.old.act < 2 ^ 64 - 1 }
     ensures cursor { (s : Script) (role : Role) → IsScript s → let c = cursor_as s role cursor.old in
         cursor_as s role cursor.new ≡ popped c reply.now c.stage }
-    ensures counted { Counts cursor.old cursor.new 1 }
+    ensures counted { ActsAreCounted cursor.old cursor.new 1 }
 {
     match cursor.stage {
         Stage::Popping { act } => got(cursor, act, reply),
@@ -236,11 +236,11 @@ fn popped(cursor: &mut Cursor, reply: &QReply)
 /// What a Pop got; an empty queue ends the act.
 fn got(cursor: &mut Cursor, act: u64, reply: &QReply)
     ensures cursor { (s : Script) (role : Role) → IsScript s →
-        cursor_as s role cursor.new ≡ got (cursor_as s role cursor.old) act reply.now }
-    ensures counted { Counts cursor.old cursor.new 0 }
+        cursor_as s role cursor.new ≡ pop_answered (cursor_as s role cursor.old) act reply.now }
+    ensures counted { ActsAreCounted cursor.old cursor.new 0 }
 {
     match *reply {
-        QReply::Got { i, n, at } => cursor.stage = Stage::Picking(Service { act, i, n, at }),
+        QReply::Got { i, n, at } => cursor.stage = Stage::Picking(InService { act, i, n, at }),
         _ => {
             cursor.task = past(cursor.task);
             cursor.stage = Stage::Ready;
@@ -252,7 +252,7 @@ fn got(cursor: &mut Cursor, act: u64, reply: &QReply)
 fn freed(script: &Script, cursor: &mut Cursor)
     ensures cursor { (role : Role) → let s = script.now in let c = cursor_as s role cursor.old in
         cursor_as s role cursor.new ≡ freed s c c.stage }
-    ensures counted { Counts cursor.old cursor.new 1 }
+    ensures counted { ActsAreCounted cursor.old cursor.new 1 }
 {
     if let Stage::Freeing {
         service,
@@ -266,7 +266,7 @@ fn freed(script: &Script, cursor: &mut Cursor)
 }
 
 /// The function of an asynchronous drain begins, if one was named.
-fn drains(script: &Script, v: &Service, drain: Option<u32>) -> Stage
+fn drains(script: &Script, v: &InService, drain: Option<u32>) -> Stage
     ensures { stage_of script.now result ≡ draining v.now (drain_acts script.now drain) }
 {
     match drain {
@@ -276,12 +276,12 @@ fn drains(script: &Script, v: &Service, drain: Option<u32>) -> Stage
 }
 
 /// A callout that the end of its service sends on its way.
-fn parcel_of(v: &Service, next: Option<Next>) -> Option<Parcel>
+fn parcel_of(v: &InService, next: Option<Next>) -> Option<PendingInsert>
     ensures { result ≡ parcel_of v.now next }
 {
     match next {
         None => None,
-        Some(next) => Some(Parcel {
+        Some(next) => Some(PendingInsert {
             act: v.act,
             i: v.i,
             n: next.n,

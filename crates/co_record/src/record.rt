@@ -10,7 +10,7 @@ ghost use Rattle.co_record.specs.Same.{};
 ghost use Rattle.co_record.specs.Same.{SameCallout};
 ghost use Rattle.co_record.specs.Standing.{state_of, moved, settled};
 
-use crate::{Move, Slot};
+use crate::{DeferredArming, Slot};
 use co_object::Spec;
 use co_sbt::Sbt;
 
@@ -146,7 +146,7 @@ impl Record {
     }
 
     /// The arming that waits for the end of the service, as the slot has it, or None where none waits.
-    pub fn deferred(&self, slot: &Slot) -> Option<Move>
+    pub fn deferred(&self, slot: &Slot) -> Option<DeferredArming>
         requires { IsPaired self.now slot.now }
         ensures { result ≡ deferred_of (state_of self.now slot.now) }
     {
@@ -185,7 +185,7 @@ impl Record {
 
     /// The arming of a move becomes the record's own.
     #[inline]
-    pub(crate) fn take_up(&mut self, to: &Move)
+    pub(crate) fn take_up(&mut self, to: &DeferredArming)
         ensures { self.new ≡ moved self.old to.now }
     {
         self.pending = true;

@@ -14,7 +14,7 @@ pub struct Current {
 
 /// An arming on another CPU that waits for the end of the service: its due time, precision, function, argument and CPU.
 #[derive(Clone, Copy)]
-pub struct Move {
+pub struct DeferredArming {
     pub time: Sbt,
     pub prec: Sbt,
     pub func: u32,
@@ -34,7 +34,7 @@ pub struct Slot {
     /// The function of an asynchronous drain, for the end to name.
     pub(crate) drain: Option<u32>,
     /// Where the record has a deferred arming: that arming.
-    pub(crate) moving: Move,
+    pub(crate) moving: DeferredArming,
 }
 
 impl Slot {
@@ -49,7 +49,7 @@ impl Slot {
             cancel: false,
             waiting: false,
             drain: None,
-            moving: Move {
+            moving: DeferredArming {
                 time: zero,
                 prec: zero,
                 func: 0,

@@ -10,7 +10,7 @@ use Rattle.co_object.proofs.Passing.{passing, count-passing, passing-map}
 use Rattle.co_program.specs.declared.Script.{Script}
 use Rattle.co_report.specs.Histories.{Numbered, all_numbered_of}
 use Rattle.co_report.specs.Origins.{note_at}
-use Rattle.co_report.specs.Order.{place_index, count_in, all_of, AreCounts}
+use Rattle.co_report.specs.Order.{place_index, count_in, all_of, ArePlaceCounts}
 use Rattle.co_program.specs.Places.{place_exists, HavePlaces, AllHavePlaces}
 use Rattle.co_object.proofs.Members.{has-passing}
 use Rattle.co_report.proofs.Numbering.{note_of, numbered, all-notes-of, has-note}
@@ -56,7 +56,7 @@ count-all s p (notes ∷ lists) exists all =
     sum_by-append (λ (note : Note). cond (place_index s note.place == place_index s p) 1 0) notes (all_of lists) in
     omega (arith, both, count-list s p notes exists all.0, count-all s p lists exists all.1, length-append (notes_of p notes) (all_notes_of p lists))
 
-pub count-of : (s : Script) (lists : List (List Note)) (counts : List ℕ) (p : Place) → AreCounts s lists counts → AllHavePlaces s lists → place_exists s p ≡ true →
+pub count-of : (s : Script) (lists : List (List Note)) (counts : List ℕ) (p : Place) → ArePlaceCounts s lists counts → AllHavePlaces s lists → place_exists s p ≡ true →
     get_or counts (place_index s p) 0 ≡ length (all_notes_of p lists)
 count-of s lists counts p are all exists = are.each (place_index s p) (index_below s p exists) ∙ count-all s p lists exists all
 

@@ -11,7 +11,7 @@ use Rattle.co_text.specs.declared.Cause.{Cause}
 use Rattle.co_text.specs.declared.Cause.TheVariants.{Form}
 use Rattle.co_report.proofs.PartSplits.{IsPart, AreParts, is_mark}
 use Rattle.co_script.proofs.told.Steps.{bind-ok, unless-ok, cond-ok}
-use Rattle.co_report.specs.NoteForms.{Reader, nothing, both, literal, after, made, choice, one_of, whole, such}
+use Rattle.co_report.specs.NoteForms.{Reader, reads_nothing, both, literal, behind_literal, made, choice, one_of, whole, such}
 
 pub same_word : (w v : Word) → is_word w v ≡ true → w ≡ v
 same_word w v e = (bytes_eq-Decides w v).0 e
@@ -124,13 +124,13 @@ literal-back : (k : Word) (ws : List Word) → is_word k k ≡ true → literal 
 literal-back k ws same = ap (λ b. by_test b ws) same
 
 -- something behind a word
-pub behind : {A : Type 0} {F : A → Type 0} {v : A → List Word} {r : Reader A} (k : Word) → is_word k k ≡ true → IsPart k → Exact F v r → Exact F (λ x. k ∷ v x) (after k r)
+pub behind : {A : Type 0} {F : A → Type 0} {v : A → List Word} {r : Reader A} (k : Word) → is_word k k ≡ true → IsPart k → Exact F v r → Exact F (λ x. k ∷ v x) (behind_literal k r)
 behind {A} {F} {v} {r} k same ink x = record {
   back = λ a ws h. ap (λ (z : Read Bool). z >>= λ l. r l.1) (literal-back k (v a ++ ws) same) ∙ x.back a ws h;
   told = told;
   ink = λ a h. (ink, x.ink a h);
 } where
-  told : (ws : List Word) (a : A) (rest : List Word) → after k r ws ≡ Ok (a, rest) → F a × (ws ≡ k ∷ (v a ++ rest))
+  told : (ws : List Word) (a : A) (rest : List Word) → behind_literal k r ws ≡ Ok (a, rest) → F a × (ws ≡ k ∷ (v a ++ rest))
   told ws a rest h =
       let l = bind-ok (literal k ws) (λ l. r l.1) (a, rest) h in
       let t = x.told l.0.1 a rest l.2 in
@@ -162,9 +162,9 @@ tells-made {A} {X} Fits words k {F} {v} {r} make x fits same = record {
   told = λ ws y rest h. made-told make x (λ z rest. Fits z × (k ∷ ws ≡ words z ++ rest)) ws rest (λ a f e. (fits a f, ap (λ u. k ∷ u) e ∙ same a rest)) y h;
 }
 
-pub tells-nothing : {X : Type 0} (Fits : X → Type 0) (words : X → List Word) (k : Word) (x : X) → Fits x → ((rest : List Word) → k ∷ rest ≡ words x ++ rest) → Tells Fits words k (nothing x)
+pub tells-nothing : {X : Type 0} (Fits : X → Type 0) (words : X → List Word) (k : Word) (x : X) → Fits x → ((rest : List Word) → k ∷ rest ≡ words x ++ rest) → Tells Fits words k (reads_nothing x)
 tells-nothing {X} Fits words k x fits same = record { told = told } where
-  told : (ws : List Word) (y : X) (rest : List Word) → nothing x ws ≡ Ok (y, rest) → Fits y × (k ∷ ws ≡ words y ++ rest)
+  told : (ws : List Word) (y : X) (rest : List Word) → reads_nothing x ws ≡ Ok (y, rest) → Fits y × (k ∷ ws ≡ words y ++ rest)
   told ws y rest h =
       let e = same_pair x y ws rest h in
       (subst Fits e.0 fits, ap (λ u. k ∷ u) e.1 ∙ (same rest ∙ ap (λ z. words z ++ rest) e.0))

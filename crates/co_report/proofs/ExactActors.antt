@@ -19,7 +19,7 @@ use Rattle.co_grammar.specs.Spelling.{role_word, actor_word}
 use Rattle.co_script.proofs.told.Steps.{bind-ok, unless-ok, cond-ok}
 use Rattle.co_report.specs.declared.reading.names.Names.{Names}
 use Rattle.co_report.specs.declared.reading.values.Maker.{Maker}
-use Rattle.co_report.specs.NoteValues.{names_of, IsSmall, below, lettered, actor_in, is_slash, maker, maker_is}
+use Rattle.co_report.specs.NoteValues.{names_of, IsSmallScript, below, lettered, actor_in, is_slash, maker, maker_is}
 use Rattle.co_report.specs.NoteFits.{IsActor, IsLong, MakerFits}
 use Rattle.co_report.proofs.Exact.{IsSpelling}
 use Rattle.co_report.proofs.ExactValues.{numbers, letters, lettered-part}
@@ -79,7 +79,7 @@ mark-append (c ∷ v) w e f =
 both_words : (v w : Word) → IsPart v → IsPart w → IsPart (v ++ w)
 both_words v w a b = record { some = omega (arith, length-append v w, a.some); marks = mark-append v w a.marks b.marks }
 
-module _ (s : Script) (small : IsSmall s) where
+module _ (s : Script) (small : IsSmallScript s) where
   abbrev clients : ℕ
   clients = length s.clients
 

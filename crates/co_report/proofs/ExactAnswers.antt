@@ -13,18 +13,18 @@ use Rattle.co_report.proofs.PartSplits.{AreParts}
 use Rattle.co_script.proofs.told.Steps.{cond-ok}
 use Rattle.co_report.specs.declared.reading.names.Names.{Names}
 use Rattle.co_report.specs.NoteTexts.{callout_word, arming_word, queue_words, answer_words}
-use Rattle.co_report.specs.NoteValues.{names_of, IsSmall, time_in_units, arming, callout_of}
+use Rattle.co_report.specs.NoteValues.{names_of, IsSmallScript, time_in_units, arming, callout_value}
 use Rattle.co_report.specs.NoteForms.{both, direct_or, queue_forms, queue_form, answer_forms, answer_form}
 use Rattle.co_report.specs.NoteFits.{IsTime, IsLong, IsCallout, QueueFits, AnswerFits}
 use Rattle.co_report.proofs.Exact.{Exact, lit, same_word, same_pair, one, two, made-back, Tells, tells-made, tells-nothing, EachTells, choice-told}
 use Rattle.co_report.proofs.ExactValues.{times, armings, counts}
 use Rattle.co_report.proofs.ExactNames.{callouts}
 
-module _ (s : Script) (small : IsSmall s) where
+module _ (s : Script) (small : IsSmallScript s) where
   abbrev names : Names
   names = names_of s
 
-  insert_exact : Exact (λ p. IsCallout s p.0 × (IsLong p.1.0 × IsTime p.1.1)) (λ p. callout_word p.0 ∷ arming_word p.1.0 ∷ units_word p.1.1 ∷ []) (both (next (callout_of names)) (both (next arming) (next time_in_units)))
+  insert_exact : Exact (λ p. IsCallout s p.0 × (IsLong p.1.0 × IsTime p.1.1)) (λ p. callout_word p.0 ∷ arming_word p.1.0 ∷ units_word p.1.1 ∷ []) (both (next (callout_value names)) (both (next arming) (next time_in_units)))
   insert_exact = two (one (callouts s small)) (two (one armings) (one times))
 
   abbrev inserts : ℕ × (ℕ × ℕ) → QOp

@@ -8,19 +8,19 @@ use Rattle.co_text.specs.Written.{units_word, func_word, argument_word}
 use Rattle.co_text.specs.Taking.{next}
 use Rattle.co_report.specs.declared.reading.names.Names.{Names}
 use Rattle.co_report.specs.NoteTexts.{callout_word, arming_word, cpu_word, cpu_or_dash, func_or_dash}
-use Rattle.co_report.specs.NoteValues.{names_of, IsSmall, given, callout_of, func_of, cpu_in, or_dash}
+use Rattle.co_report.specs.NoteValues.{names_of, IsSmallScript, given, callout_value, func_of, cpu_in, or_dash}
 use Rattle.co_report.specs.NoteForms.{both, due_and_precision, target, arming_and_cpu}
 use Rattle.co_report.specs.NoteFits.{IsTime, IsLong, IsCallout, IsFunc, IsCpu}
 use Rattle.co_report.proofs.Exact.{IsSpelling, Exact, lit, one, two, behind}
 use Rattle.co_report.proofs.ExactValues.{letters, times, armings, arguments, or_dashes}
 
-module _ (s : Script) (small : IsSmall s) where
+module _ (s : Script) (small : IsSmallScript s) where
   abbrev names : Names
   names = names_of s
 
   -- ---- values
 
-  pub callouts : IsSpelling (IsCallout s) callout_word (callout_of names)
+  pub callouts : IsSpelling (IsCallout s) callout_word (callout_value names)
   callouts = letters 105 (length s.timers) refl (omega (arith, small.timers))
 
   pub funcs : IsSpelling (IsFunc s) func_word (func_of names)

@@ -18,11 +18,11 @@ use Rattle.co_text.specs.Taking.{next}
 use Rattle.co_report.proofs.PartSplits.{AreParts}
 use Rattle.co_report.specs.declared.reading.names.Names.{Names}
 use Rattle.co_report.specs.declared.reading.values.Maker.{Maker}
-use Rattle.co_report.specs.Histories.{Shown}
+use Rattle.co_report.specs.declared.reading.notes.NumberedEntry.{NumberedEntry}
 use Rattle.co_report.specs.NoteTexts.{op_words, reply_words, queue_words, answer_words, own_words, note_words}
 use Rattle.co_report.specs.Reports.{shown_words}
-use Rattle.co_report.specs.NoteValues.{names_of, IsSmall, count64, maker, maker_is, own_kind}
-use Rattle.co_report.specs.NoteForms.{both, after, queue_forms, queue_form, answer_form, may_answer, answered_form, call_form, journal_form, note_form}
+use Rattle.co_report.specs.NoteValues.{names_of, IsSmallScript, count64, maker, maker_is, own_kind}
+use Rattle.co_report.specs.NoteForms.{both, behind_literal, queue_forms, queue_form, answer_form, may_answer, answered_form, call_form, journal_form, note_form}
 use Rattle.co_report.specs.NoteFits.{IsLong, MakerFits, OpFits, ReplyFits, QueueFits, AnswerFits, ShownFits}
 use Rattle.co_report.proofs.Exact.{Exact, lit, one, two, two_told, such_exact, behind, words-append, reword, made-back, made-told, choice-told}
 use Rattle.co_report.proofs.ExactValues.{longs, kinds, kind_word}
@@ -31,23 +31,23 @@ use Rattle.co_report.proofs.ExactOperations.{op_exact}
 use Rattle.co_report.proofs.ExactReplies.{reply_exact}
 use Rattle.co_report.proofs.ExactAnswers.{queue-tells, queue-back, queue-ink, answer_exact}
 
-module _ (s : Script) (small : IsSmall s) where
+module _ (s : Script) (small : IsSmallScript s) where
   abbrev names : Names
   names = names_of s
 
   call_exact : Exact (λ p. OpFits s p.0 × ReplyFits s p.1) (λ p. op_words p.0 ++ codes "=" ∷ reply_words p.1) (call_form names)
   call_exact = two (op_exact s small) (behind (codes "=") refl (lit (codes "=") refl) (reply_exact s small))
 
-  given_answer : Exact (AnswerFits s) (λ a. codes "=" ∷ answer_words a) (after (codes "=") (answer_form names))
+  given_answer : Exact (AnswerFits s) (λ a. codes "=" ∷ answer_words a) (behind_literal (codes "=") (answer_form names))
   given_answer = behind (codes "=") refl (lit (codes "=") refl) (answer_exact s small)
 
   any_answer : Exact (λ p. QueueFits s p.0 × AnswerFits s p.1) (λ p. queue_words p.0 ++ codes "=" ∷ answer_words p.1) (answered_form (queue_form names) (answer_form names))
   any_answer = record {
     back = λ p ws h.
         ap (answered_form (queue_form names) (answer_form names)) (append_assoc (queue_words p.0) (codes "=" ∷ answer_words p.1) ws)
-        ∙ (ap (λ z. z >>= λ a. after (codes "=") (answer_form names) a.1 >>= λ b. Ok ((a.0, b.0), b.1)) (queue-back s small p.0 (answer_words p.1 ++ ws) h.0)
+        ∙ (ap (λ z. z >>= λ a. behind_literal (codes "=") (answer_form names) a.1 >>= λ b. Ok ((a.0, b.0), b.1)) (queue-back s small p.0 (answer_words p.1 ++ ws) h.0)
         ∙ ap (λ z. z >>= λ b. Ok ((p.0, b.0), b.1)) (given_answer.back p.1 ws h.1));
-    told = two_told (QueueFits s) (AnswerFits s) queue_words (λ a. codes "=" ∷ answer_words a) (queue_form names) (after (codes "=") (answer_form names)) (choice-told (QueueFits s) queue_words (queue_forms names) (queue-tells s small)) given_answer.told;
+    told = two_told (QueueFits s) (AnswerFits s) queue_words (λ a. codes "=" ∷ answer_words a) (queue_form names) (behind_literal (codes "=") (answer_form names)) (choice-told (QueueFits s) queue_words (queue_forms names) (queue-tells s small)) given_answer.told;
     ink = λ p h. words-append (queue_words p.0) (codes "=" ∷ answer_words p.1) (queue-ink s small p.0 h.0) (given_answer.ink p.1 h.1);
   }
 
@@ -75,16 +75,16 @@ module _ (s : Script) (small : IsSmall s) where
   abbrev own_parts : (a : ℕ) → Exact (λ p. (IsLong p.0.0 × (MakerFits s p.0.1.actor p.0.1.act × (p.0.1.actor ≡ a))) × Unit {0}) (λ p. decimal p.0.0 ∷ maker_word s small p.0.1 ∷ own_words p.1) (both (both (next count64) (next (maker_is names a))) (next own_kind))
   own_parts a = two (two (one longs) (one (own_makers s small a))) own_exact
 
-  abbrev timer_notes : (ℕ × Maker) × (Op × Reply) → Shown
+  abbrev timer_notes : (ℕ × Maker) × (Op × Reply) → NumberedEntry
   timer_notes x = record { number = x.0.0; entry = of.Timer (record { actor = x.0.1.actor; act = x.0.1.act; op = x.1.0; reply = x.1.1 }) }
 
-  abbrev wheel_notes : (ℕ × Maker) × (QOp × QReply) → Shown
+  abbrev wheel_notes : (ℕ × Maker) × (QOp × QReply) → NumberedEntry
   wheel_notes x = record { number = x.0.0; entry = of.Cpu (record { actor = x.0.1.actor; act = x.0.1.act; op = x.1.0; reply = x.1.1 }) }
 
-  abbrev own_notes : (ℕ × Maker) × OwnKind → Shown
+  abbrev own_notes : (ℕ × Maker) × OwnKind → NumberedEntry
   own_notes x = record { number = x.0.0; entry = of.Own (record { actor = x.0.1.actor; act = x.0.1.act; kind = x.1 }) }
 
-  abbrev note : ℕ → AnyEntry → Shown
+  abbrev note : ℕ → AnyEntry → NumberedEntry
   note k e = record { number = k; entry = e }
 
   note-back : (p : Place) (k : ℕ) (e : AnyEntry) (ws : List Word) → ShownFits s p (note k e) → note_form names p (note_words s k e ++ ws) ≡ Ok (note k e, ws)
@@ -98,7 +98,7 @@ module _ (s : Script) (small : IsSmall s) where
   note-back (place.Actor a) k (of.Cpu e) ws h = absurd h.1
   note-back (place.Actor a) k (of.Own e) ws h = made-back own_notes (own_parts a) ((k, record { actor = e.actor; act = e.act }), e.kind) ws ((h.0, h.1), tt)
 
-  note-told : (p : Place) (ws : List Word) (x : Shown) (rest : List Word) → note_form names p ws ≡ Ok (x, rest) → ShownFits s p x × (ws ≡ shown_words s x ++ rest)
+  note-told : (p : Place) (ws : List Word) (x : NumberedEntry) (rest : List Word) → note_form names p ws ≡ Ok (x, rest) → ShownFits s p x × (ws ≡ shown_words s x ++ rest)
   note-told (place.Timer i) ws x rest h = made-told timer_notes timer_parts (λ y rest. ShownFits s (place.Timer i) y × (ws ≡ shown_words s y ++ rest)) ws rest (λ a f e. ((f.0.0, (f.0.1, f.1)), e)) x h
   note-told (place.Cpu c) ws x rest h = made-told wheel_notes wheel_parts (λ y rest. ShownFits s (place.Cpu c) y × (ws ≡ shown_words s y ++ rest)) ws rest (λ a f e. ((f.0.0, (f.0.1, f.1)), e)) x h
   note-told (place.Actor a) ws x rest h = made-told own_notes (own_parts a) (λ y rest. ShownFits s (place.Actor a) y × (ws ≡ shown_words s y ++ rest)) ws rest (λ b f e. ((f.0.0, f.0.1), e)) x h

@@ -11,14 +11,14 @@ use Rattle.co_text.specs.Values.{Word}
 use Rattle.co_report.proofs.PartSplits.{AreParts}
 use Rattle.co_report.specs.declared.reading.names.Names.{Names}
 use Rattle.co_report.specs.NoteTexts.{op_words}
-use Rattle.co_report.specs.NoteValues.{names_of, IsSmall}
+use Rattle.co_report.specs.NoteValues.{names_of, IsSmallScript}
 use Rattle.co_report.specs.NoteForms.{run_forms, op_forms, op_form}
 use Rattle.co_report.specs.NoteFits.{OpFits}
 use Rattle.co_report.proofs.Exact.{Exact, lit, one, two, made-back, tells-made, tells-nothing, EachTells, choice-told}
 use Rattle.co_report.proofs.ExactValues.{times, truths}
 use Rattle.co_report.proofs.ExactNames.{funcs, due_exact, target_exact, arming_exact, func_exact}
 
-module _ (s : Script) (small : IsSmall s) where
+module _ (s : Script) (small : IsSmallScript s) where
   abbrev names : Names
   names = names_of s
 

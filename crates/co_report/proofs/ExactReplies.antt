@@ -14,14 +14,14 @@ use Rattle.co_text.specs.Taking.{Read, next, after_next}
 use Rattle.co_report.proofs.PartSplits.{AreParts}
 use Rattle.co_report.specs.declared.reading.names.Names.{Names}
 use Rattle.co_report.specs.NoteTexts.{arming_word, cpu_word, truth_word, func_or_dash, off_words, next_words, reply_words}
-use Rattle.co_report.specs.NoteValues.{names_of, IsSmall, code}
+use Rattle.co_report.specs.NoteValues.{names_of, IsSmallScript, code}
 use Rattle.co_report.specs.NoteForms.{made, off_form, later_form, next_form, drain_named, next_named, woke_form, valued_replies, reply_forms, reply_form}
 use Rattle.co_report.specs.NoteFits.{IsTime, IsLong, IsCpu, ReplyFits}
 use Rattle.co_report.proofs.Exact.{Exact, lit, same_word, same_pair, one, two, behind, made-back, made-told, tells-made, tells-nothing, EachTells, choice-told}
 use Rattle.co_report.proofs.ExactValues.{times, armings, truths, codes-exact}
 use Rattle.co_report.proofs.ExactNames.{some_cpus, some_funcs, arming_exact, func_exact}
 
-module _ (s : Script) (small : IsSmall s) where
+module _ (s : Script) (small : IsSmallScript s) where
   abbrev names : Names
   names = names_of s
 

@@ -9,7 +9,7 @@ use Rattle.co_grammar.specs.Spelling.{numbered}
 use Rattle.co_text.specs.Lines.{line_text, text}
 use Rattle.co_text.specs.Values.{Word}
 use Rattle.co_text.proofs.Spacing.{text_one, text_append}
-use Rattle.co_report.specs.Histories.{Histories}
+use Rattle.co_report.specs.Histories.{PlaceHistories}
 use Rattle.co_report.specs.Reports.{places, place_lines, report, report_lines, head_text, framed}
 
 parts : (a : List Word) (b : List (List Word)) (h : List Word) (ls : List (List Word)) (e : List Word)
@@ -21,7 +21,7 @@ parts a b h ls e =
     pieces : (v w x y z : List ℕ) → v ++ w ++ x ++ y ++ z ≡ v ++ (w ++ (x ++ (y ++ z)))
     pieces v w x y z = simp append_assoc
 
-pub report-framed : (s : Script) (h : Histories) → report s h ≡ framed s (text (flat_map (place_lines s h) (places s)))
+pub report-framed : (s : Script) (h : PlaceHistories) → report s h ≡ framed s (text (flat_map (place_lines s h) (places s)))
 unfolding report report_lines canonical
 report-framed s h = parts (numbered (codes "callout-report") 1) (canonical_lines s) (codes "histories" ∷ []) (flat_map (place_lines s h) (places s)) (codes "end" ∷ [])
 

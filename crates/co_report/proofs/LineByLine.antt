@@ -12,11 +12,11 @@ use Rattle.co_text.specs.declared.cause.Cause.{Cause}
 use Rattle.co_text.specs.declared.cause.Cause.TheVariants as cause
 use Rattle.co_script.proofs.told.Steps.{bind-ok, cond-ok}
 use Rattle.co_report.specs.declared.line.Line.{Line as NoteLine}
-use Rattle.co_report.specs.Histories.{Shown}
-use Rattle.co_report.specs.NoteValues.{names_of, IsSmall}
-use Rattle.co_report.specs.NoteForms.{note_of}
+use Rattle.co_report.specs.declared.reading.notes.NumberedEntry.{NumberedEntry}
+use Rattle.co_report.specs.NoteValues.{names_of, IsSmallScript}
+use Rattle.co_report.specs.NoteForms.{shown_note}
 use Rattle.co_report.specs.NoteFits.{LineFits}
-use Rattle.co_report.specs.Reading.{Progress, joined, closing_words, closed_by, noted, note_read, line_read, line_after, histories_read, opening, goes_on, end_read, notes_read}
+use Rattle.co_report.specs.Reading.{Progress, joined, closing_words, closed_by, with_note, note_read, line_read, line_after, histories_read, first_progress, reads_on, end_read, notes_read}
 use Rattle.co_report.proofs.ReadLines.{closed-lines}
 use Rattle.co_report.proofs.ReadFit.{Stands, line-stands}
 use Rattle.co_report.proofs.LinesWhole.{whole_more, whole_start}
@@ -24,8 +24,8 @@ use Rattle.co_report.proofs.WholeBack.{each-place}
 use Rattle.co_report.specs.Reports.{places}
 use Rattle.co_report.specs.declared.reading.line_by_line.Reader.{Reader}
 use Rattle.co_report.specs.declared.reading.progress.Progress.{Progress as Kept}
-use Rattle.co_report.specs.ReadingViews.{so_far, with_line, IsReady, IsSetting}
-use Rattle.co_report.specs.LineByLine.{ended_at, ahead_from, behind, report_of_all, bytes_of_first, line_at, standing, IsReading, GoesOn, IsFound}
+use Rattle.co_report.specs.ReadingViews.{so_far, with_line, IsReaderReady, IsSetting}
+use Rattle.co_report.specs.LineByLine.{ended_at, ahead_from, behind, report_of_all, bytes_of_first, line_at, standing, IsReading, ReadsOn, IsFound}
 use Rattle.std.specs.Borrow.{Bor}
 
 -- these lines in front of those so far
@@ -40,8 +40,8 @@ closed-front : (front : List NoteLine) (k : ℕ) (d : Progress) (left : List Pla
 closed-front front k d [] = refl
 closed-front front k d (p ∷ ps) = refl
 
-note-front : (front : List NoteLine) (k : ℕ) (d : Progress) (p : Option Place) (r : Result Shown Cause)
-    → (r >>= λ x. Ok (noted k (fronted front d) p x)) ≡ all_fronted front (r >>= λ x. Ok (noted k d p x))
+note-front : (front : List NoteLine) (k : ℕ) (d : Progress) (p : Option Place) (r : Result NumberedEntry Cause)
+    → (r >>= λ x. Ok (with_note k (fronted front d) p x)) ≡ all_fronted front (r >>= λ x. Ok (with_note k d p x))
 note-front front k d None (Ok x) = refl
 note-front front k d (Some p) (Ok x) =
     let l : NoteLine = record { line = k; place = p; number = x.number; entry = x.entry } in
@@ -54,10 +54,10 @@ module _ (s : Script) where
   read-front front k d line = go (bytes_eq line (joined (closing_words s d.left))) where
     go : (b : Bool) → (if b then Ok (closed_by k (fronted front d) d.left) else note_read s k (fronted front d) line) ≡ all_fronted front (if b then Ok (closed_by k d d.left) else note_read s k d line)
     go true = ap (λ e. Ok e) (closed-front front k d d.left)
-    go false = note-front front k d d.current (note_of (names_of s) d.current line)
+    go false = note-front front k d d.current (shown_note (names_of s) d.current line)
 
   line-front : (front : List NoteLine) (k : ℕ) (d : Progress) (line : List ℕ) → line_after s k (fronted front d) line ≡ all_fronted front (line_after s k d line)
-  line-front front k d line = go (goes_on d.end) where
+  line-front front k d line = go (reads_on d.end) where
     go : (b : Bool) → (unless b cause.Note >>= λ _. line_read s k (fronted front d) line) ≡ all_fronted front (unless b cause.Note >>= λ _. line_read s k d line)
     go true = read-front front k d line
     go false = refl
@@ -96,8 +96,8 @@ module _ (s : Script) where
   ahead-note k d e x l ls h = ahead-step k d l ls ∙ (ap (λ r. at_line k r >>= λ e. ahead_from s (k + 1) e ls) h ∙ ahead-front (x ∷ []) (k + 1) e ls)
 
   -- the whole
-  pub notes-ahead : (k : ℕ) (ls : List Line) → notes_read s k ls ≡ report_of_all s (ahead_from s k (opening s) ls)
-  notes-ahead k ls = go (histories_read s k (opening s) ls) where
+  pub notes-ahead : (k : ℕ) (ls : List Line) → notes_read s k ls ≡ report_of_all s (ahead_from s k (first_progress s) ls)
+  notes-ahead k ls = go (histories_read s k (first_progress s) ls) where
     last : (d : Progress) (r : Result ℕ Refusal) → (r >>= λ end. Ok (record { script = s; lines = d.lines; end = end })) ≡ report_of_all s (r >>= λ end. Ok (record { lines = d.lines; end = end }))
     last d (Ok end) = refl
     last d (Err e) = refl
@@ -111,23 +111,23 @@ module _ (s : Script) where
 module _ (s : Script) where
   pub record Shows (k : ℕ) (bytes : List ℕ) (x : NoteLine) : Type 0 where
     pub line : x.line ≡ k
-    pub note : note_of (names_of s) (Some x.place) bytes ≡ Ok (record { number = x.number; entry = x.entry })
+    pub note : shown_note (names_of s) (Some x.place) bytes ≡ Ok (record { number = x.number; entry = x.entry })
 
   note-shown : (k : ℕ) (c : Option Place) (left : List Place) (last : Option ℕ) (line : List ℕ) (e : Progress) (x : NoteLine)
       → note_read s k (record { current = c; left = left; lines = []; end = last }) line ≡ Ok e → e.lines ≡ x ∷ [] → Shows k line x
   note-shown k None left last line e x r one = cc
   note-shown k (Some p) left last line e x r one =
       let d : Progress = record { current = Some p; left = left; lines = []; end = last } in
-      let y = bind-ok (note_of (names_of s) (Some p) line) (λ y. Ok (noted k d (Some p) y)) e r in
+      let y = bind-ok (shown_note (names_of s) (Some p) line) (λ y. Ok (with_note k d (Some p) y)) e r in
       let l : NoteLine = record { line = k; place = p; number = y.0.number; entry = y.0.entry } in
-      let same : noted k d (Some p) y.0 ≡ e = cc in
+      let same : with_note k d (Some p) y.0 ≡ e = cc in
       let lines : l ∷ [] ≡ x ∷ [] = ap (λ (f : Progress). f.lines) same ∙ one in
       let this : l ≡ x = cc in
       subst (λ (z : NoteLine). Shows k line z) this (record { line = refl; note = y.1 })
 
   pub line-shown : (k : ℕ) (d e : Progress) (line : List ℕ) (x : NoteLine) → d.lines ≡ [] → line_after s k d line ≡ Ok e → e.lines ≡ x ∷ [] → Shows k line x
   line-shown k d e line x none r one =
-      let b = bind-ok (unless (goes_on d.end) cause.Note) (λ _. line_read s k d line) e r in
+      let b = bind-ok (unless (reads_on d.end) cause.Note) (λ _. line_read s k d line) e r in
       cond-ok (Shows k line x) (bytes_eq line (joined (closing_words s d.left))) (Ok (closed_by k d d.left)) (note_read s k d line) e
       (λ _ m. let same : closed_by k d d.left ≡ e = cc in
       let lines : x ∷ [] ≡ [] = sym one ∙ (sym (ap (λ (f : Progress). f.lines) same) ∙ (closed-lines s k d d.left ∙ none)) in
@@ -170,7 +170,7 @@ module _ (x : Reader) (p : Kept) (rest : Bor (List ℕ)) (l : Line) where
     pub next : lines_of x.rest.now ≡ l ∷ lines_of rest.now
     pub shorter : length rest.now < length x.rest.now
     pub value : line_after s x.number d l.bytes ≡ Ok (with_line e found)
-    pub ready : IsReady x.setting p
+    pub ready : IsReaderReady x.setting p
     pub none : p.lines ≡ []
 
   no-lines : (ls : List NoteLine) → ls ≡ [] → AllByRecursion (LineFits s) ls
@@ -181,7 +181,7 @@ module _ (x : Reader) (p : Kept) (rest : Bor (List ℕ)) (l : Line) where
   stands-then found h =
       line-stands s h.reading.small x.number d (with_line e found) l.bytes (record { current = h.reading.current; left = h.reading.left; lines = no-lines d.lines h.reading.none }) h.value
 
-  goes-on : (found : Option NoteLine) → IsPassed found → GoesOn x further
+  goes-on : (found : Option NoteLine) → IsPassed found → ReadsOn x further
   goes-on found h =
       let stands = stands-then found h in
       record {
@@ -208,7 +208,7 @@ module _ (x : Reader) (p : Kept) (rest : Bor (List ℕ)) (l : Line) where
   with-one : (n : NoteLine) → e.lines ≡ [] → with_line e (Some n) ≡ fronted (n ∷ []) e
   with-one n none = ap (λ ls. record { current = e.current; left = e.left; lines = n ∷ ls; end = e.end }) (sym none)
 
-  pub passed-quiet : IsPassed None → GoesOn x further × ((standing further).ahead ≡ (standing x).ahead)
+  pub passed-quiet : IsPassed None → ReadsOn x further × ((standing further).ahead ≡ (standing x).ahead)
   passed-quiet h = (
     goes-on None h,
     ahead-quiet s x.number d e l (lines_of rest.now) (h.value ∙ ap (λ f. Ok f) (without h.none)) ∙ ap (λ ls. ahead_from s x.number d ls) (sym h.next),
@@ -226,14 +226,14 @@ module _ (x : Reader) (p : Kept) (rest : Bor (List ℕ)) (l : Line) where
         place = record {
           fits = stands.lines.0;
           within = omega (arith, here, h.reading.within, h.shorter);
-          shown = ap (λ t. note_of (names_of s) (Some n.place) t) first ∙ shows.note;
+          shown = ap (λ t. shown_note (names_of s) (Some n.place) t) first ∙ shows.note;
         };
         few = omega (arith, shows.line, h.reading.few, h.shorter);
       }
 
 -- ---- before the first line
 
-pub reading-first : (x : Reader) → IsSmall x.setting.script.now → IsSetting x.setting → IsReady x.setting x.progress → so_far x.setting x.progress ≡ opening x.setting.script.now
+pub reading-first : (x : Reader) → IsSmallScript x.setting.script.now → IsSetting x.setting → IsReaderReady x.setting x.progress → so_far x.setting x.progress ≡ first_progress x.setting.script.now
     → x.rest.now ≡ x.text.now → x.number + length x.rest.now < 2 ^ 32 → IsReading x
 reading-first x small setting ready first all few =
     let s = x.setting.script.now in

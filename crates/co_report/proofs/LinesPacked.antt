@@ -6,7 +6,7 @@ use Rattle.std.proofs.lemmas.Bool.Decides.{nat_tests}
 use Rattle.co_object.specs.declared.note.Note.{Note}
 use Rattle.co_report.specs.declared.line.Line.{Line}
 use Rattle.co_report.specs.declared.packed_lines.Stretch.{Stretch}
-use Rattle.co_report.specs.PackedLines.{is_next_of, line_of, lines_from, no_stretch, note_of, number_in, stretch_at}
+use Rattle.co_report.specs.PackedLines.{is_next_of, line_of, lines_from, no_stretch, note_from_line, line_in, stretch_at}
 
 -- ---- stretches
 
@@ -27,7 +27,7 @@ stretch-before xs x at h =
 -- ---- lines
 
 abbrev line_at : List Stretch → ℕ → Note → Line
-line_at xs at n = line_of (number_in (stretch_at no_stretch xs at) at) n
+line_at xs at n = line_of (line_in (stretch_at no_stretch xs at) at) n
 
 lines-more : (xs : List Stretch) (at m : ℕ) (ns : List Note) (n : Note) → m ≡ at + length ns → lines_from xs at (ns ++ n ∷ []) ≡ lines_from xs at ns ++ line_at xs m n ∷ []
 lines-more xs at m [] n h = let e : at ≡ m = omega (arith, h) in ap (λ k. line_at xs k n ∷ []) e
@@ -37,7 +37,7 @@ lines-more xs at m (y ∷ ys) n h = ap (λ ls. line_at xs at y ∷ ls) (lines-mo
 lines-before : (xs : List Stretch) (x : Stretch) (at : ℕ) (ns : List Note) → at + length ns ≤ x.at → lines_from (xs ++ x ∷ []) at ns ≡ lines_from xs at ns
 lines-before xs x at [] h = refl
 lines-before xs x at (n ∷ ns) h =
-    ap (λ (s : Stretch). line_of (number_in s at) n ∷ lines_from (xs ++ x ∷ []) (at + 1) ns) (stretch-before xs x at (omega (arith, h)))
+    ap (λ (s : Stretch). line_of (line_in s at) n ∷ lines_from (xs ++ x ∷ []) (at + 1) ns) (stretch-before xs x at (omega (arith, h)))
     ∙ ap (λ ls. line_at xs at n ∷ ls) (lines-before xs x (at + 1) ns (omega (arith, h)))
 
 pub length-lines : (xs : List Stretch) (at : ℕ) (ns : List Note) → length (lines_from xs at ns) ≡ length ns
@@ -45,17 +45,17 @@ length-lines xs at [] = refl
 length-lines xs at (n ∷ ns) = ap suc (length-lines xs (at + 1) ns)
 
 -- the notes of the lines are those that they were made of
-pub notes-back : (xs : List Stretch) (at : ℕ) (ns : List Note) → map note_of (lines_from xs at ns) ≡ ns
+pub notes-back : (xs : List Stretch) (at : ℕ) (ns : List Note) → map note_from_line (lines_from xs at ns) ≡ ns
 notes-back xs at [] = refl
 notes-back xs at (n ∷ ns) = ap (λ rest. n ∷ rest) (notes-back xs (at + 1) ns)
 
 -- its number
-pub number-here : (xs : List Stretch) (at m k : ℕ) (ns : List Note) (line : Line) → m ≡ at + k → slice_get (lines_from xs at ns) k ≡ Some line → number_in (stretch_at no_stretch xs m) m ≡ line.line
+pub number-here : (xs : List Stretch) (at m k : ℕ) (ns : List Note) (line : Line) → m ≡ at + k → slice_get (lines_from xs at ns) k ≡ Some line → line_in (stretch_at no_stretch xs m) m ≡ line.line
 number-here xs at m k [] line h there = cc
 number-here xs at m zero (y ∷ ys) line h there =
     let e : at ≡ m = omega (arith, h) in
     let same : line_at xs at y ≡ line = cc in
-    ap (λ k. number_in (stretch_at no_stretch xs k) k) (sym e) ∙ ap (λ (l : Line). l.line) same
+    ap (λ k. line_in (stretch_at no_stretch xs k) k) (sym e) ∙ ap (λ (l : Line). l.line) same
 number-here xs at m (suc k) (y ∷ ys) line h there = number-here xs (at + 1) m k ys line (omega (arith, h)) there
 
 pub line-here : (xs : List Stretch) (at m k : ℕ) (ns : List Note) (n : Note) → m ≡ at + k → slice_get ns k ≡ Some n → slice_get (lines_from xs at ns) k ≡ Some (line_at xs m n)
@@ -74,11 +74,11 @@ then-ok (Err e) f p = tt
 pub pushed-on : (xs : List Stretch) (x : Stretch) (ns : List Note) (n : Note) (at line : ℕ) → at ≡ length ns → is_next_of x at line ≡ true
     → lines_from (xs ++ x ∷ []) 0 (ns ++ n ∷ []) ≡ lines_from (xs ++ x ∷ []) 0 ns ++ line_of line n ∷ []
 pushed-on xs x ns n at line h next =
-    let both = and_parts (nat_le x.at at) (number_in x at == line) next in
+    let both = and_parts (nat_le x.at at) (line_in x at == line) next in
     let here : stretch_at no_stretch (xs ++ x ∷ []) at ≡ x = stretch-last xs x at (leb-true x.at at both.0) in
-    let number : number_in x at ≡ line = eqb-true (number_in x at) line both.1 in
+    let number : line_in x at ≡ line = eqb-true (line_in x at) line both.1 in
     lines-more (xs ++ x ∷ []) 0 at ns n (omega (arith, h))
-    ∙ (ap (λ (s : Stretch). lines_from (xs ++ x ∷ []) 0 ns ++ line_of (number_in s at) n ∷ []) here
+    ∙ (ap (λ (s : Stretch). lines_from (xs ++ x ∷ []) 0 ns ++ line_of (line_in s at) n ∷ []) here
     ∙ ap (λ k. lines_from (xs ++ x ∷ []) 0 ns ++ line_of k n ∷ []) number)
 
 abbrev pub begun : (at line : ℕ) → Stretch
@@ -89,9 +89,9 @@ pub pushed-apart : (xs : List Stretch) (ns : List Note) (n : Note) (at line : �
     → lines_from (xs ++ begun at line ∷ []) 0 (ns ++ n ∷ []) ≡ lines_from xs 0 ns ++ line_of line n ∷ []
 pushed-apart xs ns n at line h few =
     let here : stretch_at no_stretch (xs ++ begun at line ∷ []) at ≡ begun at line = stretch-last xs (begun at line) at (omega arith) in
-    let number : number_in (begun at line) at ≡ line = omega (arith, few) in
+    let number : line_in (begun at line) at ≡ line = omega (arith, few) in
     lines-more (xs ++ begun at line ∷ []) 0 at ns n (omega (arith, h))
-    ∙ (ap (λ (s : Stretch). lines_from (xs ++ begun at line ∷ []) 0 ns ++ line_of (number_in s at) n ∷ []) here
+    ∙ (ap (λ (s : Stretch). lines_from (xs ++ begun at line ∷ []) 0 ns ++ line_of (line_in s at) n ∷ []) here
     ∙ (ap (λ k. lines_from (xs ++ begun at line ∷ []) 0 ns ++ line_of k n ∷ []) number
     ∙ ap (λ ls. ls ++ line_of line n ∷ []) (lines-before xs (begun at line) 0 ns (omega (arith, h)))))
 

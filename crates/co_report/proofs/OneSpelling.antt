@@ -10,12 +10,12 @@ use Rattle.co_text.specs.declared.cause.Cause.{Cause}
 use Rattle.co_grammar.specs.Spelling.{actor_word}
 use Rattle.co_script.specs.Fits.{fits}
 use Rattle.co_script.proofs.parts.Fitting.{fitting}
-use Rattle.co_report.specs.Histories.{Shown}
+use Rattle.co_report.specs.declared.reading.notes.NumberedEntry.{NumberedEntry}
 use Rattle.co_report.specs.Reports.{shown_words}
 use Rattle.co_object.specs.Lists.{act_of, actor_of}
 use Rattle.co_report.specs.NoteTexts.{entry_words}
-use Rattle.co_report.specs.NoteValues.{names_of, IsSmall}
-use Rattle.co_report.specs.NoteForms.{note_form, whole, or_note, note_of}
+use Rattle.co_report.specs.NoteValues.{names_of, IsSmallScript}
+use Rattle.co_report.specs.NoteForms.{note_form, whole, or_note, shown_note}
 use Rattle.co_report.specs.NoteFits.{ShownFits}
 use Rattle.co_report.specs.Parts.{parts}
 use Rattle.co_report.specs.Reading.{joined}
@@ -31,7 +31,7 @@ known v low high = go (cases_lt v 2) where
   go (inl lt) = inl (omega (arith, low, lt))
   go (inr ge) = inr (omega (arith, high, ge))
 
-pub small_script : (s : Script) → fits s ≡ true → IsSmall s
+pub small_script : (s : Script) → fits s ≡ true → IsSmallScript s
 small_script s h =
     let f = fitting s h in
     let range = and_parts (nat_le 1 s.version) (nat_le s.version 2) f.version in
@@ -49,12 +49,12 @@ or_note-ok : {X : Type 0} (r : Result X Cause) (x : X) → or_note r ≡ Ok x �
 or_note-ok (Ok y) x h = h
 or_note-ok (Err c) x h = cc
 
-pub note-read : (s : Script) (small : IsSmall s) (p : Place) (line : List ℕ) (x : Shown) → note_of (names_of s) (Some p) line ≡ Ok x → ShownFits s p x × (line ≡ joined (shown_words s x))
+pub note-read : (s : Script) (small : IsSmallScript s) (p : Place) (line : List ℕ) (x : NumberedEntry) → shown_note (names_of s) (Some p) line ≡ Ok x → ShownFits s p x × (line ≡ joined (shown_words s x))
 note-read s small p line x h =
     let t = whole-told (note_exact s small p) (parts line) x (or_note-ok (whole (note_form (names_of s) p) (parts line)) x h) in
     (t.0, sym (joined-parts line) ∙ ap joined t.1)
 
-pub note-shown : (s : Script) (small : IsSmall s) (p : Place) (x : Shown) → ShownFits s p x → note_of (names_of s) (Some p) (joined (shown_words s x)) ≡ Ok x
+pub note-shown : (s : Script) (small : IsSmallScript s) (p : Place) (x : NumberedEntry) → ShownFits s p x → shown_note (names_of s) (Some p) (joined (shown_words s x)) ≡ Ok x
 note-shown s small p x h =
     let rest : List Word = (actor_word s (actor_of x.entry) ++ 47 ∷ decimal (act_of x.entry)) ∷ entry_words x.entry in
     ap (λ ws. or_note (whole (note_form (names_of s) p) ws)) (parts-joined (decimal x.number) rest ((note_exact s small p).ink x h))

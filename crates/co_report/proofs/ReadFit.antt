@@ -16,11 +16,11 @@ use Rattle.co_script.proofs.told.Steps.{bind-ok, cond-ok}
 use Rattle.co_script.proofs.ReadFits.{read-fits}
 use Rattle.co_report.specs.declared.line.Line.{Line as NoteLine}
 use Rattle.co_report.specs.declared.line.Report.{Report}
-use Rattle.co_report.specs.NoteValues.{names_of, IsSmall}
-use Rattle.co_report.specs.NoteForms.{note_of}
+use Rattle.co_report.specs.NoteValues.{names_of, IsSmallScript}
+use Rattle.co_report.specs.NoteForms.{shown_note}
 use Rattle.co_report.specs.NoteFits.{LineFits}
 use Rattle.co_report.specs.Laws.{ReportFits, ReadReportsFit}
-use Rattle.co_report.specs.Reading.{joined, none_cut, first_line, Halves, halves, in_report, same_lines, Progress, closing_words, closed_by, noted, note_read, line_read, line_after, histories_read, opening, goes_on, end_read, notes_read, halves_read, lines_report, report_read}
+use Rattle.co_report.specs.Reading.{joined, none_cut, first_line, Halves, halves, in_report, same_lines, Progress, closing_words, closed_by, with_note, note_read, line_read, line_after, histories_read, first_progress, reads_on, end_read, notes_read, halves_read, lines_report, report_read}
 use Rattle.co_report.proofs.OneSpelling.{small_script, note-read}
 use Rattle.co_report.proofs.ScriptLines.{in_report-ok}
 use Rattle.co_report.proofs.WholeBack.{each-place}
@@ -29,7 +29,7 @@ at_line-ok : {X : Type 0} (k : ℕ) (r : Result X Cause) (x : X) → at_line k r
 at_line-ok k (Ok y) x h = let same : y ≡ x = cc in ap (λ z. Ok z) same
 at_line-ok k (Err c) x h = cc
 
-module _ (s : Script) (small : IsSmall s) where
+module _ (s : Script) (small : IsSmallScript s) where
   -- the places exist, and the lines so far fit
   pub record Stands (d : Progress) : Type 0 where
     pub current : IfSome d.current (λ p. place_exists s p ≡ true)
@@ -49,9 +49,9 @@ module _ (s : Script) (small : IsSmall s) where
   note-stands k None left done last line e h r = cc
   note-stands k (Some p) left done last line e h r =
       let d : Progress = record { current = Some p; left = left; lines = done; end = last } in
-      let x = bind-ok (note_of (names_of s) (Some p) line) (λ y. Ok (noted k d (Some p) y)) e r in
+      let x = bind-ok (shown_note (names_of s) (Some p) line) (λ y. Ok (with_note k d (Some p) y)) e r in
       let t = note-read s small p line x.0 x.1 in
-      let same : noted k d (Some p) x.0 ≡ e = cc in
+      let same : with_note k d (Some p) x.0 ≡ e = cc in
       subst (λ (f : Progress). Stands f) same (record {
         current = h.current;
         left = h.left;
@@ -60,7 +60,7 @@ module _ (s : Script) (small : IsSmall s) where
 
   pub line-stands : (k : ℕ) (d e : Progress) (line : List ℕ) → Stands d → line_after s k d line ≡ Ok e → Stands e
   line-stands k d e line h r =
-      let b = bind-ok (unless (goes_on d.end) cause.Note) (λ _. line_read s k d line) e r in
+      let b = bind-ok (unless (reads_on d.end) cause.Note) (λ _. line_read s k d line) e r in
       cond-ok (Stands e) (bytes_eq line (joined (closing_words s d.left))) (Ok (closed_by k d d.left)) (note_read s k d line) e
       (λ _ m. let same : closed_by k d d.left ≡ e = cc in subst (λ (f : Progress). Stands f) same (closed-stands k d d.left h.left h))
       (λ m. note-stands k d.current d.left d.lines d.end line e h m)
@@ -72,15 +72,15 @@ module _ (s : Script) (small : IsSmall s) where
       let x = bind-ok (at_line k (line_after s k d l.bytes)) (λ y. histories_read s (k + 1) y ls) e r in
       all-stand (k + 1) x.0 e ls (line-stands k d x.0 l.bytes h (at_line-ok k (line_after s k d l.bytes) x.0 x.1)) x.2
 
-  opening-stands : Stands (opening s)
+  opening-stands : Stands (first_progress s)
   opening-stands = record { current = tt; left = each-place s (λ p. place_exists s p ≡ true) (λ p h. h); lines = tt }
 
   notes-fit : fits s ≡ true → (k : ℕ) (ls : List Line) (r : Report) → notes_read s k ls ≡ Ok r → ReportFits r
   notes-fit f k ls r h =
-      let d = bind-ok (histories_read s k (opening s) ls) (λ d. end_read (k + length ls) d >>= λ e. Ok (record { script = s; lines = d.lines; end = e })) r h in
+      let d = bind-ok (histories_read s k (first_progress s) ls) (λ d. end_read (k + length ls) d >>= λ e. Ok (record { script = s; lines = d.lines; end = e })) r h in
       let e = bind-ok (end_read (k + length ls) d.0) (λ e. Ok (record { script = s; lines = d.0.lines; end = e })) r d.2 in
       let same : ◌≡◌ {A = Report} (record { script = s; lines = d.0.lines; end = e.0 }) r = cc in
-      subst (λ (q : Report). ReportFits q) same (record { script = f; lines = (all-stand k (opening s) d.0 ls opening-stands d.1).lines })
+      subst (λ (q : Report). ReportFits q) same (record { script = f; lines = (all-stand k (first_progress s) d.0 ls opening-stands d.1).lines })
 
 halves-fit : (h : Halves) (r : Report) → halves_read h ≡ Ok r → ReportFits r
 halves-fit h r e =

@@ -15,8 +15,8 @@ use Rattle.co_script.proofs.told.Steps.{bind-ok, cond-ok}
 use Rattle.co_report.specs.declared.line.Line.{Line as NoteLine}
 use Rattle.co_report.specs.declared.line.Report.{Report}
 use Rattle.co_report.specs.NoteValues.{names_of}
-use Rattle.co_report.specs.NoteForms.{note_of}
-use Rattle.co_report.specs.Reading.{joined, none_cut, first_line, is_line, line_before, Halves, halves, in_report, same_lines, Progress, closing_words, closed_by, noted, note_read, line_read, line_after, histories_read, opening, goes_on, end_read, notes_read, halves_read, lines_report, report_read}
+use Rattle.co_report.specs.NoteForms.{shown_note}
+use Rattle.co_report.specs.Reading.{joined, none_cut, first_line, is_line, line_before, Halves, halves, in_report, same_lines, Progress, closing_words, closed_by, with_note, note_read, line_read, line_after, histories_read, first_progress, reads_on, end_read, notes_read, halves_read, lines_report, report_read}
 use Rattle.co_report.proofs.ScriptLines.{lines-few}
 
 at_line-ok : {X : Type 0} (k : ℕ) (r : Result X Cause) (x : X) → at_line k r ≡ Ok x → r ≡ Ok x
@@ -33,16 +33,16 @@ module _ (s : Script) where
   note-few k None left done last line e r = cc
   note-few k (Some p) left done last line e r =
       let d : Progress = record { current = Some p; left = left; lines = done; end = last } in
-      let x = bind-ok (note_of (names_of s) (Some p) line) (λ y. Ok (noted k d (Some p) y)) e r in
+      let x = bind-ok (shown_note (names_of s) (Some p) line) (λ y. Ok (with_note k d (Some p) y)) e r in
       let l : NoteLine = record { line = k; place = p; number = x.0.number; entry = x.0.entry } in
-      let same : noted k d (Some p) x.0 ≡ e = cc in
+      let same : with_note k d (Some p) x.0 ≡ e = cc in
       let grown : length (done ++ l ∷ []) ≡ length done + 1 = length-append done (l ∷ []) in
       let few : length (done ++ l ∷ []) ≤ length done + 1 = omega (arith, grown) in
       subst (λ (f : Progress). length f.lines ≤ length done + 1) same few
 
   pub line-few : (k : ℕ) (d e : Progress) (line : List ℕ) → line_after s k d line ≡ Ok e → length e.lines ≤ length d.lines + 1
   line-few k d e line r =
-      let b = bind-ok (unless (goes_on d.end) cause.Note) (λ _. line_read s k d line) e r in
+      let b = bind-ok (unless (reads_on d.end) cause.Note) (λ _. line_read s k d line) e r in
       cond-ok (length e.lines ≤ length d.lines + 1) (bytes_eq line (joined (closing_words s d.left))) (Ok (closed_by k d d.left)) (note_read s k d line) e
       (λ _ m. let same : closed_by k d d.left ≡ e = cc in
       let lines : (closed_by k d d.left).lines ≡ d.lines = closed-lines k d d.left in
@@ -64,10 +64,10 @@ module _ (s : Script) where
 
   notes-few : (k : ℕ) (ls : List Line) (r : Report) → notes_read s k ls ≡ Ok r → length r.lines ≤ length ls
   notes-few k ls r h =
-      let d = bind-ok (histories_read s k (opening s) ls) (λ d. end_read (k + length ls) d >>= λ e. Ok (record { script = s; lines = d.lines; end = e })) r h in
+      let d = bind-ok (histories_read s k (first_progress s) ls) (λ d. end_read (k + length ls) d >>= λ e. Ok (record { script = s; lines = d.lines; end = e })) r h in
       let e = bind-ok (end_read (k + length ls) d.0) (λ e. Ok (record { script = s; lines = d.0.lines; end = e })) r d.2 in
       let same : ◌≡◌ {A = Report} (record { script = s; lines = d.0.lines; end = e.0 }) r = cc in
-      let sum : length d.0.lines ≤ 0 + length ls = all-few k (opening s) d.0 ls d.1 in
+      let sum : length d.0.lines ≤ 0 + length ls = all-few k (first_progress s) d.0 ls d.1 in
       let few : length d.0.lines ≤ length ls = omega (arith, sum) in
       subst (λ (q : Report). length q.lines ≤ length ls) same few
 

@@ -10,8 +10,8 @@ use Rattle.co_text.specs.declared.cause.ScriptFault.TheVariants as fault
 use Rattle.co_report.specs.declared.line.Line.{Line}
 use Rattle.co_report.specs.declared.reading.line_by_line.Reader.{Reader}
 use Rattle.co_report.specs.declared.reading.progress.Progress.{Progress as Kept}
-use Rattle.co_report.specs.LineByLine.{Ahead, behind, report_of_all, standing, GoesOn}
-use Rattle.co_report.specs.ReadingViews.{listed}
+use Rattle.co_report.specs.LineByLine.{Ahead, behind, report_of_all, standing, ReadsOn}
+use Rattle.co_report.specs.ReadingViews.{one_or_none}
 use Rattle.co_report.proofs.LineByLine.{further, passed-note, passed-quiet, IsPassed}
 
 pub behind-none : (a : Result Ahead Refusal) → behind [] a ≡ a
@@ -39,15 +39,15 @@ report-refused fault.NoMemory s a h = tt
 report-refused (fault.Bad k c) s a h = ap (report_of_all s) h
 
 -- one line or none
-pub one-or-none : (ls : List Line) → length ls ≤ 1 → (found : Option Line) × (listed found ≡ ls)
+pub one-or-none : (ls : List Line) → length ls ≤ 1 → (found : Option Line) × (one_or_none found ≡ ls)
 one-or-none [] few = (None, refl)
 one-or-none (l ∷ []) few = (Some l, refl)
 one-or-none (l ∷ m ∷ ls) few = absurd (omega (arith, few))
 
 -- a line is read, and the note that it shows, if it shows one, stands behind those before
 module _ (x : Reader) (p : Kept) (rest : Bor (List ℕ)) (l : TextLine) (lines more : List Line) where
-  pub line-packed : (found : Option Line) → IsPassed x p rest l found → more ≡ lines ++ listed found
-      → GoesOn x (further x p rest l) × (behind more (standing (further x p rest l)).ahead ≡ behind lines (standing x).ahead)
+  pub line-packed : (found : Option Line) → IsPassed x p rest l found → more ≡ lines ++ one_or_none found
+      → ReadsOn x (further x p rest l) × (behind more (standing (further x p rest l)).ahead ≡ behind lines (standing x).ahead)
   line-packed None h is =
       let quiet = passed-quiet x p rest l h in
       (quiet.0, ap (λ ls. behind ls (standing (further x p rest l)).ahead) (is ∙ nothing-more lines) ∙ ap (behind lines) quiet.1)

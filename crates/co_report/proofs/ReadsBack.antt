@@ -16,14 +16,15 @@ use Rattle.co_text.specs.Values.{Word}
 use Rattle.co_report.proofs.PartSplits.{line_of}
 use Rattle.co_grammar.specs.Spelling.{actor_word}
 use Rattle.co_report.specs.declared.line.Line.{Line as NoteLine}
-use Rattle.co_report.specs.Histories.{Shown, Histories}
+use Rattle.co_report.specs.Histories.{PlaceHistories}
+use Rattle.co_report.specs.declared.reading.notes.NumberedEntry.{NumberedEntry}
 use Rattle.co_object.specs.Lists.{act_of, actor_of}
 use Rattle.co_report.specs.NoteTexts.{entry_words}
 use Rattle.co_report.specs.Reports.{heading, shown_words, place_lines}
 use Rattle.co_report.specs.NoteFits.{ShownFits}
-use Rattle.co_report.specs.Laws.{note_lines, section_notes, line_behind}
-use Rattle.co_report.specs.Reading.{joined, Progress, closing_words, closed_by, noted, note_read, line_after, histories_read}
-use Rattle.co_report.specs.NoteValues.{IsSmall}
+use Rattle.co_report.specs.Laws.{note_lines, lines_of_places, line_behind}
+use Rattle.co_report.specs.Reading.{joined, Progress, closing_words, closed_by, with_note, note_read, line_after, histories_read}
+use Rattle.co_report.specs.NoteValues.{IsSmallScript}
 use Rattle.co_report.proofs.OneSpelling.{note-shown}
 
 -- ---- a note is no heading
@@ -48,17 +49,17 @@ same-bytes bs = (bytes_eq-Decides bs bs).1 refl
 abbrev reached : Option Place → List Place → List NoteLine → Progress
 reached p ps ls = record { current = p; left = ps; lines = ls; end = None }
 
-module _ (s : Script) (small : IsSmall s) where
+module _ (s : Script) (small : IsSmallScript s) where
   -- a note of the open place
-  note-step : (k : ℕ) (p : Place) (ps : List Place) (done : List NoteLine) (x : Shown) → ShownFits s p x
+  note-step : (k : ℕ) (p : Place) (ps : List Place) (done : List NoteLine) (x : NumberedEntry) → ShownFits s p x
       → line_after s k (reached (Some p) ps done) (joined (shown_words s x)) ≡ Ok (reached (Some p) ps (done ++ record { line = k; place = p; number = x.number; entry = x.entry } ∷ []))
   note-step k p ps done x h =
       let d : Progress = reached (Some p) ps done in
       let bytes : List ℕ = joined (shown_words s x) in
       ap (λ b. if b then Ok (closed_by k d ps) else note_read s k d bytes) (not-closing s x.number ((actor_word s (actor_of x.entry) ++ 47 ∷ decimal (act_of x.entry)) ∷ entry_words x.entry) ps h.0)
-      ∙ ap (λ r. r >>= λ y. Ok (noted k d (Some p) y)) (note-shown s small p x h)
+      ∙ ap (λ r. r >>= λ y. Ok (with_note k d (Some p) y)) (note-shown s small p x h)
 
-  notes-steps : (k : ℕ) (p : Place) (ps : List Place) (done : List NoteLine) (xs : List Shown) (more : List Line) → AllByRecursion (ShownFits s p) xs
+  notes-steps : (k : ℕ) (p : Place) (ps : List Place) (done : List NoteLine) (xs : List NumberedEntry) (more : List Line) → AllByRecursion (ShownFits s p) xs
       → histories_read s k (reached (Some p) ps done) (map line_of (map (shown_words s) xs) ++ more) ≡ histories_read s (k + length xs) (reached (Some p) ps (done ++ note_lines k p xs)) more
   notes-steps k p ps done [] more all =
       let e : k ≡ k + 0 = omega arith in
@@ -81,12 +82,12 @@ module _ (s : Script) (small : IsSmall s) where
   end-step : (k : ℕ) (c : Option Place) (done : List NoteLine) → line_after s k (reached c [] done) (codes "end") ≡ Ok (record { current = None; left = []; lines = done; end = Some k })
   end-step k c done = refl
 
-  abbrev pub sections : Histories → List Place → List (List Word)
+  abbrev pub sections : PlaceHistories → List Place → List (List Word)
   sections h ps = flat_map (place_lines s h) ps
 
-  pub sections-steps : (h : Histories) (k : ℕ) (c : Option Place) (ps : List Place) (done : List NoteLine) → AllByRecursion (λ p. AllByRecursion (ShownFits s p) (h p)) ps
+  pub sections-steps : (h : PlaceHistories) (k : ℕ) (c : Option Place) (ps : List Place) (done : List NoteLine) → AllByRecursion (λ p. AllByRecursion (ShownFits s p) (h p)) ps
       → histories_read s k (reached c ps done) (map line_of (sections h ps ++ (codes "end" ∷ []) ∷ []))
-      ≡ Ok (record { current = None; left = []; lines = done ++ section_notes h k ps; end = Some (line_behind h k ps) })
+      ≡ Ok (record { current = None; left = []; lines = done ++ lines_of_places h k ps; end = Some (line_behind h k ps) })
   sections-steps h k c [] done all = ap (λ ls. Ok (record { current = None; left = []; lines = ls; end = Some k })) (sym (append-nil done))
   sections-steps h k c (p ∷ ps) done all =
       let rest : List (List Word) = sections h ps ++ (codes "end" ∷ []) ∷ [] in
@@ -96,7 +97,7 @@ module _ (s : Script) (small : IsSmall s) where
       ∙ (ap (λ r. at_line k r >>= λ d. histories_read s (k + 1) d (lines ++ map line_of rest)) (heading-step k c p ps done)
       ∙ (notes-steps (k + 1) p ps done (h p) (map line_of rest) all.0
       ∙ (sections-steps h (k + 1 + length (h p)) (Some p) ps (done ++ note_lines (k + 1) p (h p)) all.1
-      ∙ ap (λ ls. Ok (record { current = None; left = []; lines = ls; end = Some (line_behind h k (p ∷ ps)) })) (append_assoc done (note_lines (k + 1) p (h p)) (section_notes h (k + 1 + length (h p)) ps)))))
+      ∙ ap (λ ls. Ok (record { current = None; left = []; lines = ls; end = Some (line_behind h k (p ∷ ps)) })) (append_assoc done (note_lines (k + 1) p (h p)) (lines_of_places h (k + 1 + length (h p)) ps)))))
     where
       map-both : (xs ys : List (List Word)) → map line_of (xs ++ ys) ≡ map line_of xs ++ map line_of ys
       map-both [] ys = refl

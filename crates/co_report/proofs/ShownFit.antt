@@ -9,7 +9,8 @@ use Rattle.co_object.specs.declared.Place.{Place}
 use Rattle.co_object.specs.declared.Place.TheVariants as place
 use Rattle.co_object.specs.Lists.{same_place}
 use Rattle.co_program.specs.declared.Script.{Script}
-use Rattle.co_report.specs.Histories.{Numbered, numbered_from, numbered_of, all_numbered_of, Shown, shown, shown_at, shown_history}
+use Rattle.co_report.specs.Histories.{Numbered, numbered_from, numbered_of, all_numbered_of, shown, shown_at, shown_history}
+use Rattle.co_report.specs.declared.reading.notes.NumberedEntry.{NumberedEntry}
 use Rattle.co_report.specs.NoteFits.{EntryFits, ShownFits}
 use Rattle.co_report.specs.Laws.{ListsFit}
 
@@ -50,7 +51,7 @@ module _ (s : Script) (p : Place) where
       let few : 0 + length ns ≤ 2 ^ 64 = omega (arith, short.0) in
       append-all (numbered_of p ns) (all_numbered_of p lists) (numbered-stand 0 ns few fit.0) (all-stand lists fit.1 short.1)
 
-  abbrev Shows : Option Shown → Type 0
+  abbrev Shows : Option NumberedEntry → Type 0
   Shows None = Unit {0}
   Shows (Some x) = ShownFits s p x
 
@@ -64,7 +65,7 @@ module _ (s : Script) (p : Place) where
   each-found : (xs : List Numbered) (ks : List ℕ) → AllByRecursion Stands xs → AllByRecursion (ShownFits s p) (filter_map (shown_at xs) ks)
   each-found xs [] all = tt
   each-found xs (k ∷ ks) all = go (shown_at xs k) (found xs k all) (each-found xs ks all) where
-    go : (o : Option Shown) → Shows o → AllByRecursion (ShownFits s p) (filter_map (shown_at xs) ks) → AllByRecursion (ShownFits s p) (cons_option o (filter_map (shown_at xs) ks))
+    go : (o : Option NumberedEntry) → Shows o → AllByRecursion (ShownFits s p) (filter_map (shown_at xs) ks) → AllByRecursion (ShownFits s p) (cons_option o (filter_map (shown_at xs) ks))
     go None h rest = rest
     go (Some x) h rest = (h, rest)
 

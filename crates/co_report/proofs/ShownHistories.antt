@@ -6,11 +6,12 @@ use Rattle.std.specs.Option.{option_map}
 use Rattle.co_object.specs.declared.AnyEntry.{AnyEntry}
 use Rattle.co_object.specs.declared.Note.{Note}
 use Rattle.co_object.specs.Lists.{entry_at}
-use Rattle.co_report.specs.Histories.{Numbered, Shown, shown, shown_at, all_numbered_of}
+use Rattle.co_report.specs.Histories.{Numbered, shown, shown_at, all_numbered_of}
+use Rattle.co_report.specs.declared.reading.notes.NumberedEntry.{NumberedEntry}
 use Rattle.co_report.specs.Laws.{EachHistoryIsShown}
 use Rattle.co_report.proofs.Numbering.{note_of, all-notes-of}
 
-abbrev entry_of : Shown → AnyEntry
+abbrev entry_of : NumberedEntry → AnyEntry
 entry_of x = x.entry
 
 -- the entry at a position, with its number or without
@@ -22,7 +23,7 @@ entry-at (x ∷ xs) pos = at_test (x.note.pos == pos) (entry-at xs pos) where
   at_test true rest = refl
   at_test false rest = rest
 
-map-cons : (o : Option Shown) (xs : List Shown) → map entry_of (cons_option o xs) ≡ cons_option (option_map entry_of o) (map entry_of xs)
+map-cons : (o : Option NumberedEntry) (xs : List NumberedEntry) → map entry_of (cons_option o xs) ≡ cons_option (option_map entry_of o) (map entry_of xs)
 map-cons None xs = refl
 map-cons (Some x) xs = refl
 

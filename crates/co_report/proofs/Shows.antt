@@ -10,9 +10,10 @@ use Rattle.co_object.proofs.Numbers.{same_number, same_itself}
 use Rattle.co_object.proofs.Passing.{passing, count-passing}
 use Rattle.co_program.specs.declared.Script.{Script}
 use Rattle.co_report.specs.declared.origin.Origin.{Origin}
-use Rattle.co_report.specs.Histories.{Numbered, Shown, shown, shown_at, shown_history, all_numbered_of}
+use Rattle.co_report.specs.Histories.{Numbered, shown, shown_at, shown_history, all_numbered_of}
+use Rattle.co_report.specs.declared.reading.notes.NumberedEntry.{NumberedEntry}
 use Rattle.co_report.specs.Origins.{note_at, note_from, entries_from, origin_line, lines_from}
-use Rattle.co_report.specs.Order.{place_index, AreCounts, starts_from, location, note_behind, AreWritten, origins_in, ShowsHistories}
+use Rattle.co_report.specs.Order.{place_index, ArePlaceCounts, starts_from, location, note_behind, AreWritten, origins_in, ShowsHistories}
 use Rattle.co_report.specs.Reports.{shown_words}
 use Rattle.co_program.specs.Places.{place_exists, AllHavePlaces}
 use Rattle.co_object.proofs.Members.{find-has}
@@ -25,23 +26,23 @@ use Rattle.co_report.proofs.Room.{pos-in-run}
 use Rattle.co_report.proofs.Written.{nowhere}
 
 -- what is shown of the note from an origin
-abbrev shown_note : ℕ → Note → Shown
+abbrev shown_note : ℕ → Note → NumberedEntry
 shown_note number note = record { number = number; entry = note.entry }
 
-abbrev shown_from : List (List Note) → Origin → Option Shown
+abbrev shown_from : List (List Note) → Origin → Option NumberedEntry
 shown_from lists origin = option_map (shown_note origin.number) (note_from lists origin)
 
-abbrev shown_in : List (List Note) → List Origin → List Shown
+abbrev shown_in : List (List Note) → List Origin → List NumberedEntry
 shown_in lists origins = filter_map (shown_from lists) origins
 
 -- the note from an origin is what o has
-record IsOf (lists : List (List Note)) (origin : Origin) (o : Option Shown) : Type 0 where
-  this : Shown
+record IsOf (lists : List (List Note)) (origin : Origin) (o : Option NumberedEntry) : Type 0 where
+  this : NumberedEntry
   is : o ≡ Some this
   from : shown_from lists origin ≡ Some this
 
 -- origins of what f gives, one by one
-shown-are : (lists : List (List Note)) (f : ℕ → Option Shown) (d : Origin) (xs : List Origin) (k : ℕ)
+shown-are : (lists : List (List Note)) (f : ℕ → Option NumberedEntry) (d : Origin) (xs : List Origin) (k : ℕ)
     → ((j : ℕ) → j < length xs → IsOf lists (get_or xs j d) (f (k + j)))
     → shown_in lists xs ≡ filter_map f (range_with_len k (length xs))
 shown-are lists f d [] k each = refl
@@ -84,7 +85,7 @@ length-map [] = refl
 length-map (x ∷ xs) = ap suc (length-map xs)
 
 module _ (s : Script) (lists : List (List Note)) (counts : List ℕ) (origins : List Origin)
-    (exist : AllHavePlaces s lists) (formed : IsWellFormed lists) (are : AreCounts s lists counts)
+    (exist : AllHavePlaces s lists) (formed : IsWellFormed lists) (are : ArePlaceCounts s lists counts)
     (w : AreWritten s lists (starts_from 0 counts) origins (length lists) 0) where
   abbrev start_of : ℕ → ℕ
   start_of i = get_or (starts_from 0 counts) i 0
@@ -179,7 +180,7 @@ module _ (s : Script) (lists : List (List Note)) (counts : List ℕ) (origins : 
 
 -- the same of starts that are those of the places' numbers of notes
 pub shows-with : (s : Script) (lists : List (List Note)) (counts starts : List ℕ) (origins : List Origin)
-    → AllHavePlaces s lists → IsWellFormed lists → AreCounts s lists counts → starts ≡ starts_from 0 counts
+    → AllHavePlaces s lists → IsWellFormed lists → ArePlaceCounts s lists counts → starts ≡ starts_from 0 counts
     → AreWritten s lists starts origins (length lists) 0 → length origins ≡ get_or starts (length counts) 0
     → ShowsHistories s lists (record { starts = starts; origins = origins })
 shows-with s lists counts starts origins exist formed are is w long =

@@ -10,7 +10,7 @@ use Rattle.co_object.specs.declared.Place.{Place}
 use Rattle.co_object.specs.declared.Place.TheVariants.{Timer, Cpu, Actor}
 use Rattle.co_object.specs.Lists.{same_place}
 use Rattle.co_object.proofs.ListsGrow.{same_place-eq}
-use Rattle.co_listener.specs.Made.{Made, list_by, lists_by, notes_made, IsInOrder}
+use Rattle.co_listener.specs.MadeNotes.{MadeNote, list_by, lists_by, notes_made, IsInOrder}
 use Rattle.co_program.specs.declared.Script.{Script}
 use Rattle.co_program.specs.Actors.{actor_count}
 use Rattle.co_program.specs.Places.{place_exists}
@@ -21,7 +21,7 @@ use Rattle.co_report.specs.Histories.{shown_history}
 use Rattle.co_report.specs.NoteTexts.{note_words}
 use Rattle.co_report.specs.Order.{place_index, place_count}
 use Rattle.co_report.specs.Reports.{places, heading, place_lines, report, report_of, framed}
-use Rattle.co_report.specs.Sections.{count_by, told_in, section, Written, HasRooms, HasTold}
+use Rattle.co_report.specs.Sections.{count_by, told_in, section, Written, HasRooms, NotesAreTold}
 use Rattle.co_report.specs.Typed.{EntryTyped, ListsTyped}
 use Rattle.co_report.proofs.Framed.{report-framed}
 use Rattle.co_report.proofs.Places.{below, same_itself}
@@ -55,7 +55,7 @@ less-test a b h = grind (arith, nat_tests)
 
 -- ---- counts
 
-pub counts-more : (made : List Made) (m : Made) (n number next : ℕ) (old : List ℕ) → m.actor < n → old ≡ map (count_by made) (range_with_len 0 n) → number ≡ get_or old m.actor number → next ≡ number + 1
+pub counts-more : (made : List MadeNote) (m : MadeNote) (n number next : ℕ) (old : List ℕ) → m.actor < n → old ≡ map (count_by made) (range_with_len 0 n) → number ≡ get_or old m.actor number → next ≡ number + 1
     → (number ≡ count_by made m.actor) × (set old m.actor next ≡ map (count_by (made ++ m ∷ [])) (range_with_len 0 n))
 counts-more made m n number next old actor was at more = (is, written) where
   is : number ≡ count_by made m.actor
@@ -200,7 +200,7 @@ module _ (s : Script) where
 
 -- ---- one note more
 
-all-more : (P : Made → Type 0) (made : List Made) (m : Made) → AllByRecursion P made → P m → AllByRecursion P (made ++ m ∷ [])
+all-more : (P : MadeNote → Type 0) (made : List MadeNote) (m : MadeNote) → AllByRecursion P made → P m → AllByRecursion P (made ++ m ∷ [])
 all-more P [] m all last = (last, tt)
 all-more P (x ∷ made) m all last = (all.0, all-more P made m all.1 last)
 
@@ -220,13 +220,13 @@ missing s p q none some = by_test (same_place p q) refl where
   by_test true same = (let both : place_exists s p ≡ place_exists s q = ap (place_exists s) (same_place-eq p q same) in cc)
   by_test false other = other
 
-module _ (s : Script) (made : List Made) (m : Made) (pages : List (List ℕ)) (counts : List ℕ) (number next : ℕ) where
+module _ (s : Script) (made : List MadeNote) (m : MadeNote) (pages : List (List ℕ)) (counts : List ℕ) (number next : ℕ) where
   abbrev before : Written
   before = record { script = s; pages = pages; counts = counts }
 
-  pub told-written : HasTold before made → EntryTyped m.note.entry → next < 2 ^ 64 → m.actor < actor_count s → number ≡ get_or counts m.actor number → next ≡ number + 1 → (index : ℕ) (old new : List ℕ)
+  pub told-written : NotesAreTold before made → EntryTyped m.note.entry → next < 2 ^ 64 → m.actor < actor_count s → number ≡ get_or counts m.actor number → next ≡ number + 1 → (index : ℕ) (old new : List ℕ)
       → place_exists s m.note.place ≡ true → index ≡ place_index s m.note.place → old ≡ get_or pages index old → new ≡ old ++ line_text (note_words s number m.note.entry)
-      → HasTold (record { script = s; pages = set pages index new; counts = set counts m.actor next }) (made ++ m ∷ [])
+      → NotesAreTold (record { script = s; pages = set pages index new; counts = set counts m.actor next }) (made ++ m ∷ [])
   told-written told typed few actor at more index old new exists place at_old written =
       let p : Place = m.note.place in
       let counted = counts-more made m (actor_count s) number next counts actor told.counts at more in
@@ -240,8 +240,8 @@ module _ (s : Script) (made : List Made) (m : Made) (pages : List (List ℕ)) (c
       ∙ (ap (λ t. t ++ line_text (note_words s number m.note.entry)) was
       ∙ (ap (λ k. section s made p ++ line_text (note_words s k m.note.entry)) counted.0
       ∙ sym (section-here s made m p (same_itself p)))) in record {
-        actors = all-more (λ (x : Made). x.actor < actor_count s) made m told.actors actor;
-        typed = all-more (λ (x : Made). EntryTyped x.note.entry) made m told.typed typed;
+        actors = all-more (λ (x : MadeNote). x.actor < actor_count s) made m told.actors actor;
+        typed = all-more (λ (x : MadeNote). EntryTyped x.note.entry) made m told.typed typed;
         few = all-set counts m.actor next told.few few;
         counts = counted.1;
         pages =
@@ -251,12 +251,12 @@ module _ (s : Script) (made : List Made) (m : Made) (pages : List (List ℕ)) (c
             ∙ set-place s (section s made) (section s (made ++ m ∷ [])) p exists (λ q other. section-elsewhere s made m q other)));
       }
 
-  pub told-nowhere : HasTold before made → EntryTyped m.note.entry → next < 2 ^ 64 → m.actor < actor_count s → number ≡ get_or counts m.actor number → next ≡ number + 1 → place_exists s m.note.place ≡ false
-      → HasTold (record { script = s; pages = pages; counts = set counts m.actor next }) (made ++ m ∷ [])
+  pub told-nowhere : NotesAreTold before made → EntryTyped m.note.entry → next < 2 ^ 64 → m.actor < actor_count s → number ≡ get_or counts m.actor number → next ≡ number + 1 → place_exists s m.note.place ≡ false
+      → NotesAreTold (record { script = s; pages = pages; counts = set counts m.actor next }) (made ++ m ∷ [])
   told-nowhere told typed few actor at more none =
       let counted = counts-more made m (actor_count s) number next counts actor told.counts at more in record {
-        actors = all-more (λ (x : Made). x.actor < actor_count s) made m told.actors actor;
-        typed = all-more (λ (x : Made). EntryTyped x.note.entry) made m told.typed typed;
+        actors = all-more (λ (x : MadeNote). x.actor < actor_count s) made m told.actors actor;
+        typed = all-more (λ (x : MadeNote). EntryTyped x.note.entry) made m told.typed typed;
         few = all-set counts m.actor next told.few few;
         counts = counted.1;
         pages =
@@ -275,7 +275,7 @@ no-counts i zero = refl
 no-counts i (suc n) = ap (λ ns. 0 ∷ ns) (no-counts (i + 1) n)
 
 pub nothing-told : (s : Script) (pages : List (List ℕ)) (counts : List ℕ) → pages ≡ map (λ p. line_text (heading s p)) (places s) → counts ≡ replicate (actor_count s) 0
-    → HasTold (record { script = s; pages = pages; counts = counts }) []
+    → NotesAreTold (record { script = s; pages = pages; counts = counts }) []
 nothing-told s pages counts opened zeros = record {
   actors = tt;
   typed = tt;
@@ -297,7 +297,7 @@ length-places s g =
     )
 
 -- what is told has its rooms
-pub told-rooms : (x : Written) (made : List Made) → IsScript x.script → HasTold x made → HasRooms x
+pub told-rooms : (x : Written) (made : List MadeNote) → IsScript x.script → NotesAreTold x made → HasRooms x
 told-rooms x made sound told = record {
   script = sound;
   pages = ap length told.pages ∙ length-places x.script (section x.script made);
@@ -306,30 +306,30 @@ told-rooms x made sound told = record {
 
 -- ---- the values of the lists
 
-filter-typed : (a : ℕ) (made : List Made) → AllByRecursion (λ (m : Made). EntryTyped m.note.entry) made → AllByRecursion (λ (note : Note). EntryTyped note.entry) (list_by made a)
+filter-typed : (a : ℕ) (made : List MadeNote) → AllByRecursion (λ (m : MadeNote). EntryTyped m.note.entry) made → AllByRecursion (λ (note : Note). EntryTyped note.entry) (list_by made a)
 filter-typed a [] all = tt
 filter-typed a (m ∷ ms) all = at_test (m.actor == a) (filter-typed a ms all.1) where
-  at_test : (b : Bool) → AllByRecursion (λ (note : Note). EntryTyped note.entry) (list_by ms a) → AllByRecursion (λ (note : Note). EntryTyped note.entry) (notes_made (cond {A = List Made} b (m ∷ filter (λ x. x.actor == a) ms) (filter (λ x. x.actor == a) ms)))
+  at_test : (b : Bool) → AllByRecursion (λ (note : Note). EntryTyped note.entry) (list_by ms a) → AllByRecursion (λ (note : Note). EntryTyped note.entry) (notes_made (cond {A = List MadeNote} b (m ∷ filter (λ x. x.actor == a) ms) (filter (λ x. x.actor == a) ms)))
   at_test true rest = (all.0, rest)
   at_test false rest = rest
 
-lists-typed : (made : List Made) (n from : ℕ) → AllByRecursion (λ (m : Made). EntryTyped m.note.entry) made → AllByRecursion (λ (count : ℕ). count < 2 ^ 64) (map (count_by made) (range_with_len from n)) → ListsTyped (map (list_by made) (range_with_len from n))
+lists-typed : (made : List MadeNote) (n from : ℕ) → AllByRecursion (λ (m : MadeNote). EntryTyped m.note.entry) made → AllByRecursion (λ (count : ℕ). count < 2 ^ 64) (map (count_by made) (range_with_len from n)) → ListsTyped (map (list_by made) (range_with_len from n))
 lists-typed made zero from typed few = tt
 lists-typed made (suc n) from typed few = (record { entries = filter-typed from made typed; short = few.0 }, lists-typed made n (from + 1) typed few.1)
 
 -- the values of what is told are those that types allow
-pub told-typed : (x : Written) (made : List Made) → HasTold x made → ListsTyped (lists_by (actor_count x.script) made)
+pub told-typed : (x : Written) (made : List MadeNote) → NotesAreTold x made → ListsTyped (lists_by (actor_count x.script) made)
 told-typed x made told = lists-typed made (actor_count x.script) 0 told.typed (subst (AllByRecursion (λ (count : ℕ). count < 2 ^ 64)) told.counts told.few)
 
 -- ---- the whole report
 
-joined : (s : Script) (made : List Made) (ps : List Place) → flat_map (λ page. page) (map (section s made) ps) ≡ text (flat_map (place_lines s (told_in made)) ps)
+joined : (s : Script) (made : List MadeNote) (ps : List Place) → flat_map (λ page. page) (map (section s made) ps) ≡ text (flat_map (place_lines s (told_in made)) ps)
 joined s made [] = refl
 joined s made (p ∷ ps) =
     ap (λ t. section s made p ++ t) (joined s made ps)
     ∙ sym (text_append (place_lines s (told_in made) p) (flat_map (place_lines s (told_in made)) ps))
 
-pub whole-told : (x : Written) (made : List Made) → HasTold x made → IsInOrder made → framed x.script (flat_map (λ page. page) x.pages) ≡ report_of x.script (lists_by (actor_count x.script) made)
+pub whole-told : (x : Written) (made : List MadeNote) → NotesAreTold x made → IsInOrder made → framed x.script (flat_map (λ page. page) x.pages) ≡ report_of x.script (lists_by (actor_count x.script) made)
 whole-told x made told order =
     let s : Script = x.script in
     let shown : told_in made ≡ shown_history (lists_by (actor_count s) made) = (λ d p. sym (shown-as-told (actor_count s) made p order told.actors) d) in
@@ -337,7 +337,7 @@ whole-told x made told order =
     ∙ (sym (report-framed s (told_in made))
     ∙ ap (report s) shown)
 
-pub pieces-told : (x y : Written) (made : List Made) → x ≡ y → HasTold x made → IsInOrder made → (q0 q1 q2 : List (List ℕ))
+pub pieces-told : (x y : Written) (made : List MadeNote) → x ≡ y → NotesAreTold x made → IsInOrder made → (q0 q1 q2 : List (List ℕ))
     → q0 ≡ [] → q1 ≡ q0 ++ y.pages → concat q2 ≡ framed y.script (concat q1) → concat q2 ≡ report_of x.script (lists_by (actor_count x.script) made)
 pieces-told x y made same told order q0 q1 q2 e0 e1 e2 =
     e2

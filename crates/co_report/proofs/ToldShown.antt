@@ -12,8 +12,9 @@ use Rattle.co_object.specs.declared.Note.{Note}
 use Rattle.co_object.specs.declared.Place.{Place}
 use Rattle.co_object.specs.Lists.{same_place}
 use Rattle.co_object.proofs.ListsGrow.{same_place-eq}
-use Rattle.co_listener.specs.Made.{Made, list_by, lists_by, made_in, IsInOrder}
-use Rattle.co_report.specs.Histories.{Numbered, Shown, shown, shown_at, numbered_from, numbered_of, all_numbered_of, shown_history}
+use Rattle.co_listener.specs.MadeNotes.{MadeNote, list_by, lists_by, made_in, IsInOrder}
+use Rattle.co_report.specs.Histories.{Numbered, shown, shown_at, numbered_from, numbered_of, all_numbered_of, shown_history}
+use Rattle.co_report.specs.declared.reading.notes.NumberedEntry.{NumberedEntry}
 use Rattle.co_report.specs.Sections.{count_by, told_in}
 use Rattle.co_report.proofs.Numbering.{numbered}
 use Rattle.co_report.proofs.Places.{same_itself}
@@ -60,7 +61,7 @@ of-elsewhere : (p : Place) (ns : List Note) (n : Note) → same_place n.place p 
 of-elsewhere p ns n h = ap (filter (stands_at p)) (from-start ns n) ∙ filter-dropped (stands_at p) (numbered_from 0 ns) (numbered (length ns) n) h
 
 -- those of n actors, from actor i on
-abbrev those_of : Place → List Made → ℕ → ℕ → List Numbered
+abbrev those_of : Place → List MadeNote → ℕ → ℕ → List Numbered
 those_of p made i n = flat_map (numbered_of p) (map (list_by made) (range_with_len i n))
 
 equal-test : (a b : ℕ) → a ≡ b → (a == b) ≡ true
@@ -75,8 +76,8 @@ test-equal a b h = grind (arith, nat_tests)
 test-unequal : (a b : ℕ) → (a == b) ≡ false → b ≤ a → b + 1 ≤ a
 test-unequal a b h le = grind (arith, nat_tests)
 
-module _ (p : Place) (made : List Made) (m : Made) where
-  abbrev more : List Made
+module _ (p : Place) (made : List MadeNote) (m : MadeNote) where
+  abbrev more : List MadeNote
   more = made ++ m ∷ []
 
   others-stay : (i n : ℕ) → m.actor < i → those_of p more i n ≡ those_of p made i n
@@ -152,7 +153,7 @@ length-more : (x : Numbered) (bs as' : List Numbered) → length (bs ++ x ∷ as
 length-more x [] as' = omega arith
 length-more x (b ∷ bs) as' = omega (arith, length-more x bs as')
 
-abbrev all_shown : List Numbered → List Shown
+abbrev all_shown : List Numbered → List NumberedEntry
 all_shown xs = filter_map (shown_at xs) (range_with_len 0 (length xs))
 
 last-shown : (x : Numbered) (bs as' : List Numbered) → x.note.pos ≡ length (bs ++ as') → AreBelow (length (bs ++ as')) (bs ++ as') → all_shown (bs ++ x ∷ as') ≡ all_shown (bs ++ as') ++ shown x ∷ []
@@ -168,7 +169,7 @@ last-shown x bs as' at below =
 
 -- ---- note by note
 
-record Follows (n : ℕ) (p : Place) (made : List Made) : Type 0 where
+record Follows (n : ℕ) (p : Place) (made : List MadeNote) : Type 0 where
   count : length (all_numbered_of p (lists_by n made)) ≡ length (made_in made p)
   below : AreBelow (length (made_in made p)) (all_numbered_of p (lists_by n made))
   shows : all_shown (all_numbered_of p (lists_by n made)) ≡ told_in made p
@@ -184,7 +185,7 @@ at-first n p = record {
   shows = ap all_shown (no-notes p 0 n);
 }
 
-goes-on : (n : ℕ) (p : Place) (made : List Made) (m : Made) → m.actor < n → m.note.pos ≡ length (made_in made m.note.place) → Follows n p made → Follows n p (made ++ m ∷ [])
+goes-on : (n : ℕ) (p : Place) (made : List MadeNote) (m : MadeNote) → m.actor < n → m.note.pos ≡ length (made_in made m.note.place) → Follows n p made → Follows n p (made ++ m ∷ [])
 goes-on n p made m actor at f = by_place (same_place m.note.place p) refl where
   elsewhere : same_place m.note.place p ≡ false → Follows n p (made ++ m ∷ [])
   elsewhere other =
@@ -216,7 +217,7 @@ goes-on n p made m actor at f = by_place (same_place m.note.place p) refl where
 
 -- ---- where the positions of each place count
 
-abbrev note_of : Made → Note
+abbrev note_of : MadeNote → Note
 note_of m = m.note
 
 abbrev pos_of : Note → ℕ
@@ -225,7 +226,7 @@ pos_of n = n.pos
 abbrev stands_in : Place → Note → Bool
 stands_in p n = same_place n.place p
 
-parted : (before : List Made) (m : Made) (after : List Made) → made_in (before ++ m ∷ after) m.note.place ≡ made_in before m.note.place ++ m.note ∷ made_in after m.note.place
+parted : (before : List MadeNote) (m : MadeNote) (after : List MadeNote) → made_in (before ++ m ∷ after) m.note.place ≡ made_in before m.note.place ++ m.note ∷ made_in after m.note.place
 parted before m after =
     let p : Place = m.note.place in
     ap (filter (stands_in p)) (map-append note_of before (m ∷ after))
@@ -241,13 +242,13 @@ counted A n B order =
     let number : get_or (range_with_len 0 (length (A ++ n ∷ B))) (length A) 0 ≡ 0 + length A = get_or-range_with_len 0 (length (A ++ n ∷ B)) (length A) 0 long in
     sym at ∙ (ap (λ xs. get_or xs (length A) 0) order ∙ (number ∙ omega arith))
 
-position : (before : List Made) (m : Made) (after : List Made) → IsInOrder (before ++ m ∷ after) → m.note.pos ≡ length (made_in before m.note.place)
+position : (before : List MadeNote) (m : MadeNote) (after : List MadeNote) → IsInOrder (before ++ m ∷ after) → m.note.pos ≡ length (made_in before m.note.place)
 position before m after order =
     let p : Place = m.note.place in
     counted (made_in before p) m.note (made_in after p)
     (subst (λ ns. map pos_of ns ≡ range_with_len 0 (length ns)) (parted before m after) (order p))
 
-all-follow : (n : ℕ) (p : Place) (before made : List Made) → IsInOrder (before ++ made) → AllByRecursion (λ m. m.actor < n) made → Follows n p before → Follows n p (before ++ made)
+all-follow : (n : ℕ) (p : Place) (before made : List MadeNote) → IsInOrder (before ++ made) → AllByRecursion (λ m. m.actor < n) made → Follows n p before → Follows n p (before ++ made)
 all-follow n p before [] order actors f = subst (λ b. Follows n p b) (sym (append-nil before)) f
 all-follow n p before (m ∷ made) order actors f =
     let next : (before ++ m ∷ []) ++ made ≡ before ++ m ∷ made = append_assoc before (m ∷ []) made in
@@ -255,5 +256,5 @@ all-follow n p before (m ∷ made) order actors f =
     (all-follow n p (before ++ m ∷ []) made (subst IsInOrder (sym next) order) actors.1 (goes-on n p before m actors.0 (position before m made order) f))
 
 -- what a report shows of a place is what is told there
-pub shown-as-told : (n : ℕ) (made : List Made) (p : Place) → IsInOrder made → AllByRecursion (λ m. m.actor < n) made → shown_history (lists_by n made) p ≡ told_in made p
+pub shown-as-told : (n : ℕ) (made : List MadeNote) (p : Place) → IsInOrder made → AllByRecursion (λ m. m.actor < n) made → shown_history (lists_by n made) p ≡ told_in made p
 shown-as-told n made p order actors = let f : Follows n p made = all-follow n p [] made order actors (at-first n p) in f.shows

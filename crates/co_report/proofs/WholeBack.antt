@@ -27,17 +27,18 @@ use Rattle.co_script.specs.Canonical.{canonical, canonical_lines}
 use Rattle.co_script.specs.Fits.{fits}
 use Rattle.co_script.proofs.told.Steps.{bind-ok, unless-ok}
 use Rattle.co_script.proofs.CanonicalBack.{reads-back}
-use Rattle.co_grammar.specs.Keywords.{kind_of, old_verb_of, is_section}
+use Rattle.co_grammar.specs.Keywords.{act_kind, old_verb_of, is_section}
 use Rattle.co_grammar.specs.declared.Verb.{Verb}
 use Rattle.co_grammar.specs.declared.Verb.TheVariants as verb
 use Rattle.co_report.specs.declared.line.Report.{Report}
-use Rattle.co_report.specs.Histories.{Shown, Histories}
+use Rattle.co_report.specs.Histories.{PlaceHistories}
+use Rattle.co_report.specs.declared.reading.notes.NumberedEntry.{NumberedEntry}
 use Rattle.co_report.specs.Reports.{places, heading, shown_words, place_lines, report, report_lines}
 use Rattle.co_report.specs.NoteFits.{ShownFits}
 use Rattle.co_report.specs.Laws.{report_of_histories, HistoriesFit}
 use Rattle.co_report.specs.Reading.{joined, is_line, none_cut, first_line, Halves, halves, line_before, in_report, same_lines, end_read, notes_read, halves_read, lines_report, report_read}
 use Rattle.co_report.proofs.Exact.{lit}
-use Rattle.co_report.specs.NoteValues.{IsSmall}
+use Rattle.co_report.specs.NoteValues.{IsSmallScript}
 use Rattle.co_report.proofs.ExactActors.{actor-ink}
 use Rattle.co_report.proofs.ExactNotes.{note_exact}
 use Rattle.co_report.proofs.OneSpelling.{small_script}
@@ -97,7 +98,7 @@ no-verb true = refl
 no-verb false = refl
 
 no-opener : (d : Draft) → line_after d (codes "histories") [] ≡ Err cause.Word
-no-opener d = ap (λ (v : Option Verb). opener_by (is_section d.stage) (kind_of (codes "histories")) v >>= λ o. unless (may_stand d.stage o) cause.Order >>= λ _. opened_line d o []) (no-verb (d.script.version == 2))
+no-opener d = ap (λ (v : Option Verb). opener_by (is_section d.stage) (act_kind (codes "histories")) v >>= λ o. unless (may_stand d.stage o) cause.Order >>= λ _. opened_line d o []) (no-verb (d.script.version == 2))
 
 apart : (c : Cause) (x : Option Draft) → ◌≡◌ {A = Result (Option Draft) Cause} (Err c) (Ok x) → true ≡ false
 apart c x h = cc
@@ -186,24 +187,24 @@ each-place s P f =
 lines-append : (xs ys : List (List Word)) → AreLines xs → AreLines ys → AreLines (xs ++ ys)
 lines-append xs ys a b = append-all AreParts xs ys a b
 
-heading-words : (s : Script) (small : IsSmall s) (p : Place) → place_exists s p ≡ true → AreParts (heading s p)
+heading-words : (s : Script) (small : IsSmallScript s) (p : Place) → place_exists s p ≡ true → AreParts (heading s p)
 heading-words s small (place.Timer i) h = let less = ltb-true i (length s.timers) h in (lit (codes "timer") refl, (part_of (decimal i) (decimal-word i (omega (arith, less, small.timers))), tt))
 heading-words s small (place.Cpu c) h = let less = ltb-true c s.cpus h in (lit (codes "wheel") refl, (part_of (decimal c) (decimal-word c (omega (arith, less, small.cpus))), tt))
 heading-words s small (place.Actor a) h = (lit (codes "actor") refl, (actor-ink s small a (ltb-true a (actor_count s) h), tt))
 
-notes-words : (s : Script) (small : IsSmall s) (p : Place) (xs : List Shown) → AllByRecursion (ShownFits s p) xs → AreLines (map (shown_words s) xs)
+notes-words : (s : Script) (small : IsSmallScript s) (p : Place) (xs : List NumberedEntry) → AllByRecursion (ShownFits s p) xs → AreLines (map (shown_words s) xs)
 notes-words s small p [] all = tt
 notes-words s small p (x ∷ xs) all = ((note_exact s small p).ink x all.0, notes-words s small p xs all.1)
 
-sections-words : (s : Script) (small : IsSmall s) (h : Histories) (ps : List Place) → AllByRecursion (λ p. (place_exists s p ≡ true) × AllByRecursion (ShownFits s p) (h p)) ps → AreLines (sections s small h ps)
+sections-words : (s : Script) (small : IsSmallScript s) (h : PlaceHistories) (ps : List Place) → AllByRecursion (λ p. (place_exists s p ≡ true) × AllByRecursion (ShownFits s p) (h p)) ps → AreLines (sections s small h ps)
 sections-words s small h [] all = tt
 sections-words s small h (p ∷ ps) all =
     lines-append (place_lines s h p) (sections s small h ps) (heading-words s small p all.0.0, notes-words s small p (h p) all.0.1) (sections-words s small h ps all.1)
 
 -- ---- the whole
 
-module _ (s : Script) (h : Histories) (f : fits s ≡ true) (all : HistoriesFit s h) where
-  small : IsSmall s
+module _ (s : Script) (h : PlaceHistories) (f : fits s ≡ true) (all : HistoriesFit s h) where
+  small : IsSmallScript s
   small = small_script s f
 
   abbrev head : List Word

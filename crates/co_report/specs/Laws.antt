@@ -12,10 +12,11 @@ use Rattle.co_text.specs.Lines.{lines_of}
 use Rattle.co_script.specs.Canonical.{canonical}
 use Rattle.co_report.specs.declared.line.Line.{Line}
 use Rattle.co_report.specs.declared.line.Report.{Report}
-use Rattle.co_report.specs.Histories.{Shown, Histories, shown_history}
+use Rattle.co_report.specs.Histories.{PlaceHistories, shown_history}
+use Rattle.co_report.specs.declared.reading.notes.NumberedEntry.{NumberedEntry}
 use Rattle.co_report.specs.Reports.{places, shown_words, report_of}
 use Rattle.co_report.specs.NoteValues.{names_of}
-use Rattle.co_report.specs.NoteForms.{note_of}
+use Rattle.co_report.specs.NoteForms.{shown_note}
 use Rattle.co_report.specs.NoteFits.{EntryFits, ShownFits, LineFits}
 use Rattle.co_report.specs.Typed.{ListsTyped}
 use Rattle.co_report.specs.Reading.{joined, report_read}
@@ -26,33 +27,33 @@ EachHistoryIsShown = (place : Place) (lists : List (List Note)) → map (λ show
 -- where a script fits, a line is read as a note of a place exactly where it is the text of this note, and the note fits the
 -- place
 abbrev pub NotesHaveOneSpelling : Type 0
-NotesHaveOneSpelling = (s : Script) (place : Place) (line : List ℕ) (x : Shown) → fits s ≡ true → (note_of (names_of s) (Some place) line ≡ Ok x) ↔ (ShownFits s place x × (line ≡ joined (shown_words s x)))
+NotesHaveOneSpelling = (s : Script) (place : Place) (line : List ℕ) (x : NumberedEntry) → fits s ≡ true → (shown_note (names_of s) (Some place) line ≡ Ok x) ↔ (ShownFits s place x × (line ≡ joined (shown_words s x)))
 
 -- ---- a report that is read again
 
 -- the lines of the notes of a place, from line k on
-abbrev pub note_lines : ℕ → Place → List Shown → List Line
+abbrev pub note_lines : ℕ → Place → List NumberedEntry → List Line
 note_lines k p [] = []
 note_lines k p (x ∷ xs) = record { line = k; place = p; number = x.number; entry = x.entry } ∷ note_lines (k + 1) p xs
 
 -- the note lines of these places, whose first heading is line k
-abbrev pub section_notes : Histories → ℕ → List Place → List Line
-section_notes h k [] = []
-section_notes h k (p ∷ ps) = note_lines (k + 1) p (h p) ++ section_notes h (k + 1 + length (h p)) ps
+abbrev pub lines_of_places : PlaceHistories → ℕ → List Place → List Line
+lines_of_places h k [] = []
+lines_of_places h k (p ∷ ps) = note_lines (k + 1) p (h p) ++ lines_of_places h (k + 1 + length (h p)) ps
 
 -- the line behind them
-abbrev pub line_behind : Histories → ℕ → List Place → ℕ
+abbrev pub line_behind : PlaceHistories → ℕ → List Place → ℕ
 line_behind h k [] = k
 line_behind h k (p ∷ ps) = line_behind h (k + 1 + length (h p)) ps
 
 -- what the report of a script says: its first heading stands behind the lines of the script and two more
-abbrev pub report_of_histories : Script → Histories → Report
+abbrev pub report_of_histories : Script → PlaceHistories → Report
 report_of_histories s h =
     let first = length (lines_of (canonical s)) + 3 in
-    record { script = s; lines = section_notes h first (places s); end = line_behind h first (places s) }
+    record { script = s; lines = lines_of_places h first (places s); end = line_behind h first (places s) }
 
 -- the notes of each place fit it
-abbrev pub HistoriesFit : Script → Histories → Type 0
+abbrev pub HistoriesFit : Script → PlaceHistories → Type 0
 HistoriesFit s h = (p : Place) → place_exists s p ≡ true → AllByRecursion (ShownFits s p) (h p)
 
 -- the lists of a script's actors: each entry fits its place, and no list is longer than its numbers count

@@ -18,10 +18,10 @@ use Rattle.co_report.specs.declared.reading.line_by_line.Next.{Next}
 use Rattle.co_report.specs.declared.reading.line_by_line.Next.TheVariants as next
 use Rattle.co_report.specs.declared.reading.names.Names.{Names}
 use Rattle.co_report.specs.NoteFits.{LineFits}
-use Rattle.co_report.specs.NoteForms.{note_of}
-use Rattle.co_report.specs.NoteValues.{names_of, IsSmall, HasFewActors}
-use Rattle.co_report.specs.Reading.{Progress, histories_read, opening, end_read}
-use Rattle.co_report.specs.ReadingViews.{IsSetting, IsReady, listed, so_far, with_line}
+use Rattle.co_report.specs.NoteForms.{shown_note}
+use Rattle.co_report.specs.NoteValues.{names_of, IsSmallScript, HasFewActors}
+use Rattle.co_report.specs.Reading.{Progress, histories_read, first_progress, end_read}
+use Rattle.co_report.specs.ReadingViews.{IsSetting, IsReaderReady, one_or_none, so_far, with_line}
 use Rattle.co_report.specs.Reports.{places}
 
 -- note lines, and the number of the line `end` behind them
@@ -52,7 +52,7 @@ ahead_from s k d ls = histories_read s k d ls >>= ended_at (k + length ls)
 
 -- before the first line
 abbrev pub before_all : Opening → Standing
-before_all o = record { script = o.script; text = o.text; bytes = length o.text; ahead = ahead_from o.script o.first (opening o.script) (lines_of o.text) }
+before_all o = record { script = o.script; text = o.text; bytes = length o.text; ahead = ahead_from o.script o.first (first_progress o.script) (lines_of o.text) }
 
 -- these lines, and behind them what is ahead
 abbrev pub behind : List NoteLine → Result Ahead Refusal → Result Ahead Refusal
@@ -65,9 +65,9 @@ report_of_all s (Ok x) = Ok (record { script = s; lines = x.lines; end = x.end }
 report_of_all s (Err e) = Err e
 
 -- a report is opened: it is that of all that is ahead; or it is refused
-abbrev pub IsOpened : Result Report Refusal → Result Opening ScriptFault → Type 0
-IsOpened report (Ok o) = report ≡ report_of_all o.script (before_all o).ahead
-IsOpened report (Err e) = Faults e report
+abbrev pub IsReportOpened : Result Report Refusal → Result Opening ScriptFault → Type 0
+IsReportOpened report (Ok o) = report ≡ report_of_all o.script (before_all o).ahead
+IsReportOpened report (Err e) = Faults e report
 
 -- the line of a text that begins at this byte
 abbrev pub bytes_of_first : List Line → List ℕ
@@ -81,14 +81,14 @@ line_at text at = bytes_of_first (lines_of (drop at text))
 pub record IsLineAt (s : Script) (text : List ℕ) (at : ℕ) (l : NoteLine) : Type 0 where
   pub fits : LineFits s l
   pub within : at < length text
-  pub shown : note_of (names_of s) (Some l.place) (line_at text at) ≡ Ok (record { number = l.number; entry = l.entry })
+  pub shown : shown_note (names_of s) (Some l.place) (line_at text at) ≡ Ok (record { number = l.number; entry = l.entry })
 
 -- ---- what the reader's own types say
 
 -- these are a script's, and the histories from this line on have this text
 pub record IsOpen (s : Script) (all : List Place) (names : Names) (first : ℕ) (text : List ℕ) : Type 0 where
   pub accepted : IsScript s
-  pub small : IsSmall s
+  pub small : IsSmallScript s
   pub places : all ≡ places s
   pub named : names ≡ names_of s
   pub actors : HasFewActors names
@@ -101,9 +101,9 @@ standing x =
 
 -- what is left of the text is its end, no line is kept, and the places still to come exist
 pub record IsReading (x : Reader) : Type 0 where
-  pub small : IsSmall x.setting.script.now
+  pub small : IsSmallScript x.setting.script.now
   pub setting : IsSetting x.setting
-  pub ready : IsReady x.setting x.progress
+  pub ready : IsReaderReady x.setting x.progress
   pub none : x.progress.lines ≡ []
   pub current : IfSome x.progress.current (λ p. place_exists x.setting.script.now p ≡ true)
   pub left : AllByRecursion (λ p. place_exists x.setting.script.now p ≡ true) (drop x.progress.next x.setting.places.now)
@@ -113,7 +113,7 @@ pub record IsReading (x : Reader) : Type 0 where
   pub whole : x.text.now ≡ take (length x.text.now - length x.rest.now) x.text.now ++ x.rest.now
 
 -- the reader goes on in the same histories, with fewer bytes ahead
-pub record GoesOn (before after : Reader) : Type 0 where
+pub record ReadsOn (before after : Reader) : Type 0 where
   pub reading : IsReading after
   pub script : (standing after).script ≡ (standing before).script
   pub text : (standing after).text ≡ (standing before).text
@@ -121,7 +121,7 @@ pub record GoesOn (before after : Reader) : Type 0 where
 
 -- the next note line is found
 pub record IsFound (before : Reader) (found : Found) (after : Reader) : Type 0 where
-  pub on : GoesOn before after
+  pub on : ReadsOn before after
   pub ahead : (standing before).ahead ≡ behind (found.line ∷ []) (standing after).ahead
   pub place : IsLineAt (standing before).script (standing before).text found.at found.line
   pub few : found.line.line < 2 ^ 32
@@ -129,21 +129,21 @@ pub record IsFound (before : Reader) (found : Found) (after : Reader) : Type 0 w
 -- a line is read, which shows a note or begins a place or ends the histories, or it is refused
 abbrev pub IsLineRead : Reader → Result (Option Found) ScriptFault → Reader → Type 0
 IsLineRead before (Ok (Some found)) after = IsFound before found after
-IsLineRead before (Ok None) after = GoesOn before after × ((standing after).ahead ≡ (standing before).ahead)
+IsLineRead before (Ok None) after = ReadsOn before after × ((standing after).ahead ≡ (standing before).ahead)
 IsLineRead before (Err e) after = Faults e (standing before).ahead
 
 -- the next note is found, or there is none, or a line is refused
-abbrev pub IsNext : Reader → Result Next ScriptFault → Reader → Type 0
-IsNext before (Ok (next.Note found)) after = IsFound before found after
-IsNext before (Ok (next.End end)) after = (standing before).ahead ≡ Ok (record { lines = []; end = end })
-IsNext before (Err e) after = Faults e (standing before).ahead
+abbrev pub IsNextFound : Reader → Result Next ScriptFault → Reader → Type 0
+IsNextFound before (Ok (next.Note found)) after = IsFound before found after
+IsNextFound before (Ok (next.End end)) after = (standing before).ahead ≡ Ok (record { lines = []; end = end })
+IsNextFound before (Err e) after = Faults e (standing before).ahead
 
 -- a line is read, and behind these lines stands the note that it shows, if it shows one
 abbrev pub IsNotePacked : List NoteLine → Progress → Result (Unit {0}) LineFault → Result Progress Cause → List NoteLine → Type 0
-IsNotePacked lines d (Ok ok) read more = (found : Option NoteLine) × (read ≡ Ok (with_line d found)) × (more ≡ lines ++ listed found)
+IsNotePacked lines d (Ok ok) read more = (found : Option NoteLine) × (read ≡ Ok (with_line d found)) × (more ≡ lines ++ one_or_none found)
 IsNotePacked lines d (Err e) read more = LineFails e read
 
 -- so the reader has gone on, and with what is ahead of it these lines are the same; or the line is refused
 abbrev pub IsLinePacked : Reader → List NoteLine → Result (Unit {0}) ScriptFault → Reader → List NoteLine → Type 0
-IsLinePacked before lines (Ok ok) after more = GoesOn before after × (behind more (standing after).ahead ≡ behind lines (standing before).ahead)
+IsLinePacked before lines (Ok ok) after more = ReadsOn before after × (behind more (standing after).ahead ≡ behind lines (standing before).ahead)
 IsLinePacked before lines (Err e) after more = Faults e (standing before).ahead

@@ -20,7 +20,7 @@ pub use Rattle.co_program.specs.Names.{IsFunc}
 use Rattle.co_program.specs.Names.{OpNames, ReplyNames}
 use Rattle.co_program.specs.Places.{place_exists}
 use Rattle.co_report.specs.declared.line.Line.{Line}
-use Rattle.co_report.specs.Histories.{Shown}
+use Rattle.co_report.specs.declared.reading.notes.NumberedEntry.{NumberedEntry}
 use Rattle.co_report.specs.NoteForms.{may_answer}
 
 -- an operation on a callout, and its reply
@@ -51,7 +51,7 @@ EntryFits s (place.Cpu c) (of.Cpu e) = MakerFits s e.actor e.act × ((QueueFits 
 EntryFits s (place.Actor a) (of.Own e) = MakerFits s e.actor e.act × (e.actor ≡ a)
 EntryFits s p e = ⊥
 
-abbrev pub ShownFits : Script → Place → Shown → Type 0
+abbrev pub ShownFits : Script → Place → NumberedEntry → Type 0
 ShownFits s p x = IsLong x.number × EntryFits s p x.entry
 
 -- a line that stands in a place of the script

@@ -22,9 +22,8 @@ use Rattle.co_text.specs.declared.Cause.{Cause}
 use Rattle.co_text.specs.declared.Cause.TheVariants.{Form, Note}
 use Rattle.co_report.specs.declared.reading.names.Names.{Names}
 use Rattle.co_report.specs.declared.reading.values.Maker.{Maker}
-use Rattle.co_report.specs.Histories.{Shown}
-use Rattle.co_report.specs.declared.reading.notes.Shown.{Shown as Read_note}
-use Rattle.co_report.specs.NoteValues.{count64, count32, time_in_units, arming, given, callout_of, func_of, cpu_in, or_dash, truth, code, maker, maker_is, own_kind}
+use Rattle.co_report.specs.declared.reading.notes.NumberedEntry.{NumberedEntry}
+use Rattle.co_report.specs.NoteValues.{count64, count32, time_in_units, arming, given, callout_value, func_of, cpu_in, or_dash, truth, code, maker, maker_is, own_kind}
 use Rattle.co_report.specs.Parts.{parts}
 
 -- ---- readers
@@ -33,8 +32,8 @@ abbrev pub Reader : Type 0 → Type 0
 Reader X = List Word → Read X
 
 -- nothing
-abbrev pub nothing : {X : Type 0} → X → Reader X
-nothing x ws = Ok (x, ws)
+abbrev pub reads_nothing : {X : Type 0} → X → Reader X
+reads_nothing x ws = Ok (x, ws)
 
 -- one thing, and then another
 abbrev pub both : {A B : Type 0} → Reader A → Reader B → Reader (A × B)
@@ -45,8 +44,8 @@ abbrev pub literal : Word → List Word → Read Bool
 literal v ws = next (λ w. unless (is_word w v) Form) ws
 
 -- something behind a word
-abbrev pub after : {A : Type 0} → Word → Reader A → Reader A
-after v r ws = literal v ws >>= λ l. r l.1
+abbrev pub behind_literal : {A : Type 0} → Word → Reader A → Reader A
+behind_literal v r ws = literal v ws >>= λ l. r l.1
 
 -- what is made of something
 abbrev pub made : {A B : Type 0} → (A → B) → Reader A → Reader B
@@ -76,11 +75,11 @@ whole r ws = do
 
 -- `uDUE pr uPREC`
 abbrev pub due_and_precision : Reader (ℕ × ℕ)
-due_and_precision = both (next time_in_units) (after (codes "pr") (next time_in_units))
+due_and_precision = both (next time_in_units) (behind_literal (codes "pr") (next time_in_units))
 
 -- `cpu pC` or `cpu -`
 abbrev pub target : Names → Reader (Option ℕ)
-target n = after (codes "cpu") (next (or_dash (cpu_in n)))
+target n = behind_literal (codes "cpu") (next (or_dash (cpu_in n)))
 
 abbrev pub reset_form : Names → Reader Op
 reset_form n = made (λ x. Call (Plain (Reset x.0.0 x.0.1 x.1.0.0 x.1.0.1 x.1.1))) (both due_and_precision (both (both (next (func_of n)) (next given)) (target n)))
@@ -119,13 +118,13 @@ unfoldable pub op_forms : Names → List (Word × Reader Op)
 op_forms n =
     (codes "reset", reset_form n)
     ∷ (codes "schedule", schedule_form n)
-    ∷ (codes "stop", nothing (Call (Plain Stop)))
+    ∷ (codes "stop", reads_nothing (Call (Plain Stop)))
     ∷ (codes "adrain", adrain_form n)
-    ∷ (codes "active", nothing (Call (Plain Active)))
-    ∷ (codes "pending", nothing (Call (Plain Pending)))
-    ∷ (codes "deactivate", nothing (Call (Plain Deactivate)))
-    ∷ (codes "init", nothing (Call (Plain Init)))
-    ∷ (codes "retire", nothing (Call (Plain Retire)))
+    ∷ (codes "active", reads_nothing (Call (Plain Active)))
+    ∷ (codes "pending", reads_nothing (Call (Plain Pending)))
+    ∷ (codes "deactivate", reads_nothing (Call (Plain Deactivate)))
+    ∷ (codes "init", reads_nothing (Call (Plain Init)))
+    ∷ (codes "retire", reads_nothing (Call (Plain Retire)))
     ∷ (codes "drain", drain_form)
     ∷ run_forms n
 
@@ -136,7 +135,7 @@ op_form n = one_of (op_forms n)
 
 -- `off pC` or `off -`
 abbrev pub off_form : Names → Reader (Option ℕ)
-off_form n = after (codes "off") (next (or_dash (cpu_in n)))
+off_form n = behind_literal (codes "off") (next (or_dash (cpu_in n)))
 
 abbrev pub armed_form : Names → Reader Reply
 armed_form n = made (λ x. reply.Armed x.0 x.1.0.0 x.1.0.1 x.1.1) (both (next code) (both (arming_and_cpu n) (off_form n)))
@@ -168,13 +167,13 @@ abbrev pub next_form : Names → Reader (Option Next)
 next_form n ws = option (codes "-") ws >>= λ none. if none.0 then Ok (None, none.1) else made (λ x. Some x) (later_form n) none.1
 
 abbrev pub drain_named : Names → Reader (Option ℕ)
-drain_named n = after (codes "drain") (next (or_dash (func_of n)))
+drain_named n = behind_literal (codes "drain") (next (or_dash (func_of n)))
 
 abbrev pub next_named : Names → Reader (Option Next)
-next_named n = after (codes "next") (next_form n)
+next_named n = behind_literal (codes "next") (next_form n)
 
 abbrev pub woke_form : Reader Bool
-woke_form = after (codes "woke") (next truth)
+woke_form = behind_literal (codes "woke") (next truth)
 
 abbrev pub ended_form : Names → Reader Reply
 ended_form n = made (λ x. reply.Ended x.0 x.1.0 x.1.1) (both (drain_named n) (both (next_named n) woke_form))
@@ -194,16 +193,16 @@ valued_replies n =
 
 unfoldable pub reply_forms : Names → List (Word × Reader Reply)
 reply_forms n =
-    (codes "nohandler", nothing reply.NoHandler)
-    ∷ (codes "worn", nothing reply.Worn)
-    ∷ (codes "busy", nothing reply.Busy)
-    ∷ (codes "yes", nothing reply.Yes)
-    ∷ (codes "no", nothing reply.No)
-    ∷ (codes "done", nothing reply.Done)
-    ∷ (codes "live", nothing reply.Live)
-    ∷ (codes "retired", nothing reply.Retired)
-    ∷ (codes "hold", nothing reply.Hold)
-    ∷ (codes "skip", nothing reply.Skip)
+    (codes "nohandler", reads_nothing reply.NoHandler)
+    ∷ (codes "worn", reads_nothing reply.Worn)
+    ∷ (codes "busy", reads_nothing reply.Busy)
+    ∷ (codes "yes", reads_nothing reply.Yes)
+    ∷ (codes "no", reads_nothing reply.No)
+    ∷ (codes "done", reads_nothing reply.Done)
+    ∷ (codes "live", reads_nothing reply.Live)
+    ∷ (codes "retired", reads_nothing reply.Retired)
+    ∷ (codes "hold", reads_nothing reply.Hold)
+    ∷ (codes "skip", reads_nothing reply.Skip)
     ∷ valued_replies n
 
 abbrev pub reply_form : Names → Reader Reply
@@ -216,13 +215,13 @@ abbrev pub direct_or : QOp → QOp → Reader QOp
 direct_or direct other ws = if is_next (codes "direct") ws then Ok (direct, after_next ws) else Ok (other, ws)
 
 abbrev pub insert_form : Names → Reader QOp
-insert_form n = made (λ x. queue.Insert x.0 x.1.0 x.1.1) (both (next (callout_of n)) (both (next arming) (next time_in_units)))
+insert_form n = made (λ x. queue.Insert x.0 x.1.0 x.1.1) (both (next (callout_value n)) (both (next arming) (next time_in_units)))
 
 abbrev pub got_form : Names → Reader QReply
-got_form n = made (λ x. answer.Got x.0 x.1.0 x.1.1) (both (next (callout_of n)) (both (next arming) (next time_in_units)))
+got_form n = made (λ x. answer.Got x.0 x.1.0 x.1.1) (both (next (callout_value n)) (both (next arming) (next time_in_units)))
 
 abbrev pub remove_form : Names → Reader QOp
-remove_form n = made (λ i. queue.Remove i) (next (callout_of n))
+remove_form n = made (λ i. queue.Remove i) (next (callout_value n))
 
 abbrev pub scan_form : Reader QOp
 scan_form = made (λ t. queue.Scan t) (next time_in_units)
@@ -248,12 +247,12 @@ queue_form n = one_of (queue_forms n)
 unfoldable pub answer_forms : Names → List (Word × Reader QReply)
 answer_forms n =
     (codes "at", at_form)
-    ∷ (codes "off", nothing answer.Off)
-    ∷ (codes "missing", nothing answer.Missing)
+    ∷ (codes "off", reads_nothing answer.Off)
+    ∷ (codes "missing", reads_nothing answer.Missing)
     ∷ (codes "count", count_form)
     ∷ (codes "got", got_form n)
-    ∷ (codes "empty", nothing answer.Empty)
-    ∷ (codes "freed", nothing answer.Freed)
+    ∷ (codes "empty", reads_nothing answer.Empty)
+    ∷ (codes "freed", reads_nothing answer.Freed)
     ∷ []
 
 abbrev pub answer_form : Names → Reader QReply
@@ -277,7 +276,7 @@ may_answer o a = false
 
 -- an operation, `=` and its answer
 abbrev pub answered_form : {X Y : Type 0} → Reader X → Reader Y → Reader (X × Y)
-answered_form op reply = both op (after (codes "=") reply)
+answered_form op reply = both op (behind_literal (codes "=") reply)
 
 abbrev pub call_form : Names → Reader (Op × Reply)
 call_form n = answered_form (op_form n) (reply_form n)
@@ -291,17 +290,17 @@ abbrev pub head_form : (Word → Result Maker Cause) → Reader (ℕ × Maker)
 head_form by = both (next count64) (next by)
 
 -- a note of a timer, of a CPU's queue, and of an actor's own
-abbrev pub timer_form : Names → Reader Shown
+abbrev pub timer_form : Names → Reader NumberedEntry
 timer_form n = made (λ x. record { number = x.0.0; entry = Timer (record { actor = x.0.1.actor; act = x.0.1.act; op = x.1.0; reply = x.1.1 }) }) (both (head_form (maker n)) (call_form n))
 
-abbrev pub wheel_form : Names → Reader Shown
+abbrev pub wheel_form : Names → Reader NumberedEntry
 wheel_form n = made (λ x. record { number = x.0.0; entry = Cpu (record { actor = x.0.1.actor; act = x.0.1.act; op = x.1.0; reply = x.1.1 }) }) (both (head_form (maker n)) (journal_form n))
 
-abbrev pub own_form : Names → ℕ → Reader Shown
+abbrev pub own_form : Names → ℕ → Reader NumberedEntry
 own_form n actor = made (λ x. record { number = x.0.0; entry = Own (record { actor = x.0.1.actor; act = x.0.1.act; kind = x.1 }) }) (both (head_form (maker_is n actor)) (next own_kind))
 
 -- a note of a place
-abbrev pub note_form : Names → Place → Reader Shown
+abbrev pub note_form : Names → Place → Reader NumberedEntry
 note_form n (place.Timer i) = timer_form n
 note_form n (place.Cpu c) = wheel_form n
 note_form n (place.Actor a) = own_form n a
@@ -312,10 +311,6 @@ or_note (Ok x) = Ok x
 or_note (Err c) = Err Note
 
 -- the note that a line shows; before the first heading there is none
-abbrev pub note_of : Names → Option Place → List ℕ → Result Shown Cause
-note_of n None line = Err Note
-note_of n (Some p) line = or_note (whole (note_form n p) (parts line))
-
--- what the reader's own type says
-abbrev pub seen : Read_note → Shown
-seen x = record { number = x.number; entry = x.entry }
+abbrev pub shown_note : Names → Option Place → List ℕ → Result NumberedEntry Cause
+shown_note n None line = Err Note
+shown_note n (Some p) line = or_note (whole (note_form n p) (parts line))

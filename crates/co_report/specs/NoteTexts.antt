@@ -129,13 +129,13 @@ own_words NotHolding = codes "notholding" ∷ []
 -- a whole note
 
 -- an operation and its answer, with `=` between them
-abbrev pub answered : List Word → List Word → List Word
-answered op reply = op ++ codes "=" ∷ reply
+abbrev pub with_answer : List Word → List Word → List Word
+with_answer op reply = op ++ codes "=" ∷ reply
 
 -- what an entry says
 abbrev pub entry_words : AnyEntry → List Word
-entry_words (Timer e) = answered (op_words e.op) (reply_words e.reply)
-entry_words (Cpu e) = answered (queue_words e.op) (answer_words e.reply)
+entry_words (Timer e) = with_answer (op_words e.op) (reply_words e.reply)
+entry_words (Cpu e) = with_answer (queue_words e.op) (answer_words e.reply)
 entry_words (Own e) = own_words e.kind
 
 -- `K A/M X`

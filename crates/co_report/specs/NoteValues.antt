@@ -16,7 +16,7 @@ abbrev pub names_of : Script → Names
 names_of s = record { timers = length s.timers; cpus = s.cpus; funcs = length s.funcs; clients = length s.clients; version = s.version }
 
 -- a script with no more of each than one that is read
-pub record IsSmall (s : Script) : Type 0 where
+pub record IsSmallScript (s : Script) : Type 0 where
   pub timers : length s.timers ≤ 1024
   pub cpus : s.cpus ≤ 16
   pub funcs : length s.funcs ≤ 1024
@@ -64,8 +64,8 @@ abbrev pub given : Word → Result ℕ Cause
 given w = lettered 97 (2 ^ 64) w
 
 -- `iN`, `fN` and `pN`, each of the script
-abbrev pub callout_of : Names → Word → Result ℕ Cause
-callout_of n w = lettered 105 n.timers w
+abbrev pub callout_value : Names → Word → Result ℕ Cause
+callout_value n w = lettered 105 n.timers w
 
 abbrev pub func_of : Names → Word → Result ℕ Cause
 func_of n w = lettered 102 n.funcs w

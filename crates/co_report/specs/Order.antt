@@ -21,7 +21,7 @@ abbrev pub all_of : List (List Note) → List Note
 all_of lists = flat_map (λ notes. notes) lists
 
 -- these are the numbers of notes of the places, in order
-pub record AreCounts (s : Script) (lists : List (List Note)) (counts : List ℕ) : Type 0 where
+pub record ArePlaceCounts (s : Script) (lists : List (List Note)) (counts : List ℕ) : Type 0 where
   pub places : length counts ≡ place_count s
   pub each : (i : ℕ) → i < place_count s → slice_index counts i ≡ count_in s i (all_of lists)
 
@@ -35,7 +35,7 @@ abbrev pub location : Script → List ℕ → Note → ℕ
 location s starts note = slice_index starts (place_index s note.place) + note.pos
 
 -- an array of this length has room for the origin of each note, by these starts
-pub record HasRoom (s : Script) (lists : List (List Note)) (starts : List ℕ) (room : ℕ) : Type 0 where
+pub record HasRoomForOrigins (s : Script) (lists : List (List Note)) (starts : List ℕ) (room : ℕ) : Type 0 where
   pub fits : room < 2 ^ 64
   pub places : length starts ≡ place_count s + 1
   pub exist : AllHavePlaces s lists

@@ -14,22 +14,22 @@ stretch_at first [] at = first
 stretch_at first (x ∷ xs) at = stretch_at (if nat_le x.at at then x else first) xs at
 
 -- the number of that note's line, where it is of this stretch
-abbrev pub number_in : Stretch → ℕ → ℕ
-number_in x at = min (x.line + (at - x.at)) 18446744073709551615
+abbrev pub line_in : Stretch → ℕ → ℕ
+line_in x at = min (x.line + (at - x.at)) 18446744073709551615
 
 -- the stretch goes on with the note at this index, whose line has this number
 abbrev pub is_next_of : Stretch → (at line : ℕ) → Bool
-is_next_of x at line = nat_le x.at at && number_in x at == line
+is_next_of x at line = nat_le x.at at && line_in x at == line
 
 -- the line of a note
 abbrev pub line_of : ℕ → Note → Line
 line_of line note = record { line = line; place = note.place; number = note.pos; entry = note.entry }
 
 -- the note of a line
-abbrev pub note_of : Line → Note
-note_of l = record { place = l.place; pos = l.number; entry = l.entry }
+abbrev pub note_from_line : Line → Note
+note_from_line l = record { place = l.place; pos = l.number; entry = l.entry }
 
 -- the lines of notes, the first of which has this index
 abbrev pub lines_from : List Stretch → ℕ → List Note → List Line
 lines_from stretches at [] = []
-lines_from stretches at (n ∷ ns) = line_of (number_in (stretch_at no_stretch stretches at) at) n ∷ lines_from stretches (at + 1) ns
+lines_from stretches at (n ∷ ns) = line_of (line_in (stretch_at no_stretch stretches at) at) n ∷ lines_from stretches (at + 1) ns

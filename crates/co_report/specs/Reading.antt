@@ -13,10 +13,10 @@ use Rattle.co_script.specs.Canonical.{canonical}
 use Rattle.co_script.specs.LineBytes.{line_bytes}
 use Rattle.co_report.specs.declared.line.Line.{Line as NoteLine}
 use Rattle.co_report.specs.declared.line.Report.{Report}
-use Rattle.co_report.specs.Histories.{Shown}
+use Rattle.co_report.specs.declared.reading.notes.NumberedEntry.{NumberedEntry}
 use Rattle.co_report.specs.Reports.{places, heading}
 use Rattle.co_report.specs.NoteValues.{names_of}
-use Rattle.co_report.specs.NoteForms.{note_of}
+use Rattle.co_report.specs.NoteForms.{shown_note}
 
 -- ---- lines
 
@@ -88,30 +88,30 @@ closed_by k d [] = record d { current = None; end = Some k }
 closed_by k d (p ∷ ps) = record d { current = Some p; left = ps }
 
 -- a note of the current place
-abbrev pub noted : ℕ → Progress → Option Place → Shown → Progress
-noted k d None x = d
-noted k d (Some p) x = record d { lines = d.lines ++ record { line = k; place = p; number = x.number; entry = x.entry } ∷ [] }
+abbrev pub with_note : ℕ → Progress → Option Place → NumberedEntry → Progress
+with_note k d None x = d
+with_note k d (Some p) x = record d { lines = d.lines ++ record { line = k; place = p; number = x.number; entry = x.entry } ∷ [] }
 
 abbrev pub note_read : Script → ℕ → Progress → List ℕ → Result Progress Cause
-note_read s k d line = note_of (names_of s) d.current line >>= λ x. Ok (noted k d d.current x)
+note_read s k d line = shown_note (names_of s) d.current line >>= λ x. Ok (with_note k d d.current x)
 
 abbrev pub line_read : Script → ℕ → Progress → List ℕ → Result Progress Cause
 line_read s k d line = if bytes_eq line (joined (closing_words s d.left)) then Ok (closed_by k d d.left) else note_read s k d line
 
-abbrev pub goes_on : Option ℕ → Bool
-goes_on (Some k) = false
-goes_on None = true
+abbrev pub reads_on : Option ℕ → Bool
+reads_on (Some k) = false
+reads_on None = true
 
 -- what line k does
 abbrev pub line_after : Script → ℕ → Progress → List ℕ → Result Progress Cause
-line_after s k d line = unless (goes_on d.end) cause.Note >> line_read s k d line
+line_after s k d line = unless (reads_on d.end) cause.Note >> line_read s k d line
 
 abbrev pub histories_read : Script → ℕ → Progress → List Line → Result Progress Refusal
 histories_read s k d [] = Ok d
 histories_read s k d (l ∷ ls) = at_line k (line_after s k d l.bytes) >>= λ e. histories_read s (k + 1) e ls
 
-abbrev pub opening : Script → Progress
-opening s = record { current = None; left = places s; lines = []; end = None }
+abbrev pub first_progress : Script → Progress
+first_progress s = record { current = None; left = places s; lines = []; end = None }
 
 -- the histories end with `end`; else the line behind the last is refused
 abbrev pub end_read : ℕ → Progress → Result ℕ Refusal
@@ -122,7 +122,7 @@ end_read k d = at_line k (some_or d.end cause.Note)
 -- the notes from line k on
 abbrev pub notes_read : Script → ℕ → List Line → Result Report Refusal
 notes_read s k ls = do
-  d ← histories_read s k (opening s) ls
+  d ← histories_read s k (first_progress s) ls
   end ← end_read (k + length ls) d
   Ok (record { script = s; lines = d.lines; end = end })
 

@@ -39,14 +39,14 @@ pub record IsSetting (x : Setting) : Type 0 where
 abbrev pub so_far : Setting → Reader → Progress
 so_far x d = progress_view x.places.now d
 
-abbrev pub IsReady : Setting → Reader → Type 0
-IsReady x d = IsSpelled x.script.now x.places.now d
+abbrev pub IsReaderReady : Setting → Reader → Type 0
+IsReaderReady x d = IsSpelled x.script.now x.places.now d
 
 -- one line or none, as a list
-abbrev pub listed : Option Line → List Line
-listed None = []
-listed (Some l) = l ∷ []
+abbrev pub one_or_none : Option Line → List Line
+one_or_none None = []
+one_or_none (Some l) = l ∷ []
 
 -- with this line so far, if there is one, and no other
 abbrev pub with_line : Progress → Option Line → Progress
-with_line d found = record d { lines = listed found }
+with_line d found = record d { lines = one_or_none found }

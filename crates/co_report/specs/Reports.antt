@@ -11,7 +11,8 @@ use Rattle.co_script.specs.Canonical.{canonical, canonical_lines}
 use Rattle.co_program.specs.declared.Script.{Script}
 use Rattle.co_program.specs.Actors.{actor_count}
 use Rattle.co_report.specs.NoteTexts.{note_words}
-use Rattle.co_report.specs.Histories.{Shown, Histories, shown_history}
+use Rattle.co_report.specs.Histories.{PlaceHistories, shown_history}
+use Rattle.co_report.specs.declared.reading.notes.NumberedEntry.{NumberedEntry}
 
 -- the places of a report, in order
 abbrev pub places : Script → List Place
@@ -22,11 +23,11 @@ heading s (place.Timer i) = numbered (codes "timer") i
 heading s (place.Cpu c) = numbered (codes "wheel") c
 heading s (place.Actor a) = codes "actor" ∷ actor_word s a ∷ []
 
-abbrev pub shown_words : Script → Shown → List Word
+abbrev pub shown_words : Script → NumberedEntry → List Word
 shown_words s n = note_words s n.number n.entry
 
 -- the heading of a place and its notes
-abbrev pub place_lines : Script → Histories → Place → List (List Word)
+abbrev pub place_lines : Script → PlaceHistories → Place → List (List Word)
 place_lines s histories p = heading s p ∷ map (shown_words s) (histories p)
 
 -- the lines of the places from one number up to another, as they stand in the report
@@ -34,7 +35,7 @@ abbrev pub lines_between : Script → List (List Note) → (first end : ℕ) →
 lines_between s lists first end = flat_map (place_lines s (shown_history lists)) (slice_range (places s) first end)
 
 -- the lines of a report, as words
-unfoldable pub report_lines : Script → Histories → List (List Word)
+unfoldable pub report_lines : Script → PlaceHistories → List (List Word)
 report_lines s histories =
     numbered (codes "callout-report") 1
     ∷ (canonical_lines s
@@ -42,7 +43,7 @@ report_lines s histories =
     ∷ (flat_map (place_lines s histories) (places s)
     ++ (codes "end" ∷ []) ∷ []))
 
-unfoldable pub report : Script → Histories → List ℕ
+unfoldable pub report : Script → PlaceHistories → List ℕ
 unfolding report_lines
 report s histories = text (report_lines s histories)
 

@@ -3,31 +3,32 @@ use Rattle.std.specs.Prelude.{◌≡◌, ℕ, ◌<◌, ◌^◌, List, [], ◌∷
 use Rattle.std.specs.List.{AllByRecursion, filter, range_with_len}
 use Rattle.co_object.specs.declared.Place.{Place}
 use Rattle.co_object.specs.Lists.{same_place}
-use Rattle.co_listener.specs.Made.{Made, list_by}
+use Rattle.co_listener.specs.MadeNotes.{MadeNote, list_by}
 use Rattle.co_program.specs.declared.Script.{Script}
 use Rattle.co_program.specs.Actors.{actor_count}
 use Rattle.co_program.specs.Scripts.{IsScript}
 use Rattle.co_text.specs.Lines.{text}
-use Rattle.co_report.specs.Histories.{Numbered, Shown, shown}
+use Rattle.co_report.specs.Histories.{Numbered, shown}
+use Rattle.co_report.specs.declared.reading.notes.NumberedEntry.{NumberedEntry}
 use Rattle.co_report.specs.Order.{place_count}
 use Rattle.co_report.specs.Reports.{places, place_lines}
 use Rattle.co_report.specs.Typed.{EntryTyped}
 
 -- how many of these notes an actor made
-abbrev pub count_by : List Made → ℕ → ℕ
+abbrev pub count_by : List MadeNote → ℕ → ℕ
 count_by made a = length (list_by made a)
 
 -- the notes that follow these, each with its number in its actor's list
-abbrev pub numbered_after : List Made → List Made → List Numbered
+abbrev pub numbered_after : List MadeNote → List MadeNote → List Numbered
 numbered_after before [] = []
 numbered_after before (m ∷ ms) = record { number = count_by before m.actor; note = m.note } ∷ numbered_after (before ++ m ∷ []) ms
 
 -- the notes of a place in the order in which they are made
-abbrev pub told_in : List Made → Place → List Shown
+abbrev pub told_in : List MadeNote → Place → List NumberedEntry
 told_in made place = map shown (filter (λ x. same_place x.note.place place) (numbered_after [] made))
 
 -- the section of a place
-abbrev pub section : Script → List Made → Place → List ℕ
+abbrev pub section : Script → List MadeNote → Place → List ℕ
 section s made place = text (place_lines s (told_in made) place)
 
 -- what is written: the sections in the report's order, and how many notes each actor has made
@@ -43,7 +44,7 @@ pub record HasRooms (x : Written) : Type 0 where
   pub counts : length x.counts ≡ actor_count x.script
 
 -- these notes are told, all by actors of the script, with values that their types allow
-pub record HasTold (x : Written) (made : List Made) : Type 0 where
+pub record NotesAreTold (x : Written) (made : List MadeNote) : Type 0 where
   pub actors : AllByRecursion (λ m. m.actor < actor_count x.script) made
   pub typed : AllByRecursion (λ m. EntryTyped m.note.entry) made
   pub few : AllByRecursion (λ count. count < 2 ^ 64) x.counts
@@ -51,9 +52,9 @@ pub record HasTold (x : Written) (made : List Made) : Type 0 where
   pub pages : x.pages ≡ map (section x.script made) (places x.script)
 
 -- these notes of this script are told
-pub record IsToldOf (s : Script) (x : Written) (made : List Made) : Type 0 where
+pub record IsToldOf (s : Script) (x : Written) (made : List MadeNote) : Type 0 where
   pub script : x.script ≡ s
-  pub told : HasTold x made
+  pub told : NotesAreTold x made
 
 abbrev pub no_script : Script
 no_script = record { version = 1; hz = 0; cpus = 0; buckets = 0; locks = []; timers = []; funcs = []; clients = []; ticks = []; turns = [] }

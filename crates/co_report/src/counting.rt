@@ -1,7 +1,7 @@
 //! The numbers of notes of the places, which threads count beside each other.
 ghost use Rattle.std.specs.Prelude.{◌≡◌, ◌<◌, ◌+◌, ℕ, length, slice_index, OnOk, IfOk};
 ghost use Rattle.co_program.specs.Places.{AllHavePlaces};
-ghost use Rattle.co_report.specs.Order.{AreCounts};
+ghost use Rattle.co_report.specs.Order.{ArePlaceCounts};
 ghost use denote.Param.Send.{IsSync};
 
 use crate::order::counts_of;
@@ -40,7 +40,7 @@ fn count_halves<R: Threads + Sync>(
     halvings: u32,
 ) -> Result<Seq<usize>, NoMemory>
     requires { AllHavePlaces script.now lists.now }
-    ensures { IfOk result (λ counts. AreCounts script.now lists.now counts) }
+    ensures { IfOk result (λ counts. ArePlaceCounts script.now lists.now counts) }
 {
     if halvings == 0 || lists.len() < 2 {
         return counts_of(alloc, script, lists);
@@ -49,11 +49,11 @@ fn count_halves<R: Threads + Sync>(
     let left = halvings - 1;
     let front = || -> Result<Seq<usize>, NoMemory>
         requires { IsSync R.row × AllHavePlaces script.now first.now }
-        ensures { IfOk result (λ counts. AreCounts script.entry.now first.entry.now counts) }
+        ensures { IfOk result (λ counts. ArePlaceCounts script.entry.now first.entry.now counts) }
     { count_halves(rt, alloc, script, first, left) };
     let back = || -> Result<Seq<usize>, NoMemory>
         requires { IsSync R.row × AllHavePlaces script.now second.now }
-        ensures { IfOk result (λ counts. AreCounts script.entry.now second.entry.now counts) }
+        ensures { IfOk result (λ counts. ArePlaceCounts script.entry.now second.entry.now counts) }
     { count_halves(rt, alloc, script, second, left) };
     let (before, behind) = join(rt, front, back);
     let mut counts = before?;
@@ -71,7 +71,7 @@ pub(crate) fn counts_by_threads<R: Threads + Sync>(
     lists: &[Seq<PackedNote>],
 ) -> Result<Seq<usize>, NoMemory>
     requires { AllHavePlaces script.now lists.now }
-    ensures { IfOk result (λ counts. AreCounts script.now lists.now counts) }
+    ensures { IfOk result (λ counts. ArePlaceCounts script.now lists.now counts) }
 {
     count_halves(rt, alloc, script, lists, HALVINGS)
 }

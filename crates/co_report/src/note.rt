@@ -1,7 +1,7 @@
 //! Notes as lines.
 ghost use Rattle.std.specs.Prelude.{◌≡◌, ◌++◌, ◌∷◌, [], codes, decimal, OnOk};
 ghost use Rattle.co_text.specs.Lines.{line_text, spaced};
-ghost use Rattle.co_report.specs.NoteTexts.{op_words, reply_words, queue_words, answer_words, own_words, answered, entry_words, note_words};
+ghost use Rattle.co_report.specs.NoteTexts.{op_words, reply_words, queue_words, answer_words, own_words, with_answer, entry_words, note_words};
 
 mod call;
 mod queue;
@@ -40,14 +40,14 @@ fn print_answer_part(page: &mut Page, answer: &QReply) -> Result<(), NoMemory>
 }
 
 fn print_call_entry(page: &mut Page, op: &Op, reply: &Reply) -> Result<(), NoMemory>
-    ensures { OnOk result (page.new ≡ page.old ++ spaced (answered (op_words op.now) (reply_words reply.now))) }
+    ensures { OnOk result (page.new ≡ page.old ++ spaced (with_answer (op_words op.now) (reply_words reply.now))) }
 {
     print_op(page, op)?;
     print_reply_part(page, reply)
 }
 
 fn print_queue_entry(page: &mut Page, op: &QOp, reply: &QReply) -> Result<(), NoMemory>
-    ensures { OnOk result (page.new ≡ page.old ++ spaced (answered (queue_words op.now) (answer_words reply.now))) }
+    ensures { OnOk result (page.new ≡ page.old ++ spaced (with_answer (queue_words op.now) (answer_words reply.now))) }
 {
     print_queue_op(page, op)?;
     print_answer_part(page, reply)

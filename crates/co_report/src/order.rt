@@ -2,7 +2,7 @@
 ghost use Rattle.std.specs.Prelude.{◌≡◌, ◌≤◌, ◌<◌, ◌+◌, ◌^◌, ℕ, true, length, slice_index, OnOk, IfOk};
 ghost use Rattle.co_object.specs.Lists.{IsWellFormed};
 ghost use Rattle.co_program.specs.Places.{place_exists, HavePlaces, AllHavePlaces};
-ghost use Rattle.co_report.specs.Order.{place_index, place_count, count_in, AreCounts, starts_from, HasRoom, location, AreWritten, origins_in, ShowsHistories};
+ghost use Rattle.co_report.specs.Order.{place_index, place_count, count_in, ArePlaceCounts, starts_from, HasRoomForOrigins, location, AreWritten, origins_in, ShowsHistories};
 
 use crate::origin::Origin;
 use crate::packing::packed_lists;
@@ -121,7 +121,7 @@ pub(crate) fn counts_of(
     lists: &[Seq<PackedNote>],
 ) -> Result<Seq<usize>, NoMemory>
     requires { AllHavePlaces script.now lists.now }
-    ensures { IfOk result (λ counts. AreCounts script.now lists.now counts) }
+    ensures { IfOk result (λ counts. ArePlaceCounts script.now lists.now counts) }
 {
     let mut counts = Seq::filled(alloc, place_count(script)?, 0)?;
     for notes in lists {
@@ -170,7 +170,7 @@ fn write_list(
     actor: u32,
 ) -> Result<(), NoMemory>
     requires actor { actor < length lists.now }
-    requires room { HasRoom script.now lists.now starts.now (length origins.old) }
+    requires room { HasRoomForOrigins script.now lists.now starts.now (length origins.old) }
     requires written { AreWritten script.now lists.now starts.now origins.old actor 0 }
     ensures length { OnOk result (length origins.new ≡ length origins.old) }
     ensures written { OnOk result (AreWritten script.now lists.now starts.now origins.new (actor + 1) 0) }
@@ -192,7 +192,7 @@ fn origins_of(
     starts: &[usize],
     room: usize,
 ) -> Result<Seq<Origin>, NoMemory>
-    requires { HasRoom script.now lists.now starts.now room }
+    requires { HasRoomForOrigins script.now lists.now starts.now room }
     ensures length { IfOk result (λ origins. length origins ≡ room) }
     ensures written { IfOk result (λ origins. AreWritten script.now lists.now starts.now origins (length lists.now) 0) }
 {
@@ -218,7 +218,7 @@ pub(crate) fn order_from(
 ) -> Result<Order, NoMemory>
     requires places { AllHavePlaces script.now lists.now }
     requires formed { IsWellFormed lists.now }
-    requires counts { AreCounts script.now lists.now counts.now }
+    requires counts { ArePlaceCounts script.now lists.now counts.now }
     ensures { IfOk result (λ order. ShowsHistories script.now lists.now order) }
 {
     let starts = starts_of(alloc, counts)?;

@@ -1,7 +1,7 @@
 //! Note lines in few bytes.
 ghost use Rattle.std.specs.Prelude.{nat_le, if◌then◌else◌, ◌≡◌, ℕ, ◌<◌, ◌++◌, ◌∷◌, [], Some, length, map, slice_get, OnOk, IfOk};
 ghost use Rattle.co_report.specs.declared.line.Line.{Line};
-ghost use Rattle.co_report.specs.PackedLines.{is_next_of, line_of, no_stretch, note_of, number_in, stretch_at};
+ghost use Rattle.co_report.specs.PackedLines.{is_next_of, line_of, no_stretch, note_from_line, line_in, stretch_at};
 
 use crate::line::Line;
 use co_object::Note;
@@ -44,7 +44,7 @@ impl Model for PackedLines {
 
 /// The number of the line at this index, where it is of this stretch.
 fn number_in(stretch: Stretch, at: u64) -> u64
-    ensures { result ≡ number_in stretch at }
+    ensures { result ≡ line_in stretch at }
 {
     stretch.line.saturating_add(at.saturating_sub(stretch.at))
 }
@@ -136,7 +136,7 @@ impl PackedLines {
     /// What the lines say, in their order, to be taken one by one: a pass over all of them reads each straight behind the last
     /// one. A note's position is its number.
     pub fn notes(&self) -> NotesAhead<'_>
-        ensures { result ≡ map note_of self.now }
+        ensures { result ≡ map note_from_line self.now }
     {
         self.notes.ahead()
     }

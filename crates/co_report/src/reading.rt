@@ -5,9 +5,9 @@ ghost use Rattle.co_text.specs.Lines.{lines_of};
 ghost use Rattle.co_program.specs.Scripts.{IsScript};
 ghost use Rattle.co_script.specs.Reading.{script_of};
 ghost use Rattle.co_script.specs.Canonical.{canonical};
-ghost use Rattle.co_report.specs.NoteValues.{IsSmall};
+ghost use Rattle.co_report.specs.NoteValues.{IsSmallScript};
 ghost use Rattle.co_report.specs.Reports.{places};
-ghost use Rattle.co_report.specs.Reading.{in_report, same_lines, histories_read, opening, notes_read, halves_read, lines_report, report_read};
+ghost use Rattle.co_report.specs.Reading.{in_report, same_lines, histories_read, first_progress, notes_read, halves_read, lines_report, report_read};
 ghost use Rattle.co_report.specs.ReadingViews.{halves_view, AreAtMost, progress_view};
 
 mod codes;
@@ -73,9 +73,9 @@ fn histories_of(
     text: &[u8],
 ) -> Result<(Progress, u64), ScriptFault>
     requires accepted { IsScript script.now }
-    requires small { IsSmall script.now }
+    requires small { IsSmallScript script.now }
     requires few { first + length text.now < 2 ^ 32 }
-    ensures value { GivesOrNoMemory (λ x. progress_view (places script.now) x.0) result (histories_read script.now first (opening script.now) (lines_of text.now)) }
+    ensures value { GivesOrNoMemory (λ x. progress_view (places script.now) x.0) result (histories_read script.now first (first_progress script.now) (lines_of text.now)) }
     ensures last { IfOk result (λ x. x.1 ≡ first + length (lines_of text.now)) }
 {
     let places = match places(alloc, script) {
@@ -93,7 +93,7 @@ fn histories_of(
 /// The notes of a script's report, whose first line has this number.
 fn notes_read(alloc: Global, script: Script, first: u64, text: &[u8]) -> Result<Report, ScriptFault>
     requires accepted { IsScript script }
-    requires small { IsSmall script }
+    requires small { IsSmallScript script }
     requires few { first + length text.now < 2 ^ 32 }
     ensures { GivesOrNoMemory (λ r. r) result (notes_read script first (lines_of text.now)) }
 {

@@ -2,13 +2,13 @@
 ghost use Rattle.std.specs.Prelude.{◌≡◌, ◌<◌, ◌+◌, ◌^◌, ◌++◌, ◌∷◌, [], true, false, List, map, OnOk, IfOk, MatchOption};
 ghost use Rattle.std.specs.List.{concat};
 ghost use Rattle.co_text.specs.Lines.{line_text};
-ghost use Rattle.co_listener.specs.Made.{Made, IsInOrder, lists_by};
+ghost use Rattle.co_listener.specs.MadeNotes.{MadeNote, IsInOrder, lists_by};
 ghost use Rattle.co_program.specs.Actors.{actor_count};
 ghost use Rattle.co_program.specs.Places.{place_exists};
 ghost use Rattle.co_program.specs.Scripts.{IsScript};
 ghost use Rattle.co_report.specs.Order.{place_index};
 ghost use Rattle.co_report.specs.Reports.{places, heading, report_of};
-ghost use Rattle.co_report.specs.Sections.{HasTold};
+ghost use Rattle.co_report.specs.Sections.{NotesAreTold};
 
 use crate::frame::{head_piece, in_frame, print_heading};
 use crate::note::print_note;
@@ -101,7 +101,7 @@ impl<'a> Sections<'a> {
     pub fn new(alloc: Global, script: &'a Script) -> Result<Sections<'a>, NoMemory>
         requires { IsScript script.now }
         ensures script { IfOk result (λ sections. sections.script ≡ script.now) }
-        ensures empty { IfOk result (λ sections. HasTold sections []) }
+        ensures empty { IfOk result (λ sections. NotesAreTold sections []) }
     {
         let pages = all_opened(alloc, script)?;
         let counts = Seq::filled(alloc, actor_count(script) as usize, 0_u64)?.into_vec();
@@ -116,7 +116,7 @@ impl<'a> Sections<'a> {
     /// canonical text of the script, the sections, and the last line. Joined they are the report. `NoMemory` where
     /// there is no room for the pieces.
     pub fn pieces(self, alloc: Global) -> Result<Seq<Seq<u8>>, NoMemory>
-        ensures { IfOk result (λ pieces. (made : List Made) → HasTold self.entry made → IsInOrder made → concat pieces ≡ report_of self.entry.script (lists_by (actor_count self.entry.script) made)) }
+        ensures { IfOk result (λ pieces. (made : List MadeNote) → NotesAreTold self.entry made → IsInOrder made → concat pieces ≡ report_of self.entry.script (lists_by (actor_count self.entry.script) made)) }
     {
         let Sections { script, pages, .. } = self;
         let mut parts = Seq::new(alloc);
@@ -128,16 +128,16 @@ impl<'a> Sections<'a> {
 
 impl<'a> Listener for Sections<'a> {
     ghost use Rattle.co_program.specs.Actors.{actor_count};
-    ghost use Rattle.co_report.specs.Sections.{HasTold};
+    ghost use Rattle.co_report.specs.Sections.{NotesAreTold};
 
     ghost actors = { λ x. actor_count x.script };
 
-    ghost has = { HasTold };
+    ghost has = { NotesAreTold };
 
     /// Appends the note's line to the section of its place. A note of a place that the script hasn't is written nowhere.
     fn write(&mut self, actor: u32, note: &Note) -> Result<(), NoMemory>
         requires actor { actor < actor_count self.old.script }
-        ensures has { OnOk result ((made : List Made) → HasTold self.old made → HasTold self.new (made ++ record { actor = actor; note = note.now } ∷ [])) }
+        ensures has { OnOk result ((made : List MadeNote) → NotesAreTold self.old made → NotesAreTold self.new (made ++ record { actor = actor; note = note.now } ∷ [])) }
         ensures actors { actor_count self.new.script ≡ actor_count self.old.script }
         ensures script { self.new.script ≡ self.old.script }
     {

@@ -1,7 +1,7 @@
 //! Sections by the script that they are of: whoever tells notes to a listener knows the listener by its type alone.
 ghost use Rattle.std.specs.Prelude.{◌≡◌, [], List, IfOk};
 ghost use Rattle.std.specs.List.{concat};
-ghost use Rattle.co_listener.specs.Made.{Made, IsInOrder, lists_by};
+ghost use Rattle.co_listener.specs.MadeNotes.{MadeNote, IsInOrder, lists_by};
 ghost use Rattle.co_program.specs.Actors.{actor_count};
 ghost use Rattle.co_program.specs.Scripts.{IsScript};
 ghost use Rattle.co_report.specs.Reports.{report_of};
@@ -52,7 +52,7 @@ impl<'a, S: Subject> SectionsOf<'a, S> {
     /// The whole report in pieces, where the notes of each place were told in the order of their positions. Joined
     /// they are the report. `NoMemory` where there is no room for the pieces.
     pub fn pieces(self, alloc: Global) -> Result<Seq<Seq<u8>>, NoMemory>
-        ensures { IfOk result (λ pieces. (made : List Made) → IsToldOf S.script self.entry.sections made → IsInOrder made → concat pieces ≡ report_of S.script (lists_by (actor_count S.script) made)) }
+        ensures { IfOk result (λ pieces. (made : List MadeNote) → IsToldOf S.script self.entry.sections made → IsInOrder made → concat pieces ≡ report_of S.script (lists_by (actor_count S.script) made)) }
     {
         self.sections.pieces(alloc)
     }

@@ -13,7 +13,7 @@ use Rattle.co_program.specs.Action.{spec_at}
 use Rattle.co_program.specs.declared.script.Script.{Script}
 use Rattle.co_program.specs.declared.role.Role.{Role}
 use Rattle.co_program.specs.declared.role.Role.TheVariants.{Client, Cpu, Interrupt}
-use Rattle.co_program.specs.declared.cursor.Service.{Service}
+use Rattle.co_program.specs.declared.cursor.InService.{InService}
 use Rattle.co_program.specs.Actors.{actor_count, acts_at, client_count, role_of}
 use Rattle.co_program.specs.Cursor.{Cursor}
 use Rattle.co_program.specs.Existing.{IsIn}
@@ -27,20 +27,17 @@ use Rattle.co_service.specs.Name.{ServiceName}
 use Rattle.co_service.specs.Services.{IsFree, IsServing}
 use Rattle.co_service.specs.Serving.{Waits, Runs}
 use Rattle.co_service.specs.Views.{PassesView, AreOf, journal_seen}
-use Rattle.co_run.specs.Going.{GoesOn}
+use Rattle.co_run.specs.Going.{SeenBegins}
 use Rattle.co_run.specs.Shown.{AreShown, AreSized}
+use Rattle.co_lock.specs.Locks.{CanBeHeld}
+use Rattle.co_world.specs.Placed.{due_in_service}
 
 -- the parameters of a service that runs the script
 abbrev pub params_of : Script → Params
 params_of s = record { version = s.version; clients = client_count s; cpus = s.cpus; buckets = s.buckets; specs = s.timers }
 
--- a lock of this number exists, and is a reader-writer lock where it is taken to read
-abbrev pub HeldBy : List LockKind → Bool → ℕ → Type 0
-HeldBy kinds true id = id < length kinds
-HeldBy kinds false id = slice_get kinds id ≡ Some LockKind.Rw
-
 abbrev pub HeldExists : List LockKind → Held → Type 0
-HeldExists kinds held = HeldBy kinds held.exclusive held.id
+HeldExists kinds held = CanBeHeld kinds held.exclusive held.id
 
 -- the lock that a task takes
 abbrev pub TaskLocks : Script → Task → Type 0
@@ -54,7 +51,7 @@ pub record HasLocks (s : Script) : Type 0 where
   pub specs : (i : ℕ) (held : Held) → hold_of (spec_at s i).lock ≡ Some held → HeldExists s.locks held
 
 -- its place in its program fits its role, names what exists, and no section is half made there
-pub record IsPlaced (s : Script) (a : ℕ) (c : Cursor) : Type 0 where
+pub record CursorFits (s : Script) (a : ℕ) (c : Cursor) : Type 0 where
   pub fits : Fits s (role_of s a) c
   pub is_in : IsIn s c
   pub locks : AllByRecursion (TaskLocks s) c.left
@@ -62,29 +59,26 @@ pub record IsPlaced (s : Script) (a : ℕ) (c : Cursor) : Type 0 where
   pub removed : c.removed ≡ None
   pub between : IsBetween c.stage
 
-abbrev pub due_of : Service → Due
-due_of v = record { i = v.i; n = v.n }
-
 -- what the passes have in service on this CPU, or as its interrupt where `direct`, at each stage
 abbrev pub ServesAt : Bool → PassesView → ℕ → Stage → Type 0
 ServesAt direct q cpu Ready = IsFree direct q cpu
 ServesAt direct q cpu (Waiting n took) = IsFree direct q cpu
 ServesAt direct q cpu (Popping act) = IsFree direct q cpu
 ServesAt direct q cpu (Picking v) = Unit {0}
-ServesAt direct q cpu (Locking v) = IsServing direct q cpu (due_of v) (Waits v.n)
-ServesAt direct q cpu (Beginning v) = IsServing direct q cpu (due_of v) (Waits v.n)
-ServesAt direct q cpu (Unlocking v acts) = IsServing direct q cpu (due_of v) (Runs v.n)
-ServesAt direct q cpu (Firing v acts) = IsServing direct q cpu (due_of v) (Runs v.n)
-ServesAt direct q cpu (Releasing v) = IsServing direct q cpu (due_of v) (Runs v.n)
-ServesAt direct q cpu (Ending v) = IsServing direct q cpu (due_of v) (Runs v.n)
+ServesAt direct q cpu (Locking v) = IsServing direct q cpu (due_in_service v) (Waits v.n)
+ServesAt direct q cpu (Beginning v) = IsServing direct q cpu (due_in_service v) (Waits v.n)
+ServesAt direct q cpu (Unlocking v acts) = IsServing direct q cpu (due_in_service v) (Runs v.n)
+ServesAt direct q cpu (Firing v acts) = IsServing direct q cpu (due_in_service v) (Runs v.n)
+ServesAt direct q cpu (Releasing v) = IsServing direct q cpu (due_in_service v) (Runs v.n)
+ServesAt direct q cpu (Ending v) = IsServing direct q cpu (due_in_service v) (Runs v.n)
 ServesAt direct q cpu (Freeing v drain next) = Unit {0}
 ServesAt direct q cpu (Drained v acts) = IsFree direct q cpu
 
 -- a client serves nothing
-abbrev pub Serves : Role → PassesView → Stage → Type 0
-Serves (Client k) q stage = Unit {0}
-Serves (Cpu x) q stage = ServesAt false q x stage
-Serves (Interrupt x) q stage = ServesAt true q x stage
+abbrev pub ServesAsStage : Role → PassesView → Stage → Type 0
+ServesAsStage (Client k) q stage = Unit {0}
+ServesAsStage (Cpu x) q stage = ServesAt false q x stage
+ServesAsStage (Interrupt x) q stage = ServesAt true q x stage
 
 -- of an interrupt: its CPU's journal has a Scan for each tick that it has begun
 abbrev pub HasScanned : Script → Role → PassesView → List Task → Stage → Type 0
@@ -106,8 +100,8 @@ pub record IsActing (s : Script) (name : ServiceName) (a : ℕ) (q : PassesView)
   pub below : a < actor_count s
   pub sized : AreSized s q
   pub held : hold ≡ c.hold
-  pub place : IsPlaced s a c
-  pub serves : Serves (role_of s a) q c.stage
+  pub place : CursorFits s a c
+  pub serves : ServesAsStage (role_of s a) q c.stage
   pub scanned : HasScanned s (role_of s a) q c.left c.stage
   pub shown : AreShown s a q notes made
-  pub leads : (H : Histories) → GoesOn H q → Trace s H a (record { cursor = c; notes = notes })
+  pub leads : (H : Histories) → SeenBegins H q → Trace s H a (record { cursor = c; notes = notes })

@@ -5,7 +5,7 @@ use Rattle.co_world.proofs.basics.Prefixes.{Begins}
 use Rattle.co_service.specs.Views.{PassesView, seen_of, journal_seen}
 
 -- what the actor has seen of each place begins its history, and all positions are told
-pub record GoesOn (H : Histories) (p : PassesView) : Type 0 where
+pub record SeenBegins (H : Histories) (p : PassesView) : Type 0 where
   pub timers : (i : ℕ) → Begins (seen_of p i) (H.timers i)
   pub cpus : (cpu : ℕ) → Begins (journal_seen p cpu) (H.cpus cpu)
   pub few : (i : ℕ) → length (H.timers i) < 2 ^ 63

@@ -10,7 +10,7 @@ use Rattle.co_service.specs.Fresh.{AreNamed}
 use Rattle.co_service.specs.Name.{ServiceName}
 use Rattle.co_service.specs.Views.{PassesView}
 use Rattle.co_run.specs.Acting.{HasLocks, params_of}
-use Rattle.co_run.specs.Over.{IsOver}
+use Rattle.co_run.specs.Over.{IsActorOver}
 use Rattle.co_run.specs.declared.book.KeptBook.{KeptBook}
 use Rattle.co_run.specs.declared.jobs.Crew.{Crew}
 use Rattle.co_run.specs.declared.jobs.Group.{Group}
@@ -36,23 +36,23 @@ pub record IsEmpty (notes : List Note) (spare : ℕ) : Type 0 where
   pub few : spare < 2 ^ 56
 
 -- each of these books is empty
-abbrev pub AreEmpty : {B : Type 0} → (B → List Note) → (B → ℕ) → List B → Type 0
-AreEmpty {B} notes spare books = (k : ℕ) (book : B) → slice_get books k ≡ Some book → IsEmpty (notes book) (spare book)
+abbrev pub AreEmptyBooks : {B : Type 0} → (B → List Note) → (B → ℕ) → List B → Type 0
+AreEmptyBooks {B} notes spare books = (k : ℕ) (book : B) → slice_get books k ≡ Some book → IsEmpty (notes book) (spare book)
 
 -- each actor of the script has a book
 pub record HaveBooks {B : Type 0} (notes : B → List Note) (spare : B → ℕ) (s : Script) (books : List B) : Type 0 where
   -- there is one for each
   pub count : length books ≡ actor_count s
   -- all are empty
-  pub empty : AreEmpty notes spare books
+  pub empty : AreEmptyBooks notes spare books
 
 -- each of these has no notes and no room
 abbrev pub AreBlank : {T : Type 0} → List (KeptBook T) → Type 0
 AreBlank {T} books = (k : ℕ) (book : KeptBook T) → slice_get books k ≡ Some book → (book.notes.items ≡ []) × (book.spare ≡ 0)
 
 -- one actor's passes after the other, and none has seen anything
-abbrev pub AreFirst : ServiceName → Params → List PassesView → Type 0
-AreFirst name p all = (k : ℕ) (q : PassesView) → slice_get all k ≡ Some q → q ≡ booted name p k
+abbrev pub AreUnseen : ServiceName → Params → List PassesView → Type 0
+AreUnseen name p all = (k : ℕ) (q : PassesView) → slice_get all k ≡ Some q → q ≡ booted name p k
 
 -- the passes and the books of the first actors, which have no jobs yet
 pub record AreLeft {B : Type 0} (notes : B → List Note) (spare : B → ℕ) (s : Script) (name : ServiceName) (passes : List PassesView) (books : List B) : Type 0 where
@@ -61,9 +61,9 @@ pub record AreLeft {B : Type 0} (notes : B → List Note) (spare : B → ℕ) (s
   -- each has its book
   pub count : length books ≡ length passes
   -- the passes have seen nothing
-  pub first : AreFirst name (params_of s) passes
+  pub first : AreUnseen name (params_of s) passes
   -- the books have no notes
-  pub empty : AreEmpty notes spare books
+  pub empty : AreEmptyBooks notes spare books
 
 -- the actor of this number has passes that have seen nothing, and an empty book
 pub record IsJob (s : Script) (name : ServiceName) (number : ℕ) (q : PassesView) (notes : List Note) (spare : ℕ) : Type 0 where
@@ -77,7 +77,7 @@ AreJobs {B} s name notes spare end jobs = (k : ℕ) (job : Job B) → slice_get 
 
 -- these actors have played their whole programs
 abbrev pub HavePlayed : {B : Type 0} → (B → List Note) → Script → ServiceName → ℕ → List (Played B) → Type 0
-HavePlayed {B} notes s name end all = (k : ℕ) (one : Played B) → slice_get all k ≡ Some one → (a : ℕ) → a + k + 1 ≡ end → IsOver s name a one.passes (notes one.book)
+HavePlayed {B} notes s name end all = (k : ℕ) (one : Played B) → slice_get all k ≡ Some one → (a : ℕ) → a + k + 1 ≡ end → IsActorOver s name a one.passes (notes one.book)
 
 -- these are of the actors from `first` on and before `end`
 pub record IsGroup {X : Type 0} (Are : ℕ → List X → Type 0) (first end : ℕ) (xs : List X) : Type 0 where

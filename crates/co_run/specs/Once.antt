@@ -12,7 +12,8 @@ use Rattle.co_program.specs.declared.program.Task.{Task}
 use Rattle.co_program.specs.declared.program.Task.TheVariants.{Does}
 use Rattle.co_program.specs.declared.script.Script.{Script}
 use Rattle.co_program.specs.Scripts.{IsScript}
-use Rattle.co_run.specs.Acting.{HasLocks, HeldBy, TaskLocks}
+use Rattle.co_run.specs.Acting.{HasLocks, TaskLocks}
+use Rattle.co_lock.specs.Locks.{CanBeHeld}
 
 one_or_two : (n : ℕ) → IsProp ((n ≡ 1) ⊎ (n ≡ 2))
 one_or_two n (inl p) (inl q) = ap inl (ℕ_set n 1 p q)
@@ -32,9 +33,9 @@ power-prop n a b = Σ_prop_path (λ e. ℕ_set n (2 ^ e)) (same_power a.0 b.0 (s
 pub IsScript-prop : (s : Script) → IsProp (IsScript s)
 IsScript-prop s = hlevel (props, one_or_two, power-prop)
 
-HeldBy-prop : (kinds : List LockKind) (exclusive : Bool) (id : ℕ) → IsProp (HeldBy kinds exclusive id)
-HeldBy-prop kinds true id = le_prop
-HeldBy-prop kinds false id = hlevel props
+CanBeHeld-prop : (kinds : List LockKind) (exclusive : Bool) (id : ℕ) → IsProp (CanBeHeld kinds exclusive id)
+CanBeHeld-prop kinds true id = le_prop
+CanBeHeld-prop kinds false id = hlevel props
 
 TaskLocks-prop : (s : Script) (task : Task) → IsProp (TaskLocks s task)
 TaskLocks-prop s (Does (Lock id)) = le_prop
@@ -42,4 +43,4 @@ TaskLocks-prop s (Does (ReadLock id)) = hlevel props
 TaskLocks-prop s task = Unit-prop
 
 pub HasLocks-prop : (s : Script) → IsProp (HasLocks s)
-HasLocks-prop s = hlevel (props, HeldBy-prop, TaskLocks-prop)
+HasLocks-prop s = hlevel (props, CanBeHeld-prop, TaskLocks-prop)

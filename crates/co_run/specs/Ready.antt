@@ -5,36 +5,36 @@ use Rattle.co_program.specs.declared.script.Script.{Script}
 use Rattle.co_program.specs.Action.{Action, Nothing, action_for}
 use Rattle.co_program.specs.Actors.{role_of}
 use Rattle.co_program.specs.Cursor.{Cursor}
-use Rattle.co_program.specs.Indexed.{MoveCounts, cursor_of}
-use Rattle.co_program.specs.declared.action.Move.{Move}
+use Rattle.co_program.specs.Indexed.{SilentCounts, cursor_of}
+use Rattle.co_program.specs.declared.action.SilentStep.{SilentStep}
 use Rattle.co_program.specs.Stages.{Ready}
 use Rattle.co_service.specs.Name.{ServiceName}
-use Rattle.co_run.specs.Acting.{HasAllScans, IsActing, Serves}
+use Rattle.co_run.specs.Acting.{HasAllScans, IsActing, ServesAsStage}
 use Rattle.co_run.specs.Counted.{HasNumbers}
-use Rattle.co_run.specs.Over.{IsOver}
+use Rattle.co_run.specs.Over.{IsActorOver}
 use Rattle.co_run.specs.Roomy.{is_resting, room_at}
 use Rattle.co_run.specs.declared.actor.Actor.{Actor}
 
 -- where the actor is in its program
-abbrev pub place_of : {B : Type 0} → Script → Actor B → Cursor
-place_of s actor = cursor_of s actor.number actor.cursor
+abbrev pub actor_cursor : {B : Type 0} → Script → Actor B → Cursor
+actor_cursor s actor = cursor_of s actor.number actor.cursor
 
 -- the actor can make its next step. `notes` and `spare` are what its book has and has room for; no function of the script
 -- has more acts than `longest`
 pub record IsReady {B : Type 0} (notes : B → List Note) (spare : B → ℕ) (s : Script) (longest : ℕ) (name : ServiceName) (actor : Actor B) : Type 0 where
   -- its passes, its hold and its notes are those of its place in its program
-  pub acting : IsActing s name actor.number actor.passes (place_of s actor) actor.hold (notes actor.book) actor.own
+  pub acting : IsActing s name actor.number actor.passes (actor_cursor s actor) actor.hold (notes actor.book) actor.own
   -- its next act has a number, and so has each note that there is room for
   pub count : HasNumbers actor.cursor (notes actor.book) (spare actor.book)
   -- there is room for each note that it makes before it can ask for room
-  pub room : room_at longest (place_of s actor).stage ≤ spare actor.book
+  pub room : room_at longest (actor_cursor s actor).stage ≤ spare actor.book
 
 -- the actor's next step is this one
 pub record IsDue {B : Type 0} (notes : B → List Note) (spare : B → ℕ) (s : Script) (longest : ℕ) (name : ServiceName) (actor : Actor B) (step : Action) : Type 0 where
   -- it can make its next step
   pub ready : IsReady notes spare s longest name actor
   -- which its program says is this one
-  pub next : action_for s actor.number (place_of s actor) ≡ step
+  pub next : action_for s actor.number (actor_cursor s actor) ≡ step
 
 -- and there is room for so many notes of the step
 pub record HasRoomFor {B : Type 0} (notes : B → List Note) (spare : B → ℕ) (s : Script) (longest : ℕ) (name : ServiceName) (count : ℕ) (actor : Actor B) (step : Action) : Type 0 where
@@ -44,22 +44,22 @@ pub record HasRoomFor {B : Type 0} (notes : B → List Note) (spare : B → ℕ)
   pub room : count ≤ spare actor.book
 
 -- the actor's next step is this one, a move without a note
-pub record IsSilent {B : Type 0} (notes : B → List Note) (spare : B → ℕ) (s : Script) (longest : ℕ) (name : ServiceName) (actor : Actor B) (to : Move) (step : Action) : Type 0 where
+pub record IsSilent {B : Type 0} (notes : B → List Note) (spare : B → ℕ) (s : Script) (longest : ℕ) (name : ServiceName) (actor : Actor B) (to : SilentStep) (step : Action) : Type 0 where
   -- this step is due
   pub due : IsDue notes spare s longest name actor step
   -- after the move the next act has a number still
-  pub counted : MoveCounts actor.cursor to
+  pub counted : SilentCounts actor.cursor to
 
 -- the actor is between two services
 pub record IsAtRest {B : Type 0} (notes : B → List Note) (spare : B → ℕ) (s : Script) (longest : ℕ) (name : ServiceName) (actor : Actor B) : Type 0 where
   -- it can make its next step
   pub ready : IsReady notes spare s longest name actor
   -- nothing is in service, and no function runs
-  pub rests : is_resting (place_of s actor).stage ≡ true
+  pub rests : is_resting (actor_cursor s actor).stage ≡ true
 
 -- nothing of its program is left
-abbrev pub IsDone : {B : Type 0} → Script → Actor B → Type 0
-IsDone s actor = action_for s actor.number (place_of s actor) ≡ Nothing
+abbrev pub HasFinishedProgram : {B : Type 0} → Script → Actor B → Type 0
+HasFinishedProgram s actor = action_for s actor.number (actor_cursor s actor) ≡ Nothing
 
 -- the same actor is ready again
 pub record HasGoneOn {B : Type 0} (notes : B → List Note) (spare : B → ℕ) (s : Script) (longest : ℕ) (name : ServiceName) (old new : Actor B) : Type 0 where
@@ -75,7 +75,7 @@ pub record HasGoneTo {B : Type 0} (notes : B → List Note) (spare : B → ℕ) 
   -- it is the actor that it was
   pub number : new.number ≡ old.number
   -- it is here in its program
-  pub place : place_of s new ≡ to
+  pub place : actor_cursor s new ≡ to
   -- its book has room for so many notes fewer
   pub spent : spare old.book ≡ spare new.book + count
 
@@ -86,7 +86,7 @@ pub record HasMoved {B : Type 0} (notes : B → List Note) (spare : B → ℕ) (
   -- it is the actor that it was
   pub number : new.number ≡ old.number
   -- it is here in its program
-  pub place : place_of s new ≡ to
+  pub place : actor_cursor s new ≡ to
   -- its book is as it was
   pub book : new.book ≡ old.book
 
@@ -95,21 +95,21 @@ pub record HasTried {B X E : Type 0} (notes : B → List Note) (spare : B → �
   -- it can make its next step, whatever came of this one
   pub gone_on : HasGoneOn notes spare s longest name old new
   -- where there was no room, it is between two services
-  pub rests : OnErr result (is_resting (place_of s new).stage ≡ true)
+  pub rests : OnErr result (is_resting (actor_cursor s new).stage ≡ true)
 
 -- so it is after a step, whose answer is whether nothing is left
 pub record HasStepped {B E : Type 0} (notes : B → List Note) (spare : B → ℕ) (s : Script) (longest : ℕ) (name : ServiceName) (old new : Actor B) (result : Result Bool E) : Type 0 where
   -- it can make its next step, whatever came of this one
   pub tried : HasTried notes spare s longest name old new result
   -- where the answer is so, nothing of its program is left
-  pub over : IfOk result (λ over. over ≡ true → IsDone s new)
+  pub over : IfOk result (λ over. over ≡ true → HasFinishedProgram s new)
 
 -- and after its steps, of which none is left
 pub record HasPlayedOn {B X E : Type 0} (notes : B → List Note) (spare : B → ℕ) (s : Script) (longest : ℕ) (name : ServiceName) (old new : Actor B) (result : Result X E) : Type 0 where
   -- it can make its next step, if it has one, and rests where there was no room
   pub tried : HasTried notes spare s longest name old new result
   -- where there was room, nothing of its program is left
-  pub over : OnOk result (IsDone s new)
+  pub over : OnOk result (HasFinishedProgram s new)
 
 -- it has left its program between two services
 pub record HasLeft {B : Type 0} (s : Script) (old new : Actor B) : Type 0 where
@@ -120,14 +120,14 @@ pub record HasLeft {B : Type 0} (s : Script) (old new : Actor B) : Type 0 where
   -- all Scans of its program are made
   pub scans : HasAllScans s (role_of s new.number) new.passes
   -- nothing is in its service
-  pub free : Serves (role_of s new.number) new.passes Ready
+  pub free : ServesAsStage (role_of s new.number) new.passes Ready
 
 -- it has played its whole program, or has left it
 pub record HasPlayed {B X E : Type 0} (notes : B → List Note) (spare : B → ℕ) (s : Script) (name : ServiceName) (old new : Actor B) (result : Result X E) : Type 0 where
   -- it is the actor that it was
   pub number : new.number ≡ old.number
   -- where there was room, its program is over
-  pub over : OnOk result (IsOver s name old.number new.passes (notes new.book))
+  pub over : OnOk result (IsActorOver s name old.number new.passes (notes new.book))
   -- and each note that there is room for would have a number
   pub numbers : OnOk result (HasNumbers new.cursor (notes new.book) (spare new.book))
   -- where there was none, it has left it in order

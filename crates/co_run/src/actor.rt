@@ -3,7 +3,7 @@ ghost use Rattle.std.specs.Prelude.{◌≡◌, ◌≤◌, ◌+◌, ◌++◌, ◌
 ghost use Rattle.co_program.specs.Advance.{advance};
 ghost use Rattle.co_program.specs.Indexed.{cursor_of};
 ghost use Rattle.co_program.specs.Scripts.{IsScript};
-ghost use Rattle.co_service.specs.Call.{noted, notes_in};
+ghost use Rattle.co_service.specs.Call.{notes_with, notes_in};
 ghost use Rattle.co_run.specs.Counted.{CanTell, HasTold};
 ghost use Rattle.co_run.specs.Noted.{gone_on, gone_on_with};
 
@@ -76,7 +76,7 @@ fn tell_some<B: Book>(
     requires script { IsScript script.now }
     requires can { CanTell B.notes B.spare cursor.old book.old 1 }
     ensures cursor { (actor : ℕ) → cursor_of script.now actor cursor.new ≡ gone_on_with script.now (cursor_of script.now actor cursor.old) more note.now }
-    ensures told { HasTold B.notes B.spare cursor.new book.old book.new (noted note.now) }
+    ensures told { HasTold B.notes B.spare cursor.new book.old book.new (notes_with note.now) }
 {
     if let Some(note) = note {
         tell(script, cursor, book, note, more);

@@ -4,7 +4,7 @@ ghost use Rattle.co_program.specs.Scripts.{IsScript};
 ghost use Rattle.co_service.specs.Booted.{AreBooted};
 ghost use Rattle.co_run.specs.Acting.{params_of};
 ghost use Rattle.co_run.specs.Jobs.{AreDealt, AreLeft, HaveBooks, IsDealt, IsJob};
-ghost use Rattle.co_run.specs.Over.{IsOver};
+ghost use Rattle.co_run.specs.Over.{IsActorOver};
 
 use crate::actor::Actor;
 use crate::book::Book;
@@ -127,7 +127,7 @@ pub(crate) fn play_job<B: Book, N: Name, G: Gate, R: Wait + Sync>(
     job: Job<B>,
 ) -> Result<Played<B>, NoMemory>
     requires job { IsJob shared.now.script.now N.name number job.passes (B.notes job.book) (B.spare job.book) }
-    ensures { IfOk result (λ played. IsOver shared.now.script.now N.name number played.passes (B.notes played.book)) }
+    ensures { IfOk result (λ played. IsActorOver shared.now.script.now N.name number played.passes (B.notes played.book)) }
 {
     let Job { passes, book } = job;
     let mut actor = Actor::begins(shared, number, passes, book);

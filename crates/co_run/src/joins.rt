@@ -4,7 +4,7 @@
 //! had. So the clients come first, then the interrupts, then the CPUs: an actor waits only for actors that have begun.
 ghost use Rattle.std.specs.Prelude.{◌≡◌, ◌+◌, ◌<◌, IfOk, OnOk, length};
 ghost use Rattle.co_run.specs.Jobs.{AreJobs, HasJobs, HavePlayed, IsGroup, IsJob};
-ghost use Rattle.co_run.specs.Over.{IsOver};
+ghost use Rattle.co_run.specs.Over.{IsActorOver};
 ghost use denote.Param.Send.{IsSend, IsSync};
 
 use crate::book::Book;
@@ -45,7 +45,7 @@ fn add<N: Name, B: Book>(
     end: u32,
 ) -> Result<(), NoMemory>
     requires played { IsGroup (HavePlayed B.notes script.now N.name) (number + 1) end all.old }
-    requires over { IsOver script.now N.name number one.passes (B.notes one.book) }
+    requires over { IsActorOver script.now N.name number one.passes (B.notes one.book) }
     ensures { OnOk result (IsGroup (HavePlayed B.notes script.now N.name) number end all.new) }
 {
     let _ = (number, end);
@@ -86,7 +86,7 @@ fn play_group<B: Book + Send, N: Name + Send + Sync, G: Gate + Sync, R: Threads 
         { play_group(rt, alloc, shared, later) },
         || -> Result<Played<B>, NoMemory>
             requires { IsSync R.row × IsSync G.row × IsSend B.row × IsJob shared.now.script.now N.name first job.passes (B.notes job.book) (B.spare job.book) }
-            ensures { IfOk result (λ played. IsOver shared.entry.now.script.now N.name first played.passes (B.notes played.book)) }
+            ensures { IfOk result (λ played. IsActorOver shared.entry.now.script.now N.name first played.passes (B.notes played.book)) }
         { play_job(rt, shared, first, job) },
     );
     let mut all = rest?;

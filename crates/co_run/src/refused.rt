@@ -12,7 +12,7 @@ ghost use Rattle.co_service.specs.Params.{actors_of};
 ghost use Rattle.co_service.specs.Services.{IsFree};
 ghost use Rattle.co_service.specs.Views.{AreOf, journal_seen};
 ghost use Rattle.co_world.proofs.kept.Invariant.{under_way};
-ghost use Rattle.co_run.specs.Acting.{HasAllScans, HasScanned, Serves};
+ghost use Rattle.co_run.specs.Acting.{HasAllScans, HasScanned, ServesAsStage};
 ghost use Rattle.co_run.specs.Ready.{HasLeft, IsAtRest};
 
 use crate::actor::Actor;
@@ -82,7 +82,7 @@ fn scan_rest<N: Name, G: Gate, R: Wait>(
     requires actor { passes.old.actor ≡ number }
     requires scanned { let c = cursor_of shared.now.script.now number cursor.now in HasScanned shared.now.script.now (role_of shared.now.script.now number) passes.old c.left c.stage }
     ensures scans { HasAllScans shared.now.script.now (role_of shared.now.script.now number) passes.new }
-    ensures free { Serves (role_of shared.now.script.now number) passes.old Ready → Serves (role_of shared.now.script.now number) passes.new Ready }
+    ensures free { ServesAsStage (role_of shared.now.script.now number) passes.old Ready → ServesAsStage (role_of shared.now.script.now number) passes.new Ready }
 {
     let script = shared.script;
     let Role::Interrupt(cpu) = role_of(script, number) else {

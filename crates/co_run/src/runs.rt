@@ -5,7 +5,7 @@ ghost use Rattle.co_program.specs.Scripts.{IsScript};
 ghost use Rattle.co_service.specs.Params.{AreParams};
 ghost use Rattle.co_run.specs.Acting.{HasLocks, params_of};
 ghost use Rattle.co_run.specs.Jobs.{AreBlank, HaveBooks, HavePlayed, IsCrew, IsGroup, MayRun};
-ghost use Rattle.co_run.specs.Over.{AreOver, IsOver};
+ghost use Rattle.co_run.specs.Over.{AreOver, IsActorOver};
 ghost use Rattle.co_run.specs.Ran.{IsRan};
 
 use crate::book::{Book, KeptBook, Notebook, PackedBook};
@@ -64,7 +64,7 @@ fn add<N: Name, B: Book>(
     one: Played<B>,
 ) -> Result<(), NoMemory>
     requires over { AreOver script.now N.name 0 all.old.passes (map B.notes all.old.books) }
-    requires one { IsOver script.now N.name (length all.old.books) one.passes (B.notes one.book) }
+    requires one { IsActorOver script.now N.name (length all.old.books) one.passes (B.notes one.book) }
     ensures over { OnOk result (AreOver script.now N.name 0 all.new.passes (map B.notes all.new.books)) }
     ensures count { OnOk result (length all.new.books ≡ length all.old.books + 1) }
 {
@@ -84,7 +84,7 @@ fn leave_next<N: Name, B: Book>(
     requires some { next < end }
     requires group { IsGroup (HavePlayed B.notes script.now N.name) next end group.old.items }
     ensures rest { IsGroup (HavePlayed B.notes script.now N.name) (next + 1) end group.new.items }
-    ensures one { IsOver script.now N.name next result.passes (B.notes result.book) }
+    ensures one { IsActorOver script.now N.name next result.passes (B.notes result.book) }
 {
     let _ = script;
     let _ = (next, end);

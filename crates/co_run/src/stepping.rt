@@ -7,7 +7,7 @@ use crate::book::Book;
 use crate::shared::Shared;
 use co_hand::Gate;
 use co_object::Op;
-use co_program::{Action, Asked, Cursor, Move, Stage, action_for};
+use co_program::{Action, Asked, Cursor, SilentStep, Stage, action_for};
 use co_sbt::NoMemory;
 use co_service::Name;
 use std::sync::Wait;
@@ -15,7 +15,7 @@ use std::sync::Wait;
 /// The actor goes through the gate before each act, those of functions included. The gate changes no value, so that no clause
 /// can speak of it: a test has to count its calls.
 fn stand<G: Gate>(gate: &G, actor: u32, cursor: &Cursor, next: &Action) {
-    if let Action::Nothing | Action::Silent(Move::Ends) = next {
+    if let Action::Nothing | Action::Silent(SilentStep::Ends) = next {
         return;
     }
     if let Stage::Ready | Stage::Firing(_, _) | Stage::Drained(_, _) = cursor.stage {

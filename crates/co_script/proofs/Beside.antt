@@ -7,7 +7,7 @@ use Rattle.co_grammar.specs.declared.Kind.{Kind}
 use Rattle.co_text.specs.Lines.{Line}
 use Rattle.co_script.specs.Drafts.{Draft}
 use Rattle.co_script.specs.Reading.{line_read, lines_read}
-use Rattle.co_script.specs.Beside.{HaveOneFrame, AreAlike, Begins, Grows, Reads, with_acts}
+use Rattle.co_script.specs.Beside.{HaveOneFrame, StandAlike, Begins, Grows, Reads, with_acts}
 use Rattle.co_script.proofs.LinesFold.{lines-cons}
 
 pub frame-between : (f d e : Draft) → HaveOneFrame f d → HaveOneFrame f e → HaveOneFrame d e
@@ -48,7 +48,7 @@ pub reads-more : (f d e : Draft) (stage : Kind) (lines rest after : List Line) (
     → Reads f stage lines d.acts d.clock n rest → Grows l d e → Reads f stage lines e.acts e.clock (n + 1) after
 reads-more f d e stage lines rest after l n same kind is reads g o k frame begins few =
     let p : Draft = with_acts o d.acts d.clock (o.count + length d.acts) in
-    let alike : AreAlike d p = record { frame = frame-held d o d.acts d.clock (o.count + length d.acts) (frame-between f d o same frame); stage = kind ∙ sym begins.kind; acts = refl; clock = refl } in
+    let alike : StandAlike d p = record { frame = frame-held d o d.acts d.clock (o.count + length d.acts) (frame-between f d o same frame); stage = kind ∙ sym begins.kind; acts = refl; clock = refl } in
     let room : p.count + length e.acts ≤ 262144 + length d.acts = omega (arith, few) in
     let fits : o.count + length d.acts ≤ 262144 = omega (arith, few, g.more) in
     let count : p.count + length e.acts - length d.acts ≡ o.count + length e.acts = omega arith in

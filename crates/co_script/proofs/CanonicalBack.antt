@@ -18,7 +18,7 @@ use Rattle.co_program.specs.Actors.{actor_count}
 use Rattle.co_grammar.specs.Spelling.{numbered, lock_line, timer_line}
 use Rattle.co_grammar.proofs.ActsBack.{IsShort}
 use Rattle.co_grammar.proofs.Sizes.{numbered-short}
-use Rattle.co_script.specs.Drafts.{Draft, opening, closed, padded, padded_script, finished}
+use Rattle.co_script.specs.Drafts.{Draft, first_draft, closed, padded, padded_script, finished}
 use Rattle.co_script.specs.Reading.{lines_read, text_end, lines_script, script_of}
 use Rattle.co_script.specs.Canonical.{each_from, section_lines, runs, run_words, canonical_lines, canonical}
 use Rattle.co_script.specs.Fits.{fits}
@@ -84,7 +84,7 @@ module _ (s : Script) (f : Fitting s) where
       let all : length (steps_in (runs s.turns)) ≡ length s.turns = ap (λ (l : List ℕ). length l) (runs-back s.turns) in
       omega (arith, all, f.turns_few, runs-few (actor_count s) (runs s.turns) (are-runs (actor_count s) s.turns f.turns))
 
-  behind-leads : Leads (opening s.version) (behind_first s) most Whole
+  behind-leads : Leads (first_draft s.version) (behind_first s) most Whole
   behind-leads =
       let runs_most : ℕ = 20 * length (runs s.turns) in
       let cpus_most : ℕ = sum_by section_size s.ticks + runs_most in
@@ -92,9 +92,9 @@ module _ (s : Script) (f : Fitting s) where
       let funcs_most : ℕ = sum_by section_size s.funcs + clients_most in
       let timers_most : ℕ = sum_by (λ (x : Spec). 150) s.timers + funcs_most in
       let locks_most : ℕ = sum_by (λ (k : LockKind). 150) s.locks + timers_most in
-      at-most (opening s.version) (behind_first s) (600 + locks_most) most Whole
+      at-most (first_draft s.version) (behind_first s) (600 + locks_most) most Whole
       (omega (arith, runs-size, sections-size s.ticks, sections-size s.clients, sections-size s.funcs, each-150 s.timers, each-150 s.locks, f.total, f.small.locks, f.small.timers, f.small.funcs_fit, f.small.cpus, f.clients_few, f.ticks_all))
-      (and-then (opening s.version) (head_behind s) (lock_lines s) 600 locks_most (After (headed s) funcs_of 0 4) Whole (head-leads s f)
+      (and-then (first_draft s.version) (head_behind s) (lock_lines s) 600 locks_most (After (headed s) funcs_of 0 4) Whole (head-leads s f)
       (λ d1 h1. and-then d1 (each_from lock_line 0 s.locks) (timer_lines s) (sum_by (λ (k : LockKind). 150) s.locks) timers_most (After (locked s s.locks) funcs_of 0 5) Whole (locks-lead s f d1 h1)
       (λ d2 h2. and-then d2 (each_from timer_line 0 s.timers) (func_lines s) (sum_by (λ (x : Spec). 150) s.timers) funcs_most (After (timed s s.timers) funcs_of 0 6) Whole (timers-lead s f d2 h2)
       (λ d3 h3. and-then d3 (each_from (section_lines (codes "func")) 0 s.funcs) (client_lines s) (sum_by section_size s.funcs) clients_most (After (with_funcs s s.funcs) funcs_of (acts_in s.funcs) 7) Whole (funcs-lead s f d3 h3)
@@ -133,7 +133,7 @@ module _ (s : Script) (f : Fitting s) where
       let rest = behind-leads.read 2 [] in
       ap (λ r. r >>= λ d. at_line 0 (text_end d))
       (version-read s.version (map whole_line (behind_first s)) (known s.version low high) words
-      ∙ (ap (λ ls. lines_read 2 (Some (opening s.version)) ls) (sym (append-nil (map whole_line (behind_first s)))) ∙ rest.1))
+      ∙ (ap (λ ls. lines_read 2 (Some (first_draft s.version)) ls) (sym (append-nil (map whole_line (behind_first s)))) ∙ rest.1))
       ∙ ap (λ r. at_line 0 r) (ends behind-leads.draft behind-leads.holds)
 
   text-read : script_of (text (numbered (codes "callout") s.version ∷ behind_first s)) ≡ Ok s

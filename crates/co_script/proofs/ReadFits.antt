@@ -14,9 +14,9 @@ use Rattle.co_grammar.specs.declared.Kind.{Kind}
 use Rattle.co_grammar.specs.declared.Kind.TheVariants as kind
 use Rattle.co_grammar.specs.declared.Opener.{Opener}
 use Rattle.co_grammar.specs.declared.Opener.TheVariants.{Frame, Act as Does}
-use Rattle.co_grammar.specs.Keywords.{kind_of, verb_of, is_section}
+use Rattle.co_grammar.specs.Keywords.{act_kind, verb_of, is_section}
 use Rattle.co_grammar.specs.Checks.{is_within}
-use Rattle.co_script.specs.Drafts.{Draft, opening, closed, with_section, finished}
+use Rattle.co_script.specs.Drafts.{Draft, first_draft, closed, with_section, finished}
 use Rattle.co_script.specs.Reading.{opener_of, may_stand, opened_line, line_after, version_of, version_line, line_of_words, line_read, lines_read, text_end, lines_script, script_of}
 use Rattle.co_script.specs.Fits.{fits}
 use Rattle.co_script.proofs.told.Steps.{bind-ok, unless-ok}
@@ -35,9 +35,9 @@ line-fine d w ws e h read =
       go : (o : Opener) → opener_of d w ≡ Ok o → may_stand d.stage o ≡ true → opened_line d o ws ≡ Ok e → Fine e
       go (Frame k) is order read = frame-fine d k ws e h order read
       go (Does v) is order read =
-          act-fine d v ws e h (of-version d.script.version w v (opener-verb (is_section d.stage) (kind_of w) (verb_of d.script.version w) v is)) order read
+          act-fine d v ws e h (of-version d.script.version w v (opener-verb (is_section d.stage) (act_kind w) (verb_of d.script.version w) v is)) order read
 
-opening-fine : (v : ℕ) → is_within 1 2 v ≡ true → Fine (opening v)
+opening-fine : (v : ℕ) → is_within 1 2 v ≡ true → Fine (first_draft v)
 opening-fine v known = record {
   firm = record {
     version = known;
@@ -67,7 +67,7 @@ opening-fine v known = record {
   funcs_room = omega arith;
   clients_room = omega arith;
   ticks_room = omega arith;
-  acts = empty-section 0 (named_by (opening v).script) kind.Callout;
+  acts = empty-section 0 (named_by (first_draft v).script) kind.Callout;
   clock = refl;
   total = omega arith;
 }
@@ -85,8 +85,8 @@ version-known (a ∷ b ∷ c ∷ ws) v h = cc
 
 version-fine : (ws : List Word) (d : Draft) → version_line ws ≡ Ok d → Fine d
 version-fine ws d h =
-    let v = bind-ok (some_or (version_of ws) cause.Version) (λ v. Ok (opening v)) d h in
-    let same : opening v.0 ≡ d = cc in
+    let v = bind-ok (some_or (version_of ws) cause.Version) (λ v. Ok (first_draft v)) d h in
+    let same : first_draft v.0 ≡ d = cc in
     subst (λ x. Fine x) same (opening-fine v.0 (version-known ws v.0 (some (version_of ws) v.1))) where
       some : (o : Option ℕ) {x : ℕ} → some_or o cause.Version ≡ Ok x → o ≡ Some x
       some None h = cc

@@ -21,7 +21,7 @@ use Rattle.co_grammar.specs.declared.Opener.TheVariants.{Frame}
 use Rattle.co_grammar.specs.Keywords.{is_section, is_func, verb_of_act}
 use Rattle.co_grammar.specs.Statements.{Statement}
 use Rattle.co_grammar.specs.Forms.{frame_form}
-use Rattle.co_grammar.specs.Checks.{IsSmall, is_i32, call_fits, values_fit, act_fits, act_kind_fits, act_rises}
+use Rattle.co_grammar.specs.Checks.{HasSmallNumbers, is_i32, call_fits, values_fit, act_fits, act_kind_fits, act_rises}
 use Rattle.co_grammar.specs.Spelling.{numbered, act_words}
 use Rattle.co_grammar.proofs.ActsBack.{IsShort, WhoStands, MomentStands, WhereStands, ActStands, act-words}
 use Rattle.co_grammar.proofs.Sizes.{act-short, numbered-short}
@@ -29,7 +29,8 @@ use Rattle.co_script.specs.Drafts.{Draft, closed, with_section, time_after}
 use Rattle.co_script.specs.Refusals.{draft_with, most_acts}
 use Rattle.co_script.specs.Reading.{opener_of, may_stand}
 use Rattle.co_script.specs.Canonical.{section_lines}
-use Rattle.co_script.specs.Fits.{is_of_version, names_me, is_time, is_moment, rises_after, act_stands, section_fits}
+use Rattle.co_script.specs.Fits.{is_of_version, is_time, is_moment, rises_after, act_stands, section_fits}
+use Rattle.co_program.specs.Calls.{is_me}
 use Rattle.co_script.proofs.drafts.Named.{named_by, fits-named, kind-named}
 use Rattle.co_script.proofs.LinesFold.{Passes, MayAdd, with_act, act-read, frame-read}
 use Rattle.co_script.proofs.Standing.{Standing, standing}
@@ -49,8 +50,8 @@ moment-stands : (m : When) → is_moment m ≡ true → MomentStands m
 moment-stands (when.After t) h = ltb-true t (2 ^ 63) h
 moment-stands (when.At t) h = ltb-true t (2 ^ 63) h
 
-module _ (k : Kind) (funcs : ℕ) (s : Script) (small : IsSmall s funcs) where
-  who-stands : (w : Who) → (is_func k || not (names_me w)) ≡ true → who_exists s w ≡ true → WhoStands (is_func k) w
+module _ (k : Kind) (funcs : ℕ) (s : Script) (small : HasSmallNumbers s funcs) where
+  who-stands : (w : Who) → (is_func k || not (is_me w)) ≡ true → who_exists s w ≡ true → WhoStands (is_func k) w
   who-stands (callout.Timer i) me exists = let below : i < length s.timers = ltb-true i (length s.timers) exists in omega (arith, below, small.timers)
   who-stands callout.Me me exists = or-false (is_func k) me
 
@@ -103,7 +104,7 @@ pub record IsOpen (s : Script) (d : Draft) : Type 0 where
   pub funcs : d.funcs ≡ length s.funcs
   pub named : named_by d.script ≡ named_by s
 
-module _ (s : Script) (small : IsSmall s (length s.funcs)) where
+module _ (s : Script) (small : HasSmallNumbers s (length s.funcs)) where
   fits-alike : (d : Draft) (a : Act) → IsOpen s d → act_fits d.funcs d.script a ≡ act_fits (length s.funcs) s a
   fits-alike d a o = fits-named d.funcs d.script a ∙ (ap (λ t. act_fits d.funcs t a) o.named ∙ (ap (λ n. act_fits n (named_by s) a) o.funcs ∙ sym (fits-named (length s.funcs) s a)))
 

@@ -11,16 +11,17 @@ use Rattle.co_grammar.specs.declared.Kind.{Kind}
 use Rattle.co_grammar.specs.Keywords.{is_func, may_act, verb_of_act}
 use Rattle.co_grammar.specs.Checks.{values_fit, act_fits, act_kind_fits}
 use Rattle.co_script.specs.Refusals.{most_acts}
-use Rattle.co_script.specs.Fits.{is_of_version, act_names_me, has_times, act_stands, rises_after, section_fits}
+use Rattle.co_script.specs.Fits.{is_of_version, has_times, act_stands, rises_after, section_fits}
+use Rattle.co_program.specs.Calls.{names_me}
 
 -- an act may stand in such a section, where this is how many functions there are
 abbrev pub stands : ℕ → Script → Kind → Act → Bool
-stands funcs s k a = may_act k (verb_of_act a) && (is_of_version s.version (verb_of_act a) && ((is_func k || not (act_names_me a)) && (has_times a && (act_fits funcs s a && act_kind_fits s a))))
+stands funcs s k a = may_act k (verb_of_act a) && (is_of_version s.version (verb_of_act a) && ((is_func k || not (names_me a)) && (has_times a && (act_fits funcs s a && act_kind_fits s a))))
 
 pub record Standing (funcs : ℕ) (s : Script) (k : Kind) (a : Act) : Type 0 where
   pub verb : may_act k (verb_of_act a) ≡ true
   pub version : is_of_version s.version (verb_of_act a) ≡ true
-  pub me : (is_func k || not (act_names_me a)) ≡ true
+  pub me : (is_func k || not (names_me a)) ≡ true
   pub times : has_times a ≡ true
   pub names : names_exist s a ≡ true
   pub values : values_fit funcs s a ≡ true

@@ -24,7 +24,7 @@ use Rattle.co_grammar.specs.Spelling.{role_word}
 use Rattle.co_grammar.proofs.ActsBack.{IsShort}
 use Rattle.co_grammar.proofs.FrameBack.{turn-back, client-back, cpu-back, interrupt-back, turns-line}
 use Rattle.co_script.specs.Drafts.{Draft}
-use Rattle.co_script.specs.Refusals.{actor_number, below, times_of, number_or_0, steps_of, draft_with}
+use Rattle.co_script.specs.Refusals.{actor_number, below, times_of, number_or_0, steps_of_turn, draft_with}
 use Rattle.co_script.specs.Canonical.{Run, runs, run_before, begins_with, run_words}
 use Rattle.co_script.proofs.LinesFold.{frame-read, opens-anywhere, no-verb}
 use Rattle.co_script.proofs.Leads.{Leads, no-lines, one-more, at-most}
@@ -165,7 +165,7 @@ module _ (s : Script) (f : Fitting s) where
       let short : IsShort r.length = omega (arith, few) in
       let P : Draft → Type 0 = After (with_turns s (done ++ steps_in (r ∷ rs))) (length s.funcs) count 10 in
       let words : AreWords (run_words s r) = (letters (codes "turns") (omega arith) refl, (named.word r.length short, tt)) in
-      let adds : flat_map (steps_of t) (say ∷ []) ≡ steps = ap (λ o. replicate r.length (number_or_0 o) ++ []) (named.number done) ∙ append-nil steps in
+      let adds : flat_map (steps_of_turn t) (say ∷ []) ≡ steps = ap (λ o. replicate r.length (number_or_0 o) ++ []) (named.number done) ∙ append-nil steps in
       let e : Draft = draft_with d t (states.Turns (say ∷ [])) in
       let version : s.version ≡ d.script.version = sym (version-after t (length s.funcs) count 10 d at) in
       let here : After (with_turns s (done ++ steps)) (length s.funcs) count 10 e = record {

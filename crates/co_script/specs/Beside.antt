@@ -21,7 +21,7 @@ pub record HaveOneFrame (d e : Draft) : Type 0 where
   pub funcs : d.funcs ≡ e.funcs
 
 -- the open section stands alike in both, whatever there is beside it
-pub record AreAlike (d e : Draft) : Type 0 where
+pub record StandAlike (d e : Draft) : Type 0 where
   pub frame : HaveOneFrame d e
   pub stage : d.stage ≡ e.stage
   pub acts : d.acts ≡ e.acts
@@ -42,13 +42,13 @@ pub record Grows (l : Line) (d e : Draft) : Type 0 where
   pub frame : HaveOneFrame d e
   pub kind : e.stage ≡ d.stage
   pub more : length d.acts ≤ length e.acts
-  pub reads : (o : Draft) → AreAlike d o → o.count + length e.acts ≤ 262144 + length d.acts
+  pub reads : (o : Draft) → StandAlike d o → o.count + length e.acts ≤ 262144 + length d.acts
       → line_read (Some o) l ≡ Ok (Some (with_acts o e.acts e.clock (o.count + length e.acts - length d.acts)))
 
 -- the words of a line say this act, which may be added here, and to each section that stands alike
 pub record SaysAct (d : Draft) (first : Word) (others : List Word) (a : Act) : Type 0 where
   pub room : has_room_for_act d ≡ true
-  pub reads : (o : Draft) → AreAlike d o → o.count < 262144 → line_after o first others ≡ Ok (draft_with o o.script (states.Does a))
+  pub reads : (o : Draft) → StandAlike d o → o.count < 262144 → line_after o first others ≡ Ok (draft_with o o.script (states.Does a))
 
 -- a section of this kind that has just begun in any draft of the frame has these acts and this time behind so many lines
 abbrev pub Reads : Draft → Kind → List Line → List Act → ℕ → ℕ → List Line → Type 0
@@ -62,7 +62,7 @@ pub record IsSection (text : List ℕ) (frame : Draft) (s : Section) : Type 0 wh
   pub few : s.at + s.lines ≤ s.end
 
 -- the acts of a section may be put into the draft where it has just begun
-pub record MayTake (frame : Draft) (stage : Kind) (number : ℕ) (d : Draft) : Type 0 where
+pub record MayTakeActs (frame : Draft) (stage : Kind) (number : ℕ) (d : Draft) : Type 0 where
   pub frame_is : HaveOneFrame frame d
   pub begins : Begins stage d
   pub few : d.count + number ≤ 262144
@@ -71,6 +71,11 @@ pub record MayTake (frame : Draft) (stage : Kind) (number : ℕ) (d : Draft) : T
 pub record IsSpot (text : List ℕ) (p : Spot) : Type 0 where
   pub within : p.at ≤ length text
   pub few : p.number ≤ p.at
+
+-- a place in a text that is not before this byte
+pub record IsReached (text : List ℕ) (stop : ℕ) (p : Spot) : Type 0 where
+  pub spot : IsSpot text p
+  pub far : stop ≤ p.at
 
 -- what the lines from a place on make of the draft before them
 abbrev pub left_read : List ℕ → Option Draft → Spot → Result (Option Draft) Refusal

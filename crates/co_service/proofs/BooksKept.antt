@@ -16,7 +16,7 @@ use Rattle.co_service.specs.Lines.{actor_in, made, opening_of}
 use Rattle.co_service.specs.Seats.{SeatsView, seen_at, IsShown}
 use Rattle.co_service.specs.Stories.{IsHistory}
 use Rattle.co_service.specs.Views.{AreOpened, IsKeeperOf}
-use Rattle.co_service.specs.Books.{BooksView, books_of, history_at, entries_in, entries_at, is_kept, with_history, kept_of, IsKept, AreBooks}
+use Rattle.co_service.specs.Books.{BooksView, books_of, history_at, entries_in, entries_at, is_kept, with_history, kept_of, IsHistoryKept, AreBooks}
 use Rattle.co_service.proofs.Items.{get_here, get_or_of, set_map, set_same, index_set, index_else}
 use Rattle.co_service.proofs.Entries.{shown_made, same_opening}
 use Rattle.co_service.proofs.Writing.{index-map}
@@ -52,7 +52,7 @@ module _ (name : ServiceName) (p : Params) (cpu : ℕ) (ks : List (Option (Keepe
     keeper_here = get_or_of ks i None x (get_here ks i x (below_here here) at) ∙ is
 
     pub keeper_of : IsKeeperOf IsHistory name.timers b.params i k
-    keeper_of = subst (λ (r : Params). IsKeeperOf IsHistory name.timers r i k) (sym params_are) (subst (IsKept name.timers p i) keeper_here (are.each i))
+    keeper_of = subst (λ (r : Params). IsKeeperOf IsHistory name.timers r i k) (sym params_are) (subst (IsHistoryKept name.timers p i) keeper_here (are.each i))
 
     pub history_here : history_at b i ≡ Some (made k.history)
     history_here = ap (λ (v : BooksView). history_at v i) (sym view) ∙ (index-map kept_of ks i None ∙ ap kept_of keeper_here)
@@ -67,16 +67,16 @@ module _ (name : ServiceName) (p : Params) (cpu : ℕ) (ks : List (Option (Keepe
   pub set_once : (new : Option (KeeperView (Line Entry))) → books_of p cpu (set ks i new) j ≡ with_history b i (kept_of new)
   set_once new = (λ d. record { params = p; cpu = cpu; timers = set_map kept_of ks i new d; journal = made j.history }) ∙ ap (λ (v : BooksView). with_history v i (kept_of new)) view
 
-  pub kept_once : (new : Option (KeeperView (Line Entry))) → i < length ks → IsKept name.timers p i new → AreBooks name p cpu (set ks i new) j
+  pub kept_once : (new : Option (KeeperView (Line Entry))) → i < length ks → IsHistoryKept name.timers p i new → AreBooks name p cpu (set ks i new) j
   kept_once new below kept = record {
     own = are.own;
     each = λ m. dite (ℕ_discrete m i)
-        (λ same. subst (λ (n : ℕ). IsKept name.timers p n (slice_index_or (set ks i new) n None)) (sym same) (subst (IsKept name.timers p i) (sym (index_set ks i new None below)) kept))
-        (λ away. subst (IsKept name.timers p m) (sym (index_else ks i m new None away)) (are.each m));
+        (λ same. subst (λ (n : ℕ). IsHistoryKept name.timers p n (slice_index_or (set ks i new) n None)) (sym same) (subst (IsHistoryKept name.timers p i) (sym (index_set ks i new None below)) kept))
+        (λ away. subst (IsHistoryKept name.timers p m) (sym (index_else ks i m new None away)) (are.each m));
   }
 
   -- a keeper of what the books say of the service
-  pub of_params : (k : KeeperView (Line Entry)) → IsKeeperOf IsHistory name.timers b.params i k → IsKept name.timers p i (Some k)
+  pub of_params : (k : KeeperView (Line Entry)) → IsKeeperOf IsHistory name.timers b.params i k → IsHistoryKept name.timers p i (Some k)
   of_params k at = subst (λ (r : Params). IsKeeperOf IsHistory name.timers r i k) params_are at
 
 -- what a pass has met at place i, whose history this is

@@ -18,7 +18,7 @@ use Rattle.co_object.specs.Query.{answer}
 use Rattle.co_object.specs.Callout.{call, live_call, retired_call}
 use Rattle.co_object.specs.Stand.{is_idle}
 use Rattle.co_object.proofs.Changes.{either_way}
-use Rattle.co_service.specs.Call.{due_in}
+use Rattle.co_service.specs.Call.{due_named}
 
 -- where the reply says that an arming was accepted, it is due at this time
 abbrev pub IsDue : ℕ → Reply → Option Arming → Type 0
@@ -49,7 +49,7 @@ due_answer : (s : State) (b : Bool) (due : ℕ) → By due (s, answer b)
 due_answer s true due = tt
 due_answer s false due = tt
 
-due_live : (s : State) (op : PlainOp) → By (due_in (Plain op)) (live_call s op)
+due_live : (s : State) (op : PlainOp) → By (due_named (Plain op)) (live_call s op)
 due_live s (Reset due prec func arg cpu) = due_reset s due prec func arg cpu
 due_live s (Schedule due prec cpu) = due_schedule s s.last due prec cpu
 due_live s Stop = tt
@@ -60,7 +60,7 @@ due_live s Deactivate = tt
 due_live s Init = tt
 due_live s Retire = either_way (By 0) (is_some s.armed || not (is_idle s.run)) (s, InUse (is_some s.armed) (not (is_idle s.run))) (record s { live = false }, Done) (λ _. tt) (λ _. tt)
 
-due_retired : (s : State) (op : PlainOp) → By (due_in (Plain op)) (retired_call s op)
+due_retired : (s : State) (op : PlainOp) → By (due_named (Plain op)) (retired_call s op)
 due_retired s (Reset due prec func arg cpu) = tt
 due_retired s (Schedule due prec cpu) = tt
 due_retired s Stop = tt
@@ -72,6 +72,6 @@ due_retired s Init = tt
 due_retired s Retire = tt
 
 -- an accepted arming is due at the time that the operation names
-pub is_due : (s : State) (op : CallOp) → IsDue (due_in op) (call s op).1 (call s op).0.armed
-is_due s (Plain op) = either_way (By (due_in (Plain op))) s.live (live_call s op) (retired_call s op) (λ _. due_live s op) (λ _. due_retired s op)
+pub is_due : (s : State) (op : CallOp) → IsDue (due_named op) (call s op).1 (call s op).0.armed
+is_due s (Plain op) = either_way (By (due_named (Plain op))) s.live (live_call s op) (retired_call s op) (λ _. due_live s op) (λ _. due_retired s op)
 is_due s (DrainTry took) = due_try s (serviced s.run) (is_some s.armed || took) 0

@@ -26,8 +26,8 @@ use Rattle.co_wheel.specs.Parcel.{parcel, parcel_to}
 use Rattle.co_wheel.specs.Turns.{insertion, insertion_of}
 use Rattle.co_wheel.proofs.Calls.{Shift, stays, goes, comes, shift}
 use Rattle.co_wheel.proofs.Settling.{none-insertion}
-use Rattle.co_service.specs.Call.{call_entry, due_in, number_in, Target, landing, time_of, target_in, removal_notes, insert_turns, insertion_notes}
-use Rattle.co_service.specs.Desk.{IsAt}
+use Rattle.co_service.specs.Call.{call_entry, due_named, number_accepted, Target, landing, time_of, target_in, removal_notes, insert_turns, insertion_notes}
+use Rattle.co_service.specs.Desk.{IsAtCpu}
 use Rattle.co_service.specs.Views.{PassesView}
 use Rattle.co_service.proofs.CallArming.{IsDue, is_due}
 use Rattle.co_service.proofs.CallGroup.{unarmed_group, armed_group}
@@ -154,7 +154,7 @@ module _ (p : PassesView) (act cpu i : ℕ) (c : CallOp) where
         subst (λ (x : ℕ × ℕ). Joins p act cpu i (entry (Armed code b.n b.cpu o)) t x.0 x.1 (stays_as t false) inserted None) (λ d. (sym number d, sym time d))
         (joins_here t b code o some a.spec (off t) inserted refl stands (here refl))
 
-    by_shift : (t : State) (r : Reply) (away : Bool) → Shift a.state t r → IsDue (due_in c) r t.armed → n ≡ number_in r → due ≡ due_in c → is_away cpu r t ≡ away
+    by_shift : (t : State) (r : Reply) (away : Bool) → Shift a.state t r → IsDue (due_named c) r t.armed → n ≡ number_accepted r → due ≡ due_named c → is_away cpu r t ≡ away
         → is_some inserted ≡ (is_armed r && is_listed_of cpu (stays_as t away)) → (away ≡ false → (x : ℕ) → off t ≡ Some x → x ≡ cpu) → AreJoined t r away
     by_shift t r away (stays _ _ un _ _ _) at number time is stands here = unarmed t r away un is stands
     by_shift t r away (goes _ _ un _ _) at number time is stands here = unarmed t r away un is stands
@@ -162,7 +162,7 @@ module _ (p : PassesView) (act cpu i : ℕ) (c : CallOp) where
         armed t b code (off a.state) away some number (time ∙ (sym at.2 ∙ same_due t at.0 b at.1 some)) is stands here
 
     -- a call on a callout that is here
-    pub joins : (away : Bool) → IsAt cpu a → n ≡ number_in (reply a c) → due ≡ due_in c → is_away cpu (reply a c) (called a c).state ≡ away
+    pub joins : (away : Bool) → IsAtCpu cpu a → n ≡ number_accepted (reply a c) → due ≡ due_named c → is_away cpu (reply a c) (called a c).state ≡ away
         → is_some inserted ≡ (is_armed (reply a c) && is_listed_of cpu (cond away None (Some (called a c)))) → AreJoined (called a c).state (reply a c) away
     joins away here number time is stands =
         by_shift (called a c).state (reply a c) away (shift a.state c) (is_due a.state c) number time is stands (λ never. (at_after cpu a c here (is ∙ never)).listed)

@@ -18,7 +18,7 @@ use Rattle.co_object.proofs.Changes.{Change, same, refused, armed, stopped, rest
 use Rattle.co_object.proofs.Numbers.{same_number}
 use Rattle.co_wheel.proofs.Calls.{Shift, stays, goes, comes, shift}
 use Rattle.co_wheel.specs.Call.{is_away, called, reply}
-use Rattle.co_service.specs.Desk.{IsAt}
+use Rattle.co_service.specs.Desk.{IsAtCpu}
 
 free_cancel : (r : Run) (cpu : ℕ) → is_free_at (cancel r) cpu ≡ is_free_at r cpu
 free_cancel Idle cpu = refl
@@ -77,12 +77,12 @@ listed_here cpu s t r (comes _ a code some _) away free before x is =
       at_test true idle near there = there.1 ∙ not_away true a.cpu cpu near refl
       at_test false busy near there = there.1 ∙ free_both t.run a.cpu cpu busy there.0 free
 
-module _ (cpu : ℕ) (a : Alone) (op : CallOp) (at : IsAt cpu a) where
+module _ (cpu : ℕ) (a : Alone) (op : CallOp) (at : IsAtCpu cpu a) where
   pub free_after : is_free_at (called a op).state.run cpu ≡ true
   free_after = free_change a.state (Call op) op (reply a op) (called a op).state cpu (change a.spec a.state (Call op) (reply a op) refl) refl ∙ at.runs
 
   -- a callout that doesn't leave is here after a call
-  pub at_after : is_away cpu (reply a op) (called a op).state ≡ false → IsAt cpu (called a op)
+  pub at_after : is_away cpu (reply a op) (called a op).state ≡ false → IsAtCpu cpu (called a op)
   at_after away = record {
     runs = free_after;
     listed = listed_here cpu a.state (called a op).state (reply a op) (shift a.state op) away free_after at.listed;

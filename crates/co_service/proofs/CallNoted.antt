@@ -14,9 +14,9 @@ use Rattle.co_object.specs.declared.queue.QReply.TheVariants.{At, Off}
 use Rattle.co_object.specs.Group.{Placed, off_of, placed}
 use Rattle.co_service.specs.declared.told.Told.{Told}
 use Rattle.co_service.specs.Books.{BooksView}
-use Rattle.co_service.specs.Call.{call_entry, due_in, insertion_notes, insertion_told, number_in, removal_notes, removal_told, section_notes, told_notes}
+use Rattle.co_service.specs.Call.{call_entry, due_named, insertion_notes, insertion_told, number_accepted, removal_notes, removal_told, section_notes, told_notes}
 use Rattle.co_service.specs.Desk.{scans_in}
-use Rattle.co_service.specs.Outcomes.{noted_entry, turn}
+use Rattle.co_service.specs.Outcomes.{noted_entry, queue_entry_by}
 use Rattle.co_service.specs.Views.{PassesView}
 use Rattle.co_service.specs.Kinds.{timer_kind}
 use Rattle.co_service.specs.Writes.{Writes, WritesEntry}
@@ -29,11 +29,11 @@ journal_alone : (p q : PassesView) (b b' : BooksView) (e : QEntry) (pos : ℕ) �
 journal_alone p q b b' e pos w = w.books ∙ ap (λ (J : List QEntry). record b { journal = J }) (sym (ap (λ (v : BooksView). v.journal) w.books))
 
 -- where the queue has an accepted arming, its Insert
-pub insertion_written : (p q : PassesView) (b b' : BooksView) (act i n due : ℕ) (o : Option ℕ) (place time pos : ℕ) → o ≡ Some time → place ≡ b.cpu → IsTurnWritten p b (turn p act (Insert i n due) (At time)) pos q b'
+pub insertion_written : (p q : PassesView) (b b' : BooksView) (act i n due : ℕ) (o : Option ℕ) (place time pos : ℕ) → o ≡ Some time → place ≡ b.cpu → IsTurnWritten p b (queue_entry_by p act (Insert i n due) (At time)) pos q b'
     → IsInsertionWritten p b act i n due o (Some (record { cpu = place; n = n; due = due; at = time; pos = pos })) q b'
 insertion_written p q b b' act i n due o place time pos some here w = subst (λ (x : Option ℕ). IsInsertionWritten p b act i n due x (Some (record { cpu = place; n = n; due = due; at = time; pos = pos })) q b') (sym some) record {
-  books = journal_alone p q b b' (turn p act (Insert i n due) (At time)) pos w;
-  scans = ap (λ (v : BooksView). scans_in v.journal) w.books ∙ scans_same b (turn p act (Insert i n due) (At time)) refl;
+  books = journal_alone p q b b' (queue_entry_by p act (Insert i n due) (At time)) pos w;
+  scans = ap (λ (v : BooksView). scans_in v.journal) w.books ∙ scans_same b (queue_entry_by p act (Insert i n due) (At time)) refl;
   written = turn_written p q act b.cpu place (Insert i n due) (At time) pos b'.journal here w.written;
   timers = ap (λ (v : PassesView). v.timers) w.written.passes;
   none = λ no. absurd (cc);
@@ -54,12 +54,12 @@ module _ (p : PassesView) (act cpu i : ℕ) (op : CallOp) (t : Told) (inserted :
   put = insertion_told p.actor act i t.insertion
 
   -- the notes of a section are what it told
-  pub told_placed : map placed put ≡ insertion_notes p act cpu i (number_in t.out.reply) (due_in op) inserted → map placed (told_notes p.actor act i op t) ≡ section_notes p act cpu i op t.out.reply inserted
+  pub told_placed : map placed put ≡ insertion_notes p act cpu i (number_accepted t.out.reply) (due_named op) inserted → map placed (told_notes p.actor act i op t) ≡ section_notes p act cpu i op t.out.reply inserted
   told_placed = by_off (off_of t.out.reply) where
-    by_off : (o : Option ℕ) → map placed put ≡ insertion_notes p act cpu i (number_in t.out.reply) (due_in op) inserted
-        → map placed (removal_told p.actor act i o t.removal ++ noted_entry i entry t.entry ∷ put) ≡ removal_notes i entry o ++ ((at.Timer i, of.Timer entry) ∷ []) ++ insertion_notes p act cpu i (number_in t.out.reply) (due_in op) inserted
+    by_off : (o : Option ℕ) → map placed put ≡ insertion_notes p act cpu i (number_accepted t.out.reply) (due_named op) inserted
+        → map placed (removal_told p.actor act i o t.removal ++ noted_entry i entry t.entry ∷ put) ≡ removal_notes i entry o ++ ((at.Timer i, of.Timer entry) ∷ []) ++ insertion_notes p act cpu i (number_accepted t.out.reply) (due_named op) inserted
     by_off None is = ap (λ (ns : List Placed). (at.Timer i, of.Timer entry) ∷ ns) is
-    by_off (Some x) is = ap (λ (ns : List Placed). (at.Cpu x, of.Cpu (turn p act (Remove i) Off)) ∷ (at.Timer i, of.Timer entry) ∷ ns) is
+    by_off (Some x) is = ap (λ (ns : List Placed). (at.Cpu x, of.Cpu (queue_entry_by p act (Remove i) Off)) ∷ (at.Timer i, of.Timer entry) ∷ ns) is
 
   -- a section, entry after entry
   pub told_written : (q r s : PassesView) (after : List Entry) → q.actor ≡ p.actor → r.actor ≡ p.actor → Writes p (removal_told p.actor act i (off_of t.out.reply) t.removal) q

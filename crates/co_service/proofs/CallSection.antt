@@ -29,8 +29,8 @@ use Rattle.co_wheel.proofs.Calls.{Shift, stays, goes, comes, shift}
 use Rattle.co_service.specs.declared.params.Params.{Params}
 use Rattle.co_service.specs.Params.{spec_at}
 use Rattle.co_service.specs.Books.{BooksView, history_at, entries_in, entries_at, with_history}
-use Rattle.co_service.specs.Call.{IsAnswer, Target, call_entry, call_turns, due_in, insertion_notes, landing, number_in, removal_notes, section_notes, target_in, time_of}
-use Rattle.co_service.specs.Desk.{IsAt, IsDesk, Owes, alone_after, scans_in}
+use Rattle.co_service.specs.Call.{IsAnswer, Target, call_entry, call_turns, due_named, insertion_notes, landing, number_accepted, removal_notes, section_notes, target_in, time_of}
+use Rattle.co_service.specs.Desk.{IsAtCpu, IsDesk, Owes, alone_after, scans_in}
 use Rattle.co_service.specs.May.{state_at}
 use Rattle.co_service.specs.Moving.{MayDepart, departed, moving_from, target_of, IsOfService}
 use Rattle.co_service.specs.Views.{PassesView, seen_of}
@@ -42,7 +42,7 @@ use Rattle.co_service.proofs.CalledDesk.{IsAnsweredBy, answered_by, alone_next, 
 use Rattle.co_service.proofs.DeskKept.{owes_turns}
 use Rattle.co_service.proofs.Departing.{Goes, IsLeaving, goes_desk, goes_of_service, may_depart, target_same}
 
-leaving : (cpu due : ℕ) (s t : State) (r : Reply) → Shift s t r → IsDue due r t.armed → is_away cpu r t ≡ true → IsLeaving t (number_in r) due
+leaving : (cpu due : ℕ) (s t : State) (r : Reply) → Shift s t r → IsDue due r t.armed → is_away cpu r t ≡ true → IsLeaving t (number_accepted r) due
 leaving cpu due s t r (stays _ _ un _ _ _) at is = let never = unarmed_stays cpu r t un in absurd (cc)
 leaving cpu due s t r (goes _ _ un _ _) at is = let never = unarmed_stays cpu r t un in absurd (cc)
 leaving cpu due s t r (comes _ b code some _) at is = record {
@@ -63,7 +63,7 @@ module _ (w w' : Cpu) (b : BooksView) (scans i : ℕ) (op : CallOp) (out : CallO
   there : callout w.callouts i ≡ Some before
   there = there_now w b i H desk.stand kept
 
-  here : IsAt b.cpu before
+  here : IsAtCpu b.cpu before
   here = at_now w b i H desk.stand kept
 
   abbrev Answered : Bool → Type 0
@@ -102,10 +102,10 @@ module _ (w w' : Cpu) (b : BooksView) (scans i : ℕ) (op : CallOp) (out : CallO
   listed_now : is_some out.inserted ≡ (is_armed (reply before op) && is_listed_of b.cpu after)
   listed_now = is.inserted ∙ (λ d. is_armed (reply_is d) && is_listed_of (cpu_now d) (callout_now d))
 
-  joined : (p : PassesView) (act : ℕ) → Joins p act b.cpu i (call_entry p act op out.reply) now.state (number_in out.reply) (due_in op) after out.inserted (target_in out.leaves)
+  joined : (p : PassesView) (act : ℕ) → Joins p act b.cpu i (call_entry p act op out.reply) now.state (number_accepted out.reply) (due_named op) after out.inserted (target_in out.leaves)
   joined p act =
-      subst (λ (t : Reply × Option Parcel). Joins p act b.cpu i (call_entry p act op t.0) now.state (number_in out.reply) (due_in op) after out.inserted (target_in t.1)) (λ d. (sym reply_is d, sym answered.1.leaves_is d))
-      (joins p act b.cpu i op before (number_in out.reply) (due_in op) out.inserted away here (ap number_in reply_is) refl away_here listed_now)
+      subst (λ (t : Reply × Option Parcel). Joins p act b.cpu i (call_entry p act op t.0) now.state (number_accepted out.reply) (due_named op) after out.inserted (target_in t.1)) (λ d. (sym reply_is d, sym answered.1.leaves_is d))
+      (joins p act b.cpu i op before (number_accepted out.reply) (due_named op) out.inserted away here (ap number_accepted reply_is) refl away_here listed_now)
 
   abbrev nobody : PassesView
   nobody = record { name = record { timers = []; cpus = [] }; params = b.params; actor = 0; timers = []; cpus = [] }
@@ -118,8 +118,8 @@ module _ (w w' : Cpu) (b : BooksView) (scans i : ℕ) (op : CallOp) (out : CallO
   pub owes_section : Owes (call_turns i op out.reply out.inserted) w' b
   owes_section = owes_turns w w' b (call_turns i op out.reply out.inserted) desk.of desk.shown turns_are
 
-  leaves_so : away ≡ true → IsLeaving now.state (number_in out.reply) (due_in op)
-  leaves_so go = subst (λ (r : Reply). IsLeaving now.state (number_in r) (due_in op)) (sym reply_is) (leaving b.cpu (due_in op) before.state now.state (reply before op) (shift before.state op) (is_due before.state op) (away_here ∙ go))
+  leaves_so : away ≡ true → IsLeaving now.state (number_accepted out.reply) (due_named op)
+  leaves_so go = subst (λ (r : Reply). IsLeaving now.state (number_accepted r) (due_named op)) (sym reply_is) (leaving b.cpu (due_named op) before.state now.state (reply before op) (shift before.state op) (is_due before.state op) (away_here ∙ go))
 
   none_if : (x : Bool) → is_some (cond x (parcel i now) None) ≡ true → is_some out.inserted ≡ (is_armed (reply before op) && is_listed_of b.cpu (cond x None (Some now))) → out.inserted ≡ None
   none_if true some listed = none_in out.inserted (is_armed (reply before op) && false) listed (and_false (is_armed (reply before op)))
@@ -140,7 +140,7 @@ module _ (w w' : Cpu) (b : BooksView) (scans i : ℕ) (op : CallOp) (out : CallO
     now_is : now ≡ alone_after b.params i (H ++ entry ∷ [])
     now_is = alone_next b.params i H op entry refl
 
-    goes_now : Goes w w' b i H entry now away out.leaves (number_in out.reply) (due_in op) (call_turns i op out.reply out.inserted)
+    goes_now : Goes w w' b i H entry now away out.leaves (number_accepted out.reply) (due_named op) (call_turns i op out.reply out.inserted)
     goes_now = record {
       kept = kept;
       here = ap (λ (c : Callouts). c.here) answered.1.callouts;
@@ -152,24 +152,24 @@ module _ (w w' : Cpu) (b : BooksView) (scans i : ℕ) (op : CallOp) (out : CallO
       stays_so = λ never. at_after b.cpu before op here (away_here ∙ never);
     }
 
-    pub may_section : MayDepart b' (number_in out.reply) (due_in op) out.leaves
-    may_section = may_depart w w' b scans i H entry now away out.leaves (number_in out.reply) (due_in op) (call_turns i op out.reply out.inserted) desk goes_now b' wrote
+    pub may_section : MayDepart b' (number_accepted out.reply) (due_named op) out.leaves
+    may_section = may_depart w w' b scans i H entry now away out.leaves (number_accepted out.reply) (due_named op) (call_turns i op out.reply out.inserted) desk goes_now b' wrote
 
     pub desk_section : Owes [] w' b' → scans ≡ capped (scans_in b'.journal) → IsDesk w' (departed b' out.leaves) scans
-    desk_section = goes_desk w w' b scans i H entry now away out.leaves (number_in out.reply) (due_in op) (call_turns i op out.reply out.inserted) desk goes_now b' wrote
+    desk_section = goes_desk w w' b scans i H entry now away out.leaves (number_accepted out.reply) (due_named op) (call_turns i op out.reply out.inserted) desk goes_now b' wrote
 
-    pub service_section : (r : Params) → b.params ≡ r → IsOfService r i (moving_from b' (number_in out.reply) (due_in op) out.leaves)
-    service_section = goes_of_service w w' b scans i H entry now away out.leaves (number_in out.reply) (due_in op) (call_turns i op out.reply out.inserted) desk goes_now b' wrote
+    pub service_section : (r : Params) → b.params ≡ r → IsOfService r i (moving_from b' (number_accepted out.reply) (due_named op) out.leaves)
+    service_section = goes_of_service w w' b scans i H entry now away out.leaves (number_accepted out.reply) (due_named op) (call_turns i op out.reply out.inserted) desk goes_now b' wrote
 
     pub answer_section : (q : PassesView) (notes : List Note) → b.params ≡ p.params → map placed notes ≡ section_notes p act b.cpu i op out.reply out.inserted → seen_of q i ≡ entries_at b i ++ entry ∷ [] → Writes p notes q
-        → IsAnswer p act i op out.reply (target_of (moving_from b' (number_in out.reply) (due_in op) out.leaves)) notes q
-    answer_section q notes params placed_as seen wrote_as = subst (λ (t : Option Target). IsAnswer p act i op out.reply t notes q) (sym (target_same b' (number_in out.reply) (due_in op) out.leaves may_section)) record {
+        → IsAnswer p act i op out.reply (target_of (moving_from b' (number_accepted out.reply) (due_named op) out.leaves)) notes q
+    answer_section q notes params placed_as seen wrote_as = subst (λ (t : Option Target). IsAnswer p act i op out.reply t notes q) (sym (target_same b' (number_accepted out.reply) (due_named op) out.leaves may_section)) record {
       group_but = record {
         time = (joined p act).time;
         group_is = λ later.
             ap (λ (ns : List Placed). ns ++ landing p act i (target_in out.leaves) later) placed_as
-            ∙ (append_assoc (removal_notes i entry (off_of out.reply) ++ ((at.Timer i, of.Timer entry) ∷ [])) (insertion_notes p act b.cpu i (number_in out.reply) (due_in op) out.inserted) (landing p act i (target_in out.leaves) later)
-            ∙ (append_assoc (removal_notes i entry (off_of out.reply)) ((at.Timer i, of.Timer entry) ∷ []) (insertion_notes p act b.cpu i (number_in out.reply) (due_in op) out.inserted ++ landing p act i (target_in out.leaves) later)
+            ∙ (append_assoc (removal_notes i entry (off_of out.reply) ++ ((at.Timer i, of.Timer entry) ∷ [])) (insertion_notes p act b.cpu i (number_accepted out.reply) (due_named op) out.inserted) (landing p act i (target_in out.leaves) later)
+            ∙ (append_assoc (removal_notes i entry (off_of out.reply)) ((at.Timer i, of.Timer entry) ∷ []) (insertion_notes p act b.cpu i (number_accepted out.reply) (due_named op) out.inserted ++ landing p act i (target_in out.leaves) later)
             ∙ ((joined p act).group_is later
             ∙ ap (λ (s : State). group i entry s (time_of (target_in out.leaves) (joined p act).time later)) state_is)));
       };

@@ -25,7 +25,7 @@ use Rattle.co_wheel.specs.Turns.{Turn, Turns}
 use Rattle.co_service.specs.declared.params.Params.{Params}
 use Rattle.co_service.specs.Params.{spec_at}
 use Rattle.co_service.specs.Books.{BooksView, history_at}
-use Rattle.co_service.specs.Desk.{alone_after, StandsAs, IsAt, IsHere, IsOf, Stand}
+use Rattle.co_service.specs.Desk.{alone_after, StandsAs, IsAtCpu, IsHere, HasNumbersOf, MatchesBooks}
 use Rattle.co_service.proofs.Items.{index_set, index_else}
 
 -- a call on callout a, which is here: it stays, or leaves for the CPU at which it is armed
@@ -56,9 +56,9 @@ stands_there p i H None (Some G) st is = absurd st
 stands_there p i H (Some a) None st is = absurd st
 stands_there p i H (Some a) (Some G) st is = ap (λ (x : Alone). Some x) st ∙ ap (λ (K : List Entry). Some (alone_after p i K)) (some_same G H is)
 
-here_at : (cpu : ℕ) (o : Option Alone) (a : Alone) → IsHere cpu o → o ≡ Some a → IsAt cpu a
+here_at : (cpu : ℕ) (o : Option Alone) (a : Alone) → IsHere cpu o → o ≡ Some a → IsAtCpu cpu a
 here_at cpu None a h is = absurd (cc)
-here_at cpu (Some x) a h is = subst (IsAt cpu) (some_same x a is) h
+here_at cpu (Some x) a h is = subst (IsAtCpu cpu) (some_same x a is) h
 
 pub within_callout : (xs : List (Option Alone)) (i : ℕ) (a : Alone) → get_or xs i None ≡ Some a → i < length xs
 within_callout [] i a is = absurd (cc)
@@ -82,15 +82,15 @@ alone_next p i H op e is =
     ap (λ (s : State). record { spec = spec_at p i; state = s })
     (ap (λ (o : Op). state_of (step (spec_at p i) (state (spec_at p i) H) o) (state (spec_at p i) H)) (sym is) ∙ sym (state-snoc (next (spec_at p i)) (λ s f. Unit {0}) (opening 0) H e))
 
-module _ (w : Cpu) (b : BooksView) (i : ℕ) (H : List Entry) (st : Stand w b) (kept : history_at b i ≡ Some H) where
+module _ (w : Cpu) (b : BooksView) (i : ℕ) (H : List Entry) (st : MatchesBooks w b) (kept : history_at b i ≡ Some H) where
   pub there_now : callout w.callouts i ≡ Some (alone_after b.params i H)
   there_now = stands_there b.params i H (callout w.callouts i) (history_at b i) (st.each i) kept
 
-  pub at_now : IsAt b.cpu (alone_after b.params i H)
+  pub at_now : IsAtCpu b.cpu (alone_after b.params i H)
   at_now = here_at b.cpu (callout w.callouts i) (alone_after b.params i H) (st.here i) there_now
 
 -- callout i is now this, here and in the books
-module _ (w w' : Cpu) (b : BooksView) (i : ℕ) (of : IsOf w b) (st : Stand w b) (below : i < length b.timers) (a : Option Alone) (h : Option (List Entry)) (J : List QEntry)
+module _ (w w' : Cpu) (b : BooksView) (i : ℕ) (of : HasNumbersOf w b) (st : MatchesBooks w b) (below : i < length b.timers) (a : Option Alone) (h : Option (List Entry)) (J : List QEntry)
     (c : w'.callouts.here ≡ set w.callouts.here i a) where
   abbrev after : BooksView
   after = record b { timers = slice_set b.timers i h; journal = J }
@@ -101,7 +101,7 @@ module _ (w w' : Cpu) (b : BooksView) (i : ℕ) (of : IsOf w b) (st : Stand w b)
   callout_else : (j : ℕ) → j ≢ i → callout w'.callouts j ≡ callout w.callouts j
   callout_else j away = ap (λ (x : List (Option Alone)). get_or x j None) c ∙ get_or-set_other w.callouts.here i j a None away
 
-  pub stand_after : StandsAs b.params i a h → IsHere b.cpu a → Stand w' after
+  pub stand_after : StandsAs b.params i a h → IsHere b.cpu a → MatchesBooks w' after
   stand_after stands here = record {
     each = λ j. dite (ℕ_discrete j i)
         (λ same. subst (λ (n : ℕ). StandsAs b.params n (callout w'.callouts n) (history_at after n)) (sym same)
@@ -112,7 +112,7 @@ module _ (w w' : Cpu) (b : BooksView) (i : ℕ) (of : IsOf w b) (st : Stand w b)
         (λ away. subst (IsHere b.cpu) (sym (callout_else j away)) (st.here j));
   }
 
-  pub of_changed : (turns : List Turn) → Turns w turns w' → w'.callouts.cpu ≡ w.callouts.cpu → IsOf w' after
+  pub of_changed : (turns : List Turn) → Turns w turns w' → w'.callouts.cpu ≡ w.callouts.cpu → HasNumbersOf w' after
   of_changed turns ts same = record {
     cpu = same ∙ of.cpu;
     size = ap length c ∙ (length-set w.callouts.here i a ∙ (of.size ∙ sym (length-set b.timers i h)));

@@ -15,7 +15,7 @@ use Rattle.co_wheel.specs.Turns.{Turn, Turns}
 use Rattle.co_service.specs.declared.params.Params.{Params}
 use Rattle.co_service.specs.Books.{BooksView, history_at, entries_in, entries_at, is_kept, with_history}
 use Rattle.co_service.specs.Call.{target_in}
-use Rattle.co_service.specs.Desk.{IsAt, IsHere, IsDesk, Owes, StandsAs, alone_after, scans_in}
+use Rattle.co_service.specs.Desk.{IsAtCpu, IsHere, IsDesk, Owes, StandsAs, alone_after, scans_in}
 use Rattle.co_service.specs.Moving.{MayDepart, departed, moving_from, target_of, IsOfService}
 use Rattle.co_service.proofs.CalledDesk.{of_changed, stand_after, within_history}
 use Rattle.co_service.proofs.Items.{index_set, set_set}
@@ -54,7 +54,7 @@ pub record Goes (w w' : Cpu) (b : BooksView) (i : ℕ) (H : List Entry) (e : Ent
   pub now_is : now ≡ alone_after b.params i (H ++ e ∷ [])
   pub leaves_is : leaves ≡ cond go (parcel i now) None
   pub goes_so : go ≡ true → IsLeaving now.state n due
-  pub stays_so : go ≡ false → IsAt b.cpu now
+  pub stays_so : go ≡ false → IsAtCpu b.cpu now
 
 module _ (w w' : Cpu) (b : BooksView) (scans i : ℕ) (H : List Entry) (e : Entry) (now : Alone) (go : Bool) (leaves : Option Parcel) (n due : ℕ) (turns : List Turn) (desk : IsDesk w b scans) (is : Goes w w' b i H e now go leaves n due turns)
     (b' : BooksView) (wrote : b' ≡ record (with_history b i (Some (entries_at b i ++ e ∷ []))) { journal = b'.journal }) where

@@ -13,8 +13,8 @@ use Rattle.co_wheel.specs.Cpu.{Cpu}
 use Rattle.co_wheel.specs.Turns.{Shows, Takes, Turn, Turns, free_of, pop_of}
 use Rattle.co_service.specs.Params.{directs}
 use Rattle.co_service.specs.Books.{BooksView, history_at}
-use Rattle.co_service.specs.May.{queue_of}
-use Rattle.co_service.specs.Desk.{StandsAs, IsHere, is_scan, scans_in, IsOf, Owes, IsDesk}
+use Rattle.co_service.specs.May.{queue_at_desk}
+use Rattle.co_service.specs.Desk.{StandsAs, IsHere, is_scan, scans_in, HasNumbersOf, Owes, IsDesk}
 
 -- the books with one entry more in the journal
 abbrev pub with_turn : BooksView → QEntry → BooksView
@@ -25,12 +25,12 @@ owes_next b e turns w o = record {
   takes = subst (λ (q : Queue). Takes b.params.buckets (directs b.params) turns q (Shows w)) (sym (state-snoc (journal.next b.params.buckets (directs b.params)) (λ q f. Unit {0}) empty_queue b.journal e)) o.takes.1;
 }
 
-pub owes_turns : (w w' : Cpu) (b : BooksView) (turns : List Turn) → IsOf w b → Owes [] w b → Turns w turns w' → Owes turns w' b
+pub owes_turns : (w w' : Cpu) (b : BooksView) (turns : List Turn) → HasNumbersOf w b → Owes [] w b → Turns w turns w' → Owes turns w' b
 owes_turns w w' b turns of o ts = record {
-  takes = subst (λ (t : ℕ × List Bool). Takes t.0 t.1 turns (queue_of b) (Shows w')) (λ d. (of.buckets d, of.direct d)) (ts.outcome (queue_of b) o.takes);
+  takes = subst (λ (t : ℕ × List Bool). Takes t.0 t.1 turns (queue_at_desk b) (Shows w')) (λ d. (of.buckets d, of.direct d)) (ts.outcome (queue_at_desk b) o.takes);
 }
 
-pub of_after : (w w' : Cpu) (b : BooksView) (turns : List Turn) → IsOf w b → Turns w turns w' → w'.callouts.cpu ≡ w.callouts.cpu → length w'.callouts.here ≡ length w.callouts.here → IsOf w' b
+pub of_after : (w w' : Cpu) (b : BooksView) (turns : List Turn) → HasNumbersOf w b → Turns w turns w' → w'.callouts.cpu ≡ w.callouts.cpu → length w'.callouts.here ≡ length w.callouts.here → HasNumbersOf w' b
 of_after w w' b turns of ts cpu size = record {
   cpu = cpu ∙ of.cpu;
   size = size ∙ of.size;

@@ -35,12 +35,12 @@ use Rattle.co_service.specs.declared.params.Params.{Params}
 use Rattle.co_service.specs.Params.{directs, spec_at}
 use Rattle.co_service.specs.Books.{BooksView, entries_in, entries_at, with_history}
 use Rattle.co_service.specs.Call.{target_in}
-use Rattle.co_service.specs.Ends.{IsFinished, told_end}
+use Rattle.co_service.specs.Ends.{IsFinished, end_told}
 use Rattle.co_service.specs.Desk.{IsDesk, Owes, alone_after, is_scan, scans_in}
-use Rattle.co_service.specs.May.{MayHappen, queue_of}
+use Rattle.co_service.specs.May.{MayHappen, queue_at_desk}
 use Rattle.co_service.specs.Moving.{MayDepart, MovingView, departed, moving_from, target_of, IsOfService}
 use Rattle.co_service.specs.Services.{next_due, next_number, next_target, run_entry, target_of_next}
-use Rattle.co_service.specs.Outcomes.{turn}
+use Rattle.co_service.specs.Outcomes.{queue_entry_by}
 use Rattle.co_service.specs.Serving.{Runs}
 use Rattle.co_service.specs.Views.{PassesView}
 use Rattle.co_service.specs.Kinds.{cpu_kind, timer_kind}
@@ -191,7 +191,7 @@ module _ (lane : Bool) (w w' : Cpu) (b : BooksView) (scans : ℕ) (p : PassesVie
       owes_then : Owes ((free_of lane, Freed) ∷ []) w' b'
       owes_then = subst (Owes ((free_of lane, Freed) ∷ []) w') (sym first) (record { takes = owes_free.takes })
 
-      pub freed_possible : journal.reply_of (journal.step b'.params.buckets (directs b'.params) (queue_of b') (free_of lane)) ≡ Some Freed
+      pub freed_possible : journal.reply_of (journal.step b'.params.buckets (directs b'.params) (queue_at_desk b') (free_of lane)) ≡ Some Freed
       freed_possible = owes_then.takes.0
 
       module _ (e : QEntry) (op_is : e.op ≡ free_of lane) (freed : e.reply ≡ Freed) (b'' : BooksView) (second : b'' ≡ with_turn b' e) where
@@ -225,9 +225,9 @@ module _ (lane : Bool) (w w' : Cpu) (b : BooksView) (scans : ℕ) (p : PassesVie
 -- what the caller is told of an end
 pub ended_told : (lane : Bool) (p p' q r : PassesView) (cpu place act : ℕ) (d e : Due) (out : EndOut) (gone : Option MovingView) (pos freed : ℕ) (after : List Entry) (J : List QEntry) → p' ≡ p → e ≡ d
     → target_of gone ≡ next_target out.reply → IsOfService p'.params e.i gone → WritesEntry timer_kind p' e.i (run_entry p' act (End e.n cpu) out.reply) pos after q
-    → (o : QOp) → o ≡ free_of lane → place ≡ cpu → q.actor ≡ p'.actor → WritesEntry cpu_kind q place (turn q act o Freed) freed J r → IsFinished lane p cpu act d (told_end lane cpu e.i e.n out pos freed) gone r
+    → (o : QOp) → o ≡ free_of lane → place ≡ cpu → q.actor ≡ p'.actor → WritesEntry cpu_kind q place (queue_entry_by q act o Freed) freed J r → IsFinished lane p cpu act d (end_told lane cpu e.i e.n out pos freed) gone r
 ended_told lane p p' q r cpu place act d e out gone pos freed after J same one goes service wrote o o_is here acted wrote' =
-    subst (λ (t : PassesView × Due). IsFinished lane t.0 cpu act t.1 (told_end lane cpu e.i e.n out pos freed) gone r) (λ k. (same k, one k)) record {
+    subst (λ (t : PassesView × Due). IsFinished lane t.0 cpu act t.1 (end_told lane cpu e.i e.n out pos freed) gone r) (λ k. (same k, one k)) record {
       ended = record {
         leaves_is = goes;
         notes_are = refl;

@@ -13,7 +13,7 @@ use Rattle.co_wheel.specs.Cpu.{Cpu}
 use Rattle.co_service.specs.declared.told.Inserted.{Inserted}
 use Rattle.co_service.specs.declared.told.Told.{Told}
 use Rattle.co_service.specs.Books.{BooksView, entries_at, is_kept, with_history}
-use Rattle.co_service.specs.Call.{call_entry, due_in, insert_turns, insertion_told, number_in, removal_told}
+use Rattle.co_service.specs.Call.{call_entry, due_named, insert_turns, insertion_told, number_accepted, removal_told}
 use Rattle.co_service.specs.Desk.{Owes, scans_in}
 use Rattle.co_service.specs.May.{state_at}
 use Rattle.co_service.specs.Name.{ServiceName}
@@ -55,16 +55,16 @@ module _ (service places : ServiceName) (p : PassesView) (b : BooksView) (act i 
     same_after : entries_at b1 i ++ call_entry p1 act op reply ∷ [] ≡ entries_at b i ++ call_entry p act op reply ∷ []
     same_after = λ d. entries_at (r.books d) i ++ (record { actor = first.actor d; act = act; op = Call op; reply = reply }) ∷ []
 
-    module _ (p2 : PassesView) (b2 : BooksView) (entry : ℕ) (e : IsEntryWritten p1 b1 i (call_entry p1 act op told.out.reply) entry p2 b2) (n due : ℕ) (number : n ≡ number_in told.out.reply) (time : due ≡ due_in op) where
+    module _ (p2 : PassesView) (b2 : BooksView) (entry : ℕ) (e : IsEntryWritten p1 b1 i (call_entry p1 act op told.out.reply) entry p2 b2) (n due : ℕ) (number : n ≡ number_accepted told.out.reply) (time : due ≡ due_named op) where
       pub insertion_together : AreTogether service places p2 b2
       insertion_together = still_together service places p1 p2 b1 b2 entry_together (entry_same p1 p2 b1 b2 i entry (call_entry p1 act op reply) e) (ap (λ (v : BooksView). v.params) e.books)
 
-      still_owed : (w : Cpu) → Owes (insert_turns i (number_in reply) (due_in op) told.out.inserted) w b1 → Owes (insert_turns i n due told.out.inserted) w b2
+      still_owed : (w : Cpu) → Owes (insert_turns i (number_accepted reply) (due_named op) told.out.inserted) w b1 → Owes (insert_turns i n due told.out.inserted) w b2
       still_owed w o =
           subst (λ (t : ℕ × ℕ × BooksView). Owes (insert_turns i t.0 t.1 told.out.inserted) w t.2) (λ d. (sym number d, sym time d, sym e.books d)) (record { takes = o.takes })
 
       pub insertion_owed : (w : Cpu) × Owes (insert_turns i n due told.out.inserted) w b2
-      insertion_owed = (may.owes.0, still_owed may.owes.0 (r.goes_on (insert_turns i (number_in reply) (due_in op) told.out.inserted) may.owes.0 may.owes.1))
+      insertion_owed = (may.owes.0, still_owed may.owes.0 (r.goes_on (insert_turns i (number_accepted reply) (due_named op) told.out.inserted) may.owes.0 may.owes.1))
 
       module _ (p3 : PassesView) (b3 : BooksView) (insertion : Option Inserted) (x : IsInsertionWritten p2 b2 act i n due told.out.inserted insertion p3 b3) where
         acted : p2.actor ≡ p.actor
@@ -87,10 +87,10 @@ module _ (service places : ServiceName) (p : PassesView) (b : BooksView) (act i 
           written = told_written p act b.cpu i op all told.out.inserted p1 p2 p3 (entries_at b1 i ++ call_entry p1 act op reply ∷ []) first.actor acted r.written e.written x.written;
           placed = told_placed p act b.cpu i op all told.out.inserted
               ((λ d. map placed (insertion_told (sym acted d) act i insertion))
-              ∙ (x.placed ∙ insertion_same p p2 act b.cpu b2.cpu i (number_in reply) n (due_in op) due told.out.inserted acted cpu number time));
+              ∙ (x.placed ∙ insertion_same p p2 act b.cpu b2.cpu i (number_accepted reply) n (due_named op) due told.out.inserted acted cpu number time));
           seen = ap (λ (l : List (List Entry)). slice_index_or l i []) x.timers
               ∙ (ap (λ (v : PassesView). seen_of v i) e.written.passes
               ∙ (index_set p1.timers i (entries_at b1 i ++ call_entry p1 act op reply ∷ []) [] e.written.below ∙ same_after));
           room = x.none;
-          goes_on = λ w o. x.goes_on w (still_owed w (r.goes_on (insert_turns i (number_in reply) (due_in op) told.out.inserted) w o));
+          goes_on = λ w o. x.goes_on w (still_owed w (r.goes_on (insert_turns i (number_accepted reply) (due_named op) told.out.inserted) w o));
         }

@@ -16,7 +16,7 @@ use Rattle.co_wheel.specs.Cpu.{Cpu}
 use Rattle.co_wheel.specs.Parcel.{Parcel}
 use Rattle.co_wheel.specs.Sections.{IsLanding}
 use Rattle.co_service.specs.Books.{BooksView, is_kept}
-use Rattle.co_service.specs.Desk.{IsAt, IsDesk, Owes, alone_after, is_scan}
+use Rattle.co_service.specs.Desk.{IsAtCpu, IsDesk, Owes, alone_after, is_scan}
 use Rattle.co_service.proofs.CallJoined.{idle_free}
 use Rattle.co_service.proofs.CallKept.{some_off}
 use Rattle.co_service.proofs.CalledDesk.{of_changed, stand_after}
@@ -34,7 +34,7 @@ pub record Comes (b : BooksView) (parcel : Parcel) (H : List Entry) (n due : ℕ
   pub due_is : due ≡ parcel.arming.due
 
 module _ (w : Cpu) (b : BooksView) (scans : ℕ) (parcel : Parcel) (H : List Entry) (n due : ℕ) (desk : IsDesk w b scans) (is : Comes b parcel H n due) where
-  at_here : IsAt b.cpu parcel.callout
+  at_here : IsAtCpu b.cpu parcel.callout
   at_here = record {
     runs = idle_free parcel.callout.state.run b.cpu is.idle;
     listed = λ x listed. (some_off parcel.arming parcel.callout.state.run x (ap (λ (o : Option Arming). listed_cpu (stand_of o parcel.callout.state.run)) (sym is.armed) ∙ listed)).1 ∙ is.here;

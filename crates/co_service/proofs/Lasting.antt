@@ -16,7 +16,7 @@ use Rattle.co_object.specs.declared.note.Place.TheVariants.{Timer, Cpu, Actor}
 use Rattle.co_object.specs.Group.{Placed, placed}
 use Rattle.co_object.specs.Queue.{Due}
 use Rattle.co_object.proofs.Numbers.{same_number, same_itself}
-use Rattle.co_service.specs.Serving.{Service, Idle, service_after, service_in, served, served_in}
+use Rattle.co_service.specs.Serving.{ServiceStage, Idle, service_after, service_in, served, served_in}
 use Rattle.co_service.specs.Services.{AreSame, IsFree, IsServing, far_of, service_of}
 use Rattle.co_service.specs.Params.{actors_of}
 use Rattle.co_service.specs.Serving.{lane_actor}
@@ -74,7 +74,7 @@ module _ (p q : PassesView) (i pos : ℕ) (e : Entry) (after : List Entry) (w : 
       let x = w.adds.extends in
       ap (λ (H : List Entry). service_in (own by q.actor H)) (j ∙ x.2)
       ∙ (ap (λ (k : ℕ). service_in (own by k ((seen_of p i ++ x.0) ++ e ∷ []))) a
-      ∙ folded_more by p.actor (λ (v : Service) (f : Entry). service_after v f.op f.reply) Idle (seen_of p i) x.0 e x.1 w.adds.own)
+      ∙ folded_more by p.actor (λ (v : ServiceStage) (f : Entry). service_after v f.op f.reply) Idle (seen_of p i) x.0 e x.1 w.adds.own)
 
   timer_away : (x : ℕ) → x ≢ i → far_of q x ≡ far_of p x
   timer_away x away = ap (λ (v : PassesView). far_of v x) w.passes ∙ ap (λ (H : List Entry). service_in (own by p.actor H)) (index_else p.timers i x after [] away)
@@ -114,15 +114,15 @@ module _ (direct : Bool) (x : ℕ) where
 
 module _ (x : ℕ) where
   -- what a note of the actor's does to how far its service of callout x is
-  abbrev gone : Place → AnyEntry → Service → Service
+  abbrev gone : Place → AnyEntry → ServiceStage → ServiceStage
   gone (Timer i) (of.Timer e) v = cond (x == i) (service_after v e.op e.reply) v
   gone (Timer i) (of.Cpu e) v = v
   gone (Timer i) (of.Own e) v = v
   gone (Cpu c) e v = v
   gone (Actor a) e v = v
 
-  abbrev pub gone_by : Service → List Placed → Service
-  gone_by v ps = fold (λ (t : Service) (n : Placed). gone n.0 n.1 t) v ps
+  abbrev pub gone_by : ServiceStage → List Placed → ServiceStage
+  gone_by v ps = fold (λ (t : ServiceStage) (n : Placed). gone n.0 n.1 t) v ps
 
   gone_at : (p q : PassesView) (place : Place) (entry : AnyEntry) (pos : ℕ) → WritesAt p place entry pos q → far_of q x ≡ gone place entry (far_of p x)
   gone_at p q (Timer i) (of.Timer e) pos w = timer_gone p q i pos e w.0 w.1 x (x == i) refl
@@ -136,11 +136,11 @@ module _ (x : ℕ) where
   -- how far its service is, by its notes
   pub goes : (p q : PassesView) (notes : List Note) → Writes p notes q → far_of q x ≡ gone_by (far_of p x) (map placed notes)
   goes p q [] w = ap (λ (v : PassesView). far_of v x) w
-  goes p q (n ∷ ns) w = goes w.0 q ns w.2 ∙ ap (λ (v : Service). gone_by v (map placed ns)) (gone_at p w.0 n.place n.entry n.pos w.1)
+  goes p q (n ∷ ns) w = goes w.0 q ns w.2 ∙ ap (λ (v : ServiceStage). gone_by v (map placed ns)) (gone_at p w.0 n.place n.entry n.pos w.1)
 
 -- a note that changes nothing in service
 abbrev IsQuiet : Place → AnyEntry → Type 0
-IsQuiet (Timer i) (of.Timer e) = (v : Service) → service_after v e.op e.reply ≡ v
+IsQuiet (Timer i) (of.Timer e) = (v : ServiceStage) → service_after v e.op e.reply ≡ v
 IsQuiet (Timer i) (of.Cpu e) = Unit {0}
 IsQuiet (Timer i) (of.Own e) = Unit {0}
 IsQuiet (Cpu c) (of.Cpu e) = (direct : Bool) (s : Option Due) → served direct s e.op e.reply ≡ s
@@ -163,7 +163,7 @@ quiet_turned direct x (Cpu c) (of.Cpu e) s quiet = cond_same (x == c) (served di
 quiet_turned direct x (Cpu c) (of.Own e) s quiet = refl
 quiet_turned direct x (Actor a) entry s quiet = refl
 
-quiet_gone : (x : ℕ) (place : Place) (entry : AnyEntry) (v : Service) → IsQuiet place entry → gone x place entry v ≡ v
+quiet_gone : (x : ℕ) (place : Place) (entry : AnyEntry) (v : ServiceStage) → IsQuiet place entry → gone x place entry v ≡ v
 quiet_gone x (Timer i) (of.Timer e) v quiet = cond_same (x == i) (service_after v e.op e.reply) v (quiet v)
 quiet_gone x (Timer i) (of.Cpu e) v quiet = refl
 quiet_gone x (Timer i) (of.Own e) v quiet = refl
@@ -174,9 +174,9 @@ pub quiet_turns : (direct : Bool) (x : ℕ) (ps : List Placed) (s : Option Due) 
 quiet_turns direct x [] s quiet = refl
 quiet_turns direct x (p ∷ ps) s quiet = ap (λ (t : Option Due). turned_by direct x t ps) (quiet_turned direct x p.0 p.1 s quiet.0) ∙ quiet_turns direct x ps s quiet.1
 
-pub quiet_goes : (x : ℕ) (ps : List Placed) (v : Service) → AreQuiet ps → gone_by x v ps ≡ v
+pub quiet_goes : (x : ℕ) (ps : List Placed) (v : ServiceStage) → AreQuiet ps → gone_by x v ps ≡ v
 quiet_goes x [] v quiet = refl
-quiet_goes x (p ∷ ps) v quiet = ap (λ (t : Service). gone_by x t ps) (quiet_gone x p.0 p.1 v quiet.0) ∙ quiet_goes x ps v quiet.1
+quiet_goes x (p ∷ ps) v quiet = ap (λ (t : ServiceStage). gone_by x t ps) (quiet_gone x p.0 p.1 v quiet.0) ∙ quiet_goes x ps v quiet.1
 
 pub quiet-append : (ps qs : List Placed) → AreQuiet ps → AreQuiet qs → AreQuiet (ps ++ qs)
 quiet-append [] qs a b = b
@@ -193,7 +193,7 @@ module _ (direct : Bool) (p q : PassesView) (cpu : ℕ) (same : AreSame p q) whe
   pub is_free : p.actor ≡ lane_actor direct (actors_of p.params) cpu → service_of direct q cpu ≡ None → IsFree direct q cpu
   is_free actor free = record { actor = still_server actor; free = free }
 
-  pub is_serving : (d : Due) (far : Service) → p.actor ≡ lane_actor direct (actors_of p.params) cpu → service_of direct q cpu ≡ Some d → far_of q d.i ≡ far → IsServing direct q cpu d far
+  pub is_serving : (d : Due) (far : ServiceStage) → p.actor ≡ lane_actor direct (actors_of p.params) cpu → service_of direct q cpu ≡ Some d → far_of q d.i ≡ far → IsServing direct q cpu d far
   is_serving d far actor serves far_is = record { actor = still_server actor; serves = serves; far_is = far_is }
 
 -- quiet notes leave what is in service
@@ -201,7 +201,7 @@ module _ (p q : PassesView) (notes : List Note) (same : AreSame p q) (w : Writes
   pub free_still : (direct : Bool) (cpu : ℕ) → IsFree direct p cpu → IsFree direct q cpu
   free_still direct cpu f = is_free direct p q cpu same f.actor (turns direct cpu p q notes w ∙ (quiet_turns direct cpu (map placed notes) (service_of direct p cpu) quiet ∙ f.free))
 
-  pub serving_still : (direct : Bool) (cpu : ℕ) (d : Due) (far : Service) → IsServing direct p cpu d far → IsServing direct q cpu d far
+  pub serving_still : (direct : Bool) (cpu : ℕ) (d : Due) (far : ServiceStage) → IsServing direct p cpu d far → IsServing direct q cpu d far
   serving_still direct cpu d far s = is_serving direct p q cpu same d far s.actor
       (turns direct cpu p q notes w ∙ (quiet_turns direct cpu (map placed notes) (service_of direct p cpu) quiet ∙ s.serves))
       (goes d.i p q notes w ∙ (quiet_goes d.i (map placed notes) (far_of p d.i) quiet ∙ s.far_is))

@@ -34,10 +34,10 @@ use Rattle.co_service.specs.Call.{IsCalled, Target, landing, notes_in, removal_n
 use Rattle.co_service.specs.Name.{ServiceName}
 use Rattle.co_service.specs.declared.params.Params.{Params}
 use Rattle.co_service.specs.Kept.{Keeps, KeepsFree, KeepsTaken}
-use Rattle.co_service.specs.Outcomes.{IsScan, turn}
+use Rattle.co_service.specs.Outcomes.{IsScan, queue_entry_by}
 use Rattle.co_service.specs.Params.{actors_of, spec_at}
 use Rattle.co_service.specs.Services.{AreSame, HasNext, IsBegun, IsEnded, IsFree, IsNothing, IsServing, IsTaken, IsTaking, far_of, next_target, run_entry, service_of}
-use Rattle.co_service.specs.Serving.{Runs, Service, Waits, begun, lane_actor, picked, served, served_in}
+use Rattle.co_service.specs.Serving.{Runs, ServiceStage, Waits, begun, lane_actor, stage_picked, served, served_in}
 use Rattle.co_service.specs.Stories.{queue_by}
 use Rattle.co_service.specs.Views.{AreOf, PassesView, seen_of}
 use Rattle.co_service.proofs.CallGroup.{entry_of, group_listed, head, listed_notes, unarmed_group}
@@ -110,7 +110,7 @@ module _ (p q : PassesView) (act i : ℕ) (op : CallOp) (reply : Reply) (notes :
   pub called_free : (direct : Bool) (cpu : ℕ) → IsFree direct p cpu → IsFree direct q cpu
   called_free = free_still p q notes called_same is.written quiet_call
 
-  pub called_serving : (direct : Bool) (cpu : ℕ) (d : Due) (far : Service) → IsServing direct p cpu d far → IsServing direct q cpu d far
+  pub called_serving : (direct : Bool) (cpu : ℕ) (d : Due) (far : ServiceStage) → IsServing direct p cpu d far → IsServing direct q cpu d far
   called_serving = serving_still p q notes called_same is.written quiet_call
 
   pub called_keeps : (name : ServiceName) (params : Params) → AreOf name params p → Keeps name params p q
@@ -122,7 +122,7 @@ module _ (p q : PassesView) (cpu act now : ℕ) (out : Scanned) (is : IsScan p c
   scanned_same : AreSame p q
   scanned_same = writes_keep p q (out.note ∷ []) is.written
 
-  placed_turn : placed out.note ≡ (at.Cpu cpu, of.Cpu (turn p act (Scan now) (Count out.count)))
+  placed_turn : placed out.note ≡ (at.Cpu cpu, of.Cpu (queue_entry_by p act (Scan now) (Count out.count)))
   placed_turn = λ d. (is.note.place d, is.note.entry d)
 
   quiet_scan : AreQuiet (map placed (out.note ∷ []))
@@ -131,7 +131,7 @@ module _ (p q : PassesView) (cpu act now : ℕ) (out : Scanned) (is : IsScan p c
   scanned_free : (direct : Bool) (x : ℕ) → IsFree direct p x → IsFree direct q x
   scanned_free = free_still p q (out.note ∷ []) scanned_same is.written quiet_scan
 
-  scanned_serving : (direct : Bool) (x : ℕ) (d : Due) (far : Service) → IsServing direct p x d far → IsServing direct q x d far
+  scanned_serving : (direct : Bool) (x : ℕ) (d : Due) (far : ServiceStage) → IsServing direct p x d far → IsServing direct q x d far
   scanned_serving = serving_still p q (out.note ∷ []) scanned_same is.written quiet_scan
 
   pub scanned_keeps : (name : ServiceName) (params : Params) → AreOf name params p → Keeps name params p q
@@ -162,17 +162,17 @@ module _ (direct : Bool) (p q : PassesView) (cpu act : ℕ) where
       ∙ (here cpu (served direct (service_of direct p cpu) (pop_of direct) Nothing) (service_of direct p cpu)
       ∙ (found_none direct (service_of direct p cpu) ∙ f.free))))
 
-  taken_next : (i n time : ℕ) (reply : Reply) (pop pick : Note) → IsFree direct p cpu → IsTaking direct p cpu act i n time reply pop pick q → IsServing direct q cpu (record { i = i; n = n }) (picked n reply)
+  taken_next : (i n time : ℕ) (reply : Reply) (pop pick : Note) → IsFree direct p cpu → IsTaking direct p cpu act i n time reply pop pick q → IsServing direct q cpu (record { i = i; n = n }) (stage_picked n reply)
   taken_next i n time reply pop pick f is =
-      let ends : map placed (pop ∷ pick ∷ []) ≡ (at.Cpu cpu, of.Cpu (turn p act (pop_of direct) (Got i n time))) ∷ (at.Timer i, of.Timer (run_entry p act (Pick n cpu time) reply)) ∷ []
+      let ends : map placed (pop ∷ pick ∷ []) ≡ (at.Cpu cpu, of.Cpu (queue_entry_by p act (pop_of direct) (Got i n time))) ∷ (at.Timer i, of.Timer (run_entry p act (Pick n cpu time) reply)) ∷ []
       = λ d. (is.popped.place d, is.popped.entry d) ∷ (is.place d, is.entry d) ∷ [] in
-      is_serving direct p q cpu (writes_keep p q (pop ∷ pick ∷ []) is.written) (record { i = i; n = n }) (picked n reply) f.actor
+      is_serving direct p q cpu (writes_keep p q (pop ∷ pick ∷ []) is.written) (record { i = i; n = n }) (stage_picked n reply) f.actor
       (turns direct cpu p q (pop ∷ pick ∷ []) is.written
       ∙ (ap (turned_by direct cpu (service_of direct p cpu)) ends
       ∙ (here cpu (served direct (service_of direct p cpu) (pop_of direct) (Got i n time)) (service_of direct p cpu) ∙ found direct (service_of direct p cpu) i n time)))
       (goes i p q (pop ∷ pick ∷ []) is.written
       ∙ (ap (gone_by i (far_of p i)) ends
-      ∙ here i (picked n reply) (far_of p i)))
+      ∙ here i (stage_picked n reply) (far_of p i)))
 
   has_next : (out : Taken) → IsFree direct p cpu → IsTaken direct p cpu act out q → HasNext direct q cpu out
   has_next (Empty note) f is = nothing_next note f is

@@ -34,6 +34,6 @@ pub mod Joined
 pub mod Coming
 pub mod FirstDesk
 pub mod SetUp
-pub mod Benches
+pub mod FirstKeepers
 pub mod Ended
 pub mod Crews

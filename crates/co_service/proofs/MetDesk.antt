@@ -15,7 +15,7 @@ use Rattle.co_service.specs.Books.{BooksView, history_at, entries_at, is_kept}
 use Rattle.co_service.specs.Desk.{IsDesk, StandsAs}
 use Rattle.co_service.specs.Seats.{IsShown}
 use Rattle.co_service.specs.Services.{IsFree, IsServing}
-use Rattle.co_service.specs.Serving.{Service, lane_actor, served_in}
+use Rattle.co_service.specs.Serving.{ServiceStage, lane_actor, served_in}
 use Rattle.co_service.specs.Stories.{IsHistory, IsJournal, by, queue_by}
 use Rattle.co_service.specs.Views.{PassesView, journal_seen, seen_of}
 use Rattle.co_service.proofs.NextSection.{service_is}
@@ -43,16 +43,16 @@ module _ (w : Cpu) (b : BooksView) (scans cpu : ℕ) (p : PassesView) (m : Meets
   pub free_now : (lane : Bool) → IsFree lane p cpu → in_service lane w.callouts ≡ None
   free_now lane is = in_lane_now lane is.actor ∙ is.free
 
-  pub serves_one : (lane : Bool) (d e : Due) (far : Service) → IsServing lane p cpu d far → Some e ≡ in_service lane w.callouts → e ≡ d
+  pub serves_one : (lane : Bool) (d e : Due) (far : ServiceStage) → IsServing lane p cpu d far → Some e ≡ in_service lane w.callouts → e ≡ d
   serves_one lane d e far is some = one_of e d (some ∙ (in_lane_now lane is.actor ∙ is.serves))
 
   -- a lane that has something in service has it there
-  pub serves_some : (lane : Bool) (d : Due) (far : Service) → IsServing lane p cpu d far → None ≡ in_service lane w.callouts → ⊥
+  pub serves_some : (lane : Bool) (d : Due) (far : ServiceStage) → IsServing lane p cpu d far → None ≡ in_service lane w.callouts → ⊥
   serves_some lane d far is none =
       let never : None ≡ Some d = none ∙ (in_lane_now lane is.actor ∙ is.serves) in
       cc
 
-  pub served_now : (lane : Bool) (d e : Due) (far : ℕ → Service) → IsServing lane p cpu d (far d.n) → Some e ≡ in_service lane w.callouts → is_kept b e.i ≡ true → IsHistory b.params e.i (entries_at b e.i)
+  pub served_now : (lane : Bool) (d e : Due) (far : ℕ → ServiceStage) → IsServing lane p cpu d (far d.n) → Some e ≡ in_service lane w.callouts → is_kept b e.i ≡ true → IsHistory b.params e.i (entries_at b e.i)
       → IsShown by p.actor (entries_at b e.i) (seen_of p e.i) → (H : List Entry) × IsServed lane w b scans p e (far e.n) H
   served_now lane d e far is some kept legal shown =
       let found = some_of (history_at b e.i) kept in (
@@ -83,11 +83,11 @@ here_kept w b b' scans i desk kept here =
 pub meets_then : (w : Cpu) (b b' : BooksView) (scans cpu : ℕ) (p p' : PassesView) → Meets w b scans cpu p → b' ≡ b → p' ≡ p → Meets w b' scans cpu p'
 meets_then w b b' scans cpu p p' m kept same = subst (λ (t : BooksView × PassesView). Meets w t.0 scans cpu t.1) (λ d. (sym kept d, sym same d)) m
 
-served_then : (lane : Bool) (w : Cpu) (b b' : BooksView) (scans : ℕ) (p p' : PassesView) (d : Due) (far : Service) (H : List Entry) → IsServed lane w b scans p d far H → b' ≡ b → p' ≡ p → IsServed lane w b' scans p' d far H
+served_then : (lane : Bool) (w : Cpu) (b b' : BooksView) (scans : ℕ) (p p' : PassesView) (d : Due) (far : ServiceStage) (H : List Entry) → IsServed lane w b scans p d far H → b' ≡ b → p' ≡ p → IsServed lane w b' scans p' d far H
 served_then lane w b b' scans p p' d far H is kept same = subst (λ (t : BooksView × PassesView). IsServed lane w t.0 scans t.1 d far H) (λ k. (sym kept k, sym same k)) is
 
 -- what the caller serves, after it has met the journal and the callout's history
-pub served_after : (lane : Bool) (w : Cpu) (b b' b'' : BooksView) (scans cpu : ℕ) (p p' p'' : PassesView) (d e : Due) (far : ℕ → Service) → Meets w b scans cpu p → b' ≡ b → p' ≡ p → b'' ≡ b' → p'' ≡ p'
+pub served_after : (lane : Bool) (w : Cpu) (b b' b'' : BooksView) (scans cpu : ℕ) (p p' p'' : PassesView) (d e : Due) (far : ℕ → ServiceStage) → Meets w b scans cpu p → b' ≡ b → p' ≡ p → b'' ≡ b' → p'' ≡ p'
     → IsServing lane p cpu d (far d.n) → Some e ≡ in_service lane w.callouts → is_kept b' e.i ≡ true → IsHistory b'.params e.i (entries_at b' e.i) → IsShown by p'.actor (entries_at b' e.i) (seen_of p' e.i)
     → (H : List Entry) × IsServed lane w b'' scans p'' e (far e.n) H
 served_after lane w b b' b'' scans cpu p p' p'' d e far m kept same kept' same' is some here legal shown =

@@ -24,8 +24,8 @@ use Rattle.co_wheel.specs.Sections.{IsNext}
 use Rattle.co_wheel.specs.Service.{moved_on, pick_outcome, pick_it}
 use Rattle.co_service.specs.Params.{actors_of, directs, spec_at}
 use Rattle.co_service.specs.Books.{BooksView, history_at, entries_in}
-use Rattle.co_service.specs.Desk.{IsAt, IsHere, IsDesk, Owes, StandsAs, alone_after, is_entry, is_scan, scans_in, services}
-use Rattle.co_service.specs.May.{queue_of}
+use Rattle.co_service.specs.Desk.{IsAtCpu, IsHere, IsDesk, Owes, StandsAs, alone_after, is_entry, is_scan, scans_in, services}
+use Rattle.co_service.specs.May.{queue_at_desk}
 use Rattle.co_service.specs.Seats.{IsShown}
 use Rattle.co_service.specs.Services.{MayPick, picked_histories, pop_entry, run_entry}
 use Rattle.co_service.specs.Serving.{lane_actor, served_in, slot}
@@ -38,12 +38,12 @@ use Rattle.co_service.proofs.ServedDesk.{at_picked, changed_so, cpu_then, here_t
 use Rattle.co_service.proofs.Serving.{slot_by_own}
 
 -- what the queue of a desk has in service, its server's own entries say
-pub slot_shown : (lane : Bool) (w : Cpu) (b : BooksView) → Owes [] w b → slot lane (queue_of b) ≡ in_service lane w.callouts
+pub slot_shown : (lane : Bool) (w : Cpu) (b : BooksView) → Owes [] w b → slot lane (queue_at_desk b) ≡ in_service lane w.callouts
 slot_shown false w b o = o.takes.serving
 slot_shown true w b o = o.takes.directing
 
 -- whether a desk has an arming in service its journal says
-pub has_service : (w : Cpu) (b : BooksView) (i n : ℕ) (x : Bool) → Owes [] w b → false ≡ is_entry w.callouts.serving i n → x ≡ is_entry w.callouts.directing i n → x ≡ services (queue_of b) i n
+pub has_service : (w : Cpu) (b : BooksView) (i n : ℕ) (x : Bool) → Owes [] w b → false ≡ is_entry w.callouts.serving i n → x ≡ is_entry w.callouts.directing i n → x ≡ services (queue_at_desk b) i n
 has_service w b i n x o none is =
     is ∙ ((λ k. none k || is_entry w.callouts.directing i n) ∙ (λ k. is_entry (sym o.takes.serving k) i n || is_entry (sym o.takes.directing k) i n))
 
@@ -135,7 +135,7 @@ module _ (w w' : Cpu) (b : BooksView) (scans : ℕ) (direct : Bool) (p : PassesV
       stands_now : alone_now ≡ alone_after b.params i (H ++ entry ∷ [])
       stands_now = ap (λ (a : Alone). moved_on a picked.after) alone_is ∙ alone_then b.params i H entry picked.after reply picks_here
 
-      at_now : IsAt b.cpu alone_now
+      at_now : IsAtCpu b.cpu alone_now
       at_now = at_picked picked.alone.spec (history.state (spec_at b.params i) H) (Run (Pick n b.cpu time)) reply picked.after n b.cpu time (changed_so (spec_at b.params i) (history.state (spec_at b.params i) H) (Run (Pick n b.cpu time)) picked.after reply picks_here) refl
 
       here_now : w'.callouts.here ≡ set w.callouts.here i (Some alone_now)

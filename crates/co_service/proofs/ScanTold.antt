@@ -14,7 +14,7 @@ use Rattle.co_service.specs.Kinds.{cpu_kind}
 use Rattle.co_service.specs.Writes.{Writes, WritesEntry}
 use Rattle.co_service.specs.Books.{BooksView}
 use Rattle.co_service.specs.Desk.{IsDesk}
-use Rattle.co_service.specs.Outcomes.{noted_turn, turn, looks_in, IsScan}
+use Rattle.co_service.specs.Outcomes.{noted_turn, queue_entry_by, looks_in, IsScan}
 use Rattle.co_service.proofs.Items.{index_set}
 use Rattle.co_service.proofs.DeskKept.{snoc_same}
 use Rattle.co_service.proofs.Looking.{looks_shown}
@@ -25,10 +25,10 @@ pub journal_after : (p q : PassesView) (cpu : ℕ) (e : QEntry) (pos : ℕ) (aft
 journal_after p q cpu e pos after w = ap (λ (v : PassesView). journal_seen v cpu) w.passes ∙ index_set p.cpus cpu after [] w.below
 
 pub scan_told : (p q : PassesView) (w : Cpu) (b : BooksView) (scans cpu act now looks pos : ℕ) (out : Scanned) → IsDesk w b scans → b.params ≡ p.params → b.cpu ≡ cpu
-    → out.note ≡ noted_turn p.actor act cpu (Scan now) (Count out.count) pos → WritesEntry cpu_kind p b.cpu (turn p act (Scan now) (Count out.count)) pos (b.journal ++ turn p act (Scan now) (Count out.count) ∷ []) q
+    → out.note ≡ noted_turn p.actor act cpu (Scan now) (Count out.count) pos → WritesEntry cpu_kind p b.cpu (queue_entry_by p act (Scan now) (Count out.count)) pos (b.journal ++ queue_entry_by p act (Scan now) (Count out.count) ∷ []) q
     → looks ≡ looks_at_visited w.timers now → out.looks ≡ looks → IsScan p cpu act now out q
 scan_told p q w b scans cpu act now looks pos out desk params here note_is written looks_are out_is =
-    let e : QEntry = turn p act (Scan now) (Count out.count) in
+    let e : QEntry = queue_entry_by p act (Scan now) (Count out.count) in
     record {
       note = record { place = ap (λ (n : Note). n.place) note_is; entry = ap (λ (n : Note). n.entry) note_is };
       written = subst (λ (n : Note). Writes p (n ∷ []) q) (sym note_is) (turn_written p q act b.cpu cpu (Scan now) (Count out.count) pos (b.journal ++ e ∷ []) (sym here) written);

@@ -30,7 +30,7 @@ use Rattle.co_object.proofs.Numbers.{same_number, same_itself}
 use Rattle.co_wheel.specs.Callouts.{Callouts, with_service}
 use Rattle.co_wheel.specs.Turns.{pop_of, free_of}
 use Rattle.co_service.specs.declared.params.Params.{Params}
-use Rattle.co_service.specs.Desk.{alone_after, StandsAs, IsAt}
+use Rattle.co_service.specs.Desk.{alone_after, StandsAs, IsAtCpu}
 use Rattle.co_service.specs.Serving.{lane_actor}
 use Rattle.co_service.proofs.CallKept.{none_off}
 
@@ -76,11 +76,11 @@ lane_frees actors cpu actor true is = is
 
 -- ---- where it stands
 
-unarmed_at : (spec : Spec) (t : State) (cpu : ℕ) → is_free_at t.run cpu ≡ true → t.armed ≡ None → IsAt cpu (record { spec = spec; state = t })
+unarmed_at : (spec : Spec) (t : State) (cpu : ℕ) → is_free_at t.run cpu ≡ true → t.armed ≡ None → IsAtCpu cpu (record { spec = spec; state = t })
 unarmed_at spec t cpu free none = record { runs = free; listed = λ at is. let never = none_off t.armed t.run none in absurd (cc) }
 
 -- what was picked on this CPU is here, and isn't armed
-pub at_picked : (spec : Spec) (s : State) (op : Op) (r : Reply) (t : State) (n cpu at : ℕ) → Change s op r t → op ≡ Serve (Pick n cpu at) → IsAt cpu (record { spec = spec; state = t })
+pub at_picked : (spec : Spec) (s : State) (op : Op) (r : Reply) (t : State) (n cpu at : ℕ) → Change s op r t → op ≡ Serve (Pick n cpu at) → IsAtCpu cpu (record { spec = spec; state = t })
 at_picked spec s op r t n cpu at (same _ _ _ _ not_pick) is = let picks = ap is_pick is in absurd (cc)
 at_picked spec s op r t n cpu at (refused _ _ _ _) is = absurd (cc)
 at_picked spec s op r t n cpu at (armed _ _ _ _ _ _ _ _ _ _ _) is = absurd (cc)
@@ -103,7 +103,7 @@ same_listed None r r' free = refl
 same_listed (Some a) r r' free = ap (λ (b : Bool). listed_cpu (cond b (Listed a.cpu) (Deferred a.cpu))) (free a.cpu)
 
 -- what begins here stays here
-pub at_begun : (spec : Spec) (s : State) (op : Op) (r : Reply) (t : State) (n cpu here : ℕ) → Change s op r t → op ≡ Serve (Begin n cpu) → IsAt here (record { spec = spec; state = s }) → IsAt here (record { spec = spec; state = t })
+pub at_begun : (spec : Spec) (s : State) (op : Op) (r : Reply) (t : State) (n cpu here : ℕ) → Change s op r t → op ≡ Serve (Begin n cpu) → IsAtCpu here (record { spec = spec; state = s }) → IsAtCpu here (record { spec = spec; state = t })
 at_begun spec s op r t n cpu here (same _ _ _ _ _) is at = at
 at_begun spec s op r t n cpu here (refused _ _ _ _) is at = absurd (cc)
 at_begun spec s op r t n cpu here (armed _ _ _ _ _ _ _ _ _ _ _) is at = absurd (cc)
@@ -162,7 +162,7 @@ listed_idle (Some a) r cpu idle none x is = by_test (a.cpu == cpu) refl none whe
   by_test false e h = absurd (cc)
 
 -- what ends and isn't armed elsewhere is here
-pub at_over : (spec : Spec) (s : State) (cpu : ℕ) (r : Reply) (t : State) → IsOver s cpu r t → next_of s.armed cpu ≡ None → IsAt cpu (record { spec = spec; state = t })
+pub at_over : (spec : Spec) (s : State) (cpu : ℕ) (r : Reply) (t : State) → IsOver s cpu r t → next_of s.armed cpu ≡ None → IsAtCpu cpu (record { spec = spec; state = t })
 at_over spec s cpu r t o none = record {
   runs = ap (λ (q : Run). is_free_at q cpu) o.idle;
   listed = λ x is. listed_idle t.armed t.run cpu o.idle (ap (λ (m : Option Arming). next_of m cpu) o.armed_is ∙ none) x is;

@@ -25,11 +25,11 @@ use Rattle.co_service.specs.declared.params.Params.{Params}
 use Rattle.co_service.specs.Outcomes.{noted_entry}
 use Rattle.co_service.specs.Params.{actors_of, directs, spec_at}
 use Rattle.co_service.specs.Books.{BooksView, history_at, entries_in, entries_at, with_history}
-use Rattle.co_service.specs.Desk.{IsAt, IsDesk, alone_after}
+use Rattle.co_service.specs.Desk.{IsAtCpu, IsDesk, alone_after}
 use Rattle.co_service.specs.May.{MayHappen}
 use Rattle.co_service.specs.Seats.{IsShown}
 use Rattle.co_service.specs.Services.{IsBegun, IsServing, run_entry}
-use Rattle.co_service.specs.Serving.{Service, Runs, Waits, lane_actor, service_in}
+use Rattle.co_service.specs.Serving.{ServiceStage, Runs, Waits, lane_actor, service_in}
 use Rattle.co_service.specs.Stories.{IsHistory, IsJournal, by, queue_by}
 use Rattle.co_service.specs.Views.{PassesView, journal_seen, seen_of}
 use Rattle.co_service.specs.Kinds.{timer_kind}
@@ -42,7 +42,7 @@ use Rattle.co_service.proofs.ServedDesk.{at_begun, changed_so, lane_frees, lane_
 use Rattle.co_service.proofs.Serving.{may_begin, may_end}
 
 -- what a caller serves on a desk that it has met: the callout d.i is there, with this history
-pub record IsServed (lane : Bool) (w : Cpu) (b : BooksView) (scans : ℕ) (p : PassesView) (d : Due) (far : Service) (H : List Entry) : Type 0 where
+pub record IsServed (lane : Bool) (w : Cpu) (b : BooksView) (scans : ℕ) (p : PassesView) (d : Due) (far : ServiceStage) (H : List Entry) : Type 0 where
   pub desk : IsDesk w b scans
   pub journal_legal : IsJournal b.params b.cpu b.journal
   pub journal_shown : IsShown queue_by p.actor b.journal (journal_seen p b.cpu)
@@ -52,7 +52,7 @@ pub record IsServed (lane : Bool) (w : Cpu) (b : BooksView) (scans : ℕ) (p : P
   pub same : b.params ≡ p.params
   pub kept : history_at b d.i ≡ Some H
 
-module _ (lane : Bool) (w : Cpu) (b : BooksView) (scans : ℕ) (p : PassesView) (d : Due) (far : Service) (H : List Entry) (is : IsServed lane w b scans p d far H) where
+module _ (lane : Bool) (w : Cpu) (b : BooksView) (scans : ℕ) (p : PassesView) (d : Due) (far : ServiceStage) (H : List Entry) (is : IsServed lane w b scans p d far H) where
   actor_is : p.actor ≡ lane_actor lane (actors_of b.params) b.cpu
   actor_is = is.serving.actor ∙ ap (λ (r : Params). lane_actor lane (actors_of r) b.cpu) (sym is.same)
 
@@ -78,7 +78,7 @@ module _ (lane : Bool) (w : Cpu) (b : BooksView) (scans : ℕ) (p : PassesView) 
   pub there : callout w.callouts d.i ≡ Some (alone_after b.params d.i H)
   there = there_now w b d.i H is.desk.stand is.kept
 
-  pub here : IsAt b.cpu (alone_after b.params d.i H)
+  pub here : IsAtCpu b.cpu (alone_after b.params d.i H)
   here = at_now w b d.i H is.desk.stand is.kept
 
   pub begins : far ≡ Waits d.n → is_some (begin (history.state (spec_at b.params d.i) H) d.n b.cpu) ≡ true
@@ -142,7 +142,7 @@ module _ (w w' : Cpu) (b : BooksView) (scans : ℕ) (p : PassesView) (act : ℕ)
     stands_now : alone_now ≡ alone_after b.params d.i (H ++ entry ∷ [])
     stands_now = alone_then b.params d.i H entry after reply begins_here
 
-    at_then : IsAt b.cpu alone_now
+    at_then : IsAtCpu b.cpu alone_now
     at_then = at_begun (spec_at b.params d.i) state_now (Run (Begin d.n b.cpu)) reply after d.n b.cpu b.cpu (changed_so (spec_at b.params d.i) state_now (Run (Begin d.n b.cpu)) after reply begins_here) refl (here false w b scans p d (Waits d.n) H is)
 
     turns : Turns w [] w'

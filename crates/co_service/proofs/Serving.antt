@@ -35,7 +35,7 @@ use Rattle.co_object.proofs.Numbers.{same_number, same_itself}
 use Rattle.co_object.proofs.QueueChanges.{QChange, inserts, removes, misses, scans, pops, finds_none, frees, pops_direct, finds_no_direct, frees_direct}
 use Rattle.co_object.proofs.QueueChanges as queue
 use Rattle.co_service.specs.Stories.{by, queue_by}
-use Rattle.co_service.specs.Serving.{served, served_from, served_in, lane_actor, slot, Service, Idle, Waits, Runs, picked, begun, service_after, service_in}
+use Rattle.co_service.specs.Serving.{served, served_from, served_in, lane_actor, slot, ServiceStage, Idle, Waits, Runs, stage_picked, begun, service_after, service_in}
 
 -- ---- the CPU
 
@@ -113,7 +113,7 @@ module _ (m : ℕ) (direct : List Bool) where
 
 module _ (cpu : ℕ) where
   -- a callout's run is that of a service on this CPU which is so far
-  abbrev Fits : Service → Run → Type 0
+  abbrev Fits : ServiceStage → Run → Type 0
   Fits Idle r = Unit {0}
   Fits (Waits n) run.Idle = ⊥
   Fits (Waits n) (run.Picked a) = (a.n ≡ n) × (a.cpu ≡ cpu)
@@ -124,7 +124,7 @@ module _ (cpu : ℕ) where
   Fits (Runs n) (run.Cancelled k at) = (k ≡ n) × (at ≡ cpu)
   Fits (Runs n) (run.Running k at) = (k ≡ n) × (at ≡ cpu)
 
-  fits_cancel : (v : Service) (r : Run) → Fits v r → Fits v (cancel r)
+  fits_cancel : (v : ServiceStage) (r : Run) → Fits v r → Fits v (cancel r)
   fits_cancel Idle r f = tt
   fits_cancel (Waits n) run.Idle f = absurd f
   fits_cancel (Waits n) (run.Picked a) f = f
@@ -136,7 +136,7 @@ module _ (cpu : ℕ) where
   fits_cancel (Runs n) (run.Running k at) f = f
 
   -- a call leaves a service where it is, or cancels it
-  fits_call : (v : Service) (s : State) (op : Op) (c : CallOp) (r : Reply) (t : State) → Change s op r t → op ≡ Call c → Fits v s.run → Fits v t.run
+  fits_call : (v : ServiceStage) (s : State) (op : Op) (c : CallOp) (r : Reply) (t : State) → Change s op r t → op ≡ Call c → Fits v s.run → Fits v t.run
   fits_call v s op c r t (same _ _ _ _ _) is f = f
   fits_call v s op c r t (refused _ _ _ _) is f = fits_cancel v s.run f
   fits_call v s op c r t (armed _ _ _ _ _ _ _ _ _ _ _) is f = fits_cancel v s.run f
@@ -153,7 +153,7 @@ module _ (cpu : ℕ) where
   fits_call v s op c r t (changes.begun _ _ _ _ _) is f = cc
   fits_call v s op c r t (over _ _ _ _ _) is f = cc
 
-  fits_pick : (s : State) (op : Op) (r : Reply) (t : State) (n c at : ℕ) → Change s op r t → op ≡ Serve (Pick n c at) → c ≡ cpu → Fits (picked n r) t.run
+  fits_pick : (s : State) (op : Op) (r : Reply) (t : State) (n c at : ℕ) → Change s op r t → op ≡ Serve (Pick n c at) → c ≡ cpu → Fits (stage_picked n r) t.run
   fits_pick s op r t n c at (same _ _ _ _ not_pick) is here = let picks = ap is_pick is in cc
   fits_pick s op r t n c at (refused _ _ _ _) is here = cc
   fits_pick s op r t n c at (armed _ _ _ _ _ _ _ _ _ _ _) is here = cc
@@ -190,7 +190,7 @@ module _ (cpu : ℕ) where
   picks_idle s op r t n c at (changes.begun _ _ _ _ _) is = cc
   picks_idle s op r t n c at (over _ _ _ _ _) is = cc
 
-  idle_fits : (v : Service) (r r' : Run) → Fits v r → is_idle r ≡ true → Fits v r'
+  idle_fits : (v : ServiceStage) (r r' : Run) → Fits v r → is_idle r ≡ true → Fits v r'
   idle_fits Idle r r' f idle = tt
   idle_fits (Waits n) run.Idle r' f idle = absurd f
   idle_fits (Waits n) (run.Picked a) r' f idle = absurd (cc)
@@ -206,7 +206,7 @@ module _ (cpu : ℕ) where
   passed P true o r h so = so refl
   passed P false o r h so = absurd (cc)
 
-  fits_begin : (s : State) (x : Run) (v : Service) (n c : ℕ) (r : Reply) → s.run ≡ x → Fits v x → reply_of (begin_run s x n c) ≡ Some r → Fits (begun v) (state_of (begin_run s x n c) s).run
+  fits_begin : (s : State) (x : Run) (v : ServiceStage) (n c : ℕ) (r : Reply) → s.run ≡ x → Fits v x → reply_of (begin_run s x n c) ≡ Some r → Fits (begun v) (state_of (begin_run s x n c) s).run
   fits_begin s x Idle n c r is f h = tt
   fits_begin s run.Idle (Waits k) n c r is f h = absurd f
   fits_begin s (run.Picked a) (Waits k) n c r is f h = passed (λ o. Fits (Runs k) (state_of o s).run) (a.n == n && a.cpu == c) _ r h (λ so. f)
@@ -221,7 +221,7 @@ module _ (cpu : ℕ) where
   both_here b at c h here apart = apart (sym (same_number at c (both_true b (at == c) h).1) ∙ here)
 
   -- the service of another CPU doesn't begin or end one here
-  begin_apart : (s : State) (x : Run) (v : Service) (n c : ℕ) (r : Reply) → Fits v x → reply_of (begin_run s x n c) ≡ Some r → (c ≡ cpu → ⊥) → Fits v (state_of (begin_run s x n c) s).run
+  begin_apart : (s : State) (x : Run) (v : ServiceStage) (n c : ℕ) (r : Reply) → Fits v x → reply_of (begin_run s x n c) ≡ Some r → (c ≡ cpu → ⊥) → Fits v (state_of (begin_run s x n c) s).run
   begin_apart s x Idle n c r f h apart = tt
   begin_apart s run.Idle (Waits k) n c r f h apart = absurd f
   begin_apart s (run.Picked a) (Waits k) n c r f h apart = passed (λ o. Fits (Waits k) (state_of o s).run) (a.n == n && a.cpu == c) _ r h (λ so. absurd (both_here (a.n == n) a.cpu c so f.1 apart))
@@ -232,7 +232,7 @@ module _ (cpu : ℕ) where
   begin_apart s (run.Cancelled m at) (Runs k) n c r f h apart = passed (λ o. Fits (Runs k) (state_of o s).run) (m == n && at == c) _ r h (λ so. absurd (both_here (m == n) at c so f.1 apart))
   begin_apart s (run.Running m at) (Runs k) n c r f h apart = absurd (cc)
 
-  end_apart : (s : State) (x : Run) (v : Service) (n c : ℕ) (r : Reply) → Fits v x → reply_of (end_run s x n c) ≡ Some r → (c ≡ cpu → ⊥) → Fits v (state_of (end_run s x n c) s).run
+  end_apart : (s : State) (x : Run) (v : ServiceStage) (n c : ℕ) (r : Reply) → Fits v x → reply_of (end_run s x n c) ≡ Some r → (c ≡ cpu → ⊥) → Fits v (state_of (end_run s x n c) s).run
   end_apart s x Idle n c r f h apart = tt
   end_apart s run.Idle (Waits k) n c r f h apart = absurd f
   end_apart s (run.Picked a) (Waits k) n c r f h apart = absurd (cc)
@@ -267,25 +267,25 @@ module _ (cpu : ℕ) where
     apart : (a c : ℕ) → (a == mine) ≡ false → a ≡ server actors spec c → c ≡ cpu → ⊥
     apart a c other by here = let t = same_itself a mine (by ∙ ap (server actors spec) here) in cc
 
-    own_next : (s : State) (op : Op) (r : Reply) (v : Service) → reply_of (step spec s op) ≡ Some r → IsOfItsActor actors spec mine op → Fits v s.run → Fits (service_after v op r) (state_of (step spec s op) s).run
+    own_next : (s : State) (op : Op) (r : Reply) (v : ServiceStage) → reply_of (step spec s op) ≡ Some r → IsOfItsActor actors spec mine op → Fits v s.run → Fits (service_after v op r) (state_of (step spec s op) s).run
     own_next s (Call c) r v h by f = fits_call v s (Call c) c r _ (change spec s (Call c) r h) refl f
     own_next s (Serve (Pick n c at)) r v h by f = fits_pick s (Serve (Pick n c at)) r _ n c at (change spec s (Serve (Pick n c at)) r h) refl (same_server spec.direct c cpu (sym by))
     own_next s (Serve (Begin n c)) r v h by f = fits_begin s s.run v n c r refl f h
     own_next s (Serve (End n c)) r v h by f = tt
 
-    other_next : (s : State) (a : ℕ) (op : Op) (r : Reply) (v : Service) → reply_of (step spec s op) ≡ Some r → IsOfItsActor actors spec a op → (a == mine) ≡ false → Fits v s.run → Fits v (state_of (step spec s op) s).run
+    other_next : (s : State) (a : ℕ) (op : Op) (r : Reply) (v : ServiceStage) → reply_of (step spec s op) ≡ Some r → IsOfItsActor actors spec a op → (a == mine) ≡ false → Fits v s.run → Fits v (state_of (step spec s op) s).run
     other_next s a (Call c) r v h by other f = fits_call v s (Call c) c r _ (change spec s (Call c) r h) refl f
     other_next s a (Serve (Pick n c at)) r v h by other f = idle_fits v s.run _ f (picks_idle s (Serve (Pick n c at)) r _ n c at (change spec s (Serve (Pick n c at)) r h) refl)
     other_next s a (Serve (Begin n c)) r v h by other f = begin_apart s s.run v n c r f h (apart a c other by)
     other_next s a (Serve (End n c)) r v h by other f = end_apart s s.run v n c r f h (apart a c other by)
 
     -- the entries of others leave it
-    one_own : (b : Bool) (e : Entry) (s : State) (v : Service) (H : List Entry) (t : State) → (b ≡ true → Fits (fold (λ w f. service_after w f.op f.reply) (service_after v e.op e.reply) H) t.run) → (b ≡ false → Fits (fold (λ w f. service_after w f.op f.reply) v H) t.run)
+    one_own : (b : Bool) (e : Entry) (s : State) (v : ServiceStage) (H : List Entry) (t : State) → (b ≡ true → Fits (fold (λ w f. service_after w f.op f.reply) (service_after v e.op e.reply) H) t.run) → (b ≡ false → Fits (fold (λ w f. service_after w f.op f.reply) v H) t.run)
         → Fits (fold (λ w f. service_after w f.op f.reply) v (cond b (e ∷ H) H)) t.run
     one_own true e s v H t so other = so refl
     one_own false e s v H t so other = other refl
 
-    fits_own : (H : List Entry) (s : State) (v : Service) → IsLegalFrom (next spec) (May actors spec) s H → Fits v s.run → Fits (fold (λ w e. service_after w e.op e.reply) v (own by mine H)) (fold (next spec) s H).run
+    fits_own : (H : List Entry) (s : State) (v : ServiceStage) → IsLegalFrom (next spec) (May actors spec) s H → Fits v s.run → Fits (fold (λ w e. service_after w e.op e.reply) v (own by mine H)) (fold (next spec) s H).run
     fits_own [] s v l f = f
     fits_own (e ∷ H) s v l f =
         one_own (e.actor == mine) e s v (own by mine H) (fold (next spec) (next spec s e) H)

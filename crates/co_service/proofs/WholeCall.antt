@@ -28,7 +28,7 @@ use Rattle.co_service.specs.declared.told.Told.{Told}
 use Rattle.co_service.specs.Call.{IsAnswer, IsCalled, Target, call_entry, landing, noted_insert, removal_told, told_notes}
 use Rattle.co_service.specs.Ends.{IsFinished, finished_notes}
 use Rattle.co_service.specs.Moving.{IsDone, IsOfService, MovingView}
-use Rattle.co_service.specs.Outcomes.{noted_entry, turn}
+use Rattle.co_service.specs.Outcomes.{noted_entry, queue_entry_by}
 use Rattle.co_service.specs.Services.{AreSame, IsEnded, IsEndedBut, IsLanded, run_entry}
 use Rattle.co_service.specs.Views.{PassesView, seen_of}
 use Rattle.co_service.specs.Writes.{WritesAt, Writes}
@@ -55,11 +55,11 @@ cpu_apart : (p q : PassesView) (cpu : ℕ) (e : QEntry) (pos i : ℕ) → Writes
 cpu_apart p q cpu e pos i w = ap (λ (v : PassesView). seen_of v i) w.1.passes
 
 landed_apart : (p q : PassesView) (act i : ℕ) (t : Target) (x : Inserted) (l : IsLanded p act i t x q) → seen_of q i ≡ seen_of p i
-landed_apart p q act i t x l = ap (λ (v : PassesView). seen_of v i) l.written.2 ∙ cpu_apart p l.written.0 x.cpu (turn p act (Insert i x.n x.due) (At x.at)) x.pos i l.written.1
+landed_apart p q act i t x l = ap (λ (v : PassesView). seen_of v i) l.written.2 ∙ cpu_apart p l.written.0 x.cpu (queue_entry_by p act (Insert i x.n x.due) (At x.at)) x.pos i l.written.1
 
 -- the note of what has landed is as its target says
 landed_placed : (p q r : PassesView) (act i : ℕ) (t : Target) (x : Inserted) → q.actor ≡ p.actor → IsLanded q act i t x r → placed (noted_insert p.actor act i x) ∷ [] ≡ landing p act i (Some t) x.at
-landed_placed p q r act i t x actor l = λ d. (at.Cpu (l.cpu d), of.Cpu (turn p act (Insert i (l.number d) (l.due_is d)) (At x.at))) ∷ []
+landed_placed p q r act i t x actor l = λ d. (at.Cpu (l.cpu d), of.Cpu (queue_entry_by p act (Insert i (l.number d) (l.due_is d)) (At x.at))) ∷ []
 
 map_both : {A B : Type 0} (f : A → B) (xs ys : List A) → map f (xs ++ ys) ≡ map f xs ++ map f ys
 map_both f [] ys = refl
@@ -92,7 +92,7 @@ module _ (lane : Bool) (p q : PassesView) (cpu act : ℕ) (d : Due) (reply : Rep
   pub ended_here : IsEndedBut lane p cpu act d reply None notes q → IsEnded lane p cpu act d reply notes q
   ended_here e = record {
     time = 0;
-    notes_are = e.notes_are ∙ ap (λ (t : Option Target). (at.Timer d.i, of.Timer (run_entry p act (End d.n cpu) reply)) ∷ (at.Cpu cpu, of.Cpu (turn p act (free_of lane) Freed)) ∷ landing p act d.i t 0) e.leaves_is;
+    notes_are = e.notes_are ∙ ap (λ (t : Option Target). (at.Timer d.i, of.Timer (run_entry p act (End d.n cpu) reply)) ∷ (at.Cpu cpu, of.Cpu (queue_entry_by p act (free_of lane) Freed)) ∷ landing p act d.i t 0) e.leaves_is;
     written = e.written;
   }
 
@@ -106,7 +106,7 @@ module _ (lane : Bool) (p q : PassesView) (cpu act : ℕ) (d : Due) (reply : Rep
             map_both placed notes (noted_insert p.actor act d.i x ∷ [])
             ∙ (ap (λ (ns : List Placed). map placed notes ++ ns) (landed_placed p q r act d.i t x actor l)
             ∙ (ap (λ (ns : List Placed). ns ++ landing p act d.i (Some t) x.at) e.notes_are
-            ∙ ap (λ (o : Option Target). (at.Timer d.i, of.Timer (run_entry p act (End d.n cpu) reply)) ∷ (at.Cpu cpu, of.Cpu (turn p act (free_of lane) Freed)) ∷ landing p act d.i o x.at) e.leaves_is));
+            ∙ ap (λ (o : Option Target). (at.Timer d.i, of.Timer (run_entry p act (End d.n cpu) reply)) ∷ (at.Cpu cpu, of.Cpu (queue_entry_by p act (free_of lane) Freed)) ∷ landing p act d.i o x.at) e.leaves_is));
         written = writes-append p q r notes (noted_insert p.actor act d.i x ∷ []) e.written (subst (λ (n : ℕ). Writes q (noted_insert n act d.i x ∷ []) r) actor l.written);
       }
 

@@ -44,14 +44,14 @@ kept_of (Some k) = Some (made k.history)
 abbrev pub books_of : Params → ℕ → List (Option (KeeperView (Line Entry))) → KeeperView (Line QEntry) → BooksView
 books_of params cpu keepers journal = record { params = params; cpu = cpu; timers = map kept_of keepers; journal = made journal.history }
 
-abbrev pub IsKept : List LifeId → Params → ℕ → Option (KeeperView (Line Entry)) → Type 0
-IsKept lives p i None = Unit {0}
-IsKept lives p i (Some k) = IsKeeperOf IsHistory lives p i k
+abbrev pub IsHistoryKept : List LifeId → Params → ℕ → Option (KeeperView (Line Entry)) → Type 0
+IsHistoryKept lives p i None = Unit {0}
+IsHistoryKept lives p i (Some k) = IsKeeperOf IsHistory lives p i k
 
 -- the keepers are of this service
 pub record AreBooks (name : ServiceName) (params : Params) (cpu : ℕ) (keepers : List (Option (KeeperView (Line Entry)))) (journal : KeeperView (Line QEntry)) : Type 0 where
   pub own : IsKeeperOf IsJournal name.cpus params cpu journal
-  pub each : (i : ℕ) → IsKept name.timers params i (slice_index_or keepers i None)
+  pub each : (i : ℕ) → IsHistoryKept name.timers params i (slice_index_or keepers i None)
 
 -- the keeper of callout i is taken out of the books
 pub record IsTakenOut (name : ServiceName) (b : BooksView) (i : ℕ) (k : KeeperView (Line Entry)) (b' : BooksView) : Type 0 where

@@ -19,7 +19,7 @@ use Rattle.co_service.specs.Params.{actor_count, directs}
 use Rattle.co_service.specs.Lines.{made, openings, opening_of, AllCarry}
 use Rattle.co_service.specs.Seats.{SeatsView, fresh_seats}
 use Rattle.co_service.specs.Views.{PassesView, IsKeeperOf}
-use Rattle.co_service.specs.Books.{IsKept, kept_of}
+use Rattle.co_service.specs.Books.{IsHistoryKept, kept_of}
 use Rattle.co_service.specs.Stories.{IsJournal}
 
 module _ {E : Type 0} where
@@ -144,15 +144,15 @@ abbrev pub first_wheel : Params → ℕ → Cpu
 first_wheel p cpu = cpu_of (record { cpu = cpu; here = first_callouts cpu p.specs; serving = None; directing = None }) (empty_timers (length p.specs) p.buckets (directs p))
 
 -- the keepers of the callouts of a CPU, in whose histories no call has made an entry
-pub record AreFirst (lives : List LifeId) (p : Params) (cpu : ℕ) (keepers : List (Option (KeeperView (Line Entry)))) : Type 0 where
-  pub each : (i : ℕ) → IsKept lives p i (slice_index_or keepers i None)
+pub record AreFirstKeepers (lives : List LifeId) (p : Params) (cpu : ℕ) (keepers : List (Option (KeeperView (Line Entry)))) : Type 0 where
+  pub each : (i : ℕ) → IsHistoryKept lives p i (slice_index_or keepers i None)
   pub size : length keepers ≡ length p.specs
   pub come : (i : ℕ) → i < come_to cpu p.specs → kept_of (slice_index_or keepers i None) ≡ Some []
   pub missing : (i : ℕ) → come_to cpu p.specs ≤ i → kept_of (slice_index_or keepers i None) ≡ None
 
 -- what a CPU has before the first call: its wheel, and keepers of the service in whose histories no call has made an entry
-pub record IsBench (name : ServiceName) (p : Params) (cpu : ℕ) (w : Cpu) (keepers : List (Option (KeeperView (Line Entry)))) (journal : KeeperView (Line QEntry)) : Type 0 where
+pub record IsDeskParts (name : ServiceName) (p : Params) (cpu : ℕ) (w : Cpu) (keepers : List (Option (KeeperView (Line Entry)))) (journal : KeeperView (Line QEntry)) : Type 0 where
   pub wheel : w ≡ first_wheel p cpu
-  pub first : AreFirst name.timers p cpu keepers
+  pub first : AreFirstKeepers name.timers p cpu keepers
   pub own : IsKeeperOf IsJournal name.cpus p cpu journal
   pub nothing : made journal.history ≡ []

@@ -29,14 +29,14 @@ use Rattle.co_service.specs.Writes.{Writes}
 abbrev pub call_entry : PassesView → ℕ → CallOp → Reply → Entry
 call_entry p act op reply = record { actor = p.actor; act = act; op = Call op; reply = reply }
 
-abbrev pub noted : Option Note → List Note
-noted None = []
-noted (Some note) = note ∷ []
+abbrev pub notes_with : Option Note → List Note
+notes_with None = []
+notes_with (Some note) = note ∷ []
 
 -- the notes that there are
 abbrev pub notes_in : List (Option Note) → List Note
 notes_in [] = []
-notes_in (o ∷ os) = noted o ++ notes_in os
+notes_in (o ∷ os) = notes_with o ++ notes_in os
 
 -- where an arming goes that leaves its CPU
 pub record Target : Type 0 where
@@ -77,8 +77,8 @@ pub record IsCalled (p : PassesView) (act i : ℕ) (op : CallOp) (reply : Reply)
   pub written : Writes p notes q
 
 -- the last note is still free
-abbrev pub HasRoom : List (Option Note) → Type 0
-HasRoom notes = (first : Option Note) × (second : Option Note) × (notes ≡ first ∷ second ∷ None ∷ [])
+abbrev pub HasFreeNote : List (Option Note) → Type 0
+HasFreeNote notes = (first : Option Note) × (second : Option Note) × (notes ≡ first ∷ second ∷ None ∷ [])
 
 -- a CPU that an operation names exists
 abbrev pub NamesCpu : ℕ → CallOp → Type 0
@@ -87,15 +87,15 @@ NamesCpu cpus (Plain (Schedule due prec (Some cpu))) = cpu < cpus
 NamesCpu cpus _ = Unit {0}
 
 -- the due time that an operation names
-abbrev pub due_in : CallOp → ℕ
-due_in (Plain (Reset due prec func arg cpu)) = due
-due_in (Plain (Schedule due prec cpu)) = due
-due_in _ = 0
+abbrev pub due_named : CallOp → ℕ
+due_named (Plain (Reset due prec func arg cpu)) = due
+due_named (Plain (Schedule due prec cpu)) = due
+due_named _ = 0
 
 -- the number of the arming that a reply accepts
-abbrev pub number_in : Reply → ℕ
-number_in (Armed code n cpu off) = n
-number_in _ = 0
+abbrev pub number_accepted : Reply → ℕ
+number_accepted (Armed code n cpu off) = n
+number_accepted _ = 0
 
 -- what a call took out of a queue
 abbrev pub removal_notes : ℕ → Entry → Option ℕ → List Placed
@@ -131,11 +131,11 @@ told_notes actor act i op t =
 
 -- what a call asks of the queue
 abbrev pub call_turns : ℕ → CallOp → Reply → Option ℕ → List Turn
-call_turns i op reply inserted = removal i (off_of reply) ++ insert_turns i (number_in reply) (due_in op) inserted
+call_turns i op reply inserted = removal i (off_of reply) ++ insert_turns i (number_accepted reply) (due_named op) inserted
 
 -- the notes of a call's section on its callout's CPU
 abbrev pub section_notes : PassesView → (act cpu i : ℕ) → CallOp → Reply → Option ℕ → List Placed
 section_notes p act cpu i op reply inserted =
     removal_notes i (call_entry p act op reply) (off_of reply)
     ++ ((at.Timer i, of.Timer (call_entry p act op reply)) ∷ [])
-    ++ insertion_notes p act cpu i (number_in reply) (due_in op) inserted
+    ++ insertion_notes p act cpu i (number_accepted reply) (due_named op) inserted

@@ -18,7 +18,7 @@ use Rattle.co_wheel.specs.Turns.{Shows, Takes, Turn}
 use Rattle.co_service.specs.declared.params.Params.{Params}
 use Rattle.co_service.specs.Params.{spec_at, directs}
 use Rattle.co_service.specs.Books.{BooksView, history_at}
-use Rattle.co_service.specs.May.{queue_of}
+use Rattle.co_service.specs.May.{queue_at_desk}
 
 -- callout i after a history
 abbrev pub alone_after : Params → ℕ → List Entry → Alone
@@ -32,13 +32,13 @@ StandsAs p i (Some a) None = ⊥
 StandsAs p i (Some a) (Some H) = a ≡ alone_after p i H
 
 -- a callout's service and its listed arming are at this CPU
-pub record IsAt (cpu : ℕ) (a : Alone) : Type 0 where
+pub record IsAtCpu (cpu : ℕ) (a : Alone) : Type 0 where
   pub runs : is_free_at a.state.run cpu ≡ true
   pub listed : (at : ℕ) → off a.state ≡ Some at → at ≡ cpu
 
 abbrev pub IsHere : ℕ → Option Alone → Type 0
 IsHere cpu None = Unit {0}
-IsHere cpu (Some a) = IsAt cpu a
+IsHere cpu (Some a) = IsAtCpu cpu a
 
 abbrev pub is_scan : QOp → Bool
 is_scan (Scan now) = true
@@ -57,23 +57,23 @@ abbrev pub services : Queue → (i n : ℕ) → Bool
 services q i n = is_entry q.serving i n || is_entry q.directing i n
 
 -- the wheel's numbers are the books'
-pub record IsOf (w : Cpu) (b : BooksView) : Type 0 where
+pub record HasNumbersOf (w : Cpu) (b : BooksView) : Type 0 where
   pub cpu : w.callouts.cpu ≡ b.cpu
   pub size : length w.callouts.here ≡ length b.timers
   pub buckets : w.timers.buckets ≡ b.params.buckets
   pub direct : w.timers.direct ≡ directs b.params
 
 -- the callouts at a wheel are what their histories say
-pub record Stand (w : Cpu) (b : BooksView) : Type 0 where
+pub record MatchesBooks (w : Cpu) (b : BooksView) : Type 0 where
   pub each : (i : ℕ) → StandsAs b.params i (callout w.callouts i) (history_at b i)
   pub here : (i : ℕ) → IsHere b.cpu (callout w.callouts i)
 
 -- the plain queue after the journal still takes these turns, and the wheel shows the queue after them
 pub record Owes (turns : List Turn) (w : Cpu) (b : BooksView) : Type 0 where
-  pub takes : Takes b.params.buckets (directs b.params) turns (queue_of b) (Shows w)
+  pub takes : Takes b.params.buckets (directs b.params) turns (queue_at_desk b) (Shows w)
 
 pub record IsDesk (w : Cpu) (b : BooksView) (scans : ℕ) : Type 0 where
-  pub of : IsOf w b
-  pub stand : Stand w b
+  pub of : HasNumbersOf w b
+  pub stand : MatchesBooks w b
   pub shown : Owes [] w b
   pub counted : scans ≡ capped (scans_in b.journal)

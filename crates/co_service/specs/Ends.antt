@@ -24,8 +24,8 @@ finished_notes actor act f =
     ∷ insertion_told actor act f.i f.insertion
 
 -- what a desk tells of an end
-abbrev pub told_end : (direct : Bool) (cpu i n : ℕ) → EndOut → (entry freed : ℕ) → Finished
-told_end direct cpu i n out entry freed = record { out = out; direct = direct; cpu = cpu; i = i; n = n; entry = entry; freed = freed; insertion = None }
+abbrev pub end_told : (direct : Bool) (cpu i n : ℕ) → EndOut → (entry freed : ℕ) → Finished
+end_told direct cpu i n out entry freed = record { out = out; direct = direct; cpu = cpu; i = i; n = n; entry = entry; freed = freed; insertion = None }
 
 -- a desk has ended the service of this arming
 pub record IsFinished (direct : Bool) (p : PassesView) (cpu act : ℕ) (d : Due) (f : Finished) (gone : Option MovingView) (q : PassesView) : Type 0 where

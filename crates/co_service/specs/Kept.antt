@@ -13,7 +13,7 @@ use Rattle.co_service.specs.Moving.{MovingView}
 use Rattle.co_service.specs.Name.{ServiceName}
 use Rattle.co_service.specs.Params.{actors_of}
 use Rattle.co_service.specs.Services.{FollowsScans, HasNext, IsFree, IsServing, IsTaken, taken_of}
-use Rattle.co_service.specs.Serving.{Runs, Service, Waits}
+use Rattle.co_service.specs.Serving.{Runs, ServiceStage, Waits}
 use Rattle.co_service.specs.Views.{AreOf, PassesView, journal_seen}
 
 -- after a call or a scan the passes are still of the service and of their actor, and it has in service what it had
@@ -22,7 +22,7 @@ pub record Keeps (service : ServiceName) (params : Params) (p q : PassesView) : 
   pub actor : q.actor ≡ p.actor
   -- where nothing was in service nothing is, and what was in service is as far as it was
   pub free : (direct : Bool) (cpu : ℕ) → IsFree direct p cpu → IsFree direct q cpu
-  pub serving : (direct : Bool) (cpu : ℕ) (d : Due) (far : Service) → IsServing direct p cpu d far → IsServing direct q cpu d far
+  pub serving : (direct : Bool) (cpu : ℕ) (d : Due) (far : ServiceStage) → IsServing direct p cpu d far → IsServing direct q cpu d far
 
 -- the same of one who has the service to himself: its parameters stay too
 pub record KeepsAlone (service : ServiceName) (params after : Params) (p q : PassesView) : Type 0 where

@@ -41,7 +41,7 @@ pub mod Ends
 pub mod Kept
 -- what boot makes of each place: its life, its keeper, and passes that have seen nothing
 pub mod Booted
--- a service before its locks: a bench for each CPU; and a running one, with its desks
+-- a service before its locks: the parts of a desk for each CPU; and a running one, with its desks
 pub mod Fresh
 -- whose passes are still in the boot's list, and whose are back
 pub mod Crew

@@ -10,15 +10,15 @@ use Rattle.co_service.specs.Params.{actors_of, spec_at, directs}
 use Rattle.co_service.specs.Books.{BooksView, entries_at}
 
 -- the plain queue after the journal
-abbrev pub queue_of : BooksView → Queue
-queue_of b = journal.queue b.params.buckets (directs b.params) b.journal
+abbrev pub queue_at_desk : BooksView → Queue
+queue_at_desk b = journal.queue b.params.buckets (directs b.params) b.journal
 
 -- the state of callout i after its history
 abbrev pub state_at : BooksView → ℕ → State
 state_at b i = state (spec_at b.params i) (entries_at b i)
 
 pub record MayEnter (b : BooksView) (e : QEntry) : Type 0 where
-  pub may : journal.May (actors_of b.params) b.cpu b.params.buckets (directs b.params) (queue_of b) e
+  pub may : journal.May (actors_of b.params) b.cpu b.params.buckets (directs b.params) (queue_at_desk b) e
 
 pub record MayHappen (b : BooksView) (i : ℕ) (e : Entry) : Type 0 where
   pub may : May (actors_of b.params) (spec_at b.params i) (state_at b i) e

@@ -11,7 +11,7 @@ use Rattle.co_service.specs.declared.told.Told.{Told}
 use Rattle.co_service.specs.declared.params.Params.{Params}
 use Rattle.co_service.specs.declared.line.Line.{Line}
 use Rattle.co_service.specs.Name.{ServiceName}
-use Rattle.co_service.specs.Params.{nothing}
+use Rattle.co_service.specs.Params.{no_params}
 use Rattle.co_service.specs.Lines.{made, opening_of}
 use Rattle.co_service.specs.Stories.{IsHistory}
 use Rattle.co_service.specs.Views.{IsKeeperOf, PassesView}
@@ -20,7 +20,7 @@ use Rattle.co_service.specs.Desk.{alone_after}
 use Rattle.co_service.specs.Call.{IsAnswer, Target, told_notes}
 
 abbrev pub params_in : Option (Params × ℕ) → Params
-params_in None = nothing
+params_in None = no_params
 params_in (Some o) = o.0
 
 pub record MovingView : Type 0 where
@@ -38,7 +38,7 @@ moving_of parcel keeper n due = record {
 }
 
 -- its state is what its history gives, no service has it, and it is armed as its target says
-pub record IsMoving (name : ServiceName) (parcel : Parcel) (keeper : KeeperView (Line Entry)) (n due : ℕ) : Type 0 where
+pub record IsOnItsWay (name : ServiceName) (parcel : Parcel) (keeper : KeeperView (Line Entry)) (n due : ℕ) : Type 0 where
   pub params : Params
   pub kept : IsKeeperOf IsHistory name.timers params parcel.i keeper
   pub callout : parcel.callout ≡ alone_after params parcel.i (made keeper.history)

@@ -19,8 +19,8 @@ use Rattle.co_service.specs.Views.{PassesView, journal_seen}
 use Rattle.co_service.specs.Writes.{Writes}
 
 -- an actor's entry in a CPU's journal
-abbrev pub turn : PassesView → ℕ → QOp → QReply → QEntry
-turn p act op reply = record { actor = p.actor; act = act; op = op; reply = reply }
+abbrev pub queue_entry_by : PassesView → ℕ → QOp → QReply → QEntry
+queue_entry_by p act op reply = record { actor = p.actor; act = act; op = op; reply = reply }
 
 -- the note of an entry in the journal of this CPU
 abbrev pub noted_turn : (actor act cpu : ℕ) → QOp → QReply → (pos : ℕ) → Note
@@ -41,7 +41,7 @@ looks_in m q now = length (visited m q.last (max q.last now) (map timed q.conten
 
 -- a scan of a CPU
 pub record IsScan (p : PassesView) (cpu act now : ℕ) (out : Scanned) (q : PassesView) : Type 0 where
-  pub note : IsTurn cpu (turn p act (Scan now) (Count out.count)) out.note
+  pub note : IsTurn cpu (queue_entry_by p act (Scan now) (Count out.count)) out.note
   pub written : Writes p (out.note ∷ []) q
   -- it looks at what stands in the visited buckets after the journal before it
-  pub looks : (before : List QEntry) → journal_seen q cpu ≡ before ++ turn p act (Scan now) (Count out.count) ∷ [] → out.looks ≡ looks_in p.params.buckets (queue p.params.buckets (directs p.params) before) now
+  pub looks : (before : List QEntry) → journal_seen q cpu ≡ before ++ queue_entry_by p act (Scan now) (Count out.count) ∷ [] → out.looks ≡ looks_in p.params.buckets (queue p.params.buckets (directs p.params) before) now

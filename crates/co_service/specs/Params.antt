@@ -44,5 +44,5 @@ pub record AreParams (p : Params) : Type 0 where
   pub size : IsServiceSize (length p.specs)
   pub specs : All (IsSpec p.version) p.specs
 
-abbrev pub nothing : Params
-nothing = record { version = 1; clients = 0; cpus = 0; buckets = 0; specs = [] }
+abbrev pub no_params : Params
+no_params = record { version = 1; clients = 0; cpus = 0; buckets = 0; specs = [] }

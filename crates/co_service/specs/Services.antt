@@ -30,9 +30,9 @@ use Rattle.co_service.specs.declared.told.Inserted.{Inserted}
 use Rattle.co_service.specs.Call.{Target, landing, noted_insert, notes_in}
 use Rattle.co_service.specs.Desk.{scans_in}
 use Rattle.co_service.specs.May.{MayHappen}
-use Rattle.co_service.specs.Outcomes.{noted_entry, noted_turn, turn, IsTurn}
+use Rattle.co_service.specs.Outcomes.{noted_entry, noted_turn, queue_entry_by, IsTurn}
 use Rattle.co_service.specs.Params.{actors_of}
-use Rattle.co_service.specs.Serving.{Service, lane_actor, picked, served_in, service_in}
+use Rattle.co_service.specs.Serving.{ServiceStage, lane_actor, stage_picked, served_in, service_in}
 use Rattle.co_service.specs.Stories.{by, queue_by}
 use Rattle.co_service.specs.Views.{PassesView, journal_seen, seen_of}
 use Rattle.co_service.specs.Writes.{Writes}
@@ -42,7 +42,7 @@ abbrev pub service_of : Bool → PassesView → ℕ → Option Due
 service_of direct p cpu = served_in direct (own queue_by p.actor (journal_seen p cpu))
 
 -- how far its service of callout i is
-abbrev pub far_of : PassesView → ℕ → Service
+abbrev pub far_of : PassesView → ℕ → ServiceStage
 far_of p i = service_in (own by p.actor (seen_of p i))
 
 -- the caller serves this lane of the CPU, and has nothing in service
@@ -51,7 +51,7 @@ pub record IsFree (direct : Bool) (p : PassesView) (cpu : ℕ) : Type 0 where
   pub free : service_of direct p cpu ≡ None
 
 -- it has this arming in service, which is so far
-pub record IsServing (direct : Bool) (p : PassesView) (cpu : ℕ) (d : Due) (far : Service) : Type 0 where
+pub record IsServing (direct : Bool) (p : PassesView) (cpu : ℕ) (d : Due) (far : ServiceStage) : Type 0 where
   pub actor : p.actor ≡ lane_actor direct (actors_of p.params) cpu
   pub serves : service_of direct p cpu ≡ Some d
   pub far_is : far_of p d.i ≡ far
@@ -65,7 +65,7 @@ pub record AreSame (p q : PassesView) : Type 0 where
 -- what the caller has in service after it asked for the next
 abbrev pub HasNext : Bool → PassesView → ℕ → Taken → Type 0
 HasNext direct q cpu (Empty note) = IsFree direct q cpu
-HasNext direct q cpu (Took i n time reply pop pick) = IsServing direct q cpu (record { i = i; n = n }) (picked n reply)
+HasNext direct q cpu (Took i n time reply pop pick) = IsServing direct q cpu (record { i = i; n = n }) (stage_picked n reply)
 
 -- the entry of a service's operation
 abbrev pub run_entry : PassesView → (act : ℕ) → RunOp → Reply → Entry
@@ -73,12 +73,12 @@ run_entry p act op reply = record { actor = p.actor; act = act; op = Run op; rep
 
 -- nothing had come due
 pub record IsNothing (direct : Bool) (p : PassesView) (cpu act : ℕ) (note : Note) (q : PassesView) : Type 0 where
-  pub popped : IsTurn cpu (turn p act (pop_of direct) Nothing) note
+  pub popped : IsTurn cpu (queue_entry_by p act (pop_of direct) Nothing) note
   pub written : Writes p (note ∷ []) q
 
 -- an arming is taken into service, at the time of the last scan
 pub record IsTaking (direct : Bool) (p : PassesView) (cpu act i n time : ℕ) (reply : Reply) (pop pick : Note) (q : PassesView) : Type 0 where
-  pub popped : IsTurn cpu (turn p act (pop_of direct) (Got i n time)) pop
+  pub popped : IsTurn cpu (queue_entry_by p act (pop_of direct) (Got i n time)) pop
   pub place : pick.place ≡ at.Timer i
   pub entry : pick.entry ≡ of.Timer (run_entry p act (Pick n cpu time) reply)
   pub written : Writes p (pop ∷ pick ∷ []) q
@@ -100,8 +100,8 @@ FollowsScans scans J = (before : List QEntry) (e : QEntry) → J ≡ before ++ e
 
 -- the entry of the queue for what a wheel took
 abbrev pub pop_entry : Bool → PassesView → ℕ → NextOut → QEntry
-pop_entry direct p act out.Empty = turn p act (pop_of direct) Nothing
-pop_entry direct p act (out.Took i n time reply) = turn p act (pop_of direct) (Got i n time)
+pop_entry direct p act out.Empty = queue_entry_by p act (pop_of direct) Nothing
+pop_entry direct p act (out.Took i n time reply) = queue_entry_by p act (pop_of direct) (Got i n time)
 
 -- what a wheel took may be picked next in its callout's history
 abbrev pub MayPick : BooksView → PassesView → ℕ → NextOut → Type 0
@@ -139,13 +139,13 @@ next_due _ = 0
 -- the service is over: the notes, but for the Insert of what leaves
 pub record IsEndedBut (direct : Bool) (p : PassesView) (cpu act : ℕ) (d : Due) (reply : Reply) (leaves : Option Target) (notes : List Note) (q : PassesView) : Type 0 where
   pub leaves_is : leaves ≡ next_target reply
-  pub notes_are : map placed notes ≡ (at.Timer d.i, of.Timer (run_entry p act (End d.n cpu) reply)) ∷ (at.Cpu cpu, of.Cpu (turn p act (free_of direct) Freed)) ∷ []
+  pub notes_are : map placed notes ≡ (at.Timer d.i, of.Timer (run_entry p act (End d.n cpu) reply)) ∷ (at.Cpu cpu, of.Cpu (queue_entry_by p act (free_of direct) Freed)) ∷ []
   pub written : Writes p notes q
 
 -- the same with the Insert of what leaves. `time` is the answer to it
 pub record IsEnded (direct : Bool) (p : PassesView) (cpu act : ℕ) (d : Due) (reply : Reply) (notes : List Note) (q : PassesView) : Type 0 where
   pub time : ℕ
-  pub notes_are : map placed notes ≡ (at.Timer d.i, of.Timer (run_entry p act (End d.n cpu) reply)) ∷ (at.Cpu cpu, of.Cpu (turn p act (free_of direct) Freed)) ∷ landing p act d.i (next_target reply) time
+  pub notes_are : map placed notes ≡ (at.Timer d.i, of.Timer (run_entry p act (End d.n cpu) reply)) ∷ (at.Cpu cpu, of.Cpu (queue_entry_by p act (free_of direct) Freed)) ∷ landing p act d.i (next_target reply) time
   pub written : Writes p notes q
 
 -- callout i has come to its target's queue

@@ -46,29 +46,29 @@ slot false q = q.serving
 slot true q = q.directing
 
 -- how far a service is
-pub data Service : Type 0 where
+pub data ServiceStage : Type 0 where
   -- there is none
-  Idle : Service
+  Idle : ServiceStage
   -- arming n was picked, and waits for the callout's lock
-  Waits : (n : ℕ) → Service
+  Waits : (n : ℕ) → ServiceStage
   -- arming n is to end: its function runs, or it was skipped
-  Runs : (n : ℕ) → Service
+  Runs : (n : ℕ) → ServiceStage
 
-abbrev pub picked : ℕ → Reply → Service
-picked n Hold = Waits n
-picked n _ = Runs n
+abbrev pub stage_picked : ℕ → Reply → ServiceStage
+stage_picked n Hold = Waits n
+stage_picked n _ = Runs n
 
-abbrev pub begun : Service → Service
+abbrev pub begun : ServiceStage → ServiceStage
 begun Idle = Idle
 begun (Waits n) = Runs n
 begun (Runs n) = Runs n
 
-abbrev pub service_after : Service → Op → Reply → Service
+abbrev pub service_after : ServiceStage → Op → Reply → ServiceStage
 service_after v (Call op) r = v
-service_after v (Run (Pick n cpu at)) r = picked n r
+service_after v (Run (Pick n cpu at)) r = stage_picked n r
 service_after v (Run (Begin n cpu)) r = begun v
 service_after v (Run (End n cpu)) r = Idle
 
 -- how far the service of a callout is after these entries
-abbrev pub service_in : List Entry → Service
+abbrev pub service_in : List Entry → ServiceStage
 service_in H = fold (λ v e. service_after v e.op e.reply) Idle H

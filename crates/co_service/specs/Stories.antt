@@ -11,7 +11,7 @@ use Rattle.co_object.proofs.Histories.{legal-front}
 use Rattle.co_service.specs.declared.params.Params.{Params}
 use Rattle.co_service.specs.declared.line.Line.{Line}
 use Rattle.co_service.specs.declared.line.Line.TheVariants.{Opening, Made}
-use Rattle.co_service.specs.Params.{actors_of, spec_at, directs, nothing}
+use Rattle.co_service.specs.Params.{actors_of, spec_at, directs, no_params}
 use Rattle.co_service.specs.Lines.{made, AllCarry, IsStory, actor_in}
 
 abbrev pub by : Entry → ℕ
@@ -41,10 +41,10 @@ abbrev pub IsCpuStory : List (Line QEntry) → Type 0
 IsCpuStory h = IsStory IsJournal h
 
 pub IsTimerStory-empty : IsTimerStory []
-IsTimerStory-empty = record { params = nothing; place = 0; carry = tt; legal = record { legal = tt } }
+IsTimerStory-empty = record { params = no_params; place = 0; carry = tt; legal = record { legal = tt } }
 
 pub IsCpuStory-empty : IsCpuStory []
-IsCpuStory-empty = record { params = nothing; place = 0; carry = tt; legal = record { legal = tt } }
+IsCpuStory-empty = record { params = no_params; place = 0; carry = tt; legal = record { legal = tt } }
 
 module _ {E : Type 0} (p : Params) (i : ℕ) where
   AllCarry-front : (xs ys : List (Line E)) → AllCarry p i (xs ++ ys) → AllCarry p i xs

@@ -4,9 +4,9 @@ ghost use Rattle.std.specs.declared.option.Option.TheVariants.{Some, None};
 ghost use Rattle.co_object.specs.Journal.{scanner, step, reply_of, IsOfItsActor};
 ghost use Rattle.co_service.specs.Books.{is_kept};
 ghost use Rattle.co_service.specs.Params.{actors_of, directs};
-ghost use Rattle.co_service.specs.May.{queue_of};
+ghost use Rattle.co_service.specs.May.{queue_at_desk};
 ghost use Rattle.co_service.specs.Moving.{IsTried};
-ghost use Rattle.co_service.specs.Outcomes.{IsScan, turn};
+ghost use Rattle.co_service.specs.Outcomes.{IsScan, queue_entry_by};
 ghost use Rattle.co_service.specs.Written.{AreHere, AreTogether, IsTurnWritten};
 ghost use Rattle.co_service.specs.Kept.{Answers};
 
@@ -57,9 +57,9 @@ pub(crate) fn write_turn<N: Name>(
     reply: QReply,
 ) -> u64
     requires together { AreTogether N.name places.now passes.old books.old }
-    requires possible { reply_of (step books.old.params.buckets (directs books.old.params) (queue_of books.old) op) ≡ Some reply }
+    requires possible { reply_of (step books.old.params.buckets (directs books.old.params) (queue_at_desk books.old) op) ≡ Some reply }
     requires actor { IsOfItsActor (actors_of books.old.params) books.old.cpu passes.old.actor op }
-    ensures { IsTurnWritten passes.old books.old (turn passes.old act op reply) result passes.new books.new }
+    ensures { IsTurnWritten passes.old books.old (queue_entry_by passes.old act op reply) result passes.new books.new }
 {
     let entry = QEntry {
         actor: passes.actor(),

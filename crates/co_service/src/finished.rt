@@ -2,7 +2,7 @@
 ghost use Rattle.std.specs.Prelude.{◌≡◌};
 ghost use Rattle.std.specs.declared.option.Option.TheVariants.{None};
 ghost use Rattle.co_service.specs.Call.{notes_in};
-ghost use Rattle.co_service.specs.Ends.{finished_notes, told_end};
+ghost use Rattle.co_service.specs.Ends.{finished_notes, end_told};
 
 use crate::Made;
 use crate::running::{free, run_note};
@@ -57,7 +57,7 @@ impl Finished {
     /// What the end of the service of callout `i`'s arming `n` did on its desk, beside what the wheel answered.
     #[inline(always)]
     pub(crate) fn tell(&mut self, direct: bool, cpu: u32, i: u32, n: u64, entry: u64, freed: u64)
-        ensures { self.new ≡ told_end direct cpu i n self.old.out entry freed }
+        ensures { self.new ≡ end_told direct cpu i n self.old.out entry freed }
     {
         self.direct = direct;
         self.cpu = cpu;

@@ -1,12 +1,12 @@
 //! A service before its locks.
 ghost use Rattle.std.specs.Prelude.{◌≡◌, ◌≤◌, IfOk, length};
 ghost use Rattle.co_service.specs.Booted.{AreBooted, AreSetUp};
-ghost use Rattle.co_service.specs.Fresh.{AreJoined, AreNamed, IsMade};
+ghost use Rattle.co_service.specs.Fresh.{AreJoined, AreNamed, IsFreshlyMade};
 ghost use Rattle.co_service.specs.Params.{AreParams, actor_count};
 ghost use Rattle.co_service.specs.Stories.{IsHistory, IsJournal};
 
-use crate::bench::{Bench, make_benches};
 use crate::boot::make_places;
+use crate::desk_parts::{DeskParts, make_all_parts};
 use crate::joining::join_all;
 use crate::places::Places;
 use crate::seats::{Lives, Seats};
@@ -25,7 +25,7 @@ pub struct Fresh {
     pub(crate) places: Places,
     pub(crate) params: Params,
     /// By CPU.
-    pub(crate) benches: Vec<Bench>,
+    pub(crate) all_parts: Vec<DeskParts>,
 }
 
 impl Model for Fresh {
@@ -35,7 +35,7 @@ impl Model for Fresh {
 
     ghost view = { λ f. record { name = f.places; params = f.params } };
 
-    ghost invariant = { λ f. IsFresh f.places f.params f.benches.items };
+    ghost invariant = { λ f. IsFresh f.places f.params f.all_parts.items };
 }
 
 /// How many actors there are: the clients, the CPUs, and from version 2 on the CPUs' interrupts.
@@ -94,7 +94,7 @@ fn join_fresh(
         Vec<Seats<TimerStory>>,
     ),
     cpus: (Lives<CpuStory>, Vec<Keeper<CpuStory>>, Vec<Seats<CpuStory>>),
-) -> Result<(Places, Vec<Bench>, Seq<Passes>), NoMemory>
+) -> Result<(Places, Vec<DeskParts>, Seq<Passes>), NoMemory>
     requires params { AreParams params.now }
     requires actors { actors ≡ actor_count params.now }
     requires callouts { AreSetUp IsHistory params.now (length params.now.specs) callouts.0 callouts.1.items callouts.2.items }
@@ -105,23 +105,23 @@ fn join_fresh(
     let (wheels, journals, cpu_seats) = cpus;
     let places = Places::new(lives, wheels);
     let passes = join_all(alloc, params, &places, actors, timer_seats, cpu_seats)?;
-    let benches = make_benches(alloc, params, &places, timers, journals)?;
-    Ok((places, benches, passes))
+    let all_parts = make_all_parts(alloc, params, &places, timers, journals)?;
+    Ok((places, all_parts, passes))
 }
 
 /// A service of these parameters before its locks, and each actor's passes of it.
 fn make_fresh(alloc: Global, params: Params) -> Result<(Fresh, Seq<Passes>), NoMemory>
     requires { AreParams params }
-    ensures { IfOk result (λ made. IsMade params made.0 made.1) }
+    ensures { IfOk result (λ made. IsFreshlyMade params made.0 made.1) }
 {
     let actors = count_actors(&params);
     let callouts = make_callouts(alloc, &params, actors)?;
     let cpus = make_cpus(alloc, &params, actors)?;
-    let (places, benches, passes) = join_fresh(alloc, &params, actors, callouts, cpus)?;
+    let (places, all_parts, passes) = join_fresh(alloc, &params, actors, callouts, cpus)?;
     let fresh = Fresh {
         places,
         params,
-        benches,
+        all_parts,
     };
     Ok((fresh, passes))
 }

@@ -3,7 +3,6 @@
 #![tactic(auto)]
 
 mod alone;
-mod bench;
 mod books;
 mod boot;
 mod calling;
@@ -11,6 +10,7 @@ mod calls;
 mod closing;
 mod crew;
 mod desk;
+mod desk_parts;
 mod ends;
 mod finished;
 mod fresh;

@@ -1,12 +1,12 @@
 //! The desks of a running service behind their locks, and what it has beside them.
 ghost use Rattle.std.specs.Prelude.{◌≡◌, ◌<◌, ◌≤◌, ◌^◌, IfOk, vec_len};
-ghost use Rattle.co_service.specs.Fresh.{AreBenches};
+ghost use Rattle.co_service.specs.Fresh.{AreDeskParts};
 
-use crate::bench::Bench;
 use crate::books::Books;
 use crate::boot::push;
 use crate::closing::Ending;
 use crate::desk::Desk;
+use crate::desk_parts::DeskParts;
 use crate::{Name, Params};
 use co_sbt::{NoMemory, Room};
 use std::alloc::Global;
@@ -50,17 +50,17 @@ impl<N: Name> DeskHold<'_, N> {
 fn lock_all<N: Name>(
     alloc: Global,
     params: &Params,
-    benches: Vec<Bench>,
+    all_parts: Vec<DeskParts>,
 ) -> Result<Vec<Locked<N>>, NoMemory>
     requires few { params.now.cpus < 2 ^ 32 }
-    requires benches { AreBenches N.name params.now benches.items }
+    requires all_parts { AreDeskParts N.name params.now all_parts.items }
     ensures { IfOk result (λ desks. vec_len desks ≡ params.now.cpus) }
 {
     let mut desks = Vec::new(alloc);
     let mut cpu = 0;
-    for bench in benches {
+    for parts in all_parts {
         let locked = Locked {
-            desk: Mutex::new(Desk::new(cpu, params, bench)),
+            desk: Mutex::new(Desk::new(cpu, params, parts)),
             changed: Condvar::new(),
             gap: [0; 16],
         };
@@ -107,13 +107,13 @@ pub(crate) struct Inside<N: Name> {
 pub(crate) fn make_inside<N: Name>(
     alloc: Global,
     params: &Params,
-    benches: Vec<Bench>,
+    all_parts: Vec<DeskParts>,
 ) -> Result<Inside<N>, NoMemory>
     requires few { params.now.cpus < 2 ^ 32 }
-    requires benches { AreBenches N.name params.now benches.items }
+    requires all_parts { AreDeskParts N.name params.now all_parts.items }
     ensures { IfOk result (λ inside. vec_len inside.desks ≡ params.now.cpus) }
 {
-    let desks = lock_all(alloc, params, benches)?;
+    let desks = lock_all(alloc, params, all_parts)?;
     let hints = first_hints(alloc, params.specs.as_slice().len())?;
     let ending = Mutex::new(Ending::new(alloc)?);
     Ok(Inside {

@@ -25,13 +25,13 @@ pub(crate) struct Moving<N: Name> {
 }
 
 impl<N: Name> Model for Moving<N> {
-    ghost use Rattle.co_service.specs.Moving.{MovingView, moving_of, IsMoving};
+    ghost use Rattle.co_service.specs.Moving.{MovingView, moving_of, IsOnItsWay};
 
     ghost Value = { MovingView };
 
     ghost view = { λ m. moving_of m.parcel m.keeper m.n m.due };
 
-    ghost invariant = { λ m. IsMoving N.name m.parcel m.keeper m.n m.due };
+    ghost invariant = { λ m. IsOnItsWay N.name m.parcel m.keeper m.n m.due };
 }
 
 impl<N: Name> Moving<N> {

@@ -84,13 +84,13 @@ impl<N: Name> Service<N> {
         let Fresh {
             places,
             params,
-            benches,
+            all_parts,
         } = fresh;
         let Inside {
             desks,
             hints,
             ending,
-        } = make_inside(alloc, &params, benches)?;
+        } = make_inside(alloc, &params, all_parts)?;
         Ok(Service {
             places,
             params: Shown::of(&params),

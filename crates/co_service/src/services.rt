@@ -7,8 +7,8 @@ ghost use Rattle.co_object.specs.declared.queue.QReply.TheVariants.{At};
 ghost use Rattle.co_object.specs.Journal.{reply_of, step};
 ghost use Rattle.co_object.specs.Queue.{Due};
 ghost use Rattle.co_service.specs.Desk.{is_entry, scans_in, services};
-ghost use Rattle.co_service.specs.May.{queue_of};
-ghost use Rattle.co_service.specs.Outcomes.{turn};
+ghost use Rattle.co_service.specs.May.{queue_at_desk};
+ghost use Rattle.co_service.specs.Outcomes.{queue_entry_by};
 ghost use Rattle.co_service.specs.Params.{directs};
 ghost use Rattle.co_service.specs.Services.{IsBegun, IsFree, IsLanded, IsServing};
 ghost use Rattle.co_service.specs.Serving.{Runs, Waits};
@@ -49,9 +49,9 @@ fn write_landed<N: Name>(
     at: Sbt,
 ) -> Inserted
     requires together { AreTogether N.name places.now passes.old books.old }
-    requires possible { reply_of (step books.old.params.buckets (directs books.old.params) (queue_of books.old) (Insert i n t)) ≡ Some (At at) }
+    requires possible { reply_of (step books.old.params.buckets (directs books.old.params) (queue_at_desk books.old) (Insert i n t)) ≡ Some (At at) }
     ensures told { result ≡ record { cpu = books.old.cpu; n = n; due = t; at = at; pos = result.pos } }
-    ensures written { IsTurnWritten passes.old books.old (turn passes.old act (Insert i n t) (At at)) result.pos passes.new books.new }
+    ensures written { IsTurnWritten passes.old books.old (queue_entry_by passes.old act (Insert i n t) (At at)) result.pos passes.new books.new }
 {
     let cpu = books.cpu();
     let op = QOp::Insert { i, n, t };
@@ -77,7 +77,7 @@ impl<N: Name> Desk<N> {
     /// Whether this CPU or its interrupt has this arming of callout `i` in service, by the journal.
     #[inline(always)]
     pub(crate) fn services(&self, i: u32, n: u64) -> bool
-        ensures { result ≡ services (queue_of self.now) i n }
+        ensures { result ≡ services (queue_at_desk self.now) i n }
     {
         is_of(serviced(&self.wheel, false), i, n) || is_of(serviced(&self.wheel, true), i, n)
     }

@@ -2,7 +2,7 @@
 ghost use Rattle.std.specs.Prelude.{◌≡◌};
 ghost use Rattle.co_object.specs.declared.op.Op.TheVariants.{Call};
 ghost use Rattle.co_object.specs.Group.{off_of};
-ghost use Rattle.co_service.specs.Call.{due_in, insertion_told, noted, noted_insert, notes_in, number_in, removal_told, told_notes};
+ghost use Rattle.co_service.specs.Call.{due_named, insertion_told, notes_with, noted_insert, notes_in, number_accepted, removal_told, told_notes};
 ghost use Rattle.co_service.specs.Outcomes.{noted_entry, noted_turn};
 
 use crate::Made;
@@ -41,7 +41,7 @@ pub struct Told {
 /// The number of the arming that a reply accepts.
 #[inline(always)]
 pub(crate) fn number(reply: &Reply) -> u64
-    ensures { result ≡ number_in reply.now }
+    ensures { result ≡ number_accepted reply.now }
 {
     match *reply {
         Reply::Armed { n, .. } => n,
@@ -52,7 +52,7 @@ pub(crate) fn number(reply: &Reply) -> u64
 /// The due time that an operation names.
 #[inline(always)]
 pub(crate) fn time(op: &CallOp) -> Sbt
-    ensures { result ≡ due_in op.now }
+    ensures { result ≡ due_named op.now }
 {
     match *op {
         CallOp::Plain(PlainOp::Reset { due, .. }) => due,
@@ -98,7 +98,7 @@ fn call_note(actor: u32, act: u64, i: u32, op: &CallOp, reply: &Reply, pos: u64)
 /// The note of what a call took out of a queue.
 #[inline(always)]
 fn removal_note(actor: u32, act: u64, i: u32, reply: &Reply, pos: u64) -> Option<Note>
-    ensures { noted result ≡ removal_told actor act i (off_of reply.now) pos }
+    ensures { notes_with result ≡ removal_told actor act i (off_of reply.now) pos }
 {
     let Some(cpu) = reply.off() else {
         return None;
@@ -115,7 +115,7 @@ pub(crate) fn insertion_note(
     i: u32,
     insertion: &Option<Inserted>,
 ) -> Option<Note>
-    ensures { noted result ≡ insertion_told actor act i insertion.now }
+    ensures { notes_with result ≡ insertion_told actor act i insertion.now }
 {
     match insertion {
         None => None,

@@ -25,13 +25,13 @@ use Rattle.co_object.specs.Serve.{pick_armed, is_due, go, end_run, ended, next_o
 use Rattle.co_object.specs.Stand.{is_idle}
 use Rattle.co_object.proofs.Numbers.{same_itself}
 use Rattle.co_service.specs.Call.{Target, landing}
-use Rattle.co_service.specs.Outcomes.{turn}
+use Rattle.co_service.specs.Outcomes.{queue_entry_by}
 use Rattle.co_service.specs.Params.{no_spec}
 use Rattle.co_service.specs.Services.{run_entry, next_target}
 use Rattle.co_service.specs.Views.{PassesView, seen_of, journal_seen}
-use Rattle.co_single.specs.Acts.{IsFired, IsIdle}
-use Rattle.co_single.specs.Alarms.{alarm_of, arg_in, callout_in, queue_in, gos, scan_times}
-use Rattle.co_single.specs.Rest.{IsAtRest, IsCalm, IsPlaced, nowhere, listed, due, come}
+use Rattle.co_single.specs.Acts.{IsFired, NothingWaits}
+use Rattle.co_single.specs.Alarms.{alarm_of, arg_in, callout_seen, queue_in, gos, scan_times}
+use Rattle.co_single.specs.Rest.{HasNoService, IsCalm, ArmingStands, nowhere, listed, due, come}
 use Rattle.co_single.specs.Seen.{with_entry, with_entries, none_entries, taken_entries, ended_entries, AreSingle}
 use Rattle.co_single.proofs.Calls.{AreAtCpus, GoesOn, goes_on, one_seen, journal_on}
 use Rattle.co_single.proofs.Going.{gos-append, scans-append, others_of, all_of, state_after, may_last, legal_turns, queue_after}
@@ -78,7 +78,7 @@ pub record IsFirst (q : Queue) (i : ℕ) (o : Option Arming) (others : List Due)
 come_first : (q : Queue) (i : ℕ) (first : Due) (others : List Due) → q.expired ≡ first ∷ others → first.i ≡ i → come q i ≡ first ∷ filter (λ d. d.i == i) others
 come_first q i first others is number = ap (filter (λ (d : Due). d.i == i)) is ∙ ap (λ b. cond b (first ∷ filter (λ (d : Due). d.i == i) others) (filter (λ (d : Due). d.i == i) others)) (same_itself first.i i number)
 
-first_of : (q : Queue) (i : ℕ) (first : Due) (others : List Due) → q.expired ≡ first ∷ others → first.i ≡ i → (o : Option Arming) → IsPlaced q i o → IsFirst q i o others
+first_of : (q : Queue) (i : ℕ) (first : Due) (others : List Due) → q.expired ≡ first ∷ others → first.i ≡ i → (o : Option Arming) → ArmingStands q i o → IsFirst q i o others
 first_of q i first others is number o (nowhere s c) = let e = sym (come_first q i first others is number) ∙ c in absurd (cc)
 first_of q i first others is number o (listed a l) = let e = sym (come_first q i first others is number) ∙ l.none_come in absurd (cc)
 first_of q i first others is number o (due a h) = record {
@@ -126,7 +126,7 @@ assoc [] b c = refl
 assoc (x ∷ a) b c = ap (λ t. x ∷ t) (assoc a b c)
 
 -- a callout past the last one is not armed
-pub armed_below : (p : PassesView) (i : ℕ) (a : Arming) → (callout_in p i).armed ≡ Some a → i < length p.timers
+pub armed_below : (p : PassesView) (i : ℕ) (a : Arming) → (callout_seen p i).armed ≡ Some a → i < length p.timers
 armed_below p i a is = go (nat_lt i (length p.timers)) refl where
   go : (b : Bool) → nat_lt i (length p.timers) ≡ b → i < length p.timers
   go true h = grind (arith, nat_tests, h)
@@ -137,9 +137,9 @@ armed_below p i a is = go (nat_lt i (length p.timers)) refl where
 
 -- ---- nothing waits
 
-module _ (n : ℕ) (p q : PassesView) (s : AreSingle n p) (t : AreSingle n q) (rest : IsAtRest p) (act : ℕ) (is : q ≡ with_entries p (none_entries p act)) where
+module _ (n : ℕ) (p q : PassesView) (s : AreSingle n p) (t : AreSingle n q) (rest : HasNoService p) (act : ℕ) (is : q ≡ with_entries p (none_entries p act)) where
   abbrev none_turn : QEntry
-  none_turn = turn p act Pop Empty
+  none_turn = queue_entry_by p act Pop Empty
 
   none_seen : journal_seen q 0 ≡ journal_seen p 0 ++ none_turn ∷ []
   none_seen = ap (λ v. journal_seen v 0) is ∙ journal_on p none_turn (let one = s.cpus in omega (arith, one))
@@ -153,7 +153,7 @@ module _ (n : ℕ) (p q : PassesView) (s : AreSingle n p) (t : AreSingle n q) (r
   none_same : q.timers ≡ p.timers
   none_same = ap (λ v. v.timers) is
 
-  pub is_idle_now : IsIdle p q
+  pub is_idle_now : NothingWaits p q
   is_idle_now = record {
     nothing = ap numbers none_found.0;
     waiting = ap (λ (x : Queue). numbers x.expired) none_queue ∙ ap numbers none_found.0;
@@ -164,23 +164,23 @@ module _ (n : ℕ) (p q : PassesView) (s : AreSingle n p) (t : AreSingle n q) (r
     };
   }
 
-  pub rests_idle : IsAtRest q
+  pub rests_idle : HasNoService q
   rests_idle = record {
     calm = λ j. subst IsCalm (sym (callout_still p q none_same j)) (rest.calm j);
     serving = ap (λ (x : Queue). x.serving) none_queue ∙ rest.serving;
     urgent = ap (λ (x : Queue). x.urgent) none_queue ∙ rest.urgent;
-    placed = λ j. subst (λ v. IsPlaced v j (callout_in q j).armed) (sym none_queue) (subst (λ x. IsPlaced (queue_in p) j x.armed) (sym (callout_still p q none_same j)) (rest.placed j));
+    placed = λ j. subst (λ v. ArmingStands v j (callout_seen q j).armed) (sym none_queue) (subst (λ x. ArmingStands (queue_in p) j x.armed) (sym (callout_still p q none_same j)) (rest.placed j));
   }
 
 -- ---- the first that waits
 
-module _ (n : ℕ) (p r q : PassesView) (s : AreSingle n p) (b : AreSingle n r) (t : AreSingle n q) (rest : IsAtRest p) (act i k time : ℕ) (taken over : Reply) (later : ℕ)
+module _ (n : ℕ) (p r q : PassesView) (s : AreSingle n p) (b : AreSingle n r) (t : AreSingle n q) (rest : HasNoService p) (act i k time : ℕ) (taken over : Reply) (later : ℕ)
     (begins : r ≡ with_entries p (taken_entries p act i k time taken)) (ends : q ≡ with_entries r (ended_entries r act i k over later)) where
   abbrev pop_turn : QEntry
-  pop_turn = turn p act Pop (Got i k time)
+  pop_turn = queue_entry_by p act Pop (Got i k time)
 
   abbrev free_turn : QEntry
-  free_turn = turn r act Free Freed
+  free_turn = queue_entry_by r act Free Freed
 
   abbrev pick_entry : Entry
   pick_entry = run_entry p act (Pick k 0 time) taken
@@ -197,8 +197,8 @@ module _ (n : ℕ) (p r q : PassesView) (s : AreSingle n p) (b : AreSingle n r) 
   queue_between : queue_in r ≡ record (queue_in p) { expired = took.others; serving = Some took.first }
   queue_between = queue_after n p r s b (pop_turn ∷ []) seen_between ∙ took.queue
 
-  first : IsFirst (queue_in p) i (callout_in p i).armed took.others
-  first = first_of (queue_in p) i took.first took.others took.is took.number (callout_in p i).armed (rest.placed i)
+  first : IsFirst (queue_in p) i (callout_seen p i).armed took.others
+  first = first_of (queue_in p) i took.first took.others took.is took.number (callout_seen p i).armed (rest.placed i)
 
   low : i < length p.timers
   low = armed_below p i first.arming first.is
@@ -206,14 +206,14 @@ module _ (n : ℕ) (p r q : PassesView) (s : AreSingle n p) (b : AreSingle n r) 
   goes_between : GoesOn p i (pick_entry ∷ []) r
   goes_between = goes_on p r i (pick_entry ∷ []) low (ap (λ v. v.timers) begins)
 
-  pick : IsPicked (callout_in p i) first.arming taken (callout_in r i)
+  pick : IsPicked (callout_seen p i) first.arming taken (callout_seen r i)
   pick =
       let may = may_last n p r s b i (seen_of p i) pick_entry goes_between.here in
-      subst (IsPicked (callout_in p i) first.arming taken) (sym (state_after (seen_of p i) pick_entry (seen_of r i) goes_between.here))
-      (picked_some (callout_in p i) (callout_in p i).armed first.arming k time taken first.is may.0)
+      subst (IsPicked (callout_seen p i) first.arming taken) (sym (state_after (seen_of p i) pick_entry (seen_of r i) goes_between.here))
+      (picked_some (callout_seen p i) (callout_seen p i).armed first.arming k time taken first.is may.0)
 
   abbrev running : State
-  running = record (callout_in p i) { armed = None; run = Running first.arming.n first.arming.cpu }
+  running = record (callout_seen p i) { armed = None; run = Running first.arming.n first.arming.cpu }
 
   goes_end : GoesOn r i (end_entry ∷ []) q
   goes_end = goes_on r q i (end_entry ∷ []) (let count = goes_between.count in let l = low in omega (arith, count, l))
@@ -225,16 +225,16 @@ module _ (n : ℕ) (p r q : PassesView) (s : AreSingle n p) (b : AreSingle n r) 
         is = refl;
       }))
 
-  is_over : IsOver running over (callout_in q i)
+  is_over : IsOver running over (callout_seen q i)
   is_over =
       let may = may_last n r q b t i (seen_of r i) end_entry goes_end.here in
       subst (IsOver running over) (sym (state_after (seen_of r i) end_entry (seen_of q i) goes_end.here ∙ ap (λ (x : State). state_of (end_run x x.run k 0) x) pick.state_is))
       (over_some running first.arming.n first.arming.cpu k over (sym (ap (λ (x : State). reply_of (end_run x x.run k 0)) pick.state_is) ∙ may.0))
 
   abbrev rested : State
-  rested = record (callout_in p i) { armed = None; run = Idle; waiting = false; adrain = None }
+  rested = record (callout_seen p i) { armed = None; run = Idle; waiting = false; adrain = None }
 
-  now : callout_in q i ≡ rested
+  now : callout_seen q i ≡ rested
   now = is_over.state_is
 
   nothing_lands : landing r act i (next_target over) later ≡ []
@@ -281,15 +281,15 @@ module _ (n : ℕ) (p r q : PassesView) (s : AreSingle n p) (b : AreSingle n r) 
     };
   }
 
-  pub rests_fired : IsAtRest q
+  pub rests_fired : HasNoService q
   rests_fired = record {
     calm = all_of (λ j x. IsCalm x) p q i (pick_entry ∷ end_entry ∷ []) goes_both
         (subst IsCalm (sym now) (let c = rest.calm i in record { live = c.live; run = refl; waiting = refl; adrain = refl; home = c.home; armed = tt }))
         (λ j other. rest.calm j);
     serving = ap (λ (x : Queue). x.serving) queue_end;
     urgent = ap (λ (x : Queue). x.urgent) queue_end ∙ rest.urgent;
-    placed = all_of (λ j x. IsPlaced (queue_in q) j x.armed) p q i (pick_entry ∷ end_entry ∷ []) goes_both
-        (subst (λ v. IsPlaced v i (callout_in q i).armed) (sym queue_end) (subst (λ (x : State). IsPlaced left i x.armed) (sym now) (nowhere first.none_stands first.none_come)))
-        (λ j other. subst (λ v. IsPlaced v j (callout_in p j).armed) (sym queue_end)
-        (placed_still (queue_in p) left j (callout_in p j).armed refl (come_others (queue_in p) i j took.first took.others took.is took.number other) (omega arith) (rest.placed j)));
+    placed = all_of (λ j x. ArmingStands (queue_in q) j x.armed) p q i (pick_entry ∷ end_entry ∷ []) goes_both
+        (subst (λ v. ArmingStands v i (callout_seen q i).armed) (sym queue_end) (subst (λ (x : State). ArmingStands left i x.armed) (sym now) (nowhere first.none_stands first.none_come)))
+        (λ j other. subst (λ v. ArmingStands v j (callout_seen p j).armed) (sym queue_end)
+        (placed_still (queue_in p) left j (callout_seen p j).armed refl (come_others (queue_in p) i j took.first took.others took.is took.number other) (omega arith) (rest.placed j)));
   }

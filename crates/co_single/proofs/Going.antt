@@ -17,7 +17,7 @@ use Rattle.co_service.specs.Params.{actors_of, spec_at, no_spec, directs}
 use Rattle.co_service.specs.Stories.{IsHistory, IsJournal}
 use Rattle.co_service.specs.Views.{PassesView, seen_of, journal_seen}
 use Rattle.co_single.specs.Acts.{OthersStay}
-use Rattle.co_single.specs.Alarms.{alarm_of, callout_in, queue_in, gos, scan_times, scanned_before}
+use Rattle.co_single.specs.Alarms.{alarm_of, callout_seen, queue_in, gos, scan_times, scanned_before}
 use Rattle.co_single.specs.Seen.{AreSingle}
 use Rattle.co_single.proofs.Calls.{GoesOn}
 use Rattle.co_single.proofs.Told.{no_lock}
@@ -47,9 +47,9 @@ others_of p q i es g = record {
 }
 
 -- what holds of callout i after its entries, and of the others before them
-pub all_of : (P : ℕ → State → Type 0) (p q : PassesView) (i : ℕ) (es : List Entry) → GoesOn p i es q → P i (callout_in q i) → ((j : ℕ) → j ≢ i → P j (callout_in p j)) → (j : ℕ) → P j (callout_in q j)
+pub all_of : (P : ℕ → State → Type 0) (p q : PassesView) (i : ℕ) (es : List Entry) → GoesOn p i es q → P i (callout_seen q i) → ((j : ℕ) → j ≢ i → P j (callout_seen p j)) → (j : ℕ) → P j (callout_seen q j)
 all_of P p q i es g here others j = elim (cases_eq j i) [
-  | inl same ↦ subst (λ k. P k (callout_in q k)) (sym same) here
+  | inl same ↦ subst (λ k. P k (callout_seen q k)) (sym same) here
   | inr other ↦ subst (λ l. P j (state no_spec l)) (sym (g.others j other)) (others j other)
 ]
 

@@ -16,8 +16,8 @@ use Rattle.co_service.specs.Stories.{IsHistory, IsJournal}
 use Rattle.co_service.specs.Views.{PassesView, seen_of, journal_seen}
 use Rattle.co_service.proofs.Lasts.{booted_free}
 use Rattle.co_single.specs.Acts.{IsNew}
-use Rattle.co_single.specs.Alarms.{alarm_of, callout_in, queue_in, gos, scan_times}
-use Rattle.co_single.specs.Rest.{IsAtRest, IsCalm, IsPlaced, nowhere}
+use Rattle.co_single.specs.Alarms.{alarm_of, callout_seen, queue_in, gos, scan_times}
+use Rattle.co_single.specs.Rest.{HasNoService, IsCalm, ArmingStands, nowhere}
 use Rattle.co_single.specs.Seen.{single_params, AreSingle}
 use Rattle.co_single.proofs.Queues.{numbers}
 
@@ -43,7 +43,7 @@ module _ (n : ℕ) (name : ServiceName) (params : Params) (named : AreNamed name
   cpus_none : (cpu : ℕ) → journal_seen p cpu ≡ []
   cpus_none cpu = nothing_at name.cpus cpu
 
-  callout_is : (i : ℕ) → callout_in p i ≡ opening 0
+  callout_is : (i : ℕ) → callout_seen p i ≡ opening 0
   callout_is i = ap (state no_spec) (timers_none i)
 
   queue_is : queue_in p ≡ empty_queue
@@ -78,10 +78,10 @@ module _ (n : ℕ) (name : ServiceName) (params : Params) (named : AreNamed name
     waiting = ap (λ (x : Queue). numbers x.expired) queue_is;
   }
 
-  pub rests_new : IsAtRest p
+  pub rests_new : HasNoService p
   rests_new = record {
     calm = λ i. subst IsCalm (sym (callout_is i)) opened;
     serving = ap (λ (x : Queue). x.serving) queue_is;
     urgent = ap (λ (x : Queue). x.urgent) queue_is;
-    placed = λ i. subst (λ x. IsPlaced x i (callout_in p i).armed) (sym queue_is) (subst (λ s. IsPlaced empty_queue i s.armed) (sym (callout_is i)) (nowhere refl refl));
+    placed = λ i. subst (λ x. ArmingStands x i (callout_seen p i).armed) (sym queue_is) (subst (λ s. ArmingStands empty_queue i s.armed) (sym (callout_is i)) (nowhere refl refl));
   }

@@ -10,7 +10,7 @@ use Rattle.co_object.proofs.Numbers.{same_number, same_itself}
 use Rattle.co_object.proofs.QueueChanges.{inserted}
 use Rattle.co_queue.proofs.Lists.{filter-map}
 use Rattle.co_single.specs.Alarms.{but, times_in}
-use Rattle.co_single.specs.Rest.{IsPlaced, nowhere, listed, due, standing, come}
+use Rattle.co_single.specs.Rest.{ArmingStands, nowhere, listed, due, entries_of, come}
 
 pub differs : (a b : ℕ) → a ≢ b → (a == b) ≡ false
 differs a b h = go (a == b) refl where
@@ -77,9 +77,9 @@ pub record IsQuiet (q : Queue) : Type 0 where
 pub record IsOut (q : Queue) (i : ℕ) (t : Queue) : Type 0 where
   pub quiet : IsQuiet t
   pub last : t.last ≡ q.last
-  pub none_stands : standing t i ≡ []
+  pub none_stands : entries_of t i ≡ []
   pub none_come : come t i ≡ []
-  pub others_stand : (j : ℕ) → j ≢ i → standing t j ≡ standing q j
+  pub others_stand : (j : ℕ) → j ≢ i → entries_of t j ≡ entries_of q j
   pub others_come : (j : ℕ) → j ≢ i → come t j ≡ come q j
   pub waiting : numbers t.expired ≡ but i (numbers q.expired)
 
@@ -94,7 +94,7 @@ out_without q i h = record {
   waiting = sym (filter-map (λ d. d.i) (λ j. not (j == i)) q.expired);
 }
 
-pub out_nowhere : (q : Queue) (i : ℕ) → IsQuiet q → standing q i ≡ [] → come q i ≡ [] → IsOut q i q
+pub out_nowhere : (q : Queue) (i : ℕ) → IsQuiet q → entries_of q i ≡ [] → come q i ≡ [] → IsOut q i q
 out_nowhere q i h stands comes = record {
   quiet = h;
   last = refl;
@@ -105,16 +105,16 @@ out_nowhere q i h stands comes = record {
   waiting = sym (filter-map (λ d. d.i) (λ j. not (j == i)) q.expired ∙ ap numbers (filter-whole (λ d. d.i == i) q.expired comes));
 }
 
-is_nowhere : (q : Queue) (i : ℕ) (o : Option Arming) → o ≡ None → IsPlaced q i o → (standing q i ≡ []) × (come q i ≡ [])
+is_nowhere : (q : Queue) (i : ℕ) (o : Option Arming) → o ≡ None → ArmingStands q i o → (entries_of q i ≡ []) × (come q i ≡ [])
 is_nowhere q i o none (nowhere s c) = (s, c)
 is_nowhere q i o none (listed a l) = cc
 is_nowhere q i o none (due a l) = cc
 
-pub nowhere_of : (q : Queue) (i : ℕ) → IsPlaced q i None → (standing q i ≡ []) × (come q i ≡ [])
+pub nowhere_of : (q : Queue) (i : ℕ) → ArmingStands q i None → (entries_of q i ≡ []) × (come q i ≡ [])
 nowhere_of q i h = is_nowhere q i None refl h
 
 -- an arming keeps its place where its entries stay
-pub placed_still : (q t : Queue) (i : ℕ) (o : Option Arming) → standing t i ≡ standing q i → come t i ≡ come q i → q.last ≤ t.last → IsPlaced q i o → IsPlaced t i o
+pub placed_still : (q t : Queue) (i : ℕ) (o : Option Arming) → entries_of t i ≡ entries_of q i → come t i ≡ come q i → q.last ≤ t.last → ArmingStands q i o → ArmingStands t i o
 placed_still q t i o s c later (nowhere x y) = nowhere (s ∙ x) (c ∙ y)
 placed_still q t i o s c later (listed a l) = listed a (record {
   entry = l.entry;
@@ -137,7 +137,7 @@ pub same_last : (q t : Queue) → t.last ≡ q.last → q.last ≤ t.last
 same_last q t h = omega (arith, h)
 
 -- where callout i is taken out, it is nowhere, and the others keep their places
-pub placed_out : (q t : Queue) (i : ℕ) (o : ℕ → Option Arming) → IsOut q i t → ((j : ℕ) → IsPlaced q j (o j)) → (j : ℕ) → j ≢ i → IsPlaced t j (o j)
+pub placed_out : (q t : Queue) (i : ℕ) (o : ℕ → Option Arming) → IsOut q i t → ((j : ℕ) → ArmingStands q j (o j)) → (j : ℕ) → j ≢ i → ArmingStands t j (o j)
 placed_out q t i o h each j other = placed_still q t j (o j) (h.others_stand j other) (h.others_come j other) (same_last q t h.last) (each j)
 
 -- callout i's arming n is inserted where it was taken out
@@ -145,7 +145,7 @@ module _ (q t : Queue) (i n time : ℕ) (h : IsOut q i t) where
   abbrev entry : Waiting
   entry = record { i = i; n = n; t = max time t.last; serial = t.next_serial }
 
-  pub placed_in : (a : Arming) → a.n ≡ n → a.due ≡ time → IsPlaced (inserted t i n time) i (Some a)
+  pub placed_in : (a : Arming) → a.n ≡ n → a.due ≡ time → ArmingStands (inserted t i n time) i (Some a)
   placed_in a number at = listed a (record {
     entry = entry;
     scan = t.last;
@@ -156,7 +156,7 @@ module _ (q t : Queue) (i n time : ℕ) (h : IsOut q i t) where
     passed = omega arith;
   })
 
-  pub placed_beside : (o : ℕ → Option Arming) → ((j : ℕ) → IsPlaced q j (o j)) → (j : ℕ) → j ≢ i → IsPlaced (inserted t i n time) j (o j)
+  pub placed_beside : (o : ℕ → Option Arming) → ((j : ℕ) → ArmingStands q j (o j)) → (j : ℕ) → j ≢ i → ArmingStands (inserted t i n time) j (o j)
   placed_beside o each j other = placed_still t (inserted t i n time) j (o j)
       (filter-append (λ w. w.i == j) t.content (entry ∷ []) ∙ (ap (λ ws. filter (λ (w : Waiting). w.i == j) t.content ++ ws) (filter-out (λ (w : Waiting). w.i == j) entry (differs i j (λ e. other (sym e)))) ∙ append_nil (filter (λ (w : Waiting). w.i == j) t.content)))
       refl (same_last t (inserted t i n time) refl) (placed_out q t i o h each j other) where

@@ -9,12 +9,12 @@ use Rattle.co_object.specs.History.{state}
 use Rattle.co_object.specs.Queue.{Due, Queue}
 use Rattle.co_object.specs.Scan.{due_by, as_due, is_direct, scanned}
 use Rattle.co_object.proofs.EntriesKept.{max_left}
-use Rattle.co_service.specs.Outcomes.{turn}
+use Rattle.co_service.specs.Outcomes.{queue_entry_by}
 use Rattle.co_service.specs.Params.{no_spec, directs}
 use Rattle.co_service.specs.Views.{PassesView, journal_seen}
 use Rattle.co_single.specs.Acts.{CalloutsStay, IsScanned}
-use Rattle.co_single.specs.Alarms.{alarm_of, alarm_at, callout_in, queue_in, due_once, gos, scan_times, waiting_of}
-use Rattle.co_single.specs.Rest.{IsAtRest, IsCalm, IsPlaced, come}
+use Rattle.co_single.specs.Alarms.{alarm_of, alarm_at, callout_seen, queue_in, due_once, gos, scan_times, waiting_of}
+use Rattle.co_single.specs.Rest.{HasNoService, IsCalm, ArmingStands, come}
 use Rattle.co_single.specs.Seen.{with_entries, scan_entries, AreSingle}
 use Rattle.co_single.proofs.Calls.{journal_on}
 use Rattle.co_single.proofs.Going.{scans-append, legal_turns, queue_after}
@@ -39,16 +39,16 @@ callouts_stay p q is = record {
   fired = λ j. ap (λ ts. gos (get_or ts j [])) is;
 }
 
-pub callout_still : (p q : PassesView) → q.timers ≡ p.timers → (j : ℕ) → callout_in q j ≡ callout_in p j
+pub callout_still : (p q : PassesView) → q.timers ≡ p.timers → (j : ℕ) → callout_seen q j ≡ callout_seen p j
 callout_still p q is j = ap (λ ts. state no_spec (get_or ts j [])) is
 
 pub no_numbers : (ds : List Due) → numbers ds ≡ [] → ds ≡ []
 no_numbers [] h = refl
 no_numbers (d ∷ ds) h = cc
 
-module _ (n : ℕ) (p q : PassesView) (s : AreSingle n p) (t : AreSingle n q) (rest : IsAtRest p) (act now k : ℕ) (is : q ≡ with_entries p (scan_entries p act now k)) (served : waiting_of p ≡ []) where
+module _ (n : ℕ) (p q : PassesView) (s : AreSingle n p) (t : AreSingle n q) (rest : HasNoService p) (act now k : ℕ) (is : q ≡ with_entries p (scan_entries p act now k)) (served : waiting_of p ≡ []) where
   abbrev scan_turn : QEntry
-  scan_turn = turn p act (Scan now) (Count k)
+  scan_turn = queue_entry_by p act (Scan now) (Count k)
 
   abbrev time : ℕ
   time = max (queue_in p).last now
@@ -82,15 +82,15 @@ module _ (n : ℕ) (p q : PassesView) (s : AreSingle n p) (t : AreSingle n q) (r
     waiting = λ i.
         times_come i (queue_in q).expired
         ∙ (ap (λ (x : Queue). length (come x i)) queue_is
-        ∙ ((sorted 256 (directs p.params) (queue_in p) time after (plain_at n p s) none i (callout_in p i).armed (rest.placed i)).once
+        ∙ ((sorted 256 (directs p.params) (queue_in p) time after (plain_at n p s) none i (callout_seen p i).armed (rest.placed i)).once
         ∙ ap (due_once (alarm_at p i)) (sym (ap (λ (x : Queue). x.last) queue_is))));
     count = counted ∙ sym (ap (λ ds. length (numbers ds)) expired ∙ (length-map (map as_due (due_by 256 (queue_in p) time)) (λ d. d.i) ∙ length-map (due_by 256 (queue_in p) time) as_due));
   }
 
-  pub rests_scanned : IsAtRest q
+  pub rests_scanned : HasNoService q
   rests_scanned = record {
     calm = λ j. subst IsCalm (sym (callout_still p q same j)) (rest.calm j);
     serving = ap (λ (x : Queue). x.serving) queue_is ∙ rest.serving;
     urgent = ap (λ (x : Queue). x.urgent) queue_is ∙ urgent_is 256 (directs p.params) (queue_in p) time after (plain_at n p s) none rest.urgent;
-    placed = λ j. subst (λ v. IsPlaced v j (callout_in q j).armed) (sym queue_is) (subst (λ x. IsPlaced (scanned 256 (directs p.params) (queue_in p) time) j x.armed) (sym (callout_still p q same j)) (sorted 256 (directs p.params) (queue_in p) time after (plain_at n p s) none j (callout_in p j).armed (rest.placed j)).placed);
+    placed = λ j. subst (λ v. ArmingStands v j (callout_seen q j).armed) (sym queue_is) (subst (λ x. ArmingStands (scanned 256 (directs p.params) (queue_in p) time) j x.armed) (sym (callout_still p q same j)) (sorted 256 (directs p.params) (queue_in p) time after (plain_at n p s) none j (callout_seen p j).armed (rest.placed j)).placed);
   }

@@ -11,7 +11,7 @@ use Rattle.co_object.proofs.EntriesKept.{max_left}
 use Rattle.co_object.proofs.PassageOnce.{later}
 use Rattle.co_queue.proofs.Lists.{filter-filter, filter-map}
 use Rattle.co_single.specs.Alarms.{alarm_of, due_once}
-use Rattle.co_single.specs.Rest.{IsListed, IsPlaced, nowhere, listed, due, standing, come}
+use Rattle.co_single.specs.Rest.{IsListed, ArmingStands, nowhere, listed, due, entries_of, come}
 use Rattle.co_single.proofs.Queues.{filter-in, filter-out}
 
 module _ (m last : ℕ) (p : Waiting → Bool) where
@@ -93,21 +93,21 @@ module _ (m : ℕ) (direct : List Bool) (q : Queue) (time : ℕ) (after : q.last
   come_is : (i : ℕ) → come v i ≡ map as_due (filter (λ w. w.i == i) (due_by m q time))
   come_is i = ap (filter (λ (d : Due). d.i == i)) expired_is ∙ filter-map as_due (λ (d : Due). d.i == i) (due_by m q time)
 
-  stands_is : (i : ℕ) → standing v i ≡ filter (λ w. nat_lt time w.t) (standing q i)
+  stands_is : (i : ℕ) → entries_of v i ≡ filter (λ w. nat_lt time w.t) (entries_of q i)
   stands_is i = filter-filter (λ w. w.i == i) (λ w. nat_lt time w.t) q.content
 
-  due_is : (i : ℕ) → filter (λ w. w.i == i) (filter (λ w. nat_le w.t time) q.content) ≡ filter (λ w. nat_le w.t time) (standing q i)
+  due_is : (i : ℕ) → filter (λ w. w.i == i) (filter (λ w. nat_le w.t time) q.content) ≡ filter (λ w. nat_le w.t time) (entries_of q i)
   due_is i = filter-filter (λ w. w.i == i) (λ w. nat_le w.t time) q.content
 
-  none_comes : (i : ℕ) → filter (λ w. nat_le w.t time) (standing q i) ≡ [] → come v i ≡ []
+  none_comes : (i : ℕ) → filter (λ w. nat_le w.t time) (entries_of q i) ≡ [] → come v i ≡ []
   none_comes i h = come_is i ∙ ap (map as_due) (order-none m q.last (λ w. w.i == i) (filter (λ w. nat_le w.t time) q.content) (due_is i ∙ h))
 
-  one_comes : (i : ℕ) (w : Waiting) → filter (λ w. nat_le w.t time) (standing q i) ≡ w ∷ [] → come v i ≡ as_due w ∷ []
+  one_comes : (i : ℕ) (w : Waiting) → filter (λ w. nat_le w.t time) (entries_of q i) ≡ w ∷ [] → come v i ≡ as_due w ∷ []
   one_comes i w h = come_is i ∙ ap (map as_due) (order-one m q.last (λ w. w.i == i) w (filter (λ w. nat_le w.t time) q.content) (due_is i ∙ h))
 
   -- callout i's arming has its place after the scan, and has come due once where it is due
   pub record IsSorted (i : ℕ) (o : Option Arming) : Type 0 where
-    pub placed : IsPlaced v i o
+    pub placed : ArmingStands v i o
     pub once : length (come v i) ≡ due_once (alarm_of o) time
 
   listed_then : (i : ℕ) (a : Arming) (l : IsListed q i a) (b : Bool) → nat_le l.entry.t time ≡ b → IsSorted i (Some a)
@@ -144,7 +144,7 @@ module _ (m : ℕ) (direct : List Bool) (q : Queue) (time : ℕ) (after : q.last
         once = ap (λ (ds : List Due). length ds) comes ∙ sym (ap (λ b. cond {A = ℕ} b 1 0) (no_later a.due l.scan time w.t l.time before h));
       }
 
-  pub sorted : (i : ℕ) (o : Option Arming) → IsPlaced q i o → IsSorted i o
+  pub sorted : (i : ℕ) (o : Option Arming) → ArmingStands q i o → IsSorted i o
   sorted i o (nowhere s c) =
       let comes : come v i ≡ [] = none_comes i (ap (filter (λ (w : Waiting). nat_le w.t time)) s) in record {
         placed = nowhere (stands_is i ∙ ap (filter (λ (w : Waiting). nat_lt time w.t)) s) comes;

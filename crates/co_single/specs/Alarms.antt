@@ -29,23 +29,23 @@ alarm_of None = None
 alarm_of (Some a) = Some (record { due = a.due; arg = a.arg })
 
 -- callout i after what is seen of it, and the timer queue of the one CPU
-abbrev pub callout_in : PassesView → ℕ → State
-callout_in p i = state no_spec (seen_of p i)
+abbrev pub callout_seen : PassesView → ℕ → State
+callout_seen p i = state no_spec (seen_of p i)
 
 abbrev pub queue_in : PassesView → Queue
 queue_in p = queue 256 (directs p.params) (journal_seen p 0)
 
 -- how many callouts there are
-abbrev pub count_of : PassesView → ℕ
-count_of p = length p.timers
+abbrev pub callout_count : PassesView → ℕ
+callout_count p = length p.timers
 
 -- callout i's arming, where one stands
 abbrev pub alarm_at : PassesView → ℕ → Option Alarm
-alarm_at p i = alarm_of (callout_in p i).armed
+alarm_at p i = alarm_of (callout_seen p i).armed
 
 -- how many armings of callout i were made so far
 abbrev pub made_at : PassesView → ℕ → ℕ
-made_at p i = (callout_in p i).made
+made_at p i = (callout_seen p i).made
 
 -- how often a function was to run, by these entries
 abbrev pub gos : List Entry → ℕ
@@ -75,12 +75,12 @@ abbrev pub scan_times : List QEntry → List ℕ
 scan_times [] = []
 scan_times (e ∷ es) = scanned_before e.op (scan_times es)
 
-abbrev pub scans_of : PassesView → List ℕ
-scans_of p = scan_times (journal_seen p 0)
+abbrev pub scan_times_of : PassesView → List ℕ
+scan_times_of p = scan_times (journal_seen p 0)
 
 -- the time of the last scan, as the timer queue keeps it
-abbrev pub clock_of : PassesView → ℕ
-clock_of p = (queue_in p).last
+abbrev pub last_scan : PassesView → ℕ
+last_scan p = (queue_in p).last
 
 -- the callouts that have come due and are not served yet, in order
 abbrev pub waiting_of : PassesView → List ℕ

@@ -14,7 +14,7 @@ use Rattle.co_service.specs.Name.{ServiceName}
 use Rattle.co_service.specs.Services.{IsFree}
 use Rattle.co_service.specs.Views.{PassesView, AreOf}
 use Rattle.co_service.specs.declared.params.Params.{Params}
-use Rattle.co_single.specs.Alarms.{callout_in, queue_in}
+use Rattle.co_single.specs.Alarms.{callout_seen, queue_in}
 use Rattle.co_single.specs.Seen.{single_params, AreSingle}
 
 -- an arming is at CPU 0, and of function 0
@@ -32,8 +32,8 @@ pub record IsCalm (s : State) : Type 0 where
   pub armed : IsPlainArming s.armed
 
 -- the entries of callout i in the two lists of a queue
-abbrev pub standing : Queue → ℕ → List Waiting
-standing q i = filter (λ w. w.i == i) q.content
+abbrev pub entries_of : Queue → ℕ → List Waiting
+entries_of q i = filter (λ w. w.i == i) q.content
 
 abbrev pub come : Queue → ℕ → List Due
 come q i = filter (λ d. d.i == i) q.expired
@@ -42,39 +42,39 @@ come q i = filter (λ d. d.i == i) q.expired
 pub record IsListed (q : Queue) (i : ℕ) (a : Arming) : Type 0 where
   pub entry : Waiting
   pub scan : ℕ
-  pub stands : standing q i ≡ entry ∷ []
+  pub stands : entries_of q i ≡ entry ∷ []
   pub none_come : come q i ≡ []
   pub number : entry.n ≡ a.n
   pub time : entry.t ≡ max a.due scan
   pub passed : scan ≤ q.last
 
 -- an arming has come due
-pub record HasCome (q : Queue) (i : ℕ) (a : Arming) : Type 0 where
+pub record HasComeDue (q : Queue) (i : ℕ) (a : Arming) : Type 0 where
   pub entry : Due
-  pub none_stands : standing q i ≡ []
+  pub none_stands : entries_of q i ≡ []
   pub comes : come q i ≡ entry ∷ []
   pub number : entry.n ≡ a.n
   pub due : a.due ≤ q.last
 
 -- an arming stands once in the queue or has come due, and else the callout is nowhere
-pub data IsPlaced (q : Queue) (i : ℕ) : Option Arming → Type 0 where
-  nowhere : standing q i ≡ [] → come q i ≡ [] → IsPlaced q i None
-  listed : (a : Arming) → IsListed q i a → IsPlaced q i (Some a)
-  due : (a : Arming) → HasCome q i a → IsPlaced q i (Some a)
+pub data ArmingStands (q : Queue) (i : ℕ) : Option Arming → Type 0 where
+  nowhere : entries_of q i ≡ [] → come q i ≡ [] → ArmingStands q i None
+  listed : (a : Arming) → IsListed q i a → ArmingStands q i (Some a)
+  due : (a : Arming) → HasComeDue q i a → ArmingStands q i (Some a)
 
 -- nothing is in service, and each arming has its place
-pub record IsAtRest (p : PassesView) : Type 0 where
-  pub calm : (i : ℕ) → IsCalm (callout_in p i)
+pub record HasNoService (p : PassesView) : Type 0 where
+  pub calm : (i : ℕ) → IsCalm (callout_seen p i)
   pub serving : (queue_in p).serving ≡ None
   pub urgent : (queue_in p).urgent ≡ []
-  pub placed : (i : ℕ) → IsPlaced (queue_in p) i (callout_in p i).armed
+  pub placed : (i : ℕ) → ArmingStands (queue_in p) i (callout_seen p i).armed
 
 -- what every such service keeps: the passes are of its one actor, nothing is in service, and there is room for its end
 pub record IsSingle (name : ServiceName) (params : Params) (p : PassesView) (ending : RoomView PassesView) : Type 0 where
   pub of : AreOf name params p
   pub single : AreSingle (length params.specs) p
   pub free : IsFree false p 0
-  pub rest : IsAtRest p
+  pub rest : HasNoService p
   pub nothing : ending.items ≡ []
   pub room : 0 < ending.spare
 

@@ -10,7 +10,7 @@ use Rattle.co_object.specs.declared.queue.QOp.TheVariants.{Scan, Pop, Free}
 use Rattle.co_object.specs.declared.queue.QReply.TheVariants.{Count, Got, Freed, Empty}
 use Rattle.co_object.specs.Group.{Placed}
 use Rattle.co_service.specs.Call.{landing}
-use Rattle.co_service.specs.Outcomes.{turn}
+use Rattle.co_service.specs.Outcomes.{queue_entry_by}
 use Rattle.co_service.specs.Services.{run_entry, next_target}
 use Rattle.co_service.specs.declared.params.Params.{Params}
 use Rattle.co_service.specs.Params.{no_spec}
@@ -47,16 +47,16 @@ pub record AreSingle (n : ℕ) (p : PassesView) : Type 0 where
 
 -- the CPU's entry of a scan
 abbrev pub scan_entries : PassesView → (act now count : ℕ) → List Placed
-scan_entries p act now count = (at.Cpu 0, of.Cpu (turn p act (Scan now) (Count count))) ∷ []
+scan_entries p act now count = (at.Cpu 0, of.Cpu (queue_entry_by p act (Scan now) (Count count))) ∷ []
 
 -- nothing had come due
 abbrev pub none_entries : PassesView → (act : ℕ) → List Placed
-none_entries p act = (at.Cpu 0, of.Cpu (turn p act Pop Empty)) ∷ []
+none_entries p act = (at.Cpu 0, of.Cpu (queue_entry_by p act Pop Empty)) ∷ []
 
 -- callout i's arming n is taken into service
 abbrev pub taken_entries : PassesView → (act i n time : ℕ) → Reply → List Placed
-taken_entries p act i n time reply = (at.Cpu 0, of.Cpu (turn p act Pop (Got i n time))) ∷ (at.Timer i, of.Timer (run_entry p act (Pick n 0 time) reply)) ∷ []
+taken_entries p act i n time reply = (at.Cpu 0, of.Cpu (queue_entry_by p act Pop (Got i n time))) ∷ (at.Timer i, of.Timer (run_entry p act (Pick n 0 time) reply)) ∷ []
 
 -- and its service is over. `later` is the answer to the Insert of what waited for it
 abbrev pub ended_entries : PassesView → (act i n : ℕ) → Reply → (later : ℕ) → List Placed
-ended_entries p act i n reply later = (at.Timer i, of.Timer (run_entry p act (End n 0) reply)) ∷ (at.Cpu 0, of.Cpu (turn p act Free Freed)) ∷ landing p act i (next_target reply) later
+ended_entries p act i n reply later = (at.Timer i, of.Timer (run_entry p act (End n 0) reply)) ∷ (at.Cpu 0, of.Cpu (queue_entry_by p act Free Freed)) ∷ landing p act i (next_target reply) later

@@ -1,7 +1,7 @@
 //! A running service of one actor.
 ghost use Rattle.std.specs.Prelude.{◌≡◌, ◌<◌, ◌^◌, [], IfNone, IfOk, IfSome};
-ghost use Rattle.co_single.specs.Acts.{IsArmed, IsDisarmed, IsFired, IsIdle, IsNew, IsScanned};
-ghost use Rattle.co_single.specs.Alarms.{arg_in, count_of, made_at, waiting_of};
+ghost use Rattle.co_single.specs.Acts.{IsArmed, IsDisarmed, IsFired, NothingWaits, IsNew, IsScanned};
+ghost use Rattle.co_single.specs.Alarms.{arg_in, callout_count, made_at, waiting_of};
 
 use crate::SingleFresh;
 use co_object::{CallOp, PlainOp, Reply};
@@ -78,7 +78,7 @@ impl<N: Name> Single<N> {
     /// Callout `i` is armed for the time `due`, in units of 2^-32 s, with this argument, in the place of any old
     /// arming. One that had come due and was not served does not fire.
     pub fn arm<R: Wait>(&mut self, rt: &R, act: u64, i: u32, due: Sbt, arg: u64)
-        requires callout { i < count_of self.old }
+        requires callout { i < callout_count self.old }
         requires made { made_at self.old i < 2 ^ 62 }
         ensures { IsArmed self.old i due arg self.new }
     {
@@ -95,7 +95,7 @@ impl<N: Name> Single<N> {
 
     /// Callout `i` is not armed any more. One that had come due and was not served does not fire.
     pub fn disarm<R: Wait>(&mut self, rt: &R, act: u64, i: u32)
-        requires callout { i < count_of self.old }
+        requires callout { i < callout_count self.old }
         ensures { IsDisarmed self.old i self.new }
     {
         let op = CallOp::Plain(PlainOp::Stop);
@@ -116,7 +116,7 @@ impl<N: Name> Single<N> {
 
     /// The first callout that waits fires, and its service is over. None where nothing waits.
     pub fn fire<R: Wait>(&mut self, rt: &R, act: u64) -> Option<Fired>
-        ensures none { IfNone result (IsIdle self.old self.new) }
+        ensures none { IfNone result (NothingWaits self.old self.new) }
         ensures some { IfSome result (λ fired. IsFired self.old fired.i fired.arg self.new) }
     {
         match self

@@ -7,16 +7,16 @@ use Rattle.std.specs.declared.option.Option.TheVariants.{Some, None}
 use Rattle.std.proofs.lemmas.Bool.{ltb-true, lt-ltb}
 use Rattle.std.proofs.lemmas.Bool.Decides.{nat_tests}
 use Rattle.co_sleepq.specs.declared.sleep.Sleep.{Sleep}
-use Rattle.co_sleepq.specs.Slots.{placed, sleeps_in, slot_at}
+use Rattle.co_sleepq.specs.Slots.{put_in_order, sleeps_in, slot_at}
 
 not_lt : (m n : ℕ) → n ≤ m → nat_lt m n ≡ false
 not_lt m n h = grind (arith, nat_tests)
 
-placed_front : (x y : Sleep) (ys : List Sleep) → x.s < y.s → placed x (y ∷ ys) ≡ x ∷ y ∷ ys
-placed_front x y ys h = ap (λ b. cond b (x ∷ y ∷ ys) (y ∷ placed x ys)) (lt-ltb x.s y.s h)
+placed_front : (x y : Sleep) (ys : List Sleep) → x.s < y.s → put_in_order x (y ∷ ys) ≡ x ∷ y ∷ ys
+placed_front x y ys h = ap (λ b. cond b (x ∷ y ∷ ys) (y ∷ put_in_order x ys)) (lt-ltb x.s y.s h)
 
-placed_behind : (x y : Sleep) (ys : List Sleep) → y.s ≤ x.s → placed x (y ∷ ys) ≡ y ∷ placed x ys
-placed_behind x y ys h = ap (λ b. cond b (x ∷ y ∷ ys) (y ∷ placed x ys)) (not_lt x.s y.s h)
+placed_behind : (x y : Sleep) (ys : List Sleep) → y.s ≤ x.s → put_in_order x (y ∷ ys) ≡ y ∷ put_in_order x ys
+placed_behind x y ys h = ap (λ b. cond b (x ∷ y ∷ ys) (y ∷ put_in_order x ys)) (not_lt x.s y.s h)
 
 below : (m n : ℕ) (P : Type 0) → (m < n → P) → (n ≤ m → P) → P
 below m n P low high = go (nat_lt m n) refl where
@@ -60,9 +60,9 @@ pub each_filter : (P : Sleep → Type 0) (p : Sleep → Bool) (xs : List Sleep) 
 each_filter P p [] e = tt
 each_filter P p (x ∷ xs) e = kept_each P x (filter p xs) (p x) e.0 (each_filter P p xs e.1)
 
-each_placed : (P : Sleep → Type 0) (x : Sleep) (ys : List Sleep) → P x → Each P ys → Each P (placed x ys)
+each_placed : (P : Sleep → Type 0) (x : Sleep) (ys : List Sleep) → P x → Each P ys → Each P (put_in_order x ys)
 each_placed P x [] h e = (h, tt)
-each_placed P x (y ∷ ys) h e = below x.s y.s (Each P (placed x (y ∷ ys)))
+each_placed P x (y ∷ ys) h e = below x.s y.s (Each P (put_in_order x (y ∷ ys)))
     (λ less. subst (Each P) (sym (placed_front x y ys less)) (h, e))
     (λ more. subst (Each P) (sym (placed_behind x y ys more)) (e.0, each_placed P x ys h e.1))
 
@@ -90,9 +90,9 @@ in_turn false true c = refl
 in_turn false false c = refl
 
 module _ (p : Sleep → Bool) where
-  any_placed : (x : Sleep) (ys : List Sleep) → list_any p (placed x ys) ≡ (p x || list_any p ys)
+  any_placed : (x : Sleep) (ys : List Sleep) → list_any p (put_in_order x ys) ≡ (p x || list_any p ys)
   any_placed x [] = refl
-  any_placed x (y ∷ ys) = below x.s y.s (list_any p (placed x (y ∷ ys)) ≡ (p x || list_any p (y ∷ ys)))
+  any_placed x (y ∷ ys) = below x.s y.s (list_any p (put_in_order x (y ∷ ys)) ≡ (p x || list_any p (y ∷ ys)))
       (λ less. ap (list_any p) (placed_front x y ys less))
       (λ more. ap (list_any p) (placed_behind x y ys more) ∙ (ap (λ b. p y || b) (any_placed x ys) ∙ in_turn (p y) (p x) (list_any p ys)))
 
@@ -147,9 +147,9 @@ abbrev Rising : List Sleep → Type 0
 Rising [] = Unit {0}
 Rising (x ∷ xs) = Each (λ y. x.s ≤ y.s) xs × Rising xs
 
-rising_placed : (x : Sleep) (ys : List Sleep) → Rising ys → Rising (placed x ys)
+rising_placed : (x : Sleep) (ys : List Sleep) → Rising ys → Rising (put_in_order x ys)
 rising_placed x [] r = (tt, tt)
-rising_placed x (y ∷ ys) r = below x.s y.s (Rising (placed x (y ∷ ys)))
+rising_placed x (y ∷ ys) r = below x.s y.s (Rising (put_in_order x (y ∷ ys)))
     (λ less. subst Rising (sym (placed_front x y ys less)) ((omega (arith, less), each_weaker (λ z. y.s ≤ z.s) (λ z. x.s ≤ z.s) ys (λ z h. omega (arith, h, less)) r.0), r))
     (λ more. subst Rising (sym (placed_behind x y ys more)) (each_placed (λ z. y.s ≤ z.s) x ys more r.0, rising_placed x ys r.1))
 
@@ -158,29 +158,29 @@ rising_in [] = tt
 rising_in (None ∷ os) = rising_in os
 rising_in (Some x ∷ os) = rising_placed x (sleeps_in os) (rising_in os)
 
-placed_first : (x : Sleep) (ys : List Sleep) → Each (λ y. x.s < y.s) ys → placed x ys ≡ x ∷ ys
+placed_first : (x : Sleep) (ys : List Sleep) → Each (λ y. x.s < y.s) ys → put_in_order x ys ≡ x ∷ ys
 placed_first x [] e = refl
 placed_first x (y ∷ ys) e = placed_front x y ys e.0
 
-filter_placed_yes : (p : Sleep → Bool) (x : Sleep) (ys : List Sleep) → Rising ys → p x ≡ true → filter p (placed x ys) ≡ placed x (filter p ys)
+filter_placed_yes : (p : Sleep → Bool) (x : Sleep) (ys : List Sleep) → Rising ys → p x ≡ true → filter p (put_in_order x ys) ≡ put_in_order x (filter p ys)
 filter_placed_yes p x [] r h = filter_yes p x [] h
-filter_placed_yes p x (y ∷ ys) r h = below x.s y.s (filter p (placed x (y ∷ ys)) ≡ placed x (filter p (y ∷ ys)))
+filter_placed_yes p x (y ∷ ys) r h = below x.s y.s (filter p (put_in_order x (y ∷ ys)) ≡ put_in_order x (filter p (y ∷ ys)))
     (λ less.
     let all : Each (λ z. x.s < z.s) (y ∷ ys) = (less, each_weaker (λ z. y.s ≤ z.s) (λ z. x.s < z.s) ys (λ z g. omega (arith, g, less)) r.0) in
     ap (filter p) (placed_front x y ys less) ∙ (filter_yes p x (y ∷ ys) h ∙ sym (placed_first x (filter p (y ∷ ys)) (each_filter (λ z. x.s < z.s) p (y ∷ ys) all))))
     (λ more. ap (filter p) (placed_behind x y ys more) ∙ rest more (filter_placed_yes p x ys r.1 h) (p y) refl)
   where
-    rest : y.s ≤ x.s → filter p (placed x ys) ≡ placed x (filter p ys) → (b : Bool) → p y ≡ b → filter p (y ∷ placed x ys) ≡ placed x (filter p (y ∷ ys))
+    rest : y.s ≤ x.s → filter p (put_in_order x ys) ≡ put_in_order x (filter p ys) → (b : Bool) → p y ≡ b → filter p (y ∷ put_in_order x ys) ≡ put_in_order x (filter p (y ∷ ys))
     rest more tail true g =
-        filter_yes p y (placed x ys) g
+        filter_yes p y (put_in_order x ys) g
         ∙ (ap (λ l. y ∷ l) tail
         ∙ (sym (placed_behind x y (filter p ys) more)
-        ∙ ap (placed x) (sym (filter_yes p y ys g))))
-    rest more tail false g = filter_no p y (placed x ys) g ∙ (tail ∙ ap (placed x) (sym (filter_no p y ys g)))
+        ∙ ap (put_in_order x) (sym (filter_yes p y ys g))))
+    rest more tail false g = filter_no p y (put_in_order x ys) g ∙ (tail ∙ ap (put_in_order x) (sym (filter_no p y ys g)))
 
-filter_placed_no : (p : Sleep → Bool) (x : Sleep) (ys : List Sleep) → p x ≡ false → filter p (placed x ys) ≡ filter p ys
+filter_placed_no : (p : Sleep → Bool) (x : Sleep) (ys : List Sleep) → p x ≡ false → filter p (put_in_order x ys) ≡ filter p ys
 filter_placed_no p x [] h = filter_no p x [] h
-filter_placed_no p x (y ∷ ys) h = below x.s y.s (filter p (placed x (y ∷ ys)) ≡ filter p (y ∷ ys))
+filter_placed_no p x (y ∷ ys) h = below x.s y.s (filter p (put_in_order x (y ∷ ys)) ≡ filter p (y ∷ ys))
     (λ less. ap (filter p) (placed_front x y ys less) ∙ filter_no p x (y ∷ ys) h)
     (λ more. ap (filter p) (placed_behind x y ys more) ∙ ap (λ l. cond (p y) (y ∷ l) l) (filter_placed_no p x ys h))
 
@@ -193,10 +193,10 @@ filter_in : (p : Sleep → Bool) (slots : List (Option Sleep)) → filter p (sle
 filter_in p [] = refl
 filter_in p (None ∷ os) = filter_in p os
 filter_in p (Some x ∷ os) = go (p x) refl (filter_in p os) where
-  go : (b : Bool) → p x ≡ b → filter p (sleeps_in os) ≡ sleeps_in (map (keep p) os) → filter p (placed x (sleeps_in os)) ≡ sleeps_in (keep p (Some x) ∷ map (keep p) os)
+  go : (b : Bool) → p x ≡ b → filter p (sleeps_in os) ≡ sleeps_in (map (keep p) os) → filter p (put_in_order x (sleeps_in os)) ≡ sleeps_in (keep p (Some x) ∷ map (keep p) os)
   go true h rest =
       filter_placed_yes p x (sleeps_in os) (rising_in os) h
-      ∙ (ap (placed x) rest ∙ sym (ap (λ b. sleeps_in (cond b (Some x) None ∷ map (keep p) os)) h))
+      ∙ (ap (put_in_order x) rest ∙ sym (ap (λ b. sleeps_in (cond b (Some x) None ∷ map (keep p) os)) h))
   go false h rest =
       filter_placed_no p x (sleeps_in os) h
       ∙ (rest ∙ sym (ap (λ b. sleeps_in (cond b (Some x) None ∷ map (keep p) os)) h))
@@ -209,7 +209,7 @@ empty_in (Some x ∷ os) h = absurd (some-none x (h 0))
 
 behind : (o : Option Sleep) (xs ys : List (Option Sleep)) → sleeps_in xs ≡ sleeps_in ys → sleeps_in (o ∷ xs) ≡ sleeps_in (o ∷ ys)
 behind None xs ys h = h
-behind (Some x) xs ys h = ap (placed x) h
+behind (Some x) xs ys h = ap (put_in_order x) h
 
 same_in : (xs ys : List (Option Sleep)) → ((i : ℕ) → slot_at xs i ≡ slot_at ys i) → sleeps_in xs ≡ sleeps_in ys
 same_in [] ys h = sym (empty_in ys (λ i. sym (h i)))
@@ -228,13 +228,13 @@ kept_in p olds news h = same_in news (map (keep p) olds) (λ i. h i ∙ sym (kep
 
 -- ---- a sleep that begins
 
-placed_last : (x : Sleep) (ys : List Sleep) → Each (λ y. y.s < x.s) ys → placed x ys ≡ ys ++ x ∷ []
+placed_last : (x : Sleep) (ys : List Sleep) → Each (λ y. y.s < x.s) ys → put_in_order x ys ≡ ys ++ x ∷ []
 placed_last x [] e = refl
 placed_last x (y ∷ ys) e = let h = e.0 in placed_behind x y ys (omega (arith, h)) ∙ ap (λ l. y ∷ l) (placed_last x ys e.1)
 
-placed_snoc : (y x : Sleep) (zs : List Sleep) → y.s < x.s → placed y (zs ++ x ∷ []) ≡ placed y zs ++ x ∷ []
+placed_snoc : (y x : Sleep) (zs : List Sleep) → y.s < x.s → put_in_order y (zs ++ x ∷ []) ≡ put_in_order y zs ++ x ∷ []
 placed_snoc y x [] h = placed_front y x [] h
-placed_snoc y x (z ∷ zs) h = below y.s z.s (placed y (z ∷ (zs ++ x ∷ [])) ≡ placed y (z ∷ zs) ++ x ∷ [])
+placed_snoc y x (z ∷ zs) h = below y.s z.s (put_in_order y (z ∷ (zs ++ x ∷ [])) ≡ put_in_order y (z ∷ zs) ++ x ∷ [])
     (λ less. placed_front y z (zs ++ x ∷ []) less ∙ ap (λ l. l ++ x ∷ []) (sym (placed_front y z zs less)))
     (λ more. placed_behind y z (zs ++ x ∷ []) more ∙ (ap (λ l. z ∷ l) (placed_snoc y x zs h) ∙ ap (λ l. l ++ x ∷ []) (sym (placed_behind y z zs more))))
 
@@ -245,14 +245,14 @@ begun_in (None ∷ os) zero x low none before = placed_last x (sleeps_in os) (ea
 begun_in (Some y ∷ os) zero x low none before = absurd (some-none y none)
 begun_in (None ∷ os) (suc i) x low none before = begun_in os i x (omega (arith, low)) none (λ j y at. before (suc j) y at)
 begun_in (Some y ∷ os) (suc i) x low none before =
-    ap (placed y) (begun_in os i x (omega (arith, low)) none (λ j z at. before (suc j) z at))
+    ap (put_in_order y) (begun_in os i x (omega (arith, low)) none (λ j z at. before (suc j) z at))
     ∙ placed_snoc y x (sleeps_in os) (before 0 y refl)
 
 -- ---- how many sleep
 
-placed_length : (x : Sleep) (ys : List Sleep) → length (placed x ys) ≡ length ys + 1
+placed_length : (x : Sleep) (ys : List Sleep) → length (put_in_order x ys) ≡ length ys + 1
 placed_length x [] = refl
-placed_length x (y ∷ ys) = below x.s y.s (length (placed x (y ∷ ys)) ≡ length (y ∷ ys) + 1)
+placed_length x (y ∷ ys) = below x.s y.s (length (put_in_order x (y ∷ ys)) ≡ length (y ∷ ys) + 1)
     (λ less. ap length (placed_front x y ys less) ∙ omega arith)
     (λ more. ap length (placed_behind x y ys more) ∙ omega (arith, placed_length x ys))
 

@@ -10,7 +10,7 @@ use Rattle.std.proofs.lemmas.Bool.Decides.{nat_tests}
 use Rattle.std.proofs.lemmas.List.{get_or-set_same, get_or-set_other, get_or_past, length-set}
 use Rattle.co_sleepq.specs.declared.sleep.Sleep.{Sleep}
 use Rattle.co_sleepq.specs.Sleepers.{is_asleep, on, elsewhere, without}
-use Rattle.co_sleepq.specs.Slots.{AreBuckets, AreSlots, BucketView, bucket_at, bucket_of, in_bucket, no_bucket, sleeps_in, slot_at}
+use Rattle.co_sleepq.specs.Slots.{AreBuckets, AreSlots, BucketView, bucket_at, channel_bucket, bucket_sleeps, no_bucket, sleeps_in, slot_at}
 use Rattle.co_sleepq.specs.Book.{IsBook}
 use Rattle.co_sleepq.proofs.Placed.{Each, any_in, begun_in, each_contained, each_contains, each_filter, each_in, few_in, filter_no, filter_yes, found, found_each, keep, kept_at, kept_in, none_found, none_in, room_in, some_is}
 
@@ -231,11 +231,11 @@ begun_slots size next slots x a low new = record {
 -- ---- buckets
 
 module _ (size : ℕ) (sleeps : List Sleep) (buckets : List BucketView) (a : AreBuckets size sleeps buckets) (k : ℕ) (low : k < 256) where
-  changed_buckets : (news : List Sleep) (b : BucketView) → b.sleeps ≡ in_bucket k news → b.room ≡ (bucket_at buckets k).room → ((j : ℕ) → j ≢ k → in_bucket j news ≡ in_bucket j sleeps) → AreBuckets size news (set buckets k b)
+  changed_buckets : (news : List Sleep) (b : BucketView) → b.sleeps ≡ bucket_sleeps k news → b.room ≡ (bucket_at buckets k).room → ((j : ℕ) → j ≢ k → bucket_sleeps j news ≡ bucket_sleeps j sleeps) → AreBuckets size news (set buckets k b)
   changed_buckets news b is room others = record {
     count = length-set buckets k b ∙ a.count;
     each = λ j less. elim (cases_eq j k) [
-      | inl here ↦ subst (λ n. (bucket_at (set buckets k b) n).sleeps ≡ in_bucket n news) (sym here) (ap (λ (v : BucketView). v.sleeps) at ∙ is)
+      | inl here ↦ subst (λ n. (bucket_at (set buckets k b) n).sleeps ≡ bucket_sleeps n news) (sym here) (ap (λ (v : BucketView). v.sleeps) at ∙ is)
       | inr there ↦ ap (λ (v : BucketView). v.sleeps) (get_or-set_other buckets k j b no_bucket there) ∙ (a.each j less ∙ sym (others j there))
     ];
     room = λ j less. elim (cases_eq j k) [
@@ -248,46 +248,46 @@ module _ (size : ℕ) (sleeps : List Sleep) (buckets : List BucketView) (a : Are
 
   -- some leave this bucket
   pub left_buckets : (p : Sleep → Bool) (b : BucketView) → b ≡ record (bucket_at buckets k) { sleeps = filter p (bucket_at buckets k).sleeps }
-      → Each (λ y. (bucket_of y.chan ≡ k → ⊥) → p y ≡ true) sleeps → AreBuckets size (filter p sleeps) (set buckets k b)
+      → Each (λ y. (channel_bucket y.chan ≡ k → ⊥) → p y ≡ true) sleeps → AreBuckets size (filter p sleeps) (set buckets k b)
   left_buckets p b is spares =
       changed_buckets (filter p sleeps) b
-      (ap (λ (v : BucketView). v.sleeps) is ∙ (ap (filter p) (a.each k low) ∙ filter_swap p (λ y. bucket_of y.chan == k) sleeps))
+      (ap (λ (v : BucketView). v.sleeps) is ∙ (ap (filter p) (a.each k low) ∙ filter_swap p (λ y. channel_bucket y.chan == k) sleeps))
       (ap (λ (v : BucketView). v.room) is)
-      (λ j there. filter_spared p (λ y. bucket_of y.chan == j) sleeps (spared_at j there sleeps spares))
+      (λ j there. filter_spared p (λ y. channel_bucket y.chan == j) sleeps (spared_at j there sleeps spares))
     where
-      spared_at : (j : ℕ) → j ≢ k → (xs : List Sleep) → Each (λ y. (bucket_of y.chan ≡ k → ⊥) → p y ≡ true) xs → Each (λ y. (bucket_of y.chan == j) ≡ true → p y ≡ true) xs
+      spared_at : (j : ℕ) → j ≢ k → (xs : List Sleep) → Each (λ y. (channel_bucket y.chan ≡ k → ⊥) → p y ≡ true) xs → Each (λ y. (channel_bucket y.chan == j) ≡ true → p y ≡ true) xs
       spared_at j there [] e = tt
-      spared_at j there (x ∷ xs) e = (λ in_j. e.0 (λ in_k. there (sym (equal (bucket_of x.chan) j in_j) ∙ in_k)), spared_at j there xs e.1)
+      spared_at j there (x ∷ xs) e = (λ in_j. e.0 (λ in_k. there (sym (equal (channel_bucket x.chan) j in_j) ∙ in_k)), spared_at j there xs e.1)
 
   -- one comes into it
-  pub more_buckets : (x : Sleep) (b : BucketView) → k ≡ bucket_of x.chan → b ≡ record (bucket_at buckets k) { sleeps = (bucket_at buckets k).sleeps ++ x ∷ [] } → AreBuckets size (sleeps ++ x ∷ []) (set buckets k b)
+  pub more_buckets : (x : Sleep) (b : BucketView) → k ≡ channel_bucket x.chan → b ≡ record (bucket_at buckets k) { sleeps = (bucket_at buckets k).sleeps ++ x ∷ [] } → AreBuckets size (sleeps ++ x ∷ []) (set buckets k b)
   more_buckets x b its is =
       changed_buckets (sleeps ++ x ∷ []) b
       (ap (λ (v : BucketView). v.sleeps) is
       ∙ (ap (λ l. l ++ x ∷ []) (a.each k low)
-      ∙ sym (filter_snoc (λ y. bucket_of y.chan == k) sleeps x ∙ ap (λ l. in_bucket k sleeps ++ l) (filter_yes (λ y. bucket_of y.chan == k) x [] (test_same (bucket_of x.chan) k (sym its))))))
+      ∙ sym (filter_snoc (λ y. channel_bucket y.chan == k) sleeps x ∙ ap (λ l. bucket_sleeps k sleeps ++ l) (filter_yes (λ y. channel_bucket y.chan == k) x [] (test_same (channel_bucket x.chan) k (sym its))))))
       (ap (λ (v : BucketView). v.room) is)
       (λ j there.
-      filter_snoc (λ y. bucket_of y.chan == j) sleeps x
-      ∙ (ap (λ l. in_bucket j sleeps ++ l) (filter_no (λ y. bucket_of y.chan == j) x [] (test_other (bucket_of x.chan) j (λ e. there (sym e ∙ sym its))))
-      ∙ sym (append_none (in_bucket j sleeps))))
+      filter_snoc (λ y. channel_bucket y.chan == j) sleeps x
+      ∙ (ap (λ l. bucket_sleeps j sleeps ++ l) (filter_no (λ y. channel_bucket y.chan == j) x [] (test_other (channel_bucket x.chan) j (λ e. there (sym e ∙ sym its))))
+      ∙ sym (append_none (bucket_sleeps j sleeps))))
 
 -- on a channel are those of its bucket who are on it
-same_bucket : (chan : ℕ) (x : Sleep) → (x.chan == chan) ≡ true → (bucket_of x.chan == bucket_of chan) ≡ true
-same_bucket chan x h = test_same (bucket_of x.chan) (bucket_of chan) (ap bucket_of (equal x.chan chan h))
+same_bucket : (chan : ℕ) (x : Sleep) → (x.chan == chan) ≡ true → (channel_bucket x.chan == channel_bucket chan) ≡ true
+same_bucket chan x h = test_same (channel_bucket x.chan) (channel_bucket chan) (ap channel_bucket (equal x.chan chan h))
 
-pub on_bucket : (chan : ℕ) (sleeps : List Sleep) → on chan (in_bucket (bucket_of chan) sleeps) ≡ on chan sleeps
-on_bucket chan sleeps = filter_spared (λ y. bucket_of y.chan == bucket_of chan) (λ y. y.chan == chan) sleeps (each_all (λ y. (y.chan == chan) ≡ true → (bucket_of y.chan == bucket_of chan) ≡ true) sleeps (same_bucket chan))
+pub on_bucket : (chan : ℕ) (sleeps : List Sleep) → on chan (bucket_sleeps (channel_bucket chan) sleeps) ≡ on chan sleeps
+on_bucket chan sleeps = filter_spared (λ y. channel_bucket y.chan == channel_bucket chan) (λ y. y.chan == chan) sleeps (each_all (λ y. (y.chan == chan) ≡ true → (channel_bucket y.chan == channel_bucket chan) ≡ true) sleeps (same_bucket chan))
 
-pub find_bucket : (chan : ℕ) (sleeps : List Sleep) → find (λ y. y.chan == chan) (in_bucket (bucket_of chan) sleeps) ≡ find (λ y. y.chan == chan) sleeps
-find_bucket chan sleeps = find_spared (λ y. bucket_of y.chan == bucket_of chan) (λ y. y.chan == chan) sleeps (same_bucket chan)
+pub find_bucket : (chan : ℕ) (sleeps : List Sleep) → find (λ y. y.chan == chan) (bucket_sleeps (channel_bucket chan) sleeps) ≡ find (λ y. y.chan == chan) sleeps
+find_bucket chan sleeps = find_spared (λ y. channel_bucket y.chan == channel_bucket chan) (λ y. y.chan == chan) sleeps (same_bucket chan)
 
 -- ---- a book
 
 pub begun_list : (size next : ℕ) (slots : Slots) (x : Sleep) → AreSlots size next slots → x.i < size → x.s ≡ next → slot_at slots x.i ≡ None → sleeps_in (set slots x.i (Some x)) ≡ sleeps_in slots ++ x ∷ []
 begun_list size next slots x a low new none = begun_in slots x.i x (omega (arith, low, a.size_is)) none (λ j y at. let old = a.given j y at in omega (arith, old, new))
 
-pub begun_book : (size next : ℕ) (slots : Slots) (buckets : List BucketView) (x : Sleep) (k : ℕ) (b : BucketView) → IsBook size next slots buckets → x.i < size → x.s ≡ next → slot_at slots x.i ≡ None → k < 256 → k ≡ bucket_of x.chan
+pub begun_book : (size next : ℕ) (slots : Slots) (buckets : List BucketView) (x : Sleep) (k : ℕ) (b : BucketView) → IsBook size next slots buckets → x.i < size → x.s ≡ next → slot_at slots x.i ≡ None → k < 256 → k ≡ channel_bucket x.chan
     → b ≡ record (bucket_at buckets k) { sleeps = (bucket_at buckets k).sleeps ++ x ∷ [] } → IsBook size (next + 1) (set slots x.i (Some x)) (set buckets k b)
 begun_book size next slots buckets x k b book low new none less its is = record {
   slots_are = begun_slots size next slots x book.slots_are low new;
@@ -301,7 +301,7 @@ begun_book size next slots buckets x k b book low new none less its is = record 
 pub bucket_room : (size next : ℕ) (slots : Slots) (buckets : List BucketView) (i k : ℕ) → IsBook size next slots buckets → i < size → slot_at slots i ≡ None → k < 256 → length (bucket_at buckets k).sleeps < (bucket_at buckets k).room
 bucket_room size next slots buckets i k book low none less =
     let all = room_in slots i (omega (arith, low, book.slots_are.size_is)) none in
-    let part = filter_few (λ y. bucket_of y.chan == k) (sleeps_in slots) in
+    let part = filter_few (λ y. channel_bucket y.chan == k) (sleeps_in slots) in
     let is = ap length (book.buckets_are.each k less) in
     let room = book.buckets_are.room k less in
     omega (arith, all, part, is, room, book.slots_are.size_is)
@@ -309,11 +309,11 @@ bucket_room size next slots buckets i k book low none less =
 pub bucket_few : (size next : ℕ) (slots : Slots) (buckets : List BucketView) (k : ℕ) → IsBook size next slots buckets → k < 256 → length (bucket_at buckets k).sleeps ≤ 1024
 bucket_few size next slots buckets k book less =
     let all = few_in slots in
-    let part = filter_few (λ y. bucket_of y.chan == k) (sleeps_in slots) in
+    let part = filter_few (λ y. channel_bucket y.chan == k) (sleeps_in slots) in
     let is = ap length (book.buckets_are.each k less) in
     omega (arith, all, part, is, book.slots_are.size_is, book.few)
 
-pub ended_book : (size next : ℕ) (slots : Slots) (buckets : List BucketView) (x : Sleep) (k : ℕ) (b : BucketView) → IsBook size next slots buckets → Contains (sleeps_in slots) x → k < 256 → k ≡ bucket_of x.chan
+pub ended_book : (size next : ℕ) (slots : Slots) (buckets : List BucketView) (x : Sleep) (k : ℕ) (b : BucketView) → IsBook size next slots buckets → Contains (sleeps_in slots) x → k < 256 → k ≡ channel_bucket x.chan
     → b ≡ record (bucket_at buckets k) { sleeps = without x.s (bucket_at buckets k).sleeps } → IsBook size next (set slots x.i None) (set buckets k b)
 ended_book size next slots buckets x k b book inside less its is = record {
   slots_are = ended_slots size next slots x book.slots_are inside;
@@ -322,19 +322,19 @@ ended_book size next slots buckets x k b book inside less its is = record {
       (left_buckets size (sleeps_in slots) buckets book.buckets_are k less (λ y. not (y.s == x.s)) b is (spared (sleeps_in slots) (numbered size next slots x book.slots_are inside)));
   few = book.few;
 } where
-  spared : (xs : List Sleep) → Each (λ y. y.s ≡ x.s → y ≡ x) xs → Each (λ y. (bucket_of y.chan ≡ k → ⊥) → not (y.s == x.s) ≡ true) xs
+  spared : (xs : List Sleep) → Each (λ y. y.s ≡ x.s → y ≡ x) xs → Each (λ y. (channel_bucket y.chan ≡ k → ⊥) → not (y.s == x.s) ≡ true) xs
   spared [] e = tt
-  spared (y ∷ ys) e = (λ other. ap not (test_other y.s x.s (λ same. other (ap (λ (z : Sleep). bucket_of z.chan) (e.0 same) ∙ sym its))), spared ys e.1)
+  spared (y ∷ ys) e = (λ other. ap not (test_other y.s x.s (λ same. other (ap (λ (z : Sleep). channel_bucket z.chan) (e.0 same) ∙ sym its))), spared ys e.1)
 
 pub woken_book : (size next chan : ℕ) (olds news : Slots) (buckets : List BucketView) (gone : List Sleep) (k : ℕ) (b : BucketView) → IsBook size next olds buckets → gone ≡ on chan (sleeps_in olds)
-    → ((i : ℕ) → slot_at news i ≡ (if is_asleep gone i then None else slot_at olds i)) → length news ≡ length olds → k < 256 → k ≡ bucket_of chan
+    → ((i : ℕ) → slot_at news i ≡ (if is_asleep gone i then None else slot_at olds i)) → length news ≡ length olds → k < 256 → k ≡ channel_bucket chan
     → b ≡ record (bucket_at buckets k) { sleeps = elsewhere chan (bucket_at buckets k).sleeps } → IsBook size next news (set buckets k b)
 woken_book size next chan olds news buckets gone k b book all woken long less its is = record {
   slots_are = fewer_slots size next olds news book.slots_are long (λ i x at. keep_was (λ y. not (y.chan == chan)) (slot_at olds i) x (sym (woken_at size next chan olds news gone book.slots_are all woken i) ∙ at));
   buckets_are =
       subst (λ l. AreBuckets size l (set buckets k b)) (sym (woken_in size next chan olds news gone book.slots_are all woken))
       (left_buckets size (sleeps_in olds) buckets book.buckets_are k less (λ y. not (y.chan == chan)) b is
-      (each_all (λ y. (bucket_of y.chan ≡ k → ⊥) → not (y.chan == chan) ≡ true) (sleeps_in olds) (λ y other. ap not (test_other y.chan chan (λ same. other (ap bucket_of same ∙ sym its))))));
+      (each_all (λ y. (channel_bucket y.chan ≡ k → ⊥) → not (y.chan == chan) ≡ true) (sleeps_in olds) (λ y other. ap not (test_other y.chan chan (λ same. other (ap channel_bucket same ∙ sym its))))));
   few = book.few;
 }
 
@@ -384,6 +384,6 @@ each_index P (x ∷ xs) e (suc k) d low = each_index P xs e.1 k d (omega (arith,
 pub bucket_below : (size next : ℕ) (slots : Slots) (buckets : List BucketView) (k : ℕ) → IsBook size next slots buckets → k < 256 → (j : ℕ) (d : Sleep) → j < length (bucket_at buckets k).sleeps → (get_or (bucket_at buckets k).sleeps j d).i < size
 bucket_below size next slots buckets k book less =
     subst (λ l. (j : ℕ) (d : Sleep) → j < length l → (get_or l j d).i < size) (sym (book.buckets_are.each k less))
-    (each_index (λ x. x.i < size) (in_bucket k (sleeps_in slots))
-    (each_filter (λ x. x.i < size) (λ y. bucket_of y.chan == k) (sleeps_in slots)
+    (each_index (λ x. x.i < size) (bucket_sleeps k (sleeps_in slots))
+    (each_filter (λ x. x.i < size) (λ y. channel_bucket y.chan == k) (sleeps_in slots)
     (each_in (λ x. x.i < size) slots (λ i x at. let low = within slots i x at in omega (arith, low, book.slots_are.own i x at, book.slots_are.size_is)))))

@@ -6,15 +6,15 @@ use Rattle.std.specs.declared.option.Option.TheVariants.{Some, None}
 use Rattle.co_sleepq.specs.declared.sleep.Sleep.{Sleep}
 
 -- one more sleep, by rising number
-abbrev pub placed : Sleep → List Sleep → List Sleep
-placed x [] = x ∷ []
-placed x (y ∷ ys) = if nat_lt x.s y.s then x ∷ y ∷ ys else y ∷ placed x ys
+abbrev pub put_in_order : Sleep → List Sleep → List Sleep
+put_in_order x [] = x ∷ []
+put_in_order x (y ∷ ys) = if nat_lt x.s y.s then x ∷ y ∷ ys else y ∷ put_in_order x ys
 
 -- the sleeps in these slots, by rising number: in the order in which they began
 abbrev pub sleeps_in : List (Option Sleep) → List Sleep
 sleeps_in [] = []
 sleeps_in (None ∷ slots) = sleeps_in slots
-sleeps_in (Some x ∷ slots) = placed x (sleeps_in slots)
+sleeps_in (Some x ∷ slots) = put_in_order x (sleeps_in slots)
 
 abbrev pub slot_at : List (Option Sleep) → ℕ → Option Sleep
 slot_at slots i = slice_index_or slots i None
@@ -45,12 +45,12 @@ pub record BucketView : Type 0 where
   pub room : ℕ
 
 -- the bucket of a channel, of 256: the low bytes of an address differ little
-abbrev pub bucket_of : ℕ → ℕ
-bucket_of chan = (chan / 256 % 256 + chan % 256) % 256
+abbrev pub channel_bucket : ℕ → ℕ
+channel_bucket chan = (chan / 256 % 256 + chan % 256) % 256
 
 -- the sleeps of a bucket
-abbrev pub in_bucket : ℕ → List Sleep → List Sleep
-in_bucket k sleeps = filter (λ x. bucket_of x.chan == k) sleeps
+abbrev pub bucket_sleeps : ℕ → List Sleep → List Sleep
+bucket_sleeps k sleeps = filter (λ x. channel_bucket x.chan == k) sleeps
 
 abbrev pub no_bucket : BucketView
 no_bucket = record { sleeps = []; room = 0 }
@@ -61,5 +61,5 @@ bucket_at buckets k = slice_index_or buckets k no_bucket
 -- each bucket has the sleeps on its channels, in order, and room for all sleepers
 pub record AreBuckets (size : ℕ) (sleeps : List Sleep) (buckets : List BucketView) : Type 0 where
   pub count : length buckets ≡ 256
-  pub each : (k : ℕ) → k < 256 → (bucket_at buckets k).sleeps ≡ in_bucket k sleeps
+  pub each : (k : ℕ) → k < 256 → (bucket_at buckets k).sleeps ≡ bucket_sleeps k sleeps
   pub room : (k : ℕ) → k < 256 → size ≤ (bucket_at buckets k).room

@@ -2,7 +2,7 @@
 ghost use Rattle.std.specs.Prelude.{◌≡◌, ◌+◌, ◌<◌, ◌≤◌, [], ◌∷◌, ◌++◌, ◌==◌, length, IfOk};
 ghost use Rattle.std.specs.List.{find};
 ghost use Rattle.co_sleepq.specs.Sleepers.{elsewhere, without};
-ghost use Rattle.co_sleepq.specs.Slots.{bucket_of, BucketView};
+ghost use Rattle.co_sleepq.specs.Slots.{channel_bucket, BucketView};
 
 use crate::Sleep;
 use co_sbt::NoMemory;
@@ -14,7 +14,7 @@ pub const BUCKETS: usize = 256;
 
 /// The bucket of a channel, as of an address whose low bits say little.
 pub fn bucket_of(chan: u64) -> usize
-    ensures value { result ≡ bucket_of chan }
+    ensures value { result ≡ channel_bucket chan }
     ensures below { result < 256 }
 {
     ((chan / 256 % 256 + chan % 256) % 256) as usize

@@ -22,7 +22,7 @@ use Rattle.co_service.specs.declared.params.Params.{Params}
 use Rattle.co_service.proofs.Lasts.{called_same}
 use Rattle.co_timers.specs.declared.answers.Refused.{Refused}
 use Rattle.co_timers.specs.declared.answers.Refused.TheVariants.{NoCallout, NoCpu}
-use Rattle.co_timers.specs.Acts.{IsAct, IsMade}
+use Rattle.co_timers.specs.Acts.{IsAct, IsCallMade}
 use Rattle.co_timers.specs.Drains.{is_try}
 use Rattle.co_timers.specs.Answers.{names_cpu, refusal, uncovered}
 use Rattle.co_timers.specs.Handles.{HandleView, IsHandle}
@@ -58,7 +58,7 @@ cleared p hold i op none = go (nat_lt i (length p.specs)) (names_cpu p.cpus op) 
   go true false c x y z h = absurd cc
   go false b c x y z h = absurd cc
 
-pub made_of : (p q : PassesView) (act i : ℕ) (op : CallOp) (reply : Reply) (notes : List Note) → IsCalled p act i op reply notes q → IsMade p act i op reply q
+pub made_of : (p q : PassesView) (act i : ℕ) (op : CallOp) (reply : Reply) (notes : List Note) → IsCalled p act i op reply notes q → IsCallMade p act i op reply q
 made_of p q act i op reply notes c = record {
   notes = notes;
   called = c;
@@ -79,7 +79,7 @@ said_by word p q i op reply r says same act =
     let h = act.made.answered in
     subst (λ x. is_some (word x) ≡ true) (sym h.alone ∙ it) (says (state (spec_at p.passes.params i) (seen_of p.passes i ++ h.between)))
 
-pub tries : (p q : PassesView) (act i : ℕ) (took : Bool) (reply : Reply) → IsMade p act i (DrainTry took) reply q → is_try reply ≡ true
+pub tries : (p q : PassesView) (act i : ℕ) (took : Bool) (reply : Reply) → IsCallMade p act i (DrainTry took) reply q → is_try reply ≡ true
 tries p q act i took reply m =
     let h = m.answered in
     let s : State = state (spec_at p.params i) (seen_of p i ++ h.between) in

@@ -8,14 +8,14 @@ use Rattle.co_object.specs.declared.reply.Reply.TheVariants.{Hold}
 use Rattle.co_object.specs.declared.spec.LockUse.{LockUse}
 use Rattle.co_object.specs.declared.spec.LockUse.TheVariants.{Free, Mtx, Rw, RwShared}
 use Rattle.co_object.specs.Serve.{has_lock}
-use Rattle.co_service.specs.Serving.{Runs, Waits, picked}
-use Rattle.co_timers.specs.Rounds.{waits}
+use Rattle.co_service.specs.Serving.{Runs, Waits, stage_picked}
+use Rattle.co_timers.specs.Rounds.{waits_for_lock}
 
-pub runs_at_once : (n : ℕ) (reply : Reply) → waits reply ≡ false → picked n reply ≡ Runs n
+pub runs_at_once : (n : ℕ) (reply : Reply) → waits_for_lock reply ≡ false → stage_picked n reply ≡ Runs n
 runs_at_once n Hold h = absurd (cc)
 runs_at_once n _ h = refl
 
-pub waits_first : (n : ℕ) (reply : Reply) → waits reply ≡ true → picked n reply ≡ Waits n
+pub waits_first : (n : ℕ) (reply : Reply) → waits_for_lock reply ≡ true → stage_picked n reply ≡ Waits n
 waits_first n Hold h = refl
 waits_first n _ h = absurd (cc)
 

@@ -12,7 +12,7 @@ use Rattle.co_service.specs.Name.{ServiceName}
 use Rattle.co_service.specs.declared.outs.Taken.{Taken}
 use Rattle.co_service.specs.declared.outs.Taken.TheVariants.{Empty, Took}
 use Rattle.co_service.specs.Services.{IsServing, IsTaken}
-use Rattle.co_service.specs.Serving.{Service}
+use Rattle.co_service.specs.Serving.{ServiceStage}
 use Rattle.co_service.specs.Views.{PassesView}
 use Rattle.co_service.specs.Writes.{Writes}
 use Rattle.co_service.specs.declared.params.Params.{Params}
@@ -39,7 +39,7 @@ pub calls_more : (p q r : HandleView) (calls : List PortCall) (call : PortCall) 
 calls_more p q r [] call are one = (r, subst (λ (x : HandleView). IsPortCall x call r) are one, refl)
 calls_more p q r (c ∷ calls) call are one = (are.0, are.1, calls_more are.0 q r calls call are.2 one)
 
-module _ (name : ServiceName) (params : Params) (direct : Bool) (cpu : ℕ) (d : Due) (far : Service) where
+module _ (name : ServiceName) (params : Params) (direct : Bool) (cpu : ℕ) (d : Due) (far : ServiceStage) where
   abbrev AboutIt : PassesView → Type 0
   AboutIt = IsAbout name params direct cpu d far
 
@@ -87,5 +87,5 @@ taken_after name params direct p q cpu act (Empty note) h is = handle_after name
 taken_after name params direct p q cpu act (Took i n time reply pop pick) h is = handle_after name params p q (pop ∷ pick ∷ []) h is.written
 
 -- one arming is in service
-pub served_once : (direct : Bool) (p : PassesView) (cpu : ℕ) (d e : Due) (far on : Service) → IsServing direct p cpu d far → IsServing direct p cpu e on → d ≡ e
+pub served_once : (direct : Bool) (p : PassesView) (cpu : ℕ) (d e : Due) (far on : ServiceStage) → IsServing direct p cpu d far → IsServing direct p cpu e on → d ≡ e
 served_once direct p cpu d e far on s t = let h : Some d ≡ Some e = sym s.serves ∙ t.serves in cc

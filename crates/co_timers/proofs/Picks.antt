@@ -30,7 +30,7 @@ use Rattle.co_service.specs.declared.outs.Taken.{Taken}
 use Rattle.co_service.specs.declared.outs.Taken.TheVariants.{Empty, Took}
 use Rattle.co_service.specs.declared.params.Params.{Params}
 use Rattle.co_service.specs.Name.{ServiceName}
-use Rattle.co_service.specs.Outcomes.{turn}
+use Rattle.co_service.specs.Outcomes.{queue_entry_by}
 use Rattle.co_service.specs.Params.{AreParams, IsSpec, actors_of, no_spec, spec_at}
 use Rattle.co_service.specs.Services.{HasNext, IsFree, IsTaken, IsTaking, run_entry}
 use Rattle.co_service.specs.Serving.{lane_actor}
@@ -39,24 +39,24 @@ use Rattle.co_service.specs.Views.{PassesView, seen_of}
 use Rattle.co_service.specs.Writes.{WritesAt}
 use Rattle.co_wheel.specs.Turns.{pop_of}
 use Rattle.co_timers.specs.Handles.{IsHandle}
-use Rattle.co_timers.specs.Rounds.{HasTaken, MayBeServed, MayServe, waits}
+use Rattle.co_timers.specs.Rounds.{HasTaken, MayBeServed, MayServe, waits_for_lock}
 use Rattle.co_timers.proofs.Kept.{taken_after}
 
 -- ---- the callout alone
 
 -- a Pick that waits is of a callout with a lock
-waits_taken : (lock : Bool) (s : State) (a : Arming) (reply : Reply) → reply_of (Some (cond lock (record s { armed = None; run = Picked a }, Hold) (go (record s { armed = None }) a))) ≡ Some reply → waits reply ≡ true → lock ≡ true
+waits_taken : (lock : Bool) (s : State) (a : Arming) (reply : Reply) → reply_of (Some (cond lock (record s { armed = None; run = Picked a }, Hold) (go (record s { armed = None }) a))) ≡ Some reply → waits_for_lock reply ≡ true → lock ≡ true
 waits_taken true s a reply h w = refl
 waits_taken false s a reply h w =
     let e : Go a.func a.arg ≡ reply = cc in
-    let f : waits (Go a.func a.arg) ≡ true = subst (λ (r : Reply). waits r ≡ true) (sym e) w in
+    let f : waits_for_lock (Go a.func a.arg) ≡ true = subst (λ (r : Reply). waits_for_lock r ≡ true) (sym e) w in
     absurd (cc)
 
-waits_armed : (spec : Spec) (s : State) (a : Arming) (b : Bool) (reply : Reply) → reply_of (cond b (Some (taken spec s a)) None) ≡ Some reply → waits reply ≡ true → has_lock spec.lock ≡ true
+waits_armed : (spec : Spec) (s : State) (a : Arming) (b : Bool) (reply : Reply) → reply_of (cond b (Some (taken spec s a)) None) ≡ Some reply → waits_for_lock reply ≡ true → has_lock spec.lock ≡ true
 waits_armed spec s a true reply h w = waits_taken (has_lock spec.lock) s a reply h w
 waits_armed spec s a false reply h w = absurd (cc)
 
-waits_locked : (spec : Spec) (s : State) (o : Option Arming) (n cpu time : ℕ) (reply : Reply) → reply_of (pick_armed spec s o n cpu time) ≡ Some reply → waits reply ≡ true → has_lock spec.lock ≡ true
+waits_locked : (spec : Spec) (s : State) (o : Option Arming) (n cpu time : ℕ) (reply : Reply) → reply_of (pick_armed spec s o n cpu time) ≡ Some reply → waits_for_lock reply ≡ true → has_lock spec.lock ≡ true
 waits_locked spec s None n cpu time reply h w = absurd (cc)
 waits_locked spec s (Some a) n cpu time reply h w = waits_armed spec s a (is_due a n cpu time && is_idle s.run) reply h w
 
@@ -71,7 +71,7 @@ module _ (direct : Bool) (p q : PassesView) (cpu act i n time : ℕ) (reply : Re
   abbrev between : PassesView
   between = is.written.0
 
-  pop_written : WritesAt p (at.Cpu cpu) (of.Cpu (turn p act (pop_of direct) (Got i n time))) pop.pos between
+  pop_written : WritesAt p (at.Cpu cpu) (of.Cpu (queue_entry_by p act (pop_of direct) (Got i n time))) pop.pos between
   pop_written = subst (λ (x : Place × AnyEntry). WritesAt p x.0 x.1 pop.pos between) (λ d. (is.popped.place d, is.popped.entry d)) is.written.1
 
   abbrev last : PassesView

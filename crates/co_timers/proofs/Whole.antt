@@ -12,18 +12,18 @@ use Rattle.co_service.specs.Views.{PassesView}
 use Rattle.co_service.specs.declared.params.Params.{Params}
 use Rattle.co_service.proofs.Lasts.{booted_free}
 use Rattle.co_timers.specs.Handles.{IsHandle}
-use Rattle.co_timers.specs.Posts.{PostsView, is_here, is_whole}
-use Rattle.co_timers.specs.Turns.{IsCpu}
+use Rattle.co_timers.specs.Posts.{PostsView, is_posted, is_whole}
+use Rattle.co_timers.specs.Turns.{IsCpuHandle}
 
 pub record Whole (p : PostsView) (k : ℕ) : Type 0 where
   pub below : k < p.params.cpus
-  pub own : is_here p (cpu_actor (actors_of p.params) k) ≡ true
-  pub interrupt : is_here p (interrupt_actor (actors_of p.params) k) ≡ true
+  pub own : is_posted p (cpu_actor (actors_of p.params) k) ≡ true
+  pub interrupt : is_posted p (interrupt_actor (actors_of p.params) k) ≡ true
 
 pub whole : (p : PostsView) (k : ℕ) → is_whole p k ≡ true → Whole p k
 whole p k is =
-    let low = both_true (nat_lt k p.params.cpus) (is_here p (cpu_actor (actors_of p.params) k) && is_here p (interrupt_actor (actors_of p.params) k)) is in
-    let both = both_true (is_here p (cpu_actor (actors_of p.params) k)) (is_here p (interrupt_actor (actors_of p.params) k)) low.1 in
+    let low = both_true (nat_lt k p.params.cpus) (is_posted p (cpu_actor (actors_of p.params) k) && is_posted p (interrupt_actor (actors_of p.params) k)) is in
+    let both = both_true (is_posted p (cpu_actor (actors_of p.params) k)) (is_posted p (interrupt_actor (actors_of p.params) k)) low.1 in
     record { below = ltb-true k p.params.cpus low.0; own = both.0; interrupt = both.1 }
 
 -- the interrupt is still here where the CPU's own actor has left
@@ -35,7 +35,7 @@ still_here p k w =
 -- both actors that have seen nothing are a CPU's
 pub first : (name : ServiceName) (params : Params) (k : ℕ) (direct others : PassesView) → k < params.cpus → IsHandle name params direct → IsHandle name params others
     → direct ≡ booted name params (interrupt_actor (actors_of params) k) → others ≡ booted name params (cpu_actor (actors_of params) k)
-    → IsCpu name params (record { cpu = k; direct = record { passes = direct; act = 0 }; others = record { passes = others; act = 0 }; turns = 0 })
+    → IsCpuHandle name params (record { cpu = k; direct = record { passes = direct; act = 0 }; others = record { passes = others; act = 0 }; turns = 0 })
 first name params k direct others low one two same also = record {
   below = low;
   direct = one;

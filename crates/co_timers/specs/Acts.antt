@@ -24,7 +24,7 @@ pub record IsReply (p : PassesView) (act i : ℕ) (op : CallOp) (reply : Reply) 
   pub rest : (j : ℕ) → j ≢ i → seen_of q j ≡ seen_of p j
 
 -- a call of an actor on callout i: its group of entries, that of the callout among them, each where it belongs
-pub record IsMade (p : PassesView) (act i : ℕ) (op : CallOp) (reply : Reply) (q : PassesView) : Type 0 where
+pub record IsCallMade (p : PassesView) (act i : ℕ) (op : CallOp) (reply : Reply) (q : PassesView) : Type 0 where
   pub notes : List Note
   pub called : IsCalled p act i op reply notes q
   pub answered : IsReply p act i op reply q
@@ -32,5 +32,5 @@ pub record IsMade (p : PassesView) (act i : ℕ) (op : CallOp) (reply : Reply) (
 
 -- the same as an act of a handle
 pub record IsAct (p : HandleView) (i : ℕ) (op : CallOp) (reply : Reply) (q : HandleView) : Type 0 where
-  pub made : IsMade p.passes p.act i op reply q.passes
+  pub made : IsCallMade p.passes p.act i op reply q.passes
   pub counts : q.act ≡ next_act p.act

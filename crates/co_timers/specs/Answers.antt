@@ -90,6 +90,6 @@ refusal p hold i op =
 
 -- a call is refused exactly where there is a cause, and then nothing has changed. Else it is an act of the handle, and its
 -- reply is told in words
-abbrev pub IsAnswer : {A : Type 0} → (Reply → Option A) → HandleView → Option Held → ℕ → CallOp → Result A Refused → HandleView → Type 0
-IsAnswer word p hold i op (Ok said) q = (refusal p.passes.params hold i op ≡ None) × ((r : Reply) × (word r ≡ Some said) × IsAct p i op r q)
-IsAnswer word p hold i op (Err why) q = (refusal p.passes.params hold i op ≡ Some why) × (q ≡ p)
+abbrev pub IsSaid : {A : Type 0} → (Reply → Option A) → HandleView → Option Held → ℕ → CallOp → Result A Refused → HandleView → Type 0
+IsSaid word p hold i op (Ok said) q = (refusal p.passes.params hold i op ≡ None) × ((r : Reply) × (word r ≡ Some said) × IsAct p i op r q)
+IsSaid word p hold i op (Err why) q = (refusal p.passes.params hold i op ≡ Some why) × (q ≡ p)

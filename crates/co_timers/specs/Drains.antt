@@ -13,7 +13,7 @@ use Rattle.co_timers.specs.declared.answers.Refused.{Refused}
 use Rattle.co_timers.specs.declared.answers.Refused.TheVariants.{DrainsItself}
 use Rattle.co_timers.specs.declared.timers.Tried.{Tried}
 use Rattle.co_timers.specs.declared.timers.Tried.TheVariants.{Over, Waits}
-use Rattle.co_timers.specs.Acts.{IsMade}
+use Rattle.co_timers.specs.Acts.{IsCallMade}
 use Rattle.co_timers.specs.Answers.{drain_word, refusal}
 use Rattle.co_timers.specs.Handles.{HandleView, next_act}
 
@@ -21,7 +21,7 @@ use Rattle.co_timers.specs.Handles.{HandleView, next_act}
 pub data Waited (p : PassesView) (act i : ℕ) : PassesView → Bool → Type 0 where
   start : Waited p act i p false
   again : (q r : PassesView) (took : Bool) (n : ℕ) (takes : Bool) (off : Option ℕ) → Waited p act i q took
-      → IsMade q act i (DrainTry took) (Wait n takes off) r → Waited p act i r takes
+      → IsCallMade q act i (DrainTry took) (Wait n takes off) r → Waited p act i r takes
 
 -- such tries, and then one that was answered otherwise
 pub record IsDrainOf (p : PassesView) (act i : ℕ) (said : Drained) (q : PassesView) : Type 0 where
@@ -30,7 +30,7 @@ pub record IsDrainOf (p : PassesView) (act i : ℕ) (said : Drained) (q : Passes
   pub waits : Waited p act i last took
   pub reply : Reply
   pub word : drain_word reply ≡ Some said
-  pub made : IsMade last act i (DrainTry took) reply q
+  pub made : IsCallMade last act i (DrainTry took) reply q
 
 -- the same as an act of a handle
 pub record IsDrain (p : HandleView) (i : ℕ) (said : Drained) (q : HandleView) : Type 0 where

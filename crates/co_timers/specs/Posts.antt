@@ -44,24 +44,24 @@ pub record ArePosts (name : ServiceName) (p : Params) (seats : List (Option Pass
   pub room : actor_count p ≤ length back.items + back.spare
 
 -- actor j is here
-abbrev pub is_here : PostsView → ℕ → Bool
-is_here p j = slice_index_or p.here j false
+abbrev pub is_posted : PostsView → ℕ → Bool
+is_posted p j = slice_index_or p.here j false
 
 -- client k exists and is here
 abbrev pub is_client : PostsView → ℕ → Bool
-is_client p k = nat_lt k p.params.clients && is_here p k
+is_client p k = nat_lt k p.params.clients && is_posted p k
 
 -- CPU k exists, and both its actors are here
 abbrev pub is_whole : PostsView → ℕ → Bool
-is_whole p k = nat_lt k p.params.cpus && (is_here p (cpu_actor (actors_of p.params) k) && is_here p (interrupt_actor (actors_of p.params) k))
+is_whole p k = nat_lt k p.params.cpus && (is_posted p (cpu_actor (actors_of p.params) k) && is_posted p (interrupt_actor (actors_of p.params) k))
 
 -- actor j leaves, where it does
-abbrev pub leaves : PostsView → ℕ → Bool → PostsView
-leaves p j b = record p { here = if b then slice_set p.here j false else p.here }
+abbrev pub actor_leaves : PostsView → ℕ → Bool → PostsView
+actor_leaves p j b = record p { here = if b then slice_set p.here j false else p.here }
 
 -- both actors of CPU k leave, where they do
 abbrev pub both_leave : PostsView → ℕ → Bool → PostsView
-both_leave p k b = leaves (leaves p (cpu_actor (actors_of p.params) k) b) (interrupt_actor (actors_of p.params) k) b
+both_leave p k b = actor_leaves (actor_leaves p (cpu_actor (actors_of p.params) k) b) (interrupt_actor (actors_of p.params) k) b
 
 -- an actor's passes are back, unless as many are as there are actors
 abbrev pub back_with : PostsView → PassesView → PostsView

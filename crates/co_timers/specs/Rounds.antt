@@ -18,7 +18,7 @@ use Rattle.co_service.specs.declared.params.Params.{Params}
 use Rattle.co_service.specs.Params.{spec_at}
 use Rattle.co_service.specs.Name.{ServiceName}
 use Rattle.co_service.specs.Services.{FollowsScans, HasNext, IsBegun, IsEnded, IsFree, IsNothing, IsServing, IsTaking}
-use Rattle.co_service.specs.Serving.{Service}
+use Rattle.co_service.specs.Serving.{ServiceStage}
 use Rattle.co_service.specs.Views.{PassesView, journal_seen}
 use Rattle.co_timers.specs.declared.turned.Round.{Round}
 use Rattle.co_timers.specs.declared.turned.Served.{Served}
@@ -33,9 +33,9 @@ called_by (Go func arg) = Some (func, arg)
 called_by _ = None
 
 -- the function waits for the callout's lock
-abbrev pub waits : Reply → Bool
-waits Hold = true
-waits _ = false
+abbrev pub waits_for_lock : Reply → Bool
+waits_for_lock Hold = true
+waits_for_lock _ = false
 
 -- the function of the asynchronous drain that awaited the end
 abbrev pub drain_of : Reply → Option ℕ
@@ -50,14 +50,14 @@ fire_of d cpu at (Some call) = Some (record { i = d.i; n = d.n; func = call.0; a
 -- ---- what the services take
 
 -- the handler has the service's callouts and CPUs
-pub record IsFor (needs : Needs) (p : Params) : Type 0 where
+pub record AreNeedsOf (needs : Needs) (p : Params) : Type 0 where
   pub callouts : needs.callouts ≡ length p.specs
   pub cpus : needs.cpus ≡ p.cpus
 
 -- a callout of the service. It waits for its lock only where it has one, and is not direct
 pub record MayBeServed (direct : Bool) (p : Params) (i : ℕ) (reply : Reply) : Type 0 where
   pub callout : i < length p.specs
-  pub lock : waits reply ≡ true → (direct ≡ false) × (has_lock (spec_at p i).lock ≡ true)
+  pub lock : waits_for_lock reply ≡ true → (direct ≡ false) × (has_lock (spec_at p i).lock ≡ true)
 
 -- what is taken may be served
 abbrev pub MayServe : Bool → Params → Taken → Type 0
@@ -73,7 +73,7 @@ pub record IsAtEase (name : ServiceName) (params : Params) (direct : Bool) (cpu 
   pub free : IsFree direct p cpu
 
 -- the same with this arming in service, so far
-pub record IsAbout (name : ServiceName) (params : Params) (direct : Bool) (cpu : ℕ) (d : Due) (far : Service) (p : PassesView) : Type 0 where
+pub record IsAbout (name : ServiceName) (params : Params) (direct : Bool) (cpu : ℕ) (d : Due) (far : ServiceStage) (p : PassesView) : Type 0 where
   pub below : cpu < params.cpus
   pub handle : IsHandle name params p
   pub serving : IsServing direct p cpu d far
@@ -110,10 +110,10 @@ func_in (Some fire) = Some fire.func
 
 -- the service of what was taken: its function's acts where it is called, its end, and then the acts of the function of a drain that
 -- awaited this. All entries of the service itself have the number of the turn's act
-pub record IsService (direct : Bool) (needs : Needs) (cpu act : ℕ) (d : Due) (time : ℕ) (reply : Reply) (p : HandleView) (one : Round) (q : HandleView) : Type 0 where
+pub record IsLaneService (direct : Bool) (needs : Needs) (cpu act : ℕ) (d : Due) (time : ℕ) (reply : Reply) (p : HandleView) (one : Round) (q : HandleView) : Type 0 where
   pub said : Reply
   pub begun : PassesView
-  pub begins : IsBegin (waits reply) p.passes cpu act d reply said begun
+  pub begins : IsBegin (waits_for_lock reply) p.passes cpu act d reply said begun
   pub after : HandleView
   pub runs : RunsIf needs (func_in (fire_of d cpu time (called_by said))) (record { passes = begun; act = p.act }) after
   pub ended : Reply
@@ -133,7 +133,7 @@ pub record IsRound (direct : Bool) (needs : Needs) (cpu act : ℕ) (p : HandleVi
   pub pick : Note
   pub taken : PassesView
   pub takes : IsTaking direct p.passes cpu act due_is.i due_is.n time reply pop pick taken
-  pub serves : IsService direct needs cpu act due_is time reply (record { passes = taken; act = p.act }) one q
+  pub serves : IsLaneService direct needs cpu act due_is time reply (record { passes = taken; act = p.act }) one q
 
 -- nothing that had come due is left for this lane, after so many Scans at least
 pub record IsLast (direct : Bool) (scans cpu act : ℕ) (p q : HandleView) : Type 0 where
@@ -142,9 +142,9 @@ pub record IsLast (direct : Bool) (scans cpu act : ℕ) (p q : HandleView) : Typ
   pub follows : FollowsScans scans (journal_seen q.passes cpu)
   pub same : q.act ≡ p.act
 
-abbrev pub IsNext : Bool → Needs → (scans cpu act : ℕ) → HandleView → Option Round → HandleView → Type 0
-IsNext direct needs scans cpu act p None q = IsLast direct scans cpu act p q
-IsNext direct needs scans cpu act p (Some one) q = IsRound direct needs cpu act p one q
+abbrev pub IsNextRound : Bool → Needs → (scans cpu act : ℕ) → HandleView → Option Round → HandleView → Type 0
+IsNextRound direct needs scans cpu act p None q = IsLast direct scans cpu act p q
+IsNextRound direct needs scans cpu act p (Some one) q = IsRound direct needs cpu act p one q
 
 -- ---- all rounds
 
@@ -152,16 +152,16 @@ abbrev pub none_served : Served
 none_served = record { called = 0; skipped = 0; drained = 0 }
 
 -- one more where so
-abbrev pub counted : Bool → ℕ → ℕ
-counted true n = capped (n + 1)
-counted false n = n
+abbrev pub counted_where : Bool → ℕ → ℕ
+counted_where true n = capped (n + 1)
+counted_where false n = n
 
 abbrev pub not_called : Bool → Bool
 not_called true = false
 not_called false = true
 
 abbrev pub served_after : Served → Round → Served
-served_after s one = record { called = counted one.called s.called; skipped = counted (not_called one.called) s.skipped; drained = counted one.drained s.drained }
+served_after s one = record { called = counted_where one.called s.called; skipped = counted_where (not_called one.called) s.skipped; drained = counted_where one.drained s.drained }
 
 -- rounds, one after the other
 pub data AreRounds (direct : Bool) (needs : Needs) (cpu act : ℕ) (p : HandleView) : Served → HandleView → Type 0 where
@@ -170,7 +170,7 @@ pub data AreRounds (direct : Bool) (needs : Needs) (cpu act : ℕ) (p : HandleVi
       → AreRounds direct needs cpu act p (served_after served one) r
 
 -- all that had come due for this lane is served
-pub record IsServed (direct : Bool) (needs : Needs) (scans cpu act : ℕ) (p : HandleView) (served : Served) (q : HandleView) : Type 0 where
+pub record IsLaneServed (direct : Bool) (needs : Needs) (scans cpu act : ℕ) (p : HandleView) (served : Served) (q : HandleView) : Type 0 where
   pub last : HandleView
   pub rounds : AreRounds direct needs cpu act p served last
   pub over : IsLast direct scans cpu act last q

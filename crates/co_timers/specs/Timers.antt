@@ -6,20 +6,16 @@ use Rattle.co_lock.specs.declared.lock_kind.LockKind.{LockKind}
 use Rattle.co_lock.specs.Service.{hold_of}
 use Rattle.co_service.specs.declared.params.Params.{Params}
 use Rattle.co_service.specs.Params.{AreParams, spec_at}
+use Rattle.co_lock.specs.Locks.{CanBeHeld}
 
 pub record TimersView : Type 0 where
   pub params : Params
   -- by number: the kinds of the client locks
   pub locks : List LockKind
 
--- a lock of this number exists, and is a reader-writer lock where it is taken to read
-abbrev pub MayTake : List LockKind → Bool → ℕ → Type 0
-MayTake kinds true id = id < length kinds
-MayTake kinds false id = slice_get kinds id ≡ Some LockKind.Rw
-
 -- the lock that each callout's service takes exists
 pub record HaveLocks (kinds : List LockKind) (p : Params) : Type 0 where
-  pub each : (i : ℕ) (held : Held) → hold_of (spec_at p i).lock ≡ Some held → MayTake kinds held.exclusive held.id
+  pub each : (i : ℕ) (held : Held) → hold_of (spec_at p i).lock ≡ Some held → CanBeHeld kinds held.exclusive held.id
 
 -- the service has these parameters, which are within the limits, and all locks that its callouts name are there
 pub record AreTimers (service params : Params) (locks kinds : List LockKind) : Type 0 where

@@ -9,14 +9,14 @@ use Rattle.co_service.specs.declared.params.Params.{Params}
 use Rattle.co_service.specs.Booted.{booted}
 use Rattle.co_service.specs.Name.{ServiceName}
 use Rattle.co_service.specs.Outcomes.{IsScan}
-use Rattle.co_service.specs.Params.{actors_of, nothing}
+use Rattle.co_service.specs.Params.{actors_of, no_params}
 use Rattle.co_service.specs.Services.{IsFree}
 use Rattle.co_service.specs.Views.{PassesView}
 use Rattle.co_timers.specs.declared.cpu.Lanes.{Lanes}
 use Rattle.co_timers.specs.declared.turned.Turned.{Turned}
 use Rattle.co_timers.specs.Handles.{HandleView, IsHandle, next_act}
 use Rattle.co_timers.specs.Ports.{handle_of}
-use Rattle.co_timers.specs.Rounds.{IsServed}
+use Rattle.co_timers.specs.Rounds.{IsLaneServed}
 
 pub record CpuView : Type 0 where
   pub cpu : ℕ
@@ -28,27 +28,27 @@ pub record CpuView : Type 0 where
   pub turns : ℕ
 
 -- the handle of an existing CPU: both its actors are of the service, and neither has anything in service
-pub record IsCpu (name : ServiceName) (params : Params) (c : CpuView) : Type 0 where
+pub record IsCpuHandle (name : ServiceName) (params : Params) (c : CpuView) : Type 0 where
   pub below : c.cpu < params.cpus
   pub direct : IsHandle name params c.direct.passes
   pub others : IsHandle name params c.others.passes
   pub direct_free : IsFree true c.direct.passes c.cpu
   pub others_free : IsFree false c.others.passes c.cpu
 
-abbrev pub cpu_of : ℕ → Lanes → CpuView
-cpu_of k l = record { cpu = k; direct = handle_of l.direct; others = handle_of l.others; turns = l.turns }
+abbrev pub cpu_view : ℕ → Lanes → CpuView
+cpu_view k l = record { cpu = k; direct = handle_of l.direct; others = handle_of l.others; turns = l.turns }
 
 abbrev pub nobody : HandleView
-nobody = record { passes = record { name = record { timers = []; cpus = [] }; params = nothing; actor = 0; timers = []; cpus = [] }; act = 0 }
+nobody = record { passes = record { name = record { timers = []; cpus = [] }; params = no_params; actor = 0; timers = []; cpus = [] }; act = 0 }
 
 -- a handle has both its actors but while it turns
 abbrev pub cpu_with : ℕ → Option Lanes → CpuView
 cpu_with k None = record { cpu = k; direct = nobody; others = nobody; turns = 0 }
-cpu_with k (Some l) = cpu_of k l
+cpu_with k (Some l) = cpu_view k l
 
 abbrev pub IsCpuWith : ServiceName → Params → ℕ → Option Lanes → Type 0
 IsCpuWith name params k None = ⊥
-IsCpuWith name params k (Some l) = IsCpu name params (cpu_of k l)
+IsCpuWith name params k (Some l) = IsCpuHandle name params (cpu_view k l)
 
 -- one act of each actor: a scan, then all that has come due for the interrupt, then all that has for the CPU, after a Scan for each turn
 pub record IsTurned (needs : Needs) (p : CpuView) (now : ℕ) (turned : Turned) (q : CpuView) : Type 0 where
@@ -56,8 +56,8 @@ pub record IsTurned (needs : Needs) (p : CpuView) (now : ℕ) (turned : Turned) 
   pub scanned : PassesView
   pub scan : IsScan p.direct.passes p.cpu p.direct.act now out scanned
   pub count : turned.scanned ≡ out.count
-  pub direct : IsServed true needs 0 p.cpu p.direct.act (record { passes = scanned; act = next_act p.direct.act }) turned.direct q.direct
-  pub others : IsServed false needs q.turns p.cpu p.others.act (record { passes = p.others.passes; act = next_act p.others.act }) turned.others q.others
+  pub direct : IsLaneServed true needs 0 p.cpu p.direct.act (record { passes = scanned; act = next_act p.direct.act }) turned.direct q.direct
+  pub others : IsLaneServed false needs q.turns p.cpu p.others.act (record { passes = p.others.passes; act = next_act p.others.act }) turned.others q.others
   pub turns : q.turns ≡ next_act p.turns
   pub same : q.cpu ≡ p.cpu
 

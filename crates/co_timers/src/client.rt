@@ -6,7 +6,7 @@ ghost use Rattle.co_object.specs.declared.op.CallOp.TheVariants.{Plain};
 ghost use Rattle.co_object.specs.declared.op.PlainOp.TheVariants.{AsyncDrain, Reset as ResetOp, Schedule, Stop};
 ghost use Rattle.co_service.specs.Views.{AreOf};
 ghost use Rattle.co_timers.specs.Handles.{IsHandle};
-ghost use Rattle.co_timers.specs.Answers.{IsAnswer, async_word, reset_word, stop_word};
+ghost use Rattle.co_timers.specs.Answers.{IsSaid, async_word, reset_word, stop_word};
 ghost use Rattle.co_timers.specs.Drains.{IsDrained, IsDrainedWithin};
 
 use crate::{AsyncDrained, Drained, Refused, Reset, Stopped, Timers};
@@ -129,7 +129,7 @@ impl<'a, N: Name> Client<'a, N> {
         op: &PlainOp,
         hold: Option<&Hold<'_>>,
     ) -> Result<Reply, Refused>
-        ensures answer { IsAnswer Some self.old (option_copied hold.entry) i (Plain op.now) result self.new }
+        ensures answer { IsSaid Some self.old (option_copied hold.entry) i (Plain op.now) result self.new }
         ensures params { self.new.passes.params ≡ self.old.passes.params }
     {
         let op = CallOp::Plain(*op);
@@ -157,7 +157,7 @@ impl<'a, N: Name> Client<'a, N> {
         cpu: Option<u32>,
         hold: Option<&Hold<'_>>,
     ) -> Result<Reset, Refused>
-        ensures answer { IsAnswer reset_word self.old (option_copied hold.entry) i (Plain (ResetOp due prec func arg cpu)) result self.new }
+        ensures answer { IsSaid reset_word self.old (option_copied hold.entry) i (Plain (ResetOp due prec func arg cpu)) result self.new }
         ensures params { self.new.passes.params ≡ self.old.passes.params }
     {
         let op = PlainOp::Reset {
@@ -183,7 +183,7 @@ impl<'a, N: Name> Client<'a, N> {
         cpu: Option<u32>,
         hold: Option<&Hold<'_>>,
     ) -> Result<Reset, Refused>
-        ensures answer { IsAnswer reset_word self.old (option_copied hold.entry) i (Plain (Schedule due prec cpu)) result self.new }
+        ensures answer { IsSaid reset_word self.old (option_copied hold.entry) i (Plain (Schedule due prec cpu)) result self.new }
         ensures params { self.new.passes.params ≡ self.old.passes.params }
     {
         let op = PlainOp::Schedule { due, prec, cpu };
@@ -201,7 +201,7 @@ impl<'a, N: Name> Client<'a, N> {
         i: u32,
         hold: Option<&Hold<'_>>,
     ) -> Result<Stopped, Refused>
-        ensures answer { IsAnswer stop_word self.old (option_copied hold.entry) i (Plain Stop) result self.new }
+        ensures answer { IsSaid stop_word self.old (option_copied hold.entry) i (Plain Stop) result self.new }
         ensures params { self.new.passes.params ≡ self.old.passes.params }
     {
         let reply = self.call(rt, i, &PlainOp::Stop, hold)?;
@@ -217,7 +217,7 @@ impl<'a, N: Name> Client<'a, N> {
         func: u32,
         hold: Option<&Hold<'_>>,
     ) -> Result<AsyncDrained, Refused>
-        ensures answer { IsAnswer async_word self.old (option_copied hold.entry) i (Plain (AsyncDrain func)) result self.new }
+        ensures answer { IsSaid async_word self.old (option_copied hold.entry) i (Plain (AsyncDrain func)) result self.new }
         ensures params { self.new.passes.params ≡ self.old.passes.params }
     {
         let reply = self.call(rt, i, &PlainOp::AsyncDrain { func }, hold)?;

@@ -4,7 +4,7 @@ ghost use Rattle.co_service.specs.Outcomes.{IsScan};
 ghost use Rattle.co_service.specs.Views.{AreOf, PassesView};
 ghost use Rattle.co_timers.specs.Handles.{next_act};
 ghost use Rattle.co_timers.specs.Ports.{handle_of};
-ghost use Rattle.co_timers.specs.Rounds.{IsAtEase, IsFor, IsServed};
+ghost use Rattle.co_timers.specs.Rounds.{IsAtEase, AreNeedsOf, IsLaneServed};
 
 use crate::Timers;
 use crate::lane::Lane;
@@ -50,7 +50,7 @@ impl<'a, N: Name> Model for Cpu<'a, N> {
 }
 
 impl Lanes {
-    ghost use Rattle.co_timers.specs.Turns.{IsCpu, IsTurned, cpu_of};
+    ghost use Rattle.co_timers.specs.Turns.{IsCpuHandle, IsTurned, cpu_view};
 
     /// The whole tick of a CPU: an act of its interrupt, and an act of its own.
     fn turn<'a, N: Name, R: Wait + Sync, H: Handler>(
@@ -61,10 +61,10 @@ impl Lanes {
         now: Sbt,
         handler: &mut H,
     ) -> (Lanes, Turned)
-        requires cpu { IsCpu N.name timers.now.params (cpu_of cpu self) }
-        requires needs { IsFor (H.needs handler.old) timers.now.params }
-        ensures turned { IsTurned (H.needs handler.old) (cpu_of cpu self) now result.1 (cpu_of cpu result.0) }
-        ensures cpu { IsCpu N.name timers.now.params (cpu_of cpu result.0) }
+        requires cpu { IsCpuHandle N.name timers.now.params (cpu_view cpu self) }
+        requires needs { AreNeedsOf (H.needs handler.old) timers.now.params }
+        ensures turned { IsTurned (H.needs handler.old) (cpu_view cpu self) now result.1 (cpu_view cpu result.0) }
+        ensures cpu { IsCpuHandle N.name timers.now.params (cpu_view cpu result.0) }
         ensures needs { H.needs handler.new ≡ H.needs handler.old }
     {
         let Lanes {
@@ -99,8 +99,8 @@ fn turn_direct<'a, N: Name, R: Wait + Sync, H: Handler>(
     handler: &mut H,
 ) -> (Lane, Scanned, Served)
     requires at_ease { IsAtEase N.name timers.now.params true cpu lane.passes }
-    requires needs { IsFor (H.needs handler.old) timers.now.params }
-    ensures scan { (scanned : PassesView) × IsScan lane.passes cpu lane.act now result.1 scanned × IsServed true (H.needs handler.old) 0 cpu lane.act (record { passes = scanned; act = next_act lane.act }) result.2 (handle_of result.0) }
+    requires needs { AreNeedsOf (H.needs handler.old) timers.now.params }
+    ensures scan { (scanned : PassesView) × IsScan lane.passes cpu lane.act now result.1 scanned × IsLaneServed true (H.needs handler.old) 0 cpu lane.act (record { passes = scanned; act = next_act lane.act }) result.2 (handle_of result.0) }
     ensures at_ease { IsAtEase N.name timers.now.params true cpu result.0.passes }
     ensures needs { H.needs handler.new ≡ H.needs handler.old }
 {
@@ -122,8 +122,8 @@ fn turn_others<'a, N: Name, R: Wait + Sync, H: Handler>(
     handler: &mut H,
 ) -> (Lane, Served)
     requires at_ease { IsAtEase N.name timers.now.params false cpu lane.passes }
-    requires needs { IsFor (H.needs handler.old) timers.now.params }
-    ensures served { IsServed false (H.needs handler.old) scans cpu lane.act (record { passes = lane.passes; act = next_act lane.act }) result.1 (handle_of result.0) }
+    requires needs { AreNeedsOf (H.needs handler.old) timers.now.params }
+    ensures served { IsLaneServed false (H.needs handler.old) scans cpu lane.act (record { passes = lane.passes; act = next_act lane.act }) result.1 (handle_of result.0) }
     ensures at_ease { IsAtEase N.name timers.now.params false cpu result.0.passes }
     ensures needs { H.needs handler.new ≡ H.needs handler.old }
 {
@@ -134,7 +134,7 @@ fn turn_others<'a, N: Name, R: Wait + Sync, H: Handler>(
 }
 
 impl<'a, N: Name> Cpu<'a, N> {
-    ghost use Rattle.co_timers.specs.Turns.{IsTurned, IsCpu, cpu_of};
+    ghost use Rattle.co_timers.specs.Turns.{IsTurned, IsCpuHandle, cpu_view};
 
     /// The handle of a CPU whose actors have these passes, before their first acts.
     pub(crate) fn new(
@@ -143,7 +143,7 @@ impl<'a, N: Name> Cpu<'a, N> {
         direct: Passes,
         others: Passes,
     ) -> Cpu<'a, N>
-        requires { IsCpu N.name timers.now.params (record { cpu = number; direct = record { passes = direct; act = 0 }; others = record { passes = others; act = 0 }; turns = 0 }) }
+        requires { IsCpuHandle N.name timers.now.params (record { cpu = number; direct = record { passes = direct; act = 0 }; others = record { passes = others; act = 0 }; turns = 0 }) }
         ensures { result ≡ record { cpu = number; direct = record { passes = direct; act = 0 }; others = record { passes = others; act = 0 }; turns = 0 } }
     {
         let lanes = Lanes {
@@ -200,7 +200,7 @@ impl<'a, N: Name> Cpu<'a, N> {
     /// It waits for the locks of callouts and CPUs. Afterwards neither actor has anything in service, and the last that each asked for
     /// was answered that nothing is left.
     pub fn turn<R: Wait + Sync, H: Handler>(&mut self, rt: &R, now: Sbt, handler: &mut H) -> Turned
-        requires { IsFor (H.needs handler.old) self.old.others.passes.params }
+        requires { AreNeedsOf (H.needs handler.old) self.old.others.passes.params }
         ensures turned { IsTurned (H.needs handler.old) self.old now result self.new }
         ensures params { self.new.others.passes.params ≡ self.old.others.passes.params }
         ensures needs { H.needs handler.new ≡ H.needs handler.old }

@@ -1,7 +1,7 @@
 //! One actor of a CPU as a handle.
 ghost use Rattle.std.specs.Prelude.{◌<◌, length};
 ghost use Rattle.std.specs.Option.{option_copied};
-ghost use Rattle.co_hand.specs.Ports.{IsAnswered, NamesCpuBelow};
+ghost use Rattle.co_hand.specs.Ports.{IsCoverAnswered, NamesCpuBelow};
 ghost use Rattle.co_timers.specs.Handles.{IsHandle};
 
 use crate::Timers;
@@ -36,7 +36,7 @@ impl Lane {
         requires cpu { NamesCpuBelow timers.now.params.cpus op.now }
         ensures handle { IsHandle N.name timers.now.params self.new.passes }
         ensures came { CameTo (handle_of self.old) (option_copied hold.entry) i op.now result (handle_of self.new) }
-        ensures answered { IsAnswered timers.now.params.specs (option_copied hold.entry) (record { i = i; op = op.now; answer = result }) }
+        ensures answered { IsCoverAnswered timers.now.params.specs (option_copied hold.entry) (record { i = i; op = op.now; answer = result }) }
     {
         let asked = CallOp::Plain(*op);
         let held = hold.map(|hold| hold.held());

@@ -8,7 +8,7 @@ ghost use Rattle.co_object.specs.Actors.{cpu_actor, interrupt_actor};
 ghost use Rattle.co_service.specs.Params.{actor_count, actors_of};
 ghost use Rattle.co_service.specs.Views.{AreOf};
 ghost use Rattle.co_timers.specs.Handles.{IsHandle};
-ghost use Rattle.co_timers.specs.Posts.{back_with, both_leave, is_client, is_here, is_whole, leaves};
+ghost use Rattle.co_timers.specs.Posts.{back_with, both_leave, is_client, is_posted, is_whole, actor_leaves};
 ghost use Rattle.co_timers.specs.Turns.{first_cpu};
 
 use crate::{Client, Cpu, Timers};
@@ -74,7 +74,7 @@ impl<N: Name> Posts<N> {
         requires { timers.now.params ≡ self.old.params }
         ensures here { is_some result ≡ is_client self.old k }
         ensures some { IfSome result (λ client. client ≡ record { passes = booted N.name self.old.params k; act = 0 }) }
-        ensures stays { self.new ≡ leaves self.old k (is_client self.old k) }
+        ensures stays { self.new ≡ actor_leaves self.old k (is_client self.old k) }
     {
         if k >= timers.params.clients {
             return None;
@@ -119,7 +119,7 @@ impl<N: Name> Posts<N> {
 
     /// Whether this actor is here.
     fn is_here(&self, actor: u32) -> bool
-        ensures { result ≡ is_here self.now actor }
+        ensures { result ≡ is_posted self.now actor }
     {
         match self.seats.get(actor as usize) {
             Some(seat) => seat.is_some(),

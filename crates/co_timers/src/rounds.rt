@@ -1,8 +1,8 @@
 //! The rounds of a turn: one for each callout that has come due.
 ghost use Rattle.std.specs.Prelude.{◌≡◌, ◌<◌, is_some, true};
-ghost use Rattle.co_service.specs.Serving.{picked};
+ghost use Rattle.co_service.specs.Serving.{stage_picked};
 ghost use Rattle.co_timers.specs.Ports.{handle_of};
-ghost use Rattle.co_timers.specs.Rounds.{IsAbout, IsAtEase, IsFor, IsNext, IsServed, IsService, MayBeServed, counted, fire_of, served_after};
+ghost use Rattle.co_timers.specs.Rounds.{IsAbout, IsAtEase, AreNeedsOf, IsNextRound, IsLaneServed, IsLaneService, MayBeServed, counted_where, fire_of, served_after};
 
 use crate::Timers;
 use crate::lane::Lane;
@@ -64,7 +64,7 @@ fn fire_after(taken: &Picked, cpu: u32, call: Option<(u32, u64)>, drain: Option<
 
 /// Counts one more, up to 2^64 - 1.
 fn count(more: bool, so_far: u64) -> u64
-    ensures { result ≡ counted more so_far }
+    ensures { result ≡ counted_where more so_far }
 {
     if more {
         so_far.saturating_add(1)
@@ -95,10 +95,10 @@ fn serve<'a, N: Name, R: Wait + Sync, H: Handler>(
     taken: &Picked,
     handler: &mut H,
 ) -> (Lane, Round)
-    requires about { IsAbout N.name timers.now.params direct cpu (record { i = taken.now.i; n = taken.now.n }) (picked taken.now.n taken.now.reply) lane.passes }
+    requires about { IsAbout N.name timers.now.params direct cpu (record { i = taken.now.i; n = taken.now.n }) (stage_picked taken.now.n taken.now.reply) lane.passes }
     requires may { MayBeServed direct timers.now.params taken.now.i taken.now.reply }
-    requires needs { IsFor (H.needs handler.old) timers.now.params }
-    ensures service { IsService direct (H.needs handler.old) cpu act (record { i = taken.now.i; n = taken.now.n }) taken.now.at taken.now.reply (handle_of lane) result.1 (handle_of result.0) }
+    requires needs { AreNeedsOf (H.needs handler.old) timers.now.params }
+    ensures service { IsLaneService direct (H.needs handler.old) cpu act (record { i = taken.now.i; n = taken.now.n }) taken.now.at taken.now.reply (handle_of lane) result.1 (handle_of result.0) }
     ensures at_ease { IsAtEase N.name timers.now.params direct cpu result.0.passes }
     ensures needs { H.needs handler.new ≡ H.needs handler.old }
 {
@@ -140,9 +140,9 @@ fn round<'a, N: Name, R: Wait + Sync, H: Handler>(
     handler: &mut H,
 ) -> (Lane, Option<Round>)
     requires at_ease { IsAtEase N.name timers.now.params direct cpu lane.passes }
-    requires needs { IsFor (H.needs handler.old) timers.now.params }
+    requires needs { AreNeedsOf (H.needs handler.old) timers.now.params }
     requires none { direct ≡ true → scans ≡ 0 }
-    ensures next { IsNext direct (H.needs handler.old) scans cpu act (handle_of lane) result.1 (handle_of result.0) }
+    ensures next { IsNextRound direct (H.needs handler.old) scans cpu act (handle_of lane) result.1 (handle_of result.0) }
     ensures at_ease { IsAtEase N.name timers.now.params direct cpu result.0.passes }
     ensures needs { H.needs handler.new ≡ H.needs handler.old }
 {
@@ -176,9 +176,9 @@ pub(crate) fn serve_all<'a, N: Name, R: Wait + Sync, H: Handler>(
     handler: &mut H,
 ) -> (Lane, Served)
     requires at_ease { IsAtEase N.name timers.now.params direct cpu lane.passes }
-    requires needs { IsFor (H.needs handler.old) timers.now.params }
+    requires needs { AreNeedsOf (H.needs handler.old) timers.now.params }
     requires none { direct ≡ true → scans ≡ 0 }
-    ensures served { IsServed direct (H.needs handler.old) scans cpu act (handle_of lane) result.1 (handle_of result.0) }
+    ensures served { IsLaneServed direct (H.needs handler.old) scans cpu act (handle_of lane) result.1 (handle_of result.0) }
     ensures at_ease { IsAtEase N.name timers.now.params direct cpu result.0.passes }
     ensures needs { H.needs handler.new ≡ H.needs handler.old }
 {

@@ -3,7 +3,7 @@ ghost use Rattle.std.specs.Prelude.{◌≡◌, ◌<◌, IfSome, length};
 ghost use Rattle.co_hand.specs.Handlers.{GoesOn, Serves};
 ghost use Rattle.co_timers.specs.Handles.{IsHandle};
 ghost use Rattle.co_timers.specs.Ports.{handle_of};
-ghost use Rattle.co_timers.specs.Rounds.{HasRun, IsFor, RunsIf, func_in};
+ghost use Rattle.co_timers.specs.Rounds.{HasRun, AreNeedsOf, RunsIf, func_in};
 
 use crate::Timers;
 use crate::lane::Lane;
@@ -47,7 +47,7 @@ fn run<'a, N: Name, R: Wait, H: Handler>(
     handler: &mut H,
 ) -> Lane
     requires handle { IsHandle N.name timers.now.params lane.passes }
-    requires needs { IsFor (H.needs handler.old) timers.now.params }
+    requires needs { AreNeedsOf (H.needs handler.old) timers.now.params }
     requires callout { fire.now.i < length timers.now.params.specs }
     requires cpu { fire.now.cpu < timers.now.params.cpus }
     ensures run { HasRun ((H.needs handler.old).calls fire.now.func) (handle_of lane) (handle_of result) }
@@ -69,7 +69,7 @@ pub(crate) fn run_if<'a, N: Name, R: Wait, H: Handler>(
     handler: &mut H,
 ) -> Lane
     requires handle { IsHandle N.name timers.now.params lane.passes }
-    requires needs { IsFor (H.needs handler.old) timers.now.params }
+    requires needs { AreNeedsOf (H.needs handler.old) timers.now.params }
     requires fire { IfSome fire.now (λ f. (f.i < length timers.now.params.specs) × (f.cpu < timers.now.params.cpus)) }
     ensures runs { RunsIf (H.needs handler.old) (func_in fire.now) (handle_of lane) (handle_of result) }
     ensures needs { H.needs handler.new ≡ H.needs handler.old }
@@ -90,7 +90,7 @@ fn run_drained<'a, N: Name, R: Wait, H: Handler>(
     handler: &mut H,
 ) -> Lane
     requires handle { IsHandle N.name timers.now.params lane.passes }
-    requires needs { IsFor (H.needs handler.old) timers.now.params }
+    requires needs { AreNeedsOf (H.needs handler.old) timers.now.params }
     requires callout { fire.now.i < length timers.now.params.specs }
     requires cpu { fire.now.cpu < timers.now.params.cpus }
     ensures run { HasRun ((H.needs handler.old).calls func) (handle_of lane) (handle_of result) }
@@ -111,7 +111,7 @@ pub(crate) fn drained_if<'a, N: Name, R: Wait, H: Handler>(
     handler: &mut H,
 ) -> Lane
     requires handle { IsHandle N.name timers.now.params lane.passes }
-    requires needs { IsFor (H.needs handler.old) timers.now.params }
+    requires needs { AreNeedsOf (H.needs handler.old) timers.now.params }
     requires callout { fire.now.i < length timers.now.params.specs }
     requires cpu { fire.now.cpu < timers.now.params.cpus }
     ensures runs { RunsIf (H.needs handler.old) drain (handle_of lane) (handle_of result) }

@@ -8,9 +8,9 @@ ghost use Rattle.co_service.specs.Call.{notes_in};
 ghost use Rattle.co_service.specs.Outcomes.{IsScan};
 ghost use Rattle.co_service.specs.Params.{spec_at};
 ghost use Rattle.co_service.specs.Services.{FollowsScans, IsBegun, IsEnded, IsFree, IsServing, IsTaken};
-ghost use Rattle.co_service.specs.Serving.{Runs, Waits, picked};
+ghost use Rattle.co_service.specs.Serving.{Runs, Waits, stage_picked};
 ghost use Rattle.co_service.specs.Views.{AreOf, journal_seen};
-ghost use Rattle.co_timers.specs.Rounds.{HasTaken, IsAbout, IsAtEase, IsBegin, MayBeServed, called_by, drain_of, waits};
+ghost use Rattle.co_timers.specs.Rounds.{HasTaken, IsAbout, IsAtEase, IsBegin, MayBeServed, called_by, drain_of, waits_for_lock};
 
 use crate::Timers;
 use co_lock::{Hold, hold_of};
@@ -21,7 +21,7 @@ use std::sync::Wait;
 
 /// The function waits for the callout's lock.
 pub(crate) fn waits(reply: &Reply) -> bool
-    ensures { result ≡ waits reply.now }
+    ensures { result ≡ waits_for_lock reply.now }
 {
     match reply {
         Reply::Hold => true,
@@ -176,9 +176,9 @@ impl<N: Name> Timers<N> {
         n: u64,
         reply: Reply,
     ) -> (Reply, Option<Hold<'_>>)
-        requires about { IsAbout N.name self.now.params direct cpu (record { i = i; n = n }) (picked n reply) passes.old }
+        requires about { IsAbout N.name self.now.params direct cpu (record { i = i; n = n }) (stage_picked n reply) passes.old }
         requires may { MayBeServed direct self.now.params i reply }
-        ensures begins { IsBegin (waits reply) passes.old cpu act (record { i = i; n = n }) reply result.0 passes.new }
+        ensures begins { IsBegin (waits_for_lock reply) passes.old cpu act (record { i = i; n = n }) reply result.0 passes.new }
         ensures about { IsAbout N.name self.now.params direct cpu (record { i = i; n = n }) (Runs n) passes.new }
     {
         if !waits(&reply) {

@@ -6,9 +6,9 @@ ghost use Rattle.co_object.specs.Queue.{Due};
 ghost use Rattle.co_service.specs.Closing.{AreEnded, AreEndedCpus, HasEach};
 ghost use Rattle.co_service.specs.Params.{actor_count, spec_at};
 ghost use Rattle.co_service.specs.Services.{IsFree, IsServing};
-ghost use Rattle.co_service.specs.Serving.{Service as Progress};
+ghost use Rattle.co_service.specs.Serving.{ServiceStage as Progress};
 ghost use Rattle.co_object.specs.declared.op.CallOp.TheVariants.{DrainTry};
-ghost use Rattle.co_timers.specs.Acts.{IsMade};
+ghost use Rattle.co_timers.specs.Acts.{IsCallMade};
 ghost use Rattle.co_timers.specs.Drains.{IsDrainOf, SaysTry, is_try};
 ghost use Rattle.co_timers.specs.Answers.{is_cpu, names_cpu, refusal, uncovered};
 ghost use Rattle.co_timers.specs.Handles.{IsHandle};
@@ -139,7 +139,7 @@ impl<N: Name> Timers<N> {
         requires handle { IsHandle N.name self.now.params passes.old }
         requires cleared { refusal self.now.params (option_copied hold) i op.now ≡ None }
         ensures handle { IsHandle N.name self.now.params passes.new }
-        ensures made { IsMade passes.old act i op.now result passes.new }
+        ensures made { IsCallMade passes.old act i op.now result passes.new }
         ensures free { (direct : Bool) (cpu : ℕ) → IsFree direct passes.old cpu → IsFree direct passes.new cpu }
         ensures serving { (direct : Bool) (cpu : ℕ) (d : Due) (far : Progress) → IsServing direct passes.old cpu d far → IsServing direct passes.new cpu d far }
     {
@@ -161,7 +161,7 @@ impl<N: Name> Timers<N> {
     ) -> Result<Reply, Refused>
         requires handle { IsHandle N.name self.now.params passes.old }
         ensures handle { IsHandle N.name self.now.params passes.new }
-        ensures made { IfOk result (λ reply. (refusal self.now.params (option_copied hold.entry) i op.now ≡ None) × IsMade passes.old act i op.now reply passes.new) }
+        ensures made { IfOk result (λ reply. (refusal self.now.params (option_copied hold.entry) i op.now ≡ None) × IsCallMade passes.old act i op.now reply passes.new) }
         ensures refused { IfErr result (λ why. (refusal self.now.params (option_copied hold.entry) i op.now ≡ Some why) × (passes.new ≡ passes.old)) }
         ensures free { (direct : Bool) (cpu : ℕ) → IsFree direct passes.old cpu → IsFree direct passes.new cpu }
         ensures serving { (direct : Bool) (cpu : ℕ) (d : Due) (far : Progress) → IsServing direct passes.old cpu d far → IsServing direct passes.new cpu d far }

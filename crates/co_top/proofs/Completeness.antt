@@ -17,7 +17,7 @@ use Rattle.co_top.specs.declared.command.Making.{Making}
 use Rattle.co_top.specs.declared.status.Status.{Status}
 use Rattle.co_top.specs.declared.status.Status.TheVariants.{Done, BadScript, Usage, ReadFault, WriteFault, NoMemory, NotLegal}
 use Rattle.co_top.specs.Commands.{command_of}
-use Rattle.co_top.specs.Headline.{Gives, GivesServed, Serves, Refuses, IsJudged, Says, IsReadAnswered, IsServedAnswered, IsAnswered, IsHeadline, IsComplete, limit_of, served_limit, plain, status_of, served_status, script_status, report_status, text_status, verdict_status, HasNoFault}
+use Rattle.co_top.specs.Headline.{Gives, GivesServed, Serves, Refuses, IsJudged, Says, IsReadAnswered, IsServedAnswered, IsCommandAnswered, IsHeadline, IsComplete, limit_of, served_limit, plain, status_of, served_status, script_status, report_status, text_status, verdict_status, HasNoFault}
 use Rattle.co_front.specs.Outside.{Outside, ReadsToEnd, Reads}
 use Rattle.co_top.proofs.Accepted.{long_refused, report_refused, events_refused, kq_refused, sleep_refused, itimer_refused}
 
@@ -171,7 +171,7 @@ module _ (before after : Outside) where
   served_answered serving NoMemory None says sound = record { told = lacking (served_status serving) before.input.left; untold = tt }
   served_answered serving NoMemory (Some closing) says sound = absurd says
 
-  answered : (command : Option Command) (status : Status) → Says before after command status None → IfSome command (λ command. HasNoFault before after command → IsAnswered command before status)
+  answered : (command : Option Command) (status : Status) → Says before after command status None → IfSome command (λ command. HasNoFault before after command → IsCommandAnswered command before status)
   answered None status says = tt
   answered (Some (Read reading)) status says = λ sound. read_answered reading status says sound
   answered (Some (Serve serving)) status says = λ sound. served_answered serving status None says sound
@@ -182,4 +182,4 @@ complete words before after status says = answered before after (command_of word
 
 pub served_complete : (words : List Word) (before after : Outside) (serving : Serving) (status : Status) (closing : Option ClosingView) → command_of words ≡ Some (Serve serving) → Says before after (Some (Serve serving)) status closing → IsComplete words before after status
 served_complete words before after serving status closing is says =
-    subst (λ (asked : Option Command). IfSome asked (λ command. HasNoFault before after command → IsAnswered command before status)) (sym is) (λ sound. served_answered before after serving status closing says sound)
+    subst (λ (asked : Option Command). IfSome asked (λ command. HasNoFault before after command → IsCommandAnswered command before status)) (sym is) (λ sound. served_answered before after serving status closing says sound)

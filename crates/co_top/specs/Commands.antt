@@ -74,8 +74,8 @@ is_serving (Some (Serve serving)) = true
 is_serving command = false
 
 -- the words are not those of such a command
-abbrev pub IsPlain : List Word → Type 0
-IsPlain words = is_serving (command_of words) ≡ false
+abbrev pub IsPlainCommand : List Word → Type 0
+IsPlainCommand words = is_serving (command_of words) ≡ false
 
 -- ---- texts
 

@@ -112,16 +112,16 @@ Gives reading bytes status text = ⊥
 
 -- the text is what the bytes mean, and the service that the command worked on came to its end: its CPU scanned at the ticks, and its
 -- callouts were called as often as the answers count
-pub record IsDone (meaning : Result (List ℕ) Refusal) (Ends : Type 0) (text : List ℕ) : Type 0 where
+pub record IsBatchDone (meaning : Result (List ℕ) Refusal) (Ends : Type 0) (text : List ℕ) : Type 0 where
   pub text_is : meaning ≡ Ok text
   pub ends : Ends
 
 -- what a command on a running service makes of an accepted input: its text, and the closing of the service
 abbrev pub Serves : Serving → List ℕ → ClosingView → List ℕ → Type 0
 Serves Run bytes closing text = IsScriptOf bytes (λ script. IsReportOfRun script closing text)
-Serves Kq bytes closing text = IsDone (kq_text bytes) (EndsKq bytes closing) text
-Serves Sleep bytes closing text = IsDone (sleep_text bytes) (EndsSleep bytes closing) text
-Serves Itimer bytes closing text = IsDone (itimer_text bytes) (EndsItimer bytes closing) text
+Serves Kq bytes closing text = IsBatchDone (kq_text bytes) (EndsKq bytes closing) text
+Serves Sleep bytes closing text = IsBatchDone (sleep_text bytes) (EndsSleep bytes closing) text
+Serves Itimer bytes closing text = IsBatchDone (itimer_text bytes) (EndsItimer bytes closing) text
 
 -- its text for one that it refuses
 abbrev pub Refuses : Serving → List ℕ → List ℕ → Type 0
@@ -285,10 +285,10 @@ pub record HasNoFault (before after : Outside) (command : Command) : Type 0 wher
   pub writes : (status : Status) (closing : Option ClosingView) (text : List ℕ) → ComesTo before after (Some command) status closing text → ¬ WriteFails before.output after.output text
 
 -- what a command answers, without a fault at either end
-abbrev pub IsAnswered : Command → Outside → Status → Type 0
-IsAnswered (Read reading) before status = IsReadAnswered reading before status
-IsAnswered (Serve serving) before status = IsServedAnswered serving before status
-IsAnswered (Make making) before status = (status ≡ Done) ⊎ (status ≡ NoMemory)
+abbrev pub IsCommandAnswered : Command → Outside → Status → Type 0
+IsCommandAnswered (Read reading) before status = IsReadAnswered reading before status
+IsCommandAnswered (Serve serving) before status = IsServedAnswered serving before status
+IsCommandAnswered (Make making) before status = (status ≡ Done) ⊎ (status ≡ NoMemory)
 
 abbrev pub IsComplete : List Word → Outside → Outside → Status → Type 0
-IsComplete words before after status = IfSome (command_of words) (λ command. HasNoFault before after command → IsAnswered command before status)
+IsComplete words before after status = IfSome (command_of words) (λ command. HasNoFault before after command → IsCommandAnswered command before status)

@@ -1,7 +1,7 @@
 //! The words that are a command.
 ghost use Rattle.std.specs.Prelude.{◌≡◌, IfNone, IfSome, Some, map, string_bytes};
 ghost use Rattle.co_top.specs.declared.command.Command.TheVariants.{Serve};
-ghost use Rattle.co_top.specs.Commands.{IsPlain, command_of, making_of, reading_of, seed_of, serving_of, word_command};
+ghost use Rattle.co_top.specs.Commands.{IsPlainCommand, command_of, making_of, reading_of, seed_of, serving_of, word_command};
 
 use co_text::number;
 
@@ -136,7 +136,7 @@ pub(crate) fn command_of(words: &[String]) -> Option<Command>
 /// The command on a running service that the words are, if they are one.
 pub(crate) fn served(words: &[String]) -> Option<Serving>
     ensures some { IfSome result (λ serving. command_of (map string_bytes words.now) ≡ Some (Serve serving)) }
-    ensures none { IfNone result (IsPlain (map string_bytes words.now)) }
+    ensures none { IfNone result (IsPlainCommand (map string_bytes words.now)) }
 {
     match command_of(words) {
         Some(Command::Serve(serving)) => Some(serving),

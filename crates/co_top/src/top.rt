@@ -3,7 +3,7 @@ ghost use Rattle.std.specs.Prelude.{◌≡◌, ℕ, List, MatchResult, Option, S
 ghost use Rattle.std.specs.List.{concat};
 ghost use Rattle.co_top.specs.declared.command.Command.TheVariants as commands;
 ghost use Rattle.co_top.specs.declared.status.Status.TheVariants.{WriteFault};
-ghost use Rattle.co_top.specs.Commands.{IsPlain};
+ghost use Rattle.co_top.specs.Commands.{IsPlainCommand};
 ghost use Rattle.co_top.specs.Headline.{IsHeadline, IsComplete, Says, Tells, limit_of, plain, served_limit};
 ghost use Rattle.co_front.specs.Outside.{Output, outside};
 
@@ -163,7 +163,7 @@ pub fn plain_main<S: Source, K: Sink>(
     source: &mut S,
     sink: &mut K,
 ) -> Status
-    requires plain { IsPlain (map string_bytes words.now) }
+    requires plain { IsPlainCommand (map string_bytes words.now) }
     ensures headline { let before = outside (S.left source.old) (S.faults source.old) (K.held sink.old) (K.room sink.old) (K.faults sink.old) (K.idle sink.old) in
         let after = outside (S.left source.new) (S.faults source.new) (K.held sink.new) (K.room sink.new) (K.faults sink.new) (K.idle sink.new) in
         IsHeadline (map string_bytes words.now) before after (plain result) }

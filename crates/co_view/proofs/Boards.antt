@@ -14,10 +14,10 @@ use Rattle.co_program.proofs.Places.{index_fits}
 use Rattle.co_report.proofs.Places.{index_below}
 use Rattle.co_report.specs.declared.line.Line.{Line}
 use Rattle.co_check.specs.Lines.{AreLinesOf, IsLineOf}
-use Rattle.co_check.specs.Numbers.{count_of}
+use Rattle.co_check.specs.Numbers.{lines_made_by}
 use Rattle.co_check.specs.Shown.{actor_of}
 use Rattle.co_view.specs.declared.order.merge.Merge.{Merge}
-use Rattle.co_view.specs.Order.{notes_at, count_in, is_next, times, MayCome, IsMerge, IsOrder, IsStuck}
+use Rattle.co_view.specs.Order.{notes_at, lines_in_place, comes_next, times, MayCome, IsMerge, IsOrder, IsStuck}
 use Rattle.co_view.specs.Merging.{AreCountsBy, AreRanks, IsMerging, actor_key, place_key}
 use Rattle.co_view.proofs.Counts.{no_counts, zero-at, counted_more}
 use Rattle.co_view.proofs.Merges.{merge_none, get_front, get_end, get_last}
@@ -55,22 +55,22 @@ opened s lines x numbers positions come order = record {
 
 -- what the code compares
 pub next_is : (s : Script) (lines : List Line) (x : Merge) (ranks : List ℕ) (i a p : ℕ) (l : Line) → IsMerging s lines x → AreRanks s lines ranks → AreLinesOf s lines → slice_get lines i ≡ Some l → a ≡ actor_of l.entry → p ≡ place_index s l.place →
-    ((get_or x.come i 0 == 0) && ((l.number == get_or x.numbers a 0) && (get_or ranks i 0 == get_or x.positions p 0))) ≡ is_next s lines x.order i l
+    ((get_or x.come i 0 == 0) && ((l.number == get_or x.numbers a 0) && (get_or ranks i 0 == get_or x.positions p 0))) ≡ comes_next s lines x.order i l
 next_is s lines x ranks i a p l h r are stands a_is p_is =
     let come : get_or x.come i 0 ≡ times i x.order = h.come.each i (slice_get_within lines i l stands) in
-    let number : get_or x.numbers a 0 ≡ count_of (actor_of l.entry) (notes_at lines x.order) = ap (λ n. get_or x.numbers n 0) a_is ∙ h.numbers.each (actor_of l.entry) (actor_below s lines i l are stands) in
-    let position : get_or x.positions p 0 ≡ count_in s (place_index s l.place) (notes_at lines x.order) = ap (λ n. get_or x.positions n 0) p_is ∙ h.positions.each (place_index s l.place) (place_below s lines i l are stands) in
-    let rank : get_or ranks i 0 ≡ count_in s (place_index s l.place) (take i lines) = r.each i l stands in
+    let number : get_or x.numbers a 0 ≡ lines_made_by (actor_of l.entry) (notes_at lines x.order) = ap (λ n. get_or x.numbers n 0) a_is ∙ h.numbers.each (actor_of l.entry) (actor_below s lines i l are stands) in
+    let position : get_or x.positions p 0 ≡ lines_in_place s (place_index s l.place) (notes_at lines x.order) = ap (λ n. get_or x.positions n 0) p_is ∙ h.positions.each (place_index s l.place) (place_below s lines i l are stands) in
+    let rank : get_or ranks i 0 ≡ lines_in_place s (place_index s l.place) (take i lines) = r.each i l stands in
     rw (come, number, position, rank) refl
 
 pub next_read : (s : Script) (lines : List Line) (x : Merge) (ranks : List ℕ) (i a p : ℕ) (l : Line) (come numbers positions rs : List ℕ) → IsMerging s lines x → AreRanks s lines ranks → AreLinesOf s lines → slice_get lines i ≡ Some l → a ≡ actor_of l.entry → p ≡ place_index s l.place →
     come ≡ x.come → numbers ≡ x.numbers → positions ≡ x.positions → rs ≡ ranks →
-    ((get_or come i 0 == 0) && ((l.number == get_or numbers a 0) && (get_or rs i 0 == get_or positions p 0))) ≡ is_next s lines x.order i l
+    ((get_or come i 0 == 0) && ((l.number == get_or numbers a 0) && (get_or rs i 0 == get_or positions p 0))) ≡ comes_next s lines x.order i l
 next_read s lines x ranks i a p l come numbers positions rs h r are stands a_is p_is e1 e2 e3 e4 = rw (e1, e2, e3, e4) (next_is s lines x ranks i a p l h r are stands a_is p_is)
 
 -- a note may come where the test passes, and none where no line stands
-pub may_is : (s : Script) (lines : List Line) (order : List ℕ) (i : ℕ) (l : Line) (b : Bool) → slice_get lines i ≡ Some l → b ≡ is_next s lines order i l → IsTrue b ↔ MayCome s lines order i
-may_is s lines order i l b stands is = (λ t. record { line = l; stands = stands; next = sym is ∙ t }, λ m. is ∙ subst (λ (n : Line). is_next s lines order i n ≡ true) (one m.line l (sym m.stands ∙ stands)) m.next)
+pub may_is : (s : Script) (lines : List Line) (order : List ℕ) (i : ℕ) (l : Line) (b : Bool) → slice_get lines i ≡ Some l → b ≡ comes_next s lines order i l → IsTrue b ↔ MayCome s lines order i
+may_is s lines order i l b stands is = (λ t. record { line = l; stands = stands; next = sym is ∙ t }, λ m. is ∙ subst (λ (n : Line). comes_next s lines order i n ≡ true) (one m.line l (sym m.stands ∙ stands)) m.next)
   where
     one : (m n : Line) → ◌≡◌ {A = Option Line} (Some m) (Some n) → m ≡ n
     one m n h = cc
@@ -116,17 +116,17 @@ pub no_ranks : (s : Script) → AreRanks s [] []
 no_ranks s = record { long = refl; each = λ i l e. cc }
 
 -- one line more
-pub ranks_snoc : (s : Script) (above : List Line) (l : Line) (ranks : List ℕ) (c : ℕ) → AreRanks s above ranks → c ≡ count_in s (place_index s l.place) above → AreRanks s (above ++ l ∷ []) (ranks ++ c ∷ [])
+pub ranks_snoc : (s : Script) (above : List Line) (l : Line) (ranks : List ℕ) (c : ℕ) → AreRanks s above ranks → c ≡ lines_in_place s (place_index s l.place) above → AreRanks s (above ++ l ∷ []) (ranks ++ c ∷ [])
 ranks_snoc s above l ranks c h is = record {
   long = length-append ranks (c ∷ []) ∙ (ap (λ n. n + 1) h.long ∙ sym (length-append above (l ∷ [])));
   each = λ j m at. elim (cases_lt j (length above)) [
     | inl front ↦ (let old : slice_get above j ≡ Some m = sym (get_front above l j front) ∙ at in
         let same : get_or (ranks ++ c ∷ []) j 0 ≡ get_or ranks j 0 = get_or_from_slice_get (ranks ++ c ∷ []) j (get_or ranks j 0) 0 (get_front ranks c j (omega (arith, front, h.long)) ∙ slice_get-get_or ranks j 0 (omega (arith, front, h.long))) in
-        same ∙ (h.each j m old ∙ ap (count_in s (place_index s m.place)) (sym (take-append-le j above (l ∷ []) (omega (arith, front))))))
+        same ∙ (h.each j m old ∙ ap (lines_in_place s (place_index s m.place)) (sym (take-append-le j above (l ∷ []) (omega (arith, front))))))
     | inr end ↦ (let r = get_end above l m j end at in
         let last : get_or (ranks ++ c ∷ []) j 0 ≡ c = ap (λ n. get_or (ranks ++ c ∷ []) n 0) (r.0 ∙ sym h.long) ∙ get_or_from_slice_get (ranks ++ c ∷ []) (length ranks) c 0 (get_last ranks c) in
         let before : take j (above ++ l ∷ []) ≡ above = ap (λ n. take n (above ++ l ∷ [])) r.0 ∙ take-append_seam above (l ∷ []) in
-        last ∙ (is ∙ subst (λ (n : Line). count_in s (place_index s l.place) above ≡ count_in s (place_index s n.place) (take j (above ++ l ∷ []))) (sym r.1) (ap (count_in s (place_index s l.place)) (sym before))))
+        last ∙ (is ∙ subst (λ (n : Line). lines_in_place s (place_index s l.place) above ≡ lines_in_place s (place_index s n.place) (take j (above ++ l ∷ []))) (sym r.1) (ap (lines_in_place s (place_index s l.place)) (sym before))))
   ];
 }
 
@@ -154,7 +154,7 @@ pub ranking_more : (s : Script) (lines : List Line) (i p : ℕ) (l : Line) (coun
     ranks' ≡ ranks ++ get_or counts p 0 ∷ [] → counts' ≡ set counts p (get_or counts p 0 + 1) → IsRanking s lines (i + 1) counts' ranks'
 ranking_more s lines i p l counts ranks counts' ranks' h at is below r c = record {
   counted = subst (λ (ls : List Line). AreCountsBy (place_key s) (place_count s) ls counts') (sym (take_next lines i l at)) (subst (AreCountsBy (place_key s) (place_count s) (take i lines ++ l ∷ [])) (sym c) (counted_more (place_key s) (place_count s) (take i lines) l counts p h.counted is below));
-  ranked = subst (λ (ls : List Line). AreRanks s ls ranks') (sym (take_next lines i l at)) (subst (AreRanks s (take i lines ++ l ∷ [])) (sym r) (ranks_snoc s (take i lines) l ranks (get_or counts p 0) h.ranked (h.counted.each p below ∙ ap (λ n. count_in s n (take i lines)) is)));
+  ranked = subst (λ (ls : List Line). AreRanks s ls ranks') (sym (take_next lines i l at)) (subst (AreRanks s (take i lines ++ l ∷ [])) (sym r) (ranks_snoc s (take i lines) l ranks (get_or counts p 0) h.ranked (h.counted.each p below ∙ ap (λ n. lines_in_place s n (take i lines)) is)));
 }
 
 pub ranking_all : (s : Script) (lines : List Line) (i : ℕ) (counts ranks : List ℕ) → IsRanking s lines i counts ranks → length lines ≤ i → AreRanks s lines ranks

@@ -14,10 +14,10 @@ use Rattle.co_program.specs.Actors.{actor_count}
 use Rattle.co_report.specs.Order.{place_index, place_count}
 use Rattle.co_report.specs.declared.line.Line.{Line}
 use Rattle.co_view.specs.declared.order.merge.Merge.{Merge}
-use Rattle.co_check.specs.Numbers.{count_of}
+use Rattle.co_check.specs.Numbers.{lines_made_by}
 use Rattle.co_check.specs.Shown.{actor_of}
-use Rattle.co_view.specs.Order.{notes_at, count_in, is_next, times, MayCome, IsMerge}
-use Rattle.co_view.specs.Merging.{AreCountsBy, IsMerging, actor_key, place_key, left_of}
+use Rattle.co_view.specs.Order.{notes_at, lines_in_place, comes_next, times, MayCome, IsMerge}
+use Rattle.co_view.specs.Merging.{AreCountsBy, IsMerging, actor_key, place_key, not_come}
 use Rattle.co_view.proofs.Counts.{counted_more}
 
 -- one note more
@@ -59,12 +59,12 @@ merge_none s lines k i at = cc
 first_of : (t n m r p : ℕ) → ((t == 0) && ((n == m) && (r == p))) ≡ true → t ≡ 0
 first_of t n m r p h = grind (arith, nat_tests)
 
-pub next_left : (s : Script) (lines : List Line) (order : List ℕ) (i : ℕ) (l : Line) → is_next s lines order i l ≡ true → times i order ≡ 0
+pub next_left : (s : Script) (lines : List Line) (order : List ℕ) (i : ℕ) (l : Line) → comes_next s lines order i l ≡ true → times i order ≡ 0
 next_left s lines order i l h =
     let come : List Line = notes_at lines order in
-    first_of (times i order) l.number (count_of (actor_of l.entry) come) (count_in s (place_index s l.place) (take i lines)) (count_in s (place_index s l.place) come) h
+    first_of (times i order) l.number (lines_made_by (actor_of l.entry) come) (lines_in_place s (place_index s l.place) (take i lines)) (lines_in_place s (place_index s l.place) come) h
 
-pub merging_more : (s : Script) (lines : List Line) (x y : Merge) (i a p : ℕ) (l : Line) → IsMerging s lines x → slice_get lines i ≡ Some l → is_next s lines x.order i l ≡ true →
+pub merging_more : (s : Script) (lines : List Line) (x y : Merge) (i a p : ℕ) (l : Line) → IsMerging s lines x → slice_get lines i ≡ Some l → comes_next s lines x.order i l ≡ true →
     a ≡ actor_key l → a < actor_count s → p ≡ place_key s l → p < place_count s →
     y.numbers ≡ set x.numbers a (get_or x.numbers a 0 + 1) → y.positions ≡ set x.positions p (get_or x.positions p 0 + 1) →
     y.come ≡ set x.come i (get_or x.come i 0 + 1) → y.order ≡ x.order ++ i ∷ [] → IsMerging s lines y
@@ -94,8 +94,8 @@ merging_more s lines x y i a p l h stands next a_is a_below p_is p_below numbers
     notes_are : notes_at lines y.order ≡ notes_at lines x.order ++ l ∷ []
     notes_are = ap (notes_at lines) order_is ∙ notes_more lines x.order i l stands
 
-pub left_falls : (s : Script) (lines : List Line) (x : Merge) (come : List ℕ) (i : ℕ) (l : Line) → IsMerging s lines x → slice_get lines i ≡ Some l → is_next s lines x.order i l ≡ true →
-    come ≡ set x.come i (get_or x.come i 0 + 1) → count_by (λ (c : ℕ). c == 0) come < left_of x
+pub left_falls : (s : Script) (lines : List Line) (x : Merge) (come : List ℕ) (i : ℕ) (l : Line) → IsMerging s lines x → slice_get lines i ≡ Some l → comes_next s lines x.order i l ≡ true →
+    come ≡ set x.come i (get_or x.come i 0 + 1) → count_by (λ (c : ℕ). c == 0) come < not_come x
 left_falls s lines x come i l h stands next come_is =
     let inside : i < length lines = slice_get_within lines i l stands in
     let zero_before : get_or x.come i 0 ≡ 0 = h.come.each i inside ∙ next_left s lines x.order i l next in

@@ -7,11 +7,11 @@ use Rattle.std.proofs.lemmas.Option.{slice_get_within, slice_get-get_or}
 use Rattle.std.proofs.Math.Seq.{take-length}
 use Rattle.co_object.proofs.Passing.{passing, count-passing}
 use Rattle.co_check.specs.Shown.{actor_of, is_by}
-use Rattle.co_check.specs.Numbers.{count_of}
+use Rattle.co_check.specs.Numbers.{lines_made_by}
 use Rattle.co_program.specs.declared.script.Script.{Script}
 use Rattle.co_report.specs.Order.{place_index}
 use Rattle.co_report.specs.declared.line.Line.{Line}
-use Rattle.co_view.specs.Order.{notes_at, count_in, is_next, times, MayCome, IsMerge, IsOrder, IsStuck}
+use Rattle.co_view.specs.Order.{notes_at, lines_in_place, comes_next, times, MayCome, IsMerge, IsOrder, IsStuck}
 use Rattle.co_view.proofs.Counts.{count_own, count_other}
 use Rattle.co_view.proofs.Merges.{notes_more}
 
@@ -219,7 +219,7 @@ module _ (s : Script) (lines : List Line) where
   by_actor i l = l.number
 
   abbrev pub by_place : ℕ → ℕ → Line → ℕ
-  by_place place i l = count_in s place (take i lines)
+  by_place place i l = lines_in_place s place (take i lines)
 
   stand_of : (p : Line → Bool) (order : List ℕ) → IsMerge s lines order → Stand lines p order
   stand_of p order h = record { line = λ k i at. ((h k i at).line, (h k i at).stands) }
@@ -228,21 +228,21 @@ module _ (s : Script) (lines : List Line) where
     note_is : (k i : ℕ) (l : Line) (at : slice_get order k ≡ Some i) → slice_get lines i ≡ Some l → (h k i at).line ≡ l
     note_is k i l at stands = some_is (h k i at).line l (sym (h k i at).stands ∙ stands)
 
-    next_is : (k i : ℕ) (l : Line) → slice_get order k ≡ Some i → slice_get lines i ≡ Some l → is_next s lines (take k order) i l ≡ true
-    next_is k i l at stands = subst (λ (m : Line). is_next s lines (take k order) i m ≡ true) (note_is k i l at stands) (h k i at).next
+    next_is : (k i : ℕ) (l : Line) → slice_get order k ≡ Some i → slice_get lines i ≡ Some l → comes_next s lines (take k order) i l ≡ true
+    next_is k i l at stands = subst (λ (m : Line). comes_next s lines (take k order) i m ≡ true) (note_is k i l at stands) (h k i at).next
 
     pub actor_counted : (a : ℕ) → AreCounted lines (is_by a) by_actor order
     actor_counted a = record {
       value = λ k i l at stands own.
-          (next_parts (times i (take k order)) l.number _ (count_in s (place_index s l.place) (take i lines)) _ (next_is k i l at stands)).0
-          ∙ ap (λ n. count_of n (notes_at lines (take k order))) (eq_true (actor_of l.entry) a own);
+          (next_parts (times i (take k order)) l.number _ (lines_in_place s (place_index s l.place) (take i lines)) _ (next_is k i l at stands)).0
+          ∙ ap (λ n. lines_made_by n (notes_at lines (take k order))) (eq_true (actor_of l.entry) a own);
     }
 
     pub place_counted : (q : ℕ) → AreCounted lines (λ l. place_index s l.place == q) (by_place q) order
     place_counted q = record {
       value = λ k i l at stands own.
-          subst (λ (n : ℕ). count_in s n (take i lines) ≡ count_in s n (notes_at lines (take k order))) (eq_true (place_index s l.place) q own)
-          (next_parts (times i (take k order)) l.number (count_of (actor_of l.entry) (notes_at lines (take k order))) (count_in s (place_index s l.place) (take i lines)) _ (next_is k i l at stands)).1;
+          subst (λ (n : ℕ). lines_in_place s n (take i lines) ≡ lines_in_place s n (notes_at lines (take k order))) (eq_true (place_index s l.place) q own)
+          (next_parts (times i (take k order)) l.number (lines_made_by (actor_of l.entry) (notes_at lines (take k order))) (lines_in_place s (place_index s l.place) (take i lines)) _ (next_is k i l at stands)).1;
     }
 
   -- the first note of an order that a merge has not
@@ -274,7 +274,7 @@ module _ (s : Script) (lines : List Line) where
       let x = m.index in
       let here = whole.merge k x m.is in
       let l = here.line in
-      let parts = next_parts (times x (take k order)) l.number _ (count_in s (place_index s l.place) (take x lines)) _ here.next in
+      let parts = next_parts (times x (take k order)) l.number _ (lines_in_place s (place_index s l.place) (take x lines)) _ here.next in
       let missed : IsIn part x → ⊥ = λ (there : IsIn part x). absurd (omega (arith, times_in x part there, m.missed)) in
       let all : (j i : ℕ) → slice_get part j ≡ Some i → IsIn order i = λ (j i : ℕ) (at : slice_get part j ≡ Some i). in_times i order (omega (arith, whole.once i (slice_get_within lines i (h j i at).line (h j i at).stands))) in
       let actors : Misses lines (is_by (actor_of l.entry)) by_actor order part k x l = record {
@@ -304,7 +304,7 @@ module _ (s : Script) (lines : List Line) where
       record {
         line = l;
         stands = here.stands;
-        next = next_made (times x part) l.number _ (count_in s (place_index s l.place) (take x lines)) _ m.missed
+        next = next_made (times x part) l.number _ (lines_in_place s (place_index s l.place) (take x lines)) _ m.missed
             (parts.0 ∙ sym (same_count lines (is_by (actor_of l.entry)) by_actor order part k x l actors))
             (parts.1 ∙ sym (same_count lines (λ n. place_index s n.place == place_index s l.place) (by_place (place_index s l.place)) order part k x l places));
       }

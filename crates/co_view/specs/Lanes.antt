@@ -63,12 +63,12 @@ passing zero = []
 passing (suc a) = 124 ∷ 9 ∷ passing a
 
 -- the number of its line in the report, and the note in its actor's column
-abbrev pub row_text : Line → List ℕ
-row_text l = decimal l.line ++ (9 ∷ (passing (actor_of l.entry) ++ (note_text l.place l.entry ++ 10 ∷ [])))
+abbrev pub lane_row : Line → List ℕ
+lane_row l = decimal l.line ++ (9 ∷ (passing (actor_of l.entry) ++ (note_text l.place l.entry ++ 10 ∷ [])))
 
 -- the row of a note that is shown
 abbrev pub shown_row : Focus → Option Line → List ℕ
-shown_row f (Some l) = if concerns f l then row_text l else []
+shown_row f (Some l) = if concerns f l then lane_row l else []
 shown_row f None = []
 
 abbrev pub row_at : Focus → List Line → ℕ → List ℕ

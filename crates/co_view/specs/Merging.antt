@@ -9,7 +9,7 @@ use Rattle.co_object.specs.Lists.{actor_of}
 use Rattle.co_program.specs.declared.script.Script.{Script}
 use Rattle.co_view.specs.declared.order.board.Board.{Board}
 use Rattle.co_view.specs.declared.order.merge.Merge.{Merge}
-use Rattle.co_view.specs.Order.{notes_at, count_in, MayCome, IsMerge}
+use Rattle.co_view.specs.Order.{notes_at, lines_in_place, MayCome, IsMerge}
 
 -- by number: how many of these have it as their key
 pub record AreCountsBy {X : Type 0} (key : X → ℕ) (n : ℕ) (xs : List X) (counts : List ℕ) : Type 0 where
@@ -25,7 +25,7 @@ place_key s l = place_index s l.place
 -- by line: how many notes of its place stand above it
 pub record AreRanks (s : Script) (lines : List Line) (ranks : List ℕ) : Type 0 where
   pub long : length ranks ≡ length lines
-  pub each : (i : ℕ) (l : Line) → slice_get lines i ≡ Some l → slice_index ranks i ≡ count_in s (place_index s l.place) (take i lines)
+  pub each : (i : ℕ) (l : Line) → slice_get lines i ≡ Some l → slice_index ranks i ≡ lines_in_place s (place_index s l.place) (take i lines)
 
 pub record IsBoard (b : Board) : Type 0 where
   pub script : IsScript b.script.now
@@ -40,8 +40,8 @@ pub record IsMerging (s : Script) (lines : List Line) (x : Merge) : Type 0 where
   pub once : (i : ℕ) → i < length lines → slice_index x.come i ≤ 1
 
 -- how many notes have not come
-abbrev pub left_of : Merge → ℕ
-left_of x = count_by (λ c. c == 0) x.come
+abbrev pub not_come : Merge → ℕ
+not_come x = count_by (λ c. c == 0) x.come
 
 -- none of these has not come, or this is the first
 abbrev pub FirstZero : List ℕ → Option ℕ → Type 0

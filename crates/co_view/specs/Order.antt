@@ -4,7 +4,7 @@ use Rattle.std.specs.List.{filter_map}
 use Rattle.co_program.specs.declared.script.Script.{Script}
 use Rattle.co_report.specs.declared.line.Line.{Line}
 use Rattle.co_report.specs.Order.{place_index}
-use Rattle.co_check.specs.Numbers.{count_of}
+use Rattle.co_check.specs.Numbers.{lines_made_by}
 use Rattle.co_object.specs.Lists.{actor_of}
 use Rattle.co_view.specs.declared.order.Ordered.{Ordered}
 use Rattle.co_view.specs.declared.order.Ordered.TheVariants.{Whole, Stuck}
@@ -14,8 +14,8 @@ abbrev pub notes_at : List Line → List ℕ → List Line
 notes_at lines order = filter_map (slice_get lines) order
 
 -- how many of these notes stand in the place of this number
-abbrev pub count_in : Script → ℕ → List Line → ℕ
-count_in s place notes = count_by (λ l. place_index s l.place == place) notes
+abbrev pub lines_in_place : Script → ℕ → List Line → ℕ
+lines_in_place s place notes = count_by (λ l. place_index s l.place == place) notes
 
 -- how often the note of this index has come
 abbrev pub times : ℕ → List ℕ → ℕ
@@ -23,17 +23,17 @@ times i order = count_by (λ j. j == i) order
 
 -- the note has not come; its number is how many notes of its actor have come; and as many notes of its place have come as stand
 -- above it
-abbrev pub is_next : Script → List Line → List ℕ → ℕ → Line → Bool
-is_next s lines order i l =
+abbrev pub comes_next : Script → List Line → List ℕ → ℕ → Line → Bool
+comes_next s lines order i l =
     let come = notes_at lines order in
     let place = place_index s l.place in
-    (times i order == 0) && ((l.number == count_of (actor_of l.entry) come) && (count_in s place (take i lines) == count_in s place come))
+    (times i order == 0) && ((l.number == lines_made_by (actor_of l.entry) come) && (lines_in_place s place (take i lines) == lines_in_place s place come))
 
 -- the note of this index may come next behind those of an order
 pub record MayCome (s : Script) (lines : List Line) (order : List ℕ) (i : ℕ) : Type 0 where
   pub line : Line
   pub stands : slice_get lines i ≡ Some line
-  pub next : is_next s lines order i line ≡ true
+  pub next : comes_next s lines order i line ≡ true
 
 -- each note comes when it may: the numbers of each actor are 0, 1, 2 and so on, and the notes of each place come in the order of
 -- their positions

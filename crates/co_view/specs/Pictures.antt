@@ -6,16 +6,16 @@ use Rattle.co_view.specs.declared.picture.Picture.{Picture}
 use Rattle.co_view.specs.declared.picture.Picture.TheVariants.{Trace, Svg}
 use Rattle.co_view.specs.declared.scene.Watch.{Watch}
 use Rattle.co_view.specs.Scenes.{quiet, scene_after}
-use Rattle.co_view.specs.Trace.{events, head_text}
+use Rattle.co_view.specs.Trace.{trace_events, head_text}
 use Rattle.co_view.specs.Svg.{figure, frame_text}
 
 -- what is told of the note of this step
-abbrev pub told : Picture → (step : ℕ) → List Watch → Line → List ℕ
-told Trace step scene l = events step scene l
-told Svg step scene l = figure step scene l
+abbrev pub picture_told : Picture → (step : ℕ) → List Watch → Line → List ℕ
+picture_told Trace step scene l = trace_events step scene l
+picture_told Svg step scene l = figure step scene l
 
 abbrev pub told_of : Picture → (step : ℕ) → List Watch → Option Line → List ℕ
-told_of p step scene (Some l) = told p step scene l
+told_of p step scene (Some l) = picture_told p step scene l
 told_of p step scene None = []
 
 -- the notes of these indices one by one, from this step on

@@ -29,10 +29,10 @@ armed_by_call was (reply.Drained code off) = false
 armed_by_call was r = was
 
 -- what is taken for service is armed no more
-abbrev pub armed_by : Bool → Op → Reply → Bool
-armed_by was (Call op) r = armed_by_call was r
-armed_by was (Run (Pick n cpu at)) r = false
-armed_by was (Run op) r = was
+abbrev pub stays_armed : Bool → Op → Reply → Bool
+stays_armed was (Call op) r = armed_by_call was r
+stays_armed was (Run (Pick n cpu at)) r = false
+stays_armed was (Run op) r = was
 
 -- a reset that is heard, and a stop, cancel what waits for its lock
 abbrev pub waits_by_call : Bool → CallOp → Reply → Bool
@@ -68,7 +68,7 @@ is_wait r = false
 -- a callout behind an entry, which is that of this step
 abbrev pub watched : ℕ → Watch → Entry → Watch
 watched step w e = record {
-  armed = armed_by w.armed e.op e.reply;
+  armed = stays_armed w.armed e.op e.reply;
   waits = waits_by w.waits e.op e.reply;
   serviced = serviced_by w.serviced e.op;
   since = since_by w.since step e.op;

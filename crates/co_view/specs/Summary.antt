@@ -99,22 +99,22 @@ abbrev pub is_open : Watch → Bool
 is_open w = w.armed || w.waits
 
 -- one more at a place of the table
-abbrev pub more : List ℕ → ℕ → List ℕ
-more counts at = slice_set counts at (slice_index counts at + 1)
+abbrev pub one_more_at : List ℕ → ℕ → List ℕ
+one_more_at counts at = slice_set counts at (slice_index counts at + 1)
 
 -- a reply and a fate, in a row
-abbrev pub noted : List ℕ → (row reply fate : ℕ) → List ℕ
-noted counts row r f = more (more counts (row * width + r)) (row * width + f)
+abbrev pub reply_noted : List ℕ → (row reply fate : ℕ) → List ℕ
+reply_noted counts row r f = one_more_at (one_more_at counts (row * width + r)) (row * width + f)
 
 -- an entry of callout i, of so many callouts
-abbrev pub counted : (timers : ℕ) → List ℕ → (i : ℕ) → Watch → Entry → List ℕ
-counted timers counts i w e =
+abbrev pub entry_counted : (timers : ℕ) → List ℕ → (i : ℕ) → Watch → Entry → List ℕ
+entry_counted timers counts i w e =
     let r = reply_column e.reply in
     let f = fate_column (is_open w) (is_open (watched 0 w e)) e.reply in
-    noted (noted counts i r f) timers r f
+    reply_noted (reply_noted counts i r f) timers r f
 
 abbrev pub tally_entry : (timers : ℕ) → Tally → Place → AnyEntry → List ℕ
-tally_entry timers t (place.Timer i) (of.Timer e) = if nat_lt i timers then counted timers t.counts i (watch_of t.scene i) e else t.counts
+tally_entry timers t (place.Timer i) (of.Timer e) = if nat_lt i timers then entry_counted timers t.counts i (watch_of t.scene i) e else t.counts
 tally_entry timers t p entry = t.counts
 
 abbrev pub tallied : (timers : ℕ) → Tally → Line → Tally

@@ -17,7 +17,7 @@ use Rattle.co_grammar.specs.Spelling.{actor_word}
 use Rattle.co_report.specs.declared.line.Line.{Line}
 use Rattle.co_object.specs.Lists.{act_of, actor_of}
 use Rattle.co_view.specs.declared.scene.Watch.{Watch}
-use Rattle.co_view.specs.Scenes.{armed_by, watch_of}
+use Rattle.co_view.specs.Scenes.{stays_armed, watch_of}
 use Rattle.co_view.specs.Words.{note_text}
 
 -- ---- the parts of an event
@@ -55,7 +55,7 @@ is_armed_reply r = false
 
 -- a bar ends where the arming goes, or another takes its place
 abbrev pub ends_armed : Watch → Entry → Bool
-ends_armed w e = w.armed && (is_armed_reply e.reply || not (armed_by w.armed e.op e.reply))
+ends_armed w e = w.armed && (is_armed_reply e.reply || not (stays_armed w.armed e.op e.reply))
 
 abbrev pub armed_text : (i step : ℕ) → Watch → Entry → List ℕ
 armed_text i step w e = text_if (ends_armed w e) (end_text (2 * i) step) ++ armed_begin i step e.reply
@@ -112,8 +112,8 @@ note_event step l = codes ",\n{\"ph\":\"X\",\"pid\":2,\"tid\":" ++ (at_text (act
     ++ (codes ",\"dur\":1,\"name\":\"" ++ (note_text l.place l.entry
     ++ (codes "\",\"args\":{\"line\":" ++ (decimal l.line ++ (codes ",\"act\":" ++ (decimal (act_of l.entry) ++ codes "}}")))))))
 
-abbrev pub events : (step : ℕ) → List Watch → Line → List ℕ
-events step scene l = note_event step l ++ effect_text step scene l.place l.entry
+abbrev pub trace_events : (step : ℕ) → List Watch → Line → List ℕ
+trace_events step scene l = note_event step l ++ effect_text step scene l.place l.entry
 
 -- ---- the names of the lanes
 

@@ -7,7 +7,7 @@ ghost use Rattle.co_program.specs.Actors.{actor_count};
 ghost use Rattle.co_object.specs.History.{cpu_of};
 ghost use Rattle.co_grammar.specs.Spelling.{actor_word};
 ghost use Rattle.co_view.specs.Rolls.{roll_text};
-ghost use Rattle.co_view.specs.Lanes.{asks_of, concerns, header_text, is_of_cpu, is_of_timer, lanes_text, passing, row_at, row_text, serves_on, tells_of};
+ghost use Rattle.co_view.specs.Lanes.{asks_of, concerns, header_text, is_of_cpu, is_of_timer, lanes_text, passing, row_at, lane_row, serves_on, tells_of};
 
 use crate::roll::Roll;
 use crate::words::print_note;
@@ -119,7 +119,7 @@ fn print_passing(page: &mut Page, actor: u32) -> Result<(), NoMemory>
 
 /// The row of a note.
 fn print_row(page: &mut Page, line: &Line) -> Result<(), NoMemory>
-    ensures { OnOk result (page.new ≡ page.old ++ row_text line.now) }
+    ensures { OnOk result (page.new ≡ page.old ++ lane_row line.now) }
 {
     page.number(line.line)?;
     page.text(b"\t".as_slice())?;

@@ -1,7 +1,7 @@
 //! One order of all notes of a report, which keeps each actor's numbers and each place's positions.
 ghost use Rattle.std.specs.Prelude.{◌≤◌, ◌<◌, OnOk, IfOk};
 ghost use Rattle.co_check.specs.Lines.{IsReport};
-ghost use Rattle.co_view.specs.Merging.{FirstNext, FirstZero, IsBoard, IsMerging, left_of};
+ghost use Rattle.co_view.specs.Merging.{FirstNext, FirstZero, IsBoard, IsMerging, not_come};
 ghost use Rattle.co_view.specs.Order.{IsOrdered, MayCome};
 
 mod board;
@@ -38,7 +38,7 @@ fn step(
     requires merge { IsMerging board.now.script.now board.now.lines.now merge.old }
     requires next { MayCome board.now.script.now board.now.lines.now merge.old.order at }
     ensures merge { OnOk result (IsMerging board.now.script.now board.now.lines.now merge.new) }
-    ensures left { OnOk result (left_of merge.new < left_of merge.old) }
+    ensures left { OnOk result (not_come merge.new < not_come merge.old) }
 {
     merge.take(board, at)?;
     let below = at.saturating_add(1);
@@ -60,7 +60,7 @@ fn follow(
     requires board { IsBoard board.now }
     requires merge { IsMerging board.now.script.now board.now.lines.now merge.old }
     ensures merge { OnOk result (IsMerging board.now.script.now board.now.lines.now merge.new) }
-    ensures left { OnOk result (left_of merge.new ≤ left_of merge.old) }
+    ensures left { OnOk result (not_come merge.new ≤ not_come merge.old) }
 {
     let mut at = first;
     for _ in 0..board.lines.len() {
@@ -90,7 +90,7 @@ fn follow_woken(
     requires board { IsBoard board.now }
     requires merge { IsMerging board.now.script.now board.now.lines.now merge.old }
     ensures merge { OnOk result (IsMerging board.now.script.now board.now.lines.now merge.new) }
-    ensures left { OnOk result (left_of merge.new ≤ left_of merge.old) }
+    ensures left { OnOk result (not_come merge.new ≤ not_come merge.old) }
 {
     for _ in 0..u64::MAX {
         match woken.pop() {

@@ -5,7 +5,7 @@ ghost use Rattle.co_check.specs.Lines.{IsReport};
 ghost use Rattle.co_program.specs.Scripts.{IsScript};
 ghost use Rattle.co_view.specs.Rolls.{roll_text};
 ghost use Rattle.co_view.specs.Scenes.{scene_after};
-ghost use Rattle.co_view.specs.Pictures.{back_text, front_text, picture_text, story, told, told_of};
+ghost use Rattle.co_view.specs.Pictures.{back_text, front_text, picture_text, story, picture_told, told_of};
 ghost use Rattle.std.specs.Prelude.{slice_get};
 
 use crate::roll::Roll;
@@ -35,7 +35,7 @@ fn tell(
     scene: &[Watch],
     line: &Line,
 ) -> Result<(), NoMemory>
-    ensures { OnOk result (page.new ≡ page.old ++ told picture step scene.now line.now) }
+    ensures { OnOk result (page.new ≡ page.old ++ picture_told picture step scene.now line.now) }
 {
     match picture {
         Picture::Trace => print_events(page, step, scene, line),

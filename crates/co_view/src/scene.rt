@@ -1,6 +1,6 @@
 //! What is known of each callout while its notes come.
 ghost use Rattle.std.specs.Prelude.{◌≡◌, replicate, slice_set, IfOk, if◌then◌else◌};
-ghost use Rattle.co_view.specs.Scenes.{armed_by, armed_by_call, is_hold, is_wait, quiet, scene_behind, serviced_by, since_by, waits_by, waits_by_call, watch_of, watched};
+ghost use Rattle.co_view.specs.Scenes.{stays_armed, armed_by_call, is_hold, is_wait, quiet, scene_behind, serviced_by, since_by, waits_by, waits_by_call, watch_of, watched};
 
 use co_object::{AnyEntry, CallOp, Entry, Op, Place, PlainOp, Reply, RunOp};
 use co_report::Line;
@@ -50,7 +50,7 @@ fn armed_by_call(was: bool, reply: &Reply) -> bool
 }
 
 pub(crate) fn armed_by(was: bool, op: &Op, reply: &Reply) -> bool
-    ensures { result ≡ armed_by was op.now reply.now }
+    ensures { result ≡ stays_armed was op.now reply.now }
 {
     match op {
         Op::Call(_) => armed_by_call(was, reply),

@@ -3,7 +3,7 @@ ghost use Rattle.std.specs.Prelude.{◌≡◌, ◌≤◌, ◌<◌, ◌+◌, ◌*
 ghost use Rattle.std.specs.List.{range_with_len};
 ghost use Rattle.co_check.specs.Lines.{IsReport};
 ghost use Rattle.co_view.specs.Scenes.{watch_of};
-ghost use Rattle.co_view.specs.Summary.{cell_at, cell_text, coded_column, column_name, counted, fate_column, fates_text, is_open, noted, one_if, opened_tally, replaced_column, reply_column, row_text, stopped_column, summary_text, tally_entry, tally_of, tallied, timer_row};
+ghost use Rattle.co_view.specs.Summary.{cell_at, cell_text, coded_column, column_name, entry_counted, fate_column, fates_text, is_open, reply_noted, one_if, opened_tally, replaced_column, reply_column, row_text, stopped_column, summary_text, tally_entry, tally_of, tallied, timer_row};
 
 use crate::order::counts::raise;
 use crate::scene::{Watch, opened, take, watch_of, watched};
@@ -133,7 +133,7 @@ fn note(counts: &mut Seq<u64>, row: usize, reply: usize, fate: usize) -> Result<
     requires fate { fate < 26 }
     requires small { row ≤ 1024 }
     requires row { (row + 1) * 26 ≤ length counts.old }
-    ensures counts { OnOk result (counts.new ≡ noted counts.old row reply fate) }
+    ensures counts { OnOk result (counts.new ≡ reply_noted counts.old row reply fate) }
     ensures long { OnOk result (length counts.new ≡ length counts.old) }
 {
     raise(counts, row * WIDTH + reply)?;
@@ -156,7 +156,7 @@ impl Tally {
         requires timers { i < timers }
         requires most { timers ≤ 1024 }
         requires long { length self.old.counts ≡ (timers + 1) * 26 }
-        ensures counts { OnOk result (self.new.counts ≡ counted timers self.old.counts i (watch_of self.old.scene i) entry.now) }
+        ensures counts { OnOk result (self.new.counts ≡ entry_counted timers self.old.counts i (watch_of self.old.scene i) entry.now) }
         ensures scene { OnOk result (self.new.scene ≡ self.old.scene) }
         ensures long { OnOk result (length self.new.counts ≡ (timers + 1) * 26) }
     {

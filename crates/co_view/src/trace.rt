@@ -3,7 +3,7 @@ ghost use Rattle.std.specs.Prelude.{◌≡◌, ◌+◌, ◌*◌, ◌++◌, ◌�
 ghost use Rattle.std.specs.List.{range_with_len};
 ghost use Rattle.co_program.specs.Scripts.{IsScript};
 ghost use Rattle.co_program.specs.Actors.{actor_count};
-ghost use Rattle.co_view.specs.Trace.{actor_lane, begin_text, arming_text, armed_begin, armed_text, at_text, callout_text, doing_word, effect_text, end_text, ends_armed, events, flow_text, head_text, is_armed_reply, is_run, lane_head, note_event, opening_text, service_begin, service_text, text_if, timer_lane, timer_lanes, wait_text, wake_text, wakes};
+ghost use Rattle.co_view.specs.Trace.{actor_lane, begin_text, arming_text, armed_begin, armed_text, at_text, callout_text, doing_word, effect_text, end_text, ends_armed, trace_events, flow_text, head_text, is_armed_reply, is_run, lane_head, note_event, opening_text, service_begin, service_text, text_if, timer_lane, timer_lanes, wait_text, wake_text, wakes};
 
 use crate::scene::{Watch, armed_by, watch_of};
 use crate::words::print_note;
@@ -300,7 +300,7 @@ pub(crate) fn print_events(
     scene: &[Watch],
     line: &Line,
 ) -> Result<(), NoMemory>
-    ensures { OnOk result (page.new ≡ page.old ++ events step scene.now line.now) }
+    ensures { OnOk result (page.new ≡ page.old ++ trace_events step scene.now line.now) }
 {
     print_event(page, step, line)?;
     print_effect(page, step, scene, line.place, &line.entry)

@@ -30,7 +30,7 @@ pub record IsRefused (bytes text : List ℕ) : Type 0 where
   pub said : text ≡ refusal_text refusal
 
 -- the bytes are a report that has no order; the text names the first line whose note is left where nothing more may come
-pub record HasNoOrder (bytes text : List ℕ) : Type 0 where
+pub record IsUnordered (bytes text : List ℕ) : Type 0 where
   pub report : Report
   pub read : report_read bytes ≡ Ok report
   pub line : ℕ
@@ -42,7 +42,7 @@ pub record HasNoOrder (bytes text : List ℕ) : Type 0 where
 abbrev pub Gives : View → List ℕ → Status → List ℕ → Type 0
 Gives view bytes Done text = IsView view bytes text
 Gives view bytes BadReport text = IsRefused bytes text
-Gives view bytes NoOrder text = HasNoOrder bytes text
+Gives view bytes NoOrder text = IsUnordered bytes text
 Gives view bytes status text = ⊥
 
 -- where this text is to be written for this status, the answer is that status, or the sink failed in the text

@@ -6,7 +6,7 @@ use Rattle.co_object.specs.declared.alone.Alone.{Alone}
 use Rattle.co_object.specs.Drain.{serviced}
 use Rattle.co_object.specs.Queue.{Due}
 use Rattle.co_object.specs.Stand.{is_free_at}
-use Rattle.co_record.specs.declared.slot.Move.{Move}
+use Rattle.co_record.specs.declared.slot.DeferredArming.{DeferredArming}
 use Rattle.co_record.specs.Deferred.{deferred_of}
 use Rattle.co_wheel.specs.Callouts.{Callouts, callout, in_service}
 
@@ -26,14 +26,14 @@ pub record KeepsSlots (c : Callouts) : Type 0 where
   -- and no other CPU services it
   pub here : (i : ℕ) (a : Alone) → callout c i ≡ Some a → is_free_at a.state.run c.cpu ≡ true
 
-abbrev pub deferred_at : Option Alone → Option Move
+abbrev pub deferred_at : Option Alone → Option DeferredArming
 deferred_at None = None
 deferred_at (Some a) = deferred_of a.state
 
-abbrev pub deferred_for : Callouts → Option Due → Option Move
+abbrev pub deferred_for : Callouts → Option Due → Option DeferredArming
 deferred_for c None = None
 deferred_for c (Some d) = deferred_at (callout c d.i)
 
 -- the arming that waits for the end of the CPU's service, or of its interrupt's where `direct`
-abbrev pub deferred_in : Bool → Callouts → Option Move
+abbrev pub deferred_in : Bool → Callouts → Option DeferredArming
 deferred_in direct c = deferred_for c (in_service direct c)

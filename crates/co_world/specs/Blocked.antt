@@ -7,27 +7,28 @@ use Rattle.co_lock.specs.declared.Held.{Held}
 use Rattle.co_program.specs.declared.Script.{Script}
 use Rattle.co_program.specs.Stages.{Stage, Waiting}
 use Rattle.co_program.specs.Cursor.{Cursor}
-use Rattle.co_program.specs.declared.Parcel.{Parcel}
+use Rattle.co_program.specs.declared.PendingInsert.{PendingInsert}
 use Rattle.co_program.specs.Action.{Action, Nothing, Silent, Take, Asks, action_for, scans_first}
 use Rattle.co_program.specs.declared.Asked.TheVariants.{Callout, Queue, Itself}
 use Rattle.co_world.specs.declared.turn.Why.{Why}
 use Rattle.co_world.specs.declared.turn.Why.TheVariants.{Lock, Moving, Serviced, Tick}
 use Rattle.co_program.specs.Follows.{scan_count}
-use Rattle.co_world.specs.World.{World, all_actors}
+use Rattle.co_world.specs.World.{World}
+use Rattle.co_program.specs.Actors.{all_actors}
 
 -- the two may not hold at once
-abbrev pub excludes : Held → Held → Bool
-excludes x y = x.id == y.id && (x.exclusive || y.exclusive)
+abbrev pub holds_exclude : Held → Held → Bool
+holds_exclude x y = x.id == y.id && (x.exclusive || y.exclusive)
 
 abbrev pub is_excluded_by : Held → Option Held → Bool
 is_excluded_by held None = false
-is_excluded_by held (Some other) = excludes held other
+is_excluded_by held (Some other) = holds_exclude held other
 
 -- an actor holds the lock in an excluding mode
 abbrev pub is_locked : Script → World → Held → Bool
 is_locked s w held = list_any (λ a. is_excluded_by held (w.actors a).cursor.hold) (all_actors s)
 
-abbrev pub moves : ℕ → Option Parcel → Bool
+abbrev pub moves : ℕ → Option PendingInsert → Bool
 moves i None = false
 moves i (Some p) = p.i == i
 

@@ -10,7 +10,7 @@ pub mod Step
 pub mod Walk
 -- what the lists of notes are at every moment of a run: legal histories, well formed so far
 pub mod SoFar
--- the callouts' places, the queues' services and the actors' stages agree with each other
+-- where the callouts stand, the queues' services and the actors' stages agree with each other
 pub mod Placed
 -- what is left to do, which falls with every step that is made, so that round robin ends
 pub mod Measure

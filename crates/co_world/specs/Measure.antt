@@ -7,13 +7,13 @@ use Rattle.co_object.specs.Drain.{serviced}
 use Rattle.co_object.specs.Queue.{Queue}
 use Rattle.co_program.specs.declared.Act.{Act}
 use Rattle.co_program.specs.declared.Script.{Script}
-use Rattle.co_program.specs.Actors.{actor_count}
+use Rattle.co_program.specs.Actors.{actor_count, all_actors}
 use Rattle.co_program.specs.declared.Task.{Task}
 use Rattle.co_program.specs.Stages.{Stage, Ready, Waiting, Picking, Locking, Beginning, Unlocking, Firing, Releasing, Ending, Freeing, Drained}
 use Rattle.co_program.specs.Cursor.{Cursor}
 use Rattle.co_program.specs.Action.{drained_of}
 use Rattle.co_program.specs.Advance.{tail_of}
-use Rattle.co_world.specs.World.{World, all_actors}
+use Rattle.co_world.specs.World.{World}
 
 -- ---- a round: the service of one callout, from its Pop to the last act of a drain function
 
@@ -23,8 +23,8 @@ longest [] = 0
 longest (acts ∷ funcs) = max (length acts) (longest funcs)
 
 -- the steps of a function: two for an act, since the callout that it arms may land in a step of its own
-abbrev pub steps_of : List Act → ℕ
-steps_of acts = 2 * length acts
+abbrev pub steps_for : List Act → ℕ
+steps_for acts = 2 * length acts
 
 abbrev pub most_steps : Script → ℕ
 most_steps s = 2 * longest s.funcs
@@ -35,12 +35,12 @@ abbrev pub round_left : Script → Stage → ℕ
 round_left s (Picking v) = most_steps s + most_steps s + 9 + actor_count s
 round_left s (Locking v) = most_steps s + most_steps s + 8
 round_left s (Beginning v) = most_steps s + most_steps s + 6
-round_left s (Unlocking v acts) = steps_of acts + most_steps s + 5
-round_left s (Firing v acts) = steps_of acts + most_steps s + 4
+round_left s (Unlocking v acts) = steps_for acts + most_steps s + 5
+round_left s (Firing v acts) = steps_for acts + most_steps s + 4
 round_left s (Releasing v) = most_steps s + 4
 round_left s (Ending v) = most_steps s + 3
 round_left s (Freeing v drain next) = most_steps s + 2
-round_left s (Drained v acts) = steps_of acts
+round_left s (Drained v acts) = steps_for acts
 round_left s stage = 0
 
 -- all of it, from the Pop on
@@ -59,10 +59,10 @@ tries n None = 1
 tries n (Some m) = if m == n then 1 else 2
 
 -- the acts left, of which the first may be under way
-abbrev pub acts_left : Script → (ℕ → State) → List Task → Stage → ℕ
-acts_left s states left Ready = whole_act s * length left
-acts_left s states left (Waiting n took) = whole_act s * length (tail_of left) + tries n (serviced (states (drained_of left)).run)
-acts_left s states left stage = whole_act s * length (tail_of left) + 1 + round_left s stage
+abbrev pub steps_left : Script → (ℕ → State) → List Task → Stage → ℕ
+steps_left s states left Ready = whole_act s * length left
+steps_left s states left (Waiting n took) = whole_act s * length (tail_of left) + tries n (serviced (states (drained_of left)).run)
+steps_left s states left stage = whole_act s * length (tail_of left) + 1 + round_left s stage
 
 abbrev pub one_for : {T : Type 0} → Option T → ℕ
 one_for None = 0
@@ -70,7 +70,7 @@ one_for (Some x) = 1
 
 -- with a lock that it has to release, and a callout that has to land
 abbrev pub actor_left : Script → (ℕ → State) → Cursor → ℕ
-actor_left s states c = acts_left s states c.left c.stage + one_for c.hold + one_for c.parcel
+actor_left s states c = steps_left s states c.left c.stage + one_for c.hold + one_for c.parcel
 
 -- ---- a queue: a round for each callout that has come due
 

@@ -22,7 +22,7 @@ use Rattle.co_object.specs.Journal.{step as queue_step}
 use Rattle.co_program.specs.declared.Script.{Script}
 use Rattle.co_program.specs.Stages.{Stage, Picking, Freeing}
 use Rattle.co_program.specs.Cursor.{Cursor}
-use Rattle.co_program.specs.declared.Parcel.{Parcel}
+use Rattle.co_program.specs.declared.PendingInsert.{PendingInsert}
 use Rattle.co_program.specs.Action.{Action, Nothing, Silent, Take, Asks, action_for, spec_at}
 use Rattle.co_program.specs.declared.Asked.{Asked}
 use Rattle.co_program.specs.declared.Asked.TheVariants.{Callout, Queue, Itself}
@@ -86,17 +86,17 @@ note_of_own s w a act kind = record {
 abbrev pub own_note : Script → World → ℕ → ℕ → OwnKind → World
 own_note s w a act kind = notes_down s w a false (note_of_own s w a act kind)
 
-abbrev pub answered : Script → World → ℕ → ℕ → Asked → World
-answered s w a act (Callout i op) = callout_answers s w a act i op (callout_step (spec_at s i) (w.timers i).state op)
-answered s w a act (Queue cpu op) = queue_answers s w a act cpu op (queue_step s.buckets (are_direct s) (w.cpus cpu).queue op)
-answered s w a act (Itself kind) = own_note s w a act kind
+abbrev pub world_answers : Script → World → ℕ → ℕ → Asked → World
+world_answers s w a act (Callout i op) = callout_answers s w a act i op (callout_step (spec_at s i) (w.timers i).state op)
+world_answers s w a act (Queue cpu op) = queue_answers s w a act cpu op (queue_step s.buckets (are_direct s) (w.cpus cpu).queue op)
+world_answers s w a act (Itself kind) = own_note s w a act kind
 
 -- ---- one section
 
 -- a call that takes an arming out of a queue removes it there first
 abbrev pub removed_from : Script → World → ℕ → ℕ → ℕ → Option ℕ → World
 removed_from s w a act i None = w
-removed_from s w a act i (Some cpu) = answered s w a act (Queue cpu (Remove i))
+removed_from s w a act i (Some cpu) = world_answers s w a act (Queue cpu (Remove i))
 
 abbrev pub removed_first : Script → World → ℕ → ℕ → Asked → World
 removed_first s w a act (Callout i (Call op)) = removed_from s w a act i (off_of (call (w.timers i).state op).1)
@@ -104,28 +104,28 @@ removed_first s w a act asked = w
 
 -- what an actor asks, with the Remove before it
 abbrev pub asked_whole : Script → World → ℕ → ℕ → Asked → World
-asked_whole s w a act asked = answered s (removed_first s w a act asked) a act asked
+asked_whole s w a act asked = world_answers s (removed_first s w a act asked) a act asked
 
-abbrev pub is_within : Stage → Bool
-is_within (Picking v) = true
-is_within (Freeing v drain next) = true
-is_within stage = false
+abbrev pub is_within_service : Stage → Bool
+is_within_service (Picking v) = true
+is_within_service (Freeing v drain next) = true
+is_within_service stage = false
 
 -- an arming that is Listed where its callout stands: nothing moves
-abbrev pub lands_here : World → Option Parcel → Bool
+abbrev pub lands_here : World → Option PendingInsert → Bool
 lands_here w None = false
 lands_here w (Some p) = (w.timers p.i).stand == p.cpu
 
 -- what comes next belongs to the same section: a Pick after its Pop, a Free after its End, an Insert where the callout stands
 abbrev pub is_in_section : World → Cursor → Bool
-is_in_section w c = is_within c.stage || lands_here w c.parcel
+is_in_section w c = is_within_service c.stage || lands_here w c.parcel
 
 abbrev pub makes_action : Script → World → ℕ → Action → World
-makes_action s w a (Asks act asked) = answered s w a act asked
+makes_action s w a (Asks act asked) = world_answers s w a act asked
 makes_action s w a action = w
 
-abbrev pub goes_on : Script → World → ℕ → World
-goes_on s w a = let c = (w.actors a).cursor in if is_in_section w c then makes_action s w a (action_for s a c) else w
+abbrev pub goes_on_in_section : Script → World → ℕ → World
+goes_on_in_section s w a = let c = (w.actors a).cursor in if is_in_section w c then makes_action s w a (action_for s a c) else w
 
 -- ---- one step
 
@@ -133,7 +133,7 @@ abbrev pub stepped : Script → World → ℕ → Action → World
 stepped s w a Nothing = w
 stepped s w a (Silent to) = with_cursor w a to
 stepped s w a (Take held to) = with_cursor w a to
-stepped s w a (Asks act asked) = goes_on s (asked_whole s w a act asked) a
+stepped s w a (Asks act asked) = goes_on_in_section s (asked_whole s w a act asked) a
 
 -- a blocked step changes nothing, nor does one of an actor that has finished
 abbrev pub step : Script → World → ℕ → World

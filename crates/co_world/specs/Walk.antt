@@ -2,9 +2,9 @@
 use Rattle.std.specs.Prelude.{◌≡◌, ℕ, zero, suc, ◌<◌, List, [], ◌∷◌}
 use Rattle.co_object.specs.declared.Note.{Note}
 use Rattle.co_program.specs.declared.Script.{Script}
-use Rattle.co_program.specs.Actors.{actor_count}
+use Rattle.co_program.specs.Actors.{actor_count, all_actors}
 use Rattle.co_program.specs.Action.{Nothing, action_for}
-use Rattle.co_world.specs.World.{World, all_actors, open_world, lists_of}
+use Rattle.co_world.specs.World.{World, open_world, lists_of}
 use Rattle.co_world.specs.Step.{step}
 
 -- a schedule: these actors step one after another

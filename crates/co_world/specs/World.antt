@@ -8,7 +8,7 @@ use Rattle.co_object.specs.declared.Note.{Note}
 use Rattle.co_object.specs.Callout.{opening}
 use Rattle.co_object.specs.Queue.{Queue, empty_queue}
 use Rattle.co_program.specs.declared.Script.{Script}
-use Rattle.co_program.specs.Actors.{actor_count}
+use Rattle.co_program.specs.Actors.{actor_count, all_actors}
 use Rattle.co_program.specs.Cursor.{Cursor, start_of}
 use Rattle.co_program.specs.Follows.{Histories}
 
@@ -45,10 +45,6 @@ new_actor s a = record { cursor = start_of s a; notes = [] }
 -- every callout stands at CPU 0, no lock is held, and nobody has begun
 abbrev pub open_world : Script → World
 open_world s = record { timers = λ i. new_timer; cpus = λ cpu. new_cpu; actors = new_actor s }
-
--- the numbers of the actors, in order
-abbrev pub all_actors : Script → List ℕ
-all_actors s = range_with_len 0 (actor_count s)
 
 abbrev pub lists_of : Script → World → List (List Note)
 lists_of s w = map (λ a. (w.actors a).notes) (all_actors s)

@@ -1,4 +1,3 @@
-mod bench;
 mod directs;
 mod drains;
 mod errors;
@@ -10,3 +9,4 @@ mod replies;
 mod rounds;
 mod schedules;
 mod stops;
+mod tested;

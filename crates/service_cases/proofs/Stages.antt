@@ -11,7 +11,7 @@ use Rattle.co_service.specs.Params.{AreParams, IsSpec, no_spec}
 use Rattle.service_cases.specs.Scenes.{IsFreeSpec, IsLocked, IsScene}
 use Rattle.co_object.specs.Queue.{Due}
 use Rattle.co_service.specs.Services.{IsServing}
-use Rattle.co_service.specs.Serving.{Service}
+use Rattle.co_service.specs.Serving.{ServiceStage}
 use Rattle.co_service.specs.Views.{PassesView}
 use Rattle.co_service.proofs.Items.{all_more}
 
@@ -93,5 +93,5 @@ locked_is specs p is here = subst IsLocked (sym (here ∙ ap locked_scene is)) (
 })
 
 -- an actor has one arming in service
-pub same_due : (direct : Bool) (q : PassesView) (cpu : ℕ) (d e : Due) (v w : Service) → IsServing direct q cpu d v → IsServing direct q cpu e w → d ≡ e
+pub same_due : (direct : Bool) (q : PassesView) (cpu : ℕ) (d e : Due) (v w : ServiceStage) → IsServing direct q cpu d v → IsServing direct q cpu e w → d ≡ e
 same_due direct q cpu d e v w a b = let both : Some d ≡ Some e = sym a.serves ∙ b.serves in cc

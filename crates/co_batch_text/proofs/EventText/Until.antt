@@ -9,7 +9,7 @@ use Rattle.co_event.proofs.Moment.{first}
 use Rattle.co_event.proofs.Standing.{Sound, sound-of}
 use Rattle.co_event.proofs.Outcomes.{sound-taken}
 use Rattle.co_event.proofs.Later.{fewer}
-use Rattle.co_batch_text.specs.Event.Answers.{Answered, comes_by, take_by, settled, with_event, event_lines, events_by}
+use Rattle.co_batch_text.specs.Event.Answers.{Answered, comes_by, take_by, until_answered, with_event, event_lines, events_by}
 use Rattle.co_batch_text.specs.Event.Written.{left_by}
 use Rattle.co_batch_text.specs.Event.Laws.{EachUntilTakesAll}
 
@@ -49,12 +49,12 @@ same-at t e (Some m) numbers took = at_test (nat_le m t) took where
 pub with-some : (t : ℕ) (x : Taken) (rest : Answered) (event : Event) (numbers : List ℕ) → x.1 ≡ (Some event, numbers) → with_event t x rest ≡ (rest.0, event_lines event numbers ++ rest.1)
 with-some t (e, r) rest event numbers took = ap (λ (q : Option Event × List ℕ). with_event t (e, q) rest) took
 
-with-none : (t : ℕ) (x : Taken) (rest : Answered) (numbers : List ℕ) → x.1 ≡ (None, numbers) → with_event t x rest ≡ settled t x.0
+with-none : (t : ℕ) (x : Taken) (rest : Answered) (numbers : List ℕ) → x.1 ≡ (None, numbers) → with_event t x rest ≡ until_answered t x.0
 with-none t (e, r) rest numbers took = ap (λ (q : Option Event × List ℕ). with_event t (e, q) rest) took
 
 -- no event more
-pub ended : (t most : ℕ) (e : Events) (numbers : List ℕ) → (take_by t e).1 ≡ (None, numbers) → events_by t most e ≡ settled t (take_by t e).0
-ended t zero e numbers took = ap (settled t) (sym (same-at t e (next_moment e) numbers took))
+pub ended : (t most : ℕ) (e : Events) (numbers : List ℕ) → (take_by t e).1 ≡ (None, numbers) → events_by t most e ≡ until_answered t (take_by t e).0
+ended t zero e numbers took = ap (until_answered t) (sym (same-at t e (next_moment e) numbers took))
 ended t (suc most) e numbers took = with-none t (take_by t e) (events_by t most (take_by t e).0) numbers took
 
 -- nothing is pending

@@ -18,8 +18,8 @@ use Rattle.co_event.specs.StandsFor.{StandsFor, Answers}
 use Rattle.co_event.proofs.Standing.{sound-of}
 use Rattle.co_batch_text.specs.declared.event.command.EventCommand.{EventCommand}
 use Rattle.co_batch_text.specs.declared.event.command.EventCommand.TheVariants.{Arm, Stop}
-use Rattle.co_batch_text.specs.Event.Answers.{answered, answering, armed_words, comes_by, due_of, event_lines, events_by, stopped_words, take_by, until, until_words}
-use Rattle.co_batch_text.specs.Event.Written.{IsWritten}
+use Rattle.co_batch_text.specs.Event.Answers.{answered, answering, armed_words, comes_by, earliest_of, event_lines, events_by, stopped_words, take_by, run_until, until_words}
+use Rattle.co_batch_text.specs.Event.Written.{IsPageWritten}
 use Rattle.co_batch_text.proofs.EventText.Until.{ended, fewer-by, with-some}
 
 -- what follows where it is not an error
@@ -33,12 +33,12 @@ one_line page then words is = is ∙ ap (λ t. page ++ t) (sym (text_one words))
 
 -- ---- an arming and a stop
 
-pub arm-written : (s u : EventTimers) (i due prec : ℕ) (when : When) (armed : Armed) (page then : List ℕ) → due ≡ due_of s.clock when → Answers s u (λ e. arm e i due prec) armed →
-    then ≡ page ++ line_text (armed_words armed) → IsWritten s u page then (answered (Arm i when prec))
+pub arm-written : (s u : EventTimers) (i due prec : ℕ) (when : When) (armed : Armed) (page then : List ℕ) → due ≡ earliest_of s.clock when → Answers s u (λ e. arm e i due prec) armed →
+    then ≡ page ++ line_text (armed_words armed) → IsPageWritten s u page then (answered (Arm i when prec))
 arm-written s u i due prec when armed page then due-is answer is = record {
   outcome = λ e h.
       let out = answer.outcome e h in
-      let same : due ≡ due_of e.now when = due-is ∙ ap (λ (n : ℕ). due_of n when) (sym h.now) in (
+      let same : due ≡ earliest_of e.now when = due-is ∙ ap (λ (n : ℕ). earliest_of n when) (sym h.now) in (
         one_line page then (armed_words armed) is
             ∙ ap (λ (a : Armed). page ++ text (armed_words a ∷ [])) (sym out.0)
             ∙ ap (λ (d : ℕ). page ++ text (armed_words (arm e i d prec).1 ∷ [])) same,
@@ -46,7 +46,7 @@ arm-written s u i due prec when armed page then due-is answer is = record {
       );
 }
 
-pub stop-written : (s u : EventTimers) (i : ℕ) (code : ℤ) (page then : List ℕ) → Answers s u (λ e. stop e i) code → then ≡ page ++ line_text (stopped_words code) → IsWritten s u page then (answered (Stop i))
+pub stop-written : (s u : EventTimers) (i : ℕ) (code : ℤ) (page then : List ℕ) → Answers s u (λ e. stop e i) code → then ≡ page ++ line_text (stopped_words code) → IsPageWritten s u page then (answered (Stop i))
 stop-written s u i code page then answer is = record {
   outcome = λ e h.
       let out = answer.outcome e h in
@@ -84,8 +84,8 @@ pub record Halfway (t : ℕ) (first page : List ℕ) (s : EventTimers) (e : Even
   pub most : ℕ
   pub stands : StandsFor s now
   pub enough : length now.pending ≤ most
-  pub to_come : page ++ text (events_by t most now).1 ≡ first ++ text (until t e).1
-  pub ends : (events_by t most now).0 ≡ (until t e).0
+  pub to_come : page ++ text (events_by t most now).1 ≡ first ++ text (run_until t e).1
+  pub ends : (events_by t most now).0 ≡ (run_until t e).0
 
 pub halfway-opening : (t : ℕ) (page : List ℕ) (s : EventTimers) (e : Events) → StandsFor s e → Halfway t page page s e
 halfway-opening t page s e h = record { now = e; most = length e.pending; stands = h; enough = omega arith; to_come = refl; ends = refl }
@@ -102,7 +102,7 @@ module _ (t : ℕ) (first page : List ℕ) (s u : EventTimers) (e : Events) wher
     less : length (take_by t now).0.pending < length now.pending
     less = fewer-by t now event numbers (sound-of now h.stands.sound) out.0
 
-    at_most : (most : ℕ) → length now.pending ≤ most → page ++ text (events_by t most now).1 ≡ first ++ text (until t e).1 → (events_by t most now).0 ≡ (until t e).0 → Halfway t first then u e
+    at_most : (most : ℕ) → length now.pending ≤ most → page ++ text (events_by t most now).1 ≡ first ++ text (run_until t e).1 → (events_by t most now).0 ≡ (run_until t e).0 → Halfway t first then u e
     at_most zero enough to_come ends = absurd (omega (arith, enough, less))
     at_most (suc most) enough to_come ends =
         let rest = events_by t most (take_by t now).0 in
@@ -122,7 +122,7 @@ module _ (t : ℕ) (first page : List ℕ) (s u : EventTimers) (e : Events) wher
         }
 
   pub halfway-ended : (v : EventTimers) (then : List ℕ) (numbers : List ℕ) → Answers s u (take_by t) (None, numbers) → Answers {R = Unit {0}} u v (λ e. settle e t) tt → then ≡ page ++ line_text (until_words t) →
-      Halfway t first page s e → (then ≡ first ++ text (until t e).1) × StandsFor v (until t e).0
+      Halfway t first page s e → (then ≡ first ++ text (run_until t e).1) × StandsFor v (run_until t e).0
   halfway-ended v then numbers answer settles is h =
       let out = answer.outcome h.now h.stands in
       let last = settles.outcome (take_by t h.now).0 out.1 in
@@ -140,7 +140,7 @@ pub record SoFar (n : ℕ) (first page : List ℕ) (s : EventTimers) (all rest :
   pub to_come : page ++ text (answers answering n now rest) ≡ first ++ text (answers answering n e all)
 
 pub so_far-more : (n : ℕ) (first page then : List ℕ) (s u : EventTimers) (cs : List EventCommand) (i : ℕ) (d c : EventCommand) (e : Events) →
-    i < length cs → c ≡ get_or cs i d → IsWritten s u page then (answered c) → SoFar n first page s cs (drop i cs) e → SoFar n first then u cs (drop (i + 1) cs) e
+    i < length cs → c ≡ get_or cs i d → IsPageWritten s u page then (answered c) → SoFar n first page s cs (drop i cs) e → SoFar n first then u cs (drop (i + 1) cs) e
 so_far-more n first page then s u cs i d c e inside is written h =
     let out = written.outcome h.now h.stands in
     record {

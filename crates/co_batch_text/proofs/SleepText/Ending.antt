@@ -7,7 +7,7 @@ use Rattle.co_service.specs.Fresh.{AreNamed}
 use Rattle.co_service.specs.Params.{no_spec}
 use Rattle.co_service.specs.Services.{IsFree}
 use Rattle.co_service.specs.declared.params.Params.{Params}
-use Rattle.co_single.specs.Alarms.{all_gos, scan_times, scans_of}
+use Rattle.co_single.specs.Alarms.{all_gos, scan_times, scan_times_of}
 use Rattle.co_single.specs.Seen.{AreSingle, single_params}
 use Rattle.co_single.proofs.Ended.{cpus_whole, timers_whole}
 use Rattle.co_single.proofs.Opening.{is_new, length-replicate, new_free, new_single, rests_new}
@@ -49,7 +49,7 @@ module _ (n : ℕ) (name : QueueName) (params : Params) (named : AreNamed name.s
   pub free : IsFree false first.service 0
   free = new_free n name.service params named are
 
-  pub unscanned : scans_of first.service ≡ []
+  pub unscanned : scan_times_of first.service ≡ []
   unscanned = (is_new n name.service params named are).scans
 
   pub unfired : all_gos first.service.timers ≡ 0

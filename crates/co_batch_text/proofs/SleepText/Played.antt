@@ -10,9 +10,9 @@ use Rattle.co_service.specs.declared.outs.Scanned.{Scanned}
 use Rattle.co_service.specs.Call.{IsCalled}
 use Rattle.co_service.specs.Outcomes.{IsScan}
 use Rattle.co_service.specs.Views.{PassesView}
-use Rattle.co_single.specs.Acts.{IsArmed, IsDisarmed, IsScanned, IsIdle}
+use Rattle.co_single.specs.Acts.{IsArmed, IsDisarmed, IsScanned, NothingWaits}
 use Rattle.co_single.specs.Acts as acts
-use Rattle.co_single.specs.Alarms.{count_of, made_at, waiting_of}
+use Rattle.co_single.specs.Alarms.{callout_count, made_at, waiting_of}
 use Rattle.co_single.specs.Seen.{AreSingle, none_entries, scan_entries, taken_entries}
 use Rattle.co_single.proofs.Arming.{is_armed_now, rests_armed, is_disarmed_now, rests_disarmed}
 use Rattle.co_single.proofs.Firing.{is_fired_now, is_idle_now, rests_fired, rests_idle}
@@ -23,31 +23,31 @@ use Rattle.co_sleepq.specs.declared.reply.SleepReply.{SleepReply}
 use Rattle.co_sleepq.specs.Sleepers.{Sleepers}
 use Rattle.co_sleepq.specs.Queue.{step}
 use Rattle.co_sleepq.specs.History.{state}
-use Rattle.co_sleepq.specs.Ticks.{AreFired, IsOver}
+use Rattle.co_sleepq.specs.Ticks.{AreFired, HasNothingDue}
 use Rattle.co_sleepq.specs.Ticks as ticks
 use Rattle.co_sleepq.specs.Views.{SleepPassesView}
 use Rattle.co_sleepq.proofs.Alone.{alone}
 use Rattle.co_batch_text.specs.Sleep.Clock.{time_outs}
-use Rattle.co_batch_text.specs.Sleep.Matching.{IsQuiet}
+use Rattle.co_batch_text.specs.Sleep.Matching.{IsBetweenCalls}
 
 -- ---- the service
 
-module _ (n : ℕ) (p q : PassesView) (quiet : IsQuiet n p) (act : ℕ) where
-  pub arms : (i due arg : ℕ) (reply : Reply) (notes : List Note) → i < count_of p → made_at p i < 2 ^ 62 → IsCalled p act i (Plain (Reset due 0 0 arg None)) reply notes q → IsArmed p i due arg q × IsQuiet n q
+module _ (n : ℕ) (p q : PassesView) (quiet : IsBetweenCalls n p) (act : ℕ) where
+  pub arms : (i due arg : ℕ) (reply : Reply) (notes : List Note) → i < callout_count p → made_at p i < 2 ^ 62 → IsCalled p act i (Plain (Reset due 0 0 arg None)) reply notes q → IsArmed p i due arg q × IsBetweenCalls n q
   arms i due arg reply notes low fresh called =
       let written = written_is n p q notes _ quiet.single called.group_is called.written in (
         is_armed_now n p q quiet.single written.1 quiet.rest i act called.time low due _ arg fresh reply written.0,
         record { single = written.1; rest = rests_armed n p q quiet.single written.1 quiet.rest i act called.time low due _ arg fresh reply written.0 },
       )
 
-  pub disarms : (i : ℕ) (reply : Reply) (notes : List Note) → i < count_of p → IsCalled p act i (Plain Stop) reply notes q → IsDisarmed p i q × IsQuiet n q
+  pub disarms : (i : ℕ) (reply : Reply) (notes : List Note) → i < callout_count p → IsCalled p act i (Plain Stop) reply notes q → IsDisarmed p i q × IsBetweenCalls n q
   disarms i reply notes low called =
       let written = written_is n p q notes _ quiet.single called.group_is called.written in (
         is_disarmed_now n p q quiet.single written.1 quiet.rest i act called.time low reply written.0,
         record { single = written.1; rest = rests_disarmed n p q quiet.single written.1 quiet.rest i act called.time low reply written.0 },
       )
 
-  pub scans : (now : ℕ) (out : Scanned) → waiting_of p ≡ [] → IsScan p 0 act now out q → IsScanned p now out.count q × IsQuiet n q
+  pub scans : (now : ℕ) (out : Scanned) → waiting_of p ≡ [] → IsScan p 0 act now out q → IsScanned p now out.count q × IsBetweenCalls n q
   scans now out served scanned =
       let written = written_is n p q (out.note ∷ []) (scan_entries p act now out.count) quiet.single (one_is out.note _ _ scanned.note.place scanned.note.entry) scanned.written in (
         is_scanned_now n p q quiet.single written.1 quiet.rest act now out.count written.0 served,
@@ -61,9 +61,9 @@ pub record HasFired (n : ℕ) (p : SleepPassesView) (s : ℕ) (reply : SleepRepl
   pub who : ℕ
   pub fired : acts.IsFired p.service who s q.service
   pub book : step (state p.seen) (Timeout s) ≡ (state q.seen, reply)
-  pub quiet : IsQuiet n q.service
+  pub quiet : IsBetweenCalls n q.service
 
-pub fires : (n : ℕ) (p : SleepPassesView) (act s : ℕ) (reply : SleepReply) (q : SleepPassesView) → IsQuiet n p.service → ticks.IsFired 1 p act s reply q → HasFired n p s reply q
+pub fires : (n : ℕ) (p : SleepPassesView) (act s : ℕ) (reply : SleepReply) (q : SleepPassesView) → IsBetweenCalls n p.service → ticks.IsFired 1 p act s reply q → HasFired n p s reply q
 fires n p act s reply q quiet f =
     let i = f.timer.i in
     let k = f.timer.n in
@@ -84,7 +84,7 @@ fires n p act s reply q quiet f =
     }
 
 -- nothing waits any more
-pub idles : (n : ℕ) (p : SleepPassesView) (act : ℕ) (q : SleepPassesView) → IsQuiet n p.service → IsOver p act q → IsIdle p.service q.service × IsQuiet n q.service
+pub idles : (n : ℕ) (p : SleepPassesView) (act : ℕ) (q : SleepPassesView) → IsBetweenCalls n p.service → HasNothingDue p act q → NothingWaits p.service q.service × IsBetweenCalls n q.service
 idles n p act q quiet o =
     let taken = o.nothing in
     let written = written_is n p.service q.service (o.note ∷ []) (none_entries p.service act) quiet.single (one_is o.note _ _ taken.popped.place taken.popped.entry) taken.written in (
@@ -103,8 +103,8 @@ replies [] = []
 replies (f ∷ fs) = f.1 ∷ replies fs
 
 -- the book's queue is what the timeouts of these numbers leave, and answers as they do
-pub book_after : (n act : ℕ) (fs : List (ℕ × SleepReply)) (p q : SleepPassesView) → IsQuiet n p.service → AreFired 1 p act fs q → (time_outs (state p.seen) (numbers fs) ≡ (state q.seen, replies fs)) × IsQuiet n q.service
-book_after n act [] p q quiet is = (ap (λ (v : SleepPassesView). (state v.seen, [])) (sym is), subst (λ (v : SleepPassesView). IsQuiet n v.service) (sym is) quiet)
+pub book_after : (n act : ℕ) (fs : List (ℕ × SleepReply)) (p q : SleepPassesView) → IsBetweenCalls n p.service → AreFired 1 p act fs q → (time_outs (state p.seen) (numbers fs) ≡ (state q.seen, replies fs)) × IsBetweenCalls n q.service
+book_after n act [] p q quiet is = (ap (λ (v : SleepPassesView). (state v.seen, [])) (sym is), subst (λ (v : SleepPassesView). IsBetweenCalls n v.service) (sym is) quiet)
 book_after n act (f ∷ fs) p q quiet is =
     let one = fires n p act f.0 f.1 is.0 quiet is.1 in
     let rest = book_after n act fs is.0 q one.quiet is.2 in (

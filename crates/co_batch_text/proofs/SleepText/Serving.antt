@@ -5,12 +5,12 @@ use Rattle.std.specs.declared.option.Option.{Option}
 use Rattle.std.specs.declared.option.Option.TheVariants.{Some, None}
 use Rattle.std.proofs.lemmas.Bool.Decides.{nat_tests}
 use Rattle.co_service.specs.Views.{PassesView}
-use Rattle.co_single.specs.Alarms.{Alarm, alarm_at, all_gos, clock_of, count_of, made_at, scans_of, times_in, waiting_of}
+use Rattle.co_single.specs.Alarms.{Alarm, alarm_at, all_gos, last_scan, callout_count, made_at, scan_times_of, times_in, waiting_of}
 use Rattle.co_single.proofs.LawsHold.{each_counted}
 use Rattle.co_sleepq.specs.declared.reply.SleepReply.{SleepReply}
 use Rattle.co_sleepq.specs.Ticks.{AreFired}
 use Rattle.co_sleepq.specs.Views.{SleepPassesView}
-use Rattle.co_batch_text.specs.Sleep.Matching.{IsQuiet}
+use Rattle.co_batch_text.specs.Sleep.Matching.{IsBetweenCalls}
 use Rattle.co_batch_text.proofs.SleepText.Played.{fires, numbers}
 use Rattle.co_batch_text.proofs.SleepText.Timeouts.{found-at, less, one_of, times-head, times-less}
 
@@ -66,9 +66,9 @@ pub record IsServed (p : PassesView) (args ws : List ℕ) (q : PassesView) : Typ
   pub stay : (i : ℕ) → times_in i ws ≡ 0 → alarm_at q i ≡ alarm_at p i
   pub gone : (i : ℕ) → 0 < times_in i ws → alarm_at q i ≡ None
   pub made : (i : ℕ) → made_at q i ≡ made_at p i
-  pub count : count_of q ≡ count_of p
-  pub scans : scans_of q ≡ scans_of p
-  pub clock : clock_of q ≡ clock_of p
+  pub count : callout_count q ≡ callout_count p
+  pub scans : scan_times_of q ≡ scan_times_of p
+  pub clock : last_scan q ≡ last_scan p
   pub gos : all_gos q.timers ≡ all_gos p.timers + length ws
   pub many : length args ≡ length ws
   pub args_are : ((i : ℕ) → times_in i ws ≤ 1) → args ≡ map (arg_at p) ws
@@ -89,16 +89,16 @@ none-served p q e = record {
   stay = λ i h. ap (λ (v : PassesView). alarm_at v i) e;
   gone = λ i h. absurd (omega (arith, h));
   made = λ i. ap (λ (v : PassesView). made_at v i) e;
-  count = ap count_of e;
-  scans = ap scans_of e;
-  clock = ap clock_of e;
+  count = ap callout_count e;
+  scans = ap scan_times_of e;
+  clock = ap last_scan e;
   gos = (let g = ap (λ (v : PassesView). all_gos v.timers) e in omega (arith, g));
   many = refl;
   args_are = λ h. refl;
 }
 
 -- all that AreFired tells of the service
-pub serves : (n act : ℕ) (fs : List (ℕ × SleepReply)) (p q : SleepPassesView) → IsQuiet n p.service → AreFired 1 p act fs q → (ws : List ℕ) × IsServed p.service (numbers fs) ws q.service
+pub serves : (n act : ℕ) (fs : List (ℕ × SleepReply)) (p q : SleepPassesView) → IsBetweenCalls n p.service → AreFired 1 p act fs q → (ws : List ℕ) × IsServed p.service (numbers fs) ws q.service
 serves n act [] p q quiet is = ([], none-served p.service q.service (ap (λ (v : SleepPassesView). v.service) is))
 serves n act (f ∷ fs) p q quiet is =
     let one = fires n p act f.0 f.1 is.0 quiet is.1 in

@@ -14,7 +14,7 @@ use Rattle.co_sleepq.specs.declared.sleep.Sleep.{Sleep}
 use Rattle.co_sleepq.specs.Sleepers.{Sleepers}
 use Rattle.co_sleepq.specs.Queue.{step, time_out}
 use Rattle.co_sleepq.specs.Ticks.{is_late, is_out}
-use Rattle.co_batch_text.specs.Sleep.Clock.{Alarm, due_in, left_in, time_outs}
+use Rattle.co_batch_text.specs.Sleep.Clock.{SleepAlarm, alarm_in, alarm_left, time_outs}
 use Rattle.co_batch_text.specs.Sleep.Matching.{as_alarm}
 use Rattle.co_batch_text.proofs.SleepText.Played.{replies}
 use Rattle.co_batch_text.proofs.SleepText.Serving.{Is, apart, same, arg_of, times-apart, times-here, which}
@@ -22,33 +22,33 @@ use Rattle.co_batch_text.proofs.SleepText.Timeouts.{one_of}
 
 -- ---- the sleepers whose timers are due
 
-abbrev pub keep : Option Alarm → (now i : ℕ) → List ℕ → List ℕ
+abbrev pub keep : Option SleepAlarm → (now i : ℕ) → List ℕ → List ℕ
 keep None now i l = l
 keep (Some a) now i l = if nat_le a.due now then i ∷ l else l
 
-abbrev pub dues : (ℕ → Option Alarm) → ℕ → List ℕ → List ℕ
+abbrev pub dues : (ℕ → Option SleepAlarm) → ℕ → List ℕ → List ℕ
 dues A now [] = []
 dues A now (i ∷ is) = keep (A i) now i (dues A now is)
 
-dues-head : (g : ℕ → ℕ) (now i : ℕ) (o : Option Alarm) (l : List ℕ) → arg_of (as_alarm o) ≡ g i → cons_option (due_in o now) (map g l) ≡ map g (keep o now i l)
+dues-head : (g : ℕ → ℕ) (now i : ℕ) (o : Option SleepAlarm) (l : List ℕ) → arg_of (as_alarm o) ≡ g i → cons_option (alarm_in o now) (map g l) ≡ map g (keep o now i l)
 dues-head g now i None l e = refl
 dues-head g now i (Some a) l e = go (nat_le a.due now) where
   go : (b : Bool) → cons_option (if b then Some a.s else None) (map g l) ≡ map g (if b then i ∷ l else l)
   go true = ap (λ (x : ℕ). x ∷ map g l) e
   go false = refl
 
-pub dues-map : (A : ℕ → Option Alarm) (now : ℕ) (is : List ℕ) → filter_map (λ i. due_in (A i) now) is ≡ map (λ i. arg_of (as_alarm (A i))) (dues A now is)
+pub dues-map : (A : ℕ → Option SleepAlarm) (now : ℕ) (is : List ℕ) → filter_map (λ i. alarm_in (A i) now) is ≡ map (λ i. arg_of (as_alarm (A i))) (dues A now is)
 dues-map A now [] = refl
-dues-map A now (i ∷ is) = ap (cons_option (due_in (A i) now)) (dues-map A now is) ∙ dues-head (λ j. arg_of (as_alarm (A j))) now i (A i) (dues A now is) refl
+dues-map A now (i ∷ is) = ap (cons_option (alarm_in (A i) now)) (dues-map A now is) ∙ dues-head (λ j. arg_of (as_alarm (A j))) now i (A i) (dues A now is) refl
 
-kept-here : (o : Option Alarm) (now i : ℕ) (l : List ℕ) → times_in i (keep o now i l) ≡ due_once (as_alarm o) now + times_in i l
+kept-here : (o : Option SleepAlarm) (now i : ℕ) (l : List ℕ) → times_in i (keep o now i l) ≡ due_once (as_alarm o) now + times_in i l
 kept-here None now i l = omega arith
 kept-here (Some a) now i l = go (nat_le a.due now) where
   go : (b : Bool) → times_in i (if b then i ∷ l else l) ≡ one_of b + times_in i l
   go true = times-here i i l refl
   go false = omega arith
 
-kept-apart : (o : Option Alarm) (now j i : ℕ) (l : List ℕ) → i ≢ j → times_in i (keep o now j l) ≡ times_in i l
+kept-apart : (o : Option SleepAlarm) (now j i : ℕ) (l : List ℕ) → i ≢ j → times_in i (keep o now j l) ≡ times_in i l
 kept-apart None now j i l non = refl
 kept-apart (Some a) now j i l non = go (nat_le a.due now) where
   go : (b : Bool) → times_in i (if b then j ∷ l else l) ≡ times_in i l
@@ -58,7 +58,7 @@ kept-apart (Some a) now j i l non = go (nat_le a.due now) where
 above : (a i : ℕ) → a ≤ i → i ≢ a → a + 1 ≤ i
 above a i from non = grind (arith, nat_tests, from, non)
 
-module _ (A : ℕ → Option Alarm) (now : ℕ) where
+module _ (A : ℕ → Option SleepAlarm) (now : ℕ) where
   dues-before : (n a i : ℕ) → i < a → times_in i (dues A now (range_with_len a n)) ≡ 0
   dues-before zero a i low = refl
   dues-before (suc n) a i low = kept-apart (A a) now a i (dues A now (range_with_len (a + 1) n)) (λ e. absurd (omega (arith, low, e))) ∙ dues-before n (a + 1) i (omega (arith, low))
@@ -78,7 +78,7 @@ due-most (Some a) now = go (nat_le a.due now) where
   go true = omega arith
   go false = omega arith
 
-pub left-is : (o : Option Alarm) (now : ℕ) (x : Option single.Alarm) → (due_once (as_alarm o) now ≡ 0 → x ≡ as_alarm o) → (0 < due_once (as_alarm o) now → x ≡ None) → x ≡ as_alarm (left_in o now)
+pub left-is : (o : Option SleepAlarm) (now : ℕ) (x : Option single.Alarm) → (due_once (as_alarm o) now ≡ 0 → x ≡ as_alarm o) → (0 < due_once (as_alarm o) now → x ≡ None) → x ≡ as_alarm (alarm_left o now)
 left-is None now x stay gone = stay refl
 left-is (Some a) now x stay gone = go (nat_le a.due now) stay gone where
   go : (b : Bool) → (one_of b ≡ 0 → x ≡ as_alarm (Some a)) → (0 < one_of b → x ≡ None) → x ≡ as_alarm (if b then None else Some a)

@@ -12,7 +12,7 @@ use Rattle.co_sleepq.specs.declared.reply.End.{End}
 use Rattle.co_sleepq.specs.declared.reply.End.TheVariants.{TimedOut}
 use Rattle.co_sleepq.specs.declared.reply.SleepReply.{SleepReply}
 use Rattle.co_sleepq.specs.declared.sleep.Sleep.{Sleep}
-use Rattle.co_sleepq.specs.Sleepers.{Sleepers, is_asleep, without, ended}
+use Rattle.co_sleepq.specs.Sleepers.{Sleepers, is_asleep, without, ends_with}
 use Rattle.co_sleepq.specs.Queue.{step, time_out}
 use Rattle.co_batch_text.specs.Sleep.Clock.{time_outs}
 
@@ -45,7 +45,7 @@ either-ended true false how e = refl
 either-ended false true how e = refl
 either-ended false false how e = refl
 
-end-both : (x y : Sleep) (ends : ℕ → End) (i : ℕ) → ended (x ∷ []) TimedOut (ended (y ∷ []) TimedOut ends) i ≡ ended (y ∷ []) TimedOut (ended (x ∷ []) TimedOut ends) i
+end-both : (x y : Sleep) (ends : ℕ → End) (i : ℕ) → ends_with (x ∷ []) TimedOut (ends_with (y ∷ []) TimedOut ends) i ≡ ends_with (y ∷ []) TimedOut (ends_with (x ∷ []) TimedOut ends) i
 end-both x y ends i = either-ended (is_asleep (x ∷ []) i) (is_asleep (y ∷ []) i) TimedOut (ends i)
 
 time-out-both : (q : Sleepers) (a b : Option Sleep) → (time_out (time_out q a).0 b).0 ≡ (time_out (time_out q b).0 a).0

@@ -21,9 +21,9 @@ abbrev pub Answered : Type 0
 Answered = Events × List (List Word)
 
 -- the time from which an arming may fire, where the clock has run up to now
-abbrev pub due_of : ℕ → When → ℕ
-due_of now (After t) = sat_add now t
-due_of now (At t) = t
+abbrev pub earliest_of : ℕ → When → ℕ
+earliest_of now (After t) = sat_add now t
+earliest_of now (At t) = t
 
 abbrev pub armed_words : Armed → List Word
 armed_words armed = codes "armed" ∷ signed_decimal armed.code ∷ units_word armed.due ∷ []
@@ -51,28 +51,28 @@ abbrev pub take_by : ℕ → Events → Events × (Option Event × List ℕ)
 take_by t e = if comes_by t (next_moment e) then take e else (e, (None, []))
 
 -- the clock settles at time t
-abbrev pub settled : ℕ → Events → Answered
-settled t e = ((settle e t).0, until_words t ∷ [])
+abbrev pub until_answered : ℕ → Events → Answered
+until_answered t e = ((settle e t).0, until_words t ∷ [])
 
 -- an event, and what comes after it; where none comes, the clock settles
 abbrev pub with_event : ℕ → Events × (Option Event × List ℕ) → Answered → Answered
-with_event t (e, (None, numbers)) rest = settled t e
+with_event t (e, (None, numbers)) rest = until_answered t e
 with_event t (e, (Some event, numbers)) rest = (rest.0, event_lines event numbers ++ rest.1)
 
 -- the events that come by time t, at most so many, and then the clock settles
 abbrev pub events_by : ℕ → ℕ → Events → Answered
-events_by t zero e = settled t e
+events_by t zero e = until_answered t e
 events_by t (suc most) e = with_event t (take_by t e) (events_by t most (take_by t e).0)
 
 -- each event takes at least one of what is pending, so there are no more of them
-abbrev pub until : ℕ → Events → Answered
-until t e = events_by t (length e.pending) e
+abbrev pub run_until : ℕ → Events → Answered
+run_until t e = events_by t (length e.pending) e
 
 -- a command's answer
 abbrev pub answered : EventCommand → Events → Answered
-answered (Arm i when prec) e = ((arm e i (due_of e.now when) prec).0, armed_words (arm e i (due_of e.now when) prec).1 ∷ [])
+answered (Arm i when prec) e = ((arm e i (earliest_of e.now when) prec).0, armed_words (arm e i (earliest_of e.now when) prec).1 ∷ [])
 answered (Stop i) e = ((stop e i).0, stopped_words (stop e i).1 ∷ [])
-answered (Until t) e = until t e
+answered (Until t) e = run_until t e
 
 -- events alone as a service of commands
 abbrev pub answering : Answering EventCommand Events

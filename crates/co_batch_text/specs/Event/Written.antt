@@ -7,7 +7,7 @@ use Rattle.co_event.specs.StandsFor.{StandsFor}
 use Rattle.co_batch_text.specs.Event.Answers.{Answered}
 
 -- For whatever events the queue stood, their lines come to the page, and the queue then stands for the events after them.
-pub record IsWritten (before after : EventTimers) (page then : List ℕ) (answer : Events → Answered) : Type 0 where
+pub record IsPageWritten (before after : EventTimers) (page then : List ℕ) (answer : Events → Answered) : Type 0 where
   pub outcome : (e : Events) → StandsFor before e → (then ≡ page ++ text (answer e).1) × StandsFor after (answer e).0
 
 -- how far time t lies behind a moment, counted from 1

@@ -32,9 +32,9 @@ fits processes (Get p) = nat_lt p processes
 fits processes (Tick t) = true
 fits processes (Alarm p) = nat_lt p processes
 
-abbrev pub moment : TimerCommand → Option ℕ
-moment (Tick t) = Some t
-moment _ = None
+abbrev pub tick_time : TimerCommand → Option ℕ
+tick_time (Tick t) = Some t
+tick_time _ = None
 
 abbrev pub timer_language : Language TimerCommand
-timer_language = record { name = codes "itimer"; counted = codes "processes"; form = form; fits = fits; moment = moment }
+timer_language = record { name = codes "itimer"; counted = codes "processes"; form = form; fits = fits; moment = tick_time }

@@ -42,9 +42,9 @@ fits knotes (Delete ident) = nat_lt ident (2 ^ 64)
 fits knotes (Tick t) = true
 fits knotes (Events room) = nat_le room 1024
 
-abbrev pub moment : KqCommand → Option ℕ
-moment (Tick t) = Some t
-moment _ = None
+abbrev pub tick_time : KqCommand → Option ℕ
+tick_time (Tick t) = Some t
+tick_time _ = None
 
 abbrev pub kq_language : Language KqCommand
-kq_language = record { name = codes "kq"; counted = codes "knotes"; form = form; fits = fits; moment = moment }
+kq_language = record { name = codes "kq"; counted = codes "knotes"; form = form; fits = fits; moment = tick_time }

@@ -3,14 +3,14 @@ use Rattle.std.specs.Prelude.{◌≡◌, ℕ, ◌+◌, ◌≤◌, List, [], max}
 use Rattle.std.specs.declared.option.Option.{Option}
 use Rattle.std.specs.declared.option.Option.TheVariants.{Some, None}
 use Rattle.co_service.specs.Views.{PassesView}
-use Rattle.co_single.specs.Alarms.{alarm_at, clock_of, made_at, waiting_of}
+use Rattle.co_single.specs.Alarms.{alarm_at, last_scan, made_at, waiting_of}
 use Rattle.co_single.specs.Alarms as single
-use Rattle.co_single.specs.Rest.{IsAtRest}
+use Rattle.co_single.specs.Rest.{HasNoService}
 use Rattle.co_single.specs.Seen.{AreSingle}
 use Rattle.co_sleepq.specs.History.{state}
 use Rattle.co_sleepq.specs.Views.{SleepPassesView}
 use Rattle.co_batch_text.specs.Ends.{AreServed, IsServed, IsUnderWay}
-use Rattle.co_batch_text.specs.Sleep.Clock.{Alarm, Answer, Told, Ticked, Clocked, clock_opening, obey}
+use Rattle.co_batch_text.specs.Sleep.Clock.{SleepAlarm, Answer, Told, Ticked, Clocked, clock_opening, obey}
 use Rattle.co_batch_text.specs.Sleep.Ends.{sleep_served}
 use Rattle.co_batch_text.specs.declared.sleep.command.SleepCommand.{SleepCommand}
 use Rattle.co_batch_text.specs.declared.sleep.command.SleepCommand.TheVariants.{Sleep, Wakeup, WakeupOne, Awake, Tick}
@@ -18,21 +18,21 @@ use Rattle.co_batch_text.specs.declared.sleep.said.Said.{Said}
 use Rattle.co_batch_text.specs.declared.sleep.said.Said.TheVariants as said
 
 -- the passes of the one actor of a service of so many timers, between two calls
-pub record IsQuiet (n : ℕ) (p : PassesView) : Type 0 where
+pub record IsBetweenCalls (n : ℕ) (p : PassesView) : Type 0 where
   pub single : AreSingle n p
-  pub rest : IsAtRest p
+  pub rest : HasNoService p
 
 -- a sleeper's timer as the service keeps it
-abbrev pub as_alarm : Option Alarm → Option single.Alarm
+abbrev pub as_alarm : Option SleepAlarm → Option single.Alarm
 as_alarm None = None
 as_alarm (Some a) = Some (record { due = a.due; arg = a.s })
 
 -- the passes of the one actor stand for this sleep queue with a clock, of n sleepers
 pub record IsMatched (n : ℕ) (c : Clocked) (p : SleepPassesView) : Type 0 where
-  pub quiet : IsQuiet n p.service
+  pub quiet : IsBetweenCalls n p.service
   pub none : waiting_of p.service ≡ []
   pub queue : state p.seen ≡ c.queue
-  pub clock : clock_of p.service ≡ c.now
+  pub clock : last_scan p.service ≡ c.now
   pub alarms : (i : ℕ) → alarm_at p.service i ≡ as_alarm (c.alarms i)
 
 -- a command leaves what it leaves of the queue with a clock; its scan, if it is a tick, and as many functions called as it counts
@@ -56,7 +56,7 @@ now_after now (Awake i) = now
 
 -- commands, one after the other, from the opening on
 pub record AreObeyed (n : ℕ) (xs : List SleepCommand) (p q : SleepPassesView) : Type 0 where
-  pub quiet : IsQuiet n q.service
+  pub quiet : IsBetweenCalls n q.service
   pub served : AreServed sleep_served n clock_opening p.service xs q.service
 
 -- so many commands were obeyed: the queue with a clock as it is then, and what is to come ends as all of it does

@@ -9,8 +9,8 @@ ghost use Rattle.co_event.specs.Events.{Events};
 ghost use Rattle.co_event.specs.EventTimers.{first_deadline};
 ghost use Rattle.co_event.specs.StandsFor.{Answers, StandsFor, written};
 ghost use Rattle.co_batch_text.specs.Event.Commands.{event_language, fits};
-ghost use Rattle.co_batch_text.specs.Event.Answers.{answered, answering, due_of, event_lines, event_text, fired_words, take_by, until, until_words};
-ghost use Rattle.co_batch_text.specs.Event.Written.{IsWritten, left_by};
+ghost use Rattle.co_batch_text.specs.Event.Answers.{answered, answering, earliest_of, event_lines, event_text, fired_words, take_by, run_until, until_words};
+ghost use Rattle.co_batch_text.specs.Event.Written.{IsPageWritten, left_by};
 ghost use Rattle.co_batch_text.specs.declared.event.command.EventCommand.TheVariants.{Arm, Stop};
 
 use crate::event::command::EventCommand;
@@ -73,7 +73,7 @@ fn until(
 ) -> Result<(), NoMemory>
     requires { queue.old.timers.size ≤ length out.old }
     ensures size { queue.new.timers.size ≡ queue.old.timers.size }
-    ensures written { OnOk result (IsWritten queue.old queue.new page.old page.new (until time)) }
+    ensures written { OnOk result (IsPageWritten queue.old queue.new page.old page.new (run_until time)) }
 {
     while let Some(event) = take_by(queue, time, out) {
         print_event(page, event, &out[..event.count as usize])?;
@@ -84,7 +84,7 @@ fn until(
 
 /// The time from which an arming may fire, where the clock has run up to `now`.
 fn due_of(now: Sbt, when: When) -> Sbt
-    ensures { result ≡ due_of now when }
+    ensures { result ≡ earliest_of now when }
 {
     match when {
         When::After(span) => now.sat_add(span),
@@ -102,7 +102,7 @@ fn arm(
 ) -> Result<(), NoMemory>
     requires { i < queue.old.timers.size }
     ensures size { queue.new.timers.size ≡ queue.old.timers.size }
-    ensures written { OnOk result (IsWritten queue.old queue.new page.old page.new (answered (Arm i when prec))) }
+    ensures written { OnOk result (IsPageWritten queue.old queue.new page.old page.new (answered (Arm i when prec))) }
 {
     let armed = queue.arm(i, due_of(queue.now(), when), prec);
     page.text(b"armed ".as_slice())?;
@@ -115,7 +115,7 @@ fn arm(
 fn stop(page: &mut Page, queue: &mut EventQueue, i: u32) -> Result<(), NoMemory>
     requires { i < queue.old.timers.size }
     ensures size { queue.new.timers.size ≡ queue.old.timers.size }
-    ensures written { OnOk result (IsWritten queue.old queue.new page.old page.new (answered (Stop i))) }
+    ensures written { OnOk result (IsPageWritten queue.old queue.new page.old page.new (answered (Stop i))) }
 {
     let code = queue.stop(i);
     page.text(b"stopped ".as_slice())?;
@@ -133,7 +133,7 @@ fn answer(
     requires fits { fits queue.old.timers.size command ≡ true }
     requires room { queue.old.timers.size ≤ length out.old }
     ensures size { queue.new.timers.size ≡ queue.old.timers.size }
-    ensures written { OnOk result (IsWritten queue.old queue.new page.old page.new (answered command)) }
+    ensures written { OnOk result (IsPageWritten queue.old queue.new page.old page.new (answered command)) }
 {
     match command {
         EventCommand::Arm(i, when, prec) => arm(page, queue, i, when, prec),

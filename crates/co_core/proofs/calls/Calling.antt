@@ -14,32 +14,32 @@ use Rattle.co_program.specs.declared.script.Script.{Script}
 use Rattle.co_program.specs.Actors.{actor_count, role_of}
 use Rattle.co_program.specs.Cursor.{Cursor}
 use Rattle.co_program.specs.Action.{Asks, action_for, spec_at}
-use Rattle.co_program.specs.Advance.{called}
+use Rattle.co_program.specs.Advance.{call_made}
 use Rattle.co_program.specs.Scripts.{IsScript}
 use Rattle.co_wheel.specs.Call.{is_away, call_at}
 use Rattle.co_wheel.specs.Callouts.{callout}
 use Rattle.co_wheel.specs.Cpu.{Cpu as WheelOf}
-use Rattle.co_wheel.specs.Parcel.{Parcel as Travelling}
+use Rattle.co_wheel.specs.Parcel.{Parcel}
 use Rattle.co_world.specs.World.{World}
 use Rattle.co_world.specs.Blocked.{is_moving}
 use Rattle.co_core.specs.Stored.{Stored, wheel_at}
 use Rattle.co_world.specs.Placed.{IsPlaced}
-use Rattle.co_core.specs.Stands.{IsAtWheel, IsStored, alone_of}
+use Rattle.co_core.specs.Stands.{IsAtWheel, ShowsStored, alone_in}
 use Rattle.co_world.proofs.basics.Actions.{IsAction}
 use Rattle.co_core.proofs.calls.Ends.{Ends, ends, took_out}
 use Rattle.co_world.proofs.kept.Operations.{Did, did_call}
 use Rattle.co_world.proofs.kept.ByOwnSteps.{callout_view}
 use Rattle.co_program.proofs.Homes.{CpusFit, fit_call, NamesCpu}
-use Rattle.co_world.proofs.kept.Invariant.{states_of, queues_of, places_of}
+use Rattle.co_world.proofs.kept.Invariant.{states_of, queues_of, cursors_of}
 use Rattle.co_world.proofs.sections.Ways.{stands_of}
 use Rattle.co_core.proofs.calls.Wheels.{at_wheel, answer_by}
 
 pub record Calling (s : Script) (x : Stored) (w : World) (a act i cpu : ℕ) (op : CallOp) : Type 0 where
   pub ok : IsScript s
-  pub stored : IsStored s x w
+  pub stored : ShowsStored s x w
   pub placed : IsPlaced s w
   pub may : a < actor_count s
-  pub due : action_for s a (places_of w a) ≡ Asks act (Callout i (Call op))
+  pub due : action_for s a (cursors_of w a) ≡ Asks act (Callout i (Call op))
   pub still : is_moving s w i ≡ false
   pub known : i < length s.timers
   pub names : NamesCpu s.cpus op
@@ -59,10 +59,10 @@ module _ {s : Script} {x : Stored} {w : World} {a act i cpu : ℕ} {op : CallOp}
   l' = is_some (off t')
 
   abbrev c0 : Cursor
-  c0 = record (places_of w a) { removed = None }
+  c0 = record (cursors_of w a) { removed = None }
 
   abbrev d2 : Cursor
-  d2 = called c0 i l' (Call op) r'
+  d2 = call_made c0 i l' (Call op) r'
 
   abbrev q0 : TimerQueue
   q0 = queues_of w cpu
@@ -71,16 +71,16 @@ module _ {s : Script} {x : Stored} {w : World} {a act i cpu : ℕ} {op : CallOp}
   before = wheel_at x cpu
 
   pub on : cpu < s.cpus
-  on = subst (λ (y : ℕ). y < s.cpus) calling.stand (calling.placed.settled i calling.known).stand
+  on = subst (λ (y : ℕ). y < s.cpus) calling.stand (calling.placed.cpus_known i calling.known).stand
 
   pub wheel : IsAtWheel s w cpu before
   wheel = calling.stored.each_wheel cpu on
 
-  pub there : callout before.callouts i ≡ Some (alone_of s w i)
+  pub there : callout before.callouts i ≡ Some (alone_in s w i)
   there = at_wheel s x w calling.stored i cpu calling.known on calling.stand calling.still
 
-  pub view : ((places_of w a).parcel ≡ None) × IsAction s (role_of s a) c0 c0.stage (Asks act (Callout i (Call op)))
-  view = callout_view s a (places_of w a) act i (Call op) calling.due
+  pub view : ((cursors_of w a).parcel ≡ None) × IsAction s (role_of s a) c0 c0.stage (Asks act (Callout i (Call op)))
+  view = callout_view s a (cursors_of w a) act i (Call op) calling.due
 
   pub did : Did (spec_at s i) st (Call op) r' t'
   did = did_call (spec_at s i) st op
@@ -92,7 +92,7 @@ module _ {s : Script} {x : Stored} {w : World} {a act i cpu : ℕ} {op : CallOp}
   listed_here y is = sym calling.stand ∙ calling.placed.listed i y calling.still is
 
   pub fit : CpusFit s.cpus t'
-  fit = fit_call s.cpus calling.ok.cpus.0 st op (record { home = (calling.placed.settled i calling.known).home; target = (calling.placed.settled i calling.known).target }) calling.names
+  fit = fit_call s.cpus calling.ok.cpus.0 st op (record { home = (calling.placed.cpus_known i calling.known).home; target = (calling.placed.cpus_known i calling.known).target }) calling.names
 
   pub end : Ends c0 i cpu op t' r'
   end = ends c0 i cpu (spec_at s i) st view.0 free listed_here op t' r' did
@@ -105,5 +105,5 @@ module _ {s : Script} {x : Stored} {w : World} {a act i cpu : ℕ} {op : CallOp}
     go (inr same) = sym (listed_here y (sym same ∙ is))
 
   -- the wheel's reply is the plain callout's
-  pub answer_reply : (reply : Reply) (out : Option Travelling) (after : WheelOf) → Some (after.callouts, reply, out) ≡ call_at before.callouts i op → reply ≡ r'
-  answer_reply reply out after answers = (answer_by before i op (alone_of s w i) there (is_away before.callouts.cpu r' t') after.callouts reply out refl answers).reply_is
+  pub answer_reply : (reply : Reply) (out : Option Parcel) (after : WheelOf) → Some (after.callouts, reply, out) ≡ call_at before.callouts i op → reply ≡ r'
+  answer_reply reply out after answers = (answer_by before i op (alone_in s w i) there (is_away before.callouts.cpu r' t') after.callouts reply out refl answers).reply_is

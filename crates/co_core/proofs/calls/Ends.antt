@@ -13,9 +13,9 @@ use Rattle.co_object.specs.declared.Reply.TheVariants.{NotArmed, Armed, Stopped,
 use Rattle.co_object.specs.Entries.{is_armed}
 use Rattle.co_object.specs.Group.{off_of}
 use Rattle.co_object.specs.Stand.{is_idle, is_free_at, off, stand_of, listed_cpu, Listed, Deferred}
-use Rattle.co_program.specs.declared.cursor.Parcel.{Parcel}
+use Rattle.co_program.specs.declared.cursor.PendingInsert.{PendingInsert}
 use Rattle.co_program.specs.Cursor.{Cursor}
-use Rattle.co_program.specs.Advance.{called, due_of_call}
+use Rattle.co_program.specs.Advance.{call_made, due_of_call}
 use Rattle.co_wheel.specs.Call.{is_away}
 use Rattle.co_world.proofs.kept.ByCalls.{off_same, off_none}
 use Rattle.co_world.proofs.kept.Listed.{off_listed}
@@ -99,25 +99,25 @@ runs_on_free spec st t op r cpu (deed.arms p code arming u armed due run) free =
 -- ---- the end
 
 -- the Insert of this arming is on its way
-abbrev pub parcel_for : Cursor → ℕ → CallOp → Arming → Parcel
+abbrev pub parcel_for : Cursor → ℕ → CallOp → Arming → PendingInsert
 parcel_for c i op arming = record { act = c.act; i = i; n = arming.n; due = due_of_call (Call op); cpu = arming.cpu }
 
 -- after the call's entry, in this state and with this reply, at CPU cpu
 pub data Ends (c : Cursor) (i cpu : ℕ) (op : CallOp) (t : State) (r : Reply) : Type 0 where
   -- nothing is on its way, and what is listed is so here
-  stays : (called c i (is_some (off t)) (Call op) r).parcel ≡ None → is_away cpu r t ≡ false → (is_armed r ≡ false) ⊎ (off t ≡ None) → ((y : ℕ) → off t ≡ Some y → cpu ≡ y) → Ends c i cpu op t r
+  stays : (call_made c i (is_some (off t)) (Call op) r).parcel ≡ None → is_away cpu r t ≡ false → (is_armed r ≡ false) ⊎ (off t ≡ None) → ((y : ℕ) → off t ≡ Some y → cpu ≡ y) → Ends c i cpu op t r
   -- the arming enters the queue here
   lands : (arming : Arming) → t.armed ≡ Some arming → arming.cpu ≡ cpu → arming.due ≡ due_of_call (Call op) → off t ≡ Some cpu → is_armed r ≡ true → is_away cpu r t ≡ false →
-      (called c i (is_some (off t)) (Call op) r).parcel ≡ Some (parcel_for c i op arming) → Ends c i cpu op t r
+      (call_made c i (is_some (off t)) (Call op) r).parcel ≡ Some (parcel_for c i op arming) → Ends c i cpu op t r
   -- it is of another CPU, and the callout is in no service
   leaves : (arming : Arming) → t.armed ≡ Some arming → (arming.cpu ≡ cpu → ⊥) → arming.due ≡ due_of_call (Call op) → off t ≡ Some arming.cpu → is_idle t.run ≡ true → is_armed r ≡ true → is_away cpu r t ≡ true →
-      (called c i (is_some (off t)) (Call op) r).parcel ≡ Some (parcel_for c i op arming) → Ends c i cpu op t r
+      (call_made c i (is_some (off t)) (Call op) r).parcel ≡ Some (parcel_for c i op arming) → Ends c i cpu op t r
 
 module _ (c : Cursor) (i cpu : ℕ) (spec : Spec) (st : State) (empty : c.parcel ≡ None) (free : is_free_at st.run cpu ≡ true) (listed : (y : ℕ) → off st ≡ Some y → cpu ≡ y) where
-  plain_parcel : (op : CallOp) (l : Bool) (r : Reply) → is_plain r ≡ true → (called c i l (Call op) r).parcel ≡ None
+  plain_parcel : (op : CallOp) (l : Bool) (r : Reply) → is_plain r ≡ true → (call_made c i l (Call op) r).parcel ≡ None
   plain_parcel op l r plain = ap (λ (d : Cursor). d.parcel) (plain_called c i l (Call op) r plain) ∙ over_parcel c c.stage ∙ empty
 
-  waits_parcel : (op : CallOp) (l : Bool) (n : ℕ) (took : Bool) (gone : Option ℕ) → (called c i l (Call op) (Wait n took gone)).parcel ≡ None
+  waits_parcel : (op : CallOp) (l : Bool) (n : ℕ) (took : Bool) (gone : Option ℕ) → (call_made c i l (Call op) (Wait n took gone)).parcel ≡ None
   waits_parcel op true n took gone = empty
   waits_parcel op false n took gone = empty
 
@@ -132,11 +132,11 @@ module _ (c : Cursor) (i cpu : ℕ) (spec : Spec) (st : State) (empty : c.parcel
     deferred : is_free_at t.run arming.cpu ≡ false → off t ≡ None
     deferred not = ap (λ (o : Option Arming). listed_cpu (stand_of o t.run)) armed ∙ ap (λ (b : Bool). listed_cpu (cond b (Listed arming.cpu) (Deferred arming.cpu))) not
 
-    on_its_way : (l : Bool) → l ≡ true → (called c i l (Call op) r).parcel ≡ Some (parcel_for c i op arming)
+    on_its_way : (l : Bool) → l ≡ true → (call_made c i l (Call op) r).parcel ≡ Some (parcel_for c i op arming)
     on_its_way true h = refl
     on_its_way false h = cc
 
-    not_on_its_way : (l : Bool) → l ≡ false → (called c i l (Call op) r).parcel ≡ None
+    not_on_its_way : (l : Bool) → l ≡ false → (call_made c i l (Call op) r).parcel ≡ None
     not_on_its_way true h = cc
     not_on_its_way false h = over_parcel c c.stage ∙ empty
 

@@ -24,21 +24,21 @@ use Rattle.co_program.specs.Stages.{Stage}
 use Rattle.co_program.specs.Stages as stages
 use Rattle.co_program.specs.Cursor.{Cursor}
 use Rattle.co_program.specs.Action.{Asks, spec_at}
-use Rattle.co_program.specs.Advance.{called, advance_callout, advance}
+use Rattle.co_program.specs.Advance.{call_made, advance_callout, advance}
 use Rattle.co_wheel.specs.Call.{is_away}
 use Rattle.co_wheel.specs.Callouts.{Callouts, callout, with_callout, is_listed_of}
 use Rattle.co_wheel.specs.Cpu.{Cpu as WheelOf}
-use Rattle.co_wheel.specs.Parcel.{Parcel as Travelling}
+use Rattle.co_wheel.specs.Parcel.{Parcel}
 use Rattle.co_wheel.specs.Turns.{Shows, Takes, Turn, removal, insertion}
 use Rattle.co_world.specs.World.{World}
 use Rattle.co_world.specs.Blocked.{is_moving, moves}
-use Rattle.co_world.specs.Step.{are_direct, removed_from, asked_whole, callout_answers, queue_answers, goes_on, is_within, step}
+use Rattle.co_world.specs.Step.{are_direct, removed_from, asked_whole, callout_answers, queue_answers, goes_on_in_section, is_within_service, step}
 use Rattle.co_core.specs.Stored.{Stored, IsCalled, wheel_at}
-use Rattle.co_world.specs.Placed.{IsPlaced, slot_of}
+use Rattle.co_world.specs.Placed.{IsPlaced, server_slot}
 use Rattle.co_core.specs.Acting.{IsDue}
-use Rattle.co_core.specs.Stands.{IsBag, IsStored, alone_of, at_home}
+use Rattle.co_core.specs.Stands.{IsBag, ShowsStored, alone_in, at_home}
 use Rattle.std.proofs.lemmas.List.{set-get_or, get_or-set_same}
-use Rattle.co_world.proofs.kept.Invariant.{states_of, queues_of, places_of}
+use Rattle.co_world.proofs.kept.Invariant.{states_of, queues_of, cursors_of}
 use Rattle.co_world.proofs.sections.Movers.{IsOnly, moving_none, parcels_of}
 use Rattle.co_world.proofs.sections.Slots.{StageKept}
 use Rattle.co_core.proofs.stored.Places.{IsRight, placed_after}
@@ -54,7 +54,7 @@ use Rattle.co_core.proofs.calls.Removes.{IsRemoved, removed_by}
 use Rattle.co_core.proofs.calls.Calling.{Calling, on, wheel, there, view, did, gone_here}
 
 -- a call's entry in the stages in which calls are made
-acting_called : (s : Script) (e : Cursor) (i : ℕ) (l : Bool) (op : CallOp) (r : Reply) (stage : Stage) → is_acting stage ≡ true → advance_callout s e i l (Call op) r stage ≡ called e i l (Call op) r
+acting_called : (s : Script) (e : Cursor) (i : ℕ) (l : Bool) (op : CallOp) (r : Reply) (stage : Stage) → is_acting stage ≡ true → advance_callout s e i l (Call op) r stage ≡ call_made e i l (Call op) r
 acting_called s e i l op r stages.Ready h = refl
 acting_called s e i l op r (stages.Waiting n took) h = refl
 acting_called s e i l op r (stages.Firing v acts) h = refl
@@ -82,10 +82,10 @@ module _ {s : Script} {x : Stored} {w : World} {a act i cpu : ℕ} {op : CallOp}
   l' = is_some (off t')
 
   abbrev c0 : Cursor
-  c0 = record (places_of w a) { removed = None }
+  c0 = record (cursors_of w a) { removed = None }
 
   abbrev d2 : Cursor
-  d2 = called c0 i l' (Call op) r'
+  d2 = call_made c0 i l' (Call op) r'
 
   abbrev q0 : TimerQueue
   q0 = queues_of w cpu
@@ -93,7 +93,7 @@ module _ {s : Script} {x : Stored} {w : World} {a act i cpu : ℕ} {op : CallOp}
   abbrev before : WheelOf
   before = wheel_at x cpu
 
-  module _ {gone listed : Bool} {at : Option ℕ} {out : Option Travelling} {after : WheelOf} (wheeled : IsCalled before i op r' gone listed at out after) where
+  module _ {gone listed : Bool} {at : Option ℕ} {out : Option Parcel} {after : WheelOf} (wheeled : IsCalled before i op r' gone listed at out after) where
     abbrev x' : Stored
     x' = record x { wheels = set x.wheels cpu after; bags = set x.bags a out }
 
@@ -124,32 +124,32 @@ module _ {s : Script} {x : Stored} {w : World} {a act i cpu : ℕ} {op : CallOp}
     abbrev made : Entry
     made = record { actor = a; act = act; op = Call op; reply = r' }
 
-    place2 : advance s (places_of w1 a) l' (place.Timer i) (entry.Timer made) ≡ d2
+    place2 : advance s (cursors_of w1 a) l' (place.Timer i) (entry.Timer made) ≡ d2
     place2 =
-        ap (λ (d : Cursor). advance_callout s (record d { removed = None }) i l' (Call op) r' d.stage) removed.2.goes.places.here
+        ap (λ (d : Cursor). advance_callout s (record d { removed = None }) i l' (Call op) r' d.stage) removed.2.goes.cursors.here
         ∙ ap (λ (e : Cursor). advance_callout s e i l' (Call op) r' e.stage) removed.2.same
         ∙ acting_called s c0 i l' op r' c0.stage (call_acting s (role_of s a) c0 c0.stage act i op (view calling).1)
 
     pub goes2 : Goes w w2 i cpu a t' cpu removed.0 d2
     goes2 =
         goes_on_from w w1 w2 i cpu a st t' cpu cpu removed.0 removed.0 removed.1 d2 removed.2.goes
-        (goes_as w1 w2 i cpu a t' (stands_of w1 i) cpu (queues_of w1 cpu) removed.0 (advance s (places_of w1 a) l' (place.Timer i) (entry.Timer made)) d2 removed.2.goes.stands.here removed.2.goes.queues.here place2
+        (goes_as w1 w2 i cpu a t' (stands_of w1 i) cpu (queues_of w1 cpu) removed.0 (advance s (cursors_of w1 a) l' (place.Timer i) (entry.Timer made)) d2 removed.2.goes.stands.here removed.2.goes.queues.here place2
         (goes_callout s w1 i cpu a act (Call op) (t', r')))
 
     pub kept : StageKept c0.stage d2.stage
     kept = call_kept s (role_of s a) c0 c0 act i op l' (spec_at s i) st t' r' (view calling).1 (did calling)
 
-    pub within : is_within d2.stage ≡ false
+    pub within : is_within_service d2.stage ≡ false
     within = call_within s (role_of s a) c0 c0 act i op l' (spec_at s i) st t' r' (view calling).1 (did calling)
 
-    pub answer : IsAnswer before i op (alone_of s w i) (there calling) (is_away cpu r' t') after.callouts r' out
-    answer = answer_by before i op (alone_of s w i) (there calling) (is_away cpu r' t') after.callouts r' out (ap (λ (y : ℕ). is_away y r' t') (wheel calling).number) wheeled.callouts
+    pub answer : IsAnswer before i op (alone_in s w i) (there calling) (is_away cpu r' t') after.callouts r' out
+    answer = answer_by before i op (alone_in s w i) (there calling) (is_away cpu r' t') after.callouts r' out (ap (λ (y : ℕ). is_away y r' t') (wheel calling).number) wheeled.callouts
 
     -- the wheel and the world after the section
-    pub finish : (w' : World) (q' : TimerQueue) (pl : Cursor) → Goes w w' i cpu a t' cpu q' pl → ((ro : Role) → slot_of ro q' ≡ slot_of ro q0) → StageKept c0.stage pl.stage →
-        after.callouts ≡ with_callout before.callouts i (after_of s i t' pl.parcel) → Shows after q' → IsOnly i pl.parcel → IsBag s w' pl.parcel out → IsRight s i cpu t' pl.parcel → IsStored s x' w' × IsPlaced s w'
+    pub finish : (w' : World) (q' : TimerQueue) (pl : Cursor) → Goes w w' i cpu a t' cpu q' pl → ((ro : Role) → server_slot ro q' ≡ server_slot ro q0) → StageKept c0.stage pl.stage →
+        after.callouts ≡ with_callout before.callouts i (after_of s i t' pl.parcel) → Shows after q' → IsOnly i pl.parcel → IsBag s w' pl.parcel out → IsRight s i cpu t' pl.parcel → ShowsStored s x' w' × IsPlaced s w'
     finish w' q' pl goes quiet kept' callouts shows only bag right = (
-      subst (λ (l : List ℕ). IsStored s (record x { wheels = set x.wheels cpu after; stands = l; bags = set x.bags a out }) w') stands_same
+      subst (λ (l : List ℕ). ShowsStored s (record x { wheels = set x.wheels cpu after; stands = l; bags = set x.bags a out }) w') stands_same
           (stored_after s x w w' i cpu a t' q' pl after out calling.stored calling.may (on calling) goes nothing only others elsewhere (ap (λ (c : Callouts). c.cpu) callouts) (ap (λ (c : Callouts). c.here) callouts) wheeled.queue.buckets wheeled.queue.direct shows bag),
       placed_after s w w' i cpu a t' q' pl calling.placed calling.may (on calling) calling.known goes nothing only others right
           (slots (role_of s a) (cpu_of s (role_of s a)) ∙ calling.placed.serves a calling.may ∙ sym kept'.slot) (λ j is. calling.placed.known a j calling.may (kept'.callout j is)) (λ b other below. slots (role_of s b) (cpu_of s (role_of s b))),
@@ -165,11 +165,11 @@ module _ {s : Script} {x : Stored} {w : World} {a act i cpu : ℕ} {op : CallOp}
 
       elsewhere : (y : ℕ) → (y ≡ cpu → ⊥) → at_home s w y i ≡ None
       elsewhere y other = go (stands_of w i == y) refl where
-        go : (b : Bool) → (stands_of w i == y) ≡ b → cond (b && not (is_moving s w i)) (Some (alone_of s w i)) None ≡ None
+        go : (b : Bool) → (stands_of w i == y) ≡ b → cond (b && not (is_moving s w i)) (Some (alone_in s w i)) None ≡ None
         go true is = absurd (other (sym (eqb-true (stands_of w i) y is) ∙ calling.stand))
         go false is = refl
 
-      slots : (ro : Role) (y : ℕ) → slot_of ro (queues_of w' y) ≡ slot_of ro (queues_of w y)
+      slots : (ro : Role) (y : ℕ) → server_slot ro (queues_of w' y) ≡ server_slot ro (queues_of w y)
       slots = all_slots w w' i cpu a t' cpu q' pl goes quiet
 
     -- the callout at the wheel after the call
@@ -186,5 +186,5 @@ module _ {s : Script} {x : Stored} {w : World} {a act i cpu : ℕ} {op : CallOp}
     lists_at h is =
         wheeled.inserted ∙ ap (λ (o : Option Alone). is_armed r' && is_listed_of after.callouts.cpu o) (left_at h is) ∙ ap (λ (y : ℕ). is_armed r' && is_listed_of y h) (cpu_after h is)
 
-    pub stepped_so : IsDue s w a (Asks act (Callout i (Call op))) → step s w a ≡ goes_on s w2 a
-    stepped_so is = step_free s w a (Asks act (Callout i (Call op))) is.due is.free ∙ ap (λ (z : World). goes_on s z a) whole
+    pub stepped_so : IsDue s w a (Asks act (Callout i (Call op))) → step s w a ≡ goes_on_in_section s w2 a
+    stepped_so is = step_free s w a (Asks act (Callout i (Call op))) is.due is.free ∙ ap (λ (z : World). goes_on_in_section s z a) whole

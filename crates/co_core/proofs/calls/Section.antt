@@ -1,4 +1,4 @@
--- The section of a call: what the wheel, the books and the plain world have after it.
+-- The section of a call: what the wheel, the ledger and the plain world have after it.
 use Rattle.std.proofs.Common.{◌≡◌, ℕ, ◌<◌, Bool, true, false, cond, List, [], ◌∷◌, set, refl, sym, ap, ◌∙◌, subst, Option, Some, None, eq-eqb}
 use Rattle.std.specs.Prelude.{◌==◌, ◌&&◌, ◌||◌, is_some}
 use Rattle.co_object.specs.declared.Arming.{Arming}
@@ -15,26 +15,26 @@ use Rattle.co_object.specs.Group.{off_of}
 use Rattle.co_object.specs.Journal as journal
 use Rattle.co_object.specs.Queue.{Queue as TimerQueue}
 use Rattle.co_object.specs.Stand.{off}
-use Rattle.co_program.specs.declared.cursor.Parcel.{Parcel}
+use Rattle.co_program.specs.declared.cursor.PendingInsert.{PendingInsert}
 use Rattle.co_program.specs.declared.action.Asked.TheVariants.{Callout, Queue}
 use Rattle.co_program.specs.declared.script.Script.{Script}
 use Rattle.co_program.specs.Actors.{role_of}
 use Rattle.co_program.specs.Cursor.{Cursor}
 use Rattle.co_program.specs.Action.{Asks, action_for, action_with}
-use Rattle.co_program.specs.Advance.{called, due_of_call}
+use Rattle.co_program.specs.Advance.{call_made, due_of_call}
 use Rattle.co_wheel.specs.Call.{is_away}
 use Rattle.co_wheel.specs.Callouts.{callout, with_callout, is_listed_of, is_at}
 use Rattle.co_wheel.specs.Cpu.{Cpu as WheelOf}
-use Rattle.co_wheel.specs.Parcel.{Parcel as Travelling, parcel}
+use Rattle.co_wheel.specs.Parcel.{Parcel, parcel}
 use Rattle.co_wheel.specs.Turns.{Shows, Takes, Turn, insertion, insertion_of}
 use Rattle.co_world.specs.World.{World}
-use Rattle.co_world.specs.Step.{are_direct, removed_from, callout_answers, queue_answers, is_in_section, is_within, lands_here, step}
+use Rattle.co_world.specs.Step.{are_direct, removed_from, callout_answers, queue_answers, is_in_section, is_within_service, lands_here, step}
 use Rattle.co_core.specs.Stored.{Stored, IsCalled, wheel_at}
 use Rattle.co_world.specs.Placed.{IsPlaced}
 use Rattle.co_core.specs.Acting.{IsDue}
-use Rattle.co_core.specs.Stands.{IsStored}
+use Rattle.co_core.specs.Stands.{ShowsStored}
 use Rattle.co_core.proofs.calls.Ends.{Ends, stays, lands, leaves, parcel_for}
-use Rattle.co_world.proofs.kept.Invariant.{states_of, queues_of, places_of}
+use Rattle.co_world.proofs.kept.Invariant.{states_of, queues_of, cursors_of}
 use Rattle.co_core.proofs.stored.Sections.{with_state}
 use Rattle.co_world.proofs.sections.Ways.{Goes, goes_on_from, goes_insert, goes_further}
 use Rattle.co_core.proofs.tables.Options.{some_is}
@@ -58,10 +58,10 @@ module _ {s : Script} {x : Stored} {w : World} {a act i cpu : ℕ} {op : CallOp}
   l' = is_some (off t')
 
   abbrev c0 : Cursor
-  c0 = record (places_of w a) { removed = None }
+  c0 = record (cursors_of w a) { removed = None }
 
   abbrev d2 : Cursor
-  d2 = called c0 i l' (Call op) r'
+  d2 = call_made c0 i l' (Call op) r'
 
   abbrev q0 : TimerQueue
   q0 = queues_of w cpu
@@ -69,7 +69,7 @@ module _ {s : Script} {x : Stored} {w : World} {a act i cpu : ℕ} {op : CallOp}
   abbrev before : WheelOf
   before = wheel_at x cpu
 
-  module _ {gone listed : Bool} {at : Option ℕ} {out : Option Travelling} {after : WheelOf} (wheeled : IsCalled before i op r' gone listed at out after) where
+  module _ {gone listed : Bool} {at : Option ℕ} {out : Option Parcel} {after : WheelOf} (wheeled : IsCalled before i op r' gone listed at out after) where
     abbrev x' : Stored
     x' = record x { wheels = set x.wheels cpu after; bags = set x.bags a out }
 
@@ -85,7 +85,7 @@ module _ {s : Script} {x : Stored} {w : World} {a act i cpu : ℕ} {op : CallOp}
     -- the arming enters the queue where the callout stands
     module _ (arming : Arming) (armed : t'.armed ≡ Some arming) (same_cpu : arming.cpu ≡ cpu) (due_is : arming.due ≡ due_of_call (Call op)) (at_cpu : off t' ≡ Some cpu) (accepted : is_armed r' ≡ true) (away : is_away cpu r' t' ≡ false)
         (carried : d2.parcel ≡ Some (parcel_for c0 i op arming)) (due' : IsDue s w a (Asks act (Callout i (Call op)))) where
-      abbrev p : Parcel
+      abbrev p : PendingInsert
       p = parcel_for c0 i op arming
 
       here : after.callouts ≡ with_callout before.callouts i (Some (with_state s i t'))
@@ -104,11 +104,11 @@ module _ {s : Script} {x : Stored} {w : World} {a act i cpu : ℕ} {op : CallOp}
       or_true true = refl
       or_true false = refl
 
-      in_section : is_in_section w2 (places_of w2 a) ≡ true
-      in_section = ap (is_in_section w2) (goes2 calling wheeled).places.here ∙ ap (λ (o : Option Parcel). is_within d2.stage || lands_here w2 o) carried ∙ ap (λ (b : Bool). is_within d2.stage || b) landing ∙ or_true (is_within d2.stage)
+      in_section : is_in_section w2 (cursors_of w2 a) ≡ true
+      in_section = ap (is_in_section w2) (goes2 calling wheeled).cursors.here ∙ ap (λ (o : Option PendingInsert). is_within_service d2.stage || lands_here w2 o) carried ∙ ap (λ (b : Bool). is_within_service d2.stage || b) landing ∙ or_true (is_within_service d2.stage)
 
-      next : action_for s a (places_of w2 a) ≡ Asks p.act (Queue p.cpu (Insert p.i p.n p.due))
-      next = ap (action_for s a) (goes2 calling wheeled).places.here ∙ ap (action_with s (role_of s a) d2) carried
+      next : action_for s a (cursors_of w2 a) ≡ Asks p.act (Queue p.cpu (Insert p.i p.n p.due))
+      next = ap (action_for s a) (goes2 calling wheeled).cursors.here ∙ ap (action_with s (role_of s a) d2) carried
 
       module _ (time : ℕ) (timed : at ≡ Some time) where
         turned : inserted ≡ (Insert i arming.n arming.due, At time) ∷ []
@@ -146,21 +146,21 @@ module _ {s : Script} {x : Stored} {w : World} {a act i cpu : ℕ} {op : CallOp}
         goes3 =
             subst (λ (z : State). Goes w w3 i cpu a z cpu q2 d3) (goes2 calling wheeled).states.here
             (goes_on_from w w2 w3 i cpu a t' (states_of w2 i) cpu cpu (removed calling wheeled).0 q2 d2 d3 (goes2 calling wheeled)
-            (goes_as w2 w3 i cpu a (states_of w2 i) cpu cpu q2 q2 (record (places_of w2 a) { parcel = None }) d3 refl refl (ap (λ (d : Cursor). emptied d) (goes2 calling wheeled).places.here)
-            (subst (λ (k : ℕ). Goes w2 w3 i k a (states_of w2 i) k q2 (record (places_of w2 a) { parcel = None })) same_cpu (goes_insert s w2 i p.cpu a p.act p.n p.due (q2, At time))))) where
+            (goes_as w2 w3 i cpu a (states_of w2 i) cpu cpu q2 q2 (record (cursors_of w2 a) { parcel = None }) d3 refl refl (ap (λ (d : Cursor). emptied d) (goes2 calling wheeled).cursors.here)
+            (subst (λ (k : ℕ). Goes w2 w3 i k a (states_of w2 i) k q2 (record (cursors_of w2 a) { parcel = None })) same_cpu (goes_insert s w2 i p.cpu a p.act p.n p.due (q2, At time))))) where
               emptied : Cursor → Cursor
               emptied d = record d { parcel = None }
 
-        both : IsStored s x' w3 × IsPlaced s w3
+        both : ShowsStored s x' w3 × IsPlaced s w3
         both = finish calling wheeled w3 q2 d3 goes3 (λ ro. quiet_slots s.buckets (are_direct s) (removed calling wheeled).0 (Insert i arming.n arming.due) (q2, At time) answers (λ e. cc) (λ e. cc) (λ e. cc) (λ e. cc) ro ∙ (removed calling wheeled).2.slots ro)
             (record { slot = (kept calling wheeled).slot; callout = (kept calling wheeled).callout }) here rest.1 (λ q e. cc) no_out
             (right_with calling wheeled None (λ y m e. some_is cpu y (sym at_cpu ∙ e)) (λ q e. cc) (λ q e. cc))
 
         done : (IsDone calling wheeled)
         done = record {
-          stored_so = subst (IsStored s x') (sym is) both.0;
+          stored_so = subst (ShowsStored s x') (sym is) both.0;
           placed_so = subst (IsPlaced s) (sym is) both.1;
-          tail = one_more time q2 p timed (ap (λ (d : Cursor). d.parcel) (goes2 calling wheeled).places.here ∙ carried) (subst (λ (y : ℕ). y < s.cpus) (sym same_cpu) (on calling)) is;
+          tail = one_more time q2 p timed (ap (λ (d : Cursor). d.parcel) (goes2 calling wheeled).cursors.here ∙ carried) (subst (λ (y : ℕ). y < s.cpus) (sym same_cpu) (on calling)) is;
           listing = λ yes'. (let e : listed ≡ true = wheeled.is_listed ∙ ap (λ (o : Option ℕ). is_some o || is_some out) timed in e ∙ sym (ap is_some at_cpu));
         }
 

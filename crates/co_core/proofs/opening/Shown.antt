@@ -1,4 +1,4 @@
--- What stands in the books and in the depot before the first step is the opening of the plain world.
+-- What stands in the ledger and in the depot before the first step is the opening of the plain world.
 use Rattle.std.proofs.Common.{◌≡◌, ℕ, zero, suc, ◌<◌, List, [], ◌∷◌, length, drop, get_or, replicate, map, refl, ap, sym, subst, ◌∙◌, arith}
 use Rattle.std.specs.Prelude.{Some, None, Bool, true, false, cond, not, ◌&&◌, ◌==◌}
 use Rattle.std.specs.List.{list_any}
@@ -10,8 +10,8 @@ use Rattle.co_object.specs.declared.spec.LockUse.TheVariants.{Free}
 use Rattle.co_object.specs.Queue.{empty_queue}
 use Rattle.co_queue.proofs.Standing.{stands_for-empty}
 use Rattle.co_program.specs.declared.script.Script.{Script}
-use Rattle.co_program.specs.Actors.{actor_count}
-use Rattle.co_world.specs.World.{open_world, all_actors}
+use Rattle.co_program.specs.Actors.{actor_count, all_actors}
+use Rattle.co_world.specs.World.{open_world}
 use Rattle.co_world.specs.Blocked.{is_moving}
 use Rattle.co_wheel.specs.Callouts.{new_callout}
 use Rattle.co_core.specs.Booted.{first_wheel, first_callouts}
@@ -19,16 +19,16 @@ use Rattle.co_core.specs.Stored.{Stored, no_wheel}
 use Rattle.co_world.specs.Step.{are_direct}
 use Rattle.co_core.specs.Table.{table}
 use Rattle.co_core.proofs.tables.Values.{table_long, table_at, fills, same}
-use Rattle.co_world.specs.Placed.{IsPlaced, IsBound, slot_of, callout_in}
-use Rattle.co_core.specs.Stands.{IsWritten, IsStored, StandsFor, IsAtWheel, at_home, alone_of}
+use Rattle.co_world.specs.Placed.{IsPlaced, IsBound, server_slot, stage_callout}
+use Rattle.co_core.specs.Stands.{ShowsWritten, ShowsStored, StandsFor, IsAtWheel, at_home, alone_in}
 use Rattle.co_object.specs.declared.state.Arming.{Arming}
 use Rattle.co_object.specs.Stand.{off}
-use Rattle.co_program.specs.declared.cursor.Parcel.{Parcel}
+use Rattle.co_program.specs.declared.cursor.PendingInsert.{PendingInsert}
 use Rattle.co_program.specs.declared.role.Role.{Role}
 use Rattle.co_program.specs.declared.role.Role.TheVariants.{Client, Cpu, Interrupt}
 use Rattle.co_program.specs.Actors.{role_of}
 use Rattle.co_program.specs.Scripts.{IsScript}
-use Rattle.co_core.specs.Written.{Written, first_place}
+use Rattle.co_core.specs.Written.{Written, first_cursor}
 use Rattle.co_core.proofs.tables.Copies.{table-same}
 
 no-counts : (n a : ℕ) → ◌≡◌ {A = ℕ} (get_or (replicate n 0) a 0) 0
@@ -36,12 +36,12 @@ no-counts zero a = refl
 no-counts (suc n) zero = refl
 no-counts (suc n) (suc a) = no-counts n a
 
--- the books before the first step
+-- the ledger before the first step
 pub opening-written : (s : Script) (n timers cpus : ℕ) → n ≡ actor_count s → timers ≡ length s.timers → cpus ≡ s.cpus →
-    IsWritten s (record { places = replicate n first_place; lists = replicate n []; histories = replicate timers 0; journals = replicate cpus 0; scans = replicate cpus 0; own = replicate n 0; told = replicate n 0; made = 0 }) (open_world s)
+    ShowsWritten s (record { cursors = replicate n first_cursor; lists = replicate n []; histories = replicate timers 0; journals = replicate cpus 0; scans = replicate cpus 0; own = replicate n 0; told = replicate n 0; made = 0 }) (open_world s)
 opening-written s n timers cpus actors_is timers_is cpus_is = record {
-  places_long = length-replicate n first_place ∙ actors_is;
-  each_place = λ a h. rw (get_or-replicate n a first_place first_place (omega (arith, h, actors_is))) refl;
+  cursors_long = length-replicate n first_cursor ∙ actors_is;
+  each_place = λ a h. rw (get_or-replicate n a first_cursor first_cursor (omega (arith, h, actors_is))) refl;
   told_long = length-replicate n 0 ∙ actors_is;
   each_list =
       ap (λ k. replicate k []) actors_is ∙ sym (table-same (actor_count s) [])
@@ -50,7 +50,7 @@ opening-written s n timers cpus actors_is timers_is cpus_is = record {
   each_journal = ap (λ k. replicate k 0) cpus_is ∙ sym (table-same s.cpus 0);
   each_scan = ap (λ k. replicate k 0) cpus_is ∙ sym (table-same s.cpus 0);
   each_own = ap (λ k. replicate k 0) actors_is ∙ sym (table-same (actor_count s) 0);
-  counted = λ a h. rw (get_or-replicate n a first_place first_place (omega (arith, h, actors_is))) (omega arith);
+  counted = λ a h. rw (get_or-replicate n a first_cursor first_cursor (omega (arith, h, actors_is))) (omega arith);
   few_entries = λ i. omega arith;
   few_turns = λ cpu. omega arith;
   few_told = λ a. (let none = no-counts n a in omega (arith, none));
@@ -74,8 +74,8 @@ plain_spec = record { lock = Free; returns_unlocked = false; direct = false }
 -- where the callouts are before the first step
 callouts-home : (s : Script) (cpu : ℕ) → first_callouts s.timers cpu ≡ table (length s.timers) (at_home s (open_world s) cpu)
 callouts-home s cpu = go (cpu == 0) refl where
-  here : (i : ℕ) (b : Bool) → (0 == cpu) ≡ b → cond (b && not false) (Some (alone_of s (open_world s) i)) None ≡ at_home s (open_world s) cpu i
-  here i b is = ap (λ c. cond (c && not false) (Some (alone_of s (open_world s) i)) None) (sym is) ∙ ap (λ c. cond ((0 == cpu) && not c) (Some (alone_of s (open_world s) i)) None) (sym (still s i))
+  here : (i : ℕ) (b : Bool) → (0 == cpu) ≡ b → cond (b && not false) (Some (alone_in s (open_world s) i)) None ≡ at_home s (open_world s) cpu i
+  here i b is = ap (λ c. cond (c && not false) (Some (alone_in s (open_world s) i)) None) (sym is) ∙ ap (λ c. cond ((0 == cpu) && not c) (Some (alone_in s (open_world s) i)) None) (sym (still s i))
 
   away : (b : Bool) → (cpu == 0) ≡ false → (0 == cpu) ≡ b → b ≡ false
   away false h is = refl
@@ -102,7 +102,7 @@ at-first s cpu = record {
 
 -- the depot before the first step
 pub opening-stored : (s : Script) (n timers : ℕ) → n ≡ actor_count s → timers ≡ length s.timers →
-    IsStored s (record { wheels = table s.cpus (first_wheel s); stands = replicate timers 0; bags = replicate n None }) (open_world s)
+    ShowsStored s (record { wheels = table s.cpus (first_wheel s); stands = replicate timers 0; bags = replicate n None }) (open_world s)
 opening-stored s n timers actors_is timers_is = record {
   wheels_long = table_long s.cpus (first_wheel s);
   each_wheel = λ cpu within. subst (λ x. IsAtWheel s (open_world s) cpu x) (sym (table_at s.cpus (first_wheel s) cpu no_wheel within)) (at-first s cpu);
@@ -119,12 +119,12 @@ opening-placed s ok = record {
   bound = λ a p may is. nothing a p is;
   serves = λ a may. free (role_of s a);
   known = λ a i may is. idle a i is;
-  settled = λ i within. record { home = some; target = λ arming is. unarmed i arming is; stand = some };
+  cpus_known = λ i within. record { home = some; target = λ arming is. unarmed i arming is; stand = some };
 } where
   some : 0 < s.cpus
   some = let l = ok.cpus.0 in omega (arith, l)
 
-  free : (role : Role) → slot_of role empty_queue ≡ None
+  free : (role : Role) → server_slot role empty_queue ≡ None
   free (Client c) = refl
   free (Cpu x) = refl
   free (Interrupt x) = refl
@@ -132,18 +132,18 @@ opening-placed s ok = record {
   nowhere : (i cpu : ℕ) → off ((open_world s).timers i).state ≡ Some cpu → ((open_world s).timers i).stand ≡ cpu
   nowhere i cpu is = let none : None ≡ Some cpu = is in cc
 
-  nothing : (a : ℕ) (p : Parcel) → ((open_world s).actors a).cursor.parcel ≡ Some p → IsBound s (open_world s) p
+  nothing : (a : ℕ) (p : PendingInsert) → ((open_world s).actors a).cursor.parcel ≡ Some p → IsBound s (open_world s) p
   nothing a p is = let none : None ≡ Some p = is in cc
 
-  idle : (a i : ℕ) → callout_in ((open_world s).actors a).cursor.stage ≡ Some i → i < length s.timers
+  idle : (a i : ℕ) → stage_callout ((open_world s).actors a).cursor.stage ≡ Some i → i < length s.timers
   idle a i is = let none : None ≡ Some i = is in cc
 
   unarmed : (i : ℕ) (arming : Arming) → ((open_world s).timers i).state.armed ≡ Some arming → arming.cpu < s.cpus
   unarmed i arming is = let none : None ≡ Some arming = is in cc
 
--- books and depot before the first step
-pub opening-stands : (s : Script) (books : Written) (depot : Stored) → IsScript s → IsWritten s books (open_world s) → IsStored s depot (open_world s) → StandsFor s books depot (open_world s)
-opening-stands s books depot ok written stored = record {
+-- ledger and depot before the first step
+pub opening-stands : (s : Script) (ledger : Written) (depot : Stored) → IsScript s → ShowsWritten s ledger (open_world s) → ShowsStored s depot (open_world s) → StandsFor s ledger depot (open_world s)
+opening-stands s ledger depot ok written stored = record {
   written = written;
   stored = stored;
   placed = opening-placed s ok;

@@ -1,4 +1,4 @@
--- A service is over: its callout stays or leaves for another CPU, and its server is free. What the wheel, the books and the plain world have after it.
+-- A service is over: its callout stays or leaves for another CPU, and its server is free. What the wheel, the ledger and the plain world have after it.
 use Rattle.std.proofs.Common.{◌≡◌, ℕ, ◌<◌, ◌⊎◌, inl, inr, Bool, true, false, cond, List, [], ◌∷◌, length, set, refl, sym, ap, ◌∙◌, subst, arith, Option, Some, None, eq-eqb}
 use Rattle.std.specs.Prelude.{is_some}
 use Rattle.std.proofs.lemmas.List.{set-get_or}
@@ -21,34 +21,34 @@ use Rattle.co_object.specs.Serve.{end, ended, next_of}
 use Rattle.co_object.specs.Stand.{off}
 use Rattle.co_object.proofs.QueueChanges.{QChange}
 use Rattle.co_program.specs.declared.role.Role.{Role}
-use Rattle.co_program.specs.declared.cursor.Parcel.{Parcel}
-use Rattle.co_program.specs.declared.cursor.Service.{Service}
+use Rattle.co_program.specs.declared.cursor.PendingInsert.{PendingInsert}
+use Rattle.co_program.specs.declared.cursor.InService.{InService}
 use Rattle.co_program.specs.declared.action.Asked.TheVariants.{Callout, Queue}
 use Rattle.co_program.specs.declared.script.Script.{Script}
 use Rattle.co_program.specs.Actors.{actor_count, role_of, cpu_of}
 use Rattle.co_program.specs.Stages.{Ending, Freeing}
 use Rattle.co_program.specs.Cursor.{Cursor}
 use Rattle.co_program.specs.Action.{Asks, action_for, action_with, spec_at, free_of, draining}
-use Rattle.co_program.specs.Advance.{advance, advance_callout, advance_queue, ended as ended_place, parcel_of, drain_acts}
+use Rattle.co_program.specs.Advance.{advance, advance_callout, advance_queue, service_ended, parcel_of, drain_acts}
 use Rattle.co_program.specs.Scripts.{IsScript}
 use Rattle.co_wheel.specs.Callouts.{Callouts, callout, with_callout, with_service, in_service}
 use Rattle.co_wheel.specs.Cpu.{Cpu as WheelOf}
-use Rattle.co_wheel.specs.Parcel.{Parcel as Travelling, parcel, parcel_to}
+use Rattle.co_wheel.specs.Parcel.{Parcel, parcel, parcel_to}
 use Rattle.co_wheel.specs.Service.{end_here, end_served, end_it, end_outcome}
 use Rattle.co_wheel.specs.Turns.{Shows, Takes, pop_of as lane_pop, free_of as lane_free}
 use Rattle.co_world.specs.World.{World}
 use Rattle.co_world.specs.Blocked.{moves}
-use Rattle.co_world.specs.Step.{are_direct, answered, goes_on, callout_answers, queue_answers, is_in_section, step}
+use Rattle.co_world.specs.Step.{are_direct, world_answers, goes_on_in_section, callout_answers, queue_answers, is_in_section, step}
 use Rattle.co_core.specs.Stored.{Stored, IsEnded, wheel_at, bag_at, with_wheel, with_bag}
 use Rattle.co_core.specs.Written.{Written}
-use Rattle.co_world.specs.Placed.{IsPlaced, IsSettled, slot_of, in_slot, callout_in, entry_of}
+use Rattle.co_world.specs.Placed.{IsPlaced, NamesKnownCpus, server_slot, in_slot, stage_callout, due_in_service}
 use Rattle.co_core.specs.Acting.{IsDue}
-use Rattle.co_core.specs.Stands.{StandsFor, IsAtWheel, IsBag, IsPacked, IsStored, IsWritten, alone_of}
+use Rattle.co_core.specs.Stands.{StandsFor, IsAtWheel, IsBag, IsPacked, ShowsStored, ShowsWritten, alone_in}
 use Rattle.co_core.proofs.tables.Options.{some_is}
 use Rattle.co_core.proofs.stored.Slots.{answered_so}
 use Rattle.co_core.proofs.stored.Worlds.{goes_as}
 use Rattle.co_world.proofs.kept.ByOwnSteps.{view_of}
-use Rattle.co_world.proofs.kept.Invariant.{FitsRole, IsOver, RunFits, serves_direct, states_of, queues_of, places_of}
+use Rattle.co_world.proofs.kept.Invariant.{FitsRole, IsOver, RunFits, serves_direct, states_of, queues_of, cursors_of}
 use Rattle.co_world.proofs.basics.Changes.{decide}
 use Rattle.co_world.proofs.sections.Movers.{IsOnly, parcels_of}
 use Rattle.co_world.proofs.kept.Passages.{changed}
@@ -70,9 +70,9 @@ use Rattle.co_world.proofs.kept.Stages.{free_goes}
 
 -- ---- the section
 
-module _ (s : Script) (ok : IsScript s) (books : Written) (depot : Stored) (w : World) (stands : StandsFor s books depot w) (a act i n cpu : ℕ) (due : IsDue s w a (Asks act (Callout i (Serve (End n cpu))))) where
+module _ (s : Script) (ok : IsScript s) (ledger : Written) (depot : Stored) (w : World) (stands : StandsFor s ledger depot w) (a act i n cpu : ℕ) (due : IsDue s w a (Asks act (Callout i (Serve (End n cpu))))) where
   abbrev c : Cursor
-  c = places_of w a
+  c = cursors_of w a
 
   abbrev role' : Role
   role' = role_of s a
@@ -96,7 +96,7 @@ module _ (s : Script) (ok : IsScript s) (books : Written) (depot : Stored) (w : 
   view : IsStage s role' c act i n cpu Ending
   view = end_view s role' c c.parcel act i n cpu (view_of s a c (Asks act (Callout i (Serve (End n cpu)))) due.due) refl
 
-  abbrev v : Service
+  abbrev v : InService
   v = record { act = act; i = i; n = n; at = view.at }
 
   at_stage : c.stage ≡ Ending v
@@ -120,44 +120,44 @@ module _ (s : Script) (ok : IsScript s) (books : Written) (depot : Stored) (w : 
   busy : IsBusyAt st.run cpu
   busy = over_busy st.run n cpu over
 
-  about : callout_in c.stage ≡ Some i
-  about = ap callout_in at_stage
+  about : stage_callout c.stage ≡ Some i
+  about = ap stage_callout at_stage
 
   pub end_below : cpu < s.cpus
-  end_below = cpu_below s ok books depot w stands a i cpu due.may view.is_cpu about busy
+  end_below = cpu_below s ok ledger depot w stands a i cpu due.may view.is_cpu about busy
 
   pub end_there : cpu < length depot.wheels
-  end_there = cpu_there s ok books depot w stands a i cpu due.may view.is_cpu about busy
+  end_there = cpu_there s ok ledger depot w stands a i cpu due.may view.is_cpu about busy
 
   pub end_known : i < length s.timers
-  end_known = known s ok books depot w stands a i cpu due.may view.is_cpu about busy
+  end_known = known s ok ledger depot w stands a i cpu due.may view.is_cpu about busy
 
   pub end_bag : a < length depot.bags
   end_bag = let l = stands.stored.bags_long in let m = due.may in omega (arith, l, m)
 
   -- an actor whose service ends moves nothing
   pub end_empty : bag_at depot a ≡ None
-  end_empty = subst (λ (o : Option Parcel). IsBag s w o (bag_at depot a)) view.empty (stands.stored.each_bag a due.may)
+  end_empty = subst (λ (o : Option PendingInsert). IsBag s w o (bag_at depot a)) view.empty (stands.stored.each_bag a due.may)
 
-  here : callout before.callouts i ≡ Some (alone_of s w i)
-  here = there s ok books depot w stands a i cpu due.may view.is_cpu about busy
+  here : callout before.callouts i ≡ Some (alone_in s w i)
+  here = there s ok ledger depot w stands a i cpu due.may view.is_cpu about busy
 
   at_stand : stands_of w i ≡ cpu
-  at_stand = stand s ok books depot w stands a i cpu due.may view.is_cpu about busy
+  at_stand = stand s ok ledger depot w stands a i cpu due.may view.is_cpu about busy
 
   wheel : IsAtWheel s w cpu before
   wheel = stands.stored.each_wheel cpu end_below
 
-  in_lane : in_service direct before.callouts ≡ Some (entry_of v)
+  in_lane : in_service direct before.callouts ≡ Some (due_in_service v)
   in_lane =
-      lane_slot direct role' before q0 server (ap lane_pop lane ∙ lane_pops role' server) wheel.shows ∙ ap (λ (y : ℕ). slot_of role' (queues_of w y)) view.is_cpu
+      lane_slot direct role' before q0 server (ap lane_pop lane ∙ lane_pops role' server) wheel.shows ∙ ap (λ (y : ℕ). server_slot role' (queues_of w y)) view.is_cpu
       ∙ stands.placed.serves a due.may ∙ ap in_slot at_stage
 
-  served : end_here direct before.callouts ≡ end_outcome direct before.callouts (entry_of v) (alone_of s w i) (Some (ended st cpu))
+  served : end_here direct before.callouts ≡ end_outcome direct before.callouts (due_in_service v) (alone_in s w i) (Some (ended st cpu))
   served =
-      ap (end_served direct before.callouts) in_lane ∙ ap (end_it direct before.callouts (entry_of v)) here
-      ∙ ap (λ (y : ℕ). end_outcome direct before.callouts (entry_of v) (alone_of s w i) (end st n y)) wheel.number
-      ∙ ap (end_outcome direct before.callouts (entry_of v) (alone_of s w i)) (ends_at st st.run n cpu over)
+      ap (end_served direct before.callouts) in_lane ∙ ap (end_it direct before.callouts (due_in_service v)) here
+      ∙ ap (λ (y : ℕ). end_outcome direct before.callouts (due_in_service v) (alone_in s w i) (end st n y)) wheel.number
+      ∙ ap (end_outcome direct before.callouts (due_in_service v) (alone_in s w i)) (ends_at st st.run n cpu over)
 
   pub ends_here : is_some (end_here direct before.callouts) ≡ true
   ends_here = ap is_some served
@@ -168,9 +168,9 @@ module _ (s : Script) (ok : IsScript s) (books : Written) (depot : Stored) (w : 
   abbrev next : Option Next
   next = next_of st.armed cpu
 
-  module _ (reply : Reply) (out : Option Travelling) (after : WheelOf) (ended_so : IsEnded direct before reply out after) where
+  module _ (reply : Reply) (out : Option Parcel) (after : WheelOf) (ended_so : IsEnded direct before reply out after) where
     abbrev After : Type 0
-    After = Callouts × Reply × Option Travelling
+    After = Callouts × Reply × Option Parcel
 
     record IsAnswer (o : Option Next) : Type 0 where
       callouts_are : after.callouts ≡ with_service direct (with_callout before.callouts i (after_of s i t (parcel_of v o))) None
@@ -207,7 +207,7 @@ module _ (s : Script) (ok : IsScript s) (books : Written) (depot : Stored) (w : 
     c1 = record c { removed = None; stage = Freeing v st.adrain next }
 
     place1 : advance s c (is_some (off t)) (place.Timer i) (entry.Timer made) ≡ c1
-    place1 = ap (advance_callout s (record c { removed = None }) i (is_some (off t)) (Serve (End n cpu)) reply) at_stage ∙ ap (ended_place (record c { removed = None }) v) answer.reply_is
+    place1 = ap (advance_callout s (record c { removed = None }) i (is_some (off t)) (Serve (End n cpu)) reply) at_stage ∙ ap (service_ended (record c { removed = None }) v) answer.reply_is
 
     goes1 : Goes w w1 i cpu a t cpu q0 c1
     goes1 = goes_as w w1 i cpu a t (stands_of w i) cpu q0 q0 (advance s c (is_some (off t)) (place.Timer i) (entry.Timer made)) c1 at_stand refl place1 (goes_callout s w i cpu a act (Serve (End n cpu)) (t, reply))
@@ -231,11 +231,11 @@ module _ (s : Script) (ok : IsScript s) (books : Written) (depot : Stored) (w : 
     abbrev w2 : World
     w2 = queue_answers s w1 a act cpu op (Some (q1, Freed))
 
-    in_section : is_in_section w1 (places_of w1 a) ≡ true
-    in_section = ap (is_in_section w1) goes1.places.here
+    in_section : is_in_section w1 (cursors_of w1 a) ≡ true
+    in_section = ap (is_in_section w1) goes1.cursors.here
 
-    asks_free : action_for s a (places_of w1 a) ≡ Asks act (Queue (cpu_of s role') (free_of role'))
-    asks_free = ap (action_for s a) goes1.places.here ∙ ap (action_with s role' c1) view.empty
+    asks_free : action_for s a (cursors_of w1 a) ≡ Asks act (Queue (cpu_of s role') (free_of role'))
+    asks_free = ap (action_for s a) goes1.cursors.here ∙ ap (action_with s role' c1) view.empty
 
     outcome : callout_step (spec_at s i) st (Serve (End n cpu)) ≡ Some (t, reply)
     outcome = ends_at st st.run n cpu over ∙ ap (λ (r : Reply). Some (t, r)) (sym answer.reply_is)
@@ -245,22 +245,22 @@ module _ (s : Script) (ok : IsScript s) (books : Written) (depot : Stored) (w : 
 
     is : step s w a ≡ w2
     is =
-        step_free s w a (Asks act (Callout i (Serve (End n cpu)))) due.due due.free ∙ ap (λ (o : Option (State × Reply)). goes_on s (callout_answers s w a act i (Serve (End n cpu)) o) a) outcome
+        step_free s w a (Asks act (Callout i (Serve (End n cpu)))) due.due due.free ∙ ap (λ (o : Option (State × Reply)). goes_on_in_section s (callout_answers s w a act i (Serve (End n cpu)) o) a) outcome
         ∙ goes_further s w1 a act (Queue (cpu_of s role') (free_of role')) in_section asks_free
-        ∙ ap (λ (y : ℕ). answered s w1 a act (Queue y (free_of role'))) (sym view.is_cpu) ∙ ap (λ (o : QOp). answered s w1 a act (Queue cpu o)) (sym lane_op)
+        ∙ ap (λ (y : ℕ). world_answers s w1 a act (Queue y (free_of role'))) (sym view.is_cpu) ∙ ap (λ (o : QOp). world_answers s w1 a act (Queue cpu o)) (sym lane_op)
         ∙ ap (queue_answers s w1 a act cpu op) frees
 
     abbrev d2 : Cursor
     d2 = record c1 { stage = draining v (drain_acts s st.adrain); parcel = parcel_of v next }
 
-    place2 : advance_queue s (places_of w1 a) cpu op Freed ≡ d2
-    place2 = ap (λ (x : Cursor). advance_queue s x cpu op Freed) goes1.places.here ∙ ap (λ (o : QOp). advance_queue s c1 cpu o Freed) lane_op ∙ free_goes s role' c1 cpu Freed
+    place2 : advance_queue s (cursors_of w1 a) cpu op Freed ≡ d2
+    place2 = ap (λ (x : Cursor). advance_queue s x cpu op Freed) goes1.cursors.here ∙ ap (λ (o : QOp). advance_queue s c1 cpu o Freed) lane_op ∙ free_goes s role' c1 cpu Freed
 
     goes2 : Goes w w2 i cpu a t cpu q1 d2
     goes2 =
         goes_on_from w w1 w2 i cpu a t t cpu cpu q0 q1 c1 d2 goes1
         (subst (λ (x : State). Goes w1 w2 i cpu a x cpu q1 d2) goes1.states.here
-        (goes_as w1 w2 i cpu a (states_of w1 i) (stands_of w1 i) cpu q1 q1 (advance_queue s (places_of w1 a) cpu op Freed) d2 goes1.stands.here refl place2
+        (goes_as w1 w2 i cpu a (states_of w1 i) (stands_of w1 i) cpu q1 q1 (advance_queue s (cursors_of w1 a) cpu op Freed) d2 goes1.stands.here refl place2
         (goes_queue s w1 i cpu a act op (q1, Freed) (lane_moves_none direct))))
 
     -- ---- after both
@@ -278,14 +278,14 @@ module _ (s : Script) (ok : IsScript s) (books : Written) (depot : Stored) (w : 
     only p e = go next e where
       go : (o : Option Next) → parcel_of v o ≡ Some p → p.i ≡ i
       go None e = cc
-      go (Some x) e = ap (λ (y : Parcel). y.i) (sym (some_is (record { act = act; i = i; n = x.n; due = x.due; cpu = x.cpu }) p e))
+      go (Some x) e = ap (λ (y : PendingInsert). y.i) (sym (some_is (record { act = act; i = i; n = x.n; due = x.due; cpu = x.cpu }) p e))
 
     -- what the arming that leaves makes of the place
-    abbrev sent : Arming → Parcel
+    abbrev sent : Arming → PendingInsert
     sent arming = record { act = act; i = i; n = arming.n; due = arming.due; cpu = arming.cpu }
 
-    abbrev settles : IsSettled s w i
-    settles = stands.placed.settled i end_known
+    abbrev settles : NamesKnownCpus s w i
+    settles = stands.placed.cpus_known i end_known
 
     right : IsRight s i cpu t d2.parcel
     right = go (moves_so st cpu) where
@@ -302,7 +302,7 @@ module _ (s : Script) (ok : IsScript s) (books : Written) (depot : Stored) (w : 
         runs = refl;
         listed = λ y m e. absurd (let clash : true ≡ false = sym (eq-eqb i i refl) ∙ ap (λ (o : Option Next). moves i (parcel_of v o)) (sym goes) ∙ m in cc);
         idle = λ p e. refl;
-        bound = λ p e. subst (λ (x : Parcel). x.cpu < s.cpus) (some_is (sent arming) p (ap (parcel_of v) (sym goes) ∙ e)) (settles.target arming armed);
+        bound = λ p e. subst (λ (x : PendingInsert). x.cpu < s.cpus) (some_is (sent arming) p (ap (parcel_of v) (sym goes) ∙ e)) (settles.target arming armed);
         home = settles.home;
         target = λ x e. settles.target x e;
       }
@@ -310,9 +310,9 @@ module _ (s : Script) (ok : IsScript s) (books : Written) (depot : Stored) (w : 
     bagged : IsBag s w2 d2.parcel out
     bagged = go (moves_so st cpu) where
       go : Moves st cpu → IsBag s w2 (parcel_of v next) out
-      go (stays none listed) = subst (λ (o : Option Parcel). IsBag s w2 o out) (ap (parcel_of v) (sym none)) (answer.out_is ∙ ap (λ (o : Option Next). cond (is_some o) (parcel i (with_state s i t)) None) none)
-      go (leaves arming armed goes) = subst (λ (o : Option Parcel). IsBag s w2 o out) (ap (parcel_of v) (sym goes)) (packed arming armed goes) where
-        travels : Arming → State → Travelling
+      go (stays none listed) = subst (λ (o : Option PendingInsert). IsBag s w2 o out) (ap (parcel_of v) (sym none)) (answer.out_is ∙ ap (λ (o : Option Next). cond (is_some o) (parcel i (with_state s i t)) None) none)
+      go (leaves arming armed goes) = subst (λ (o : Option PendingInsert). IsBag s w2 o out) (ap (parcel_of v) (sym goes)) (packed arming armed goes) where
+        travels : Arming → State → Parcel
         travels x state = record { i = i; callout = with_state s i state; arming = x }
 
         packed : (x : Arming) → st.armed ≡ Some x → next ≡ Some (record { n = x.n; cpu = x.cpu; due = x.due }) → IsPacked s w2 (sent x) out
@@ -328,22 +328,22 @@ module _ (s : Script) (ok : IsScript s) (books : Written) (depot : Stored) (w : 
     change : QChange s.buckets (are_direct s) q0 op Freed q1
     change = changed s.buckets (are_direct s) q0 op (q1, Freed) answers
 
-    drained : (in_slot (draining v (drain_acts s st.adrain)) ≡ None) × ((j : ℕ) → callout_in (draining v (drain_acts s st.adrain)) ≡ Some j → j ≡ i)
+    drained : (in_slot (draining v (drain_acts s st.adrain)) ≡ None) × ((j : ℕ) → stage_callout (draining v (drain_acts s st.adrain)) ≡ Some j → j ≡ i)
     drained = draining_of v (drain_acts s st.adrain)
 
-    slot_now : slot_of role' (queues_of w2 (cpu_of s role')) ≡ in_slot d2.stage
+    slot_now : server_slot role' (queues_of w2 (cpu_of s role')) ≡ in_slot d2.stage
     slot_now =
-        ap (λ (y : ℕ). slot_of role' (queues_of w2 y)) (sym view.is_cpu) ∙ ap (slot_of role') goes2.queues.here
+        ap (λ (y : ℕ). server_slot role' (queues_of w2 y)) (sym view.is_cpu) ∙ ap (server_slot role') goes2.queues.here
         ∙ free_slot s.buckets (are_direct s) role' q0 op Freed q1 server lane_op change ∙ sym drained.0
 
-    slots : (b : ℕ) → (b ≡ a → ⊥) → b < actor_count s → slot_of (role_of s b) (queues_of w2 (cpu_of s (role_of s b))) ≡ slot_of (role_of s b) (queues_of w (cpu_of s (role_of s b)))
+    slots : (b : ℕ) → (b ≡ a → ⊥) → b < actor_count s → server_slot (role_of s b) (queues_of w2 (cpu_of s (role_of s b))) ≡ server_slot (role_of s b) (queues_of w (cpu_of s (role_of s b)))
     slots b other below = go (decide (cpu_of s (role_of s b)) cpu) where
-      go : (cpu_of s (role_of s b) ≡ cpu) ⊎ (cpu_of s (role_of s b) ≡ cpu → ⊥) → slot_of (role_of s b) (queues_of w2 (cpu_of s (role_of s b))) ≡ slot_of (role_of s b) (queues_of w (cpu_of s (role_of s b)))
+      go : (cpu_of s (role_of s b) ≡ cpu) ⊎ (cpu_of s (role_of s b) ≡ cpu → ⊥) → server_slot (role_of s b) (queues_of w2 (cpu_of s (role_of s b))) ≡ server_slot (role_of s b) (queues_of w (cpu_of s (role_of s b)))
       go (inl same) =
-          subst (λ (y : ℕ). slot_of (role_of s b) (queues_of w2 y) ≡ slot_of (role_of s b) (queues_of w y)) (sym same)
-          (ap (slot_of (role_of s b)) goes2.queues.here
+          subst (λ (y : ℕ). server_slot (role_of s b) (queues_of w2 y) ≡ server_slot (role_of s b) (queues_of w y)) (sym same)
+          (ap (server_slot (role_of s b)) goes2.queues.here
           ∙ other_slot s.buckets (are_direct s) s role' (role_of s b) q0 op Freed q1 server (inr lane_op) change (λ e. other (same_role s b a e)) (same ∙ view.is_cpu))
-      go (inr apart) = ap (slot_of (role_of s b)) (goes2.queues.else (cpu_of s (role_of s b)) apart)
+      go (inr apart) = ap (server_slot (role_of s b)) (goes2.queues.else (cpu_of s (role_of s b)) apart)
 
     same_stands : set depot.stands i cpu ≡ depot.stands
     same_stands = ap (set depot.stands i) (sym (read depot.stands (length s.timers) (stands_of w) i 0 stands.stored.each_stand end_known ∙ at_stand)) ∙ set-get_or depot.stands i 0
@@ -351,15 +351,15 @@ module _ (s : Script) (ok : IsScript s) (books : Written) (depot : Stored) (w : 
     abbrev stored_as : List ℕ → Stored
     stored_as sites = record { wheels = set depot.wheels cpu after; stands = sites; bags = set depot.bags a out }
 
-    pub stands_ended : (books' : Written) → ((queue : TimerQueue) (state : State) → IsWritten s books' (queue_answers s (callout_answers s w a act i (Serve (End n cpu)) (Some (state, reply))) a act cpu op (Some (queue, Freed)))) →
-        StandsFor s books' (with_bag (with_wheel depot cpu after) a out) (step s w a)
-    stands_ended books' written = record {
-      written = subst (IsWritten s books') (sym is) (written q1 t);
-      stored = subst (λ (l : List ℕ). IsStored s (stored_as l) (step s w a)) same_stands (subst (IsStored s (stored_as (set depot.stands i cpu))) (sym is)
-          (stored_after s depot w w2 i cpu a t q1 d2 after out stands.stored due.may end_below goes2 nothing only (others s ok books depot w stands a i cpu due.may view.is_cpu about busy)
-          (elsewhere s ok books depot w stands a i cpu due.may view.is_cpu about busy) callouts_cpu callouts_here ended_so.queue.buckets ended_so.queue.direct takes.1 bagged));
+    pub stands_ended : (ledger' : Written) → ((queue : TimerQueue) (state : State) → ShowsWritten s ledger' (queue_answers s (callout_answers s w a act i (Serve (End n cpu)) (Some (state, reply))) a act cpu op (Some (queue, Freed)))) →
+        StandsFor s ledger' (with_bag (with_wheel depot cpu after) a out) (step s w a)
+    stands_ended ledger' written = record {
+      written = subst (ShowsWritten s ledger') (sym is) (written q1 t);
+      stored = subst (λ (l : List ℕ). ShowsStored s (stored_as l) (step s w a)) same_stands (subst (ShowsStored s (stored_as (set depot.stands i cpu))) (sym is)
+          (stored_after s depot w w2 i cpu a t q1 d2 after out stands.stored due.may end_below goes2 nothing only (others s ok ledger depot w stands a i cpu due.may view.is_cpu about busy)
+          (elsewhere s ok ledger depot w stands a i cpu due.may view.is_cpu about busy) callouts_cpu callouts_here ended_so.queue.buckets ended_so.queue.direct takes.1 bagged));
       placed = subst (IsPlaced s) (sym is)
-          (placed_after s w w2 i cpu a t q1 d2 stands.placed due.may end_below end_known goes2 nothing only (others s ok books depot w stands a i cpu due.may view.is_cpu about busy) right slot_now
+          (placed_after s w w2 i cpu a t q1 d2 stands.placed due.may end_below end_known goes2 nothing only (others s ok ledger depot w stands a i cpu due.may view.is_cpu about busy) right slot_now
           (λ j e. subst (λ (y : ℕ). y < length s.timers) (sym (drained.1 j e)) end_known) slots);
       reached = reached_after s w a due.may stands.reached;
     }

@@ -1,4 +1,4 @@
--- The first callout that has come due goes into service, or none has: what the wheel, the books and the plain world have after it.
+-- The first callout that has come due goes into service, or none has: what the wheel, the ledger and the plain world have after it.
 use Rattle.std.proofs.Common.{◌≡◌, ℕ, ◌<◌, ◌≤◌, ◌⊎◌, inl, inr, Bool, true, false, cond, not, List, [], ◌∷◌, length, set, refl, sym, ap, ◌∙◌, subst, arith, Option, Some, None, eqb-true, eq-eqb}
 use Rattle.std.specs.Prelude.{◌==◌, ◌&&◌, is_some}
 use Rattle.std.proofs.lemmas.Bool.{cases_lt}
@@ -27,15 +27,15 @@ use Rattle.co_object.specs.Stand.{is_idle, is_free_at, off}
 use Rattle.co_object.proofs.QueueChanges.{QChange}
 use Rattle.co_program.specs.declared.role.Role.{Role}
 use Rattle.co_program.specs.declared.role.Role.TheVariants as role
-use Rattle.co_program.specs.declared.cursor.Parcel.{Parcel}
-use Rattle.co_program.specs.declared.cursor.Service.{Service}
+use Rattle.co_program.specs.declared.cursor.PendingInsert.{PendingInsert}
+use Rattle.co_program.specs.declared.cursor.InService.{InService}
 use Rattle.co_program.specs.declared.action.Asked.TheVariants.{Callout, Queue}
 use Rattle.co_program.specs.declared.script.Script.{Script}
 use Rattle.co_program.specs.Actors.{actor_count, role_of, cpu_of, acts_at}
 use Rattle.co_program.specs.Stages.{Ready, Picking}
 use Rattle.co_program.specs.Cursor.{Cursor}
 use Rattle.co_program.specs.Action.{Asks, action_for, action_with, spec_at, pop_of}
-use Rattle.co_program.specs.Advance.{advance, advance_queue, popped, picked, tail_of}
+use Rattle.co_program.specs.Advance.{advance, advance_queue, popped, service_picked, tail_of}
 use Rattle.co_program.specs.Scripts.{IsScript}
 use Rattle.co_wheel.specs.declared.outs.NextOut.TheVariants.{Empty as Nothing, Took}
 use Rattle.co_wheel.specs.Callouts.{Callouts, callout, with_callout, with_service, in_service}
@@ -44,12 +44,12 @@ use Rattle.co_wheel.specs.Service.{pick_at, pick_it, pick_outcome, moved_on}
 use Rattle.co_wheel.specs.Turns.{Shows, Takes, pop_of as lane_pop}
 use Rattle.co_world.specs.World.{World}
 use Rattle.co_world.specs.Blocked.{is_moving, moves}
-use Rattle.co_world.specs.Step.{are_direct, answered, goes_on, queue_answers, callout_answers, is_in_section, step}
+use Rattle.co_world.specs.Step.{are_direct, world_answers, goes_on_in_section, queue_answers, callout_answers, is_in_section, step}
 use Rattle.co_core.specs.Stored.{Stored, IsNext, wheel_at, with_wheel}
 use Rattle.co_core.specs.Written.{Written}
-use Rattle.co_world.specs.Placed.{IsPlaced, slot_of, in_slot, callout_in, entry_of}
+use Rattle.co_world.specs.Placed.{IsPlaced, server_slot, in_slot, stage_callout, due_in_service}
 use Rattle.co_core.specs.Acting.{IsDue}
-use Rattle.co_core.specs.Stands.{StandsFor, IsAtWheel, IsBag, IsStored, IsWritten, alone_of, at_home}
+use Rattle.co_core.specs.Stands.{StandsFor, IsAtWheel, IsBag, ShowsStored, ShowsWritten, alone_in, at_home}
 use Rattle.co_core.proofs.tables.Options.{some_is}
 use Rattle.co_core.proofs.stored.Slots.{answered_so}
 use Rattle.co_core.proofs.stored.Worlds.{goes_as}
@@ -57,7 +57,7 @@ use Rattle.co_world.proofs.kept.ByCalls.{off_none}
 use Rattle.co_world.proofs.kept.Operations.{Did, did}
 use Rattle.co_world.proofs.kept.Operations as deed
 use Rattle.co_world.proofs.kept.ByOwnSteps.{view_of}
-use Rattle.co_world.proofs.kept.Invariant.{states_of, queues_of, places_of}
+use Rattle.co_world.proofs.kept.Invariant.{states_of, queues_of, cursors_of}
 use Rattle.co_world.proofs.basics.Changes.{decide}
 use Rattle.co_world.proofs.sections.Movers.{IsOnly, moving_none, parcels_of}
 use Rattle.co_world.proofs.names.Calls.{role_cpu}
@@ -84,7 +84,7 @@ lane_moves_none true = refl
 lane_moves_none false = refl
 
 -- the lane of a server is its slot
-pub lane_slot : (direct : Bool) (r : Role) (wheel : WheelOf) (q : TimerQueue) → IsServer r → lane_pop direct ≡ pop_of r → Shows wheel q → in_service direct wheel.callouts ≡ slot_of r q
+pub lane_slot : (direct : Bool) (r : Role) (wheel : WheelOf) (q : TimerQueue) → IsServer r → lane_pop direct ≡ pop_of r → Shows wheel q → in_service direct wheel.callouts ≡ server_slot r q
 lane_slot direct (role.Client k) wheel q server is shows = absurd server
 lane_slot true (role.Cpu y) wheel q server is shows = cc
 lane_slot false (role.Cpu y) wheel q server is shows = sym shows.serving
@@ -115,7 +115,7 @@ pick_home spec st n cpu at o is = go st.armed is where
   go (Some a) e = by (is_due a n cpu at && is_idle st.run) a e
 
 -- the place after a pick
-picked_place : (s : Script) (e : Cursor) (v : Service) (r : Reply) → (in_slot (picked s e v r).stage ≡ Some (entry_of v)) × (callout_in (picked s e v r).stage ≡ Some v.i) × ((picked s e v r).parcel ≡ e.parcel)
+picked_place : (s : Script) (e : Cursor) (v : InService) (r : Reply) → (in_slot (service_picked s e v r).stage ≡ Some (due_in_service v)) × (stage_callout (service_picked s e v r).stage ≡ Some v.i) × ((service_picked s e v r).parcel ≡ e.parcel)
 picked_place s e v (Go func arg) = let f = firing_of v e.hold (acts_at s.funcs func) in (f.0, f.1, refl)
 picked_place s e v r = (refl, refl, refl)
 
@@ -154,9 +154,9 @@ service_cpu false c d = refl
 
 -- ---- the section
 
-module _ (s : Script) (ok : IsScript s) (books : Written) (depot : Stored) (w : World) (stands : StandsFor s books depot w) (a act cpu : ℕ) (direct : Bool) (due : IsDue s w a (Asks act (Queue cpu (lane_pop direct)))) where
+module _ (s : Script) (ok : IsScript s) (ledger : Written) (depot : Stored) (w : World) (stands : StandsFor s ledger depot w) (a act cpu : ℕ) (direct : Bool) (due : IsDue s w a (Asks act (Queue cpu (lane_pop direct)))) where
   abbrev c : Cursor
-  c = places_of w a
+  c = cursors_of w a
 
   abbrev role' : Role
   role' = role_of s a
@@ -182,8 +182,8 @@ module _ (s : Script) (ok : IsScript s) (books : Written) (depot : Stored) (w : 
   wheel : IsAtWheel s w cpu before
   wheel = stands.stored.each_wheel cpu pop_below
 
-  own_slot : slot_of role' q0 ≡ None
-  own_slot = ap (λ (y : ℕ). slot_of role' (queues_of w y)) popping.is_cpu ∙ stands.placed.serves a due.may ∙ popping.slot
+  own_slot : server_slot role' q0 ≡ None
+  own_slot = ap (λ (y : ℕ). server_slot role' (queues_of w y)) popping.is_cpu ∙ stands.placed.serves a due.may ∙ popping.slot
 
   pub lane_free : in_service direct before.callouts ≡ None
   lane_free = lane_slot direct role' before q0 popping.server popping.is_pop wheel.shows ∙ own_slot
@@ -197,11 +197,11 @@ module _ (s : Script) (ok : IsScript s) (books : Written) (depot : Stored) (w : 
 
   -- ---- nothing has come due
 
-  pub stands_none : (after : WheelOf) → IsNext direct before Nothing after → (books' : Written) → ((queue : TimerQueue) → IsWritten s books' (queue_answers s w a act cpu op (Some (queue, Empty)))) → StandsFor s books' (with_wheel depot cpu after) (step s w a)
-  stands_none after next books' written =
+  pub stands_none : (after : WheelOf) → IsNext direct before Nothing after → (ledger' : Written) → ((queue : TimerQueue) → ShowsWritten s ledger' (queue_answers s w a act cpu op (Some (queue, Empty)))) → StandsFor s ledger' (with_wheel depot cpu after) (step s w a)
+  stands_none after next ledger' written =
       let d : Cursor = record c { act = popping.number; left = tail_of c.left; stage = Ready } in
-      stands_turned s ok books depot w stands a act cpu op Empty due pop_below (lane_moves_none direct) popping.empty after next.callouts next.queue d (advances Empty ∙ popping.ends_act) popping.empty refl books' written
-      (λ q is ro. ap (slot_of ro) (pop_none s.buckets (are_direct s) role' q0 op Empty q popping.server popping.is_pop (changed s.buckets (are_direct s) q0 op (q, Empty) is) refl)) popping.slot (λ j e. cc)
+      stands_turned s ok ledger depot w stands a act cpu op Empty due pop_below (lane_moves_none direct) popping.empty after next.callouts next.queue d (advances Empty ∙ popping.ends_act) popping.empty refl ledger' written
+      (λ q is ro. ap (server_slot ro) (pop_none s.buckets (are_direct s) role' q0 op Empty q popping.server popping.is_pop (changed s.buckets (are_direct s) q0 op (q, Empty) is) refl)) popping.slot (λ j e. cc)
 
   -- ---- a callout has
 
@@ -221,11 +221,11 @@ module _ (s : Script) (ok : IsScript s) (books : Written) (depot : Stored) (w : 
     home : at_home s w cpu i ≡ Some answer.alone
     home = sym (read before.callouts.here (length s.timers) (at_home s w cpu) i None wheel.here pick_known) ∙ answer.there
 
-    at_cpu : ((stands_of w i == cpu) ≡ true) × (is_moving s w i ≡ false) × (alone_of s w i ≡ answer.alone)
+    at_cpu : ((stands_of w i == cpu) ≡ true) × (is_moving s w i ≡ false) × (alone_in s w i ≡ answer.alone)
     at_cpu = go (stands_of w i == cpu) (is_moving s w i) refl refl home where
-      go : (x y : Bool) → (stands_of w i == cpu) ≡ x → is_moving s w i ≡ y → cond (x && not y) (Some (alone_of s w i)) None ≡ Some answer.alone → ((stands_of w i == cpu) ≡ true) × (is_moving s w i ≡ false) × (alone_of s w i ≡ answer.alone)
+      go : (x y : Bool) → (stands_of w i == cpu) ≡ x → is_moving s w i ≡ y → cond (x && not y) (Some (alone_in s w i)) None ≡ Some answer.alone → ((stands_of w i == cpu) ≡ true) × (is_moving s w i ≡ false) × (alone_in s w i ≡ answer.alone)
       go true true e f h = cc
-      go true false e f h = (e, f, some_is (alone_of s w i) answer.alone h)
+      go true false e f h = (e, f, some_is (alone_in s w i) answer.alone h)
       go false y e f h = cc
 
     stand : stands_of w i ≡ cpu
@@ -265,7 +265,7 @@ module _ (s : Script) (ok : IsScript s) (books : Written) (depot : Stored) (w : 
     abbrev w1 : World
     w1 = queue_answers s w a act cpu op (Some (q1, Got i n at))
 
-    abbrev v : Service
+    abbrev v : InService
     v = record { act = act; i = i; n = n; at = at }
 
     abbrev c1 : Cursor
@@ -284,11 +284,11 @@ module _ (s : Script) (ok : IsScript s) (books : Written) (depot : Stored) (w : 
     abbrev made : Entry
     made = record { actor = a; act = act; op = Serve (Pick n cpu at); reply = reply }
 
-    in_section : is_in_section w1 (places_of w1 a) ≡ true
-    in_section = ap (is_in_section w1) goes1.places.here
+    in_section : is_in_section w1 (cursors_of w1 a) ≡ true
+    in_section = ap (is_in_section w1) goes1.cursors.here
 
-    asks_pick : action_for s a (places_of w1 a) ≡ Asks act (Callout i (Serve (Pick n (cpu_of s role') at)))
-    asks_pick = ap (action_for s a) goes1.places.here ∙ ap (action_with s role' c1) popping.empty
+    asks_pick : action_for s a (cursors_of w1 a) ≡ Asks act (Callout i (Serve (Pick n (cpu_of s role') at)))
+    asks_pick = ap (action_for s a) goes1.cursors.here ∙ ap (action_with s role' c1) popping.empty
 
     outcome : callout_step (spec_at s i) (states_of w1 i) (Serve (Pick n cpu at)) ≡ Some (t, reply)
     outcome =
@@ -296,23 +296,23 @@ module _ (s : Script) (ok : IsScript s) (books : Written) (depot : Stored) (w : 
 
     is : step s w a ≡ w2
     is =
-        step_free s w a (Asks act (Queue cpu op)) due.due due.free ∙ ap (λ (o : Option (TimerQueue × QReply)). goes_on s (queue_answers s w a act cpu op o) a) answers
+        step_free s w a (Asks act (Queue cpu op)) due.due due.free ∙ ap (λ (o : Option (TimerQueue × QReply)). goes_on_in_section s (queue_answers s w a act cpu op o) a) answers
         ∙ goes_further s w1 a act (Callout i (Serve (Pick n (cpu_of s role') at))) in_section asks_pick
-        ∙ ap (λ (y : ℕ). answered s w1 a act (Callout i (Serve (Pick n y at)))) (sym popping.is_cpu) ∙ ap (callout_answers s w1 a act i (Serve (Pick n cpu at))) outcome
+        ∙ ap (λ (y : ℕ). world_answers s w1 a act (Callout i (Serve (Pick n y at)))) (sym popping.is_cpu) ∙ ap (callout_answers s w1 a act i (Serve (Pick n cpu at))) outcome
 
     abbrev d2 : Cursor
-    d2 = picked s (record c1 { removed = None }) v reply
+    d2 = service_picked s (record c1 { removed = None }) v reply
 
-    place2 : advance s (places_of w1 a) (is_some (off t)) (place.Timer i) (entry.Timer made) ≡ d2
-    place2 = ap (λ (d : Cursor). advance s d (is_some (off t)) (place.Timer i) (entry.Timer made)) goes1.places.here
+    place2 : advance s (cursors_of w1 a) (is_some (off t)) (place.Timer i) (entry.Timer made) ≡ d2
+    place2 = ap (λ (d : Cursor). advance s d (is_some (off t)) (place.Timer i) (entry.Timer made)) goes1.cursors.here
 
     goes2 : Goes w w2 i cpu a t cpu q1 d2
     goes2 =
         goes_on_from w w1 w2 i cpu a st t cpu cpu q1 q1 c1 d2 goes1
-        (goes_as w1 w2 i cpu a t (stands_of w1 i) cpu (queues_of w1 cpu) q1 (advance s (places_of w1 a) (is_some (off t)) (place.Timer i) (entry.Timer made)) d2 goes1.stands.here goes1.queues.here place2
+        (goes_as w1 w2 i cpu a t (stands_of w1 i) cpu (queues_of w1 cpu) q1 (advance s (cursors_of w1 a) (is_some (off t)) (place.Timer i) (entry.Timer made)) d2 goes1.stands.here goes1.queues.here place2
         (goes_callout s w1 i cpu a act (Serve (Pick n cpu at)) (t, reply)))
 
-    after_place : (in_slot d2.stage ≡ Some (entry_of v)) × (callout_in d2.stage ≡ Some i) × (d2.parcel ≡ c.parcel)
+    after_place : (in_slot d2.stage ≡ Some (due_in_service v)) × (stage_callout d2.stage ≡ Some i) × (d2.parcel ≡ c.parcel)
     after_place = picked_place s (record c1 { removed = None }) v reply
 
     no_parcel : d2.parcel ≡ None
@@ -323,7 +323,7 @@ module _ (s : Script) (ok : IsScript s) (books : Written) (depot : Stored) (w : 
     callouts_here : after.callouts.here ≡ set before.callouts.here i (after_of s i t d2.parcel)
     callouts_here =
         ap (λ (x : Callouts). x.here) answer.callouts_are ∙ service_here direct (with_callout before.callouts i (Some (moved_on answer.alone t))) (Some (record { i = i; n = n }))
-        ∙ ap (λ (x : Alone). set before.callouts.here i (Some (moved_on x t))) (sym at_cpu.2) ∙ ap (λ (o : Option Parcel). set before.callouts.here i (after_of s i t o)) (sym no_parcel)
+        ∙ ap (λ (x : Alone). set before.callouts.here i (Some (moved_on x t))) (sym at_cpu.2) ∙ ap (λ (o : Option PendingInsert). set before.callouts.here i (after_of s i t o)) (sym no_parcel)
 
     callouts_cpu : after.callouts.cpu ≡ before.callouts.cpu
     callouts_cpu = ap (λ (x : Callouts). x.cpu) answer.callouts_are ∙ service_cpu direct (with_callout before.callouts i (Some (moved_on answer.alone t))) (Some (record { i = i; n = n }))
@@ -339,7 +339,7 @@ module _ (s : Script) (ok : IsScript s) (books : Written) (depot : Stored) (w : 
 
     elsewhere : (y : ℕ) → (y ≡ cpu → ⊥) → at_home s w y i ≡ None
     elsewhere y other = go (stands_of w i == y) refl where
-      go : (x : Bool) → (stands_of w i == y) ≡ x → cond (x && not (is_moving s w i)) (Some (alone_of s w i)) None ≡ None
+      go : (x : Bool) → (stands_of w i == y) ≡ x → cond (x && not (is_moving s w i)) (Some (alone_in s w i)) None ≡ None
       go true e = absurd (other (sym (eqb-true (stands_of w i) y e) ∙ stand))
       go false e = refl
 
@@ -352,34 +352,34 @@ module _ (s : Script) (ok : IsScript s) (books : Written) (depot : Stored) (w : 
       listed = λ y m e. (let clash : None ≡ Some y = sym (off_none t facts.0) ∙ e in cc);
       idle = λ p e. absurd (let clash : None ≡ Some p = sym no_parcel ∙ e in cc);
       bound = λ p e. absurd (let clash : None ≡ Some p = sym no_parcel ∙ e in cc);
-      home = subst (λ (y : ℕ). y < s.cpus) (sym (pick_home (spec_at s i) st n cpu at answer.outcome picks)) (stands.placed.settled i pick_known).home;
+      home = subst (λ (y : ℕ). y < s.cpus) (sym (pick_home (spec_at s i) st n cpu at answer.outcome picks)) (stands.placed.cpus_known i pick_known).home;
       target = λ arming e. absurd (let clash : None ≡ Some arming = sym facts.0 ∙ e in cc);
     }
 
     change : QChange s.buckets (are_direct s) q0 op (Got i n at) q1
     change = changed s.buckets (are_direct s) q0 op (q1, Got i n at) answers
 
-    slot_now : slot_of role' (queues_of w2 (cpu_of s role')) ≡ in_slot d2.stage
+    slot_now : server_slot role' (queues_of w2 (cpu_of s role')) ≡ in_slot d2.stage
     slot_now =
-        ap (λ (y : ℕ). slot_of role' (queues_of w2 y)) (sym popping.is_cpu) ∙ ap (slot_of role') goes2.queues.here
+        ap (λ (y : ℕ). server_slot role' (queues_of w2 y)) (sym popping.is_cpu) ∙ ap (server_slot role') goes2.queues.here
         ∙ pop_slot s.buckets (are_direct s) role' q0 op (Got i n at) q1 i n at popping.server popping.is_pop change refl ∙ sym after_place.0
 
-    slots : (b : ℕ) → (b ≡ a → ⊥) → b < actor_count s → slot_of (role_of s b) (queues_of w2 (cpu_of s (role_of s b))) ≡ slot_of (role_of s b) (queues_of w (cpu_of s (role_of s b)))
+    slots : (b : ℕ) → (b ≡ a → ⊥) → b < actor_count s → server_slot (role_of s b) (queues_of w2 (cpu_of s (role_of s b))) ≡ server_slot (role_of s b) (queues_of w (cpu_of s (role_of s b)))
     slots b other below = go (decide (cpu_of s (role_of s b)) cpu) where
-      go : (cpu_of s (role_of s b) ≡ cpu) ⊎ (cpu_of s (role_of s b) ≡ cpu → ⊥) → slot_of (role_of s b) (queues_of w2 (cpu_of s (role_of s b))) ≡ slot_of (role_of s b) (queues_of w (cpu_of s (role_of s b)))
+      go : (cpu_of s (role_of s b) ≡ cpu) ⊎ (cpu_of s (role_of s b) ≡ cpu → ⊥) → server_slot (role_of s b) (queues_of w2 (cpu_of s (role_of s b))) ≡ server_slot (role_of s b) (queues_of w (cpu_of s (role_of s b)))
       go (inl same) =
-          subst (λ (y : ℕ). slot_of (role_of s b) (queues_of w2 y) ≡ slot_of (role_of s b) (queues_of w y)) (sym same)
-          (ap (slot_of (role_of s b)) goes2.queues.here
+          subst (λ (y : ℕ). server_slot (role_of s b) (queues_of w2 y) ≡ server_slot (role_of s b) (queues_of w y)) (sym same)
+          (ap (server_slot (role_of s b)) goes2.queues.here
           ∙ other_slot s.buckets (are_direct s) s role' (role_of s b) q0 op (Got i n at) q1 popping.server (inl popping.is_pop) change (λ e. other (same_role s b a e)) (same ∙ popping.is_cpu))
-      go (inr apart) = ap (slot_of (role_of s b)) (goes2.queues.else (cpu_of s (role_of s b)) apart)
+      go (inr apart) = ap (server_slot (role_of s b)) (goes2.queues.else (cpu_of s (role_of s b)) apart)
 
-    pub stands_picked : (books' : Written) → ((queue : TimerQueue) (state : State) → IsWritten s books' (callout_answers s (queue_answers s w a act cpu op (Some (queue, Got i n at))) a act i (Serve (Pick n cpu at)) (Some (state, reply)))) →
-        StandsFor s books' (with_wheel depot cpu after) (step s w a)
-    stands_picked books' written = record {
-      written = subst (IsWritten s books') (sym is) (written q1 t);
-      stored = subst (λ (x : Stored). IsStored s x (step s w a)) same_depot (subst (IsStored s (record depot { wheels = set depot.wheels cpu after; stands = set depot.stands i cpu; bags = set depot.bags a None })) (sym is)
+    pub stands_picked : (ledger' : Written) → ((queue : TimerQueue) (state : State) → ShowsWritten s ledger' (callout_answers s (queue_answers s w a act cpu op (Some (queue, Got i n at))) a act i (Serve (Pick n cpu at)) (Some (state, reply)))) →
+        StandsFor s ledger' (with_wheel depot cpu after) (step s w a)
+    stands_picked ledger' written = record {
+      written = subst (ShowsWritten s ledger') (sym is) (written q1 t);
+      stored = subst (λ (x : Stored). ShowsStored s x (step s w a)) same_depot (subst (ShowsStored s (record depot { wheels = set depot.wheels cpu after; stands = set depot.stands i cpu; bags = set depot.bags a None })) (sym is)
           (stored_after s depot w w2 i cpu a t q1 d2 after None stands.stored due.may pop_below goes2 nothing nothing' others elsewhere callouts_cpu callouts_here next.queue.buckets next.queue.direct takes.1
-          (subst (λ (o : Option Parcel). IsBag s w2 o None) (sym no_parcel) refl)));
+          (subst (λ (o : Option PendingInsert). IsBag s w2 o None) (sym no_parcel) refl)));
       placed = subst (IsPlaced s) (sym is)
           (placed_after s w w2 i cpu a t q1 d2 stands.placed due.may pop_below pick_known goes2 nothing nothing' others right slot_now
           (λ j e. subst (λ (y : ℕ). y < length s.timers) (some_is i j (sym after_place.1 ∙ e)) pick_known) slots);

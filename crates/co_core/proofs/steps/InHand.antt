@@ -8,10 +8,10 @@ use Rattle.co_program.specs.Action.{Action}
 use Rattle.co_program.specs.Actors.{actor_count}
 use Rattle.co_world.specs.Step.{step}
 use Rattle.co_world.specs.World.{World}
-use Rattle.co_core.specs.declared.books.Hand.{Hand}
+use Rattle.co_core.specs.declared.ledger.Hand.{Hand}
 use Rattle.co_core.specs.declared.engine.Engine.{Engine}
 use Rattle.co_core.specs.Acting.{HasActed, HasStepped, StandsWith, IsDue, MayAct, MayStep, Stands}
-use Rattle.co_core.specs.InHand.{IsOpened, with_hand}
+use Rattle.co_core.specs.InHand.{IsTakenInHand, with_hand}
 use Rattle.co_core.specs.Stands.{StandsFor}
 use Rattle.co_core.specs.Written.{Written, list_at, with_list}
 use Rattle.co_core.proofs.steps.Undue.{list_row}
@@ -26,9 +26,9 @@ took_at : (x y : Written) (a : ℕ) (items : List Note) → with_list x a items 
 took_at x y a items same within =
     ap (λ (z : Written). list_at z a) (sym same) ∙ put_at x a a items refl (open_row x a items (subst (λ (z : Written). a < length z.lists) (sym same) within))
 
-module _ (s : Script) (e : Engine) (a : ℕ) (action : Action) (opened : Written) (hand : Hand) (may : MayStep s e a action) (taken : IsOpened e.books a opened hand) where
+module _ (s : Script) (e : Engine) (a : ℕ) (action : Action) (opened : Written) (hand : Hand) (may : MayStep s e a action) (taken : IsTakenInHand e.ledger a opened hand) where
   abbrev e1 : Engine
-  e1 = record { books = opened; depot = e.depot }
+  e1 = record { ledger = opened; depot = e.depot }
 
   held_by : (w : World) → Stands s e w → StandsWith s e1 hand w
   held_by w h = subst (λ (x : Written). StandsFor s x e.depot w) (sym taken.kept) h
@@ -47,20 +47,20 @@ module _ (s : Script) (e : Engine) (a : ℕ) (action : Action) (opened : Written
     done : StandsWith s e2 hand2 (step s may.world hand.actor)
     done = acted.stands may.world (held_by may.world may.stands) (due_of may.world may.due)
 
-    pub hand_row : hand2.actor < length e2.books.lists
+    pub hand_row : hand2.actor < length e2.ledger.lists
     hand_row =
-        open_row e2.books hand2.actor hand2.notes.items
-        (list_row s (with_hand e2.books hand2) (step s may.world hand.actor) done.written hand2.actor (subst (λ (b : ℕ). b < actor_count s) (sym same) may.due.may))
+        open_row e2.ledger hand2.actor hand2.notes.items
+        (list_row s (with_hand e2.ledger hand2) (step s may.world hand.actor) done.written hand2.actor (subst (λ (b : ℕ). b < actor_count s) (sym same) may.due.may))
 
-    pub stepped : (closed : Written) → closed ≡ with_hand e2.books hand2 → HasStepped s a action n e (record { books = closed; depot = e2.depot })
+    pub stepped : (closed : Written) → closed ≡ with_hand e2.ledger hand2 → HasStepped s a action n e (record { ledger = closed; depot = e2.depot })
     stepped closed back = record {
       stands = λ w h due.
           subst (λ (x : Written). StandsFor s x e2.depot (step s w a)) (sym back)
           (subst (λ (b : ℕ). StandsWith s e2 hand2 (step s w b)) taken.actor (acted.stands w (held_by w h) (due_of w due)));
       told = ap (λ (x : Written). x.told) back ∙ (acted.told ∙ ap (λ (x : Written). x.told) taken.kept);
       count =
-          ap length (ap (λ (x : Written). list_at x a) back ∙ put_at e2.books a hand2.actor hand2.notes.items same hand_row)
-          ∙ (acted.count ∙ ap (λ (m : ℕ). m + n) (ap length (sym (took_at opened e.books a hand.notes.items was (list_row s e.books may.world may.stands.written a may.due.may)))));
+          ap length (ap (λ (x : Written). list_at x a) back ∙ put_at e2.ledger a hand2.actor hand2.notes.items same hand_row)
+          ∙ (acted.count ∙ ap (λ (m : ℕ). m + n) (ap length (sym (took_at opened e.ledger a hand.notes.items was (list_row s e.ledger may.world may.stands.written a may.due.may)))));
     } where
-      was : with_list opened a hand.notes.items ≡ e.books
+      was : with_list opened a hand.notes.items ≡ e.ledger
       was = ap (λ (b : ℕ). with_list opened b hand.notes.items) (sym taken.actor) ∙ taken.kept

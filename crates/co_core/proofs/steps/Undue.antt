@@ -9,7 +9,7 @@ use Rattle.co_program.specs.declared.cursor.Cursor.{Cursor as CursorAt}
 use Rattle.co_program.specs.declared.Script.{Script}
 use Rattle.co_program.specs.declared.Role.{Role}
 use Rattle.co_program.specs.declared.Role.TheVariants.{Client, Cpu, Interrupt}
-use Rattle.co_program.specs.declared.Parcel.{Parcel}
+use Rattle.co_program.specs.declared.PendingInsert.{PendingInsert}
 use Rattle.co_program.specs.declared.Asked.TheVariants.{Callout, Queue}
 use Rattle.co_program.specs.Actors.{actor_count, role_of}
 use Rattle.co_program.specs.Stages.{Stage}
@@ -18,7 +18,7 @@ use Rattle.co_program.specs.Action.{Asks, action_for, pop_of}
 use Rattle.co_program.specs.Scripts.{IsScript}
 use Rattle.co_world.specs.World.{World}
 use Rattle.co_core.specs.Acting.{IsDue}
-use Rattle.co_core.specs.Stands.{IsWritten, StandsFor, untold}
+use Rattle.co_core.specs.Stands.{ShowsWritten, StandsFor, untold}
 use Rattle.co_world.specs.Blocked.{blocked}
 use Rattle.co_world.specs.Step.{step, turn_at, turn_of}
 use Rattle.co_world.specs.declared.turn.Why.{Why}
@@ -31,14 +31,14 @@ use Rattle.co_core.specs.Stored.{Stored}
 use Rattle.co_core.specs.Written.{Written, list_at, told_at}
 use Rattle.co_world.proofs.basics.Actions.{IsAction, IsActionWith, inserts, goes_by, scans, starts, pops, frees, picks}
 use Rattle.co_world.proofs.kept.ByOwnSteps.{view_of}
-use Rattle.co_world.proofs.kept.Invariant.{IsBetween, places_of}
+use Rattle.co_world.proofs.kept.Invariant.{IsBetween, cursors_of}
 use Rattle.co_world.proofs.kept.BySchedules.{reached_steady}
 use Rattle.co_world.proofs.kept.BySteps.{IsSteady}
 
 picks_within : (s : Script) (r : Role) (c : Cursor) (x : Stage) (act i n cpu at : ℕ) → IsAction s r c x (Asks act (Callout i (Run (Pick n cpu at)))) → IsBetween x → ⊥
 picks_within s r c x act i n cpu at (picks v) between = between
 
-picked_within : (s : Script) (r : Role) (c : Cursor) (parcel : Option Parcel) (act i n cpu at : ℕ) → IsActionWith s r c parcel (Asks act (Callout i (Run (Pick n cpu at)))) → IsBetween c.stage → ⊥
+picked_within : (s : Script) (r : Role) (c : Cursor) (parcel : Option PendingInsert) (act i n cpu at : ℕ) → IsActionWith s r c parcel (Asks act (Callout i (Run (Pick n cpu at)))) → IsBetween c.stage → ⊥
 picked_within s r c parcel act i n cpu at (goes_by due view) between = picks_within s r c c.stage act i n cpu at view between
 
 -- a queue is asked for an Insert, a Scan or a Pop between two steps
@@ -53,7 +53,7 @@ opens_queue s r c x act cpu op (starts j left own) between = popping
 opens_queue s r c x act cpu op (pops act') between = popping
 opens_queue s r c x act cpu op (frees v drain next) between = absurd between
 
-opens : (s : Script) (r : Role) (c : Cursor) (parcel : Option Parcel) (act cpu : ℕ) (op : QOp) → IsActionWith s r c parcel (Asks act (Queue cpu op)) → IsBetween c.stage → IsOpen r op
+opens : (s : Script) (r : Role) (c : Cursor) (parcel : Option PendingInsert) (act cpu : ℕ) (op : QOp) → IsActionWith s r c parcel (Asks act (Queue cpu op)) → IsBetween c.stage → IsOpen r op
 opens s r c parcel act cpu op (inserts p) between = inserting p.i p.n p.due
 opens s r c parcel act cpu op (goes_by due view) between = opens_queue s r c c.stage act cpu op view between
 
@@ -73,17 +73,17 @@ open_asked r op (inserting i n t) = tt
 open_asked r op (scanning now) = tt
 open_asked r op popping = pops_asked r
 
-module _ (s : Script) (ok : IsScript s) (books : Written) (depot : Stored) (w : World) (stands : StandsFor s books depot w) (a : ℕ) where
-  between : IsBetween (places_of w a).stage
+module _ (s : Script) (ok : IsScript s) (ledger : Written) (depot : Stored) (w : World) (stands : StandsFor s ledger depot w) (a : ℕ) where
+  between : IsBetween (cursors_of w a).stage
   between = steady.between a where
     steady : IsSteady s w
     steady = subst (IsSteady s) (sym stands.reached.world) (reached_steady s ok stands.reached.schedule stands.reached.may)
 
   pub never_picks : (act i n cpu at : ℕ) → IsDue s w a (Asks act (Callout i (Run (Pick n cpu at)))) → ⊥
-  never_picks act i n cpu at due = picked_within s (role_of s a) (places_of w a) (places_of w a).parcel act i n cpu at (view_of s a (places_of w a) (Asks act (Callout i (Run (Pick n cpu at)))) due.due) between
+  never_picks act i n cpu at due = picked_within s (role_of s a) (cursors_of w a) (cursors_of w a).parcel act i n cpu at (view_of s a (cursors_of w a) (Asks act (Callout i (Run (Pick n cpu at)))) due.due) between
 
   asked : (act cpu : ℕ) (op : QOp) → IsDue s w a (Asks act (Queue cpu op)) → IsAsked op
-  asked act cpu op due = open_asked (role_of s a) op (opens s (role_of s a) (places_of w a) (places_of w a).parcel act cpu op (view_of s a (places_of w a) (Asks act (Queue cpu op)) due.due) between)
+  asked act cpu op due = open_asked (role_of s a) op (opens s (role_of s a) (cursors_of w a) (cursors_of w a).parcel act cpu op (view_of s a (cursors_of w a) (Asks act (Queue cpu op)) due.due) between)
 
   pub never_removes : (act cpu i : ℕ) → IsDue s w a (Asks act (Queue cpu (Remove i))) → ⊥
   never_removes act cpu i due = asked act cpu (Remove i) due
@@ -96,28 +96,28 @@ module _ (s : Script) (ok : IsScript s) (books : Written) (depot : Stored) (w : 
 
 -- ---- what a step answers
 
-turn_notes : (s : Script) (w : World) (a : ℕ) (p : CursorAt) (x : ActionAt) → blocked s w a ≡ None → action_for s a (places_of w a) ≡ action_of s a p x → (x ≡ action.Nothing → ⊥) →
+turn_notes : (s : Script) (w : World) (a : ℕ) (p : CursorAt) (x : ActionAt) → blocked s w a ≡ None → action_for s a (cursors_of w a) ≡ action_of s a p x → (x ≡ action.Nothing → ⊥) →
     turn_of s w a ≡ Notes (length ((step s w a).actors a).notes - length (w.actors a).notes)
 turn_notes s w a p x free due some =
-    ap (λ (why : Option Why). turn_at s w a why (action_for s a (places_of w a))) free ∙ (ap (turn_at s w a None) due ∙ go x some) where
+    ap (λ (why : Option Why). turn_at s w a why (action_for s a (cursors_of w a))) free ∙ (ap (turn_at s w a None) due ∙ go x some) where
       go : (x : ActionAt) → (x ≡ action.Nothing → ⊥) → turn_at s w a None (action_of s a p x) ≡ Notes (length ((step s w a).actors a).notes - length (w.actors a).notes)
       go action.Nothing some = absurd (some refl)
       go (action.Silent to) some = refl
       go (action.Take held to) some = refl
       go (action.Asks act asked) some = refl
 
--- an actor's list in the books has its notes
-pub list_is : (s : Script) (x : Written) (w : World) → IsWritten s x w → (a : ℕ) → a < actor_count s → list_at x a ≡ untold x w a
+-- an actor's list in the ledger has its notes
+pub list_is : (s : Script) (x : Written) (w : World) → ShowsWritten s x w → (a : ℕ) → a < actor_count s → list_at x a ≡ untold x w a
 list_is s x w h a may = read x.lists (actor_count s) (untold x w) a [] h.each_list may
 
 -- how long it is
-list_long : (s : Script) (x : Written) (w : World) → IsWritten s x w → (a : ℕ) → a < actor_count s → length (list_at x a) ≡ length (w.actors a).notes - told_at x a
+list_long : (s : Script) (x : Written) (w : World) → ShowsWritten s x w → (a : ℕ) → a < actor_count s → length (list_at x a) ≡ length (w.actors a).notes - told_at x a
 list_long s x w h a may = ap length (list_is s x w h a may) ∙ length-drop (told_at x a) (w.actors a).notes
 
-pub list_row : (s : Script) (x : Written) (w : World) → IsWritten s x w → (a : ℕ) → a < actor_count s → a < length x.lists
+pub list_row : (s : Script) (x : Written) (w : World) → ShowsWritten s x w → (a : ℕ) → a < actor_count s → a < length x.lists
 list_row s x w h a may = let l = long x.lists (actor_count s) (untold x w) h.each_list in omega (arith, l, may)
 
-pub turn_is : (s : Script) (x y : Written) (w : World) (a count : ℕ) (p : CursorAt) (act : ActionAt) → a < actor_count s → IsWritten s x w → IsWritten s y (step s w a) → blocked s w a ≡ None → action_for s a (places_of w a) ≡ action_of s a p act → (act ≡ action.Nothing → ⊥) →
+pub turn_is : (s : Script) (x y : Written) (w : World) (a count : ℕ) (p : CursorAt) (act : ActionAt) → a < actor_count s → ShowsWritten s x w → ShowsWritten s y (step s w a) → blocked s w a ≡ None → action_for s a (cursors_of w a) ≡ action_of s a p act → (act ≡ action.Nothing → ⊥) →
     y.told ≡ x.told → length (list_at y a) ≡ length (list_at x a) + count → Notes count ≡ turn_of s w a
 turn_is s x y w a count p act may before after free due some told counted =
     ap Notes (close (length (list_at y a)) (length (list_at x a)) (length ((step s w a).actors a).notes) (length (w.actors a).notes) (told_at y a) (told_at x a) (list_long s y (step s w a) after a may) (list_long s x w before a may)

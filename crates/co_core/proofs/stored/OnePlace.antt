@@ -11,26 +11,26 @@ use Rattle.co_object.specs.History.{server}
 use Rattle.co_program.specs.declared.Script.{Script}
 use Rattle.co_program.specs.declared.Role.{Role}
 use Rattle.co_program.specs.declared.Role.TheVariants.{Client, Cpu, Interrupt}
-use Rattle.co_program.specs.declared.Service.{Service}
-use Rattle.co_program.specs.declared.Parcel.{Parcel}
+use Rattle.co_program.specs.declared.InService.{InService}
+use Rattle.co_program.specs.declared.PendingInsert.{PendingInsert}
 use Rattle.co_program.specs.Actors.{actor_count, client_count, cpu_of, role_of}
 use Rattle.co_program.specs.Action.{spec_at}
 use Rattle.co_program.specs.Scripts.{IsScript}
 use Rattle.co_program.specs.Stages.{Stage, Ready, Waiting, Popping, Picking, Locking, Beginning, Unlocking, Firing, Releasing, Ending, Freeing, Drained}
 use Rattle.co_wheel.specs.Callouts.{callout, in_service}
 use Rattle.co_wheel.specs.Cpu.{Cpu as WheelOf}
-use Rattle.co_wheel.specs.Parcel.{Parcel as Travelling}
+use Rattle.co_wheel.specs.Parcel.{Parcel}
 use Rattle.co_wheel.specs.Turns.{Shows as ShowsQueue}
 use Rattle.co_world.specs.Blocked.{is_moving, moves}
 use Rattle.co_world.specs.Laws.{actors_of}
-use Rattle.co_world.specs.Placed.{IsPlaced, entry_of, in_slot, slot_of}
+use Rattle.co_world.specs.Placed.{IsPlaced, due_in_service, in_slot, server_slot}
 use Rattle.co_world.specs.Laws.{IsReached}
-use Rattle.co_core.specs.Stands.{IsBag, IsStored, alone_of, at_home, is_home}
+use Rattle.co_core.specs.Stands.{IsBag, ShowsStored, alone_in, at_home, is_home}
 use Rattle.co_world.specs.Step.{are_direct}
 use Rattle.co_core.specs.Stored.{Stored, wheel_at, bag_at}
 use Rattle.co_core.specs.Whereabouts.{CalloutsHaveOneSlot, IsAtOne, IsWithOne, RecordsHaveOnePlace, WheelsAreOfWorlds, is_at, is_entry_of, is_packed, is_served, is_with}
 use Rattle.co_world.specs.World.{World}
-use Rattle.co_world.proofs.kept.Invariant.{IsBetween, in_hand, IsOver, IsRunning, IsTaken, LaneFits, RunFits, carries, cpu_of_run, has_popped, places_of, queues_of, serves_direct, serving_of, states_of}
+use Rattle.co_world.proofs.kept.Invariant.{IsBetween, in_hand, IsOver, IsRunning, IsTaken, LaneFits, RunFits, carries, cpu_of_run, has_popped, cursors_of, queues_of, serves_direct, serving_of, states_of}
 use Rattle.co_world.proofs.basics.Changes.{decide}
 use Rattle.co_world.proofs.sections.Movers.{mover, moving_none}
 use Rattle.co_world.proofs.kept.BySchedules.{reached_steady}
@@ -70,50 +70,50 @@ and_false : (b : Bool) → (b && false) ≡ false
 and_false true = refl
 and_false false = refl
 
-packed_moves : (s : Script) (w : World) (i : ℕ) (parcel : Option Parcel) (bag : Option Travelling) → IsBag s w parcel bag → is_packed bag i ≡ moves i parcel
-packed_moves s w i None bag h = ap (λ (b : Option Travelling). is_packed b i) h
-packed_moves s w i (Some p) bag h = ap (λ (b : Option Travelling). is_packed b i) h.packed
+packed_moves : (s : Script) (w : World) (i : ℕ) (parcel : Option PendingInsert) (bag : Option Parcel) → IsBag s w parcel bag → is_packed bag i ≡ moves i parcel
+packed_moves s w i None bag h = ap (λ (b : Option Parcel). is_packed b i) h
+packed_moves s w i (Some p) bag h = ap (λ (b : Option Parcel). is_packed b i) h.packed
 
 -- who moves it is told by the parcel
-moved_by : (i : ℕ) (parcel : Option Parcel) → moves i parcel ≡ true → (p : Parcel) × (parcel ≡ Some p) × (p.i ≡ i)
+moved_by : (i : ℕ) (parcel : Option PendingInsert) → moves i parcel ≡ true → (p : PendingInsert) × (parcel ≡ Some p) × (p.i ≡ i)
 moved_by i None h = cc
 moved_by i (Some p) h = (p, refl, eqb-true p.i i h)
 
-module _ (s : Script) (x : Stored) (w : World) (stored : IsStored s x w) (placed : IsPlaced s w) where
+module _ (s : Script) (x : Stored) (w : World) (stored : ShowsStored s x w) (placed : IsPlaced s w) where
   here_is : (cpu i : ℕ) → cpu < s.cpus → i < length s.timers → callout (wheel_at x cpu).callouts i ≡ at_home s w cpu i
   here_is cpu i below within = read (wheel_at x cpu).callouts.here (length s.timers) (at_home s w cpu) i None (stored.each_wheel cpu below).here within
 
   at_is : (cpu i : ℕ) → cpu < s.cpus → i < length s.timers → is_at x cpu i ≡ is_home s w cpu i
-  at_is cpu i below within = ap (λ (o : Option Alone). is_some o) (here_is cpu i below within) ∙ chosen_some (is_home s w cpu i) (alone_of s w i)
+  at_is cpu i below within = ap (λ (o : Option Alone). is_some o) (here_is cpu i below within) ∙ chosen_some (is_home s w cpu i) (alone_in s w i)
 
-  with_is : (a i : ℕ) → a < actor_count s → is_with x a i ≡ moves i (places_of w a).parcel
-  with_is a i below = packed_moves s w i (places_of w a).parcel (bag_at x a) (stored.each_bag a below)
+  with_is : (a i : ℕ) → a < actor_count s → is_with x a i ≡ moves i (cursors_of w a).parcel
+  with_is a i below = packed_moves s w i (cursors_of w a).parcel (bag_at x a) (stored.each_bag a below)
 
   at_one : (i : ℕ) → i < length s.timers → is_moving s w i ≡ false → IsAtOne s x i
   at_one i within still = record {
     cpu = (w.timers i).stand;
-    exists = (placed.settled i within).stand;
+    exists = (placed.cpus_known i within).stand;
     wheels = λ c below. at_is c i below within ∙ ap (λ (b : Bool). ((w.timers i).stand == c) && not b) still ∙ and_true ((w.timers i).stand == c) ∙ eqb_symm (w.timers i).stand c;
     actors = λ a below. with_is a i below ∙ moving_none s w i a below still;
   }
 
   module _ (steady : IsSteady s w) where
     -- two actors that move one callout are one
-    one_mover : (i a b : ℕ) → moves i (places_of w a).parcel ≡ true → moves i (places_of w b).parcel ≡ true → a ≡ b
+    one_mover : (i a b : ℕ) → moves i (cursors_of w a).parcel ≡ true → moves i (cursors_of w b).parcel ≡ true → a ≡ b
     one_mover i a b h k =
-        let p = moved_by i (places_of w a).parcel h in
-        let r = moved_by i (places_of w b).parcel k in
+        let p = moved_by i (cursors_of w a).parcel h in
+        let r = moved_by i (cursors_of w b).parcel k in
         steady.good.holds.carried.once a b p.0 r.0 (carried a p.0 p.1) (carried b r.0 r.1) (p.2 ∙ sym r.2) where
-          carried : (c : ℕ) (p : Parcel) → (places_of w c).parcel ≡ Some p → carries s c (places_of w c) ≡ Some p
-          carried c p is = carried_as (places_of w c).parcel is where
-            carried_as : (parcel : Option Parcel) → parcel ≡ Some p → in_hand (cpu_of s (role_of s c)) parcel (places_of w c).stage ≡ Some p
+          carried : (c : ℕ) (p : PendingInsert) → (cursors_of w c).parcel ≡ Some p → carries s c (cursors_of w c) ≡ Some p
+          carried c p is = carried_as (cursors_of w c).parcel is where
+            carried_as : (parcel : Option PendingInsert) → parcel ≡ Some p → in_hand (cpu_of s (role_of s c)) parcel (cursors_of w c).stage ≡ Some p
             carried_as None is = cc
             carried_as (Some q) is = is
 
-    moved_as : (i b : ℕ) → moves i (places_of w b).parcel ≡ true → (a : ℕ) → moves i (places_of w a).parcel ≡ (a == b)
-    moved_as i b is a = go (decide a b) (moves i (places_of w a).parcel) refl where
-      go : (a ≡ b) ⊎ (a ≡ b → ⊥) → (m : Bool) → moves i (places_of w a).parcel ≡ m → m ≡ (a == b)
-      go (inl same) m e = sym e ∙ subst (λ (c : ℕ). moves i (places_of w c).parcel ≡ true) (sym same) is ∙ sym (eq-eqb a b same)
+    moved_as : (i b : ℕ) → moves i (cursors_of w b).parcel ≡ true → (a : ℕ) → moves i (cursors_of w a).parcel ≡ (a == b)
+    moved_as i b is a = go (decide a b) (moves i (cursors_of w a).parcel) refl where
+      go : (a ≡ b) ⊎ (a ≡ b → ⊥) → (m : Bool) → moves i (cursors_of w a).parcel ≡ m → m ≡ (a == b)
+      go (inl same) m e = sym e ∙ subst (λ (c : ℕ). moves i (cursors_of w c).parcel ≡ true) (sym same) is ∙ sym (eq-eqb a b same)
       go (inr other) false e = sym (eqb_other a b other)
       go (inr other) true e = absurd (other (one_mover i a b e is))
 
@@ -155,8 +155,8 @@ over_at (run.Running m at) n cpu h = ap Some h.1
 
 -- what an actor has popped is a callout that runs on its CPU, in its lane
 record HasPopped (s : Script) (states : ℕ → State) (role : Role) (cpu : ℕ) (stage : Stage) : Type 0 where
-  service : Service
-  slot : in_slot stage ≡ Some (entry_of service)
+  service : InService
+  slot : in_slot stage ≡ Some (due_in_service service)
   runs : cpu_of_run (states service.i).run ≡ Some cpu
   lane : is_direct (are_direct s) service.i ≡ serves_direct role
 
@@ -174,7 +174,7 @@ popped_runs s states role cpu (Ending v) h between runs lane = record { service 
 popped_runs s states role cpu (Freeing v drain next) h between runs lane = absurd between
 popped_runs s states role cpu (Drained v acts) h between runs lane = cc
 
-slot_serving : (q : TimerQueue) (role : Role) (d : Due) → slot_of role q ≡ Some d → serving_of q role ≡ true
+slot_serving : (q : TimerQueue) (role : Role) (d : Due) → server_slot role q ≡ Some d → serving_of q role ≡ true
 slot_serving q (Client c) d h = cc
 slot_serving q (Cpu c) d h = ap (λ (o : Option Due). is_some o) h
 slot_serving q (Interrupt c) d h = ap (λ (o : Option Due). is_some o) h
@@ -215,7 +215,7 @@ lane_direct : (direct : Bool) (cpu : ℕ) → serves_direct (lane_role direct cp
 lane_direct true cpu = refl
 lane_direct false cpu = refl
 
-lane_slot : (direct : Bool) (cpu : ℕ) (wheel : WheelOf) (q : TimerQueue) → ShowsQueue wheel q → slot_of (lane_role direct cpu) q ≡ in_service direct wheel.callouts
+lane_slot : (direct : Bool) (cpu : ℕ) (wheel : WheelOf) (q : TimerQueue) → ShowsQueue wheel q → server_slot (lane_role direct cpu) q ≡ in_service direct wheel.callouts
 lane_slot true cpu wheel q shows = shows.directing
 lane_slot false cpu wheel q shows = shows.serving
 
@@ -224,11 +224,11 @@ record RunsAt (s : Script) (w : World) (i cpu : ℕ) (direct : Bool) : Type 0 wh
   runs : cpu_of_run (w.timers i).state.run ≡ Some cpu
   lane : is_direct (are_direct s) i ≡ direct
 
-module _ (s : Script) (x : Stored) (w : World) (stored : IsStored s x w) (placed : IsPlaced s w) (steady : IsSteady s w) where
-  from_slot : (a i : ℕ) (d : Due) (role : Role) → role_of s a ≡ role → IsServer role → slot_of role (queues_of w (cpu_of s role)) ≡ Some d → d.i ≡ i → RunsAt s w i (cpu_of s role) (serves_direct role)
+module _ (s : Script) (x : Stored) (w : World) (stored : ShowsStored s x w) (placed : IsPlaced s w) (steady : IsSteady s w) where
+  from_slot : (a i : ℕ) (d : Due) (role : Role) → role_of s a ≡ role → IsServer role → server_slot role (queues_of w (cpu_of s role)) ≡ Some d → d.i ≡ i → RunsAt s w i (cpu_of s role) (serves_direct role)
   from_slot a i d role is serves slot same =
       let holds = steady.good.holds in
-      let stage = (places_of w a).stage in
+      let stage = (cursors_of w a).stage in
       let busy : serving_of (queues_of w (cpu_of s role)) role ≡ has_popped stage = subst (λ (r : Role). serving_of (queues_of w (cpu_of s r)) r ≡ has_popped stage) is (holds.busy a) in
       let fits : RunFits (states_of w) (cpu_of s role) stage = subst (λ (r : Role). RunFits (states_of w) (cpu_of s r) stage) is (holds.serving.serves a) in
       let lane : LaneFits s role stage = subst (λ (r : Role). LaneFits s r stage) is (holds.roles a).lane in
@@ -237,9 +237,9 @@ module _ (s : Script) (x : Stored) (w : World) (stored : IsStored s x w) (placed
       server_of_lane s a has.service.i (subst IsServer (sym is) serves) (has.lane ∙ ap serves_direct (sym is)) in
       let there = (holds.serving.served has.service.i (cpu_of s (role_of s a)) (has.runs ∙ ap (λ (r : Role). Some (cpu_of s r)) (sym is))).3 in
       let below : a < actor_count s = subst (λ (b : ℕ). b < actor_count s) (sym number) there in
-      let entry : slot_of role (queues_of w (cpu_of s role)) ≡ in_slot stage = subst (λ (r : Role). slot_of r (queues_of w (cpu_of s r)) ≡ in_slot stage) is (placed.serves a below) in
-      let one : Some (entry_of has.service) ≡ Some d = sym has.slot ∙ sym entry ∙ slot in
-      let callout : has.service.i ≡ i = same_entry (entry_of has.service) d one ∙ same in
+      let entry : server_slot role (queues_of w (cpu_of s role)) ≡ in_slot stage = subst (λ (r : Role). server_slot r (queues_of w (cpu_of s r)) ≡ in_slot stage) is (placed.serves a below) in
+      let one : Some (due_in_service has.service) ≡ Some d = sym has.slot ∙ sym entry ∙ slot in
+      let callout : has.service.i ≡ i = same_entry (due_in_service has.service) d one ∙ same in
       record {
         runs = subst (λ (j : ℕ). cpu_of_run (w.timers j).state.run ≡ Some (cpu_of s role)) callout has.runs;
         lane = subst (λ (j : ℕ). is_direct (are_direct s) j ≡ serves_direct role) callout has.lane;
@@ -251,9 +251,9 @@ module _ (s : Script) (x : Stored) (w : World) (stored : IsStored s x w) (placed
   runs_at i cpu direct below h =
       let role = lane_role direct cpu in
       let found = entry_is (in_service direct (wheel_at x cpu).callouts) i h in
-      let slot : slot_of role (queues_of w cpu) ≡ Some found.0 = lane_slot direct cpu (wheel_at x cpu) (queues_of w cpu) (stored.each_wheel cpu below).shows ∙ found.1 in
+      let slot : server_slot role (queues_of w cpu) ≡ Some found.0 = lane_slot direct cpu (wheel_at x cpu) (queues_of w cpu) (stored.each_wheel cpu below).shows ∙ found.1 in
       let at = from_slot (lane_actor s direct cpu) i found.0 role (lane_is s direct cpu below) (lane_server direct cpu)
-      (subst (λ (c : ℕ). slot_of role (queues_of w c) ≡ Some found.0) (sym (lane_cpu s direct cpu)) slot) found.2 in
+      (subst (λ (c : ℕ). server_slot role (queues_of w c) ≡ Some found.0) (sym (lane_cpu s direct cpu)) slot) found.2 in
       record {
         runs = subst (λ (c : ℕ). cpu_of_run (w.timers i).state.run ≡ Some c) (lane_cpu s direct cpu) at.runs;
         lane = subst (λ (b : Bool). is_direct (are_direct s) i ≡ b) (lane_direct direct cpu) at.lane;
@@ -280,6 +280,6 @@ wheels_are_of_worlds x w h = record {
   records = λ cpu i below within is. (
       let s = x.script in
       here_is s x.depot w h.stored h.placed cpu i below within
-      ∙ ap (λ (b : Bool). cond b (Some (alone_of s w i)) None) (sym (at_is s x.depot w h.stored h.placed cpu i below within) ∙ is));
+      ∙ ap (λ (b : Bool). cond b (Some (alone_in s w i)) None) (sym (at_is s x.depot w h.stored h.placed cpu i below within) ∙ is));
   queues = λ cpu below. (h.stored.each_wheel cpu below).shows;
 }

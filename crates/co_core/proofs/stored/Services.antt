@@ -12,7 +12,7 @@ use Rattle.co_object.specs.History.{server}
 use Rattle.co_object.specs.Queue.{Queue as TimerQueue, Due}
 use Rattle.co_object.specs.Stand.{is_free_at}
 use Rattle.co_program.specs.declared.Script.{Script}
-use Rattle.co_program.specs.declared.Service.{Service}
+use Rattle.co_program.specs.declared.InService.{InService}
 use Rattle.co_program.specs.Stages.{Stage, Ready, Waiting, Popping, Picking, Locking, Beginning, Unlocking, Firing, Releasing, Ending, Freeing, Drained}
 use Rattle.co_program.specs.declared.Role.{Role}
 use Rattle.co_program.specs.declared.Role.TheVariants.{Client, Cpu, Interrupt}
@@ -21,16 +21,16 @@ use Rattle.co_program.specs.Action.{spec_at}
 use Rattle.co_world.specs.World.{World}
 use Rattle.co_world.specs.Blocked.{is_service_of}
 use Rattle.co_world.specs.Laws.{actors_of}
-use Rattle.co_world.specs.Placed.{IsPlaced, in_slot, slot_of}
-use Rattle.co_core.specs.Stands.{IsStored}
+use Rattle.co_world.specs.Placed.{IsPlaced, in_slot, server_slot}
+use Rattle.co_core.specs.Stands.{ShowsStored}
 use Rattle.co_core.specs.Stored.{Stored, wheel_at, stand_at, is_entry, services}
-use Rattle.co_world.proofs.kept.Invariant.{RunFits, IsTaken, IsRunning, IsOver, IsBetween, cpu_of_run, service_of, serving_of, has_popped, states_of, places_of, queues_of}
+use Rattle.co_world.proofs.kept.Invariant.{RunFits, IsTaken, IsRunning, IsOver, IsBetween, cpu_of_run, service_of, serving_of, has_popped, states_of, cursors_of, queues_of}
 use Rattle.co_world.proofs.basics.Roles.{role_cpu_of, role_interrupt}
 use Rattle.co_world.proofs.kept.Services.{service_actor}
 use Rattle.co_world.proofs.kept.BySteps.{IsSteady}
 use Rattle.co_core.proofs.tables.Values.{read}
 
-abbrev is_of : ℕ → ℕ → Service → Bool
+abbrev is_of : ℕ → ℕ → InService → Bool
 is_of i n v = (v.i == i) && (v.n == n)
 
 -- ---- who is in service
@@ -65,7 +65,7 @@ over-serviced (run.Running m c) n cpu h = ap (λ (k : ℕ). Some k) h.0
 -- a stage that services has its service's number in the run
 stage-number : (states : ℕ → State) (cpu : ℕ) (i n : ℕ) (stage : Stage) → RunFits states cpu stage → has_service i n stage ≡ true → serviced (states i).run ≡ Some n
 stage-number states cpu i n stage fits is = go stage fits is where
-  named : (v : Service) → serviced (states v.i).run ≡ Some v.n → is_of i n v ≡ true → serviced (states i).run ≡ Some n
+  named : (v : InService) → serviced (states v.i).run ≡ Some v.n → is_of i n v ≡ true → serviced (states i).run ≡ Some n
   named v h is =
       let both = both_true (v.i == i) (v.n == n) is in
       let callout_is : v.i ≡ i = eqb-true v.i i both.0 in
@@ -87,11 +87,11 @@ stage-number states cpu i n stage fits is = go stage fits is where
   go (Drained v acts) fits is = cc
 
 -- a run in service is that of a stage that services
-stage-of-run : (states : ℕ → State) (cpu i m : ℕ) (v : Service) (stage : Stage) → RunFits states cpu stage → IsBetween stage → service_of stage ≡ Some v → v.i ≡ i → serviced (states i).run ≡ Some m → has_service i m stage ≡ true
+stage-of-run : (states : ℕ → State) (cpu i m : ℕ) (v : InService) (stage : Stage) → RunFits states cpu stage → IsBetween stage → service_of stage ≡ Some v → v.i ≡ i → serviced (states i).run ≡ Some m → has_service i m stage ≡ true
 stage-of-run states cpu i m v stage fits between is callout_is serving = go stage fits between is where
-  named : (u : Service) → serviced (states u.i).run ≡ Some u.n → u ≡ v → is_of i m u ≡ true
+  named : (u : InService) → serviced (states u.i).run ≡ Some u.n → u ≡ v → is_of i m u ≡ true
   named u h same =
-      let here : u.i ≡ i = ap (λ (z : Service). z.i) same ∙ callout_is in
+      let here : u.i ≡ i = ap (λ (z : InService). z.i) same ∙ callout_is in
       let number_is : Some u.n ≡ Some m = sym h ∙ (ap (λ j. serviced (states j).run) here ∙ serving) in
       let number_same : u.n ≡ m = cc in
       rw (eq-eqb u.i i here, eq-eqb u.n m number_same) refl
@@ -133,7 +133,7 @@ slot-has i n (Ending v) between = refl
 slot-has i n (Freeing v drain next) between = absurd between
 slot-has i n (Drained v acts) between = refl
 
-popped-serves : (stage : Stage) → IsBetween stage → has_popped stage ≡ true → (v : Service) × (service_of stage ≡ Some v)
+popped-serves : (stage : Stage) → IsBetween stage → has_popped stage ≡ true → (v : InService) × (service_of stage ≡ Some v)
 popped-serves Ready between is = cc
 popped-serves (Waiting m took) between is = cc
 popped-serves (Popping act) between is = cc
@@ -170,7 +170,7 @@ same-bool true b to from = sym (to refl)
 same-bool false true to from = from refl
 same-bool false false to from = refl
 
-module _ (s : Script) (y : Stored) (w : World) (stored : IsStored s y w) (placed : IsPlaced s w) (steady : IsSteady s w) (i n : ℕ) (within : i < length s.timers) where
+module _ (s : Script) (y : Stored) (w : World) (stored : ShowsStored s y w) (placed : IsPlaced s w) (steady : IsSteady s w) (i n : ℕ) (within : i < length s.timers) where
   abbrev stand : ℕ
   stand = (w.timers i).stand
 
@@ -181,18 +181,18 @@ module _ (s : Script) (y : Stored) (w : World) (stored : IsStored s y w) (placed
   stage b = (w.actors b).cursor.stage
 
   -- what a server's slot has is in service
-  from-slot : (b : ℕ) (role : Role) → role_of s b ≡ role → cpu_of s role ≡ stand → serving_of queue role ≡ is_some (slot_of role queue) → is_entry (slot_of role queue) i n ≡ true → is_service_of n (serviced (w.timers i).state.run) ≡ true
+  from-slot : (b : ℕ) (role : Role) → role_of s b ≡ role → cpu_of s role ≡ stand → serving_of queue role ≡ is_some (server_slot role queue) → is_entry (server_slot role queue) i n ≡ true → is_service_of n (serviced (w.timers i).state.run) ≡ true
   from-slot b role is at same has =
       let busy_as : serving_of (queues_of w (cpu_of s role)) role ≡ has_popped (stage b) =
       subst (λ (r : Role). serving_of (queues_of w (cpu_of s r)) r ≡ has_popped (stage b)) is (steady.good.holds.busy b) in
       let busy_here : serving_of queue role ≡ has_popped (stage b) = subst (λ (cpu : ℕ). serving_of (queues_of w cpu) role ≡ has_popped (stage b)) at busy_as in
-      let busy : is_some (slot_of role queue) ≡ has_popped (stage b) = sym same ∙ busy_here in
-      let popped = popped-serves (stage b) (steady.between b) (sym busy ∙ entry-some (slot_of role queue) i n has) in
-      let actor = service_actor s (states_of w) (places_of w) steady.good.holds.serving b popped.0 (steady.good.holds.roles b) popped.1 in
+      let busy : is_some (server_slot role queue) ≡ has_popped (stage b) = sym same ∙ busy_here in
+      let popped = popped-serves (stage b) (steady.between b) (sym busy ∙ entry-some (server_slot role queue) i n has) in
+      let actor = service_actor s (states_of w) (cursors_of w) steady.good.holds.serving b popped.0 (steady.good.holds.roles b) popped.1 in
       let there = (steady.good.holds.serving.served popped.0.i (cpu_of s (role_of s b)) actor.0).3 in
       let may : b < actor_count s = subst (λ (x : ℕ). x < actor_count s) (sym actor.1) there in
-      let slot : slot_of role queue ≡ in_slot (stage b) =
-      subst (λ (cpu : ℕ). slot_of role (w.cpus cpu).queue ≡ in_slot (stage b)) at (subst (λ (r : Role). slot_of r (w.cpus (cpu_of s r)).queue ≡ in_slot (stage b)) is (placed.serves b may)) in
+      let slot : server_slot role queue ≡ in_slot (stage b) =
+      subst (λ (cpu : ℕ). server_slot role (w.cpus cpu).queue ≡ in_slot (stage b)) at (subst (λ (r : Role). server_slot r (w.cpus (cpu_of s r)).queue ≡ in_slot (stage b)) is (placed.serves b may)) in
       let serves : has_service i n (stage b) ≡ true = sym (slot-has i n (stage b) (steady.between b)) ∙ (ap (λ o. is_entry o i n) (sym slot) ∙ has) in
       let number = stage-number (states_of w) (cpu_of s (role_of s b)) i n (stage b) (steady.good.holds.serving.serves b) serves in
       ap (is_service_of n) number ∙ eq-eqb n n refl
@@ -200,7 +200,7 @@ module _ (s : Script) (y : Stored) (w : World) (stored : IsStored s y w) (placed
   to-service : (is_entry queue.serving i n || is_entry queue.directing i n) ≡ true → is_service_of n (serviced (w.timers i).state.run) ≡ true
   to-service has = go (either (is_entry queue.serving i n) (is_entry queue.directing i n) has) where
     go : (is_entry queue.serving i n ≡ true) ⊎ (is_entry queue.directing i n ≡ true) → is_service_of n (serviced (w.timers i).state.run) ≡ true
-    go (inl soft) = from-slot (client_count s + stand) (Cpu stand) (role_cpu_of s stand (placed.settled i within).stand) refl refl soft
+    go (inl soft) = from-slot (client_count s + stand) (Cpu stand) (role_cpu_of s stand (placed.cpus_known i within).stand) refl refl soft
     go (inr urgent) = from-slot (client_count s + s.cpus + stand) (Interrupt stand) (role_interrupt s stand) refl refl urgent
 
   to-slot : is_service_of n (serviced (w.timers i).state.run) ≡ true → (is_entry queue.serving i n || is_entry queue.directing i n) ≡ true
@@ -209,12 +209,12 @@ module _ (s : Script) (y : Stored) (w : World) (stored : IsStored s y w) (placed
       let at : somewhere.0 ≡ stand = run-at (w.timers i).state.run somewhere.0 stand somewhere.1 (placed.runs i) in
       let found = steady.good.holds.serving.served i somewhere.0 somewhere.1 in
       let b : ℕ = server (actors_of s) (spec_at s i) somewhere.0 in
-      let runs = service_actor s (states_of w) (places_of w) steady.good.holds.serving b found.0 (steady.good.holds.roles b) found.1 in
+      let runs = service_actor s (states_of w) (cursors_of w) steady.good.holds.serving b found.0 (steady.good.holds.roles b) found.1 in
       let same : Some (cpu_of s (role_of s b)) ≡ Some somewhere.0 = sym runs.0 ∙ (ap (λ j. cpu_of_run (w.timers j).state.run) found.2 ∙ somewhere.1) in
       let cpu_is : cpu_of s (role_of s b) ≡ stand = (let same_cpu : cpu_of s (role_of s b) ≡ somewhere.0 = cc in same_cpu ∙ at) in
       let serves : has_service i n (stage b) ≡ true = stage-of-run (states_of w) (cpu_of s (role_of s b)) i n found.0 (stage b) (steady.good.holds.serving.serves b) (steady.between b) found.1 found.2 somewhere.2 in
-      go (role_of s b) (subst (λ (cpu : ℕ). is_entry (slot_of (role_of s b) (w.cpus cpu).queue) i n ≡ true) cpu_is (ap (λ o. is_entry o i n) (placed.serves b found.3) ∙ (slot-has i n (stage b) (steady.between b) ∙ serves))) where
-        go : (role : Role) → is_entry (slot_of role queue) i n ≡ true → (is_entry queue.serving i n || is_entry queue.directing i n) ≡ true
+      go (role_of s b) (subst (λ (cpu : ℕ). is_entry (server_slot (role_of s b) (w.cpus cpu).queue) i n ≡ true) cpu_is (ap (λ o. is_entry o i n) (placed.serves b found.3) ∙ (slot-has i n (stage b) (steady.between b) ∙ serves))) where
+        go : (role : Role) → is_entry (server_slot role queue) i n ≡ true → (is_entry queue.serving i n || is_entry queue.directing i n) ≡ true
         go (Client c) has = cc
         go (Cpu x) has = rw has refl
         go (Interrupt x) has = or-right (is_entry queue.serving i n) has
@@ -223,7 +223,7 @@ module _ (s : Script) (y : Stored) (w : World) (stored : IsStored s y w) (placed
   pub in-service : (cpu : ℕ) → cpu ≡ stand_at y i → services (wheel_at y cpu).callouts i n ≡ is_service_of n (serviced (w.timers i).state.run)
   in-service cpu at =
       let stand_is : cpu ≡ stand = at ∙ read y.stands (length s.timers) (λ i. (w.timers i).stand) i 0 stored.each_stand within in
-      let shows = (stored.each_wheel stand (placed.settled i within).stand).shows in
+      let shows = (stored.each_wheel stand (placed.cpus_known i within).stand).shows in
       ap (λ (x : ℕ). services (wheel_at y x).callouts i n) stand_is
       ∙ (ap (λ o. is_entry o i n || is_entry (wheel_at y stand).callouts.directing i n) (sym shows.serving)
       ∙ (ap (λ o. is_entry queue.serving i n || is_entry o i n) (sym shows.directing)

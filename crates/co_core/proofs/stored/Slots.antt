@@ -11,7 +11,7 @@ use Rattle.co_program.specs.declared.role.Role.{Role}
 use Rattle.co_program.specs.declared.role.Role.TheVariants as role
 use Rattle.co_program.specs.Cursor.{Cursor}
 use Rattle.co_world.specs.World.{World}
-use Rattle.co_world.specs.Placed.{slot_of}
+use Rattle.co_world.specs.Placed.{server_slot}
 use Rattle.co_world.proofs.kept.Invariant.{queues_of}
 use Rattle.co_world.proofs.basics.Changes.{decide}
 use Rattle.co_world.proofs.kept.Passages.{changed, serving_stays, directing_stays}
@@ -20,7 +20,7 @@ use Rattle.co_core.proofs.tables.Options.{some_is}
 
 -- an operation that takes nothing into service and ends none leaves the slots
 pub quiet_slots : (m : ℕ) (direct : List Bool) (q : TimerQueue) (op : QOp) (o : TimerQueue × QReply) → journal.step m direct q op ≡ Some o → (op ≡ Pop → ⊥) → (op ≡ Free → ⊥) → (op ≡ PopDirect → ⊥) → (op ≡ FreeDirect → ⊥) →
-    (ro : Role) → slot_of ro o.0 ≡ slot_of ro q
+    (ro : Role) → server_slot ro o.0 ≡ server_slot ro q
 quiet_slots m direct q op o is a b c d (role.Client k) = refl
 quiet_slots m direct q op o is a b c d (role.Cpu y) = serving_stays m direct q op o.1 o.0 (changed m direct q op o is) a b
 quiet_slots m direct q op o is a b c d (role.Interrupt y) = directing_stays m direct q op o.1 o.0 (changed m direct q op o is) c d
@@ -31,9 +31,9 @@ answered_so None q reply is = cc
 answered_so (Some p) q reply is = ap (λ (y : QReply). Some (p.0, y)) (some_is p.1 reply is)
 
 -- the slots of all queues are as before
-pub all_slots : (w w' : World) (i cpu a : ℕ) (state : State) (stand : ℕ) (queue : TimerQueue) (place : Cursor) → Goes w w' i cpu a state stand queue place → ((ro : Role) → slot_of ro queue ≡ slot_of ro (queues_of w cpu)) →
-    (ro : Role) (y : ℕ) → slot_of ro (queues_of w' y) ≡ slot_of ro (queues_of w y)
+pub all_slots : (w w' : World) (i cpu a : ℕ) (state : State) (stand : ℕ) (queue : TimerQueue) (place : Cursor) → Goes w w' i cpu a state stand queue place → ((ro : Role) → server_slot ro queue ≡ server_slot ro (queues_of w cpu)) →
+    (ro : Role) (y : ℕ) → server_slot ro (queues_of w' y) ≡ server_slot ro (queues_of w y)
 all_slots w w' i cpu a state stand queue place goes quiet ro y = go (decide y cpu) where
-  go : (y ≡ cpu) ⊎ (y ≡ cpu → ⊥) → slot_of ro (queues_of w' y) ≡ slot_of ro (queues_of w y)
-  go (inl same) = subst (λ k. slot_of ro (queues_of w' k) ≡ slot_of ro (queues_of w k)) (sym same) (ap (slot_of ro) goes.queues.here ∙ quiet ro)
-  go (inr other) = ap (slot_of ro) (goes.queues.else y other)
+  go : (y ≡ cpu) ⊎ (y ≡ cpu → ⊥) → server_slot ro (queues_of w' y) ≡ server_slot ro (queues_of w y)
+  go (inl same) = subst (λ k. server_slot ro (queues_of w' k) ≡ server_slot ro (queues_of w k)) (sym same) (ap (server_slot ro) goes.queues.here ∙ quiet ro)
+  go (inr other) = ap (server_slot ro) (goes.queues.else y other)

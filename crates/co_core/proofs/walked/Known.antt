@@ -16,7 +16,7 @@ use Rattle.co_program.specs.Advance.{advance}
 use Rattle.co_program.specs.declared.Asked.{Asked}
 use Rattle.co_program.specs.declared.Asked.TheVariants.{Callout, Queue, Itself}
 use Rattle.co_world.specs.World.{World, Actor, with_cursor}
-use Rattle.co_world.specs.Step.{are_direct, notes_down, callout_answers, queue_answers, answered, step}
+use Rattle.co_world.specs.Step.{are_direct, notes_down, callout_answers, queue_answers, world_answers, step}
 use Rattle.co_world.specs.Walk.{HasFinished}
 use Rattle.std.proofs.lemmas.List.{get_or-set_other, get_or-set_same, get_or_past}
 use Rattle.co_lock.specs.declared.Held.{Held}
@@ -43,7 +43,7 @@ module _ (s : Script) (b : ℕ) where
   queue_leaves w a act cpu op None other = refl
   queue_leaves w a act cpu op (Some outcome) other = updated_elsewhere w.actors a _ b other
 
-  answer_leaves : (w : World) (a act : ℕ) (asked : Asked) → (b ≡ a → ⊥) → (answered s w a act asked).actors b ≡ w.actors b
+  answer_leaves : (w : World) (a act : ℕ) (asked : Asked) → (b ≡ a → ⊥) → (world_answers s w a act asked).actors b ≡ w.actors b
   answer_leaves w a act (Callout i op) other = callout_leaves w a act i op (callout_step (spec_at s i) (w.timers i).state op) other
   answer_leaves w a act (Queue cpu op) other = queue_leaves w a act cpu op (queue_step s.buckets (are_direct s) (w.cpus cpu).queue op) other
   answer_leaves w a act (Itself kind) other = updated_elsewhere w.actors a _ b other

@@ -23,7 +23,7 @@ use Rattle.co_object.specs.Stand.{off}
 use Rattle.co_object.specs.Callout.{step as callout_step}
 use Rattle.co_object.specs.Queue.{Queue as TimerQueue}
 use Rattle.co_object.specs.Journal.{step as queue_step}
-use Rattle.co_listener.specs.Made.{Made, list_by, made_in}
+use Rattle.co_listener.specs.MadeNotes.{MadeNote, list_by, made_in}
 use Rattle.co_listener.proofs.OneMore.{list_more, one, place_more}
 use Rattle.co_program.specs.declared.Script.{Script}
 use Rattle.co_program.specs.declared.Asked.{Asked}
@@ -34,9 +34,9 @@ use Rattle.co_program.specs.Cursor.{Cursor}
 use Rattle.co_core.specs.declared.engine.Engine.{Engine}
 use Rattle.co_world.specs.declared.turn.Turn.{Turn}
 use Rattle.co_world.specs.declared.turn.Turn.TheVariants.{Notes, Blocked, Finished}
-use Rattle.co_core.specs.Stands.{IsWritten, StandsFor, untold}
-use Rattle.co_world.specs.Step.{answered, are_direct, callout_answers, enters, enters_journal, note_of, note_of_cpu, note_of_own, notes_down, queue_answers, step, turn_of}
-use Rattle.co_core.specs.Telling.{AreMade, GoesOn, HasNotes, HasTold, IsTelling, MayTell, entry_count, made_by, makes_notes}
+use Rattle.co_core.specs.Stands.{ShowsWritten, StandsFor, untold}
+use Rattle.co_world.specs.Step.{world_answers, are_direct, callout_answers, enters, enters_journal, note_of, note_of_cpu, note_of_own, notes_down, queue_answers, step, turn_of}
+use Rattle.co_core.specs.Telling.{AreMade, TellsOn, HasNotes, EngineHasTold, IsTelling, MayTell, entry_count, made_by, makes_notes}
 use Rattle.co_world.specs.Walk.{AllFinished, rounds, run}
 use Rattle.co_world.specs.World.{Actor, World, open_world, with_cursor}
 use Rattle.co_core.specs.Written.{Written, let_go, list_at, told_at}
@@ -59,7 +59,7 @@ entries_long w (place.Timer i) = length-map (w.timers i).history of.Timer
 entries_long w (place.Cpu cpu) = length-map (w.cpus cpu).journal of.Cpu
 entries_long w (place.Actor a) = length-map (notes_of (place.Actor a) (w.actors a).notes) (λ (n : Note). n.entry)
 
-module _ (s : Script) (old now : World) (made : List Made) (a : ℕ) (note : Note) (are : AreMade s old made)
+module _ (s : Script) (old now : World) (made : List MadeNote) (a : ℕ) (note : Note) (are : AreMade s old made)
     (tells : Tells old now note) (notes : IsAt (notes_by old) a (notes_by old a ++ note ∷ []) (notes_by now)) where
   lists : (b : ℕ) → b < actor_count s → list_by (made ++ one a note ∷ []) b ≡ notes_by now b
   lists b within = go (eqb_tells a b) where
@@ -97,7 +97,7 @@ record Grows (s : Script) (w : World) (a : ℕ) (now : World) : Type 0 where
   notes : List Note
   own : notes_by now a ≡ notes_by w a ++ notes
   else : (b : ℕ) → (b ≡ a → ⊥) → notes_by now b ≡ notes_by w b
-  told : (made : List Made) → AreMade s w made → AreMade s now (made ++ made_by a notes)
+  told : (made : List MadeNote) → AreMade s w made → AreMade s now (made ++ made_by a notes)
 
 module _ (s : Script) (w : World) (a : ℕ) where
   grows_not : Grows s w a w
@@ -116,7 +116,7 @@ module _ (s : Script) (w : World) (a : ℕ) where
     else = λ b other. at.else b other ∙ g.else b other;
     told = λ made are.
         (let more : made ++ made_by a (g.notes ++ note ∷ []) ≡ (made ++ made_by a g.notes) ++ one a note ∷ [] =
-        ap (λ (l : List Made). made ++ l) (map-append (one a) g.notes (note ∷ [])) ∙ sym (append_assoc made (made_by a g.notes) (one a note ∷ [])) in
+        ap (λ (l : List MadeNote). made ++ l) (map-append (one a) g.notes (note ∷ [])) ∙ sym (append_assoc made (made_by a g.notes) (one a note ∷ [])) in
         subst (AreMade s (notes_down s v' a listed note)) (sym more) (made_more s v (notes_down s v' a listed note) (made ++ made_by a g.notes) a note (g.told made are) tells at));
   } where
     at : IsAt (notes_by v) a (notes_by v a ++ note ∷ []) (notes_by (notes_down s v' a listed note))
@@ -134,7 +134,7 @@ module _ (s : Script) (w : World) (a : ℕ) where
       let e : QEntry = record { actor = a; act = act; op = op; reply = outcome.1 } in
       note_grows v (enters_journal v cpu outcome.0 e) false (note_of_cpu v cpu e) refl (tells_queue s v a cpu outcome.0 e false) g
 
-  answer_grows : (v : World) (act : ℕ) (asked : Asked) → Grows s w a v → Grows s w a (answered s v a act asked)
+  answer_grows : (v : World) (act : ℕ) (asked : Asked) → Grows s w a v → Grows s w a (world_answers s v a act asked)
   answer_grows v act (Callout i op) g = callout_grows v act i op (callout_step (spec_at s i) (v.timers i).state op) g
   answer_grows v act (Queue cpu op) g = queue_grows v act cpu op (queue_step s.buckets (are_direct s) (v.cpus cpu).queue op) g
   answer_grows v act (Itself kind) g = note_grows v v false (note_of_own s v a act kind) refl (tells_own s v a act kind false) g
@@ -157,12 +157,12 @@ module _ (s : Script) (w : World) (a : ℕ) where
 
   step_grows : Grows s w a (step s w a)
   step_grows =
-      step_keeps s (λ b. b ≡ a) (Grows s w a) (λ v b act asked is g. subst (λ (k : ℕ). Grows s w a (answered s v k act asked)) (sym is) (answer_grows v act asked g))
+      step_keeps s (λ b. b ≡ a) (Grows s w a) (λ v b act asked is g. subst (λ (k : ℕ). Grows s w a (world_answers s v k act asked)) (sym is) (answer_grows v act asked g))
       (λ v b to is g. place_grows v b to g) w a refl grows_not
 
 -- ---- what has been told is let go
 
-module _ (s : Script) (x : Written) (w : World) (a : ℕ) (written : IsWritten s x w) (may : a < actor_count s) where
+module _ (s : Script) (x : Written) (w : World) (a : ℕ) (written : ShowsWritten s x w) (may : a < actor_count s) where
   inside : a < length x.told
   inside = let l = written.told_long in omega (arith, l)
 
@@ -184,9 +184,9 @@ module _ (s : Script) (x : Written) (w : World) (a : ℕ) (written : IsWritten s
   few_after b (inl same) = subst (λ (k : ℕ). told_at (let_go x a) k ≤ length (notes_by w k)) (sym same) (let e = told_here in omega (arith, e))
   few_after b (inr other) = let e = told_else b other in let few = written.few_told b in omega (arith, e, few)
 
-  pub written_let_go : IsWritten s (let_go x a) w
+  pub written_let_go : ShowsWritten s (let_go x a) w
   written_let_go = record {
-    places_long = written.places_long;
+    cursors_long = written.cursors_long;
     each_place = written.each_place;
     told_long = length-set x.told a (told_at x a + length (list_at x a)) ∙ written.told_long;
     each_list = put x.lists (actor_count s) (untold x w) a [] (untold (let_go x a) w) written.each_list none_left;
@@ -211,31 +211,31 @@ module _ (s : Script) (x : Written) (w : World) (a : ℕ) (written : IsWritten s
       omega (arith, told, long, notes)
 
 -- a step, whose notes are told and let go
-module _ (s : Script) {B : Type 0} (has : B → List Made → Type 0) (before after : Engine) (old new : B) (w : World) (a : ℕ) (may : a < actor_count s)
-    (start : HasTold s before w) (stands : StandsFor s after.books after.depot (step s w a)) (same : after.books.told ≡ before.books.told)
-    (tells : (made : List Made) → has old made → has new (made ++ made_by a (list_at after.books a))) where
+module _ (s : Script) {B : Type 0} (has : B → List MadeNote → Type 0) (before after : Engine) (old new : B) (w : World) (a : ℕ) (may : a < actor_count s)
+    (start : EngineHasTold s before w) (stands : StandsFor s after.ledger after.depot (step s w a)) (same : after.ledger.told ≡ before.ledger.told)
+    (tells : (made : List MadeNote) → has old made → has new (made ++ made_by a (list_at after.ledger a))) where
   grown : Grows s w a (step s w a)
   grown = step_grows s w a
 
   -- what the step has told before is what there was
-  told_is : (b : ℕ) → b < actor_count s → told_at after.books b ≡ length (notes_by w b)
+  told_is : (b : ℕ) → b < actor_count s → told_at after.ledger b ≡ length (notes_by w b)
   told_is b within = ap (λ (l : List ℕ). get_or l b 0) same ∙ start.told b within
 
-  list_new : list_at after.books a ≡ grown.notes
+  list_new : list_at after.ledger a ≡ grown.notes
   list_new =
-      list_is s after.books (step s w a) stands.written a may
+      list_is s after.ledger (step s w a) stands.written a may
       ∙ ap (λ (k : ℕ). drop k (notes_by (step s w a) a)) (told_is a may)
       ∙ ap (drop (length (notes_by w a))) grown.own
       ∙ drop-append_seam (notes_by w a) grown.notes
 
-  told_all : (b : ℕ) → b < actor_count s → (b ≡ a) ⊎ (b ≡ a → ⊥) → told_at (let_go after.books a) b ≡ length (notes_by (step s w a) b)
-  told_all b within (inl is) = subst (λ (k : ℕ). told_at (let_go after.books a) k ≡ length (notes_by (step s w a) k)) (sym is) (told_here s after.books (step s w a) a stands.written may)
-  told_all b within (inr other) = told_else s after.books (step s w a) a stands.written may b other ∙ told_is b within ∙ ap length (sym (grown.else b other))
+  told_all : (b : ℕ) → b < actor_count s → (b ≡ a) ⊎ (b ≡ a → ⊥) → told_at (let_go after.ledger a) b ≡ length (notes_by (step s w a) b)
+  told_all b within (inl is) = subst (λ (k : ℕ). told_at (let_go after.ledger a) k ≡ length (notes_by (step s w a) k)) (sym is) (told_here s after.ledger (step s w a) a stands.written may)
+  told_all b within (inr other) = told_else s after.ledger (step s w a) a stands.written may b other ∙ told_is b within ∙ ap length (sym (grown.else b other))
 
-  pub step_told : GoesOn s has (record after { books = let_go after.books a }) old new w (step s w a)
+  pub step_told : TellsOn s has (record after { ledger = let_go after.ledger a }) old new w (step s w a)
   step_told = record {
     told = record {
-      stands = record { written = written_let_go s after.books (step s w a) a stands.written may; stored = stands.stored; placed = stands.placed; reached = stands.reached };
+      stands = record { written = written_let_go s after.ledger (step s w a) a stands.written may; stored = stands.stored; placed = stands.placed; reached = stands.reached };
       told = λ b within. told_all b within (decide b a);
     };
     notes = λ notes.
@@ -262,8 +262,8 @@ nothing_in [] h = refl
 nothing_in (note ∷ notes) h = absurd (let never : ⊥ = omega (arith, h) in never)
 
 -- it tells none
-module _ (s : Script) {B : Type 0} (has : B → List Made → Type 0) (before after : Engine) (book : B) (w : World) (a : ℕ) (turn : Turn)
-    (start : HasTold s before w) (stands : StandsFor s after.books after.depot (step s w a)) (same : after.books.told ≡ before.books.told)
+module _ (s : Script) {B : Type 0} (has : B → List MadeNote → Type 0) (before after : Engine) (book : B) (w : World) (a : ℕ) (turn : Turn)
+    (start : EngineHasTold s before w) (stands : StandsFor s after.ledger after.depot (step s w a)) (same : after.ledger.told ≡ before.ledger.told)
     (is : turn ≡ turn_of s w a) (none : makes_notes turn ≡ false) where
   unmade : Grows s w a (step s w a)
   unmade = step_grows s w a
@@ -278,7 +278,7 @@ module _ (s : Script) {B : Type 0} (has : B → List Made → Type 0) (before af
   as_long b (inl own) = subst (λ (k : ℕ). length (notes_by (step s w a) k) ≡ length (notes_by w k)) (sym own) (without s w a turn is none)
   as_long b (inr other) = ap length (unmade.else b other)
 
-  pub quiet_told : GoesOn s has after book book w (step s w a)
+  pub quiet_told : TellsOn s has after book book w (step s w a)
   quiet_told = record {
     told = record {
       stands = stands;
@@ -294,20 +294,20 @@ module _ (s : Script) {B : Type 0} (has : B → List Made → Type 0) (before af
 
 -- ---- one step after another
 
-pub further : (s : Script) {B : Type 0} (has : B → List Made → Type 0) (e e' : Engine) (first old new : B) (w v u : World) → GoesOn s has e first old w v → GoesOn s has e' old new v u → GoesOn s has e' first new w u
+pub further : (s : Script) {B : Type 0} (has : B → List MadeNote → Type 0) (e e' : Engine) (first old new : B) (w v u : World) → TellsOn s has e first old w v → TellsOn s has e' old new v u → TellsOn s has e' first new w u
 further s has e e' first old new w v u before after = record { told = after.told; notes = λ notes. after.notes (before.notes notes) }
 
 -- what may be told goes on to a later engine, and a listener of as many actors
-pub may_tell : (s : Script) (e e2 : Engine) (actors actors2 : ℕ) → MayTell s e actors → actors2 ≡ actors → (w : World) × HasTold s e2 w → MayTell s e2 actors2
+pub may_tell : (s : Script) (e e2 : Engine) (actors actors2 : ℕ) → MayTell s e actors → actors2 ≡ actors → (w : World) × EngineHasTold s e2 w → MayTell s e2 actors2
 may_tell s e e2 actors actors2 may as_many at = record { script = may.script; room = subst (λ (n : ℕ). actor_count s ≤ n) (sym as_many) may.room; world = at.0; told = at.1 }
 
-pub not_yet : (s : Script) {B : Type 0} (has : B → List Made → Type 0) (e : Engine) (book : B) (w : World) → HasTold s e w → GoesOn s has e book book w w
+pub not_yet : (s : Script) {B : Type 0} (has : B → List MadeNote → Type 0) (e : Engine) (book : B) (w : World) → EngineHasTold s e w → TellsOn s has e book book w w
 not_yet s has e book w told = record { told = told; notes = λ notes. notes }
 
 -- ---- the whole walk
 
-pub opening_told : (s : Script) (e : Engine) → StandsFor s e.books e.depot (open_world s) → HasTold s e (open_world s)
-opening_told s e stands = record { stands = stands; told = λ a within. open_whole s e.books stands.written a }
+pub opening_told : (s : Script) (e : Engine) → StandsFor s e.ledger e.depot (open_world s) → EngineHasTold s e (open_world s)
+opening_told s e stands = record { stands = stands; told = λ a within. open_whole s e.ledger stands.written a }
 
 none_made : (s : Script) → AreMade s (open_world s) []
 none_made s = record { lists = λ a within. refl; order = order } where
@@ -317,9 +317,9 @@ none_made s = record { lists = λ a within. refl; order = order } where
   order (place.Actor a) = refl
 
 -- what is told of a walk to its end, from an empty listener
-pub walk_told : (s : Script) {B : Type 0} (has : B → List Made → Type 0) (e e' : Engine) (first old new : B) (number : ℕ) →
-    GoesOn s has e first old (open_world s) (run s (open_world s) s.turns) → GoesOn s has e' old new (run s (open_world s) s.turns) (rounds s (run s (open_world s) s.turns) number) →
-    AllFinished s (rounds s (run s (open_world s) s.turns) number) → has first [] → (made : List Made) × has new made × IsTelling s made
+pub walk_told : (s : Script) {B : Type 0} (has : B → List MadeNote → Type 0) (e e' : Engine) (first old new : B) (number : ℕ) →
+    TellsOn s has e first old (open_world s) (run s (open_world s) s.turns) → TellsOn s has e' old new (run s (open_world s) s.turns) (rounds s (run s (open_world s) s.turns) number) →
+    AllFinished s (rounds s (run s (open_world s) s.turns) number) → has first [] → (made : List MadeNote) × has new made × IsTelling s made
 walk_told s has e e' first old new number turns rest finished empty = (
   all.made,
   all.holds,

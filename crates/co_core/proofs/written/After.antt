@@ -1,4 +1,4 @@
--- What the books show after a note, where the counts are right.
+-- What the ledger shows after a note, where the counts are right.
 use Rattle.std.proofs.Common.{◌≡◌, ℕ, ◌+◌, ◌<◌, ◌≤◌, ◌⊎◌, inl, inr, Bool, List, [], ◌∷◌, ◌++◌, length, drop, get_or, set, sym, ap, ◌∙◌, subst, arith, length-append, length-set}
 use Rattle.std.proofs.lemmas.List.{drop-append-le, get_or-set_same, get_or-set_other}
 use Rattle.co_object.specs.declared.Note.{Note}
@@ -10,42 +10,42 @@ use Rattle.co_program.specs.Advance.{advance}
 use Rattle.co_program.specs.Indexed.{IsCounted, cursor_of}
 use Rattle.co_world.specs.World.{World}
 use Rattle.co_core.specs.Table.{table}
-use Rattle.co_core.specs.Written.{Written, IsNoted, place_at, list_at, told_at, first_place}
-use Rattle.co_core.specs.Stands.{IsWritten, untold}
+use Rattle.co_core.specs.Written.{Written, IsNoted, cursor_at, list_at, told_at, first_cursor}
+use Rattle.co_core.specs.Stands.{ShowsWritten, untold}
 use Rattle.co_world.proofs.basics.Changes.{IsAt, decide, at_all}
-use Rattle.co_world.proofs.kept.Invariant.{places_of}
+use Rattle.co_world.proofs.kept.Invariant.{cursors_of}
 use Rattle.co_core.proofs.tables.Values.{put, read, same}
 use Rattle.co_core.proofs.written.Counting.{notes_by, own_by, entries_of, turns_of, scans_in}
 
 module _ (s : Script) (x x2 : Written) (w w' : World) (a : ℕ) (listed : Bool) (note : Note) (histories journals scans own : List ℕ)
-    (written : IsWritten s x w) (may : a < actor_count s)
+    (written : ShowsWritten s x w) (may : a < actor_count s)
     (noted : IsNoted s a listed note (record x { histories = histories; journals = journals; scans = scans; own = own }) x2)
-    (places : IsAt (places_of w) a (advance s (places_of w a) listed note.place note.entry) (places_of w')) (notes : IsAt (notes_by w) a (notes_by w a ++ note ∷ []) (notes_by w'))
+    (cursors : IsAt (cursors_of w) a (advance s (cursors_of w a) listed note.place note.entry) (cursors_of w')) (notes : IsAt (notes_by w) a (notes_by w a ++ note ∷ []) (notes_by w'))
     (each_history : histories ≡ table (length s.timers) (entries_of w')) (each_journal : journals ≡ table s.cpus (turns_of w'))
     (each_scan : scans ≡ table s.cpus (scans_in w')) (each_own : own ≡ table (actor_count s) (own_by w'))
     (few_entries : (i : ℕ) → entries_of w' i ≤ x.made + 1) (few_turns : (cpu : ℕ) → turns_of w' cpu ≤ x.made + 1) (few_own : (b : ℕ) → own_by w' b ≤ x.made + 1) where
-  abbrev places' : List CursorAt
-  places' = set x.places a noted.to
+  abbrev cursors' : List CursorAt
+  cursors' = set x.cursors a noted.to
 
   abbrev place' : ℕ → CursorAt
-  place' b = get_or places' b first_place
+  place' b = get_or cursors' b first_cursor
 
-  inside : a < length x.places
-  inside = let l = written.places_long in omega arith
+  inside : a < length x.cursors
+  inside = let l = written.cursors_long in omega arith
 
   place_here : place' a ≡ noted.to
-  place_here = get_or-set_same x.places a noted.to first_place inside
+  place_here = get_or-set_same x.cursors a noted.to first_cursor inside
 
-  place_else : (b : ℕ) → (b ≡ a → ⊥) → place' b ≡ place_at x b
-  place_else b other = get_or-set_other x.places a b noted.to first_place other
+  place_else : (b : ℕ) → (b ≡ a → ⊥) → place' b ≡ cursor_at x b
+  place_else b other = get_or-set_other x.cursors a b noted.to first_cursor other
 
-  each_place : (b : ℕ) → b < actor_count s → cursor_of s b (place' b) ≡ places_of w' b
+  each_place : (b : ℕ) → b < actor_count s → cursor_of s b (place' b) ≡ cursors_of w' b
   each_place b within = go (decide b a) where
-    go : (b ≡ a) ⊎ (b ≡ a → ⊥) → cursor_of s b (place' b) ≡ places_of w' b
+    go : (b ≡ a) ⊎ (b ≡ a → ⊥) → cursor_of s b (place' b) ≡ cursors_of w' b
     go (inl same) =
-        subst (λ k. cursor_of s k (place' k) ≡ places_of w' k) (sym same)
-        (ap (cursor_of s a) place_here ∙ noted.place ∙ ap (λ (c : Cursor). advance s c listed note.place note.entry) (written.each_place a may) ∙ sym places.here)
-    go (inr other) = ap (cursor_of s b) (place_else b other) ∙ written.each_place b within ∙ sym (places.else b other)
+        subst (λ k. cursor_of s k (place' k) ≡ cursors_of w' k) (sym same)
+        (ap (cursor_of s a) place_here ∙ noted.place ∙ ap (λ (c : Cursor). advance s c listed note.place note.entry) (written.each_place a may) ∙ sym cursors.here)
+    go (inr other) = ap (cursor_of s b) (place_else b other) ∙ written.each_place b within ∙ sym (cursors.else b other)
 
   counted : (b : ℕ) → b < actor_count s → IsCounted (place' b) (x.made + 1)
   counted b within = go (decide b a) where
@@ -57,7 +57,7 @@ module _ (s : Script) (x x2 : Written) (w w' : World) (a : ℕ) (listed : Bool) 
         subst (λ (p : CursorAt). IsCounted p (x.made + 1)) (sym (ap place' same ∙ place_here)) after
     go (inr other) =
         let before = written.counted b within in
-        let after : IsCounted (place_at x b) (x.made + 1) = omega (arith, before) in
+        let after : IsCounted (cursor_at x b) (x.made + 1) = omega (arith, before) in
         subst (λ (p : CursorAt). IsCounted p (x.made + 1)) (sym (place_else b other)) after
 
   untold_after : IsAt (untold x w) a (untold x w a ++ note ∷ []) (untold x w')
@@ -81,9 +81,9 @@ module _ (s : Script) (x x2 : Written) (w w' : World) (a : ℕ) (listed : Bool) 
       at_all (λ b (l : List Note). length l ≤ x.made + 1) (notes_by w) a (notes_by w a ++ note ∷ []) (notes_by w') notes
       (let few = written.few_notes a in let more = length-append (notes_by w a) (note ∷ []) in omega (arith, few, more)) (λ b other. (let few = written.few_notes b in omega (arith, few)))
 
-  pub written_after : IsWritten s x2 w'
-  written_after = subst (λ (y : Written). IsWritten s y w') (sym noted.noted) (record {
-    places_long = length-set x.places a noted.to ∙ written.places_long;
+  pub written_after : ShowsWritten s x2 w'
+  written_after = subst (λ (y : Written). ShowsWritten s y w') (sym noted.noted) (record {
+    cursors_long = length-set x.cursors a noted.to ∙ written.cursors_long;
     each_place = each_place;
     told_long = written.told_long;
     each_list = each_list;

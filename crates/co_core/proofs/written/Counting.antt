@@ -14,7 +14,7 @@ use Rattle.co_world.specs.World.{World, Actor, Timer}
 use Rattle.co_world.specs.Step.{notes_down, landed}
 use Rattle.co_world.proofs.basics.Updates.{at_updated}
 use Rattle.co_world.proofs.basics.Changes.{IsAt, decide, at_all, at_read, at_updated_is}
-use Rattle.co_world.proofs.kept.Invariant.{places_of}
+use Rattle.co_world.proofs.kept.Invariant.{cursors_of}
 use Rattle.co_core.proofs.tables.Values.{same}
 
 abbrev pub notes_by : World → ℕ → List Note
@@ -35,7 +35,7 @@ scans_in w cpu = scan_count (w.cpus cpu).journal
 -- the actor's place and notes after a note
 module _ (s : Script) (w : World) (a : ℕ) (listed : Bool) (note : Note) where
   new : Actor
-  new = record { cursor = advance s (places_of w a) listed note.place note.entry; notes = notes_by w a ++ note ∷ [] }
+  new = record { cursor = advance s (cursors_of w a) listed note.place note.entry; notes = notes_by w a ++ note ∷ [] }
 
   pub notes_at : IsAt (notes_by w) a (notes_by w a ++ note ∷ []) (notes_by (notes_down s w a listed note))
   unfolding new

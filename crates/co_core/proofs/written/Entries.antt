@@ -1,4 +1,4 @@
--- What the books show after a note: of a callout, of a queue, or of the actor's own; and after a step without a note.
+-- What the ledger shows after a note: of a callout, of a queue, or of the actor's own; and after a step without a note.
 use Rattle.std.proofs.Common.{◌≡◌, ℕ, ◌+◌, ◌<◌, ◌⊎◌, inl, inr, Bool, true, false, List, [], ◌∷◌, ◌++◌, length, drop, get_or, set, refl, sym, ap, ◌∙◌, subst, arith, length-set, eq-eqb, Some, None}
 use Rattle.std.specs.Prelude.{is_some}
 use Rattle.std.proofs.lemmas.List.{get_or-set_same, get_or-set_other}
@@ -23,14 +23,14 @@ use Rattle.co_program.specs.Actors.{actor_count}
 use Rattle.co_program.specs.Cursor.{Cursor}
 use Rattle.co_program.specs.Advance.{advance}
 use Rattle.co_program.specs.Follows.{scan_count, one_scan}
-use Rattle.co_program.specs.Indexed.{IsCounted, Counts, cursor_of}
+use Rattle.co_program.specs.Indexed.{IsCounted, ActsAreCounted, cursor_of}
 use Rattle.co_world.specs.World.{World, Actor, Timer, Cpu, with_cursor}
 use Rattle.co_world.specs.Step.{notes_down, enters, enters_journal, note_of, note_of_cpu, note_of_own, callout_answers, queue_answers, own_note}
-use Rattle.co_core.specs.Written.{Written, IsNoted, place_at, told_at, with_place, first_place}
-use Rattle.co_core.specs.Stands.{IsWritten, untold}
+use Rattle.co_core.specs.Written.{Written, IsNoted, cursor_at, told_at, put_cursor, first_cursor}
+use Rattle.co_core.specs.Stands.{ShowsWritten, untold}
 use Rattle.co_world.proofs.basics.Updates.{at_updated}
-use Rattle.co_world.proofs.basics.Changes.{IsAt, decide, at_read, at_updated_is, note_at, place_at as place_at_is}
-use Rattle.co_world.proofs.kept.Invariant.{places_of}
+use Rattle.co_world.proofs.basics.Changes.{IsAt, decide, at_read, at_updated_is, note_at, cursor_at as place_at_is}
+use Rattle.co_world.proofs.kept.Invariant.{cursors_of}
 use Rattle.co_core.proofs.written.Listed.{relisted}
 use Rattle.co_core.proofs.tables.Values.{put, read, same}
 use Rattle.co_core.proofs.written.Counting.{notes_by, own_by, entries_of, turns_of, scans_in, notes_at, own_same, more_by_one, rises, stays_few, entries_landed, one_own}
@@ -41,9 +41,9 @@ abbrev pub callout_note : (a act i pos : ℕ) → Op → Reply → Note
 callout_note a act i pos op reply = record { place = place.Timer i; pos = pos; entry = entry.Timer (record { actor = a; act = act; op = op; reply = reply }) }
 
 pub written_callout : (s : Script) (x x2 : Written) (w : World) (a act i pos : ℕ) (op : Op) (o : State × Reply) (listed : Bool) →
-    IsWritten s x w → a < actor_count s → i < length s.timers → (is_armed o.1 ≡ true → listed ≡ is_some (off o.0)) → pos ≡ get_or x.histories i 0 →
+    ShowsWritten s x w → a < actor_count s → i < length s.timers → (is_armed o.1 ≡ true → listed ≡ is_some (off o.0)) → pos ≡ get_or x.histories i 0 →
     IsNoted s a listed (callout_note a act i pos op o.1) (record x { histories = set x.histories i (pos + 1) }) x2 →
-    IsWritten s x2 (callout_answers s w a act i op (Some o))
+    ShowsWritten s x2 (callout_answers s w a act i op (Some o))
 written_callout s x x2 w a act i pos op o listed written may known is at noted =
     written_after s x x2 w w' a (is_some (off o.0)) (note_of w i made) (set x.histories i (pos + 1)) x.journals x.scans x.own written may noted'
     (note_at s v a (is_some (off o.0)) (note_of w i made)) noted_at
@@ -66,7 +66,7 @@ written_callout s x x2 w a act i pos op o listed written may known is at noted =
       noted' : IsNoted s a (is_some (off o.0)) (note_of w i made) (record x { histories = set x.histories i (pos + 1) }) x2
       noted' =
           let here = subst (λ (p : ℕ). IsNoted s a listed (callout_note a act i p op o.1) (record x { histories = set x.histories i (pos + 1) }) x2) number noted in
-          record { to = here.to; place = here.place ∙ listing (cursor_of s a (place_at x a)) (is_armed o.1) refl; counts = here.counts; noted = here.noted } where
+          record { to = here.to; place = here.place ∙ listing (cursor_of s a (cursor_at x a)) (is_armed o.1) refl; counts = here.counts; noted = here.noted } where
             listing : (c : Cursor) (b : Bool) → is_armed o.1 ≡ b → advance s c listed (place.Timer i) (entry.Timer made) ≡ advance s c (is_some (off o.0)) (place.Timer i) (entry.Timer made)
             listing c true h = ap (λ (l : Bool). advance s c l (place.Timer i) (entry.Timer made)) (is h)
             listing c false h = relisted s (record c { removed = None }) i listed (is_some (off o.0)) op o.1 c.stage h
@@ -89,9 +89,9 @@ abbrev pub queue_note : (a act cpu pos : ℕ) → QOp → QReply → Note
 queue_note a act cpu pos op reply = record { place = place.Cpu cpu; pos = pos; entry = entry.Cpu (record { actor = a; act = act; op = op; reply = reply }) }
 
 pub written_queue : (s : Script) (x x2 : Written) (w : World) (a act cpu pos scans : ℕ) (op : QOp) (o : TimerQueue × QReply) →
-    IsWritten s x w → a < actor_count s → cpu < s.cpus → pos ≡ get_or x.journals cpu 0 → scans ≡ get_or x.scans cpu 0 →
+    ShowsWritten s x w → a < actor_count s → cpu < s.cpus → pos ≡ get_or x.journals cpu 0 → scans ≡ get_or x.scans cpu 0 →
     IsNoted s a false (queue_note a act cpu pos op o.1) (record x { journals = set x.journals cpu (pos + 1); scans = set x.scans cpu (scans + one_scan op) }) x2 →
-    IsWritten s x2 (queue_answers s w a act cpu op (Some o))
+    ShowsWritten s x2 (queue_answers s w a act cpu op (Some o))
 written_queue s x x2 w a act cpu pos scans op o written may known at at_scans noted =
     written_after s x x2 w w' a false (note_of_cpu w cpu made) x.histories (set x.journals cpu (pos + 1)) (set x.scans cpu (scans + one_scan op)) x.own written may noted'
     (note_at s v a false (note_of_cpu w cpu made)) noted_at
@@ -142,9 +142,9 @@ abbrev pub own_entry : (a act pos : ℕ) → OwnKind → Note
 own_entry a act pos kind = record { place = place.Actor a; pos = pos; entry = entry.Own (record { actor = a; act = act; kind = kind }) }
 
 pub written_own : (s : Script) (x x2 : Written) (w : World) (a act pos : ℕ) (kind : OwnKind) →
-    IsWritten s x w → a < actor_count s → pos ≡ get_or x.own a 0 →
+    ShowsWritten s x w → a < actor_count s → pos ≡ get_or x.own a 0 →
     IsNoted s a false (own_entry a act pos kind) (record x { own = set x.own a (pos + 1) }) x2 →
-    IsWritten s x2 (own_note s w a act kind)
+    ShowsWritten s x2 (own_note s w a act kind)
 written_own s x x2 w a act pos kind written may at noted =
     written_after s x x2 w w' a false (note_of_own s w a act kind) x.histories x.journals x.scans (set x.own a (pos + 1)) written may noted'
     (note_at s w a false (note_of_own s w a act kind)) noted_at
@@ -172,9 +172,9 @@ written_own s x x2 w a act pos kind written may at noted =
 
 -- ---- a step without a note
 
-pub written_place : (s : Script) (x : Written) (w : World) (a : ℕ) (to : CursorAt) → IsWritten s x w → a < actor_count s → Counts (place_at x a) to 0 → IsWritten s (with_place x a to) (with_cursor w a (cursor_of s a to))
+pub written_place : (s : Script) (x : Written) (w : World) (a : ℕ) (to : CursorAt) → ShowsWritten s x w → a < actor_count s → ActsAreCounted (cursor_at x a) to 0 → ShowsWritten s (put_cursor x a to) (with_cursor w a (cursor_of s a to))
 written_place s x w a to written may counts = record {
-  places_long = length-set x.places a to ∙ written.places_long;
+  cursors_long = length-set x.cursors a to ∙ written.cursors_long;
   each_place = λ b within. each_place b within (decide b a);
   told_long = written.told_long;
   each_list = written.each_list ∙ same (actor_count s) (untold x w) (untold x w') (λ b within. ap (drop (told_at x b)) (notes b));
@@ -198,19 +198,19 @@ written_place s x w a to written may counts = record {
   own : (b : ℕ) → own_by w' b ≡ own_by w b
   own b = ap (λ (l : List Note). length (notes_of (place.Actor b) l)) (notes b)
 
-  inside : a < length x.places
-  inside = let l = written.places_long in omega arith
+  inside : a < length x.cursors
+  inside = let l = written.cursors_long in omega arith
 
-  place_here : get_or (set x.places a to) a first_place ≡ to
-  place_here = get_or-set_same x.places a to first_place inside
+  place_here : get_or (set x.cursors a to) a first_cursor ≡ to
+  place_here = get_or-set_same x.cursors a to first_cursor inside
 
-  each_place : (b : ℕ) → b < actor_count s → (b ≡ a) ⊎ (b ≡ a → ⊥) → cursor_of s b (place_at (with_place x a to) b) ≡ places_of w' b
-  each_place b within (inl same) = subst (λ k. cursor_of s k (place_at (with_place x a to) k) ≡ places_of w' k) (sym same) (ap (cursor_of s a) place_here ∙ sym (place_at_is w a (cursor_of s a to)).here)
-  each_place b within (inr other) = ap (cursor_of s b) (get_or-set_other x.places a b to first_place other) ∙ written.each_place b within ∙ sym ((place_at_is w a (cursor_of s a to)).else b other)
+  each_place : (b : ℕ) → b < actor_count s → (b ≡ a) ⊎ (b ≡ a → ⊥) → cursor_of s b (cursor_at (put_cursor x a to) b) ≡ cursors_of w' b
+  each_place b within (inl same) = subst (λ k. cursor_of s k (cursor_at (put_cursor x a to) k) ≡ cursors_of w' k) (sym same) (ap (cursor_of s a) place_here ∙ sym (place_at_is w a (cursor_of s a to)).here)
+  each_place b within (inr other) = ap (cursor_of s b) (get_or-set_other x.cursors a b to first_cursor other) ∙ written.each_place b within ∙ sym ((place_at_is w a (cursor_of s a to)).else b other)
 
-  counted : (b : ℕ) → b < actor_count s → (b ≡ a) ⊎ (b ≡ a → ⊥) → IsCounted (place_at (with_place x a to) b) x.made
+  counted : (b : ℕ) → b < actor_count s → (b ≡ a) ⊎ (b ≡ a → ⊥) → IsCounted (cursor_at (put_cursor x a to) b) x.made
   counted b within (inl same) =
       let before = written.counted a may in
       let after : IsCounted to x.made = omega (arith, before, counts) in
-      subst (λ (p : CursorAt). IsCounted p x.made) (sym (ap (λ k. place_at (with_place x a to) k) same ∙ place_here)) after
-  counted b within (inr other) = subst (λ (p : CursorAt). IsCounted p x.made) (sym (get_or-set_other x.places a b to first_place other)) (written.counted b within)
+      subst (λ (p : CursorAt). IsCounted p x.made) (sym (ap (λ k. cursor_at (put_cursor x a to) k) same ∙ place_here)) after
+  counted b within (inr other) = subst (λ (p : CursorAt). IsCounted p x.made) (sym (get_or-set_other x.cursors a b to first_cursor other)) (written.counted b within)

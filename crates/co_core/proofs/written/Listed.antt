@@ -8,17 +8,17 @@ use Rattle.co_program.specs.declared.script.Script.{Script}
 use Rattle.co_program.specs.Stages.{Stage, Ready, Waiting, Popping, Picking, Locking, Beginning, Unlocking, Firing, Releasing, Ending, Freeing}
 use Rattle.co_program.specs.Stages as stage
 use Rattle.co_program.specs.Cursor.{Cursor}
-use Rattle.co_program.specs.Advance.{called, advance_callout}
+use Rattle.co_program.specs.Advance.{call_made, advance_callout}
 use Rattle.co_world.proofs.kept.Stages.{plain_called}
 
-waited : (c : Cursor) (i : ℕ) (l m : Bool) (op : Op) (n : ℕ) (took : Bool) (off : Option ℕ) → called c i l op (Wait n took off) ≡ called c i m op (Wait n took off)
+waited : (c : Cursor) (i : ℕ) (l m : Bool) (op : Op) (n : ℕ) (took : Bool) (off : Option ℕ) → call_made c i l op (Wait n took off) ≡ call_made c i m op (Wait n took off)
 waited c i true true op n took off = refl
 waited c i true false op n took off = refl
 waited c i false true op n took off = refl
 waited c i false false op n took off = refl
 
 module _ (c : Cursor) (i : ℕ) (l m : Bool) (op : Op) where
-  pub same_called : (reply : Reply) → is_armed reply ≡ false → called c i l op reply ≡ called c i m op reply
+  pub same_called : (reply : Reply) → is_armed reply ≡ false → call_made c i l op reply ≡ call_made c i m op reply
   same_called (Armed code n cpu off) h = cc
   same_called (Wait n took off) h = waited c i l m op n took off
   same_called (NotArmed code) h = plain_called c i l op (NotArmed code) refl ∙ sym (plain_called c i m op (NotArmed code) refl)

@@ -1,15 +1,15 @@
--- What is there to be read in the books.
+-- What is there to be read in the ledger.
 use Rattle.std.proofs.Common.{ℕ, ◌<◌, ◌≤◌, length, get_or, arith}
 use Rattle.co_program.specs.declared.script.Script.{Script}
 use Rattle.co_program.specs.Actors.{actor_count}
 use Rattle.co_program.specs.Indexed.{IsCounted}
 use Rattle.co_world.specs.World.{World}
-use Rattle.co_core.specs.Written.{Written, place_at}
-use Rattle.co_core.specs.Stands.{IsWritten, untold}
+use Rattle.co_core.specs.Written.{Written, cursor_at}
+use Rattle.co_core.specs.Stands.{ShowsWritten, untold}
 use Rattle.co_core.proofs.tables.Values.{read, long}
 use Rattle.co_core.proofs.written.Counting.{own_by, entries_of, turns_of, scans_in, scans_few}
 
-module _ (s : Script) (x : Written) (w : World) (written : IsWritten s x w) where
+module _ (s : Script) (x : Written) (w : World) (written : ShowsWritten s x w) where
   pub history_there : (i : ℕ) → i < length s.timers → (i < length x.histories) × (get_or x.histories i 0 ≤ x.made)
   history_there i known =
       let l = long x.histories (length s.timers) (entries_of w) written.each_history in
@@ -42,5 +42,5 @@ module _ (s : Script) (x : Written) (w : World) (written : IsWritten s x w) wher
   pub list_there : (a : ℕ) → a < actor_count s → a < length x.lists
   list_there a known = let l = long x.lists (actor_count s) (untold x w) written.each_list in omega arith
 
-  pub place_there : (a : ℕ) → a < actor_count s → (a < length x.places) × IsCounted (place_at x a) x.made
-  place_there a known = let l = written.places_long in let counts = written.counted a known in (omega arith, counts)
+  pub place_there : (a : ℕ) → a < actor_count s → (a < length x.cursors) × IsCounted (cursor_at x a) x.made
+  place_there a known = let l = written.cursors_long in let counts = written.counted a known in (omega arith, counts)

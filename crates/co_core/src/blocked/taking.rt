@@ -1,30 +1,30 @@
-//! Which lock an actor takes next, by its place.
+//! Which lock an actor takes next, by its cursor.
 ghost use Rattle.std.specs.Prelude.{◌≡◌, Some, slice_get};
 ghost use Rattle.std.specs.Option.{option_and_then};
 ghost use Rattle.co_lock.specs.declared.held.Held.{Held as HeldOf};
 ghost use Rattle.co_lock.specs.Service.{hold_of};
 ghost use Rattle.co_program.specs.Action.{Take, action_for};
 ghost use Rattle.co_program.specs.Actors.{acts_at};
-ghost use Rattle.co_program.specs.Cursor.{Cursor as PlaceOf};
+ghost use Rattle.co_program.specs.Cursor.{Cursor as CursorOf};
 ghost use Rattle.co_program.specs.Indexed.{cursor_of};
-ghost use Rattle.co_core.specs.Taking.{lock_of};
+ghost use Rattle.co_core.specs.Taking.{lock_taken_by};
 
 use co_lock::{Held, hold_of};
 use co_program::{Act, Cursor, Script, Stage};
 
 /// The hold that the actor takes next, where that is all it does.
-pub(crate) fn takes_next(script: &Script, actor: u32, place: &Cursor) -> Option<Held>
-    ensures { (held : HeldOf) → result ≡ Some held → (to : PlaceOf) × (action_for script.now actor (cursor_of script.now actor place.now) ≡ Take held to) }
+pub(crate) fn takes_next(script: &Script, actor: u32, cursor: &Cursor) -> Option<Held>
+    ensures { (held : HeldOf) → result ≡ Some held → (to : CursorOf) × (action_for script.now actor (cursor_of script.now actor cursor.now) ≡ Take held to) }
 {
-    if place.parcel.is_some() {
+    if cursor.parcel.is_some() {
         return None;
     }
-    match &place.stage {
+    match &cursor.stage {
         Stage::Ready => {
-            if place.hold.is_some() {
+            if cursor.hold.is_some() {
                 None
             } else {
-                client_lock(script, actor, place.task)
+                client_lock(script, actor, cursor.task)
             }
         }
         Stage::Locking(service) => service_lock(script, service.i),
@@ -34,7 +34,7 @@ pub(crate) fn takes_next(script: &Script, actor: u32, place: &Cursor) -> Option<
 
 /// What the act of a client takes, counted from 0.
 fn client_lock(script: &Script, client: u32, index: u32) -> Option<Held>
-    ensures { result ≡ option_and_then lock_of (slice_get (acts_at script.now.clients client) index) }
+    ensures { result ≡ option_and_then lock_taken_by (slice_get (acts_at script.now.clients client) index) }
 {
     match script.clients.as_slice().get(client as usize) {
         Some(acts) => match acts.as_slice().get(index as usize) {
@@ -46,7 +46,7 @@ fn client_lock(script: &Script, client: u32, index: u32) -> Option<Held>
 }
 
 fn lock_of(act: &Act) -> Option<Held>
-    ensures { result ≡ lock_of act.now }
+    ensures { result ≡ lock_taken_by act.now }
 {
     match *act {
         Act::Lock(id) => Some(Held {

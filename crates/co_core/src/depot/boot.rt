@@ -3,7 +3,7 @@ ghost use Rattle.std.specs.Prelude.{◌≡◌, ◌<◌, ◌++◌, ◌∷◌, [],
 ghost use Rattle.co_program.specs.Actors.{actor_count};
 ghost use Rattle.co_program.specs.Scripts.{IsScript};
 ghost use Rattle.co_core.specs.Booted.{MayBoot, first_wheel};
-ghost use Rattle.co_core.specs.Stands.{IsStored};
+ghost use Rattle.co_core.specs.Stands.{ShowsStored};
 ghost use Rattle.co_core.specs.Table.{table};
 ghost use Rattle.co_world.specs.World.{open_world};
 
@@ -84,7 +84,7 @@ impl Depot {
     /// The depot before the first step: every record is at CPU 0.
     pub(crate) fn boot(alloc: Global, script: &Script) -> Result<Depot, NoMemory>
         requires { IsScript script.now }
-        ensures { IfOk result (λ depot. IsStored script.now depot (open_world script.now)) }
+        ensures { IfOk result (λ depot. ShowsStored script.now depot (open_world script.now)) }
     {
         let direct = Spec::directs(alloc, script.timers.as_slice())?;
         let wheels = first_wheels(alloc, script, direct.as_slice())?;

@@ -4,12 +4,12 @@ ghost use Rattle.co_object.specs.declared.op.Op.{Op};
 ghost use Rattle.co_program.specs.Action.{Asks};
 ghost use Rattle.co_program.specs.Indexed.{ActionCounts, action_of};
 ghost use Rattle.co_core.specs.Acting.{HasActed, HasStepped, MayAct, MayStep};
-ghost use Rattle.co_core.specs.Written.{place_at};
+ghost use Rattle.co_core.specs.Written.{cursor_at};
 
 use super::Engine;
-use crate::books::Hand;
+use crate::ledger::Hand;
 use co_object::{Op, QOp, RunOp};
-use co_program::{Action, Asked, Parcel, Script};
+use co_program::{Action, Asked, PendingInsert, Script};
 use co_sbt::NoMemory;
 
 impl Engine {
@@ -22,9 +22,9 @@ impl Engine {
         actor: u32,
         action: &Action,
     ) -> Result<u32, NoMemory>
-        requires may { MayStep script.now self.old actor (action_of script.now actor (place_at self.old.books actor) action.now) }
-        requires counted { ActionCounts (place_at self.old.books actor) action.now }
-        ensures ok { IfOk result (λ count. HasStepped script.now actor (action_of script.now actor (place_at self.old.books actor) action.now) count self.old self.new) }
+        requires may { MayStep script.now self.old actor (action_of script.now actor (cursor_at self.old.ledger actor) action.now) }
+        requires counted { ActionCounts (cursor_at self.old.ledger actor) action.now }
+        ensures ok { IfOk result (λ count. HasStepped script.now actor (action_of script.now actor (cursor_at self.old.ledger actor) action.now) count self.old self.new) }
         ensures err { OnErr result (self.new ≡ self.old) }
     {
         match action {
@@ -55,9 +55,9 @@ impl Engine {
         ensures ok { IfOk result (λ count. HasStepped script.now actor (Asks act asked.now) count self.old self.new) }
         ensures err { OnErr result (self.new ≡ self.old) }
     {
-        let mut hand = self.books.open(actor)?;
+        let mut hand = self.ledger.open(actor)?;
         let count = self.ask(script, &mut hand, act, asked);
-        self.books.close(hand);
+        self.ledger.close(hand);
         Ok(count)
     }
 
@@ -100,7 +100,7 @@ impl Engine {
     {
         match op {
             QOp::Insert { i, n, t } => {
-                let parcel = Parcel {
+                let parcel = PendingInsert {
                     act,
                     i: *i,
                     n: *n,

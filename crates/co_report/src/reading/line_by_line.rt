@@ -3,11 +3,11 @@ ghost use Rattle.std.specs.Prelude.{◌≡◌, ◌≤◌, ◌<◌, ◌∷◌, �
 ghost use Rattle.co_program.specs.Scripts.{IsScript};
 ghost use Rattle.co_text.specs.Fallible.{Gives, GivesOrNoMemory, LineGives};
 ghost use Rattle.co_text.specs.Lines.{lines_of, Line as TextLine};
-ghost use Rattle.co_report.specs.LineByLine.{before_all, line_at, standing, IsOpened, IsReading, IsLinePacked, IsLineRead, IsNext, IsNotePacked};
-ghost use Rattle.co_report.specs.NoteForms.{note_of};
+ghost use Rattle.co_report.specs.LineByLine.{before_all, line_at, standing, IsReportOpened, IsReading, IsLinePacked, IsLineRead, IsNextFound, IsNotePacked};
+ghost use Rattle.co_report.specs.NoteForms.{shown_note};
 ghost use Rattle.co_report.specs.NoteValues.{names_of};
 ghost use Rattle.co_report.specs.Reading.{halves_read, line_after, lines_report, report_read};
-ghost use Rattle.co_report.specs.ReadingViews.{halves_view, so_far, with_line, listed, AreAtMost, IsReady, IsSetting};
+ghost use Rattle.co_report.specs.ReadingViews.{halves_view, so_far, with_line, one_or_none, AreAtMost, IsReaderReady, IsSetting};
 
 use crate::line::Line;
 use crate::packed_lines::PackedLines;
@@ -51,7 +51,7 @@ impl<'a> Model for OpenReport<'a> {
 /// The report of a script's text and the text of its notes, where the script is read.
 fn open_halves<'a>(alloc: Global, halves: Halves<'a>) -> Result<OpenReport<'a>, ScriptFault>
     requires { AreAtMost 268435456 halves }
-    ensures opened { IsOpened (halves_read (halves_view halves.entry)) result }
+    ensures opened { IsReportOpened (halves_read (halves_view halves.entry)) result }
     ensures short { IfOk result (λ o. length o.text ≤ 268435456) }
 {
     let script = script_in_report(alloc, halves.script)?;
@@ -75,7 +75,7 @@ fn open_halves<'a>(alloc: Global, halves: Halves<'a>) -> Result<OpenReport<'a>, 
 /// The report of all lines, where its script is read.
 fn open_lines(alloc: Global, bytes: &[u8]) -> Result<OpenReport<'_>, ScriptFault>
     requires { length bytes.now ≤ 268435456 }
-    ensures opened { IsOpened (lines_report (lines_of bytes.now)) result }
+    ensures opened { IsReportOpened (lines_report (lines_of bytes.now)) result }
     ensures short { IfOk result (λ o. length o.text ≤ 268435456) }
 {
     none_cut(bytes)?;
@@ -90,7 +90,7 @@ fn open_lines(alloc: Global, bytes: &[u8]) -> Result<OpenReport<'_>, ScriptFault
 /// refused as `read_report` refuses it, for a line before its histories.
 #[tactic(auto, unfolding(crate::specs::Reading::report_read))]
 pub fn open_report(alloc: Global, bytes: &[u8]) -> Result<OpenReport<'_>, ScriptFault>
-    ensures opened { IsOpened (report_read bytes.now) result }
+    ensures opened { IsReportOpened (report_read bytes.now) result }
     ensures short { IfOk result (λ o. length o.text ≤ 268435456) }
 {
     if bytes.len() > 268_435_456 {
@@ -119,7 +119,7 @@ impl<'a> OpenReport<'a> {
     /// place; `Note` where it shows none.
     pub fn note_at(&self, at: usize, place: Place) -> Result<(u64, AnyEntry), Cause>
         requires { at ≤ length self.now.text }
-        ensures { Gives (λ x. record { number = x.0; entry = x.1 }) result (note_of (names_of self.now.script) (Some place) (line_at self.now.text at)) }
+        ensures { Gives (λ x. record { number = x.0; entry = x.1 }) result (shown_note (names_of self.now.script) (Some place) (line_at self.now.text at)) }
     {
         let line = first_line(self.text.split_at(at).1);
         let shown = note_of(&self.names, Some(place), line)?;
@@ -188,7 +188,7 @@ pub struct Reader<'a> {
 /// The line of a list that has one, or none.
 fn only_line(lines: &[Line]) -> Option<Line>
     requires { length lines.now ≤ 1 }
-    ensures { listed result ≡ lines.now }
+    ensures { one_or_none result ≡ lines.now }
 {
     match lines {
         [] => None,
@@ -205,10 +205,10 @@ fn take_note(
     line: &[u8],
 ) -> Result<Option<Line>, LineFault>
     requires setting { IsSetting setting.now }
-    requires spelled { IsReady setting.now progress.old }
+    requires spelled { IsReaderReady setting.now progress.old }
     requires none { progress.old.lines ≡ [] }
     ensures value { LineGives (with_line (so_far setting.now progress.new)) result (line_after setting.now.script.now number (so_far setting.now progress.old) line.now) }
-    ensures spelled { OnOk result (IsReady setting.now progress.new) }
+    ensures spelled { OnOk result (IsReaderReady setting.now progress.new) }
     ensures none { OnOk result (progress.new.lines ≡ []) }
 {
     progress.line(alloc, setting, number, line)?;
@@ -240,10 +240,10 @@ fn pack_note(
     lines: &mut PackedLines,
 ) -> Result<(), LineFault>
     requires setting { IsSetting setting.now }
-    requires spelled { IsReady setting.now progress.old }
+    requires spelled { IsReaderReady setting.now progress.old }
     requires none { progress.old.lines ≡ [] }
     ensures value { IsNotePacked lines.old (so_far setting.now progress.new) result (line_after setting.now.script.now number (so_far setting.now progress.old) line.now) lines.new }
-    ensures spelled { OnOk result (IsReady setting.now progress.new) }
+    ensures spelled { OnOk result (IsReaderReady setting.now progress.new) }
     ensures none { OnOk result (progress.new.lines ≡ []) }
 {
     progress.line(alloc, setting, number, line)?;
@@ -330,7 +330,7 @@ impl<'a> Reader<'a> {
     /// `read_report` refuses it. After an `Err` the reader is of no more use.
     pub fn next(&mut self, alloc: Global) -> Result<Next, ScriptFault>
         requires { IsReading self.old }
-        ensures { IsNext self.old result self.new }
+        ensures { IsNextFound self.old result self.new }
     {
         while let Some((line, _, after)) = next_line(self.rest) {
             if let Some(found) = self.read_line(alloc, line, after)? {

@@ -1,6 +1,6 @@
 //! What notes may name in a script.
 ghost use Rattle.std.specs.Prelude.{◌≡◌};
-ghost use Rattle.co_report.specs.NoteValues.{names_of, IsSmall, HasFewActors};
+ghost use Rattle.co_report.specs.NoteValues.{names_of, IsSmallScript, HasFewActors};
 
 use co_program::Script;
 
@@ -21,7 +21,7 @@ pub struct Names {
 
 /// What notes may name in a script.
 pub fn names_of(script: &Script) -> Names
-    requires { IsSmall script.now }
+    requires { IsSmallScript script.now }
     ensures value { result ≡ names_of script.now }
     ensures few { HasFewActors result }
 {

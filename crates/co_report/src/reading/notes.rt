@@ -1,7 +1,7 @@
 //! The note that a line shows.
 ghost use Rattle.co_text.specs.Fallible.{Gives};
 ghost use Rattle.co_report.specs.NoteValues.{HasFewActors, maker, maker_is};
-ghost use Rattle.co_report.specs.NoteForms.{call_form, journal_form, head_form, timer_form, wheel_form, own_form, note_form, whole, note_of, seen};
+ghost use Rattle.co_report.specs.NoteForms.{call_form, journal_form, head_form, timer_form, wheel_form, own_form, note_form, whole, shown_note};
 ghost use Rattle.co_report.specs.Parts.{parts};
 
 use crate::reading::names::Names;
@@ -15,7 +15,7 @@ use co_text::Cause;
 
 /// What a note line says.
 #[derive(Clone, Copy)]
-pub struct Shown {
+pub struct NumberedEntry {
     /// The note's number in its actor's list, from 0.
     pub number: u64,
     /// Its entry.
@@ -67,9 +67,9 @@ fn own_head(names: &Names, actor: u32, parts: &mut Parts) -> Result<(u64, Maker)
     Ok((number, maker))
 }
 
-fn timer_note(names: &Names, parts: &mut Parts) -> Result<Shown, Cause>
+fn timer_note(names: &Names, parts: &mut Parts) -> Result<NumberedEntry, Cause>
     requires { HasFewActors names.now }
-    ensures { Gives (λ x. (seen x, parts.new)) result (timer_form names.now parts.old) }
+    ensures { Gives (λ x. (x, parts.new)) result (timer_form names.now parts.old) }
 {
     let (number, maker) = head(names, parts)?;
     let (op, reply) = call(names, parts)?;
@@ -79,15 +79,15 @@ fn timer_note(names: &Names, parts: &mut Parts) -> Result<Shown, Cause>
         op,
         reply,
     };
-    Ok(Shown {
+    Ok(NumberedEntry {
         number,
         entry: AnyEntry::Timer(entry),
     })
 }
 
-fn wheel_note(names: &Names, parts: &mut Parts) -> Result<Shown, Cause>
+fn wheel_note(names: &Names, parts: &mut Parts) -> Result<NumberedEntry, Cause>
     requires { HasFewActors names.now }
-    ensures { Gives (λ x. (seen x, parts.new)) result (wheel_form names.now parts.old) }
+    ensures { Gives (λ x. (x, parts.new)) result (wheel_form names.now parts.old) }
 {
     let (number, maker) = head(names, parts)?;
     let (op, reply) = journal(names, parts)?;
@@ -97,15 +97,15 @@ fn wheel_note(names: &Names, parts: &mut Parts) -> Result<Shown, Cause>
         op,
         reply,
     };
-    Ok(Shown {
+    Ok(NumberedEntry {
         number,
         entry: AnyEntry::Cpu(entry),
     })
 }
 
-fn own_note(names: &Names, actor: u32, parts: &mut Parts) -> Result<Shown, Cause>
+fn own_note(names: &Names, actor: u32, parts: &mut Parts) -> Result<NumberedEntry, Cause>
     requires { HasFewActors names.now }
-    ensures { Gives (λ x. (seen x, parts.new)) result (own_form names.now actor parts.old) }
+    ensures { Gives (λ x. (x, parts.new)) result (own_form names.now actor parts.old) }
 {
     let (number, maker) = own_head(names, actor, parts)?;
     let kind = own_kind(parts)?;
@@ -114,16 +114,16 @@ fn own_note(names: &Names, actor: u32, parts: &mut Parts) -> Result<Shown, Cause
         act: maker.act,
         kind,
     };
-    Ok(Shown {
+    Ok(NumberedEntry {
         number,
         entry: AnyEntry::Own(entry),
     })
 }
 
 /// A note of a place.
-fn note(names: &Names, place: Place, parts: &mut Parts) -> Result<Shown, Cause>
+fn note(names: &Names, place: Place, parts: &mut Parts) -> Result<NumberedEntry, Cause>
     requires { HasFewActors names.now }
-    ensures { Gives (λ x. (seen x, parts.new)) result (note_form names.now place parts.old) }
+    ensures { Gives (λ x. (x, parts.new)) result (note_form names.now place parts.old) }
 {
     match place {
         Place::Timer(_) => timer_note(names, parts),
@@ -133,9 +133,9 @@ fn note(names: &Names, place: Place, parts: &mut Parts) -> Result<Shown, Cause>
 }
 
 /// A note of a place, with nothing behind it.
-fn whole_note(names: &Names, place: Place, line: &[u8]) -> Result<Shown, Cause>
+fn whole_note(names: &Names, place: Place, line: &[u8]) -> Result<NumberedEntry, Cause>
     requires { HasFewActors names.now }
-    ensures { Gives seen result (whole (note_form names.now place) (parts line.now)) }
+    ensures { Gives (λ x. x) result (whole (note_form names.now place) (parts line.now)) }
 {
     let mut parts = Parts::new(line);
     let shown = note(names, place, &mut parts)?;
@@ -144,9 +144,9 @@ fn whole_note(names: &Names, place: Place, line: &[u8]) -> Result<Shown, Cause>
 }
 
 /// The note that a line shows, where a place is open; else `Note`.
-pub fn note_of(names: &Names, place: Option<Place>, line: &[u8]) -> Result<Shown, Cause>
+pub fn note_of(names: &Names, place: Option<Place>, line: &[u8]) -> Result<NumberedEntry, Cause>
     requires { HasFewActors names.now }
-    ensures { Gives seen result (note_of names.now place line.now) }
+    ensures { Gives (λ x. x) result (shown_note names.now place line.now) }
 {
     let Some(place) = place else {
         return Err(Cause::Note);

@@ -2,8 +2,8 @@
 ghost use Rattle.std.specs.Prelude.{◌≡◌, ◌+◌, ◌^◌, ◌<◌, length, drop, OnOk, IfOk};
 ghost use Rattle.co_text.specs.Fallible.{LineGives, GivesOrNoMemory};
 ghost use Rattle.co_text.specs.Lines.{lines_of};
-ghost use Rattle.co_report.specs.Reading.{closed_by, note_read, goes_on, line_after, histories_read, opening};
-ghost use Rattle.co_report.specs.ReadingViews.{so_far, IsReady, IsSetting};
+ghost use Rattle.co_report.specs.Reading.{closed_by, note_read, reads_on, line_after, histories_read, first_progress};
+ghost use Rattle.co_report.specs.ReadingViews.{so_far, IsReaderReady, IsSetting};
 
 use crate::line::Line;
 use crate::reading::names::Names;
@@ -44,7 +44,7 @@ pub struct Setting<'a> {
 
 /// A line may follow: the line `end` has not come.
 fn goes_on(end: Option<u64>) -> bool
-    ensures { result ≡ goes_on end }
+    ensures { result ≡ reads_on end }
 {
     match end {
         Some(_) => false,
@@ -56,8 +56,8 @@ impl Progress {
     /// No place has begun.
     pub fn opening(alloc: Global, setting: &Setting) -> Result<Progress, NoMemory>
         requires { IsSetting setting.now }
-        ensures value { IfOk result (λ d. so_far setting.now d ≡ opening setting.now.script.now) }
-        ensures spelled { IfOk result (λ d. IsReady setting.now d) }
+        ensures value { IfOk result (λ d. so_far setting.now d ≡ first_progress setting.now.script.now) }
+        ensures spelled { IfOk result (λ d. IsReaderReady setting.now d) }
     {
         let first = closing(alloc, setting.script, setting.places, 0)?;
         Ok(Progress {
@@ -71,9 +71,9 @@ impl Progress {
 
     /// The open place has no more notes: the next one begins, or the histories end with line `number`.
     fn close(&mut self, alloc: Global, setting: &Setting, number: u64) -> Result<(), NoMemory>
-        requires { IsReady setting.now self.old }
+        requires { IsReaderReady setting.now self.old }
         ensures value { OnOk result (so_far setting.now self.new ≡ closed_by number (so_far setting.now self.old) (drop self.old.next setting.now.places.now)) }
-        ensures spelled { OnOk result (IsReady setting.now self.new) }
+        ensures spelled { OnOk result (IsReaderReady setting.now self.new) }
     {
         match setting.places.split_at(self.next).1 {
             [] => {
@@ -92,9 +92,9 @@ impl Progress {
     /// Line `number` shows a note of the open place.
     fn note(&mut self, setting: &Setting, number: u64, line: &[u8]) -> Result<(), LineFault>
         requires setting { IsSetting setting.now }
-        requires spelled { IsReady setting.now self.old }
+        requires spelled { IsReaderReady setting.now self.old }
         ensures value { LineGives (λ _. so_far setting.now self.new) result (note_read setting.now.script.now number (so_far setting.now self.old) line.now) }
-        ensures spelled { OnOk result (IsReady setting.now self.new) }
+        ensures spelled { OnOk result (IsReaderReady setting.now self.new) }
     {
         let shown = note_of(&setting.names, self.current, line)?;
         if let Some(place) = self.current {
@@ -117,9 +117,9 @@ impl Progress {
         line: &[u8],
     ) -> Result<(), LineFault>
         requires setting { IsSetting setting.now }
-        requires spelled { IsReady setting.now self.old }
+        requires spelled { IsReaderReady setting.now self.old }
         ensures value { LineGives (λ _. so_far setting.now self.new) result (line_after setting.now.script.now number (so_far setting.now self.old) line.now) }
-        ensures spelled { OnOk result (IsReady setting.now self.new) }
+        ensures spelled { OnOk result (IsReaderReady setting.now self.new) }
     {
         if !goes_on(self.end) {
             return Err(LineFault::Bad(Cause::Note));
@@ -142,7 +142,7 @@ pub fn histories_read(
 ) -> Result<(Progress, u64), ScriptFault>
     requires setting { IsSetting setting.now }
     requires few { first + length text.now < 2 ^ 32 }
-    ensures value { GivesOrNoMemory (λ x. so_far setting.now x.0) result (histories_read setting.now.script.now first (opening setting.now.script.now) (lines_of text.now)) }
+    ensures value { GivesOrNoMemory (λ x. so_far setting.now x.0) result (histories_read setting.now.script.now first (first_progress setting.now.script.now) (lines_of text.now)) }
     ensures last { IfOk result (λ x. x.1 ≡ first + length (lines_of text.now)) }
 {
     let mut progress = match Progress::opening(alloc, setting) {

@@ -5,7 +5,7 @@ ghost use Rattle.std.specs.List.{position_or_len};
 ghost use Rattle.co_text.specs.Fallible.{Gives};
 ghost use Rattle.co_text.specs.Values.{behind};
 ghost use Rattle.co_text.specs.Taking.{next};
-ghost use Rattle.co_report.specs.NoteValues.{below, lettered, count64, count32, time_in_units, arming, given, callout_of, func_of, cpu_in, or_dash, truth, actor_in, is_slash, maker, maker_is, own_kind, HasFewActors};
+ghost use Rattle.co_report.specs.NoteValues.{below, lettered, count64, count32, time_in_units, arming, given, callout_value, func_of, cpu_in, or_dash, truth, actor_in, is_slash, maker, maker_is, own_kind, HasFewActors};
 ghost use Rattle.co_report.specs.NoteForms.{literal};
 ghost use Rattle.co_report.specs.Parts.{is_space};
 ghost use Rattle.co_report.specs.Plain.{is_actor_letter};
@@ -345,7 +345,7 @@ pub fn argument(parts: &mut Parts) -> Result<u64, Cause>
 
 /// `iN`, a callout of the script.
 pub fn callout(names: &Names, parts: &mut Parts) -> Result<u32, Cause>
-    ensures { Gives (λ x. (x, parts.new)) result (next (callout_of names.now) parts.old) }
+    ensures { Gives (λ x. (x, parts.new)) result (next (callout_value names.now) parts.old) }
 {
     next_lettered32(b'i', names.timers, parts)
 }

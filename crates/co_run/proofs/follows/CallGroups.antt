@@ -23,7 +23,7 @@ use Rattle.co_object.specs.History.{state, next, May, IsLegal}
 use Rattle.co_object.specs.Callout.{call, opening}
 use Rattle.co_object.proofs.Histories.{legal-last}
 use Rattle.co_program.specs.declared.Script.{Script}
-use Rattle.co_program.specs.declared.Parcel.{Parcel}
+use Rattle.co_program.specs.declared.PendingInsert.{PendingInsert}
 use Rattle.co_program.specs.Cursor.{Cursor}
 use Rattle.co_program.specs.Action.{Asks, action_for, action_with, spec_at, scans_first, scans_with}
 use Rattle.co_program.specs.Actors.{role_of}
@@ -41,12 +41,12 @@ use Rattle.co_service.specs.Writes.{WritesAt, Writes}
 use Rattle.co_service.proofs.CallGroup.{entry_of, head, armed_group, unarmed_group}
 use Rattle.co_service.proofs.Items.{index_set}
 use Rattle.co_service.proofs.WholeCall.{writes_keep}
-use Rattle.co_run.specs.Going.{GoesOn}
+use Rattle.co_run.specs.Going.{SeenBegins}
 use Rattle.co_run.specs.Noted.{gone_on, are_some}
 use Rattle.co_run.proofs.follows.ArmedReplies.{IsArmed, is_armed as arming_of, asked_call}
 use Rattle.co_run.proofs.follows.EachAnswer.{entry_step, turn_step, some-is, begins-length, longer}
 use Rattle.co_run.proofs.follows.GoesBack.{goes_back}
-use Rattle.co_run.proofs.follows.InHistories.{at_place, turn_of, turn_note, remove_leads}
+use Rattle.co_run.proofs.follows.InHistories.{at_cursor, turn_of, turn_note, remove_leads}
 use Rattle.co_run.proofs.follows.Listed.{advance_alike, sends}
 
 -- ---- what a callout's entry tells
@@ -141,9 +141,9 @@ cons_none x xs h = cc
 
 module _ (s : Script) (a : ℕ) (H : Histories) where
   -- the Remove
-  remove_step : (p q : PassesView) (c : Cursor) (notes : List Note) (act i cpu : ℕ) (op : CallOp) (note : Note) → Trace s H a (at_place s a H c notes) →
-      action_for s a c ≡ Asks act (Callout i (Call op)) → c.removed ≡ None → placed note ≡ (place.Cpu cpu, entry.Cpu (turn_of s a H act (Remove i) Off)) → WritesAt p note.place note.entry note.pos q → GoesOn H q →
-      Trace s H a (at_place s a H (record c { removed = Some cpu }) (notes ++ note ∷ []))
+  remove_step : (p q : PassesView) (c : Cursor) (notes : List Note) (act i cpu : ℕ) (op : CallOp) (note : Note) → Trace s H a (at_cursor s a H c notes) →
+      action_for s a c ≡ Asks act (Callout i (Call op)) → c.removed ≡ None → placed note ≡ (place.Cpu cpu, entry.Cpu (turn_of s a H act (Remove i) Off)) → WritesAt p note.place note.entry note.pos q → SeenBegins H q →
+      Trace s H a (at_cursor s a H (record c { removed = Some cpu }) (notes ++ note ∷ []))
   remove_step p q c notes act i cpu op note trace is none at writes goes =
       let e : QEntry = turn_of s a H act (Remove i) Off in
       let w = subst (λ (x : Placed). WritesAt p x.0 x.1 note.pos q) at writes in
@@ -156,11 +156,11 @@ module _ (s : Script) (a : ℕ) (H : Histories) where
       let pos : note.pos ≡ length before = (w.1.adds.place (length before) (sym (ap length shape ∙ more))).0 low in
       let leads = remove_leads s a H c notes act i cpu op before note.pos trace is none (sym pos) in
       let same : turn_note s a H act cpu (Remove i) Off note.pos ≡ note = λ d. record { place = sym (ap (λ (x : Placed). x.0) at) d; pos = note.pos; entry = sym (ap (λ (x : Placed). x.1) at) d } in
-      subst (λ (n : Note). Trace s H a (at_place s a H (record c { removed = Some cpu }) (notes ++ n ∷ []))) same leads
+      subst (λ (n : Note). Trace s H a (at_cursor s a H (record c { removed = Some cpu }) (notes ++ n ∷ []))) same leads
 
   -- the entry, and the Insert where there is one
-  module _ (p q : PassesView) (c : Cursor) (notes : List Note) (act i : ℕ) (op : CallOp) (reply : Reply) (time : ℕ) (trace : Trace s H a (at_place s a H c notes))
-      (is : action_for s a c ≡ Asks act (Callout i (Call op))) (removed : off_of reply ≡ c.removed) (spec : spec_in p.params i ≡ spec_at s i) (goes : GoesOn H q) where
+  module _ (p q : PassesView) (c : Cursor) (notes : List Note) (act i : ℕ) (op : CallOp) (reply : Reply) (time : ℕ) (trace : Trace s H a (at_cursor s a H c notes))
+      (is : action_for s a c ≡ Asks act (Callout i (Call op))) (removed : off_of reply ≡ c.removed) (spec : spec_in p.params i ≡ spec_at s i) (goes : SeenBegins H q) where
     abbrev e : Entry
     e = entry_of a act (Call op) reply
 
@@ -168,45 +168,45 @@ module _ (s : Script) (a : ℕ) (H : Histories) where
     t = state (spec_at s i) (seen_of q i)
 
     -- the place after the entry's note
-    after_entry : (between : PassesView) (note : Note) → seen_of q i ≡ seen_of between i → GoesOn H between → placed note ≡ (place.Timer i, entry.Timer e) → WritesAt p note.place note.entry note.pos between →
-        Trace s H a (at_place s a H (advance s c (is_some (off t)) note.place note.entry) (notes ++ note ∷ []))
+    after_entry : (between : PassesView) (note : Note) → seen_of q i ≡ seen_of between i → SeenBegins H between → placed note ≡ (place.Timer i, entry.Timer e) → WritesAt p note.place note.entry note.pos between →
+        Trace s H a (at_cursor s a H (advance s c (is_some (off t)) note.place note.entry) (notes ++ note ∷ []))
     after_entry between note same on at writes =
-        subst (λ (l : List Entry). Trace s H a (at_place s a H (advance s c (is_some (off (state (spec_at s i) l))) note.place note.entry) (notes ++ note ∷ []))) (sym same)
+        subst (λ (l : List Entry). Trace s H a (at_cursor s a H (advance s c (is_some (off (state (spec_at s i) l))) note.place note.entry) (notes ++ note ∷ []))) (sym same)
         (entry_step s a H p between c notes act i op reply note trace is removed spec at writes (on.timers i) (on.few i))
 
     -- an entry that is the last
     alone : (note : Note) → placed note ≡ (place.Timer i, entry.Timer e) → WritesAt p note.place note.entry note.pos q → (is_armed reply ≡ false) ⊎ (is_some (off t) ≡ false) →
-        Trace s H a (at_place s a H (gone_on s c (note ∷ [])) (notes ++ note ∷ []))
+        Trace s H a (at_cursor s a H (gone_on s c (note ∷ [])) (notes ++ note ∷ []))
     alone note at writes (inr unlisted) =
-        subst (λ (b : Bool). Trace s H a (at_place s a H (advance s c b note.place note.entry) (notes ++ note ∷ []))) unlisted (after_entry q note refl goes at writes)
+        subst (λ (b : Bool). Trace s H a (at_cursor s a H (advance s c b note.place note.entry) (notes ++ note ∷ []))) unlisted (after_entry q note refl goes at writes)
     alone note at writes (inl unarmed) =
         let alike : (x : Placed) → x ≡ (place.Timer i, entry.Timer e) → advance s c (is_some (off t)) x.0 x.1 ≡ advance s c false x.0 x.1 =
         (λ x x_is. subst (λ (y : Placed). advance s c (is_some (off t)) y.0 y.1 ≡ advance s c false y.0 y.1) (sym x_is) (advance_alike s c (is_some (off t)) false i e unarmed)) in
-        subst (λ (k : Cursor). Trace s H a (at_place s a H k (notes ++ note ∷ []))) (alike (placed note) at) (after_entry q note refl goes at writes)
+        subst (λ (k : Cursor). Trace s H a (at_cursor s a H k (notes ++ note ∷ []))) (alike (placed note) at) (after_entry q note refl goes at writes)
 
     -- an entry with its Insert
     with_insert : (note more : Note) (between : PassesView) (n cpu : ℕ) (code : ℤ) (o : Option ℕ) → reply ≡ Armed code n cpu o → is_some (off t) ≡ true → act ≡ c.act →
         placed note ≡ (place.Timer i, entry.Timer e) → placed more ≡ (place.Cpu cpu, entry.Cpu (turn_of s a H act (Insert i n (due_of_call (Call op))) (At time))) →
         WritesAt p note.place note.entry note.pos between → WritesAt between more.place more.entry more.pos q →
-        Trace s H a (at_place s a H (gone_on s c (note ∷ more ∷ [])) (notes ++ note ∷ more ∷ []))
+        Trace s H a (at_cursor s a H (gone_on s c (note ∷ more ∷ [])) (notes ++ note ∷ more ∷ []))
     with_insert note more between n cpu code o armed listed act_is at more_at first last =
         let after : Cursor = advance s c true note.place note.entry in
-        let parcel : Parcel = record { act = c.act; i = i; n = n; due = due_of_call (Call op); cpu = cpu } in
+        let parcel : PendingInsert = record { act = c.act; i = i; n = n; due = due_of_call (Call op); cpu = cpu } in
         let sent : after.parcel ≡ Some parcel = subst (λ (x : Placed). (advance s c true x.0 x.1).parcel ≡ Some parcel) (sym at) (sends s a c act i op e code n cpu o is armed) in
-        let on : GoesOn H between = goes_back H between q (more ∷ []) (q, last, refl) goes in
+        let on : SeenBegins H between = goes_back H between q (more ∷ []) (q, last, refl) goes in
         let kept : seen_of q i ≡ seen_of between i = apart (placed more) cpu (turn_of s a H act (Insert i n (due_of_call (Call op))) (At time)) more_at last in
-        let here : Trace s H a (at_place s a H after (notes ++ note ∷ [])) =
-        subst (λ (b : Bool). Trace s H a (at_place s a H (advance s c b note.place note.entry) (notes ++ note ∷ []))) listed (after_entry between note kept on at first) in
+        let here : Trace s H a (at_cursor s a H after (notes ++ note ∷ [])) =
+        subst (λ (b : Bool). Trace s H a (at_cursor s a H (advance s c b note.place note.entry) (notes ++ note ∷ []))) listed (after_entry between note kept on at first) in
         let due : action_for s a after ≡ Asks act (Queue cpu (Insert i n (due_of_call (Call op)))) =
         ap (action_with s (role_of s a) after) sent ∙ ap (λ (x : ℕ). Asks x (Queue cpu (Insert i n (due_of_call (Call op))))) (sym act_is) in
         let none : scans_first after ≡ 0 = ap (scans_with after) sent in
         let landed = turn_step s a H between q after (notes ++ note ∷ []) act cpu (Insert i n (due_of_call (Call op))) (At time) more here due (λ before h. omega (arith, none)) more_at last (goes.cpus cpu) (goes.few_cpus cpu) in
-        subst (λ (l : List Note). Trace s H a (at_place s a H (gone_on s c (note ∷ more ∷ [])) l)) (one notes note more) landed where
+        subst (λ (l : List Note). Trace s H a (at_cursor s a H (gone_on s c (note ∷ more ∷ [])) l)) (one notes note more) landed where
           apart : (x : Placed) (cpu : ℕ) (y : QEntry) → x ≡ (place.Cpu cpu, entry.Cpu y) → WritesAt between x.0 x.1 more.pos q → seen_of q i ≡ seen_of between i
           apart x cpu y x_is w = let w' = subst (λ (z : Placed). WritesAt between z.0 z.1 more.pos q) x_is w in ap (λ (v : PassesView). seen_of v i) w'.1.passes
 
     from_entry : (ns : List Note) (rest : List Placed) → map placed ns ≡ (place.Timer i, entry.Timer e) ∷ rest → Follows a act i op reply t time rest → act ≡ c.act → Writes p ns q →
-        Trace s H a (at_place s a H (gone_on s c ns) (notes ++ ns))
+        Trace s H a (at_cursor s a H (gone_on s c ns) (notes ++ ns))
     from_entry [] rest shape follows act_is writes = cc
     from_entry (note ∷ []) rest shape (inl f) act_is writes = alone note (first_is shape) (subst (WritesAt p note.place note.entry note.pos) (sym writes.2) writes.1) f.1
     from_entry (note ∷ more ∷ ns) rest shape (inl f) act_is writes = absurd (cons_none (placed more) (map placed ns) (rest_is shape ∙ f.0))
@@ -307,10 +307,10 @@ call_parts s p q ns a act i op reply own spec made =
     record { time = made.time; rest = parts.rest; whole = shape_of s p q ns a act i op reply own spec made ∙ parts.whole; one = parts.one }
 
 module _ (s : Script) (a : ℕ) (H : Histories) where
-  group_at : (o : Option ℕ) (p q : PassesView) (c : Cursor) (notes ns : List Note) (act i : ℕ) (op : CallOp) (reply : Reply) (time : ℕ) (rest : List Placed) → Trace s H a (at_place s a H c notes) →
-      action_for s a c ≡ Asks act (Callout i (Call op)) → c.removed ≡ None → spec_in p.params i ≡ spec_at s i → GoesOn H q → off_of reply ≡ o →
+  group_at : (o : Option ℕ) (p q : PassesView) (c : Cursor) (notes ns : List Note) (act i : ℕ) (op : CallOp) (reply : Reply) (time : ℕ) (rest : List Placed) → Trace s H a (at_cursor s a H c notes) →
+      action_for s a c ≡ Asks act (Callout i (Call op)) → c.removed ≡ None → spec_in p.params i ≡ spec_at s i → SeenBegins H q → off_of reply ≡ o →
       map placed ns ≡ (removal_notes i (entry_of a act (Call op) reply) o ++ (place.Timer i, entry.Timer (entry_of a act (Call op) reply)) ∷ []) ++ rest →
-      Follows a act i op reply (state (spec_at s i) (seen_of q i)) time rest → Writes p ns q → Trace s H a (at_place s a H (gone_on s c ns) (notes ++ ns))
+      Follows a act i op reply (state (spec_at s i) (seen_of q i)) time rest → Writes p ns q → Trace s H a (at_cursor s a H (gone_on s c ns) (notes ++ ns))
   group_at None p q c notes ns act i op reply time rest trace is none spec goes off_is shape follows writes =
       from_entry s a H p q c notes act i op reply time trace is (off_is ∙ sym none) spec goes ns rest shape follows (asked_call s a c act i op is).0 writes
   group_at (Some cpu) p q c notes [] act i op reply time rest trace is none spec goes off_is shape follows writes = cc
@@ -320,16 +320,16 @@ module _ (s : Script) (a : ℕ) (H : Histories) where
       let c' : Cursor = record c { removed = Some cpu } in
       let at : placed note ≡ (place.Cpu cpu, entry.Cpu (turn_of s a H act (Remove i) Off)) = first_is shape in
       let removed = remove_step s a H p between c notes act i cpu op note trace is none at writes.1 (goes_back H between q ns writes.2 goes) in
-      let whole : Trace s H a (at_place s a H (gone_on s c' ns) ((notes ++ note ∷ []) ++ ns)) =
+      let whole : Trace s H a (at_cursor s a H (gone_on s c' ns) ((notes ++ note ∷ []) ++ ns)) =
       from_entry s a H between q c' (notes ++ note ∷ []) act i op reply time removed (due_removed s a c (Some cpu) act (Callout i (Call op)) is) off_is (ap (λ (r : Params). spec_in r i) kept ∙ spec) goes
       ns rest (rest_is shape) follows (asked_call s a c act i op is).0 writes.2 in
       let moved : c' ≡ advance s c (are_some ns) note.place note.entry = subst (λ (x : Placed). c' ≡ advance s c (are_some ns) x.0 x.1) (sym at) refl in
-      subst (λ (k : Cursor). Trace s H a (at_place s a H (gone_on s k ns) (notes ++ note ∷ ns))) moved
-      (subst (λ (l : List Note). Trace s H a (at_place s a H (gone_on s c' ns) l)) (append_assoc notes (note ∷ []) ns) whole)
+      subst (λ (k : Cursor). Trace s H a (at_cursor s a H (gone_on s k ns) (notes ++ note ∷ ns))) moved
+      (subst (λ (l : List Note). Trace s H a (at_cursor s a H (gone_on s c' ns) l)) (append_assoc notes (note ∷ []) ns) whole)
 
   pub call_leads : (p q : PassesView) (c : Cursor) (notes ns : List Note) (act i : ℕ) (op : CallOp) (reply : Reply) → p.actor ≡ a → spec_in p.params i ≡ spec_at s i →
-      action_for s a c ≡ Asks act (Callout i (Call op)) → c.removed ≡ None → IsCalled p act i op reply ns q → Trace s H a (at_place s a H c notes) → GoesOn H q →
-      Trace s H a (at_place s a H (gone_on s c ns) (notes ++ ns))
+      action_for s a c ≡ Asks act (Callout i (Call op)) → c.removed ≡ None → IsCalled p act i op reply ns q → Trace s H a (at_cursor s a H c notes) → SeenBegins H q →
+      Trace s H a (at_cursor s a H (gone_on s c ns) (notes ++ ns))
   call_leads p q c notes ns act i op reply own spec is none made trace goes =
       let t : State = state (spec_at s i) (seen_of q i) in
       let shape : map placed ns ≡ group i (entry_of a act (Call op) reply) t made.time = shape_of s p q ns a act i op reply own spec made in

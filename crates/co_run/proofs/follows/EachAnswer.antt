@@ -32,7 +32,7 @@ use Rattle.co_service.specs.Params.{actors_of, spec_at as spec_in}
 use Rattle.co_service.specs.Views.{PassesView, seen_of, journal_seen}
 use Rattle.co_service.specs.Writes.{WritesAt}
 use Rattle.co_service.proofs.Items.{index_set}
-use Rattle.co_run.proofs.follows.InHistories.{at_place, call_of, call_note, turn_of, turn_note, entry_leads, turn_leads}
+use Rattle.co_run.proofs.follows.InHistories.{at_cursor, call_of, call_note, turn_of, turn_note, entry_leads, turn_leads}
 
 pub begins-length : {X : Type 0} (xs ys : List X) → Begins xs ys → length xs ≤ length ys
 begins-length [] ys h = omega arith
@@ -48,10 +48,10 @@ some-is x y h = cc
 module _ (s : Script) (a : ℕ) (H : Histories) where
   -- the entry of a call
   pub entry_step : (p q : PassesView) (c : Cursor) (notes : List Note) (act i : ℕ) (op : CallOp) (reply : Reply) (note : Note) →
-      Trace s H a (at_place s a H c notes) → action_for s a c ≡ Asks act (Callout i (Call op)) → off_of reply ≡ c.removed →
+      Trace s H a (at_cursor s a H c notes) → action_for s a c ≡ Asks act (Callout i (Call op)) → off_of reply ≡ c.removed →
       spec_in p.params i ≡ spec_at s i → placed note ≡ (place.Timer i, entry.Timer (call_of s a H act op reply)) → WritesAt p note.place note.entry note.pos q →
       Begins (seen_of q i) (H.timers i) → length (H.timers i) < 2 ^ 63 →
-      Trace s H a (at_place s a H (advance s c (is_some (off (state (spec_at s i) (seen_of q i)))) note.place note.entry) (notes ++ note ∷ []))
+      Trace s H a (at_cursor s a H (advance s c (is_some (off (state (spec_at s i) (seen_of q i)))) note.place note.entry) (notes ++ note ∷ []))
   entry_step p q c notes act i op reply note trace is removed spec at writes begins few =
       let e : Entry = call_of s a H act op reply in
       let w = subst (λ (x : Placed). WritesAt p x.0 x.1 note.pos q) at writes in
@@ -70,17 +70,17 @@ module _ (s : Script) (a : ℕ) (H : Histories) where
       let stands : (call (state (spec_at s i) before) op).0 ≡ state (spec_at s i) (seen_of q i) =
       sym (ap (state (spec_at s i)) there ∙ fold-append (next (spec_at s i)) (opening 0) before (e ∷ [])) in
       let same : call_note s a H act i op reply note.pos ≡ note = λ d. record { place = sym (ap (λ (x : Placed). x.0) at) d; pos = note.pos; entry = sym (ap (λ (x : Placed). x.1) at) d } in
-      let there_now : Trace s H a (at_place s a H (advance s c (is_some (off (state (spec_at s i) (seen_of q i)))) (place.Timer i) (entry.Timer e)) (notes ++ call_note s a H act i op reply note.pos ∷ [])) =
-      subst (λ (t : State). Trace s H a (at_place s a H (advance s c (is_some (off t)) (place.Timer i) (entry.Timer e)) (notes ++ call_note s a H act i op reply note.pos ∷ []))) stands leads in
-      subst (λ (n : Note). Trace s H a (at_place s a H (advance s c (is_some (off (state (spec_at s i) (seen_of q i)))) n.place n.entry) (notes ++ n ∷ []))) same there_now
+      let there_now : Trace s H a (at_cursor s a H (advance s c (is_some (off (state (spec_at s i) (seen_of q i)))) (place.Timer i) (entry.Timer e)) (notes ++ call_note s a H act i op reply note.pos ∷ [])) =
+      subst (λ (t : State). Trace s H a (at_cursor s a H (advance s c (is_some (off t)) (place.Timer i) (entry.Timer e)) (notes ++ call_note s a H act i op reply note.pos ∷ []))) stands leads in
+      subst (λ (n : Note). Trace s H a (at_cursor s a H (advance s c (is_some (off (state (spec_at s i) (seen_of q i)))) n.place n.entry) (notes ++ n ∷ []))) same there_now
 
   -- what a queue answers, once the Scans have come that it waits for
   pub turn_step : (p q : PassesView) (c : Cursor) (notes : List Note) (act cpu : ℕ) (op : QOp) (reply : QReply) (note : Note) →
-      Trace s H a (at_place s a H c notes) → action_for s a c ≡ Asks act (Queue cpu op) →
+      Trace s H a (at_cursor s a H c notes) → action_for s a c ≡ Asks act (Queue cpu op) →
       ((before : List QEntry) → journal_seen q cpu ≡ before ++ turn_of s a H act op reply ∷ [] → scans_first c ≤ scan_count before) →
       placed note ≡ (place.Cpu cpu, entry.Cpu (turn_of s a H act op reply)) → WritesAt p note.place note.entry note.pos q →
       Begins (journal_seen q cpu) (H.cpus cpu) → length (H.cpus cpu) < 2 ^ 63 →
-      Trace s H a (at_place s a H (advance s c false note.place note.entry) (notes ++ note ∷ []))
+      Trace s H a (at_cursor s a H (advance s c false note.place note.entry) (notes ++ note ∷ []))
   turn_step p q c notes act cpu op reply note trace is scanned at writes begins few =
       let e : QEntry = turn_of s a H act op reply in
       let w = subst (λ (x : Placed). WritesAt p x.0 x.1 note.pos q) at writes in
@@ -94,4 +94,4 @@ module _ (s : Script) (a : ℕ) (H : Histories) where
       let pos : note.pos ≡ length before = (w.1.adds.place (length before) (sym (ap length shape ∙ more))).0 low in
       let leads = turn_leads s a H c notes act cpu op before reply note.pos trace is (scanned before there) (sym pos) begins' in
       let same : turn_note s a H act cpu op reply note.pos ≡ note = λ d. record { place = sym (ap (λ (x : Placed). x.0) at) d; pos = note.pos; entry = sym (ap (λ (x : Placed). x.1) at) d } in
-      subst (λ (n : Note). Trace s H a (at_place s a H (advance s c false n.place n.entry) (notes ++ n ∷ []))) same leads
+      subst (λ (n : Note). Trace s H a (at_cursor s a H (advance s c false n.place n.entry) (notes ++ n ∷ []))) same leads

@@ -15,7 +15,7 @@ use Rattle.co_life.specs.Seen.{Extends}
 use Rattle.co_service.specs.Views.{PassesView, seen_of, journal_seen}
 use Rattle.co_service.specs.Writes.{WritesAt, Writes}
 use Rattle.co_service.proofs.Items.{index_set, index_else}
-use Rattle.co_run.specs.Going.{GoesOn}
+use Rattle.co_run.specs.Going.{SeenBegins}
 
 module _ {E : Type 0} where
   -- an item that was replaced by a longer list
@@ -49,7 +49,7 @@ pub journals_back : (J : ℕ → List QEntry) (p q : PassesView) (notes : List N
 journals_back J p q [] w goes = λ cpu. subst (λ (v : PassesView). Begins (journal_seen v cpu) (J cpu)) w (goes cpu)
 journals_back J p q (note ∷ notes) w goes = journals_back_at J p w.0 note.place note.entry note.pos w.1 (journals_back J w.0 q notes w.2 goes)
 
-pub goes_back_at : (H : Histories) (p q : PassesView) (at : Place) (made : AnyEntry) (pos : ℕ) → WritesAt p at made pos q → GoesOn H q → GoesOn H p
+pub goes_back_at : (H : Histories) (p q : PassesView) (at : Place) (made : AnyEntry) (pos : ℕ) → WritesAt p at made pos q → SeenBegins H q → SeenBegins H p
 goes_back_at H p q (place.Timer i) (entry.Timer e) pos w goes = record {
   timers = each_begins (λ (x : Entry). x.actor) p.actor p.timers i w.0 e w.1.below w.1.adds.extends H.timers (λ j. subst (λ (v : PassesView). Begins (seen_of v j) (H.timers j)) w.1.passes (goes.timers j));
   cpus = journals_back_at H.cpus p q (place.Timer i) (entry.Timer e) pos w goes.cpus;
@@ -68,6 +68,6 @@ goes_back_at H p q (place.Timer i) (entry.Own e) pos w goes = absurd w
 goes_back_at H p q (place.Cpu cpu) (entry.Timer e) pos w goes = absurd w
 goes_back_at H p q (place.Cpu cpu) (entry.Own e) pos w goes = absurd w
 
-pub goes_back : (H : Histories) (p q : PassesView) (notes : List Note) → Writes p notes q → GoesOn H q → GoesOn H p
-goes_back H p q [] w goes = subst (GoesOn H) w goes
+pub goes_back : (H : Histories) (p q : PassesView) (notes : List Note) → Writes p notes q → SeenBegins H q → SeenBegins H p
+goes_back H p q [] w goes = subst (SeenBegins H) w goes
 goes_back H p q (note ∷ notes) w goes = goes_back_at H p w.0 note.place note.entry note.pos w.1 (goes_back H w.0 q notes w.2 goes)

@@ -40,8 +40,8 @@ module _ (s : Script) (a : ℕ) (H : Histories) where
     actors = λ _. record { cursor = c; notes = [] };
   }
 
-  abbrev pub at_place : Cursor → List Note → Actor
-  at_place c notes = record { cursor = c; notes = notes }
+  abbrev pub at_cursor : Cursor → List Note → Actor
+  at_cursor c notes = record { cursor = c; notes = notes }
 
   abbrev pub call_of : ℕ → CallOp → Reply → Entry
   call_of act op reply = record { actor = a; act = act; op = Call op; reply = reply }
@@ -57,34 +57,34 @@ module _ (s : Script) (a : ℕ) (H : Histories) where
 
   -- the entry of a call
   pub entry_leads : (c : Cursor) (notes : List Note) (act i : ℕ) (op : CallOp) (before : List Entry) (reply : Reply) (pos : ℕ) →
-      Trace s H a (at_place c notes) → action_for s a c ≡ Asks act (Callout i (Call op)) →
+      Trace s H a (at_cursor c notes) → action_for s a c ≡ Asks act (Callout i (Call op)) →
       (call (state (spec_at s i) before) op).1 ≡ reply → off_of reply ≡ c.removed → length before ≡ pos →
       Begins (before ++ call_of act op reply ∷ []) (H.timers i) →
-      Trace s H a (at_place (advance s c (is_some (off (call (state (spec_at s i) before) op).0)) (place.Timer i) (entry.Timer (call_of act op reply))) (notes ++ call_note act i op reply pos ∷ []))
+      Trace s H a (at_cursor (advance s c (is_some (off (call (state (spec_at s i) before) op).0)) (place.Timer i) (entry.Timer (call_of act op reply))) (notes ++ call_note act i op reply pos ∷ []))
   entry_leads c notes act i op before reply pos trace is answers removed stands begins =
       let outcome : State × Reply = call (state (spec_at s i) before) op in
       let P : Reply → ℕ → Type 0 = λ r n. off_of r ≡ c.removed → Begins (before ++ call_of act op r ∷ []) (H.timers i) →
-      Trace s H a (at_place (advance s c (is_some (off outcome.0)) (place.Timer i) (entry.Timer (call_of act op r))) (notes ++ call_note act i op r n ∷ [])) in
+      Trace s H a (at_cursor (advance s c (is_some (off outcome.0)) (place.Timer i) (entry.Timer (call_of act op r))) (notes ++ call_note act i op r n ∷ [])) in
       let base : P outcome.1 (length before) = λ gone known.
-      trace_more s H a (at_place c notes) (is_some (off outcome.0)) (call_note act i op outcome.1 (length before)) trace
+      trace_more s H a (at_cursor c notes) (is_some (off outcome.0)) (call_note act i op outcome.1 (length before)) trace
       (callout_made s H (scene c before []) a act i (Call op) outcome is refl refl known gone) in
       subst (λ (r : Reply). P r pos) answers (subst (P outcome.1) stands base) removed begins
 
   -- the Remove before it
   pub remove_leads : (c : Cursor) (notes : List Note) (act i cpu : ℕ) (op : CallOp) (before : List QEntry) (pos : ℕ) →
-      Trace s H a (at_place c notes) → action_for s a c ≡ Asks act (Callout i (Call op)) → c.removed ≡ None → length before ≡ pos →
-      Trace s H a (at_place (record c { removed = Some cpu }) (notes ++ turn_note act cpu (Remove i) Off pos ∷ []))
+      Trace s H a (at_cursor c notes) → action_for s a c ≡ Asks act (Callout i (Call op)) → c.removed ≡ None → length before ≡ pos →
+      Trace s H a (at_cursor (record c { removed = Some cpu }) (notes ++ turn_note act cpu (Remove i) Off pos ∷ []))
   remove_leads c notes act i cpu op before pos trace is none stands =
-      subst (λ (n : ℕ). Trace s H a (at_place (record c { removed = Some cpu }) (notes ++ turn_note act cpu (Remove i) Off n ∷ []))) stands
-      (trace_more s H a (at_place c notes) false (turn_note act cpu (Remove i) Off (length before)) trace
+      subst (λ (n : ℕ). Trace s H a (at_cursor (record c { removed = Some cpu }) (notes ++ turn_note act cpu (Remove i) Off n ∷ []))) stands
+      (trace_more s H a (at_cursor c notes) false (turn_note act cpu (Remove i) Off (length before)) trace
       (remove_made s H (scene c [] before) a act i cpu op Off is none refl))
 
   -- what a queue answers
   pub turn_leads : (c : Cursor) (notes : List Note) (act cpu : ℕ) (op : QOp) (before : List QEntry) (reply : QReply) (pos : ℕ) →
-      Trace s H a (at_place c notes) → action_for s a c ≡ Asks act (Queue cpu op) → scans_first c ≤ scan_count before → length before ≡ pos →
+      Trace s H a (at_cursor c notes) → action_for s a c ≡ Asks act (Queue cpu op) → scans_first c ≤ scan_count before → length before ≡ pos →
       Begins (before ++ turn_of act op reply ∷ []) (H.cpus cpu) →
-      Trace s H a (at_place (advance s c false (place.Cpu cpu) (entry.Cpu (turn_of act op reply))) (notes ++ turn_note act cpu op reply pos ∷ []))
+      Trace s H a (at_cursor (advance s c false (place.Cpu cpu) (entry.Cpu (turn_of act op reply))) (notes ++ turn_note act cpu op reply pos ∷ []))
   turn_leads c notes act cpu op before reply pos trace is scanned stands begins =
-      subst (λ (n : ℕ). Trace s H a (at_place (advance s c false (place.Cpu cpu) (entry.Cpu (turn_of act op reply))) (notes ++ turn_note act cpu op reply n ∷ []))) stands
-      (trace_more s H a (at_place c notes) false (turn_note act cpu op reply (length before)) trace
+      subst (λ (n : ℕ). Trace s H a (at_cursor (advance s c false (place.Cpu cpu) (entry.Cpu (turn_of act op reply))) (notes ++ turn_note act cpu op reply n ∷ []))) stands
+      (trace_more s H a (at_cursor c notes) false (turn_note act cpu op reply (length before)) trace
       (queue_made s H (scene c [] before) a act cpu op reply is scanned begins))

@@ -32,26 +32,26 @@ use Rattle.co_world.proofs.basics.Actions.{ends}
 use Rattle.co_world.proofs.follows.DueNotes.{callout_made, own_made}
 use Rattle.co_world.proofs.kept.Operations.{Did, holds, skips, ends, did}
 use Rattle.co_world.proofs.kept.Operations as deed
-use Rattle.co_world.proofs.follows.SilentSteps.{settled_silent, settled_take}
+use Rattle.co_world.proofs.follows.SilentSteps.{at_next_silent, at_next_take}
 use Rattle.co_world.proofs.basics.Prefixes.{Begins}
 use Rattle.co_world.proofs.follows.Traces.{Trace, trace_more}
 use Rattle.co_service.specs.Params.{actors_of, spec_at as spec_in}
 use Rattle.co_service.specs.Views.{PassesView, seen_of}
 use Rattle.co_service.specs.Writes.{WritesAt}
 use Rattle.co_service.proofs.Items.{index_set}
-use Rattle.co_run.specs.Going.{GoesOn}
+use Rattle.co_run.specs.Going.{SeenBegins}
 use Rattle.co_run.proofs.follows.EachAnswer.{begins-length, longer}
-use Rattle.co_run.proofs.follows.InHistories.{at_place, scene}
+use Rattle.co_run.proofs.follows.InHistories.{at_cursor, scene}
 use Rattle.co_run.proofs.follows.Listed.{advance_alike}
 
 -- ---- a step without a note
 
 module _ (s : Script) (a : ℕ) (H : Histories) where
-  pub silent_leads : (c to : Cursor) (notes : List Note) → action_for s a c ≡ Silent to → Trace s H a (at_place s a H c notes) → Trace s H a (at_place s a H to notes)
-  silent_leads c to notes is trace = record { next = trace.next; place = trace.place ∙ settled_silent s a c to is }
+  pub silent_leads : (c to : Cursor) (notes : List Note) → action_for s a c ≡ Silent to → Trace s H a (at_cursor s a H c notes) → Trace s H a (at_cursor s a H to notes)
+  silent_leads c to notes is trace = record { next = trace.next; place = trace.place ∙ at_next_silent s a c to is }
 
-  pub take_leads : (c to : Cursor) (held : Held) (notes : List Note) → action_for s a c ≡ Take held to → Trace s H a (at_place s a H c notes) → Trace s H a (at_place s a H to notes)
-  take_leads c to held notes is trace = record { next = trace.next; place = trace.place ∙ settled_take s a c to held is }
+  pub take_leads : (c to : Cursor) (held : Held) (notes : List Note) → action_for s a c ≡ Take held to → Trace s H a (at_cursor s a H c notes) → Trace s H a (at_cursor s a H to notes)
+  take_leads c to held notes is trace = record { next = trace.next; place = trace.place ∙ at_next_take s a c to held is }
 
   -- ---- a note of the actor's own
 
@@ -61,11 +61,11 @@ module _ (s : Script) (a : ℕ) (H : Histories) where
   abbrev alone : Cursor → List Note → World
   alone c notes = record { timers = λ k. record { state = opening 0; stand = 0; history = [] }; cpus = λ _. new_cpu; actors = λ _. record { cursor = c; notes = notes } }
 
-  pub own_leads : (c : Cursor) (notes : List Note) (act pos : ℕ) (kind : OwnKind) → action_for s a c ≡ Asks act (Itself kind) → pos ≡ length (notes_of (place.Actor a) notes) → Trace s H a (at_place s a H c notes) →
-      Trace s H a (at_place s a H (act_over c c.stage) (notes ++ own_note act pos kind ∷ []))
+  pub own_leads : (c : Cursor) (notes : List Note) (act pos : ℕ) (kind : OwnKind) → action_for s a c ≡ Asks act (Itself kind) → pos ≡ length (notes_of (place.Actor a) notes) → Trace s H a (at_cursor s a H c notes) →
+      Trace s H a (at_cursor s a H (act_over c c.stage) (notes ++ own_note act pos kind ∷ []))
   own_leads c notes act pos kind is pos_is trace =
-      subst (λ (n : ℕ). Trace s H a (at_place s a H (act_over c c.stage) (notes ++ own_note act n kind ∷ []))) (sym pos_is)
-      (trace_more s H a (at_place s a H c notes) false (own_note act (length (notes_of (place.Actor a) notes)) kind) trace (own_made s H (alone c notes) a act kind is))
+      subst (λ (n : ℕ). Trace s H a (at_cursor s a H (act_over c c.stage) (notes ++ own_note act n kind ∷ []))) (sym pos_is)
+      (trace_more s H a (at_cursor s a H c notes) false (own_note act (length (notes_of (place.Actor a) notes)) kind) trace (own_made s H (alone c notes) a act kind is))
 
 -- ---- an entry of a service
 
@@ -89,14 +89,14 @@ served_by spec before op reply seen (Some out) is replies stands = record { afte
 abbrev pub run_of : (a act : ℕ) → RunOp → Reply → Entry
 run_of a act op reply = record { actor = a; act = act; op = Run op; reply = reply }
 
-run_at : (s : Script) (a : ℕ) (H : Histories) (c : Cursor) (notes : List Note) (act i pos : ℕ) (op : RunOp) (before : List Entry) (after : State) (reply : Reply) → Trace s H a (at_place s a H c notes) → action_for s a c ≡ Asks act (Callout i (Run op)) →
+run_at : (s : Script) (a : ℕ) (H : Histories) (c : Cursor) (notes : List Note) (act i pos : ℕ) (op : RunOp) (before : List Entry) (after : State) (reply : Reply) → Trace s H a (at_cursor s a H c notes) → action_for s a c ≡ Asks act (Callout i (Run op)) →
     step (spec_at s i) (state (spec_at s i) before) (Run op) ≡ Some (after, reply) → pos ≡ length before → Begins (before ++ run_of a act op reply ∷ []) (H.timers i) →
-    Trace s H a (at_place s a H (advance s c false (place.Timer i) (entry.Timer (run_of a act op reply))) (notes ++ record { place = place.Timer i; pos = pos; entry = entry.Timer (run_of a act op reply) } ∷ []))
+    Trace s H a (at_cursor s a H (advance s c false (place.Timer i) (entry.Timer (run_of a act op reply))) (notes ++ record { place = place.Timer i; pos = pos; entry = entry.Timer (run_of a act op reply) } ∷ []))
 run_at s a H c notes act i pos op before after reply trace is steps pos_is begins =
     let e : Entry = run_of a act op reply in
-    let to : ℕ → Cursor → Type 0 = λ n k. Trace s H a (at_place s a H k (notes ++ record { place = place.Timer i; pos = n; entry = entry.Timer e } ∷ [])) in
+    let to : ℕ → Cursor → Type 0 = λ n k. Trace s H a (at_cursor s a H k (notes ++ record { place = place.Timer i; pos = n; entry = entry.Timer e } ∷ [])) in
     let made : to (length before) (advance s c (is_some (off after)) (place.Timer i) (entry.Timer e)) =
-    trace_more s H a (at_place s a H c notes) (is_some (off after)) (record { place = place.Timer i; pos = length before; entry = entry.Timer e }) trace
+    trace_more s H a (at_cursor s a H c notes) (is_some (off after)) (record { place = place.Timer i; pos = length before; entry = entry.Timer e }) trace
     (callout_made s H (scene s a H c before []) a act i (Run op) (after, reply) is steps refl begins tt) in
     let alike = advance_alike s c (is_some (off after)) false i e (unarmed (spec_at s i) (state (spec_at s i) before) op reply after (did (spec_at s i) (state (spec_at s i) before) (Run op) (after, reply) steps)) in
     subst (λ (n : ℕ). to n (advance s c false (place.Timer i) (entry.Timer e))) (sym pos_is) (subst (to (length before)) alike made)
@@ -106,7 +106,7 @@ pub record IsRun (s : Script) (a : ℕ) (c : Cursor) (notes : List Note) (p : Pa
   pub before : State
   pub served : IsServed (spec_at s i) before op reply (seen_of q i)
   pub server : a ≡ server (actors_of p.params) (spec_at s i) (cpu_of op)
-  pub leads : (H : Histories) → GoesOn H q → Trace s H a (at_place s a H c notes) → Trace s H a (at_place s a H (advance s c false (place.Timer i) note.entry) (notes ++ note ∷ []))
+  pub leads : (H : Histories) → SeenBegins H q → Trace s H a (at_cursor s a H c notes) → Trace s H a (at_cursor s a H (advance s c false (place.Timer i) note.entry) (notes ++ note ∷ []))
 
 pub run_step : (s : Script) (a : ℕ) (p q : PassesView) (c : Cursor) (notes : List Note) (act i : ℕ) (op : RunOp) (reply : Reply) (note : Note) → spec_in p.params i ≡ spec_at s i → action_for s a c ≡ Asks act (Callout i (Run op)) →
     placed note ≡ (place.Timer i, entry.Timer (run_of a act op reply)) → WritesAt p note.place note.entry note.pos q → IsRun s a c notes p i op reply note q
@@ -132,7 +132,7 @@ run_step s a p q c notes act i op reply note spec is at writes =
           let low : length before < 2 ^ 63 = omega (arith, begins-length (before ++ e ∷ []) (H.timers i) begins, more, goes.few i) in
           let pos : note.pos ≡ length before = (w.1.adds.place (length before) (sym (ap length shape ∙ more))).0 low in
           let leads = run_at s a H c notes act i note.pos op before served.after reply trace is served.answers pos begins in
-          let put : Trace s H a (at_place s a H (advance s c false (place.Timer i) (entry.Timer e)) (notes ++ note ∷ [])) =
-          subst (λ (n : Note). Trace s H a (at_place s a H (advance s c false (place.Timer i) (entry.Timer e)) (notes ++ n ∷ []))) (same note.pos refl) leads in
-          subst (λ (x : AnyEntry). Trace s H a (at_place s a H (advance s c false (place.Timer i) x) (notes ++ note ∷ []))) (sym (ap (λ (x : Placed). x.1) at)) put;
+          let put : Trace s H a (at_cursor s a H (advance s c false (place.Timer i) (entry.Timer e)) (notes ++ note ∷ [])) =
+          subst (λ (n : Note). Trace s H a (at_cursor s a H (advance s c false (place.Timer i) (entry.Timer e)) (notes ++ n ∷ []))) (same note.pos refl) leads in
+          subst (λ (x : AnyEntry). Trace s H a (at_cursor s a H (advance s c false (place.Timer i) x) (notes ++ note ∷ []))) (sym (ap (λ (x : Placed). x.1) at)) put;
     }

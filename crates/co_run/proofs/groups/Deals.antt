@@ -11,7 +11,7 @@ use Rattle.co_service.specs.Name.{ServiceName}
 use Rattle.co_service.specs.Views.{PassesView}
 use Rattle.co_run.specs.declared.jobs.Job.{Job}
 use Rattle.co_run.specs.Acting.{params_of}
-use Rattle.co_run.specs.Jobs.{AreEmpty, AreFirst, AreJobs, IsEmpty, IsGroup, IsJob}
+use Rattle.co_run.specs.Jobs.{AreEmptyBooks, AreUnseen, AreJobs, IsEmpty, IsGroup, IsJob}
 use Rattle.co_run.proofs.merged.RunOfScript.{same_count}
 use Rattle.co_run.proofs.groups.LastItem.{get_front, get_last, get_snoc}
 
@@ -27,29 +27,29 @@ some_same a b e = cc
 
 -- ---- passes
 
-pub booted_first : (s : Script) → IsScript s → (name : ServiceName) (qs : List PassesView) → AreBooted name (params_of s) qs → AreFirst name (params_of s) qs
+pub booted_first : (s : Script) → IsScript s → (name : ServiceName) (qs : List PassesView) → AreBooted name (params_of s) qs → AreUnseen name (params_of s) qs
 booted_first s ok name qs booted_are = λ k q is. some_same q (booted name (params_of s) k) (sym is ∙ booted_are.each k (let low = below qs q k is in let count = booted_are.count in omega (arith, low, count)))
 
 pub booted_count : (s : Script) → IsScript s → (name : ServiceName) (qs : List PassesView) → AreBooted name (params_of s) qs → length qs ≡ actor_count s
 booted_count s ok name qs booted_are = booted_are.count ∙ same_count s ok
 
 module _ (name : ServiceName) (p : Params) where
-  pub first_front : (qs : List PassesView) (q : PassesView) → AreFirst name p (qs ++ q ∷ []) → AreFirst name p qs
+  pub first_front : (qs : List PassesView) (q : PassesView) → AreUnseen name p (qs ++ q ∷ []) → AreUnseen name p qs
   first_front qs q first = λ k x is. first k x (get_front qs q x k is)
 
-  pub first_last : (qs : List PassesView) (q : PassesView) → AreFirst name p (qs ++ q ∷ []) → q ≡ booted name p (length qs)
+  pub first_last : (qs : List PassesView) (q : PassesView) → AreUnseen name p (qs ++ q ∷ []) → q ≡ booted name p (length qs)
   first_last qs q first = first (length qs) q (get_last qs q)
 
 -- ---- books
 
 module _ {B : Type 0} (notes : B → List Note) (spare : B → ℕ) where
-  pub empty_front : (books : List B) (book : B) → AreEmpty notes spare (books ++ book ∷ []) → AreEmpty notes spare books
+  pub empty_front : (books : List B) (book : B) → AreEmptyBooks notes spare (books ++ book ∷ []) → AreEmptyBooks notes spare books
   empty_front books book empty = λ k x is. empty k x (get_front books book x k is)
 
-  pub empty_last : (books : List B) (book : B) → AreEmpty notes spare (books ++ book ∷ []) → IsEmpty (notes book) (spare book)
+  pub empty_last : (books : List B) (book : B) → AreEmptyBooks notes spare (books ++ book ∷ []) → IsEmpty (notes book) (spare book)
   empty_last books book empty = empty (length books) book (get_last books book)
 
-  pub empty_more : (books : List B) (book : B) → AreEmpty notes spare books → IsEmpty (notes book) (spare book) → AreEmpty notes spare (books ++ book ∷ [])
+  pub empty_more : (books : List B) (book : B) → AreEmptyBooks notes spare books → IsEmpty (notes book) (spare book) → AreEmptyBooks notes spare (books ++ book ∷ [])
   empty_more books book empty one = λ k x is. at_either x (get_snoc books book x k is) where
     at_either : {k : ℕ} (x : B) → (slice_get books k ≡ Some x) ⊎ ((k ≡ length books) × (x ≡ book)) → IsEmpty (notes x) (spare x)
     at_either {k} x (inl here) = empty k x here

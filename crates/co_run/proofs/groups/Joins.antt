@@ -9,32 +9,32 @@ use Rattle.co_service.specs.Views.{PassesView}
 use Rattle.co_run.specs.declared.jobs.Job.{Job}
 use Rattle.co_run.specs.declared.jobs.Played.{Played}
 use Rattle.co_run.specs.Jobs.{AreJobs, HavePlayed, IsGroup, IsJob}
-use Rattle.co_run.specs.Over.{AreOver, IsOver}
+use Rattle.co_run.specs.Over.{AreOver, IsActorOver}
 use Rattle.co_run.proofs.groups.LastItem.{get_front, get_last, get_snoc}
 
-over_more : (s : Script) (name : ServiceName) (a : ℕ) (qs : List PassesView) (lists : List (List Note)) (q : PassesView) (ns : List Note) → AreOver s name a qs lists → IsOver s name (a + length lists) q ns → AreOver s name a (qs ++ q ∷ []) (lists ++ ns ∷ [])
-over_more s name a [] [] q ns over one = (subst (λ (b : ℕ). IsOver s name b q ns) (start a) one, tt) where
+over_more : (s : Script) (name : ServiceName) (a : ℕ) (qs : List PassesView) (lists : List (List Note)) (q : PassesView) (ns : List Note) → AreOver s name a qs lists → IsActorOver s name (a + length lists) q ns → AreOver s name a (qs ++ q ∷ []) (lists ++ ns ∷ [])
+over_more s name a [] [] q ns over one = (subst (λ (b : ℕ). IsActorOver s name b q ns) (start a) one, tt) where
   start : (n : ℕ) → n + 0 ≡ n
   start n = omega arith
-over_more s name a (p ∷ qs) (ms ∷ lists) q ns over one = (over.0, over_more s name (a + 1) qs lists q ns over.1 (subst (λ (b : ℕ). IsOver s name b q ns) (shift a (length lists)) one)) where
+over_more s name a (p ∷ qs) (ms ∷ lists) q ns over one = (over.0, over_more s name (a + 1) qs lists q ns over.1 (subst (λ (b : ℕ). IsActorOver s name b q ns) (shift a (length lists)) one)) where
   shift : (m n : ℕ) → m + suc n ≡ m + 1 + n
   shift m n = omega arith
 over_more s name a [] (ms ∷ lists) q ns over one = absurd over
 over_more s name a (p ∷ qs) [] q ns over one = absurd over
 
 -- what the next actor brings back goes to the others'
-pub over_next : (s : Script) (name : ServiceName) (qs : List PassesView) (lists : List (List Note)) (q : PassesView) (ns : List Note) → AreOver s name 0 qs lists → IsOver s name (length lists) q ns → AreOver s name 0 (qs ++ q ∷ []) (lists ++ ns ∷ [])
-over_next s name qs lists q ns over one = over_more s name 0 qs lists q ns over (subst (λ (b : ℕ). IsOver s name b q ns) (start (length lists)) one) where
+pub over_next : (s : Script) (name : ServiceName) (qs : List PassesView) (lists : List (List Note)) (q : PassesView) (ns : List Note) → AreOver s name 0 qs lists → IsActorOver s name (length lists) q ns → AreOver s name 0 (qs ++ q ∷ []) (lists ++ ns ∷ [])
+over_next s name qs lists q ns over one = over_more s name 0 qs lists q ns over (subst (λ (b : ℕ). IsActorOver s name b q ns) (start (length lists)) one) where
   start : (n : ℕ) → n ≡ 0 + n
   start n = omega arith
 
 -- where they bring back books
-over_next_book : {B : Type 0} (notes : B → List Note) (s : Script) (name : ServiceName) (qs : List PassesView) (books : List B) (q : PassesView) (book : B) → AreOver s name 0 qs (map notes books) → IsOver s name (length books) q (notes book) → AreOver s name 0 (qs ++ q ∷ []) (map notes (books ++ book ∷ []))
+over_next_book : {B : Type 0} (notes : B → List Note) (s : Script) (name : ServiceName) (qs : List PassesView) (books : List B) (q : PassesView) (book : B) → AreOver s name 0 qs (map notes books) → IsActorOver s name (length books) q (notes book) → AreOver s name 0 (qs ++ q ∷ []) (map notes (books ++ book ∷ []))
 over_next_book notes s name qs books q book over one =
     subst (AreOver s name 0 (qs ++ q ∷ [])) (sym (map-append notes books (book ∷ [])))
-    (over_next s name qs (map notes books) q (notes book) over (subst (λ (a : ℕ). IsOver s name a q (notes book)) (sym (length-map books notes)) one))
+    (over_next s name qs (map notes books) q (notes book) over (subst (λ (a : ℕ). IsActorOver s name a q (notes book)) (sym (length-map books notes)) one))
 
-pub over_added : {B : Type 0} (notes : B → List Note) (s : Script) (name : ServiceName) (qs all_qs : List PassesView) (books all_books : List B) (q : PassesView) (book : B) → all_qs ≡ qs ++ q ∷ [] → all_books ≡ books ++ book ∷ [] → AreOver s name 0 qs (map notes books) → IsOver s name (length books) q (notes book) → AreOver s name 0 all_qs (map notes all_books)
+pub over_added : {B : Type 0} (notes : B → List Note) (s : Script) (name : ServiceName) (qs all_qs : List PassesView) (books all_books : List B) (q : PassesView) (book : B) → all_qs ≡ qs ++ q ∷ [] → all_books ≡ books ++ book ∷ [] → AreOver s name 0 qs (map notes books) → IsActorOver s name (length books) q (notes book) → AreOver s name 0 all_qs (map notes all_books)
 over_added {B} notes s name qs all_qs books all_books q book qs_are books_are over one =
     subst (λ (bs : List B). AreOver s name 0 all_qs (map notes bs)) (sym books_are)
     (subst (λ (rs : List PassesView). AreOver s name 0 rs (map notes (books ++ book ∷ []))) (sym qs_are) (over_next_book notes s name qs books q book over one))
@@ -59,20 +59,20 @@ module _ {B : Type 0} (s : Script) (name : ServiceName) (notes : B → List Note
 
 module _ {B : Type 0} (s : Script) (name : ServiceName) (notes : B → List Note) where
   -- one more has played, before these
-  pub group_more : (all : List (Played B)) (one : Played B) (number end : ℕ) → IsGroup (HavePlayed notes s name) (number + 1) end all → IsOver s name number one.passes (notes one.book) → IsGroup (HavePlayed notes s name) number end (all ++ one ∷ [])
+  pub group_more : (all : List (Played B)) (one : Played B) (number end : ℕ) → IsGroup (HavePlayed notes s name) (number + 1) end all → IsActorOver s name number one.passes (notes one.book) → IsGroup (HavePlayed notes s name) number end (all ++ one ∷ [])
   group_more all one number end group over = record {
     count = (let long = length-append all (one ∷ []) in let count = group.count in omega (arith, count, long));
     each = λ k p is a at. at_either k p a at (get_snoc all one p k is);
   } where
-    at_either : (k : ℕ) (p : Played B) (a : ℕ) → a + k + 1 ≡ end → (slice_get all k ≡ Some p) ⊎ ((k ≡ length all) × (p ≡ one)) → IsOver s name a p.passes (notes p.book)
+    at_either : (k : ℕ) (p : Played B) (a : ℕ) → a + k + 1 ≡ end → (slice_get all k ≡ Some p) ⊎ ((k ≡ length all) × (p ≡ one)) → IsActorOver s name a p.passes (notes p.book)
     at_either k p a at (inl here) = group.each k p here a at
     at_either k p a at (inr there) =
         let count = group.count in
         let same : number ≡ a = (let is = there.0 in omega (arith, count, at, is)) in
-        subst (λ (x : Played B). IsOver s name a x.passes (notes x.book)) (sym there.1) (subst (λ (b : ℕ). IsOver s name b one.passes (notes one.book)) same over)
+        subst (λ (x : Played B). IsActorOver s name a x.passes (notes x.book)) (sym there.1) (subst (λ (b : ℕ). IsActorOver s name b one.passes (notes one.book)) same over)
 
   -- the first of those that have played stands last
-  pub played_first : (all : List (Played B)) (one : Played B) (next end : ℕ) → IsGroup (HavePlayed notes s name) next end (all ++ one ∷ []) → IsOver s name next one.passes (notes one.book)
+  pub played_first : (all : List (Played B)) (one : Played B) (next end : ℕ) → IsGroup (HavePlayed notes s name) next end (all ++ one ∷ []) → IsActorOver s name next one.passes (notes one.book)
   played_first all one next end group =
       let long = length-append all (one ∷ []) in
       group.each (length all) one (get_last all one) next (let count = group.count in omega (arith, count, long))

@@ -8,6 +8,7 @@ use Rattle.co_object.specs.declared.AnyEntry.TheVariants as of
 use Rattle.co_object.specs.declared.note.Entry.{Entry}
 use Rattle.co_object.specs.declared.note.QEntry.{QEntry}
 use Rattle.co_object.specs.Journal.{scanner}
+use Rattle.co_object.specs.Lists.{actor_of}
 use Rattle.co_program.specs.declared.Script.{Script}
 use Rattle.co_program.specs.declared.Act.{Act}
 use Rattle.co_program.specs.declared.Act.TheVariants.{Tick}
@@ -28,8 +29,8 @@ use Rattle.co_service.specs.Params.{actors_of}
 use Rattle.co_service.specs.Services.{IsFree}
 use Rattle.co_service.specs.Views.{journal_seen, seen_of}
 use Rattle.co_service.proofs.Lasts.{booted_free}
-use Rattle.co_run.specs.Acting.{HasLocks, IsActing, Serves, TaskLocks, params_of}
-use Rattle.co_run.specs.Shown.{AreAlike, any_by}
+use Rattle.co_run.specs.Acting.{HasLocks, IsActing, ServesAsStage, TaskLocks, params_of}
+use Rattle.co_run.specs.Shown.{AreTheseEntries}
 use Rattle.co_run.specs.Told.{owned}
 use Rattle.co_run.proofs.kept.Scanned.{starts_scanned}
 
@@ -69,15 +70,15 @@ module _ {Y : Type 0} where
   nothing_at (x ∷ xs) zero = refl
   nothing_at (x ∷ xs) (suc k) = nothing_at xs k
 
-timers_alike : (a : ℕ) (H : List Entry) → H ≡ [] → AreAlike [] (owned any_by a (map of.Timer H))
+timers_alike : (a : ℕ) (H : List Entry) → H ≡ [] → AreTheseEntries [] (owned actor_of a (map of.Timer H))
 timers_alike a [] h = tt
 timers_alike a (e ∷ H) h = cc
 
-cpus_alike : (a : ℕ) (J : List QEntry) → J ≡ [] → AreAlike [] (owned any_by a (map of.Cpu J))
+cpus_alike : (a : ℕ) (J : List QEntry) → J ≡ [] → AreTheseEntries [] (owned actor_of a (map of.Cpu J))
 cpus_alike a [] h = tt
 cpus_alike a (e ∷ J) h = cc
 
-starts_free : (s : Script) (name : ServiceName) (a : ℕ) (role : Role) → role_of s a ≡ role → Serves role (booted name (params_of s) a) Ready
+starts_free : (s : Script) (name : ServiceName) (a : ℕ) (role : Role) → role_of s a ≡ role → ServesAsStage role (booted name (params_of s) a) Ready
 starts_free s name a (Client k) is = tt
 starts_free s name a (Cpu x) is = subst (λ (b : ℕ). IsFree false (booted name (params_of s) b) x) (sym (cpu_number s a x is).0) (booted_free name (params_of s) false x)
 starts_free s name a (Interrupt x) is = subst (λ (b : ℕ). IsFree true (booted name (params_of s) b) x) (sym (interrupt_number s a x is)) (booted_free name (params_of s) true x)

@@ -16,7 +16,7 @@ use Rattle.co_object.specs.Queue.{Due}
 use Rattle.co_object.specs.Group.{Placed, placed}
 use Rattle.co_lock.specs.declared.Held.{Held}
 use Rattle.co_program.specs.declared.Script.{Script}
-use Rattle.co_program.specs.declared.Service.{Service}
+use Rattle.co_program.specs.declared.InService.{InService}
 use Rattle.co_program.specs.declared.Role.{Role}
 use Rattle.co_program.specs.declared.Asked.TheVariants.{Callout}
 use Rattle.co_program.specs.Scripts.{IsScript}
@@ -24,7 +24,7 @@ use Rattle.co_program.specs.Stages.{Stage, Beginning, Unlocking}
 use Rattle.co_program.specs.Cursor.{Cursor}
 use Rattle.co_program.specs.Action.{Asks, spec_at, firing, action_for}
 use Rattle.co_program.specs.Actors.{role_of, cpu_of}
-use Rattle.co_program.specs.Advance.{advance, advance_callout, begun}
+use Rattle.co_program.specs.Advance.{advance, advance_callout, service_begun}
 use Rattle.co_program.specs.Existing.{ActionExists, StageExists, IsCallout}
 use Rattle.co_program.proofs.Existing.{action_exists}
 use Rattle.co_world.proofs.basics.Actions.{IsAction}
@@ -44,8 +44,9 @@ use Rattle.co_service.specs.Services.{IsServing, IsBegun}
 use Rattle.co_service.specs.Serving.{Waits, Runs}
 use Rattle.co_service.specs.Views.{PassesView, AreOf}
 use Rattle.co_service.specs.Writes.{WritesAt, Writes}
-use Rattle.co_run.specs.Acting.{IsActing, ServesAt, due_of, params_of}
-use Rattle.co_run.specs.Shown.{IsFound}
+use Rattle.co_run.specs.Acting.{IsActing, ServesAt, params_of}
+use Rattle.co_world.specs.Placed.{due_in_service}
+use Rattle.co_run.specs.Shown.{IsFoundThere}
 use Rattle.co_run.proofs.follows.GoesBack.{goes_back}
 use Rattle.co_run.proofs.places.AfterSilentSteps.{stage_view}
 use Rattle.co_run.proofs.shown.OneMore.{shown_all, sized_all}
@@ -69,7 +70,7 @@ use Rattle.co_run.proofs.kept.Scanned.{none_within, scanned_on, scans_more}
 -- ---- where an actor begins
 
 pub record IsOpening (s : Script) (role : Role) (c : Cursor) (stage : Stage) (act i n cpu : ℕ) : Type 0 where
-  pub service : Service
+  pub service : InService
   pub stage_is : stage ≡ Beginning service
   pub act_is : act ≡ service.act
   pub i_is : i ≡ service.i
@@ -108,7 +109,7 @@ open_reply spec st op r t (deed.begins n cpu func arg after same taken runs) = t
 open_reply spec st op r t (skips n cpu is) = tt
 open_reply spec st op r t (deed.ends n cpu after drain woke same runs over) = tt
 
-firing_low : (longest : ℕ) (v : Service) (hold : Option Held) (acts : List Act) → length acts ≤ longest → room_at longest (firing v hold acts) ≤ 3 + 6 * longest
+firing_low : (longest : ℕ) (v : InService) (hold : Option Held) (acts : List Act) → length acts ≤ longest → room_at longest (firing v hold acts) ≤ 3 + 6 * longest
 firing_low longest v hold (act ∷ acts) short = omega arith
 firing_low longest v None [] short = omega arith
 firing_low longest v (Some held) [] short = omega arith
@@ -124,7 +125,7 @@ module _ (s : Script) (ok : IsScript s) (name : ServiceName) (a : ℕ) (p : Pass
   pub opening : IsOpening s role c c.stage act i n cpu
   opening = open_view s role c c.stage act i (Run (Begin n cpu)) (stage_view s a c (Asks act (Callout i (Run (Begin n cpu)))) acting.place.parcel is)
 
-  abbrev v : Service
+  abbrev v : InService
   v = opening.service
 
   fits_here : FitsRole s role c.left c.hold (Beginning v)
@@ -149,7 +150,7 @@ module _ (s : Script) (ok : IsScript s) (name : ServiceName) (a : ℕ) (p : Pass
   abbrev due : Due
   due = record { i = i; n = n }
 
-  same_due : due_of v ≡ due
+  same_due : due_in_service v ≡ due
   same_due = λ d. record { i = sym opening.i_is d; n = sym opening.n_is d }
 
   pub begin_here : cpu < s.cpus
@@ -171,7 +172,7 @@ module _ (s : Script) (ok : IsScript s) (name : ServiceName) (a : ℕ) (p : Pass
 
   -- the place after it
   abbrev after_begin : Reply → Cursor
-  after_begin r = begun s cleared v r
+  after_begin r = service_begun s cleared v r
 
   record IsOpen (q : PassesView) (longest : ℕ) (r : Reply) : Type 0 where
     is_in : IsIn s (after_begin r)
@@ -181,7 +182,7 @@ module _ (s : Script) (ok : IsScript s) (name : ServiceName) (a : ℕ) (p : Pass
     removed : (after_begin r).removed ≡ None
     between : IsBetween (after_begin r).stage
     held : (after_begin r).hold ≡ c.hold
-    serves : IsServing false q (cpu_of s role) (due_of v) (Runs v.n) → ServesAt false q (cpu_of s role) (after_begin r).stage
+    serves : IsServing false q (cpu_of s role) (due_in_service v) (Runs v.n) → ServesAt false q (cpu_of s role) (after_begin r).stage
     room : room_at longest (after_begin r).stage ≤ 3 + 6 * longest
 
   kinds : (P : Reply → Type 0) (r : Reply) → IsOpenReply (Run (Begin n cpu)) r → ((func arg : ℕ) → P (Go func arg)) → P Skip → P r
@@ -257,7 +258,7 @@ module _ (s : Script) (ok : IsScript s) (name : ServiceName) (a : ℕ) (p : Pass
     pub acts_begun : AreOf name (params_of s) q → q.actor ≡ p.actor → IsServing false q cpu due (Runs n) → IsActing s name a q (gone_on s c (notes_in out.notes)) hold (notes ++ notes_in out.notes) made
     acts_begun of same serving =
         let rest : IsOpen q 4096 out.reply = opened q 4096 ok.short_funcs out.reply replies in
-        let runs : IsServing false q (cpu_of s role) (due_of v) (Runs v.n) =
+        let runs : IsServing false q (cpu_of s role) (due_in_service v) (Runs v.n) =
         subst (λ (d : Due). IsServing false q (cpu_of s role) d (Runs d.n)) (sym same_due) (subst (λ (x : ℕ). IsServing false q x due (Runs n)) opening.cpu_is serving) in
         subst (λ (k : Cursor). IsActing s name a q k hold (notes ++ notes_in out.notes) made) (sym begin_goes)
         (subst (λ (l : List Note). IsActing s name a q (after_begin out.reply) hold (notes ++ l) made) (sym single.1)
@@ -270,7 +271,7 @@ module _ (s : Script) (ok : IsScript s) (name : ServiceName) (a : ℕ) (p : Pass
           place = record { fits = fits_begin; is_in = rest.is_in; locks = rest.locks; parcel = rest.parcel; removed = rest.removed; between = rest.between };
           scanned = scanned_on s role p q c.left (after_begin out.reply).left c.stage (after_begin out.reply).stage (scans_more p q (note ∷ []) written) (none_within role c.left (after_begin out.reply).left c.stage (after_begin out.reply).stage rest.same (λ x e. ap under_way opening.stage_is)) acting.scanned;
           serves = to_lane s role false q (after_begin out.reply).stage server lane (rest.serves runs);
-          shown = shown_all s a made p q notes (note ∷ []) acting.actor acting.sized (subst (λ (x : Placed). IsFound x.1) (sym single.2) tt, tt) written acting.shown;
+          shown = shown_all s a made p q notes (note ∷ []) acting.actor acting.sized (subst (λ (x : Placed). IsFoundThere x.1) (sym single.2) tt, tt) written acting.shown;
           leads = λ H goes.
               let led = run.leads H goes (acting.leads H (goes_back H p q (note ∷ []) written goes)) in
               let put : Trace s H a (record { cursor = advance s c false (place.Timer i) (entry.Timer (run_of a act (Begin n cpu) out.reply)); notes = notes ++ note ∷ [] }) =

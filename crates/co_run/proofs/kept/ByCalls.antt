@@ -19,7 +19,7 @@ use Rattle.co_program.specs.Stages.{Stage, Ready, Waiting, Popping, Picking, Loc
 use Rattle.co_program.specs.Cursor.{Cursor}
 use Rattle.co_program.specs.Action.{Asks, action_for, spec_at}
 use Rattle.co_program.specs.Actors.{role_of, actor_count}
-use Rattle.co_program.specs.Advance.{called, act_over}
+use Rattle.co_program.specs.Advance.{call_made, act_over}
 use Rattle.co_program.specs.Existing.{ActionExists, IsCallout, OpExists}
 use Rattle.co_program.specs.declared.Asked.TheVariants.{Callout}
 use Rattle.co_program.proofs.Existing.{action_exists}
@@ -29,12 +29,12 @@ use Rattle.co_service.specs.Call.{IsCalled, NamesCpu, removal_notes}
 use Rattle.co_service.specs.Params.{spec_at as spec_in}
 use Rattle.co_service.specs.Name.{ServiceName}
 use Rattle.co_service.specs.Services.{IsFree, IsServing}
-use Rattle.co_service.specs.Serving.{Service as Progress}
+use Rattle.co_service.specs.Serving.{ServiceStage}
 use Rattle.co_service.specs.Views.{PassesView, AreOf, seen_of}
 use Rattle.co_service.proofs.CallGroup.{entry_of}
-use Rattle.co_run.specs.Acting.{IsActing, IsPlaced, params_of}
+use Rattle.co_run.specs.Acting.{IsActing, CursorFits, params_of}
 use Rattle.co_run.specs.Noted.{gone_on}
-use Rattle.co_run.specs.Shown.{IsFound}
+use Rattle.co_run.specs.Shown.{IsFoundThere}
 use Rattle.co_run.proofs.follows.ArmedReplies.{asked_call}
 use Rattle.co_run.proofs.follows.GoesBack.{goes_back}
 use Rattle.co_run.proofs.follows.CallGroups.{AreParts, IsOneInsert, call_leads, call_parts, call_told, first_is, rest_is}
@@ -59,26 +59,26 @@ names_cpu s (Plain Init) h = tt
 names_cpu s (Plain Retire) h = tt
 names_cpu s (DrainTry took) h = tt
 
-pub call_names : (s : Script) → IsScript s → (a : ℕ) (c : Cursor) (act i : ℕ) (op : CallOp) → a < actor_count s → IsPlaced s a c → action_for s a c ≡ Asks act (Callout i (Call op)) → IsCallout s i × NamesCpu s.cpus op
+pub call_names : (s : Script) → IsScript s → (a : ℕ) (c : Cursor) (act i : ℕ) (op : CallOp) → a < actor_count s → CursorFits s a c → action_for s a c ≡ Asks act (Callout i (Call op)) → IsCallout s i × NamesCpu s.cpus op
 call_names s ok a c act i op below place is =
     let exists : ActionExists s (Asks act (Callout i (Call op))) = subst (ActionExists s) is (action_exists s ok a below c place.is_in) in
     (exists.0, names_cpu s op exists.1)
 
 -- ---- the notes of a call
 
-pub found_notes : (ns : List Note) (xs : List Placed) → map placed ns ≡ xs → AllByRecursion (λ (x : Placed). IsFound x.1) xs → AllByRecursion (λ (n : Note). IsFound n.entry) ns
+pub found_notes : (ns : List Note) (xs : List Placed) → map placed ns ≡ xs → AllByRecursion (λ (x : Placed). IsFoundThere x.1) xs → AllByRecursion (λ (n : Note). IsFoundThere n.entry) ns
 found_notes [] xs shape all = tt
 found_notes (note ∷ ns) [] shape all = cc
-found_notes (note ∷ ns) (x ∷ xs) shape all = (subst (λ (y : Placed). IsFound y.1) (sym (first_is shape)) all.0, found_notes ns xs (rest_is shape) all.1)
+found_notes (note ∷ ns) (x ∷ xs) shape all = (subst (λ (y : Placed). IsFoundThere y.1) (sym (first_is shape)) all.0, found_notes ns xs (rest_is shape) all.1)
 
-found_parts : (a act i : ℕ) (op : CallOp) (reply : Reply) (ns : List Note) → AreParts a act i op reply ns → AllByRecursion (λ (n : Note). IsFound n.entry) ns
+found_parts : (a act i : ℕ) (op : CallOp) (reply : Reply) (ns : List Note) → AreParts a act i op reply ns → AllByRecursion (λ (n : Note). IsFoundThere n.entry) ns
 found_parts a act i op reply ns parts = found_notes ns _ parts.whole (at_off (off_of reply) parts.rest parts.one) where
-  at_rest : (rest : List Placed) → IsOneInsert a act i reply parts.time rest → AllByRecursion (λ (x : Placed). IsFound x.1) rest
-  at_rest rest (inl none) = subst (AllByRecursion (λ (x : Placed). IsFound x.1)) (sym none) tt
-  at_rest rest (inr one) = subst (AllByRecursion (λ (x : Placed). IsFound x.1)) (sym one.4) ((λ h. cc), tt)
+  at_rest : (rest : List Placed) → IsOneInsert a act i reply parts.time rest → AllByRecursion (λ (x : Placed). IsFoundThere x.1) rest
+  at_rest rest (inl none) = subst (AllByRecursion (λ (x : Placed). IsFoundThere x.1)) (sym none) tt
+  at_rest rest (inr one) = subst (AllByRecursion (λ (x : Placed). IsFoundThere x.1)) (sym one.4) ((λ h. cc), tt)
 
   at_off : (o : Option ℕ) (rest : List Placed) → IsOneInsert a act i reply parts.time rest →
-      AllByRecursion (λ (x : Placed). IsFound x.1) ((removal_notes i (entry_of a act (Call op) reply) o ++ (place.Timer i, entry.Timer (entry_of a act (Call op) reply)) ∷ []) ++ rest)
+      AllByRecursion (λ (x : Placed). IsFoundThere x.1) ((removal_notes i (entry_of a act (Call op) reply) o ++ (place.Timer i, entry.Timer (entry_of a act (Call op) reply)) ∷ []) ++ rest)
   at_off None rest one = (tt, at_rest rest one)
   at_off (Some cpu) rest one = ((λ h. cc), (tt, at_rest rest one))
 
@@ -103,15 +103,15 @@ module _ (s : Script) (ok : IsScript s) (name : ServiceName) (a : ℕ) (p q : Pa
   spec : spec_in p.params i ≡ spec_at s i
   spec = ap (λ (r : _). spec_in r i) acting.of.params_are
 
-  pub call_ends : gone_on s c ns ≡ called c i false (Call op) reply
+  pub call_ends : gone_on s c ns ≡ call_made c i false (Call op) reply
   call_ends = call_goes s a act i op reply c ns acting.place.parcel acting.place.removed (acting_of s a c (Asks act (Callout i (Call op))) acting.place.parcel is tt) (call_parts s p q ns a act i op reply acting.actor spec call)
 
   pub acts_called : AreOf name (params_of s) q → q.actor ≡ p.actor → ((direct : Bool) (cpu : ℕ) → IsFree direct p cpu → IsFree direct q cpu) →
-      ((direct : Bool) (cpu : ℕ) (d : Due) (far : Progress) → IsServing direct p cpu d far → IsServing direct q cpu d far) → IsActing s name a q (gone_on s c ns) hold (notes ++ ns) made
+      ((direct : Bool) (cpu : ℕ) (d : Due) (far : ServiceStage) → IsServing direct p cpu d far → IsServing direct q cpu d far) → IsActing s name a q (gone_on s c ns) hold (notes ++ ns) made
   acts_called of same free serving =
       let speaks : is_acting c.stage ≡ true = acting_of s a c (Asks act (Callout i (Call op))) acting.place.parcel is tt in
-      let to : Cursor = called c i false (Call op) reply in
-      let place : IsPlaced s a to = called_placed s ok a act i c op reply (seen_of q i) is (call_told s p q ns a act i op reply acting.actor spec call) acting.place in
+      let to : Cursor = call_made c i false (Call op) reply in
+      let place : CursorFits s a to = called_placed s ok a act i c op reply (seen_of q i) is (call_told s p q ns a act i op reply acting.actor spec call) acting.place in
       subst (λ (k : Cursor). IsActing s name a q k hold (notes ++ ns) made) (sym call_ends)
       (record {
         of = of;

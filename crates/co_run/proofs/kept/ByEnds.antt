@@ -17,7 +17,7 @@ use Rattle.co_object.specs.Queue.{Due}
 use Rattle.co_object.specs.Group.{Placed, placed}
 use Rattle.co_lock.specs.declared.Held.{Held}
 use Rattle.co_program.specs.declared.Script.{Script}
-use Rattle.co_program.specs.declared.Service.{Service}
+use Rattle.co_program.specs.declared.InService.{InService}
 use Rattle.co_program.specs.declared.Role.{Role}
 use Rattle.co_program.specs.declared.Role.TheVariants.{Client, Cpu, Interrupt}
 use Rattle.co_program.specs.declared.Asked.TheVariants.{Queue, Callout}
@@ -26,7 +26,7 @@ use Rattle.co_program.specs.Stages.{Stage, Ending, Freeing}
 use Rattle.co_program.specs.Cursor.{Cursor}
 use Rattle.co_program.specs.Action.{Asks, action_with, spec_at, draining, action_for, scans_first, scans_with, free_of}
 use Rattle.co_program.specs.Actors.{role_of, cpu_of}
-use Rattle.co_program.specs.Advance.{advance, advance_callout, advance_queue, ended, drain_acts, parcel_of}
+use Rattle.co_program.specs.Advance.{advance, advance_callout, advance_queue, service_ended, drain_acts, parcel_of}
 use Rattle.co_program.specs.Existing.{ActionExists, StageExists, IsCallout}
 use Rattle.co_program.proofs.Existing.{action_exists}
 use Rattle.co_program.specs.Follows.{Histories}
@@ -50,9 +50,10 @@ use Rattle.co_service.specs.Services.{IsFree, IsServing, IsEnded, next_target, t
 use Rattle.co_service.specs.Serving.{Runs}
 use Rattle.co_service.specs.Views.{PassesView, AreOf}
 use Rattle.co_service.specs.Writes.{WritesAt, Writes}
-use Rattle.co_run.specs.Acting.{IsActing, IsPlaced, ServesAt, due_of, params_of}
-use Rattle.co_run.specs.Going.{GoesOn}
-use Rattle.co_run.specs.Shown.{IsFound}
+use Rattle.co_run.specs.Acting.{IsActing, CursorFits, ServesAt, params_of}
+use Rattle.co_world.specs.Placed.{due_in_service}
+use Rattle.co_run.specs.Going.{SeenBegins}
+use Rattle.co_run.specs.Shown.{IsFoundThere}
 use Rattle.co_run.proofs.follows.GoesBack.{goes_back}
 use Rattle.co_run.proofs.places.AfterSilentSteps.{stage_view}
 use Rattle.co_run.proofs.shown.OneMore.{shown_all, sized_all}
@@ -73,7 +74,7 @@ use Rattle.co_run.proofs.kept.Scanned.{none_within, scanned_on, scans_more}
 -- ---- where an actor ends a service
 
 pub record IsEndOf (s : Script) (role : Role) (c : Cursor) (stage : Stage) (act i n cpu : ℕ) : Type 0 where
-  pub service : Service
+  pub service : InService
   pub stage_is : stage ≡ Ending service
   pub act_is : act ≡ service.act
   pub i_is : i ≡ service.i
@@ -111,7 +112,7 @@ end_reply spec st op r t (deed.begins n cpu func arg after same taken runs) = tt
 end_reply spec st op r t (deed.skips n cpu is) = tt
 end_reply spec st op r t (deed.ends n cpu after drain woke same runs over) = tt
 
-draining_room : (longest : ℕ) (v : Service) (acts : List Act) → length acts ≤ longest → room_at longest (draining v acts) ≤ 3 * longest
+draining_room : (longest : ℕ) (v : InService) (acts : List Act) → length acts ≤ longest → room_at longest (draining v acts) ≤ 3 * longest
 draining_room longest v [] short = omega arith
 draining_room longest v (act ∷ acts) short = omega arith
 
@@ -134,7 +135,7 @@ module _ (s : Script) (ok : IsScript s) (name : ServiceName) (a : ℕ) (p : Pass
   pub ending : IsEndOf s role c c.stage act i n cpu
   ending = end_view s role c c.stage act i (Run (End n cpu)) (stage_view s a c (Asks act (Callout i (Run (End n cpu)))) acting.place.parcel is)
 
-  abbrev v : Service
+  abbrev v : InService
   v = ending.service
 
   fits_here : FitsRole s role c.left c.hold (Ending v)
@@ -146,7 +147,7 @@ module _ (s : Script) (ok : IsScript s) (name : ServiceName) (a : ℕ) (p : Pass
   abbrev due : Due
   due = record { i = i; n = n }
 
-  same_due : due_of v ≡ due
+  same_due : due_in_service v ≡ due
   same_due = λ d. record { i = sym ending.i_is d; n = sym ending.n_is d }
 
   pub end_here : cpu < s.cpus
@@ -209,7 +210,7 @@ module _ (s : Script) (ok : IsScript s) (name : ServiceName) (a : ℕ) (p : Pass
   last_goes drain (Some x) (m ∷ []) time shape = subst (λ (y : Placed). advance s (sending drain (Some x)) false y.0 y.1 ≡ after_end drain) (sym (first_is shape)) refl
   last_goes drain (Some x) (m ∷ k ∷ others) time shape = (let none = rest_is shape in cc)
 
-  last_leads : (b q : PassesView) (drain : Option ℕ) (next : Option Next) (told others : List Note) (time : ℕ) → map placed others ≡ inserted next time → Writes b others q → (H : Histories) → GoesOn H q →
+  last_leads : (b q : PassesView) (drain : Option ℕ) (next : Option Next) (told others : List Note) (time : ℕ) → map placed others ≡ inserted next time → Writes b others q → (H : Histories) → SeenBegins H q →
       Trace s H a (record { cursor = sending drain next; notes = told }) → Trace s H a (record { cursor = after_end drain; notes = told ++ others })
   last_leads b q drain None told [] time shape writes H goes trace = subst (λ (l : List Note). Trace s H a (record { cursor = after_end drain; notes = l })) (sym (no_more told)) trace
   last_leads b q drain None told (m ∷ others) time shape writes H goes trace = cc
@@ -222,7 +223,7 @@ module _ (s : Script) (ok : IsScript s) (name : ServiceName) (a : ℕ) (p : Pass
       subst (λ (k : Cursor). Trace s H a (record { cursor = k; notes = told ++ m ∷ [] })) (subst (λ (y : Placed). advance s (sending drain (Some x)) false y.0 y.1 ≡ after_end drain) (sym (first_is shape)) refl) led
   last_leads b q drain (Some x) told (m ∷ k ∷ others) time shape writes H goes trace = (let none = rest_is shape in cc)
 
-  found_inserted : (next : Option Next) (time : ℕ) → AllByRecursion (λ (x : Placed). IsFound x.1) (inserted next time)
+  found_inserted : (next : Option Next) (time : ℕ) → AllByRecursion (λ (x : Placed). IsFoundThere x.1) (inserted next time)
   found_inserted None time = tt
   found_inserted (Some x) time = ((λ h. cc), tt)
 
@@ -252,9 +253,9 @@ module _ (s : Script) (ok : IsScript s) (name : ServiceName) (a : ℕ) (p : Pass
     free_scans : scans_first (at_free drain next) ≡ 0
     free_scans = ap (scans_with (at_free drain next)) acting.place.parcel
 
-    two_lead : (H : Histories) → GoesOn H b2 → Trace s H a (record { cursor = at_send; notes = (notes ++ f ∷ []) ++ g ∷ [] })
+    two_lead : (H : Histories) → SeenBegins H b2 → Trace s H a (record { cursor = at_send; notes = (notes ++ f ∷ []) ++ g ∷ [] })
     two_lead H on =
-        let before : GoesOn H b1 = goes_back H b1 b2 (g ∷ []) (b2, w2, refl) on in
+        let before : SeenBegins H b1 = goes_back H b1 b2 (g ∷ []) (b2, w2, refl) on in
         let led = run.leads H before (acting.leads H (goes_back H p b1 (f ∷ []) (b1, w1, refl) before)) in
         let put : Trace s H a (record { cursor = at_free drain next; notes = notes ++ f ∷ [] }) =
         subst (λ (k : Cursor). Trace s H a (record { cursor = k; notes = notes ++ f ∷ [] })) (goes_first false) (timer_led H led) in
@@ -274,7 +275,7 @@ module _ (s : Script) (ok : IsScript s) (name : ServiceName) (a : ℕ) (p : Pass
         let fits = fits_queue s ok role c.left c.act c.now c.hold None c.parcel (Freeing v drain next) v.act (cpu_of s role) (free_of role) Freed (frees v drain next) (λ j m t h. cc) fits_free in
         subst (λ (k : Cursor). FitsRole s role k.left k.hold k.stage) (free_goes s role (at_free drain next) (cpu_of s role) Freed) fits
 
-    end_place : IsPlaced s a (after_end drain)
+    end_place : CursorFits s a (after_end drain)
     end_place = record {
       fits = fits_end;
       is_in = record { left = acting.place.is_in.left; stage = draining_exists s v (drain_acts s drain) here (drain_exists drain); parcel = tt };
@@ -290,8 +291,8 @@ module _ (s : Script) (ok : IsScript s) (name : ServiceName) (a : ℕ) (p : Pass
         let whole : Writes p (f ∷ g ∷ others) q = (b1, w1, (b2, w2, writes)) in
         let goes_all : gone_on s c (f ∷ g ∷ others) ≡ after_end drain =
         ap (λ (k : Cursor). gone_on s (advance s k (are_some others) g.place g.entry) others) (goes_first true) ∙ (ap (λ (k : Cursor). gone_on s k others) (goes_second (are_some others)) ∙ last_goes drain next others time shape) in
-        let found : AllByRecursion (λ (m : Note). IsFound m.entry) (f ∷ g ∷ others) =
-        (subst (λ (x : Placed). IsFound x.1) (sym f_at) tt, (subst (λ (x : Placed). IsFound x.1) (sym g_at) (λ h. cc), found_notes others (inserted next time) shape (found_inserted next time))) in (
+        let found : AllByRecursion (λ (m : Note). IsFoundThere m.entry) (f ∷ g ∷ others) =
+        (subst (λ (x : Placed). IsFoundThere x.1) (sym f_at) tt, (subst (λ (x : Placed). IsFoundThere x.1) (sym g_at) (λ h. cc), found_notes others (inserted next time) shape (found_inserted next time))) in (
           subst (λ (k : Cursor). IsActing s name a q k hold (notes ++ f ∷ g ∷ others) made) (sym goes_all)
               (record {
                 of = of;
@@ -304,7 +305,7 @@ module _ (s : Script) (ok : IsScript s) (name : ServiceName) (a : ℕ) (p : Pass
                 serves = to_lane s role direct q (draining v (drain_acts s drain)) server lane (serves_draining direct q (cpu_of s role) v (drain_acts s drain) (subst (IsFree direct q) ending.cpu_is free));
                 shown = shown_all s a made p q notes (f ∷ g ∷ others) acting.actor acting.sized found whole acting.shown;
                 leads = λ H goes.
-                    let on : GoesOn H b2 = goes_back H b2 q others writes goes in
+                    let on : SeenBegins H b2 = goes_back H b2 q others writes goes in
                     let led = last_leads b2 q drain next ((notes ++ f ∷ []) ++ g ∷ []) others time shape writes H goes (two_lead H on) in
                     subst (λ (l : List Note). Trace s H a (record { cursor = after_end drain; notes = l })) (append_assoc (notes ++ f ∷ []) (g ∷ []) others ∙ append_assoc notes (f ∷ []) (g ∷ others)) led;
               }),
@@ -323,12 +324,12 @@ module _ (s : Script) (ok : IsScript s) (name : ServiceName) (a : ℕ) (p : Pass
   closed_by q reply time f g others h f_at g_at shape writes of same free = absurd h
 
   pub acts_ended : (q : PassesView) (reply : Reply) (ns : List Note) → IsEnded direct p cpu act due reply ns q → AreOf name (params_of s) q → q.actor ≡ p.actor → IsFree direct q cpu → IsEndKept q ns
-  acts_ended q reply ns ended of same free =
-      let parts = cut (place.Timer i, entry.Timer (run_of p.actor act (End n cpu) reply)) (place.Cpu cpu, entry.Cpu (record { actor = p.actor; act = act; op = lane_free direct; reply = Freed })) (landing p act i (next_target reply) ended.time) ns ended.notes_are in
-      let writes : Writes p (parts.first ∷ parts.second ∷ parts.others) q = subst (λ (l : List Note). Writes p l q) parts.all ended.written in
+  acts_ended q reply ns service_ended of same free =
+      let parts = cut (place.Timer i, entry.Timer (run_of p.actor act (End n cpu) reply)) (place.Cpu cpu, entry.Cpu (record { actor = p.actor; act = act; op = lane_free direct; reply = Freed })) (landing p act i (next_target reply) service_ended.time) ns service_ended.notes_are in
+      let writes : Writes p (parts.first ∷ parts.second ∷ parts.others) q = subst (λ (l : List Note). Writes p l q) parts.all service_ended.written in
       let f_at : placed parts.first ≡ (place.Timer i, entry.Timer (run_of a act (End n cpu) reply)) = subst (λ (b : ℕ). placed parts.first ≡ (place.Timer i, entry.Timer (run_of b act (End n cpu) reply))) acting.actor parts.first_at in
       let g_at : placed parts.second ≡ (place.Cpu cpu, entry.Cpu (record { actor = a; act = act; op = lane_free direct; reply = Freed })) =
       subst (λ (b : ℕ). placed parts.second ≡ (place.Cpu cpu, entry.Cpu (record { actor = b; act = act; op = lane_free direct; reply = Freed }))) acting.actor parts.second_at in
       let run : IsRun s a c notes p i (End n cpu) reply parts.first writes.0 = run_step s a p writes.0 c notes act i (End n cpu) reply parts.first (ap (λ (r : Params). spec_in r i) acting.of.params_are) is f_at writes.1 in
       let replies : IsEndReply (Run (End n cpu)) reply = end_reply (spec_at s i) run.before (Run (End n cpu)) reply run.served.after (did (spec_at s i) run.before (Run (End n cpu)) (run.served.after, reply) run.served.answers) in
-      subst (IsEndKept q) (sym parts.all) (closed_by q reply ended.time parts.first parts.second parts.others replies f_at g_at parts.others_are writes of same free)
+      subst (IsEndKept q) (sym parts.all) (closed_by q reply service_ended.time parts.first parts.second parts.others replies f_at g_at parts.others_are writes of same free)

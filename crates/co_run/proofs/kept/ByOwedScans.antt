@@ -18,16 +18,16 @@ use Rattle.co_program.specs.Indexed.{cursor_as, stage_of}
 use Rattle.co_program.specs.Stages.{Ready}
 use Rattle.co_world.proofs.kept.Invariant.{under_way}
 use Rattle.co_service.specs.declared.outs.Scanned.{Scanned}
-use Rattle.co_service.specs.Outcomes.{IsScan, turn}
+use Rattle.co_service.specs.Outcomes.{IsScan, queue_entry_by}
 use Rattle.co_service.specs.Services.{IsFree}
 use Rattle.co_service.specs.Views.{PassesView, journal_seen}
 use Rattle.co_service.specs.Writes.{WritesAt}
-use Rattle.co_run.specs.Acting.{HasAllScans, HasScanned, Serves}
+use Rattle.co_run.specs.Acting.{HasAllScans, HasScanned, ServesAsStage}
 use Rattle.co_run.proofs.kept.Scanned.{scans_once}
 
 pub scan_counts : (p q : PassesView) (cpu act now : ℕ) (out : Scanned) → IsScan p cpu act now out q → scan_count (journal_seen p cpu) + 1 ≤ scan_count (journal_seen q cpu)
 scan_counts p q cpu act now out scan =
-    let e : QEntry = turn p act (Scan now) (Count out.count) in
+    let e : QEntry = queue_entry_by p act (Scan now) (Count out.count) in
     let at : placed out.note ≡ (place.Cpu cpu, entry.Cpu e) = λ d. (scan.note.place d, scan.note.entry d) in
     let w : WritesAt p out.note.place out.note.entry out.note.pos q = subst (WritesAt p out.note.place out.note.entry out.note.pos) (sym scan.written.2) scan.written.1 in
     scans_once p q cpu out.note.pos e refl (subst (λ (x : Placed). WritesAt p x.0 x.1 out.note.pos q) at w)
@@ -50,7 +50,7 @@ none_owed s (Client k) q other = tt
 none_owed s (Cpu x) q other = tt
 none_owed s (Interrupt x) q other = absurd (other x refl)
 
-pub serves_still : (role : Role) (p q : PassesView) → ((direct : Bool) (x : ℕ) → IsFree direct p x → IsFree direct q x) → Serves role p Ready → Serves role q Ready
+pub serves_still : (role : Role) (p q : PassesView) → ((direct : Bool) (x : ℕ) → IsFree direct p x → IsFree direct q x) → ServesAsStage role p Ready → ServesAsStage role q Ready
 serves_still (Client k) p q free h = tt
 serves_still (Cpu x) p q free h = free false x h
 serves_still (Interrupt x) p q free h = free true x h

@@ -22,7 +22,7 @@ use Rattle.co_object.specs.Group.{Placed, placed}
 use Rattle.co_lock.specs.declared.Held.{Held}
 use Rattle.co_program.specs.declared.Script.{Script}
 use Rattle.co_program.specs.declared.Task.TheVariants.{Soft}
-use Rattle.co_program.specs.declared.Service.{Service}
+use Rattle.co_program.specs.declared.InService.{InService}
 use Rattle.co_program.specs.declared.Role.{Role}
 use Rattle.co_program.specs.declared.Role.TheVariants.{Client, Cpu, Interrupt}
 use Rattle.co_program.specs.declared.Asked.TheVariants.{Queue, Callout}
@@ -31,7 +31,7 @@ use Rattle.co_program.specs.Stages.{Stage, Ready, Popping, Picking}
 use Rattle.co_program.specs.Cursor.{Cursor}
 use Rattle.co_program.specs.Action.{Asks, action_with, spec_at, firing, action_for, scans_first, pop_of, free_of}
 use Rattle.co_program.specs.Actors.{role_of, cpu_of}
-use Rattle.co_program.specs.Advance.{tail_of, advance, advance_queue, popped, got, picked}
+use Rattle.co_program.specs.Advance.{tail_of, advance, advance_queue, popped, pop_answered, service_picked}
 use Rattle.co_program.specs.Existing.{ActionExists, IsCallout}
 use Rattle.co_program.proofs.Existing.{action_exists}
 use Rattle.co_program.specs.Follows.{Histories, scan_count, one_scan}
@@ -46,17 +46,17 @@ use Rattle.co_world.proofs.follows.Traces.{Trace}
 use Rattle.co_service.specs.declared.outs.Taken.{Taken}
 use Rattle.co_service.specs.declared.outs.Taken.TheVariants.{Empty as Nothing, Took}
 use Rattle.co_service.specs.Name.{ServiceName}
-use Rattle.co_service.specs.Outcomes.{turn}
+use Rattle.co_service.specs.Outcomes.{queue_entry_by}
 use Rattle.co_service.specs.Params.{actors_of}
 use Rattle.co_service.specs.Services.{IsFree, IsServing, IsTaken, IsNothing, IsTaking, HasNext, FollowsScans}
 use Rattle.co_service.specs.Desk.{scans_in, is_scan}
-use Rattle.co_service.specs.Serving.{picked as progress}
+use Rattle.co_service.specs.Serving.{stage_picked as progress}
 use Rattle.co_wheel.specs.Turns.{pop_of as lane_pop}
 use Rattle.co_service.specs.Views.{PassesView, AreOf, journal_seen}
 use Rattle.co_service.specs.Writes.{WritesAt}
-use Rattle.co_run.specs.Acting.{IsActing, Serves, ServesAt, params_of}
-use Rattle.co_run.specs.Going.{GoesOn}
-use Rattle.co_run.specs.Shown.{IsFound}
+use Rattle.co_run.specs.Acting.{IsActing, ServesAsStage, ServesAt, params_of}
+use Rattle.co_run.specs.Going.{SeenBegins}
+use Rattle.co_run.specs.Shown.{IsFoundThere}
 use Rattle.co_run.proofs.follows.EachAnswer.{turn_step}
 use Rattle.co_run.proofs.follows.GoesBack.{goes_back}
 use Rattle.co_run.proofs.places.AfterSilentSteps.{stage_view}
@@ -110,7 +110,7 @@ pub record IsPopping (s : Script) (role : Role) (c : Cursor) (stage : Stage) (ac
   pub cpu_is : cpu ≡ cpu_of s role
   -- the number of the next act then
   pub next : ℕ
-  pub goes : (reply : QReply) → popped c reply stage ≡ got (record c { act = next }) act reply
+  pub goes : (reply : QReply) → popped c reply stage ≡ pop_answered (record c { act = next }) act reply
   pub free : (direct : Bool) (q : PassesView) → ServesAt direct q cpu stage → IsFree direct q cpu
   pub under : IsUnderWay role stage
 
@@ -126,7 +126,7 @@ is_pop : (direct : Bool) → IsPopOp (lane_pop direct)
 is_pop true = tt
 is_pop false = tt
 
-firing_room : (longest : ℕ) (v : Service) (hold : Option Held) (acts : List Act) → length acts ≤ longest → room_at longest (firing v hold acts) ≤ 6 + 6 * longest
+firing_room : (longest : ℕ) (v : InService) (hold : Option Held) (acts : List Act) → length acts ≤ longest → room_at longest (firing v hold acts) ≤ 6 + 6 * longest
 firing_room longest v hold (act ∷ acts) short = omega arith
 firing_room longest v None [] short = omega arith
 firing_room longest v (Some held) [] short = omega arith
@@ -139,12 +139,12 @@ same_lane (Cpu x) false h is = refl
 same_lane (Interrupt x) true h is = refl
 same_lane (Interrupt x) false h is = cc
 
-pub from_lane : (s : Script) (role : Role) (direct : Bool) (q : PassesView) (stage : Stage) → IsServer role → serves_direct role ≡ direct → Serves role q stage → ServesAt direct q (cpu_of s role) stage
+pub from_lane : (s : Script) (role : Role) (direct : Bool) (q : PassesView) (stage : Stage) → IsServer role → serves_direct role ≡ direct → ServesAsStage role q stage → ServesAt direct q (cpu_of s role) stage
 from_lane s (Client k) direct q stage h is serves = absurd h
 from_lane s (Cpu x) direct q stage h is serves = subst (λ (b : Bool). ServesAt b q x stage) is serves
 from_lane s (Interrupt x) direct q stage h is serves = subst (λ (b : Bool). ServesAt b q x stage) is serves
 
-pub to_lane : (s : Script) (role : Role) (direct : Bool) (q : PassesView) (stage : Stage) → IsServer role → serves_direct role ≡ direct → ServesAt direct q (cpu_of s role) stage → Serves role q stage
+pub to_lane : (s : Script) (role : Role) (direct : Bool) (q : PassesView) (stage : Stage) → IsServer role → serves_direct role ≡ direct → ServesAt direct q (cpu_of s role) stage → ServesAsStage role q stage
 to_lane s (Client k) direct q stage h is serves = tt
 to_lane s (Cpu x) direct q stage h is serves = subst (λ (b : Bool). ServesAt b q x stage) (sym is) serves
 to_lane s (Interrupt x) direct q stage h is serves = subst (λ (b : Bool). ServesAt b q x stage) (sym is) serves
@@ -171,7 +171,7 @@ module _ (s : Script) (ok : IsScript s) (name : ServiceName) (a : ℕ) (p : Pass
 
   -- the place after the Pop
   abbrev after_pop : QReply → Cursor
-  after_pop reply = got (record c { act = popping.next }) act reply
+  after_pop reply = pop_answered (record c { act = popping.next }) act reply
 
   pop_leads_to : (reply : QReply) (note : Note) → placed note ≡ (place.Cpu cpu, entry.Cpu (record { actor = a; act = act; op = lane_pop direct; reply = reply })) → (b : Bool) → advance s c b note.place note.entry ≡ after_pop reply
   pop_leads_to reply note at b =
@@ -180,14 +180,14 @@ module _ (s : Script) (ok : IsScript s) (name : ServiceName) (a : ℕ) (p : Pass
 
   module _ (scans : ℕ) (scans_is : scans ≡ scans_first c) where
     pop_leads : (H : Histories) (between : PassesView) (reply : QReply) (note : Note) → placed note ≡ (place.Cpu cpu, entry.Cpu (record { actor = a; act = act; op = lane_pop direct; reply = reply })) →
-        WritesAt p note.place note.entry note.pos between → FollowsScans scans (journal_seen between cpu) → GoesOn H between → GoesOn H p → Trace s H a (record { cursor = after_pop reply; notes = notes ++ note ∷ [] })
+        WritesAt p note.place note.entry note.pos between → FollowsScans scans (journal_seen between cpu) → SeenBegins H between → SeenBegins H p → Trace s H a (record { cursor = after_pop reply; notes = notes ++ note ∷ [] })
     pop_leads H between reply note at w follows on before =
         let e : QEntry = record { actor = a; act = act; op = lane_pop direct; reply = reply } in
         let led = turn_step s a H p between c notes act cpu (lane_pop direct) reply note (acting.leads H before) is
         (λ front h. let enough = follows front e h in subst (λ (n : ℕ). n ≤ scan_count front) scans_is (subst (λ (n : ℕ). scans ≤ n) (same_scans front) enough)) at w (on.cpus cpu) (on.few_cpus cpu) in
         subst (λ (k : Cursor). Trace s H a (record { cursor = k; notes = notes ++ note ∷ [] })) (pop_leads_to reply note at false) led
 
-    mine : (reply : QReply) (note : Note) → placed note ≡ (place.Cpu cpu, entry.Cpu (turn p act (lane_pop direct) reply)) → placed note ≡ (place.Cpu cpu, entry.Cpu (record { actor = a; act = act; op = lane_pop direct; reply = reply }))
+    mine : (reply : QReply) (note : Note) → placed note ≡ (place.Cpu cpu, entry.Cpu (queue_entry_by p act (lane_pop direct) reply)) → placed note ≡ (place.Cpu cpu, entry.Cpu (record { actor = a; act = act; op = lane_pop direct; reply = reply }))
     mine reply note at = subst (λ (b : ℕ). placed note ≡ (place.Cpu cpu, entry.Cpu (record { actor = b; act = act; op = lane_pop direct; reply = reply }))) acting.actor at
 
     -- nothing had come due
@@ -207,13 +207,13 @@ module _ (s : Script) (ok : IsScript s) (name : ServiceName) (a : ℕ) (p : Pass
           place = record { fits = fits; is_in = record { left = tail_exists _ c.left acting.place.is_in.left; stage = tt; parcel = acting.place.is_in.parcel }; locks = tail_exists _ c.left acting.place.locks; parcel = acting.place.parcel; removed = acting.place.removed; between = tt };
           scanned = scanned_on s role p q c.left (tail_of c.left) c.stage Ready (scans_more p q (note ∷ []) nothing.written) (none_ended role c.left c.stage popping.under) acting.scanned;
           serves = to_lane s role direct q Ready popping.server lane (subst (IsFree direct q) popping.cpu_is free);
-          shown = shown_all s a made p q notes (note ∷ []) acting.actor acting.sized (subst (λ (x : Placed). IsFound x.1) (sym at) (λ h. cc), tt) nothing.written acting.shown;
+          shown = shown_all s a made p q notes (note ∷ []) acting.actor acting.sized (subst (λ (x : Placed). IsFoundThere x.1) (sym at) (λ h. cc), tt) nothing.written acting.shown;
           leads = λ H goes. pop_leads H q Empty note at w follows goes (goes_back H p q (note ∷ []) nothing.written goes);
         }
 
     -- a callout is taken into service
     module _ (q : PassesView) (i n time : ℕ) (reply : Reply) (pop pick : Note) (took : IsTaking direct p cpu act i n time reply pop pick q) where
-      abbrev service : Service
+      abbrev service : InService
       service = record { act = act; i = i; n = n; at = time }
 
       abbrev at_pick : Cursor
@@ -221,7 +221,7 @@ module _ (s : Script) (ok : IsScript s) (name : ServiceName) (a : ℕ) (p : Pass
 
       -- the place after the Pick
       abbrev after_took : Reply → Cursor
-      after_took r = picked s (record c { act = popping.next; stage = Picking service; removed = None }) service r
+      after_took r = service_picked s (record c { act = popping.next; stage = Picking service; removed = None }) service r
 
       abbrev between : PassesView
       between = took.written.0
@@ -328,9 +328,9 @@ module _ (s : Script) (ok : IsScript s) (name : ServiceName) (a : ℕ) (p : Pass
             place = record { fits = fits_pick; is_in = rest.is_in; locks = rest.locks; parcel = rest.parcel; removed = rest.removed; between = rest.between };
             scanned = scanned_on s role p q c.left (after_took reply).left c.stage (after_took reply).stage (scans_more p q (pop ∷ pick ∷ []) took.written) (none_within role c.left (after_took reply).left c.stage (after_took reply).stage rest.same popping.under) acting.scanned;
             serves = to_lane s role direct q (after_took reply).stage popping.server lane (subst (λ (x : ℕ). ServesAt direct q x (after_took reply).stage) popping.cpu_is (rest.serves serving));
-            shown = shown_all s a made p q notes (pop ∷ pick ∷ []) acting.actor acting.sized (subst (λ (x : Placed). IsFound x.1) (sym pop_at) (λ h. cc), (subst (λ (x : Placed). IsFound x.1) (sym pick_at) tt, tt)) took.written acting.shown;
+            shown = shown_all s a made p q notes (pop ∷ pick ∷ []) acting.actor acting.sized (subst (λ (x : Placed). IsFoundThere x.1) (sym pop_at) (λ h. cc), (subst (λ (x : Placed). IsFoundThere x.1) (sym pick_at) tt, tt)) took.written acting.shown;
             leads = λ H goes.
-                let on : GoesOn H between = goes_back H between q (pick ∷ []) (q, last, refl) goes in
+                let on : SeenBegins H between = goes_back H between q (pick ∷ []) (q, last, refl) goes in
                 let kept : journal_seen q cpu ≡ journal_seen between cpu = (let w = subst (λ (x : Placed). WritesAt between x.0 x.1 pick.pos q) pick_at last in ap (λ (x : PassesView). journal_seen x cpu) w.1.passes) in
                 let popped_now = pop_leads H between (Got i n time) pop pop_at took.written.1 (subst (FollowsScans scans) kept follows) on (goes_back H p q (pop ∷ pick ∷ []) took.written goes) in
                 let led = run.leads H goes popped_now in

@@ -33,13 +33,13 @@ use Rattle.co_world.proofs.basics.Roles.{cpu_number, interrupt_number, interrupt
 use Rattle.co_world.proofs.kept.Stages.{fits_queue, first_task}
 use Rattle.co_service.specs.declared.outs.Scanned.{Scanned}
 use Rattle.co_service.specs.Name.{ServiceName}
-use Rattle.co_service.specs.Outcomes.{IsScan, turn}
+use Rattle.co_service.specs.Outcomes.{IsScan, queue_entry_by}
 use Rattle.co_service.specs.Params.{actors_of}
 use Rattle.co_service.specs.Services.{IsFree}
 use Rattle.co_service.specs.Views.{PassesView, AreOf, journal_seen}
 use Rattle.co_service.specs.Writes.{WritesAt}
-use Rattle.co_run.specs.Acting.{HasScanned, IsActing, IsPlaced, Serves, params_of}
-use Rattle.co_run.specs.Shown.{IsFound}
+use Rattle.co_run.specs.Acting.{HasScanned, IsActing, CursorFits, ServesAsStage, params_of}
+use Rattle.co_run.specs.Shown.{IsFoundThere}
 use Rattle.co_run.proofs.follows.EachAnswer.{turn_step}
 use Rattle.co_run.proofs.follows.GoesBack.{goes_back}
 use Rattle.co_run.proofs.places.AfterSilentSteps.{stage_view}
@@ -89,7 +89,7 @@ scanner_of s a (Interrupt x) time below is task =
     let test : (s.version == 1) ≡ false = grind (arith, nat_tests, two) in
     n ∙ ap (λ (b : Bool). cond b (client_count s + x) (client_count s + s.cpus + x)) (sym test)
 
-free_kept : (role : Role) (p q : PassesView) (act : ℕ) → ((direct : Bool) (cpu : ℕ) → IsFree direct p cpu → IsFree direct q cpu) → Serves role p Ready → Serves role q (Popping act)
+free_kept : (role : Role) (p q : PassesView) (act : ℕ) → ((direct : Bool) (cpu : ℕ) → IsFree direct p cpu → IsFree direct q cpu) → ServesAsStage role p Ready → ServesAsStage role q (Popping act)
 free_kept (Client k) p q act free h = tt
 free_kept (Cpu x) p q act free h = free false x h
 free_kept (Interrupt x) p q act free h = free true x h
@@ -114,7 +114,7 @@ module _ (s : Script) (ok : IsScript s) (name : ServiceName) (a : ℕ) (p : Pass
   to = record c { act = c.act + 1; stage = Popping c.act }
 
   module _ (q : PassesView) (out : Scanned) (scan : IsScan p cpu act now out q) where
-    at : placed out.note ≡ (place.Cpu cpu, entry.Cpu (turn p act (Scan now) (Count out.count)))
+    at : placed out.note ≡ (place.Cpu cpu, entry.Cpu (queue_entry_by p act (Scan now) (Count out.count)))
     at = λ d. (scan.note.place d, scan.note.entry d)
 
     pub scan_goes : advance s c false out.note.place out.note.entry ≡ to
@@ -126,8 +126,8 @@ module _ (s : Script) (ok : IsScript s) (name : ServiceName) (a : ℕ) (p : Pass
         let mine : placed out.note ≡ (place.Cpu cpu, entry.Cpu e) = subst (λ (b : ℕ). placed out.note ≡ (place.Cpu cpu, entry.Cpu (record { actor = b; act = act; op = Scan now; reply = Count out.count }))) acting.actor at in
         let w : WritesAt p out.note.place out.note.entry out.note.pos q = subst (WritesAt p out.note.place out.note.entry out.note.pos) (sym scan.written.2) scan.written.1 in
         let none : scans_first c ≡ 0 = ap (scans_with c) acting.place.parcel ∙ (ap (scans_at c) scanning.ready ∙ ap scans_of scanning.tasks) in
-        let found : IsFound out.note.entry = subst (λ (x : Placed). IsFound x.1) (sym mine) (λ h. cc) in
-        let placed_now : IsPlaced s a to = record {
+        let found : IsFoundThere out.note.entry = subst (λ (x : Placed). IsFoundThere x.1) (sym mine) (λ h. cc) in
+        let placed_now : CursorFits s a to = record {
           fits = fits_queue s ok (role_of s a) c.left c.act c.now c.hold c.removed c.parcel c.stage act cpu (Scan now) (Count out.count) view (λ i n time h. cc) acting.place.fits;
           is_in = record { left = acting.place.is_in.left; stage = tt; parcel = acting.place.is_in.parcel };
           locks = acting.place.locks;
@@ -141,11 +141,11 @@ module _ (s : Script) (ok : IsScript s) (name : ServiceName) (a : ℕ) (p : Pass
           below = acting.below;
           sized = sized_all s p q (out.note ∷ []) scan.written acting.sized;
           held = acting.held ∙ sym (ap (λ (k : Cursor). k.hold) scan_goes);
-          place = subst (IsPlaced s a) (sym scan_goes) placed_now;
+          place = subst (CursorFits s a) (sym scan_goes) placed_now;
           scanned = subst (λ (k : Cursor). HasScanned s (role_of s a) q k.left k.stage) (sym scan_goes)
               (scanned_once s (role_of s a) p q c.left c.act (subst (λ (x : ℕ). scan_count (journal_seen p x) + 1 ≤ scan_count (journal_seen q x)) scanning.cpu_is (scans_once p q cpu out.note.pos e refl (subst (λ (x : Placed). WritesAt p x.0 x.1 out.note.pos q) mine w)))
               (subst (HasScanned s (role_of s a) p c.left) scanning.ready acting.scanned));
-          serves = subst (λ (k : Cursor). Serves (role_of s a) q k.stage) (sym scan_goes) (free_kept (role_of s a) p q c.act free (subst (Serves (role_of s a) p) scanning.ready acting.serves));
+          serves = subst (λ (k : Cursor). ServesAsStage (role_of s a) q k.stage) (sym scan_goes) (free_kept (role_of s a) p q c.act free (subst (ServesAsStage (role_of s a) p) scanning.ready acting.serves));
           shown = shown_all s a made p q notes (out.note ∷ []) acting.actor acting.sized (found, tt) scan.written acting.shown;
           leads = λ H goes. turn_step s a H p q c notes act cpu (Scan now) (Count out.count) out.note (acting.leads H (goes_back H p q (out.note ∷ []) scan.written goes)) is
               (λ before h. omega (arith, none)) mine w (goes.cpus cpu) (goes.few_cpus cpu);

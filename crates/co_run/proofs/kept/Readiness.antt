@@ -5,13 +5,13 @@ use Rattle.co_program.specs.declared.script.Script.{Script}
 use Rattle.co_program.specs.Indexed.{IsCounted}
 use Rattle.co_program.specs.Stages.{Stage, Ready, Waiting, Popping, Picking, Locking, Beginning, Unlocking, Firing, Releasing, Ending, Freeing, Drained}
 use Rattle.co_service.specs.Name.{ServiceName}
-use Rattle.co_run.specs.Ready.{IsReady, place_of}
+use Rattle.co_run.specs.Ready.{IsReady, actor_cursor}
 use Rattle.co_run.specs.Roomy.{is_resting, room_at}
 use Rattle.co_run.specs.declared.actor.Actor.{Actor}
 use Rattle.co_run.proofs.kept.ByCalls.{acting_same}
 
 module _ {B : Type 0} {notes : B → List Note} {spare : B → ℕ} {s : Script} {longest : ℕ} {name : ServiceName} where
-  pub other_book : (actor : Actor B) (book : B) → IsReady notes spare s longest name actor → notes book ≡ notes actor.book → length (notes book) + spare book < 2 ^ 56 → room_at longest (place_of s actor).stage ≤ spare book →
+  pub other_book : (actor : Actor B) (book : B) → IsReady notes spare s longest name actor → notes book ≡ notes actor.book → length (notes book) + spare book < 2 ^ 56 → room_at longest (actor_cursor s actor).stage ≤ spare book →
       IsReady notes spare s longest name (record actor { book = book })
   other_book actor book ready same few room = record {
     acting = acting_same ready.acting refl refl refl same refl;

@@ -18,7 +18,7 @@ use Rattle.co_program.specs.Stages.{Stage, Ready, Waiting, Popping, Locking, Beg
 use Rattle.co_program.specs.Cursor.{Cursor}
 use Rattle.co_program.specs.Action.{Action, Silent, Take, firing, draining}
 use Rattle.co_program.specs.Actors.{acts_at, cpu_of, program_of}
-use Rattle.co_program.specs.Advance.{act_over, called, tail_of}
+use Rattle.co_program.specs.Advance.{act_over, call_made, tail_of}
 use Rattle.co_program.specs.Follows.{one_scan, scan_count}
 use Rattle.co_world.proofs.basics.Actions.{IsAction, drops, passes, grabs, tells, asks, drains, enters, unlocks, releases}
 use Rattle.co_world.proofs.basics.Prefixes.{Begins}
@@ -157,7 +157,7 @@ module _ (s : Script) (role : Role) (c : Cursor) where
 
   -- a call
   pub call_none : (due : Action) (i : ℕ) (op : Op) (reply : Reply) → IsAction s role c c.stage due → IsSpoken due → FitsRole s role c.left c.hold c.stage →
-      BeginsNone role c.left c.stage (called c i false op reply).left (called c i false op reply).stage
+      BeginsNone role c.left c.stage (call_made c i false op reply).left (call_made c i false op reply).stage
   call_none due i op reply view h fits =
       called_kinds (λ (k : Cursor). BeginsNone role c.left c.stage k.left k.stage) c i op reply (own_none due view h fits)
       (λ n took. none_within role c.left c.left c.stage (Waiting n took) refl (speaks_under c.stage due view h fits))

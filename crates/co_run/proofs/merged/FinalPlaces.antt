@@ -9,16 +9,16 @@ use Rattle.co_object.specs.declared.note.AnyEntry.{AnyEntry}
 use Rattle.co_object.specs.declared.note.Note.{Note}
 use Rattle.co_object.specs.declared.note.Place.{Place}
 use Rattle.co_object.specs.declared.note.Place.TheVariants as at
-use Rattle.co_object.specs.Lists.{notes_of}
+use Rattle.co_object.specs.Lists.{actor_of, notes_of}
 use Rattle.co_object.proofs.Passing.{passing}
 use Rattle.co_program.specs.declared.script.Script.{Script}
 use Rattle.co_service.specs.Name.{ServiceName}
 use Rattle.co_service.specs.Seats.{IsShown}
 use Rattle.co_service.specs.Views.{PassesView}
 use Rattle.co_service.proofs.Items.{get_or_of}
-use Rattle.co_run.specs.Over.{AreOver, IsOver}
-use Rattle.co_run.specs.Shown.{AreAlike, any_by}
-use Rattle.co_run.specs.Told.{AreBelow, AreToldFrom, IsGathered, owned, placed_from, told}
+use Rattle.co_run.specs.Over.{AreOver, IsActorOver}
+use Rattle.co_run.specs.Shown.{AreTheseEntries}
+use Rattle.co_run.specs.Told.{AreBelow, AreToldFrom, IsGathered, owned, placed_from, told_note}
 use Rattle.co_run.proofs.merged.Gathered.{gathered_lists}
 use Rattle.co_run.proofs.shown.OwnEntries.{owned-shown}
 use Rattle.co_run.proofs.shown.OneMore.{few_of}
@@ -53,16 +53,16 @@ module _ {Y : Type 0} where
 
 -- ---- as many notes as entries
 
-alike_long : (ns : List Note) (ys : List (ℕ × AnyEntry)) → AreAlike ns ys → length ns ≡ length ys
+alike_long : (ns : List Note) (ys : List (ℕ × AnyEntry)) → AreTheseEntries ns ys → length ns ≡ length ys
 alike_long [] [] h = refl
 alike_long (n ∷ ns) (y ∷ ys) h = ap suc (alike_long ns ys h.2)
 alike_long [] (y ∷ ys) h = absurd h
 alike_long (n ∷ ns) [] h = absurd h
 
-told_alike : (ns : List Note) (ys : List (ℕ × AnyEntry)) → AllByRecursion (λ (y : ℕ × AnyEntry). y.0 < 2 ^ 63) ys → AreAlike ns ys → map told ns ≡ ys
+told_alike : (ns : List Note) (ys : List (ℕ × AnyEntry)) → AllByRecursion (λ (y : ℕ × AnyEntry). y.0 < 2 ^ 63) ys → AreTheseEntries ns ys → map told_note ns ≡ ys
 told_alike [] [] all h = refl
 told_alike (n ∷ ns) (y ∷ ys) all h =
-    ap (λ (p : ℕ). (p, n.entry) ∷ map told ns) (h.0.0 all.0) ∙ (ap (λ (e : AnyEntry). (y.0, e) ∷ map told ns) h.1 ∙ ap (λ (l : List (ℕ × AnyEntry)). y ∷ l) (told_alike ns ys all.1 h.2))
+    ap (λ (p : ℕ). (p, n.entry) ∷ map told_note ns) (h.0.0 all.0) ∙ (ap (λ (e : AnyEntry). (y.0, e) ∷ map told_note ns) h.1 ∙ ap (λ (l : List (ℕ × AnyEntry)). y ∷ l) (told_alike ns ys all.1 h.2))
 told_alike [] (y ∷ ys) all h = absurd h
 told_alike (n ∷ ns) [] all h = absurd h
 
@@ -74,7 +74,7 @@ module _ (by : AnyEntry → ℕ) (place : Place) (H : List AnyEntry) where
   -- the notes of each actor, from this one on, are its entries
   abbrev pub AreAlikeFrom : ℕ → List (List Note) → Type 0
   AreAlikeFrom a [] = Unit {0}
-  AreAlikeFrom a (notes ∷ lists) = AreAlike (notes_of place notes) (owned by a H) × (length notes < 2 ^ 56) × AreAlikeFrom (a + 1) lists
+  AreAlikeFrom a (notes ∷ lists) = AreTheseEntries (notes_of place notes) (owned by a H) × (length notes < 2 ^ 56) × AreAlikeFrom (a + 1) lists
 
   mine_long : (a n : ℕ) (xs : List AnyEntry) → length (filter (λ (y : ℕ × AnyEntry). by y.1 == a) (placed_from n xs)) ≡ passing (λ x. by x == a) xs
   mine_long a n [] = refl
@@ -141,21 +141,21 @@ module _ (by : AnyEntry → ℕ) (place : Place) (H : List AnyEntry) where
 
 -- ---- entries of one kind
 
-module _ {E : Type 0} (f : E → AnyEntry) (by : E → ℕ) (same : (e : E) → any_by (f e) ≡ by e) where
-  own_map : (a : ℕ) (xs : List E) → own any_by a (map f xs) ≡ map f (own by a xs)
+module _ {E : Type 0} (f : E → AnyEntry) (by : E → ℕ) (same : (e : E) → actor_of (f e) ≡ by e) where
+  own_map : (a : ℕ) (xs : List E) → own actor_of a (map f xs) ≡ map f (own by a xs)
   own_map a [] = refl
-  own_map a (x ∷ xs) = ap (λ (m : ℕ). cond (m == a) (f x ∷ own any_by a (map f xs)) (own any_by a (map f xs))) (same x) ∙ at_test (by x == a) (own_map a xs) where
-    at_test : (b : Bool) → own any_by a (map f xs) ≡ map f (own by a xs) → cond b (f x ∷ own any_by a (map f xs)) (own any_by a (map f xs)) ≡ map f (cond b (x ∷ own by a xs) (own by a xs))
+  own_map a (x ∷ xs) = ap (λ (m : ℕ). cond (m == a) (f x ∷ own actor_of a (map f xs)) (own actor_of a (map f xs))) (same x) ∙ at_test (by x == a) (own_map a xs) where
+    at_test : (b : Bool) → own actor_of a (map f xs) ≡ map f (own by a xs) → cond b (f x ∷ own actor_of a (map f xs)) (own actor_of a (map f xs)) ≡ map f (cond b (x ∷ own by a xs) (own by a xs))
     at_test true rest = ap (λ l. f x ∷ l) rest
     at_test false rest = rest
 
-  shown_any : (a : ℕ) (H seen : List E) → IsShown by a H seen → IsShown any_by a (map f H) (map f seen)
+  shown_any : (a : ℕ) (H seen : List E) → IsShown by a H seen → IsShown actor_of a (map f H) (map f seen)
   shown_any a H seen shown = record {
     prefix = (map f shown.prefix.0, ap (map f) shown.prefix.1 ∙ map_both f seen shown.prefix.0);
     all_own = own_map a H ∙ (ap (map f) shown.all_own ∙ sym (own_map a seen));
   }
 
-  below_any : (n : ℕ) (H : List E) → AllByRecursion (λ e. by e < n) H → AreBelow any_by n (map f H)
+  below_any : (n : ℕ) (H : List E) → AllByRecursion (λ e. by e < n) H → AreBelow actor_of n (map f H)
   below_any n [] all = tt
   below_any n (e ∷ H) all = (subst (λ (m : ℕ). m < n) (sym (same e)) all.0, below_any n H all.1)
 
@@ -166,8 +166,8 @@ module _ {E : Type 0} (f : E → AnyEntry) (by : E → ℕ) (same : (e : E) → 
 
   -- one place of this kind
   module _ (s : Script) (name : ServiceName) (see : PassesView → List (List E)) (place : Place) (i : ℕ) (Hs : List (List E))
-      (pick : (a : ℕ) (q : PassesView) (ns : List Note) → IsOver s name a q ns → AreAlike (notes_of place ns) (owned any_by a (map f (slice_index_or (see q) i []))))
-      (long : (a : ℕ) (q : PassesView) (ns : List Note) → IsOver s name a q ns → length (see q) ≡ length Hs) where
+      (pick : (a : ℕ) (q : PassesView) (ns : List Note) → IsActorOver s name a q ns → AreTheseEntries (notes_of place ns) (owned actor_of a (map f (slice_index_or (see q) i []))))
+      (long : (a : ℕ) (q : PassesView) (ns : List Note) → IsActorOver s name a q ns → length (see q) ≡ length Hs) where
     abbrev here : List E
     here = slice_index_or Hs i []
 
@@ -194,12 +194,12 @@ module _ {E : Type 0} (f : E → AnyEntry) (by : E → ℕ) (same : (e : E) → 
       at_test true is = each here (slice_get-get_or Hs i [] (let low : i < length Hs = grind (arith, nat_tests) in low))
       at_test false is = subst (AllByRecursion (λ e. by e < n)) (sym (past_end Hs i (let high : length Hs ≤ i = grind (arith, nat_tests) in high))) tt
 
-    alike_here : (a : ℕ) (qs : List PassesView) (lists : List (List Note)) → AreOver s name a qs lists → AllByRecursion (Sees here) qs → AreAlikeFrom any_by place (map f here) a lists
+    alike_here : (a : ℕ) (qs : List PassesView) (lists : List (List Note)) → AreOver s name a qs lists → AllByRecursion (Sees here) qs → AreAlikeFrom actor_of place (map f here) a lists
     alike_here a [] [] over sees = tt
     alike_here a (q ∷ qs) (ns ∷ lists) over sees =
         let seen : List E = slice_index_or (see q) i [] in
         let shown : IsShown by a here seen = subst (λ (b : ℕ). IsShown by b here seen) over.0.acting.actor sees.0 in (
-          subst (AreAlike (notes_of place ns)) (sym (owned-shown any_by a (map f here) (map f seen) (shown_any a here seen shown))) (pick a q ns over.0),
+          subst (AreTheseEntries (notes_of place ns)) (sym (owned-shown actor_of a (map f here) (map f seen) (shown_any a here seen shown))) (pick a q ns over.0),
           over.0.few,
           alike_here (a + 1) qs lists over.1 sees.1,
         )
@@ -209,10 +209,10 @@ module _ {E : Type 0} (f : E → AnyEntry) (by : E → ℕ) (same : (e : E) → 
     module _ (qs : List PassesView) (lists : List (List Note)) (over : AreOver s name 0 qs lists) (most : length lists ≤ 48) (each : (H : List E) → slice_get Hs i ≡ Some H → AllByRecursion (Sees H) qs)
         (ours : (H : List E) → slice_get Hs i ≡ Some H → AllByRecursion (λ e. by e < length lists) H) where
       pub few_here : length (map f here) < 2 ^ 63
-      few_here = few_entries any_by place (map f here) lists (alike_here 0 qs lists over (shown_here qs lists over each)) (below_any (length lists) here (below_here (length lists) ours)) most
+      few_here = few_entries actor_of place (map f here) lists (alike_here 0 qs lists over (shown_here qs lists over each)) (below_any (length lists) here (below_here (length lists) ours)) most
 
       pub gathered_here : IsGathered place (map f here) lists
-      gathered_here = gathered_alike any_by place (map f here) lists (alike_here 0 qs lists over (shown_here qs lists over each)) (below_any (length lists) here (below_here (length lists) ours)) most
+      gathered_here = gathered_alike actor_of place (map f here) lists (alike_here 0 qs lists over (shown_here qs lists over each)) (below_any (length lists) here (below_here (length lists) ours)) most
 
 -- ---- an actor's own notes
 
@@ -224,16 +224,16 @@ module _ (s : Script) (name : ServiceName) (b : ℕ) (H : List AnyEntry) where
       AreAlikeFrom (λ _. b) (at.Actor b) H a lists
   alike_own a [] [] over each = tt
   alike_own a (q ∷ qs) (ns ∷ lists) over each = (at_test (b == a) refl, over.0.few, alike_own (a + 1) qs lists over.1 (λ k ms is e. each (suc k) ms is (omega (arith, e)))) where
-    at_test : (t : Bool) → (b == a) ≡ t → AreAlike (notes_of (at.Actor b) ns) (owned (λ _. b) a H)
+    at_test : (t : Bool) → (b == a) ≡ t → AreTheseEntries (notes_of (at.Actor b) ns) (owned (λ _. b) a H)
     at_test true is =
         let mine : a ≡ b = grind (arith, nat_tests) in
         let whole : owned (λ _. b) a H ≡ placed_from 0 H = filter_const (b == a) (placed_from 0 H) ∙ ap (λ (t : Bool). cond t (placed_from 0 H) []) is in
-        let told_here = subst (λ (x : ℕ). AreAlike (notes_of (at.Actor x) ns) (placed_from 0 (entries (notes_of (at.Actor x) ns)))) mine over.0.acting.shown.own in
-        subst (AreAlike (notes_of (at.Actor b) ns)) (sym (whole ∙ ap (placed_from 0) (each 0 ns refl (omega (arith, mine))))) told_here
+        let told_here = subst (λ (x : ℕ). AreTheseEntries (notes_of (at.Actor x) ns) (placed_from 0 (entries (notes_of (at.Actor x) ns)))) mine over.0.acting.shown.own in
+        subst (AreTheseEntries (notes_of (at.Actor b) ns)) (sym (whole ∙ ap (placed_from 0) (each 0 ns refl (omega (arith, mine))))) told_here
     at_test false is =
         let other : b ≡ a → ⊥ = λ e. (let clash : (b == a) ≡ true = grind (arith, nat_tests) in cc) in
         let whole : owned (λ _. b) a H ≡ [] = filter_const (b == a) (placed_from 0 H) ∙ ap (λ (t : Bool). cond t (placed_from 0 H) []) is in
-        subst (λ (l : List Note). AreAlike l (owned (λ _. b) a H)) (sym (over.0.acting.shown.others b other)) (subst (AreAlike []) (sym whole) tt)
+        subst (λ (l : List Note). AreTheseEntries l (owned (λ _. b) a H)) (sym (over.0.acting.shown.others b other)) (subst (AreTheseEntries []) (sym whole) tt)
   alike_own a [] (ns ∷ lists) over each = absurd over
   alike_own a (q ∷ qs) [] over each = absurd over
 

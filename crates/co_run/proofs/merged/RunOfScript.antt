@@ -23,12 +23,12 @@ use Rattle.co_program.specs.declared.script.Script.{Script}
 use Rattle.co_program.specs.Action.{Nothing, action_for, spec_at}
 use Rattle.co_program.specs.Actors.{actor_count, client_count}
 use Rattle.co_program.specs.Cursor.{Cursor, start_of}
-use Rattle.co_program.specs.Follows.{Follows, Histories, cursor_after, settled}
+use Rattle.co_program.specs.Follows.{Follows, Histories, cursor_after, at_next_note}
 use Rattle.co_program.specs.Places.{AllHavePlaces}
 use Rattle.co_program.specs.Runs.{IsRunOf, actors_of, are_direct, shown_histories}
 use Rattle.co_program.specs.Scripts.{IsScript}
 use Rattle.co_world.proofs.basics.Prefixes.{Begins}
-use Rattle.co_world.proofs.follows.SilentSteps.{settled_nothing}
+use Rattle.co_world.proofs.follows.SilentSteps.{at_next_nothing}
 use Rattle.co_world.proofs.follows.Traces.{Trace}
 use Rattle.co_service.specs.Closing.{AreAll, AreEnded, AreEndedCpus}
 use Rattle.co_service.specs.Name.{ServiceName}
@@ -37,10 +37,10 @@ use Rattle.co_service.specs.Seats.{IsShown}
 use Rattle.co_service.specs.Stories.{by, queue_by}
 use Rattle.co_service.specs.Views.{AreOf, PassesView, journal_seen, seen_of}
 use Rattle.co_run.specs.Acting.{params_of}
-use Rattle.co_run.specs.Going.{GoesOn}
-use Rattle.co_run.specs.Over.{AreOver, IsOver}
+use Rattle.co_run.specs.Going.{SeenBegins}
+use Rattle.co_run.specs.Over.{AreOver, IsActorOver}
 use Rattle.co_run.specs.Ran.{shown_cpus, shown_timers}
-use Rattle.co_run.specs.Shown.{IsFound}
+use Rattle.co_run.specs.Shown.{IsFoundThere}
 use Rattle.co_run.specs.Told.{IsGathered}
 use Rattle.co_run.proofs.merged.FinalPlaces.{all_filter, few_here, gathered_here, gathered_own, shown_here}
 
@@ -80,14 +80,14 @@ module _ (P : AnyEntry → Type 0) where
   all_told ns [] all = tt
   all_told ns (pos ∷ at) all = all_there (entry_at ns pos) (filter_map (entry_at ns) at) (found_at ns pos all) (all_told ns at all)
 
-found_all : (s : Script) (name : ServiceName) (place : Place) (a : ℕ) (qs : List PassesView) (lists : List (List Note)) → AreOver s name a qs lists → AllByRecursion (λ (n : Note). IsFound n.entry) (all_notes_of place lists)
+found_all : (s : Script) (name : ServiceName) (place : Place) (a : ℕ) (qs : List PassesView) (lists : List (List Note)) → AreOver s name a qs lists → AllByRecursion (λ (n : Note). IsFoundThere n.entry) (all_notes_of place lists)
 found_all s name place a [] [] over = tt
 found_all s name place a (q ∷ qs) (ns ∷ lists) over =
-    all_both (λ (n : Note). IsFound n.entry) (notes_of place ns) (all_notes_of place lists) (all_filter (λ (n : Note). IsFound n.entry) _ ns over.0.acting.shown.found) (found_all s name place (a + 1) qs lists over.1)
+    all_both (λ (n : Note). IsFoundThere n.entry) (notes_of place ns) (all_notes_of place lists) (all_filter (λ (n : Note). IsFoundThere n.entry) _ ns over.0.acting.shown.found) (found_all s name place (a + 1) qs lists over.1)
 found_all s name place a [] (ns ∷ lists) over = absurd over
 found_all s name place a (q ∷ qs) [] over = absurd over
 
-found_back : (J : List QEntry) → AllByRecursion IsFound (map of.Cpu J) → AllByRecursion (λ (e : QEntry). e.reply ≡ Missing → ⊥) J
+found_back : (J : List QEntry) → AllByRecursion IsFoundThere (map of.Cpu J) → AllByRecursion (λ (e : QEntry). e.reply ≡ Missing → ⊥) J
 found_back [] all = tt
 found_back (e ∷ J) all = (all.0, found_back J all.1)
 
@@ -148,10 +148,10 @@ module _ (s : Script) (ok : IsScript s) (name : ServiceName) (qs : List PassesVi
   cpu_ours : (cpu : ℕ) (K : List QEntry) → slice_get Js cpu ≡ Some K → AllByRecursion (λ e. queue_by e < length lists) K
   cpu_ours cpu K is = subst (λ (n : ℕ). AllByRecursion (λ e. queue_by e < n) K) ours (recursion_from_All (λ e. queue_by e < service_actors (params_of s)) K (cpus.final cpu K is).actors)
 
-  timer_long : (a : ℕ) (q : PassesView) (ns : List Note) → IsOver s name a q ns → length q.timers ≡ length Hs
+  timer_long : (a : ℕ) (q : PassesView) (ns : List Note) → IsActorOver s name a q ns → length q.timers ≡ length Hs
   timer_long a q ns o = o.acting.sized.timers ∙ sym timers.count
 
-  cpu_long : (a : ℕ) (q : PassesView) (ns : List Note) → IsOver s name a q ns → length q.cpus ≡ length Js
+  cpu_long : (a : ℕ) (q : PassesView) (ns : List Note) → IsActorOver s name a q ns → length q.cpus ≡ length Js
   cpu_long a q ns o = o.acting.sized.cpus ∙ sym cpus.count
 
   timer_gathered : (i : ℕ) → IsGathered (at.Timer i) (map of.Timer (H i)) lists
@@ -185,7 +185,7 @@ module _ (s : Script) (ok : IsScript s) (name : ServiceName) (qs : List PassesVi
   all_cpus : (cpu : ℕ) → AllByRecursion (λ q. IsShown queue_by q.actor (J cpu) (journal_seen q cpu)) qs
   all_cpus cpu = shown_here of.Cpu queue_by (λ e. refl) s name (λ q. q.cpus) (at.Cpu cpu) cpu Js (λ a q ns o. o.acting.shown.cpus cpu) cpu_long qs lists over (cpu_seen cpu)
 
-  goes : (q : PassesView) → ((i : ℕ) → IsShown by q.actor (H i) (seen_of q i)) → ((cpu : ℕ) → IsShown queue_by q.actor (J cpu) (journal_seen q cpu)) → GoesOn shown q
+  goes : (q : PassesView) → ((i : ℕ) → IsShown by q.actor (H i) (seen_of q i)) → ((cpu : ℕ) → IsShown queue_by q.actor (J cpu) (journal_seen q cpu)) → SeenBegins shown q
   goes q is of_cpus = record {
     timers = λ i. subst (Begins (seen_of q i)) (sym (is i).prefix.1 ∙ sym (timer_is i)) (begins_both (seen_of q i) (is i).prefix.0);
     cpus = λ cpu. subst (Begins (journal_seen q cpu)) (sym (of_cpus cpu).prefix.1 ∙ sym (cpu_is cpu)) (begins_both (journal_seen q cpu) (of_cpus cpu).prefix.0);
@@ -193,10 +193,10 @@ module _ (s : Script) (ok : IsScript s) (name : ServiceName) (qs : List PassesVi
     few_cpus = λ cpu. subst (λ (K : List QEntry). length K < 2 ^ 63) (sym (cpu_is cpu)) (cpu_few cpu);
   }
 
-  follows : (a : ℕ) (q : PassesView) (ns : List Note) → IsOver s name a q ns → GoesOn shown q → Follows s shown a ns
+  follows : (a : ℕ) (q : PassesView) (ns : List Note) → IsActorOver s name a q ns → SeenBegins shown q → Follows s shown a ns
   follows a q ns o goes_on =
       let trace : Trace s shown a (record { cursor = o.cursor; notes = ns }) = o.acting.leads shown goes_on in
-      let there : settled s a (cursor_after s shown a (start_of s a) ns) ≡ o.cursor = trace.place ∙ settled_nothing s a o.cursor o.over in
+      let there : at_next_note s a (cursor_after s shown a (start_of s a) ns) ≡ o.cursor = trace.place ∙ at_next_nothing s a o.cursor o.over in
       record { each = trace.next; whole = subst (λ (c : Cursor). action_for s a c ≡ Nothing) (sym there) o.over }
 
   follows_from : (a : ℕ) (ps : List PassesView) (rest : List (List Note)) → AreOver s name a ps rest → ((i : ℕ) → AllByRecursion (λ q. IsShown by q.actor (H i) (seen_of q i)) ps) →
@@ -247,7 +247,7 @@ module _ (s : Script) (ok : IsScript s) (name : ServiceName) (qs : List PassesVi
     callouts = timer_legal;
     cpus = cpu_legal;
     found = λ cpu low. subst (AllByRecursion (λ (e : QEntry). e.reply ≡ Missing → ⊥)) (sym (cpu_is cpu))
-        (found_back (J cpu) (subst (AllByRecursion IsFound) (cpu_gathered cpu).shown (all_told IsFound (all_notes_of (at.Cpu cpu) lists) (range_with_len 0 (length (all_notes_of (at.Cpu cpu) lists))) (found_all s name (at.Cpu cpu) 0 qs lists over))));
+        (found_back (J cpu) (subst (AllByRecursion IsFoundThere) (cpu_gathered cpu).shown (all_told IsFoundThere (all_notes_of (at.Cpu cpu) lists) (range_with_len 0 (length (all_notes_of (at.Cpu cpu) lists))) (found_all s name (at.Cpu cpu) 0 qs lists over))));
     follow = λ a low. (let same : 0 + a ≡ a = omega arith in subst (λ (b : ℕ). Follows s shown b (slice_index_or lists a [])) same (follows_from 0 qs lists over all_timers all_cpus a (omega (arith, low, count))));
   }
 

@@ -21,14 +21,14 @@ use Rattle.co_program.specs.declared.Script.{Script}
 use Rattle.co_program.specs.declared.Act.{Act}
 use Rattle.co_program.specs.declared.Role.{Role}
 use Rattle.co_program.specs.declared.Role.TheVariants.{Client, Cpu, Interrupt}
-use Rattle.co_program.specs.declared.Service.{Service}
-use Rattle.co_program.specs.declared.Parcel.{Parcel}
+use Rattle.co_program.specs.declared.InService.{InService}
+use Rattle.co_program.specs.declared.PendingInsert.{PendingInsert}
 use Rattle.co_program.specs.Scripts.{IsScript, names_exist}
 use Rattle.co_program.specs.Stages.{Stage, Ready, Waiting, Popping, Picking, Locking, Beginning, Unlocking, Firing, Releasing, Ending, Freeing, Drained}
 use Rattle.co_program.specs.Cursor.{Cursor}
 use Rattle.co_program.specs.Action.{Action, Asks, action_for, action_with, action_in, spec_at, firing, draining}
 use Rattle.co_program.specs.Actors.{role_of}
-use Rattle.co_program.specs.Advance.{advance, advance_callout, called, act_over, tail_of}
+use Rattle.co_program.specs.Advance.{advance, advance_callout, call_made, act_over, tail_of}
 use Rattle.co_program.specs.declared.Asked.TheVariants.{Callout, Itself}
 use Rattle.co_program.specs.Existing.{IsIn, StageExists, TaskExists, ActsExist, IsCallout}
 use Rattle.co_world.proofs.basics.Actions.{IsAction, due_stage, stays, pops, picks, opens, ends, enters, unlocks, releases, frees}
@@ -37,11 +37,12 @@ use Rattle.co_world.proofs.kept.Invariant.{IsBetween}
 use Rattle.co_world.proofs.follows.DueNotes.{due_removed}
 use Rattle.co_world.proofs.kept.Stages.{Fits, is_acting, fits_callout, fits_over}
 use Rattle.co_service.specs.Services.{IsFree, IsServing}
-use Rattle.co_service.specs.Serving.{Runs, Waits, Service as Progress}
+use Rattle.co_service.specs.Serving.{Runs, Waits, ServiceStage}
 use Rattle.co_service.specs.Views.{PassesView}
 use Rattle.co_service.specs.Call.{removal_notes}
 use Rattle.co_service.proofs.CallGroup.{entry_of}
-use Rattle.co_run.specs.Acting.{IsPlaced, ServesAt, Serves, TaskLocks, due_of}
+use Rattle.co_run.specs.Acting.{CursorFits, ServesAt, ServesAsStage, TaskLocks}
+use Rattle.co_world.specs.Placed.{due_in_service}
 use Rattle.co_run.specs.Noted.{gone_on, are_some}
 use Rattle.co_run.proofs.follows.CallGroups.{IsTold, AreParts, IsOneInsert, first_is, rest_is}
 
@@ -77,14 +78,14 @@ module _ (s : Script) (role : Role) (c : Cursor) where
 
 pub acting_of : (s : Script) (a : ℕ) (c : Cursor) (due : Action) → c.parcel ≡ None → action_for s a c ≡ due → IsSpoken due → is_acting c.stage ≡ true
 acting_of s a c due none is h = acting_at s (role_of s a) c c.stage (action_in s (role_of s a) c c.stage) (due_stage s (role_of s a) c c.stage)
-    (subst (λ (x : Option Parcel). IsSpoken (action_with s (role_of s a) c x)) none (subst IsSpoken (sym is) h))
+    (subst (λ (x : Option PendingInsert). IsSpoken (action_with s (role_of s a) c x)) none (subst IsSpoken (sym is) h))
 
 -- ---- the place after a call
 
 abbrev pub cleared : Cursor → Cursor
 cleared c = record c { removed = None }
 
-advance_called : (s : Script) (c : Cursor) (b : Bool) (i : ℕ) (e : Entry) (stage : Stage) → is_acting stage ≡ true → advance_callout s (cleared c) i b e.op e.reply stage ≡ called (cleared c) i b e.op e.reply
+advance_called : (s : Script) (c : Cursor) (b : Bool) (i : ℕ) (e : Entry) (stage : Stage) → is_acting stage ≡ true → advance_callout s (cleared c) i b e.op e.reply stage ≡ call_made (cleared c) i b e.op e.reply
 advance_called s c b i e Ready h = refl
 advance_called s c b i e (Waiting n took) h = refl
 advance_called s c b i e (Firing v acts) h = refl
@@ -127,11 +128,11 @@ over_removed c (Ending v) = refl
 over_removed c (Freeing v drain next) = refl
 
 -- once what was armed stands in its queue, the place is that after a call that armed nothing there
-landed : (c : Cursor) (i : ℕ) (op : Op) (reply : Reply) → is_armed reply ≡ true → c.parcel ≡ None → record (called c i true op reply) { parcel = None } ≡ called c i false op reply
+landed : (c : Cursor) (i : ℕ) (op : Op) (reply : Reply) → is_armed reply ≡ true → c.parcel ≡ None → record (call_made c i true op reply) { parcel = None } ≡ call_made c i false op reply
 landed c i op (Armed code n cpu o) is none =
     let k : Cursor = act_over c c.stage in
     let same : None ≡ k.parcel = sym (over_parcel c c.stage ∙ none) in
-    subst (λ (x : Option Parcel). record k { parcel = x } ≡ k) (sym same) refl
+    subst (λ (x : Option PendingInsert). record k { parcel = x } ≡ k) (sym same) refl
 landed c i op (NotArmed code) is none = cc
 landed c i op NoHandler is none = cc
 landed c i op Worn is none = cc
@@ -154,38 +155,38 @@ module _ (s : Script) (a act i : ℕ) (op : CallOp) (reply : Reply) where
   abbrev e : Entry
   e = entry_of a act (Call op) reply
 
-  entry_goes : (c : Cursor) (b : Bool) (note : Note) → is_acting c.stage ≡ true → placed note ≡ (place.Timer i, entry.Timer e) → advance s c b note.place note.entry ≡ called (cleared c) i b (Call op) reply
-  entry_goes c b note acting at = subst (λ (x : Placed). advance s c b x.0 x.1 ≡ called (cleared c) i b (Call op) reply) (sym at) (advance_called s c b i e c.stage acting)
+  entry_goes : (c : Cursor) (b : Bool) (note : Note) → is_acting c.stage ≡ true → placed note ≡ (place.Timer i, entry.Timer e) → advance s c b note.place note.entry ≡ call_made (cleared c) i b (Call op) reply
+  entry_goes c b note acting at = subst (λ (x : Placed). advance s c b x.0 x.1 ≡ call_made (cleared c) i b (Call op) reply) (sym at) (advance_called s c b i e c.stage acting)
 
   from_entry : (c : Cursor) (ns : List Note) (time : ℕ) (rest : List Placed) → c.parcel ≡ None → is_acting c.stage ≡ true → map placed ns ≡ (place.Timer i, entry.Timer e) ∷ rest → IsOneInsert a act i reply time rest →
-      gone_on s c ns ≡ called (cleared c) i false (Call op) reply
+      gone_on s c ns ≡ call_made (cleared c) i false (Call op) reply
   from_entry c [] time rest none acting shape one = cc
   from_entry c (note ∷ []) time rest none acting shape one = entry_goes c false note acting (first_is shape)
   from_entry c (note ∷ more ∷ []) time rest none acting shape (inl empty) = cc (rest_is shape ∙ empty)
   from_entry c (note ∷ more ∷ []) time rest none acting shape (inr one) =
       let at : placed more ≡ (place.Cpu one.2, entry.Cpu (record { actor = a; act = act; op = Insert i one.0 one.1; reply = At time })) = first_is (rest_is shape ∙ one.4) in
-      subst (λ (k : Cursor). advance s k false more.place more.entry ≡ called (cleared c) i false (Call op) reply) (sym (entry_goes c true note acting (first_is shape)))
-      (subst (λ (x : Placed). advance s (called (cleared c) i true (Call op) reply) false x.0 x.1 ≡ called (cleared c) i false (Call op) reply) (sym at) (landed (cleared c) i (Call op) reply one.3 none))
+      subst (λ (k : Cursor). advance s k false more.place more.entry ≡ call_made (cleared c) i false (Call op) reply) (sym (entry_goes c true note acting (first_is shape)))
+      (subst (λ (x : Placed). advance s (call_made (cleared c) i true (Call op) reply) false x.0 x.1 ≡ call_made (cleared c) i false (Call op) reply) (sym at) (landed (cleared c) i (Call op) reply one.3 none))
   from_entry c (note ∷ more ∷ x ∷ ns) time rest none acting shape (inl empty) = cc (rest_is shape ∙ empty)
   from_entry c (note ∷ more ∷ x ∷ ns) time rest none acting shape (inr one) = cc (rest_is (rest_is shape ∙ one.4))
 
   parts_go : (o : Option ℕ) (c : Cursor) (ns : List Note) (time : ℕ) (rest : List Placed) → c.parcel ≡ None → is_acting c.stage ≡ true →
-      map placed ns ≡ (removal_notes i e o ++ (place.Timer i, entry.Timer e) ∷ []) ++ rest → IsOneInsert a act i reply time rest → gone_on s c ns ≡ called (cleared c) i false (Call op) reply
+      map placed ns ≡ (removal_notes i e o ++ (place.Timer i, entry.Timer e) ∷ []) ++ rest → IsOneInsert a act i reply time rest → gone_on s c ns ≡ call_made (cleared c) i false (Call op) reply
   parts_go None c ns time rest none acting shape one = from_entry c ns time rest none acting shape one
   parts_go (Some cpu) c [] time rest none acting shape one = cc
   parts_go (Some cpu) c (note ∷ ns) time rest none acting shape one =
       let at : placed note ≡ (place.Cpu cpu, entry.Cpu (record { actor = a; act = act; op = Remove i; reply = Off })) = first_is shape in
-      subst (λ (x : Placed). gone_on s (advance s c (are_some ns) x.0 x.1) ns ≡ called (cleared c) i false (Call op) reply) (sym at)
+      subst (λ (x : Placed). gone_on s (advance s c (are_some ns) x.0 x.1) ns ≡ call_made (cleared c) i false (Call op) reply) (sym at)
       (from_entry (record c { removed = Some cpu }) ns time rest none acting (rest_is shape) one)
 
-  pub call_goes : (c : Cursor) (ns : List Note) → c.parcel ≡ None → c.removed ≡ None → is_acting c.stage ≡ true → AreParts a act i op reply ns → gone_on s c ns ≡ called c i false (Call op) reply
+  pub call_goes : (c : Cursor) (ns : List Note) → c.parcel ≡ None → c.removed ≡ None → is_acting c.stage ≡ true → AreParts a act i op reply ns → gone_on s c ns ≡ call_made c i false (Call op) reply
   call_goes c ns none removed acting parts =
-      subst (λ (x : Option ℕ). gone_on s c ns ≡ called (record c { removed = x }) i false (Call op) reply) (sym removed) (parts_go (off_of reply) c ns parts.time parts.rest none acting parts.whole parts.one)
+      subst (λ (x : Option ℕ). gone_on s c ns ≡ call_made (record c { removed = x }) i false (Call op) reply) (sym removed) (parts_go (off_of reply) c ns parts.time parts.rest none acting parts.whole parts.one)
 
 -- ---- what is kept of it
 
 -- a call that isn't listed ends the act, or waits in its drain
-pub called_kinds : (P : Cursor → Type 0) (c : Cursor) (i : ℕ) (op : Op) (reply : Reply) → P (act_over c c.stage) → ((n : ℕ) (took : Bool) → P (record c { stage = Waiting n took })) → P (called c i false op reply)
+pub called_kinds : (P : Cursor → Type 0) (c : Cursor) (i : ℕ) (op : Op) (reply : Reply) → P (act_over c c.stage) → ((n : ℕ) (took : Bool) → P (record c { stage = Waiting n took })) → P (call_made c i false op reply)
 called_kinds P c i op (Wait n took o) over waits = waits n took
 called_kinds P c i op reply over waits = over
 
@@ -193,21 +194,21 @@ pub tail_exists : {X : Type 0} (P : X → Type 0) (xs : List X) → AllByRecursi
 tail_exists P [] all = tt
 tail_exists P (x ∷ xs) all = all.1
 
-pub firing_exists : (s : Script) (v : Service) (hold : Option Held) (acts : List Act) → IsCallout s v.i → ActsExist s acts → StageExists s (firing v hold acts)
+pub firing_exists : (s : Script) (v : InService) (hold : Option Held) (acts : List Act) → IsCallout s v.i → ActsExist s acts → StageExists s (firing v hold acts)
 firing_exists s v hold (act ∷ acts) here all = (here, all)
 firing_exists s v None [] here all = here
 firing_exists s v (Some held) [] here all = here
 
-pub draining_exists : (s : Script) (v : Service) (acts : List Act) → IsCallout s v.i → ActsExist s acts → StageExists s (draining v acts)
+pub draining_exists : (s : Script) (v : InService) (acts : List Act) → IsCallout s v.i → ActsExist s acts → StageExists s (draining v acts)
 draining_exists s v (act ∷ acts) here all = (here, all)
 draining_exists s v [] here all = tt
 
-pub firing_between : (v : Service) (hold : Option Held) (acts : List Act) → IsBetween (firing v hold acts)
+pub firing_between : (v : InService) (hold : Option Held) (acts : List Act) → IsBetween (firing v hold acts)
 firing_between v hold (act ∷ acts) = tt
 firing_between v None [] = tt
 firing_between v (Some held) [] = tt
 
-pub draining_between : (v : Service) (acts : List Act) → IsBetween (draining v acts)
+pub draining_between : (v : InService) (acts : List Act) → IsBetween (draining v acts)
 draining_between v [] = tt
 draining_between v (act ∷ acts) = tt
 
@@ -245,38 +246,38 @@ rest_over s c (Releasing v) acting left locks exists parcel removed = cc
 rest_over s c (Ending v) acting left locks exists parcel removed = cc
 rest_over s c (Freeing v drain next) acting left locks exists parcel removed = cc
 
-placed_by : (s : Script) (a : ℕ) (c : Cursor) → Fits s (role_of s a) c → IsRest s c → IsPlaced s a c
+placed_by : (s : Script) (a : ℕ) (c : Cursor) → Fits s (role_of s a) c → IsRest s c → CursorFits s a c
 placed_by s a c fits rest = record { fits = fits; is_in = rest.is_in; locks = rest.locks; parcel = rest.parcel; removed = rest.removed; between = rest.between }
 
-pub over_placed : (s : Script) → IsScript s → (a : ℕ) (c : Cursor) → is_acting c.stage ≡ true → IsPlaced s a c → IsPlaced s a (act_over c c.stage)
+pub over_placed : (s : Script) → IsScript s → (a : ℕ) (c : Cursor) → is_acting c.stage ≡ true → CursorFits s a c → CursorFits s a (act_over c c.stage)
 over_placed s ok a c acting place =
     placed_by s a (act_over c c.stage) (fits_over s ok (role_of s a) c.left c.act c.now c.hold c.removed c.parcel c.stage acting place.fits)
     (rest_over s c c.stage acting place.is_in.left place.locks place.is_in.stage place.parcel place.removed)
 
-pub called_placed : (s : Script) → IsScript s → (a act i : ℕ) (c : Cursor) (op : CallOp) (reply : Reply) (seen : List Entry) → action_for s a c ≡ Asks act (Callout i (Call op)) → IsTold (spec_at s i) op reply seen → IsPlaced s a c →
-    IsPlaced s a (called c i false (Call op) reply)
+pub called_placed : (s : Script) → IsScript s → (a act i : ℕ) (c : Cursor) (op : CallOp) (reply : Reply) (seen : List Entry) → action_for s a c ≡ Asks act (Callout i (Call op)) → IsTold (spec_at s i) op reply seen → CursorFits s a c →
+    CursorFits s a (call_made c i false (Call op) reply)
 called_placed s ok a act i c op reply seen is told place =
     let acting : is_acting c.stage ≡ true = acting_of s a c (Asks act (Callout i (Call op))) place.parcel is tt in
     let c' : Cursor = cleared c in
     let due : action_in s (role_of s a) c' c.stage ≡ Asks act (Callout i (Call op)) =
-    subst (λ (x : Option Parcel). action_with s (role_of s a) c' x ≡ Asks act (Callout i (Call op))) place.parcel (due_removed s a c None act (Callout i (Call op)) is) in
+    subst (λ (x : Option PendingInsert). action_with s (role_of s a) c' x ≡ Asks act (Callout i (Call op))) place.parcel (due_removed s a c None act (Callout i (Call op)) is) in
     let view : IsAction s (role_of s a) c' c.stage (Asks act (Callout i (Call op))) = subst (IsAction s (role_of s a) c' c.stage) due (due_stage s (role_of s a) c' c.stage) in
     let fits = fits_callout s ok (role_of s a) c.left c.act c.now c.hold None c.parcel c.stage act i (Call op) false told.before (call told.before op).0 reply view
     (subst (λ (r : Reply). Did (spec_at s i) told.before (Call op) r (call told.before op).0) told.answers (did_call (spec_at s i) told.before op)) place.fits in
-    let called_fits : Fits s (role_of s a) (called c' i false (Call op) reply) = subst (Fits s (role_of s a)) (advance_called s c false i (entry_of a act (Call op) reply) c.stage acting) fits in
-    let here : Fits s (role_of s a) (called c i false (Call op) reply) = subst (λ (x : Option ℕ). Fits s (role_of s a) (called (record c { removed = x }) i false (Call op) reply)) (sym place.removed) called_fits in
-    placed_by s a (called c i false (Call op) reply) here
+    let called_fits : Fits s (role_of s a) (call_made c' i false (Call op) reply) = subst (Fits s (role_of s a)) (advance_called s c false i (entry_of a act (Call op) reply) c.stage acting) fits in
+    let here : Fits s (role_of s a) (call_made c i false (Call op) reply) = subst (λ (x : Option ℕ). Fits s (role_of s a) (call_made (record c { removed = x }) i false (Call op) reply)) (sym place.removed) called_fits in
+    placed_by s a (call_made c i false (Call op) reply) here
     (called_kinds (IsRest s) c i (Call op) reply (rest_over s c c.stage acting place.is_in.left place.locks place.is_in.stage place.parcel place.removed)
     (λ n took. record { is_in = record { left = place.is_in.left; stage = tt; parcel = place.is_in.parcel }; locks = place.locks; parcel = place.parcel; removed = place.removed; between = tt }))
 
 -- ---- what it has in service
 
-pub serves_firing : (direct : Bool) (q : PassesView) (cpu : ℕ) (v : Service) (hold : Option Held) (acts : List Act) → IsServing direct q cpu (due_of v) (Runs v.n) → ServesAt direct q cpu (firing v hold acts)
+pub serves_firing : (direct : Bool) (q : PassesView) (cpu : ℕ) (v : InService) (hold : Option Held) (acts : List Act) → IsServing direct q cpu (due_in_service v) (Runs v.n) → ServesAt direct q cpu (firing v hold acts)
 serves_firing direct q cpu v hold (act ∷ acts) h = h
 serves_firing direct q cpu v None [] h = h
 serves_firing direct q cpu v (Some held) [] h = h
 
-pub serves_draining : (direct : Bool) (q : PassesView) (cpu : ℕ) (v : Service) (acts : List Act) → IsFree direct q cpu → ServesAt direct q cpu (draining v acts)
+pub serves_draining : (direct : Bool) (q : PassesView) (cpu : ℕ) (v : InService) (acts : List Act) → IsFree direct q cpu → ServesAt direct q cpu (draining v acts)
 serves_draining direct q cpu v [] h = h
 serves_draining direct q cpu v (act ∷ acts) h = h
 
@@ -294,34 +295,34 @@ serves_over direct q cpu c (Releasing v) acting h = cc
 serves_over direct q cpu c (Ending v) acting h = cc
 serves_over direct q cpu c (Freeing v drain next) acting h = cc
 
-pub over_serves : (role : Role) (q : PassesView) (c : Cursor) → is_acting c.stage ≡ true → Serves role q c.stage → Serves role q (act_over c c.stage).stage
+pub over_serves : (role : Role) (q : PassesView) (c : Cursor) → is_acting c.stage ≡ true → ServesAsStage role q c.stage → ServesAsStage role q (act_over c c.stage).stage
 over_serves (Client k) q c acting h = tt
 over_serves (Cpu x) q c acting h = serves_over false q x c c.stage acting h
 over_serves (Interrupt x) q c acting h = serves_over true q x c c.stage acting h
 
 -- a server never waits in a drain
-pub called_serves : (s : Script) (role : Role) (q : PassesView) (c : Cursor) (i : ℕ) (op : Op) (reply : Reply) → is_acting c.stage ≡ true → Fits s role (called c i false op reply) → Serves role q c.stage → Serves role q (called c i false op reply).stage
+pub called_serves : (s : Script) (role : Role) (q : PassesView) (c : Cursor) (i : ℕ) (op : Op) (reply : Reply) → is_acting c.stage ≡ true → Fits s role (call_made c i false op reply) → ServesAsStage role q c.stage → ServesAsStage role q (call_made c i false op reply).stage
 called_serves s (Client k) q c i op reply acting fits h = tt
-called_serves s (Cpu x) q c i op reply acting fits h = called_kinds (λ (k : Cursor). Fits s (Cpu x) k → Serves (Cpu x) q k.stage) c i op reply (λ f. serves_over false q x c c.stage acting h) (λ n took f. absurd f.hold) fits
-called_serves s (Interrupt x) q c i op reply acting fits h = called_kinds (λ (k : Cursor). Fits s (Interrupt x) k → Serves (Interrupt x) q k.stage) c i op reply (λ f. serves_over true q x c c.stage acting h) (λ n took f. absurd f.hold) fits
+called_serves s (Cpu x) q c i op reply acting fits h = called_kinds (λ (k : Cursor). Fits s (Cpu x) k → ServesAsStage (Cpu x) q k.stage) c i op reply (λ f. serves_over false q x c c.stage acting h) (λ n took f. absurd f.hold) fits
+called_serves s (Interrupt x) q c i op reply acting fits h = called_kinds (λ (k : Cursor). Fits s (Interrupt x) k → ServesAsStage (Interrupt x) q k.stage) c i op reply (λ f. serves_over true q x c c.stage acting h) (λ n took f. absurd f.hold) fits
 
 -- what was in service stays so
-serves_kept : (direct : Bool) (p q : PassesView) (cpu : ℕ) (stage : Stage) → (IsFree direct p cpu → IsFree direct q cpu) → ((d : Due) (far : Progress) → IsServing direct p cpu d far → IsServing direct q cpu d far) → ServesAt direct p cpu stage → ServesAt direct q cpu stage
+serves_kept : (direct : Bool) (p q : PassesView) (cpu : ℕ) (stage : Stage) → (IsFree direct p cpu → IsFree direct q cpu) → ((d : Due) (far : ServiceStage) → IsServing direct p cpu d far → IsServing direct q cpu d far) → ServesAt direct p cpu stage → ServesAt direct q cpu stage
 serves_kept direct p q cpu Ready free serving h = free h
 serves_kept direct p q cpu (Waiting n took) free serving h = free h
 serves_kept direct p q cpu (Popping act) free serving h = free h
 serves_kept direct p q cpu (Picking v) free serving h = tt
-serves_kept direct p q cpu (Locking v) free serving h = serving (due_of v) (Waits v.n) h
-serves_kept direct p q cpu (Beginning v) free serving h = serving (due_of v) (Waits v.n) h
-serves_kept direct p q cpu (Unlocking v acts) free serving h = serving (due_of v) (Runs v.n) h
-serves_kept direct p q cpu (Firing v acts) free serving h = serving (due_of v) (Runs v.n) h
-serves_kept direct p q cpu (Releasing v) free serving h = serving (due_of v) (Runs v.n) h
-serves_kept direct p q cpu (Ending v) free serving h = serving (due_of v) (Runs v.n) h
+serves_kept direct p q cpu (Locking v) free serving h = serving (due_in_service v) (Waits v.n) h
+serves_kept direct p q cpu (Beginning v) free serving h = serving (due_in_service v) (Waits v.n) h
+serves_kept direct p q cpu (Unlocking v acts) free serving h = serving (due_in_service v) (Runs v.n) h
+serves_kept direct p q cpu (Firing v acts) free serving h = serving (due_in_service v) (Runs v.n) h
+serves_kept direct p q cpu (Releasing v) free serving h = serving (due_in_service v) (Runs v.n) h
+serves_kept direct p q cpu (Ending v) free serving h = serving (due_in_service v) (Runs v.n) h
 serves_kept direct p q cpu (Freeing v drain next) free serving h = tt
 serves_kept direct p q cpu (Drained v acts) free serving h = free h
 
 pub still_serves : (role : Role) (p q : PassesView) (stage : Stage) → ((direct : Bool) (cpu : ℕ) → IsFree direct p cpu → IsFree direct q cpu) →
-    ((direct : Bool) (cpu : ℕ) (d : Due) (far : Progress) → IsServing direct p cpu d far → IsServing direct q cpu d far) → Serves role p stage → Serves role q stage
+    ((direct : Bool) (cpu : ℕ) (d : Due) (far : ServiceStage) → IsServing direct p cpu d far → IsServing direct q cpu d far) → ServesAsStage role p stage → ServesAsStage role q stage
 still_serves (Client k) p q stage free serving h = tt
 still_serves (Cpu x) p q stage free serving h = serves_kept false p q x stage (free false x) (serving false x) h
 still_serves (Interrupt x) p q stage free serving h = serves_kept true p q x stage (free true x) (serving true x) h

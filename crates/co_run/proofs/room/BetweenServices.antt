@@ -14,7 +14,7 @@ use Rattle.co_world.proofs.basics.Actions.{IsAction, scans, starts, pops, frees}
 use Rattle.co_world.proofs.kept.Invariant.{IsBetween}
 use Rattle.co_world.proofs.kept.Stages.{is_acting}
 use Rattle.co_service.specs.Views.{PassesView}
-use Rattle.co_run.specs.Acting.{IsPlaced, Serves}
+use Rattle.co_run.specs.Acting.{CursorFits, ServesAsStage}
 use Rattle.co_run.specs.Roomy.{is_resting, is_serving}
 use Rattle.co_run.proofs.places.AfterSilentSteps.{stage_view}
 
@@ -40,11 +40,11 @@ queue_at s role c stage act cpu op (starts j left is) between = refl
 queue_at s role c stage act cpu op (pops m) between = refl
 queue_at s role c stage act cpu op (frees v drain next) between = absurd between
 
-pub queue_rests : (s : Script) (a : ℕ) (c : Cursor) (act cpu : ℕ) (op : QOp) → IsPlaced s a c → action_for s a c ≡ Asks act (Queue cpu op) → is_resting c.stage ≡ true
+pub queue_rests : (s : Script) (a : ℕ) (c : Cursor) (act cpu : ℕ) (op : QOp) → CursorFits s a c → action_for s a c ≡ Asks act (Queue cpu op) → is_resting c.stage ≡ true
 queue_rests s a c act cpu op place is = queue_at s (role_of s a) c c.stage act cpu op (stage_view s a c (Asks act (Queue cpu op)) place.parcel is) place.between
 
 -- who rests has nothing in service
-pub rests_free : (role : Role) (q : PassesView) (stage : Stage) → is_resting stage ≡ true → Serves role q stage → Serves role q Ready
+pub rests_free : (role : Role) (q : PassesView) (stage : Stage) → is_resting stage ≡ true → ServesAsStage role q stage → ServesAsStage role q Ready
 rests_free (Client k) q stage rests h = tt
 rests_free (Cpu x) q Ready rests h = h
 rests_free (Cpu x) q (Waiting n took) rests h = h

@@ -12,29 +12,29 @@ use Rattle.co_program.specs.declared.Script.{Script}
 use Rattle.co_program.specs.declared.Act.{Act}
 use Rattle.co_program.specs.declared.Role.{Role}
 use Rattle.co_program.specs.declared.Role.TheVariants.{Client, Cpu, Interrupt}
-use Rattle.co_program.specs.declared.Service.{Service}
+use Rattle.co_program.specs.declared.InService.{InService}
 use Rattle.co_program.specs.declared.Asked.TheVariants.{Callout, Queue}
 use Rattle.co_program.specs.Stages.{Stage, Ready, Waiting, Popping, Picking, Locking, Beginning, Unlocking, Firing, Releasing, Ending, Freeing, Drained}
 use Rattle.co_program.specs.Cursor.{Cursor}
 use Rattle.co_program.specs.Action.{Silent, Take, Asks, action_for, firing, draining, pop_of}
 use Rattle.co_program.specs.Actors.{role_of}
-use Rattle.co_program.specs.Advance.{called, act_over}
+use Rattle.co_program.specs.Advance.{call_made, act_over}
 use Rattle.co_world.proofs.basics.Actions.{IsAction, drops, passes, grabs, asks, drains, waits, scans, starts, pops, picks, enters, opens, unlocks, fires, releases, ends, frees, serves}
 use Rattle.co_world.proofs.kept.Invariant.{IsBetween, HasActs}
 use Rattle.co_world.proofs.kept.Stages.{is_acting}
-use Rattle.co_run.specs.Acting.{IsPlaced}
+use Rattle.co_run.specs.Acting.{CursorFits}
 use Rattle.co_run.specs.Roomy.{is_serving, room_at}
 use Rattle.co_run.proofs.places.AfterCalls.{called_kinds}
 use Rattle.co_run.proofs.places.AfterSilentSteps.{stage_view}
 
 -- ---- room
 
-firing_left : (longest before after : ℕ) (v : Service) (hold : Option Held) (acts : List Act) → 3 * length acts + 6 + 3 * longest ≤ before → before ≤ after + 3 → room_at longest (firing v hold acts) ≤ after
+firing_left : (longest before after : ℕ) (v : InService) (hold : Option Held) (acts : List Act) → 3 * length acts + 6 + 3 * longest ≤ before → before ≤ after + 3 → room_at longest (firing v hold acts) ≤ after
 firing_left longest before after v hold (act ∷ acts) enough spent = omega arith
 firing_left longest before after v None [] enough spent = omega arith
 firing_left longest before after v (Some held) [] enough spent = omega arith
 
-draining_left : (longest before after : ℕ) (v : Service) (acts : List Act) → 3 * length acts + 3 ≤ before → before ≤ after + 3 → room_at longest (draining v acts) ≤ after
+draining_left : (longest before after : ℕ) (v : InService) (acts : List Act) → 3 * length acts + 3 ≤ before → before ≤ after + 3 → room_at longest (draining v acts) ≤ after
 draining_left longest before after v [] enough spent = omega arith
 draining_left longest before after v (act ∷ acts) enough spent = omega arith
 
@@ -55,11 +55,11 @@ over_room longest before after c (Releasing v) acting has enough spent = cc
 over_room longest before after c (Ending v) acting has enough spent = cc
 over_room longest before after c (Freeing v drain next) acting has enough spent = cc
 
-pub refused_room : (longest before after : ℕ) (s : Script) (a : ℕ) (c : Cursor) → IsPlaced s a c → is_acting c.stage ≡ true → room_at longest c.stage ≤ before → before ≤ after + 3 → room_at longest (act_over c c.stage).stage ≤ after
+pub refused_room : (longest before after : ℕ) (s : Script) (a : ℕ) (c : Cursor) → CursorFits s a c → is_acting c.stage ≡ true → room_at longest c.stage ≤ before → before ≤ after + 3 → room_at longest (act_over c c.stage).stage ≤ after
 refused_room longest before after s a c place acting enough spent = over_room longest before after c c.stage acting place.fits.acts enough spent
 
-pub called_room : (longest before after : ℕ) (s : Script) (a : ℕ) (c : Cursor) (i : ℕ) (op : Op) (reply : Reply) → IsPlaced s a c → is_acting c.stage ≡ true → room_at longest c.stage ≤ before → before ≤ after + 3 →
-    room_at longest (called c i false op reply).stage ≤ after
+pub called_room : (longest before after : ℕ) (s : Script) (a : ℕ) (c : Cursor) (i : ℕ) (op : Op) (reply : Reply) → CursorFits s a c → is_acting c.stage ≡ true → room_at longest c.stage ≤ before → before ≤ after + 3 →
+    room_at longest (call_made c i false op reply).stage ≤ after
 called_room longest before after s a c i op reply place acting enough spent =
     called_kinds (λ (k : Cursor). room_at longest k.stage ≤ after) c i op reply (over_room longest before after c c.stage acting place.fits.acts enough spent) (λ n took. omega arith)
 
@@ -80,10 +80,10 @@ act_room longest (Releasing v) h has = cc
 act_room longest (Ending v) h has = cc
 act_room longest (Freeing v drain next) h has = cc
 
-pub within_room : (longest : ℕ) (s : Script) (a : ℕ) (c : Cursor) → IsPlaced s a c → is_serving c.stage ≡ true → 3 ≤ room_at longest c.stage
+pub within_room : (longest : ℕ) (s : Script) (a : ℕ) (c : Cursor) → CursorFits s a c → is_serving c.stage ≡ true → 3 ≤ room_at longest c.stage
 within_room longest s a c place h = act_room longest c.stage h place.fits.acts
 
-firing_same : (longest : ℕ) (v : Service) (acts : List Act) → room_at longest (firing v None acts) ≤ 3 * length acts + 3 + 3 * longest
+firing_same : (longest : ℕ) (v : InService) (acts : List Act) → room_at longest (firing v None acts) ≤ 3 * length acts + 3 + 3 * longest
 firing_same longest v [] = omega arith
 firing_same longest v (act ∷ acts) = omega arith
 
@@ -93,14 +93,14 @@ silent_at longest s role c stage to (passes task left now hold is own) = omega a
 silent_at longest s role c stage to (unlocks v acts) = firing_same longest v acts
 silent_at longest s role c stage to (releases v) = omega arith
 
-pub silent_room : (longest : ℕ) (s : Script) (a : ℕ) (c to : Cursor) → IsPlaced s a c → action_for s a c ≡ Silent to → room_at longest to.stage ≤ room_at longest c.stage
+pub silent_room : (longest : ℕ) (s : Script) (a : ℕ) (c to : Cursor) → CursorFits s a c → action_for s a c ≡ Silent to → room_at longest to.stage ≤ room_at longest c.stage
 silent_room longest s a c to place is = silent_at longest s (role_of s a) c c.stage to (stage_view s a c (Silent to) place.parcel is)
 
 take_at : (longest : ℕ) (s : Script) (role : Role) (c : Cursor) (stage : Stage) (held : Held) (to : Cursor) → IsAction s role c stage (Take held to) → room_at longest to.stage ≤ room_at longest stage
 take_at longest s role c stage held to (grabs task left x is own none) = omega arith
 take_at longest s role c stage held to (enters v x is) = omega arith
 
-pub take_room : (longest : ℕ) (s : Script) (a : ℕ) (c to : Cursor) (held : Held) → IsPlaced s a c → action_for s a c ≡ Take held to → room_at longest to.stage ≤ room_at longest c.stage
+pub take_room : (longest : ℕ) (s : Script) (a : ℕ) (c to : Cursor) (held : Held) → CursorFits s a c → action_for s a c ≡ Take held to → room_at longest to.stage ≤ room_at longest c.stage
 take_room longest s a c to held place is = take_at longest s (role_of s a) c c.stage held to (stage_view s a c (Take held to) place.parcel is)
 
 -- the room that there is where a service begins and where it ends
@@ -121,7 +121,7 @@ begin_at longest s role c stage act i op (ends v) between = refl
 begin_at longest s role c stage act i op (serves v x acts j y) between = tt
 
 -- a Pick is never due then
-pub callout_room : (longest : ℕ) (s : Script) (a : ℕ) (c : Cursor) (act i : ℕ) (op : Op) → IsPlaced s a c → action_for s a c ≡ Asks act (Callout i op) → IsWanted longest c.stage op
+pub callout_room : (longest : ℕ) (s : Script) (a : ℕ) (c : Cursor) (act i : ℕ) (op : Op) → CursorFits s a c → action_for s a c ≡ Asks act (Callout i op) → IsWanted longest c.stage op
 callout_room longest s a c act i op place is = begin_at longest s (role_of s a) c c.stage act i op (stage_view s a c (Asks act (Callout i op)) place.parcel is) place.between
 
 -- a CPU's queue is asked for a Scan or a Pop alone
@@ -142,7 +142,7 @@ queue_at s role c stage act cpu op (starts j left is) between = pop_asks role
 queue_at s role c stage act cpu op (pops m) between = pop_asks role
 queue_at s role c stage act cpu op (frees v drain next) between = absurd between
 
-pub queue_asks : (s : Script) (a : ℕ) (c : Cursor) (act cpu : ℕ) (op : QOp) → IsPlaced s a c → action_for s a c ≡ Asks act (Queue cpu op) → IsAsking op
+pub queue_asks : (s : Script) (a : ℕ) (c : Cursor) (act cpu : ℕ) (op : QOp) → CursorFits s a c → action_for s a c ≡ Asks act (Queue cpu op) → IsAsking op
 queue_asks s a c act cpu op place is = queue_at s (role_of s a) c c.stage act cpu op (stage_view s a c (Asks act (Queue cpu op)) place.parcel is) place.between
 
 -- room for the notes of an act: a service has it, and who is in none asks for it
@@ -160,7 +160,7 @@ free_room longest (Releasing v) acting h = cc
 free_room longest (Ending v) acting h = cc
 free_room longest (Freeing v drain next) acting h = cc
 
-pub made_room : (longest count before after : ℕ) (s : Script) (a : ℕ) (c : Cursor) → IsPlaced s a c → is_acting c.stage ≡ true → count ≤ 3 → room_at longest c.stage ≤ before →
+pub made_room : (longest count before after : ℕ) (s : Script) (a : ℕ) (c : Cursor) → CursorFits s a c → is_acting c.stage ≡ true → count ≤ 3 → room_at longest c.stage ≤ before →
     (is_serving c.stage ≡ false → count ≤ after) → (is_serving c.stage ≡ true → after ≡ before) → (count ≤ after) × (room_at longest c.stage ≤ after)
 made_room longest count before after s a c place acting few room free serving = at_test (is_serving c.stage) refl where
   at_test : (b : Bool) → is_serving c.stage ≡ b → (count ≤ after) × (room_at longest c.stage ≤ after)

@@ -18,7 +18,8 @@ use Rattle.co_grammar.specs.Checks.{values_fit, act_fits, act_kind_fits, act_ris
 use Rattle.co_script.specs.Drafts.{Draft, time_after}
 use Rattle.co_script.specs.Refusals.{most_acts, draft_with, draft_after}
 use Rattle.co_script.specs.Reading.{opener_by, act_line}
-use Rattle.co_script.specs.Fits.{is_of_version, act_names_me, has_times, rises_after}
+use Rattle.co_script.specs.Fits.{is_of_version, has_times, rises_after}
+use Rattle.co_program.specs.Calls.{names_me}
 use Rattle.co_script.proofs.LinesFold.{Passes}
 use Rattle.co_script.proofs.Standing.{stands, stands-from}
 use Rattle.co_script.proofs.told.Steps.{bind-ok}
@@ -73,7 +74,7 @@ act-fine d v ws e h version order read =
     let formed = act-ok (is_func d.stage) v ws a.0 a.1 in
     subst (λ x. Fine x) p.1 (one-more d a.0 h (subst (λ u. is_of_version d.script.version u ≡ true) (sym formed.verb) version) (subst (λ u. may_act d.stage u ≡ true) (sym formed.verb) order) formed.me formed.times p.0) where
       one-more : (d : Draft) (a : Act) → Fine d → is_of_version d.script.version (verb_of_act a) ≡ true → may_act d.stage (verb_of_act a) ≡ true
-          → (is_func d.stage || not (act_names_me a)) ≡ true → has_times a ≡ true → Passes d d.script (states.Does a) → Fine (draft_with d d.script (states.Does a))
+          → (is_func d.stage || not (names_me a)) ≡ true → has_times a ≡ true → Passes d d.script (states.Does a) → Fine (draft_with d d.script (states.Does a))
       one-more d a h version order me times p =
           let s = named_by d.script in
           let room = both_true (nat_lt (length d.acts) (most_acts (is_func d.stage))) (nat_lt d.count 262144) p.room in

@@ -6,7 +6,7 @@ use Rattle.std.proofs.lemmas.Bool.{and_parts, leb-true, eqb-true}
 use Rattle.co_program.specs.declared.Script.{Script}
 use Rattle.co_program.specs.Actors.{actor_count}
 use Rattle.co_grammar.specs.declared.Kind.TheVariants as kind
-use Rattle.co_grammar.specs.Checks.{IsSmall, is_within, is_wheel_size}
+use Rattle.co_grammar.specs.Checks.{HasSmallNumbers, is_within, is_wheel_size}
 use Rattle.co_script.specs.Fits.{spec_fits, section_fits, total_acts, head_fits, counts_fit, parts_fit, turns_fit, fits}
 
 pub record Fitting (s : Script) : Type 0 where
@@ -14,7 +14,7 @@ pub record Fitting (s : Script) : Type 0 where
   pub hz : is_within 1 1000000 s.hz ≡ true
   pub cpus : is_within 1 16 s.cpus ≡ true
   pub buckets : is_wheel_size s.buckets ≡ true
-  pub small : IsSmall s (length s.funcs)
+  pub small : HasSmallNumbers s (length s.funcs)
   pub timers_some : 1 ≤ length s.timers
   pub clients_few : length s.clients ≤ 16
   pub ticks_all : length s.ticks ≡ s.cpus

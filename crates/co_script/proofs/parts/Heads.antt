@@ -10,7 +10,7 @@ use Rattle.co_program.specs.declared.Script.{Script}
 use Rattle.co_grammar.specs.declared.Kind.{Kind}
 use Rattle.co_grammar.specs.declared.Kind.TheVariants as kind
 use Rattle.co_grammar.specs.declared.Opener.TheVariants.{Frame}
-use Rattle.co_grammar.specs.Keywords.{kind_of, is_section}
+use Rattle.co_grammar.specs.Keywords.{act_kind, is_section}
 use Rattle.co_grammar.specs.Statements.{Statement}
 use Rattle.co_grammar.specs.Statements as states
 use Rattle.co_grammar.specs.Checks.{is_wheel_size}
@@ -19,7 +19,7 @@ use Rattle.co_grammar.specs.Spelling.{numbered}
 use Rattle.co_grammar.proofs.ActsBack.{IsShort}
 use Rattle.co_grammar.proofs.FrameBack.{number-line}
 use Rattle.co_grammar.proofs.Sizes.{numbered-short}
-use Rattle.co_script.specs.Drafts.{Draft, opening, closed}
+use Rattle.co_script.specs.Drafts.{Draft, first_draft, closed}
 use Rattle.co_script.specs.Refusals.{draft_with}
 use Rattle.co_script.specs.Reading.{may_stand}
 use Rattle.co_script.proofs.LinesFold.{Passes, frame-read, opens-outside}
@@ -36,7 +36,7 @@ head_behind s =
     ∷ []
 
 -- one line of it
-head-line : (d : Draft) (k : Kind) (w : Word) (n : ℕ) (state : Statement) (ls : List (List Word)) (m : ℕ) (P : Draft → Type 0) → IsWord w → length w ≤ 10 → IsShort n → is_section d.stage ≡ false → kind_of w ≡ Some k → may_stand d.stage (Frame k) ≡ true → frame_form d.script.version k (decimal n ∷ []) ≡ Ok state → Passes d (closed d) state
+head-line : (d : Draft) (k : Kind) (w : Word) (n : ℕ) (state : Statement) (ls : List (List Word)) (m : ℕ) (P : Draft → Type 0) → IsWord w → length w ≤ 10 → IsShort n → is_section d.stage ≡ false → act_kind w ≡ Some k → may_stand d.stage (Frame k) ≡ true → frame_form d.script.version k (decimal n ∷ []) ≡ Ok state → Passes d (closed d) state
     → Leads (draft_with d (closed d) state) ls m P → Leads d (numbered w n ∷ ls) (150 + m) P
 head-line d k w n state ls m P word few short out is stands form passes l =
     one-more d (draft_with d (closed d) state) (numbered w n) ls 150 m P (word, (decimal-word n short, tt)) (numbered-short w n few short)
@@ -46,10 +46,10 @@ wheel-short : (n : ℕ) → is_wheel_size n ≡ true → n ≤ 65536
 wheel-short n h = grind (arith, nat_tests)
 
 module _ (s : Script) (f : Fitting s) where
-  pub head-leads : Leads (opening s.version) (head_behind s) 600 (After (headed s) (length s.funcs) 0 4)
+  pub head-leads : Leads (first_draft s.version) (head_behind s) 600 (After (headed s) (length s.funcs) 0 4)
   head-leads =
       let P : Draft → Type 0 = After (headed s) (length s.funcs) 0 4 in
-      let d0 : Draft = opening s.version in
+      let d0 : Draft = first_draft s.version in
       let d1 : Draft = draft_with d0 (closed d0) (states.Hz s.hz) in
       let d2 : Draft = draft_with d1 (closed d1) (states.Cpus s.cpus) in
       let d3 : Draft = draft_with d2 (closed d2) (states.Wheel s.buckets) in

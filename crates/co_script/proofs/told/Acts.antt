@@ -16,7 +16,8 @@ use Rattle.co_grammar.specs.declared.Verb.TheVariants as verb
 use Rattle.co_grammar.specs.Keywords.{verb_of_act}
 use Rattle.co_grammar.specs.Operands.{moment, who}
 use Rattle.co_grammar.specs.Forms.{optional_cpu, optional_precision, reset_form, ticks_form, schedule_form, drain_form, act_form}
-use Rattle.co_script.specs.Fits.{names_me, act_names_me, is_time, is_moment, has_times}
+use Rattle.co_script.specs.Fits.{is_time, is_moment, has_times}
+use Rattle.co_program.specs.Calls.{is_me, names_me}
 use Rattle.co_script.proofs.told.Steps.{bind-ok, next-ok, lone-ok}
 use Rattle.co_script.proofs.told.Times.{time-ok}
 use Rattle.co_script.proofs.told.Operands.{moment-ok, who-ok, precision-ok}
@@ -24,7 +25,7 @@ use Rattle.co_script.proofs.told.Operands.{moment-ok, who-ok, precision-ok}
 -- what the form of an act tells of it
 pub record IsFormed (serviced : Bool) (v : Verb) (a : Act) : Type 0 where
   pub verb : verb_of_act a ≡ v
-  pub me : (serviced || not (act_names_me a)) ≡ true
+  pub me : (serviced || not (names_me a)) ≡ true
   pub times : has_times a ≡ true
 
 -- an act with one operand, which tells all there is to tell
@@ -38,14 +39,14 @@ one_operand serviced v value make ws a formed h =
     subst (λ y. IsFormed serviced v y) same (formed w.0 b.0 w.1)
 
 -- or with no times and no `me`
-plain : (serviced : Bool) (a : Act) → act_names_me a ≡ false → has_times a ≡ true → IsFormed serviced (verb_of_act a) a
+plain : (serviced : Bool) (a : Act) → names_me a ≡ false → has_times a ≡ true → IsFormed serviced (verb_of_act a) a
 plain serviced a me times = record { verb = refl; me = rw me (go serviced); times = times } where
   go : (s : Bool) → (s || true) ≡ true
   go true = refl
   go false = refl
 
 -- or with the callout alone
-about : (serviced : Bool) (w : Word) (x : Who) (a : Act) → act_names_me a ≡ names_me x → has_times a ≡ true → who serviced w ≡ Ok x → IsFormed serviced (verb_of_act a) a
+about : (serviced : Bool) (w : Word) (x : Who) (a : Act) → names_me a ≡ is_me x → has_times a ≡ true → who serviced w ≡ Ok x → IsFormed serviced (verb_of_act a) a
 about serviced w x a me times h = record { verb = refl; me = rw me (who-ok serviced w x h); times = times }
 
 module _ (serviced : Bool) where

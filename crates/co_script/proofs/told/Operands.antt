@@ -11,7 +11,8 @@ use Rattle.co_program.specs.declared.When.{When}
 use Rattle.co_program.specs.declared.When.TheVariants as when
 use Rattle.co_grammar.specs.Operands.{moment, who}
 use Rattle.co_grammar.specs.Forms.{optional_precision}
-use Rattle.co_script.specs.Fits.{names_me, is_time, is_moment}
+use Rattle.co_script.specs.Fits.{is_time, is_moment}
+use Rattle.co_program.specs.Calls.{is_me}
 use Rattle.co_script.proofs.told.Steps.{bind-ok, cond-ok, next-ok}
 use Rattle.co_script.proofs.told.Times.{time-ok}
 
@@ -27,15 +28,15 @@ moment-ok (c ∷ w) m h =
     h
 
 -- `me` is read in a function alone
-pub who-ok : (serviced : Bool) (w : Word) (x : Who) → who serviced w ≡ Ok x → (serviced || not (names_me x)) ≡ true
+pub who-ok : (serviced : Bool) (w : Word) (x : Who) → who serviced w ≡ Ok x → (serviced || not (is_me x)) ≡ true
 who-ok serviced w x h = go serviced (is_word w (codes "me")) h where
-  go : (s b : Bool) → (if s && b then Ok callout.Me else (number w >>= λ i. Ok (callout.Timer i))) ≡ Ok x → (s || not (names_me x)) ≡ true
+  go : (s b : Bool) → (if s && b then Ok callout.Me else (number w >>= λ i. Ok (callout.Timer i))) ≡ Ok x → (s || not (is_me x)) ≡ true
   go true true k = refl
   go true false k = refl
   go false b k =
       let n = bind-ok (number w) (λ i. Ok (callout.Timer i)) x k in
       let same : callout.Timer n.0 ≡ x = cc in
-      subst (λ v. not (names_me v) ≡ true) same refl
+      subst (λ v. not (is_me v) ≡ true) same refl
 
 pub precision-ok : (ws : List Word) (p : ℕ × List Word) → optional_precision ws ≡ Ok p → is_time p.0 ≡ true
 precision-ok ws p h =

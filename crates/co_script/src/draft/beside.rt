@@ -1,6 +1,6 @@
 //! A section that is read on its own, beside others, and put into the draft where it stands.
 ghost use Rattle.std.specs.Prelude.{◌≡◌, ◌≤◌, ◌+◌, true, IfOk, IfSome, MatchBool, length};
-ghost use Rattle.co_script.specs.Beside.{HaveOneFrame, Begins, Grows, SaysAct, MayTake, with_acts};
+ghost use Rattle.co_script.specs.Beside.{HaveOneFrame, Begins, Grows, SaysAct, MayTakeActs, with_acts};
 
 use super::Draft;
 use co_grammar::{Kind, Opener, forms};
@@ -94,7 +94,7 @@ impl Draft {
 
     /// Whether a section of this kind has just begun, which may have this many acts that were read against this frame.
     pub fn may_take(&self, frame: &Draft, stage: Kind, number: usize) -> bool
-        ensures { result ≡ true → MayTake frame.now stage number self.now }
+        ensures { result ≡ true → MayTakeActs frame.now stage number self.now }
     {
         self.has_frame_of(frame)
             && self.begins(stage)

@@ -1,7 +1,7 @@
 //! An order that is being made.
 ghost use Rattle.std.specs.Prelude.{◌≡◌, ◌<◌, ◌↔◌, ◌==◌, ◌&&◌, IsTrue, slice_get, OnOk, IfOk};
-ghost use Rattle.co_view.specs.Merging.{IsBoard, IsMerging, left_of};
-ghost use Rattle.co_view.specs.Order.{MayCome, is_next};
+ghost use Rattle.co_view.specs.Merging.{IsBoard, IsMerging, not_come};
+ghost use Rattle.co_view.specs.Order.{MayCome, comes_next};
 
 use crate::order::board::Board;
 use crate::order::counts::raise;
@@ -53,7 +53,7 @@ impl Merge {
         requires board { IsBoard board.now }
         requires merge { IsMerging board.now.script.now board.now.lines.now self.now }
         requires line { slice_get board.now.lines.now i ≡ Some line.now }
-        ensures { result ≡ is_next board.now.script.now board.now.lines.now self.now.order i line.now }
+        ensures { result ≡ comes_next board.now.script.now board.now.lines.now self.now.order i line.now }
     {
         let come = self.come.as_slice()[i];
         let number = self.numbers.as_slice()[line.entry.actor() as usize];
@@ -81,7 +81,7 @@ impl Merge {
         requires merge { IsMerging board.now.script.now board.now.lines.now self.old }
         requires next { MayCome board.now.script.now board.now.lines.now self.old.order i }
         ensures merge { OnOk result (IsMerging board.now.script.now board.now.lines.now self.new) }
-        ensures left { OnOk result (left_of self.new < left_of self.old) }
+        ensures left { OnOk result (not_come self.new < not_come self.old) }
     {
         let line = &board.lines[i];
         raise(&mut self.numbers, line.entry.actor() as usize)?;

@@ -21,10 +21,10 @@ use Rattle.co_program.specs.declared.Task.{Task}
 use Rattle.co_program.specs.declared.Task.TheVariants.{Does, Soft}
 use Rattle.co_program.specs.declared.Role.{Role}
 use Rattle.co_program.specs.Stages.{Stage, Ready, Waiting, Popping, Picking, Locking, Beginning, Unlocking, Firing, Releasing, Ending, Freeing, Drained}
-use Rattle.co_program.specs.declared.Service.{Service}
+use Rattle.co_program.specs.declared.InService.{InService}
 use Rattle.co_program.specs.Cursor.{Cursor}
-use Rattle.co_program.specs.declared.Parcel.{Parcel}
-use Rattle.co_program.specs.Action.{Action, Nothing, Silent, Take, Asks, spec_at, asks_covered, asks_within, over, takes, begins, drained_of, locks, firing, action_in, action_with, pop_of, free_of}
+use Rattle.co_program.specs.declared.PendingInsert.{PendingInsert}
+use Rattle.co_program.specs.Action.{Action, Nothing, Silent, Take, Asks, spec_at, asks_covered, asks_within, over, takes, begins_next, drained_of, locks, firing, action_in, action_with, pop_of, free_of}
 use Rattle.co_program.specs.declared.Asked.TheVariants.{Callout, Queue, Itself}
 use Rattle.co_world.proofs.basics.Updates.{at_choice}
 
@@ -51,17 +51,17 @@ pub data IsAction (s : Script) (role : Role) (c : Cursor) : Stage → Action →
   waits_told : (n : ℕ) (took : Bool) (kind : OwnKind) → is_some c.hold ≡ true → IsAction s role c (Waiting n took) (Asks c.act (Itself kind))
   -- in a round
   pops : (act : ℕ) → IsAction s role c (Popping act) (Asks act (Queue (cpu_of s role) (pop_of role)))
-  picks : (v : Service) → IsAction s role c (Picking v) (Asks v.act (Callout v.i (Run (Pick v.n (cpu_of s role) v.at))))
-  enters : (v : Service) (held : Held) → hold_of (spec_at s v.i).lock ≡ Some held → IsAction s role c (Locking v) (Take held (record c { hold = Some held; stage = Beginning v }))
-  opens : (v : Service) → IsAction s role c (Beginning v) (Asks v.act (Callout v.i (Run (Begin v.n (cpu_of s role)))))
-  unlocks : (v : Service) (acts : List Act) → IsAction s role c (Unlocking v acts) (Silent (record c { hold = None; stage = firing v None acts }))
-  fires : (v : Service) (act : Act) (acts : List Act) (i : ℕ) (op : PlainOp) → IsAction s role c (Firing v (act ∷ acts)) (Asks c.act (Callout i (Call (Plain op))))
-  fires_told : (v : Service) (act : Act) (acts : List Act) (kind : OwnKind) → IsAction s role c (Firing v (act ∷ acts)) (Asks c.act (Itself kind))
-  releases : (v : Service) → IsAction s role c (Releasing v) (Silent (record c { hold = None; stage = Ending v }))
-  ends : (v : Service) → IsAction s role c (Ending v) (Asks v.act (Callout v.i (Run (End v.n (cpu_of s role)))))
-  frees : (v : Service) (drain : Option ℕ) (next : Option Next) → IsAction s role c (Freeing v drain next) (Asks v.act (Queue (cpu_of s role) (free_of role)))
-  serves : (v : Service) (act : Act) (acts : List Act) (i : ℕ) (op : PlainOp) → IsAction s role c (Drained v (act ∷ acts)) (Asks c.act (Callout i (Call (Plain op))))
-  serves_told : (v : Service) (act : Act) (acts : List Act) (kind : OwnKind) → IsAction s role c (Drained v (act ∷ acts)) (Asks c.act (Itself kind))
+  picks : (v : InService) → IsAction s role c (Picking v) (Asks v.act (Callout v.i (Run (Pick v.n (cpu_of s role) v.at))))
+  enters : (v : InService) (held : Held) → hold_of (spec_at s v.i).lock ≡ Some held → IsAction s role c (Locking v) (Take held (record c { hold = Some held; stage = Beginning v }))
+  opens : (v : InService) → IsAction s role c (Beginning v) (Asks v.act (Callout v.i (Run (Begin v.n (cpu_of s role)))))
+  unlocks : (v : InService) (acts : List Act) → IsAction s role c (Unlocking v acts) (Silent (record c { hold = None; stage = firing v None acts }))
+  fires : (v : InService) (act : Act) (acts : List Act) (i : ℕ) (op : PlainOp) → IsAction s role c (Firing v (act ∷ acts)) (Asks c.act (Callout i (Call (Plain op))))
+  fires_told : (v : InService) (act : Act) (acts : List Act) (kind : OwnKind) → IsAction s role c (Firing v (act ∷ acts)) (Asks c.act (Itself kind))
+  releases : (v : InService) → IsAction s role c (Releasing v) (Silent (record c { hold = None; stage = Ending v }))
+  ends : (v : InService) → IsAction s role c (Ending v) (Asks v.act (Callout v.i (Run (End v.n (cpu_of s role)))))
+  frees : (v : InService) (drain : Option ℕ) (next : Option Next) → IsAction s role c (Freeing v drain next) (Asks v.act (Queue (cpu_of s role) (free_of role)))
+  serves : (v : InService) (act : Act) (acts : List Act) (i : ℕ) (op : PlainOp) → IsAction s role c (Drained v (act ∷ acts)) (Asks c.act (Callout i (Call (Plain op))))
+  serves_told : (v : InService) (act : Act) (acts : List Act) (kind : OwnKind) → IsAction s role c (Drained v (act ∷ acts)) (Asks c.act (Itself kind))
 
 covered : (P : Action → Type 0) (s : Script) (hold : Option Held) (act : ℕ) (call : Option (ℕ × PlainOp)) → P Nothing → P (Asks act (Itself NotHeld)) → ((i : ℕ) (op : PlainOp) → P (Asks act (Callout i (Call (Plain op))))) → P (asks_covered s hold act call)
 covered P s hold act None none told asked = none
@@ -80,7 +80,7 @@ module _ (s : Script) (role : Role) (c : Cursor) where
   due_act : (task : Task) (left : List Task) (call : Option (ℕ × PlainOp)) → c.left ≡ task ∷ left → is_clients task ≡ true → IsAction s role c Ready (asks_covered s c.hold c.act call)
   due_act task left call is own = covered (IsAction s role c Ready) s c.hold c.act call (stays Ready) (tells task left NotHeld is own) (λ i op. asks task left i op is own)
 
-  due_begins : (left : List Task) → c.left ≡ left → IsAction s role c Ready (begins s role c left)
+  due_begins : (left : List Task) → c.left ≡ left → IsAction s role c Ready (begins_next s role c left)
   due_begins [] is = at_choice (IsAction s role c Ready) (is_some c.hold) (Silent (record c { left = []; hold = None; stage = Ready })) Nothing (λ e. drops is e) (λ e. stays Ready)
   due_begins (Does (Now time) ∷ left) is = passes (Does (Now time)) left time c.hold is refl
   due_begins (Does (Lock id) ∷ left) is = due_takes (Does (Lock id)) left (record { id = id; exclusive = true }) is refl
@@ -93,13 +93,13 @@ module _ (s : Script) (role : Role) (c : Cursor) where
   due_begins (Does act ∷ left) is = due_act (Does act) left (plain_op act s.hz (record { time = c.now; here = cpu_of s role; me = 0 })) is refl
   due_begins (Soft j ∷ left) is = starts j left is
 
-  due_within : (stage : Stage) (v : Service) (acts : List Act) → ((act : Act) (left : List Act) → acts ≡ act ∷ left → (kind : OwnKind) → IsAction s role c stage (Asks c.act (Itself kind))) →
+  due_within : (stage : Stage) (v : InService) (acts : List Act) → ((act : Act) (left : List Act) → acts ≡ act ∷ left → (kind : OwnKind) → IsAction s role c stage (Asks c.act (Itself kind))) →
       ((act : Act) (left : List Act) → acts ≡ act ∷ left → (i : ℕ) (op : PlainOp) → IsAction s role c stage (Asks c.act (Callout i (Call (Plain op))))) → IsAction s role c stage (asks_within s (cpu_of s role) c v acts)
   due_within stage v [] told asked = stays stage
   due_within stage v (act ∷ acts) told asked =
       covered (IsAction s role c stage) s c.hold c.act (plain_op act s.hz (record { time = v.at; here = cpu_of s role; me = v.i })) (stays stage) (told act acts refl NotHeld) (asked act acts refl)
 
-  due_locks : (v : Service) (hold : Option Held) → hold_of (spec_at s v.i).lock ≡ hold → IsAction s role c (Locking v) (locks s c v hold)
+  due_locks : (v : InService) (hold : Option Held) → hold_of (spec_at s v.i).lock ≡ hold → IsAction s role c (Locking v) (locks s c v hold)
   due_locks v None is = stays (Locking v)
   due_locks v (Some held) is = enters v held is
 
@@ -121,10 +121,10 @@ module _ (s : Script) (role : Role) (c : Cursor) where
   due_stage (Drained v (act ∷ acts)) = due_within (Drained v (act ∷ acts)) v (act ∷ acts) (λ x left is kind. serves_told v act acts kind) (λ x left is i op. serves v act acts i op)
 
 -- the same with a callout that is on its way
-pub data IsActionWith (s : Script) (role : Role) (c : Cursor) : Option Parcel → Action → Type 0 where
-  inserts : (p : Parcel) → IsActionWith s role c (Some p) (Asks p.act (Queue p.cpu (Insert p.i p.n p.due)))
+pub data IsActionWith (s : Script) (role : Role) (c : Cursor) : Option PendingInsert → Action → Type 0 where
+  inserts : (p : PendingInsert) → IsActionWith s role c (Some p) (Asks p.act (Queue p.cpu (Insert p.i p.n p.due)))
   goes_by : (due : Action) → IsAction s role c c.stage due → IsActionWith s role c None due
 
-pub due_parcel : (s : Script) (role : Role) (c : Cursor) (parcel : Option Parcel) → IsActionWith s role c parcel (action_with s role c parcel)
+pub due_parcel : (s : Script) (role : Role) (c : Cursor) (parcel : Option PendingInsert) → IsActionWith s role c parcel (action_with s role c parcel)
 due_parcel s role c None = goes_by (action_in s role c c.stage) (due_stage s role c c.stage)
 due_parcel s role c (Some p) = inserts p

@@ -14,7 +14,7 @@ use Rattle.co_program.specs.Advance.{advance}
 use Rattle.co_world.specs.World.{World, Actor, Timer, Cpu, updated, with_cursor}
 use Rattle.co_world.specs.Step.{notes_down, enters, enters_journal, landed}
 use Rattle.co_world.proofs.basics.Updates.{updated_here, updated_elsewhere, at_updated}
-use Rattle.co_world.proofs.kept.Invariant.{states_of, queues_of, places_of}
+use Rattle.co_world.proofs.kept.Invariant.{states_of, queues_of, cursors_of}
 
 -- g is f but for one value
 pub record IsAt {X : Type 0} (f : ℕ → X) (i : ℕ) (x : X) (g : ℕ → X) : Type 0 where
@@ -42,12 +42,12 @@ pub at_read : {X Y : Type 0} (read : X → Y) (f : ℕ → X) (i : ℕ) (x : X) 
 at_read read f i x g is = record { here = ap read is.here; else = λ j other. ap read (is.else j other) }
 
 -- an actor's place alone
-pub place_at : (w : World) (a : ℕ) (to : Cursor) → IsAt (places_of w) a to (places_of (with_cursor w a to))
-place_at w a to = at_read (λ (x : Actor). x.cursor) w.actors a (record (w.actors a) { cursor = to }) (with_cursor w a to).actors (at_updated_is w.actors a (record (w.actors a) { cursor = to }))
+pub cursor_at : (w : World) (a : ℕ) (to : Cursor) → IsAt (cursors_of w) a to (cursors_of (with_cursor w a to))
+cursor_at w a to = at_read (λ (x : Actor). x.cursor) w.actors a (record (w.actors a) { cursor = to }) (with_cursor w a to).actors (at_updated_is w.actors a (record (w.actors a) { cursor = to }))
 
-pub note_at : (s : Script) (w : World) (a : ℕ) (listed : Bool) (note : Note) → IsAt (places_of w) a (advance s (places_of w a) listed note.place note.entry) (places_of (notes_down s w a listed note))
+pub note_at : (s : Script) (w : World) (a : ℕ) (listed : Bool) (note : Note) → IsAt (cursors_of w) a (advance s (cursors_of w a) listed note.place note.entry) (cursors_of (notes_down s w a listed note))
 note_at s w a listed note =
-    let new : Actor = record (w.actors a) { cursor = advance s (places_of w a) listed note.place note.entry; notes = (w.actors a).notes ++ note ∷ [] } in
+    let new : Actor = record (w.actors a) { cursor = advance s (cursors_of w a) listed note.place note.entry; notes = (w.actors a).notes ++ note ∷ [] } in
     at_read (λ (x : Actor). x.cursor) w.actors a new (notes_down s w a listed note).actors (at_updated_is w.actors a new)
 
 pub state_at : (w : World) (i : ℕ) (state : State) (e : Entry) → IsAt (states_of w) i state (states_of (enters w i state e))

@@ -27,7 +27,7 @@ use Rattle.co_program.specs.declared.Asked.TheVariants.{Callout, Queue, Itself}
 use Rattle.co_program.specs.Advance.{advance}
 use Rattle.co_world.specs.World.{World, Actor, open_world, with_actor}
 use Rattle.co_world.specs.Blocked.{blocked}
-use Rattle.co_world.specs.Step.{notes_down, enters, enters_journal, note_of, note_of_cpu, note_of_own, callout_answers, queue_answers, are_direct, answered, removed_from, removed_first, asked_whole, makes_action, goes_on, is_in_section, stepped, step}
+use Rattle.co_world.specs.Step.{notes_down, enters, enters_journal, note_of, note_of_cpu, note_of_own, callout_answers, queue_answers, are_direct, world_answers, removed_from, removed_first, asked_whole, makes_action, goes_on_in_section, is_in_section, stepped, step}
 use Rattle.co_world.specs.Walk.{run}
 use Rattle.co_world.proofs.basics.Updates.{at_updated, cond_kept}
 
@@ -60,7 +60,7 @@ module _ (s : Script) (P : ℕ → Cursor → Type 0) (start : (a : ℕ) → P a
       let made : QEntry = record { actor = a; act = act; op = op; reply = outcome.1 } in
       notes_down_kept (enters_journal w cpu outcome.0 made) a false (note_of_cpu w cpu made) all
 
-  answered_kept : (w : World) (a act : ℕ) (asked : Asked) → Everywhere w → Everywhere (answered s w a act asked)
+  answered_kept : (w : World) (a act : ℕ) (asked : Asked) → Everywhere w → Everywhere (world_answers s w a act asked)
   answered_kept w a act (Callout i op) all = callout_answers_kept w a act i op (callout_step (spec_at s i) (w.timers i).state op) all
   answered_kept w a act (Queue cpu op) all = queue_answers_kept w a act cpu op (queue_step s.buckets (are_direct s) (w.cpus cpu).queue op) all
   answered_kept w a act (Itself kind) all = notes_down_kept w a false (note_of_own s w a act kind) all
@@ -81,7 +81,7 @@ module _ (s : Script) (P : ℕ → Cursor → Type 0) (start : (a : ℕ) → P a
   makes_kept w a (Silent to) all = all
   makes_kept w a (Take held to) all = all
 
-  goes_on_kept : (w : World) (a : ℕ) → Everywhere w → Everywhere (goes_on s w a)
+  goes_on_kept : (w : World) (a : ℕ) → Everywhere w → Everywhere (goes_on_in_section s w a)
   goes_on_kept w a all = cond_kept Everywhere (is_in_section w (w.actors a).cursor) (makes_action s w a (action_for s a (w.actors a).cursor)) w (makes_kept w a (action_for s a (w.actors a).cursor) all) all
 
   stepped_kept : (w : World) (a : ℕ) (due : Action) → action_for s a (w.actors a).cursor ≡ due → Everywhere w → Everywhere (stepped s w a due)

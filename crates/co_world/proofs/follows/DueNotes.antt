@@ -34,17 +34,17 @@ use Rattle.co_program.specs.declared.Task.{Task}
 use Rattle.co_program.specs.declared.Task.TheVariants.{Does, Soft}
 use Rattle.co_program.specs.declared.Role.{Role}
 use Rattle.co_program.specs.Stages.{Stage, Ready, Waiting, Popping, Picking, Locking, Beginning, Unlocking, Firing, Releasing, Ending, Freeing, Drained}
-use Rattle.co_program.specs.declared.Service.{Service}
+use Rattle.co_program.specs.declared.InService.{InService}
 use Rattle.co_program.specs.Cursor.{Cursor}
-use Rattle.co_program.specs.declared.Parcel.{Parcel}
-use Rattle.co_program.specs.Action.{Action, Nothing, Silent, Take, Asks, action_for, action_with, action_in, spec_at, scans_first, scans_with, scans_at, scans_of, locks, asks_covered, asks_within, takes, asks_drain, begins, over, drained_of}
+use Rattle.co_program.specs.declared.PendingInsert.{PendingInsert}
+use Rattle.co_program.specs.Action.{Action, Nothing, Silent, Take, Asks, action_for, action_with, action_in, spec_at, scans_first, scans_with, scans_at, scans_of, locks, asks_covered, asks_within, takes, asks_drain, begins_next, over, drained_of}
 use Rattle.co_program.specs.declared.Asked.{Asked}
 use Rattle.co_program.specs.declared.Asked.TheVariants.{Callout, Queue, Itself}
 use Rattle.co_program.specs.Follows.{Histories, Fits, scan_count}
 use Rattle.co_world.specs.World.{World}
-use Rattle.co_world.specs.Step.{note_of, note_of_cpu, note_of_own, is_within, lands_here, is_in_section}
+use Rattle.co_world.specs.Step.{note_of, note_of_cpu, note_of_own, is_within_service, lands_here, is_in_section}
 use Rattle.co_world.proofs.basics.Prefixes.{Begins, begins_take, begins_front}
-use Rattle.co_world.proofs.follows.SilentSteps.{settled_asks}
+use Rattle.co_world.proofs.follows.SilentSteps.{at_next_asks}
 use Rattle.co_world.proofs.follows.Traces.{IsMade, knows_listed}
 
 -- ---- only a soft act's Pop waits for Scans
@@ -62,16 +62,16 @@ no_scans_at_zero Nothing = tt
 no_scans_at_zero (Silent to) = tt
 no_scans_at_zero (Take held to) = tt
 
-no_scans_begins : (s : Script) (role : Role) (c : Cursor) (left : List Task) → NoScans (scans_of left) (begins s role c left)
-no_scans_begins s role c [] = no_scans_at_zero (begins s role c [])
+no_scans_begins : (s : Script) (role : Role) (c : Cursor) (left : List Task) → NoScans (scans_of left) (begins_next s role c left)
+no_scans_begins s role c [] = no_scans_at_zero (begins_next s role c [])
 no_scans_begins s role c (Soft j ∷ left) = tt
-no_scans_begins s role c (Does act ∷ left) = no_scans_at_zero (begins s role c (Does act ∷ left))
+no_scans_begins s role c (Does act ∷ left) = no_scans_at_zero (begins_next s role c (Does act ∷ left))
 
 no_scans_stage : (s : Script) (role : Role) (c : Cursor) (stage : Stage) → NoScans (scans_at c stage) (action_in s role c stage)
 no_scans_stage s role c Ready = no_scans_begins s role c c.left
 no_scans_stage s role c stage = no_scans_at_zero (action_in s role c stage)
 
-no_scans_with : (s : Script) (role : Role) (c : Cursor) (parcel : Option Parcel) → NoScans (scans_with c parcel) (action_with s role c parcel)
+no_scans_with : (s : Script) (role : Role) (c : Cursor) (parcel : Option PendingInsert) → NoScans (scans_with c parcel) (action_with s role c parcel)
 no_scans_with s role c None = no_scans_stage s role c c.stage
 no_scans_with s role c (Some p) = tt
 
@@ -101,11 +101,11 @@ module _ (s : Script) (role : Role) (c : Cursor) (removed : Option ℕ) where
   same_takes : (left : List Task) (held : Held) → SameAsks (takes c left held) (takes c' left held)
   same_takes left held = same_choice (is_some c.hold) (Asks c.act (Itself Holding)) (Take held (over c left (Some held))) (Asks c.act (Itself Holding)) (Take held (over c' left (Some held))) refl tt
 
-  same_within : (v : Service) (acts : List Act) → SameAsks (asks_within s (cpu_of s role) c v acts) (asks_within s (cpu_of s role) c' v acts)
+  same_within : (v : InService) (acts : List Act) → SameAsks (asks_within s (cpu_of s role) c v acts) (asks_within s (cpu_of s role) c' v acts)
   same_within v [] = tt
   same_within v (act ∷ acts) = same_asks (asks_covered s c.hold c.act (plain_op act s.hz (record { time = v.at; here = cpu_of s role; me = v.i })))
 
-  same_begins : (left : List Task) → SameAsks (begins s role c left) (begins s role c' left)
+  same_begins : (left : List Task) → SameAsks (begins_next s role c left) (begins_next s role c' left)
   same_begins [] = same_choice (is_some c.hold) (Silent (record c { left = []; hold = None; stage = Ready })) Nothing (Silent (record c' { left = []; hold = None; stage = Ready })) Nothing tt tt
   same_begins (Does (Now time) ∷ left) = tt
   same_begins (Does (Lock id) ∷ left) = same_takes left (record { id = id; exclusive = true })
@@ -116,7 +116,7 @@ module _ (s : Script) (role : Role) (c : Cursor) (removed : Option ℕ) where
   same_begins (Does act ∷ left) = same_asks (asks_covered s c.hold c.act (plain_op act s.hz (record { time = c.now; here = cpu_of s role; me = 0 })))
   same_begins (Soft j ∷ left) = refl
 
-  same_locks : (v : Service) (hold : Option Held) → SameAsks (locks s c v hold) (locks s c' v hold)
+  same_locks : (v : InService) (hold : Option Held) → SameAsks (locks s c v hold) (locks s c' v hold)
   same_locks v None = tt
   same_locks v (Some held) = tt
 
@@ -134,7 +134,7 @@ module _ (s : Script) (role : Role) (c : Cursor) (removed : Option ℕ) where
   same_stage (Freeing v drain next) = refl
   same_stage (Drained v acts) = same_within v acts
 
-  same_with : (parcel : Option Parcel) → SameAsks (action_with s role c parcel) (action_with s role c' parcel)
+  same_with : (parcel : Option PendingInsert) → SameAsks (action_with s role c parcel) (action_with s role c' parcel)
   same_with None = same_stage c.stage
   same_with (Some p) = refl
 
@@ -152,7 +152,7 @@ own_made s H w a act kind is =
     let none : scans_first c ≡ 0 = subst (NoScans (scans_first c)) is (no_scans s a c) in
     let note : Note = note_of_own s w a act kind in
     record {
-      here = settled_asks s a c act (Itself kind) is;
+      here = at_next_asks s a c act (Itself kind) is;
       fits = record {
         fits = subst (λ (d : Action). Fits a c d note.place note.entry) (sym is) (refl, refl);
         scanned = omega arith;
@@ -175,7 +175,7 @@ pub callout_made : (s : Script) (H : Histories) (w : World) (a act i : ℕ) (op 
     Begins ((w.timers i).history ++ record { actor = a; act = act; op = op; reply = outcome.1 } ∷ []) (H.timers i) →
     OffIsRemoved op outcome.1 (w.actors a).cursor.removed →
     IsMade s H a (w.actors a).cursor (is_some (off outcome.0)) (note_of w i (record { actor = a; act = act; op = op; reply = outcome.1 }))
-callout_made s H w a act i op outcome is steps known begins h =
+callout_made s H w a act i op outcome is steps known begins_next h =
     let c : Cursor = (w.actors a).cursor in
     let e : Entry = record { actor = a; act = act; op = op; reply = outcome.1 } in
     let none : scans_first c ≡ 0 = subst (NoScans (scans_first c)) is (no_scans s a c) in
@@ -183,29 +183,29 @@ callout_made s H w a act i op outcome is steps known begins h =
     let after : next (spec_at s i) (state (spec_at s i) (w.timers i).history) e ≡ outcome.0 =
     ap (λ (x : State). next (spec_at s i) x e) (sym known) ∙ ap (λ (o : Option (State × Reply)). state_of o (w.timers i).state) steps in
     record {
-      here = settled_asks s a c act (Callout i op) is;
+      here = at_next_asks s a c act (Callout i op) is;
       fits = record {
         fits = subst (λ (d : Action). Fits a c d note.place note.entry) (sym is) (fits_callout a act i op c outcome.1 h);
         scanned = omega arith;
       };
-      knows = knows_listed s H i (w.timers i).history e outcome.0 begins after;
+      knows = knows_listed s H i (w.timers i).history e outcome.0 begins_next after;
     }
 
 -- what H knows of the Scans before an entry
 scans_known : (H : Histories) (cpu : ℕ) (journal : List QEntry) (e : QEntry) → Begins (journal ++ e ∷ []) (H.cpus cpu) → scan_count (take (length journal) (H.cpus cpu)) ≡ scan_count journal
-scans_known H cpu journal e begins = ap scan_count (begins_take journal (H.cpus cpu) (begins_front journal (e ∷ []) (H.cpus cpu) begins))
+scans_known H cpu journal e begins_next = ap scan_count (begins_take journal (H.cpus cpu) (begins_front journal (e ∷ []) (H.cpus cpu) begins_next))
 
 pub queue_made : (s : Script) (H : Histories) (w : World) (a act cpu : ℕ) (op : QOp) (reply : QReply) →
     action_for s a (w.actors a).cursor ≡ Asks act (Queue cpu op) → scans_first (w.actors a).cursor ≤ scan_count (w.cpus cpu).journal →
     Begins ((w.cpus cpu).journal ++ record { actor = a; act = act; op = op; reply = reply } ∷ []) (H.cpus cpu) →
     IsMade s H a (w.actors a).cursor false (note_of_cpu w cpu (record { actor = a; act = act; op = op; reply = reply }))
-queue_made s H w a act cpu op reply is scanned begins =
+queue_made s H w a act cpu op reply is scanned begins_next =
     let c : Cursor = (w.actors a).cursor in
     let e : QEntry = record { actor = a; act = act; op = op; reply = reply } in
     let note : Note = note_of_cpu w cpu e in
-    let known : scan_count (take (length (w.cpus cpu).journal) (H.cpus cpu)) ≡ scan_count (w.cpus cpu).journal = scans_known H cpu (w.cpus cpu).journal e begins in
+    let known : scan_count (take (length (w.cpus cpu).journal) (H.cpus cpu)) ≡ scan_count (w.cpus cpu).journal = scans_known H cpu (w.cpus cpu).journal e begins_next in
     record {
-      here = settled_asks s a c act (Queue cpu op) is;
+      here = at_next_asks s a c act (Queue cpu op) is;
       fits = record {
         fits = subst (λ (d : Action). Fits a c d note.place note.entry) (sym is) (refl, refl);
         scanned = subst (λ (n : ℕ). scans_first c ≤ n) (sym known) scanned;
@@ -223,7 +223,7 @@ remove_made s H w a act i cpu op reply is none_removed answer =
     let note : Note = note_of_cpu w cpu e in
     let none : scans_first c ≡ 0 = subst (NoScans (scans_first c)) is (no_scans s a c) in
     record {
-      here = settled_asks s a c act (Callout i (Call op)) is;
+      here = at_next_asks s a c act (Callout i (Call op)) is;
       fits = record {
         fits = subst (λ (d : Action). Fits a c d note.place note.entry) (sym is) (none_removed, ap (λ (r : QReply). record { actor = a; act = act; op = Remove i; reply = r }) answer);
         scanned = omega arith;
@@ -239,7 +239,7 @@ IsWithin (Asks act (Callout i (Run op))) = ⊤
 IsWithin (Asks act (Queue cpu op)) = ⊤
 IsWithin due = ⊥
 
-within_stage : (s : Script) (role : Role) (c : Cursor) (stage : Stage) → (is_within stage || false) ≡ true → IsWithin (action_in s role c stage) × (scans_at c stage ≡ 0)
+within_stage : (s : Script) (role : Role) (c : Cursor) (stage : Stage) → (is_within_service stage || false) ≡ true → IsWithin (action_in s role c stage) × (scans_at c stage ≡ 0)
 within_stage s role c (Picking v) h = (tt, refl)
 within_stage s role c (Freeing v drain next) h = (tt, refl)
 within_stage s role c Ready h = cc
@@ -253,7 +253,7 @@ within_stage s role c (Releasing v) h = cc
 within_stage s role c (Ending v) h = cc
 within_stage s role c (Drained v acts) h = cc
 
-within_with : (s : Script) (role : Role) (w : World) (c : Cursor) (parcel : Option Parcel) → (is_within c.stage || lands_here w parcel) ≡ true → IsWithin (action_with s role c parcel) × (scans_with c parcel ≡ 0)
+within_with : (s : Script) (role : Role) (w : World) (c : Cursor) (parcel : Option PendingInsert) → (is_within_service c.stage || lands_here w parcel) ≡ true → IsWithin (action_with s role c parcel) × (scans_with c parcel ≡ 0)
 within_with s role w c None h = within_stage s role c c.stage h
 within_with s role w c (Some p) h = (tt, refl)
 

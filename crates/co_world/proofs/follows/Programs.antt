@@ -26,16 +26,16 @@ use Rattle.co_program.specs.Cursor.{Cursor, start_of}
 use Rattle.co_program.specs.Action.{Action, Nothing, Silent, Take, Asks, action_for, spec_at, scans_first}
 use Rattle.co_program.specs.declared.Asked.{Asked}
 use Rattle.co_program.specs.declared.Asked.TheVariants.{Callout, Queue, Itself}
-use Rattle.co_program.specs.Follows.{Histories, settled, scan_count}
+use Rattle.co_program.specs.Follows.{Histories, at_next_note, scan_count}
 use Rattle.co_world.specs.declared.turn.Why.{Why}
 use Rattle.co_world.specs.declared.turn.Why.TheVariants.{Tick}
 use Rattle.co_world.specs.World.{World, Actor, Timer, Cpu, open_world, histories_of}
 use Rattle.co_world.specs.Blocked.{blocked, waits_for}
-use Rattle.co_world.specs.Step.{notes_down, enters, enters_journal, landed, note_of, note_of_cpu, note_of_own, are_direct, callout_answers, queue_answers, answered, removed_from, removed_first, asked_whole, is_in_section, makes_action, goes_on, stepped, step}
+use Rattle.co_world.specs.Step.{notes_down, enters, enters_journal, landed, note_of, note_of_cpu, note_of_own, are_direct, callout_answers, queue_answers, world_answers, removed_from, removed_first, asked_whole, is_in_section, makes_action, goes_on_in_section, stepped, step}
 use Rattle.co_world.specs.Walk.{run}
 use Rattle.co_world.proofs.basics.Updates.{at_updated, at_choice, from_updated, updated_here}
 use Rattle.co_world.proofs.basics.Prefixes.{Begins, begins_front, begins_last, begins_whole, Each}
-use Rattle.co_world.proofs.follows.SilentSteps.{settled_silent, settled_take, settled_nothing}
+use Rattle.co_world.proofs.follows.SilentSteps.{at_next_silent, at_next_take, at_next_nothing}
 use Rattle.co_world.proofs.follows.Traces.{Trace, Extends, IsTraced, traced_down, traced_place, states_entered}
 use Rattle.co_world.proofs.follows.WholeCalls.{NoneRemoved, none_step}
 use Rattle.co_world.specs.Laws.{NoneMissing, FinishedFollow, reached}
@@ -85,7 +85,7 @@ extends_queue s H w a act cpu op (Some outcome) x =
     let e : QEntry = record { actor = a; act = act; op = op; reply = outcome.1 } in
     extends_journal H w cpu outcome.0 e (extends_down s H (enters_journal w cpu outcome.0 e) a false (note_of_cpu w cpu e) x)
 
-extends_answered : (s : Script) (H : Histories) (w : World) (a act : ℕ) (asked : Asked) → Extends H (answered s w a act asked) → Extends H w
+extends_answered : (s : Script) (H : Histories) (w : World) (a act : ℕ) (asked : Asked) → Extends H (world_answers s w a act asked) → Extends H w
 extends_answered s H w a act (Callout i op) x = extends_callout s H w a act i op (callout_step (spec_at s i) (w.timers i).state op) x
 extends_answered s H w a act (Queue cpu op) x = extends_queue s H w a act cpu op (queue_step s.buckets (are_direct s) (w.cpus cpu).queue op) x
 extends_answered s H w a act (Itself kind) x = extends_down s H w a false (note_of_own s w a act kind) x
@@ -100,7 +100,7 @@ extends_choice : (H : Histories) (b : Bool) (x y w : World) → (Extends H x →
 extends_choice H true x y w f g h = f h
 extends_choice H false x y w f g h = g h
 
-extends_on : (s : Script) (H : Histories) (w : World) (a : ℕ) → Extends H (goes_on s w a) → Extends H w
+extends_on : (s : Script) (H : Histories) (w : World) (a : ℕ) → Extends H (goes_on_in_section s w a) → Extends H w
 extends_on s H w a =
     extends_choice H (is_in_section w (w.actors a).cursor) (makes_action s w a (action_for s a (w.actors a).cursor)) w w
     (extends_due s H w a (action_for s a (w.actors a).cursor)) (λ x. x)
@@ -163,7 +163,7 @@ traced_queue s H w a act cpu op (Some outcome) is traced scanned x =
     (queue_made s H w a act cpu op outcome.1 is scanned
     (journal_begins H w cpu outcome.0 e (extends_down s H (enters_journal w cpu outcome.0 e) a false (note_of_cpu w cpu e) x)))
 
-traced_own : (s : Script) (H : Histories) (w : World) (a act : ℕ) (kind : OwnKind) → action_for s a (w.actors a).cursor ≡ Asks act (Itself kind) → IsTraced s H w → IsTraced s H (answered s w a act (Itself kind))
+traced_own : (s : Script) (H : Histories) (w : World) (a act : ℕ) (kind : OwnKind) → action_for s a (w.actors a).cursor ≡ Asks act (Itself kind) → IsTraced s H w → IsTraced s H (world_answers s w a act (Itself kind))
 traced_own s H w a act kind is traced = traced_down s H w a false (note_of_own s w a act kind) traced (own_made s H w a act kind is)
 
 -- ---- the Scans that a Pop waits for have come
@@ -182,7 +182,7 @@ NoneIsMissing H = (cpu : ℕ) → Each (λ e. e.reply ≡ Missing → ⊥) (H.cp
 
 traced_call : (s : Script) (H : Histories) (w : World) (a act i : ℕ) (op : CallOp) (off : Option ℕ) → off_of (call (w.timers i).state op).1 ≡ off →
     NoneIsMissing H → action_for s a (w.actors a).cursor ≡ Asks act (Callout i (Call op)) → (w.actors a).cursor.removed ≡ None → IsTraced s H w →
-    Extends H (answered s (removed_from s w a act i off) a act (Callout i (Call op))) → IsTraced s H (answered s (removed_from s w a act i off) a act (Callout i (Call op)))
+    Extends H (world_answers s (removed_from s w a act i off) a act (Callout i (Call op))) → IsTraced s H (world_answers s (removed_from s w a act i off) a act (Callout i (Call op)))
 traced_call s H w a act i op None off_is found is none traced x =
     traced_callout s H w a act i (Call op) (Some (call (w.timers i).state op)) refl is traced (off_is ∙ sym none) x
 traced_call s H w a act i op (Some cpu) off_is found is none traced x =
@@ -234,7 +234,7 @@ traced_due s H w a Nothing is within zero_scans traced x = absurd within
 traced_due s H w a (Silent to) is within zero_scans traced x = absurd within
 traced_due s H w a (Take held to) is within zero_scans traced x = absurd within
 
-traced_on : (s : Script) (H : Histories) (w : World) (a : ℕ) → IsTraced s H w → Extends H (goes_on s w a) → IsTraced s H (goes_on s w a)
+traced_on : (s : Script) (H : Histories) (w : World) (a : ℕ) → IsTraced s H w → Extends H (goes_on_in_section s w a) → IsTraced s H (goes_on_in_section s w a)
 traced_on s H w a traced =
     at_choice (λ (w' : World). Extends H w' → IsTraced s H w') (is_in_section w (w.actors a).cursor) (makes_action s w a (action_for s a (w.actors a).cursor)) w
     (λ e. traced_due s H w a (action_for s a (w.actors a).cursor) refl (within_due s w a (w.actors a).cursor e).0 (within_due s w a (w.actors a).cursor e).1 traced)
@@ -245,8 +245,8 @@ traced_on s H w a traced =
 traced_stepped : (s : Script) (H : Histories) (w : World) (a : ℕ) (due : Action) → NoneIsMissing H → action_for s a (w.actors a).cursor ≡ due → (w.actors a).cursor.removed ≡ None →
     waits_for s w (w.actors a).cursor due ≡ None → IsTraced s H w → Extends H (stepped s w a due) → IsTraced s H (stepped s w a due)
 traced_stepped s H w a Nothing found is none free traced x = traced
-traced_stepped s H w a (Silent to) found is none free traced x = traced_place s H w a to traced (settled_silent s a (w.actors a).cursor to is)
-traced_stepped s H w a (Take held to) found is none free traced x = traced_place s H w a to traced (settled_take s a (w.actors a).cursor to held is)
+traced_stepped s H w a (Silent to) found is none free traced x = traced_place s H w a to traced (at_next_silent s a (w.actors a).cursor to is)
+traced_stepped s H w a (Take held to) found is none free traced x = traced_place s H w a to traced (at_next_take s a (w.actors a).cursor to held is)
 traced_stepped s H w a (Asks act asked) found is none free traced x =
     traced_on s H (asked_whole s w a act asked) a (traced_asked s H w a act asked found is none free traced (extends_on s H (asked_whole s w a act asked) a x)) x
 
@@ -307,7 +307,7 @@ finished_follow s schedule found a finished =
     let w : World = reached s schedule in
     let H : Histories = histories_of w in
     let trace : Trace s H a (w.actors a) = (traced_reached s schedule found).traces a in
-    let there : settled s a (cursor_after s H a (start_of s a) (w.actors a).notes) ≡ (w.actors a).cursor = trace.place ∙ settled_nothing s a (w.actors a).cursor finished in
+    let there : at_next_note s a (cursor_after s H a (start_of s a) (w.actors a).notes) ≡ (w.actors a).cursor = trace.place ∙ at_next_nothing s a (w.actors a).cursor finished in
     record { each = trace.next; whole = subst (λ (c : Cursor). action_for s a c ≡ Nothing) (sym there) finished }
 
 -- the state of each callout is that of its history

@@ -17,13 +17,13 @@ use Rattle.co_program.specs.declared.Task.{Task}
 use Rattle.co_program.specs.declared.Task.TheVariants.{Does, Soft}
 use Rattle.co_program.specs.declared.Role.{Role}
 use Rattle.co_program.specs.Stages.{Stage, Ready, Waiting, Popping, Picking, Locking, Beginning, Unlocking, Firing, Releasing, Ending, Freeing, Drained}
-use Rattle.co_program.specs.declared.Service.{Service}
+use Rattle.co_program.specs.declared.InService.{InService}
 use Rattle.co_program.specs.Cursor.{Cursor}
-use Rattle.co_program.specs.declared.Parcel.{Parcel}
-use Rattle.co_program.specs.Action.{Action, Nothing, Silent, Take, Asks, action_for, action_with, action_in, spec_at, firing, locks, asks_covered, asks_within, takes, asks_drain, begins, over, drained_of}
+use Rattle.co_program.specs.declared.PendingInsert.{PendingInsert}
+use Rattle.co_program.specs.Action.{Action, Nothing, Silent, Take, Asks, action_for, action_with, action_in, spec_at, firing, locks, asks_covered, asks_within, takes, asks_drain, begins_next, over, drained_of}
 use Rattle.co_program.specs.declared.Asked.{Asked}
 use Rattle.co_program.specs.declared.Asked.TheVariants.{Callout, Itself}
-use Rattle.co_program.specs.Follows.{past, settled}
+use Rattle.co_program.specs.Follows.{past, at_next_note}
 use Rattle.co_world.proofs.basics.Updates.{cond_kept}
 
 -- how many steps without a note there are at most before the next note
@@ -79,7 +79,7 @@ fewer_covered : (s : Script) (n : ℕ) (hold : Option Held) (act : ℕ) (call : 
 fewer_covered s n hold act None = tt
 fewer_covered s n hold act (Some (i, op)) = fewer_choice n (covers hold (spec_at s i) (Plain op)) (Asks act (Callout i (Call (Plain op)))) (Asks act (Itself NotHeld)) tt tt
 
-fewer_within : (s : Script) (n cpu : ℕ) (c : Cursor) (v : Service) (acts : List Act) → Fewer n (asks_within s cpu c v acts)
+fewer_within : (s : Script) (n cpu : ℕ) (c : Cursor) (v : InService) (acts : List Act) → Fewer n (asks_within s cpu c v acts)
 fewer_within s n cpu c v [] = tt
 fewer_within s n cpu c v (act ∷ acts) = fewer_covered s n c.hold c.act (plain_op act s.hz (record { time = v.at; here = cpu; me = v.i }))
 
@@ -94,7 +94,7 @@ unfolding quiet quiet_stage quiet_acts
 fewer_end c None = tt
 fewer_end c (Some held) = omega arith
 
-fewer_begins : (s : Script) (role : Role) (c : Cursor) (left : List Task) → Fewer (quiet_acts left c.hold) (begins s role c left)
+fewer_begins : (s : Script) (role : Role) (c : Cursor) (left : List Task) → Fewer (quiet_acts left c.hold) (begins_next s role c left)
 unfolding quiet_acts
 fewer_begins s role c [] = fewer_end c c.hold
 fewer_begins s role c (Does (Now time) ∷ left) = fewer_now c left time
@@ -106,17 +106,17 @@ fewer_begins s role c (Does (Tick time) ∷ left) = tt
 fewer_begins s role c (Does act ∷ left) = fewer_covered s (suc (suc (length left))) c.hold c.act (plain_op act s.hz (record { time = c.now; here = cpu_of s role; me = 0 }))
 fewer_begins s role c (Soft j ∷ left) = tt
 
-fewer_locks : (s : Script) (c : Cursor) (v : Service) (hold : Option Held) → Fewer 1 (locks s c v hold)
+fewer_locks : (s : Script) (c : Cursor) (v : InService) (hold : Option Held) → Fewer 1 (locks s c v hold)
 unfolding quiet quiet_stage
 fewer_locks s c v None = tt
 fewer_locks s c v (Some held) = omega arith
 
-fewer_firing : (c : Cursor) (v : Service) (acts : List Act) → quiet (record c { hold = None; stage = firing v None acts }) < 1
+fewer_firing : (c : Cursor) (v : InService) (acts : List Act) → quiet (record c { hold = None; stage = firing v None acts }) < 1
 unfolding quiet quiet_stage
 fewer_firing c v [] = omega arith
 fewer_firing c v (act ∷ acts) = omega arith
 
-fewer_ending : (c : Cursor) (v : Service) → quiet (record c { hold = None; stage = Ending v }) < 1
+fewer_ending : (c : Cursor) (v : InService) → quiet (record c { hold = None; stage = Ending v }) < 1
 unfolding quiet quiet_stage
 fewer_ending c v = omega arith
 
@@ -135,7 +135,7 @@ fewer_stage s role c (Ending v) = tt
 fewer_stage s role c (Freeing v drain next) = tt
 fewer_stage s role c (Drained v acts) = fewer_within s 0 (cpu_of s role) c v acts
 
-fewer_with : (s : Script) (role : Role) (c : Cursor) (parcel : Option Parcel) → Fewer (quiet c) (action_with s role c parcel)
+fewer_with : (s : Script) (role : Role) (c : Cursor) (parcel : Option PendingInsert) → Fewer (quiet c) (action_with s role c parcel)
 unfolding quiet
 fewer_with s role c None = fewer_stage s role c c.stage
 fewer_with s role c (Some p) = tt
@@ -160,20 +160,20 @@ past_alike s a (suc f) (suc g) c (Silent to) h f_enough g_enough = past_alike s 
 past_alike s a (suc f) (suc g) c (Take held to) h f_enough g_enough = past_alike s a f g to (action_for s a to) (fewer_due s a to) (omega arith) (omega arith)
 past_alike s a (suc f) (suc g) c (Asks act asked) h f_enough g_enough = refl
 
-settled_by : (s : Script) (a : ℕ) (c to : Cursor) → quiet to < quiet c → past s a (length c.left) to (action_for s a to) ≡ settled s a to
-settled_by s a c to h = past_alike s a (length c.left) (suc (length to.left)) to (action_for s a to) (fewer_due s a to) (omega (arith, quiet_bound c)) (quiet_bound to)
+at_next_by : (s : Script) (a : ℕ) (c to : Cursor) → quiet to < quiet c → past s a (length c.left) to (action_for s a to) ≡ at_next_note s a to
+at_next_by s a c to h = past_alike s a (length c.left) (suc (length to.left)) to (action_for s a to) (fewer_due s a to) (omega (arith, quiet_bound c)) (quiet_bound to)
 
 -- a step without a note does not change where the next note is made
-pub settled_silent : (s : Script) (a : ℕ) (c to : Cursor) → action_for s a c ≡ Silent to → settled s a c ≡ settled s a to
-settled_silent s a c to is =
-    ap (past s a (suc (length c.left)) c) is ∙ settled_by s a c to (subst (Fewer (quiet c)) is (fewer_due s a c))
+pub at_next_silent : (s : Script) (a : ℕ) (c to : Cursor) → action_for s a c ≡ Silent to → at_next_note s a c ≡ at_next_note s a to
+at_next_silent s a c to is =
+    ap (past s a (suc (length c.left)) c) is ∙ at_next_by s a c to (subst (Fewer (quiet c)) is (fewer_due s a c))
 
-pub settled_take : (s : Script) (a : ℕ) (c to : Cursor) (held : Held) → action_for s a c ≡ Take held to → settled s a c ≡ settled s a to
-settled_take s a c to held is =
-    ap (past s a (suc (length c.left)) c) is ∙ settled_by s a c to (subst (Fewer (quiet c)) is (fewer_due s a c))
+pub at_next_take : (s : Script) (a : ℕ) (c to : Cursor) (held : Held) → action_for s a c ≡ Take held to → at_next_note s a c ≡ at_next_note s a to
+at_next_take s a c to held is =
+    ap (past s a (suc (length c.left)) c) is ∙ at_next_by s a c to (subst (Fewer (quiet c)) is (fewer_due s a c))
 
-pub settled_asks : (s : Script) (a : ℕ) (c : Cursor) (act : ℕ) (asked : Asked) → action_for s a c ≡ Asks act asked → settled s a c ≡ c
-settled_asks s a c act asked is = ap (past s a (suc (length c.left)) c) is
+pub at_next_asks : (s : Script) (a : ℕ) (c : Cursor) (act : ℕ) (asked : Asked) → action_for s a c ≡ Asks act asked → at_next_note s a c ≡ c
+at_next_asks s a c act asked is = ap (past s a (suc (length c.left)) c) is
 
-pub settled_nothing : (s : Script) (a : ℕ) (c : Cursor) → action_for s a c ≡ Nothing → settled s a c ≡ c
-settled_nothing s a c is = ap (past s a (suc (length c.left)) c) is
+pub at_next_nothing : (s : Script) (a : ℕ) (c : Cursor) → action_for s a c ≡ Nothing → at_next_note s a c ≡ c
+at_next_nothing s a c is = ap (past s a (suc (length c.left)) c) is

@@ -12,7 +12,7 @@ use Rattle.co_program.specs.declared.Script.{Script}
 use Rattle.co_program.specs.Cursor.{Cursor, start_of}
 use Rattle.co_program.specs.Action.{spec_at}
 use Rattle.co_program.specs.Advance.{advance}
-use Rattle.co_program.specs.Follows.{Histories, IsNext, AreNext, cursor_after, goes_on as goes_on_after, settled, listed_after}
+use Rattle.co_program.specs.Follows.{Histories, IsNextNote, AreNext, cursor_after, goes_on as goes_on_after, at_next_note, listed_after}
 use Rattle.co_world.specs.World.{World, Actor, Timer, with_actor}
 use Rattle.co_world.specs.Step.{notes_down, enters}
 use Rattle.co_world.proofs.basics.Updates.{at_updated}
@@ -21,24 +21,24 @@ use Rattle.co_world.proofs.basics.Prefixes.{Begins, begins_take, length_more}
 -- ---- one more note
 
 pub are_next_more : (s : Script) (H : Histories) (a : ℕ) (c : Cursor) (notes : List Note) (note : Note) →
-    AreNext s H a c notes → IsNext s H a (settled s a (cursor_after s H a c notes)) note → AreNext s H a c (notes ++ note ∷ [])
+    AreNext s H a c notes → IsNextNote s H a (at_next_note s a (cursor_after s H a c notes)) note → AreNext s H a c (notes ++ note ∷ [])
 are_next_more s H a c [] note all here = (here, tt)
-are_next_more s H a c (x ∷ notes) note all here = (all.0, are_next_more s H a (goes_on_after s H (settled s a c) x) notes note all.1 here)
+are_next_more s H a c (x ∷ notes) note all here = (all.0, are_next_more s H a (goes_on_after s H (at_next_note s a c) x) notes note all.1 here)
 
 pub cursor_after_more : (s : Script) (H : Histories) (a : ℕ) (c : Cursor) (notes : List Note) (note : Note) →
-    cursor_after s H a c (notes ++ note ∷ []) ≡ goes_on_after s H (settled s a (cursor_after s H a c notes)) note
+    cursor_after s H a c (notes ++ note ∷ []) ≡ goes_on_after s H (at_next_note s a (cursor_after s H a c notes)) note
 cursor_after_more s H a c [] note = refl
-cursor_after_more s H a c (x ∷ notes) note = cursor_after_more s H a (goes_on_after s H (settled s a c) x) notes note
+cursor_after_more s H a c (x ∷ notes) note = cursor_after_more s H a (goes_on_after s H (at_next_note s a c) x) notes note
 
 -- the notes lead to the place
 pub record Trace (s : Script) (H : Histories) (a : ℕ) (actor : Actor) : Type 0 where
   pub next : AreNext s H a (start_of s a) actor.notes
-  pub place : settled s a (cursor_after s H a (start_of s a) actor.notes) ≡ settled s a actor.cursor
+  pub place : at_next_note s a (cursor_after s H a (start_of s a) actor.notes) ≡ at_next_note s a actor.cursor
 
 -- the note that an actor makes where one is due
 pub record IsMade (s : Script) (H : Histories) (a : ℕ) (c : Cursor) (listed : Bool) (note : Note) : Type 0 where
-  pub here : settled s a c ≡ c
-  pub fits : IsNext s H a c note
+  pub here : at_next_note s a c ≡ c
+  pub fits : IsNextNote s H a c note
   pub knows : listed ≡ listed_after s H note.place note.pos
 
 pub trace_more : (s : Script) (H : Histories) (a : ℕ) (actor : Actor) (listed : Bool) (note : Note) →
@@ -46,11 +46,11 @@ pub trace_more : (s : Script) (H : Histories) (a : ℕ) (actor : Actor) (listed 
     Trace s H a (record actor { cursor = advance s actor.cursor listed note.place note.entry; notes = actor.notes ++ note ∷ [] })
 trace_more s H a actor listed note trace made =
     let end : Cursor = cursor_after s H a (start_of s a) actor.notes in
-    let same : settled s a end ≡ actor.cursor = trace.place ∙ made.here in
+    let same : at_next_note s a end ≡ actor.cursor = trace.place ∙ made.here in
     record {
-      next = are_next_more s H a (start_of s a) actor.notes note trace.next (subst (λ (k : Cursor). IsNext s H a k note) (sym same) made.fits);
+      next = are_next_more s H a (start_of s a) actor.notes note trace.next (subst (λ (k : Cursor). IsNextNote s H a k note) (sym same) made.fits);
       place =
-          ap (settled s a)
+          ap (at_next_note s a)
           (cursor_after_more s H a (start_of s a) actor.notes note
           ∙ ap (λ (k : Cursor). goes_on_after s H k note) same
           ∙ ap (λ (l : Bool). advance s actor.cursor l note.place note.entry) (sym made.knows));
@@ -77,7 +77,7 @@ traced_down s H w a listed note traced made = record {
 }
 
 -- a step without a note
-pub traced_place : (s : Script) (H : Histories) (w : World) (a : ℕ) (to : Cursor) → IsTraced s H w → settled s a (w.actors a).cursor ≡ settled s a to →
+pub traced_place : (s : Script) (H : Histories) (w : World) (a : ℕ) (to : Cursor) → IsTraced s H w → at_next_note s a (w.actors a).cursor ≡ at_next_note s a to →
     IsTraced s H (with_actor w a (record (w.actors a) { cursor = to }))
 traced_place s H w a to traced same = record {
   states = traced.states;

@@ -36,16 +36,16 @@ use Rattle.co_program.specs.declared.Task.TheVariants.{Does, Soft}
 use Rattle.co_program.specs.declared.Role.{Role}
 use Rattle.co_program.specs.declared.Role.TheVariants.{Client, Cpu, Interrupt}
 use Rattle.co_program.specs.Stages.{Stage, Ready, Waiting, Popping, Picking, Locking, Beginning, Unlocking, Firing, Releasing, Ending, Freeing, Drained}
-use Rattle.co_program.specs.declared.Service.{Service}
+use Rattle.co_program.specs.declared.InService.{InService}
 use Rattle.co_program.specs.Cursor.{Cursor}
-use Rattle.co_program.specs.declared.Parcel.{Parcel}
-use Rattle.co_program.specs.Action.{Action, Nothing, Silent, Take, Asks, action_for, action_with, action_in, spec_at, locks, asks_covered, asks_within, takes, asks_drain, begins, over, drained_of, pop_of, free_of}
+use Rattle.co_program.specs.declared.PendingInsert.{PendingInsert}
+use Rattle.co_program.specs.Action.{Action, Nothing, Silent, Take, Asks, action_for, action_with, action_in, spec_at, locks, asks_covered, asks_within, takes, asks_drain, begins_next, over, drained_of, pop_of, free_of}
 use Rattle.co_program.specs.declared.Asked.{Asked}
 use Rattle.co_program.specs.declared.Asked.TheVariants.{Callout, Queue, Itself}
-use Rattle.co_program.specs.Advance.{advance, advance_callout, advance_queue, called, act_over, picked, begun, ended, got, popped, freed}
+use Rattle.co_program.specs.Advance.{advance, advance_callout, advance_queue, call_made, act_over, service_picked, service_begun, service_ended, pop_answered, popped, freed}
 use Rattle.co_world.specs.World.{World, Actor, with_actor}
 use Rattle.co_world.specs.Blocked.{blocked}
-use Rattle.co_world.specs.Step.{enters, enters_journal, note_of, note_of_cpu, note_of_own, are_direct, callout_answers, queue_answers, answered, removed_from, asked_whole, is_in_section, makes_action, goes_on, stepped, step}
+use Rattle.co_world.specs.Step.{enters, enters_journal, note_of, note_of_cpu, note_of_own, are_direct, callout_answers, queue_answers, world_answers, removed_from, asked_whole, is_in_section, makes_action, goes_on_in_section, stepped, step}
 use Rattle.co_world.specs.Walk.{run}
 use Rattle.co_world.proofs.basics.Updates.{cond_kept, at_choice}
 use Rattle.co_world.proofs.follows.DueNotes.{IsWithin, within_due}
@@ -57,20 +57,20 @@ removed_over c (Firing v acts) = refl
 removed_over c (Drained v acts) = refl
 removed_over c stage = refl
 
-removed_called : (c : Cursor) (i : ℕ) (listed : Bool) (op : Op) (reply : Reply) → (called c i listed op reply).removed ≡ c.removed
+removed_called : (c : Cursor) (i : ℕ) (listed : Bool) (op : Op) (reply : Reply) → (call_made c i listed op reply).removed ≡ c.removed
 removed_called c i listed op (Wait n took off) = refl
 removed_called c i true op (Armed code n cpu off) = removed_over c c.stage
 removed_called c i listed op reply = removed_over c c.stage
 
-removed_picked : (s : Script) (c : Cursor) (v : Service) (reply : Reply) → (picked s c v reply).removed ≡ c.removed
+removed_picked : (s : Script) (c : Cursor) (v : InService) (reply : Reply) → (service_picked s c v reply).removed ≡ c.removed
 removed_picked s c v (Go func arg) = refl
 removed_picked s c v reply = refl
 
-removed_begun : (s : Script) (c : Cursor) (v : Service) (reply : Reply) → (begun s c v reply).removed ≡ c.removed
+removed_begun : (s : Script) (c : Cursor) (v : InService) (reply : Reply) → (service_begun s c v reply).removed ≡ c.removed
 removed_begun s c v (Go func arg) = refl
 removed_begun s c v reply = refl
 
-removed_ended : (c : Cursor) (v : Service) (reply : Reply) → (ended c v reply).removed ≡ c.removed
+removed_ended : (c : Cursor) (v : InService) (reply : Reply) → (service_ended c v reply).removed ≡ c.removed
 removed_ended c v (Ended drain next woke) = refl
 removed_ended c v reply = refl
 
@@ -80,7 +80,7 @@ removed_callout s c i listed op reply (Beginning v) = removed_begun s c v reply
 removed_callout s c i listed op reply (Ending v) = removed_ended c v reply
 removed_callout s c i listed op reply stage = removed_called c i listed op reply
 
-removed_got : (c : Cursor) (act : ℕ) (reply : QReply) → (got c act reply).removed ≡ c.removed
+removed_got : (c : Cursor) (act : ℕ) (reply : QReply) → (pop_answered c act reply).removed ≡ c.removed
 removed_got c act (Got i n at) = refl
 removed_got c act reply = refl
 
@@ -122,7 +122,7 @@ module _ (s : Script) (role : Role) (c : Cursor) where
   leaves_covered hold act None = tt
   leaves_covered hold act (Some (i, op)) = leaves_choice c.removed (covers hold (spec_at s i) (Plain op)) (Asks act (Callout i (Call (Plain op)))) (Asks act (Itself NotHeld)) tt tt
 
-  leaves_within : (v : Service) (acts : List Act) → LeavesNone c.removed (asks_within s (cpu_of s role) c v acts)
+  leaves_within : (v : InService) (acts : List Act) → LeavesNone c.removed (asks_within s (cpu_of s role) c v acts)
   leaves_within v [] = tt
   leaves_within v (act ∷ acts) = leaves_covered c.hold c.act (plain_op act s.hz (record { time = v.at; here = cpu_of s role; me = v.i }))
 
@@ -142,7 +142,7 @@ module _ (s : Script) (role : Role) (c : Cursor) where
   leaves_free (Cpu k) = tt
   leaves_free (Interrupt k) = tt
 
-  leaves_begins : (left : List Task) → LeavesNone c.removed (begins s role c left)
+  leaves_begins : (left : List Task) → LeavesNone c.removed (begins_next s role c left)
   leaves_begins [] = leaves_choice c.removed (is_some c.hold) (Silent (record c { left = []; hold = None; stage = Ready })) Nothing refl tt
   leaves_begins (Does (Now time) ∷ left) = refl
   leaves_begins (Does (Lock id) ∷ left) = leaves_takes left (record { id = id; exclusive = true })
@@ -153,7 +153,7 @@ module _ (s : Script) (role : Role) (c : Cursor) where
   leaves_begins (Does act ∷ left) = leaves_covered c.hold c.act (plain_op act s.hz (record { time = c.now; here = cpu_of s role; me = 0 }))
   leaves_begins (Soft j ∷ left) = leaves_pop role
 
-  leaves_locks : (v : Service) (hold : Option Held) → LeavesNone c.removed (locks s c v hold)
+  leaves_locks : (v : InService) (hold : Option Held) → LeavesNone c.removed (locks s c v hold)
   leaves_locks v None = tt
   leaves_locks v (Some held) = refl
 
@@ -171,7 +171,7 @@ module _ (s : Script) (role : Role) (c : Cursor) where
   leaves_stage (Freeing v drain next) = leaves_free role
   leaves_stage (Drained v acts) = leaves_within v acts
 
-  leaves_with : (parcel : Option Parcel) → LeavesNone c.removed (action_with s role c parcel)
+  leaves_with : (parcel : Option PendingInsert) → LeavesNone c.removed (action_with s role c parcel)
   leaves_with None = leaves_stage c.stage
   leaves_with (Some p) = tt
 
@@ -219,7 +219,7 @@ none_queue s w a act cpu op (Some outcome) h none =
     (record { cursor = advance s c false note.place note.entry; notes = (w.actors a).notes ++ note ∷ [] }) (none_else w a none)
     (removed_queue s c cpu op outcome.1 h ∙ none a)
 
-none_own : (s : Script) (w : World) (a act : ℕ) (kind : OwnKind) → NoneRemoved w → NoneRemoved (answered s w a act (Itself kind))
+none_own : (s : Script) (w : World) (a act : ℕ) (kind : OwnKind) → NoneRemoved w → NoneRemoved (world_answers s w a act (Itself kind))
 none_own s w a act kind none =
     let note : Note = note_of_own s w a act kind in
     let c : Cursor = (w.actors a).cursor in
@@ -234,7 +234,7 @@ else_removed s w a act i cpu none b =
     let actor : Actor = record { cursor = advance s (w.actors a).cursor false note.place note.entry; notes = (w.actors a).notes ++ note ∷ [] } in
     at_choice (λ (x : Actor). (b ≡ a) ⊎ (x.cursor.removed ≡ None)) (b == a) actor (w.actors b) (λ e. inl (eqb-true b a e)) (λ e. inr (none b))
 
-none_call : (s : Script) (w : World) (a act i : ℕ) (op : CallOp) (off : Option ℕ) → NoneRemoved w → NoneRemoved (answered s (removed_from s w a act i off) a act (Callout i (Call op)))
+none_call : (s : Script) (w : World) (a act i : ℕ) (op : CallOp) (off : Option ℕ) → NoneRemoved w → NoneRemoved (world_answers s (removed_from s w a act i off) a act (Callout i (Call op)))
 none_call s w a act i op None none = none_some s w a act i (Call op) (call (w.timers i).state op) (none_else w a none)
 none_call s w a act i op (Some cpu) none = none_some s (removed_from s w a act i (Some cpu)) a act i (Call op) (call (w.timers i).state op) (else_removed s w a act i cpu none)
 
@@ -253,7 +253,7 @@ none_due s w a Nothing h within none = none
 none_due s w a (Silent to) h within none = none
 none_due s w a (Take held to) h within none = none
 
-none_on : (s : Script) (w : World) (a : ℕ) → NoneRemoved w → NoneRemoved (goes_on s w a)
+none_on : (s : Script) (w : World) (a : ℕ) → NoneRemoved w → NoneRemoved (goes_on_in_section s w a)
 none_on s w a none =
     let c : Cursor = (w.actors a).cursor in
     at_choice NoneRemoved (is_in_section w c) (makes_action s w a (action_for s a c)) w

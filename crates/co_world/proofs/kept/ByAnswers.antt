@@ -18,13 +18,13 @@ use Rattle.co_program.specs.declared.Role.{Role}
 use Rattle.co_program.specs.declared.Role.TheVariants.{Client, Cpu, Interrupt}
 use Rattle.co_program.specs.Stages.{Stage, Popping, Picking, Beginning, Ending, Freeing}
 use Rattle.co_program.specs.Cursor.{Cursor}
-use Rattle.co_program.specs.declared.Parcel.{Parcel}
+use Rattle.co_program.specs.declared.PendingInsert.{PendingInsert}
 use Rattle.co_program.specs.Action.{Asks, action_for, spec_at}
 use Rattle.co_program.specs.declared.Asked.TheVariants.{Callout, Queue, Itself}
 use Rattle.co_program.specs.Scripts.{IsScript}
 use Rattle.co_world.specs.World.{World}
 use Rattle.co_world.specs.Step.{notes_down, enters, note_of, note_of_own, callout_answers, own_note}
-use Rattle.co_world.proofs.kept.Invariant.{Holds, FitsRole, states_of, queues_of, places_of, carries, in_hand, in_stage, has_popped, under_way, service_of}
+use Rattle.co_world.proofs.kept.Invariant.{Holds, FitsRole, states_of, queues_of, cursors_of, carries, in_hand, in_stage, has_popped, under_way, service_of}
 use Rattle.co_world.proofs.basics.Ranges.{any_at}
 use Rattle.co_world.proofs.basics.Changes.{IsAt, at_all, note_at}
 use Rattle.co_world.proofs.basics.Actions.{IsAction, IsActionWith, inserts, goes_by}
@@ -45,7 +45,7 @@ use Rattle.co_object.proofs.QueueChanges.{QChange, removes}
 use Rattle.co_program.specs.declared.Task.TheVariants.{Does, Soft}
 use Rattle.co_program.specs.declared.Act.TheVariants.{Tick}
 use Rattle.co_program.specs.Action.{pop_of, free_of}
-use Rattle.co_program.specs.Advance.{advance_queue, tail_of, popped, got}
+use Rattle.co_program.specs.Advance.{advance_queue, tail_of, popped, pop_answered}
 use Rattle.co_world.specs.Step.{enters_journal, note_of_cpu, are_direct}
 use Rattle.co_world.proofs.kept.Invariant.{IsBetween, IsTaskOf}
 use Rattle.co_world.proofs.basics.Actions.{scans as due_scans, starts, pops as due_pops, frees as due_frees}
@@ -64,7 +64,7 @@ use Rattle.co_object.specs.declared.RunOp.{RunOp}
 use Rattle.co_object.specs.declared.QReply.TheVariants.{Missing}
 use Rattle.co_object.specs.History.{IsOfItsActor}
 use Rattle.co_object.specs.Journal as journal
-use Rattle.co_world.specs.Step.{answered, queue_answers, removed_from, asked_whole}
+use Rattle.co_world.specs.Step.{world_answers, queue_answers, removed_from, asked_whole}
 use Rattle.co_world.specs.Blocked.{is_moving, moves}
 use Rattle.co_world.proofs.legal.Owners.{IsOwned, owned_callout, owned_queue, owned_own}
 use Rattle.co_world.proofs.kept.ByCalls.{holds_call, TookOut}
@@ -85,32 +85,32 @@ pub record Good (s : Script) (w : World) (out : Option ℕ) : Type 0 where
   pub owned : IsOwned s w
 
 scan_no_got : (m : ℕ) (direct : List Bool) (q : TimerQueue) (op : QOp) (r : QReply) (t : TimerQueue) (now i n time : ℕ) → QChange m direct q op r t → op ≡ Scan now → r ≡ Got i n time → ⊥
-scan_no_got m direct q op r t now i n time (change_inserts j k u free) is got = cc
-scan_no_got m direct q op r t now i n time (removes j held) is got = cc
-scan_no_got m direct q op r t now i n time (change_misses j) is got = cc
-scan_no_got m direct q op r t now i n time (change_scans at count) is got = cc
-scan_no_got m direct q op r t now i n time (change_pops d ds first) is got = cc
-scan_no_got m direct q op r t now i n time finds_none is got = cc
-scan_no_got m direct q op r t now i n time change_frees is got = cc
-scan_no_got m direct q op r t now i n time (pops_direct d ds first) is got = cc
-scan_no_got m direct q op r t now i n time finds_no_direct is got = cc
-scan_no_got m direct q op r t now i n time frees_direct is got = cc
+scan_no_got m direct q op r t now i n time (change_inserts j k u free) is pop_answered = cc
+scan_no_got m direct q op r t now i n time (removes j held) is pop_answered = cc
+scan_no_got m direct q op r t now i n time (change_misses j) is pop_answered = cc
+scan_no_got m direct q op r t now i n time (change_scans at count) is pop_answered = cc
+scan_no_got m direct q op r t now i n time (change_pops d ds first) is pop_answered = cc
+scan_no_got m direct q op r t now i n time finds_none is pop_answered = cc
+scan_no_got m direct q op r t now i n time change_frees is pop_answered = cc
+scan_no_got m direct q op r t now i n time (pops_direct d ds first) is pop_answered = cc
+scan_no_got m direct q op r t now i n time finds_no_direct is pop_answered = cc
+scan_no_got m direct q op r t now i n time frees_direct is pop_answered = cc
 
 free_no_got : (m : ℕ) (direct : List Bool) (role : Role) (q : TimerQueue) (op : QOp) (r : QReply) (t : TimerQueue) (i n time : ℕ) → QChange m direct q op r t → op ≡ free_of role → r ≡ Got i n time → ⊥
-free_no_got m direct role q op r t i n time (change_inserts j k u free) is got = cc
-free_no_got m direct role q op r t i n time (removes j held) is got = cc
-free_no_got m direct role q op r t i n time (change_misses j) is got = cc
-free_no_got m direct role q op r t i n time (change_scans at count) is got = cc
-free_no_got m direct (Client k) q op r t i n time (change_pops d ds first) is got = cc
-free_no_got m direct (Cpu k) q op r t i n time (change_pops d ds first) is got = cc
-free_no_got m direct (Interrupt k) q op r t i n time (change_pops d ds first) is got = cc
-free_no_got m direct role q op r t i n time finds_none is got = cc
-free_no_got m direct role q op r t i n time change_frees is got = cc
-free_no_got m direct (Client k) q op r t i n time (pops_direct d ds first) is got = cc
-free_no_got m direct (Cpu k) q op r t i n time (pops_direct d ds first) is got = cc
-free_no_got m direct (Interrupt k) q op r t i n time (pops_direct d ds first) is got = cc
-free_no_got m direct role q op r t i n time finds_no_direct is got = cc
-free_no_got m direct role q op r t i n time frees_direct is got = cc
+free_no_got m direct role q op r t i n time (change_inserts j k u free) is pop_answered = cc
+free_no_got m direct role q op r t i n time (removes j held) is pop_answered = cc
+free_no_got m direct role q op r t i n time (change_misses j) is pop_answered = cc
+free_no_got m direct role q op r t i n time (change_scans at count) is pop_answered = cc
+free_no_got m direct (Client k) q op r t i n time (change_pops d ds first) is pop_answered = cc
+free_no_got m direct (Cpu k) q op r t i n time (change_pops d ds first) is pop_answered = cc
+free_no_got m direct (Interrupt k) q op r t i n time (change_pops d ds first) is pop_answered = cc
+free_no_got m direct role q op r t i n time finds_none is pop_answered = cc
+free_no_got m direct role q op r t i n time change_frees is pop_answered = cc
+free_no_got m direct (Client k) q op r t i n time (pops_direct d ds first) is pop_answered = cc
+free_no_got m direct (Cpu k) q op r t i n time (pops_direct d ds first) is pop_answered = cc
+free_no_got m direct (Interrupt k) q op r t i n time (pops_direct d ds first) is pop_answered = cc
+free_no_got m direct role q op r t i n time finds_no_direct is pop_answered = cc
+free_no_got m direct role q op r t i n time frees_direct is pop_answered = cc
 
 not_missing : (m : ℕ) (direct : List Bool) (q : TimerQueue) (op : QOp) (r : QReply) (t : TimerQueue) → QChange m direct q op r t → ((j : ℕ) → op ≡ Remove j → ⊥) → r ≡ Missing → ⊥
 not_missing m direct q op r t (change_inserts j k u free) other is = cc
@@ -149,7 +149,7 @@ scanner_of s a time (Interrupt x) may is task =
 
 module _ (s : Script) (ok : IsScript s) (w : World) (good : Good s w None) (a : ℕ) (may : a < actor_count s) where
   abbrev c : Cursor
-  c = places_of w a
+  c = cursors_of w a
 
   abbrev role : Role
   role = role_of s a
@@ -158,7 +158,7 @@ module _ (s : Script) (ok : IsScript s) (w : World) (good : Good s w None) (a : 
   After act cpu op q' reply = notes_down s (enters_journal w cpu q' (record { actor = a; act = act; op = op; reply = reply })) a false (note_of_cpu w cpu (record { actor = a; act = act; op = op; reply = reply }))
 
   popped_at : (act act' cpu : ℕ) (op : QOp) (q' : TimerQueue) (reply : QReply) (d : Cursor) → QChange s.buckets (are_direct s) (queues_of w cpu) op reply q' → Popped s.buckets (are_direct s) role (queues_of w cpu) reply q' →
-      advance_queue s c cpu op reply ≡ got d act' reply → d.left ≡ c.left → d.parcel ≡ None → c.parcel ≡ None → op ≡ pop_of role → IsServer role → cpu ≡ cpu_of s role → Fits s role (advance_queue s c cpu op reply) →
+      advance_queue s c cpu op reply ≡ pop_answered d act' reply → d.left ≡ c.left → d.parcel ≡ None → c.parcel ≡ None → op ≡ pop_of role → IsServer role → cpu ≡ cpu_of s role → Fits s role (advance_queue s c cpu op reply) →
       service_of c.stage ≡ None → has_popped c.stage ≡ false → in_stage (cpu_of s role) c.stage ≡ None → ((x : ℕ) → role ≡ Interrupt x → under_way c.stage ≡ 1) → Holds s (After act cpu op q' reply) None
   popped_at act act' cpu op q' reply d change (has i n time t serves) to_is left parcel parcel_is op_is server cpu_is fits rest free hand ticks =
       holds_got s ok w None good.holds a act cpu op q' reply change act' parcel_is op_is server cpu_is refl fits may rest free hand ticks i n time refl serves
@@ -215,7 +215,7 @@ module _ (s : Script) (ok : IsScript s) (w : World) (good : Good s w None) (a : 
   queue_own act cpu op q' reply stage change (due_frees v drain next) fits =
       ((server_pops s a role refl (is_server s role c.hold (Freeing v drain next) refl fits)).1, not_missing s.buckets (are_direct s) (queues_of w cpu) (free_of role) reply q' change (λ k e. (no_remove role k).1 e))
 
-  queue_entered : (act cpu : ℕ) (op : QOp) (q' : TimerQueue) (reply : QReply) (parcel : Option Parcel) → QChange s.buckets (are_direct s) (queues_of w cpu) op reply q' → c.parcel ≡ parcel → IsActionWith s role c parcel (Asks act (Queue cpu op)) →
+  queue_entered : (act cpu : ℕ) (op : QOp) (q' : TimerQueue) (reply : QReply) (parcel : Option PendingInsert) → QChange s.buckets (are_direct s) (queues_of w cpu) op reply q' → c.parcel ≡ parcel → IsActionWith s role c parcel (Asks act (Queue cpu op)) →
       (c.parcel ≡ None) ⊎ IsBetween c.stage → Good s (After act cpu op q' reply) None
   queue_entered act cpu op q' reply parcel change e (inserts p) (inl empty) = absurd (let clash : Some p ≡ None = sym e ∙ empty in cc)
   queue_entered act cpu op q' reply parcel change e (inserts p) (inr between) = record {
@@ -230,7 +230,7 @@ module _ (s : Script) (ok : IsScript s) (w : World) (good : Good s w None) (a : 
         (queue_own act cpu op q' reply c.stage change view (good.holds.roles a).hold);
   }
 
-  pub queue_good : (act cpu : ℕ) (op : QOp) → action_for s a c ≡ Asks act (Queue cpu op) → (c.parcel ≡ None) ⊎ IsBetween c.stage → Good s (answered s w a act (Queue cpu op)) None
+  pub queue_good : (act cpu : ℕ) (op : QOp) → action_for s a c ≡ Asks act (Queue cpu op) → (c.parcel ≡ None) ⊎ IsBetween c.stage → Good s (world_answers s w a act (Queue cpu op)) None
   queue_good act cpu op is ready = go (journal.step s.buckets (are_direct s) (queues_of w cpu) op) refl where
     go : (o : Option (TimerQueue × QReply)) → journal.step s.buckets (are_direct s) (queues_of w cpu) op ≡ o → Good s (queue_answers s w a act cpu op o) None
     go None e = good
@@ -246,7 +246,7 @@ module _ (s : Script) (ok : IsScript s) (w : World) (good : Good s w None) (a : 
   run_own act i op stage e (opens v) = let fits : FitsRole s role c.left c.hold (Beginning v) = subst (FitsRole s role c.left c.hold) e (good.holds.roles a) in server_of_lane s a v.i (is_server s role c.hold (Beginning v) refl fits.hold) fits.lane
   run_own act i op stage e (ends v) = let fits : FitsRole s role c.left c.hold (Ending v) = subst (FitsRole s role c.left c.hold) e (good.holds.roles a) in server_of_lane s a v.i (is_server s role c.hold (Ending v) refl fits.hold) fits.lane
 
-  pub run_good : (act i : ℕ) (op : RunOp) → action_for s a c ≡ Asks act (Callout i (Serve op)) → ((b : ℕ) → (b ≡ a → ⊥) → IsBetween (places_of w b).stage) → Good s (answered s w a act (Callout i (Serve op))) None
+  pub run_good : (act i : ℕ) (op : RunOp) → action_for s a c ≡ Asks act (Callout i (Serve op)) → ((b : ℕ) → (b ≡ a → ⊥) → IsBetween (cursors_of w b).stage) → Good s (world_answers s w a act (Callout i (Serve op))) None
   run_good act i op is between = go (callout_step (spec_at s i) (states_of w i) (Serve op)) refl where
     go : (o : Option (State × Reply)) → callout_step (spec_at s i) (states_of w i) (Serve op) ≡ o → Good s (callout_answers s w a act i (Serve op) o) None
     go None e = good
@@ -262,20 +262,20 @@ module _ (s : Script) (ok : IsScript s) (w : World) (good : Good s w None) (a : 
   -- ---- calls
 
   -- a callout that nobody in the script is moving is in no hand
-  pub unmoved_by : (i : ℕ) → ((b : ℕ) → IsBetween (places_of w b).stage) → is_moving s w i ≡ false → (b : ℕ) (p : Parcel) → carries s b (places_of w b) ≡ Some p → p.i ≡ i → ⊥
+  pub unmoved_by : (i : ℕ) → ((b : ℕ) → IsBetween (cursors_of w b).stage) → is_moving s w i ≡ false → (b : ℕ) (p : PendingInsert) → carries s b (cursors_of w b) ≡ Some p → p.i ≡ i → ⊥
   unmoved_by i between still b p is number = go (good.holds.carried.listed p.i p.cpu (listed_off (states_of w p.i) p.n p.cpu p.due (good.holds.carried.moves b p is))) where
-    in_parcel : (d : ℕ) (r : Parcel) (o : Option Parcel) → in_hand (cpu_of s (role_of s d)) o (places_of w d).stage ≡ Some r → r.i ≡ i → moves i o ≡ true
-    in_parcel d r None e same = absurd (let clash : Some r ≡ None = sym e ∙ between_hand (cpu_of s (role_of s d)) (places_of w d).stage (between d) in cc)
-    in_parcel d r (Some p') e same = let one : p' ≡ r = cc in eq-eqb p'.i i (ap (λ (y : Parcel). y.i) one ∙ same)
+    in_parcel : (d : ℕ) (r : PendingInsert) (o : Option PendingInsert) → in_hand (cpu_of s (role_of s d)) o (cursors_of w d).stage ≡ Some r → r.i ≡ i → moves i o ≡ true
+    in_parcel d r None e same = absurd (let clash : Some r ≡ None = sym e ∙ between_hand (cpu_of s (role_of s d)) (cursors_of w d).stage (between d) in cc)
+    in_parcel d r (Some p') e same = let one : p' ≡ r = cc in eq-eqb p'.i i (ap (λ (y : PendingInsert). y.i) one ∙ same)
 
-    go : (1 ≤ stands p.i (queues_of w p.cpu)) ⊎ ((no_out ≡ Some p.i) ⊎ ((d : ℕ) × (r : Parcel) × (d < actor_count s) × (carries s d (places_of w d) ≡ Some r) × (r.i ≡ p.i))) → ⊥
+    go : (1 ≤ stands p.i (queues_of w p.cpu)) ⊎ ((no_out ≡ Some p.i) ⊎ ((d : ℕ) × (r : PendingInsert) × (d < actor_count s) × (carries s d (cursors_of w d) ≡ Some r) × (r.i ≡ p.i))) → ⊥
     go (inl some) = let z = good.holds.carried.apart b p p.cpu is in omega arith
     go (inr (inl removed)) = cc
     go (inr (inr held)) =
-        let found : is_moving s w i ≡ true = any_at (λ d. moves i (places_of w d).parcel) 0 (actor_count s) held.0 (omega arith) (let h = held.2 in omega arith) (in_parcel held.0 held.1 (places_of w held.0).parcel held.3 (held.4 ∙ number)) in
+        let found : is_moving s w i ≡ true = any_at (λ d. moves i (cursors_of w d).parcel) 0 (actor_count s) held.0 (omega arith) (let h = held.2 in omega arith) (in_parcel held.0 held.1 (cursors_of w held.0).parcel held.3 (held.4 ∙ number)) in
         let clash : true ≡ false = sym found ∙ still in cc
 
-  module _ (act i : ℕ) (op : CallOp) (is : action_for s a c ≡ Asks act (Callout i (Call op))) (unmoved : (b : ℕ) (p : Parcel) → carries s b (places_of w b) ≡ Some p → p.i ≡ i → ⊥) where
+  module _ (act i : ℕ) (op : CallOp) (is : action_for s a c ≡ Asks act (Callout i (Call op))) (unmoved : (b : ℕ) (p : PendingInsert) → carries s b (cursors_of w b) ≡ Some p → p.i ≡ i → ⊥) where
     abbrev outcome : State × Reply
     outcome = call (states_of w i) op
 
@@ -295,12 +295,12 @@ module _ (s : Script) (ok : IsScript s) (w : World) (good : Good s w None) (a : 
 
     stood : (cpu : ℕ) → off_of outcome.1 ≡ Some cpu → 1 ≤ stands i (queues_of w cpu)
     stood cpu e = go (good.holds.carried.listed i cpu (off_was None cpu (Call op) outcome.1 outcome.0 d e)) where
-      go : (1 ≤ stands i (queues_of w cpu)) ⊎ ((no_out ≡ Some i) ⊎ ((b : ℕ) × (r : Parcel) × (b < actor_count s) × (carries s b (places_of w b) ≡ Some r) × (r.i ≡ i))) → 1 ≤ stands i (queues_of w cpu)
+      go : (1 ≤ stands i (queues_of w cpu)) ⊎ ((no_out ≡ Some i) ⊎ ((b : ℕ) × (r : PendingInsert) × (b < actor_count s) × (carries s b (cursors_of w b) ≡ Some r) × (r.i ≡ i))) → 1 ≤ stands i (queues_of w cpu)
       go (inl some) = some
       go (inr (inl removed)) = cc
       go (inr (inr held)) = absurd (unmoved held.0 held.1 held.3 held.4)
 
-    call_from : (o : Option ℕ) → off_of outcome.1 ≡ o → Good s (answered s (removed_from s w a act i o) a act (Callout i (Call op))) None
+    call_from : (o : Option ℕ) → off_of outcome.1 ≡ o → Good s (world_answers s (removed_from s w a act i o) a act (Callout i (Call op))) None
     call_from None e = record {
       holds = holds_call s ok w None good.holds a act i op outcome.0 outcome.1 may is d unmoved (subst (λ (x : Option ℕ). TookOut x i None) (sym e) refl);
       owned = owned_callout s w i a outcome.0 (record { actor = a; act = act; op = Call op; reply = outcome.1 }) (is_some (off outcome.0)) (note_of w i (record { actor = a; act = act; op = Call op; reply = outcome.1 })) good.owned tt;
@@ -311,12 +311,12 @@ module _ (s : Script) (ok : IsScript s) (w : World) (good : Good s w None) (a : 
         let made : QEntry = record { actor = a; act = act; op = Remove i; reply = gone.1 } in
         let w1 : World = After act cpu (Remove i) gone.0 gone.1 in
         let removed : ◌≡◌ {A = TimerQueue × QReply} (journal.remove q i) (without q i, Off) = remove_is s.buckets (are_direct s) q i (stood cpu e) in
-        let here : IsAt (places_of w) a (record c { removed = Some cpu }) (places_of w1) = note_at s (enters_journal w cpu gone.0 made) a false (note_of_cpu w cpu made) in
+        let here : IsAt (cursors_of w) a (record c { removed = Some cpu }) (cursors_of w1) = note_at s (enters_journal w cpu gone.0 made) a false (note_of_cpu w cpu made) in
         let first : Holds s w1 (Some i) = holds_remove s ok w None good.holds a act cpu (Remove i) gone.0 gone.1 (changed s.buckets (are_direct s) q (Remove i) gone refl) i refl (ap (λ (o : TimerQueue × QReply). o.0) removed) (stood cpu e) refl in
         let off_reply : gone.1 ≡ Off = ap (λ (o : TimerQueue × QReply). o.1) removed in
         let owned : IsOwned s w1 = owned_queue s w cpu a gone.0 made (note_of_cpu w cpu made) good.owned (tt, λ missing. (let clash : Off ≡ Missing = sym off_reply ∙ missing in cc)) in
-        let due : action_for s a (places_of w1 a) ≡ Asks act (Callout i (Call op)) = ap (action_for s a) here.here ∙ due_removed s a c (Some cpu) act (Callout i (Call op)) is in
-        let hands : (b : ℕ) → carries s b (places_of w1 b) ≡ carries s b (places_of w b) = at_all (λ b (x : Cursor). carries s b x ≡ carries s b (places_of w b)) (places_of w) a (record c { removed = Some cpu }) (places_of w1) here refl (λ b other. refl) in
+        let due : action_for s a (cursors_of w1 a) ≡ Asks act (Callout i (Call op)) = ap (action_for s a) here.here ∙ due_removed s a c (Some cpu) act (Callout i (Call op)) is in
+        let hands : (b : ℕ) → carries s b (cursors_of w1 b) ≡ carries s b (cursors_of w b) = at_all (λ b (x : Cursor). carries s b x ≡ carries s b (cursors_of w b)) (cursors_of w) a (record c { removed = Some cpu }) (cursors_of w1) here refl (λ b other. refl) in
         record {
           holds = holds_call s ok w1 (Some i) first a act i op outcome.0 outcome.1 may due d (λ b p carried number. unmoved b p (sym (hands b) ∙ carried) number) (subst (λ (x : Option ℕ). TookOut x i (Some i)) (sym e) refl);
           owned = owned_callout s w1 i a outcome.0 (record { actor = a; act = act; op = Call op; reply = outcome.1 }) (is_some (off outcome.0)) (note_of w1 i (record { actor = a; act = act; op = Call op; reply = outcome.1 })) owned tt;

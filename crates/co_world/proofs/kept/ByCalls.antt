@@ -19,14 +19,14 @@ use Rattle.co_program.specs.declared.Role.{Role}
 use Rattle.co_program.specs.declared.Role.TheVariants.{Client}
 use Rattle.co_program.specs.Stages.{Stage, Ready, Waiting, Popping, Picking, Locking, Beginning, Unlocking, Firing, Releasing, Ending, Freeing, Drained}
 use Rattle.co_program.specs.Cursor.{Cursor}
-use Rattle.co_program.specs.declared.Parcel.{Parcel}
+use Rattle.co_program.specs.declared.PendingInsert.{PendingInsert}
 use Rattle.co_program.specs.Action.{Asks, action_for, spec_at}
 use Rattle.co_program.specs.declared.Asked.TheVariants.{Callout}
-use Rattle.co_program.specs.Advance.{act_over, called, advance_callout, due_of_call}
+use Rattle.co_program.specs.Advance.{act_over, call_made, advance_callout, due_of_call}
 use Rattle.co_program.specs.Scripts.{IsScript}
 use Rattle.co_world.specs.World.{World}
 use Rattle.co_world.specs.Step.{notes_down, enters, note_of}
-use Rattle.co_world.proofs.kept.Invariant.{Holds, IsListed, IsCarried, FitsRole, states_of, queues_of, places_of, carries, in_hand, has_popped, service_of}
+use Rattle.co_world.proofs.kept.Invariant.{Holds, IsListed, IsCarried, FitsRole, states_of, queues_of, cursors_of, carries, in_hand, has_popped, service_of}
 use Rattle.co_world.proofs.basics.Changes.{IsAt, at_all, note_at, state_at}
 use Rattle.co_world.proofs.basics.Actions.{IsAction}
 use Rattle.co_world.proofs.kept.Operations.{Did, GoesOn, keeps, clears, arms, is_plain, did}
@@ -67,10 +67,10 @@ pub listed_on : (state t : State) (n cpu u : ℕ) → t.armed ≡ state.armed �
 listed_on state t n cpu u same on h = record { arming = h.arming; armed = same ∙ h.armed; number = h.number; place = h.place; due = h.due; free = sym (on.free cpu) ∙ h.free }
 
 module _ (s : Script) (ok : IsScript s) (w : World) (out : Option ℕ) (holds : Holds s w out) (a act i : ℕ) (op : CallOp) (t : State) (reply : Reply) (may : a < actor_count s)
-    (is : action_for s a (places_of w a) ≡ Asks act (Callout i (Call op))) (d : Did (spec_at s i) (states_of w i) (Call op) reply t)
-    (unmoved : (b : ℕ) (p : Parcel) → carries s b (places_of w b) ≡ Some p → p.i ≡ i → ⊥) (took : TookOut (off_of reply) i out) where
+    (is : action_for s a (cursors_of w a) ≡ Asks act (Callout i (Call op))) (d : Did (spec_at s i) (states_of w i) (Call op) reply t)
+    (unmoved : (b : ℕ) (p : PendingInsert) → carries s b (cursors_of w b) ≡ Some p → p.i ≡ i → ⊥) (took : TookOut (off_of reply) i out) where
   abbrev from : Cursor
-  from = record (places_of w a) { removed = None }
+  from = record (cursors_of w a) { removed = None }
 
   abbrev role : Role
   role = role_of s a
@@ -82,10 +82,10 @@ module _ (s : Script) (ok : IsScript s) (w : World) (out : Option ℕ) (holds : 
   now = notes_down s (enters w i t made) a (is_some (off t)) (note_of w i made)
 
   abbrev to : Cursor
-  to = called from i (is_some (off t)) (Call op) reply
+  to = call_made from i (is_some (off t)) (Call op) reply
 
   view : (from.parcel ≡ None) × IsAction s role from from.stage (Asks act (Callout i (Call op)))
-  view = callout_view s a (places_of w a) act i (Call op) is
+  view = callout_view s a (cursors_of w a) act i (Call op) is
 
   acting : IsActing s role from.left from.act from.now from.hold None from.parcel from.stage
   acting = acts_call s role from.left from.act from.now from.hold None from.parcel from.stage act i op view.1 (holds.roles a)
@@ -93,8 +93,8 @@ module _ (s : Script) (ok : IsScript s) (w : World) (out : Option ℕ) (holds : 
   over_turn : SameTurn role from.left from.stage (act_over from from.stage).left (act_over from from.stage).stage
   over_turn = turn_over s role from.left from.act from.now from.hold None from.parcel from.stage acting
 
-  hand_free : carries s a (places_of w a) ≡ None
-  hand_free = hand_none s a (places_of w a) view.0 (over_turn.hands (cpu_of s role)).0
+  hand_free : carries s a (cursors_of w a) ≡ None
+  hand_free = hand_none s a (cursors_of w a) view.0 (over_turn.hands (cpu_of s role)).0
 
   over_free : carries s a (act_over from from.stage) ≡ None
   over_free = hand_none s a (act_over from from.stage) (over_parcel s ok w out holds a from from.stage ∙ view.0) (over_turn.hands (cpu_of s role)).1
@@ -116,8 +116,8 @@ module _ (s : Script) (ok : IsScript s) (w : World) (out : Option ℕ) (holds : 
     go (Ending v) h = absurd h
     go (Freeing v drain next) h = absurd h
 
-  moved : IsAt (places_of w) a to (places_of now)
-  moved = subst (λ (x : Cursor). IsAt (places_of w) a x (places_of now)) advance_call (note_at s (enters w i t made) a (is_some (off t)) (note_of w i made))
+  moved : IsAt (cursors_of w) a to (cursors_of now)
+  moved = subst (λ (x : Cursor). IsAt (cursors_of w) a x (cursors_of now)) advance_call (note_at s (enters w i t made) a (is_some (off t)) (note_of w i made))
 
   changed : IsAt (states_of w) i t (states_of now)
   changed = state_at w i t made
@@ -129,10 +129,10 @@ module _ (s : Script) (ok : IsScript s) (w : World) (out : Option ℕ) (holds : 
   goes_on_all on = at_all (λ j (x : State). GoesOn (states_of w j).run x.run) (states_of w) i t (states_of now) changed on (λ j other. same_run (states_of w j).run (states_of w j).run refl)
 
   -- the same turn, and where the arming is
-  finish : GoesOn (states_of w i).run t.run → SameTurn role from.left from.stage to.left to.stage → IsCarried s (states_of now) (queues_of now) (places_of now) None → Holds s now None
+  finish : GoesOn (states_of w i).run t.run → SameTurn role from.left from.stage to.left to.stage → IsCarried s (states_of now) (queues_of now) (cursors_of now) None → Holds s now None
   finish on turn carried =
       holds_turn s w out holds now None a to moved (λ x. refl) (λ x. refl) to_fits turn.popped turn.ticks
-      (serving_same s (states_of w) (places_of w) holds.serving (states_of now) (places_of now) a to moved (goes_on_all on) turn.service
+      (serving_same s (states_of w) (cursors_of w) holds.serving (states_of now) (cursors_of now) a to moved (goes_on_all on) turn.service
       (runs_on (states_of w) (states_of now) (cpu_of s role) to.stage (λ v e. goes_on_all on v.i) (turn.runs (states_of w) (cpu_of s role) (holds.serving.serves a))))
       carried
 
@@ -142,19 +142,19 @@ module _ (s : Script) (ok : IsScript s) (w : World) (out : Option ℕ) (holds : 
     go None h = let clash : Some j ≡ None = sym e ∙ h in cc
     go (Some cpu) h = let same : Some j ≡ Some i = sym e ∙ h in cc
 
-  carry : ((n cpu u : ℕ) → IsListed (states_of w i) n cpu u → IsListed t n cpu u) ⊎ Nobody s (states_of w) (queues_of w) (places_of w) out holds.carried a i →
-      (carries s a to ≡ None) ⊎ ((p : Parcel) × (carries s a to ≡ Some p) × (p.i ≡ i) × IsListed t p.n p.cpu p.due × Nobody s (states_of w) (queues_of w) (places_of w) out holds.carried a i) →
-      ((cpu : ℕ) → off t ≡ Some cpu → (1 ≤ stands i (queues_of w cpu)) ⊎ (((p : Parcel) × (carries s a to ≡ Some p) × (p.i ≡ i)) ⊎ ((b : ℕ) × (p : Parcel) × (b ≡ a → ⊥) × (b < actor_count s) × (carries s b (places_of w b) ≡ Some p) × (p.i ≡ i)))) →
-      IsCarried s (states_of now) (queues_of now) (places_of now) None
+  carry : ((n cpu u : ℕ) → IsListed (states_of w i) n cpu u → IsListed t n cpu u) ⊎ Nobody s (states_of w) (queues_of w) (cursors_of w) out holds.carried a i →
+      (carries s a to ≡ None) ⊎ ((p : PendingInsert) × (carries s a to ≡ Some p) × (p.i ≡ i) × IsListed t p.n p.cpu p.due × Nobody s (states_of w) (queues_of w) (cursors_of w) out holds.carried a i) →
+      ((cpu : ℕ) → off t ≡ Some cpu → (1 ≤ stands i (queues_of w cpu)) ⊎ (((p : PendingInsert) × (carries s a to ≡ Some p) × (p.i ≡ i)) ⊎ ((b : ℕ) × (p : PendingInsert) × (b ≡ a → ⊥) × (b < actor_count s) × (carries s b (cursors_of w b) ≡ Some p) × (p.i ≡ i)))) →
+      IsCarried s (states_of now) (queues_of now) (cursors_of now) None
   carry keep hand stays =
-      carried_state s (states_of w) (queues_of w) (places_of w) out holds.carried (states_of now) (places_of now) a i t to changed moved may
+      carried_state s (states_of w) (queues_of w) (cursors_of w) out holds.carried (states_of now) (cursors_of now) a i t to changed moved may
       (λ p e. absurd (let clash : Some p ≡ None = sym e ∙ hand_free in cc)) gone keep hand stays
 
   -- nobody else has a callout whose arming is taken away
-  nobody : off_of reply ≡ off (states_of w i) → Nobody s (states_of w) (queues_of w) (places_of w) out holds.carried a i
+  nobody : off_of reply ≡ off (states_of w i) → Nobody s (states_of w) (queues_of w) (cursors_of w) out holds.carried a i
   nobody same = record { hands = λ b p other e number. unmoved b p e number; rests = rest_of (off_of reply) took same } where
     rest_of : (o : Option ℕ) → TookOut o i out → o ≡ off (states_of w i) → (x : ℕ) → stands i (queues_of w x) ≡ 0
-    rest_of None h e = unlisted s (states_of w) (queues_of w) (places_of w) out holds.carried i (sym e)
+    rest_of None h e = unlisted s (states_of w) (queues_of w) (cursors_of w) out holds.carried i (sym e)
     rest_of (Some cpu) h e = λ x. holds.carried.away i x h
 
   plain_to : is_plain reply ≡ true → to ≡ act_over from from.stage
@@ -166,7 +166,7 @@ module _ (s : Script) (ok : IsScript s) (w : World) (out : Option ℕ) (holds : 
   over_hand : is_plain reply ≡ true → carries s a to ≡ None
   over_hand plain = ap (carries s a) (plain_to plain) ∙ over_free
 
-  nowhere : t.armed ≡ None → (cpu : ℕ) → off t ≡ Some cpu → (1 ≤ stands i (queues_of w cpu)) ⊎ (((p : Parcel) × (carries s a to ≡ Some p) × (p.i ≡ i)) ⊎ ((b : ℕ) × (p : Parcel) × (b ≡ a → ⊥) × (b < actor_count s) × (carries s b (places_of w b) ≡ Some p) × (p.i ≡ i)))
+  nowhere : t.armed ≡ None → (cpu : ℕ) → off t ≡ Some cpu → (1 ≤ stands i (queues_of w cpu)) ⊎ (((p : PendingInsert) × (carries s a to ≡ Some p) × (p.i ≡ i)) ⊎ ((b : ℕ) × (p : PendingInsert) × (b ≡ a → ⊥) × (b < actor_count s) × (carries s b (cursors_of w b) ≡ Some p) × (p.i ≡ i)))
   nowhere none cpu e = let clash : Some cpu ≡ None = sym e ∙ off_none t none in cc
 
   pub call_keeps : t.armed ≡ (states_of w i).armed → GoesOn (states_of w i).run t.run → is_plain reply ≡ true → off_of reply ≡ None → Holds s now None
@@ -176,8 +176,8 @@ module _ (s : Script) (ok : IsScript s) (w : World) (out : Option ℕ) (holds : 
         out_none : out ≡ None
         out_none = subst (λ (o : Option ℕ). TookOut o i out) none took
 
-        stays : (cpu : ℕ) → (1 ≤ stands i (queues_of w cpu)) ⊎ ((out ≡ Some i) ⊎ ((b : ℕ) × (p : Parcel) × (b < actor_count s) × (carries s b (places_of w b) ≡ Some p) × (p.i ≡ i))) →
-            (1 ≤ stands i (queues_of w cpu)) ⊎ (((p : Parcel) × (carries s a to ≡ Some p) × (p.i ≡ i)) ⊎ ((b : ℕ) × (p : Parcel) × (b ≡ a → ⊥) × (b < actor_count s) × (carries s b (places_of w b) ≡ Some p) × (p.i ≡ i)))
+        stays : (cpu : ℕ) → (1 ≤ stands i (queues_of w cpu)) ⊎ ((out ≡ Some i) ⊎ ((b : ℕ) × (p : PendingInsert) × (b < actor_count s) × (carries s b (cursors_of w b) ≡ Some p) × (p.i ≡ i))) →
+            (1 ≤ stands i (queues_of w cpu)) ⊎ (((p : PendingInsert) × (carries s a to ≡ Some p) × (p.i ≡ i)) ⊎ ((b : ℕ) × (p : PendingInsert) × (b ≡ a → ⊥) × (b < actor_count s) × (carries s b (cursors_of w b) ≡ Some p) × (p.i ≡ i)))
         stays cpu (inl some) = inl some
         stays cpu (inr (inl removed)) = absurd (let clash : Some i ≡ None = sym removed ∙ out_none in cc)
         stays cpu (inr (inr has)) = absurd (unmoved has.0 has.1 has.3 has.4)
@@ -187,33 +187,33 @@ module _ (s : Script) (ok : IsScript s) (w : World) (out : Option ℕ) (holds : 
 
   pub call_waits : (n : ℕ) (more : Bool) → reply ≡ Wait n more (off (states_of w i)) → t.armed ≡ None → GoesOn (states_of w i).run t.run → (service_of from.stage ≡ None) × (has_popped from.stage ≡ false) × ((k : ℕ) × (role ≡ Client k)) → Holds s now None
   call_waits n more says none on rest = finish on turn (carry (inr (nobody (ap off_of says))) (inl free) (nowhere none)) where
-    waits_at : (b : Bool) → called from i b (Call op) (Wait n more (off (states_of w i))) ≡ record from { stage = Waiting n more }
+    waits_at : (b : Bool) → call_made from i b (Call op) (Wait n more (off (states_of w i))) ≡ record from { stage = Waiting n more }
     waits_at true = refl
     waits_at false = refl
 
     to_is : to ≡ record from { stage = Waiting n more }
-    to_is = ap (called from i (is_some (off t)) (Call op)) says ∙ waits_at (is_some (off t))
+    to_is = ap (call_made from i (is_some (off t)) (Call op)) says ∙ waits_at (is_some (off t))
 
     turn : SameTurn role from.left from.stage to.left to.stage
     turn = subst (λ (x : Cursor). SameTurn role from.left from.stage x.left x.stage) (sym to_is) (turn_wait s role from.left from.act from.now from.hold None from.parcel from.stage n more acting rest.0 rest.1 rest.2)
 
     free : carries s a to ≡ None
-    free = ap (carries s a) to_is ∙ ap (λ (o : Option Parcel). in_hand (cpu_of s role) o (Waiting n more)) view.0
+    free = ap (carries s a) to_is ∙ ap (λ (o : Option PendingInsert). in_hand (cpu_of s role) o (Waiting n more)) view.0
 
   pub call_arms : (code : ℤ) (arming : Arming) → reply ≡ Armed code arming.n arming.cpu (off (states_of w i)) → t.armed ≡ Some arming → arming.due ≡ due_of_call (Call op) → GoesOn (states_of w i).run t.run → Holds s now None
   call_arms code arming says armed due on = go (off t) refl where
-    parcel : Parcel
+    parcel : PendingInsert
     parcel = record { act = from.act; i = i; n = arming.n; due = due_of_call (Call op); cpu = arming.cpu }
 
     sent : Cursor
     sent = record (act_over from from.stage) { parcel = Some (record { act = from.act; i = i; n = arming.n; due = due_of_call (Call op); cpu = arming.cpu }) }
 
-    arms_at : (b : Bool) → called from i b (Call op) (Armed code arming.n arming.cpu (off (states_of w i))) ≡ cond b (record (act_over from from.stage) { parcel = Some (record { act = from.act; i = i; n = arming.n; due = due_of_call (Call op); cpu = arming.cpu }) }) (act_over from from.stage)
+    arms_at : (b : Bool) → call_made from i b (Call op) (Armed code arming.n arming.cpu (off (states_of w i))) ≡ cond b (record (act_over from from.stage) { parcel = Some (record { act = from.act; i = i; n = arming.n; due = due_of_call (Call op); cpu = arming.cpu }) }) (act_over from from.stage)
     arms_at true = refl
     arms_at false = refl
 
     to_is : (o : Option ℕ) → off t ≡ o → to ≡ cond (is_some o) (record (act_over from from.stage) { parcel = Some (record { act = from.act; i = i; n = arming.n; due = due_of_call (Call op); cpu = arming.cpu }) }) (act_over from from.stage)
-    to_is o e = ap (called from i (is_some (off t)) (Call op)) says ∙ arms_at (is_some (off t)) ∙ ap (λ (x : Option ℕ). cond (is_some x) (record (act_over from from.stage) { parcel = Some (record { act = from.act; i = i; n = arming.n; due = due_of_call (Call op); cpu = arming.cpu }) }) (act_over from from.stage)) e
+    to_is o e = ap (call_made from i (is_some (off t)) (Call op)) says ∙ arms_at (is_some (off t)) ∙ ap (λ (x : Option ℕ). cond (is_some x) (record (act_over from from.stage) { parcel = Some (record { act = from.act; i = i; n = arming.n; due = due_of_call (Call op); cpu = arming.cpu }) }) (act_over from from.stage)) e
 
     go : (o : Option ℕ) → off t ≡ o → Holds s now None
     go None e =
@@ -222,25 +222,25 @@ module _ (s : Script) (ok : IsScript s) (w : World) (out : Option ℕ) (holds : 
         (carry (inr (nobody (ap off_of says))) (inl (ap (carries s a) over ∙ over_free)) (λ cpu there. (let clash : Some cpu ≡ None = sym there ∙ e in cc)))
     go (Some x) e =
         let new : to ≡ record (act_over from from.stage) { parcel = Some (record { act = from.act; i = i; n = arming.n; due = due_of_call (Call op); cpu = arming.cpu }) } = to_is (Some x) e in
-        let p : Parcel = record { act = from.act; i = i; n = arming.n; due = due_of_call (Call op); cpu = arming.cpu } in
+        let p : PendingInsert = record { act = from.act; i = i; n = arming.n; due = due_of_call (Call op); cpu = arming.cpu } in
         let carried_now : carries s a to ≡ Some p = ap (carries s a) new in
         let listed : IsListed t arming.n arming.cpu arming.due × (arming.cpu ≡ x) = listed_arming t arming x armed e in
         finish on (subst (λ (z : Cursor). SameTurn role from.left from.stage z.left z.stage) (sym new) (record { service = over_turn.service; popped = over_turn.popped; runs = over_turn.runs; ticks = over_turn.ticks; hands = over_turn.hands }))
         (carry (inr (nobody (ap off_of says))) (inr (p, carried_now, refl, subst (IsListed t arming.n arming.cpu) due listed.0, nobody (ap off_of says))) (λ cpu there. inr (inl (p, carried_now, refl))))
 
-drain_rest : (s : Script) (role : Role) (left : List Task) (number now : ℕ) (held : Option Held) (removed : Option ℕ) (parcel : Option Parcel) (stage : Stage) (act i : ℕ) (took : Bool) →
+drain_rest : (s : Script) (role : Role) (left : List Task) (number now : ℕ) (held : Option Held) (removed : Option ℕ) (parcel : Option PendingInsert) (stage : Stage) (act i : ℕ) (took : Bool) →
     IsAction s role (place left number now held stage removed parcel) stage (Asks act (Callout i (Call (DrainTry took)))) → FitsRole s role left held stage → (service_of stage ≡ None) × (has_popped stage ≡ false) × ((k : ℕ) × (role ≡ Client k))
 drain_rest s role left number now held removed parcel stage act i took (drains j more is none) fits = (refl, refl, clients_act s role (Does (Drain j)) refl (first_task (IsTaskOf s role) left more (Does (Drain j)) is fits.tasks))
 drain_rest s role left number now held removed parcel stage act i took (waits n t none) fits = (refl, refl, waiting_client s role held n t fits.hold)
 
 -- a call keeps what holds, once it has taken its callout out of a queue
-pub holds_call : (s : Script) (ok : IsScript s) (w : World) (out : Option ℕ) (holds : Holds s w out) (a act i : ℕ) (op : CallOp) (t : State) (reply : Reply) (may : a < actor_count s) (is : action_for s a (places_of w a) ≡ Asks act (Callout i (Call op)))
-    (d : Did (spec_at s i) (states_of w i) (Call op) reply t) (unmoved : (b : ℕ) (p : Parcel) → carries s b (places_of w b) ≡ Some p → p.i ≡ i → ⊥) (took : TookOut (off_of reply) i out) →
+pub holds_call : (s : Script) (ok : IsScript s) (w : World) (out : Option ℕ) (holds : Holds s w out) (a act i : ℕ) (op : CallOp) (t : State) (reply : Reply) (may : a < actor_count s) (is : action_for s a (cursors_of w a) ≡ Asks act (Callout i (Call op)))
+    (d : Did (spec_at s i) (states_of w i) (Call op) reply t) (unmoved : (b : ℕ) (p : PendingInsert) → carries s b (cursors_of w b) ≡ Some p → p.i ≡ i → ⊥) (took : TookOut (off_of reply) i out) →
     Holds s (notes_down s (enters w i t (record { actor = a; act = act; op = Call op; reply = reply })) a (is_some (off t)) (note_of w i (record { actor = a; act = act; op = Call op; reply = reply }))) None
 holds_call s ok w out holds a act i op t reply may is (keeps x r u same on plain none) unmoved took = call_keeps s ok w out holds a act i op t reply may is (keeps x r u same on plain none) unmoved took same on plain none
 holds_call s ok w out holds a act i op t reply may is (clears x r u none on plain same) unmoved took = call_clears s ok w out holds a act i op t reply may is (clears x r u none on plain same) unmoved took none on plain same
 holds_call s ok w out holds a act i op t reply may is (deed.waits before more n u none on serviced) unmoved took =
-    let from : Cursor = record (places_of w a) { removed = None } in
+    let from : Cursor = record (cursors_of w a) { removed = None } in
     call_waits s ok w out holds a act i op t reply may is (deed.waits before more n u none on serviced) unmoved took n more refl none on
-    (drain_rest s (role_of s a) from.left from.act from.now from.hold None from.parcel from.stage act i before (callout_view s a (places_of w a) act i (Call (DrainTry before)) is).1 (holds.roles a))
+    (drain_rest s (role_of s a) from.left from.act from.now from.hold None from.parcel from.stage act i before (callout_view s a (cursors_of w a) act i (Call (DrainTry before)) is).1 (holds.roles a))
 holds_call s ok w out holds a act i op t reply may is (arms x code arming u armed due on) unmoved took = call_arms s ok w out holds a act i op t reply may is (arms x code arming u armed due on) unmoved took code arming refl armed due on

@@ -10,14 +10,14 @@ use Rattle.co_program.specs.Actors.{role_of, cpu_of, acts_at, actor_count}
 use Rattle.co_program.specs.declared.Role.{Role}
 use Rattle.co_program.specs.declared.Role.TheVariants.{Client, Cpu, Interrupt}
 use Rattle.co_program.specs.Stages.{Ready, Popping, Picking, Freeing}
-use Rattle.co_program.specs.declared.Service.{Service}
+use Rattle.co_program.specs.declared.InService.{InService}
 use Rattle.co_program.specs.Cursor.{Cursor}
-use Rattle.co_program.specs.declared.Parcel.{Parcel}
+use Rattle.co_program.specs.declared.PendingInsert.{PendingInsert}
 use Rattle.co_program.specs.Action.{spec_at}
 use Rattle.co_program.specs.Scripts.{IsScript}
 use Rattle.co_world.specs.World.{World}
 use Rattle.co_world.specs.Step.{notes_down}
-use Rattle.co_world.proofs.kept.Invariant.{Holds, IsListed, IsCarried, states_of, queues_of, places_of, scans_of, carries, in_hand, in_stage, serving_of, has_popped, under_way, service_of}
+use Rattle.co_world.proofs.kept.Invariant.{Holds, IsListed, IsCarried, states_of, queues_of, cursors_of, scans_of, carries, in_hand, in_stage, serving_of, has_popped, under_way, service_of}
 use Rattle.co_world.proofs.basics.Changes.{IsAt, at_all, note_at, decide}
 use Rattle.co_world.proofs.kept.Stages.{Fits}
 use Rattle.co_world.proofs.kept.Listed.{carried_queue}
@@ -59,7 +59,7 @@ use Rattle.co_world.proofs.kept.QueueNotes.{one_if_same, zero_if_other, scanned,
 module _ (s : Script) (ok : IsScript s) (w : World) (out : Option ℕ) (holds : Holds s w out) (a act cpu : ℕ) (op : QOp) (q' : TimerQueue) (reply : QReply)
     (change : QChange s.buckets (are_direct s) (queues_of w cpu) op reply q') where
   abbrev c : Cursor
-  c = places_of w a
+  c = cursors_of w a
 
   abbrev role : Role
   role = role_of s a
@@ -73,7 +73,7 @@ module _ (s : Script) (ok : IsScript s) (w : World) (out : Option ℕ) (holds : 
   abbrev to : Cursor
   to = advance_queue s c cpu op reply
 
-  moved : IsAt (places_of w) a to (places_of now)
+  moved : IsAt (cursors_of w) a to (cursors_of now)
   moved = note_at s (enters_journal w cpu q' made) a false (note_of_cpu w cpu made)
 
   queued : IsAt (queues_of w) cpu q' (queues_of now)
@@ -129,15 +129,15 @@ module _ (s : Script) (ok : IsScript s) (w : World) (out : Option ℕ) (holds : 
             let e = before.0 in
             (omega arith, omega arith)
 
-        ticking_now : IsTicking s (scans_of now) (places_of now)
+        ticking_now : IsTicking s (scans_of now) (cursors_of now)
         ticking_now b x two is = whose (decide b a) where
-          whose : (b ≡ a) ⊎ (b ≡ a → ⊥) → (scans_of now x + length (places_of now b).left ≡ length (acts_at s.ticks x) + under_way (places_of now b).stage) × (under_way (places_of now b).stage ≤ length (places_of now b).left)
-          whose (inl own) = subst (λ (y : Cursor). (scans_of now x + length y.left ≡ length (acts_at s.ticks x) + under_way y.stage) × (under_way y.stage ≤ length y.left)) (sym (ap (places_of now) own ∙ moved.here)) (ticking_own x two (ap (role_of s) (sym own) ∙ is))
+          whose : (b ≡ a) ⊎ (b ≡ a → ⊥) → (scans_of now x + length (cursors_of now b).left ≡ length (acts_at s.ticks x) + under_way (cursors_of now b).stage) × (under_way (cursors_of now b).stage ≤ length (cursors_of now b).left)
+          whose (inl own) = subst (λ (y : Cursor). (scans_of now x + length y.left ≡ length (acts_at s.ticks x) + under_way y.stage) × (under_way y.stage ≤ length y.left)) (sym (ap (cursors_of now) own ∙ moved.here)) (ticking_own x two (ap (role_of s) (sym own) ∙ is))
           whose (inr other) = where_at (decide x cpu) where
-            where_at : (x ≡ cpu) ⊎ (x ≡ cpu → ⊥) → (scans_of now x + length (places_of now b).left ≡ length (acts_at s.ticks x) + under_way (places_of now b).stage) × (under_way (places_of now b).stage ≤ length (places_of now b).left)
+            where_at : (x ≡ cpu) ⊎ (x ≡ cpu → ⊥) → (scans_of now x + length (cursors_of now b).left ≡ length (acts_at s.ticks x) + under_way (cursors_of now b).stage) × (under_way (cursors_of now b).stage ≤ length (cursors_of now b).left)
             where_at (inl here) = absurd (other (scans_as b role refl two (first_task (IsTaskOf s role) c.left more (Does (Tick time)) left_is (holds.roles a).tasks) (sym cpu_is) (is ∙ ap Interrupt here)))
             where_at (inr else) = subst (λ (y : Cursor). (scans_of now x + length y.left ≡ length (acts_at s.ticks x) + under_way y.stage) × (under_way y.stage ≤ length y.left)) (sym (moved.else b other))
-                (subst (λ (n : ℕ). (n + length (places_of w b).left ≡ length (acts_at s.ticks x) + under_way (places_of w b).stage) × (under_way (places_of w b).stage ≤ length (places_of w b).left)) (sym ((scanned s ok w out holds a act cpu op q' reply change).else x else)) (holds.ticking b x two is))
+                (subst (λ (n : ℕ). (n + length (cursors_of w b).left ≡ length (acts_at s.ticks x) + under_way (cursors_of w b).stage) × (under_way (cursors_of w b).stage ≤ length (cursors_of w b).left)) (sym ((scanned s ok w out holds a act cpu op q' reply change).else x else)) (holds.ticking b x two is))
 
   -- ---- a Pop and a Free, by the server itself
 
@@ -150,7 +150,7 @@ module _ (s : Script) (ok : IsScript s) (w : World) (out : Option ℕ) (holds : 
   own_queue : cpu ≡ cpu_of s role → (r : Role) → serving_of (queues_of now (cpu_of s role)) r ≡ serving_of q' r
   own_queue cpu_is r = ap (λ (x : ℕ). serving_of (queues_of now x) r) (sym cpu_is) ∙ ap (λ (q : TimerQueue). serving_of q r) queued.here
 
-  draining_stage : (v : Service) (acts : List Act) → (has_popped (draining v acts) ≡ false) × (service_of (draining v acts) ≡ None) × (under_way (draining v acts) ≡ 1) × (((x : ℕ) → in_stage x (draining v acts) ≡ None)) × (((f : ℕ → State) (x : ℕ) → RunFits f x (draining v acts)))
+  draining_stage : (v : InService) (acts : List Act) → (has_popped (draining v acts) ≡ false) × (service_of (draining v acts) ≡ None) × (under_way (draining v acts) ≡ 1) × (((x : ℕ) → in_stage x (draining v acts) ≡ None)) × (((f : ℕ → State) (x : ℕ) → RunFits f x (draining v acts)))
   draining_stage v [] = (refl, refl, refl, λ x. refl, λ f x. tt)
   draining_stage v (act' ∷ acts) = (refl, refl, refl, λ x. refl, λ f x. tt)
 
@@ -164,7 +164,7 @@ module _ (s : Script) (ok : IsScript s) (w : World) (out : Option ℕ) (holds : 
   no_inserts (Cpu x) i n u = (λ e. cc, λ e. cc)
   no_inserts (Interrupt x) i n u = (λ e. cc, λ e. cc)
 
-  pub holds_free : (v : Service) (drain : Option ℕ) (next : Option Next) → c.stage ≡ Freeing v drain next → c.parcel ≡ None → op ≡ free_of role → IsServer role → cpu ≡ cpu_of s role → out ≡ None → Fits s role to → Holds s now None
+  pub holds_free : (v : InService) (drain : Option ℕ) (next : Option Next) → c.stage ≡ Freeing v drain next → c.parcel ≡ None → op ≡ free_of role → IsServer role → cpu ≡ cpu_of s role → out ≡ None → Fits s role to → Holds s now None
   holds_free v drain next stage_is parcel_is op_is server cpu_is out_none fits =
       finish s ok w out holds a act cpu op q' reply change None fits (own_queue cpu_is role ∙ free.0 ∙ sym (ap has_popped stage_now ∙ drained.0)) (lane_else server cpu_is (inr op_is))
       (ap service_of stage_now ∙ drained.1 ∙ sym (ap service_of stage_is)) (subst (RunFits (states_of w) (cpu_of s role)) (sym stage_now) (drained.4 (states_of w) (cpu_of s role)))
@@ -185,12 +185,12 @@ module _ (s : Script) (ok : IsScript s) (w : World) (out : Option ℕ) (holds : 
         free : (serving_of q' role ≡ false) × ((i : ℕ) → stands i q' ≡ stands i (queues_of w cpu))
         free = freed_by s.buckets (are_direct s) role (queues_of w cpu) op reply q' server op_is change
 
-        sent : (o : Option Parcel) → in_hand (cpu_of s role) o (draining v (drain_acts s drain)) ≡ o
+        sent : (o : Option PendingInsert) → in_hand (cpu_of s role) o (draining v (drain_acts s drain)) ≡ o
         sent None = drained.3 (cpu_of s role)
         sent (Some p) = refl
 
         hand : carries s a to ≡ carries s a c
-        hand = ap (carries s a) to_is ∙ sent (parcel_of v next) ∙ sym (ap (λ (o : Option Parcel). in_hand (cpu_of s role) o c.stage) parcel_is ∙ ap (in_stage (cpu_of s role)) stage_is)
+        hand = ap (carries s a) to_is ∙ sent (parcel_of v next) ∙ sym (ap (λ (o : Option PendingInsert). in_hand (cpu_of s role) o c.stage) parcel_is ∙ ap (in_stage (cpu_of s role)) stage_is)
 
   module _ (act' : ℕ) (parcel_is : c.parcel ≡ None) (op_is : op ≡ pop_of role) (server : IsServer role) (cpu_is : cpu ≡ cpu_of s role) (out_none : out ≡ None) (fits : Fits s role to) (may : a < actor_count s)
       (rest : service_of c.stage ≡ None) (free : has_popped c.stage ≡ false) (hand : in_stage (cpu_of s role) c.stage ≡ None) (ticks : (x : ℕ) → role ≡ Interrupt x → under_way c.stage ≡ 1) where
@@ -221,18 +221,18 @@ module _ (s : Script) (ok : IsScript s) (w : World) (out : Option ℕ) (holds : 
               let m : length (tail_of c.left) + 1 ≡ length c.left = shorter c.left (omega arith) in
               (omega arith, omega arith)
 
-          ticking_now : IsTicking s (scans_of now) (places_of now)
+          ticking_now : IsTicking s (scans_of now) (cursors_of now)
           ticking_now b x two is = whose (decide b a) where
-            whose : (b ≡ a) ⊎ (b ≡ a → ⊥) → (scans_of now x + length (places_of now b).left ≡ length (acts_at s.ticks x) + under_way (places_of now b).stage) × (under_way (places_of now b).stage ≤ length (places_of now b).left)
-            whose (inl own) = subst (λ (y : Cursor). (scans_of now x + length y.left ≡ length (acts_at s.ticks x) + under_way y.stage) × (under_way y.stage ≤ length y.left)) (sym (ap (places_of now) own ∙ moved.here)) (ticking_own x two (ap (role_of s) (sym own) ∙ is))
+            whose : (b ≡ a) ⊎ (b ≡ a → ⊥) → (scans_of now x + length (cursors_of now b).left ≡ length (acts_at s.ticks x) + under_way (cursors_of now b).stage) × (under_way (cursors_of now b).stage ≤ length (cursors_of now b).left)
+            whose (inl own) = subst (λ (y : Cursor). (scans_of now x + length y.left ≡ length (acts_at s.ticks x) + under_way y.stage) × (under_way y.stage ≤ length y.left)) (sym (ap (cursors_of now) own ∙ moved.here)) (ticking_own x two (ap (role_of s) (sym own) ∙ is))
             whose (inr other) = subst (λ (y : Cursor). (scans_of now x + length y.left ≡ length (acts_at s.ticks x) + under_way y.stage) × (under_way y.stage ≤ length y.left)) (sym (moved.else b other))
-                (subst (λ (n : ℕ). (n + length (places_of w b).left ≡ length (acts_at s.ticks x) + under_way (places_of w b).stage) × (under_way (places_of w b).stage ≤ length (places_of w b).left)) (sym (scans_same x)) (holds.ticking b x two is))
+                (subst (λ (n : ℕ). (n + length (cursors_of w b).left ≡ length (acts_at s.ticks x) + under_way (cursors_of w b).stage) × (under_way (cursors_of w b).stage ≤ length (cursors_of w b).left)) (sym (scans_same x)) (holds.ticking b x two is))
 
     module _ (i n time : ℕ) (says : reply ≡ Got i n time) (serves : serving_of q' role ≡ true) where
-      abbrev v : Service
+      abbrev v : InService
       v = record { act = act'; i = i; n = n; at = time }
 
-      abbrev taken : Parcel
+      abbrev taken : PendingInsert
       taken = record { act = act'; i = i; n = n; due = time; cpu = cpu_of s role }
 
       was_listed : IsListed (states_of w i) n cpu time
@@ -259,7 +259,7 @@ module _ (s : Script) (ok : IsScript s) (w : World) (out : Option ℕ) (holds : 
             let served = holds.serving.served i cpu runs in
             let mine : a ≡ server_actor (actors_of s) (spec_at s i) (cpu_of s role) = server_of_lane s a i server (lane_got s role (queues_of w cpu) op reply q' server op_is change (holds.lanes cpu) i n time says) in
             let me : server_actor (actors_of s) (spec_at s i) cpu ≡ a = ap (server_actor (actors_of s) (spec_at s i)) cpu_is ∙ sym mine in
-            let clash : Some served.0 ≡ None = sym served.1 ∙ ap (λ (b : ℕ). service_of (places_of w b).stage) me ∙ rest in
+            let clash : Some served.0 ≡ None = sym served.1 ∙ ap (λ (b : ℕ). service_of (cursors_of w b).stage) me ∙ rest in
             cc
 
       pub holds_got : to.stage ≡ Picking (record { act = act'; i = i; n = n; at = time }) → to.left ≡ c.left → to.parcel ≡ None → Holds s now None
@@ -268,38 +268,38 @@ module _ (s : Script) (ok : IsScript s) (w : World) (out : Option ℕ) (holds : 
           (ap service_of stage_now ∙ sym rest) (subst (RunFits (states_of w) (cpu_of s role)) (sym stage_now) at_idle)
           (ticks_same s ok w out holds a act cpu op q' reply change (ap one_scan op_is ∙ (no_scans role).0) (λ x e. (ap length left_now, ap under_way stage_now ∙ sym (ticks x e)))) carried_now where
             hand_now : carries s a to ≡ Some taken
-            hand_now = ap (λ (o : Option Parcel). in_hand (cpu_of s role) o to.stage) parcel_now ∙ ap (in_stage (cpu_of s role)) stage_now
+            hand_now = ap (λ (o : Option PendingInsert). in_hand (cpu_of s role) o to.stage) parcel_now ∙ ap (in_stage (cpu_of s role)) stage_now
 
             gone : (x : ℕ) → stands i (queues_of now x) ≡ 0
             gone x = at_all (λ k (q : TimerQueue). stands i q ≡ 0) (queues_of w) cpu q' (queues_of now) queued (let l = less i in let o = lane_once i in let one = one_if_same i i refl in omega arith)
-                (λ k other. elsewhere s (states_of w) (queues_of w) (places_of w) out holds.carried i cpu k there other) x
+                (λ k other. elsewhere s (states_of w) (queues_of w) (cursors_of w) out holds.carried i cpu k there other) x
 
-            nobody : (b : ℕ) (r : Parcel) → (b ≡ a → ⊥) → carries s b (places_of w b) ≡ Some r → r.i ≡ i → ⊥
+            nobody : (b : ℕ) (r : PendingInsert) → (b ≡ a → ⊥) → carries s b (cursors_of w b) ≡ Some r → r.i ≡ i → ⊥
             nobody b r other e same = let z : stands i (queues_of w cpu) ≡ 0 = subst (λ (k : ℕ). stands k (queues_of w cpu) ≡ 0) same (holds.carried.apart b r cpu e) in let l = less i in let one = one_if_same i i refl in omega arith
 
             stands_else : (j x : ℕ) → (i ≡ j → ⊥) → stands j (queues_of now x) ≡ stands j (queues_of w x)
             stands_else j x other = at_all (λ k (q : TimerQueue). stands j q ≡ stands j (queues_of w k)) (queues_of w) cpu q' (queues_of now) queued (let l = less j in let z = zero_if_other i j other in omega arith) (λ k o. refl) x
 
-            held_else : (j b : ℕ) (r : Parcel) → (b ≡ a) ⊎ (b ≡ a → ⊥) → b < actor_count s → carries s b (places_of w b) ≡ Some r → r.i ≡ j → (b' : ℕ) × (r' : Parcel) × (b' < actor_count s) × (carries s b' (places_of now b') ≡ Some r') × (r'.i ≡ j)
-            held_else j b r (inl own) exists is number = absurd (let clash : Some r ≡ None = sym (subst (λ (k : ℕ). carries s k (places_of w k) ≡ Some r) own is) ∙ hand_was in cc)
+            held_else : (j b : ℕ) (r : PendingInsert) → (b ≡ a) ⊎ (b ≡ a → ⊥) → b < actor_count s → carries s b (cursors_of w b) ≡ Some r → r.i ≡ j → (b' : ℕ) × (r' : PendingInsert) × (b' < actor_count s) × (carries s b' (cursors_of now b') ≡ Some r') × (r'.i ≡ j)
+            held_else j b r (inl own) exists is number = absurd (let clash : Some r ≡ None = sym (subst (λ (k : ℕ). carries s k (cursors_of w k) ≡ Some r) own is) ∙ hand_was in cc)
             held_else j b r (inr other) exists is number = (b, r, exists, ap (carries s b) (moved.else b other) ∙ is, number)
 
-            listed : (j x : ℕ) → (i ≡ j) ⊎ (i ≡ j → ⊥) → (1 ≤ stands j (queues_of w x)) ⊎ ((out ≡ Some j) ⊎ ((b : ℕ) × (r : Parcel) × (b < actor_count s) × (carries s b (places_of w b) ≡ Some r) × (r.i ≡ j))) →
-                (1 ≤ stands j (queues_of now x)) ⊎ ((no_out ≡ Some j) ⊎ ((b : ℕ) × (r : Parcel) × (b < actor_count s) × (carries s b (places_of now b) ≡ Some r) × (r.i ≡ j)))
+            listed : (j x : ℕ) → (i ≡ j) ⊎ (i ≡ j → ⊥) → (1 ≤ stands j (queues_of w x)) ⊎ ((out ≡ Some j) ⊎ ((b : ℕ) × (r : PendingInsert) × (b < actor_count s) × (carries s b (cursors_of w b) ≡ Some r) × (r.i ≡ j))) →
+                (1 ≤ stands j (queues_of now x)) ⊎ ((no_out ≡ Some j) ⊎ ((b : ℕ) × (r : PendingInsert) × (b < actor_count s) × (carries s b (cursors_of now b) ≡ Some r) × (r.i ≡ j)))
             listed j x (inl same) h = inr (inr (a, taken, may, ap (carries s a) moved.here ∙ hand_now, same))
             listed j x (inr other) (inl h) = inl (let e = stands_else j x other in omega arith)
             listed j x (inr other) (inr (inl removed)) = absurd (let clash : Some j ≡ None = sym removed ∙ out_none in cc)
             listed j x (inr other) (inr (inr held)) = inr (inr (held_else j held.0 held.1 (decide held.0 a) held.2 held.3 held.4))
 
-            new_hand : (p : Parcel) → carries s a to ≡ Some p → IsListed (states_of w p.i) p.n p.cpu p.due × ((b : ℕ) (r : Parcel) → (b ≡ a → ⊥) → carries s b (places_of w b) ≡ Some r → r.i ≡ p.i → ⊥) × ((x : ℕ) → stands p.i (queues_of now x) ≡ 0)
+            new_hand : (p : PendingInsert) → carries s a to ≡ Some p → IsListed (states_of w p.i) p.n p.cpu p.due × ((b : ℕ) (r : PendingInsert) → (b ≡ a → ⊥) → carries s b (cursors_of w b) ≡ Some r → r.i ≡ p.i → ⊥) × ((x : ℕ) → stands p.i (queues_of now x) ≡ 0)
             new_hand p e =
                 let same : Some taken ≡ Some p = sym hand_now ∙ e in
                 let one : taken ≡ p = cc in
-                subst (λ (p : Parcel). IsListed (states_of w p.i) p.n p.cpu p.due × ((b : ℕ) (r : Parcel) → (b ≡ a → ⊥) → carries s b (places_of w b) ≡ Some r → r.i ≡ p.i → ⊥) × ((x : ℕ) → stands p.i (queues_of now x) ≡ 0)) one
+                subst (λ (p : PendingInsert). IsListed (states_of w p.i) p.n p.cpu p.due × ((b : ℕ) (r : PendingInsert) → (b ≡ a → ⊥) → carries s b (cursors_of w b) ≡ Some r → r.i ≡ p.i → ⊥) × ((x : ℕ) → stands p.i (queues_of now x) ≡ 0)) one
                 (subst (λ (x : ℕ). IsListed (states_of w i) n x time) cpu_is was_listed, nobody, gone)
 
-            carried_now : IsCarried s (states_of now) (queues_of now) (places_of now) None
+            carried_now : IsCarried s (states_of now) (queues_of now) (cursors_of now) None
             carried_now =
-                carried_queue s (states_of w) (queues_of w) (places_of w) out holds.carried (states_of now) (queues_of now) (places_of now) None a cpu q' to states queued moved
+                carried_queue s (states_of w) (queues_of w) (cursors_of w) out holds.carried (states_of now) (queues_of now) (cursors_of now) None a cpu q' to states queued moved
                 (λ p e. inr (new_hand p e)) (λ b p e it. (let z = holds.carried.apart b p cpu e in let l = less p.i in omega arith)) (λ j x e. cc)
                 (entries_on s ok w out holds a act cpu op q' reply change (λ j m u e. absurd ((no_inserts role j m u).0 (sym op_is ∙ e)))) (λ j x e. listed j x (decide i j) (holds.carried.listed j x e))

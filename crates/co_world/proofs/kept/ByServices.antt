@@ -16,16 +16,16 @@ use Rattle.co_program.specs.declared.Script.{Script}
 use Rattle.co_program.specs.Actors.{role_of, cpu_of, acts_at, actor_count}
 use Rattle.co_program.specs.declared.Role.{Role}
 use Rattle.co_program.specs.Stages.{Stage, Picking, Locking, Beginning, Unlocking, Releasing, Ending, Freeing}
-use Rattle.co_program.specs.declared.Service.{Service}
+use Rattle.co_program.specs.declared.InService.{InService}
 use Rattle.co_program.specs.Cursor.{Cursor}
-use Rattle.co_program.specs.declared.Parcel.{Parcel}
+use Rattle.co_program.specs.declared.PendingInsert.{PendingInsert}
 use Rattle.co_program.specs.Action.{Asks, action_for, spec_at}
 use Rattle.co_program.specs.declared.Asked.TheVariants.{Callout}
 use Rattle.co_program.specs.Advance.{advance_callout}
 use Rattle.co_program.specs.Scripts.{IsScript}
 use Rattle.co_world.specs.World.{World}
 use Rattle.co_world.specs.Step.{notes_down, enters, note_of}
-use Rattle.co_world.proofs.kept.Invariant.{Holds, IsListed, IsCarried, FitsRole, states_of, queues_of, places_of, carries, in_hand, in_stage, has_popped, under_way, service_of}
+use Rattle.co_world.proofs.kept.Invariant.{Holds, IsListed, IsCarried, FitsRole, states_of, queues_of, cursors_of, carries, in_hand, in_stage, has_popped, under_way, service_of}
 use Rattle.co_world.proofs.basics.Changes.{IsAt, note_at, state_at}
 use Rattle.co_world.proofs.basics.Actions.{IsAction}
 use Rattle.co_world.proofs.kept.Operations.{Did, GoesOn, keeps, clears, arms, is_plain, did}
@@ -43,7 +43,7 @@ use Rattle.co_object.specs.Scan.{is_direct}
 use Rattle.co_object.specs.Serve.{next_of}
 use Rattle.co_program.specs.declared.Act.{Act}
 use Rattle.co_program.specs.Action.{firing}
-use Rattle.co_program.specs.Advance.{picked, begun, ended, parcel_of}
+use Rattle.co_program.specs.Advance.{service_picked, service_begun, service_ended, parcel_of}
 use Rattle.co_world.specs.Step.{are_direct}
 use Rattle.co_world.specs.Laws.{actors_of}
 use Rattle.co_world.proofs.kept.Invariant.{IsBetween, RunFits, IsTaken, IsRunning, IsOver, cpu_of_run, serves_direct}
@@ -67,11 +67,11 @@ off_kept state t same free = ap (λ o. listed_cpu (stand_of o t.run)) same ∙ g
   go None = refl
   go (Some arming) = ap (λ (b : Bool). listed_cpu (cond b (Listed arming.cpu) (Deferred arming.cpu))) (sym (free arming.cpu))
 
-module _ (s : Script) (ok : IsScript s) (w : World) (holds : Holds s w None) (a act : ℕ) (v : Service) (op : RunOp) (t : State) (reply : Reply) (may : a < actor_count s)
-    (is : action_for s a (places_of w a) ≡ Asks act (Callout v.i (Serve op))) (d : Did (spec_at s v.i) (states_of w v.i) (Serve op) reply t)
-    (between : (b : ℕ) → (b ≡ a → ⊥) → IsBetween (places_of w b).stage) where
+module _ (s : Script) (ok : IsScript s) (w : World) (holds : Holds s w None) (a act : ℕ) (v : InService) (op : RunOp) (t : State) (reply : Reply) (may : a < actor_count s)
+    (is : action_for s a (cursors_of w a) ≡ Asks act (Callout v.i (Serve op))) (d : Did (spec_at s v.i) (states_of w v.i) (Serve op) reply t)
+    (between : (b : ℕ) → (b ≡ a → ⊥) → IsBetween (cursors_of w b).stage) where
   abbrev from : Cursor
-  from = record (places_of w a) { removed = None }
+  from = record (cursors_of w a) { removed = None }
 
   abbrev role : Role
   role = role_of s a
@@ -89,9 +89,9 @@ module _ (s : Script) (ok : IsScript s) (w : World) (holds : Holds s w None) (a 
   to = advance_callout s from v.i (is_some (off t)) (Serve op) reply from.stage
 
   view : (from.parcel ≡ None) × IsAction s role from from.stage (Asks act (Callout v.i (Serve op)))
-  view = callout_view s a (places_of w a) act v.i (Serve op) is
+  view = callout_view s a (cursors_of w a) act v.i (Serve op) is
 
-  moved : IsAt (places_of w) a to (places_of now)
+  moved : IsAt (cursors_of w) a to (cursors_of now)
   moved = note_at s (enters w v.i t made) a (is_some (off t)) (note_of w v.i made)
 
   changed : IsAt (states_of w) v.i t (states_of now)
@@ -102,36 +102,36 @@ module _ (s : Script) (ok : IsScript s) (w : World) (holds : Holds s w None) (a 
 
   -- the next stage of a service keeps what holds
   turned : (next : Stage) → to.stage ≡ next → to.left ≡ from.left → has_popped from.stage ≡ true → has_popped next ≡ true → under_way from.stage ≡ 1 → under_way next ≡ 1 →
-      ((b : ℕ) (x : Service) → (b ≡ a → ⊥) → in_service (places_of w b).stage ≡ Some x → x.i ≡ v.i → ⊥) →
-      ((x : Service) → service_of from.stage ≡ Some x → x.i ≡ v.i) →
+      ((b : ℕ) (x : InService) → (b ≡ a → ⊥) → in_service (cursors_of w b).stage ≡ Some x → x.i ≡ v.i → ⊥) →
+      ((x : InService) → service_of from.stage ≡ Some x → x.i ≡ v.i) →
       (((y : State) → y ≡ t → (states : ℕ → State) → states v.i ≡ y → RunFits states cpu next)) →
-      ((k : ℕ) → cpu_of_run t.run ≡ Some k → (server (actors_of s) (spec_at s v.i) k ≡ a) × ((x : Service) × (service_of next ≡ Some x) × (x.i ≡ v.i))) →
-      IsCarried s (states_of now) (queues_of now) (places_of now) None → Holds s now None
+      ((k : ℕ) → cpu_of_run t.run ≡ Some k → (server (actors_of s) (spec_at s v.i) k ≡ a) × ((x : InService) × (service_of next ≡ Some x) × (x.i ≡ v.i))) →
+      IsCarried s (states_of now) (queues_of now) (cursors_of now) None → Holds s now None
   turned next stage_is left_is popped_before popped_now under_before under_now others own fits at_now carried =
       holds_turn s w None holds now None a to moved (λ x. refl) (λ x. refl) to_fits (ap has_popped stage_is ∙ popped_now ∙ sym popped_before)
       (λ x e. (ap length left_is, ap under_way stage_is ∙ under_now ∙ sym under_before))
-      (serving_turn s (states_of w) (places_of w) holds.serving (states_of now) (places_of now) a to moved v.i t changed may others own
+      (serving_turn s (states_of w) (cursors_of w) holds.serving (states_of now) (cursors_of now) a to moved v.i t changed may others own
       (subst (RunFits (states_of now) cpu) (sym stage_is) (fits t refl (states_of now) changed.here))
-      (λ k e. (let new : (server (actors_of s) (spec_at s v.i) k ≡ a) × ((x : Service) × (service_of next ≡ Some x) × (x.i ≡ v.i)) = at_now k e in (new.0, (new.1.0, ap service_of stage_is ∙ new.1.1, new.1.2)))))
+      (λ k e. (let new : (server (actors_of s) (spec_at s v.i) k ≡ a) × ((x : InService) × (service_of next ≡ Some x) × (x.i ≡ v.i)) = at_now k e in (new.0, (new.1.0, ap service_of stage_is ∙ new.1.1, new.1.2)))))
       carried
 
-  carry : ((p : Parcel) → carries s a (places_of w a) ≡ Some p → p.i ≡ v.i) →
-      ((n x u : ℕ) → IsListed (states_of w v.i) n x u → IsListed t n x u) ⊎ Nobody s (states_of w) (queues_of w) (places_of w) None holds.carried a v.i →
-      (carries s a to ≡ None) ⊎ ((p : Parcel) × (carries s a to ≡ Some p) × (p.i ≡ v.i) × IsListed t p.n p.cpu p.due × Nobody s (states_of w) (queues_of w) (places_of w) None holds.carried a v.i) →
-      ((x : ℕ) → off t ≡ Some x → (1 ≤ stands v.i (queues_of w x)) ⊎ (((p : Parcel) × (carries s a to ≡ Some p) × (p.i ≡ v.i)) ⊎ ((b : ℕ) × (p : Parcel) × (b ≡ a → ⊥) × (b < actor_count s) × (carries s b (places_of w b) ≡ Some p) × (p.i ≡ v.i)))) →
-      IsCarried s (states_of now) (queues_of now) (places_of now) None
+  carry : ((p : PendingInsert) → carries s a (cursors_of w a) ≡ Some p → p.i ≡ v.i) →
+      ((n x u : ℕ) → IsListed (states_of w v.i) n x u → IsListed t n x u) ⊎ Nobody s (states_of w) (queues_of w) (cursors_of w) None holds.carried a v.i →
+      (carries s a to ≡ None) ⊎ ((p : PendingInsert) × (carries s a to ≡ Some p) × (p.i ≡ v.i) × IsListed t p.n p.cpu p.due × Nobody s (states_of w) (queues_of w) (cursors_of w) None holds.carried a v.i) →
+      ((x : ℕ) → off t ≡ Some x → (1 ≤ stands v.i (queues_of w x)) ⊎ (((p : PendingInsert) × (carries s a to ≡ Some p) × (p.i ≡ v.i)) ⊎ ((b : ℕ) × (p : PendingInsert) × (b ≡ a → ⊥) × (b < actor_count s) × (carries s b (cursors_of w b) ≡ Some p) × (p.i ≡ v.i)))) →
+      IsCarried s (states_of now) (queues_of now) (cursors_of now) None
   carry only keep hand stays =
-      carried_state s (states_of w) (queues_of w) (places_of w) None holds.carried (states_of now) (places_of now) a v.i t to changed moved may only (λ j e. cc) keep hand stays
+      carried_state s (states_of w) (queues_of w) (cursors_of w) None holds.carried (states_of now) (cursors_of now) a v.i t to changed moved may only (λ j e. cc) keep hand stays
 
   -- with nothing in hand an arming stays where it was
-  stays_same : carries s a (places_of w a) ≡ None → off t ≡ off (states_of w v.i) → (x : ℕ) → off t ≡ Some x →
-      (1 ≤ stands v.i (queues_of w x)) ⊎ (((p : Parcel) × (carries s a to ≡ Some p) × (p.i ≡ v.i)) ⊎ ((b : ℕ) × (p : Parcel) × (b ≡ a → ⊥) × (b < actor_count s) × (carries s b (places_of w b) ≡ Some p) × (p.i ≡ v.i)))
+  stays_same : carries s a (cursors_of w a) ≡ None → off t ≡ off (states_of w v.i) → (x : ℕ) → off t ≡ Some x →
+      (1 ≤ stands v.i (queues_of w x)) ⊎ (((p : PendingInsert) × (carries s a to ≡ Some p) × (p.i ≡ v.i)) ⊎ ((b : ℕ) × (p : PendingInsert) × (b ≡ a → ⊥) × (b < actor_count s) × (carries s b (cursors_of w b) ≡ Some p) × (p.i ≡ v.i)))
   stays_same none same x e = go (holds.carried.listed v.i x (sym same ∙ e)) where
-    whose : (b : ℕ) (p : Parcel) → carries s b (places_of w b) ≡ Some p → b ≡ a → ⊥
-    whose b p has own = let clash : Some p ≡ None = sym (subst (λ (k : ℕ). carries s k (places_of w k) ≡ Some p) own has) ∙ none in cc
+    whose : (b : ℕ) (p : PendingInsert) → carries s b (cursors_of w b) ≡ Some p → b ≡ a → ⊥
+    whose b p has own = let clash : Some p ≡ None = sym (subst (λ (k : ℕ). carries s k (cursors_of w k) ≡ Some p) own has) ∙ none in cc
 
-    go : (1 ≤ stands v.i (queues_of w x)) ⊎ ((no_out ≡ Some v.i) ⊎ ((b : ℕ) × (p : Parcel) × (b < actor_count s) × (carries s b (places_of w b) ≡ Some p) × (p.i ≡ v.i))) →
-        (1 ≤ stands v.i (queues_of w x)) ⊎ (((p : Parcel) × (carries s a to ≡ Some p) × (p.i ≡ v.i)) ⊎ ((b : ℕ) × (p : Parcel) × (b ≡ a → ⊥) × (b < actor_count s) × (carries s b (places_of w b) ≡ Some p) × (p.i ≡ v.i)))
+    go : (1 ≤ stands v.i (queues_of w x)) ⊎ ((no_out ≡ Some v.i) ⊎ ((b : ℕ) × (p : PendingInsert) × (b < actor_count s) × (carries s b (cursors_of w b) ≡ Some p) × (p.i ≡ v.i))) →
+        (1 ≤ stands v.i (queues_of w x)) ⊎ (((p : PendingInsert) × (carries s a to ≡ Some p) × (p.i ≡ v.i)) ⊎ ((b : ℕ) × (p : PendingInsert) × (b ≡ a → ⊥) × (b < actor_count s) × (carries s b (cursors_of w b) ≡ Some p) × (p.i ≡ v.i)))
     go (inl some) = inl some
     go (inr (inl removed)) = cc
     go (inr (inr has)) = inr (inr (has.0, has.1, whose has.0 has.1 has.3, has.2, has.3, has.4))
@@ -142,26 +142,26 @@ module _ (s : Script) (ok : IsScript s) (w : World) (holds : Holds s w None) (a 
 
   -- ---- a pick
 
-  module _ (stage_is : (places_of w a).stage ≡ Picking v) where
+  module _ (stage_is : (cursors_of w a).stage ≡ Picking v) where
     pick_fits : FitsRole s role from.left from.hold (Picking v)
     pick_fits = subst (FitsRole s role from.left from.hold) stage_is (holds.roles a)
 
     idle : is_idle (states_of w v.i).run ≡ true
     idle = subst (RunFits (states_of w) cpu) stage_is (holds.serving.serves a)
 
-    in_own_hand : carries s a (places_of w a) ≡ Some (record { act = v.act; i = v.i; n = v.n; due = v.at; cpu = cpu })
-    in_own_hand = ap (λ (o : Option Parcel). in_hand cpu o (places_of w a).stage) view.0 ∙ ap (in_stage cpu) stage_is
+    in_own_hand : carries s a (cursors_of w a) ≡ Some (record { act = v.act; i = v.i; n = v.n; due = v.at; cpu = cpu })
+    in_own_hand = ap (λ (o : Option PendingInsert). in_hand cpu o (cursors_of w a).stage) view.0 ∙ ap (in_stage cpu) stage_is
 
-    pick_others : (b : ℕ) (x : Service) → (b ≡ a → ⊥) → in_service (places_of w b).stage ≡ Some x → x.i ≡ v.i → ⊥
-    pick_others b x other serves number = none_serves s (states_of w) (places_of w) holds.serving v.i b x idle (between_service (places_of w b).stage x (between b other) serves) number
+    pick_others : (b : ℕ) (x : InService) → (b ≡ a → ⊥) → in_service (cursors_of w b).stage ≡ Some x → x.i ≡ v.i → ⊥
+    pick_others b x other serves number = none_serves s (states_of w) (cursors_of w) holds.serving v.i b x idle (between_service (cursors_of w b).stage x (between b other) serves) number
 
-    pick_nobody : Nobody s (states_of w) (queues_of w) (places_of w) None holds.carried a v.i
+    pick_nobody : Nobody s (states_of w) (queues_of w) (cursors_of w) None holds.carried a v.i
     pick_nobody = record {
       hands = λ b p other e number. other (holds.carried.once b a p (record { act = v.act; i = v.i; n = v.n; due = v.at; cpu = cpu }) e in_own_hand number);
       rests = λ x. holds.carried.apart a (record { act = v.act; i = v.i; n = v.n; due = v.at; cpu = cpu }) x in_own_hand;
     }
 
-    pick_carried : (next : Stage) → to.stage ≡ next → to.parcel ≡ None → in_stage cpu next ≡ None → t.armed ≡ None → IsCarried s (states_of now) (queues_of now) (places_of now) None
+    pick_carried : (next : Stage) → to.stage ≡ next → to.parcel ≡ None → in_stage cpu next ≡ None → t.armed ≡ None → IsCarried s (states_of now) (queues_of now) (cursors_of now) None
     pick_carried next next_is parcel_is hand none =
         carry (λ p e. (let same : Some (record { act = v.act; i = v.i; n = v.n; due = v.at; cpu = cpu }) ≡ Some p = sym in_own_hand ∙ e in cc)) (inr pick_nobody)
         (inl (hand_none s a to parcel_is (ap (in_stage cpu) next_is ∙ hand))) (λ x e. (let clash : Some x ≡ None = sym e ∙ off_none t none in cc))
@@ -187,8 +187,8 @@ module _ (s : Script) (ok : IsScript s) (w : World) (holds : Holds s w None) (a 
 
     pub holds_pick : op ≡ Pick v.n cpu v.at → Holds s now None
     holds_pick op_is = go reply t refl refl (subst (λ (x : RunOp). Did (spec_at s v.i) (states_of w v.i) (Serve x) reply t) op_is d) where
-      advance_pick : (r : Reply) → reply ≡ r → to ≡ picked s from v r
-      advance_pick r says = ap (advance_callout s from v.i (is_some (off t)) (Serve op) reply) stage_is ∙ ap (picked s from v) says
+      advance_pick : (r : Reply) → reply ≡ r → to ≡ service_picked s from v r
+      advance_pick r says = ap (advance_callout s from v.i (is_some (off t)) (Serve op) reply) stage_is ∙ ap (service_picked s from v) says
 
       picked_by : (states : ℕ → State) (arming : Arming) → states v.i ≡ t → t.run ≡ run.Picked arming → arming.n ≡ v.n → arming.cpu ≡ cpu → IsTaken (states v.i).run v.n cpu
       picked_by states arming at runs n x = subst (λ (z : State). IsTaken z.run v.n cpu) (sym at) (subst (λ (r : Run). IsTaken r v.n cpu) (sym runs) (n, x))
@@ -214,21 +214,21 @@ module _ (s : Script) (ok : IsScript s) (w : World) (holds : Holds s w None) (a 
   taken_free (run.Running m at) n k x h = absurd h
 
   -- the stage of a service that stays this one's
-  service_others : service_of (places_of w a).stage ≡ Some v → (b : ℕ) (x : Service) → (b ≡ a → ⊥) → in_service (places_of w b).stage ≡ Some x → x.i ≡ v.i → ⊥
-  service_others serves b x other serves_too number = other (alone s (states_of w) (places_of w) holds.serving holds.roles a b v x serves (between_service (places_of w b).stage x (between b other) serves_too) number)
+  service_others : service_of (cursors_of w a).stage ≡ Some v → (b : ℕ) (x : InService) → (b ≡ a → ⊥) → in_service (cursors_of w b).stage ≡ Some x → x.i ≡ v.i → ⊥
+  service_others serves b x other serves_too number = other (alone s (states_of w) (cursors_of w) holds.serving holds.roles a b v x serves (between_service (cursors_of w b).stage x (between b other) serves_too) number)
 
-  service_own : service_of (places_of w a).stage ≡ Some v → (x : Service) → service_of from.stage ≡ Some x → x.i ≡ v.i
-  service_own serves x e = let same : Some x ≡ Some v = sym e ∙ serves in ap (λ (y : Service). y.i) (let one : x ≡ v = cc in one)
+  service_own : service_of (cursors_of w a).stage ≡ Some v → (x : InService) → service_of from.stage ≡ Some x → x.i ≡ v.i
+  service_own serves x e = let same : Some x ≡ Some v = sym e ∙ serves in ap (λ (y : InService). y.i) (let one : x ≡ v = cc in one)
 
-  module _ (stage_is : (places_of w a).stage ≡ Beginning v) where
+  module _ (stage_is : (cursors_of w a).stage ≡ Beginning v) where
     begin_fits : FitsRole s role from.left from.hold (Beginning v)
     begin_fits = subst (FitsRole s role from.left from.hold) stage_is (holds.roles a)
 
-    serves_it : service_of (places_of w a).stage ≡ Some v
+    serves_it : service_of (cursors_of w a).stage ≡ Some v
     serves_it = ap service_of stage_is
 
-    no_hand : carries s a (places_of w a) ≡ None
-    no_hand = hand_none s a (places_of w a) view.0 (ap (in_stage cpu) stage_is)
+    no_hand : carries s a (cursors_of w a) ≡ None
+    no_hand = hand_none s a (cursors_of w a) view.0 (ap (in_stage cpu) stage_is)
 
     begin_turn : (next : Stage) → to ≡ record from { stage = next } → has_popped next ≡ true → under_way next ≡ 1 → service_of next ≡ Some v → in_stage cpu next ≡ None → t.armed ≡ (states_of w v.i).armed →
         ((x : ℕ) → is_free_at (states_of w v.i).run x ≡ is_free_at t.run x) → cpu_of_run t.run ≡ Some cpu → ((states : ℕ → State) → states v.i ≡ t → RunFits states cpu next) → Holds s now None
@@ -242,8 +242,8 @@ module _ (s : Script) (ok : IsScript s) (w : World) (holds : Holds s w None) (a 
 
     pub holds_begin : op ≡ Begin v.n cpu → Holds s now None
     holds_begin op_is = go reply t refl refl (subst (λ (x : RunOp). Did (spec_at s v.i) (states_of w v.i) (Serve x) reply t) op_is d) where
-      advance_begin : (r : Reply) → reply ≡ r → to ≡ begun s from v r
-      advance_begin r says = ap (advance_callout s from v.i (is_some (off t)) (Serve op) reply) stage_is ∙ ap (begun s from v) says
+      advance_begin : (r : Reply) → reply ≡ r → to ≡ service_begun s from v r
+      advance_begin r says = ap (advance_callout s from v.i (is_some (off t)) (Serve op) reply) stage_is ∙ ap (service_begun s from v) says
 
       running_by : (states : ℕ → State) → states v.i ≡ t → t.run ≡ run.Running v.n cpu → IsRunning (states v.i).run v.n cpu
       running_by states at runs = subst (λ (z : State). IsRunning z.run v.n cpu) (sym at) (subst (λ (r : Run). IsRunning r v.n cpu) (sym runs) (refl, refl))
@@ -285,12 +285,12 @@ module _ (s : Script) (ok : IsScript s) (w : World) (holds : Holds s w None) (a 
   over_at (run.Cancelled m at) n k x h = ap (λ (y : ℕ). y == x) h.1
   over_at (run.Running m at) n k x h = ap (λ (y : ℕ). y == x) h.1
 
-  module _ (stage_is : (places_of w a).stage ≡ Ending v) where
-    ending_it : service_of (places_of w a).stage ≡ Some v
+  module _ (stage_is : (cursors_of w a).stage ≡ Ending v) where
+    ending_it : service_of (cursors_of w a).stage ≡ Some v
     ending_it = ap service_of stage_is
 
-    end_hand : carries s a (places_of w a) ≡ None
-    end_hand = hand_none s a (places_of w a) view.0 (ap (in_stage cpu) stage_is)
+    end_hand : carries s a (cursors_of w a) ≡ None
+    end_hand = hand_none s a (cursors_of w a) view.0 (ap (in_stage cpu) stage_is)
 
     module _ (drain : Option ℕ) (same : t.armed ≡ (states_of w v.i).armed) (idle_now : t.run ≡ run.Idle) (over : IsOver (states_of w v.i).run v.n cpu) where
       free_now : (x : ℕ) → is_free_at t.run x ≡ true
@@ -300,10 +300,10 @@ module _ (s : Script) (ok : IsScript s) (w : World) (holds : Holds s w None) (a 
       keeps_listed n x u h = record { arming = h.arming; armed = same ∙ h.armed; number = h.number; place = h.place; due = h.due; free = free_now x }
 
       abbrev HandNow : Type 0
-      HandNow = (carries s a to ≡ None) ⊎ ((p : Parcel) × (carries s a to ≡ Some p) × (p.i ≡ v.i) × IsListed t p.n p.cpu p.due × Nobody s (states_of w) (queues_of w) (places_of w) None holds.carried a v.i)
+      HandNow = (carries s a to ≡ None) ⊎ ((p : PendingInsert) × (carries s a to ≡ Some p) × (p.i ≡ v.i) × IsListed t p.n p.cpu p.due × Nobody s (states_of w) (queues_of w) (cursors_of w) None holds.carried a v.i)
 
       abbrev StaysNow : Type 0
-      StaysNow = (x : ℕ) → off t ≡ Some x → (1 ≤ stands v.i (queues_of w x)) ⊎ (((p : Parcel) × (carries s a to ≡ Some p) × (p.i ≡ v.i)) ⊎ ((b : ℕ) × (p : Parcel) × (b ≡ a → ⊥) × (b < actor_count s) × (carries s b (places_of w b) ≡ Some p) × (p.i ≡ v.i)))
+      StaysNow = (x : ℕ) → off t ≡ Some x → (1 ≤ stands v.i (queues_of w x)) ⊎ (((p : PendingInsert) × (carries s a to ≡ Some p) × (p.i ≡ v.i)) ⊎ ((b : ℕ) × (p : PendingInsert) × (b ≡ a → ⊥) × (b < actor_count s) × (carries s b (cursors_of w b) ≡ Some p) × (p.i ≡ v.i)))
 
       end_turn : (next : Option Next) → to ≡ record from { stage = Freeing v drain next } → HandNow → StaysNow → Holds s now None
       end_turn next to_is hand stays =
@@ -312,7 +312,7 @@ module _ (s : Script) (ok : IsScript s) (w : World) (holds : Holds s w None) (a 
           (carry (λ p e. absurd (let clash : Some p ≡ None = sym e ∙ end_hand in cc)) (inl keeps_listed) hand stays)
 
       hand_to : (next : Option Next) → to ≡ record from { stage = Freeing v drain next } → carries s a to ≡ parcel_of v next
-      hand_to next to_is = ap (carries s a) to_is ∙ ap (λ (o : Option Parcel). in_hand cpu o (Freeing v drain next)) view.0
+      hand_to next to_is = ap (carries s a) to_is ∙ ap (λ (o : Option PendingInsert). in_hand cpu o (Freeing v drain next)) view.0
 
       end_at : (o : Option Arming) → (states_of w v.i).armed ≡ o → to ≡ record from { stage = Freeing v drain (next_of o cpu) } → Holds s now None
       end_at None is_o to_is =
@@ -329,29 +329,29 @@ module _ (s : Script) (ok : IsScript s) (w : World) (holds : Holds s w None) (a 
             let to_next : to ≡ record from { stage = Freeing v drain (Some next) } = to_is ∙ ap (λ (b : Bool). record from { stage = Freeing v drain (cond b None (Some (record { n = arming.n; cpu = arming.cpu; due = arming.due }))) }) other in
             let busy : is_free_at (states_of w v.i).run arming.cpu ≡ false = over_at (states_of w v.i).run v.n cpu arming.cpu over ∙ eqb_other cpu arming.cpu other in
             let deferred : off (states_of w v.i) ≡ None = ap (λ o. listed_cpu (stand_of o (states_of w v.i).run)) is_o ∙ ap (λ (b : Bool). listed_cpu (cond b (Listed arming.cpu) (Deferred arming.cpu))) busy in
-            let nobody : Nobody s (states_of w) (queues_of w) (places_of w) None holds.carried a v.i = record {
+            let nobody : Nobody s (states_of w) (queues_of w) (cursors_of w) None holds.carried a v.i = record {
               hands = λ b p else e number.
                   (let there : off (states_of w v.i) ≡ Some p.cpu = subst (λ (k : ℕ). off (states_of w k) ≡ Some p.cpu) number (listed_off (states_of w p.i) p.n p.cpu p.due (holds.carried.moves b p e)) in
                   let clash : Some p.cpu ≡ None = sym there ∙ deferred in cc);
-              rests = unlisted s (states_of w) (queues_of w) (places_of w) None holds.carried v.i deferred;
+              rests = unlisted s (states_of w) (queues_of w) (cursors_of w) None holds.carried v.i deferred;
             } in
-            let sent : Parcel = record { act = v.act; i = v.i; n = arming.n; due = arming.due; cpu = arming.cpu } in
+            let sent : PendingInsert = record { act = v.act; i = v.i; n = arming.n; due = arming.due; cpu = arming.cpu } in
             end_turn (Some next) to_next
             (inr (sent, hand_to (Some next) to_next, refl, record { arming = arming; armed = same ∙ is_o; number = refl; place = refl; due = omega arith; free = free_now arming.cpu }, nobody))
             (λ x e. inr (inl (sent, hand_to (Some next) to_next, refl)))
 
     pub holds_end : op ≡ End v.n cpu → Holds s now None
     holds_end op_is = go reply t refl refl (subst (λ (x : RunOp). Did (spec_at s v.i) (states_of w v.i) (Serve x) reply t) op_is d) where
-      advance_end : (r : Reply) → reply ≡ r → to ≡ ended from v r
-      advance_end r says = ap (advance_callout s from v.i (is_some (off t)) (Serve op) reply) stage_is ∙ ap (ended from v) says
+      advance_end : (r : Reply) → reply ≡ r → to ≡ service_ended from v r
+      advance_end r says = ap (advance_callout s from v.i (is_some (off t)) (Serve op) reply) stage_is ∙ ap (service_ended from v) says
 
       go : (r : Reply) (u : State) → reply ≡ r → t ≡ u → Did (spec_at s v.i) (states_of w v.i) (Serve (End v.n cpu)) r u → Holds s now None
       go r u says leaves (deed.ends n x z drain woke same runs over) =
           end_at drain (ap (λ (y : State). y.armed) leaves ∙ same) (ap (λ (y : State). y.run) leaves ∙ runs) over (states_of w v.i).armed refl (advance_end (Ended drain (next_of (states_of w v.i).armed cpu) woke) says)
 
-holds_at : (s : Script) (ok : IsScript s) (w : World) (holds : Holds s w None) (a : ℕ) (may : a < actor_count s) (between : (b : ℕ) → (b ≡ a → ⊥) → IsBetween (places_of w b).stage) (t : State) (reply : Reply) (act i : ℕ) (op : RunOp) (stage : Stage) →
-    (places_of w a).stage ≡ stage → IsAction s (role_of s a) (record (places_of w a) { removed = None }) stage (Asks act (Callout i (Serve op))) →
-    action_for s a (places_of w a) ≡ Asks act (Callout i (Serve op)) → Did (spec_at s i) (states_of w i) (Serve op) reply t →
+holds_at : (s : Script) (ok : IsScript s) (w : World) (holds : Holds s w None) (a : ℕ) (may : a < actor_count s) (between : (b : ℕ) → (b ≡ a → ⊥) → IsBetween (cursors_of w b).stage) (t : State) (reply : Reply) (act i : ℕ) (op : RunOp) (stage : Stage) →
+    (cursors_of w a).stage ≡ stage → IsAction s (role_of s a) (record (cursors_of w a) { removed = None }) stage (Asks act (Callout i (Serve op))) →
+    action_for s a (cursors_of w a) ≡ Asks act (Callout i (Serve op)) → Did (spec_at s i) (states_of w i) (Serve op) reply t →
     Holds s (notes_down s (enters w i t (record { actor = a; act = act; op = Serve op; reply = reply })) a (is_some (off t)) (note_of w i (record { actor = a; act = act; op = Serve op; reply = reply }))) None
 holds_at s ok w holds a may between t reply act i op stage e (picks v) is d = holds_pick s ok w holds a v.act v (Pick v.n (cpu_of s (role_of s a)) v.at) t reply may is d between e refl
 holds_at s ok w holds a may between t reply act i op stage e (opens v) is d = holds_begin s ok w holds a v.act v (Begin v.n (cpu_of s (role_of s a))) t reply may is d between e refl
@@ -359,6 +359,6 @@ holds_at s ok w holds a may between t reply act i op stage e (ends v) is d = hol
 
 -- each turn of a service
 pub holds_run : (s : Script) (ok : IsScript s) (w : World) (holds : Holds s w None) (a act i : ℕ) (op : RunOp) (t : State) (reply : Reply) (may : a < actor_count s)
-    (is : action_for s a (places_of w a) ≡ Asks act (Callout i (Serve op))) (d : Did (spec_at s i) (states_of w i) (Serve op) reply t) (between : (b : ℕ) → (b ≡ a → ⊥) → IsBetween (places_of w b).stage) →
+    (is : action_for s a (cursors_of w a) ≡ Asks act (Callout i (Serve op))) (d : Did (spec_at s i) (states_of w i) (Serve op) reply t) (between : (b : ℕ) → (b ≡ a → ⊥) → IsBetween (cursors_of w b).stage) →
     Holds s (notes_down s (enters w i t (record { actor = a; act = act; op = Serve op; reply = reply })) a (is_some (off t)) (note_of w i (record { actor = a; act = act; op = Serve op; reply = reply }))) None
-holds_run s ok w holds a act i op t reply may is d between = holds_at s ok w holds a may between t reply act i op (places_of w a).stage refl (callout_view s a (places_of w a) act i (Serve op) is).1 is d
+holds_run s ok w holds a act i op t reply may is d between = holds_at s ok w holds a may between t reply act i op (cursors_of w a).stage refl (callout_view s a (cursors_of w a) act i (Serve op) is).1 is d

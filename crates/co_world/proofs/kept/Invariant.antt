@@ -22,9 +22,9 @@ use Rattle.co_program.specs.declared.Task.TheVariants.{Does, Soft}
 use Rattle.co_program.specs.declared.Role.{Role}
 use Rattle.co_program.specs.declared.Role.TheVariants.{Client, Cpu, Interrupt}
 use Rattle.co_program.specs.Stages.{Stage, Ready, Waiting, Popping, Picking, Locking, Beginning, Unlocking, Firing, Releasing, Ending, Freeing, Drained}
-use Rattle.co_program.specs.declared.Service.{Service}
+use Rattle.co_program.specs.declared.InService.{InService}
 use Rattle.co_program.specs.Cursor.{Cursor}
-use Rattle.co_program.specs.declared.Parcel.{Parcel}
+use Rattle.co_program.specs.declared.PendingInsert.{PendingInsert}
 use Rattle.co_program.specs.Advance.{parcel_of}
 use Rattle.co_object.proofs.Each.{Each}
 use Rattle.co_object.proofs.EntriesKept.{EntriesFit}
@@ -38,7 +38,7 @@ use Rattle.co_world.specs.Laws.{actors_of}
 -- ---- an actor: its stage, its hold and its role
 
 -- the service that an actor has under way: from its Pick to its End
-abbrev pub service_of : Stage → Option Service
+abbrev pub service_of : Stage → Option InService
 service_of Ready = None
 service_of (Waiting n took) = None
 service_of (Popping act) = None
@@ -179,11 +179,11 @@ cpu_of_run (run.Picked a) = Some a.cpu
 cpu_of_run (run.Cancelled n cpu) = Some cpu
 cpu_of_run (run.Running n cpu) = Some cpu
 
-pub record IsServing (s : Script) (states : ℕ → State) (places : ℕ → Cursor) : Type 0 where
-  pub serves : (b : ℕ) → RunFits states (cpu_of s (role_of s b)) (places b).stage
+pub record IsServing (s : Script) (states : ℕ → State) (cursors : ℕ → Cursor) : Type 0 where
+  pub serves : (b : ℕ) → RunFits states (cpu_of s (role_of s b)) (cursors b).stage
   -- and every run is that of a service under way
   pub served : (i cpu : ℕ) → cpu_of_run (states i).run ≡ Some cpu →
-      (v : Service) × (service_of (places (server (actors_of s) (spec_at s i) cpu)).stage ≡ Some v) × (v.i ≡ i) × (server (actors_of s) (spec_at s i) cpu < actor_count s)
+      (v : InService) × (service_of (cursors (server (actors_of s) (spec_at s i) cpu)).stage ≡ Some v) × (v.i ≡ i) × (server (actors_of s) (spec_at s i) cpu < actor_count s)
 
 -- ---- a queue alone
 
@@ -208,7 +208,7 @@ serving_of q (Cpu x) = is_some q.serving
 serving_of q (Interrupt x) = is_some q.directing
 
 abbrev pub IsBusy : Script → (ℕ → TimerQueue) → (ℕ → Cursor) → Type 0
-IsBusy s queues places = (b : ℕ) → serving_of (queues (cpu_of s (role_of s b))) (role_of s b) ≡ has_popped (places b).stage
+IsBusy s queues cursors = (b : ℕ) → serving_of (queues (cpu_of s (role_of s b))) (role_of s b) ≡ has_popped (cursors b).stage
 
 -- ---- where an arming is
 
@@ -222,27 +222,27 @@ pub record IsListed (state : State) (n cpu t : ℕ) : Type 0 where
   pub free : is_free_at state.run cpu ≡ true
 
 -- the callout that an actor has in hand: on its way, just popped, or sent on its way by the end of its service
-abbrev pub in_stage : ℕ → Stage → Option Parcel
+abbrev pub in_stage : ℕ → Stage → Option PendingInsert
 in_stage cpu (Picking v) = Some (record { act = v.act; i = v.i; n = v.n; due = v.at; cpu = cpu })
 in_stage cpu (Freeing v drain next) = parcel_of v next
 in_stage cpu stage = None
 
-abbrev pub in_hand : ℕ → Option Parcel → Stage → Option Parcel
+abbrev pub in_hand : ℕ → Option PendingInsert → Stage → Option PendingInsert
 in_hand cpu (Some p) stage = Some p
 in_hand cpu None stage = in_stage cpu stage
 
-abbrev pub carries : Script → ℕ → Cursor → Option Parcel
+abbrev pub carries : Script → ℕ → Cursor → Option PendingInsert
 carries s b c = in_hand (cpu_of s (role_of s b)) c.parcel c.stage
 
 -- an armed callout that is Listed stands in that queue alone, or in one hand alone; out is one just removed
-pub record IsCarried (s : Script) (states : ℕ → State) (queues : ℕ → TimerQueue) (places : ℕ → Cursor) (out : Option ℕ) : Type 0 where
-  pub moves : (b : ℕ) (p : Parcel) → carries s b (places b) ≡ Some p → IsListed (states p.i) p.n p.cpu p.due
-  pub once : (b d : ℕ) (p r : Parcel) → carries s b (places b) ≡ Some p → carries s d (places d) ≡ Some r → p.i ≡ r.i → b ≡ d
-  pub apart : (b : ℕ) (p : Parcel) (cpu : ℕ) → carries s b (places b) ≡ Some p → stands p.i (queues cpu) ≡ 0
+pub record IsCarried (s : Script) (states : ℕ → State) (queues : ℕ → TimerQueue) (cursors : ℕ → Cursor) (out : Option ℕ) : Type 0 where
+  pub moves : (b : ℕ) (p : PendingInsert) → carries s b (cursors b) ≡ Some p → IsListed (states p.i) p.n p.cpu p.due
+  pub once : (b d : ℕ) (p r : PendingInsert) → carries s b (cursors b) ≡ Some p → carries s d (cursors d) ≡ Some r → p.i ≡ r.i → b ≡ d
+  pub apart : (b : ℕ) (p : PendingInsert) (cpu : ℕ) → carries s b (cursors b) ≡ Some p → stands p.i (queues cpu) ≡ 0
   pub away : (i cpu : ℕ) → out ≡ Some i → stands i (queues cpu) ≡ 0
   pub entries : (cpu : ℕ) → EntriesFit (λ i n t. IsListed (states i) n cpu t) (queues cpu)
   pub listed : (i cpu : ℕ) → off (states i) ≡ Some cpu →
-      (1 ≤ stands i (queues cpu)) ⊎ ((out ≡ Some i) ⊎ ((b : ℕ) × (p : Parcel) × (b < actor_count s) × (carries s b (places b) ≡ Some p) × (p.i ≡ i)))
+      (1 ≤ stands i (queues cpu)) ⊎ ((out ≡ Some i) ⊎ ((b : ℕ) × (p : PendingInsert) × (b < actor_count s) × (carries s b (cursors b) ≡ Some p) × (p.i ≡ i)))
 
 -- ---- ticks
 
@@ -253,9 +253,9 @@ under_way stage = 1
 
 -- in version 2 a CPU has as many Scans as its interrupt has begun ticks
 abbrev pub IsTicking : Script → (ℕ → ℕ) → (ℕ → Cursor) → Type 0
-IsTicking s scans places =
+IsTicking s scans cursors =
     (b cpu : ℕ) → s.version ≡ 2 → role_of s b ≡ Interrupt cpu →
-    (scans cpu + length (places b).left ≡ length (acts_at s.ticks cpu) + under_way (places b).stage) × (under_way (places b).stage ≤ length (places b).left)
+    (scans cpu + length (cursors b).left ≡ length (acts_at s.ticks cpu) + under_way (cursors b).stage) × (under_way (cursors b).stage ≤ length (cursors b).left)
 
 -- ---- the world
 
@@ -265,22 +265,22 @@ states_of w i = (w.timers i).state
 abbrev pub queues_of : World → ℕ → TimerQueue
 queues_of w cpu = (w.cpus cpu).queue
 
-abbrev pub places_of : World → ℕ → Cursor
-places_of w a = (w.actors a).cursor
+abbrev pub cursors_of : World → ℕ → Cursor
+cursors_of w a = (w.actors a).cursor
 
 abbrev pub scans_of : World → ℕ → ℕ
 scans_of w cpu = scan_count (w.cpus cpu).journal
 
 -- what holds also in mid-section
 pub record Holds (s : Script) (w : World) (out : Option ℕ) : Type 0 where
-  pub roles : (a : ℕ) → FitsRole s (role_of s a) (places_of w a).left (places_of w a).hold (places_of w a).stage
+  pub roles : (a : ℕ) → FitsRole s (role_of s a) (cursors_of w a).left (cursors_of w a).hold (cursors_of w a).stage
   pub lanes : (cpu : ℕ) → IsLane s (queues_of w cpu)
-  pub busy : IsBusy s (queues_of w) (places_of w)
-  pub serving : IsServing s (states_of w) (places_of w)
-  pub carried : IsCarried s (states_of w) (queues_of w) (places_of w) out
-  pub ticking : IsTicking s (scans_of w) (places_of w)
+  pub busy : IsBusy s (queues_of w) (cursors_of w)
+  pub serving : IsServing s (states_of w) (cursors_of w)
+  pub carried : IsCarried s (states_of w) (queues_of w) (cursors_of w) out
+  pub ticking : IsTicking s (scans_of w) (cursors_of w)
 
 -- and between two steps
 pub record IsSound (s : Script) (w : World) : Type 0 where
   pub holds : Holds s w None
-  pub between : (a : ℕ) → IsBetween (places_of w a).stage
+  pub between : (a : ℕ) → IsBetween (cursors_of w a).stage

@@ -11,7 +11,7 @@ use Rattle.co_object.proofs.PassageOnce.{stands}
 use Rattle.co_program.specs.declared.Script.{Script}
 use Rattle.co_program.specs.Actors.{actor_count}
 use Rattle.co_program.specs.Cursor.{Cursor}
-use Rattle.co_program.specs.declared.Parcel.{Parcel}
+use Rattle.co_program.specs.declared.PendingInsert.{PendingInsert}
 use Rattle.co_world.proofs.kept.Invariant.{IsListed, IsCarried, carries}
 use Rattle.co_object.proofs.EntriesKept.{EntriesFit}
 use Rattle.co_world.proofs.basics.Changes.{IsAt, decide, at_all}
@@ -64,7 +64,7 @@ zero_or n h = go n h where
   go zero h = refl
   go (suc n) h = absurd (h (omega arith))
 
-module _ (s : Script) (states : ℕ → State) (queues : ℕ → TimerQueue) (places : ℕ → Cursor) (out : Option ℕ) (carried : IsCarried s states queues places out) where
+module _ (s : Script) (states : ℕ → State) (queues : ℕ → TimerQueue) (cursors : ℕ → Cursor) (out : Option ℕ) (carried : IsCarried s states queues cursors out) where
   -- a callout that no arming lists stands nowhere, and else in that queue alone
   pub stands_listed : (i cpu : ℕ) → 1 ≤ stands i (queues cpu) → off (states i) ≡ Some cpu
   stands_listed i cpu h = let found = entry_found (λ j n t. IsListed (states j) n cpu t) i (queues cpu) (carried.entries cpu) h in listed_off (states i) found.0 cpu found.1 found.2
@@ -77,41 +77,41 @@ module _ (s : Script) (states : ℕ → State) (queues : ℕ → TimerQueue) (pl
 
   -- nobody else has the callout, in hand or in a queue
   pub record Nobody (a i : ℕ) : Type 0 where
-    pub hands : (b : ℕ) (p : Parcel) → (b ≡ a → ⊥) → carries s b (places b) ≡ Some p → p.i ≡ i → ⊥
+    pub hands : (b : ℕ) (p : PendingInsert) → (b ≡ a → ⊥) → carries s b (cursors b) ≡ Some p → p.i ≡ i → ⊥
     pub rests : (cpu : ℕ) → stands i (queues cpu) ≡ 0
 
   -- ---- a callout changes its state
 
-  module _ (after : ℕ → State) (places' : ℕ → Cursor) (a i : ℕ) (state : State) (to : Cursor) (here : IsAt states i state after) (at : IsAt places a to places')
+  module _ (after : ℕ → State) (cursors' : ℕ → Cursor) (a i : ℕ) (state : State) (to : Cursor) (here : IsAt states i state after) (at : IsAt cursors a to cursors')
       (may : a < actor_count s)
-      (only : (p : Parcel) → carries s a (places a) ≡ Some p → p.i ≡ i)
+      (only : (p : PendingInsert) → carries s a (cursors a) ≡ Some p → p.i ≡ i)
       (gone : (j : ℕ) → out ≡ Some j → j ≡ i)
       (fits : ((n cpu t : ℕ) → IsListed (states i) n cpu t → IsListed state n cpu t) ⊎ Nobody a i)
-      (hand : (carries s a to ≡ None) ⊎ ((p : Parcel) × (carries s a to ≡ Some p) × (p.i ≡ i) × IsListed state p.n p.cpu p.due × Nobody a i))
-      (stays : (cpu : ℕ) → off state ≡ Some cpu → (1 ≤ stands i (queues cpu)) ⊎ (((p : Parcel) × (carries s a to ≡ Some p) × (p.i ≡ i))
-      ⊎ ((b : ℕ) × (p : Parcel) × (b ≡ a → ⊥) × (b < actor_count s) × (carries s b (places b) ≡ Some p) × (p.i ≡ i)))) where
+      (hand : (carries s a to ≡ None) ⊎ ((p : PendingInsert) × (carries s a to ≡ Some p) × (p.i ≡ i) × IsListed state p.n p.cpu p.due × Nobody a i))
+      (stays : (cpu : ℕ) → off state ≡ Some cpu → (1 ≤ stands i (queues cpu)) ⊎ (((p : PendingInsert) × (carries s a to ≡ Some p) × (p.i ≡ i))
+      ⊎ ((b : ℕ) × (p : PendingInsert) × (b ≡ a → ⊥) × (b < actor_count s) × (carries s b (cursors b) ≡ Some p) × (p.i ≡ i)))) where
     -- what an actor has in hand now, it had, or it is the callout's new arming
-    abbrev New : Parcel → Type 0
+    abbrev New : PendingInsert → Type 0
     New p = (p.i ≡ i) × IsListed state p.n p.cpu p.due × Nobody a i
 
     abbrev Was : ℕ → Cursor → Type 0
-    Was b c = (p : Parcel) → carries s b c ≡ Some p → ((b ≡ a → ⊥) × (carries s b (places b) ≡ Some p)) ⊎ ((b ≡ a) × New p)
+    Was b c = (p : PendingInsert) → carries s b c ≡ Some p → ((b ≡ a → ⊥) × (carries s b (cursors b) ≡ Some p)) ⊎ ((b ≡ a) × New p)
 
     was_new : Was a to
     was_new p is = go hand where
-      go : (carries s a to ≡ None) ⊎ ((r : Parcel) × (carries s a to ≡ Some r) × (r.i ≡ i) × IsListed state r.n r.cpu r.due × Nobody a i) → ((a ≡ a → ⊥) × (carries s a (places a) ≡ Some p)) ⊎ ((a ≡ a) × New p)
+      go : (carries s a to ≡ None) ⊎ ((r : PendingInsert) × (carries s a to ≡ Some r) × (r.i ≡ i) × IsListed state r.n r.cpu r.due × Nobody a i) → ((a ≡ a → ⊥) × (carries s a (cursors a) ≡ Some p)) ⊎ ((a ≡ a) × New p)
       go (inl none) = cc
       go (inr has) =
           let same : has.0 ≡ p = cc (sym has.1 ∙ is) in
           inr (refl, subst New same (has.2, has.3, has.4))
 
-    was : (b : ℕ) → Was b (places' b)
-    was = at_all Was places a to places' at was_new (λ b other p is. inl (other, is))
+    was : (b : ℕ) → Was b (cursors' b)
+    was = at_all Was cursors a to cursors' at was_new (λ b other p is. inl (other, is))
 
     states_else : (j : ℕ) → (j ≡ i → ⊥) → after j ≡ states j
     states_else = here.else
 
-    listed_on : (b : ℕ) (p : Parcel) → (b ≡ a → ⊥) → carries s b (places b) ≡ Some p → IsListed (after p.i) p.n p.cpu p.due
+    listed_on : (b : ℕ) (p : PendingInsert) → (b ≡ a → ⊥) → carries s b (cursors b) ≡ Some p → IsListed (after p.i) p.n p.cpu p.due
     listed_on b p other is = go (decide p.i i) fits where
       before : IsListed (states p.i) p.n p.cpu p.due
       before = carried.moves b p is
@@ -121,23 +121,23 @@ module _ (s : Script) (states : ℕ → State) (queues : ℕ → TimerQueue) (pl
       go (inl same) (inr nobody) = absurd (nobody.hands b p other is same)
       go (inr else) f = subst (λ (x : State). IsListed x p.n p.cpu p.due) (sym (states_else p.i else)) before
 
-    moves_now : (b : ℕ) (p : Parcel) → carries s b (places' b) ≡ Some p → IsListed (after p.i) p.n p.cpu p.due
+    moves_now : (b : ℕ) (p : PendingInsert) → carries s b (cursors' b) ≡ Some p → IsListed (after p.i) p.n p.cpu p.due
     moves_now b p is = go (was b p is) where
-      go : ((b ≡ a → ⊥) × (carries s b (places b) ≡ Some p)) ⊎ ((b ≡ a) × New p) → IsListed (after p.i) p.n p.cpu p.due
+      go : ((b ≡ a → ⊥) × (carries s b (cursors b) ≡ Some p)) ⊎ ((b ≡ a) × New p) → IsListed (after p.i) p.n p.cpu p.due
       go (inl old) = listed_on b p old.0 old.1
       go (inr new) = subst (λ (k : ℕ). IsListed (after k) p.n p.cpu p.due) (sym new.1.0) (subst (λ (x : State). IsListed x p.n p.cpu p.due) (sym here.here) new.1.1)
 
-    once_now : (b d : ℕ) (p r : Parcel) → carries s b (places' b) ≡ Some p → carries s d (places' d) ≡ Some r → p.i ≡ r.i → b ≡ d
+    once_now : (b d : ℕ) (p r : PendingInsert) → carries s b (cursors' b) ≡ Some p → carries s d (cursors' d) ≡ Some r → p.i ≡ r.i → b ≡ d
     once_now b d p r is it same = go (was b p is) (was d r it) where
-      go : ((b ≡ a → ⊥) × (carries s b (places b) ≡ Some p)) ⊎ ((b ≡ a) × New p) → ((d ≡ a → ⊥) × (carries s d (places d) ≡ Some r)) ⊎ ((d ≡ a) × New r) → b ≡ d
+      go : ((b ≡ a → ⊥) × (carries s b (cursors b) ≡ Some p)) ⊎ ((b ≡ a) × New p) → ((d ≡ a → ⊥) × (carries s d (cursors d) ≡ Some r)) ⊎ ((d ≡ a) × New r) → b ≡ d
       go (inl old) (inl other) = carried.once b d p r old.1 other.1 same
       go (inl old) (inr new) = absurd (new.1.2.hands b p old.0 old.1 (same ∙ new.1.0))
       go (inr new) (inl old) = absurd (new.1.2.hands d r old.0 old.1 (sym same ∙ new.1.0))
       go (inr new) (inr other) = new.0 ∙ sym other.0
 
-    apart_now : (b : ℕ) (p : Parcel) (cpu : ℕ) → carries s b (places' b) ≡ Some p → stands p.i (queues cpu) ≡ 0
+    apart_now : (b : ℕ) (p : PendingInsert) (cpu : ℕ) → carries s b (cursors' b) ≡ Some p → stands p.i (queues cpu) ≡ 0
     apart_now b p cpu is = go (was b p is) where
-      go : ((b ≡ a → ⊥) × (carries s b (places b) ≡ Some p)) ⊎ ((b ≡ a) × New p) → stands p.i (queues cpu) ≡ 0
+      go : ((b ≡ a → ⊥) × (carries s b (cursors b) ≡ Some p)) ⊎ ((b ≡ a) × New p) → stands p.i (queues cpu) ≡ 0
       go (inl old) = carried.apart b p cpu old.1
       go (inr new) = subst (λ (k : ℕ). stands k (queues cpu) ≡ 0) (sym new.1.0) (new.1.2.rests cpu)
 
@@ -151,90 +151,90 @@ module _ (s : Script) (states : ℕ → State) (queues : ℕ → TimerQueue) (pl
           go j n t h (inr else) f = subst (λ (x : State). IsListed x n cpu t) (sym (states_else j else)) h.0
 
     abbrev InHand : ℕ → Type 0
-    InHand j = (b : ℕ) × (p : Parcel) × (b < actor_count s) × (carries s b (places' b) ≡ Some p) × (p.i ≡ j)
+    InHand j = (b : ℕ) × (p : PendingInsert) × (b < actor_count s) × (carries s b (cursors' b) ≡ Some p) × (p.i ≡ j)
 
-    in_hand_here : (p : Parcel) (j : ℕ) → carries s a to ≡ Some p → p.i ≡ j → InHand j
+    in_hand_here : (p : PendingInsert) (j : ℕ) → carries s a to ≡ Some p → p.i ≡ j → InHand j
     in_hand_here p j is number = (a, p, may, ap (carries s a) at.here ∙ is, number)
 
-    in_hand_else : (b : ℕ) (p : Parcel) (j : ℕ) → (b ≡ a → ⊥) → b < actor_count s → carries s b (places b) ≡ Some p → p.i ≡ j → InHand j
+    in_hand_else : (b : ℕ) (p : PendingInsert) (j : ℕ) → (b ≡ a → ⊥) → b < actor_count s → carries s b (cursors b) ≡ Some p → p.i ≡ j → InHand j
     in_hand_else b p j other exists is number = (b, p, exists, ap (carries s b) (at.else b other) ∙ is, number)
 
     listed_now : (j cpu : ℕ) → off (after j) ≡ Some cpu → (1 ≤ stands j (queues cpu)) ⊎ ((no_out ≡ Some j) ⊎ InHand j)
     listed_now j cpu is = at_number (decide j i) where
-      here_now : (j ≡ i) → (1 ≤ stands i (queues cpu)) ⊎ (((p : Parcel) × (carries s a to ≡ Some p) × (p.i ≡ i)) ⊎ ((b : ℕ) × (p : Parcel) × (b ≡ a → ⊥) × (b < actor_count s) × (carries s b (places b) ≡ Some p) × (p.i ≡ i))) →
+      here_now : (j ≡ i) → (1 ≤ stands i (queues cpu)) ⊎ (((p : PendingInsert) × (carries s a to ≡ Some p) × (p.i ≡ i)) ⊎ ((b : ℕ) × (p : PendingInsert) × (b ≡ a → ⊥) × (b < actor_count s) × (carries s b (cursors b) ≡ Some p) × (p.i ≡ i))) →
           (1 ≤ stands j (queues cpu)) ⊎ ((no_out ≡ Some j) ⊎ InHand j)
       here_now same (inl some) = inl (subst (λ (k : ℕ). 1 ≤ stands k (queues cpu)) (sym same) some)
       here_now same (inr (inl own)) = inr (inr (in_hand_here own.0 j own.1 (own.2 ∙ sym same)))
       here_now same (inr (inr other)) = inr (inr (in_hand_else other.0 other.1 j other.2 other.3 other.4 (other.5 ∙ sym same)))
 
-      else_now : (j ≡ i → ⊥) → (1 ≤ stands j (queues cpu)) ⊎ ((out ≡ Some j) ⊎ ((b : ℕ) × (p : Parcel) × (b < actor_count s) × (carries s b (places b) ≡ Some p) × (p.i ≡ j))) →
+      else_now : (j ≡ i → ⊥) → (1 ≤ stands j (queues cpu)) ⊎ ((out ≡ Some j) ⊎ ((b : ℕ) × (p : PendingInsert) × (b < actor_count s) × (carries s b (cursors b) ≡ Some p) × (p.i ≡ j))) →
           (1 ≤ stands j (queues cpu)) ⊎ ((no_out ≡ Some j) ⊎ InHand j)
       else_now other (inl some) = inl some
       else_now other (inr (inl removed)) = absurd (other (gone j removed))
       else_now other (inr (inr has)) = whose (decide has.0 a) where
         whose : (has.0 ≡ a) ⊎ (has.0 ≡ a → ⊥) → (1 ≤ stands j (queues cpu)) ⊎ ((no_out ≡ Some j) ⊎ InHand j)
-        whose (inl own) = absurd (other (sym has.4 ∙ only has.1 (subst (λ (b : ℕ). carries s b (places b) ≡ Some has.1) own has.3)))
+        whose (inl own) = absurd (other (sym has.4 ∙ only has.1 (subst (λ (b : ℕ). carries s b (cursors b) ≡ Some has.1) own has.3)))
         whose (inr else) = inr (inr (in_hand_else has.0 has.1 j else has.2 has.3 has.4))
 
       at_number : (j ≡ i) ⊎ (j ≡ i → ⊥) → (1 ≤ stands j (queues cpu)) ⊎ ((no_out ≡ Some j) ⊎ InHand j)
       at_number (inl same) = here_now same (stays cpu (sym (ap off (ap after same ∙ here.here)) ∙ is))
       at_number (inr other) = else_now other (carried.listed j cpu (sym (ap off (states_else j other)) ∙ is))
 
-    pub carried_state : IsCarried s after queues places' None
+    pub carried_state : IsCarried s after queues cursors' None
     carried_state = record { moves = moves_now; once = once_now; apart = apart_now; away = λ j cpu is. cc; entries = entries_now; listed = listed_now }
 
   -- ---- a queue changes
 
-  module _ (after : ℕ → State) (queues' : ℕ → TimerQueue) (places' : ℕ → Cursor) (out' : Option ℕ) (a cpu : ℕ) (q' : TimerQueue) (to : Cursor)
-      (same : (j : ℕ) → after j ≡ states j) (here : IsAt queues cpu q' queues') (at : IsAt places a to places')
-      (hand : (p : Parcel) → carries s a to ≡ Some p → (carries s a (places a) ≡ Some p)
-      ⊎ (IsListed (states p.i) p.n p.cpu p.due × ((b : ℕ) (r : Parcel) → (b ≡ a → ⊥) → carries s b (places b) ≡ Some r → r.i ≡ p.i → ⊥) × ((x : ℕ) → stands p.i (queues' x) ≡ 0)))
-      (apart : (b : ℕ) (p : Parcel) → carries s b (places b) ≡ Some p → carries s b (places' b) ≡ Some p → stands p.i q' ≡ 0)
+  module _ (after : ℕ → State) (queues' : ℕ → TimerQueue) (cursors' : ℕ → Cursor) (out' : Option ℕ) (a cpu : ℕ) (q' : TimerQueue) (to : Cursor)
+      (same : (j : ℕ) → after j ≡ states j) (here : IsAt queues cpu q' queues') (at : IsAt cursors a to cursors')
+      (hand : (p : PendingInsert) → carries s a to ≡ Some p → (carries s a (cursors a) ≡ Some p)
+      ⊎ (IsListed (states p.i) p.n p.cpu p.due × ((b : ℕ) (r : PendingInsert) → (b ≡ a → ⊥) → carries s b (cursors b) ≡ Some r → r.i ≡ p.i → ⊥) × ((x : ℕ) → stands p.i (queues' x) ≡ 0)))
+      (apart : (b : ℕ) (p : PendingInsert) → carries s b (cursors b) ≡ Some p → carries s b (cursors' b) ≡ Some p → stands p.i q' ≡ 0)
       (away : (i x : ℕ) → out' ≡ Some i → stands i (queues' x) ≡ 0)
       (entries : EntriesFit (λ i n t. IsListed (states i) n cpu t) q')
       (listed : (i x : ℕ) → off (states i) ≡ Some x →
-      (1 ≤ stands i (queues' x)) ⊎ ((out' ≡ Some i) ⊎ ((b : ℕ) × (p : Parcel) × (b < actor_count s) × (carries s b (places' b) ≡ Some p) × (p.i ≡ i)))) where
-    abbrev Got : Parcel → Type 0
-    Got p = IsListed (states p.i) p.n p.cpu p.due × ((b : ℕ) (r : Parcel) → (b ≡ a → ⊥) → carries s b (places b) ≡ Some r → r.i ≡ p.i → ⊥) × ((x : ℕ) → stands p.i (queues' x) ≡ 0)
+      (1 ≤ stands i (queues' x)) ⊎ ((out' ≡ Some i) ⊎ ((b : ℕ) × (p : PendingInsert) × (b < actor_count s) × (carries s b (cursors' b) ≡ Some p) × (p.i ≡ i)))) where
+    abbrev Got : PendingInsert → Type 0
+    Got p = IsListed (states p.i) p.n p.cpu p.due × ((b : ℕ) (r : PendingInsert) → (b ≡ a → ⊥) → carries s b (cursors b) ≡ Some r → r.i ≡ p.i → ⊥) × ((x : ℕ) → stands p.i (queues' x) ≡ 0)
 
     abbrev Had : ℕ → Cursor → Type 0
-    Had b c = (p : Parcel) → carries s b c ≡ Some p → (carries s b (places b) ≡ Some p) ⊎ ((b ≡ a) × Got p)
+    Had b c = (p : PendingInsert) → carries s b c ≡ Some p → (carries s b (cursors b) ≡ Some p) ⊎ ((b ≡ a) × Got p)
 
     had_new : Had a to
     had_new p is = go (hand p is) where
-      go : (carries s a (places a) ≡ Some p) ⊎ Got p → (carries s a (places a) ≡ Some p) ⊎ ((a ≡ a) × Got p)
+      go : (carries s a (cursors a) ≡ Some p) ⊎ Got p → (carries s a (cursors a) ≡ Some p) ⊎ ((a ≡ a) × Got p)
       go (inl old) = inl old
       go (inr new) = inr (refl, new)
 
-    had : (b : ℕ) → Had b (places' b)
-    had = at_all Had places a to places' at had_new (λ b other p is. inl is)
+    had : (b : ℕ) → Had b (cursors' b)
+    had = at_all Had cursors a to cursors' at had_new (λ b other p is. inl is)
 
     states_same : (j n x t : ℕ) → IsListed (states j) n x t → IsListed (after j) n x t
     states_same j n x t h = subst (λ (z : State). IsListed z n x t) (sym (same j)) h
 
-    moves_kept : (b : ℕ) (p : Parcel) → carries s b (places' b) ≡ Some p → IsListed (after p.i) p.n p.cpu p.due
+    moves_kept : (b : ℕ) (p : PendingInsert) → carries s b (cursors' b) ≡ Some p → IsListed (after p.i) p.n p.cpu p.due
     moves_kept b p is = go (had b p is) where
-      go : (carries s b (places b) ≡ Some p) ⊎ ((b ≡ a) × Got p) → IsListed (after p.i) p.n p.cpu p.due
+      go : (carries s b (cursors b) ≡ Some p) ⊎ ((b ≡ a) × Got p) → IsListed (after p.i) p.n p.cpu p.due
       go (inl old) = states_same p.i p.n p.cpu p.due (carried.moves b p old)
       go (inr new) = states_same p.i p.n p.cpu p.due new.1.0
 
-    new_alone : (d : ℕ) (r p : Parcel) → Got p → carries s d (places d) ≡ Some r → r.i ≡ p.i → d ≡ a
+    new_alone : (d : ℕ) (r p : PendingInsert) → Got p → carries s d (cursors d) ≡ Some r → r.i ≡ p.i → d ≡ a
     new_alone d r p new is number = go (decide d a) where
       go : (d ≡ a) ⊎ (d ≡ a → ⊥) → d ≡ a
       go (inl own) = own
       go (inr other) = absurd (new.1 d r other is number)
 
-    once_kept : (b d : ℕ) (p r : Parcel) → carries s b (places' b) ≡ Some p → carries s d (places' d) ≡ Some r → p.i ≡ r.i → b ≡ d
+    once_kept : (b d : ℕ) (p r : PendingInsert) → carries s b (cursors' b) ≡ Some p → carries s d (cursors' d) ≡ Some r → p.i ≡ r.i → b ≡ d
     once_kept b d p r is it number = go (had b p is) (had d r it) where
-      go : (carries s b (places b) ≡ Some p) ⊎ ((b ≡ a) × Got p) → (carries s d (places d) ≡ Some r) ⊎ ((d ≡ a) × Got r) → b ≡ d
+      go : (carries s b (cursors b) ≡ Some p) ⊎ ((b ≡ a) × Got p) → (carries s d (cursors d) ≡ Some r) ⊎ ((d ≡ a) × Got r) → b ≡ d
       go (inl old) (inl other) = carried.once b d p r old other number
       go (inl old) (inr new) = new_alone b p r new.1 old number ∙ sym new.0
       go (inr new) (inl old) = new.0 ∙ sym (new_alone d r p new.1 old (sym number))
       go (inr new) (inr other) = new.0 ∙ sym other.0
 
-    apart_kept : (b : ℕ) (p : Parcel) (x : ℕ) → carries s b (places' b) ≡ Some p → stands p.i (queues' x) ≡ 0
+    apart_kept : (b : ℕ) (p : PendingInsert) (x : ℕ) → carries s b (cursors' b) ≡ Some p → stands p.i (queues' x) ≡ 0
     apart_kept b p x is = go (had b p is) where
-      go : (carries s b (places b) ≡ Some p) ⊎ ((b ≡ a) × Got p) → stands p.i (queues' x) ≡ 0
+      go : (carries s b (cursors b) ≡ Some p) ⊎ ((b ≡ a) × Got p) → stands p.i (queues' x) ≡ 0
       go (inl old) = at_all (λ k (q : TimerQueue). stands p.i q ≡ 0) queues cpu q' queues' here (apart b p old is) (λ k other. carried.apart b p k old) x
       go (inr new) = new.1.2 x
 
@@ -243,5 +243,5 @@ module _ (s : Script) (states : ℕ → State) (queues : ℕ → TimerQueue) (pl
         entries_all (λ j n t. IsListed (states j) n x t) (λ j n t. IsListed (after j) n x t) (λ j n t h. states_same j n x t h) (queues' x)
         (at_all (λ k (q : TimerQueue). EntriesFit (λ j n t. IsListed (states j) n k t) q) queues cpu q' queues' here entries (λ k other. carried.entries k) x)
 
-    pub carried_queue : IsCarried s after queues' places' out'
+    pub carried_queue : IsCarried s after queues' cursors' out'
     carried_queue = record { moves = moves_kept; once = once_kept; apart = apart_kept; away = away; entries = entries_kept; listed = λ i x is. listed i x (sym (ap off (same i)) ∙ is) }

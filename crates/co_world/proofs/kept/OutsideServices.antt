@@ -16,9 +16,9 @@ use Rattle.co_program.specs.declared.Task.TheVariants.{Does}
 use Rattle.co_program.specs.declared.Role.{Role}
 use Rattle.co_program.specs.declared.Role.TheVariants.{Client, Cpu, Interrupt}
 use Rattle.co_program.specs.Stages.{Stage, Ready, Waiting, Popping, Picking, Locking, Beginning, Unlocking, Firing, Releasing, Ending, Freeing, Drained}
-use Rattle.co_program.specs.declared.Service.{Service}
+use Rattle.co_program.specs.declared.InService.{InService}
 use Rattle.co_program.specs.Cursor.{Cursor}
-use Rattle.co_program.specs.declared.Parcel.{Parcel}
+use Rattle.co_program.specs.declared.PendingInsert.{PendingInsert}
 use Rattle.co_program.specs.Action.{Silent, Take, Asks, firing, draining}
 use Rattle.co_program.specs.declared.Asked.TheVariants.{Callout, Itself}
 use Rattle.co_program.specs.Advance.{act_over, tail_of}
@@ -42,19 +42,19 @@ running_over (run.Cancelled m at) n cpu h = absurd h
 running_over (run.Running m at) n cpu h = h
 
 -- a function that runs
-pub record Runs (v : Service) (stage : Stage) : Type 0 where
+pub record Runs (v : InService) (stage : Stage) : Type 0 where
   pub service : service_of stage ≡ Some v
   pub popped : has_popped stage ≡ true
   pub runs : (states : ℕ → State) (cpu : ℕ) → IsRunning (states v.i).run v.n cpu → RunFits states cpu stage
   pub under : under_way stage ≡ 1
   pub hands : (cpu : ℕ) → in_stage cpu stage ≡ None
 
-pub firing_runs : (v : Service) (held : Option Held) (acts : List Act) → Runs v (firing v held acts)
+pub firing_runs : (v : InService) (held : Option Held) (acts : List Act) → Runs v (firing v held acts)
 firing_runs v held (act ∷ acts) = record { service = refl; popped = refl; runs = λ states cpu h. h; under = refl; hands = λ cpu. refl }
 firing_runs v None [] = record { service = refl; popped = refl; runs = λ states cpu h. running_over (states v.i).run v.n cpu h; under = refl; hands = λ cpu. refl }
 firing_runs v (Some held) [] = record { service = refl; popped = refl; runs = λ states cpu h. running_over (states v.i).run v.n cpu h; under = refl; hands = λ cpu. refl }
 
-pub same_running : (role : Role) (left : List Task) (stage next : Stage) (v : Service) → service_of stage ≡ Some v → has_popped stage ≡ true → ((states : ℕ → State) (cpu : ℕ) → RunFits states cpu stage → IsRunning (states v.i).run v.n cpu) →
+pub same_running : (role : Role) (left : List Task) (stage next : Stage) (v : InService) → service_of stage ≡ Some v → has_popped stage ≡ true → ((states : ℕ → State) (cpu : ℕ) → RunFits states cpu stage → IsRunning (states v.i).run v.n cpu) →
     under_way stage ≡ 1 → ((cpu : ℕ) → in_stage cpu stage ≡ None) → Runs v next → SameTurn role left stage left next
 same_running role left stage next v service popped runs under hands new = record {
   service = new.service ∙ sym service;
@@ -78,7 +78,7 @@ waiting_client s (Client c) held n took h = (c, refl)
 waiting_client s (Cpu x) held n took h = absurd h
 waiting_client s (Interrupt x) held n took h = absurd h
 
-module _ (s : Script) (role : Role) (left : List Task) (number now : ℕ) (held : Option Held) (removed : Option ℕ) (parcel : Option Parcel) where
+module _ (s : Script) (role : Role) (left : List Task) (number now : ℕ) (held : Option Held) (removed : Option ℕ) (parcel : Option PendingInsert) where
   abbrev at : Stage → Cursor
   at stage = place left number now held stage removed parcel
 
@@ -133,7 +133,7 @@ module _ (s : Script) (role : Role) (left : List Task) (number now : ℕ) (held 
   is_acting_of (Ending v) h = absurd h
   is_acting_of (Freeing v drain next) h = absurd h
 
-  draining_turn : (v : Service) (acts acts' : List Act) → SameTurn role left (Drained v acts) left (draining v acts')
+  draining_turn : (v : InService) (acts acts' : List Act) → SameTurn role left (Drained v acts) left (draining v acts')
   draining_turn v acts [] = at_rest role left left (Drained v acts) (Popping v.act) refl refl refl refl (λ states cpu. tt) (λ x e. (refl, refl)) (λ cpu. (refl, refl))
   draining_turn v acts (act ∷ acts') = at_rest role left left (Drained v acts) (Drained v (act ∷ acts')) refl refl refl refl (λ states cpu. tt) (λ x e. (refl, refl)) (λ cpu. (refl, refl))
 

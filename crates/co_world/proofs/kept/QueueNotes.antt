@@ -9,11 +9,11 @@ use Rattle.co_program.specs.declared.Role.{Role}
 use Rattle.co_program.specs.declared.Role.TheVariants.{Interrupt}
 use Rattle.co_program.specs.Stages.{Stage, Ready, Waiting, Popping, Picking, Locking, Beginning, Unlocking, Firing, Releasing, Ending, Freeing, Drained}
 use Rattle.co_program.specs.Cursor.{Cursor}
-use Rattle.co_program.specs.declared.Parcel.{Parcel}
+use Rattle.co_program.specs.declared.PendingInsert.{PendingInsert}
 use Rattle.co_program.specs.Scripts.{IsScript}
 use Rattle.co_world.specs.World.{World}
 use Rattle.co_world.specs.Step.{notes_down}
-use Rattle.co_world.proofs.kept.Invariant.{Holds, IsListed, IsCarried, IsLane, states_of, queues_of, places_of, scans_of, carries, in_stage, serving_of, has_popped, under_way, service_of}
+use Rattle.co_world.proofs.kept.Invariant.{Holds, IsListed, IsCarried, IsLane, states_of, queues_of, cursors_of, scans_of, carries, in_stage, serving_of, has_popped, under_way, service_of}
 use Rattle.co_world.proofs.basics.Changes.{IsAt, at_all, note_at, at_updated_is}
 use Rattle.co_world.proofs.kept.Stages.{Fits}
 use Rattle.co_world.proofs.kept.Services.{serving_same, runs_on}
@@ -68,7 +68,7 @@ zero_if_other i j other = go (i == j) refl where
 module _ (s : Script) (ok : IsScript s) (w : World) (out : Option ℕ) (holds : Holds s w out) (a act cpu : ℕ) (op : QOp) (q' : TimerQueue) (reply : QReply)
     (change : QChange s.buckets (are_direct s) (queues_of w cpu) op reply q') where
   abbrev c : Cursor
-  c = places_of w a
+  c = cursors_of w a
 
   abbrev role : Role
   role = role_of s a
@@ -82,7 +82,7 @@ module _ (s : Script) (ok : IsScript s) (w : World) (out : Option ℕ) (holds : 
   abbrev to : Cursor
   to = advance_queue s c cpu op reply
 
-  moved : IsAt (places_of w) a to (places_of now)
+  moved : IsAt (cursors_of w) a to (cursors_of now)
   moved = note_at s (enters_journal w cpu q' made) a false (note_of_cpu w cpu made)
 
   queued : IsAt (queues_of w) cpu q' (queues_of now)
@@ -100,12 +100,12 @@ module _ (s : Script) (ok : IsScript s) (w : World) (out : Option ℕ) (holds : 
 
   pub finish : (out' : Option ℕ) → Fits s role to → serving_of (queues_of now (cpu_of s role)) role ≡ has_popped to.stage →
       ((b : ℕ) → (b ≡ a → ⊥) → serving_of (queues_of now (cpu_of s (role_of s b))) (role_of s b) ≡ serving_of (queues_of w (cpu_of s (role_of s b))) (role_of s b)) →
-      service_of to.stage ≡ service_of c.stage → RunFits (states_of w) (cpu_of s role) to.stage → IsTicking s (scans_of now) (places_of now) → IsCarried s (states_of now) (queues_of now) (places_of now) out' → Holds s now out'
+      service_of to.stage ≡ service_of c.stage → RunFits (states_of w) (cpu_of s role) to.stage → IsTicking s (scans_of now) (cursors_of now) → IsCarried s (states_of now) (queues_of now) (cursors_of now) out' → Holds s now out'
   finish out' fits busy_own busy_else service runs ticking carried = record {
-    roles = at_all (λ b (x : Cursor). Fits s (role_of s b) x) (places_of w) a to (places_of now) moved fits (λ b other. holds.roles b);
+    roles = at_all (λ b (x : Cursor). Fits s (role_of s b) x) (cursors_of w) a to (cursors_of now) moved fits (λ b other. holds.roles b);
     lanes = at_all (λ x (q : TimerQueue). IsLane s q) (queues_of w) cpu q' (queues_of now) queued (lane_kept s (queues_of w cpu) op reply q' change (holds.lanes cpu)) (λ x other. holds.lanes x);
-    busy = at_all (λ b (x : Cursor). serving_of (queues_of now (cpu_of s (role_of s b))) (role_of s b) ≡ has_popped x.stage) (places_of w) a to (places_of now) moved busy_own (λ b other. busy_else b other ∙ holds.busy b);
-    serving = serving_same s (states_of w) (places_of w) holds.serving (states_of now) (places_of now) a to moved (λ j. same_run (states_of w j).run (states_of now j).run (sym (ap (λ (x : State). x.run) (states j)))) service
+    busy = at_all (λ b (x : Cursor). serving_of (queues_of now (cpu_of s (role_of s b))) (role_of s b) ≡ has_popped x.stage) (cursors_of w) a to (cursors_of now) moved busy_own (λ b other. busy_else b other ∙ holds.busy b);
+    serving = serving_same s (states_of w) (cursors_of w) holds.serving (states_of now) (cursors_of now) a to moved (λ j. same_run (states_of w j).run (states_of now j).run (sym (ap (λ (x : State). x.run) (states j)))) service
         (runs_on (states_of w) (states_of now) (cpu_of s role) to.stage (λ v e. same_run (states_of w v.i).run (states_of now v.i).run (sym (ap (λ (x : State). x.run) (states v.i)))) runs);
     carried = carried;
     ticking = ticking;
@@ -117,10 +117,10 @@ module _ (s : Script) (ok : IsScript s) (w : World) (out : Option ℕ) (holds : 
       (quiet_serving s.buckets (are_direct s) (queues_of w cpu) op reply q' r change quiet) (λ k other. refl) x
 
   -- no tick begins or ends
-  pub ticks_same : one_scan op ≡ 0 → ((x : ℕ) → role ≡ Interrupt x → (length to.left ≡ length c.left) × (under_way to.stage ≡ under_way c.stage)) → IsTicking s (scans_of now) (places_of now)
+  pub ticks_same : one_scan op ≡ 0 → ((x : ℕ) → role ≡ Interrupt x → (length to.left ≡ length c.left) × (under_way to.stage ≡ under_way c.stage)) → IsTicking s (scans_of now) (cursors_of now)
   ticks_same no_scan same b x two is =
-      let alike : (length (places_of now b).left ≡ length (places_of w b).left) × (under_way (places_of now b).stage ≡ under_way (places_of w b).stage) =
-      at_all (λ k (y : Cursor). (z : ℕ) → role_of s k ≡ Interrupt z → (length y.left ≡ length (places_of w k).left) × (under_way y.stage ≡ under_way (places_of w k).stage)) (places_of w) a to (places_of now) moved same (λ k other z e. (refl, refl)) b x is in
+      let alike : (length (cursors_of now b).left ≡ length (cursors_of w b).left) × (under_way (cursors_of now b).stage ≡ under_way (cursors_of w b).stage) =
+      at_all (λ k (y : Cursor). (z : ℕ) → role_of s k ≡ Interrupt z → (length y.left ≡ length (cursors_of w k).left) × (under_way y.stage ≡ under_way (cursors_of w k).stage)) (cursors_of w) a to (cursors_of now) moved same (λ k other z e. (refl, refl)) b x is in
       let n : scans_of now x ≡ scans_of w x = at_all (λ k (y : ℕ). y ≡ scans_of w k) (scans_of w) cpu (scans_of w cpu + one_scan op) (scans_of now) scanned (omega arith) (λ k other. refl) x in
       let before = holds.ticking b x two is in
       let l = alike.0 in
@@ -133,19 +133,19 @@ module _ (s : Script) (ok : IsScript s) (w : World) (out : Option ℕ) (holds : 
   entries_on new = entries_change (λ i n t. IsListed (states_of w i) n cpu t) (λ i n t u later h. listed_later (states_of w i) n cpu t u later h) s.buckets (are_direct s) (queues_of w cpu) op reply q' change new (holds.carried.entries cpu)
 
   -- the hands stay, and each callout stands where it stood
-  pub carried_quiet : out ≡ None → ((i : ℕ) → stands i q' ≡ stands i (queues_of w cpu)) → carries s a to ≡ carries s a c → ((i n u : ℕ) → op ≡ Insert i n u → ⊥) → IsCarried s (states_of now) (queues_of now) (places_of now) None
+  pub carried_quiet : out ≡ None → ((i : ℕ) → stands i q' ≡ stands i (queues_of w cpu)) → carries s a to ≡ carries s a c → ((i n u : ℕ) → op ≡ Insert i n u → ⊥) → IsCarried s (states_of now) (queues_of now) (cursors_of now) None
   carried_quiet out_none same hand no_insert =
-      carried_queue s (states_of w) (queues_of w) (places_of w) out holds.carried (states_of now) (queues_of now) (places_of now) None a cpu q' to states queued moved
+      carried_queue s (states_of w) (queues_of w) (cursors_of w) out holds.carried (states_of now) (queues_of now) (cursors_of now) None a cpu q' to states queued moved
       (λ p e. inl (sym hand ∙ e)) (λ b p e it. same p.i ∙ holds.carried.apart b p cpu e) (λ i x e. cc) (entries_on (λ i n u e. absurd (no_insert i n u e)))
       (λ i x e. listed i x (holds.carried.listed i x e)) where
-        hands_same : (b : ℕ) → carries s b (places_of now b) ≡ carries s b (places_of w b)
-        hands_same = at_all (λ b (y : Cursor). carries s b y ≡ carries s b (places_of w b)) (places_of w) a to (places_of now) moved hand (λ b other. refl)
+        hands_same : (b : ℕ) → carries s b (cursors_of now b) ≡ carries s b (cursors_of w b)
+        hands_same = at_all (λ b (y : Cursor). carries s b y ≡ carries s b (cursors_of w b)) (cursors_of w) a to (cursors_of now) moved hand (λ b other. refl)
 
         stands_same : (i x : ℕ) → stands i (queues_of now x) ≡ stands i (queues_of w x)
         stands_same i x = at_all (λ k (q : TimerQueue). stands i q ≡ stands i (queues_of w k)) (queues_of w) cpu q' (queues_of now) queued (same i) (λ k other. refl) x
 
-        listed : (i x : ℕ) → (1 ≤ stands i (queues_of w x)) ⊎ ((out ≡ Some i) ⊎ ((b : ℕ) × (p : Parcel) × (b < actor_count s) × (carries s b (places_of w b) ≡ Some p) × (p.i ≡ i))) →
-            (1 ≤ stands i (queues_of now x)) ⊎ ((no_out ≡ Some i) ⊎ ((b : ℕ) × (p : Parcel) × (b < actor_count s) × (carries s b (places_of now b) ≡ Some p) × (p.i ≡ i)))
+        listed : (i x : ℕ) → (1 ≤ stands i (queues_of w x)) ⊎ ((out ≡ Some i) ⊎ ((b : ℕ) × (p : PendingInsert) × (b < actor_count s) × (carries s b (cursors_of w b) ≡ Some p) × (p.i ≡ i))) →
+            (1 ≤ stands i (queues_of now x)) ⊎ ((no_out ≡ Some i) ⊎ ((b : ℕ) × (p : PendingInsert) × (b < actor_count s) × (carries s b (cursors_of now b) ≡ Some p) × (p.i ≡ i)))
         listed i x (inl some) = inl (let e = stands_same i x in omega arith)
         listed i x (inr (inl removed)) = absurd (let clash : Some i ≡ None = sym removed ∙ out_none in cc)
         listed i x (inr (inr held)) = inr (inr (held.0, held.1, held.2, hands_same held.0 ∙ held.3, held.4))

@@ -28,12 +28,12 @@ use Rattle.co_program.specs.declared.Task.TheVariants.{Does, Soft}
 use Rattle.co_program.specs.declared.Role.{Role}
 use Rattle.co_program.specs.declared.Role.TheVariants.{Client, Cpu, Interrupt}
 use Rattle.co_program.specs.Stages.{Stage, Ready, Waiting, Popping, Picking, Locking, Beginning, Unlocking, Firing, Releasing, Ending, Freeing, Drained}
-use Rattle.co_program.specs.declared.Service.{Service}
+use Rattle.co_program.specs.declared.InService.{InService}
 use Rattle.co_program.specs.Cursor.{Cursor}
-use Rattle.co_program.specs.declared.Parcel.{Parcel}
+use Rattle.co_program.specs.declared.PendingInsert.{PendingInsert}
 use Rattle.co_program.specs.Action.{Silent, Take, Asks, spec_at, firing, draining, pop_of, free_of}
 use Rattle.co_program.specs.declared.Asked.TheVariants.{Callout, Queue}
-use Rattle.co_program.specs.Advance.{tail_of, act_over, called, advance_callout, drain_acts, got, popped, freed, advance_queue}
+use Rattle.co_program.specs.Advance.{tail_of, act_over, call_made, advance_callout, drain_acts, pop_answered, popped, freed, advance_queue}
 use Rattle.co_program.specs.Scripts.{IsScript, is_call}
 use Rattle.co_world.specs.Step.{are_direct}
 use Rattle.co_world.proofs.kept.Invariant.{ServerHold, HoldFits, HasActs, IsTaskOf, BeginsDrain, IsDraining, LaneFits, AreSoft, FitsRole, serves_direct, hold_within}
@@ -79,7 +79,7 @@ module _ (s : Script) (role : Role) where
 -- ---- a step without a note
 
 -- a cursor's fields
-abbrev pub place : (left : List Task) (number now : ℕ) (held : Option Held) (stage : Stage) (removed : Option ℕ) (parcel : Option Parcel) → Cursor
+abbrev pub place : (left : List Task) (number now : ℕ) (held : Option Held) (stage : Stage) (removed : Option ℕ) (parcel : Option PendingInsert) → Cursor
 place left number now held stage removed parcel = record { left = left; act = number; now = now; hold = held; stage = stage; removed = removed; parcel = parcel }
 
 -- the place fits
@@ -87,7 +87,7 @@ abbrev pub Fits : Script → Role → Cursor → Type 0
 Fits s role c = FitsRole s role c.left c.hold c.stage
 
 -- what is left after the acts of a function
-fits_firing : (s : Script) (role : Role) (left : List Task) (held to : Option Held) (stage : Stage) (v : Service) (acts : List Act) → IsServer role → to ≡ hold_within (spec_at s v.i) →
+fits_firing : (s : Script) (role : Role) (left : List Task) (held to : Option Held) (stage : Stage) (v : InService) (acts : List Act) → IsServer role → to ≡ hold_within (spec_at s v.i) →
     AllByRecursion (λ act. is_call act ≡ true) acts → is_direct (are_direct s) v.i ≡ serves_direct role → FitsRole s role left held stage → FitsRole s role left to (firing v to acts)
 fits_firing s role left held to stage v (act ∷ acts) server is calls lane fits = fits_stage s role left held to stage (Firing v (act ∷ acts)) (hold_server s role to (Firing v (act ∷ acts)) server is) calls tt lane fits
 fits_firing s role left held None stage v [] server is calls lane fits = fits_stage s role left held None stage (Ending v) (hold_server s role None (Ending v) server refl) tt tt lane fits
@@ -118,7 +118,7 @@ none_within spec is = go spec.returns_unlocked (hold_of spec.lock) (free spec.lo
   go false o h = h
 
 -- a reply that neither arms nor waits ends the act
-pub plain_called : (c : Cursor) (i : ℕ) (listed : Bool) (op : Op) (reply : Reply) → is_plain reply ≡ true → called c i listed op reply ≡ act_over c c.stage
+pub plain_called : (c : Cursor) (i : ℕ) (listed : Bool) (op : Op) (reply : Reply) → is_plain reply ≡ true → call_made c i listed op reply ≡ act_over c c.stage
 plain_called c i true op (NotArmed code) plain = refl
 plain_called c i true op NoHandler plain = refl
 plain_called c i true op Worn plain = refl
@@ -174,7 +174,7 @@ waiting_ready s (Client c) held n took h = tt
 waiting_ready s (Cpu x) held n took h = absurd h
 waiting_ready s (Interrupt x) held n took h = absurd h
 
-fits_draining : (s : Script) (role : Role) (left : List Task) (held : Option Held) (stage : Stage) (v : Service) (acts : List Act) → IsServer role → held ≡ None →
+fits_draining : (s : Script) (role : Role) (left : List Task) (held : Option Held) (stage : Stage) (v : InService) (acts : List Act) → IsServer role → held ≡ None →
     AllByRecursion (λ act. is_call act ≡ true) acts → FitsRole s role left held stage → FitsRole s role left held (draining v acts)
 fits_draining s role left held stage v [] server is calls fits = fits_stage s role left held held stage (Popping v.act) (hold_server s role held (Popping v.act) server is) tt tt tt fits
 fits_draining s role left held stage v (act ∷ acts) server is calls fits = fits_stage s role left held held stage (Drained v (act ∷ acts)) (hold_server s role held (Drained v (act ∷ acts)) server is) calls tt tt fits
@@ -197,7 +197,7 @@ free_goes s (Client k) c cpu reply = refl
 free_goes s (Cpu x) c cpu reply = refl
 free_goes s (Interrupt x) c cpu reply = refl
 
-module _ (s : Script) (ok : IsScript s) (role : Role) (left : List Task) (number now : ℕ) (held : Option Held) (removed : Option ℕ) (parcel : Option Parcel) where
+module _ (s : Script) (ok : IsScript s) (role : Role) (left : List Task) (number now : ℕ) (held : Option Held) (removed : Option ℕ) (parcel : Option PendingInsert) where
   abbrev at : Stage → Cursor
   at stage = place left number now held stage removed parcel
 
@@ -252,17 +252,17 @@ module _ (s : Script) (ok : IsScript s) (role : Role) (left : List Task) (number
   wait_fits stage act i n took took' (waits m before none) fits = record { tasks = fits.tasks; soft = fits.soft; hold = waiting_hold s role held m n before took' fits.hold; acts = tt; draining = fits.draining; lane = tt }
 
   fits_called : (stage : Stage) (act i : ℕ) (op : CallOp) (listed : Bool) (state after : State) (reply : Reply) → IsAction s role (at stage) stage (Asks act (Callout i (Call op))) → Did (spec_at s i) state (Call op) reply after →
-      is_acting stage ≡ true → FitsRole s role left held stage → Fits s role (called (at stage) i listed (Call op) reply)
+      is_acting stage ≡ true → FitsRole s role left held stage → Fits s role (call_made (at stage) i listed (Call op) reply)
   fits_called stage act i op listed state after reply view (keeps x r t same on plain none) acting fits =
       subst (Fits s role) (sym (plain_called (at stage) i listed (Call op) reply plain)) (fits_over stage acting fits)
   fits_called stage act i op listed state after reply view (clears x r t same on plain none) acting fits =
       subst (Fits s role) (sym (plain_called (at stage) i listed (Call op) reply plain)) (fits_over stage acting fits)
   fits_called stage act i op listed state after reply view (deed.waits took took' n t same on is) acting fits = waited listed where
-    waited : (b : Bool) → Fits s role (called (at stage) i b (Call (DrainTry took)) (Wait n took' (off state)))
+    waited : (b : Bool) → Fits s role (call_made (at stage) i b (Call (DrainTry took)) (Wait n took' (off state)))
     waited true = wait_fits stage act i n took took' view fits
     waited false = wait_fits stage act i n took took' view fits
   fits_called stage act i op listed state after reply view (arms x code arming t same due on) acting fits = armed listed where
-    armed : (b : Bool) → Fits s role (called (at stage) i b (Call (Plain x)) (Armed code arming.n arming.cpu (off state)))
+    armed : (b : Bool) → Fits s role (call_made (at stage) i b (Call (Plain x)) (Armed code arming.n arming.cpu (off state)))
     armed true = record { tasks = over.tasks; soft = over.soft; hold = over.hold; acts = over.acts; draining = over.draining; lane = over.lane } where
       over : Fits s role (act_over (at stage) stage)
       over = fits_over stage acting fits
@@ -303,7 +303,7 @@ module _ (s : Script) (ok : IsScript s) (role : Role) (left : List Task) (number
   -- ---- a note of a queue's
 
   fits_got : (stage : Stage) (number' : ℕ) (reply : QReply) → IsServer role → HoldFits s role held Ready → held ≡ None → ((i n time : ℕ) → reply ≡ Got i n time → is_direct (are_direct s) i ≡ serves_direct role) → FitsRole s role left held stage →
-      (m : ℕ) → Fits s role (got (place left m now held stage removed parcel) number' reply)
+      (m : ℕ) → Fits s role (pop_answered (place left m now held stage removed parcel) number' reply)
   fits_got stage number (Got i n time) server ready none lane fits m =
       fits_stage s role left held held stage (Picking (record { act = number; i = i; n = n; at = time })) (hold_server s role held (Picking (record { act = number; i = i; n = n; at = time })) server none) tt tt (lane i n time refl) fits
   fits_got stage number (At time) server ready none lane fits m = fits_ready s role left held held stage ready fits

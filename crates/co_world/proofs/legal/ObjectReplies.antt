@@ -22,7 +22,7 @@ use Rattle.co_program.specs.Action.{spec_at}
 use Rattle.co_program.specs.declared.Asked.{Asked}
 use Rattle.co_program.specs.declared.Asked.TheVariants.{Callout, Queue, Itself}
 use Rattle.co_world.specs.World.{World, Timer, Cpu, open_world, with_cursor}
-use Rattle.co_world.specs.Step.{landed, are_direct, callout_answers, queue_answers, answered}
+use Rattle.co_world.specs.Step.{landed, are_direct, callout_answers, queue_answers, world_answers}
 use Rattle.co_world.specs.Laws.{HaveReplies, reached}
 use Rattle.co_world.proofs.basics.Updates.{at_updated}
 use Rattle.co_world.proofs.schedules.AnyAnswers.{run_keeps}
@@ -100,7 +100,7 @@ replied_queue s w a act cpu op (Some outcome) steps replied =
           (cpu_more s a act op (w.cpus cpu) outcome steps (replied.cpus cpu)) (replied.cpus j);
     }
 
-replied_answer : (s : Script) (w : World) (a act : ℕ) (asked : Asked) → ⊤ → Replied s w → Replied s (answered s w a act asked)
+replied_answer : (s : Script) (w : World) (a act : ℕ) (asked : Asked) → ⊤ → Replied s w → Replied s (world_answers s w a act asked)
 replied_answer s w a act (Callout i op) may replied = replied_callout s w a act i op (callout_step (spec_at s i) (w.timers i).state op) refl replied
 replied_answer s w a act (Queue cpu op) may replied = replied_queue s w a act cpu op (queue_step s.buckets (are_direct s) (w.cpus cpu).queue op) refl replied
 replied_answer s w a act (Itself kind) may replied = record { timers = replied.timers; cpus = replied.cpus }

@@ -23,14 +23,14 @@ use Rattle.co_program.specs.declared.Task.{Task}
 use Rattle.co_program.specs.declared.Task.TheVariants.{Does}
 use Rattle.co_program.specs.declared.Role.{Role}
 use Rattle.co_program.specs.Stages.{Stage, Ready, Waiting, Picking, Unlocking, Firing, Drained}
-use Rattle.co_program.specs.declared.Service.{Service}
+use Rattle.co_program.specs.declared.InService.{InService}
 use Rattle.co_program.specs.Cursor.{Cursor}
-use Rattle.co_program.specs.declared.Parcel.{Parcel}
+use Rattle.co_program.specs.declared.PendingInsert.{PendingInsert}
 use Rattle.co_program.specs.Action.{Silent, Take, Asks, drained_of, firing, draining, spec_at}
 use Rattle.co_program.specs.declared.Asked.TheVariants.{Callout, Itself}
-use Rattle.co_program.specs.Advance.{tail_of, act_over, called, due_of_call, advance_callout, drain_acts}
+use Rattle.co_program.specs.Advance.{tail_of, act_over, call_made, due_of_call, advance_callout, drain_acts}
 use Rattle.co_world.specs.Blocked.{is_service_of}
-use Rattle.co_world.specs.Measure.{longest, steps_of, most_steps, whole_round, round_left, whole_act, tries, acts_left, one_for, actor_left}
+use Rattle.co_world.specs.Measure.{longest, steps_for, most_steps, whole_round, round_left, whole_act, tries, steps_left, one_for, actor_left}
 use Rattle.co_world.proofs.basics.Updates.{cond_kept}
 use Rattle.co_world.proofs.basics.Actions.{IsAction, drops, passes, grabs, tells, asks, drains, waits, waits_told, picks, enters, opens, unlocks, fires, fires_told, releases, ends, serves, serves_told}
 use Rattle.co_world.proofs.kept.Operations.{Did, keeps, clears, arms, holds, goes, skips}
@@ -44,7 +44,7 @@ unfolding whole_act
 three_left s = omega arith
 
 -- a callout that has come due has a step more than its Pick
-pub round_pick : (s : Script) (v : Service) → whole_round s ≡ round_left s (Picking v) + 1
+pub round_pick : (s : Script) (v : InService) → whole_round s ≡ round_left s (Picking v) + 1
 unfolding whole_round
 round_pick s v = omega arith
 
@@ -78,19 +78,19 @@ longest_drain s None = omega arith
 longest_drain s (Some func) = longest_at s.funcs func
 
 module _ (s : Script) (states : ℕ → State) (left : List Task) where
-  firing_left : (v : Service) (held : Option Held) (acts : List Act) → acts_left s states left (firing v held acts) ≤ whole_act s * length (tail_of left) + 1 + (steps_of acts + most_steps s + 4)
+  firing_left : (v : InService) (held : Option Held) (acts : List Act) → steps_left s states left (firing v held acts) ≤ whole_act s * length (tail_of left) + 1 + (steps_for acts + most_steps s + 4)
   firing_left v held (act ∷ acts) = omega arith
   firing_left v None [] = omega arith
   firing_left v (Some x) [] = omega arith
 
-  pub draining_left : (v : Service) (acts : List Act) → acts_left s states left (draining v acts) ≤ whole_act s * length (tail_of left) + 1 + steps_of acts
+  pub draining_left : (v : InService) (acts : List Act) → steps_left s states left (draining v acts) ≤ whole_act s * length (tail_of left) + 1 + steps_for acts
   draining_left v [] = omega arith
   draining_left v (act ∷ acts) = omega arith
 
 -- ---- what the callouts' runs change of an actor's drain
 
 module _ (s : Script) (states after : ℕ → State) (more : ℕ) (eased : (i n : ℕ) → tries n (serviced (after i).run) ≤ tries n (serviced (states i).run) + more) where
-  acts_eased : (left : List Task) (stage : Stage) → acts_left s after left stage ≤ acts_left s states left stage + more
+  acts_eased : (left : List Task) (stage : Stage) → steps_left s after left stage ≤ steps_left s states left stage + more
   acts_eased left (Waiting n took) = let h = eased (drained_of left) n in omega arith
   acts_eased left stage = omega arith
 
@@ -114,8 +114,8 @@ HasWaited state stage = ⊤
 -- ---- where a call leaves an actor
 
 -- the act is over, or the drain waits, or the callout is on its way
-pub called_kept : (P : Cursor → Type 0) (c : Cursor) (i : ℕ) → P (act_over c c.stage) → ((n : ℕ) (took : Bool) → P (record c { stage = Waiting n took })) → ((p : Parcel) → p.i ≡ i → P (record (act_over c c.stage) { parcel = Some p })) →
-    (listed : Bool) (op : Op) (reply : Reply) → P (called c i listed op reply)
+pub called_kept : (P : Cursor → Type 0) (c : Cursor) (i : ℕ) → P (act_over c c.stage) → ((n : ℕ) (took : Bool) → P (record c { stage = Waiting n took })) → ((p : PendingInsert) → p.i ≡ i → P (record (act_over c c.stage) { parcel = Some p })) →
+    (listed : Bool) (op : Op) (reply : Reply) → P (call_made c i listed op reply)
 called_kept P c i over wait sent true op (Wait n took off) = wait n took
 called_kept P c i over wait sent false op (Wait n took off) = wait n took
 called_kept P c i over wait sent true op (Armed code n cpu off) = sent (record { act = c.act; i = i; n = n; due = due_of_call op; cpu = cpu }) refl
@@ -123,7 +123,7 @@ called_kept P c i over wait sent listed op reply = over
 
 -- ---- each step
 
-module _ (s : Script) (role : Role) (left : List Task) (number now : ℕ) (held : Option Held) (removed : Option ℕ) (parcel : Option Parcel) (states after : ℕ → State) where
+module _ (s : Script) (role : Role) (left : List Task) (number now : ℕ) (held : Option Held) (removed : Option ℕ) (parcel : Option PendingInsert) (states after : ℕ → State) where
   abbrev at : Stage → Cursor
   at stage = place left number now held stage removed parcel
 
@@ -145,10 +145,10 @@ module _ (s : Script) (role : Role) (left : List Task) (number now : ℕ) (held 
   over_ready : (task : Task) (more : List Task) → left ≡ task ∷ more → Leaves Ready (act_over (at Ready) Ready) 2
   over_ready task more is = omega (arith, one_tail s left more task is, three_left s)
 
-  over_firing : (v : Service) (act : Act) (acts : List Act) → Leaves (Firing v (act ∷ acts)) (act_over (at (Firing v (act ∷ acts))) (Firing v (act ∷ acts))) 2
+  over_firing : (v : InService) (act : Act) (acts : List Act) → Leaves (Firing v (act ∷ acts)) (act_over (at (Firing v (act ∷ acts))) (Firing v (act ∷ acts))) 2
   over_firing v act acts = omega (arith, firing_left s after left v held acts)
 
-  over_drained : (v : Service) (act : Act) (acts : List Act) → Leaves (Drained v (act ∷ acts)) (act_over (at (Drained v (act ∷ acts))) (Drained v (act ∷ acts))) 2
+  over_drained : (v : InService) (act : Act) (acts : List Act) → Leaves (Drained v (act ∷ acts)) (act_over (at (Drained v (act ∷ acts))) (Drained v (act ∷ acts))) 2
   over_drained v act acts = omega (arith, draining_left s after left v acts)
 
   over_waiting : (n : ℕ) (took : Bool) → Leaves (Waiting n took) (act_over (at (Waiting n took)) (Waiting n took)) 1
@@ -161,21 +161,21 @@ module _ (s : Script) (role : Role) (left : List Task) (number now : ℕ) (held 
   own_leaves stage act kind (serves_told v x acts k) = let h = over_drained v x acts in omega arith
 
   -- a call, at a stage whose act leaves two less
-  call_by : (stage : Stage) → Leaves stage (act_over (at stage) stage) 2 → ((n : ℕ) (took : Bool) → Leaves stage (at (Waiting n took)) 1) → (i : ℕ) (listed : Bool) (op : Op) (reply : Reply) → Leaves stage (called (at stage) i listed op reply) 1
+  call_by : (stage : Stage) → Leaves stage (act_over (at stage) stage) 2 → ((n : ℕ) (took : Bool) → Leaves stage (at (Waiting n took)) 1) → (i : ℕ) (listed : Bool) (op : Op) (reply : Reply) → Leaves stage (call_made (at stage) i listed op reply) 1
   call_by stage over wait i listed op reply = called_kept (λ (to : Cursor). Leaves stage to 1) (at stage) i (omega arith) wait (λ p is. omega arith) listed op reply
 
   wait_ready : (task : Task) (more : List Task) → left ≡ task ∷ more → (n : ℕ) (took : Bool) → Leaves Ready (at (Waiting n took)) 1
   wait_ready task more is n took = omega (arith, one_tail s left more task is, three_left s, tried n (serviced (after (drained_of left)).run))
 
-  wait_firing : (v : Service) (act : Act) (acts : List Act) (n : ℕ) (took : Bool) → Leaves (Firing v (act ∷ acts)) (at (Waiting n took)) 1
+  wait_firing : (v : InService) (act : Act) (acts : List Act) (n : ℕ) (took : Bool) → Leaves (Firing v (act ∷ acts)) (at (Waiting n took)) 1
   wait_firing v act acts n took = omega (arith, tried n (serviced (after (drained_of left)).run))
 
-  wait_drained : (v : Service) (act : Act) (acts : List Act) (n : ℕ) (took : Bool) → Leaves (Drained v (act ∷ acts)) (at (Waiting n took)) 1
+  wait_drained : (v : InService) (act : Act) (acts : List Act) (n : ℕ) (took : Bool) → Leaves (Drained v (act ∷ acts)) (at (Waiting n took)) 1
   wait_drained v act acts n took = omega (arith, tried n (serviced (after (drained_of left)).run))
 
   -- a try of a drain that no longer waits for the arming of its last Wait
   drain_leaves : (n : ℕ) (took listed : Bool) (op : CallOp) (reply : Reply) (t : State) → op ≡ DrainTry took → Did (spec_at s (drained_of left)) (states (drained_of left)) (Call op) reply t → after (drained_of left) ≡ t →
-      is_service_of n (serviced (states (drained_of left)).run) ≡ false → Leaves (Waiting n took) (called (at (Waiting n took)) (drained_of left) listed (Call op) reply) 1
+      is_service_of n (serviced (states (drained_of left)).run) ≡ false → Leaves (Waiting n took) (call_made (at (Waiting n took)) (drained_of left) listed (Call op) reply) 1
   drain_leaves n took listed op reply t is (keeps x r u same on plain stays) now_is free =
       subst (λ (to : Cursor). Leaves (Waiting n took) to 1) (sym (plain_called (at (Waiting n took)) (drained_of left) listed (Call op) reply plain)) (over_waiting n took)
   drain_leaves n took listed op reply t is (clears x r u gone on plain same) now_is free =
@@ -196,7 +196,7 @@ module _ (s : Script) (role : Role) (left : List Task) (number now : ℕ) (held 
     again : Leaves (Waiting n took) (at (Waiting m k')) 1
     again = let a = one in let b = two in omega arith
 
-    waited : (b : Bool) → Leaves (Waiting n took) (called (at (Waiting n took)) i b (Call (DrainTry k)) (Wait m k' (off (states i)))) 1
+    waited : (b : Bool) → Leaves (Waiting n took) (call_made (at (Waiting n took)) i b (Call (DrainTry k)) (Wait m k' (off (states i)))) 1
     waited true = again
     waited false = again
   drain_leaves n took listed op reply t is (arms x code arming u armed due on) now_is free = cc

@@ -29,15 +29,15 @@ use Rattle.co_program.specs.Actors.{role_of, cpu_of, actor_count}
 use Rattle.co_program.specs.declared.Role.{Role}
 use Rattle.co_program.specs.Stages.{Stage}
 use Rattle.co_program.specs.Cursor.{Cursor}
-use Rattle.co_program.specs.declared.Parcel.{Parcel}
+use Rattle.co_program.specs.declared.PendingInsert.{PendingInsert}
 use Rattle.co_program.specs.Action.{Silent, Take, Asks, action_for, spec_at}
 use Rattle.co_program.specs.declared.Asked.TheVariants.{Callout, Queue, Itself}
 use Rattle.co_program.specs.Advance.{act_over, advance_callout, advance_queue}
 use Rattle.co_world.specs.World.{World, with_cursor}
-use Rattle.co_world.specs.Step.{enters, note_of, callout_answers, enters_journal, note_of_cpu, queue_answers, note_of_own, own_note, are_direct, answered}
+use Rattle.co_world.specs.Step.{enters, note_of, callout_answers, enters_journal, note_of_cpu, queue_answers, note_of_own, own_note, are_direct, world_answers}
 use Rattle.co_world.specs.Measure.{tries, actor_left, queue_left, one_for, measure}
-use Rattle.co_world.proofs.kept.Invariant.{IsTaken, states_of, queues_of, places_of}
-use Rattle.co_world.proofs.basics.Changes.{IsAt, at_all, place_at, note_at, queue_at, state_at, states_landed}
+use Rattle.co_world.proofs.kept.Invariant.{IsTaken, states_of, queues_of, cursors_of}
+use Rattle.co_world.proofs.basics.Changes.{IsAt, at_all, cursor_at, note_at, queue_at, state_at, states_landed}
 use Rattle.co_world.proofs.basics.Actions.{IsAction, IsActionWith, inserts, goes_by, scans, starts, pops, frees}
 use Rattle.co_world.proofs.kept.Operations.{Did, keeps, clears, arms, holds, goes, skips, did, did_call}
 use Rattle.co_world.proofs.kept.Operations as deed
@@ -79,7 +79,7 @@ given_spread s (Serve (End n cpu)) = total_of_zeros 0 (actor_count s)
 -- ---- the two sums
 
 abbrev pub all_actors_left : Script → World → ℕ
-all_actors_left s w = total (λ a. actor_left s (states_of w) (places_of w a)) 0 (actor_count s)
+all_actors_left s w = total (λ a. actor_left s (states_of w) (cursors_of w a)) 0 (actor_count s)
 
 abbrev pub all_queues_left : Script → World → ℕ
 all_queues_left s w = total (λ cpu. queue_left s (queues_of w cpu)) 0 s.cpus
@@ -89,14 +89,14 @@ measured s w = refl
 
 module _ (s : Script) (w w' : World) where
   -- one actor moves, and the callouts give the others this much
-  actors_change : (a : ℕ) (to : Cursor) (op : Op) → a < actor_count s → IsAt (places_of w) a to (places_of w') →
+  actors_change : (a : ℕ) (to : Cursor) (op : Op) → a < actor_count s → IsAt (cursors_of w) a to (cursors_of w') →
       ((i n : ℕ) → tries n (serviced (states_of w' i).run) ≤ tries n (serviced (states_of w i).run) + given op) →
-      all_actors_left s w' + actor_left s (states_of w) (places_of w a) ≤ all_actors_left s w + spread s op + actor_left s (states_of w') to
+      all_actors_left s w' + actor_left s (states_of w) (cursors_of w a) ≤ all_actors_left s w + spread s op + actor_left s (states_of w') to
   actors_change a to op may at eased =
-      let old : ℕ → ℕ = λ b. actor_left s (states_of w) (places_of w b) in
-      let new : ℕ → ℕ = λ b. actor_left s (states_of w') (places_of w' b) in
+      let old : ℕ → ℕ = λ b. actor_left s (states_of w) (cursors_of w b) in
+      let new : ℕ → ℕ = λ b. actor_left s (states_of w') (cursors_of w' b) in
       let other : (b : ℕ) → (b ≡ a → ⊥) → new b ≤ old b + given op = λ b else.
-      subst (λ (c : Cursor). actor_left s (states_of w') c ≤ old b + given op) (sym (at.else b else)) (actor_eased s (states_of w) (states_of w') (given op) eased (places_of w b)) in
+      subst (λ (c : Cursor). actor_left s (states_of w') c ≤ old b + given op) (sym (at.else b else)) (actor_eased s (states_of w) (states_of w') (given op) eased (cursors_of w b)) in
       let sum : total new 0 (actor_count s) + old a ≤ total old 0 (actor_count s) + total (λ b. given op) 0 (actor_count s) + new a =
       total_at old new (λ b. given op) 0 (actor_count s) a (omega arith) (omega arith) other in
       let here : new a ≡ actor_left s (states_of w') to = ap (actor_left s (states_of w')) at.here in
@@ -119,7 +119,7 @@ module _ (s : Script) (w w' : World) where
 
 module _ (s : Script) (w : World) (a : ℕ) (may : a < actor_count s) where
   abbrev c : Cursor
-  c = places_of w a
+  c = cursors_of w a
 
   abbrev role : Role
   role = role_of s a
@@ -129,29 +129,29 @@ module _ (s : Script) (w : World) (a : ℕ) (may : a < actor_count s) where
   HasFallen w' = measure s w' < measure s w
 
   -- a step that changes no queue and no callout
-  placed : (w' : World) (to : Cursor) → IsAt (places_of w) a to (places_of w') → ((i : ℕ) → states_of w' i ≡ states_of w i) → ((x : ℕ) → queues_of w' x ≡ queues_of w x) → actor_left s (states_of w') to + 1 ≤ actor_left s (states_of w) c → HasFallen w'
+  placed : (w' : World) (to : Cursor) → IsAt (cursors_of w) a to (cursors_of w') → ((i : ℕ) → states_of w' i ≡ states_of w i) → ((x : ℕ) → queues_of w' x ≡ queues_of w x) → actor_left s (states_of w') to + 1 ≤ actor_left s (states_of w) c → HasFallen w'
   placed w' to at states queues leaves =
       let actors = actors_change s w w' a to (Serve (End 0 0)) may at (λ i n. (let e : tries n (serviced (states_of w' i).run) ≡ tries n (serviced (states_of w i).run) = ap (λ (x : State). tries n (serviced x.run)) (states i) in omega arith)) in
       let rest = queues_fall s w w' (λ x. (let e : queue_left s (queues_of w' x) ≡ queue_left s (queues_of w x) = ap (queue_left s) (queues x) in omega arith)) in
       omega (arith, actors, rest, leaves)
 
-  silent_view : (parcel : Option Parcel) (to : Cursor) → IsActionWith s role c parcel (Silent to) → IsAction s role c c.stage (Silent to)
+  silent_view : (parcel : Option PendingInsert) (to : Cursor) → IsActionWith s role c parcel (Silent to) → IsAction s role c c.stage (Silent to)
   silent_view parcel to (goes_by due view) = view
 
-  take_view : (parcel : Option Parcel) (held : Held) (to : Cursor) → IsActionWith s role c parcel (Take held to) → IsAction s role c c.stage (Take held to)
+  take_view : (parcel : Option PendingInsert) (held : Held) (to : Cursor) → IsActionWith s role c parcel (Take held to) → IsAction s role c c.stage (Take held to)
   take_view parcel held to (goes_by due view) = view
 
-  own_view : (parcel : Option Parcel) (act : ℕ) (kind : OwnKind) → IsActionWith s role c parcel (Asks act (Itself kind)) → IsAction s role c c.stage (Asks act (Itself kind))
+  own_view : (parcel : Option PendingInsert) (act : ℕ) (kind : OwnKind) → IsActionWith s role c parcel (Asks act (Itself kind)) → IsAction s role c c.stage (Asks act (Itself kind))
   own_view parcel act kind (goes_by due view) = view
 
   pub silent_falls : (to : Cursor) → action_for s a c ≡ Silent to → HasFallen (with_cursor w a to)
   silent_falls to is =
-      placed (with_cursor w a to) to (place_at w a to) (λ i. refl) (λ x. refl)
+      placed (with_cursor w a to) to (cursor_at w a to) (λ i. refl) (λ x. refl)
       (silent_leaves s role c.left c.act c.now c.hold c.removed c.parcel (states_of w) (states_of w) c.stage to (silent_view c.parcel to (view_of s a c (Silent to) is)))
 
   pub take_falls : (held : Held) (to : Cursor) → action_for s a c ≡ Take held to → HasFallen (with_cursor w a to)
   take_falls held to is =
-      placed (with_cursor w a to) to (place_at w a to) (λ i. refl) (λ x. refl)
+      placed (with_cursor w a to) to (cursor_at w a to) (λ i. refl) (λ x. refl)
       (take_leaves s role c.left c.act c.now c.hold c.removed c.parcel (states_of w) (states_of w) c.stage to held (take_view c.parcel held to (view_of s a c (Take held to) is)))
 
   -- ---- a note of the actor's own
@@ -181,7 +181,7 @@ module _ (s : Script) (w : World) (a : ℕ) (may : a < actor_count s) where
       let rest = queues_fall s w w' (λ x. omega arith) in
       omega (arith, actors, rest, leaves)
 
-  pub call_falls : (act i : ℕ) (op : CallOp) → action_for s a c ≡ Asks act (Callout i (Call op)) → HasWaited (states_of w i) c.stage → HasFallen (answered s w a act (Callout i (Call op)))
+  pub call_falls : (act i : ℕ) (op : CallOp) → action_for s a c ≡ Asks act (Callout i (Call op)) → HasWaited (states_of w i) c.stage → HasFallen (world_answers s w a act (Callout i (Call op)))
   call_falls act i op is free =
       let o : State × Reply = call (states_of w i) op in
       let happened : Did (spec_at s i) (states_of w i) (Call op) o.1 o.0 = did_call (spec_at s i) (states_of w i) op in
@@ -202,8 +202,8 @@ module _ (s : Script) (w : World) (a : ℕ) (may : a < actor_count s) where
   queue_after : (act cpu : ℕ) (op : QOp) (o : TimerQueue × QReply) → IsAt (queues_of w) cpu o.0 (queues_of (Entered act cpu op o))
   queue_after act cpu op o = queue_at w cpu o.0 (record { actor = a; act = act; op = op; reply = o.1 })
 
-  place_after : (act cpu : ℕ) (op : QOp) (o : TimerQueue × QReply) → IsAt (places_of w) a (advance_queue s c cpu op o.1) (places_of (Entered act cpu op o))
-  place_after act cpu op o =
+  cursor_put : (act cpu : ℕ) (op : QOp) (o : TimerQueue × QReply) → IsAt (cursors_of w) a (advance_queue s c cpu op o.1) (cursors_of (Entered act cpu op o))
+  cursor_put act cpu op o =
       let made : QEntry = record { actor = a; act = act; op = op; reply = o.1 } in note_at s (enters_journal w cpu o.0 made) a false (note_of_cpu w cpu made)
 
   still : (act cpu : ℕ) (op : QOp) (o : TimerQueue × QReply) → (j n : ℕ) → tries n (serviced (states_of (Entered act cpu op o) j).run) ≤ tries n (serviced (states_of w j).run) + 0
@@ -216,27 +216,27 @@ module _ (s : Script) (w : World) (a : ℕ) (may : a < actor_count s) where
   quiet_falls : (act cpu : ℕ) (op : QOp) (o : TimerQueue × QReply) → crowd o.0 ≤ crowd (queues_of w cpu) → (less : ℕ) → actor_left s (states_of w) (advance_queue s c cpu op o.1) + less ≤ actor_left s (states_of w) c → measure s (Entered act cpu op o) + less ≤ measure s w
   quiet_falls act cpu op o few less leaves =
       let w' : World = Entered act cpu op o in
-      let actors = actors_change s w w' a (advance_queue s c cpu op o.1) (Serve (End 0 0)) may (place_after act cpu op o) (still act cpu op o) in
+      let actors = actors_change s w w' a (advance_queue s c cpu op o.1) (Serve (End 0 0)) may (cursor_put act cpu op o) (still act cpu op o) in
       let rest = queues_fall s w w' (at_all (λ x (q : TimerQueue). queue_left s q ≤ queue_left s (queues_of w x)) (queues_of w) cpu o.0 (queues_of w') (queue_after act cpu op o) (queue_falls s (queues_of w cpu) o.0 few) (λ x other. omega arith)) in
       omega (arith, actors, rest, leaves, same_left act cpu op o (advance_queue s c cpu op o.1))
 
   -- a Remove leaves its actor what it had to do
-  pub remove_stays : (act cpu i : ℕ) → measure s (answered s w a act (Queue cpu (Remove i))) ≤ measure s w
+  pub remove_stays : (act cpu i : ℕ) → measure s (world_answers s w a act (Queue cpu (Remove i))) ≤ measure s w
   remove_stays act cpu i =
       let gone : TimerQueue × QReply = journal.remove (queues_of w cpu) i in
       let h = quiet_falls act cpu (Remove i) gone (crowd_falls s.buckets (are_direct s) (queues_of w cpu) (Remove i) gone.1 gone.0 (changed s.buckets (are_direct s) (queues_of w cpu) (Remove i) gone refl) refl) 0 (omega arith) in
       omega arith
 
-  insert_falls : (p : Parcel) (o : TimerQueue × QReply) → c.parcel ≡ Some p → QChange s.buckets (are_direct s) (queues_of w p.cpu) (Insert p.i p.n p.due) o.1 o.0 → HasFallen (Entered p.act p.cpu (Insert p.i p.n p.due) o)
+  insert_falls : (p : PendingInsert) (o : TimerQueue × QReply) → c.parcel ≡ Some p → QChange s.buckets (are_direct s) (queues_of w p.cpu) (Insert p.i p.n p.due) o.1 o.0 → HasFallen (Entered p.act p.cpu (Insert p.i p.n p.due) o)
   insert_falls p o is change =
-      let one : one_for c.parcel ≡ 1 = ap (λ (x : Option Parcel). one_for x) is in
+      let one : one_for c.parcel ≡ 1 = ap (λ (x : Option PendingInsert). one_for x) is in
       let h = quiet_falls p.act p.cpu (Insert p.i p.n p.due) o (crowd_falls s.buckets (are_direct s) (queues_of w p.cpu) (Insert p.i p.n p.due) o.1 o.0 change refl) 1 (omega (arith, one)) in
       omega (arith, h)
 
   at_stage_falls : (act cpu : ℕ) (op : QOp) (o : TimerQueue × QReply) → cpu < s.cpus → IsAction s role c c.stage (Asks act (Queue cpu op)) → QChange s.buckets (are_direct s) (queues_of w cpu) op o.1 o.0 → (is_scan op ≡ true → crowd o.0 ≤ length s.timers) → HasFallen (Entered act cpu op o)
   at_stage_falls act cpu op o exists view change few =
       let w' : World = Entered act cpu op o in
-      let actors = actors_change s w w' a (advance_queue s c cpu op o.1) (Serve (End 0 0)) may (place_after act cpu op o) (still act cpu op o) in
+      let actors = actors_change s w w' a (advance_queue s c cpu op o.1) (Serve (End 0 0)) may (cursor_put act cpu op o) (still act cpu op o) in
       let queues = queues_change s w w' cpu o.0 exists (queue_after act cpu op o) in
       let leaves = queue_leaves s role c.left c.act c.now c.hold c.removed c.parcel (states_of w) s.buckets (are_direct s) (queues_of w cpu) o.0 c.stage act cpu op o.1 view change few in
       omega (arith, actors, queues, leaves, same_left act cpu op o (advance_queue s c cpu op o.1))
@@ -248,7 +248,7 @@ module _ (s : Script) (w : World) (a : ℕ) (may : a < actor_count s) where
   asks_own stage act cpu op (pops act') = refl
   asks_own stage act cpu op (frees v drain next) = refl
 
-  queue_at_falls : (act cpu : ℕ) (op : QOp) (o : TimerQueue × QReply) (parcel : Option Parcel) → cpu_of s role < s.cpus → c.parcel ≡ parcel → IsActionWith s role c parcel (Asks act (Queue cpu op)) → QChange s.buckets (are_direct s) (queues_of w cpu) op o.1 o.0 →
+  queue_at_falls : (act cpu : ℕ) (op : QOp) (o : TimerQueue × QReply) (parcel : Option PendingInsert) → cpu_of s role < s.cpus → c.parcel ≡ parcel → IsActionWith s role c parcel (Asks act (Queue cpu op)) → QChange s.buckets (are_direct s) (queues_of w cpu) op o.1 o.0 →
       (is_scan op ≡ true → crowd o.0 ≤ length s.timers) → HasFallen (Entered act cpu op o)
   queue_at_falls act cpu op o parcel exists is (inserts p) change few = insert_falls p o is change
   queue_at_falls act cpu op o parcel exists is (goes_by due view) change few = at_stage_falls act cpu op o (subst (λ (x : ℕ). x < s.cpus) (sym (asks_own c.stage act cpu op view)) exists) view change few

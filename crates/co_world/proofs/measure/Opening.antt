@@ -15,7 +15,7 @@ use Rattle.co_world.specs.World.{open_world}
 use Rattle.co_world.specs.Measure.{longest, whole_round, whole_act, actor_left, measure}
 use Rattle.co_world.specs.Laws.{OpeningFits}
 use Rattle.co_world.proofs.basics.Updates.{cond_kept}
-use Rattle.co_world.proofs.kept.Invariant.{states_of, places_of}
+use Rattle.co_world.proofs.kept.Invariant.{states_of, cursors_of}
 use Rattle.co_world.proofs.kept.BySchedules.{length_softs}
 use Rattle.co_world.proofs.basics.Sums.{total_most}
 use Rattle.co_world.proofs.measure.Answers.{all_actors_left, all_queues_left, measured}
@@ -47,13 +47,13 @@ module _ (s : Script) (ok : IsScript s) where
   unfolding whole_act
   short_act = let h : length s.timers * whole_round s ≤ 1024 * 16442 = mul-le-mul ok.timers.1 short_round in omega arith
 
-  short_actor : (a : ℕ) → actor_left s (states_of (open_world s)) (places_of (open_world s) a) ≤ 16836611 * 65536
+  short_actor : (a : ℕ) → actor_left s (states_of (open_world s)) (cursors_of (open_world s) a) ≤ 16836611 * 65536
   short_actor a = let h : whole_act s * length (program_of s (role_of s a)) ≤ 16836611 * 65536 = mul-le-mul short_act (short_program (role_of s a)) in omega arith
 
   pub opening_fits_at : measure s (open_world s) < 2 ^ 64
   opening_fits_at =
       let most : ℕ = 16836611 * 65536 in
-      let actors : all_actors_left s (open_world s) ≤ actor_count s * most = total_most (λ a. actor_left s (states_of (open_world s)) (places_of (open_world s) a)) most short_actor 0 (actor_count s) in
+      let actors : all_actors_left s (open_world s) ≤ actor_count s * most = total_most (λ a. actor_left s (states_of (open_world s)) (cursors_of (open_world s) a)) most short_actor 0 (actor_count s) in
       let queues : all_queues_left s (open_world s) ≤ s.cpus * 0 = total_most (λ x. whole_round s * 0) 0 (λ x. omega arith) 0 s.cpus in
       let all : actor_count s * most ≤ 48 * most = mul-le-mul_right most few_actors in
       omega (arith, measured s (open_world s), actors, queues, all)

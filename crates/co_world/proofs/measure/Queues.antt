@@ -19,13 +19,13 @@ use Rattle.co_program.specs.declared.Task.TheVariants.{Does, Soft}
 use Rattle.co_program.specs.declared.Role.{Role}
 use Rattle.co_program.specs.declared.Role.TheVariants.{Client, Cpu, Interrupt}
 use Rattle.co_program.specs.Stages.{Stage, Ready, Popping, Freeing}
-use Rattle.co_program.specs.declared.Service.{Service}
+use Rattle.co_program.specs.declared.InService.{InService}
 use Rattle.co_program.specs.Cursor.{Cursor}
-use Rattle.co_program.specs.declared.Parcel.{Parcel}
+use Rattle.co_program.specs.declared.PendingInsert.{PendingInsert}
 use Rattle.co_program.specs.Action.{Asks, pop_of, free_of}
 use Rattle.co_program.specs.declared.Asked.TheVariants.{Queue}
-use Rattle.co_program.specs.Advance.{tail_of, advance_queue, got, drain_acts, parcel_of}
-use Rattle.co_world.specs.Measure.{whole_round, whole_act, acts_left, actor_left, queue_left}
+use Rattle.co_program.specs.Advance.{tail_of, advance_queue, pop_answered, drain_acts, parcel_of}
+use Rattle.co_world.specs.Measure.{whole_round, whole_act, steps_left, actor_left, queue_left}
 use Rattle.co_world.proofs.basics.Actions.{IsAction, scans, starts, pops, frees}
 use Rattle.co_world.proofs.kept.Stages.{place, pop_goes, free_goes}
 use Rattle.co_world.proofs.measure.Actors.{three_left, round_pick, one_tail, at_most_one, draining_left, longest_drain}
@@ -102,7 +102,7 @@ free_scans_none (Client k) = refl
 free_scans_none (Cpu x) = refl
 free_scans_none (Interrupt x) = refl
 
-module _ (s : Script) (role : Role) (left : List Task) (number now : ℕ) (held : Option Held) (removed : Option ℕ) (parcel : Option Parcel) (states : ℕ → State) where
+module _ (s : Script) (role : Role) (left : List Task) (number now : ℕ) (held : Option Held) (removed : Option ℕ) (parcel : Option PendingInsert) (states : ℕ → State) where
   abbrev at : Stage → Cursor
   at stage = place left number now held stage removed parcel
 
@@ -110,9 +110,9 @@ module _ (s : Script) (role : Role) (left : List Task) (number now : ℕ) (held 
   abbrev Leave : TimerQueue → TimerQueue → Stage → Cursor → Type 0
   Leave q t stage to = actor_left s states to + queue_left s t + 1 ≤ actor_left s states (at stage) + queue_left s q
 
-  got_leaves : (m : ℕ) (direct : List Bool) (q : TimerQueue) (reply : QReply) (t : TimerQueue) (n act : ℕ) (stage : Stage) → HasPopped m direct q reply t → whole_act s * length (tail_of left) + 1 ≤ acts_left s states left stage → Leave q t stage (got (place left n now held stage removed parcel) act reply)
+  got_leaves : (m : ℕ) (direct : List Bool) (q : TimerQueue) (reply : QReply) (t : TimerQueue) (n act : ℕ) (stage : Stage) → HasPopped m direct q reply t → whole_act s * length (tail_of left) + 1 ≤ steps_left s states left stage → Leave q t stage (pop_answered (place left n now held stage removed parcel) act reply)
   got_leaves m direct q reply t n act stage (one i k time u fewer) begun =
-      let v : Service = record { act = act; i = i; n = k; at = time } in
+      let v : InService = record { act = act; i = i; n = k; at = time } in
       let before : whole_round s * crowd q ≡ whole_round s * crowd u + whole_round s = ap (λ (x : ℕ). whole_round s * x) fewer ∙ mul-suc (whole_round s) (crowd u) in
       omega (arith, before, round_pick s v, begun)
   got_leaves m direct q reply t n act stage empty begun = omega (arith, begun)

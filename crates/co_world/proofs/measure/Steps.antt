@@ -21,7 +21,7 @@ use Rattle.co_program.specs.declared.Task.TheVariants.{Soft}
 use Rattle.co_program.specs.declared.Role.{Role}
 use Rattle.co_program.specs.Stages.{Stage, Waiting, Popping}
 use Rattle.co_program.specs.Cursor.{Cursor}
-use Rattle.co_program.specs.declared.Parcel.{Parcel}
+use Rattle.co_program.specs.declared.PendingInsert.{PendingInsert}
 use Rattle.co_program.specs.Action.{Action, Nothing, Silent, Take, Asks, action_for, spec_at}
 use Rattle.co_program.specs.declared.Asked.{Asked}
 use Rattle.co_program.specs.declared.Asked.TheVariants.{Callout, Queue, Itself}
@@ -31,10 +31,10 @@ use Rattle.co_world.specs.declared.turn.Why.{Why}
 use Rattle.co_world.specs.declared.turn.Why.TheVariants.{Moving, Serviced}
 use Rattle.co_world.specs.World.{World}
 use Rattle.co_world.specs.Blocked.{blocked, waits_for, is_moving, is_waiting}
-use Rattle.co_world.specs.Step.{callout_answers, queue_answers, enters_journal, note_of_cpu, are_direct, answered, removed_from, asked_whole, stepped, step}
+use Rattle.co_world.specs.Step.{callout_answers, queue_answers, enters_journal, note_of_cpu, are_direct, world_answers, removed_from, asked_whole, stepped, step}
 use Rattle.co_world.specs.Walk.{HasFinished}
 use Rattle.co_world.specs.Measure.{measure}
-use Rattle.co_world.proofs.kept.Invariant.{RunFits, HoldFits, IsTaskOf, IsBetween, states_of, queues_of, places_of, carries, in_hand, serving_of, has_popped}
+use Rattle.co_world.proofs.kept.Invariant.{RunFits, HoldFits, IsTaskOf, IsBetween, states_of, queues_of, cursors_of, carries, in_hand, serving_of, has_popped}
 use Rattle.co_world.proofs.basics.Changes.{note_at}
 use Rattle.co_world.proofs.basics.Actions.{IsAction, IsActionWith, inserts, goes_by, scans, starts, pops, picks, opens, ends, frees}
 use Rattle.co_world.proofs.kept.ByOwnSteps.{view_of, callout_view}
@@ -61,7 +61,7 @@ some_of (Some x) h = (x, refl)
 
 module _ (s : Script) (ok : IsScript s) (w : World) (steady : IsSteady s w) (put : IsPut s w) (a : ℕ) (may : a < actor_count s) where
   abbrev c : Cursor
-  c = places_of w a
+  c = cursors_of w a
 
   abbrev role : Role
   role = role_of s a
@@ -83,9 +83,9 @@ module _ (s : Script) (ok : IsScript s) (w : World) (steady : IsSteady s w) (put
       pop_possible s.buckets (are_direct s) (queues_of w (cpu_of s role)) role server (idle_here (ap has_popped e))
   stage_possible act cpu op stage e (frees v drain next) = absurd (subst IsBetween e (steady.between a))
 
-  queue_possible : (act cpu : ℕ) (op : QOp) (parcel : Option Parcel) → c.parcel ≡ parcel → IsActionWith s role c parcel (Asks act (Queue cpu op)) → is_some (journal.step s.buckets (are_direct s) (queues_of w cpu) op) ≡ true
+  queue_possible : (act cpu : ℕ) (op : QOp) (parcel : Option PendingInsert) → c.parcel ≡ parcel → IsActionWith s role c parcel (Asks act (Queue cpu op)) → is_some (journal.step s.buckets (are_direct s) (queues_of w cpu) op) ≡ true
   queue_possible act cpu op parcel e (inserts p) =
-      let hand : carries s a c ≡ Some p = ap (λ (o : Option Parcel). in_hand (cpu_of s role) o c.stage) e in
+      let hand : carries s a c ≡ Some p = ap (λ (o : Option PendingInsert). in_hand (cpu_of s role) o c.stage) e in
       insert_possible (queues_of w p.cpu) p.i p.n p.due (steady.good.holds.carried.apart a p p.cpu hand)
   queue_possible act cpu op parcel e (goes_by action view) = stage_possible act cpu op c.stage refl view
 
@@ -102,13 +102,13 @@ module _ (s : Script) (ok : IsScript s) (w : World) (steady : IsSteady s w) (put
       (entries_change (λ i n t. IsCallout s i) (λ i n t u later h. h) s.buckets (are_direct s) (queues_of w cpu) op o.1 o.0 change (λ i n t is. (let clash : false ≡ true = sym (ap is_scan is) ∙ scan in cc)) (put.queues cpu))
       (lane_kept s (queues_of w cpu) op o.1 o.0 change (steady.good.holds.lanes cpu))
 
-  queue_step_falls : (act cpu : ℕ) (op : QOp) → action_for s a c ≡ Asks act (Queue cpu op) → Falls (answered s w a act (Queue cpu op))
+  queue_step_falls : (act cpu : ℕ) (op : QOp) → action_for s a c ≡ Asks act (Queue cpu op) → Falls (world_answers s w a act (Queue cpu op))
   queue_step_falls act cpu op is =
       let some = some_of (journal.step s.buckets (are_direct s) (queues_of w cpu) op) (queue_possible act cpu op c.parcel refl (view_of s a c (Asks act (Queue cpu op)) is)) in
       subst (λ (o : Option (TimerQueue × QReply)). Falls (queue_answers s w a act cpu op o)) (sym some.1)
       (queue_answer_falls s w a may act cpu op some.0 (own_cpu s ok a may) is some.1 (few_after cpu op some.0 (changed s.buckets (are_direct s) (queues_of w cpu) op some.0 some.1)))
 
-  run_step_falls : (act i : ℕ) (op : RunOp) → action_for s a c ≡ Asks act (Callout i (Serve op)) → Falls (answered s w a act (Callout i (Serve op)))
+  run_step_falls : (act i : ℕ) (op : RunOp) → action_for s a c ≡ Asks act (Callout i (Serve op)) → Falls (world_answers s w a act (Callout i (Serve op)))
   run_step_falls act i op is =
       let some = some_of (callout_step (spec_at s i) (states_of w i) (Serve op)) (run_possible act i op c.stage refl (callout_view s a c act i (Serve op) is).1) in
       subst (λ (o : Option (State × Reply)). Falls (callout_answers s w a act i (Serve op) o)) (sym some.1) (run_falls s w a may act i op some.0 is some.1)
@@ -124,7 +124,7 @@ module _ (s : Script) (ok : IsScript s) (w : World) (steady : IsSteady s w) (put
     has_waited (Waiting n took) h = h
     has_waited stage h = tt
 
-    waited_first : (off : Option ℕ) → HasWaited (states_of w i) c.stage → HasWaited (states_of (removed_from s w a act i off) i) (places_of (removed_from s w a act i off) a).stage
+    waited_first : (off : Option ℕ) → HasWaited (states_of w i) c.stage → HasWaited (states_of (removed_from s w a act i off) i) (cursors_of (removed_from s w a act i off) a).stage
     waited_first None h = h
     waited_first (Some cpu) h =
         let gone : TimerQueue × QReply = journal.remove (queues_of w cpu) i in

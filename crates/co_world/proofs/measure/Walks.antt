@@ -3,9 +3,9 @@ use Rattle.std.proofs.Common.{◌≡◌, ℕ, zero, suc, ◌+◌, ◌<◌, ◌�
 use Rattle.std.specs.Prelude.{is_some}
 use Rattle.std.specs.List.{AllByRecursion}
 use Rattle.co_program.specs.declared.Script.{Script}
-use Rattle.co_program.specs.Actors.{actor_count}
+use Rattle.co_program.specs.Actors.{actor_count, all_actors}
 use Rattle.co_program.specs.Action.{Action, Nothing, Silent, Take, Asks, action_for}
-use Rattle.co_world.specs.World.{World, all_actors, open_world, lists_of}
+use Rattle.co_world.specs.World.{World, open_world, lists_of}
 use Rattle.co_world.specs.Blocked.{blocked, waits_for}
 use Rattle.co_world.specs.Step.{step, stepped}
 use Rattle.co_world.specs.Walk.{run, round, rounds, HasFinished, AllFinished}

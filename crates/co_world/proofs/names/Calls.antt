@@ -17,8 +17,8 @@ use Rattle.co_program.specs.declared.act.Scene.{Scene}
 use Rattle.co_program.specs.declared.role.Role.{Role}
 use Rattle.co_program.specs.declared.program.Task.{Task}
 use Rattle.co_program.specs.declared.program.Task.TheVariants.{Does, Soft}
-use Rattle.co_program.specs.declared.cursor.Service.{Service}
-use Rattle.co_program.specs.declared.cursor.Parcel.{Parcel}
+use Rattle.co_program.specs.declared.cursor.InService.{InService}
+use Rattle.co_program.specs.declared.cursor.PendingInsert.{PendingInsert}
 use Rattle.co_program.specs.declared.cursor.Cursor.{Cursor as CursorAt}
 use Rattle.co_program.specs.declared.cursor.Stage.{Stage as StageAt}
 use Rattle.co_program.specs.declared.cursor.Stage.TheVariants as stage_at
@@ -28,13 +28,13 @@ use Rattle.co_program.specs.Actors.{actor_count, role_of, cpu_of, program_of, ac
 use Rattle.co_program.specs.Calls.{plain_op}
 use Rattle.co_program.specs.Stages.{Stage, Ready, Waiting, Popping, Picking, Locking, Beginning, Unlocking, Firing, Releasing, Ending, Freeing, Drained}
 use Rattle.co_program.specs.Cursor.{Cursor}
-use Rattle.co_program.specs.Action.{Action, Nothing, Silent, Take, Asks, action_for, action_with, action_in, spec_at, asks_covered, asks_within, asks_drain, takes, begins, drained_of, over, locks}
+use Rattle.co_program.specs.Action.{Action, Nothing, Silent, Take, Asks, action_for, action_with, action_in, spec_at, asks_covered, asks_within, asks_drain, takes, begins_next, drained_of, over, locks}
 use Rattle.co_program.specs.Existing.{IsCallout, IsCpu, TaskExists, ActsExist, CpuExists, PlainOpExists}
 use Rattle.co_program.specs.Scripts.{IsScript, names_exist}
 use Rattle.co_program.specs.Indexed.{cursor_of, stage_of}
 use Rattle.co_program.proofs.Existing.{CallExists, call_in, start_in, cpu_in}
 use Rattle.co_program.proofs.Homes.{IsBelow, NamesCpu}
-use Rattle.co_world.specs.Placed.{callout_in}
+use Rattle.co_world.specs.Placed.{stage_callout}
 use Rattle.co_world.proofs.basics.Updates.{at_choice}
 
 module _ (s : Script) where
@@ -71,11 +71,11 @@ module _ (s : Script) where
     takes_names : (left : List Task) (held : Held) → Names (takes c left held)
     takes_names left held = at_choice Names (is_some c.hold) (Asks c.act (Itself Holding)) (Take held (over c left (Some held))) (λ e. tt) (λ e. tt)
 
-    within_names : (v : Service) (acts : List Act) → v.i < length s.timers → ActsExist s acts → Names (asks_within s (cpu_of s r) c v acts)
+    within_names : (v : InService) (acts : List Act) → v.i < length s.timers → ActsExist s acts → Names (asks_within s (cpu_of s r) c v acts)
     within_names v [] me names = tt
     within_names v (act ∷ acts) me names = call_names (record { time = v.at; here = cpu_of s r; me = v.i }) me on c.hold c.act act names.0
 
-    does_names : (act : Act) (left : List Task) → names_exist s act ≡ true → Names (begins s r c (Does act ∷ left))
+    does_names : (act : Act) (left : List Task) → names_exist s act ≡ true → Names (begins_next s r c (Does act ∷ left))
     does_names (Now time) left is = tt
     does_names (Lock id) left is = takes_names left (record { id = id; exclusive = true })
     does_names (ReadLock id) left is = takes_names left (record { id = id; exclusive = false })
@@ -84,7 +84,7 @@ module _ (s : Script) where
     does_names (Tick time) left is = tt
     does_names act left is = call_names (record { time = c.now; here = cpu_of s r; me = 0 }) (omega arith) on c.hold c.act act is
 
-    begins_names : (left : List Task) → AllByRecursion (TaskExists s) left → Names (begins s r c left)
+    begins_names : (left : List Task) → AllByRecursion (TaskExists s) left → Names (begins_next s r c left)
     begins_names [] all = at_choice Names (is_some c.hold) (Silent (record c { left = []; hold = None; stage = Ready })) Nothing (λ e. tt) (λ e. tt)
     begins_names (Does act ∷ left) all = does_names act left all.0
     begins_names (Soft j ∷ left) all = tt
@@ -95,7 +95,7 @@ module _ (s : Script) where
     drained_there (Does (Drain i) ∷ left) all = ltb-true i (length s.timers) all.0
     drained_there (Does act ∷ left) all = omega arith
 
-    lock_names : (v : Service) (hold : Option Held) → Names (locks s c v hold)
+    lock_names : (v : InService) (hold : Option Held) → Names (locks s c v hold)
     lock_names v None = tt
     lock_names v (Some held) = tt
 
@@ -105,7 +105,7 @@ module _ (s : Script) where
     StageNames (Drained v acts) = ActsExist s acts
     StageNames stage = ⊤
 
-    in_names : (stage : Stage) → AllByRecursion (TaskExists s) c.left → StageNames stage → ((i : ℕ) → callout_in stage ≡ Some i → i < length s.timers) → Names (action_in s r c stage)
+    in_names : (stage : Stage) → AllByRecursion (TaskExists s) c.left → StageNames stage → ((i : ℕ) → stage_callout stage ≡ Some i → i < length s.timers) → Names (action_in s r c stage)
     in_names Ready left acts me = begins_names c.left left
     in_names (Waiting n took) left acts me = drain_names (drained_of c.left) took (drained_there c.left left)
     in_names (Popping act) left acts me = tt
@@ -119,7 +119,7 @@ module _ (s : Script) where
     in_names (Freeing v drain next) left acts me = tt
     in_names (Drained v x) left acts me = within_names v x (me v.i refl) acts
 
-    pub place_names : (parcel : Option Parcel) → AllByRecursion (TaskExists s) c.left → StageNames c.stage → ((i : ℕ) → callout_in c.stage ≡ Some i → i < length s.timers) → Names (action_with s r c parcel)
+    pub place_names : (parcel : Option PendingInsert) → AllByRecursion (TaskExists s) c.left → StageNames c.stage → ((i : ℕ) → stage_callout c.stage ≡ Some i → i < length s.timers) → Names (action_with s r c parcel)
     place_names (Some p) left acts me = tt
     place_names None left acts me = in_names c.stage left acts me
 
@@ -133,7 +133,7 @@ module _ (s : Script) where
   pub role_cpu : IsScript s → (a : ℕ) → a < actor_count s → cpu_of s (role_of s a) < s.cpus
   role_cpu ok a may = cpu_in s ok a may
 
-  pub cursor_names : IsScript s → (a : ℕ) → a < actor_count s → (c : CursorAt) → ((i : ℕ) → callout_in (cursor_of s a c).stage ≡ Some i → i < length s.timers) → Names (action_for s a (cursor_of s a c))
+  pub cursor_names : IsScript s → (a : ℕ) → a < actor_count s → (c : CursorAt) → ((i : ℕ) → stage_callout (cursor_of s a c).stage ≡ Some i → i < length s.timers) → Names (action_for s a (cursor_of s a c))
   cursor_names ok a may c me =
       place_names ok.timers.0 (role_of s a) (role_cpu ok a may) (cursor_of s a c) (cursor_of s a c).parcel (all_drop (TaskExists s) c.task (program_of s (role_of s a)) (start_in s ok a).left) (stage_names c.stage) me where
         stage_names : (stage : StageAt) → StageNames ok.timers.0 (role_of s a) (role_cpu ok a may) (cursor_of s a c) (stage_of s stage)

@@ -33,11 +33,11 @@ use Rattle.co_program.specs.Places.{place_exists, HavePlaces, AllHavePlaces}
 use Rattle.co_program.specs.Scripts.{IsScript}
 use Rattle.co_program.proofs.Existing.{start_in, action_exists, advance_exists}
 use Rattle.co_world.specs.World.{World, Actor, open_world, with_cursor, lists_of}
-use Rattle.co_world.specs.Step.{notes_down, enters, note_of, callout_answers, enters_journal, note_of_cpu, queue_answers, note_of_own, are_direct, answered}
+use Rattle.co_world.specs.Step.{notes_down, enters, note_of, callout_answers, enters_journal, note_of_cpu, queue_answers, note_of_own, are_direct, world_answers}
 use Rattle.co_world.specs.Laws.{reached, IsSchedule}
-use Rattle.co_world.proofs.kept.Invariant.{states_of, queues_of, places_of}
+use Rattle.co_world.proofs.kept.Invariant.{states_of, queues_of, cursors_of}
 use Rattle.co_object.proofs.EntriesKept.{EntriesFit, entries_change, entries_got}
-use Rattle.co_world.proofs.basics.Changes.{IsAt, at_all, at_read, at_updated_is, place_at, note_at, state_at, queue_at, states_landed}
+use Rattle.co_world.proofs.basics.Changes.{IsAt, at_all, at_read, at_updated_is, cursor_at, note_at, state_at, queue_at, states_landed}
 use Rattle.co_world.proofs.kept.Passages.{changed}
 use Rattle.co_program.proofs.Homes.{CpusFit}
 use Rattle.co_program.proofs.Replied.{AnswerFits, answer_fits}
@@ -49,7 +49,7 @@ notes_in w a = (w.actors a).notes
 
 notes_at : (s : Script) (w : World) (a : ℕ) (listed : Bool) (note : Note) → IsAt (notes_in w) a (notes_in w a ++ note ∷ []) (notes_in (notes_down s w a listed note))
 notes_at s w a listed note =
-    let new : Actor = record (w.actors a) { cursor = advance s (places_of w a) listed note.place note.entry; notes = notes_in w a ++ note ∷ [] } in
+    let new : Actor = record (w.actors a) { cursor = advance s (cursors_of w a) listed note.place note.entry; notes = notes_in w a ++ note ∷ [] } in
     at_read (λ (x : Actor). x.notes) w.actors a new (notes_down s w a listed note).actors (at_updated_is w.actors a new)
 
 put_last : (s : Script) (notes : List Note) (note : Note) → HavePlaces s notes → place_exists s note.place ≡ true → HavePlaces s (notes ++ note ∷ [])
@@ -58,7 +58,7 @@ put_last s (x ∷ notes) note have there = (have.0, put_last s notes note have.1
 
 -- what stands in the world exists in the script
 pub record IsPut (s : Script) (w : World) : Type 0 where
-  pub places : (a : ℕ) → a < actor_count s → IsIn s (places_of w a)
+  pub cursors : (a : ℕ) → a < actor_count s → IsIn s (cursors_of w a)
   pub states : (i : ℕ) → CpusFit s.cpus (states_of w i)
   pub queues : (cpu : ℕ) → EntriesFit (λ i n t. IsCallout s i) (queues_of w cpu)
   pub notes : (a : ℕ) → a < actor_count s → HavePlaces s (notes_in w a)
@@ -67,16 +67,16 @@ module _ (s : Script) (ok : IsScript s) where
   abbrev Standing : ℕ → ℕ → ℕ → Type 0
   Standing i n t = IsCallout s i
 
-  due_at : (w : World) (a : ℕ) (due : Action) → a < actor_count s → action_for s a (places_of w a) ≡ due → IsPut s w → ActionExists s due
-  due_at w a due may is put = subst (ActionExists s) is (action_exists s ok a may (places_of w a) (put.places a may))
+  due_at : (w : World) (a : ℕ) (due : Action) → a < actor_count s → action_for s a (cursors_of w a) ≡ due → IsPut s w → ActionExists s due
+  due_at w a due may is put = subst (ActionExists s) is (action_exists s ok a may (cursors_of w a) (put.cursors a may))
 
   -- ---- a note in a place that exists, and what it names exists
 
-  places_down : (w : World) (a : ℕ) (listed : Bool) (note : Note) → a < actor_count s → EntryExists s note.place note.entry →
-      ((b : ℕ) → b < actor_count s → IsIn s (places_of w b)) → (b : ℕ) → b < actor_count s → IsIn s (places_of (notes_down s w a listed note) b)
-  places_down w a listed note may exists inside =
-      at_all (λ b (c : Cursor). b < actor_count s → IsIn s c) (places_of w) a (advance s (places_of w a) listed note.place note.entry) (places_of (notes_down s w a listed note)) (note_at s w a listed note)
-      (λ _. advance_exists s ok (places_of w a) listed note.place note.entry (inside a may) exists) (λ b other. inside b)
+  cursors_down : (w : World) (a : ℕ) (listed : Bool) (note : Note) → a < actor_count s → EntryExists s note.place note.entry →
+      ((b : ℕ) → b < actor_count s → IsIn s (cursors_of w b)) → (b : ℕ) → b < actor_count s → IsIn s (cursors_of (notes_down s w a listed note) b)
+  cursors_down w a listed note may exists inside =
+      at_all (λ b (c : Cursor). b < actor_count s → IsIn s c) (cursors_of w) a (advance s (cursors_of w a) listed note.place note.entry) (cursors_of (notes_down s w a listed note)) (note_at s w a listed note)
+      (λ _. advance_exists s ok (cursors_of w a) listed note.place note.entry (inside a may) exists) (λ b other. inside b)
 
   notes_down_have : (w : World) (a : ℕ) (listed : Bool) (note : Note) → a < actor_count s → place_exists s note.place ≡ true →
       ((b : ℕ) → b < actor_count s → HavePlaces s (notes_in w b)) → (b : ℕ) → b < actor_count s → HavePlaces s (notes_in (notes_down s w a listed note) b)
@@ -93,7 +93,7 @@ module _ (s : Script) (ok : IsScript s) where
       let made : Entry = record { actor = a; act = act; op = op; reply = o.1 } in
       let fits : AnswerFits s o = answer_fits s ok.cpus.0 (spec_at s i) (states_of w i) op o is (put.states i) exists.1 in
       record {
-        places = places_down (enters w i o.0 made) a (is_some (off o.0)) (note_of w i made) may (exists.0, fits.reply.exists) put.places;
+        cursors = cursors_down (enters w i o.0 made) a (is_some (off o.0)) (note_of w i made) may (exists.0, fits.reply.exists) put.cursors;
         states = at_all (λ j (t : State). CpusFit s.cpus t) (states_of w) i o.0 (states_of (enters w i o.0 made)) (state_at w i o.0 made) fits.state (λ j other. put.states j);
         queues = put.queues;
         notes = notes_down_have (enters w i o.0 made) a (is_some (off o.0)) (note_of w i made) may (lt-ltb i (length s.timers) exists.0) put.notes;
@@ -112,7 +112,7 @@ module _ (s : Script) (ok : IsScript s) where
       let made : QEntry = record { actor = a; act = act; op = op; reply = o.1 } in
       let change : QChange s.buckets (are_direct s) (queues_of w cpu) op o.1 o.0 = changed s.buckets (are_direct s) (queues_of w cpu) op o is in
       record {
-        places = places_down (enters_journal w cpu o.0 made) a false (note_of_cpu w cpu made) may (got_exists w cpu op o.1 o.0 change put) put.places;
+        cursors = cursors_down (enters_journal w cpu o.0 made) a false (note_of_cpu w cpu made) may (got_exists w cpu op o.1 o.0 change put) put.cursors;
         states = λ j. subst (CpusFit s.cpus) (sym (states_landed w cpu op j)) (put.states j);
         queues = at_all (λ x (q : TimerQueue). EntriesFit Standing q) (queues_of w) cpu o.0 (queues_of (enters_journal w cpu o.0 made)) (queue_at w cpu o.0 made)
             (entries_change Standing (λ i n t u later h. h) s.buckets (are_direct s) (queues_of w cpu) op o.1 o.0 change new (put.queues cpu)) (λ x other. put.queues x);
@@ -124,20 +124,20 @@ module _ (s : Script) (ok : IsScript s) where
 
   -- ---- any answer, and steps without a note
 
-  answer_put : (w : World) (a act : ℕ) (asked : Asked) → a < actor_count s → action_for s a (places_of w a) ≡ Asks act asked → IsPut s w → IsPut s (answered s w a act asked)
+  answer_put : (w : World) (a act : ℕ) (asked : Asked) → a < actor_count s → action_for s a (cursors_of w a) ≡ Asks act asked → IsPut s w → IsPut s (world_answers s w a act asked)
   answer_put w a act (Callout i op) may is put = callout_put w a act i op (callout_step (spec_at s i) (states_of w i) op) may refl (due_at w a (Asks act (Callout i op)) may is put) put
   answer_put w a act (Queue cpu op) may is put =
       let exists : ActionExists s (Asks act (Queue cpu op)) = due_at w a (Asks act (Queue cpu op)) may is put in
       queue_put w a act cpu op (journal.step s.buckets (are_direct s) (queues_of w cpu) op) may exists.0 refl (inserts act cpu op exists) put
   answer_put w a act (Itself kind) may is put = record {
-    places = places_down w a false (note_of_own s w a act kind) may tt put.places;
+    cursors = cursors_down w a false (note_of_own s w a act kind) may tt put.cursors;
     states = put.states;
     queues = put.queues;
     notes = notes_down_have w a false (note_of_own s w a act kind) may (lt-ltb a (actor_count s) may) put.notes;
   }
 
-  remove_put : (w : World) (a act i cpu : ℕ) (op : CallOp) → a < actor_count s → action_for s a (places_of w a) ≡ Asks act (Callout i (Call op)) → off_of (call (states_of w i) op).1 ≡ Some cpu → IsPut s w →
-      IsPut s (answered s w a act (Queue cpu (Remove i)))
+  remove_put : (w : World) (a act i cpu : ℕ) (op : CallOp) → a < actor_count s → action_for s a (cursors_of w a) ≡ Asks act (Callout i (Call op)) → off_of (call (states_of w i) op).1 ≡ Some cpu → IsPut s w →
+      IsPut s (world_answers s w a act (Queue cpu (Remove i)))
   remove_put w a act i cpu op may is gone put =
       let exists : ActionExists s (Asks act (Callout i (Call op))) = due_at w a (Asks act (Callout i (Call op))) may is put in
       let fits : AnswerFits s (call (states_of w i) op) = answer_fits s ok.cpus.0 (spec_at s i) (states_of w i) (Call op) (call (states_of w i) op) refl (put.states i) exists.1 in
@@ -146,7 +146,7 @@ module _ (s : Script) (ok : IsScript s) where
 
   moved : (w : World) (a : ℕ) (to : Cursor) → IsIn s to → IsPut s w → IsPut s (with_cursor w a to)
   moved w a to inside put = record {
-    places = at_all (λ b (c : Cursor). b < actor_count s → IsIn s c) (places_of w) a to (places_of (with_cursor w a to)) (place_at w a to) (λ _. inside) (λ b other. put.places b);
+    cursors = at_all (λ b (c : Cursor). b < actor_count s → IsIn s c) (cursors_of w) a to (cursors_of (with_cursor w a to)) (cursor_at w a to) (λ _. inside) (λ b other. put.cursors b);
     states = put.states;
     queues = put.queues;
     notes = at_all (λ b (notes : List Note). b < actor_count s → HavePlaces s notes) (notes_in w) a (notes_in w a) (notes_in (with_cursor w a to))
@@ -155,7 +155,7 @@ module _ (s : Script) (ok : IsScript s) where
 
   open_put : IsPut s (open_world s)
   open_put = record {
-    places = λ a may. start_in s ok a;
+    cursors = λ a may. start_in s ok a;
     states = λ i. record { home = (let h = ok.cpus.0 in omega arith); target = λ arming is. cc };
     queues = λ cpu. record { content = tt; expired = tt; urgent = tt };
     notes = λ a may. tt;

@@ -13,12 +13,12 @@ use Rattle.co_program.specs.declared.Asked.{Asked}
 use Rattle.co_program.specs.declared.Asked.TheVariants.{Callout, Queue, Itself}
 use Rattle.co_world.specs.World.{World, with_cursor}
 use Rattle.co_world.specs.Blocked.{blocked}
-use Rattle.co_world.specs.Step.{answered, removed_from, removed_first, asked_whole, makes_action, goes_on, is_in_section, stepped, step}
+use Rattle.co_world.specs.Step.{world_answers, removed_from, removed_first, asked_whole, makes_action, goes_on_in_section, is_in_section, stepped, step}
 use Rattle.co_world.specs.Walk.{run}
 use Rattle.co_world.proofs.basics.Updates.{cond_kept}
 
 module _ (s : Script) (May : ℕ → Type 0) (Q : World → Type 0)
-    (answer : (w : World) (a act : ℕ) (asked : Asked) → May a → Q w → Q (answered s w a act asked))
+    (answer : (w : World) (a act : ℕ) (asked : Asked) → May a → Q w → Q (world_answers s w a act asked))
     (place : (w : World) (a : ℕ) (to : Cursor) → May a → Q w → Q (with_cursor w a to)) where
   from_kept : (w : World) (a act i : ℕ) (off : Option ℕ) → May a → Q w → Q (removed_from s w a act i off)
   from_kept w a act i None may q = q
@@ -36,7 +36,7 @@ module _ (s : Script) (May : ℕ → Type 0) (Q : World → Type 0)
   due_kept w a (Silent to) may q = q
   due_kept w a (Take held to) may q = q
 
-  on_kept : (w : World) (a : ℕ) → May a → Q w → Q (goes_on s w a)
+  on_kept : (w : World) (a : ℕ) → May a → Q w → Q (goes_on_in_section s w a)
   on_kept w a may q = cond_kept Q (is_in_section w (w.actors a).cursor) (makes_action s w a (action_for s a (w.actors a).cursor)) w (due_kept w a (action_for s a (w.actors a).cursor) may q) q
 
   stepped_kept : (w : World) (a : ℕ) (due : Action) → May a → Q w → Q (stepped s w a due)

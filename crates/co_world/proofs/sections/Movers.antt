@@ -3,7 +3,7 @@ use Rattle.std.proofs.Common.{◌≡◌, ℕ, ◌<◌, Bool, true, false, refl, 
 use Rattle.std.specs.Prelude.{◌==◌}
 use Rattle.co_program.specs.declared.script.Script.{Script}
 use Rattle.co_program.specs.Actors.{actor_count}
-use Rattle.co_program.specs.declared.cursor.Parcel.{Parcel}
+use Rattle.co_program.specs.declared.cursor.PendingInsert.{PendingInsert}
 use Rattle.co_world.specs.World.{World}
 use Rattle.co_world.specs.Blocked.{is_moving, moves}
 use Rattle.co_world.proofs.basics.Ranges.{any_same, any_at, any_only, any_found}
@@ -11,24 +11,24 @@ use Rattle.co_world.proofs.basics.Ranges.{any_same, any_at, any_only, any_found}
 -- ---- what moves
 
 -- what the actor's place has on its way is this callout, if anything
-abbrev pub IsOnly : ℕ → Option Parcel → Type 0
-IsOnly i parcel = (p : Parcel) → parcel ≡ Some p → p.i ≡ i
+abbrev pub IsOnly : ℕ → Option PendingInsert → Type 0
+IsOnly i parcel = (p : PendingInsert) → parcel ≡ Some p → p.i ≡ i
 
-pub moves_only : (i j : ℕ) (parcel : Option Parcel) → IsOnly i parcel → (j ≡ i → ⊥) → moves j parcel ≡ false
+pub moves_only : (i j : ℕ) (parcel : Option PendingInsert) → IsOnly i parcel → (j ≡ i → ⊥) → moves j parcel ≡ false
 moves_only i j None only other = refl
 moves_only i j (Some p) only other = go (p.i == j) refl where
   go : (b : Bool) → (p.i == j) ≡ b → b ≡ false
   go true is = absurd (other (sym (eqb-true p.i j is) ∙ only p refl))
   go false is = refl
 
-pub moves_it : (i : ℕ) (parcel : Option Parcel) (p : Parcel) → parcel ≡ Some p → p.i ≡ i → moves i parcel ≡ true
+pub moves_it : (i : ℕ) (parcel : Option PendingInsert) (p : PendingInsert) → parcel ≡ Some p → p.i ≡ i → moves i parcel ≡ true
 moves_it i parcel p is it = ap (moves i) is ∙ eq-eqb p.i i it
 
-pub unmoved : (i : ℕ) (parcel : Option Parcel) (p : Parcel) → moves i parcel ≡ false → parcel ≡ Some p → p.i ≡ i → ⊥
+pub unmoved : (i : ℕ) (parcel : Option PendingInsert) (p : PendingInsert) → moves i parcel ≡ false → parcel ≡ Some p → p.i ≡ i → ⊥
 unmoved i parcel p not is it = let yes' : moves i parcel ≡ true = moves_it i parcel p is it in let clash : true ≡ false = sym yes' ∙ not in cc
 
 -- parcels of a world
-abbrev pub parcels_of : World → ℕ → Option Parcel
+abbrev pub parcels_of : World → ℕ → Option PendingInsert
 parcels_of w a = (w.actors a).cursor.parcel
 
 module _ (s : Script) (w : World) where

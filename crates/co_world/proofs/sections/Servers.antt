@@ -9,15 +9,15 @@ use Rattle.co_object.proofs.QueueChanges.{QChange, pops as change_pops, pops_dir
 use Rattle.co_program.specs.declared.role.Role.{Role}
 use Rattle.co_program.specs.declared.role.Role.TheVariants.{Client, Cpu, Interrupt}
 use Rattle.co_program.specs.declared.program.Task.TheVariants.{Soft}
-use Rattle.co_program.specs.declared.cursor.Parcel.{Parcel}
+use Rattle.co_program.specs.declared.cursor.PendingInsert.{PendingInsert}
 use Rattle.co_program.specs.declared.action.Asked.TheVariants.{Queue}
 use Rattle.co_program.specs.declared.script.Script.{Script}
 use Rattle.co_program.specs.Actors.{cpu_of}
 use Rattle.co_program.specs.Stages.{Stage, Ready, Popping, Picking}
 use Rattle.co_program.specs.Cursor.{Cursor}
 use Rattle.co_program.specs.Action.{Asks, pop_of, free_of}
-use Rattle.co_program.specs.Advance.{popped, got, tail_of}
-use Rattle.co_world.specs.Placed.{slot_of, in_slot}
+use Rattle.co_program.specs.Advance.{popped, pop_answered, tail_of}
+use Rattle.co_world.specs.Placed.{server_slot, in_slot}
 use Rattle.co_world.proofs.basics.Actions.{IsAction, IsActionWith, inserts, goes_by, scans, starts, pops, frees}
 use Rattle.co_world.proofs.kept.Invariant.{FitsRole, IsTaskOf}
 use Rattle.co_world.proofs.kept.Passages.{serving_stays, directing_stays}
@@ -33,28 +33,28 @@ same_entry : (d : Due) (i n : ℕ) → d.i ≡ i → d.n ≡ n → Some d ≡ So
 same_entry d i n a b = ap (λ x. Some (entry x d.n)) a ∙ ap (λ x. Some (entry i x)) b
 
 module _ (m : ℕ) (direct : List Bool) where
-  pub pop_slot : (role : Role) (q : TimerQueue) (op : QOp) (r : QReply) (t : TimerQueue) (i n at : ℕ) → IsServer role → op ≡ pop_of role → QChange m direct q op r t → r ≡ Got i n at → slot_of role t ≡ Some (entry i n)
-  pop_slot (Client c) q op r t i n at server is change got = absurd server
-  pop_slot (Cpu x) q op r t i n at server is (change_inserts j k u free) got = cc
-  pop_slot (Cpu x) q op r t i n at server is (change_removes j held) got = cc
-  pop_slot (Cpu x) q op r t i n at server is (change_misses j) got = cc
-  pop_slot (Cpu x) q op r t i n at server is (change_scans time count) got = cc
-  pop_slot (Cpu x) q op r t i n at server is (change_pops d ds first) got = let a : d.i ≡ i = cc in let b : d.n ≡ n = cc in same_entry d i n a b
-  pop_slot (Cpu x) q op r t i n at server is finds_none got = cc
-  pop_slot (Cpu x) q op r t i n at server is change_frees got = cc
-  pop_slot (Cpu x) q op r t i n at server is (pops_direct d ds first) got = cc
-  pop_slot (Cpu x) q op r t i n at server is finds_no_direct got = cc
-  pop_slot (Cpu x) q op r t i n at server is frees_direct got = cc
-  pop_slot (Interrupt x) q op r t i n at server is (change_inserts j k u free) got = cc
-  pop_slot (Interrupt x) q op r t i n at server is (change_removes j held) got = cc
-  pop_slot (Interrupt x) q op r t i n at server is (change_misses j) got = cc
-  pop_slot (Interrupt x) q op r t i n at server is (change_scans time count) got = cc
-  pop_slot (Interrupt x) q op r t i n at server is (change_pops d ds first) got = cc
-  pop_slot (Interrupt x) q op r t i n at server is finds_none got = cc
-  pop_slot (Interrupt x) q op r t i n at server is change_frees got = cc
-  pop_slot (Interrupt x) q op r t i n at server is (pops_direct d ds first) got = let a : d.i ≡ i = cc in let b : d.n ≡ n = cc in same_entry d i n a b
-  pop_slot (Interrupt x) q op r t i n at server is finds_no_direct got = cc
-  pop_slot (Interrupt x) q op r t i n at server is frees_direct got = cc
+  pub pop_slot : (role : Role) (q : TimerQueue) (op : QOp) (r : QReply) (t : TimerQueue) (i n at : ℕ) → IsServer role → op ≡ pop_of role → QChange m direct q op r t → r ≡ Got i n at → server_slot role t ≡ Some (entry i n)
+  pop_slot (Client c) q op r t i n at server is change pop_answered = absurd server
+  pop_slot (Cpu x) q op r t i n at server is (change_inserts j k u free) pop_answered = cc
+  pop_slot (Cpu x) q op r t i n at server is (change_removes j held) pop_answered = cc
+  pop_slot (Cpu x) q op r t i n at server is (change_misses j) pop_answered = cc
+  pop_slot (Cpu x) q op r t i n at server is (change_scans time count) pop_answered = cc
+  pop_slot (Cpu x) q op r t i n at server is (change_pops d ds first) pop_answered = let a : d.i ≡ i = cc in let b : d.n ≡ n = cc in same_entry d i n a b
+  pop_slot (Cpu x) q op r t i n at server is finds_none pop_answered = cc
+  pop_slot (Cpu x) q op r t i n at server is change_frees pop_answered = cc
+  pop_slot (Cpu x) q op r t i n at server is (pops_direct d ds first) pop_answered = cc
+  pop_slot (Cpu x) q op r t i n at server is finds_no_direct pop_answered = cc
+  pop_slot (Cpu x) q op r t i n at server is frees_direct pop_answered = cc
+  pop_slot (Interrupt x) q op r t i n at server is (change_inserts j k u free) pop_answered = cc
+  pop_slot (Interrupt x) q op r t i n at server is (change_removes j held) pop_answered = cc
+  pop_slot (Interrupt x) q op r t i n at server is (change_misses j) pop_answered = cc
+  pop_slot (Interrupt x) q op r t i n at server is (change_scans time count) pop_answered = cc
+  pop_slot (Interrupt x) q op r t i n at server is (change_pops d ds first) pop_answered = cc
+  pop_slot (Interrupt x) q op r t i n at server is finds_none pop_answered = cc
+  pop_slot (Interrupt x) q op r t i n at server is change_frees pop_answered = cc
+  pop_slot (Interrupt x) q op r t i n at server is (pops_direct d ds first) pop_answered = let a : d.i ≡ i = cc in let b : d.n ≡ n = cc in same_entry d i n a b
+  pop_slot (Interrupt x) q op r t i n at server is finds_no_direct pop_answered = cc
+  pop_slot (Interrupt x) q op r t i n at server is frees_direct pop_answered = cc
 
   -- a Pop that finds nothing leaves the queue
   pub pop_none : (role : Role) (q : TimerQueue) (op : QOp) (r : QReply) (t : TimerQueue) → IsServer role → op ≡ pop_of role → QChange m direct q op r t → r ≡ Empty → t ≡ q
@@ -69,7 +69,7 @@ module _ (m : ℕ) (direct : List Bool) where
   pop_none role q op r t server is finds_no_direct none = refl
   pop_none role q op r t server is frees_direct none = cc
 
-  pub free_slot : (role : Role) (q : TimerQueue) (op : QOp) (r : QReply) (t : TimerQueue) → IsServer role → op ≡ free_of role → QChange m direct q op r t → slot_of role t ≡ None
+  pub free_slot : (role : Role) (q : TimerQueue) (op : QOp) (r : QReply) (t : TimerQueue) → IsServer role → op ≡ free_of role → QChange m direct q op r t → server_slot role t ≡ None
   free_slot (Client c) q op r t server is change = absurd server
   free_slot (Cpu x) q op r t server is (change_inserts j k u free) = cc
   free_slot (Cpu x) q op r t server is (change_removes j held) = cc
@@ -93,7 +93,7 @@ module _ (m : ℕ) (direct : List Bool) where
   free_slot (Interrupt x) q op r t server is frees_direct = refl
 
   -- the slot of the CPU's other server stays
-  pub other_slot : (s : Script) (role other : Role) (q : TimerQueue) (op : QOp) (r : QReply) (t : TimerQueue) → IsServer role → (op ≡ pop_of role) ⊎ (op ≡ free_of role) → QChange m direct q op r t → (other ≡ role → ⊥) → cpu_of s other ≡ cpu_of s role → slot_of other t ≡ slot_of other q
+  pub other_slot : (s : Script) (role other : Role) (q : TimerQueue) (op : QOp) (r : QReply) (t : TimerQueue) → IsServer role → (op ≡ pop_of role) ⊎ (op ≡ free_of role) → QChange m direct q op r t → (other ≡ role → ⊥) → cpu_of s other ≡ cpu_of s role → server_slot other t ≡ server_slot other q
   other_slot s (Client c) other q op r t server is change apart same = absurd server
   other_slot s (Cpu x) (Client c) q op r t server is change apart same = refl
   other_slot s (Cpu x) (Cpu y) q op r t server is change apart same = absurd (apart (ap Cpu same))
@@ -166,7 +166,7 @@ module _ (s : Script) (role : Role) where
   }
   pop_stage c stage act cpu op (frees v drain next) pop at empty fits = absurd (no_free role pop)
 
-  pub pop_view : (c : Cursor) (parcel : Option Parcel) (act cpu : ℕ) (op : QOp) → IsActionWith s role c parcel (Asks act (Queue cpu op)) → IsPop op → c.parcel ≡ parcel → FitsRole s role c.left c.hold c.stage → IsPopping s role c act cpu op
+  pub pop_view : (c : Cursor) (parcel : Option PendingInsert) (act cpu : ℕ) (op : QOp) → IsActionWith s role c parcel (Asks act (Queue cpu op)) → IsPop op → c.parcel ≡ parcel → FitsRole s role c.left c.hold c.stage → IsPopping s role c act cpu op
   pop_view c parcel act cpu op (inserts p) (inl e) at fits = cc
   pop_view c parcel act cpu op (inserts p) (inr e) at fits = cc
   pop_view c parcel act cpu op (goes_by action view) pop at fits = pop_stage c c.stage act cpu op view pop refl at fits

@@ -13,15 +13,15 @@ use Rattle.co_object.specs.Stand.{off}
 use Rattle.co_lock.specs.declared.held.Held.{Held}
 use Rattle.co_program.specs.declared.act.Act.{Act}
 use Rattle.co_program.specs.declared.role.Role.{Role}
-use Rattle.co_program.specs.declared.cursor.Service.{Service}
+use Rattle.co_program.specs.declared.cursor.InService.{InService}
 use Rattle.co_program.specs.declared.action.Asked.TheVariants.{Callout, Itself}
 use Rattle.co_program.specs.declared.script.Script.{Script}
 use Rattle.co_program.specs.Stages.{Stage, Ready, Waiting, Popping, Picking, Locking, Beginning, Unlocking, Firing, Releasing, Ending, Freeing, Drained}
 use Rattle.co_program.specs.Cursor.{Cursor}
 use Rattle.co_program.specs.Action.{Silent, Take, Asks, firing, draining}
-use Rattle.co_program.specs.Advance.{act_over, called, tail_of}
-use Rattle.co_world.specs.Step.{is_within}
-use Rattle.co_world.specs.Placed.{in_slot, callout_in, entry_of}
+use Rattle.co_program.specs.Advance.{act_over, call_made, tail_of}
+use Rattle.co_world.specs.Step.{is_within_service}
+use Rattle.co_world.specs.Placed.{in_slot, stage_callout, due_in_service}
 use Rattle.co_world.proofs.basics.Actions.{IsAction, drops, passes, grabs, tells, asks, drains, waits, waits_told, enters, unlocks, fires, fires_told, releases, serves, serves_told}
 use Rattle.co_world.proofs.kept.Operations.{Did, is_plain}
 use Rattle.co_world.proofs.kept.Operations as deed
@@ -30,19 +30,19 @@ use Rattle.co_world.proofs.kept.Stages.{plain_called, is_acting}
 -- what a stage keeps of the one before
 pub record StageKept (from to : Stage) : Type 0 where
   pub slot : in_slot to ≡ in_slot from
-  pub callout : (i : ℕ) → callout_in to ≡ Some i → callout_in from ≡ Some i
+  pub callout : (i : ℕ) → stage_callout to ≡ Some i → stage_callout from ≡ Some i
 
 pub kept_same : (stage : Stage) → StageKept stage stage
 kept_same stage = record { slot = refl; callout = λ i is. is }
 
 -- a stage with nothing in service, about no callout
-rests : (from to : Stage) → in_slot from ≡ None → in_slot to ≡ None → callout_in to ≡ None → StageKept from to
+rests : (from to : Stage) → in_slot from ≡ None → in_slot to ≡ None → stage_callout to ≡ None → StageKept from to
 rests from to a b c = record { slot = b ∙ sym a; callout = λ i is. (let clash : None ≡ Some i = sym c ∙ is in cc) }
 
 -- a service that goes on
-module _ (v : Service) where
+module _ (v : InService) where
   abbrev IsOf : Stage → Type 0
-  IsOf stage = (in_slot stage ≡ Some (entry_of v)) × (callout_in stage ≡ Some v.i)
+  IsOf stage = (in_slot stage ≡ Some (due_in_service v)) × (stage_callout stage ≡ Some v.i)
 
   pub goes_on_with : (from to : Stage) → IsOf from → IsOf to → StageKept from to
   goes_on_with from to a b = record { slot = b.0 ∙ sym a.0; callout = λ i is. a.1 ∙ sym b.1 ∙ is }
@@ -52,7 +52,7 @@ module _ (v : Service) where
   firing_of None [] = (refl, refl)
   firing_of (Some held) [] = (refl, refl)
 
-pub draining_of : (v : Service) (acts : List Act) → (in_slot (draining v acts) ≡ None) × ((i : ℕ) → callout_in (draining v acts) ≡ Some i → i ≡ v.i)
+pub draining_of : (v : InService) (acts : List Act) → (in_slot (draining v acts) ≡ None) × ((i : ℕ) → stage_callout (draining v acts) ≡ Some i → i ≡ v.i)
 draining_of v [] = (refl, λ i is. (let e : None ≡ Some i = is in cc))
 draining_of v (act ∷ acts) = (refl, λ i is. (let e : Some v.i ≡ Some i = is in let f : v.i ≡ i = cc in sym f))
 
@@ -83,16 +83,16 @@ over_kept c (Ending v) h = cc
 over_kept c (Freeing v drain next) h = cc
 
 -- no section is half made after it
-pub over_within : (c : Cursor) (stage : Stage) → is_acting stage ≡ true → is_within (act_over c stage).stage ≡ false
+pub over_within : (c : Cursor) (stage : Stage) → is_acting stage ≡ true → is_within_service (act_over c stage).stage ≡ false
 over_within c Ready h = refl
 over_within c (Waiting n took) h = refl
 over_within c (Firing v acts) h = go c.hold (tail_of acts) where
-  go : (hold : Option Held) (acts : List Act) → is_within (firing v hold acts) ≡ false
+  go : (hold : Option Held) (acts : List Act) → is_within_service (firing v hold acts) ≡ false
   go hold (act ∷ acts) = refl
   go None [] = refl
   go (Some held) [] = refl
 over_within c (Drained v acts) h = go (tail_of acts) where
-  go : (acts : List Act) → is_within (draining v acts) ≡ false
+  go : (acts : List Act) → is_within_service (draining v acts) ≡ false
   go [] = refl
   go (act ∷ acts) = refl
 over_within c (Popping act) h = cc
@@ -140,11 +140,11 @@ rests_in : (s : Script) (role : Role) (c : Cursor) (stage : Stage) (act i : ℕ)
 rests_in s role c stage act i took (drains j left is free) = refl
 rests_in s role c stage act i took (waits n t free) = refl
 
-armed_stage : (c : Cursor) (i : ℕ) (listed : Bool) (op : Op) (code : _) (n cpu : ℕ) (gone : Option ℕ) → (called c i listed op (Armed code n cpu gone)).stage ≡ (act_over c c.stage).stage
+armed_stage : (c : Cursor) (i : ℕ) (listed : Bool) (op : Op) (code : _) (n cpu : ℕ) (gone : Option ℕ) → (call_made c i listed op (Armed code n cpu gone)).stage ≡ (act_over c c.stage).stage
 armed_stage c i true op code n cpu gone = refl
 armed_stage c i false op code n cpu gone = refl
 
-wait_stage : (c : Cursor) (i : ℕ) (listed : Bool) (op : Op) (n : ℕ) (took : Bool) (gone : Option ℕ) → (called c i listed op (Wait n took gone)).stage ≡ Waiting n took
+wait_stage : (c : Cursor) (i : ℕ) (listed : Bool) (op : Op) (n : ℕ) (took : Bool) (gone : Option ℕ) → (call_made c i listed op (Wait n took gone)).stage ≡ Waiting n took
 wait_stage c i true op n took gone = refl
 wait_stage c i false op n took gone = refl
 
@@ -155,7 +155,7 @@ module _ (s : Script) (role : Role) (c d : Cursor) (act i : ℕ) where
   over : (op : CallOp) → View op → StageKept d.stage (act_over d d.stage).stage
   over op view = over_kept d d.stage (call_acting s role c d.stage act i op view)
 
-  pub call_kept : (op : CallOp) (listed : Bool) (spec : Spec) (state t : State) (reply : Reply) → View op → Did spec state (Call op) reply t → StageKept d.stage (called d i listed (Call op) reply).stage
+  pub call_kept : (op : CallOp) (listed : Bool) (spec : Spec) (state t : State) (reply : Reply) → View op → Did spec state (Call op) reply t → StageKept d.stage (call_made d i listed (Call op) reply).stage
   call_kept op listed spec state t reply view (deed.keeps o r u armed run plain none) = subst (λ (x : Cursor). StageKept d.stage x.stage) (sym (plain_called d i listed (Call op) reply plain)) (over op view)
   call_kept op listed spec state t reply view (deed.clears o r u armed run plain gone) = subst (λ (x : Cursor). StageKept d.stage x.stage) (sym (plain_called d i listed (Call op) reply plain)) (over op view)
   call_kept op listed spec state t reply view (deed.waits took took' n u armed run served) =
@@ -163,9 +163,9 @@ module _ (s : Script) (role : Role) (c d : Cursor) (act i : ℕ) where
   call_kept op listed spec state t reply view (deed.arms p code arming u armed due run) = subst (StageKept d.stage) (sym (armed_stage d i listed (Call op) code arming.n arming.cpu (off state))) (over op view)
 
   -- no section is half made after a call's entry
-  pub call_within : (op : CallOp) (listed : Bool) (spec : Spec) (state t : State) (reply : Reply) → View op → Did spec state (Call op) reply t → is_within (called d i listed (Call op) reply).stage ≡ false
-  call_within op listed spec state t reply view (deed.keeps o r u armed run plain none) = ap (λ (x : Cursor). is_within x.stage) (plain_called d i listed (Call op) reply plain) ∙ over_within d d.stage (call_acting s role c d.stage act i op view)
-  call_within op listed spec state t reply view (deed.clears o r u armed run plain gone) = ap (λ (x : Cursor). is_within x.stage) (plain_called d i listed (Call op) reply plain) ∙ over_within d d.stage (call_acting s role c d.stage act i op view)
-  call_within op listed spec state t reply view (deed.waits took took' n u armed run served) = ap is_within (wait_stage d i listed (Call op) n took' (off state))
+  pub call_within : (op : CallOp) (listed : Bool) (spec : Spec) (state t : State) (reply : Reply) → View op → Did spec state (Call op) reply t → is_within_service (call_made d i listed (Call op) reply).stage ≡ false
+  call_within op listed spec state t reply view (deed.keeps o r u armed run plain none) = ap (λ (x : Cursor). is_within_service x.stage) (plain_called d i listed (Call op) reply plain) ∙ over_within d d.stage (call_acting s role c d.stage act i op view)
+  call_within op listed spec state t reply view (deed.clears o r u armed run plain gone) = ap (λ (x : Cursor). is_within_service x.stage) (plain_called d i listed (Call op) reply plain) ∙ over_within d d.stage (call_acting s role c d.stage act i op view)
+  call_within op listed spec state t reply view (deed.waits took took' n u armed run served) = ap is_within_service (wait_stage d i listed (Call op) n took' (off state))
   call_within op listed spec state t reply view (deed.arms p code arming u armed due run) =
-      ap is_within (armed_stage d i listed (Call op) code arming.n arming.cpu (off state)) ∙ over_within d d.stage (call_acting s role c d.stage act i op view)
+      ap is_within_service (armed_stage d i listed (Call op) code arming.n arming.cpu (off state)) ∙ over_within d d.stage (call_acting s role c d.stage act i op view)

@@ -21,10 +21,10 @@ use Rattle.co_program.specs.Action.{Action, Asks, action_for}
 use Rattle.co_program.specs.Advance.{advance}
 use Rattle.co_world.specs.World.{World, Timer, with_cursor}
 use Rattle.co_world.specs.Blocked.{blocked}
-use Rattle.co_world.specs.Step.{enters, enters_journal, landed, note_of, note_of_cpu, note_of_own, callout_answers, queue_answers, own_note, answered, is_in_section, makes_action, goes_on, stepped, step}
+use Rattle.co_world.specs.Step.{enters, enters_journal, landed, note_of, note_of_cpu, note_of_own, callout_answers, queue_answers, own_note, world_answers, is_in_section, makes_action, goes_on_in_section, stepped, step}
 use Rattle.co_world.proofs.basics.Updates.{at_updated}
-use Rattle.co_world.proofs.basics.Changes.{IsAt, at_updated_is, at_read, place_at, note_at, state_at, queue_at, states_landed}
-use Rattle.co_world.proofs.kept.Invariant.{states_of, queues_of, places_of}
+use Rattle.co_world.proofs.basics.Changes.{IsAt, at_updated_is, at_read, cursor_at, note_at, state_at, queue_at, states_landed}
+use Rattle.co_world.proofs.kept.Invariant.{states_of, queues_of, cursors_of}
 
 abbrev pub stands_of : World → ℕ → ℕ
 stands_of w i = (w.timers i).stand
@@ -42,7 +42,7 @@ pub record Goes (w w' : World) (i cpu a : ℕ) (state : State) (stand : ℕ) (qu
   pub states : IsAt (states_of w) i state (states_of w')
   pub stands : IsAt (stands_of w) i stand (stands_of w')
   pub queues : IsAt (queues_of w) cpu queue (queues_of w')
-  pub places : IsAt (places_of w) a place (places_of w')
+  pub cursors : IsAt (cursors_of w) a place (cursors_of w')
 
 pub goes_on_from : (w w1 w2 : World) (i cpu a : ℕ) (state state' : State) (stand stand' : ℕ) (queue queue' : TimerQueue) (place place' : Cursor) →
     Goes w w1 i cpu a state stand queue place → Goes w1 w2 i cpu a state' stand' queue' place' → Goes w w2 i cpu a state' stand' queue' place'
@@ -50,7 +50,7 @@ goes_on_from w w1 w2 i cpu a state state' stand stand' queue queue' place place'
   states = twice (states_of w) i state state' (states_of w1) (states_of w2) one.states two.states;
   stands = twice (stands_of w) i stand stand' (stands_of w1) (stands_of w2) one.stands two.stands;
   queues = twice (queues_of w) cpu queue queue' (queues_of w1) (queues_of w2) one.queues two.queues;
-  places = twice (places_of w) a place place' (places_of w1) (places_of w2) one.places two.places;
+  cursors = twice (cursors_of w) a place place' (cursors_of w1) (cursors_of w2) one.cursors two.cursors;
 }
 
 -- a step without a note
@@ -59,23 +59,23 @@ goes_place w i cpu a to = record {
   states = still (states_of w) i (states_of w i) (states_of (with_cursor w a to)) refl (λ j. refl);
   stands = still (stands_of w) i (stands_of w i) (stands_of (with_cursor w a to)) refl (λ j. refl);
   queues = still (queues_of w) cpu (queues_of w cpu) (queues_of (with_cursor w a to)) refl (λ j. refl);
-  places = place_at w a to;
+  cursors = cursor_at w a to;
 }
 
 -- a note of the actor's own
 pub goes_own : (s : Script) (w : World) (i cpu a act : ℕ) (kind : OwnKind) →
-    Goes w (own_note s w a act kind) i cpu a (states_of w i) (stands_of w i) (queues_of w cpu) (advance s (places_of w a) false (at.Actor a) (entry.Own (record { actor = a; act = act; kind = kind })))
+    Goes w (own_note s w a act kind) i cpu a (states_of w i) (stands_of w i) (queues_of w cpu) (advance s (cursors_of w a) false (at.Actor a) (entry.Own (record { actor = a; act = act; kind = kind })))
 goes_own s w i cpu a act kind = record {
   states = still (states_of w) i (states_of w i) (states_of (own_note s w a act kind)) refl (λ j. refl);
   stands = still (stands_of w) i (stands_of w i) (stands_of (own_note s w a act kind)) refl (λ j. refl);
   queues = still (queues_of w) cpu (queues_of w cpu) (queues_of (own_note s w a act kind)) refl (λ j. refl);
-  places = note_at s w a false (note_of_own s w a act kind);
+  cursors = note_at s w a false (note_of_own s w a act kind);
 }
 
 -- a callout answers
 pub goes_callout : (s : Script) (w : World) (i cpu a act : ℕ) (op : Op) (o : State × Reply) →
     Goes w (callout_answers s w a act i op (Some o)) i cpu a o.0 (stands_of w i) (queues_of w cpu)
-    (advance s (places_of w a) (is_some (off o.0)) (at.Timer i) (entry.Timer (record { actor = a; act = act; op = op; reply = o.1 })))
+    (advance s (cursors_of w a) (is_some (off o.0)) (at.Timer i) (entry.Timer (record { actor = a; act = act; op = op; reply = o.1 })))
 goes_callout s w i cpu a act op o =
     let made : Entry = record { actor = a; act = act; op = op; reply = o.1 } in
     let after : World = enters w i o.0 made in
@@ -84,7 +84,7 @@ goes_callout s w i cpu a act op o =
       states = state_at w i o.0 made;
       stands = still (stands_of w) i (stands_of w i) (stands_of after) refl stays;
       queues = still (queues_of w) cpu (queues_of w cpu) (queues_of after) refl (λ j. refl);
-      places = note_at s after a (is_some (off o.0)) (note_of w i made);
+      cursors = note_at s after a (is_some (off o.0)) (note_of w i made);
     }
 
 -- an entry of a queue that moves no callout
@@ -104,7 +104,7 @@ stands_kept w cpu FreeDirect j h = refl
 -- a queue answers
 pub goes_queue : (s : Script) (w : World) (i cpu a act : ℕ) (op : QOp) (o : TimerQueue × QReply) → moves_none op ≡ true →
     Goes w (queue_answers s w a act cpu op (Some o)) i cpu a (states_of w i) (stands_of w i) o.0
-    (advance s (places_of w a) false (at.Cpu cpu) (entry.Cpu (record { actor = a; act = act; op = op; reply = o.1 })))
+    (advance s (cursors_of w a) false (at.Cpu cpu) (entry.Cpu (record { actor = a; act = act; op = op; reply = o.1 })))
 goes_queue s w i cpu a act op o none =
     let made : QEntry = record { actor = a; act = act; op = op; reply = o.1 } in
     let after : World = enters_journal w cpu o.0 made in
@@ -112,13 +112,13 @@ goes_queue s w i cpu a act op o none =
       states = still (states_of w) i (states_of w i) (states_of after) refl (λ j. states_landed w cpu op j);
       stands = still (stands_of w) i (stands_of w i) (stands_of after) refl (λ j. stands_kept w cpu op j none);
       queues = queue_at w cpu o.0 made;
-      places = note_at s after a false (note_of_cpu w cpu made);
+      cursors = note_at s after a false (note_of_cpu w cpu made);
     }
 
 -- and so an insert, by which the callout comes to the CPU
 pub goes_insert : (s : Script) (w : World) (i cpu a act n t : ℕ) (o : TimerQueue × QReply) →
     Goes w (queue_answers s w a act cpu (Insert i n t) (Some o)) i cpu a (states_of w i) cpu o.0
-    (advance s (places_of w a) false (at.Cpu cpu) (entry.Cpu (record { actor = a; act = act; op = Insert i n t; reply = o.1 })))
+    (advance s (cursors_of w a) false (at.Cpu cpu) (entry.Cpu (record { actor = a; act = act; op = Insert i n t; reply = o.1 })))
 goes_insert s w i cpu a act n t o =
     let made : QEntry = record { actor = a; act = act; op = Insert i n t; reply = o.1 } in
     let after : World = enters_journal w cpu o.0 made in
@@ -126,7 +126,7 @@ goes_insert s w i cpu a act n t o =
       states = still (states_of w) i (states_of w i) (states_of after) refl (λ j. states_landed w cpu (Insert i n t) j);
       stands = at_read (λ (x : Timer). x.stand) w.timers i (record (w.timers i) { stand = cpu }) (landed w cpu (Insert i n t)) (at_updated_is w.timers i (record (w.timers i) { stand = cpu }));
       queues = queue_at w cpu o.0 made;
-      places = note_at s after a false (note_of_cpu w cpu made);
+      cursors = note_at s after a false (note_of_cpu w cpu made);
     }
 
 -- ---- a step
@@ -134,15 +134,15 @@ goes_insert s w i cpu a act n t o =
 none_some : {X : Type 0} (o : Option X) → o ≡ None → is_some o ≡ false
 none_some o is = ap is_some is
 
-pub step_free : (s : Script) (w : World) (a : ℕ) (action : Action) → action_for s a (places_of w a) ≡ action → blocked s w a ≡ None → step s w a ≡ stepped s w a action
+pub step_free : (s : Script) (w : World) (a : ℕ) (action : Action) → action_for s a (cursors_of w a) ≡ action → blocked s w a ≡ None → step s w a ≡ stepped s w a action
 step_free s w a action due free =
-    ap (λ (b : Bool). cond b w (stepped s w a (action_for s a (places_of w a)))) (none_some (blocked s w a) free) ∙ ap (stepped s w a) due
+    ap (λ (b : Bool). cond b w (stepped s w a (action_for s a (cursors_of w a)))) (none_some (blocked s w a) free) ∙ ap (stepped s w a) due
 
 -- nothing more belongs to the section
-pub goes_no_further : (s : Script) (w : World) (a : ℕ) → is_in_section w (places_of w a) ≡ false → goes_on s w a ≡ w
-goes_no_further s w a is = ap (λ (b : Bool). cond b (makes_action s w a (action_for s a (places_of w a))) w) is
+pub goes_no_further : (s : Script) (w : World) (a : ℕ) → is_in_section w (cursors_of w a) ≡ false → goes_on_in_section s w a ≡ w
+goes_no_further s w a is = ap (λ (b : Bool). cond b (makes_action s w a (action_for s a (cursors_of w a))) w) is
 
 -- one more note belongs to it
-pub goes_further : (s : Script) (w : World) (a act : ℕ) (asked : Asked) → is_in_section w (places_of w a) ≡ true → action_for s a (places_of w a) ≡ Asks act asked → goes_on s w a ≡ answered s w a act asked
+pub goes_further : (s : Script) (w : World) (a act : ℕ) (asked : Asked) → is_in_section w (cursors_of w a) ≡ true → action_for s a (cursors_of w a) ≡ Asks act asked → goes_on_in_section s w a ≡ world_answers s w a act asked
 goes_further s w a act asked is due =
-    ap (λ (b : Bool). cond b (makes_action s w a (action_for s a (places_of w a))) w) is ∙ ap (makes_action s w a) due
+    ap (λ (b : Bool). cond b (makes_action s w a (action_for s a (cursors_of w a))) w) is ∙ ap (makes_action s w a) due

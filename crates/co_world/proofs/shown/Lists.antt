@@ -30,7 +30,7 @@ use Rattle.co_program.specs.declared.Asked.{Asked}
 use Rattle.co_program.specs.declared.Asked.TheVariants.{Callout, Queue, Itself}
 use Rattle.co_program.specs.Advance.{advance}
 use Rattle.co_world.specs.World.{World, Actor, Timer, Cpu, open_world, lists_of, updated, with_cursor}
-use Rattle.co_world.specs.Step.{notes_down, enters, enters_journal, landed, note_of, note_of_cpu, note_of_own, are_direct, callout_answers, queue_answers, answered}
+use Rattle.co_world.specs.Step.{notes_down, enters, enters_journal, landed, note_of, note_of_cpu, note_of_own, are_direct, callout_answers, queue_answers, world_answers}
 use Rattle.co_world.specs.Laws.{AreOfLists, reached}
 use Rattle.co_world.proofs.basics.Updates.{at_updated, updated_here, at_choice}
 use Rattle.co_world.proofs.shown.Histories.{OneMore, Shows, shows_more, history_shown, L', flat_more, flat_same, notes_here}
@@ -205,7 +205,7 @@ shown_queue s w a act cpu op (Some outcome) may shown =
     let e : QEntry = record { actor = a; act = act; op = op; reply = outcome.1 } in
     shown_down s w (enters_journal w cpu outcome.0 e) a false (note_of_cpu w cpu e) may refl (tells_queue s w a cpu outcome.0 e false) shown
 
-shown_answer : (s : Script) (w : World) (a act : ℕ) (asked : Asked) → a < actor_count s → IsShown s w → IsShown s (answered s w a act asked)
+shown_answer : (s : Script) (w : World) (a act : ℕ) (asked : Asked) → a < actor_count s → IsShown s w → IsShown s (world_answers s w a act asked)
 shown_answer s w a act (Callout i op) may shown = shown_callout s w a act i op (callout_step (spec_at s i) (w.timers i).state op) may shown
 shown_answer s w a act (Queue cpu op) may shown = shown_queue s w a act cpu op (queue_step s.buckets (are_direct s) (w.cpus cpu).queue op) may shown
 shown_answer s w a act (Itself kind) may shown = shown_down s w w a false (note_of_own s w a act kind) may refl (tells_own s w a act kind false) shown

@@ -28,7 +28,7 @@ use Rattle.co_program.specs.declared.Asked.{Asked}
 use Rattle.co_program.specs.declared.Asked.TheVariants.{Callout, Queue, Itself}
 use Rattle.co_program.specs.Advance.{advance}
 use Rattle.co_world.specs.World.{World, Actor, open_world, lists_of, with_cursor}
-use Rattle.co_world.specs.Step.{notes_down, enters, enters_journal, note_of, note_of_cpu, note_of_own, are_direct, callout_answers, queue_answers, answered}
+use Rattle.co_world.specs.Step.{notes_down, enters, enters_journal, note_of, note_of_cpu, note_of_own, are_direct, callout_answers, queue_answers, world_answers}
 use Rattle.co_world.specs.Laws.{reached}
 use Rattle.co_world.proofs.basics.Updates.{at_updated}
 use Rattle.co_world.proofs.basics.Prefixes.{length_more}
@@ -162,7 +162,7 @@ ordered_queue s w a act cpu op (Some outcome) may ordered =
     let e : QEntry = record { actor = a; act = act; op = op; reply = outcome.1 } in
     ordered_down s w (enters_journal w cpu outcome.0 e) a false (note_of_cpu w cpu e) may refl (tells_queue s w a cpu outcome.0 e false) ordered
 
-ordered_answer : (s : Script) (w : World) (a act : ℕ) (asked : Asked) → a < actor_count s → IsOrdered s w → IsOrdered s (answered s w a act asked)
+ordered_answer : (s : Script) (w : World) (a act : ℕ) (asked : Asked) → a < actor_count s → IsOrdered s w → IsOrdered s (world_answers s w a act asked)
 ordered_answer s w a act (Callout i op) may ordered = ordered_callout s w a act i op (callout_step (spec_at s i) (w.timers i).state op) may ordered
 ordered_answer s w a act (Queue cpu op) may ordered = ordered_queue s w a act cpu op (queue_step s.buckets (are_direct s) (w.cpus cpu).queue op) may ordered
 ordered_answer s w a act (Itself kind) may ordered = ordered_down s w w a false (note_of_own s w a act kind) may refl (tells_own s w a act kind false) ordered

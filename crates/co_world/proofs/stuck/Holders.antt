@@ -19,10 +19,10 @@ use Rattle.co_program.specs.declared.Task.TheVariants.{Does, Soft}
 use Rattle.co_program.specs.declared.Role.{Role}
 use Rattle.co_program.specs.declared.Role.TheVariants.{Client}
 use Rattle.co_program.specs.Stages.{Stage, Ready, Waiting, Popping, Picking, Locking, Beginning, Unlocking, Firing, Releasing, Ending, Freeing, Drained}
-use Rattle.co_program.specs.declared.Service.{Service}
+use Rattle.co_program.specs.declared.InService.{InService}
 use Rattle.co_program.specs.Cursor.{Cursor}
-use Rattle.co_program.specs.declared.Parcel.{Parcel}
-use Rattle.co_program.specs.Action.{Nothing, Silent, Take, Asks, action_with, action_in, spec_at, scans_with, scans_at, scans_of, asks_covered, asks_within, takes, begins, over}
+use Rattle.co_program.specs.declared.PendingInsert.{PendingInsert}
+use Rattle.co_program.specs.Action.{Nothing, Silent, Take, Asks, action_with, action_in, spec_at, scans_with, scans_at, scans_of, asks_covered, asks_within, takes, begins_next, over}
 use Rattle.co_program.specs.declared.Asked.TheVariants.{Callout, Itself}
 use Rattle.co_world.specs.World.{World}
 use Rattle.co_world.specs.Blocked.{is_locked, is_excluded_by}
@@ -62,7 +62,7 @@ module _ (s : Script) (role : Role) (c : Cursor) (held : Held) (holds : c.hold �
   only_takes : (left : List Task) (h : Held) → OnlyMoves (takes c left h)
   only_takes left h = only_choice (is_some c.hold) (Asks c.act (Itself Holding)) (Take h (over c left (Some h))) (λ e. tt) (λ e. absurd (held_some e))
 
-  only_begins : (left : List Task) → OnlyMoves (begins s role c left)
+  only_begins : (left : List Task) → OnlyMoves (begins_next s role c left)
   only_begins [] = only_choice (is_some c.hold) (Silent (record c { left = []; hold = None; stage = Ready })) Nothing (λ e. tt) (λ e. absurd (held_some e))
   only_begins (Does (Now time) ∷ left) = tt
   only_begins (Does (Lock id) ∷ left) = only_takes left (record { id = id; exclusive = true })
@@ -73,7 +73,7 @@ module _ (s : Script) (role : Role) (c : Cursor) (held : Held) (holds : c.hold �
   only_begins (Does act ∷ left) = only_covered s c.hold c.act (plain_op act s.hz (record { time = c.now; here = cpu_of s role; me = 0 })) refl
   only_begins (Soft j ∷ left) = tt
 
-pub only_within : (s : Script) (role : Role) (c : Cursor) (v : Service) (acts : List Act) → HasActs (Firing v acts) → OnlyMoves (asks_within s (cpu_of s role) c v acts)
+pub only_within : (s : Script) (role : Role) (c : Cursor) (v : InService) (acts : List Act) → HasActs (Firing v acts) → OnlyMoves (asks_within s (cpu_of s role) c v acts)
 only_within s role c v [] h = absurd h
 only_within s role c v (act ∷ acts) h = only_covered s c.hold c.act (plain_op act s.hz (record { time = v.at; here = cpu_of s role; me = v.i })) (call_anywhere act s.hz (record { time = v.at; here = cpu_of s role; me = v.i }) h.0)
 
@@ -115,11 +115,11 @@ holder_stays s role c (Freeing v drain next) held fits acts tasks holds = cc
 holder_stays s role c (Drained v more) held fits acts tasks holds = cc
 
 -- the same with a callout that the actor is moving
-pub record StaysWith (s : Script) (role : Role) (c : Cursor) (parcel : Option Parcel) : Type 0 where
+pub record StaysWith (s : Script) (role : Role) (c : Cursor) (parcel : Option PendingInsert) : Type 0 where
   pub only : OnlyMoves (action_with s role c parcel)
   pub no_scans : scans_with c parcel ≡ 0
 
-stays_with : (s : Script) (role : Role) (c : Cursor) (parcel : Option Parcel) → Stays s role c c.stage → StaysWith s role c parcel
+stays_with : (s : Script) (role : Role) (c : Cursor) (parcel : Option PendingInsert) → Stays s role c c.stage → StaysWith s role c parcel
 stays_with s role c None h = record { only = h.only; no_scans = h.no_scans }
 stays_with s role c (Some p) h = record { only = tt; no_scans = refl }
 

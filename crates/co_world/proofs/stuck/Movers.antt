@@ -8,7 +8,7 @@ use Rattle.co_program.specs.Actors.{role_of, actor_count}
 use Rattle.co_program.specs.declared.Role.{Role}
 use Rattle.co_program.specs.Stages.{Stage, Ready, Waiting, Popping, Picking, Locking, Beginning, Unlocking, Firing, Releasing, Ending, Freeing, Drained}
 use Rattle.co_program.specs.Cursor.{Cursor}
-use Rattle.co_program.specs.declared.Parcel.{Parcel}
+use Rattle.co_program.specs.declared.PendingInsert.{PendingInsert}
 use Rattle.co_program.specs.Action.{Action, Nothing, Silent, Take, Asks, action_for, action_with, scans_first, scans_with}
 use Rattle.co_program.specs.declared.Asked.TheVariants.{Callout, Queue, Itself}
 use Rattle.co_program.specs.Follows.{scan_count}
@@ -87,11 +87,11 @@ only_waits s w c (Asks act (Itself kind)) h no_wait no_scans = inl refl
 only_unfinished : (due : Action) → OnlyMoves due → due ≡ Nothing → ⊥
 only_unfinished due h is = subst OnlyMoves is h
 
-parcel_moves : (role : Role) (s : Script) (c : Cursor) (parcel : Option Parcel) (i : ℕ) → moves i parcel ≡ true → OnlyMoves (action_with s role c parcel) × (scans_with c parcel ≡ 0) × (c.parcel ≡ parcel → (o : Option Why) → o ≡ o)
+parcel_moves : (role : Role) (s : Script) (c : Cursor) (parcel : Option PendingInsert) (i : ℕ) → moves i parcel ≡ true → OnlyMoves (action_with s role c parcel) × (scans_with c parcel ≡ 0) × (c.parcel ≡ parcel → (o : Option Why) → o ≡ o)
 parcel_moves role s c None i h = cc
 parcel_moves role s c (Some p) i h = (tt, refl, λ e o. refl)
 
-parcel_free : (s : Script) (w : World) (role : Role) (c : Cursor) (parcel : Option Parcel) (i : ℕ) → scans_first c ≡ scans_with c parcel → moves i parcel ≡ true → waits_for s w c (action_with s role c parcel) ≡ None
+parcel_free : (s : Script) (w : World) (role : Role) (c : Cursor) (parcel : Option PendingInsert) (i : ℕ) → scans_first c ≡ scans_with c parcel → moves i parcel ≡ true → waits_for s w c (action_with s role c parcel) ≡ None
 parcel_free s w role c None i same h = cc
 parcel_free s w role c (Some p) i same h = no_scan_waits (scan_count (w.cpus p.cpu).journal) (scans_first c) p.cpu same
 

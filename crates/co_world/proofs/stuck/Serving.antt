@@ -7,9 +7,9 @@ use Rattle.co_program.specs.Actors.{role_of, actor_count}
 use Rattle.co_program.specs.declared.Role.{Role}
 use Rattle.co_program.specs.declared.Role.TheVariants.{Client}
 use Rattle.co_program.specs.Stages.{Stage, Ready, Waiting, Popping, Picking, Locking, Beginning, Unlocking, Firing, Releasing, Ending, Freeing, Drained}
-use Rattle.co_program.specs.declared.Service.{Service}
+use Rattle.co_program.specs.declared.InService.{InService}
 use Rattle.co_program.specs.Cursor.{Cursor}
-use Rattle.co_program.specs.declared.Parcel.{Parcel}
+use Rattle.co_program.specs.declared.PendingInsert.{PendingInsert}
 use Rattle.co_program.specs.Action.{Nothing, Take, action_for, action_with, action_in, spec_at, scans_with, locks}
 use Rattle.co_world.specs.declared.turn.Why.TheVariants as why
 use Rattle.co_world.specs.World.{World}
@@ -38,11 +38,11 @@ take_steps s w b held to sound exists is = go (is_locked s w held) refl
       free = ap (waits_for s w (w.actors b).cursor) is ∙ ap (λ (l : Bool). cond l (Some (why.Lock held.id)) None) h;
     }
 
-pub locking_takes : (s : Script) (c : Cursor) (v : Service) (hold : Option Held) (held : Held) → hold ≡ Some held → locks s c v hold ≡ Take held (record c { hold = Some held; stage = Beginning v })
+pub locking_takes : (s : Script) (c : Cursor) (v : InService) (hold : Option Held) (held : Held) → hold ≡ Some held → locks s c v hold ≡ Take held (record c { hold = Some held; stage = Beginning v })
 locking_takes s c v hold held is = ap (locks s c v) is
 
 -- a service that is about to take its lock, or one that waits for a callout on its way at most
-serving_stage : (s : Script) (role : Role) (c : Cursor) (stage : Stage) (v : Service) → service_of stage ≡ Some v → HoldFits s role c.hold stage → HasActs stage →
+serving_stage : (s : Script) (role : Role) (c : Cursor) (stage : Stage) (v : InService) → service_of stage ≡ Some v → HoldFits s role c.hold stage → HasActs stage →
     Stays s role c stage ⊎ ((held : Held) × (to : Cursor) × (action_in s role c stage ≡ Take held to))
 serving_stage s (Client k) c Ready v is fits acts = cc
 serving_stage s (Client k) c (Waiting n took) v is fits acts = cc
@@ -69,7 +69,7 @@ serving_stage s role c (Picking x) v is fits acts = cc
 serving_stage s role c (Freeing x drain next) v is fits acts = cc
 serving_stage s role c (Drained x more) v is fits acts = cc
 
-serving_no_wait : (stage : Stage) (v : Service) → service_of stage ≡ Some v → NoWait stage
+serving_no_wait : (stage : Stage) (v : InService) → service_of stage ≡ Some v → NoWait stage
 serving_no_wait (Waiting n took) v is = cc
 serving_no_wait Ready v is = tt
 serving_no_wait (Popping act) v is = tt
@@ -89,11 +89,11 @@ pub stage_steps : (s : Script) (w : World) (b : ℕ) → IsSteady s w → b < ac
 stage_steps s w b sound exists no_wait (inl stays) = waits_steps s w b (stays_waits s w b exists stays)
 stage_steps s w b sound exists no_wait (inr take) = go (w.actors b).cursor.parcel refl
   where
-    go : (parcel : Option Parcel) → (w.actors b).cursor.parcel ≡ parcel → Steps s w
+    go : (parcel : Option PendingInsert) → (w.actors b).cursor.parcel ≡ parcel → Steps s w
     go None e = take_steps s w b take.0 take.1 sound exists (ap (action_with s (role_of s b) (w.actors b).cursor) e ∙ take.2)
     go (Some p) e = waits_steps s w b (record {
       exists = exists;
-      only = subst (λ (o : Option Parcel). OnlyMoves (action_with s (role_of s b) (w.actors b).cursor o)) (sym e) tt;
+      only = subst (λ (o : Option PendingInsert). OnlyMoves (action_with s (role_of s b) (w.actors b).cursor o)) (sym e) tt;
       no_wait = no_wait;
       no_scans = ap (scans_with (w.actors b).cursor) e;
     })

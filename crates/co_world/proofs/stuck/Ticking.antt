@@ -14,10 +14,10 @@ use Rattle.co_program.specs.declared.Role.TheVariants.{Client, Cpu, Interrupt}
 use Rattle.co_object.specs.declared.QOp.{QOp}
 use Rattle.co_object.specs.declared.QOp.TheVariants.{Pop}
 use Rattle.co_program.specs.Stages.{Stage, Ready, Waiting, Popping, Picking, Locking, Beginning, Unlocking, Firing, Releasing, Ending, Freeing, Drained}
-use Rattle.co_program.specs.declared.Service.{Service}
+use Rattle.co_program.specs.declared.InService.{InService}
 use Rattle.co_program.specs.Cursor.{Cursor}
-use Rattle.co_program.specs.declared.Parcel.{Parcel}
-use Rattle.co_program.specs.Action.{Take, Asks, action_for, action_with, action_in, spec_at, scans_first, scans_with, scans_at, scans_of, asks_within, begins, pop_of}
+use Rattle.co_program.specs.declared.PendingInsert.{PendingInsert}
+use Rattle.co_program.specs.Action.{Take, Asks, action_for, action_with, action_in, spec_at, scans_first, scans_with, scans_at, scans_of, asks_within, begins_next, pop_of}
 use Rattle.co_program.specs.declared.Asked.TheVariants.{Queue}
 use Rattle.co_program.specs.Follows.{scan_count}
 use Rattle.co_world.specs.World.{World}
@@ -30,11 +30,11 @@ use Rattle.co_world.proofs.stuck.Movers.{Steps, OnlyMoves, NoWait}
 use Rattle.co_world.proofs.stuck.Holders.{only_within, Stays}
 use Rattle.co_world.proofs.stuck.Serving.{locking_takes, stage_steps}
 
-only_drained : (s : Script) (role : Role) (c : Cursor) (v : Service) (acts : List Act) → HasActs (Drained v acts) → OnlyMoves (asks_within s (cpu_of s role) c v acts)
+only_drained : (s : Script) (role : Role) (c : Cursor) (v : InService) (acts : List Act) → HasActs (Drained v acts) → OnlyMoves (asks_within s (cpu_of s role) c v acts)
 only_drained s role c v [] h = absurd h
 only_drained s role c v (act ∷ acts) h = only_within s role c v (act ∷ acts) h
 
-tick_stays : (s : Script) (x : ℕ) (c : Cursor) (left : List Task) → AllByRecursion (IsTaskOf s (Interrupt x)) left → 0 < length left → OnlyMoves (begins s (Interrupt x) c left) × (scans_of left ≡ 0)
+tick_stays : (s : Script) (x : ℕ) (c : Cursor) (left : List Task) → AllByRecursion (IsTaskOf s (Interrupt x)) left → 0 < length left → OnlyMoves (begins_next s (Interrupt x) c left) × (scans_of left ≡ 0)
 tick_stays s x c [] tasks h = absurd (omega arith)
 tick_stays s x c (Does (Tick time) ∷ left) tasks h = (tt, refl)
 tick_stays s x c (Does act ∷ left) tasks h = absurd tasks.0
@@ -43,7 +43,7 @@ tick_stays s x c (Soft j ∷ left) tasks h = absurd tasks.0
 interrupt_stage : (s : Script) (x : ℕ) (c : Cursor) (stage : Stage) → HoldFits s (Interrupt x) c.hold stage → HasActs stage → AllByRecursion (IsTaskOf s (Interrupt x)) c.left → (stage ≡ Ready → 0 < length c.left) →
     (NoWait stage) × (Stays s (Interrupt x) c stage ⊎ ((held : Held) × (to : Cursor) × (action_in s (Interrupt x) c stage ≡ Take held to)))
 interrupt_stage s x c Ready fits acts tasks more =
-    let stays : OnlyMoves (begins s (Interrupt x) c c.left) × (scans_of c.left ≡ 0) = tick_stays s x c c.left tasks (more refl) in
+    let stays : OnlyMoves (begins_next s (Interrupt x) c c.left) × (scans_of c.left ≡ 0) = tick_stays s x c c.left tasks (more refl) in
     (tt, inl (record { only = stays.0; no_wait = tt; no_scans = stays.1 }))
 interrupt_stage s x c (Waiting n took) fits acts tasks more = absurd fits
 interrupt_stage s x c (Popping act) fits acts tasks more = (tt, inl (record { only = tt; no_wait = tt; no_scans = refl }))
@@ -87,7 +87,7 @@ ready_first c (Ending v) h = absurd (omega arith)
 ready_first c (Freeing v drain next) h = absurd (omega arith)
 ready_first c (Drained v acts) h = absurd (omega arith)
 
-no_parcel : (c : Cursor) (parcel : Option Parcel) → 0 < scans_with c parcel → (parcel ≡ None) × (scans_with c parcel ≡ scans_at c c.stage)
+no_parcel : (c : Cursor) (parcel : Option PendingInsert) → 0 < scans_with c parcel → (parcel ≡ None) × (scans_with c parcel ≡ scans_at c c.stage)
 no_parcel c None h = (refl, refl)
 no_parcel c (Some p) h = absurd (omega arith)
 
@@ -108,7 +108,7 @@ ticker_steps s w a act cpu op sound is few =
     let x : ℕ = soft.2 in
     let count : scans_of c.left ≡ suc j = soft.5 in
     let here : action_for s a c ≡ Asks c.act (Queue x Pop) =
-    ap (action_with s role c) parcel.0 ∙ ap (action_in s role c) ready.0 ∙ ap (begins s role c) soft.3 ∙ ap (λ (r : Role). Asks c.act (Queue (cpu_of s r) (pop_of r))) soft.4 in
+    ap (action_with s role c) parcel.0 ∙ ap (action_in s role c) ready.0 ∙ ap (begins_next s role c) soft.3 ∙ ap (λ (r : Role). Asks c.act (Queue (cpu_of s r) (pop_of r))) soft.4 in
     let at : cpu ≡ x = cc (sym is ∙ here) in
     let few_here : scan_count (w.cpus x).journal < scans_first c = subst (λ (k : ℕ). scan_count (w.cpus k).journal < scans_first c) at few in
     let two : s.version ≡ 2 = subst (λ (r : Role). IsTaskOf s r (Soft j)) soft.4 (first_task (IsTaskOf s role) c.left rest (Soft j) soft.3 (sound.good.holds.roles a).tasks) in

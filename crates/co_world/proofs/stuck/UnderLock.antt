@@ -23,12 +23,12 @@ use Rattle.co_program.specs.declared.Task.{Task}
 use Rattle.co_program.specs.declared.Task.TheVariants.{Does, Soft}
 use Rattle.co_program.specs.declared.Role.{Role}
 use Rattle.co_program.specs.Stages.{Stage, Ready, Waiting, Popping, Picking, Locking, Beginning, Unlocking, Firing, Releasing, Ending, Freeing, Drained}
-use Rattle.co_program.specs.declared.Service.{Service}
+use Rattle.co_program.specs.declared.InService.{InService}
 use Rattle.co_program.specs.Cursor.{Cursor, start_of}
-use Rattle.co_program.specs.declared.Parcel.{Parcel}
-use Rattle.co_program.specs.Action.{Action, Nothing, Silent, Take, Asks, action_for, action_with, action_in, spec_at, firing, draining, locks, asks_covered, asks_within, takes, asks_drain, begins, over, drained_of}
+use Rattle.co_program.specs.declared.PendingInsert.{PendingInsert}
+use Rattle.co_program.specs.Action.{Action, Nothing, Silent, Take, Asks, action_for, action_with, action_in, spec_at, firing, draining, locks, asks_covered, asks_within, takes, asks_drain, begins_next, over, drained_of}
 use Rattle.co_program.specs.declared.Asked.TheVariants.{Callout, Itself}
-use Rattle.co_program.specs.Advance.{advance, advance_callout, advance_queue, called, act_over, picked, begun, ended, got, popped, freed, tail_of, drain_acts}
+use Rattle.co_program.specs.Advance.{advance, advance_callout, advance_queue, call_made, act_over, service_picked, service_begun, service_ended, pop_answered, popped, freed, tail_of, drain_acts}
 use Rattle.co_object.specs.declared.PlainOp.{PlainOp}
 use Rattle.co_object.specs.declared.CallOp.TheVariants.{Plain, DrainTry}
 use Rattle.co_object.specs.declared.OwnKind.TheVariants.{NotHeld, HoldsLock, Holding, NotHolding}
@@ -48,12 +48,12 @@ IsUnderLock s hold stage = ⊤
 abbrev pub UnderLock : Script → ℕ → Cursor → Type 0
 UnderLock s a c = IsUnderLock s c.hold c.stage
 
-under_firing : (s : Script) (hold : Option Held) (v : Service) (h : Option Held) (acts : List Act) → IsUnderLock s hold (firing v h acts)
+under_firing : (s : Script) (hold : Option Held) (v : InService) (h : Option Held) (acts : List Act) → IsUnderLock s hold (firing v h acts)
 under_firing s hold v h (act ∷ acts) = tt
 under_firing s hold v None [] = tt
 under_firing s hold v (Some held) [] = tt
 
-under_draining : (s : Script) (hold : Option Held) (v : Service) (acts : List Act) → IsUnderLock s hold (draining v acts)
+under_draining : (s : Script) (hold : Option Held) (v : InService) (acts : List Act) → IsUnderLock s hold (draining v acts)
 under_draining s hold v [] = tt
 under_draining s hold v (act ∷ acts) = tt
 
@@ -62,24 +62,24 @@ under_over s a c (Firing v acts) = under_firing s c.hold v c.hold (tail_of acts)
 under_over s a c (Drained v acts) = under_draining s c.hold v (tail_of acts)
 under_over s a c stage = tt
 
-under_called : (s : Script) (a : ℕ) (c : Cursor) (i : ℕ) (listed : Bool) (op : Op) (reply : Reply) → UnderLock s a (called c i listed op reply)
+under_called : (s : Script) (a : ℕ) (c : Cursor) (i : ℕ) (listed : Bool) (op : Op) (reply : Reply) → UnderLock s a (call_made c i listed op reply)
 under_called s a c i listed op (Wait n took off) = tt
 under_called s a c i true op (Armed code n cpu off) = under_over s a c c.stage
 under_called s a c i listed op reply = under_over s a c c.stage
 
-under_picked : (s : Script) (a : ℕ) (c : Cursor) (v : Service) (reply : Reply) → UnderLock s a (picked s c v reply)
+under_picked : (s : Script) (a : ℕ) (c : Cursor) (v : InService) (reply : Reply) → UnderLock s a (service_picked s c v reply)
 under_picked s a c v (Go func arg) = under_firing s c.hold v c.hold (acts_at s.funcs func)
 under_picked s a c v reply = tt
 
-under_returning : (s : Script) (hold : Option Held) (v : Service) (acts : List Act) (returns : Bool) → IsUnderLock s hold (cond returns (Unlocking v acts) (firing v hold acts))
+under_returning : (s : Script) (hold : Option Held) (v : InService) (acts : List Act) (returns : Bool) → IsUnderLock s hold (cond returns (Unlocking v acts) (firing v hold acts))
 under_returning s hold v acts true = tt
 under_returning s hold v acts false = under_firing s hold v hold acts
 
-under_begun : (s : Script) (a : ℕ) (c : Cursor) (v : Service) (reply : Reply) → UnderLock s a (begun s c v reply)
+under_begun : (s : Script) (a : ℕ) (c : Cursor) (v : InService) (reply : Reply) → UnderLock s a (service_begun s c v reply)
 under_begun s a c v (Go func arg) = under_returning s c.hold v (acts_at s.funcs func) (spec_at s v.i).returns_unlocked
 under_begun s a c v reply = tt
 
-under_ended : (s : Script) (a : ℕ) (c : Cursor) (v : Service) (reply : Reply) → UnderLock s a c → UnderLock s a (ended c v reply)
+under_ended : (s : Script) (a : ℕ) (c : Cursor) (v : InService) (reply : Reply) → UnderLock s a c → UnderLock s a (service_ended c v reply)
 under_ended s a c v (Ended drain next woke) h = tt
 under_ended s a c v reply h = h
 
@@ -89,7 +89,7 @@ under_callout s a c i listed op reply (Beginning v) h = under_begun s a c v repl
 under_callout s a c i listed op reply (Ending v) h = under_ended s a c v reply h
 under_callout s a c i listed op reply stage h = under_called s a c i listed op reply
 
-under_got : (s : Script) (a : ℕ) (c : Cursor) (act : ℕ) (reply : QReply) → UnderLock s a (got c act reply)
+under_got : (s : Script) (a : ℕ) (c : Cursor) (act : ℕ) (reply : QReply) → UnderLock s a (pop_answered c act reply)
 under_got s a c act (Got i n at) = tt
 under_got s a c act reply = tt
 
@@ -130,7 +130,7 @@ under_covered : (s : Script) (a : ℕ) (hold : Option Held) (act : ℕ) (call : 
 under_covered s a hold act None = tt
 under_covered s a hold act (Some (i, op)) = under_choice s a (covers hold (spec_at s i) (Plain op)) (Asks act (Callout i (Call (Plain op)))) (Asks act (Itself NotHeld)) tt tt
 
-under_within : (s : Script) (a cpu : ℕ) (c : Cursor) (v : Service) (acts : List Act) → UnderAction s a (asks_within s cpu c v acts)
+under_within : (s : Script) (a cpu : ℕ) (c : Cursor) (v : InService) (acts : List Act) → UnderAction s a (asks_within s cpu c v acts)
 under_within s a cpu c v [] = tt
 under_within s a cpu c v (act ∷ acts) = under_covered s a c.hold c.act (plain_op act s.hz (record { time = v.at; here = cpu; me = v.i }))
 
@@ -140,7 +140,7 @@ under_takes s a c left held = under_choice s a (is_some c.hold) (Asks c.act (Its
 under_drain : (s : Script) (a : ℕ) (c : Cursor) (i : ℕ) (took : Bool) → UnderAction s a (asks_drain c i took)
 under_drain s a c i took = under_choice s a (is_some c.hold) (Asks c.act (Itself HoldsLock)) (Asks c.act (Callout i (Call (DrainTry took)))) tt tt
 
-under_begins : (s : Script) (a : ℕ) (role : Role) (c : Cursor) (left : List Task) → UnderAction s a (begins s role c left)
+under_begins : (s : Script) (a : ℕ) (role : Role) (c : Cursor) (left : List Task) → UnderAction s a (begins_next s role c left)
 under_begins s a role c [] = under_choice s a (is_some c.hold) (Silent (record c { left = []; hold = None; stage = Ready })) Nothing tt tt
 under_begins s a role c (Does (Now time) ∷ left) = tt
 under_begins s a role c (Does (Lock id) ∷ left) = under_takes s a c left (record { id = id; exclusive = true })
@@ -151,7 +151,7 @@ under_begins s a role c (Does (Tick time) ∷ left) = tt
 under_begins s a role c (Does act ∷ left) = under_covered s a c.hold c.act (plain_op act s.hz (record { time = c.now; here = cpu_of s role; me = 0 }))
 under_begins s a role c (Soft j ∷ left) = tt
 
-under_locks : (s : Script) (a : ℕ) (c : Cursor) (v : Service) (hold : Option Held) → hold_of (spec_at s v.i).lock ≡ hold → UnderAction s a (locks s c v hold)
+under_locks : (s : Script) (a : ℕ) (c : Cursor) (v : InService) (hold : Option Held) → hold_of (spec_at s v.i).lock ≡ hold → UnderAction s a (locks s c v hold)
 under_locks s a c v None is = tt
 under_locks s a c v (Some held) is = (held, refl, is)
 
@@ -169,7 +169,7 @@ under_stage s a role c (Ending v) = tt
 under_stage s a role c (Freeing v drain next) = tt
 under_stage s a role c (Drained v acts) = under_within s a (cpu_of s role) c v acts
 
-under_parcel : (s : Script) (a : ℕ) (role : Role) (c : Cursor) (parcel : Option Parcel) → UnderAction s a (action_with s role c parcel)
+under_parcel : (s : Script) (a : ℕ) (role : Role) (c : Cursor) (parcel : Option PendingInsert) → UnderAction s a (action_with s role c parcel)
 under_parcel s a role c None = under_stage s a role c c.stage
 under_parcel s a role c (Some p) = tt
 
@@ -197,7 +197,7 @@ begins_covered : (s : Script) (h hold : Option Held) (act : ℕ) (call : Option 
 begins_covered s h hold act None = tt
 begins_covered s h hold act (Some (i, op)) = begins_choice s h (covers hold (spec_at s i) (Plain op)) (Asks act (Callout i (Call (Plain op)))) (Asks act (Itself NotHeld)) tt tt
 
-begins_within : (s : Script) (h : Option Held) (cpu : ℕ) (c : Cursor) (v : Service) (acts : List Act) → BeginsHeld s h (asks_within s cpu c v acts)
+begins_within : (s : Script) (h : Option Held) (cpu : ℕ) (c : Cursor) (v : InService) (acts : List Act) → BeginsHeld s h (asks_within s cpu c v acts)
 begins_within s h cpu c v [] = tt
 begins_within s h cpu c v (act ∷ acts) = begins_covered s h c.hold c.act (plain_op act s.hz (record { time = v.at; here = cpu; me = v.i }))
 
@@ -207,7 +207,7 @@ begins_takes s h c left held = begins_choice s h (is_some c.hold) (Asks c.act (I
 begins_drain : (s : Script) (h : Option Held) (c : Cursor) (i : ℕ) (took : Bool) → BeginsHeld s h (asks_drain c i took)
 begins_drain s h c i took = begins_choice s h (is_some c.hold) (Asks c.act (Itself HoldsLock)) (Asks c.act (Callout i (Call (DrainTry took)))) tt tt
 
-begins_act : (s : Script) (h : Option Held) (role : Role) (c : Cursor) (left : List Task) → BeginsHeld s h (begins s role c left)
+begins_act : (s : Script) (h : Option Held) (role : Role) (c : Cursor) (left : List Task) → BeginsHeld s h (begins_next s role c left)
 begins_act s h role c [] = begins_choice s h (is_some c.hold) (Silent (record c { left = []; hold = None; stage = Ready })) Nothing tt tt
 begins_act s h role c (Does (Now time) ∷ left) = tt
 begins_act s h role c (Does (Lock id) ∷ left) = begins_takes s h c left (record { id = id; exclusive = true })
@@ -218,7 +218,7 @@ begins_act s h role c (Does (Tick time) ∷ left) = tt
 begins_act s h role c (Does act ∷ left) = begins_covered s h c.hold c.act (plain_op act s.hz (record { time = c.now; here = cpu_of s role; me = 0 }))
 begins_act s h role c (Soft j ∷ left) = tt
 
-begins_locks : (s : Script) (h : Option Held) (c : Cursor) (v : Service) (hold : Option Held) → BeginsHeld s h (locks s c v hold)
+begins_locks : (s : Script) (h : Option Held) (c : Cursor) (v : InService) (hold : Option Held) → BeginsHeld s h (locks s c v hold)
 begins_locks s h c v None = tt
 begins_locks s h c v (Some held) = tt
 
@@ -236,7 +236,7 @@ begins_stage s role c (Ending v) h = tt
 begins_stage s role c (Freeing v drain next) h = tt
 begins_stage s role c (Drained v acts) h = begins_within s c.hold (cpu_of s role) c v acts
 
-begins_parcel : (s : Script) (role : Role) (c : Cursor) (parcel : Option Parcel) → IsUnderLock s c.hold c.stage → BeginsHeld s c.hold (action_with s role c parcel)
+begins_parcel : (s : Script) (role : Role) (c : Cursor) (parcel : Option PendingInsert) → IsUnderLock s c.hold c.stage → BeginsHeld s c.hold (action_with s role c parcel)
 begins_parcel s role c None h = begins_stage s role c c.stage h
 begins_parcel s role c (Some p) h = tt
 

@@ -1,7 +1,7 @@
 //! The lane of callouts that the clock interrupt runs.
 
-use crate::tests::bench::{EAGAIN, EINVAL, ENOENT, EPERM, MPSAFE, MUTEX, Row, Step, play};
 use crate::tests::replies::{BLANK, SECOND, Told};
+use crate::tests::tested::{EAGAIN, EINVAL, ENOENT, EPERM, MPSAFE, MUTEX, Row, Step, play};
 use co_embed::CalloutReply;
 
 /// A direct callout has no lock.

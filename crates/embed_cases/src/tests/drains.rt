@@ -1,7 +1,7 @@
 //! Drains, and asynchronous ones.
 
-use crate::tests::bench::{MPSAFE, MUTEX, Row, Step, play};
 use crate::tests::replies::{SECOND, Told};
+use crate::tests::tested::{MPSAFE, MUTEX, Row, Step, play};
 
 const AT_REST: [Row; 5] = [
     (Step::Init(0, MPSAFE), 0, Told::Any),

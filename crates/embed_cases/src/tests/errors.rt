@@ -1,9 +1,9 @@
 //! Each errno with its cause: then neither the wheel nor what a pointer leads to has changed.
 
-use crate::tests::bench::{
+use crate::tests::replies::{BLANK, SECOND, Told};
+use crate::tests::tested::{
     EBUSY, EINVAL, ENOENT, ENOMEM, EPERM, HERE, MPSAFE, MUTEX, NEVER, NOTHING, Row, Step, play,
 };
-use crate::tests::replies::{BLANK, SECOND, Told};
 use co_embed::{CalloutReply, Refusal, When, status};
 
 /// Callout 1 is not here, nor is there a callout 4.

@@ -1,7 +1,7 @@
 //! Pending, active and deactivate, and the earliest time.
 
-use crate::tests::bench::{EAGAIN, MPSAFE, NEVER, Row, Step, play};
 use crate::tests::replies::{SECOND, Told};
+use crate::tests::tested::{EAGAIN, MPSAFE, NEVER, Row, Step, play};
 
 /// Armed: pending and active. A deactivate clears active alone.
 const DEACTIVATED: [Row; 9] = [

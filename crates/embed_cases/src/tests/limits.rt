@@ -1,7 +1,7 @@
 //! How large a wheel may be.
 
-use crate::tests::bench::{Bench, EINVAL, HERE, HOME, MPSAFE, Row, Step};
 use crate::tests::replies::{BLANK, SECOND, Told};
+use crate::tests::tested::{EINVAL, HERE, HOME, MPSAFE, Row, Step, TestedWheel};
 use co_embed::{CalloutReply, Embed};
 use std::alloc::Global;
 
@@ -57,7 +57,7 @@ const LAST: [Row; 6] = [
 /// The first row that is not as it has to be on the largest wheel, where there is memory enough.
 fn wrong_on_the_largest(alloc: Global) -> Option<Option<usize>> {
     match Embed::new(alloc, 0, 65536, 1_048_576, 0) {
-        Ok(wheel) => Some(Bench::new(wheel).first_wrong(&LAST)),
+        Ok(wheel) => Some(TestedWheel::new(wheel).first_wrong(&LAST)),
         Err(_) => None,
     }
 }

@@ -1,7 +1,7 @@
 //! Callouts that come and go.
 
-use crate::tests::bench::{EBUSY, EEXIST, EINVAL, ENOENT, MPSAFE, MUTEX, Row, Step, play};
 use crate::tests::replies::{SECOND, Told};
+use crate::tests::tested::{EBUSY, EEXIST, EINVAL, ENOENT, MPSAFE, MUTEX, Row, Step, play};
 use co_embed::CalloutAttr;
 
 /// No lock that is given back.

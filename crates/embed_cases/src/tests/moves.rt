@@ -1,9 +1,9 @@
 //! Callouts that leave one wheel for another.
 
-use crate::tests::bench::{
+use crate::tests::replies::{BLANK, SECOND, Told};
+use crate::tests::tested::{
     EEXIST, EINVAL, ENOENT, HOME, MPSAFE, MUTEX, NEVER, NOTHING, Row, Step, play, wheel_of,
 };
-use crate::tests::replies::{BLANK, SECOND, Told};
 use co_embed::{CalloutParcel, CalloutReply, Refusal, When};
 use std::alloc::Global;
 

@@ -1,7 +1,7 @@
 //! A callout is armed, comes due, and is serviced.
 
-use crate::tests::bench::{EAGAIN, MPSAFE, MUTEX, Row, Step, play};
 use crate::tests::replies::{BLANK, SECOND, Told};
+use crate::tests::tested::{EAGAIN, MPSAFE, MUTEX, Row, Step, play};
 use co_embed::CalloutReply;
 
 const FIRES_ONCE: [Row; 11] = [

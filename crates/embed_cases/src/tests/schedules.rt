@@ -1,7 +1,7 @@
 //! Schedules: the function and the argument of the last reset.
 
-use crate::tests::bench::{HERE, MPSAFE, NEVER, Row, Step, play};
 use crate::tests::replies::{BLANK, SECOND, Told};
+use crate::tests::tested::{HERE, MPSAFE, NEVER, Row, Step, play};
 use co_embed::{CalloutReply, When};
 
 const WITHOUT_A_HANDLER: [Row; 4] = [

@@ -1,7 +1,7 @@
 //! A stop, with each code that callout(9) has for it.
 
-use crate::tests::bench::{EAGAIN, MPSAFE, MUTEX, Row, Step, play};
 use crate::tests::replies::{SECOND, Told};
+use crate::tests::tested::{EAGAIN, MPSAFE, MUTEX, Row, Step, play};
 
 /// 1: it was pending. -1: it was not set, or serviced already.
 const AT_REST: [Row; 7] = [

@@ -5,7 +5,7 @@ ghost use Rattle.co_program.specs.Runs.{IsRunOf};
 ghost use Rattle.co_service.specs.Booted.{AreBooted};
 ghost use Rattle.co_service.specs.Fresh.{AreNamed};
 ghost use Rattle.co_run.specs.Acting.{params_of};
-ghost use Rattle.co_run.specs.Jobs.{AreEmpty};
+ghost use Rattle.co_run.specs.Jobs.{AreEmptyBooks};
 ghost use Rattle.co_run.specs.Ran.{IsRan};
 ghost use Rattle.run_cases.specs.Scenes.{CanRun};
 
@@ -126,7 +126,7 @@ fn open_and_run<
     requires named { AreNamed fresh.name fresh.params }
     requires passes { AreBooted fresh.name fresh.params passes }
     requires books { length books ≡ actor_count script.now }
-    requires empty { AreEmpty B.notes B.spare books }
+    requires empty { AreEmptyBooks B.notes B.spare books }
     ensures { IfOk result (IsRan script.now) }
 {
     let service = Service::<N>::open(alloc, fresh)?;
@@ -143,7 +143,7 @@ pub(super) fn run_with<G: Gate + Sync, B: Notebook + Send, R: Threads + Wait + S
 ) -> Result<Ran, NoMemory>
     requires script { CanRun script.now }
     requires books { length books ≡ actor_count script.now }
-    requires empty { AreEmpty B.notes B.spare books }
+    requires empty { AreEmptyBooks B.notes B.spare books }
     ensures { IfOk result (IsRan script.now) }
 {
     let clients = script.clients.as_slice().len() as u32;

@@ -1,7 +1,7 @@
 //! Runs in which a CPU is refused the room for its notes.
 ghost use Rattle.std.specs.Prelude.{◌≡◌, IfOk, length};
 ghost use Rattle.co_program.specs.Actors.{actor_count};
-ghost use Rattle.co_run.specs.Jobs.{AreEmpty};
+ghost use Rattle.co_run.specs.Jobs.{AreEmptyBooks};
 ghost use Rattle.co_run.specs.Ran.{IsRan};
 ghost use Rattle.run_cases.specs.Scenes.{CanRun};
 
@@ -43,7 +43,7 @@ const MOST: u64 = 100;
 /// An empty book for each actor, of which the refused one's refuses its reserve of this number.
 fn short_books(alloc: Global, actors: u32, refused: u64) -> Result<Seq<ShortBook>, NoMemory>
     ensures count { IfOk result (λ books. length books ≡ actors) }
-    ensures empty { IfOk result (λ books. AreEmpty (λ b. b.book.notes.items) (λ b. b.book.spare) books) }
+    ensures empty { IfOk result (λ books. AreEmptyBooks (λ b. b.book.notes.items) (λ b. b.book.spare) books) }
 {
     let mut books = Seq::new(alloc);
     for actor in 0..actors {

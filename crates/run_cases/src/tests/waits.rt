@@ -1,7 +1,7 @@
 //! Actors that wait for each other at the gate.
 ghost use Rattle.std.specs.Prelude.{◌≡◌, IfOk, length, vec_len};
 ghost use Rattle.co_program.specs.Actors.{actor_count};
-ghost use Rattle.co_run.specs.Jobs.{AreEmpty};
+ghost use Rattle.co_run.specs.Jobs.{AreEmptyBooks};
 ghost use Rattle.co_run.specs.Ran.{IsRan};
 ghost use Rattle.run_cases.specs.Scenes.{CanRun};
 
@@ -172,7 +172,7 @@ impl Notebook for ToldBook<'_> {
 /// An empty book for each actor.
 fn told_books(alloc: Global, told: &[Told]) -> Result<Seq<ToldBook<'_>>, NoMemory>
     ensures count { IfOk result (λ books. length books ≡ length told.now) }
-    ensures empty { IfOk result (λ books. AreEmpty (λ b. b.book.notes.items) (λ b. b.book.spare) books) }
+    ensures empty { IfOk result (λ books. AreEmptyBooks (λ b. b.book.notes.items) (λ b. b.book.spare) books) }
 {
     let mut books = Seq::new(alloc);
     for told in told {

@@ -3,12 +3,12 @@ use Rattle.std.proofs.Common.{ℕ, Bool, ap, sym, ◌∙◌}
 use Rattle.co_program.specs.Advance.{advance}
 use Rattle.co_program.specs.Cursor.{Cursor}
 use Rattle.co_program.specs.Indexed.{cursor_of}
-use Rattle.co_check.specs.Astray.{Seen, is_next}
+use Rattle.co_check.specs.Astray.{SeenLine, is_next_note}
 use Rattle.co_report.specs.declared.line.Line.{Line}
 use Rattle.co_report.specs.PackedLines.{line_of}
 use Rattle.co_check.proofs.walk.walk_note.Goals as goal
 
-abbrev seen_note : Line → Bool → ℕ → Seen
+abbrev seen_note : Line → Bool → ℕ → SeenLine
 seen_note l listed scans = record { line = l; listed = listed; scans = scans }
 
 pub returns-then-not-is_next-clause-note : goal.returns-then-not-is_next-clause-note
@@ -17,8 +17,8 @@ returns-then-not-is_next-clause-note c line =
     let a = c.args.actor in
     let l = line_of line c.args.note.now in
     let f = c.args.fact.now in
-    ap (λ (x : Cursor). is_next s a x (seen_note l f.listed f.scans)) (sym c.settle-action.ensures.cursor)
-    ∙ (ap (λ n. is_next s a (cursor_of s a c.settle-action.new.cursor) (seen_note l f.listed n)) (sym c.scans.ensures)
+    ap (λ (x : Cursor). is_next_note s a x (seen_note l f.listed f.scans)) (sym c.settle-action.ensures.cursor)
+    ∙ (ap (λ n. is_next_note s a (cursor_of s a c.settle-action.new.cursor) (seen_note l f.listed n)) (sym c.scans.ensures)
     ∙ (sym (c.is_next.ensures line f.listed) ∙ c.if-not-is_next.true))
 
 pub returns-clause-note : goal.returns-clause-note
@@ -27,8 +27,8 @@ returns-clause-note c line =
     let a = c.args.actor in
     let l = line_of line c.args.note.now in
     let f = c.args.fact.now in (
-      ap (λ (x : Cursor). is_next s a x (seen_note l f.listed f.scans)) (sym c.settle-action.ensures.cursor)
-          ∙ (ap (λ n. is_next s a (cursor_of s a c.settle-action.new.cursor) (seen_note l f.listed n)) (sym c.scans.ensures)
+      ap (λ (x : Cursor). is_next_note s a x (seen_note l f.listed f.scans)) (sym c.settle-action.ensures.cursor)
+          ∙ (ap (λ n. is_next_note s a (cursor_of s a c.settle-action.new.cursor) (seen_note l f.listed n)) (sym c.scans.ensures)
           ∙ (sym (c.is_next.ensures line f.listed) ∙ c.if-not-is_next.false)),
       c.advance.ensures.cursor a
           ∙ (ap (λ (b : Bool). advance s (cursor_of s a c.settle-action.new.cursor) b l.place l.entry) c.listed.ensures

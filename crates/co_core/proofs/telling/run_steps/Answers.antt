@@ -2,7 +2,7 @@
 use Rattle.std.proofs.Common.{◌≡◌, ℕ, [], List, ap, arith, length, subst, sym, ◌∙◌}
 use Rattle.std.proofs.lemmas.List.FromFn.{length-map-range_with_len}
 use Rattle.co_object.specs.declared.note.Note.{Note}
-use Rattle.co_listener.specs.Made.{list_by, lists_by}
+use Rattle.co_listener.specs.MadeNotes.{list_by, lists_by}
 use Rattle.co_program.specs.Actors.{actor_count}
 use Rattle.co_world.specs.Walk.{IsWalk}
 use Rattle.co_core.proofs.telling.run_steps.Goals as goal

@@ -1,12 +1,12 @@
 use Rattle.std.proofs.Common.{◌≡◌, length}
 use Rattle.co_single.specs.Alarms.{waiting_of}
-use Rattle.co_kq.specs.Ticks.{IsServing}
+use Rattle.co_kq.specs.Ticks.{IsTicking}
 use Rattle.co_kq.proofs.ticks.serve_all.Given as goal
 
 -- so far the tick has come
 abbrev pub invariant-loop-now : goal.invariant-loop-now
 invariant-loop-now g l = record {
-  serving : IsServing l.now l.act l.fn.knotes.slots l.uses l.fn.single l.knotes.slots l.single;
+  serving : IsTicking l.now l.act l.fn.knotes.slots l.uses l.fn.single l.knotes.slots l.single;
   capacity : l.knotes.capacity ≡ l.fn.knotes.capacity;
 }
 

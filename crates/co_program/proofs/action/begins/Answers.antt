@@ -8,7 +8,7 @@ use Rattle.co_program.specs.declared.action.Action.{Action as ActionAt}
 use Rattle.co_program.specs.declared.action.Asked.TheVariants.{Queue}
 use Rattle.co_program.specs.declared.program.Task.TheVariants.{Soft}
 use Rattle.co_program.specs.Actors.{program_of, cpu_of}
-use Rattle.co_program.specs.Action.{Asks, begins}
+use Rattle.co_program.specs.Action.{Asks, begins_next}
 use Rattle.co_program.specs.Advance.{tail_of}
 use Rattle.co_program.specs.Indexed.{action_as, acts_of, cursor_as, is_soft}
 use Rattle.co_program.proofs.action.begins.Goals as goal
@@ -30,7 +30,7 @@ returns-then-index-acts-clause-action c =
     let role = c.args.role in
     let at = c.args.cursor.now.task in
     let none : drop at (program_of s role) ≡ [] = none_left s role at (subst (λ (xs : List Act). length xs ≤ at) c.acts_of-acts.ensures c.if-index-acts.true) in
-    c.ends.ensures.action s role none ∙ ap (begins s role (cursor_as s role c.args.cursor.now)) (sym none)
+    c.ends.ensures.action s role none ∙ ap (begins_next s role (cursor_as s role c.args.cursor.now)) (sym none)
 
 pub returns-then-is_soft-clause-action : goal.returns-then-is_soft-clause-action
 returns-then-is_soft-clause-action c =
@@ -44,4 +44,4 @@ returns-then-is_soft-clause-action c =
     ap (λ (x : ActionAt). action_as s role cursor x) c.asks_queue.ensures
     ∙ (ap (λ (n : ℕ). Asks cursor.act (Queue n c.pop_of.result)) c.cpu_of.ensures
     ∙ (ap (λ (op : QOp). Asks cursor.act (Queue (cpu_of s role) op)) c.pop_of.ensures
-    ∙ ap (begins s role (cursor_as s role cursor)) (sym next)))
+    ∙ ap (begins_next s role (cursor_as s role cursor)) (sym next)))

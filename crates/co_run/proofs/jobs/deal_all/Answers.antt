@@ -2,7 +2,7 @@
 use Rattle.std.proofs.Common.{◌≡◌, ◌+◌, ◌≤◌, length, subst, sym, ap, ◌∙◌, arith}
 use Rattle.co_program.specs.Actors.{actor_count, client_count}
 use Rattle.co_run.specs.Acting.{params_of}
-use Rattle.co_run.specs.Jobs.{AreEmpty, AreFirst}
+use Rattle.co_run.specs.Jobs.{AreEmptyBooks, AreUnseen}
 use Rattle.co_run.proofs.groups.Deals.{booted_count, booted_first, most_named}
 use Rattle.co_run.proofs.jobs.deal_all.Goals as goal
 
@@ -14,8 +14,8 @@ deal-requires-clause-left g c =
     record {
       few = omega (arith, count);
       count = books ∙ sym count;
-      first = subst (AreFirst g.N.Name.name (params_of s)) (sym c.into_vec-passes.ensures) (booted_first s c.requires.script g.N.Name.name c.args.passes c.requires.passes);
-      empty = subst (AreEmpty g.B.Book.notes g.B.Book.spare) (sym c.into_vec-books.ensures) c.requires.books.empty;
+      first = subst (AreUnseen g.N.Name.name (params_of s)) (sym c.into_vec-passes.ensures) (booted_first s c.requires.script g.N.Name.name c.args.passes c.requires.passes);
+      empty = subst (AreEmptyBooks g.B.Book.notes g.B.Book.spare) (sym c.into_vec-books.ensures) c.requires.books.empty;
     }
 
 pub returns : goal.returns

@@ -2,7 +2,7 @@
 use Rattle.std.proofs.Common.{◌≡◌, ◌+◌, ◌++◌, [], ◌∷◌, length, subst, ap, sym, ◌∙◌, arith, length-append}
 use Rattle.std.specs.Option.{option_to_list}
 use Rattle.co_run.specs.Acting.{params_of}
-use Rattle.co_run.specs.Jobs.{AreEmpty, AreFirst}
+use Rattle.co_run.specs.Jobs.{AreEmptyBooks, AreUnseen}
 use Rattle.co_run.proofs.groups.Deals.{empty_front, empty_last, first_front, first_last}
 use Rattle.co_run.proofs.jobs.leave_last.Goals as goal
 
@@ -14,8 +14,8 @@ returns g c =
     let spare = g.B.Book.spare in
     let passes_are : c.args.passes.now.items ≡ c.pop.new.self.items ++ c.unwrap.result ∷ [] = c.pop.ensures.items ∙ ap (λ o. c.pop.new.self.items ++ option_to_list o) c.unwrap.ensures in
     let books_are : c.args.books.now.items ≡ c.pop-2.new.self.items ++ c.unwrap-2.result ∷ [] = c.pop-2.ensures.items ∙ ap (λ o. c.pop-2.new.self.items ++ option_to_list o) c.unwrap-2.ensures in
-    let first = subst (AreFirst name p) passes_are c.requires.left.first in
-    let empty = subst (AreEmpty notes spare) books_are c.requires.left.empty in
+    let first = subst (AreUnseen name p) passes_are c.requires.left.first in
+    let empty = subst (AreEmptyBooks notes spare) books_are c.requires.left.empty in
     let passes_long : length c.args.passes.now.items ≡ length c.pop.new.self.items + 1 = ap length passes_are ∙ length-append c.pop.new.self.items (c.unwrap.result ∷ []) in
     let books_long : length c.args.books.now.items ≡ length c.pop-2.new.self.items + 1 = ap length books_are ∙ length-append c.pop-2.new.self.items (c.unwrap-2.result ∷ []) in
     let few = c.requires.left.few in

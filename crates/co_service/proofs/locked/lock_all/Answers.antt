@@ -7,20 +7,20 @@ use Rattle.co_service.proofs.locked.lock_all.Goals as goal
 
 pub new-requires : goal.new-requires
 new-requires g c =
-    let at = c.loop-bench in
+    let at = c.loop-parts in
     let i = at.invariant in
-    let x = c.in-Some.bench in
-    let steps : into_iter_items at.bench-iterator ≡ x ∷ into_iter_items c.next.new.self = c.in-Some.ensures.steps.0 in
-    let all = ap (λ l. at.yielded ++ l) (sym steps) ∙ (i.yields ∙ c.into_iter-bench-iterator.ensures.into_iter_gives.0) in
-    let here : slice_get c.args.benches.items at.cpu ≡ Some x = ap (λ l. slice_get l at.cpu) (sym all) ∙ (ap (slice_get (at.yielded ++ x ∷ into_iter_items c.next.new.self)) i.at ∙ get_mid at.yielded x (into_iter_items c.next.new.self)) in
-    c.requires.benches.each at.cpu x here
+    let x = c.in-Some.parts in
+    let steps : into_iter_items at.parts-iterator ≡ x ∷ into_iter_items c.next.new.self = c.in-Some.ensures.steps.0 in
+    let all = ap (λ l. at.yielded ++ l) (sym steps) ∙ (i.yields ∙ c.into_iter-parts-iterator.ensures.into_iter_gives.0) in
+    let here : slice_get c.args.all_parts.items at.cpu ≡ Some x = ap (λ l. slice_get l at.cpu) (sym all) ∙ (ap (slice_get (at.yielded ++ x ∷ into_iter_items c.next.new.self)) i.at ∙ get_mid at.yielded x (into_iter_items c.next.new.self)) in
+    c.requires.all_parts.each at.cpu x here
 
-pub loop-bench-preserved : goal.loop-bench-preserved
-loop-bench-preserved g c =
-    let at = c.loop-bench in
+pub loop-parts-preserved : goal.loop-parts-preserved
+loop-parts-preserved g c =
+    let at = c.loop-parts in
     let i = at.invariant in
-    let x = c.in-Some.bench in
-    let steps : into_iter_items at.bench-iterator ≡ x ∷ into_iter_items c.next.new.self = c.in-Some.ensures.steps.0 in
+    let x = c.in-Some.parts in
+    let steps : into_iter_items at.parts-iterator ≡ x ∷ into_iter_items c.next.new.self = c.in-Some.ensures.steps.0 in
     record {
       yields = append_assoc at.yielded (x ∷ []) _ ∙ rw (← steps) i.yields;
       left = (let was = i.left in let gone = c.in-Some.ensures.steps.1 in let short = ap length steps in omega arith);

@@ -6,7 +6,7 @@ use Rattle.co_object.specs.declared.queue.QReply.TheVariants.{Empty, Got}
 use Rattle.co_object.specs.declared.queue.QOp.{QOp}
 use Rattle.co_object.specs.Journal.{IsOfItsActor}
 use Rattle.co_service.specs.Books.{BooksView, entries_at}
-use Rattle.co_service.specs.Outcomes.{turn}
+use Rattle.co_service.specs.Outcomes.{queue_entry_by}
 use Rattle.co_service.specs.Params.{actors_of}
 use Rattle.co_service.specs.Services.{run_entry}
 use Rattle.co_service.specs.Views.{PassesView}
@@ -23,7 +23,7 @@ returns-in-None g c =
       books = search rules;
       told = record {
         popped = record { place = refl; entry = refl };
-        written = (q, (c.write_turn-pop.new.books.journal, subst (λ (o : QOp). WritesEntry cpu_kind p c.args.books.now.cpu (turn p c.args.act o Empty) c.write_turn-pop.result c.write_turn-pop.new.books.journal q) c.pop-op.ensures c.write_turn-pop.ensures.written), refl);
+        written = (q, (c.write_turn-pop.new.books.journal, subst (λ (o : QOp). WritesEntry cpu_kind p c.args.books.now.cpu (queue_entry_by p c.args.act o Empty) c.write_turn-pop.result c.write_turn-pop.new.books.journal q) c.pop-op.ensures c.write_turn-pop.ensures.written), refl);
       };
       seen = search rules;
     }
@@ -46,7 +46,7 @@ returns-in-Some g c =
         entry = refl;
         written = (
           q,
-          (c.write_turn-pop-in-Some.new.books.journal, subst (λ (o : QOp). WritesEntry cpu_kind p c.args.books.now.cpu (turn p c.args.act o (Got x.i x.n x.at)) c.write_turn-pop-in-Some.result c.write_turn-pop-in-Some.new.books.journal q) c.pop-op.ensures c.write_turn-pop-in-Some.ensures.written),
+          (c.write_turn-pop-in-Some.new.books.journal, subst (λ (o : QOp). WritesEntry cpu_kind p c.args.books.now.cpu (queue_entry_by p c.args.act o (Got x.i x.n x.at)) c.write_turn-pop-in-Some.result c.write_turn-pop-in-Some.new.books.journal q) c.pop-op.ensures c.write_turn-pop-in-Some.ensures.written),
           (r, (after, subst (λ (t : ℕ × ℕ × Reply). WritesEntry timer_kind q x.i (record { actor = t.0; act = c.args.act; op = Run (Pick x.n t.1 x.at); reply = t.2 }) c.enter_run-pick.result after r) (λ k. (acted k, cpu k, said k)) c.enter_run-pick.ensures.written), refl),
         );
       };

@@ -9,7 +9,7 @@ use Rattle.co_service.specs.Call.{notes_in}
 use Rattle.co_service.specs.Serving.{Runs}
 use Rattle.co_timers.specs.Handles.{HandleView}
 use Rattle.co_timers.specs.Ports.{handle_of}
-use Rattle.co_timers.specs.Rounds.{IsFor, RunsIf, drain_of, fire_of, func_in}
+use Rattle.co_timers.specs.Rounds.{AreNeedsOf, RunsIf, drain_of, fire_of, func_in}
 use Rattle.co_timers.proofs.Fires.{fire_exists}
 use Rattle.co_timers.proofs.Kept.{runs_about, runs_free}
 use Rattle.co_timers.proofs.rounds.serve.Goals as goal
@@ -26,7 +26,7 @@ finish-made-requires g c =
     (record { passes = c.begin_lane-said.new.passes; act = c.args.lane.act }) (handle_of c.run_if-ran.result) c.run_if-ran.ensures.runs c.begin_lane-said.ensures.about
 
 pub drained_if-over-requires-clause-needs : goal.drained_if-over-requires-clause-needs
-drained_if-over-requires-clause-needs g c = subst (λ (n : Needs). IsFor n c.args.timers.now.params) (sym c.run_if-ran.ensures.needs) c.requires.needs
+drained_if-over-requires-clause-needs g c = subst (λ (n : Needs). AreNeedsOf n c.args.timers.now.params) (sym c.run_if-ran.ensures.needs) c.requires.needs
 
 pub returns-clause-service : goal.returns-clause-service
 returns-clause-service g c =

@@ -5,7 +5,7 @@ use Rattle.co_hand.specs.Handlers.{Needs}
 use Rattle.co_timers.specs.declared.turned.Round.{Round}
 use Rattle.co_timers.specs.declared.turned.Served.{Served}
 use Rattle.co_timers.specs.Ports.{handle_of}
-use Rattle.co_timers.specs.Rounds.{AreRounds, IsNext, IsRound, again, start}
+use Rattle.co_timers.specs.Rounds.{AreRounds, IsNextRound, IsRound, again, start}
 use Rattle.co_timers.proofs.rounds.serve_all.Goals as goal
 
 pub loop-init : goal.loop-init
@@ -14,7 +14,7 @@ loop-init g c = record { at_ease = c.requires.at_ease; needs = refl; rounds = st
 pub loop-preserved : goal.loop-preserved
 loop-preserved g c =
     let first : Needs = g.H.Handler.needs c.args.handler.now in
-    let next = subst (λ (o : Option Round). IsNext c.args.direct (g.H.Handler.needs c.loop.handler) c.args.scans c.args.cpu c.args.act (handle_of c.loop.here) o (handle_of c.round-next.result.0)) c.in-Some-one.is c.round-next.ensures.next in
+    let next = subst (λ (o : Option Round). IsNextRound c.args.direct (g.H.Handler.needs c.loop.handler) c.args.scans c.args.cpu c.args.act (handle_of c.loop.here) o (handle_of c.round-next.result.0)) c.in-Some-one.is c.round-next.ensures.next in
     let one = subst (λ (n : Needs). IsRound c.args.direct n c.args.cpu c.args.act (handle_of c.loop.here) c.in-Some-one.one (handle_of c.round-next.result.0)) c.loop.invariant.needs next in record {
       at_ease = c.round-next.ensures.at_ease;
       needs = c.round-next.ensures.needs ∙ c.loop.invariant.needs;

@@ -1,7 +1,7 @@
 -- The listener has counted the notes of the script's walk.
 use Rattle.std.proofs.Common.{◌≡◌, ◌≤◌, List, ap, sym, subst, ◌∙◌, arith}
 use Rattle.co_object.specs.declared.note.Note.{Note}
-use Rattle.co_listener.specs.Made.{lists_by}
+use Rattle.co_listener.specs.MadeNotes.{lists_by}
 use Rattle.co_program.specs.declared.script.Script.{Script}
 use Rattle.co_program.specs.Actors.{actor_count}
 use Rattle.co_program.specs.Runs.{actors_of}

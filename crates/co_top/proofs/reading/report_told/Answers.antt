@@ -1,7 +1,7 @@
 -- The listener has the notes of the script's walk, and prints their report.
 use Rattle.std.proofs.Common.{◌≡◌, ◌≤◌, ℕ, true, List, Result, Ok, Err, IfOk, ap, sym, subst, ◌∙◌, arith}
 use Rattle.std.specs.List.{concat}
-use Rattle.co_listener.specs.Made.{Made, IsInOrder, lists_by}
+use Rattle.co_listener.specs.MadeNotes.{MadeNote, IsInOrder, lists_by}
 use Rattle.co_program.specs.declared.script.Script.{Script}
 use Rattle.co_program.specs.Actors.{actor_count}
 use Rattle.co_program.specs.Runs.{IsRunOf}
@@ -30,8 +30,8 @@ pub tell_walk-requires-clause-script : goal.tell_walk-requires-clause-script
 tell_walk-requires-clause-script g c = fits-accepted c.args.script.now c.requires.fits
 
 -- the printed text is the report of the walk
-reported : {E : Type 0} (s t : Script) (x : Written) (made : List Made) (r : Result (List (List ℕ)) E) → s ≡ t → fits s ≡ true → IsTelling s made → IsToldOf t x made
-    → IfOk r (λ pieces. (all : List Made) → IsToldOf t x all → IsInOrder all → concat pieces ≡ report_of t (lists_by (actor_count t) all)) → IfOk r (λ pieces. IsReportOfWalk s (concat pieces))
+reported : {E : Type 0} (s t : Script) (x : Written) (made : List MadeNote) (r : Result (List (List ℕ)) E) → s ≡ t → fits s ≡ true → IsTelling s made → IsToldOf t x made
+    → IfOk r (λ pieces. (all : List MadeNote) → IsToldOf t x all → IsInOrder all → concat pieces ≡ report_of t (lists_by (actor_count t) all)) → IfOk r (λ pieces. IsReportOfWalk s (concat pieces))
 reported s t x made (Ok pieces) same fit telling told shown = record {
   lists = lists_by (actor_count s) made;
   walk = telling.walk;

@@ -7,11 +7,11 @@ use Rattle.co_lock.specs.declared.held.Held.{Held}
 use Rattle.co_lock.specs.Service.{hold_of}
 use Rattle.co_object.specs.declared.spec.LockUse.TheVariants.{Free}
 use Rattle.co_service.specs.Params.{IsSpec, spec_at}
-use Rattle.co_timers.specs.Timers.{MayTake}
+use Rattle.co_lock.specs.Locks.{CanBeHeld}
 use Rattle.embedding_example.specs.Example.{example}
 use Rattle.embedding_example.proofs.parts.boot.Goals as goal
 
-no_lock : (i : ℕ) (held : Held) → hold_of (spec_at example i).lock ≡ Some held → MayTake [] held.exclusive held.id
+no_lock : (i : ℕ) (held : Held) → hold_of (spec_at example i).lock ≡ Some held → CanBeHeld [] held.exclusive held.id
 no_lock zero held h = absurd (cc)
 no_lock (suc i) held h = absurd (cc)
 

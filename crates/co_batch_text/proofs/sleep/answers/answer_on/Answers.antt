@@ -7,7 +7,7 @@ use Rattle.co_batch.specs.Answers.{answers}
 use Rattle.co_service.specs.Closing.{AreEnded, AreEndedCpus}
 use Rattle.co_service.specs.Services.{IsFree}
 use Rattle.co_service.specs.declared.params.Params.{Params}
-use Rattle.co_sleepq.specs.Closing.{services}
+use Rattle.co_sleepq.specs.Closing.{service_passes}
 use Rattle.co_sleepq.specs.Fresh.{AreFreshPasses, QueueName, fresh_passes}
 use Rattle.co_sleepq.specs.Params.{sleepers}
 use Rattle.co_sleepq.specs.Views.{SleepPassesView}
@@ -58,6 +58,6 @@ returns-clause-end g c =
     let q = c.answer_all.new.cpu in
     let all : c.into_seq.result ≡ q ∷ [] = c.into_seq.ensures ∙ (c.push.ensures.items ∙ ap (λ l. l ++ q ∷ []) (c.in_ok-reserve.ensures.items ∙ (c.from_seq-back.ensures ∙ c.new.ensures))) in
     let done : AreObeyed b.count b.commands (fresh_passes c.args.fresh.name c.args.fresh.params 0) q = subst (λ (v : SleepPassesView). AreObeyed b.count b.commands v q) x (subst (λ cs. AreObeyed b.count cs c.unwrap-cpu.result q) c.commands.ensures.value (subst (λ (m : ℕ). AreObeyed m c.commands.result.now c.unwrap-cpu.result q) n c.in_ok-answer_all.ensures.answered.obeyed)) in
-    let timers : AreEnded c.args.fresh.params (q.service ∷ []) c.close.result.timers = subst (λ (p : Params). AreEnded p (q.service ∷ []) c.close.result.timers) same (subst (λ l. AreEnded c.in_ok-queue.queue (services l) c.close.result.timers) all c.close.ensures.timers) in
-    let cpus : AreEndedCpus c.args.fresh.params (q.service ∷ []) c.close.result.cpus = subst (λ (p : Params). AreEndedCpus p (q.service ∷ []) c.close.result.cpus) same (subst (λ l. AreEndedCpus c.in_ok-queue.queue (services l) c.close.result.cpus) all c.close.ensures.cpus) in
+    let timers : AreEnded c.args.fresh.params (q.service ∷ []) c.close.result.timers = subst (λ (p : Params). AreEnded p (q.service ∷ []) c.close.result.timers) same (subst (λ l. AreEnded c.in_ok-queue.queue (service_passes l) c.close.result.timers) all c.close.ensures.timers) in
+    let cpus : AreEndedCpus c.args.fresh.params (q.service ∷ []) c.close.result.cpus = subst (λ (p : Params). AreEndedCpus p (q.service ∷ []) c.close.result.cpus) same (subst (λ l. AreEndedCpus c.in_ok-queue.queue (service_passes l) c.close.result.cpus) all c.close.ensures.cpus) in
     ends b.count c.args.fresh.name c.args.fresh.params c.requires.booted.named c.requires.booted.params_are b q c.close.result refl done (c.answer_all.ensures.cpu.of.params_are ∙ same) timers cpus

@@ -4,7 +4,7 @@ use Rattle.std.specs.Prelude.{nat_lt}
 use Rattle.std.proofs.lemmas.Bool.Decides.{nat_tests}
 use Rattle.co_batch_text.specs.Sleep.Commands.{fits}
 use Rattle.co_sleepq.specs.Params.{sleepers}
-use Rattle.co_sleepq.specs.Shared.{Tells}
+use Rattle.co_sleepq.specs.Shared.{TellsReply}
 use Rattle.co_sleepq.specs.Ticks.{IsTicked}
 use Rattle.co_sleepq.specs.Timers.{IsAwake, IsSlept}
 use Rattle.co_sleepq.specs.declared.op.SleepOp.TheVariants as op
@@ -28,12 +28,12 @@ sleep-below n i chan timo h = (let low : nat_lt i n ≡ true = first-of (nat_lt 
 pub returns-in-Wakeup-clause-obeyed : goal.returns-in-Wakeup-clause-obeyed
 returns-in-Wakeup-clause-obeyed g c = λ clocked m now.
     subst (λ (x : SleepCommand). IsObeyed (sleepers c.args.queue.now) clocked x c.args.cpu.now c.wakeup.new.passes × (Told c.wakeup.result ≡ (obey (sleepers c.args.queue.now) clocked x).1)) (sym c.in-Wakeup.is)
-    (wakeup_obeyed (sleepers c.args.queue.now) clocked c.args.cpu.now c.wakeup.new.passes m c.in-Wakeup.chan c.wakeup.result (subst (λ n. Tells n c.args.cpu.now (op.Wakeup c.in-Wakeup.chan) c.wakeup.result c.wakeup.new.passes) c.requires.alone c.wakeup.ensures.told))
+    (wakeup_obeyed (sleepers c.args.queue.now) clocked c.args.cpu.now c.wakeup.new.passes m c.in-Wakeup.chan c.wakeup.result (subst (λ n. TellsReply n c.args.cpu.now (op.Wakeup c.in-Wakeup.chan) c.wakeup.result c.wakeup.new.passes) c.requires.alone c.wakeup.ensures.told))
 
 pub returns-in-WakeupOne-clause-obeyed : goal.returns-in-WakeupOne-clause-obeyed
 returns-in-WakeupOne-clause-obeyed g c = λ clocked m now.
     subst (λ (x : SleepCommand). IsObeyed (sleepers c.args.queue.now) clocked x c.args.cpu.now c.wakeup_one.new.passes × (Told c.wakeup_one.result ≡ (obey (sleepers c.args.queue.now) clocked x).1)) (sym c.in-WakeupOne.is)
-    (wakeup_one_obeyed (sleepers c.args.queue.now) clocked c.args.cpu.now c.wakeup_one.new.passes m c.in-WakeupOne.chan c.wakeup_one.result (subst (λ n. Tells n c.args.cpu.now (op.WakeupOne c.in-WakeupOne.chan) c.wakeup_one.result c.wakeup_one.new.passes) c.requires.alone c.wakeup_one.ensures.told))
+    (wakeup_one_obeyed (sleepers c.args.queue.now) clocked c.args.cpu.now c.wakeup_one.new.passes m c.in-WakeupOne.chan c.wakeup_one.result (subst (λ n. TellsReply n c.args.cpu.now (op.WakeupOne c.in-WakeupOne.chan) c.wakeup_one.result c.wakeup_one.new.passes) c.requires.alone c.wakeup_one.ensures.told))
 
 pub returns-in-Tick-clause-obeyed : goal.returns-in-Tick-clause-obeyed
 returns-in-Tick-clause-obeyed g c = λ clocked m now.

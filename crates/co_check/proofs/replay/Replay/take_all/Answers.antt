@@ -6,8 +6,8 @@ use Rattle.co_program.specs.declared.script.Script.{Script}
 use Rattle.co_program.specs.Actors.{actor_count}
 use Rattle.co_report.specs.declared.line.Line.{Line}
 use Rattle.co_report.specs.PackedLines.{line_of}
-use Rattle.co_check.specs.Astray.{Seen, seen_from}
-use Rattle.co_check.specs.Numbers.{AreCounts}
+use Rattle.co_check.specs.Astray.{SeenLine, seen_from}
+use Rattle.co_check.specs.Numbers.{AreActorCounts}
 use Rattle.co_check.specs.Replay.{unfit_at}
 use Rattle.co_check.specs.Replayed.{IsAfter, fact_of}
 use Rattle.co_check.specs.Lines.{lines_max}
@@ -16,7 +16,7 @@ use Rattle.co_check.proofs.Noted.{fits-at}
 use Rattle.co_check.proofs.replay.Replay.take_all.Goals as goal
 
 -- what is said of the lines after this one
-abbrev rest : Script → List Line → ℕ → List Seen
+abbrev rest : Script → List Line → ℕ → List SeenLine
 rest s lines i = seen_from s (take (i + 1) lines) (drop (i + 1) lines)
 
 pub loop-at-preserved : goal.loop-at-preserved
@@ -33,7 +33,7 @@ loop-at-preserved c =
       after = subst (λ above. IsAfter s above c.take.new.self) (sym (front lines i l here)) taken.1;
       rest = c.loop-at.invariant.rest ∙ first-on (λ above x. unfit_at s above x.place x.entry) lines i l here taken.0;
       counted =
-          subst (λ above. AreCounts (actor_count s) above c.count_note.new.counts.items) (sym (front lines i l here))
+          subst (λ above. AreActorCounts (actor_count s) above c.count_note.new.counts.items) (sym (front lines i l here))
           (c.count_note.ensures (actor_count s) ahead.0 (take i lines) c.loop-at.invariant.counted);
       facts =
           ap (λ xs. xs ++ map fact_of (rest s lines i)) c.in_ok-push-in-Ok.ensures.ok

@@ -1,6 +1,6 @@
--- The books and the depot before the first step stand for the world that opens.
+-- The ledger and the depot before the first step stand for the world that opens.
 use Rattle.co_core.proofs.opening.Shown.{opening-stands}
 use Rattle.co_core.proofs.engine.Engine.boot.Goals as goal
 
 pub returns : goal.returns
-returns c = opening-stands c.args.script.now c.in_ok-books.books c.in_ok-depot.depot c.requires c.in_ok-books.ensures c.in_ok-depot.ensures
+returns c = opening-stands c.args.script.now c.in_ok-ledger.ledger c.in_ok-depot.depot c.requires c.in_ok-ledger.ensures c.in_ok-depot.ensures

@@ -1,4 +1,4 @@
--- The books go on as the plain world does.
+-- The ledger goes on as the plain world does.
 use Rattle.std.proofs.Common.{ap, arith, length, sym, subst}
 use Rattle.co_program.specs.Action.{Silent, Take}
 use Rattle.co_program.specs.Cursor.{Cursor}
@@ -16,7 +16,7 @@ returns-clause-silent c =
     let by = c.go.ensures in record {
       stands = λ w stands due.
           subst (λ (b : Written). StandsFor s b c.args.self.now.depot (step s w a)) (sym by.went)
-          (stands_silent s c.args.self.now.books c.args.self.now.depot w a by.to stands due.may by.counts
+          (stands_silent s c.args.self.now.ledger c.args.self.now.depot w a by.to stands due.may by.counts
           (subst (λ (x : Cursor). IsDue s w a (Silent x)) (sym by.place) due));
       told = ap (λ (x : Written). x.told) by.went;
       count = (let same = ap (λ (x : Written). length (list_at x a)) by.went in omega (arith, same));
@@ -29,7 +29,7 @@ returns-clause-take c held =
     let by = c.go.ensures in record {
       stands = λ w stands due.
           subst (λ (b : Written). StandsFor s b c.args.self.now.depot (step s w a)) (sym by.went)
-          (stands_take s c.args.self.now.books c.args.self.now.depot w a by.to stands due.may by.counts held
+          (stands_take s c.args.self.now.ledger c.args.self.now.depot w a by.to stands due.may by.counts held
           (subst (λ (x : Cursor). IsDue s w a (Take held x)) (sym by.place) due));
       told = ap (λ (x : Written). x.told) by.went;
       count = (let same = ap (λ (x : Written). length (list_at x a)) by.went in omega (arith, same));

@@ -1,4 +1,4 @@
--- A lock is held in the books where an actor of the world has it.
+-- A lock is held in the ledger where an actor of the world has it.
 use Rattle.std.proofs.Common.{subst, sym, ◌∙◌}
 use Rattle.co_core.specs.Resting.{IsKeptOut}
 use Rattle.co_core.proofs.steps.Waits.{locked-is}
@@ -6,4 +6,4 @@ use Rattle.co_core.proofs.engine.Engine.keeps_out.Goals as goal
 
 pub returns-in-Some : goal.returns-in-Some
 returns-in-Some c out s w h =
-    subst (IsKeptOut s w) (sym c.in-Some.is) (sym (locked-is s c.args.self.now.books w h c.in-Some.held) ∙ (sym c.is_locked.ensures ∙ out))
+    subst (IsKeptOut s w) (sym c.in-Some.is) (sym (locked-is s c.args.self.now.ledger w h c.in-Some.held) ∙ (sym c.is_locked.ensures ∙ out))

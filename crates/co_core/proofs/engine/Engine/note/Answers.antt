@@ -4,7 +4,7 @@ use Rattle.co_core.proofs.steps.Undue.{list_row}
 use Rattle.co_core.proofs.engine.Engine.note.Goals as goal
 
 pub open-requires : goal.open-requires
-open-requires c = let m = c.requires in list_row c.args.script.now c.args.self.now.books m.world m.stands.written c.args.actor m.due.may
+open-requires c = let m = c.requires in list_row c.args.script.now c.args.self.now.ledger m.world m.stands.written c.args.actor m.due.may
 
 pub ask-count-requires : goal.ask-count-requires
 ask-count-requires c = may_act c.args.script.now c.args.self.now c.args.actor _ c.open.new.self c.in_ok-hand.hand c.requires c.in_ok-hand.ensures.ok

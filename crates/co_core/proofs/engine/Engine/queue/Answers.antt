@@ -10,17 +10,17 @@ use Rattle.co_core.proofs.engine.Engine.queue.Goals as goal
 
 pub unreachable-requires : goal.unreachable-requires
 unreachable-requires c =
-    never_removes c.args.script.now c.requires.script (with_hand c.args.self.now.books c.args.hand.now) c.args.self.now.depot c.requires.world c.requires.held c.args.hand.now.actor c.args.act c.args.cpu c.in-Remove.i
+    never_removes c.args.script.now c.requires.script (with_hand c.args.self.now.ledger c.args.hand.now) c.args.self.now.depot c.requires.world c.requires.held c.args.hand.now.actor c.args.act c.args.cpu c.in-Remove.i
     (subst (λ (op : QOp). IsDue c.args.script.now c.requires.world c.args.hand.now.actor (Asks c.args.act (Queue c.args.cpu op))) c.in-Remove.is c.requires.due)
 
 pub unreachable-requires-in-Free : goal.unreachable-requires-in-Free
 unreachable-requires-in-Free c =
-    never_frees c.args.script.now c.requires.script (with_hand c.args.self.now.books c.args.hand.now) c.args.self.now.depot c.requires.world c.requires.held c.args.hand.now.actor c.args.act c.args.cpu
+    never_frees c.args.script.now c.requires.script (with_hand c.args.self.now.ledger c.args.hand.now) c.args.self.now.depot c.requires.world c.requires.held c.args.hand.now.actor c.args.act c.args.cpu
     (subst (λ (op : QOp). IsDue c.args.script.now c.requires.world c.args.hand.now.actor (Asks c.args.act (Queue c.args.cpu op))) c.in-Free.is c.requires.due)
 
 pub unreachable-requires-in-FreeDirect : goal.unreachable-requires-in-FreeDirect
 unreachable-requires-in-FreeDirect c =
-    never_frees_direct c.args.script.now c.requires.script (with_hand c.args.self.now.books c.args.hand.now) c.args.self.now.depot c.requires.world c.requires.held c.args.hand.now.actor c.args.act c.args.cpu
+    never_frees_direct c.args.script.now c.requires.script (with_hand c.args.self.now.ledger c.args.hand.now) c.args.self.now.depot c.requires.world c.requires.held c.args.hand.now.actor c.args.act c.args.cpu
     (subst (λ (op : QOp). IsDue c.args.script.now c.requires.world c.args.hand.now.actor (Asks c.args.act (Queue c.args.cpu op))) c.in-FreeDirect.is c.requires.due)
 
 pub land-requires : goal.land-requires

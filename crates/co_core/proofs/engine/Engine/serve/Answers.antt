@@ -11,7 +11,7 @@ use Rattle.co_core.proofs.engine.Engine.serve.Goals as goal
 
 pub unreachable-requires : goal.unreachable-requires
 unreachable-requires c =
-    never_picks c.args.script.now c.requires.script (with_hand c.args.self.now.books c.args.hand.now) c.args.self.now.depot c.requires.world c.requires.held c.args.hand.now.actor c.args.act c.args.i c.in-Pick.n c.in-Pick.cpu c.in-Pick.at
+    never_picks c.args.script.now c.requires.script (with_hand c.args.self.now.ledger c.args.hand.now) c.args.self.now.depot c.requires.world c.requires.held c.args.hand.now.actor c.args.act c.args.i c.in-Pick.n c.in-Pick.cpu c.in-Pick.at
     (subst (λ (op : RunOp). IsDue c.args.script.now c.requires.world c.args.hand.now.actor (Asks c.args.act (Callout c.args.i (Run op)))) c.in-Pick.is c.requires.due)
 
 pub begin-requires : goal.begin-requires

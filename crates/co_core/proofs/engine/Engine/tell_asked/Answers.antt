@@ -8,7 +8,7 @@ use Rattle.co_core.proofs.engine.Engine.tell_asked.Goals as goal
 pub wanted_after-wanted-requires : goal.wanted_after-wanted-requires
 wanted_after-wanted-requires g c =
     let at = c.requires.may in
-    let long = (c.in_ok-turn.ensures.told.told at.world at.told).told.stands.written.places_long in
+    let long = (c.in_ok-turn.ensures.told.told at.world at.told).told.stands.written.cursors_long in
     let actor = c.requires.actor in
     omega (arith, long, actor)
 

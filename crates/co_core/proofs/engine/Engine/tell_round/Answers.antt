@@ -3,7 +3,7 @@ use Rattle.std.specs.List.{range_with_len}
 use Rattle.co_program.specs.Actors.{actor_count}
 use Rattle.co_core.specs.Resting.{IsKnown}
 use Rattle.co_world.specs.Step.{step}
-use Rattle.co_core.specs.Telling.{GoesOn}
+use Rattle.co_core.specs.Telling.{TellsOn}
 use Rattle.co_world.specs.Walk.{run, HasFinished}
 use Rattle.co_world.specs.World.{World}
 use Rattle.co_world.proofs.basics.Changes.{decide}
@@ -32,7 +32,7 @@ loop-actor-preserved g c =
           (let at = run s w (range_with_len 0 i) in
           let before = c.loop-actor.invariant.told w h have in
           let after = c.in_ok-done.ensures.told at before.0.told before.1 in
-          subst (λ (v : World). GoesOn s has c.tell_unless_resting.new.self c.args.listener.now c.tell_unless_resting.new.listener w v × IsKnown s v known) (sym (run_more s w (range_with_len 0 i) i) ∙ ap (λ (xs : List ℕ). run s w xs) (range-more i))
+          subst (λ (v : World). TellsOn s has c.tell_unless_resting.new.self c.args.listener.now c.tell_unless_resting.new.listener w v × IsKnown s v known) (sym (run_more s w (range_with_len 0 i) i) ∙ ap (λ (xs : List ℕ). run s w xs) (range-more i))
           (further s has c.loop-actor.self c.tell_unless_resting.new.self c.args.listener.now c.loop-actor.listener c.tell_unless_resting.new.listener w at (step s at i) before.0 after.0, after.1));
       finished = elim c.if-finished.branch [
         | then-finished b ↦ (λ all w h have.
@@ -54,7 +54,7 @@ returns g c =
     let whole : c.loop-actor.actor ≡ actor_count s = omega (arith, c.loop-actor.auto.actor-end, c.loop-actor-test.false, c.actor_count-actor-end.ensures) in record {
       world = c.loop-actor.invariant.world;
       told = λ w h have.
-          subst (λ (n : ℕ). GoesOn s g.N.Listener.has c.loop-actor.self c.args.listener.now c.loop-actor.listener w (run s w (range_with_len 0 n)) × IsKnown s (run s w (range_with_len 0 n)) c.loop-actor.resting) whole
+          subst (λ (n : ℕ). TellsOn s g.N.Listener.has c.loop-actor.self c.args.listener.now c.loop-actor.listener w (run s w (range_with_len 0 n)) × IsKnown s (run s w (range_with_len 0 n)) c.loop-actor.resting) whole
           (c.loop-actor.invariant.told w h have);
       finished = λ all w h have.
           (let rest = c.loop-actor.invariant.finished all w h have in (

@@ -1,6 +1,6 @@
 use Rattle.std.proofs.Common.{◌∙◌, subst, inl, refl, arith}
 use Rattle.co_core.specs.Resting.{IsKnown}
-use Rattle.co_core.specs.Telling.{GoesOn}
+use Rattle.co_core.specs.Telling.{TellsOn}
 use Rattle.co_world.specs.Walk.{round, rounds}
 use Rattle.co_world.specs.World.{World}
 use Rattle.co_world.proofs.measure.Rounds.{counted-more, counted-all, rounds-more}
@@ -27,7 +27,7 @@ returns-then-branch g c =
           let all = c.in_ok-tell_round.ensures.finished c.if-branch.true (rounds s w k) at.0.told at.1 in
           let after = c.in_ok-tell_round.ensures.told (rounds s w k) at.0.told at.1 in
           let both = further s g.N.Listener.has c.loop-round.self c.tell_round.new.self c.args.listener.now c.loop-round.listener c.tell_round.new.listener w (rounds s w k) (round s (rounds s w k)) at.0 after.0 in
-          (k, subst (λ (v : World). GoesOn s g.N.Listener.has c.tell_round.new.self c.args.listener.now c.tell_round.new.listener w v) all.1 both, all.0));
+          (k, subst (λ (v : World). TellsOn s g.N.Listener.has c.tell_round.new.self c.args.listener.now c.tell_round.new.listener w v) all.1 both, all.0));
       actors = c.tell_round.ensures.actors ∙ c.loop-round.invariant.actors;
     }
 
@@ -40,7 +40,7 @@ loop-round-preserved g c =
           (let before = c.loop-round.invariant.told w h have in
           let after = c.in_ok-tell_round.ensures.told (rounds s w k) before.0.told before.1 in
           let both = further s g.N.Listener.has c.loop-round.self c.tell_round.new.self c.args.listener.now c.loop-round.listener c.tell_round.new.listener w (rounds s w k) (round s (rounds s w k)) before.0 after.0 in (
-            subst (λ (v : World). GoesOn s g.N.Listener.has c.tell_round.new.self c.args.listener.now c.tell_round.new.listener w v) (rounds-more s w k) both,
+            subst (λ (v : World). TellsOn s g.N.Listener.has c.tell_round.new.self c.args.listener.now c.tell_round.new.listener w v) (rounds-more s w k) both,
             subst (λ (v : World). IsKnown s v c.tell_round.new.resting) (rounds-more s w k) after.1,
             λ ok. counted-more s ok w k before.0.told.stands.reached (before.2 ok),
           ));

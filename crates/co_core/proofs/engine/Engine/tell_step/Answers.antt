@@ -2,7 +2,7 @@
 use Rattle.std.proofs.Common.{rules, ◌≡◌, false, ◌+◌, ◌<◌, ◌≤◌, ◌^◌, arith, length, refl, subst, sym, ◌∙◌}
 use Rattle.co_core.specs.declared.engine.Engine.{Engine}
 use Rattle.co_world.specs.Step.{step}
-use Rattle.co_core.specs.Telling.{GoesOn}
+use Rattle.co_core.specs.Telling.{TellsOn}
 use Rattle.co_core.specs.Written.{Written, list_at, told_at}
 use Rattle.co_core.proofs.walked.Told.{quiet_told, step_told, told_few}
 use Rattle.co_core.proofs.steps.Undue.{list_row}
@@ -25,21 +25,21 @@ tell-requires-clause-may g c =
     let s = c.args.script.now in
     let at = c.requires.may in
     let a = c.args.actor in
-    let books = c.step.new.self.books in
+    let ledger = c.step.new.self.ledger in
     let written = (c.in_ok-turn.ensures.stands at.world at.told.stands).written in
-    let few : told_at books a + length (list_at books a) ≤ books.made = told_few s books (step s at.world a) a written c.requires.actor in
-    let most : books.made < 2 ^ 63 = c.is_full.ensures c.if-is_full.false in
+    let few : told_at ledger a + length (list_at ledger a) ≤ ledger.made = told_few s ledger (step s at.world a) a written c.requires.actor in
+    let most : ledger.made < 2 ^ 63 = c.is_full.ensures c.if-is_full.false in
     let long = written.told_long in
     let actor = c.requires.actor in
-    record { list = list_row s books (step s at.world a) written a actor; told = omega (arith, long, actor); few = omega (arith, few, most) }
+    record { list = list_row s ledger (step s at.world a) written a actor; told = omega (arith, long, actor); few = omega (arith, few, most) }
 
 pub returns-clause-told : goal.returns-clause-told
 returns-clause-told g c =
     let s = c.args.script.now in
     let a = c.args.actor in
-    let engine : Written → Engine = λ books. record { books = books; depot = c.step.new.self.depot } in record {
+    let engine : Written → Engine = λ ledger. record { ledger = ledger; depot = c.step.new.self.depot } in record {
       told = λ w h.
-          subst (λ (books : Written). GoesOn s g.N.Listener.has (engine books) c.args.listener.now c.tell.new.listener w (step s w a)) (sym c.in_ok-tell.ensures.let_go)
+          subst (λ (ledger : Written). TellsOn s g.N.Listener.has (engine ledger) c.args.listener.now c.tell.new.listener w (step s w a)) (sym c.in_ok-tell.ensures.let_go)
           (step_told s g.N.Listener.has c.args.self.now c.step.new.self c.args.listener.now c.tell.new.listener w a c.requires.actor h (c.in_ok-turn.ensures.stands w h.stands) c.step.ensures.told c.in_ok-tell.ensures.has.told);
       actors = c.tell.ensures.has.actors;
     }

@@ -4,7 +4,7 @@ use Rattle.std.proofs.lemmas.List.{take_more}
 use Rattle.co_program.specs.Actors.{actor_count}
 use Rattle.co_world.specs.Step.{step}
 use Rattle.co_core.specs.Resting.{IsKnown}
-use Rattle.co_core.specs.Telling.{GoesOn}
+use Rattle.co_core.specs.Telling.{TellsOn}
 use Rattle.co_world.specs.Walk.{run}
 use Rattle.co_world.specs.World.{World}
 use Rattle.co_core.proofs.walked.Told.{further, may_tell, not_yet}
@@ -30,7 +30,7 @@ loop-actor-preserved g c =
       told = λ w h have.
           (let before = c.loop-actor.invariant.told w h have in
           let after = c.in_ok-_finished.ensures.told (run s w (take i turns)) before.0.told before.1 in
-          subst (λ (v : World). GoesOn s has c.tell_unless_resting.new.self c.args.listener.now c.tell_unless_resting.new.listener w v × IsKnown s v c.tell_unless_resting.new.resting)
+          subst (λ (v : World). TellsOn s has c.tell_unless_resting.new.self c.args.listener.now c.tell_unless_resting.new.listener w v × IsKnown s v c.tell_unless_resting.new.resting)
           (sym (run_more s w (take i turns) (get_or turns i 0)) ∙ ap (λ (xs : List ℕ). run s w xs) (sym one_more))
           (further s has c.loop-actor.self c.tell_unless_resting.new.self c.args.listener.now c.loop-actor.listener c.tell_unless_resting.new.listener w (run s w (take i turns)) (step s (run s w (take i turns)) (get_or turns i 0)) before.0 after.0, after.1));
       actors = c.tell_unless_resting.ensures.actors ∙ c.loop-actor.invariant.actors;

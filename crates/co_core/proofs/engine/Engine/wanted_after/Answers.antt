@@ -9,5 +9,5 @@ returns-then-waits_for_lock c held w is written may =
     let s = c.args.script.now in
     let a = c.args.actor in
     let next = c.takes_next.ensures held is in
-    let same : cursor_of s a c.place.result.now ≡ (w.actors a).cursor = ap (cursor_of s a) c.place.ensures ∙ written.each_place a may in
+    let same : cursor_of s a c.cursor.result.now ≡ (w.actors a).cursor = ap (cursor_of s a) c.cursor.ensures ∙ written.each_place a may in
     (next.0, ap (action_for s a) (sym same) ∙ next.1)

@@ -6,5 +6,5 @@ use Rattle.co_core.proofs.world.World.boot.Goals as goal
 pub invariant_of-result : goal.invariant_of-result
 invariant_of-result c =
     let s = c.args.script.now in
-    let books = c.in_ok-engine.engine.books in
-    record { sound = c.requires; whole = open_whole s books c.in_ok-engine.ensures.written; world = open_world s; stands = c.in_ok-engine.ensures }
+    let ledger = c.in_ok-engine.engine.ledger in
+    record { sound = c.requires; whole = open_whole s ledger c.in_ok-engine.ensures.written; world = open_world s; stands = c.in_ok-engine.ensures }

@@ -8,10 +8,10 @@ use Rattle.co_core.proofs.world.World.lists.Goals as goal
 
 pub returns-clause-lists : goal.returns-clause-lists
 returns-clause-lists c w h =
-    let whole : HasAll c.args.self.now.books = subst (λ (x : Seen). HasAll x.books) c.self.view_is c.self.invariant.whole in
-    c.lists.ensures ∙ (ap (λ (x : Seen). x.books.lists) c.self.view_is ∙ lists_whole c.args.self.now.script c.args.self.now.books w h.written whole)
+    let whole : HasAll c.args.self.now.ledger = subst (λ (x : Seen). HasAll x.ledger) c.self.view_is c.self.invariant.whole in
+    c.lists.ensures ∙ (ap (λ (x : Seen). x.ledger.lists) c.self.view_is ∙ lists_whole c.args.self.now.script c.args.self.now.ledger w h.written whole)
 
 pub returns-clause-so_far : goal.returns-clause-so_far
 returns-clause-so_far c =
     let h = c.self.invariant in
-    rw (c.lists.ensures, ← c.self.view_is, lists_whole c.self.inside.script.now c.self.inside.engine.books h.world h.stands.written h.whole) (so_far c.self.inside.script.now h.sound h.world h.stands.reached)
+    rw (c.lists.ensures, ← c.self.view_is, lists_whole c.self.inside.script.now c.self.inside.engine.ledger h.world h.stands.written h.whole) (so_far c.self.inside.script.now h.sound h.world h.stands.reached)

@@ -1,7 +1,7 @@
 use Rattle.std.proofs.Common.{sym, subst}
 use Rattle.co_single.specs.Acts.{IsNew}
 use Rattle.co_itimer.proofs.Ticking.{opens, opened}
-use Rattle.co_itimer.specs.Itimers.{IsKept, IsOpened}
+use Rattle.co_itimer.specs.Itimers.{IsBetweenTicks, IsOpened}
 use Rattle.co_itimer.proofs.itimers.Itimers.open.Goals as goal
 
 pub returns : goal.returns
@@ -17,4 +17,4 @@ invariant_of-result g c =
     let p = c.in_ok-single.single in
     let n = c.fresh.inside.processes in
     let new : IsNew n p = subst (λ m. IsNew m p) (sym c.fresh.invariant.same) c.in_ok-single.ensures in
-    subst (λ b. IsKept p b 0) (sym c.in_ok-book.ensures) (opens n p new)
+    subst (λ b. IsBetweenTicks p b 0) (sym c.in_ok-book.ensures) (opens n p new)

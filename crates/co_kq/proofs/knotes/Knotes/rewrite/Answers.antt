@@ -22,7 +22,7 @@ invariant_of-self c =
     let same : y.knote.ident ≡ x.knote.ident = sym (ap (λ s. s.knote.ident) is ∙ c.requires.there.ident_is) in
     let distinct = subst (λ k. AreDistinct k.slots) (sym c.self.view_is) c.requires.distinct in
     listed_quiet old new c.self.inside.order c.self.inside.ready c.remove.new.self c.args.key x y c.self.invariant e.value updates (distinct c.args.key x e.value) same c.remove.ensures.room
-    (omega (arith, c.insert_reserved.ensures.len, e.len)) (c.insert_reserved.ensures.capacity ∙ e.capacity) c.requires.fresh (subst (λ i. IsChanged c.self.inside.ready.places i None c.remove.new.self.places) same c.remove.ensures.changed)
+    (omega (arith, c.insert_reserved.ensures.len, e.len)) (c.insert_reserved.ensures.capacity ∙ e.capacity) c.requires.fresh (subst (λ i. IsChanged c.self.inside.ready.entries i None c.remove.new.self.entries) same c.remove.ensures.changed)
 
 pub returns-clause-put : goal.returns-clause-put
 returns-clause-put c =

@@ -1,8 +1,8 @@
 use Rattle.std.proofs.Common.{◌≡◌, ap, sym, subst, refl, ◌∙◌, arith, Some, None, set, false}
 use Rattle.slab.specs.Slab.{Slab, Updates, get, with_value}
 use Rattle.co_kq.specs.declared.knote.Slot.{Slot}
-use Rattle.co_kq.specs.Kevents.{placed, event_of}
-use Rattle.co_kq.specs.Slots.{knotes_in, slot_at, AreDistinct, IsFirstReady, Tells}
+use Rattle.co_kq.specs.Kevents.{put_in_order, event_of}
+use Rattle.co_kq.specs.Slots.{knotes_in, slot_at, AreDistinct, IsFirstReady, TellsOne}
 use Rattle.co_kq.specs.Changes.{told_slot, IsSlotChanged}
 use Rattle.co_kq.proofs.InSlots.{taken_out, written, IsFree, free_where_alone, distinct_put}
 use Rattle.co_kq.proofs.Listing.{listed_quiet, first_of, with_updates, with_len}
@@ -32,13 +32,13 @@ returns-clause-tells c =
     let rest = knotes_in (set old.slots c.args.key None) in
     let distinct = subst (λ k. AreDistinct k.slots) (sym c.self.view_is) c.requires.distinct in
     let alone = distinct c.args.key x there in
-    let base : knotes_in old.slots ≡ placed x.knote rest = taken_out old.slots c.args.key x there alone in
-    let end : knotes_in new.slots ≡ placed (quieted x.knote) rest = written old new c.args.key x y there refl (with_updates old c.args.key x y there) alone in
+    let base : knotes_in old.slots ≡ put_in_order x.knote rest = taken_out old.slots c.args.key x there alone in
+    let end : knotes_in new.slots ≡ put_in_order (quieted x.knote) rest = written old new c.args.key x y there refl (with_updates old c.args.key x y there) alone in
     let first : IsFirstReady old.slots c.args.key = first_at old.slots c.args.key x (subst (λ k. IsFirstReady k.slots c.args.key) (sym c.self.view_is) c.requires.first) there in
     let once = c.requires.again x (ap (λ k. slot_at k.slots c.args.key) (sym c.self.view_is) ∙ there) in
-    let tells : Tells (placed x.knote rest) (event_of x.knote) (placed (quieted x.knote) rest) = tells_first false x.knote rest once first.ready (behind_first old.slots c.args.key first distinct) in
-    subst (λ l. Tells l (event_of x.knote) (knotes_in new.slots)) (sym base ∙ ap (λ k. knotes_in k.slots) c.self.view_is)
-    (subst (λ l. Tells (placed x.knote rest) (event_of x.knote) l) (sym end) tells)
+    let tells : TellsOne (put_in_order x.knote rest) (event_of x.knote) (put_in_order (quieted x.knote) rest) = tells_first false x.knote rest once first.ready (behind_first old.slots c.args.key first distinct) in
+    subst (λ l. TellsOne l (event_of x.knote) (knotes_in new.slots)) (sym base ∙ ap (λ k. knotes_in k.slots) c.self.view_is)
+    (subst (λ l. TellsOne (put_in_order x.knote rest) (event_of x.knote) l) (sym end) tells)
 
 pub returns-clause-changed : goal.returns-clause-changed
 returns-clause-changed c =

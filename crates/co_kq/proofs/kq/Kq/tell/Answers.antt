@@ -1,7 +1,7 @@
 use Rattle.std.proofs.Common.{◌≡◌, ◌∙◌, ap, sym, subst, refl, arith, Option, length, set}
 use Rattle.std.specs.Option.{IfNone}
 use Rattle.co_kq.specs.declared.kevent.Event.{Event}
-use Rattle.co_kq.specs.Slots.{IsQuiet}
+use Rattle.co_kq.specs.Slots.{HasNoEvent}
 use Rattle.co_kq.proofs.Telling.{is_quiet}
 use Rattle.std.proofs.lemmas.List.{length-set}
 use Rattle.co_kq.specs.Numbers.{AreKept, left_use}
@@ -10,8 +10,8 @@ use Rattle.co_kq.proofs.kq.Kq.tell.Goals as goal
 
 pub returns-in_err-key-clause-none : goal.returns-in_err-key-clause-none
 returns-in_err-key-clause-none g c =
-    subst (λ (r : Option Event). IfNone r ((c.args.self.now.list ≡ c.args.self.now.list) × IsQuiet c.args.self.now.list.knotes)) (sym c.from_residual.ensures)
-    (refl, subst (λ b. IsQuiet b.list.knotes) c.self.view_is (is_quiet c.self.inside.knotes.slots c.in_err-key.ensures.none))
+    subst (λ (r : Option Event). IfNone r ((c.args.self.now.list ≡ c.args.self.now.list) × HasNoEvent c.args.self.now.list.knotes)) (sym c.from_residual.ensures)
+    (refl, subst (λ b. HasNoEvent b.list.knotes) c.self.view_is (is_quiet c.self.inside.knotes.slots c.in_err-key.ensures.none))
 
 pub release-requires : goal.release-requires
 release-requires g c =

@@ -1,6 +1,6 @@
 use Rattle.std.proofs.Common.{◌≡◌, ◌<◌, List, length, subst, sym}
 use Rattle.co_object.specs.declared.note.Note.{Note}
-use Rattle.co_listener.specs.Made.{lists_by}
+use Rattle.co_listener.specs.MadeNotes.{lists_by}
 use Rattle.co_listener.proofs.Grown.{put_back}
 use Rattle.co_listener.proofs.kept.KeptListsListener.write.Goals as goal
 

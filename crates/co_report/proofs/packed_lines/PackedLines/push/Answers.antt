@@ -1,6 +1,6 @@
 -- One line more, of the last stretch or of one that begins with it.
 use Rattle.std.proofs.Common.{◌≤◌, [], ◌∷◌, ◌++◌, ap, sym, ◌∙◌, arith}
-use Rattle.co_report.specs.PackedLines.{lines_from, note_of}
+use Rattle.co_report.specs.PackedLines.{lines_from, note_from_line}
 use Rattle.co_report.proofs.LinesPacked.{begun, pushed-apart, pushed-on, then-ok}
 use Rattle.co_report.proofs.packed_lines.PackedLines.push.Goals as goal
 
@@ -10,7 +10,7 @@ returns-then-is_next_of c =
     let l = c.args.line.now in
     then-ok c.push.result
     (λ pushed. ap (lines_from (x.earlier ++ x.latest ∷ []) 0) pushed
-    ∙ (pushed-on x.earlier x.latest x.notes (note_of l) c.len-at.result l.line c.len-at.ensures (sym c.is_next_of.ensures ∙ c.if-is_next_of.true)
+    ∙ (pushed-on x.earlier x.latest x.notes (note_from_line l) c.len-at.result l.line c.len-at.ensures (sym c.is_next_of.ensures ∙ c.if-is_next_of.true)
     ∙ ap (λ ls. ls ++ l ∷ []) c.self.view_is))
     c.push.ensures.ok
 
@@ -22,6 +22,6 @@ returns c =
     then-ok c.push-3.result
     (λ pushed. ap (λ ss. lines_from (ss ++ begun c.len-at.result l.line ∷ []) 0 c.push-3.new.self) c.in_ok-push.ensures.ok
     ∙ (ap (lines_from ((x.earlier ++ x.latest ∷ []) ++ begun c.len-at.result l.line ∷ []) 0) pushed
-    ∙ (pushed-apart (x.earlier ++ x.latest ∷ []) x.notes (note_of l) c.len-at.result l.line c.len-at.ensures few
+    ∙ (pushed-apart (x.earlier ++ x.latest ∷ []) x.notes (note_from_line l) c.len-at.result l.line c.len-at.ensures few
     ∙ ap (λ ls. ls ++ l ∷ []) c.self.view_is)))
     c.push-3.ensures.ok

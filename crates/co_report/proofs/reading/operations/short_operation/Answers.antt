@@ -6,7 +6,7 @@ use Rattle.co_object.specs.declared.PlainOp.TheVariants.{Stop, Pending}
 use Rattle.co_object.specs.declared.CallOp.TheVariants.{Plain}
 use Rattle.co_object.specs.declared.Op.{Op}
 use Rattle.co_object.specs.declared.Op.TheVariants.{Call}
-use Rattle.co_report.specs.NoteForms.{nothing, begin_form, adrain_form, drain_form, run_forms, op_forms, op_form}
+use Rattle.co_report.specs.NoteForms.{reads_nothing, begin_form, adrain_form, drain_form, run_forms, op_forms, op_form}
 use Rattle.co_report.proofs.Keywords.{chosen, passed}
 use Rattle.co_report.proofs.reading.operations.short_operation.Goals as goal
 
@@ -22,7 +22,7 @@ returns-then-option-2 c =
     let n = c.args.names.now in
     let view : Op → Op × List Word = λ x. (x, c.option-else-option.new.self) in
     passed (op_form n) view (Ok c.plain.result) c.as_slice.result.now c.args.parts.now _ _ c.option.ensures c.if-option.false
-    (chosen (op_forms n) (nothing (Call (Plain Pending))) view (Ok c.plain.result) _ (codes "pending") _ _ _ (λ vs. refl) c.as_slice-else-option.ensures c.option-else-option.ensures c.if-option-2.true (ap (λ o. Ok (o, c.option-else-option.new.self)) (sym c.plain.ensures)))
+    (chosen (op_forms n) (reads_nothing (Call (Plain Pending))) view (Ok c.plain.result) _ (codes "pending") _ _ _ (λ vs. refl) c.as_slice-else-option.ensures c.option-else-option.ensures c.if-option-2.true (ap (λ o. Ok (o, c.option-else-option.new.self)) (sym c.plain.ensures)))
 
 pub returns-then-option-3 : goal.returns-then-option-3
 unfolding op_forms run_forms
@@ -31,7 +31,7 @@ returns-then-option-3 c =
     let view : Op → Op × List Word = λ x. (x, c.option-else-option-2.new.self) in
     passed (op_form n) view (Ok c.plain-then-option-3.result) c.as_slice.result.now c.args.parts.now _ _ c.option.ensures c.if-option.false
     (passed (op_form n) view (Ok c.plain-then-option-3.result) c.as_slice-else-option.result.now c.option.new.self _ _ c.option-else-option.ensures c.if-option-2.false
-    (chosen (op_forms n) (nothing (Call (Plain Stop))) view (Ok c.plain-then-option-3.result) _ (codes "stop") _ _ _ (λ vs. refl) c.as_slice-else-option-2.ensures c.option-else-option-2.ensures c.if-option-3.true (ap (λ o. Ok (o, c.option-else-option-2.new.self)) (sym c.plain-then-option-3.ensures))))
+    (chosen (op_forms n) (reads_nothing (Call (Plain Stop))) view (Ok c.plain-then-option-3.result) _ (codes "stop") _ _ _ (λ vs. refl) c.as_slice-else-option-2.ensures c.option-else-option-2.ensures c.if-option-3.true (ap (λ o. Ok (o, c.option-else-option-2.new.self)) (sym c.plain-then-option-3.ensures))))
 
 pub returns-then-option-4 : goal.returns-then-option-4
 unfolding op_forms run_forms

@@ -4,7 +4,7 @@ use Rattle.std.specs.Prelude.{codes}
 use Rattle.co_text.specs.Values.{Word}
 use Rattle.co_object.specs.declared.QReply.{QReply}
 use Rattle.co_object.specs.declared.QReply.TheVariants as answer
-use Rattle.co_report.specs.NoteForms.{nothing, at_form, count_form, got_form, answer_forms, answer_form}
+use Rattle.co_report.specs.NoteForms.{reads_nothing, at_form, count_form, got_form, answer_forms, answer_form}
 use Rattle.co_report.proofs.Keywords.{chosen, passed, untaken, unmoved, none_next}
 use Rattle.co_report.proofs.reading.queue.answer.Goals as goal
 
@@ -20,7 +20,7 @@ returns-then-option-2 c =
     let n = c.args.names.now in
     let view : QReply → QReply × List Word = λ x. (x, c.option-else-option.new.self) in
     passed (answer_form n) view (Ok answer.Off) c.as_slice.result.now c.args.parts.now _ _ c.option.ensures c.if-option.false
-    (chosen (answer_forms n) (nothing answer.Off) view (Ok answer.Off) _ (codes "off") _ _ _ (λ vs. refl) c.as_slice-else-option.ensures c.option-else-option.ensures c.if-option-2.true refl)
+    (chosen (answer_forms n) (reads_nothing answer.Off) view (Ok answer.Off) _ (codes "off") _ _ _ (λ vs. refl) c.as_slice-else-option.ensures c.option-else-option.ensures c.if-option-2.true refl)
 
 pub returns-then-option-3 : goal.returns-then-option-3
 unfolding answer_forms
@@ -29,7 +29,7 @@ returns-then-option-3 c =
     let view : QReply → QReply × List Word = λ x. (x, c.option-else-option-2.new.self) in
     passed (answer_form n) view (Ok answer.Missing) c.as_slice.result.now c.args.parts.now _ _ c.option.ensures c.if-option.false
     (passed (answer_form n) view (Ok answer.Missing) c.as_slice-else-option.result.now c.option.new.self _ _ c.option-else-option.ensures c.if-option-2.false
-    (chosen (answer_forms n) (nothing answer.Missing) view (Ok answer.Missing) _ (codes "missing") _ _ _ (λ vs. refl) c.as_slice-else-option-2.ensures c.option-else-option-2.ensures c.if-option-3.true refl))
+    (chosen (answer_forms n) (reads_nothing answer.Missing) view (Ok answer.Missing) _ (codes "missing") _ _ _ (λ vs. refl) c.as_slice-else-option-2.ensures c.option-else-option-2.ensures c.if-option-3.true refl))
 
 pub returns-then-option-4 : goal.returns-then-option-4
 unfolding answer_forms
@@ -60,7 +60,7 @@ returns-then-option-6 c =
     (passed (answer_form n) view (Ok answer.Empty) c.as_slice-else-option-2.result.now c.option-else-option.new.self _ _ c.option-else-option-2.ensures c.if-option-3.false
     (passed (answer_form n) view (Ok answer.Empty) c.as_slice-else-option-3.result.now c.option-else-option-2.new.self _ _ c.option-else-option-3.ensures c.if-option-4.false
     (passed (answer_form n) view (Ok answer.Empty) c.as_slice-else-option-4.result.now c.option-else-option-3.new.self _ _ c.option-else-option-4.ensures c.if-option-5.false
-    (chosen (answer_forms n) (nothing answer.Empty) view (Ok answer.Empty) _ (codes "empty") _ _ _ (λ vs. refl) c.as_slice-else-option-5.ensures c.option-else-option-5.ensures c.if-option-6.true refl)))))
+    (chosen (answer_forms n) (reads_nothing answer.Empty) view (Ok answer.Empty) _ (codes "empty") _ _ _ (λ vs. refl) c.as_slice-else-option-5.ensures c.option-else-option-5.ensures c.if-option-6.true refl)))))
 
 pub returns-then-option-7 : goal.returns-then-option-7
 unfolding answer_forms
@@ -73,7 +73,7 @@ returns-then-option-7 c =
     (passed (answer_form n) view (Ok answer.Freed) c.as_slice-else-option-3.result.now c.option-else-option-2.new.self _ _ c.option-else-option-3.ensures c.if-option-4.false
     (passed (answer_form n) view (Ok answer.Freed) c.as_slice-else-option-4.result.now c.option-else-option-3.new.self _ _ c.option-else-option-4.ensures c.if-option-5.false
     (passed (answer_form n) view (Ok answer.Freed) c.as_slice-else-option-5.result.now c.option-else-option-4.new.self _ _ c.option-else-option-5.ensures c.if-option-6.false
-    (chosen (answer_forms n) (nothing answer.Freed) view (Ok answer.Freed) _ (codes "freed") _ _ _ (λ vs. refl) c.as_slice-else-option-6.ensures c.option-else-option-6.ensures c.if-option-7.true refl))))))
+    (chosen (answer_forms n) (reads_nothing answer.Freed) view (Ok answer.Freed) _ (codes "freed") _ _ _ (λ vs. refl) c.as_slice-else-option-6.ensures c.option-else-option-6.ensures c.if-option-7.true refl))))))
 
 pub returns-else-option-7 : goal.returns-else-option-7
 unfolding answer_forms

@@ -1,7 +1,7 @@
 -- Who asks its CPU's queue is between two services, and needs no other room than this.
 use Rattle.std.proofs.Common.{refl, ap, length, arith}
 use Rattle.co_wheel.specs.Turns.{pop_of as lane_pop}
-use Rattle.co_run.specs.Ready.{place_of}
+use Rattle.co_run.specs.Ready.{actor_cursor}
 use Rattle.co_run.proofs.kept.Readiness.{other_book, resting_room}
 use Rattle.co_run.proofs.room.BetweenServices.{on_err, queue_rests}
 use Rattle.co_run.proofs.actor.Actor.ask_pop.Goals as goal
@@ -10,7 +10,7 @@ pub pop-requires : goal.pop-requires
 pop-requires g c =
     let s = c.args.shared.now.script.now in
     let ready = c.requires.due.ready in
-    let k = place_of s c.args.self.now in
+    let k = actor_cursor s c.args.self.now in
     let none = resting_room c.args.shared.now.longest k.stage (queue_rests s c.args.self.now.number k c.args.act c.args.cpu (lane_pop c.args.direct) ready.acting.place c.requires.due.next) in
     record { can = record { due = record { ready = other_book c.args.self.now c.reserve.new.self ready c.reserve.ensures.notes c.in_ok-reserve.ensures.few (omega (arith, none)); next = c.requires.due.next }; room = c.in_ok-reserve.ensures.ok } }
 
@@ -21,7 +21,7 @@ pub returns-in_err-reserve : goal.returns-in_err-reserve
 returns-in_err-reserve g c =
     let s = c.args.shared.now.script.now in
     let ready = c.requires.due.ready in
-    let k = place_of s c.args.self.now in
+    let k = actor_cursor s c.args.self.now in
     let same = c.in_err-reserve.ensures.err in
     let long = ap length c.reserve.ensures.notes in
     record {

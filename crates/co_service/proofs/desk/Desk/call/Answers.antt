@@ -7,7 +7,7 @@ use Rattle.co_object.specs.declared.reply.Reply.{Reply}
 use Rattle.co_service.specs.Books.{BooksView, history_at, is_kept}
 use Rattle.co_wheel.specs.declared.outs.CallOut.{CallOut}
 use Rattle.co_wheel.specs.Parcel.{Parcel}
-use Rattle.co_service.specs.Call.{IsAnswer, due_in, number_in, told_notes}
+use Rattle.co_service.specs.Call.{IsAnswer, due_named, number_accepted, told_notes}
 use Rattle.co_service.specs.Desk.{IsDesk}
 use Rattle.co_service.specs.Moving.{IsOfService, MayDepart, MovingView, departed, moving_from, target_of}
 use Rattle.co_service.specs.Views.{PassesView}
@@ -35,7 +35,7 @@ depart-requires-clause-may g c =
     let same : is_kept c.meet.new.self c.args.i ≡ is_kept c.self.inside.books c.args.i = ap (λ (b : BooksView). is_kept b c.args.i) c.meet.ensures.kept in
     let here : (H : List Entry) × (history_at c.meet.new.self c.args.i ≡ Some H) = some_of (history_at c.meet.new.self c.args.i) (cc) in
     let out = c.write_group.ensures.out in
-    let number : c.number-n.result ≡ number_in c.call_into.new.out.reply = c.number-n.ensures ∙ ap (λ (o : CallOut). number_in o.reply) out in
+    let number : c.number-n.result ≡ number_accepted c.call_into.new.out.reply = c.number-n.ensures ∙ ap (λ (o : CallOut). number_accepted o.reply) out in
     subst (λ (t : ℕ × ℕ × Option Parcel). MayDepart c.write_group.new.books t.0 t.1 t.2) (λ d. (sym number d, sym c.time.ensures d, sym (ap (λ (o : CallOut). o.leaves) out) d))
     (may_section c.self.inside.wheel c.call_into.new.self c.meet.new.self c.self.inside.scans c.args.i c.args.op.now c.call_into.new.out here.0 desk here.1 c.call_into.ensures c.meet.new.passes c.args.act c.write_group.new.books c.write_group.ensures.books)
 
@@ -69,7 +69,7 @@ returns-clause-tried g c = record {
       let here : (H : List Entry) × (history_at b i ≡ Some H) = some_of (history_at b i) (cc) in
       let params : b.params ≡ p.params = ap (λ (b : BooksView). b.params) c.meet.ensures.kept ∙ c.meet.ensures.params in
       let out = c.write_group.ensures.out in
-      let number : c.number-n.result ≡ number_in answer.reply = c.number-n.ensures ∙ ap (λ (o : CallOut). number_in o.reply) out in
+      let number : c.number-n.result ≡ number_accepted answer.reply = c.number-n.ensures ∙ ap (λ (o : CallOut). number_accepted o.reply) out in
       let moves = c.depart.ensures.moving ∙ (λ d. moving_from b' (number d) (c.time.ensures d) (out d).leaves) in
       record {
         answer =
@@ -78,6 +78,6 @@ returns-clause-tried g c = record {
             subst (λ (t : PassesView × Option MovingView × Reply). IsAnswer t.0 act i op t.2 (target_of t.1) (told_notes t.0.actor act i op c.write_group.new.told) c.write_group.new.passes)
             (λ d. (c.meet.ensures.passes d, sym moves d, sym (ap (λ (o : CallOut). o.reply) out) d)) written;
         leaving = subst (λ (m : Option MovingView). IsOfService p.params i m) (sym moves) (service_section w w' b at i op answer here.0 desk here.1 c.call_into.ensures c.meet.new.passes act b' c.write_group.ensures.books p.params params);
-        room = λ some. c.write_group.ensures.room (leaves_nothing w w' b at i op answer here.0 desk here.1 c.call_into.ensures b' (number_in answer.reply) (due_in op) (ap is_some (sym moves) ∙ some));
+        room = λ some. c.write_group.ensures.room (leaves_nothing w w' b at i op answer here.0 desk here.1 c.call_into.ensures b' (number_accepted answer.reply) (due_named op) (ap is_some (sym moves) ∙ some));
       };
 }

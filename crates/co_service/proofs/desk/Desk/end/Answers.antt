@@ -9,9 +9,9 @@ use Rattle.co_service.specs.Books.{BooksView, entries_at}
 use Rattle.co_service.specs.declared.finished.Finished.{Finished}
 use Rattle.co_service.specs.Desk.{IsDesk}
 use Rattle.co_service.specs.Ends.{IsFinished}
-use Rattle.co_service.specs.May.{MayHappen, queue_of}
+use Rattle.co_service.specs.May.{MayHappen, queue_at_desk}
 use Rattle.co_service.specs.Moving.{IsOfService, MayDepart, moving_from, target_of}
-use Rattle.co_service.specs.Outcomes.{turn}
+use Rattle.co_service.specs.Outcomes.{queue_entry_by}
 use Rattle.co_service.specs.Params.{directs}
 use Rattle.co_service.specs.Services.{next_due, next_number, run_entry}
 use Rattle.co_service.specs.Serving.{Runs}
@@ -51,7 +51,7 @@ write_turn-freed-requires-clause-possible g c =
     let here : c.meet_timer.new.self.cpu ≡ c.args.cpu = (let k = ap (λ (b : BooksView). b.cpu) c.meet.ensures.kept in let m = ap (λ (b : BooksView). b.cpu) c.meet_timer.ensures.kept in let n = c.cpu.ensures in let f = c.if-cpu.false in omega arith) in
     let e : Due = record { i = c.in-Some.i; n = c.in-Some.n } in
     let s : (H : List Entry) × IsServed c.args.direct c.self.inside.wheel c.meet_timer.new.self c.self.inside.scans c.meet_timer.new.passes e (Runs c.in-Some.n) H = served_after c.args.direct c.self.inside.wheel c.self.inside.books c.meet.new.self c.meet_timer.new.self c.self.inside.scans c.args.cpu c.args.passes.now c.meet.new.passes c.meet_timer.new.passes c.requires.serves.0 e (λ n. Runs n) met c.meet.ensures.kept c.meet.ensures.passes c.meet_timer.ensures.kept c.meet_timer.ensures.passes c.requires.serves.1 c.in-Some.ensures.which (here_kept c.self.inside.wheel c.self.inside.books c.meet.new.self c.self.inside.scans c.in-Some.i c.self.invariant c.meet.ensures.kept c.in-Some.ensures.here) c.meet_timer.ensures.legal c.meet_timer.ensures.shown in
-    ap (λ (o : QOp). reply_of (step c.enter_run-entry.new.books.params.buckets (directs c.enter_run-entry.new.books.params) (queue_of c.enter_run-entry.new.books) o)) c.free.ensures
+    ap (λ (o : QOp). reply_of (step c.enter_run-entry.new.books.params.buckets (directs c.enter_run-entry.new.books.params) (queue_at_desk c.enter_run-entry.new.books) o)) c.free.ensures
     ∙ freed_possible c.args.direct c.self.inside.wheel c.end_into.new.self c.meet_timer.new.self c.self.inside.scans c.meet_timer.new.passes c.args.act e s.0 s.1 c.end_into.new.out c.end_into.ensures c.args.cpu here c.enter_run-entry.new.books c.enter_run-entry.ensures.books
 
 pub depart-requires-clause-may : goal.depart-requires-clause-may
@@ -61,7 +61,7 @@ depart-requires-clause-may g c =
     let e : Due = record { i = c.in-Some.i; n = c.in-Some.n } in
     let s : (H : List Entry) × IsServed c.args.direct c.self.inside.wheel c.meet_timer.new.self c.self.inside.scans c.meet_timer.new.passes e (Runs c.in-Some.n) H = served_after c.args.direct c.self.inside.wheel c.self.inside.books c.meet.new.self c.meet_timer.new.self c.self.inside.scans c.args.cpu c.args.passes.now c.meet.new.passes c.meet_timer.new.passes c.requires.serves.0 e (λ n. Runs n) met c.meet.ensures.kept c.meet.ensures.passes c.meet_timer.ensures.kept c.meet_timer.ensures.passes c.requires.serves.1 c.in-Some.ensures.which (here_kept c.self.inside.wheel c.self.inside.books c.meet.new.self c.self.inside.scans c.in-Some.i c.self.invariant c.meet.ensures.kept c.in-Some.ensures.here) c.meet_timer.ensures.legal c.meet_timer.ensures.shown in
     subst (λ (t : ℕ × ℕ). MayDepart c.write_turn-freed.new.books t.0 t.1 c.end_into.new.out.leaves) (λ k. (sym c.waited-next.ensures.number k, sym c.waited-next.ensures.due k))
-    (freed_may c.args.direct c.self.inside.wheel c.end_into.new.self c.meet_timer.new.self c.self.inside.scans c.meet_timer.new.passes c.args.act e s.0 s.1 c.end_into.new.out c.end_into.ensures c.args.cpu here c.enter_run-entry.new.books c.enter_run-entry.ensures.books (turn c.enter_run-entry.new.passes c.args.act c.free.result Freed) c.free.ensures refl c.write_turn-freed.new.books c.write_turn-freed.ensures.books)
+    (freed_may c.args.direct c.self.inside.wheel c.end_into.new.self c.meet_timer.new.self c.self.inside.scans c.meet_timer.new.passes c.args.act e s.0 s.1 c.end_into.new.out c.end_into.ensures c.args.cpu here c.enter_run-entry.new.books c.enter_run-entry.ensures.books (queue_entry_by c.enter_run-entry.new.passes c.args.act c.free.result Freed) c.free.ensures refl c.write_turn-freed.new.books c.write_turn-freed.ensures.books)
 
 pub invariant_of-self : goal.invariant_of-self
 invariant_of-self g c =
@@ -70,7 +70,7 @@ invariant_of-self g c =
     let e : Due = record { i = c.in-Some.i; n = c.in-Some.n } in
     let s : (H : List Entry) × IsServed c.args.direct c.self.inside.wheel c.meet_timer.new.self c.self.inside.scans c.meet_timer.new.passes e (Runs c.in-Some.n) H = served_after c.args.direct c.self.inside.wheel c.self.inside.books c.meet.new.self c.meet_timer.new.self c.self.inside.scans c.args.cpu c.args.passes.now c.meet.new.passes c.meet_timer.new.passes c.requires.serves.0 e (λ n. Runs n) met c.meet.ensures.kept c.meet.ensures.passes c.meet_timer.ensures.kept c.meet_timer.ensures.passes c.requires.serves.1 c.in-Some.ensures.which (here_kept c.self.inside.wheel c.self.inside.books c.meet.new.self c.self.inside.scans c.in-Some.i c.self.invariant c.meet.ensures.kept c.in-Some.ensures.here) c.meet_timer.ensures.legal c.meet_timer.ensures.shown in
     subst (λ b. IsDesk c.end_into.new.self b c.self.inside.scans) (sym c.depart.ensures.books)
-    (freed_desk c.args.direct c.self.inside.wheel c.end_into.new.self c.meet_timer.new.self c.self.inside.scans c.meet_timer.new.passes c.args.act e s.0 s.1 c.end_into.new.out c.end_into.ensures c.args.cpu here c.enter_run-entry.new.books c.enter_run-entry.ensures.books (turn c.enter_run-entry.new.passes c.args.act c.free.result Freed) c.free.ensures refl c.write_turn-freed.new.books c.write_turn-freed.ensures.books)
+    (freed_desk c.args.direct c.self.inside.wheel c.end_into.new.self c.meet_timer.new.self c.self.inside.scans c.meet_timer.new.passes c.args.act e s.0 s.1 c.end_into.new.out c.end_into.ensures c.args.cpu here c.enter_run-entry.new.books c.enter_run-entry.ensures.books (queue_entry_by c.enter_run-entry.new.passes c.args.act c.free.result Freed) c.free.ensures refl c.write_turn-freed.new.books c.write_turn-freed.ensures.books)
 
 pub returns : goal.returns
 returns g c = record {
@@ -86,11 +86,11 @@ returns g c = record {
         let moves : c.depart.new.gone ≡ moving_from c.write_turn-freed.new.books (next_number c.end_into.new.out.reply) (next_due c.end_into.new.out.reply) c.end_into.new.out.leaves = c.depart.ensures.moving ∙ (λ k. moving_from c.write_turn-freed.new.books (c.waited-next.ensures.number k) (c.waited-next.ensures.due k) c.end_into.new.out.leaves) in
         let books : c.enter_run-entry.new.books.cpu ≡ c.args.cpu = ap (λ (b : BooksView). b.cpu) c.enter_run-entry.ensures.books ∙ here in
         let acted : c.enter_run-entry.new.passes.actor ≡ c.meet_timer.new.passes.actor = ap (λ (p : PassesView). p.actor) c.enter_run-entry.ensures.written.passes in
-        let left : IsOfService c.meet_timer.new.passes.params e.i (moving_from c.write_turn-freed.new.books (next_number c.end_into.new.out.reply) (next_due c.end_into.new.out.reply) c.end_into.new.out.leaves) = freed_service c.args.direct c.self.inside.wheel c.end_into.new.self c.meet_timer.new.self c.self.inside.scans c.meet_timer.new.passes c.args.act e s.0 s.1 c.end_into.new.out c.end_into.ensures c.args.cpu here c.enter_run-entry.new.books c.enter_run-entry.ensures.books (turn c.enter_run-entry.new.passes c.args.act c.free.result Freed) c.free.ensures refl c.write_turn-freed.new.books c.write_turn-freed.ensures.books in
+        let left : IsOfService c.meet_timer.new.passes.params e.i (moving_from c.write_turn-freed.new.books (next_number c.end_into.new.out.reply) (next_due c.end_into.new.out.reply) c.end_into.new.out.leaves) = freed_service c.args.direct c.self.inside.wheel c.end_into.new.self c.meet_timer.new.self c.self.inside.scans c.meet_timer.new.passes c.args.act e s.0 s.1 c.end_into.new.out c.end_into.ensures c.args.cpu here c.enter_run-entry.new.books c.enter_run-entry.ensures.books (queue_entry_by c.enter_run-entry.new.passes c.args.act c.free.result Freed) c.free.ensures refl c.write_turn-freed.new.books c.write_turn-freed.ensures.books in
         subst (λ (f : Finished). IsFinished c.args.direct c.args.passes.now c.args.cpu c.args.act d f c.depart.new.gone c.write_turn-freed.new.passes) (sym c.tell.ensures)
         (ended_told c.args.direct c.args.passes.now c.meet_timer.new.passes c.enter_run-entry.new.passes c.write_turn-freed.new.passes c.args.cpu c.enter_run-entry.new.books.cpu c.args.act d e (record c.end_into.new.out { leaves = c.depart.new.leaves }) c.depart.new.gone c.enter_run-entry.result c.write_turn-freed.result
         (entries_at c.meet_timer.new.self e.i ++ run_entry c.meet_timer.new.passes c.args.act (End e.n c.args.cpu) c.end_into.new.out.reply ∷ []) c.write_turn-freed.new.books.journal same one
-        (ap target_of moves ∙ freed_target c.args.direct c.self.inside.wheel c.end_into.new.self c.meet_timer.new.self c.self.inside.scans c.meet_timer.new.passes c.args.act e s.0 s.1 c.end_into.new.out c.end_into.ensures c.args.cpu here c.enter_run-entry.new.books c.enter_run-entry.ensures.books (turn c.enter_run-entry.new.passes c.args.act c.free.result Freed) c.free.ensures refl c.write_turn-freed.new.books c.write_turn-freed.ensures.books)
+        (ap target_of moves ∙ freed_target c.args.direct c.self.inside.wheel c.end_into.new.self c.meet_timer.new.self c.self.inside.scans c.meet_timer.new.passes c.args.act e s.0 s.1 c.end_into.new.out c.end_into.ensures c.args.cpu here c.enter_run-entry.new.books c.enter_run-entry.ensures.books (queue_entry_by c.enter_run-entry.new.passes c.args.act c.free.result Freed) c.free.ensures refl c.write_turn-freed.new.books c.write_turn-freed.ensures.books)
         (subst (IsOfService c.meet_timer.new.passes.params e.i) (sym moves) left)
         c.enter_run-entry.ensures.written c.free.result c.free.ensures books acted c.write_turn-freed.ensures.written);
   };

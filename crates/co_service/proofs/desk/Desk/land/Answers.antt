@@ -11,7 +11,7 @@ use Rattle.co_service.specs.Desk.{IsDesk, alone_after}
 use Rattle.co_service.specs.Lines.{made}
 use Rattle.co_service.specs.Moving.{MovingView, params_in}
 use Rattle.co_service.specs.declared.told.Inserted.{Inserted}
-use Rattle.co_service.specs.Outcomes.{noted_turn, turn}
+use Rattle.co_service.specs.Outcomes.{noted_turn, queue_entry_by}
 use Rattle.co_service.specs.Views.{PassesView}
 use Rattle.co_service.specs.Writes.{Writes}
 use Rattle.co_service.proofs.LandSection.{Comes, landed_desk}
@@ -43,11 +43,11 @@ invariant_of-self g c =
       due_is = c.moving.invariant.due_is;
     } in
     let put : c.put.new.self ≡ with_history b i (Some H) = c.put.ensures.books ∙ (λ d. with_history b (at_is d) (Some H)) in
-    let wrote : c.write_landed.new.books ≡ record b { timers = slice_set b.timers i (Some H); journal = b.journal ++ turn c.meet.new.passes c.args.act (Insert c.callout-i.result m.n m.due) (At c.land-at.result) ∷ [] } =
-    c.write_landed.ensures.written.books ∙ (λ d. record (put d) { journal = (put d).journal ++ turn c.meet.new.passes c.args.act (Insert c.callout-i.result m.n m.due) (At c.land-at.result) ∷ [] }) in
+    let wrote : c.write_landed.new.books ≡ record b { timers = slice_set b.timers i (Some H); journal = b.journal ++ queue_entry_by c.meet.new.passes c.args.act (Insert c.callout-i.result m.n m.due) (At c.land-at.result) ∷ [] } =
+    c.write_landed.ensures.written.books ∙ (λ d. record (put d) { journal = (put d).journal ++ queue_entry_by c.meet.new.passes c.args.act (Insert c.callout-i.result m.n m.due) (At c.land-at.result) ∷ [] }) in
     subst (λ v. IsDesk c.land-at.new.self v c.self.inside.scans) (sym wrote)
     (landed_desk c.self.inside.wheel b c.self.inside.scans m.parcel H m.n m.due desk comes c.land-at.new.self c.land-at.result c.land-at.ensures
-    (turn c.meet.new.passes c.args.act (Insert c.callout-i.result m.n m.due) (At c.land-at.result)) (ap (λ (k : ℕ). Insert k m.n m.due) at_is) refl)
+    (queue_entry_by c.meet.new.passes c.args.act (Insert c.callout-i.result m.n m.due) (At c.land-at.result)) (ap (λ (k : ℕ). Insert k m.n m.due) at_is) refl)
 
 pub returns-clause-landed : goal.returns-clause-landed
 returns-clause-landed g c =

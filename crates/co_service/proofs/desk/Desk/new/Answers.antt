@@ -7,5 +7,5 @@ use Rattle.co_service.proofs.desk.Desk.new.Goals as goal
 
 pub invariant_of-result : goal.invariant_of-result
 invariant_of-result g c =
-    subst (λ (p : Params). IsDesk c.args.bench.wheel (books_of p c.args.cpu c.args.bench.keepers.items c.args.bench.journal) 0) (sym c.of.ensures)
-    (first_desk g.N.Name.name c.args.params.now c.args.cpu c.args.bench.wheel c.args.bench.keepers.items c.args.bench.journal c.requires)
+    subst (λ (p : Params). IsDesk c.args.parts.wheel (books_of p c.args.cpu c.args.parts.keepers.items c.args.parts.journal) 0) (sym c.of.ensures)
+    (first_desk g.N.Name.name c.args.params.now c.args.cpu c.args.parts.wheel c.args.parts.keepers.items c.args.parts.journal c.requires)

@@ -4,7 +4,7 @@ use Rattle.co_object.specs.declared.queue.QReply.TheVariants.{Count}
 use Rattle.co_bucket.specs.Visits.{looks_at_visited}
 use Rattle.co_service.specs.Desk.{IsDesk}
 use Rattle.co_service.specs.declared.outs.Scanned.{Scanned}
-use Rattle.co_service.specs.Outcomes.{noted_turn, turn, IsScan}
+use Rattle.co_service.specs.Outcomes.{noted_turn, queue_entry_by, IsScan}
 use Rattle.co_service.specs.Kinds.{cpu_kind}
 use Rattle.co_service.specs.Writes.{WritesEntry}
 use Rattle.co_service.proofs.DeskKept.{scanned_desk}
@@ -15,14 +15,14 @@ pub invariant_of-self : goal.invariant_of-self
 invariant_of-self g c =
     let desk = subst (λ b. IsDesk c.self.inside.wheel b c.self.inside.scans) (sym c.meet.ensures.kept) c.self.invariant in
     subst (λ b. IsDesk c.scan-count.new.self b c.saturating_add-self-inside.result) (sym c.write_turn-pos.ensures.books)
-    (scanned_desk c.self.inside.wheel c.scan-count.new.self c.meet.new.self c.self.inside.scans c.saturating_add-self-inside.result (turn c.meet.new.passes c.args.act (Scan c.args.now) (Count c.scan-count.result)) c.args.now desk c.scan-count.ensures.callouts c.scan-count.ensures.queue refl (omega arith))
+    (scanned_desk c.self.inside.wheel c.scan-count.new.self c.meet.new.self c.self.inside.scans c.saturating_add-self-inside.result (queue_entry_by c.meet.new.passes c.args.act (Scan c.args.now) (Count c.scan-count.result)) c.args.now desk c.scan-count.ensures.callouts c.scan-count.ensures.queue refl (omega arith))
 
 pub returns : goal.returns
 returns g c =
     let desk = subst (λ b. IsDesk c.self.inside.wheel b c.self.inside.scans) (sym c.meet.ensures.kept) c.self.invariant in
     let params = ap (λ b. b.params) c.meet.ensures.kept ∙ (c.meet.ensures.params ∙ ap (λ p. p.params) (sym c.meet.ensures.passes)) in
     let here : c.meet.new.self.cpu ≡ c.args.cpu = (let k = ap (λ b. b.cpu) c.meet.ensures.kept in let n = c.cpu.ensures in let f = c.if-cpu.false in omega arith) in
-    let written = subst (λ b. WritesEntry cpu_kind c.meet.new.passes c.meet.new.self.cpu (turn c.meet.new.passes c.args.act (Scan c.args.now) (Count c.scan-count.result)) c.write_turn-pos.result b.journal c.write_turn-pos.new.passes) c.write_turn-pos.ensures.books c.write_turn-pos.ensures.written in
+    let written = subst (λ b. WritesEntry cpu_kind c.meet.new.passes c.meet.new.self.cpu (queue_entry_by c.meet.new.passes c.args.act (Scan c.args.now) (Count c.scan-count.result)) c.write_turn-pos.result b.journal c.write_turn-pos.new.passes) c.write_turn-pos.ensures.books c.write_turn-pos.ensures.written in
     let out : Scanned = record { count = c.scan-count.result; note = c.turn_note.result; looks = c.count.result } in
     let note = c.turn_note.ensures ∙ ap (λ (a : ℕ). noted_turn a c.args.act c.args.cpu (Scan c.args.now) (Count c.scan-count.result) c.write_turn-pos.result) c.actor-actor.ensures in
     let looks : c.scan-count.new.looks ≡ looks_at_visited c.self.inside.wheel.timers c.args.now = (let l = c.scan-count.ensures.looks in let n = c.new-looks.ensures in omega arith) in

@@ -1,7 +1,7 @@
 use Rattle.std.proofs.Common.{◌<◌, ◌^◌, false, length, sym, subst}
 use Rattle.co_service.specs.declared.params.Params.{Params}
 use Rattle.co_single.specs.Acts.{IsArmed}
-use Rattle.co_single.specs.Alarms.{count_of, made_at}
+use Rattle.co_single.specs.Alarms.{callout_count, made_at}
 use Rattle.co_single.specs.Rest.{IsSingle}
 use Rattle.co_single.proofs.Arming.{is_armed_now, rests_armed}
 use Rattle.co_single.proofs.Told.{written_is}
@@ -14,7 +14,7 @@ invariant_of-self g c =
     let q = c.call_alone.new.passes in
     let called = c.call_alone.ensures.called in
     let written = written_is n p q _ _ c.self.invariant.single called.group_is called.written in
-    let low : c.args.i < count_of p = subst (λ v. c.args.i < count_of v) (sym c.self.view_is) c.requires.callout in
+    let low : c.args.i < callout_count p = subst (λ v. c.args.i < callout_count v) (sym c.self.view_is) c.requires.callout in
     let fresh : made_at p c.args.i < 2 ^ 62 = subst (λ v. made_at v c.args.i < 2 ^ 62) (sym c.self.view_is) c.requires.made in
     subst (λ (s : Params). IsSingle g.N.Name.name s q c.self.inside.ending) (sym c.call_alone.ensures.kept.params_are) record {
       of = c.call_alone.ensures.kept.keeps.of;
@@ -32,7 +32,7 @@ returns g c =
     let q = c.call_alone.new.passes in
     let called = c.call_alone.ensures.called in
     let written = written_is n p q _ _ c.self.invariant.single called.group_is called.written in
-    let low : c.args.i < count_of p = subst (λ v. c.args.i < count_of v) (sym c.self.view_is) c.requires.callout in
+    let low : c.args.i < callout_count p = subst (λ v. c.args.i < callout_count v) (sym c.self.view_is) c.requires.callout in
     let fresh : made_at p c.args.i < 2 ^ 62 = subst (λ v. made_at v c.args.i < 2 ^ 62) (sym c.self.view_is) c.requires.made in
     subst (λ v. IsArmed v c.args.i c.args.due c.args.arg q) c.self.view_is
     (is_armed_now n p q c.self.invariant.single written.1 c.self.invariant.rest c.args.i c.args.act called.time low c.args.due _ c.args.arg fresh c.call_alone.new.told.out.reply written.0)

@@ -1,7 +1,7 @@
 use Rattle.std.proofs.Common.{◌<◌, false, length, sym, subst}
 use Rattle.co_service.specs.declared.params.Params.{Params}
 use Rattle.co_single.specs.Acts.{IsDisarmed}
-use Rattle.co_single.specs.Alarms.{count_of}
+use Rattle.co_single.specs.Alarms.{callout_count}
 use Rattle.co_single.specs.Rest.{IsSingle}
 use Rattle.co_single.proofs.Arming.{is_disarmed_now, rests_disarmed}
 use Rattle.co_single.proofs.Told.{written_is}
@@ -14,7 +14,7 @@ invariant_of-self g c =
     let q = c.call_alone.new.passes in
     let called = c.call_alone.ensures.called in
     let written = written_is n p q _ _ c.self.invariant.single called.group_is called.written in
-    let low : c.args.i < count_of p = subst (λ v. c.args.i < count_of v) (sym c.self.view_is) c.requires.callout in
+    let low : c.args.i < callout_count p = subst (λ v. c.args.i < callout_count v) (sym c.self.view_is) c.requires.callout in
     subst (λ (s : Params). IsSingle g.N.Name.name s q c.self.inside.ending) (sym c.call_alone.ensures.kept.params_are) record {
       of = c.call_alone.ensures.kept.keeps.of;
       single = written.1;
@@ -31,6 +31,6 @@ returns g c =
     let q = c.call_alone.new.passes in
     let called = c.call_alone.ensures.called in
     let written = written_is n p q _ _ c.self.invariant.single called.group_is called.written in
-    let low : c.args.i < count_of p = subst (λ v. c.args.i < count_of v) (sym c.self.view_is) c.requires.callout in
+    let low : c.args.i < callout_count p = subst (λ v. c.args.i < callout_count v) (sym c.self.view_is) c.requires.callout in
     subst (λ v. IsDisarmed v c.args.i q) c.self.view_is
     (is_disarmed_now n p q c.self.invariant.single written.1 c.self.invariant.rest c.args.i c.args.act called.time low c.call_alone.new.told.out.reply written.0)

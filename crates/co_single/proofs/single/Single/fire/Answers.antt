@@ -10,7 +10,7 @@ use Rattle.co_service.specs.Services.{IsServing}
 use Rattle.co_service.specs.Serving.{Runs}
 use Rattle.co_service.specs.Views.{AreOf}
 use Rattle.co_service.specs.declared.params.Params.{Params}
-use Rattle.co_single.specs.Acts.{IsFired, IsIdle}
+use Rattle.co_single.specs.Acts.{IsFired, NothingWaits}
 use Rattle.co_single.specs.Alarms.{arg_in}
 use Rattle.co_single.specs.Seen.{none_entries, taken_entries}
 use Rattle.co_single.specs.Rest.{IsSingle}
@@ -43,7 +43,7 @@ returns-in-Empty-clause-none g c =
     let taken = c.in-Empty.ensures.started.taken in
     let note = noted_turn p.actor c.args.act 0 (pop_of false) Nothing c.in-Empty.pop in
     let written = written_is n p q (note ∷ []) (none_entries p c.args.act) c.self.invariant.single (one_is note _ _ taken.popped.place taken.popped.entry) taken.written in
-    subst (λ v. IsIdle v q) c.self.view_is (is_idle_now n p q c.self.invariant.single written.1 c.self.invariant.rest c.args.act written.0)
+    subst (λ v. NothingWaits v q) c.self.view_is (is_idle_now n p q c.self.invariant.single written.1 c.self.invariant.rest c.args.act written.0)
 
 pub end_alone-requires-clause-serves : goal.end_alone-requires-clause-serves
 end_alone-requires-clause-serves g c =

@@ -1,7 +1,7 @@
 use Rattle.std.proofs.Common.{false, length, sym, subst, ap, ◌∙◌, arith}
 use Rattle.co_service.specs.Services.{IsFree}
 use Rattle.co_single.specs.Acts.{IsNew}
-use Rattle.co_single.specs.Rest.{IsAtRest}
+use Rattle.co_single.specs.Rest.{HasNoService}
 use Rattle.co_single.specs.Seen.{AreSingle}
 use Rattle.co_single.proofs.Opening.{new_single, new_free, is_new, rests_new}
 use Rattle.co_single.proofs.single.Single.open.Goals as goal
@@ -19,7 +19,7 @@ invariant_of-result g c =
       };
       single = subst (λ x. AreSingle (length x.specs) c.fresh.inside.passes) (sym same) (subst (AreSingle n) (sym i.passes) (new_single n f.name f.params i.named i.params));
       free = subst (λ v. IsFree false v 0) (sym i.passes) (new_free n f.name f.params i.named i.params);
-      rest = subst IsAtRest (sym i.passes) (rests_new n f.name f.params i.named i.params);
+      rest = subst HasNoService (sym i.passes) (rests_new n f.name f.params i.named i.params);
       nothing = c.reserve.ensures.items ∙ (c.from_seq-ending.ensures ∙ c.new.ensures);
       room = (let room = c.in_ok-reserve.ensures.ok in omega (arith, room));
     }

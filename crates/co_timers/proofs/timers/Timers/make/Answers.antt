@@ -6,7 +6,7 @@ use Rattle.co_service.specs.Call.{NamesCpu, told_notes}
 use Rattle.co_service.specs.Params.{spec_at}
 use Rattle.co_service.specs.Views.{AreOf}
 use Rattle.std.specs.Option.{option_copied}
-use Rattle.co_timers.specs.Acts.{IsMade}
+use Rattle.co_timers.specs.Acts.{IsCallMade}
 use Rattle.co_timers.proofs.Asked.{cleared, handle_of, made_of}
 use Rattle.co_timers.proofs.timers.Timers.make.Goals as goal
 
@@ -38,5 +38,5 @@ pub returns-clause-made : goal.returns-clause-made
 returns-clause-made g c =
     let out = c.call_into in
     let p = c.args.passes.now in
-    subst (λ (r : Reply). IsMade p c.args.act c.args.i c.args.op.now r out.new.passes) (sym c.reply.ensures)
+    subst (λ (r : Reply). IsCallMade p c.args.act c.args.i c.args.op.now r out.new.passes) (sym c.reply.ensures)
     (made_of p out.new.passes c.args.act c.args.i c.args.op.now out.new.told.out.reply (told_notes p.actor c.args.act c.args.i c.args.op.now out.new.told) out.ensures.called)

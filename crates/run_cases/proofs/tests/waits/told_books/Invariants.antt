@@ -1,10 +1,10 @@
 -- The books so far are empty.
 use Rattle.std.proofs.Common.{◌≡◌, length}
-use Rattle.co_run.specs.Jobs.{AreEmpty}
+use Rattle.co_run.specs.Jobs.{AreEmptyBooks}
 use Rattle.run_cases.proofs.tests.waits.told_books.Given as goal
 
 abbrev pub invariant-loop-told : goal.invariant-loop-told
 invariant-loop-told l = record {
   count : length l.books ≡ l.told-index;
-  empty : AreEmpty (λ b. b.book.notes.items) (λ b. b.book.spare) l.books;
+  empty : AreEmptyBooks (λ b. b.book.notes.items) (λ b. b.book.spare) l.books;
 }

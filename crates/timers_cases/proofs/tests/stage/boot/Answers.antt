@@ -5,16 +5,16 @@ use Rattle.std.proofs.lemmas.List.Elements.{All-from_recursion}
 use Rattle.co_lock.specs.declared.held.Held.{Held}
 use Rattle.co_lock.specs.Service.{hold_of}
 use Rattle.co_service.specs.Params.{IsSpec, spec_at}
-use Rattle.co_timers.specs.Timers.{MayTake}
+use Rattle.co_lock.specs.Locks.{CanBeHeld}
 use Rattle.timers_cases.specs.Scenes.{scene, scene_locks, scene_specs}
 use Rattle.timers_cases.proofs.tests.stage.boot.Goals as goal
 
-has_lock : (i : ℕ) (held : Held) → hold_of (spec_at scene i).lock ≡ Some held → MayTake scene_locks held.exclusive held.id
+has_lock : (i : ℕ) (held : Held) → hold_of (spec_at scene i).lock ≡ Some held → CanBeHeld scene_locks held.exclusive held.id
 has_lock zero held h = absurd (cc)
 has_lock (suc zero) held h =
     let first : Held = record { id = 0; exclusive = true } in
     let same : first ≡ held = cc in
-    subst (λ (x : Held). MayTake scene_locks x.exclusive x.id) same (omega arith)
+    subst (λ (x : Held). CanBeHeld scene_locks x.exclusive x.id) same (omega arith)
 has_lock (suc (suc zero)) held h = absurd (cc)
 has_lock (suc (suc (suc i))) held h = absurd (cc)
 

@@ -1,0 +1,116 @@
+//! The ledger before the first step.
+ghost use Rattle.std.specs.Prelude.{◌≡◌, [], replicate, IfOk};
+ghost use Rattle.co_program.specs.Scripts.{IsScript};
+ghost use Rattle.co_core.specs.Holders.{no_holders};
+ghost use Rattle.co_core.specs.Stands.{ShowsWritten};
+ghost use Rattle.co_world.specs.World.{open_world};
+ghost use Rattle.co_core.specs.Written.{first_cursor};
+ghost use Rattle.co_program.specs.Actors.{actor_count};
+
+use super::Ledger;
+use super::holders::Holders;
+use co_lock::Held;
+use co_object::{Lists, Next, Note};
+use co_program::{Cursor, PendingInsert, Script, Stage, actor_count};
+use co_sbt::{NoMemory, Sbt, Seq};
+use std::alloc::{AllocError, Global};
+
+/// `count` counts, all 0. `AllocError` where there is no room for them.
+fn zeros(alloc: Global, count: usize) -> Result<Vec<u64>, AllocError>
+    ensures { IfOk result (λ counts. counts.items ≡ replicate count 0) }
+{
+    let counts = vec![in alloc; 0_u64; count]?;
+    Ok(counts)
+}
+
+/// The cursor before the first act of any program.
+fn first_cursor() -> Cursor
+    ensures { result ≡ first_cursor }
+{
+    Cursor {
+        task: 0,
+        act: 0,
+        time: Sbt::zero(),
+        hold: None,
+        stage: Stage::Ready,
+        removed: None,
+        parcel: None,
+    }
+}
+
+/// The cursors of `count` actors, before their first acts. `AllocError` where there is no room for them.
+fn first_cursors(alloc: Global, count: usize) -> Result<Vec<Cursor>, AllocError>
+    ensures { IfOk result (λ cursors. cursors.items ≡ replicate count first_cursor) }
+{
+    // The checker wants each enum inside a cursor that holds a time to be named where a cursor is passed on.
+    let _stage = Stage::Ready;
+    let _parts: (Option<PendingInsert>, Option<Next>, Option<Held>) = (None, None, None);
+    let mut cursors = Vec::new(alloc);
+    while cursors.len() < count {
+        cursors.push(first_cursor())?;
+    }
+    Ok(cursors)
+}
+
+/// The holders of `locks` locks: nobody holds one. `AllocError` where there is no room for them.
+fn nobody(alloc: Global, locks: usize) -> Result<Vec<Holders>, AllocError>
+    ensures { IfOk result (λ holders. holders.items ≡ replicate locks no_holders) }
+{
+    let holders = vec![in alloc; Holders::none(); locks]?;
+    Ok(holders)
+}
+
+/// `count` empty lists of notes, one for each actor. `NoMemory` where there is no room for them.
+fn empty_lists(alloc: Global, count: usize) -> Result<Lists, NoMemory>
+    ensures { IfOk result (λ lists. lists ≡ replicate count []) }
+{
+    let mut lists: Lists = Seq::new(alloc);
+    while lists.as_slice().len() < count {
+        let notes: Seq<Note> = Seq::new(alloc);
+        lists.push(notes)?;
+    }
+    Ok(lists)
+}
+
+impl Ledger {
+    /// The ledger before the first step: each actor stands before its first act, and nothing has been noted.
+    pub(crate) fn boot(alloc: Global, script: &Script) -> Result<Ledger, NoMemory>
+        requires { IsScript script.now }
+        ensures { IfOk result (λ ledger. ShowsWritten script.now ledger (open_world script.now)) }
+    {
+        let lists = empty_lists(alloc, actor_count(script) as usize)?;
+        match Ledger::empty(alloc, script, lists) {
+            Ok(ledger) => Ok(ledger),
+            Err(_) => Err(NoMemory {}),
+        }
+    }
+
+    fn empty(alloc: Global, script: &Script, lists: Lists) -> Result<Ledger, AllocError>
+        requires script { IsScript script.now }
+        requires lists { lists ≡ replicate (actor_count script.now) [] }
+        ensures { IfOk result (λ ledger. ShowsWritten script.now ledger (open_world script.now)) }
+    {
+        let actors = actor_count(script) as usize;
+        let timers = script.timers.as_slice().len();
+        let cpus = script.cpus as usize;
+        Ok(Ledger {
+            alloc,
+            cursors: first_cursors(alloc, actors)?,
+            holders: nobody(alloc, script.locks.as_slice().len())?,
+            lists,
+            histories: zeros(alloc, timers)?,
+            journals: zeros(alloc, cpus)?,
+            scans: zeros(alloc, cpus)?,
+            own: zeros(alloc, actors)?,
+            told: zeros(alloc, actors)?,
+            made: 0,
+        })
+    }
+
+    /// The notes so far.
+    pub(crate) fn lists(&self) -> &Lists
+        ensures { result.now ≡ self.now.lists }
+    {
+        &self.lists
+    }
+}

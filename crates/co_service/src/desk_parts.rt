@@ -1,0 +1,137 @@
+//! What a CPU has before the locks.
+ghost use Rattle.std.specs.Prelude.{◌≡◌, ◌+◌, ◌<◌, IfOk, OnOk, length, map, replicate};
+ghost use Rattle.std.specs.declared.option.Option.TheVariants.{Some, None};
+ghost use Rattle.co_service.specs.Books.{books_of};
+ghost use Rattle.co_service.specs.Booted.{AreAllBegun, AreFirstKeepers, IsDeskParts, IsNewKeeper};
+ghost use Rattle.co_service.specs.Fresh.{AreDeskParts};
+ghost use Rattle.co_service.specs.Params.{AreParams, directs as directs_of};
+ghost use Rattle.co_service.specs.Stories.{IsHistory, IsJournal};
+
+use crate::books::Books;
+use crate::boot::{apart, push};
+use crate::desk::Desk;
+use crate::places::Places;
+use crate::wheels::first_wheel;
+use crate::{CpuStory, Name, Params, TimerStory};
+use co_bucket::WheelQueue;
+use co_life::{Keeper, Shown};
+use co_object::Spec;
+use co_sbt::NoMemory;
+use co_wheel::Wheel;
+use std::alloc::Global;
+use std::marker::PhantomData;
+use std::mem;
+
+/// What a CPU has before the locks: its wheel, the keepers of the callouts that begin there, and that of its journal.
+#[derive(Drop)]
+pub(crate) struct DeskParts {
+    pub(crate) wheel: Wheel<WheelQueue>,
+    pub(crate) keepers: Vec<Option<Keeper<TimerStory>>>,
+    pub(crate) journal: Keeper<CpuStory>,
+}
+
+impl<N: Name> Desk<N> {
+    /// A CPU's desk before the first call.
+    pub(crate) fn new(cpu: u32, params: &Params, parts: DeskParts) -> Desk<N>
+        requires { IsDeskParts N.name params.now cpu parts.wheel parts.keepers.items parts.journal }
+        ensures { result ≡ books_of params.now cpu parts.keepers.items parts.journal }
+    {
+        let books = Books {
+            cpu,
+            params: Shown::of(params),
+            keepers: parts.keepers,
+            journal: parts.journal,
+            of: PhantomData,
+        };
+        Desk {
+            wheel: parts.wheel,
+            books,
+            scans: 0,
+        }
+    }
+}
+
+/// All callouts are here.
+fn all_here(
+    alloc: Global,
+    keepers: Vec<Keeper<TimerStory>>,
+) -> Result<Vec<Option<Keeper<TimerStory>>>, NoMemory>
+    ensures { IfOk result (λ here. here.items ≡ map Some keepers.items) }
+{
+    let mut here = apart(alloc, keepers.len())?;
+    for keeper in keepers {
+        push(&mut here, Some(keeper))?;
+    }
+    Ok(here)
+}
+
+/// None of so many callouts is here.
+fn none_here(alloc: Global, count: usize) -> Result<Vec<Option<Keeper<TimerStory>>>, NoMemory>
+    ensures { IfOk result (λ here. here.items ≡ replicate count None) }
+{
+    let mut here = apart(alloc, count)?;
+    for _at in 0..count {
+        push(&mut here, None)?;
+    }
+    Ok(here)
+}
+
+/// What a CPU has before the locks. It takes the keepers that are here, and none are left for the next CPU.
+fn make_parts(
+    alloc: Global,
+    params: &Params,
+    places: &Places,
+    direct: &[bool],
+    cpu: u32,
+    here: &mut Vec<Option<Keeper<TimerStory>>>,
+    journal: Keeper<CpuStory>,
+) -> Result<DeskParts, NoMemory>
+    requires params { AreParams params.now }
+    requires direct { direct.now ≡ directs_of params.now }
+    requires here { AreFirstKeepers places.now.timers params.now cpu here.old.items }
+    requires journal { IsNewKeeper IsJournal places.now.cpus params.now cpu journal }
+    ensures parts { IfOk result (λ parts. IsDeskParts places.now params.now cpu parts.wheel parts.keepers.items parts.journal) }
+    ensures here { OnOk result (AreFirstKeepers places.now.timers params.now (cpu + 1) here.new.items) }
+{
+    let wheel = first_wheel(alloc, params, direct, cpu)?;
+    let others = none_here(alloc, here.len())?;
+    let keepers = mem::replace(here, others);
+    Ok(DeskParts {
+        wheel,
+        keepers,
+        journal,
+    })
+}
+
+/// What each CPU has before the locks, in the order of their numbers.
+pub(crate) fn make_all_parts(
+    alloc: Global,
+    params: &Params,
+    places: &Places,
+    timers: Vec<Keeper<TimerStory>>,
+    journals: Vec<Keeper<CpuStory>>,
+) -> Result<Vec<DeskParts>, NoMemory>
+    requires params { AreParams params.now }
+    requires timers { AreAllBegun IsHistory places.now.timers params.now (length params.now.specs) timers.items }
+    requires journals { AreAllBegun IsJournal places.now.cpus params.now params.now.cpus journals.items }
+    ensures { IfOk result (λ all_parts. AreDeskParts places.now params.now all_parts.items) }
+{
+    let direct = Spec::directs(alloc, params.specs.as_slice())?;
+    let mut here = all_here(alloc, timers)?;
+    let mut all_parts = Vec::new(alloc);
+    let mut cpu = 0;
+    for journal in journals {
+        let parts = make_parts(
+            alloc,
+            params,
+            places,
+            direct.as_slice(),
+            cpu,
+            &mut here,
+            journal,
+        )?;
+        push(&mut all_parts, parts)?;
+        cpu += 1;
+    }
+    Ok(all_parts)
+}
