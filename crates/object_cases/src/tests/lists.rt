@@ -1,5 +1,6 @@
 //! Lists, and lists with room.
 
+use co_object::{LockUse, Spec};
 use co_sbt::{NoMemory, Room, Seq};
 use std::alloc::Global;
 
@@ -49,5 +50,30 @@ fn clears_one_of_its_lists(rt: HostRuntime) -> Result<(), NoMemory> {
         }
         _ => panic!(rt; "there are two"),
     }
+    Ok(())
+}
+
+#[test]
+fn repeats_one_item(rt: HostRuntime) -> Result<(), NoMemory> {
+    let three = Seq::filled(rt.alloc(), 3, 7_u32)?;
+    let none = Seq::filled(rt.alloc(), 0, 7_u32)?;
+    assert!(rt; three.as_slice() == [7, 7, 7].as_slice() && none.as_slice().is_empty());
+    Ok(())
+}
+
+/// A callout without a lock, which the interrupt of its CPU services where it is direct.
+const fn free(direct: bool) -> Spec {
+    Spec {
+        lock: LockUse::Free,
+        returns_unlocked: false,
+        direct,
+    }
+}
+
+#[test]
+fn tells_which_callouts_are_direct(rt: HostRuntime) -> Result<(), NoMemory> {
+    let specs = [free(false), free(true), free(true)];
+    let directs = Spec::directs(rt.alloc(), specs.as_slice())?;
+    assert!(rt; directs.as_slice() == [false, true, true].as_slice());
     Ok(())
 }
