@@ -1,5 +1,5 @@
 -- Where the callouts' records are, and what each section does with them.
-use Rattle.std.specs.Prelude.{◌≡◌, ℕ, ◌<◌, ◌==◌, ◌&&◌, ◌||◌, Bool, false, List, [], ◌∷◌, ◌++◌, length, get_or, set, is_some}
+use Rattle.std.specs.Prelude.{◌≡◌, ℕ, ◌<◌, ◌||◌, Bool, false, List, [], ◌∷◌, ◌++◌, length, get_or, set, is_some}
 use Rattle.std.specs.declared.option.Option.{Option}
 use Rattle.std.specs.declared.option.Option.TheVariants.{Some, None}
 use Rattle.co_object.specs.declared.op.CallOp.{CallOp}
@@ -7,11 +7,10 @@ use Rattle.co_object.specs.declared.reply.Reply.{Reply}
 use Rattle.co_object.specs.declared.queue.QOp.TheVariants.{Insert, Scan}
 use Rattle.co_object.specs.declared.queue.QReply.TheVariants.{At, Count, Freed}
 use Rattle.co_object.specs.Group.{off_of}
-use Rattle.co_object.specs.Queue.{Due}
 use Rattle.co_object.specs.Scan.{is_direct}
 use Rattle.co_queue.specs.Timers.{empty_timers}
 use Rattle.co_wheel.specs.declared.outs.NextOut.{NextOut}
-use Rattle.co_wheel.specs.Callouts.{Callouts, callout, is_here, with_callout, empty_callouts}
+use Rattle.co_wheel.specs.Callouts.{callout, is_here, with_callout, empty_callouts}
 use Rattle.co_wheel.specs.Call.{call_at}
 use Rattle.co_wheel.specs.Cpu.{Cpu, cpu_of}
 use Rattle.co_wheel.specs.Next.{IsPicked, popping}
@@ -49,14 +48,6 @@ with_bag x a bag = record x { bags = set x.bags a bag }
 
 abbrev pub with_stand : Stored → ℕ → ℕ → Stored
 with_stand x i cpu = record x { stands = set x.stands i cpu }
-
-abbrev pub is_entry : Option Due → (i n : ℕ) → Bool
-is_entry None i n = false
-is_entry (Some d) i n = d.i == i && d.n == n
-
--- the CPU or its interrupt has callout i in service, for its arming n
-abbrev pub services : Callouts → (i n : ℕ) → Bool
-services c i n = is_entry c.serving i n || is_entry c.directing i n
 
 -- what a section at this CPU's wheel has leave it may go with the actor
 pub record MayCarry (x : Stored) (a at : ℕ) : Type 0 where

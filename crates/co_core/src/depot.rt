@@ -1,13 +1,12 @@
 //! Where the callouts' records are: at the wheels of the CPUs, or on their way.
-ghost use Rattle.std.specs.Prelude.{◌≡◌, ◌<◌, true, false, length, is_some};
-ghost use Rattle.std.specs.Option.{option_map};
+ghost use Rattle.std.specs.Prelude.{◌≡◌, ◌<◌, true, length, is_some};
 ghost use Rattle.std.specs.declared.option.Option.{Option};
 ghost use Rattle.std.specs.declared.option.Option.TheVariants.{Some, None};
-ghost use Rattle.co_wheel.specs.Callouts.{is_here, in_service};
+ghost use Rattle.co_wheel.specs.Callouts.{is_here, is_serviced, in_service};
 ghost use Rattle.co_wheel.specs.Cpu.{Cpu};
 ghost use Rattle.co_wheel.specs.Parcel.{Parcel as Travelling};
 ghost use Rattle.co_wheel.specs.Service.{begin_here, end_here};
-ghost use Rattle.co_core.specs.Stored.{IsBegun, IsCalled, IsEnded, IsLanded, IsNext, IsScanned, MayCarry, MayLand, bag_at, is_entry, services, stand_at, wheel_at, with_bag, with_stand, with_wheel};
+ghost use Rattle.co_core.specs.Stored.{IsBegun, IsCalled, IsEnded, IsLanded, IsNext, IsScanned, MayCarry, MayLand, bag_at, stand_at, wheel_at, with_bag, with_stand, with_wheel};
 
 mod boot;
 
@@ -57,10 +56,10 @@ impl Depot {
     /// Whether this CPU or its interrupt has the callout in service, for this arming.
     pub(crate) fn services(&self, cpu: u32, i: u32, n: u64) -> bool
         requires { cpu < length self.now.wheels }
-        ensures { result ≡ services (wheel_at self.now cpu).callouts i n }
+        ensures { result ≡ is_serviced (wheel_at self.now cpu).callouts.serving (wheel_at self.now cpu).callouts.directing i n }
     {
         let wheel = &self.wheels[cpu as usize];
-        is_entry(wheel.serving(), i, n) || is_entry(wheel.directing(), i, n)
+        wheel.services(i, n)
     }
 
     /// A caller's operation on a callout that is at this CPU, answered in `out`. Where its record leaves it goes into the
@@ -137,15 +136,6 @@ impl Depot {
         self.stands[parcel.callout() as usize] = cpu;
         let wheel = &mut self.wheels[cpu as usize];
         wheel.land(parcel)
-    }
-}
-
-fn is_entry(entry: Option<(u32, u64)>, i: u32, n: u64) -> bool
-    ensures { result ≡ is_entry (option_map (λ d. record { i = d.0; n = d.1 }) entry) i n }
-{
-    match entry {
-        Some((j, m)) => j == i && m == n,
-        None => false,
     }
 }
 

@@ -25,4 +25,4 @@ record_of c processed = record {
 pub record IsCarried (rec : Record) : Type 0 where
   pub live : rec.live ≡ true
   pub armed : rec.pending ≡ true
-  pub settled : rec.deferred ≡ false
+  pub undeferred : rec.deferred ≡ false

@@ -8,7 +8,7 @@ ghost use Rattle.co_record.specs.Fresh.{fresh};
 ghost use Rattle.co_record.specs.Paired.{IsPaired};
 ghost use Rattle.co_record.specs.Same.{};
 ghost use Rattle.co_record.specs.Same.{SameCallout};
-ghost use Rattle.co_record.specs.Standing.{state_of, moved, settled};
+ghost use Rattle.co_record.specs.Standing.{state_of, moved, as_moved};
 
 use crate::{DeferredArming, Slot};
 use co_object::Spec;
@@ -199,8 +199,8 @@ impl Record {
 
     /// A move that waits for the end of the service counts as made.
     #[inline]
-    pub(crate) fn settle(&mut self, slot: &Slot)
-        ensures { self.new ≡ settled self.old slot.now }
+    pub(crate) fn take_up_deferred(&mut self, slot: &Slot)
+        ensures { self.new ≡ as_moved self.old slot.now }
     {
         if self.deferred {
             self.take_up(&slot.moving);
@@ -215,7 +215,7 @@ impl Record {
             ≡ record (state_of self.old slot.now) { armed = None; active = false } }
         ensures callout { SameCallout self.old slot.now self.new slot.now }
     {
-        self.settle(slot);
+        self.take_up_deferred(slot);
         self.pending = false;
         self.active = false;
     }

@@ -7,8 +7,8 @@ use Rattle.std.proofs.lemmas.List.{get_or-map, get_or_past, length-map, length-r
 use Rattle.co_object.specs.declared.alone.Alone.{Alone}
 use Rattle.co_object.specs.declared.spec.Spec.{Spec}
 use Rattle.co_object.proofs.Numbers.{same_number}
-use Rattle.co_wheel.specs.Callouts.{new_callout}
-use Rattle.co_service.specs.Booted.{come_to, first_callouts}
+use Rattle.co_wheel.specs.Callouts.{new_callout, first_callouts}
+use Rattle.co_service.specs.Booted.{come_to}
 use Rattle.co_service.specs.Params.{no_spec}
 
 module _ {A : Type 0} where
@@ -26,7 +26,7 @@ pub record AreCome (specs : List Spec) (k : ℕ) (here : List (Option Alone)) : 
   pub come : (i : ℕ) → i < k → get_or here i None ≡ new_callout (slice_index_or specs i no_spec)
   pub missing : (i : ℕ) → k ≤ i → get_or here i None ≡ None
 
-pub first_come : (cpu : ℕ) (specs : List Spec) → AreCome specs (come_to cpu specs) (first_callouts cpu specs)
+pub first_come : (cpu : ℕ) (specs : List Spec) → AreCome specs (come_to cpu specs) (first_callouts specs cpu)
 first_come cpu specs = by_test (cpu == 0) where
   by_test : (b : Bool) → AreCome specs (cond b (length specs) 0) (cond b (map new_callout specs) (replicate (length specs) (none {A = Alone})))
   by_test true = record {

@@ -1,5 +1,5 @@
 -- The section of a pop on a desk: what its wheel and its books have after it.
-use Rattle.std.proofs.Common.{◌≡◌, ◌||◌, ℕ, Bool, true, false, List, [], ◌∷◌, ◌++◌, length, set, refl, sym, ap, ◌∙◌, subst, arith}
+use Rattle.std.proofs.Common.{◌≡◌, ℕ, Bool, true, false, List, [], ◌∷◌, ◌++◌, length, set, refl, sym, ap, ◌∙◌, subst, arith}
 use Rattle.std.specs.Prelude.{is_some, slice_set}
 use Rattle.std.specs.declared.option.Option.{Option}
 use Rattle.std.specs.declared.option.Option.TheVariants.{Some, None}
@@ -17,14 +17,14 @@ use Rattle.co_object.specs.Queue.{Due}
 use Rattle.co_object.specs.Serve.{pick}
 use Rattle.co_wheel.specs.declared.outs.NextOut.{NextOut}
 use Rattle.co_wheel.specs.declared.outs.NextOut.TheVariants.{Empty, Took}
-use Rattle.co_wheel.specs.Callouts.{Callouts, callout, in_service, with_callout, with_service}
+use Rattle.co_wheel.specs.Callouts.{Callouts, callout, in_service, is_serviced, with_callout, with_service}
 use Rattle.co_wheel.specs.Cpu.{Cpu}
 use Rattle.co_wheel.specs.Next.{popping}
 use Rattle.co_wheel.specs.Sections.{IsNext}
 use Rattle.co_wheel.specs.Service.{moved_on, pick_outcome, pick_it}
 use Rattle.co_service.specs.Params.{actors_of, directs, spec_at}
 use Rattle.co_service.specs.Books.{BooksView, history_at, entries_in}
-use Rattle.co_service.specs.Desk.{IsAtCpu, IsHere, IsDesk, Owes, StandsAs, alone_after, is_entry, is_scan, scans_in, services}
+use Rattle.co_service.specs.Desk.{IsAtCpu, IsHere, IsDesk, Owes, StandsAs, alone_after, is_scan, scans_in}
 use Rattle.co_service.specs.May.{queue_at_desk}
 use Rattle.co_service.specs.Seats.{IsShown}
 use Rattle.co_service.specs.Services.{MayPick, picked_histories, pop_entry, run_entry}
@@ -43,9 +43,8 @@ slot_shown false w b o = o.takes.serving
 slot_shown true w b o = o.takes.directing
 
 -- whether a desk has an arming in service its journal says
-pub has_service : (w : Cpu) (b : BooksView) (i n : ℕ) (x : Bool) → Owes [] w b → false ≡ is_entry w.callouts.serving i n → x ≡ is_entry w.callouts.directing i n → x ≡ services (queue_at_desk b) i n
-has_service w b i n x o none is =
-    is ∙ ((λ k. none k || is_entry w.callouts.directing i n) ∙ (λ k. is_entry (sym o.takes.serving k) i n || is_entry (sym o.takes.directing k) i n))
+pub has_service : (w : Cpu) (b : BooksView) (i n : ℕ) (x : Bool) → Owes [] w b → x ≡ is_serviced w.callouts.serving w.callouts.directing i n → x ≡ is_serviced (queue_at_desk b).serving (queue_at_desk b).directing i n
+has_service w b i n x o is = is ∙ (λ k. is_serviced (sym o.takes.serving k) (sym o.takes.directing k) i n)
 
 pub service_is : (lane : Bool) (w : Cpu) (b : BooksView) (scans actor : ℕ) (seen : List QEntry) → IsDesk w b scans → IsJournal b.params b.cpu b.journal → actor ≡ lane_actor lane (actors_of b.params) b.cpu → IsShown queue_by actor b.journal seen
     → in_service lane w.callouts ≡ served_in lane (own queue_by actor seen)

@@ -1,21 +1,18 @@
 -- What boot makes, place by place.
-use Rattle.std.specs.Prelude.{◌≡◌, ℕ, ◌+◌, ◌<◌, ◌≤◌, List, [], ◌∷◌, ◌++◌, length, map, replicate, slice_get, slice_index_or, ◌==◌, if◌then◌else◌}
+use Rattle.std.specs.Prelude.{◌≡◌, ℕ, ◌+◌, ◌<◌, ◌≤◌, List, [], ◌∷◌, ◌++◌, length, map, slice_get, slice_index_or, ◌==◌, if◌then◌else◌}
 use Rattle.std.specs.declared.option.Option.TheVariants.{Some, None}
 use Rattle.std.specs.declared.option.Option.{Option}
 use Rattle.co_life.specs.Identity.{LifeId}
 use Rattle.co_life.specs.Views.{KeeperView, PassView}
-use Rattle.co_object.specs.declared.alone.Alone.{Alone}
 use Rattle.co_object.specs.declared.note.Entry.{Entry}
 use Rattle.co_object.specs.declared.note.QEntry.{QEntry}
 use Rattle.co_object.specs.declared.spec.Spec.{Spec}
-use Rattle.co_queue.specs.Timers.{empty_timers}
-use Rattle.co_wheel.specs.Callouts.{new_callout}
-use Rattle.co_wheel.specs.Cpu.{Cpu, cpu_of}
+use Rattle.co_wheel.specs.Cpu.{Cpu}
 use Rattle.co_service.specs.declared.params.Params.{Params}
 use Rattle.co_service.specs.declared.line.Line.{Line}
 use Rattle.co_service.specs.declared.line.Line.TheVariants.{Opening, Made}
 use Rattle.co_service.specs.Name.{ServiceName}
-use Rattle.co_service.specs.Params.{actor_count, directs}
+use Rattle.co_service.specs.Params.{actor_count}
 use Rattle.co_service.specs.Lines.{made, openings, opening_of, AllCarry}
 use Rattle.co_service.specs.Seats.{SeatsView, fresh_seats}
 use Rattle.co_service.specs.Views.{PassesView, IsKeeperOf}
@@ -135,14 +132,6 @@ pub record AreBooted (name : ServiceName) (p : Params) (all : List PassesView) :
 abbrev pub come_to : ℕ → List Spec → ℕ
 come_to cpu specs = if cpu == 0 then length specs else 0
 
--- these callouts
-abbrev pub first_callouts : ℕ → List Spec → List (Option Alone)
-first_callouts cpu specs = if cpu == 0 then map new_callout specs else replicate (length specs) None
-
--- the wheel of a CPU before the first call
-abbrev pub first_wheel : Params → ℕ → Cpu
-first_wheel p cpu = cpu_of (record { cpu = cpu; here = first_callouts cpu p.specs; serving = None; directing = None }) (empty_timers (length p.specs) p.buckets (directs p))
-
 -- the keepers of the callouts of a CPU, in whose histories no call has made an entry
 pub record AreFirstKeepers (lives : List LifeId) (p : Params) (cpu : ℕ) (keepers : List (Option (KeeperView (Line Entry)))) : Type 0 where
   pub each : (i : ℕ) → IsHistoryKept lives p i (slice_index_or keepers i None)
@@ -152,7 +141,7 @@ pub record AreFirstKeepers (lives : List LifeId) (p : Params) (cpu : ℕ) (keepe
 
 -- what a CPU has before the first call: its wheel, and keepers of the service in whose histories no call has made an entry
 pub record IsDeskParts (name : ServiceName) (p : Params) (cpu : ℕ) (w : Cpu) (keepers : List (Option (KeeperView (Line Entry)))) (journal : KeeperView (Line QEntry)) : Type 0 where
-  pub wheel : w ≡ first_wheel p cpu
+  pub wheel : w ≡ first_wheel p.specs p.buckets cpu
   pub first : AreFirstKeepers name.timers p cpu keepers
   pub own : IsKeeperOf IsJournal name.cpus p cpu journal
   pub nothing : made journal.history ≡ []

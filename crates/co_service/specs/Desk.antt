@@ -1,5 +1,5 @@
 -- What a desk keeps: its wheel is what its books say.
-use Rattle.std.specs.Prelude.{◌≡◌, ℕ, ◌==◌, ◌&&◌, ◌||◌, true, Bool, false, List, [], length}
+use Rattle.std.specs.Prelude.{◌≡◌, ℕ, true, Bool, false, List, [], length}
 use Rattle.std.specs.List.{count_by}
 use Rattle.std.specs.declared.option.Option.{Option}
 use Rattle.std.specs.declared.option.Option.TheVariants.{Some, None}
@@ -10,7 +10,6 @@ use Rattle.co_object.specs.declared.note.QEntry.{QEntry}
 use Rattle.co_object.specs.declared.queue.QOp.{QOp}
 use Rattle.co_object.specs.declared.queue.QOp.TheVariants.{Scan}
 use Rattle.co_object.specs.History.{state}
-use Rattle.co_object.specs.Queue.{Due, Queue}
 use Rattle.co_object.specs.Stand.{is_free_at, off}
 use Rattle.co_wheel.specs.Callouts.{callout}
 use Rattle.co_wheel.specs.Cpu.{Cpu}
@@ -47,14 +46,6 @@ is_scan _ = false
 -- how many Scans a journal has
 abbrev pub scans_in : List QEntry → ℕ
 scans_in J = count_by (λ e. is_scan e.op) J
-
-abbrev pub is_entry : Option Due → (i n : ℕ) → Bool
-is_entry None i n = false
-is_entry (Some d) i n = d.i == i && d.n == n
-
--- a plain queue has callout i in service, for its arming n: the CPU's, or its interrupt's
-abbrev pub services : Queue → (i n : ℕ) → Bool
-services q i n = is_entry q.serving i n || is_entry q.directing i n
 
 -- the wheel's numbers are the books'
 pub record HasNumbersOf (w : Cpu) (b : BooksView) : Type 0 where

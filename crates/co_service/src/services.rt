@@ -1,12 +1,11 @@
 //! The sections of a desk in which a callout is serviced, and its landing.
 ghost use Rattle.std.specs.Prelude.{◌≡◌, ◌≢◌, ◌<◌, ◌⊎◌, IfErr, IfOk, false, nat_lt, true};
-ghost use Rattle.std.specs.Option.{option_map};
 ghost use Rattle.std.specs.declared.option.Option.TheVariants.{Some, None};
 ghost use Rattle.co_object.specs.declared.queue.QOp.TheVariants.{Insert};
 ghost use Rattle.co_object.specs.declared.queue.QReply.TheVariants.{At};
 ghost use Rattle.co_object.specs.Journal.{reply_of, step};
 ghost use Rattle.co_object.specs.Queue.{Due};
-ghost use Rattle.co_service.specs.Desk.{is_entry, scans_in, services};
+ghost use Rattle.co_service.specs.Desk.{scans_in};
 ghost use Rattle.co_service.specs.May.{queue_at_desk};
 ghost use Rattle.co_service.specs.Outcomes.{queue_entry_by};
 ghost use Rattle.co_service.specs.Params.{directs};
@@ -14,6 +13,7 @@ ghost use Rattle.co_service.specs.Services.{IsBegun, IsFree, IsLanded, IsServing
 ghost use Rattle.co_service.specs.Serving.{Runs, Waits};
 ghost use Rattle.co_service.specs.Written.{AreHere, AreTogether, IsTurnWritten};
 ghost use Rattle.co_service.specs.Kept.{Answers, AnswersEnd, IsStarted};
+ghost use Rattle.co_wheel.specs.Callouts.{is_serviced};
 
 use crate::books::Books;
 use crate::desk::{Desk, write_turn};
@@ -26,15 +26,6 @@ use crate::told::Inserted;
 use crate::{Made, Name, Passes};
 use co_object::{QOp, QReply, RunOp};
 use co_sbt::Sbt;
-
-fn is_of(service: Option<(u32, u64)>, i: u32, n: u64) -> bool
-    ensures { result ≡ is_entry (option_map (λ d. record { i = d.0; n = d.1 }) service) i n }
-{
-    match service {
-        Some((j, m)) => j == i && m == n,
-        None => false,
-    }
-}
 
 /// Writes that arming `n` of callout `i` has come into the queue, and tells of it.
 #[inline(always)]
@@ -77,9 +68,9 @@ impl<N: Name> Desk<N> {
     /// Whether this CPU or its interrupt has this arming of callout `i` in service, by the journal.
     #[inline(always)]
     pub(crate) fn services(&self, i: u32, n: u64) -> bool
-        ensures { result ≡ services (queue_at_desk self.now) i n }
+        ensures { result ≡ is_serviced (queue_at_desk self.now).serving (queue_at_desk self.now).directing i n }
     {
-        is_of(serviced(&self.wheel, false), i, n) || is_of(serviced(&self.wheel, true), i, n)
+        self.wheel.services(i, n)
     }
 
     /// The first callout that has come due goes into service: of this CPU, or of its interrupt where `direct`. None where

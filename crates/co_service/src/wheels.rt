@@ -1,6 +1,6 @@
 //! The wheels of a service before the first call.
 ghost use Rattle.std.specs.Prelude.{◌≡◌, IfOk};
-ghost use Rattle.co_service.specs.Booted.{first_wheel};
+ghost use Rattle.co_wheel.specs.Cpu.{first_wheel};
 ghost use Rattle.co_service.specs.Params.{AreParams, directs};
 
 use crate::Params;
@@ -9,7 +9,7 @@ use co_sbt::NoMemory;
 use co_wheel::Wheel;
 use std::alloc::Global;
 
-/// The wheel of a CPU before the first call: all callouts begin at CPU 0.
+/// The wheel of a CPU before the first call.
 pub(crate) fn first_wheel(
     alloc: Global,
     params: &Params,
@@ -18,14 +18,9 @@ pub(crate) fn first_wheel(
 ) -> Result<Wheel<WheelQueue>, NoMemory>
     requires params { AreParams params.now }
     requires direct { direct.now ≡ directs params.now }
-    ensures { IfOk result (λ wheel. wheel ≡ first_wheel params.now cpu) }
+    ensures { IfOk result (λ wheel. wheel ≡ first_wheel params.now.specs params.now.buckets cpu) }
 {
     let specs = params.specs.as_slice();
-    let size = specs.len() as u32;
-    let queue = WheelQueue::new(alloc, size, params.buckets, direct)?;
-    let mut wheel = Wheel::new(alloc, cpu, size, queue)?;
-    if cpu == 0 {
-        wheel.put_all(specs);
-    }
-    Ok(wheel)
+    let queue = WheelQueue::new(alloc, specs.len() as u32, params.buckets, direct)?;
+    Wheel::boot(alloc, cpu, specs, queue)
 }

@@ -69,24 +69,24 @@ some-within {X = X} [] i h = absurd (none-there X i h)
 some-within (x ∷ xs) zero h = omega arith
 some-within (x ∷ xs) (suc i) h = let r = some-within xs i h in omega (arith, r)
 
-module _ (slot second : Slot) (rs : List (Option Record)) (all : IsFiled slot second rs) where
+module _ (slot interrupt : Slot) (rs : List (Option Record)) (all : IsFiled slot interrupt rs) where
   abbrev c : Callouts
-  c = callouts_of slot second rs
+  c = callouts_of slot interrupt rs
 
   -- by each number, also past the last
-  callout-at : (i : ℕ) → callout c i ≡ alone_of slot second (get_or rs i None)
+  callout-at : (i : ℕ) → callout c i ≡ alone_of slot interrupt (get_or rs i None)
   callout-at i = go rs i where
-    go : (xs : List (Option Record)) (i : ℕ) → get_or (map (alone_of slot second) xs) i None ≡ alone_of slot second (get_or xs i None)
+    go : (xs : List (Option Record)) (i : ℕ) → get_or (map (alone_of slot interrupt) xs) i None ≡ alone_of slot interrupt (get_or xs i None)
     go [] i = refl
     go (x ∷ xs) zero = refl
     go (x ∷ xs) (suc i) = go xs i
 
-  slot-of : (direct : Bool) → in_service direct c ≡ due_of (lane slot second direct).current
+  slot-of : (direct : Bool) → in_service direct c ≡ due_of (lane slot interrupt direct).current
   slot-of true = refl
   slot-of false = refl
 
   -- the two lanes
-  its-lane : (own direct : Bool) (i : ℕ) → holds (lane slot second direct) i ≡ true → holds (lane slot second (not own)) i ≡ false → own ≡ direct
+  its-lane : (own direct : Bool) (i : ℕ) → holds (lane slot interrupt direct) i ≡ true → holds (lane slot interrupt (not own)) i ≡ false → own ≡ direct
   its-lane true true i h g = refl
   its-lane false false i h g = refl
   its-lane true false i h g = absurd cc
@@ -95,58 +95,58 @@ module _ (slot second : Slot) (rs : List (Option Record)) (all : IsFiled slot se
   apart : {b : Bool} → b ≡ true → b ≡ false → ⊥
   apart h g = let e : true ≡ false = sym h ∙ g in cc
 
-  absent : (direct : Bool) (i : ℕ) → holds slot i ≡ false → holds second i ≡ false → holds (lane slot second direct) i ≡ false
+  absent : (direct : Bool) (i : ℕ) → holds slot i ≡ false → holds interrupt i ≡ false → holds (lane slot interrupt direct) i ≡ false
   absent true i h g = g
   absent false i h g = h
 
   slots-are : (direct : Bool) (d : Due) → in_service direct c ≡ Some d → IsServing direct c d
   slots-are direct d has = at_record (get_or rs d.i None) refl (all.each d.i) where
-    number : served (lane slot second direct) d.i ≡ Some d.n
-    number = has-number (lane slot second direct).current d (sym (slot-of direct) ∙ has)
+    number : served (lane slot interrupt direct) d.i ≡ Some d.n
+    number = has-number (lane slot interrupt direct).current d (sym (slot-of direct) ∙ has)
 
-    held : holds (lane slot second direct) d.i ≡ true
+    held : holds (lane slot interrupt direct) d.i ≡ true
     held = ap is_some number
 
-    at_record : (r : Option Record) → get_or rs d.i None ≡ r → IsFiledAt slot second d.i r → IsServing direct c d
-    at_record None at gone = absurd (apart held (absent direct d.i gone.idle gone.idle_second))
+    at_record : (r : Option Record) → get_or rs d.i None ≡ r → IsFiledAt slot interrupt d.i r → IsServing direct c d
+    at_record None at gone = absurd (apart held (absent direct d.i gone.idle gone.idle_interrupt))
     at_record (Some rec) at filed =
-        let lane_is : rec.spec.direct ≡ direct = its-lane rec.spec.direct direct d.i held (sym (ap (holds (lane slot second (not rec.spec.direct))) filed.number) ∙ filed.apart) in
+        let lane_is : rec.spec.direct ≡ direct = its-lane rec.spec.direct direct d.i held (sym (ap (holds (lane slot interrupt (not rec.spec.direct))) filed.number) ∙ filed.apart) in
         record {
-          alone = record { spec = rec.spec; state = state_in slot second rec };
-          here = callout-at d.i ∙ ap (alone_of slot second) at;
+          alone = record { spec = rec.spec; state = state_in slot interrupt rec };
+          here = callout-at d.i ∙ ap (alone_of slot interrupt) at;
           lane = lane_is;
-          runs = run-serviced rec (lane slot second rec.spec.direct) (served (lane slot second rec.spec.direct) rec.i)
-              ∙ ap (λ b. served (lane slot second b) rec.i) lane_is ∙ ap (served (lane slot second direct)) filed.number ∙ number;
+          runs = run-serviced rec (lane slot interrupt rec.spec.direct) (served (lane slot interrupt rec.spec.direct) rec.i)
+              ∙ ap (λ b. served (lane slot interrupt b) rec.i) lane_is ∙ ap (served (lane slot interrupt direct)) filed.number ∙ number;
         }
 
   busy-are : (i n : ℕ) (a : Alone) → callout c i ≡ Some a → serviced a.state.run ≡ Some n → in_service a.spec.direct c ≡ Some (record { i = i; n = n })
   busy-are i n a is runs = at_record (get_or rs i None) (sym (callout-at i) ∙ is) (all.each i) where
-    at_record : (r : Option Record) → alone_of slot second r ≡ Some a → IsFiledAt slot second i r → in_service a.spec.direct c ≡ Some (record { i = i; n = n })
+    at_record : (r : Option Record) → alone_of slot interrupt r ≡ Some a → IsFiledAt slot interrupt i r → in_service a.spec.direct c ≡ Some (record { i = i; n = n })
     at_record None none filed = absurd cc
     at_record (Some rec) some filed =
-        let same : record { spec = rec.spec; state = state_in slot second rec } ≡ a = some_of some in
+        let same : record { spec = rec.spec; state = state_in slot interrupt rec } ≡ a = some_of some in
         slot-of a.spec.direct
-        ∙ is-due (lane slot second a.spec.direct).current i n
-        (ap (λ (x : Alone). served (lane slot second x.spec.direct) i) (sym same)
-        ∙ ap (served (lane slot second rec.spec.direct)) (sym filed.number)
-        ∙ sym (run-serviced rec (lane slot second rec.spec.direct) (served (lane slot second rec.spec.direct) rec.i))
+        ∙ is-due (lane slot interrupt a.spec.direct).current i n
+        (ap (λ (x : Alone). served (lane slot interrupt x.spec.direct) i) (sym same)
+        ∙ ap (served (lane slot interrupt rec.spec.direct)) (sym filed.number)
+        ∙ sym (run-serviced rec (lane slot interrupt rec.spec.direct) (served (lane slot interrupt rec.spec.direct) rec.i))
         ∙ ap (λ (x : Alone). serviced x.state.run) same ∙ runs) where
           some_of : {x y : Alone} → Some x ≡ Some y → x ≡ y
           some_of g = cc
 
-  cpu-of : (direct : Bool) → (lane slot second direct).cpu ≡ slot.cpu
+  cpu-of : (direct : Bool) → (lane slot interrupt direct).cpu ≡ slot.cpu
   cpu-of true = all.cpu
   cpu-of false = refl
 
   here-are : (i : ℕ) (a : Alone) → callout c i ≡ Some a → is_free_at a.state.run c.cpu ≡ true
   here-are i a is = at_record (get_or rs i None) (sym (callout-at i) ∙ is) where
-    at_record : (r : Option Record) → alone_of slot second r ≡ Some a → is_free_at a.state.run slot.cpu ≡ true
+    at_record : (r : Option Record) → alone_of slot interrupt r ≡ Some a → is_free_at a.state.run slot.cpu ≡ true
     at_record None none = absurd cc
     at_record (Some rec) some =
-        let same : record { spec = rec.spec; state = state_in slot second rec } ≡ a = some_of some in
+        let same : record { spec = rec.spec; state = state_in slot interrupt rec } ≡ a = some_of some in
         ap (λ (x : Alone). is_free_at x.state.run slot.cpu) (sym same)
-        ∙ ap (is_free_at (state_in slot second rec).run) (sym (cpu-of rec.spec.direct))
-        ∙ run-here rec (lane slot second rec.spec.direct) (served (lane slot second rec.spec.direct) rec.i) where
+        ∙ ap (is_free_at (state_in slot interrupt rec).run) (sym (cpu-of rec.spec.direct))
+        ∙ run-here rec (lane slot interrupt rec.spec.direct) (served (lane slot interrupt rec.spec.direct) rec.i) where
           some_of : {x y : Alone} → Some x ≡ Some y → x ≡ y
           some_of g = cc
 
@@ -156,23 +156,23 @@ module _ (slot second : Slot) (rs : List (Option Record)) (all : IsFiled slot se
   -- ---- a deferred arming
 
   module _ (direct : Bool) where
-    pub no-service : (lane slot second direct).current ≡ None → None ≡ deferred_in direct c
+    pub no-service : (lane slot interrupt direct).current ≡ None → None ≡ deferred_in direct c
     no-service none = ap (deferred_for c) (sym (slot-of direct ∙ ap due_of none))
 
     -- the current one of a slot has a record here
-    pub served-record : (cu : Current) → (lane slot second direct).current ≡ Some cu → is_some (get_or rs cu.i None) ≡ true
+    pub served-record : (cu : Current) → (lane slot interrupt direct).current ≡ Some cu → is_some (get_or rs cu.i None) ≡ true
     served-record cu is = at_record (get_or rs cu.i None) (all.each cu.i) where
-      held : holds (lane slot second direct) cu.i ≡ true
+      held : holds (lane slot interrupt direct) cu.i ≡ true
       held = ap (λ o. is_some (number_of o cu.i)) is ∙ ap (λ b. is_some (cond b (Some cu.n) None)) (same_itself cu.i cu.i refl)
 
-      at_record : (r : Option Record) → IsFiledAt slot second cu.i r → is_some r ≡ true
-      at_record None gone = absurd (apart held (absent direct cu.i gone.idle gone.idle_second))
+      at_record : (r : Option Record) → IsFiledAt slot interrupt cu.i r → is_some r ≡ true
+      at_record None gone = absurd (apart held (absent direct cu.i gone.idle gone.idle_interrupt))
       at_record (Some rec) filed = refl
 
-    pub served-within : (cu : Current) → (lane slot second direct).current ≡ Some cu → cu.i < length rs
+    pub served-within : (cu : Current) → (lane slot interrupt direct).current ≡ Some cu → cu.i < length rs
     served-within cu is = some-within rs cu.i (served-record cu is)
 
-    pub deferred-is : (cu : Current) → (lane slot second direct).current ≡ Some cu → (rec : Record) → get_or rs cu.i None ≡ Some rec → deferred_of (state_in slot second rec) ≡ deferred_in direct c
+    pub deferred-is : (cu : Current) → (lane slot interrupt direct).current ≡ Some cu → (rec : Record) → get_or rs cu.i None ≡ Some rec → deferred_of (state_in slot interrupt rec) ≡ deferred_in direct c
     deferred-is cu is rec at =
         sym (ap (deferred_for c) (slot-of direct ∙ ap due_of is)
-        ∙ ap (λ (o : Option Alone). deferred_at o) (callout-at cu.i ∙ ap (alone_of slot second) at))
+        ∙ ap (λ (o : Option Alone). deferred_at o) (callout-at cu.i ∙ ap (alone_of slot interrupt) at))

@@ -31,7 +31,7 @@ use Rattle.co_wheel.proofs.Calling.{unarmed-off}
 use Rattle.co_wheel.proofs.Entries.{none-all}
 use Rattle.co_wheel.proofs.Keeping.{there-within}
 use Rattle.co_wheel.proofs.Scanning.{two}
-use Rattle.co_wheel.proofs.Settling.{but-with, closed, some-same}
+use Rattle.co_wheel.proofs.AgreedAfter.{but-with, closed, some-same}
 use Rattle.co_object.specs.declared.reply.Reply.TheVariants.{Hold}
 use Rattle.co_object.specs.declared.state.Run.TheVariants.{Picked}
 

@@ -11,7 +11,7 @@ use Rattle.co_wheel.specs.declared.outs.CallOut.{CallOut}
 use Rattle.co_wheel.specs.declared.outs.NextOut.{NextOut}
 use Rattle.co_wheel.specs.declared.outs.EndOut.{EndOut}
 use Rattle.co_wheel.specs.Agreed.{IsWheelBut}
-use Rattle.co_wheel.specs.Call.{call_at, settled}
+use Rattle.co_wheel.specs.Call.{call_at, sent_away}
 use Rattle.co_wheel.specs.Callouts.{callout, is_here, is_listed, with_callout, IsArmedWith}
 use Rattle.co_wheel.specs.Cpu.{Cpu}
 use Rattle.co_wheel.specs.Next.{IsPicked, popping}
@@ -46,14 +46,14 @@ pub record IsLanding (before after : Cpu) (parcel : Parcel) (at : ℕ) : Type 0 
   pub queue : Turns before ((Insert parcel.i parcel.arming.n parcel.arming.due, At at) ∷ []) after
 
 -- callout i is armed with number n here, and the rest of the wheel is as it is kept
-pub record MaySettle (before : Cpu) (i n : ℕ) : Type 0 where
+pub record MayRoute (before : Cpu) (i n : ℕ) : Type 0 where
   pub here : is_here before.callouts i ≡ true
   pub armed : IsArmedWith before.callouts i n
   pub kept : IsWheelBut i before
 
 -- a callout that is armed enters the queue at this time, leaves, or waits for the end of its service
-pub record IsSettling (before after : Cpu) (i : ℕ) (at : Option ℕ) (leaves : Option Parcel) : Type 0 where
-  pub callouts : (after.callouts, leaves) ≡ settled before.callouts i
+pub record IsRouting (before after : Cpu) (i : ℕ) (at : Option ℕ) (leaves : Option Parcel) : Type 0 where
+  pub callouts : (after.callouts, leaves) ≡ sent_away before.callouts i
   pub inserted : is_some at ≡ is_listed before.callouts i
   pub queue : Turns before (insertion i (callout before.callouts i) at) after
 

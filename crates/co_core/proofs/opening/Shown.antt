@@ -13,8 +13,8 @@ use Rattle.co_program.specs.declared.script.Script.{Script}
 use Rattle.co_program.specs.Actors.{actor_count, all_actors}
 use Rattle.co_world.specs.World.{open_world}
 use Rattle.co_world.specs.Blocked.{is_moving}
-use Rattle.co_wheel.specs.Callouts.{new_callout}
-use Rattle.co_core.specs.Booted.{first_wheel, first_callouts}
+use Rattle.co_wheel.specs.Callouts.{new_callout, first_callouts}
+use Rattle.co_wheel.specs.Cpu.{first_wheel}
 use Rattle.co_core.specs.Stored.{Stored, no_wheel}
 use Rattle.co_world.specs.Step.{are_direct}
 use Rattle.co_core.specs.Table.{table}
@@ -91,7 +91,7 @@ callouts-home s cpu = go (cpu == 0) refl where
       sym (table-same (length s.timers) None) ∙ same (length s.timers) (λ _. None) (at_home s (open_world s) cpu)
       (λ i within. sym (here i false (away (0 == cpu) is refl)))
 
-at-first : (s : Script) (cpu : ℕ) → IsAtWheel s (open_world s) cpu (first_wheel s cpu)
+at-first : (s : Script) (cpu : ℕ) → IsAtWheel s (open_world s) cpu (first_wheel s.timers s.buckets cpu)
 at-first s cpu = record {
   number = refl;
   here = callouts-home s cpu;
@@ -102,10 +102,10 @@ at-first s cpu = record {
 
 -- the depot before the first step
 pub opening-stored : (s : Script) (n timers : ℕ) → n ≡ actor_count s → timers ≡ length s.timers →
-    ShowsStored s (record { wheels = table s.cpus (first_wheel s); stands = replicate timers 0; bags = replicate n None }) (open_world s)
+    ShowsStored s (record { wheels = table s.cpus (first_wheel s.timers s.buckets); stands = replicate timers 0; bags = replicate n None }) (open_world s)
 opening-stored s n timers actors_is timers_is = record {
-  wheels_long = table_long s.cpus (first_wheel s);
-  each_wheel = λ cpu within. subst (λ x. IsAtWheel s (open_world s) cpu x) (sym (table_at s.cpus (first_wheel s) cpu no_wheel within)) (at-first s cpu);
+  wheels_long = table_long s.cpus (first_wheel s.timers s.buckets);
+  each_wheel = λ cpu within. subst (λ x. IsAtWheel s (open_world s) cpu x) (sym (table_at s.cpus (first_wheel s.timers s.buckets) cpu no_wheel within)) (at-first s cpu);
   each_stand = ap (λ k. replicate k 0) timers_is ∙ sym (table-same (length s.timers) 0);
   bags_long = length-replicate n None ∙ actors_is;
   each_bag = λ a h. get_or-replicate n a None None (omega (arith, h, actors_is));

@@ -23,7 +23,8 @@ use Rattle.co_world.specs.Blocked.{is_service_of}
 use Rattle.co_world.specs.Laws.{actors_of}
 use Rattle.co_world.specs.Placed.{IsPlaced, in_slot, server_slot}
 use Rattle.co_core.specs.Stands.{ShowsStored}
-use Rattle.co_core.specs.Stored.{Stored, wheel_at, stand_at, is_entry, services}
+use Rattle.co_wheel.specs.Callouts.{is_entry, is_serviced}
+use Rattle.co_core.specs.Stored.{Stored, wheel_at, stand_at}
 use Rattle.co_world.proofs.kept.Invariant.{RunFits, IsTaken, IsRunning, IsOver, IsBetween, cpu_of_run, service_of, serving_of, has_popped, states_of, cursors_of, queues_of}
 use Rattle.co_world.proofs.basics.Roles.{role_cpu_of, role_interrupt}
 use Rattle.co_world.proofs.kept.Services.{service_actor}
@@ -220,11 +221,11 @@ module _ (s : Script) (y : Stored) (w : World) (stored : ShowsStored s y w) (pla
         go (Interrupt x) has = or-right (is_entry queue.serving i n) has
 
   -- the wheel at which the callout's record stands has it in service exactly where its run says so
-  pub in-service : (cpu : ℕ) → cpu ≡ stand_at y i → services (wheel_at y cpu).callouts i n ≡ is_service_of n (serviced (w.timers i).state.run)
+  pub in-service : (cpu : ℕ) → cpu ≡ stand_at y i → is_serviced (wheel_at y cpu).callouts.serving (wheel_at y cpu).callouts.directing i n ≡ is_service_of n (serviced (w.timers i).state.run)
   in-service cpu at =
       let stand_is : cpu ≡ stand = at ∙ read y.stands (length s.timers) (λ i. (w.timers i).stand) i 0 stored.each_stand within in
       let shows = (stored.each_wheel stand (placed.cpus_known i within).stand).shows in
-      ap (λ (x : ℕ). services (wheel_at y x).callouts i n) stand_is
+      ap (λ (x : ℕ). is_serviced (wheel_at y x).callouts.serving (wheel_at y x).callouts.directing i n) stand_is
       ∙ (ap (λ o. is_entry o i n || is_entry (wheel_at y stand).callouts.directing i n) (sym shows.serving)
       ∙ (ap (λ o. is_entry queue.serving i n || is_entry o i n) (sym shows.directing)
       ∙ same-bool (is_entry queue.serving i n || is_entry queue.directing i n) (is_service_of n (serviced (w.timers i).state.run)) to-service to-slot))

@@ -2,9 +2,10 @@
 ghost use Rattle.std.specs.Prelude.{◌≡◌, ◌<◌, ◌++◌, ◌∷◌, [], None, replicate, IfOk, OnOk};
 ghost use Rattle.co_program.specs.Actors.{actor_count};
 ghost use Rattle.co_program.specs.Scripts.{IsScript};
-ghost use Rattle.co_core.specs.Booted.{MayBoot, first_wheel};
+ghost use Rattle.co_core.specs.Booted.{MayBoot};
 ghost use Rattle.co_core.specs.Stands.{ShowsStored};
 ghost use Rattle.co_core.specs.Table.{table};
+ghost use Rattle.co_wheel.specs.Cpu.{first_wheel};
 ghost use Rattle.co_world.specs.World.{open_world};
 
 use super::Depot;
@@ -15,7 +16,7 @@ use co_sbt::NoMemory;
 use co_wheel::{Parcel, Wheel};
 use std::alloc::{AllocError, Global};
 
-/// The wheel of a CPU before the first step: all callouts begin at CPU 0.
+/// The wheel of a CPU before the first step.
 fn first_wheel(
     alloc: Global,
     script: &Script,
@@ -23,16 +24,11 @@ fn first_wheel(
     cpu: u32,
 ) -> Result<Wheel<WheelQueue>, NoMemory>
     requires { MayBoot script.now direct.now }
-    ensures { IfOk result (λ wheel. wheel ≡ first_wheel script.now cpu) }
+    ensures { IfOk result (λ wheel. wheel ≡ first_wheel script.now.timers script.now.buckets cpu) }
 {
     let specs = script.timers.as_slice();
-    let size = specs.len() as u32;
-    let queue = WheelQueue::new(alloc, size, script.buckets, direct)?;
-    let mut wheel = Wheel::new(alloc, cpu, size, queue)?;
-    if cpu == 0 {
-        wheel.put_all(specs);
-    }
-    Ok(wheel)
+    let queue = WheelQueue::new(alloc, specs.len() as u32, script.buckets, direct)?;
+    Wheel::boot(alloc, cpu, specs, queue)
 }
 
 /// Appends an item.
@@ -52,7 +48,7 @@ fn first_wheels(
     direct: &[bool],
 ) -> Result<Vec<Wheel<WheelQueue>>, NoMemory>
     requires { MayBoot script.now direct.now }
-    ensures { IfOk result (λ wheels. wheels.items ≡ table script.now.cpus (first_wheel script.now)) }
+    ensures { IfOk result (λ wheels. wheels.items ≡ table script.now.cpus (first_wheel script.now.timers script.now.buckets)) }
 {
     let mut wheels = Vec::new(alloc);
     for cpu in 0..script.cpus {

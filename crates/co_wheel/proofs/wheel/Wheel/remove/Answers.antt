@@ -2,7 +2,7 @@ use Rattle.std.proofs.Common.{ap, sym, subst, ◌∙◌}
 use Rattle.co_wheel.specs.Agreed.{IsWheel}
 use Rattle.co_wheel.specs.Callouts.{is_free_at}
 use Rattle.co_wheel.specs.Cpu.{Cpu, cpu_of}
-use Rattle.co_wheel.proofs.Settling.{gone-kept}
+use Rattle.co_wheel.proofs.AgreedAfter.{gone-kept}
 use Rattle.co_wheel.proofs.wheel.Wheel.remove.Goals as goal
 
 pub invariant_of-self : goal.invariant_of-self
