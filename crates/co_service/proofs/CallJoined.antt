@@ -25,7 +25,7 @@ use Rattle.co_wheel.specs.Callouts.{is_at, is_listed_of}
 use Rattle.co_wheel.specs.Parcel.{parcel, parcel_to}
 use Rattle.co_wheel.specs.Turns.{insertion, insertion_of}
 use Rattle.co_wheel.proofs.Calls.{Shift, stays, goes, comes, shift}
-use Rattle.co_wheel.proofs.Settling.{none-insertion}
+use Rattle.co_wheel.proofs.AgreedAfter.{none-insertion}
 use Rattle.co_service.specs.Call.{call_entry, due_named, number_accepted, Target, landing, time_of, target_in, removal_notes, insert_turns, insertion_notes}
 use Rattle.co_service.specs.Desk.{IsAtCpu}
 use Rattle.co_service.specs.Views.{PassesView}
