@@ -5,7 +5,8 @@ use Rattle.co_object.proofs.Each.{Each}
 use Rattle.co_object.proofs.Numbers.{same_number}
 use Rattle.co_bucket.proofs.Ranges.{range-more, length-range}
 use Rattle.co_queue.specs.Timers.{IsWheel}
-use Rattle.co_embed.specs.Sizes.{are_sizes, directs, is_wheel_size}
+use Rattle.co_object.specs.Queue.{is_wheel_size}
+use Rattle.co_embed.specs.Sizes.{are_sizes, directs}
 
 any-of : (p : ℕ → Bool) (P : ℕ → Type 0) (xs : List ℕ) → Each P xs → list_any p xs ≡ true → (k : ℕ) × (p k ≡ true) × P k
 any-of p P [] each h = absurd (no h) where

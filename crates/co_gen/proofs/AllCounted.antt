@@ -14,7 +14,7 @@ use Rattle.co_object.specs.declared.Place.TheVariants.{Timer}
 use Rattle.co_object.specs.Callout.{opening}
 use Rattle.co_object.specs.History.{next, state, IsLegal}
 use Rattle.co_object.specs.Laws.OneFate.{is_fired}
-use Rattle.co_object.specs.Lists.{same_place, callout_history}
+use Rattle.co_object.specs.Lists.{same_place, callout_history, callout_entry}
 use Rattle.co_object.proofs.Passing.{count-passing}
 use Rattle.co_listener.specs.MadeNotes.{MadeNote, IsInOrder, list_by, lists_by, notes_made, made_in}
 use Rattle.co_program.specs.declared.Script.{Script}
@@ -28,7 +28,7 @@ use Rattle.co_report.proofs.ShownHistories.{histories_shown}
 use Rattle.co_report.proofs.ToldShown.{shown-as-told}
 use Rattle.co_gen.specs.declared.counts.Counts.{Counts}
 use Rattle.co_gen.specs.Laws.{HaveLegalHistories}
-use Rattle.co_gen.specs.Replay.{at_end, after_entry, timer_entry, open_arming, replayed}
+use Rattle.co_gen.specs.Replay.{at_end, after_entry, open_arming, replayed}
 use Rattle.co_gen.specs.Soak.{is_superseded, is_stopped, is_pending, armings, with_fate, counts_of}
 use Rattle.co_gen.specs.Tally.{entries_in, walked, no_counts, callout_told, counts_in, at_ends, AreFates}
 use Rattle.co_gen.proofs.Replays.{accepts, adds-replayed}
@@ -64,8 +64,8 @@ filter-mapped f g (x ∷ xs) = ap (λ zs. cons_option (g (f x)) zs) (filter-mapp
 
 pub entries-are : (n : ℕ) (made : List MadeNote) (i : ℕ) → IsInOrder made → AllByRecursion (λ m. m.actor < n) made → entries_in made i ≡ callout_history i (lists_by n made)
 entries-are n made i order actors =
-    sym (filter-mapped (λ (note : Note). note.entry) timer_entry (made_in made (Timer i)))
-    ∙ ap (filter_map timer_entry)
+    sym (filter-mapped (λ (note : Note). note.entry) callout_entry (made_in made (Timer i)))
+    ∙ ap (filter_map callout_entry)
     (sym (entries-told (Timer i) [] made)
     ∙ (ap (map (λ (x : NumberedEntry). x.entry)) (sym (shown-as-told n made (Timer i) order actors))
     ∙ histories_shown (Timer i) (lists_by n made)))

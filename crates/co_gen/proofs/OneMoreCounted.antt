@@ -15,7 +15,7 @@ use Rattle.co_object.specs.declared.Note.{Note}
 use Rattle.co_object.specs.declared.Place.TheVariants.{Timer}
 use Rattle.co_object.specs.Callout.{opening}
 use Rattle.co_object.specs.History.{next, state}
-use Rattle.co_object.specs.Lists.{same_place}
+use Rattle.co_object.specs.Lists.{same_place, callout_entry}
 use Rattle.co_listener.specs.MadeNotes.{MadeNote, made_in}
 use Rattle.co_program.specs.declared.Script.{Script}
 use Rattle.co_program.specs.Action.{spec_at}
@@ -25,7 +25,7 @@ use Rattle.co_report.proofs.ToldNotes.{made-here, made-elsewhere}
 use Rattle.co_report.proofs.ToldPages.{set-map, map-same}
 use Rattle.co_gen.specs.declared.counts.Counts.{Counts}
 use Rattle.co_gen.specs.declared.tally.Tally.{Tally}
-use Rattle.co_gen.specs.Replay.{after_entry, timer_entry}
+use Rattle.co_gen.specs.Replay.{after_entry}
 use Rattle.co_gen.specs.Tally.{entries_in, walked, no_counts, callout_told, counts_in, sum_in, AreFates, HasCounted, IsEntryTaken}
 use Rattle.co_gen.proofs.Replays.{adds-entry}
 use Rattle.co_gen.proofs.Terms.{same-terms, one-larger}
@@ -33,18 +33,18 @@ use Rattle.co_gen.proofs.Terms.{same-terms, one-larger}
 -- ---- the entries of a callout
 
 abbrev entry_in : Note → Option Entry
-entry_in note = timer_entry note.entry
+entry_in note = callout_entry note.entry
 
 entries-here : (made : List MadeNote) (m : MadeNote) (i : ℕ) (e : Entry) → m.note.place ≡ Timer i → m.note.entry ≡ of.Timer e → entries_in (made ++ m ∷ []) i ≡ entries_in made i ++ e ∷ []
 entries-here made m i e at is =
     ap (filter_map entry_in) (made-here made m (Timer i) (ap (λ p. same_place p (Timer i)) at ∙ same_itself (Timer i)))
     ∙ (filter_map-append entry_in (made_in made (Timer i)) (m.note ∷ [])
-    ∙ ap (λ x. entries_in made i ++ cons_option (timer_entry x) []) is)
+    ∙ ap (λ x. entries_in made i ++ cons_option (callout_entry x) []) is)
 
 pub entries-elsewhere : (made : List MadeNote) (m : MadeNote) (i : ℕ) → same_place m.note.place (Timer i) ≡ false → entries_in (made ++ m ∷ []) i ≡ entries_in made i
 entries-elsewhere made m i other = ap (filter_map entry_in) (made-elsewhere made m (Timer i) other)
 
-pub entries-none : (made : List MadeNote) (m : MadeNote) (i : ℕ) → timer_entry m.note.entry ≡ None → entries_in (made ++ m ∷ []) i ≡ entries_in made i
+pub entries-none : (made : List MadeNote) (m : MadeNote) (i : ℕ) → callout_entry m.note.entry ≡ None → entries_in (made ++ m ∷ []) i ≡ entries_in made i
 entries-none made m i none = by_place (same_place m.note.place (Timer i)) refl where
   by_place : (b : Bool) → same_place m.note.place (Timer i) ≡ b → entries_in (made ++ m ∷ []) i ≡ entries_in made i
   by_place true here =

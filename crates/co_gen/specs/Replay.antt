@@ -62,8 +62,3 @@ at_end c (Some n) = fate_counted c Pending
 abbrev pub replayed : Spec → Counts → State → List Entry → Counts
 replayed spec c s [] = at_end c (open_arming s)
 replayed spec c s (e ∷ es) = replayed spec (after_entry spec c s e) (next spec s e) es
-
--- the callout's entry, where it is one
-abbrev pub timer_entry : AnyEntry → Option Entry
-timer_entry (of.Timer e) = Some e
-timer_entry _ = None

@@ -1,6 +1,7 @@
 -- The counts of notes while they are told, note by note: each callout after its entries so far, and what they have decided.
 use Rattle.std.specs.Prelude.{◌≡◌, ℕ, ◌<◌, List, [], ◌∷◌, length, map, sum_by, set, Option, Some, None}
 use Rattle.std.specs.List.{AllByRecursion, filter_map, range_with_len}
+use Rattle.co_object.specs.Lists.{callout_entry}
 use Rattle.co_object.specs.declared.Alone.{Alone}
 use Rattle.co_object.specs.declared.Spec.{Spec}
 use Rattle.co_object.specs.declared.State.{State}
@@ -14,11 +15,11 @@ use Rattle.co_program.specs.Action.{spec_at}
 use Rattle.co_program.specs.Actors.{actor_count}
 use Rattle.co_gen.specs.declared.counts.Counts.{Counts}
 use Rattle.co_gen.specs.declared.tally.Tally.{Tally}
-use Rattle.co_gen.specs.Replay.{after_entry, at_end, timer_entry, open_arming}
+use Rattle.co_gen.specs.Replay.{after_entry, at_end, open_arming}
 
 -- the entries of callout i, in the order in which they are made
 abbrev pub entries_in : List MadeNote → ℕ → List Entry
-entries_in made i = filter_map (λ note. timer_entry note.entry) (made_in made (Timer i))
+entries_in made i = filter_map (λ note. callout_entry note.entry) (made_in made (Timer i))
 
 -- after a history, from a state on; what is to fire yet is not counted
 abbrev pub walked : Spec → Counts → State → List Entry → Counts

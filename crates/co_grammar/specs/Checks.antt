@@ -15,9 +15,6 @@ use Rattle.co_program.specs.Scripts.{names_exist}
 abbrev pub is_within : ℕ → ℕ → ℕ → Bool
 is_within low high n = nat_le low n && nat_le n high
 
-abbrev pub is_wheel_size : ℕ → Bool
-is_wheel_size n = list_any (λ size. n == size) (16 ∷ 32 ∷ 64 ∷ 128 ∷ 256 ∷ 512 ∷ 1024 ∷ 2048 ∷ 4096 ∷ 8192 ∷ 16384 ∷ 32768 ∷ 65536 ∷ [])
-
 -- it is the next number of a list that has at most this many
 abbrev pub is_next_of : ℕ → ℕ → ℕ → Bool
 is_next_of most count n = (n == count) && nat_lt n most

@@ -31,9 +31,10 @@ off_of (Wait n took off) = off
 off_of (Drained code off) = off
 off_of _ = None
 
-abbrev removed : ℕ → Entry → Option ℕ → List Placed
-removed i e None = []
-removed i e (Some cpu) = (at.Cpu cpu, of.Cpu (record { actor = e.actor; act = e.act; op = Remove i; reply = Off })) ∷ []
+-- what a call took out of a queue, told before its entry
+abbrev pub removal_notes : ℕ → Entry → Option ℕ → List Placed
+removal_notes i e None = []
+removal_notes i e (Some cpu) = (at.Cpu cpu, of.Cpu (record { actor = e.actor; act = e.act; op = Remove i; reply = Off })) ∷ []
 
 abbrev listed : ℕ → Entry → Option Arming → Stand → ℕ → List Placed
 listed i e None stands time = []
@@ -49,7 +50,7 @@ inserted i e _ after time = []
 -- `after` is the callout's state after the entry, and `time` the queue's answer to the insert
 abbrev pub group : ℕ → Entry → State → ℕ → List Placed
 group i e after time =
-    removed i e (off_of e.reply) ++ ((at.Timer i, of.Timer e) ∷ []) ++ inserted i e e.reply after time
+    removal_notes i e (off_of e.reply) ++ ((at.Timer i, of.Timer e) ∷ []) ++ inserted i e e.reply after time
 
 -- these notes are a call's group
 abbrev pub IsGroup : ℕ → Entry → State → List Note → Type 0

@@ -15,7 +15,8 @@ use Rattle.co_program.specs.Scripts.{IsScript, is_tick, is_call, names_exist}
 use Rattle.co_grammar.specs.declared.Kind.{Kind}
 use Rattle.co_grammar.specs.declared.Kind.TheVariants as kind
 use Rattle.co_grammar.specs.Keywords.{is_func}
-use Rattle.co_grammar.specs.Checks.{is_within, is_wheel_size, spec_exists, spec_kind_fits}
+use Rattle.co_object.specs.Queue.{is_wheel_size}
+use Rattle.co_grammar.specs.Checks.{is_within, spec_exists, spec_kind_fits}
 use Rattle.co_script.specs.Refusals.{most_acts}
 use Rattle.co_script.specs.Fits.{fits, rises_after, spec_fits, act_stands, section_fits, is_free}
 use Rattle.co_script.proofs.parts.Fitting.{fitting}

@@ -13,9 +13,8 @@ use Rattle.co_object.specs.declared.reply.Reply.TheVariants.{Armed, NotArmed, No
 use Rattle.co_object.specs.declared.queue.QOp.TheVariants.{Insert}
 use Rattle.co_object.specs.declared.queue.QReply.TheVariants.{At}
 use Rattle.co_object.specs.Entries.{is_armed}
-use Rattle.co_object.specs.Group.{Placed, off_of, group}
+use Rattle.co_object.specs.Group.{Placed, off_of, group, removal_notes}
 use Rattle.co_object.specs.Stand.{Stand, Nowhere, Listed, Deferred, stand_of, listed_cpu, is_free_at, off}
-use Rattle.co_service.specs.Call.{removal_notes}
 
 abbrev pub entry_of : (actor act : ℕ) → Op → Reply → Entry
 entry_of actor act op r = record { actor = actor; act = act; op = op; reply = r }

@@ -17,7 +17,7 @@ use Rattle.co_object.specs.declared.op.Op.TheVariants.{Call}
 use Rattle.co_object.specs.declared.reply.Reply.{Reply}
 use Rattle.co_object.specs.declared.reply.Reply.TheVariants.{Armed, NotArmed, NoHandler, Worn, Stopped, Wait, Drained, Busy, Yes, No, Done, Go, Hold, Skip, Ended, Live, Retired, InUse}
 use Rattle.co_object.specs.Entries.{is_armed}
-use Rattle.co_object.specs.Group.{off_of, group}
+use Rattle.co_object.specs.Group.{off_of, group, removal_notes}
 use Rattle.co_object.specs.Stand.{Listed, Deferred, listed_cpu, stand_of, is_free_at, is_idle, off}
 use Rattle.co_object.proofs.Numbers.{same_itself}
 use Rattle.co_wheel.specs.Call.{is_away, called, reply}
@@ -26,7 +26,7 @@ use Rattle.co_wheel.specs.Parcel.{parcel, parcel_to}
 use Rattle.co_wheel.specs.Turns.{insertion, insertion_of}
 use Rattle.co_wheel.proofs.Calls.{Shift, stays, goes, comes, shift}
 use Rattle.co_wheel.proofs.AgreedAfter.{none-insertion}
-use Rattle.co_service.specs.Call.{call_entry, due_named, number_accepted, Target, landing, time_of, target_in, removal_notes, insert_turns, insertion_notes}
+use Rattle.co_service.specs.Call.{call_entry, due_named, number_accepted, Target, landing, time_of, target_in, insert_turns, insertion_notes}
 use Rattle.co_service.specs.Desk.{IsAtCpu}
 use Rattle.co_service.specs.Views.{PassesView}
 use Rattle.co_service.proofs.CallArming.{IsDue, is_due}

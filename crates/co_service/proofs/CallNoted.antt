@@ -11,10 +11,10 @@ use Rattle.co_object.specs.declared.op.CallOp.{CallOp}
 use Rattle.co_object.specs.declared.op.Op.TheVariants.{Call}
 use Rattle.co_object.specs.declared.queue.QOp.TheVariants.{Insert, Remove}
 use Rattle.co_object.specs.declared.queue.QReply.TheVariants.{At, Off}
-use Rattle.co_object.specs.Group.{Placed, off_of, placed}
+use Rattle.co_object.specs.Group.{Placed, off_of, placed, removal_notes}
 use Rattle.co_service.specs.declared.told.Told.{Told}
 use Rattle.co_service.specs.Books.{BooksView}
-use Rattle.co_service.specs.Call.{call_entry, due_named, insertion_notes, insertion_told, number_accepted, removal_notes, removal_told, section_notes, told_notes}
+use Rattle.co_service.specs.Call.{call_entry, due_named, insertion_notes, insertion_told, number_accepted, removal_told, section_notes, told_notes}
 use Rattle.co_service.specs.Desk.{scans_in}
 use Rattle.co_service.specs.Outcomes.{noted_entry, queue_entry_by}
 use Rattle.co_service.specs.Views.{PassesView}

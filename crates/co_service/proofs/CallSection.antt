@@ -15,7 +15,7 @@ use Rattle.co_object.specs.declared.reply.Reply.{Reply}
 use Rattle.co_object.specs.declared.state.State.{State}
 use Rattle.co_object.specs.Callout.{call}
 use Rattle.co_object.specs.Entries.{is_armed}
-use Rattle.co_object.specs.Group.{Placed, placed, off_of, group}
+use Rattle.co_object.specs.Group.{Placed, placed, off_of, group, removal_notes}
 use Rattle.co_object.specs.History.{state}
 use Rattle.co_object.specs.Stand.{is_idle}
 use Rattle.co_wheel.specs.declared.outs.CallOut.{CallOut}
@@ -29,7 +29,7 @@ use Rattle.co_wheel.proofs.Calls.{Shift, stays, goes, comes, shift}
 use Rattle.co_service.specs.declared.params.Params.{Params}
 use Rattle.co_service.specs.Params.{spec_at}
 use Rattle.co_service.specs.Books.{BooksView, history_at, entries_in, entries_at, with_history}
-use Rattle.co_service.specs.Call.{IsAnswer, Target, call_entry, call_turns, due_named, insertion_notes, landing, number_accepted, removal_notes, section_notes, target_in, time_of}
+use Rattle.co_service.specs.Call.{IsAnswer, Target, call_entry, call_turns, due_named, insertion_notes, landing, number_accepted, section_notes, target_in, time_of}
 use Rattle.co_service.specs.Desk.{IsAtCpu, IsDesk, Owes, alone_after, scans_in}
 use Rattle.co_service.specs.May.{state_at}
 use Rattle.co_service.specs.Moving.{MayDepart, departed, moving_from, target_of, IsOfService}

@@ -19,7 +19,7 @@ use Rattle.co_object.specs.declared.reply.Reply.TheVariants.{Armed, NotArmed, No
 use Rattle.co_object.specs.declared.state.Arming.{Arming}
 use Rattle.co_object.specs.declared.state.State.{State}
 use Rattle.co_object.specs.Entries.{is_armed}
-use Rattle.co_object.specs.Group.{Placed, off_of, group, placed}
+use Rattle.co_object.specs.Group.{Placed, off_of, group, placed, removal_notes}
 use Rattle.co_object.specs.History.{state}
 use Rattle.co_object.specs.Queue.{Due}
 use Rattle.co_object.specs.Stand.{Stand, Nowhere, Listed, Deferred, stand_of}
@@ -30,7 +30,7 @@ use Rattle.co_service.specs.declared.outs.Taken.{Taken}
 use Rattle.co_service.specs.declared.outs.Taken.TheVariants.{Empty, Took}
 use Rattle.co_service.specs.declared.outs.Made.{Made}
 use Rattle.co_service.specs.Booted.{booted}
-use Rattle.co_service.specs.Call.{IsCalled, Target, landing, notes_in, removal_notes}
+use Rattle.co_service.specs.Call.{IsCalled, Target, landing, notes_in}
 use Rattle.co_service.specs.Name.{ServiceName}
 use Rattle.co_service.specs.declared.params.Params.{Params}
 use Rattle.co_service.specs.Kept.{Keeps, KeepsFree, KeepsTaken}

@@ -14,7 +14,7 @@ use Rattle.co_object.specs.declared.reply.Reply.{Reply}
 use Rattle.co_object.specs.declared.reply.Reply.TheVariants.{Armed}
 use Rattle.co_object.specs.declared.queue.QOp.TheVariants.{Insert, Remove}
 use Rattle.co_object.specs.declared.queue.QReply.TheVariants.{At, Off}
-use Rattle.co_object.specs.Group.{Placed, placed, off_of, group}
+use Rattle.co_object.specs.Group.{Placed, placed, off_of, group, removal_notes}
 use Rattle.co_object.specs.History.{state}
 use Rattle.co_wheel.specs.Parcel.{Parcel}
 use Rattle.co_wheel.specs.Turns.{Turn, removal}
@@ -96,11 +96,6 @@ due_named _ = 0
 abbrev pub number_accepted : Reply → ℕ
 number_accepted (Armed code n cpu off) = n
 number_accepted _ = 0
-
--- what a call took out of a queue
-abbrev pub removal_notes : ℕ → Entry → Option ℕ → List Placed
-removal_notes i e None = []
-removal_notes i e (Some cpu) = (at.Cpu cpu, of.Cpu (record { actor = e.actor; act = e.act; op = Remove i; reply = Off })) ∷ []
 
 -- what the queue is asked for an arming that is to stand in it
 abbrev pub insert_turns : (i n due : ℕ) → Option ℕ → List Turn

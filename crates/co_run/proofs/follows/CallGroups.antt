@@ -18,7 +18,7 @@ use Rattle.co_object.specs.declared.Place.TheVariants as place
 use Rattle.co_object.specs.declared.AnyEntry.TheVariants as entry
 use Rattle.co_object.specs.Entries.{is_armed}
 use Rattle.co_object.specs.Stand.{off, is_free_at, listed_cpu, stand_of, Listed, Deferred}
-use Rattle.co_object.specs.Group.{Placed, placed, off_of, group}
+use Rattle.co_object.specs.Group.{Placed, placed, off_of, group, removal_notes}
 use Rattle.co_object.specs.History.{state, next, May, IsLegal}
 use Rattle.co_object.specs.Callout.{call, opening}
 use Rattle.co_object.proofs.Histories.{legal-last}
@@ -33,7 +33,7 @@ use Rattle.co_program.specs.Follows.{Histories}
 use Rattle.co_world.proofs.follows.DueNotes.{due_removed}
 use Rattle.co_world.proofs.basics.Prefixes.{Begins}
 use Rattle.co_world.proofs.follows.Traces.{Trace}
-use Rattle.co_service.specs.Call.{IsCalled, removal_notes}
+use Rattle.co_service.specs.Call.{IsCalled}
 use Rattle.co_service.specs.declared.params.Params.{Params}
 use Rattle.co_service.specs.Params.{actors_of, spec_at as spec_in}
 use Rattle.co_service.specs.Views.{PassesView, seen_of, journal_seen}

@@ -9,7 +9,7 @@ use Rattle.co_object.specs.declared.PlainOp.TheVariants.{Reset, Schedule, Stop, 
 use Rattle.co_object.specs.declared.Note.{Note}
 use Rattle.co_object.specs.declared.Place.TheVariants as place
 use Rattle.co_object.specs.declared.AnyEntry.TheVariants as entry
-use Rattle.co_object.specs.Group.{Placed, placed, off_of}
+use Rattle.co_object.specs.Group.{Placed, placed, off_of, removal_notes}
 use Rattle.co_object.specs.Queue.{Due}
 use Rattle.co_lock.specs.declared.Held.{Held}
 use Rattle.co_lock.specs.Covers.{covers}
@@ -25,7 +25,7 @@ use Rattle.co_program.specs.declared.Asked.TheVariants.{Callout}
 use Rattle.co_program.proofs.Existing.{action_exists}
 use Rattle.co_world.proofs.kept.Stages.{is_acting}
 use Rattle.co_world.proofs.follows.Traces.{Trace}
-use Rattle.co_service.specs.Call.{IsCalled, NamesCpu, removal_notes}
+use Rattle.co_service.specs.Call.{IsCalled, NamesCpu}
 use Rattle.co_service.specs.Params.{spec_at as spec_in}
 use Rattle.co_service.specs.Name.{ServiceName}
 use Rattle.co_service.specs.Services.{IsFree, IsServing}

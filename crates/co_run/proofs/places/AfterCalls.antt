@@ -15,7 +15,7 @@ use Rattle.co_object.specs.declared.AnyEntry.TheVariants as entry
 use Rattle.co_object.specs.Entries.{is_armed}
 use Rattle.co_object.specs.Callout.{call}
 use Rattle.co_object.specs.Queue.{Due}
-use Rattle.co_object.specs.Group.{Placed, placed, off_of}
+use Rattle.co_object.specs.Group.{Placed, placed, off_of, removal_notes}
 use Rattle.co_lock.specs.declared.Held.{Held}
 use Rattle.co_program.specs.declared.Script.{Script}
 use Rattle.co_program.specs.declared.Act.{Act}
@@ -39,7 +39,6 @@ use Rattle.co_world.proofs.kept.Stages.{Fits, is_acting, fits_callout, fits_over
 use Rattle.co_service.specs.Services.{IsFree, IsServing}
 use Rattle.co_service.specs.Serving.{Runs, Waits, ServiceStage}
 use Rattle.co_service.specs.Views.{PassesView}
-use Rattle.co_service.specs.Call.{removal_notes}
 use Rattle.co_service.proofs.CallGroup.{entry_of}
 use Rattle.co_run.specs.Acting.{CursorFits, ServesAt, ServesAsStage, TaskLocks}
 use Rattle.co_world.specs.Placed.{due_in_service}

@@ -11,7 +11,8 @@ use Rattle.co_program.specs.Actors.{actor_count}
 use Rattle.co_grammar.specs.declared.Kind.{Kind}
 use Rattle.co_grammar.specs.declared.Kind.TheVariants as kind
 use Rattle.co_grammar.specs.Keywords.{is_func}
-use Rattle.co_grammar.specs.Checks.{is_within, is_wheel_size}
+use Rattle.co_object.specs.Queue.{is_wheel_size}
+use Rattle.co_grammar.specs.Checks.{is_within}
 use Rattle.co_script.specs.Drafts.{padded}
 use Rattle.co_script.specs.Refusals.{most_acts}
 use Rattle.co_script.specs.Fits.{fits, rises_after, spec_fits, section_fits, total_acts}

@@ -10,7 +10,8 @@ use Rattle.co_program.specs.Actors.{actor_count}
 use Rattle.co_grammar.specs.declared.Kind.{Kind}
 use Rattle.co_grammar.specs.declared.Kind.TheVariants as kind
 use Rattle.co_grammar.specs.Keywords.{rank}
-use Rattle.co_grammar.specs.Checks.{is_within, is_wheel_size}
+use Rattle.co_object.specs.Queue.{is_wheel_size}
+use Rattle.co_grammar.specs.Checks.{is_within}
 use Rattle.co_script.specs.Drafts.{Draft, closed, with_section, open_clients}
 use Rattle.co_script.specs.Fits.{spec_fits}
 use Rattle.co_script.proofs.AllPass.{none-pass, more-pass, one-passes}

@@ -8,7 +8,8 @@ use Rattle.co_program.specs.Actors.{actor_count}
 use Rattle.co_grammar.specs.declared.Kind.{Kind}
 use Rattle.co_grammar.specs.declared.Kind.TheVariants as kind
 use Rattle.co_grammar.specs.Keywords.{rank}
-use Rattle.co_grammar.specs.Checks.{is_within, is_wheel_size}
+use Rattle.co_object.specs.Queue.{is_wheel_size}
+use Rattle.co_grammar.specs.Checks.{is_within}
 use Rattle.co_script.proofs.AllPass.{none-pass, none-long}
 use Rattle.co_script.proofs.drafts.Named.{named_by}
 use Rattle.co_script.proofs.drafts.Sections.{section}

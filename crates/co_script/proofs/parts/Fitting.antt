@@ -6,7 +6,8 @@ use Rattle.std.proofs.lemmas.Bool.{and_parts, leb-true, eqb-true}
 use Rattle.co_program.specs.declared.Script.{Script}
 use Rattle.co_program.specs.Actors.{actor_count}
 use Rattle.co_grammar.specs.declared.Kind.TheVariants as kind
-use Rattle.co_grammar.specs.Checks.{HasSmallNumbers, is_within, is_wheel_size}
+use Rattle.co_object.specs.Queue.{is_wheel_size}
+use Rattle.co_grammar.specs.Checks.{HasSmallNumbers, is_within}
 use Rattle.co_script.specs.Fits.{spec_fits, section_fits, total_acts, head_fits, counts_fit, parts_fit, turns_fit, fits}
 
 pub record Fitting (s : Script) : Type 0 where

@@ -13,7 +13,7 @@ use Rattle.co_grammar.specs.declared.Opener.TheVariants.{Frame}
 use Rattle.co_grammar.specs.Keywords.{act_kind, is_section}
 use Rattle.co_grammar.specs.Statements.{Statement}
 use Rattle.co_grammar.specs.Statements as states
-use Rattle.co_grammar.specs.Checks.{is_wheel_size}
+use Rattle.co_object.specs.Queue.{is_wheel_size}
 use Rattle.co_grammar.specs.Forms.{frame_form}
 use Rattle.co_grammar.specs.Spelling.{numbered}
 use Rattle.co_grammar.proofs.ActsBack.{IsShort}

@@ -1,11 +1,10 @@
 -- One note more is counted.
 use Rattle.std.proofs.Common.{ℕ, ◌≡◌, ◌+◌, ap, refl}
 use Rattle.co_object.specs.declared.Place.TheVariants.{Timer}
-use Rattle.co_object.specs.Lists.{same_place}
+use Rattle.co_object.specs.Lists.{same_place, callout_entry}
 use Rattle.co_listener.specs.MadeNotes.{MadeNote}
 use Rattle.co_gen.specs.declared.counts.Counts.{Counts}
 use Rattle.co_gen.specs.declared.tally.Tally.{Tally}
-use Rattle.co_gen.specs.Replay.{timer_entry}
 use Rattle.co_gen.proofs.OneMoreCounted.{entries-elsewhere, entries-none, told-entry, told-none, on-ok}
 use Rattle.co_gen.proofs.tally.Tally.take.Goals as goal
 
@@ -27,13 +26,13 @@ pub returns-in-Cpu-entry : goal.returns-in-Cpu-entry
 returns-in-Cpu-entry c s made actor below told =
     let old = c.args.self.now in
     let m : MadeNote = record { actor = actor; note = c.args.note.now } in
-    told-none s made m old (noted old c.in_ok-self.field-0) (λ k inside. entries-none made m k (ap timer_entry c.in-Cpu-entry.is)) below refl (counted old.counts c.in_ok-self.field-0 c.in_ok-self.ensures) told
+    told-none s made m old (noted old c.in_ok-self.field-0) (λ k inside. entries-none made m k (ap callout_entry c.in-Cpu-entry.is)) below refl (counted old.counts c.in_ok-self.field-0 c.in_ok-self.ensures) told
 
 pub returns-in-Own : goal.returns-in-Own
 returns-in-Own c s made actor below told =
     let old = c.args.self.now in
     let m : MadeNote = record { actor = actor; note = c.args.note.now } in
-    told-none s made m old (noted old c.in_ok-self.field-0) (λ k inside. entries-none made m k (ap timer_entry c.in-Own.is)) below refl (counted old.counts c.in_ok-self.field-0 c.in_ok-self.ensures) told
+    told-none s made m old (noted old c.in_ok-self.field-0) (λ k inside. entries-none made m k (ap callout_entry c.in-Own.is)) below refl (counted old.counts c.in_ok-self.field-0 c.in_ok-self.ensures) told
 
 pub returns-in-Cpu : goal.returns-in-Cpu
 returns-in-Cpu c s made actor below told =
