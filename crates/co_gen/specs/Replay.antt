@@ -8,8 +8,6 @@ use Rattle.co_object.specs.declared.Run.TheVariants.{Idle, Picked, Cancelled, Ru
 use Rattle.co_object.specs.declared.State.{State}
 use Rattle.co_object.specs.declared.Reply.{Reply}
 use Rattle.co_object.specs.declared.Entry.{Entry}
-use Rattle.co_object.specs.declared.AnyEntry.{AnyEntry}
-use Rattle.co_object.specs.declared.AnyEntry.TheVariants as of
 use Rattle.co_object.specs.Entries.{is_armed}
 use Rattle.co_object.specs.Fate.{Fate, Pending, Fired, Superseded, Stopped, is_open, fate_by}
 use Rattle.co_object.specs.History.{next}

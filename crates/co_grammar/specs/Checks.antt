@@ -1,6 +1,5 @@
 -- Whether the numbers and locks that a line names are in their ranges and exist, in the script so far.
-use Rattle.std.specs.Prelude.{ℕ, ℤ, pos, negsuc, ◌^◌, ◌≤◌, Bool, true, false, ◌&&◌, [], ◌∷◌, length, Option, Some, nat_lt, nat_le, int_le, ◌==◌, slice_get}
-use Rattle.std.specs.List.{list_any}
+use Rattle.std.specs.Prelude.{ℕ, ℤ, pos, negsuc, ◌^◌, ◌≤◌, Bool, true, false, ◌&&◌, length, Option, Some, nat_lt, nat_le, int_le, ◌==◌, slice_get}
 use Rattle.co_object.specs.declared.LockUse.{LockUse}
 use Rattle.co_object.specs.declared.LockUse.TheVariants.{Free, Mtx, Rw, RwShared}
 use Rattle.co_lock.specs.declared.LockKind.{LockKind}
