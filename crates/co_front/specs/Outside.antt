@@ -1,6 +1,6 @@
 -- The two ends of a call of the program, and what it may do to them. A source or a sink that tells no bytes tells nothing here
 -- but its counts.
-use Rattle.std.specs.Prelude.{ℕ, ◌<◌, ◌⊎◌, Option, List, length}
+use Rattle.std.specs.Prelude.{◌≡◌, ℕ, ◌<◌, ◌⊎◌, Option, List, length}
 use Rattle.std.specs.Io.KnownBytes.{Appends, Consumes, IsAtEnd}
 use Rattle.co_io.specs.Counts.{Rose}
 use Rattle.co_io.specs.Room.{IsTooSmallFor}
@@ -62,3 +62,8 @@ module _ (before after : Output) where
   pub record WritesFront (text : List ℕ) : Type 0 where
     pub front : AppendsFront before.held after.held text
     pub cause : WriteFails text
+
+module _ {S : Type 0} where
+  -- where this text is to be written for this status, the answer is that status, or the sink failed in the text
+  abbrev pub Tells : (fault status : S) → List ℕ → Output → Output → S → Type 0
+  Tells fault status text before after answer = ((answer ≡ status) × Writes before after text) ⊎ ((answer ≡ fault) × WritesFront before after text)

@@ -12,8 +12,8 @@ use Rattle.co_top.specs.declared.command.Making.{Making}
 use Rattle.co_top.specs.declared.status.Status.{Status}
 use Rattle.co_top.specs.declared.status.Status.TheVariants.{Done, BadScript, Usage, ReadFault, WriteFault, NoMemory, NotLegal}
 use Rattle.co_top.specs.Commands.{usage_text}
-use Rattle.co_top.specs.Headline.{Gives, GivesServed, HasRead, Says, Tells, IsMadeOf, limit_of, served_limit}
-use Rattle.co_front.specs.Outside.{Outside, Reads, ReadsToEnd, Writes}
+use Rattle.co_top.specs.Headline.{Gives, GivesServed, HasRead, Says, IsMadeOf, limit_of, served_limit}
+use Rattle.co_front.specs.Outside.{Outside, Reads, ReadsToEnd, Writes, Tells}
 use Rattle.co_top.proofs.Accepted.{accepted_short, report_short, events_short, served_short}
 
 -- the bytes that a command read of the source, and whether there were more than its limit
@@ -24,7 +24,7 @@ pub record WasRead (before after : Outside) (limit : ℕ) (bytes : List ℕ) (ov
 
 -- what is said where the words are no command: the source stays unread, and the usage line is written or a front of it
 pub unknown : (before after : Outside) (result : Status) (text : List ℕ) → after.input ≡ before.input → text ≡ usage_text →
-    Tells Usage text before.output after.output result → Says before after None result None
+    Tells WriteFault Usage text before.output after.output result → Says before after None result None
 unknown before after result text unread is (inl whole) = subst (λ (x : Status). Says before after None x None) (sym whole.0) (text, (unread, is), whole.1)
 unknown before after result text unread is (inr front) = subst (λ (x : Status). Says before after None x None) (sym front.0) (Usage, None, text, (unread, is), front.1)
 
@@ -80,7 +80,7 @@ module _ (before after : Outside) (bytes : List ℕ) where
   written Event over NoMemory text has given wrote = absurd given
 
   pub said : (reading : Reading) (over : Bool) (status result : Status) (text : List ℕ) → WasRead before after (limit_of reading) bytes over → Gives reading bytes status text →
-      Tells status text before.output after.output result → Says before after (Some (Read reading)) result None
+      Tells WriteFault status text before.output after.output result → Says before after (Some (Read reading)) result None
   said reading over status result text has given (inl whole) =
       subst (λ (x : Status). Says before after (Some (Read reading)) x None) (sym whole.0) (written reading over status text has given whole.1)
   said reading over status result text has given (inr front) =
@@ -112,7 +112,7 @@ module _ (before after : Outside) (serving : Serving) (bytes : List ℕ) (over :
   never_faulty status closing text given is = subst (λ (x : Status). GivesServed serving bytes x closing text) is given
 
   -- the closing is kept where the text was written, and lost where the sink failed in it
-  pub served_said : (status result : Status) (closing rest : Option ClosingView) (text : List ℕ) → GivesServed serving bytes status closing text → Tells status text before.output after.output result →
+  pub served_said : (status result : Status) (closing rest : Option ClosingView) (text : List ℕ) → GivesServed serving bytes status closing text → Tells WriteFault status text before.output after.output result →
       ((result ≡ WriteFault → ⊥) → rest ≡ closing) → (result ≡ WriteFault → rest ≡ None) → Says before after (Some (Serve serving)) result rest
   served_said status result closing rest text given (inl whole) kept lost =
       let same : rest ≡ closing = kept (λ is. never_faulty status closing text given (sym whole.0 ∙ is)) in
@@ -127,7 +127,7 @@ served_words before after asked serving result closing is says = subst (λ (x : 
 -- ---- commands that don't
 
 pub made : (before after : Outside) (making : Making) (result : Status) (text : List ℕ) → after.input ≡ before.input → IsMadeOf making text →
-    Tells Done text before.output after.output result → Says before after (Some (Make making)) result None
+    Tells WriteFault Done text before.output after.output result → Says before after (Some (Make making)) result None
 made before after making result text unread is (inl whole) = subst (λ (x : Status). Says before after (Some (Make making)) x None) (sym whole.0) (text, (unread, is), whole.1)
 made before after making result text unread is (inr front) = subst (λ (x : Status). Says before after (Some (Make making)) x None) (sym front.0) (Done, None, text, (unread, is), front.1)
 

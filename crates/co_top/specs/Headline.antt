@@ -163,10 +163,6 @@ IsMadeOf (Soak seed) text = IsSoakOf seed text
 
 -- ---- the statuses
 
--- where this text is to be written for this status, the answer is that status, or the sink failed in the text
-abbrev pub Tells : Status → List ℕ → Output → Output → Status → Type 0
-Tells status text before after answer = ((answer ≡ status) × Writes before after text) ⊎ ((answer ≡ WriteFault) × WritesFront before after text)
-
 module _ (before after : Outside) where
   -- the source stays unread
   abbrev pub IsUnread : Type 0

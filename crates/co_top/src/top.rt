@@ -4,8 +4,8 @@ ghost use Rattle.std.specs.List.{concat};
 ghost use Rattle.co_top.specs.declared.command.Command.TheVariants as commands;
 ghost use Rattle.co_top.specs.declared.status.Status.TheVariants.{WriteFault};
 ghost use Rattle.co_top.specs.Commands.{IsPlainCommand};
-ghost use Rattle.co_top.specs.Headline.{IsHeadline, IsComplete, Says, Tells, limit_of, plain, served_limit};
-ghost use Rattle.co_front.specs.Outside.{Output, outside};
+ghost use Rattle.co_top.specs.Headline.{IsHeadline, IsComplete, Says, limit_of, plain, served_limit};
+ghost use Rattle.co_front.specs.Outside.{Output, outside, Tells};
 
 use crate::answer::Answer;
 use crate::command::{Command, Making, Reading, Serving, command_of, served};
@@ -58,7 +58,7 @@ fn told(status: Status, end: Result<(), WriteEnd>) -> Status
 fn write_text<K: Sink>(sink: &mut K, status: Status, text: &[u8]) -> Status
     ensures { let before : Output = record { held = K.held sink.old; room = K.room sink.old; faults = K.faults sink.old; idle = K.idle sink.old } in
         let after : Output = record { held = K.held sink.new; room = K.room sink.new; faults = K.faults sink.new; idle = K.idle sink.new } in
-        Tells status text.now before after result }
+        Tells WriteFault status text.now before after result }
 {
     told(status, write_all(sink, text))
 }
@@ -67,7 +67,7 @@ fn write_text<K: Sink>(sink: &mut K, status: Status, text: &[u8]) -> Status
 fn write_answer<K: Sink>(sink: &mut K, answer: &Answer) -> Status
     ensures { let before : Output = record { held = K.held sink.old; room = K.room sink.old; faults = K.faults sink.old; idle = K.idle sink.old } in
         let after : Output = record { held = K.held sink.new; room = K.room sink.new; faults = K.faults sink.new; idle = K.idle sink.new } in
-        Tells answer.now.status (concat answer.now.pieces) before after result }
+        Tells WriteFault answer.now.status (concat answer.now.pieces) before after result }
 {
     told(answer.status, write_pieces(sink, answer.pieces.as_slice()))
 }

@@ -6,8 +6,8 @@ use Rattle.co_view_top.specs.declared.views.View.{View}
 use Rattle.co_view_top.specs.declared.status.Status.{Status}
 use Rattle.co_view_top.specs.declared.status.Status.TheVariants.{Done, BadReport, Usage, ReadFault, WriteFault, NoMemory, NoOrder}
 use Rattle.co_view_top.specs.Texts.{usage_text}
-use Rattle.co_view_top.specs.Headline.{Gives, HasRead, Says, Tells, limit}
-use Rattle.co_front.specs.Outside.{Outside, Reads, ReadsToEnd, Writes}
+use Rattle.co_view_top.specs.Headline.{Gives, HasRead, Says, limit}
+use Rattle.co_front.specs.Outside.{Outside, Reads, ReadsToEnd, Writes, Tells}
 use Rattle.co_view_top.proofs.Accepted.{report_short}
 
 -- the bytes that were read of the source, and whether there were more than the limit
@@ -17,7 +17,7 @@ pub record WasRead (before after : Outside) (bytes : List ℕ) (over : Bool) : T
   pub longer : IsTrue over ↔ (limit < length bytes)
 
 -- the words are no view: the source stays unread, and the usage line is written or a front of it
-pub unknown : (before after : Outside) (result : Status) → after.input ≡ before.input → Tells Usage usage_text before.output after.output result → Says before after None result
+pub unknown : (before after : Outside) (result : Status) → after.input ≡ before.input → Tells WriteFault Usage usage_text before.output after.output result → Says before after None result
 unknown before after result unread (inl whole) = subst (λ (x : Status). Says before after None x) (sym whole.0) (usage_text, (unread, refl), whole.1)
 unknown before after result unread (inr front) = subst (λ (x : Status). Says before after None x) (sym front.0) (Usage, usage_text, (unread, refl), front.1)
 
@@ -48,7 +48,7 @@ module _ (before after : Outside) (bytes : List ℕ) where
   written view over WriteFault text has given wrote = absurd given
   written view over NoMemory text has given wrote = absurd given
 
-  pub said : (view : View) (over : Bool) (status result : Status) (text : List ℕ) → WasRead before after bytes over → Gives view bytes status text → Tells status text before.output after.output result → Says before after (Some view) result
+  pub said : (view : View) (over : Bool) (status result : Status) (text : List ℕ) → WasRead before after bytes over → Gives view bytes status text → Tells WriteFault status text before.output after.output result → Says before after (Some view) result
   said view over status result text has given (inl whole) = subst (λ (x : Status). Says before after (Some view) x) (sym whole.0) (written view over status text has given whole.1)
   said view over status result text has given (inr front) = subst (λ (x : Status). Says before after (Some view) x) (sym front.0) (status, text, (bytes, has_read view over status text has given, given), front.1)
 

@@ -45,10 +45,6 @@ Gives view bytes BadReport text = IsRefused bytes text
 Gives view bytes NoOrder text = IsUnordered bytes text
 Gives view bytes status text = ⊥
 
--- where this text is to be written for this status, the answer is that status, or the sink failed in the text
-abbrev pub Tells : Status → List ℕ → Output → Output → Status → Type 0
-Tells status text before after answer = ((answer ≡ status) × Writes before after text) ⊎ ((answer ≡ WriteFault) × WritesFront before after text)
-
 module _ (before after : Outside) where
   -- what was read: all of it where it is a report; else all, or more than the limit
   abbrev pub HasRead : Status → List ℕ → Type 0

@@ -3,11 +3,11 @@ ghost use Rattle.std.specs.Prelude.{◌≡◌, ℕ, List, IfOk, MatchResult, Ok,
 ghost use Rattle.std.specs.List.{concat};
 ghost use Rattle.co_check.specs.Lines.{IsReport};
 ghost use Rattle.co_view_top.specs.declared.status.Status.TheVariants.{NoOrder, Usage, WriteFault, BadReport};
-ghost use Rattle.co_front.specs.Outside.{Output, outside};
+ghost use Rattle.co_front.specs.Outside.{Output, outside, Tells};
 ghost use Rattle.co_front.specs.Texts.{cause_word, fault_text};
 ghost use Rattle.co_view_top.specs.Texts.{usage_text};
 ghost use Rattle.co_report.specs.Reading.{report_read};
-ghost use Rattle.co_view_top.specs.Headline.{Gives, IsHeadline, Says, Tells};
+ghost use Rattle.co_view_top.specs.Headline.{Gives, IsHeadline, Says};
 ghost use Rattle.co_view_top.specs.Views.{view_text};
 
 use crate::status::Status;
@@ -114,7 +114,7 @@ fn told(status: Status, end: Result<(), WriteEnd>) -> Status
 fn write_usage<K: Sink>(sink: &mut K) -> Status
     ensures { let before : Output = record { held = K.held sink.old; room = K.room sink.old; faults = K.faults sink.old; idle = K.idle sink.old } in
         let after : Output = record { held = K.held sink.new; room = K.room sink.new; faults = K.faults sink.new; idle = K.idle sink.new } in
-        Tells Usage usage_text before after result }
+        Tells WriteFault Usage usage_text before after result }
 {
     told(Status::Usage, write_all(sink, usage_text()))
 }
@@ -123,7 +123,7 @@ fn write_usage<K: Sink>(sink: &mut K) -> Status
 fn write_answer<K: Sink>(sink: &mut K, answer: &Answer) -> Status
     ensures { let before : Output = record { held = K.held sink.old; room = K.room sink.old; faults = K.faults sink.old; idle = K.idle sink.old } in
         let after : Output = record { held = K.held sink.new; room = K.room sink.new; faults = K.faults sink.new; idle = K.idle sink.new } in
-        Tells answer.now.status (concat answer.now.pieces) before after result }
+        Tells WriteFault answer.now.status (concat answer.now.pieces) before after result }
 {
     told(answer.status, write_pieces(sink, answer.pieces.as_slice()))
 }
