@@ -7,7 +7,7 @@ use Rattle.co_life.specs.Views.{KeeperView, PassView}
 use Rattle.co_object.specs.declared.note.Entry.{Entry}
 use Rattle.co_object.specs.declared.note.QEntry.{QEntry}
 use Rattle.co_object.specs.declared.spec.Spec.{Spec}
-use Rattle.co_wheel.specs.Cpu.{Cpu}
+use Rattle.co_wheel.specs.Cpu.{Cpu, first_wheel}
 use Rattle.co_service.specs.declared.params.Params.{Params}
 use Rattle.co_service.specs.declared.line.Line.{Line}
 use Rattle.co_service.specs.declared.line.Line.TheVariants.{Opening, Made}
