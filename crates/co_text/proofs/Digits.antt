@@ -1,7 +1,6 @@
 -- The digits of numbers, by groups.
 use Rattle.std.proofs.Common.{◌≡◌, ℕ, ◌+◌, ◌^◌, ◌<◌, ◌≤◌, List, [], ◌∷◌, ◌++◌, refl, ap, sym, ◌∙◌, arith, append_assoc, decimal}
-use Rattle.std.specs.Prelude.{◌/◌, ◌%◌, ◌*◌}
-use Rattle.std.specs.Int.{to_le_bytes, w16, w32}
+use Rattle.std.specs.Prelude.{◌/◌, ◌%◌}
 use Rattle.std.proofs.lemmas.Fmt.{decimal_digit, decimal_step}
 use Rattle.co_text.specs.Written.{last_four, last_eight}
 
@@ -33,22 +32,6 @@ decimal_four n low high =
     let f : n / 10 / 10 ≡ n / 100 = omega arith in
     behind n (n / 10) (digit (n / 1000) ∷ digit (n / 100) ∷ digit (n / 10) ∷ []) (omega (arith, low)) (omega (arith, high)) refl
     (decimal_three (n / 10) (omega (arith, low)) (omega (arith, high)) ∙ ap (λ k. digit k ∷ digit (n / 10 / 10) ∷ digit (n / 10) ∷ []) e ∙ ap (λ k. digit (n / 1000) ∷ digit k ∷ digit (n / 10) ∷ []) f)
-
--- bytes in a word, the first one lowest
-pub two_bytes : (a b : ℕ) → a < 256 → b < 256 → to_le_bytes w16 (a + 256 * b) ≡ a ∷ b ∷ []
-two_bytes a b few less =
-    let first : (a + 256 * b) % 256 ≡ a = omega arith in
-    let second : (a + 256 * b) / 256 % 256 ≡ b = omega arith in
-    rw (first, second) refl
-
-pub four_bytes : (a b c d : ℕ) → a < 256 → b < 256 → c < 256 → d < 256 → to_le_bytes w32 (a + 256 * b + 65536 * (c + 256 * d)) ≡ a ∷ b ∷ c ∷ d ∷ []
-four_bytes a b c d fa fb fc fd =
-    let n : ℕ = a + 256 * b + 65536 * (c + 256 * d) in
-    let one : n % 256 ≡ a = omega arith in
-    let two : n / 256 % 256 ≡ b = omega arith in
-    let three : n / 65536 % 256 ≡ c = omega arith in
-    let four : n / 16777216 % 256 ≡ d = omega arith in
-    rw (one, two, three, four) refl
 
 -- four digits behind the others
 decimal_by_four : (n : ℕ) → 10000 ≤ n → n < 2 ^ 64 → decimal n ≡ decimal (n / 10000) ++ last_four n
@@ -91,13 +74,15 @@ decimal_by_eight n low small =
     ∙ ap (λ t. decimal (n / 100000000) ++ (last_four (n % 100000000 / 10000) ++ t)) ends
 
 -- a number written in two pieces
-pub four_behind : (old p q : List ℕ) (n : ℕ) → 10000 ≤ n → n < 2 ^ 64 → p ≡ old ++ decimal (n / 10000) → q ≡ p ++ last_four n → q ≡ old ++ decimal n
-four_behind old p q n low small e f = f ∙ ap (λ t. t ++ last_four n) e ∙ append_assoc old (decimal (n / 10000)) (last_four n) ∙ ap (λ t. old ++ t) (sym (decimal_by_four n low small))
+pub four_behind : (old p q : List ℕ) (n : ℕ) → 10000 ≤ n → n < 2 ^ 64 → p ≡ old ++ decimal (n / 10000) → q ≡ p ++ last_four (n % 10000) → q ≡ old ++ decimal n
+four_behind old p q n low small e f = f ∙ ap (λ t. p ++ t) (sym (four_of_rest n)) ∙ ap (λ t. t ++ last_four n) e ∙ append_assoc old (decimal (n / 10000)) (last_four n) ∙ ap (λ t. old ++ t) (sym (decimal_by_four n low small))
 
 pub eight_behind : (old p q : List ℕ) (n : ℕ) → 100000000 ≤ n → n < 2 ^ 64 → p ≡ old ++ decimal (n / 100000000) → q ≡ p ++ last_eight (n % 100000000) → q ≡ old ++ decimal n
 eight_behind old p q n low small e f = f ∙ ap (λ t. t ++ last_eight (n % 100000000)) e ∙ append_assoc old (decimal (n / 100000000)) (last_eight (n % 100000000)) ∙ ap (λ t. old ++ t) (sym (decimal_by_eight n low small))
 
-pub two_behind : (old p q : List ℕ) (n : ℕ) → 100 ≤ n → n < 1000 → p ≡ old ++ (48 + n / 100 % 10) ∷ [] → q ≡ p ++ (48 + n / 10 % 10) ∷ (48 + n % 10) ∷ [] → q ≡ old ++ decimal n
+pub two_behind : (old p q : List ℕ) (n : ℕ) → 100 ≤ n → n < 1000 → p ≡ old ++ (48 + n / 100 % 10) ∷ [] → q ≡ p ++ (48 + n % 100 / 10 % 10) ∷ (48 + n % 100 % 10) ∷ [] → q ≡ old ++ decimal n
 two_behind old p q n low high e f =
     let rest : List ℕ = digit (n / 10) ∷ digit n ∷ [] in
-    f ∙ ap (λ t. t ++ rest) e ∙ append_assoc old (digit (n / 100) ∷ []) rest ∙ ap (λ t. old ++ t) (sym (decimal_three n low high))
+    let c : n % 100 / 10 % 10 ≡ n / 10 % 10 = omega arith in
+    let d : n % 100 % 10 ≡ n % 10 = omega arith in
+    f ∙ (λ k. p ++ (48 + c k) ∷ (48 + d k) ∷ []) ∙ ap (λ t. t ++ rest) e ∙ append_assoc old (digit (n / 100) ∷ []) rest ∙ ap (λ t. old ++ t) (sym (decimal_three n low high))

@@ -2,7 +2,7 @@
 ghost use Rattle.std.specs.Prelude.{◌≡◌, ◌+◌, ◌/◌, ◌%◌, ◌≤◌, ◌<◌, ◌++◌, ◌∷◌, [], decimal, OnOk};
 ghost use Rattle.std.specs.Fmt.{signed_decimal};
 ghost use Rattle.co_text.specs.Lines.{spaced, line_text};
-ghost use Rattle.co_text.specs.Written.{last_four, last_eight, token_word, token_words};
+ghost use Rattle.co_text.specs.Written.{pair_word, four_word, last_four, last_eight, token_word, token_words};
 
 use crate::token::Token;
 use co_sbt::{NoMemory, Seq};
@@ -18,24 +18,53 @@ fn digit(number: u32) -> u8
     b'0' + (number % 10) as u8
 }
 
+/// Two digits as a word, of which the first is the lowest byte.
+#[inline(always)]
+fn pair_word(number: u32) -> u32
+    requires { number < 100 }
+    ensures { result ≡ pair_word number }
+{
+    // A ten is one in the lowest byte, and ten less in the next one.
+    12_336 + 256 * number - 2_559 * (number / 10)
+}
+
+/// Four digits as a word, of which the first is the lowest byte.
+#[inline(always)]
+fn four_word(number: u32) -> u32
+    requires { number < 10000 }
+    ensures { result ≡ four_word number }
+{
+    pair_word(number / 100) + 65_536 * pair_word(number % 100)
+}
+
 /// Two digits, of which the first comes first in memory.
 #[inline(always)]
 fn pair(number: u32) -> [u8; 2]
+    requires { number < 100 }
     ensures { result ≡ (48 + number / 10 % 10) ∷ (48 + number % 10) ∷ [] }
 {
     // One store: a page that copies bytes stored one by one has to wait for them.
-    let pair = u16::from(digit(number / 10)) + 256 * u16::from(digit(number));
-    pair.to_le_bytes()
+    (pair_word(number) as u16).to_le_bytes()
 }
 
-/// The last four digits, with zeros in front.
+/// Four digits, with zeros in front.
 #[inline(always)]
 fn last_four(number: u32) -> [u8; 4]
+    requires { number < 10000 }
     ensures { result ≡ last_four number }
 {
-    let high = u32::from(digit(number / 1000)) + 256 * u32::from(digit(number / 100));
-    let low = u32::from(digit(number / 10)) + 256 * u32::from(digit(number));
-    (high + 65536 * low).to_le_bytes()
+    four_word(number).to_le_bytes()
+}
+
+/// Eight digits, with zeros in front.
+#[inline(always)]
+fn last_eight(number: u32) -> [u8; 8]
+    requires { number < 100000000 }
+    ensures { result ≡ last_eight number }
+{
+    let high = u64::from(four_word(number / 10_000));
+    let low = u64::from(four_word(number % 10_000));
+    (high + 4_294_967_296 * low).to_le_bytes()
 }
 
 /// A text that grows at its end, by whole words and lines. Contracts see its bytes.
@@ -103,24 +132,25 @@ impl Page {
         ensures { OnOk result (self.new ≡ self.old ++ decimal number) }
     {
         self.push(digit(number / 100))?;
-        self.text(pair(number).as_slice())
+        self.text(pair(number % 100).as_slice())
     }
 
-    /// The last four digits, with zeros in front.
+    /// Four digits, with zeros in front.
     #[inline(always)]
     fn last_four(&mut self, number: u32) -> Result<(), NoMemory>
+        requires { number < 10000 }
         ensures { OnOk result (self.new ≡ self.old ++ last_four number) }
     {
         self.text(last_four(number).as_slice())
     }
 
-    /// The last eight digits, with zeros in front.
+    /// Eight digits, with zeros in front.
     #[inline(always)]
     fn last_eight(&mut self, number: u32) -> Result<(), NoMemory>
+        requires { number < 100000000 }
         ensures { OnOk result (self.new ≡ self.old ++ last_eight number) }
     {
-        self.last_four(number / 10_000)?;
-        self.last_four(number)
+        self.text(last_eight(number).as_slice())
     }
 
     #[inline(always)]
@@ -150,7 +180,7 @@ impl Page {
             return self.few_digits(number);
         }
         self.few_digits(number / 10_000)?;
-        self.last_four(number)?;
+        self.last_four(number % 10_000)?;
         Ok(())
     }
 
