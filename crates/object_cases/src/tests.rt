@@ -8,6 +8,7 @@ mod ports;
 mod queues;
 mod releases;
 mod roles;
+mod specs;
 mod times;
 mod turns;
 mod wheels;

@@ -1,6 +1,7 @@
 //! Lists, and lists with room.
 
-use co_object::{LockUse, Spec};
+use crate::tests::specs::spec;
+use co_object::Spec;
 use co_sbt::{NoMemory, Room, Seq};
 use std::alloc::Global;
 
@@ -61,18 +62,9 @@ fn repeats_one_item(rt: HostRuntime) -> Result<(), NoMemory> {
     Ok(())
 }
 
-/// A callout without a lock, which the interrupt of its CPU services where it is direct.
-const fn free(direct: bool) -> Spec {
-    Spec {
-        lock: LockUse::Free,
-        returns_unlocked: false,
-        direct,
-    }
-}
-
 #[test]
 fn tells_which_callouts_are_direct(rt: HostRuntime) -> Result<(), NoMemory> {
-    let specs = [free(false), free(true), free(true)];
+    let specs = [spec(false), spec(true), spec(true)];
     let directs = Spec::directs(rt.alloc(), specs.as_slice())?;
     assert!(rt; directs.as_slice() == [false, true, true].as_slice());
     Ok(())

@@ -1,7 +1,6 @@
 //! A wheel over a plain list.
-ghost use Rattle.std.specs.Prelude.{◌≡◌, false};
-
-use co_object::{CallOp, LockUse, PlainOp, Reply, Spec};
+use crate::tests::specs::spec;
+use co_object::{CallOp, PlainOp, Reply};
 use co_queue::{ListQueue, Looks};
 use co_record::Record;
 use co_sbt::{NoMemory, Sbt};
@@ -13,12 +12,7 @@ use std::alloc::Global;
 fn fires(alloc: Global, second: Sbt) -> Result<(u32, Option<(u64, Reply)>, Sbt), NoMemory> {
     let queue = ListQueue::new(alloc, 1, 16, &[false])?;
     let mut wheel = Wheel::new(alloc, 0, 1, queue)?;
-    let spec = Spec {
-        lock: LockUse::Free,
-        returns_unlocked: false,
-        direct: false,
-    };
-    wheel.put(Record::new(0, spec, 0));
+    wheel.put(Record::new(0, spec(false), 0));
     let reset = PlainOp::Reset {
         due: second,
         prec: Sbt::zero(),
@@ -40,4 +34,48 @@ fn a_callout_fires(rt: HostRuntime) {
     let second = Sbt::from_ticks(1, 1);
     let go = Reply::Go { func: 0, arg: 7 };
     assert!(rt; fires(rt.alloc(), second) == Ok((1, Some((0, go)), second)));
+}
+
+/// Which of two callouts are at a CPU before the first call.
+fn here(alloc: Global, cpu: u32) -> Result<[bool; 2], NoMemory> {
+    let specs = [spec(false), spec(true)];
+    let queue = ListQueue::new(alloc, 2, 16, &[false, true])?;
+    let wheel = Wheel::boot(alloc, cpu, &specs, queue)?;
+    Ok([wheel.holds(0), wheel.holds(1)])
+}
+
+#[test]
+fn all_callouts_begin_at_cpu_0(rt: HostRuntime) {
+    assert!(rt; here(rt.alloc(), 0) == Ok([true, true]));
+    assert!(rt; here(rt.alloc(), 1) == Ok([false, false]));
+}
+
+/// Whether the first arming of callout 0 is in service before and after it has come due; then of its second arming, and of the
+/// other callout's first.
+fn services(alloc: Global, second: Sbt) -> Result<[bool; 4], NoMemory> {
+    let specs = [spec(false), spec(true)];
+    let queue = ListQueue::new(alloc, 2, 16, &[false, true])?;
+    let mut wheel = Wheel::boot(alloc, 0, &specs, queue)?;
+    let reset = PlainOp::Reset {
+        due: second,
+        prec: Sbt::zero(),
+        func: 0,
+        arg: 7,
+        cpu: None,
+    };
+    wheel.call(0, &CallOp::Plain(reset));
+    wheel.scan(second, &mut Looks::new());
+    let before = wheel.services(0, 0);
+    wheel.next();
+    Ok([
+        before,
+        wheel.services(0, 0),
+        wheel.services(0, 1),
+        wheel.services(1, 0),
+    ])
+}
+
+#[test]
+fn an_arming_is_in_service(rt: HostRuntime) {
+    assert!(rt; services(rt.alloc(), Sbt::from_ticks(1, 1)) == Ok([false, true, false, false]));
 }
