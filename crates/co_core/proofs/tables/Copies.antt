@@ -4,10 +4,6 @@ use Rattle.std.specs.List.{range_with_len}
 use Rattle.std.proofs.lemmas.List.FromFn.{map-range_with_len_more}
 use Rattle.co_core.specs.Table.{table}
 
-pub replicate-more : {X : Type 0} (n : ℕ) (x : X) → replicate n x ++ x ∷ [] ≡ replicate (n + 1) x
-replicate-more zero x = refl
-replicate-more (suc n) x = let more : suc n + 1 ≡ suc (n + 1) = omega arith in rw more (ap (λ xs. x ∷ xs) (replicate-more n x))
-
 -- a table of one value
 range-same : {X : Type 0} (a n : ℕ) (x : X) → map (λ _. x) (range_with_len a n) ≡ replicate n x
 range-same a zero x = refl

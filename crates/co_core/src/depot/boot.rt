@@ -1,5 +1,5 @@
 //! The depot before the first step.
-ghost use Rattle.std.specs.Prelude.{◌≡◌, ◌<◌, ◌++◌, ◌∷◌, [], None, replicate, IfOk, OnOk};
+ghost use Rattle.std.specs.Prelude.{◌≡◌, None, replicate, IfOk};
 ghost use Rattle.co_program.specs.Actors.{actor_count};
 ghost use Rattle.co_program.specs.Scripts.{IsScript};
 ghost use Rattle.co_core.specs.Booted.{MayBoot};
@@ -9,12 +9,13 @@ ghost use Rattle.co_wheel.specs.Cpu.{first_wheel};
 ghost use Rattle.co_world.specs.World.{open_world};
 
 use super::Depot;
+use crate::copies::copies;
 use co_bucket::WheelQueue;
 use co_object::Spec;
 use co_program::{Script, actor_count};
-use co_sbt::NoMemory;
+use co_sbt::{NoMemory, Seq};
 use co_wheel::{Parcel, Wheel};
-use std::alloc::{AllocError, Global};
+use std::alloc::Global;
 
 /// The wheel of a CPU before the first step.
 fn first_wheel(
@@ -31,16 +32,6 @@ fn first_wheel(
     Wheel::boot(alloc, cpu, specs, queue)
 }
 
-/// Appends an item.
-fn push<T: Drop>(items: &mut Vec<T>, item: T) -> Result<(), NoMemory>
-    ensures { OnOk result (items.new.items ≡ items.old.items ++ item ∷ []) }
-{
-    match items.push(item) {
-        Ok(()) => Ok(()),
-        Err(_) => Err(NoMemory {}),
-    }
-}
-
 /// The wheels of all CPUs before the first step.
 fn first_wheels(
     alloc: Global,
@@ -50,30 +41,23 @@ fn first_wheels(
     requires { MayBoot script.now direct.now }
     ensures { IfOk result (λ wheels. wheels.items ≡ table script.now.cpus (first_wheel script.now.timers script.now.buckets)) }
 {
-    let mut wheels = Vec::new(alloc);
+    let mut wheels = Seq::new(alloc);
     for cpu in 0..script.cpus {
         let wheel = first_wheel(alloc, script, direct, cpu)?;
-        push(&mut wheels, wheel)?;
+        wheels.push(wheel)?;
     }
-    Ok(wheels)
+    Ok(wheels.into_vec())
 }
 
 /// `count` bags with nothing in them, one for each actor. `NoMemory` where there is no room for them.
 fn empty_bags(alloc: Global, count: usize) -> Result<Vec<Option<Parcel>>, NoMemory>
     ensures { IfOk result (λ bags. bags.items ≡ replicate count None) }
 {
-    let mut bags = Vec::new(alloc);
-    while bags.len() < count {
-        push(&mut bags, None)?;
+    let mut bags = Seq::new(alloc);
+    while bags.as_slice().len() < count {
+        bags.push(None)?;
     }
-    Ok(bags)
-}
-
-fn zeros(alloc: Global, count: usize) -> Result<Vec<u32>, AllocError>
-    ensures { IfOk result (λ stands. stands.items ≡ replicate count 0) }
-{
-    let stands = vec![in alloc; 0_u32; count]?;
-    Ok(stands)
+    Ok(bags.into_vec())
 }
 
 impl Depot {
@@ -85,9 +69,7 @@ impl Depot {
         let direct = Spec::directs(alloc, script.timers.as_slice())?;
         let wheels = first_wheels(alloc, script, direct.as_slice())?;
         let bags = empty_bags(alloc, actor_count(script) as usize)?;
-        let Ok(stands) = zeros(alloc, script.timers.as_slice().len()) else {
-            return Err(NoMemory {});
-        };
+        let stands = copies(alloc, script.timers.as_slice().len(), 0)?;
         Ok(Depot {
             wheels,
             stands,

@@ -9,19 +9,12 @@ ghost use Rattle.co_program.specs.Actors.{actor_count};
 
 use super::Ledger;
 use super::holders::Holders;
+use crate::copies::copies;
 use co_lock::Held;
 use co_object::{Lists, Next, Note};
 use co_program::{Cursor, PendingInsert, Script, Stage, actor_count};
 use co_sbt::{NoMemory, Sbt, Seq};
-use std::alloc::{AllocError, Global};
-
-/// `count` counts, all 0. `AllocError` where there is no room for them.
-fn zeros(alloc: Global, count: usize) -> Result<Vec<u64>, AllocError>
-    ensures { IfOk result (λ counts. counts.items ≡ replicate count 0) }
-{
-    let counts = vec![in alloc; 0_u64; count]?;
-    Ok(counts)
-}
+use std::alloc::Global;
 
 /// The cursor before the first act of any program.
 fn first_cursor() -> Cursor
@@ -38,26 +31,21 @@ fn first_cursor() -> Cursor
     }
 }
 
-/// The cursors of `count` actors, before their first acts. `AllocError` where there is no room for them.
-fn first_cursors(alloc: Global, count: usize) -> Result<Vec<Cursor>, AllocError>
+/// The cursors of `count` actors, before their first acts. `NoMemory` where there is no room for them.
+fn first_cursors(alloc: Global, count: usize) -> Result<Vec<Cursor>, NoMemory>
     ensures { IfOk result (λ cursors. cursors.items ≡ replicate count first_cursor) }
 {
     // The checker wants each enum inside a cursor that holds a time to be named where a cursor is passed on.
     let _stage = Stage::Ready;
     let _parts: (Option<PendingInsert>, Option<Next>, Option<Held>) = (None, None, None);
-    let mut cursors = Vec::new(alloc);
-    while cursors.len() < count {
-        cursors.push(first_cursor())?;
-    }
-    Ok(cursors)
+    copies(alloc, count, first_cursor())
 }
 
-/// The holders of `locks` locks: nobody holds one. `AllocError` where there is no room for them.
-fn nobody(alloc: Global, locks: usize) -> Result<Vec<Holders>, AllocError>
+/// The holders of `locks` locks: nobody holds one. `NoMemory` where there is no room for them.
+fn nobody(alloc: Global, locks: usize) -> Result<Vec<Holders>, NoMemory>
     ensures { IfOk result (λ holders. holders.items ≡ replicate locks no_holders) }
 {
-    let holders = vec![in alloc; Holders::none(); locks]?;
-    Ok(holders)
+    copies(alloc, locks, Holders::none())
 }
 
 /// `count` empty lists of notes, one for each actor. `NoMemory` where there is no room for them.
@@ -79,13 +67,10 @@ impl Ledger {
         ensures { IfOk result (λ ledger. ShowsWritten script.now ledger (open_world script.now)) }
     {
         let lists = empty_lists(alloc, actor_count(script) as usize)?;
-        match Ledger::empty(alloc, script, lists) {
-            Ok(ledger) => Ok(ledger),
-            Err(_) => Err(NoMemory {}),
-        }
+        Ledger::empty(alloc, script, lists)
     }
 
-    fn empty(alloc: Global, script: &Script, lists: Lists) -> Result<Ledger, AllocError>
+    fn empty(alloc: Global, script: &Script, lists: Lists) -> Result<Ledger, NoMemory>
         requires script { IsScript script.now }
         requires lists { lists ≡ replicate (actor_count script.now) [] }
         ensures { IfOk result (λ ledger. ShowsWritten script.now ledger (open_world script.now)) }
@@ -98,11 +83,11 @@ impl Ledger {
             cursors: first_cursors(alloc, actors)?,
             holders: nobody(alloc, script.locks.as_slice().len())?,
             lists,
-            histories: zeros(alloc, timers)?,
-            journals: zeros(alloc, cpus)?,
-            scans: zeros(alloc, cpus)?,
-            own: zeros(alloc, actors)?,
-            told: zeros(alloc, actors)?,
+            histories: copies(alloc, timers, 0)?,
+            journals: copies(alloc, cpus, 0)?,
+            scans: copies(alloc, cpus, 0)?,
+            own: copies(alloc, actors, 0)?,
+            told: copies(alloc, actors, 0)?,
             made: 0,
         })
     }

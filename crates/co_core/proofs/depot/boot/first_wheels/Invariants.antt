@@ -4,4 +4,4 @@ use Rattle.co_core.specs.Table.{table}
 use Rattle.co_core.proofs.depot.boot.first_wheels.Given as goal
 
 abbrev pub invariant-loop-cpu : goal.invariant-loop-cpu
-invariant-loop-cpu l = l.wheels.items ≡ table l.cpu (first_wheel l.script.timers l.script.buckets)
+invariant-loop-cpu l = l.wheels ≡ table l.cpu (first_wheel l.script.timers l.script.buckets)
