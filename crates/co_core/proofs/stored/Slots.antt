@@ -4,7 +4,6 @@ use Rattle.co_object.specs.declared.State.{State}
 use Rattle.co_object.specs.declared.QOp.{QOp}
 use Rattle.co_object.specs.declared.QOp.TheVariants.{Pop, Free, PopDirect, FreeDirect}
 use Rattle.co_object.specs.declared.QReply.{QReply}
-use Rattle.co_object.specs.declared.Place.TheVariants as place
 use Rattle.co_object.specs.Journal as journal
 use Rattle.co_object.specs.Queue.{Queue as TimerQueue}
 use Rattle.co_program.specs.declared.role.Role.{Role}

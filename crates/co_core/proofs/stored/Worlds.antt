@@ -1,7 +1,6 @@
 -- What becomes of a world, at equal values; and a world of which nothing becomes.
 use Rattle.std.proofs.Common.{◌≡◌, ℕ, refl, subst}
 use Rattle.co_object.specs.declared.State.{State}
-use Rattle.co_object.specs.declared.Place.TheVariants as place
 use Rattle.co_object.specs.Queue.{Queue as TimerQueue}
 use Rattle.co_program.specs.Cursor.{Cursor}
 use Rattle.co_world.specs.World.{World}
