@@ -1,4 +1,8 @@
 //! A wheel over a plain list.
+ghost use Rattle.std.specs.Prelude.{◌≡◌, None};
+ghost use Rattle.co_object.specs.declared.CallOp.TheVariants.{Plain};
+ghost use Rattle.co_object.specs.declared.PlainOp.TheVariants.{Reset};
+
 use crate::tests::specs::spec;
 use co_object::{CallOp, PlainOp, Reply};
 use co_queue::{ListQueue, Looks};
@@ -7,20 +11,26 @@ use co_sbt::{NoMemory, Sbt};
 use co_wheel::{NextOut, Wheel};
 use std::alloc::Global;
 
+/// A reset for this time, where the callout is.
+fn armed_for(due: Sbt) -> CallOp
+    ensures { result ≡ Plain (Reset due 0 0 7 None) }
+{
+    CallOp::Plain(PlainOp::Reset {
+        due,
+        prec: Sbt::zero(),
+        func: 0,
+        arg: 7,
+        cpu: None,
+    })
+}
+
 /// What a callout that is due in a second is answered on a wheel: how many have come due, its arming and its function's call, and
 /// the last time.
 fn fires(alloc: Global, second: Sbt) -> Result<(u32, Option<(u64, Reply)>, Sbt), NoMemory> {
     let queue = ListQueue::new(alloc, 1, 16, &[false])?;
     let mut wheel = Wheel::new(alloc, 0, 1, queue)?;
     wheel.put(Record::new(0, spec(false), 0));
-    let reset = PlainOp::Reset {
-        due: second,
-        prec: Sbt::zero(),
-        func: 0,
-        arg: 7,
-        cpu: None,
-    };
-    wheel.call(0, &CallOp::Plain(reset));
+    wheel.call(0, &armed_for(second));
     let count = wheel.scan(second, &mut Looks::new());
     let taken = match wheel.next() {
         NextOut::Took { n, reply, .. } => Some((n, reply)),
@@ -56,14 +66,7 @@ fn services(alloc: Global, second: Sbt) -> Result<[bool; 4], NoMemory> {
     let specs = [spec(false), spec(true)];
     let queue = ListQueue::new(alloc, 2, 16, &[false, true])?;
     let mut wheel = Wheel::boot(alloc, 0, &specs, queue)?;
-    let reset = PlainOp::Reset {
-        due: second,
-        prec: Sbt::zero(),
-        func: 0,
-        arg: 7,
-        cpu: None,
-    };
-    wheel.call(0, &CallOp::Plain(reset));
+    wheel.call(0, &armed_for(second));
     wheel.scan(second, &mut Looks::new());
     let before = wheel.services(0, 0);
     wheel.next();
