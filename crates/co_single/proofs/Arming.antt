@@ -1,6 +1,7 @@
 -- Arming and disarming: what a call leaves of the one actor's passes.
 use Rattle.std.proofs.Common.{◌≡◌, ℕ, ◌<◌, ◌^◌, ℤ, Bool, true, false, cond, ◌||◌, max, List, [], ◌∷◌, ◌++◌, length, refl, ap, sym, subst, ◌∙◌, arith, fold, append-nil}
 use Rattle.std.specs.Prelude.{is_some}
+use Rattle.std.specs.List.{AllByRecursion}
 use Rattle.std.specs.declared.option.Option.{Option}
 use Rattle.std.specs.declared.option.Option.TheVariants.{Some, None}
 use Rattle.std.proofs.lemmas.List.Sums.{fold-append}
@@ -37,7 +38,8 @@ use Rattle.co_service.specs.Views.{PassesView, seen_of, journal_seen}
 use Rattle.co_single.specs.Acts.{TimeStays, IsArmed, IsDisarmed}
 use Rattle.co_single.specs.Alarms.{alarm_of, callout_seen, queue_in, gos, scan_times}
 use Rattle.co_single.specs.Rest.{IsCalm, ArmingStands, nowhere, HasNoService}
-use Rattle.co_single.specs.Seen.{with_entry, with_entries, AreSingle}
+use Rattle.co_single.specs.Seen.{with_entry, with_entries, AreSingle, AddsEntries, IsOfAct}
+use Rattle.co_single.proofs.OfAct.{removal_of_act}
 use Rattle.co_single.proofs.Calls.{reset_is, stop_is, calm_armed, calm_stopped, at_zero, off_calm, GoesOn, goes_on, one_seen, one_in_group, journal_on, cpus_still, with-append}
 use Rattle.co_single.proofs.Going.{gos-append, scans-append, others_of, all_of, state_after, turned, MayTurn, may_last, legal_turns, queue_after}
 use Rattle.co_single.proofs.Queues.{IsQuiet, IsOut, out_without, out_nowhere, nowhere_of, placed_out, placed_in, placed_beside, numbers}
@@ -197,6 +199,13 @@ module _ (n : ℕ) (p q : PassesView) (s : AreSingle n p) (t : AreSingle n q) (r
     waiting = ap (λ (x : Queue). numbers x.expired) arm_queue ∙ arm_is_out.0.waiting;
   }
 
+  pub armed_adds : AddsEntries p act q
+  armed_adds = record {
+    entries = _;
+    added = is;
+    of_act = subst (AllByRecursion (IsOfAct p.actor act)) (sym arm_group) (removal_of_act i p.actor act (Call arm_op) (state (spec_at p.params i) (seen_of q i)) time (at_zero (callout_seen p i).armed) _ ((refl, refl), ((refl, refl), tt)));
+  }
+
   pub rests_armed : HasNoService q
   rests_armed = record {
     calm = all_of (λ j x. IsCalm x) p q i (call_entry p act arm_op reply ∷ []) arm_goes (subst IsCalm (sym arm_now) (calm_armed (callout_seen p i) (rest.calm i) due prec arg)) (λ j other. rest.calm j);
@@ -251,6 +260,13 @@ module _ (n : ℕ) (p q : PassesView) (s : AreSingle n p) (t : AreSingle n q) (r
     others = others_of p q i (call_entry p act (Plain Stop) reply ∷ []) stop_goes;
     time = time_stays n p q s t rest i act time low (Plain Stop) reply is stop_turns stop_out stop_seen stop_scans stop_queue stop_is_out.last;
     waiting = ap (λ (x : Queue). numbers x.expired) stop_queue ∙ stop_is_out.waiting;
+  }
+
+  pub disarmed_adds : AddsEntries p act q
+  disarmed_adds = record {
+    entries = _;
+    added = is;
+    of_act = subst (AllByRecursion (IsOfAct p.actor act)) (sym stop_group) (removal_of_act i p.actor act (Call (Plain Stop)) (state (spec_at p.params i) (seen_of q i)) time (at_zero (callout_seen p i).armed) _ ((refl, refl), tt));
   }
 
   pub rests_disarmed : HasNoService q

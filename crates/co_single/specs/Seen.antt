@@ -1,5 +1,6 @@
 -- What the one actor of a service sees: all that happens.
 use Rattle.std.specs.Prelude.{◌≡◌, ℕ, List, [], ◌∷◌, ◌++◌, length, replicate, slice_set}
+use Rattle.std.specs.List.{AllByRecursion}
 use Rattle.co_object.specs.declared.note.AnyEntry.{AnyEntry}
 use Rattle.co_object.specs.declared.note.AnyEntry.TheVariants as of
 use Rattle.co_object.specs.declared.note.Place.{Place}
@@ -9,6 +10,7 @@ use Rattle.co_object.specs.declared.reply.Reply.{Reply}
 use Rattle.co_object.specs.declared.queue.QOp.TheVariants.{Scan, Pop, Free}
 use Rattle.co_object.specs.declared.queue.QReply.TheVariants.{Count, Got, Freed, Empty}
 use Rattle.co_object.specs.Group.{Placed}
+use Rattle.co_object.specs.Lists.{actor_of, act_of}
 use Rattle.co_service.specs.Call.{landing}
 use Rattle.co_service.specs.Outcomes.{queue_entry_by}
 use Rattle.co_service.specs.Services.{run_entry, next_target}
@@ -31,6 +33,16 @@ with_entry p _ _ = p
 abbrev pub with_entries : PassesView → List Placed → PassesView
 with_entries p [] = p
 with_entries p (n ∷ ns) = with_entries (with_entry p n.0 n.1) ns
+
+-- this act of this actor made the entry
+abbrev pub IsOfAct : (actor act : ℕ) → Placed → Type 0
+IsOfAct actor act n = (actor_of n.1 ≡ actor) × (act_of n.1 ≡ act)
+
+-- entries of this act of the caller more, and no others
+pub record AddsEntries (p : PassesView) (act : ℕ) (q : PassesView) : Type 0 where
+  pub entries : List Placed
+  pub added : q ≡ with_entries p entries
+  pub of_act : AllByRecursion (IsOfAct p.actor act) entries
 
 -- what is seen of each callout and of the CPU is legal
 pub record AreLegal (p : PassesView) : Type 0 where

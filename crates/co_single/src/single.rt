@@ -2,6 +2,7 @@
 ghost use Rattle.std.specs.Prelude.{◌≡◌, ◌<◌, ◌^◌, [], IfNone, IfOk, IfSome};
 ghost use Rattle.co_single.specs.Acts.{IsArmed, IsDisarmed, IsFired, NothingWaits, IsNew, IsScanned};
 ghost use Rattle.co_single.specs.Alarms.{arg_in, callout_count, made_at, waiting_of};
+ghost use Rattle.co_single.specs.Seen.{AddsEntries};
 
 use crate::SingleFresh;
 use co_object::{CallOp, PlainOp, Reply};
@@ -13,7 +14,8 @@ use std::sync::Wait;
 
 /// A running service and its one actor. Between two calls nothing is in service.
 ///
-/// Contracts see what the actor has seen, which is all that happened. Its calls take no memory.
+/// Contracts see what the actor has seen, which is all that happened. Its calls take no memory, and the entries of each are
+/// of the act that it is given.
 #[derive(Drop)]
 pub struct Single<N: Name> {
     service: Service<N>,
@@ -80,7 +82,8 @@ impl<N: Name> Single<N> {
     pub fn arm<R: Wait>(&mut self, rt: &R, act: u64, i: u32, due: Sbt, arg: u64)
         requires callout { i < callout_count self.old }
         requires made { made_at self.old i < 2 ^ 62 }
-        ensures { IsArmed self.old i due arg self.new }
+        ensures armed { IsArmed self.old i due arg self.new }
+        ensures entries { AddsEntries self.old act self.new }
     {
         let op = CallOp::Plain(PlainOp::Reset {
             due,
@@ -96,7 +99,8 @@ impl<N: Name> Single<N> {
     /// Callout `i` is not armed any more. One that had come due and was not served does not fire.
     pub fn disarm<R: Wait>(&mut self, rt: &R, act: u64, i: u32)
         requires callout { i < callout_count self.old }
-        ensures { IsDisarmed self.old i self.new }
+        ensures disarmed { IsDisarmed self.old i self.new }
+        ensures entries { AddsEntries self.old act self.new }
     {
         let op = CallOp::Plain(PlainOp::Stop);
         self.service
@@ -107,7 +111,8 @@ impl<N: Name> Single<N> {
     /// answer is how many callouts these are, none of which waited before.
     pub fn scan<R: Wait>(&mut self, rt: &R, act: u64, now: Sbt) -> u32
         requires served { waiting_of self.old ≡ [] }
-        ensures { IsScanned self.old now result self.new }
+        ensures scanned { IsScanned self.old now result self.new }
+        ensures entries { AddsEntries self.old act self.new }
     {
         self.service
             .scan_alone(rt, &mut self.passes, 0, act, now)
@@ -118,6 +123,7 @@ impl<N: Name> Single<N> {
     pub fn fire<R: Wait>(&mut self, rt: &R, act: u64) -> Option<Fired>
         ensures none { IfNone result (NothingWaits self.old self.new) }
         ensures some { IfSome result (λ fired. IsFired self.old fired.i fired.arg self.new) }
+        ensures entries { AddsEntries self.old act self.new }
     {
         match self
             .service

@@ -15,7 +15,7 @@ arm-requires-clause-made g c =
 pub returns-in-Some-expire_at-clause-served : goal.returns-in-Some-expire_at-clause-served
 returns-in-Some-expire_at-clause-served g c is =
     served_armed c.args.now c.args.knotes.now.slots c.expire_at.new.self.slots c.args.uses.now c.args.single.now c.fire.new.self c.arm.new.self c.in-Some.fired.i c.in-Some.fired.arg c.key_of-key.result c.requires c.in-Some.ensures.some
-    c.key_of-key.ensures c.expire_at.ensures.slots c.in-Some-expire_at.next (sym c.expire_at.ensures.next ∙ c.in-Some-expire_at.is) c.arm.ensures
+    c.key_of-key.ensures c.expire_at.ensures.slots c.in-Some-expire_at.next (sym c.expire_at.ensures.next ∙ c.in-Some-expire_at.is) c.arm.ensures.armed
 
 pub returns-in_default-expire_at-clause-served : goal.returns-in_default-expire_at-clause-served
 returns-in_default-expire_at-clause-served g c is =
