@@ -28,3 +28,4 @@ pub mod Relisting
 pub mod Reformed
 pub mod Removing
 pub mod LegalReports
+pub mod Hearing

@@ -30,6 +30,8 @@ pub mod Facts
 pub mod Slots
 -- what the code keeps of the lines above: callouts, queues, Scans
 pub mod Replayed
+-- what the code keeps of the lines while they are read
+pub mod Hearing
 -- what the code keeps of the numbers above: which line has each note, the highest in each place
 pub mod Index
 -- where an actor's notes lead, as the code walks along them

@@ -19,8 +19,8 @@ use Rattle.co_check.specs.declared.cpu.CpuQueue.{CpuQueue}
 use Rattle.co_report.specs.declared.line.Line.{Line}
 use Rattle.co_check.specs.Facts.{Fact}
 use Rattle.co_check.specs.declared.replay.Replay.{Replay}
-use Rattle.co_check.specs.declared.replay.Replayed.{Replayed}
-use Rattle.co_check.specs.declared.replay.Replayed.TheVariants.{Fits, Bad as BadLine}
+use Rattle.co_check.specs.declared.heard.Replayed.{Replayed}
+use Rattle.co_check.specs.declared.heard.Replayed.TheVariants.{Fits, Bad as BadLine}
 use Rattle.co_check.specs.declared.verdict.Unfit.{Unfit}
 use Rattle.co_check.specs.Astray.{SeenLine, seen_at, seen_lines}
 use Rattle.co_check.specs.Cpu.{ShowsQueue}

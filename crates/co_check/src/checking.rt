@@ -3,6 +3,7 @@ ghost use Rattle.std.specs.Prelude.{◌≡◌, ◌≤◌, ◌||◌, not, length,
 ghost use Rattle.co_program.specs.Actors.{actor_count};
 ghost use Rattle.co_program.specs.Scripts.{IsScript};
 ghost use Rattle.co_check.specs.Astray.{seen_lines};
+ghost use Rattle.co_check.specs.Hearing.{ComesTo};
 ghost use Rattle.co_check.specs.Index.{IsIndexed};
 ghost use Rattle.co_check.specs.Lines.{AreLinesOf, IsReport, lines_max};
 ghost use Rattle.co_check.specs.Numbers.{AreActorCounts};
@@ -10,12 +11,13 @@ ghost use Rattle.co_check.specs.Replayed.{fact_of};
 ghost use Rattle.co_check.specs.Verdict.{verdict, verdict_at_end, verdict_by_numbers, verdict_by_programs, verdict_of};
 
 use crate::fact::PackedFact;
+use crate::heard::{Heard, Replayed};
 use crate::index::{Index, Indexed, index_all};
-use crate::replay::{Replayed, replay_all};
+use crate::replayed::ReplayedReport;
 use crate::verdict::{Unfit, Verdict};
 use crate::walk::{Walked, is_finished, walk};
 use co_program::{Script, actor_count};
-use co_report::{PackedLines, PackedReport, Report};
+use co_report::{Line, PackedLines, Report};
 use co_sbt::NoMemory;
 use std::alloc::Global;
 
@@ -30,36 +32,63 @@ pub fn check(alloc: Global, report: &Report) -> Result<Verdict, NoMemory>
     requires { IsReport report.now }
     ensures { IfOk result (λ found. found ≡ verdict report.now) }
 {
-    let lines = PackedLines::of(alloc, report.lines.as_slice())?;
-    check_lines(alloc, &report.script, &lines, report.end)
+    let (lines, replayed) = replayed(alloc, &report.script, report.lines.as_slice())?;
+    check_lines(alloc, &report.script, &lines, report.end, &replayed)
 }
 
-/// The verdict on a report in few bytes, as `check` gives it.
-pub fn check_packed(alloc: Global, report: &PackedReport) -> Result<Verdict, NoMemory>
+/// The verdict on a report that is replayed, as `check` gives it.
+pub fn check_replayed(alloc: Global, report: &ReplayedReport) -> Result<Verdict, NoMemory>
     requires { IsReport report.now }
     ensures { IfOk result (λ found. found ≡ verdict report.now) }
 {
-    check_lines(alloc, report.script(), report.lines(), report.end())
+    check_lines(
+        alloc,
+        &report.script,
+        &report.lines,
+        report.end,
+        &report.replayed,
+    )
 }
 
-/// The verdict on the lines of a report.
+/// These lines in few bytes, and what they come to.
+fn replayed(
+    alloc: Global,
+    script: &Script,
+    lines: &[Line],
+) -> Result<(PackedLines, Replayed), NoMemory>
+    requires { IsScript script.now }
+    ensures { IfOk result (λ x. (x.0 ≡ lines.now) × ComesTo script.now lines.now x.1) }
+{
+    let mut heard = Heard::open(alloc, script)?;
+    for line in lines {
+        heard.take(line)?;
+    }
+    Ok(heard.ended())
+}
+
+/// The verdict on the lines of a report, by what they come to.
 fn check_lines(
     alloc: Global,
     script: &Script,
     lines: &PackedLines,
     end: u64,
+    replayed: &Replayed,
 ) -> Result<Verdict, NoMemory>
     requires script { IsScript script.now }
     requires lines { AreLinesOf script.now lines.now }
     requires few { length lines.now ≤ lines_max }
+    requires replayed { ComesTo script.now lines.now replayed.now }
     ensures { IfOk result (λ found. found ≡ verdict_of script.now lines.now end) }
 {
-    match replay_all(alloc, script, lines)? {
+    match replayed {
         Replayed::Fits { facts, counts } => {
             let facts = facts.as_slice();
             check_numbers(alloc, script, lines, end, facts, counts.as_slice())
         }
-        Replayed::Bad { line, cause } => Ok(Verdict::Not { line, cause }),
+        Replayed::Bad { line, cause } => Ok(Verdict::Not {
+            line: *line,
+            cause: *cause,
+        }),
     }
 }
 

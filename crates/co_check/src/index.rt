@@ -15,7 +15,7 @@ ghost use Rattle.co_check.specs.Shown.{actor_of};
 
 use crate::pass::next_head;
 use crate::slot::Slot;
-use co_object::Note;
+use co_object::AnyEntry;
 use co_packed::Head;
 use co_program::{Script, actor_count, place_count, place_index};
 use co_report::PackedLines;
@@ -111,13 +111,13 @@ impl Index {
     }
 }
 
-/// Counts a note, for the actor that made it.
-pub(crate) fn count_note(counts: &mut Vec<u32>, note: &Note)
-    requires actor { actor_of note.now.entry < length counts.old.items }
+/// Counts a note with this entry, for the actor that made it.
+pub(crate) fn count_entry(counts: &mut Vec<u32>, entry: &AnyEntry)
+    requires actor { actor_of entry.now < length counts.old.items }
     requires counted { (above : List Line) × AreActorCounts (length counts.old.items) above counts.old.items × (length above < lines_max) }
-    ensures { (actors : ℕ) (line : ℕ) (above : List Line) → AreActorCounts actors above counts.old.items → AreActorCounts actors (above ++ line_of line note.now ∷ []) counts.new.items }
+    ensures { (actors : ℕ) (l : Line) (above : List Line) → l.entry ≡ entry.now → AreActorCounts actors above counts.old.items → AreActorCounts actors (above ++ l ∷ []) counts.new.items }
 {
-    let actor = note.entry.actor() as usize;
+    let actor = entry.actor() as usize;
     counts[actor] += 1;
 }
 

@@ -1,21 +1,9 @@
-//! A pass over the notes of the lines, in order.
+//! A pass over the heads of the lines' notes, in order.
 ghost use Rattle.std.specs.Prelude.{◌≡◌, ◌≢◌, [], ◌∷◌};
 ghost use Rattle.co_object.specs.declared.note.Note.{Note};
 ghost use Rattle.co_packed.specs.Heads.{head_of};
 
-use co_object::Note;
 use co_packed::{Head, NotesAhead};
-
-/// The next note of a pass that is not over.
-pub(crate) fn next_note(notes: &mut NotesAhead<'_>) -> Note
-    requires { notes.old ≢ [] }
-    ensures { notes.old ≡ result ∷ notes.new }
-{
-    match notes.next() {
-        Some(note) => note,
-        None => unreachable!(),
-    }
-}
 
 /// The head of the next note of a pass that is not over.
 #[inline]

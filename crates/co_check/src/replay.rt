@@ -7,21 +7,17 @@ ghost use Rattle.co_program.specs.Follows.{one_scan};
 ghost use Rattle.co_program.specs.Runs.{actors_of, are_direct};
 ghost use Rattle.co_program.specs.Scripts.{IsScript};
 ghost use Rattle.co_report.specs.declared.line.Line.{Line};
-ghost use Rattle.co_report.specs.PackedLines.{line_of};
 ghost use Rattle.co_check.specs.Cpu.{ShowsQueue, NamesCallout, empty_cpu};
-ghost use Rattle.co_check.specs.Lines.{AreLinesOf, IsLineOf, lines_max};
-ghost use Rattle.co_check.specs.Replayed.{IsAfter, IsCalloutTaken, IsQueueTaken, IsReplayed, IsLineTaken, opened};
+ghost use Rattle.co_check.specs.Lines.{IsLineOf, lines_max};
+ghost use Rattle.co_check.specs.Replayed.{IsAfter, IsCalloutTaken, IsQueueTaken, IsLineTaken, opened};
 
 use crate::actors::{may_serve, may_work};
 use crate::cpu::CpuQueue;
 use crate::fact::PackedFact;
-use crate::index::count_note;
-use crate::pass::next_note;
 use crate::same::{same_answer, same_reply};
 use crate::verdict::Unfit;
-use co_object::{Alone, AnyEntry, Arming, Entry, Note, Place, QEntry, QOp, Run, Spec, State};
-use co_program::{Script, actor_count};
-use co_report::PackedLines;
+use co_object::{Alone, AnyEntry, Arming, Entry, Place, QEntry, QOp, Run, Spec, State};
+use co_program::Script;
 use co_sbt::{NoMemory, Seq};
 use std::alloc::Global;
 
@@ -34,41 +30,9 @@ pub(crate) struct Replay {
     scans: Vec<u32>,
 }
 
-/// What the lines of a report come to.
-#[derive(Drop)]
-pub(crate) enum Replayed {
-    /// Each is possible where it stands.
-    Fits {
-        /// What is said of each of them.
-        facts: Vec<PackedFact>,
-        /// By actor: how many of them it made.
-        counts: Vec<u32>,
-    },
-    /// The first that is not.
-    Bad {
-        line: u64,
-        cause: Unfit,
-    },
-}
-
-/// Replays all lines, and counts them on the way.
-pub(crate) fn replay_all(
-    alloc: Global,
-    script: &Script,
-    lines: &PackedLines,
-) -> Result<Replayed, NoMemory>
-    requires script { IsScript script.now }
-    requires lines { AreLinesOf script.now lines.now }
-    requires few { length lines.now ≤ lines_max }
-    ensures { IfOk result (IsReplayed script.now lines.now) }
-{
-    let mut replay = Replay::open(alloc, script)?;
-    replay.take_all(alloc, script, lines)
-}
-
 impl Replay {
     /// Before the first line.
-    fn open(alloc: Global, script: &Script) -> Result<Replay, NoMemory>
+    pub(crate) fn open(alloc: Global, script: &Script) -> Result<Replay, NoMemory>
         requires { IsScript script.now }
         ensures { IfOk result (IsAfter script.now []) }
     {
@@ -82,52 +46,21 @@ impl Replay {
         })
     }
 
-    /// Takes all lines, and counts them on the way. Then the replay is of no more use.
-    fn take_all(
+    /// Takes the entry of the next line, which stands in this place. Err says what is wrong with it; then the replay is of no
+    /// more use.
+    pub(crate) fn take(
         &mut self,
-        alloc: Global,
         script: &Script,
-        lines: &PackedLines,
-    ) -> Result<Replayed, NoMemory>
+        place: Place,
+        entry: &AnyEntry,
+    ) -> Result<PackedFact, Unfit>
         requires script { IsScript script.now }
-        requires lines { AreLinesOf script.now lines.now }
-        requires few { length lines.now ≤ lines_max }
-        requires before { IsAfter script.now [] self.old }
-        ensures { IfOk result (IsReplayed script.now lines.now) }
-    {
-        let mut facts = Seq::new(alloc);
-        let mut counts = Seq::filled(alloc, actor_count(script) as usize, 0)?.into_vec();
-        let mut notes = lines.notes();
-        for at in 0..lines.len() {
-            let note = next_note(&mut notes);
-            match self.take(script, &note) {
-                Ok(fact) => {
-                    facts.push(fact)?;
-                    count_note(&mut counts, &note);
-                }
-                Err(cause) => {
-                    return Ok(Replayed::Bad {
-                        line: lines.number(at),
-                        cause,
-                    });
-                }
-            }
-        }
-        Ok(Replayed::Fits {
-            facts: facts.into_vec(),
-            counts,
-        })
-    }
-
-    /// Takes the note of the next line. Err says what is wrong with it; then the replay is of no more use.
-    pub(crate) fn take(&mut self, script: &Script, note: &Note) -> Result<PackedFact, Unfit>
-        requires script { IsScript script.now }
-        requires line { IsLineOf script.now (line_of 0 note.now) }
+        requires line { (l : Line) × (l.place ≡ place) × (l.entry ≡ entry.now) × IsLineOf script.now l }
         requires after { (above : List Line) × IsAfter script.now above self.old × (length above < lines_max) }
-        ensures { (line : ℕ) (above : List Line) → IsAfter script.now above self.old → IsLineTaken script.now above (line_of line note.now) result self.new }
+        ensures { (above : List Line) (l : Line) → l.place ≡ place → l.entry ≡ entry.now → IsAfter script.now above self.old → IsLineTaken script.now above l result self.new }
     {
         let nothing = PackedFact::new(false, 0);
-        match (note.place, &note.entry) {
+        match (place, entry) {
             (Place::Timer(i), AnyEntry::Timer(entry)) => self.take_timer(script, i, entry),
             (Place::Cpu(cpu), AnyEntry::Cpu(entry)) => self.take_cpu(script, cpu, entry),
             _ => Ok(nothing),

@@ -38,6 +38,7 @@ pub mod ReadLines
 mod ReadRows
 mod NoteHeads
 mod LinesEnded
+mod LinesSame
 mod LineByLine
 mod LinesPacked
-mod ReadPacked
+mod ReadTold

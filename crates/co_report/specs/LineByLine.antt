@@ -138,12 +138,29 @@ IsNextFound before (Ok (next.Note found)) after = IsFound before found after
 IsNextFound before (Ok (next.End end)) after = (standing before).ahead ≡ Ok (record { lines = []; end = end })
 IsNextFound before (Err e) after = Faults e (standing before).ahead
 
--- a line is read, and behind these lines stands the note that it shows, if it shows one
-abbrev pub IsNotePacked : List NoteLine → Progress → Result (Unit {0}) LineFault → Result Progress Cause → List NoteLine → Type 0
-IsNotePacked lines d (Ok ok) read more = (found : Option NoteLine) × (read ≡ Ok (with_line d found)) × (more ≡ lines ++ one_or_none found)
-IsNotePacked lines d (Err e) read more = LineFails e read
+-- ---- lines that a listener takes, by what it has then
 
--- so the reader has gone on, and with what is ahead of it these lines are the same; or the line is refused
-abbrev pub IsLinePacked : Reader → List NoteLine → Result (Unit {0}) ScriptFault → Reader → List NoteLine → Type 0
-IsLinePacked before lines (Ok ok) after more = ReadsOn before after × (behind more (standing after).ahead ≡ behind lines (standing before).ahead)
-IsLinePacked before lines (Err e) after more = Faults e (standing before).ahead
+-- it has taken these lines more
+abbrev pub HasTakenMore : {L : Type 0} (has : L → List NoteLine → Type 0) (old new : L) (more : List NoteLine) → Type 0
+HasTakenMore has old new more = (lines : List NoteLine) → has old lines → has new (lines ++ more)
+
+-- a line is read, and the note that it shows is told, if it shows one
+abbrev pub IsNoteTold : {L : Type 0} (has : L → List NoteLine → Type 0) (old new : L) → Progress → Result (Unit {0}) LineFault → Result Progress Cause → Type 0
+IsNoteTold has old new d (Ok ok) read = (found : Option NoteLine) × (read ≡ Ok (with_line d found)) × HasTakenMore has old new (one_or_none found)
+IsNoteTold has old new d (Err e) read = LineFails e read
+
+-- these lines are told, behind which stands what is ahead of the reader now
+pub record AreTold {L : Type 0} (has : L → List NoteLine → Type 0) (old new : L) (before after : Reader) : Type 0 where
+  pub lines : List NoteLine
+  pub ahead : behind lines (standing after).ahead ≡ (standing before).ahead
+  pub taken : HasTakenMore has old new lines
+
+-- so the reader has gone on by a line, or the line is refused
+abbrev pub IsLineTold : {L : Type 0} (has : L → List NoteLine → Type 0) (old new : L) → Reader → Result (Unit {0}) ScriptFault → Reader → Type 0
+IsLineTold has old new before (Ok ok) after = ReadsOn before after × AreTold has old new before after
+IsLineTold has old new before (Err e) after = Faults e (standing before).ahead
+
+-- all lines that were ahead are told, or one is refused
+abbrev pub AreAllTold : {L : Type 0} (has : L → List NoteLine → Type 0) (old new : L) → Reader → Result ℕ ScriptFault → Type 0
+AreAllTold has old new before (Ok end) = (lines : List NoteLine) × ((standing before).ahead ≡ Ok (record { lines = lines; end = end })) × HasTakenMore has old new lines
+AreAllTold has old new before (Err e) = Faults e (standing before).ahead

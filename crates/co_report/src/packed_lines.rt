@@ -4,6 +4,7 @@ ghost use Rattle.co_report.specs.declared.line.Line.{Line};
 ghost use Rattle.co_report.specs.PackedLines.{is_next_of, line_of, no_stretch, note_from_line, line_in, stretch_at};
 
 use crate::line::Line;
+use crate::listening::LineListener;
 use co_object::Note;
 use co_packed::{NotesAhead, PackedNotes};
 use co_sbt::{NoMemory, Seq};
@@ -86,17 +87,6 @@ impl PackedLines {
         }
     }
 
-    /// These lines. `NoMemory` where they find no room.
-    pub fn of(alloc: Global, lines: &[Line]) -> Result<PackedLines, NoMemory>
-        ensures { IfOk result (λ packed. packed ≡ lines.now) }
-    {
-        let mut packed = PackedLines::new(alloc);
-        for line in lines {
-            packed.push(line)?;
-        }
-        Ok(packed)
-    }
-
     /// Appends a line. What the list has after `NoMemory` is not told.
     pub fn push(&mut self, line: &Line) -> Result<(), NoMemory>
         ensures { OnOk result (self.new ≡ self.old ++ line.now ∷ []) }
@@ -165,5 +155,15 @@ impl PackedLines {
             number: note.pos,
             entry: note.entry,
         }
+    }
+}
+
+impl LineListener for PackedLines {
+    ghost use Rattle.std.specs.Prelude.{◌≡◌};
+
+    ghost has = { λ packed lines. packed ≡ lines };
+
+    fn take(&mut self, line: &Line) -> Result<(), NoMemory> {
+        self.push(line)
     }
 }

@@ -15,7 +15,6 @@ pub mod line_by_line;
 mod names;
 mod notes;
 mod operations;
-pub mod packed;
 mod parts;
 pub mod places;
 mod plain;

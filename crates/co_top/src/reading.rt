@@ -14,11 +14,11 @@ use crate::command::Reading;
 use crate::status::Status;
 use crate::texts::{legal_text, unfit_word};
 use co_batch_text::event::run_event;
-use co_check::{Verdict, check_packed};
+use co_check::{ReplayedReport, Verdict, check_replayed, read_replayed_report};
 use co_core::tell_walk;
 use co_front::fault_text;
 use co_program::Script;
-use co_report::{PackedReport, SectionsOf, Subject, read_packed_report};
+use co_report::{SectionsOf, Subject};
 use co_sbt::{NoMemory, Seq};
 use co_script::read_script;
 use co_text::ScriptFault;
@@ -59,11 +59,11 @@ fn steps(alloc: Global, bytes: &[u8]) -> Result<Answer, NoMemory>
 }
 
 /// The verdict on a report, as an answer.
-fn judged(alloc: Global, report: &PackedReport) -> Result<Answer, NoMemory>
+fn judged(alloc: Global, report: &ReplayedReport) -> Result<Answer, NoMemory>
     requires { IsReport report.now }
     ensures { IfOk result (λ answer. IsJudged (verdict report.now) answer.status (concat answer.pieces)) }
 {
-    match check_packed(alloc, report)? {
+    match check_replayed(alloc, report)? {
         Verdict::Legal => Ok(Answer {
             status: Status::Done,
             pieces: whole(alloc, Seq::copy_of(alloc, legal_text())?)?,
@@ -76,10 +76,10 @@ fn judged(alloc: Global, report: &PackedReport) -> Result<Answer, NoMemory>
 }
 
 /// The report that these bytes are. Their memory is free again before it is judged.
-fn report_of(alloc: Global, bytes: Seq<u8>) -> Result<PackedReport, ScriptFault>
+fn report_of(alloc: Global, bytes: Seq<u8>) -> Result<ReplayedReport, ScriptFault>
     ensures { GivesOrNoMemory (λ r. r) result (report_read bytes) }
 {
-    read_packed_report(alloc, bytes.as_slice())
+    read_replayed_report(alloc, bytes.as_slice())
 }
 
 /// What `check` makes of these bytes.

@@ -1,16 +1,17 @@
 //! A report that is read line by line: first its script, and then each note line when it is asked for.
-ghost use Rattle.std.specs.Prelude.{◌≡◌, ◌≤◌, ◌<◌, ◌∷◌, ◌++◌, Some, [], length, IfOk, OnOk, Option};
+ghost use Rattle.std.specs.Prelude.{◌≡◌, ◌≤◌, ◌<◌, ◌∷◌, Some, [], List, length, IfOk, OnOk};
 ghost use Rattle.co_program.specs.Scripts.{IsScript};
 ghost use Rattle.co_text.specs.Fallible.{Gives, GivesOrNoMemory, LineGives};
 ghost use Rattle.co_text.specs.Lines.{lines_of, Line as TextLine};
-ghost use Rattle.co_report.specs.LineByLine.{before_all, line_at, standing, IsReportOpened, IsReading, IsLinePacked, IsLineRead, IsNextFound, IsNotePacked};
+ghost use Rattle.co_report.specs.declared.line.Line.{Line};
+ghost use Rattle.co_report.specs.LineByLine.{before_all, line_at, standing, AreAllTold, HasTakenMore, IsReportOpened, IsReading, IsLineRead, IsLineTold, IsNextFound, IsNoteTold};
 ghost use Rattle.co_report.specs.NoteForms.{shown_note};
 ghost use Rattle.co_report.specs.NoteValues.{names_of};
 ghost use Rattle.co_report.specs.Reading.{halves_read, line_after, lines_report, report_read};
 ghost use Rattle.co_report.specs.ReadingViews.{halves_view, so_far, with_line, one_or_none, AreAtMost, IsReaderReady, IsSetting};
 
 use crate::line::Line;
-use crate::packed_lines::PackedLines;
+use crate::listening::LineListener;
 use crate::reading::names::{Names, names_of};
 use crate::reading::notes::note_of;
 use crate::reading::places::places;
@@ -217,62 +218,65 @@ fn take_note(
     Ok(found)
 }
 
-/// Packs the line that a list has behind others, if it has one, and takes it out of the list.
-fn pack_found(found: &mut Seq<Line>, lines: &mut PackedLines) -> Result<(), NoMemory>
-    requires { length found.old ≤ 1 }
-    ensures packed { OnOk result (lines.new ≡ lines.old ++ found.old) }
+/// Tells the line that a list has, if it has one, and takes it out of the list.
+fn tell_found<L: LineListener>(found: &mut Seq<Line>, listener: &mut L) -> Result<(), NoMemory>
+    requires few { length found.old ≤ 1 }
+    requires has { (lines : List Line) × L.has listener.old lines }
+    ensures told { OnOk result (HasTakenMore L.has listener.old listener.new found.old) }
     ensures none { OnOk result (found.new ≡ []) }
 {
     if let [line, ..] = found.as_slice() {
-        lines.push(line)?;
+        listener.take(line)?;
     }
     found.clear();
     Ok(())
 }
 
-/// Reads a line, and packs the note that it shows behind these lines, if it shows one.
-fn pack_note(
+/// Reads a line, and tells the note that it shows, if it shows one.
+fn tell_note<L: LineListener>(
     alloc: Global,
     setting: &Setting,
     progress: &mut Progress,
     number: u64,
     line: &[u8],
-    lines: &mut PackedLines,
+    listener: &mut L,
 ) -> Result<(), LineFault>
     requires setting { IsSetting setting.now }
     requires spelled { IsReaderReady setting.now progress.old }
     requires none { progress.old.lines ≡ [] }
-    ensures value { IsNotePacked lines.old (so_far setting.now progress.new) result (line_after setting.now.script.now number (so_far setting.now progress.old) line.now) lines.new }
+    requires has { (lines : List Line) × L.has listener.old lines }
+    ensures value { IsNoteTold L.has listener.old listener.new (so_far setting.now progress.new) result (line_after setting.now.script.now number (so_far setting.now progress.old) line.now) }
     ensures spelled { OnOk result (IsReaderReady setting.now progress.new) }
     ensures none { OnOk result (progress.new.lines ≡ []) }
 {
     progress.line(alloc, setting, number, line)?;
-    pack_found(&mut progress.lines, lines)?;
+    tell_found(&mut progress.lines, listener)?;
     Ok(())
 }
 
 impl<'a> Reader<'a> {
-    /// Reads the next line, behind which `after` stands, and packs the note that it shows behind these lines, if it shows one.
-    fn pack_line(
+    /// Reads the next line, behind which `after` stands, and tells the note that it shows, if it shows one.
+    fn tell_line<L: LineListener>(
         &mut self,
         alloc: Global,
         line: &[u8],
         after: &'a [u8],
-        lines: &mut PackedLines,
+        listener: &mut L,
     ) -> Result<(), ScriptFault>
         requires reading { IsReading self.old }
         requires next { (l : TextLine) × (l.bytes ≡ line.now) × (lines_of self.old.rest.now ≡ l ∷ lines_of after.now) }
         requires shorter { length after.now < length self.old.rest.now }
-        ensures { IsLinePacked self.old lines.old result self.new lines.new }
+        requires has { (lines : List Line) × L.has listener.old lines }
+        ensures { IsLineTold L.has listener.old listener.new self.old result self.new }
     {
         let number = self.number;
-        match pack_note(
+        match tell_note(
             alloc,
             &self.setting,
             &mut self.progress,
             number,
             line,
-            lines,
+            listener,
         ) {
             Ok(()) => {
                 self.rest = after;
@@ -283,18 +287,22 @@ impl<'a> Reader<'a> {
         }
     }
 
-    /// Packs all note lines that are ahead, with the number of the line `end` behind them; or tells the first bad line, as
-    /// `read_report` refuses it. No line is handed on by value: it is packed from where it was read.
-    pub fn pack(&mut self, alloc: Global) -> Result<(PackedLines, u64), ScriptFault>
-        requires { IsReading self.old }
-        ensures { GivesOrNoMemory (λ x. record { lines = x.0; end = x.1 }) result (standing self.old).ahead }
+    /// Tells all note lines that are ahead, and answers the number of the line `end` behind them; or the first bad line, as
+    /// `read_report` refuses it. No line is handed on by value: the listener looks at it where it was read.
+    pub fn tell_all<L: LineListener>(
+        &mut self,
+        alloc: Global,
+        listener: &mut L,
+    ) -> Result<u64, ScriptFault>
+        requires reading { IsReading self.old }
+        requires has { (lines : List Line) × L.has listener.old lines }
+        ensures { AreAllTold L.has listener.old listener.new self.old result }
     {
-        let mut lines = PackedLines::new(alloc);
         while let Some((line, _, after)) = next_line(self.rest) {
-            self.pack_line(alloc, line, after, &mut lines)?;
+            self.tell_line(alloc, line, after, listener)?;
         }
         match self.progress.end {
-            Some(end) => Ok((lines, end)),
+            Some(end) => Ok(end),
             None => Err(bad(self.number, Cause::Note)),
         }
     }

@@ -104,8 +104,8 @@ pub fn split_at_histories(text: &[u8]) -> Option<Halves<'_>>
     None
 }
 
-/// `Form` at the first line of a text, counted from 2, that is not the wanted text's, or at the line behind the last.
-pub fn same_lines(text: &[u8], wanted: &[u8]) -> Result<(), ScriptFault>
+/// The same, line by line.
+fn same_line_by_line(text: &[u8], wanted: &[u8]) -> Result<(), ScriptFault>
     requires { length text.now ≤ 268435456 }
     ensures { GivesOrNoMemory (λ _. true) result (same_lines 2 (lines_of text.now) (lines_of wanted.now)) }
 {
@@ -127,4 +127,16 @@ pub fn same_lines(text: &[u8], wanted: &[u8]) -> Result<(), ScriptFault>
         None => Ok(()),
         Some(_) => Err(bad(number, Cause::Form)),
     }
+}
+
+/// `Form` at the first line of a text, counted from 2, that is not the wanted text's, or at the line behind the last.
+pub fn same_lines(text: &[u8], wanted: &[u8]) -> Result<(), ScriptFault>
+    requires { length text.now ≤ 268435456 }
+    ensures { GivesOrNoMemory (λ _. true) result (same_lines 2 (lines_of text.now) (lines_of wanted.now)) }
+{
+    // A script that was printed is the wanted text.
+    if text == wanted {
+        return Ok(());
+    }
+    same_line_by_line(text, wanted)
 }

@@ -1,7 +1,7 @@
 //! Reports of a script in which nobody does anything.
 use co_check::laws::read_reports_may_be_checked;
-use co_check::{Unfit, Verdict, check, check_packed};
-use co_report::{read_packed_report, read_report};
+use co_check::{Unfit, Verdict, check, check_replayed, read_replayed_report};
+use co_report::read_report;
 use co_sbt::NoMemory;
 use co_text::ScriptFault;
 use std::alloc::Global;
@@ -16,11 +16,11 @@ fn verdict_of(alloc: Global, text: &[u8]) -> Result<Verdict, ScriptFault> {
     }
 }
 
-/// The verdict on the report that a text is, read into few bytes.
-fn packed_verdict_of(alloc: Global, text: &[u8]) -> Result<Verdict, ScriptFault> {
-    let report = read_packed_report(alloc, text)?;
+/// The verdict on the report that a text is, replayed as it is read.
+fn replayed_verdict_of(alloc: Global, text: &[u8]) -> Result<Verdict, ScriptFault> {
+    let report = read_replayed_report(alloc, text)?;
     read_reports_may_be_checked();
-    match check_packed(alloc, &report) {
+    match check_replayed(alloc, &report) {
         Ok(verdict) => Ok(verdict),
         Err(NoMemory {}) => Err(ScriptFault::NoMemory),
     }
@@ -49,6 +49,6 @@ const VERDICTS: [(&str, Verdict); 2] = [
 fn reports_are_judged(rt: HostRuntime) {
     for (text, verdict) in VERDICTS {
         assert!(rt; verdict_of(rt.alloc(), text.as_bytes()) == Ok(verdict));
-        assert!(rt; packed_verdict_of(rt.alloc(), text.as_bytes()) == Ok(verdict));
+        assert!(rt; replayed_verdict_of(rt.alloc(), text.as_bytes()) == Ok(verdict));
     }
 }

@@ -1,7 +1,7 @@
 use Rattle.std.proofs.Common.{◌≡◌, ◌+◌, ◌≤◌, length}
 use Rattle.co_text.specs.Lines.{lines_of}
 use Rattle.co_report.specs.Reading.{same_lines}
-use Rattle.co_report.proofs.reading.texts.same_lines.Given as goal
+use Rattle.co_report.proofs.reading.texts.same_line_by_line.Given as goal
 
 abbrev pub decreases-loop-line : goal.decreases-loop-line
 decreases-loop-line l = length l.rest

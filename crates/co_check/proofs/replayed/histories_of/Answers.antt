@@ -1,0 +1,20 @@
+-- All lines are heard.
+use Rattle.std.proofs.Common.{[], Ok, ap, subst, sym, ◌∙◌}
+use Rattle.co_report.specs.LineByLine.{Ahead, Standing}
+use Rattle.co_check.specs.Hearing.{ComesTo}
+use Rattle.co_check.proofs.replayed.histories_of.Goals as goal
+
+pub returns-clause-read : goal.returns-clause-read
+returns-clause-read g c =
+    let told = c.in_ok-end.ensures in
+    let heard = told.2 [] c.in-Ok-open.ensures in
+    let ended = c.ended-lines.ensures g.S.Subject.script told.0 heard in
+    ap (λ (x : Standing). x.ahead) (sym c.in-Ok.ensures.before) ∙ (told.1 ∙ ap (λ ls. Ok (record { lines = ls; end = c.in_ok-end.end })) (sym ended.0))
+
+pub returns-clause-replayed : goal.returns-clause-replayed
+returns-clause-replayed g c =
+    let told = c.in_ok-end.ensures in
+    let heard = told.2 [] c.in-Ok-open.ensures in
+    let ended = c.ended-lines.ensures g.S.Subject.script told.0 heard in
+    let came = subst (λ ls. ComesTo g.S.Subject.script ls c.ended-lines.result.1) (sym ended.0) ended.1 in
+    subst (λ s. ComesTo s c.ended-lines.result.0 c.ended-lines.result.1) (sym c.requires) came

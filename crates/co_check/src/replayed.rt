@@ -1,0 +1,103 @@
+//! A report that is read and replayed.
+ghost use Rattle.std.specs.Prelude.{◌≡◌, IfOk};
+ghost use Rattle.co_text.specs.Fallible.{GivesOrNoMemory};
+ghost use Rattle.co_text.specs.declared.ScriptFault.TheVariants as fault;
+ghost use Rattle.co_report.specs.LineByLine.{before_all};
+ghost use Rattle.co_report.specs.Reading.{report_read};
+ghost use Rattle.co_check.specs.Hearing.{ComesTo};
+
+use crate::heard::{HeardOf, Replayed};
+use co_program::Script;
+use co_report::{OpenReport, PackedLines, Subject, open_report};
+use co_sbt::NoMemory;
+use co_text::ScriptFault;
+use std::alloc::Global;
+use std::marker::{Brand, Model};
+
+/// What a report says, in few bytes: a `Report` takes 168 for each note line, and this one some 30. Its histories were
+/// replayed as it was read.
+///
+/// Contracts see the report. Our own decision.
+#[derive(Drop)]
+pub struct ReplayedReport {
+    pub(crate) script: Script,
+    pub(crate) lines: PackedLines,
+    pub(crate) end: u64,
+    pub(crate) replayed: Replayed,
+}
+
+impl Model for ReplayedReport {
+    ghost use Rattle.co_report.specs.declared.line.Report.{Report};
+    ghost use Rattle.co_check.specs.Hearing.{ComesTo};
+
+    ghost Value = { Report };
+
+    ghost view = { λ x. record { script = x.script; lines = x.lines; end = x.end } };
+
+    ghost invariant = { λ x. ComesTo x.script x.lines x.replayed };
+}
+
+/// The lines of the histories, what they come to, and the number of the line `end`.
+#[derive(Drop)]
+struct Read {
+    lines: PackedLines,
+    replayed: Replayed,
+    end: u64,
+}
+
+/// Want of memory, as a fault of the text.
+fn no_memory(_fault: NoMemory) -> ScriptFault
+    ensures { result ≡ fault.NoMemory }
+{
+    ScriptFault::NoMemory
+}
+
+/// The histories of an open report of a type's script.
+fn histories_of<S: Subject>(alloc: Global, report: &OpenReport) -> Result<Read, ScriptFault>
+    requires { report.now.script ≡ S.script }
+    ensures read { GivesOrNoMemory (λ x. record { lines = x.lines; end = x.end }) result (before_all report.now).ahead }
+    ensures replayed { IfOk result (λ x. ComesTo report.now.script x.lines x.replayed) }
+{
+    let mut reader = match report.reader(alloc) {
+        Ok(reader) => reader,
+        Err(fault) => return Err(no_memory(fault)),
+    };
+    let mut heard = match HeardOf::<S>::open(alloc, report.script()) {
+        Ok(heard) => heard,
+        Err(fault) => return Err(no_memory(fault)),
+    };
+    let end = reader.tell_all(alloc, &mut heard)?;
+    let (lines, replayed) = heard.heard.ended();
+    Ok(Read {
+        lines,
+        replayed,
+        end,
+    })
+}
+
+/// The histories of an open report.
+fn histories(alloc: Global, report: &OpenReport) -> Result<Read, ScriptFault>
+    ensures read { GivesOrNoMemory (λ x. record { lines = x.lines; end = x.end }) result (before_all report.now).ahead }
+    ensures replayed { IfOk result (λ x. ComesTo report.now.script x.lines x.replayed) }
+{
+    histories_of::<Brand>(alloc, report)
+}
+
+/// The report that a text stands for, as `read_report` gives it, in few bytes; or the same refusal. Each line is replayed as
+/// it is read.
+pub fn read_replayed_report(alloc: Global, bytes: &[u8]) -> Result<ReplayedReport, ScriptFault>
+    ensures { GivesOrNoMemory (λ r. r) result (report_read bytes.now) }
+{
+    let open = open_report(alloc, bytes)?;
+    let Read {
+        lines,
+        replayed,
+        end,
+    } = histories(alloc, &open)?;
+    Ok(ReplayedReport {
+        script: open.into_script(),
+        lines,
+        end,
+        replayed,
+    })
+}

@@ -1,0 +1,20 @@
+//! Note lines, told as they are read to whoever keeps them.
+
+use crate::line::Line;
+use co_sbt::NoMemory;
+
+/// Takes the note lines of a report, one after the other, as they are read.
+///
+/// What a listener keeps of them is its own affair. Our own decision.
+pub trait LineListener {
+    ghost use Rattle.std.specs.Prelude.{◌++◌, ◌∷◌, [], List, OnOk};
+    ghost use Rattle.co_report.specs.declared.line.Line.{Line};
+
+    /// These are the lines that it has taken, in their order.
+    ghost has: { Self → List Line → Type 0 };
+
+    /// Takes a line. Fails for want of memory alone; what the listener has after that is not told.
+    fn take(&mut self, line: &Line) -> Result<(), NoMemory>
+        requires { (lines : List Line) × has self.old lines }
+        ensures { OnOk result ((lines : List Line) → has self.old lines → has self.new (lines ++ line.now ∷ [])) };
+}
