@@ -1,7 +1,8 @@
 //! Reports of a script in which nobody does anything.
 use co_check::laws::read_reports_may_be_checked;
 use co_check::{Unfit, Verdict, check, check_replayed, read_replayed_report};
-use co_report::read_report;
+use co_object::{AnyEntry, OwnEntry, OwnKind, Place};
+use co_report::{Line, PackedLines, open_report, read_report};
 use co_sbt::NoMemory;
 use co_text::ScriptFault;
 use std::alloc::Global;
@@ -51,4 +52,43 @@ fn reports_are_judged(rt: HostRuntime) {
         assert!(rt; verdict_of(rt.alloc(), text.as_bytes()) == Ok(verdict));
         assert!(rt; replayed_verdict_of(rt.alloc(), text.as_bytes()) == Ok(verdict));
     }
+}
+
+/// The only line of a list that has one.
+fn only(lines: &PackedLines) -> Option<Line> {
+    if lines.len() == 1 {
+        Some(lines.line(0))
+    } else {
+        None
+    }
+}
+
+/// How many note lines of a report are told as they are read, the only one, and the number of the line `end`.
+fn told(alloc: Global, text: &[u8]) -> Result<(usize, Option<Line>, u64), ScriptFault> {
+    let report = open_report(alloc, text)?;
+    let Ok(mut reader) = report.reader(alloc) else {
+        return Err(ScriptFault::NoMemory);
+    };
+    let mut lines = PackedLines::new(alloc);
+    let end = reader.tell_all(alloc, &mut lines)?;
+    Ok((lines.len(), only(&lines), end))
+}
+
+/// The note of the second report above.
+const NOT_HELD: Line = Line {
+    line: 13,
+    place: Place::Actor(0),
+    number: 0,
+    entry: AnyEntry::Own(OwnEntry {
+        actor: 0,
+        act: 0,
+        kind: OwnKind::NotHeld,
+    }),
+};
+
+#[test]
+fn lines_are_told_as_they_are_read(rt: HostRuntime) {
+    let [(nothing, _), (one, _)] = VERDICTS;
+    assert!(rt; told(rt.alloc(), nothing.as_bytes()) == Ok((0, None, 13)));
+    assert!(rt; told(rt.alloc(), one.as_bytes()) == Ok((1, Some(NOT_HELD), 14)));
 }
