@@ -3,10 +3,12 @@
 its own but the machine gives the program one processor alone, as a table.
 
 PROGRAM is the built callout; of further programs with the same texts the same is measured. Where callouts fire, a client arms 256 of
-its own, each of which arms itself again as it fires, and each CPU ticks TICKS times (default 100). Else a client calls 16 callouts of its
-own in turn, ACTS acts in all (default 60000): it resets and stops them, or stops them alone, or asks whether they are pending. The script
-is read from a file, and the report goes to /dev/null. Programs and places take turns. The times are by the clock, the least of RUNS
-(default 9) and the median; the ratios are those of the times at one CPU, and of those on one processor, to those at CPUs of their own."""
+its own, each of which arms itself again as it fires, and each CPU ticks TICKS times (default 100). How many fire depends on the race, a
+little on several processors; on one a CPU may have ticked before a client has armed anything, so that is left out. Else a client calls 16
+callouts of its own in turn, ACTS acts in all (default 60000): it resets and stops them, or stops them alone, or asks whether they are
+pending. The script is read from a file, and the report goes to /dev/null. Programs and places take turns. The times are by the clock, the
+least of RUNS (default 9) and the median; the ratios are those of the times at one CPU, and of those on one processor, to those at CPUs of
+their own."""
 import os, subprocess, sys, tempfile, time
 
 RUNS, ACTS, TICKS, CPUS = int(os.environ.get("RUNS", 9)), int(os.environ.get("ACTS", 60_000)), int(os.environ.get("TICKS", 100)), 4
@@ -55,7 +57,7 @@ def main():
     every = os.sched_getaffinity(0)
     for name, acts in KINDS.items():
         apart, together = (file_of(script(acts, at)) for at in (True, False))
-        ways = [(apart, every), (together, every), (apart, {max(every)})]
+        ways = [(apart, every), (together, every)] + ([(apart, {max(every)})] if acts else [])
         times = {(program, way): [] for program in programs for way in range(len(ways))}
         for _ in range(RUNS):
             for program, way in times:
@@ -63,7 +65,7 @@ def main():
         for program in programs:
             found = [sorted(times[program, way]) for way in range(len(ways))]
             ends = [(one[0], one[RUNS // 2]) for one in found]
-            cells = [f"{seconds:.3f} s" for pair in ends for seconds in pair]
+            cells = ([f"{seconds:.3f} s" for pair in ends for seconds in pair] + ["–", "–"])[:6]
             ratios = "; ".join(f"{least / ends[0][0]:.1f}, {median / ends[0][1]:.1f}" for least, median in ends[1:])
             print(f"| {os.path.basename(program)}, {name} | " + " | ".join(cells) + f" | {ratios} |", flush=True)
 
