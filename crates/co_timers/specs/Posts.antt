@@ -51,6 +51,14 @@ is_posted p j = slice_index_or p.here j false
 abbrev pub is_client : PostsView → ℕ → Bool
 is_client p k = nat_lt k p.params.clients && is_posted p k
 
+-- CPU k exists, and its own actor is here
+abbrev pub is_cpu : PostsView → ℕ → Bool
+is_cpu p k = nat_lt k p.params.cpus && is_posted p (cpu_actor (actors_of p.params) k)
+
+-- CPU k exists, and its interrupt is here
+abbrev pub is_interrupt : PostsView → ℕ → Bool
+is_interrupt p k = nat_lt k p.params.cpus && is_posted p (interrupt_actor (actors_of p.params) k)
+
 -- CPU k exists, and both its actors are here
 abbrev pub is_whole : PostsView → ℕ → Bool
 is_whole p k = nat_lt k p.params.cpus && (is_posted p (cpu_actor (actors_of p.params) k) && is_posted p (interrupt_actor (actors_of p.params) k))

@@ -8,7 +8,7 @@ ghost use Rattle.co_object.specs.Actors.{cpu_actor, interrupt_actor};
 ghost use Rattle.co_service.specs.Params.{actor_count, actors_of};
 ghost use Rattle.co_service.specs.Views.{AreOf};
 ghost use Rattle.co_timers.specs.Handles.{IsHandle};
-ghost use Rattle.co_timers.specs.Posts.{back_with, both_leave, is_client, is_posted, is_whole, actor_leaves};
+ghost use Rattle.co_timers.specs.Posts.{back_with, both_leave, is_client, is_cpu, is_interrupt, is_posted, is_whole, actor_leaves};
 ghost use Rattle.co_timers.specs.Turns.{first_cpu};
 
 use crate::{Client, Cpu, Timers};
@@ -95,8 +95,9 @@ impl<N: Name> Posts<N> {
     /// already.
     pub fn cpu(&mut self, timers: &Timers<N>, k: u32) -> Option<Passes>
         requires { timers.now.params ≡ self.old.params }
+        ensures here { is_some result ≡ is_cpu self.old k }
         ensures some { IfSome result (λ passes. passes ≡ booted N.name self.old.params (cpu_actor (actors_of self.old.params) k)) }
-        ensures stays { (self.new.params ≡ self.old.params) × (self.new.back ≡ self.old.back) }
+        ensures stays { self.new ≡ actor_leaves self.old (cpu_actor (actors_of self.old.params) k) (is_cpu self.old k) }
     {
         if k >= timers.params.cpus {
             return None;
@@ -108,8 +109,9 @@ impl<N: Name> Posts<N> {
     /// the service. `None` where there is no such CPU, or its interrupt has left already.
     pub fn interrupt(&mut self, timers: &Timers<N>, k: u32) -> Option<Passes>
         requires { timers.now.params ≡ self.old.params }
+        ensures here { is_some result ≡ is_interrupt self.old k }
         ensures some { IfSome result (λ passes. passes ≡ booted N.name self.old.params (interrupt_actor (actors_of self.old.params) k)) }
-        ensures stays { (self.new.params ≡ self.old.params) × (self.new.back ≡ self.old.back) }
+        ensures stays { self.new ≡ actor_leaves self.old (interrupt_actor (actors_of self.old.params) k) (is_interrupt self.old k) }
     {
         if k >= timers.params.cpus {
             return None;
