@@ -79,10 +79,3 @@ four_behind old p q n low small e f = f ∙ ap (λ t. p ++ t) (sym (four_of_rest
 
 pub eight_behind : (old p q : List ℕ) (n : ℕ) → 100000000 ≤ n → n < 2 ^ 64 → p ≡ old ++ decimal (n / 100000000) → q ≡ p ++ last_eight (n % 100000000) → q ≡ old ++ decimal n
 eight_behind old p q n low small e f = f ∙ ap (λ t. t ++ last_eight (n % 100000000)) e ∙ append_assoc old (decimal (n / 100000000)) (last_eight (n % 100000000)) ∙ ap (λ t. old ++ t) (sym (decimal_by_eight n low small))
-
-pub two_behind : (old p q : List ℕ) (n : ℕ) → 100 ≤ n → n < 1000 → p ≡ old ++ (48 + n / 100 % 10) ∷ [] → q ≡ p ++ (48 + n % 100 / 10 % 10) ∷ (48 + n % 100 % 10) ∷ [] → q ≡ old ++ decimal n
-two_behind old p q n low high e f =
-    let rest : List ℕ = digit (n / 10) ∷ digit n ∷ [] in
-    let c : n % 100 / 10 % 10 ≡ n / 10 % 10 = omega arith in
-    let d : n % 100 % 10 ≡ n % 10 = omega arith in
-    f ∙ (λ k. p ++ (48 + c k) ∷ (48 + d k) ∷ []) ∙ ap (λ t. t ++ rest) e ∙ append_assoc old (digit (n / 100) ∷ []) rest ∙ ap (λ t. old ++ t) (sym (decimal_three n low high))

@@ -18,14 +18,26 @@ fn digit(number: u32) -> u8
     b'0' + (number % 10) as u8
 }
 
+/// The words of two digits, by their number.
+const PAIRS: [u16; 100] = [
+    12_336, 12_592, 12_848, 13_104, 13_360, 13_616, 13_872, 14_128, 14_384, 14_640, 12_337, 12_593,
+    12_849, 13_105, 13_361, 13_617, 13_873, 14_129, 14_385, 14_641, 12_338, 12_594, 12_850, 13_106,
+    13_362, 13_618, 13_874, 14_130, 14_386, 14_642, 12_339, 12_595, 12_851, 13_107, 13_363, 13_619,
+    13_875, 14_131, 14_387, 14_643, 12_340, 12_596, 12_852, 13_108, 13_364, 13_620, 13_876, 14_132,
+    14_388, 14_644, 12_341, 12_597, 12_853, 13_109, 13_365, 13_621, 13_877, 14_133, 14_389, 14_645,
+    12_342, 12_598, 12_854, 13_110, 13_366, 13_622, 13_878, 14_134, 14_390, 14_646, 12_343, 12_599,
+    12_855, 13_111, 13_367, 13_623, 13_879, 14_135, 14_391, 14_647, 12_344, 12_600, 12_856, 13_112,
+    13_368, 13_624, 13_880, 14_136, 14_392, 14_648, 12_345, 12_601, 12_857, 13_113, 13_369, 13_625,
+    13_881, 14_137, 14_393, 14_649,
+];
+
 /// Two digits as a word, of which the first is the lowest byte.
 #[inline(always)]
 fn pair_word(number: u32) -> u32
     requires { number < 100 }
     ensures { result ≡ pair_word number }
 {
-    // A ten is one in the lowest byte, and ten less in the next one.
-    12_336 + 256 * number - 2_559 * (number / 10)
+    u32::from(PAIRS[number as usize])
 }
 
 /// Four digits as a word, of which the first is the lowest byte.
@@ -125,14 +137,13 @@ impl Page {
         self.text(pair(number).as_slice())
     }
 
-    #[tactic(auto, using(crate::proofs::Digits::two_behind))]
+    #[tactic(auto, using(crate::proofs::Digits::decimal_three))]
     fn three_digits(&mut self, number: u32) -> Result<(), NoMemory>
         requires low { 100 ≤ number }
         requires high { number < 1000 }
         ensures { OnOk result (self.new ≡ self.old ++ decimal number) }
     {
-        self.push(digit(number / 100))?;
-        self.text(pair(number % 100).as_slice())
+        self.text(&last_four(number).as_slice()[1..])
     }
 
     /// Four digits, with zeros in front.
@@ -198,7 +209,7 @@ impl Page {
         Ok(())
     }
 
-    // Apart, so that a short number, which most are, is written with no call.
+    // Apart: few numbers are so long, and the others' way stays short.
     #[inline(never)]
     #[tactic(auto, using(crate::proofs::Digits::eight_behind))]
     fn many_digits(&mut self, number: u64) -> Result<(), NoMemory>
@@ -210,14 +221,28 @@ impl Page {
         Ok(())
     }
 
-    /// Appends a number, without leading zeros. `NoMemory` where there is no room.
-    pub fn number(&mut self, number: u64) -> Result<(), NoMemory>
+    // Apart, so that a number of one digit, which most are, is written with no call.
+    #[inline(never)]
+    fn longer(&mut self, number: u64) -> Result<(), NoMemory>
         ensures { OnOk result (self.new ≡ self.old ++ decimal number) }
     {
         if number < 100_000_000 {
             self.some_digits(number as u32)
         } else {
             self.many_digits(number)
+        }
+    }
+
+    /// Appends a number, without leading zeros. `NoMemory` where there is no room.
+    #[inline(always)]
+    #[tactic(auto, using(std::proofs::lemmas::Fmt::decimal_digit))]
+    pub fn number(&mut self, number: u64) -> Result<(), NoMemory>
+        ensures { OnOk result (self.new ≡ self.old ++ decimal number) }
+    {
+        if number < 10 {
+            self.push(digit(number as u32))
+        } else {
+            self.longer(number)
         }
     }
 
