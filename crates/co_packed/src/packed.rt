@@ -211,6 +211,30 @@ impl PackedNote {
         }
     }
 
+    /// A copy, which says the same.
+    pub fn copy(&self) -> PackedNote
+        ensures { result ≡ self.now }
+    {
+        PackedNote {
+            pos: self.pos,
+            act: self.act,
+            time: self.time,
+            prec: self.prec,
+            word: self.word,
+            reply_time: self.reply_time,
+            reply_word: self.reply_word,
+            place: self.place,
+            actor: self.actor,
+            number: self.number,
+            cpu: self.cpu,
+            code: self.code,
+            reply_number: self.reply_number,
+            off: self.off,
+            whose: self.whose,
+            sort: self.sort,
+        }
+    }
+
     /// Whose history has its entry.
     pub fn place(&self) -> Place
         ensures { result ≡ self.now.place }

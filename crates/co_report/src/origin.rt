@@ -10,8 +10,8 @@ use co_program::Script;
 use co_sbt::{NoMemory, Seq};
 use co_text::Page;
 
-/// How many notes are taken from their lists before the first of them is printed. In a large run hardly any is in a cache,
-/// and to print one takes so many instructions that the processor does not come to the next one meanwhile: taken together,
+/// How many notes are copied from their lists before the first of them is printed. In a large run hardly any is in a cache,
+/// and to unpack one takes so many instructions that the processor does not come to the next one meanwhile: copied together,
 /// their ways from memory overlap.
 const CHUNK: usize = 16;
 
@@ -40,56 +40,64 @@ pub fn note_from(lists: &[Seq<Note>], origin: Origin) -> Option<&Note>
     notes.as_slice().get(origin.number as usize)
 }
 
-/// The note from an origin, unpacked; None where none stands there.
-fn note_at_origin(lists: &[Seq<PackedNote>], origin: Origin) -> Option<Note>
+/// A copy of the packed note from an origin; None where none stands there.
+fn copy_from(lists: &[Seq<PackedNote>], origin: Origin) -> Option<PackedNote>
     ensures { result ≡ note_from lists.now origin }
 {
     let packed = packed_from(lists, origin)?;
-    Some(packed.note())
+    Some(packed.copy())
 }
 
-/// Takes the notes from some origins from their lists.
-fn take_notes(lists: &[Seq<PackedNote>], origins: &[Origin], notes: &mut [Option<Note>])
-    requires { length notes.old ≡ length origins.now }
-    ensures { notes.new ≡ map (note_from lists.now) origins.now }
+/// Copies the packed notes from some origins out of their lists.
+fn copy_notes(lists: &[Seq<PackedNote>], origins: &[Origin], copies: &mut [Option<PackedNote>])
+    requires { length copies.old ≡ length origins.now }
+    ensures { copies.new ≡ map (note_from lists.now) origins.now }
 {
     for index in 0..origins.len() {
-        notes[index] = note_at_origin(lists, origins[index]);
+        copies[index] = copy_from(lists, origins[index]);
     }
 }
 
 /// The line of the note with this number in its actor's list; none where there is no note.
 #[tactic(auto, using(co_text::proofs::Spacing::text_one))]
-fn print_taken(
+fn print_copy(
     page: &mut Page,
     script: &Script,
     number: u32,
-    taken: &Option<Note>,
+    copy: &Option<PackedNote>,
 ) -> Result<(), NoMemory>
-    ensures { OnOk result (page.new ≡ page.old ++ text (origin_line script.now number taken.now)) }
+    ensures { OnOk result (page.new ≡ page.old ++ text (origin_line script.now number copy.now)) }
 {
-    match taken {
-        Some(note) => print_note(page, script, u64::from(number), &note.entry),
+    match copy {
+        Some(packed) => print_note(page, script, u64::from(number), &packed.note().entry),
         None => Ok(()),
     }
 }
 
-/// The lines of the notes from some origins, which are all taken from their lists into `notes` first.
+/// The lines of the notes from some origins, whose packed notes are all copied first.
 fn print_chunk(
     page: &mut Page,
     script: &Script,
     lists: &[Seq<PackedNote>],
     origins: &[Origin],
-    notes: &mut [Option<Note>],
+    copies: &mut [Option<PackedNote>],
 ) -> Result<(), NoMemory>
-    requires { length notes.old ≡ length origins.now }
+    requires { length copies.old ≡ length origins.now }
     ensures { OnOk result (page.new ≡ page.old ++ text (lines_from script.now lists.now origins.now)) }
 {
-    take_notes(lists, origins, notes);
+    copy_notes(lists, origins, copies);
     for index in 0..origins.len() {
-        print_taken(page, script, origins[index].number, &notes[index])?;
+        print_copy(page, script, origins[index].number, &copies[index])?;
     }
     Ok(())
+}
+
+/// Room for a chunk of copies.
+fn no_copies() -> [Option<PackedNote>; CHUNK] {
+    [
+        None, None, None, None, None, None, None, None, None, None, None, None, None, None, None,
+        None,
+    ]
 }
 
 /// The lines of the notes from some origins. `NoMemory` where the page finds no room.
@@ -101,9 +109,9 @@ pub fn print_from(
 ) -> Result<(), NoMemory>
     ensures { OnOk result (page.new ≡ page.old ++ text (lines_from script.now lists.now origins.now)) }
 {
-    let mut notes: [Option<Note>; CHUNK] = [None; CHUNK];
+    let mut copies = no_copies();
     for chunk in origins.chunks(CHUNK) {
-        print_chunk(page, script, lists, chunk, &mut notes[..chunk.len()])?;
+        print_chunk(page, script, lists, chunk, &mut copies[..chunk.len()])?;
     }
     Ok(())
 }

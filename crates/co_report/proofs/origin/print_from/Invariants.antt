@@ -10,5 +10,5 @@ invariant-loop-chunk l =
     goal.iterator-loop-chunk.can_next l.chunk-iterator
     × goal.iterator-loop-chunk.is_finite l.chunk-iterator
     × (chunks_size l.chunk-iterator ≡ 16)
-    × (length l.notes ≡ 16)
+    × (length l.copies ≡ 16)
     × (l.page ++ text (lines_from l.script l.lists (chunks_rest l.chunk-iterator)) ≡ l.fn.page ++ text (lines_from l.script l.lists l.origins))
