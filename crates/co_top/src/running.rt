@@ -10,7 +10,7 @@ use crate::typed::lists_are_typed;
 use co_hand::Gate;
 use co_program::Script;
 use co_report::print_by_threads;
-use co_run::{fitting_scripts_can_run, run_packed};
+use co_run::{PackedRan, fitting_scripts_can_run, let_go, run_packed};
 use co_sbt::{NoMemory, Seq};
 use co_script::read_script_by_threads;
 use co_service::Closing;
@@ -37,13 +37,11 @@ fn report_of_run<G: Gate + Sync, R: Threads + Wait + Sync>(
     ensures { IfOk result (λ report. IsReportOfRun script.now report.closing (concat report.pieces)) }
 {
     fitting_scripts_can_run();
-    let ran = run_packed(rt, alloc, script, gate)?;
-    lists_are_typed(ran.lists.as_slice());
-    let pieces = print_by_threads(rt, alloc, script, &ran.lists)?;
-    Ok(Report {
-        pieces,
-        closing: ran.closing,
-    })
+    let PackedRan { lists, closing } = run_packed(rt, alloc, script, gate)?;
+    lists_are_typed(lists.as_slice());
+    let pieces = print_by_threads(rt, alloc, script, &lists)?;
+    let_go(rt, lists);
+    Ok(Report { pieces, closing })
 }
 
 /// What `run` makes of these bytes.
