@@ -6,6 +6,7 @@ use Rattle.slab.specs.Slab.{Slab, Updates, get}
 use Rattle.co_service.specs.Views.{PassesView}
 use Rattle.co_single.specs.Acts.{IsArmed, NothingFires}
 use Rattle.co_single.specs.Alarms.{fired_at, but}
+use Rattle.co_single.specs.Seen.{AddsEntries}
 use Rattle.co_kq.specs.declared.knote.Knote.{Knote}
 use Rattle.co_kq.specs.declared.knote.Slot.{Slot}
 use Rattle.co_kq.specs.declared.numbers.Use.{Use}
@@ -47,8 +48,8 @@ armed_fires p q number due arg a = record {
 module _ (work : ℕ) (knote : Knote) (due : ℕ) (old new : Slab Slot) (before after : List Use) (p q : PassesView) (key number : ℕ) where
   pub put_kept : (stood : ℕ) → AreKept work old.slots before p → IsKnotePut old new key (record { knote = knote; timer = number }) stood
       → ChangesUse before after number (Held key) → length after ≡ length before → IsOwn old key number → IsSole before key number → count_by is_held after ≡ count_by is_some new.slots
-      → knote.next ≡ Some due → knote.count ≡ 0 → IsArmed p number due 0 q → IsPut work knote old p new after q
-  put_kept stood kept is_put uses long own sole many next fresh a = record {
+      → knote.next ≡ Some due → knote.count ≡ 0 → IsArmed p number due 0 q → AddsEntries p work q → IsPut work knote old p new after q
+  put_kept stood kept is_put uses long own sole many next fresh a adds = record {
     list = is_put.list;
     kept = record {
       distinct = is_put.changed.distinct;
@@ -61,6 +62,7 @@ module _ (work : ℕ) (knote : Knote) (due : ℕ) (old new : Slab Slot) (before 
       nothing = a.waiting ∙ ap (but number) kept.nothing;
     };
     fires = armed_fires p q number due 0 a;
+    entries = adds;
     clock = a.time.clock;
     capacity = is_put.changed.capacity;
   }
@@ -68,8 +70,8 @@ module _ (work : ℕ) (knote : Knote) (due : ℕ) (old new : Slab Slot) (before 
 -- in the place of an old one
 pub put_old : (work : ℕ) (knote : Knote) (due : ℕ) (old new : Slab Slot) (uses : List Use) (p q : PassesView) (key number : ℕ)
     → AreKept work old.slots uses p → HasTimer old.slots key number → IsKnotePut old new key (record { knote = knote; timer = number }) 1
-    → knote.next ≡ Some due → knote.count ≡ 0 → IsArmed p number due 0 q → IsPut work knote old p new uses q
-put_old work knote due old new uses p q key number kept had is_put next fresh a =
+    → knote.next ≡ Some due → knote.count ≡ 0 → IsArmed p number due 0 q → AddsEntries p work q → IsPut work knote old p new uses q
+put_old work knote due old new uses p q key number kept had is_put next fresh a adds =
     let of_key : use_at uses number ≡ Held key = ap (use_at uses) (sym had.timer) ∙ kept.numbered.held key had.slot had.there in
     put_kept work knote due old new uses uses p q key number 1 kept is_put
     (record { changed = of_key; others = λ j differs. refl })
@@ -79,13 +81,13 @@ put_old work knote due old new uses p q key number kept had is_put next fresh a 
     let h : HasTimer old.slots key j = kept.numbered.kept j key held in
     there (sym h.timer ∙ (ap (λ v. v.timer) (some_is h.slot had.slot (sym h.there ∙ had.there)) ∙ had.timer)))
     (omega (arith, kept.numbered.many, is_put.changed.len))
-    next fresh a
+    next fresh a adds
 
 -- of a new ident
 pub put_new : (work : ℕ) (knote : Knote) (due : ℕ) (old new : Slab Slot) (uses : List Use) (p q : PassesView) (key number : ℕ)
     → CanPlace work knote due old uses p → get old key ≡ None → number < length uses → is_held (use_at uses number) ≡ false
-    → IsKnotePut old new key (record { knote = knote; timer = number }) 0 → IsArmed p number due 0 q → IsPut work knote old p new (set uses number (Held key)) q
-put_new work knote due old new uses p q key number can vacant low loose is_put a =
+    → IsKnotePut old new key (record { knote = knote; timer = number }) 0 → IsArmed p number due 0 q → AddsEntries p work q → IsPut work knote old p new (set uses number (Held key)) q
+put_new work knote due old new uses p q key number can vacant low loose is_put a adds =
     put_kept work knote due old new uses (set uses number (Held key)) p q key number 0 can.kept is_put
     (set_changes uses number (Held key) low)
     (length-set uses number (Held key))
@@ -96,7 +98,7 @@ put_new work knote due old new uses p q key number can vacant low loose is_put a
     let h : HasTimer old.slots key j = can.kept.numbered.kept j key held in
     let never : None ≡ Some h.slot = sym vacant ∙ h.there in cc)
     many
-    can.next can.fresh a
+    can.next can.fresh a adds
   where
     many : count_by is_held (set uses number (Held key)) ≡ count_by is_some new.slots
     many =

@@ -11,6 +11,7 @@ use Rattle.co_kq.specs.declared.knote.Knote.{Knote}
 use Rattle.co_kq.specs.Kevents.{Kevents, opening, put, knote_of, expires, expired}
 use Rattle.co_kq.specs.Slots.{slot_at, knotes_in, AreDistinct, HasNoIdent}
 use Rattle.co_single.specs.Acts.{NothingFires}
+use Rattle.co_single.specs.Seen.{AddsEntries}
 
 abbrev pub is_held : Use → Bool
 is_held Free = false
@@ -99,11 +100,12 @@ pub record CanPlace (work : ℕ) (knote : Knote) (due : ℕ) (knotes : Slab Slot
   -- it has not expired yet
   pub fresh : knote.count ≡ 0
 
--- a knote is put into the list, and its callout is armed
+-- a knote is put into the list, and its callout is armed. The act's number is the work that was done before it
 pub record IsPut (work : ℕ) (knote : Knote) (old : Slab Slot) (p : PassesView) (new : Slab Slot) (uses : List Use) (q : PassesView) : Type 0 where
   pub list : knotes_in new.slots ≡ put knote (knotes_in old.slots)
   pub kept : AreKept (work + 1) new.slots uses q
   pub fires : NothingFires p q
+  pub entries : AddsEntries p work q
   pub clock : last_scan q ≡ last_scan p
   pub capacity : new.capacity ≡ old.capacity
 

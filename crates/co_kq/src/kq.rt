@@ -3,6 +3,7 @@ ghost use Rattle.std.specs.Prelude.{◌≡◌, ◌≤◌, ◌<◌, ◌+◌, ◌^
 ghost use Rattle.co_kq.specs.Kevents.{span_of, is_span, new_knote, add_answer, added, deleted_count, deleted, ticked, expirations, events, delivered, put};
 ghost use Rattle.co_kq.specs.Numbers.{AreKept, CanPlace, FiresCounted, IsOpened, IsPut};
 ghost use Rattle.co_single.specs.Acts.{NothingFires};
+ghost use Rattle.co_single.specs.Seen.{AddsEntries};
 ghost use Rattle.co_kq.specs.Slots.{StandsAtKey, HasNoEvent, TellsOne};
 
 use crate::fresh::KqFresh;
@@ -20,7 +21,7 @@ use std::sync::Wait;
 
 /// Timers of kevent(2) over a running service: each knote has a callout. Contracts see for how many knotes there is room, how
 /// many adds and ticks there were, the kevent list, what the service's one actor has seen, and the callout of each ident's
-/// knote.
+/// knote. The entries of an add and of a tick are of one act, whose number is how many of these there were before.
 #[derive(Drop)]
 pub struct Kq<N: Name> {
     single: Single<N>,
@@ -150,6 +151,7 @@ impl<N: Name> Kq<N> {
     }
 
     /// Adds a knote that expires behind each span, or once alone, in the place of an old one of its ident.
+    #[tactic(auto, using(co_single::proofs::OfAct::none_adds))]
     pub fn add<R: Wait>(&mut self, rt: &R, ident: u64, value: u64, unit: Unit, oneshot: bool) -> Add
         requires work { self.old.work < 2 ^ 62 }
         ensures answer { result ≡ add_answer self.old.room self.old.list ident (span_of value unit) }
@@ -157,6 +159,7 @@ impl<N: Name> Kq<N> {
         ensures room { self.new.room ≡ self.old.room }
         ensures work { self.new.work ≡ self.old.work + 1 }
         ensures fires { NothingFires self.old.passes self.new.passes }
+        ensures entries { AddsEntries self.old.passes self.old.work self.new.passes }
     {
         let act = self.work;
         self.work += 1;
@@ -261,6 +264,7 @@ impl<N: Name> Kq<N> {
         ensures room { self.new.room ≡ self.old.room }
         ensures work { self.new.work ≡ self.old.work + 1 }
         ensures fires { FiresCounted self.old now result self.new }
+        ensures entries { AddsEntries self.old.passes self.old.work self.new.passes }
     {
         let act = self.work;
         self.work += 1;

@@ -1,6 +1,7 @@
 //! What a tick does with the callouts.
 ghost use Rattle.std.specs.Prelude.{◌≡◌, ◌≢◌, ◌<◌, ◌≤◌, ℕ, [], length, true, false};
 ghost use Rattle.co_single.specs.Alarms.{callout_count, waiting_of};
+ghost use Rattle.co_single.specs.Seen.{AddsEntries};
 ghost use Rattle.co_kq.specs.declared.numbers.Use.TheVariants.{Stale};
 ghost use Rattle.co_kq.specs.Numbers.{use_at};
 ghost use Rattle.co_kq.specs.Ticks.{AreCleared, AreDue, CanServe, HasNothingWaiting, IsKnoteExpired, IsTicking};
@@ -13,6 +14,7 @@ use co_single::Single;
 use std::sync::Wait;
 
 /// A callout whose knote is gone is not armed any more, and is in use for nothing.
+#[tactic(auto, using(co_single::proofs::OfAct::none_adds))]
 fn clear<N: Name, R: Wait>(
     rt: &R,
     act: u64,
@@ -25,6 +27,7 @@ fn clear<N: Name, R: Wait>(
     requires few { length uses.old ≤ 1024 }
     ensures cleared { AreCleared uses.old single.old uses.new single.new }
     ensures free { use_at uses.new number ≢ Stale }
+    ensures entries { AddsEntries single.old act single.new }
 {
     if let Use::Stale = uses[number] {
         single.disarm(rt, act, number as u32);
@@ -38,6 +41,7 @@ fn clear_all<N: Name, R: Wait>(rt: &R, act: u64, single: &mut Single<N>, uses: &
     requires few { length uses.old ≤ 1024 }
     ensures cleared { AreCleared uses.old single.old uses.new single.new }
     ensures none { (number : ℕ) → use_at uses.new number ≢ Stale }
+    ensures entries { AddsEntries single.old act single.new }
 {
     for number in 0..uses.len() {
         clear(rt, act, single, uses, number);
@@ -45,11 +49,13 @@ fn clear_all<N: Name, R: Wait>(rt: &R, act: u64, single: &mut Single<N>, uses: &
 }
 
 /// No callout whose knote is gone is armed any more. Where none may be stale, nothing is done.
+#[tactic(auto, using(co_single::proofs::OfAct::none_adds))]
 pub fn clear_stale<N: Name, R: Wait>(rt: &R, act: u64, single: &mut Single<N>, uses: &mut Uses)
     requires callouts { callout_count single.old ≡ length uses.old }
     requires few { length uses.old ≤ 1024 }
     ensures cleared { AreCleared uses.old single.old uses.new single.new }
     ensures none { (number : ℕ) → use_at uses.new number ≢ Stale }
+    ensures entries { AddsEntries single.old act single.new }
 {
     if !uses.stale {
         return;
@@ -71,6 +77,7 @@ fn serve_one<N: Name, R: Wait>(
     ensures served { result ≡ true → IsKnoteExpired now knotes.old.slots uses.now single.old knotes.new.slots single.new }
     ensures over { result ≡ false → HasNothingWaiting knotes.old.slots single.old knotes.new.slots single.new }
     ensures capacity { knotes.new.capacity ≡ knotes.old.capacity }
+    ensures entries { AddsEntries single.old act single.new }
 {
     let Some(fired) = single.fire(rt, act) else {
         return false;
@@ -95,6 +102,7 @@ pub fn serve_all<N: Name, R: Wait>(
     ensures serving { IsTicking now act knotes.old.slots uses.now single.old knotes.new.slots single.new }
     ensures nothing { waiting_of single.new ≡ [] }
     ensures capacity { knotes.new.capacity ≡ knotes.old.capacity }
+    ensures entries { AddsEntries single.old act single.new }
 {
     while serve_one(rt, act, single, knotes, uses, now) {}
 }

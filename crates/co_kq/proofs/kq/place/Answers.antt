@@ -9,4 +9,4 @@ returns-clause-put g c =
     let f = c.first_loose-timer.ensures in
     subst (λ u. IsPut c.args.act c.args.knote c.args.knotes.now c.args.single.now c.insert-key.new.self u c.arm.new.self) (sym c.hold.ensures)
     (put_new c.args.act c.args.knote c.args.due c.args.knotes.now c.insert-key.new.self c.args.uses.now c.args.single.now c.arm.new.self c.insert-key.result c.first_loose-timer.result c.requires
-    e.vacant f.below f.loose e.put c.arm.ensures.armed)
+    e.vacant f.below f.loose e.put c.arm.ensures.armed c.arm.ensures.entries)

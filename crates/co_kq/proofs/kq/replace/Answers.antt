@@ -15,5 +15,5 @@ returns g c =
     let e = c.rewrite-timer.ensures in
     record {
       put = put_old c.args.act c.args.knote c.args.due c.args.knotes.now c.rewrite-timer.new.self c.args.uses.now c.args.single.now c.arm.new.self c.args.key c.rewrite-timer.result c.requires.kept e.had
-          e.put c.requires.due c.requires.fresh c.arm.ensures.armed;
+          e.put c.requires.due c.requires.fresh c.arm.ensures.armed c.arm.ensures.entries;
     }

@@ -1,4 +1,5 @@
 use Rattle.std.proofs.Common.{◌∙◌, ap, sym, arith}
+use Rattle.co_single.proofs.OfAct.{adds_more}
 use Rattle.co_kq.specs.Numbers.{is_held}
 use Rattle.co_kq.proofs.Serving.{first_ready, served_armed, served_bare}
 use Rattle.co_kq.proofs.ticks.serve_one.Goals as goal
@@ -21,3 +22,6 @@ pub returns-in_default-expire_at-clause-served : goal.returns-in_default-expire_
 returns-in_default-expire_at-clause-served g c is =
     served_bare c.args.now c.args.knotes.now.slots c.expire_at.new.self.slots c.args.uses.now c.args.single.now c.fire.new.self c.in-Some.fired.i c.in-Some.fired.arg c.key_of-key.result c.requires c.in-Some.ensures.some
     c.key_of-key.ensures c.expire_at.ensures.slots (sym c.expire_at.ensures.next ∙ c.in_default-expire_at.is)
+
+pub returns-in-Some-expire_at-clause-entries : goal.returns-in-Some-expire_at-clause-entries
+returns-in-Some-expire_at-clause-entries g c = adds_more c.args.single.now c.fire.new.self c.arm.new.self c.args.act c.fire.ensures.entries c.arm.ensures.entries
