@@ -2,6 +2,7 @@
 ghost use Rattle.std.specs.Prelude.{◌≡◌, ◌+◌, ◌<◌, ◌≤◌, ◌^◌, IfOk, length};
 ghost use Rattle.co_itimer.specs.Itimers.{EachFires, IsOpened};
 ghost use Rattle.co_single.specs.Acts.{NothingFires};
+ghost use Rattle.co_single.specs.Seen.{AddsEntries};
 ghost use Rattle.co_itimer.specs.Timers.{alarm_of, alarmed, clock_after, expirations, set, ticked, value_of};
 
 use crate::book::Book;
@@ -18,7 +19,8 @@ use std::sync::Wait;
 /// The interval timers of some processes, and the service that they stand on: process p has callout p, which is armed exactly
 /// where the process's timer is to expire, for that time.
 ///
-/// Contracts see the timers alone, what has happened on the service, and how much work was done.
+/// Contracts see the timers alone, what has happened on the service, and how many sets and ticks there were. The entries of each
+/// are of one act, whose number is how many there were before.
 #[derive(Drop)]
 pub struct Itimers<N: Name> {
     single: Single<N>,
@@ -74,6 +76,7 @@ impl<N: Name> Itimers<N> {
         ensures answer { result ≡ value_of self.old.alone p }
         ensures alone { self.new.alone ≡ set self.old.alone p to }
         ensures seen { NothingFires self.old.seen self.new.seen }
+        ensures entries { AddsEntries self.old.seen self.old.work self.new.seen }
         ensures work { self.new.work ≡ self.old.work + 1 }
     {
         let was = self.book.set(p, to);
@@ -101,6 +104,7 @@ impl<N: Name> Itimers<N> {
         ensures answer { result ≡ expirations self.old.alone now }
         ensures alone { self.new.alone ≡ ticked self.old.alone now }
         ensures seen { EachFires self.old.alone (clock_after self.old.alone now) now result self.old.seen self.new.seen }
+        ensures entries { AddsEntries self.old.seen self.old.work self.new.seen }
         ensures work { self.new.work ≡ self.old.work + 1 }
     {
         let count = self.single.scan(rt, self.work, now);

@@ -1,4 +1,6 @@
 use Rattle.std.proofs.Common.{◌≡◌, subst, ◌∙◌, ap}
+use Rattle.co_single.specs.Seen.{AddsEntries}
+use Rattle.co_single.proofs.OfAct.{adds_more}
 use Rattle.co_itimer.proofs.Ticking.{all-wait, count-is, ticked-is, each-fires}
 use Rattle.co_itimer.specs.Itimers.{EachFires}
 use Rattle.co_itimer.specs.Serving.{AreServed}
@@ -20,7 +22,7 @@ pub returns-clause-alone : goal.returns-clause-alone
 returns-clause-alone g c =
     let s = c.self.inside in
     let q = c.scan-count.new.self in
-    let done = subst (λ t. AreServed s.work q t c.serve_all.new.single c.serve_all.new.book) c.advance.ensures c.serve_all.ensures in
+    let done = subst (λ t. AreServed s.work q t c.serve_all.new.single c.serve_all.new.book) c.advance.ensures c.serve_all.ensures.served in
     ticked-is s.work c.args.now c.scan-count.result s.single q s.book c.self.invariant c.scan-count.ensures.scanned c.serve_all.new.single c.serve_all.new.book done
     ∙ ap (λ v. ticked v.alone c.args.now) c.self.view_is
 
@@ -28,6 +30,11 @@ pub returns-clause-seen : goal.returns-clause-seen
 returns-clause-seen g c =
     let s = c.self.inside in
     let q = c.scan-count.new.self in
-    let done = subst (λ t. AreServed s.work q t c.serve_all.new.single c.serve_all.new.book) c.advance.ensures c.serve_all.ensures in
+    let done = subst (λ t. AreServed s.work q t c.serve_all.new.single c.serve_all.new.book) c.advance.ensures c.serve_all.ensures.served in
     subst (λ v. EachFires v.alone (clock_after v.alone c.args.now) c.args.now c.scan-count.result v.seen c.serve_all.new.single) c.self.view_is
     (each-fires s.work c.args.now c.scan-count.result s.single q s.book c.self.invariant c.scan-count.ensures.scanned c.serve_all.new.single c.serve_all.new.book done)
+
+pub returns-clause-entries : goal.returns-clause-entries
+returns-clause-entries g c =
+    let s = c.self.inside in
+    subst (λ v. AddsEntries v.seen v.work c.serve_all.new.single) c.self.view_is (adds_more s.single c.scan-count.new.self c.serve_all.new.single s.work c.scan-count.ensures.entries c.serve_all.ensures.entries)
