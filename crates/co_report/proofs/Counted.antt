@@ -1,6 +1,8 @@
 -- The notes of each place, counted: how many there are, and that the position of each note is below that number.
-use Rattle.std.proofs.Common.{◌≡◌, ℕ, zero, suc, ◌+◌, ◌<◌, ◌≤◌, ◌==◌, Bool, true, cond, List, [], ◌∷◌, ◌++◌, length, get_or, refl, ap, sym, subst, ◌∙◌, arith, length-append}
+use Rattle.std.proofs.Common.{◌≡◌, ℕ, zero, suc, ◌+◌, ◌<◌, ◌≤◌, ◌==◌, Bool, true, cond, List, [], ◌∷◌, ◌++◌, map, take, drop, length, get_or, refl, ap, sym, subst, ◌∙◌, arith, length-append}
 use Rattle.std.specs.Prelude.{Some, slice_get}
+use Rattle.std.proofs.lemmas.Grind.{flat_map-append}
+use Rattle.std.proofs.lemmas.List.{map-append, take-append-drop}
 use Rattle.std.proofs.lemmas.List.Sums.{length-filter, sum_by-append}
 use Rattle.std.proofs.lemmas.Bool.Decides.{nat_tests}
 use Rattle.co_object.specs.declared.Note.{Note}
@@ -10,7 +12,8 @@ use Rattle.co_object.proofs.Passing.{passing, count-passing, passing-map}
 use Rattle.co_program.specs.declared.Script.{Script}
 use Rattle.co_report.specs.Histories.{Numbered, all_numbered_of}
 use Rattle.co_report.specs.Origins.{note_at}
-use Rattle.co_report.specs.Order.{place_index, count_in, all_of, ArePlaceCounts}
+use Rattle.co_report.specs.declared.order.Counted.{Counted}
+use Rattle.co_report.specs.Order.{place_index, place_count, count_in, all_of, spot_of, ArePlaceCounts, AreCounted}
 use Rattle.co_program.specs.Places.{place_exists, HavePlaces, AllHavePlaces}
 use Rattle.co_object.proofs.Members.{has-passing}
 use Rattle.co_report.proofs.Numbering.{note_of, numbered, all-notes-of, has-note}
@@ -59,6 +62,34 @@ count-all s p (notes ∷ lists) exists all =
 pub count-of : (s : Script) (lists : List (List Note)) (counts : List ℕ) (p : Place) → ArePlaceCounts s lists counts → AllHavePlaces s lists → place_exists s p ≡ true →
     get_or counts (place_index s p) 0 ≡ length (all_notes_of p lists)
 count-of s lists counts p are all exists = are.each (place_index s p) (index_below s p exists) ∙ count-all s p lists exists all
+
+-- what is counted of the lists up to one of them and of those behind it, together
+pub halves-counted : (s : Script) (lists : List (List Note)) (k : ℕ) (front back all : Counted)
+    → AreCounted s (take k lists) front → AreCounted s (drop k lists) back
+    → length all.counts ≡ length front.counts
+    → ((i : ℕ) → i < length front.counts → get_or all.counts i 0 ≡ get_or front.counts i 0 + get_or back.counts i 0)
+    → all.spots ≡ front.spots ++ back.spots → AreCounted s lists all
+halves-counted s lists k front back all before behind places each spots = record {
+  counts = record {
+    places = places ∙ before.counts.places;
+    each = λ i below. each i (omega (arith, below, before.counts.places)) ∙ sum i below;
+  };
+  spots = spots ∙ (cc (before.spots, behind.spots, both, split));
+}
+  where
+    split : take k lists ++ drop k lists ≡ lists
+    split = take-append-drop k lists
+
+    both : map (map (spot_of s)) (take k lists ++ drop k lists) ≡ map (map (spot_of s)) (take k lists) ++ map (map (spot_of s)) (drop k lists)
+    both = map-append (map (spot_of s)) (take k lists) (drop k lists)
+
+    sum : (i : ℕ) → i < place_count s → get_or front.counts i 0 + get_or back.counts i 0 ≡ count_in s i (all_of lists)
+    sum i below =
+        let one : count_in s i (all_of (take k lists) ++ all_of (drop k lists)) ≡ count_in s i (all_of (take k lists)) + count_in s i (all_of (drop k lists)) =
+        sum_by-append (λ (note : Note). cond (place_index s note.place == i) 1 0) (all_of (take k lists)) (all_of (drop k lists)) in
+        let all : all_of lists ≡ all_of (take k lists) ++ all_of (drop k lists) =
+        ap all_of (sym split) ∙ flat_map-append (λ (notes : List Note). notes) (take k lists) (drop k lists) in
+        omega (arith, one, ap (λ ns. count_in s i ns) all, before.counts.each i below, behind.counts.each i below)
 
 -- positions
 

@@ -6,6 +6,7 @@ pub mod ShownHistories
 pub mod Starts
 pub mod Written
 pub mod Counted
+pub mod Spots
 pub mod Room
 pub mod Shows
 pub mod SectionsWritten

@@ -1,6 +1,6 @@
 -- The origins of a place's notes show its history: at each position stands the origin of the one note that is there.
 use Rattle.std.proofs.Common.{◌≡◌, ℕ, suc, ◌+◌, ◌-◌, ◌<◌, ◌≤◌, true, inl, List, [], ◌∷◌, ◌++◌, map, length, get_or, take, drop, refl, ap, sym, subst, ◌∙◌, arith, get_or-drop, get_or-take, length-take, length-drop}
-use Rattle.std.specs.Prelude.{Option, Some, None, IsSome}
+use Rattle.std.specs.Prelude.{Option, Some, None, IsSome, slice_range}
 use Rattle.std.specs.List.{find, filter_map, cons_option, range_with_len}
 use Rattle.std.specs.Option.{option_map}
 use Rattle.co_object.specs.declared.Note.{Note}
@@ -9,6 +9,7 @@ use Rattle.co_object.specs.Lists.{same_place, all_notes_of, IsWellFormed}
 use Rattle.co_object.proofs.Numbers.{same_number, same_itself}
 use Rattle.co_object.proofs.Passing.{passing, count-passing}
 use Rattle.co_program.specs.declared.Script.{Script}
+use Rattle.co_report.specs.declared.order.Order.{Order}
 use Rattle.co_report.specs.declared.origin.Origin.{Origin}
 use Rattle.co_report.specs.Histories.{Numbered, shown, shown_at, shown_history, all_numbered_of}
 use Rattle.co_report.specs.declared.reading.notes.NumberedEntry.{NumberedEntry}
@@ -84,9 +85,15 @@ length-map : (xs : List Numbered) → length (map note_of xs) ≡ length xs
 length-map [] = refl
 length-map (x ∷ xs) = ap suc (length-map xs)
 
-module _ (s : Script) (lists : List (List Note)) (counts : List ℕ) (origins : List Origin)
-    (exist : AllHavePlaces s lists) (formed : IsWellFormed lists) (are : ArePlaceCounts s lists counts)
-    (w : AreWritten s lists (starts_from 0 counts) origins (length lists) 0) where
+module _ (s : Script) (lists : List (List Note)) (counts : List ℕ) (order : Order)
+    (exist : AllHavePlaces s lists) (formed : IsWellFormed lists) (are : ArePlaceCounts s lists counts) (begin : order.starts ≡ starts_from 0 counts)
+    (written : AreWritten s lists order.starts order.origins.items (length lists) 0) where
+  abbrev origins : List Origin
+  origins = order.origins.items
+
+  w : AreWritten s lists (starts_from 0 counts) origins (length lists) 0
+  w = subst (λ ss. AreWritten s lists ss origins (length lists) 0) begin written
+
   abbrev start_of : ℕ → ℕ
   start_of i = get_or (starts_from 0 counts) i 0
 
@@ -157,17 +164,24 @@ module _ (s : Script) (lists : List (List Note)) (counts : List ℕ) (origins : 
       ∙ ap (λ n. filter_map (shown_at (all_numbered_of p lists)) (range_with_len 0 n)) many
 
   abbrev origins_of : Place → List Origin
-  origins_of p = origins_in (record { starts = starts_from 0 counts; origins = origins }) (place_index s p)
+  origins_of p = origins_in order (place_index s p)
 
-  pub shows-histories : length origins ≡ start_of (length counts) → ShowsHistories s lists (record { starts = starts_from 0 counts; origins = origins })
+  pub shows-histories : length origins ≡ get_or order.starts (length counts) 0 → ShowsHistories s lists order
   shows-histories long = record {
-    count = omega (arith, length-starts 0 counts, are.places);
-    rises = λ i below. starts-upto 0 counts i (i + 1) (omega arith) (omega (arith, below, are.places));
-    within = λ i le. omega (arith, long, starts-upto 0 counts i (length counts) (omega (arith, le, are.places)) (omega arith));
+    count = omega (arith, ap length begin, length-starts 0 counts, are.places);
+    rises = λ i below. (
+        let rise : start_of i ≤ start_of (i + 1) = starts-upto 0 counts i (i + 1) (omega arith) (omega (arith, below, are.places)) in
+        omega (arith, rise, start-at i, start-at (i + 1)));
+    within = λ i le. (
+        let upto : start_of i ≤ start_of (length counts) = starts-upto 0 counts i (length counts) (omega (arith, le, are.places)) (omega arith) in
+        omega (arith, upto, long, start-at i, start-at (length counts)));
     entries = λ p hp. entries-shown lists (origins_of p) ∙ (ap (λ xs. map (λ shown. shown.entry) xs) (all p hp) ∙ histories_shown p lists);
     shows = λ p hp. lines-shown s lists (origins_of p) ∙ ap (λ xs. map (shown_words s) xs) (all p hp);
   }
     where
+      start-at : (i : ℕ) → get_or order.starts i 0 ≡ start_of i
+      start-at i = ap (λ ss. get_or ss i 0) begin
+
       all : (p : Place) → place_exists s p ≡ true → shown_in lists (origins_of p) ≡ shown_history lists p
       all p hp =
           let below : place_index s p < length counts = omega (arith, are.places, index_below s p hp) in
@@ -175,16 +189,7 @@ module _ (s : Script) (lists : List (List Note)) (counts : List ℕ) (origins : 
           next-start 0 counts (place_index s p) below ∙ ap (λ n. start_of (place_index s p) + n) (count-of s lists counts p are exist hp) in
           let count : start_of (place_index s p + 1) - start_of (place_index s p) ≡ length (all_notes_of p lists) = omega (arith, next) in
           let room : start_of (place_index s p) + length (all_notes_of p lists) ≤ length origins =
-          omega (arith, long, next, starts-upto 0 counts (place_index s p + 1) (length counts) (omega (arith, below)) (omega arith)) in
-          ap (λ n. shown_in lists (part (start_of (place_index s p)) n)) count ∙ part-shows p hp room
-
--- the same of starts that are those of the places' numbers of notes
-pub shows-with : (s : Script) (lists : List (List Note)) (counts starts : List ℕ) (origins : List Origin)
-    → AllHavePlaces s lists → IsWellFormed lists → ArePlaceCounts s lists counts → starts ≡ starts_from 0 counts
-    → AreWritten s lists starts origins (length lists) 0 → length origins ≡ get_or starts (length counts) 0
-    → ShowsHistories s lists (record { starts = starts; origins = origins })
-shows-with s lists counts starts origins exist formed are is w long =
-    subst (λ ss. ShowsHistories s lists (record { starts = ss; origins = origins })) (sym is)
-    (shows-histories s lists counts origins exist formed are
-    (subst (λ ss. AreWritten s lists ss origins (length lists) 0) is w)
-    (long ∙ ap (λ ss. get_or ss (length counts) 0) is))
+          omega (arith, long, start-at (length counts), next, starts-upto 0 counts (place_index s p + 1) (length counts) (omega (arith, below)) (omega arith)) in
+          ap (λ ss. shown_in lists (slice_range origins (get_or ss (place_index s p) 0) (get_or ss (place_index s p + 1) 0))) begin
+          ∙ ap (λ n. shown_in lists (part (start_of (place_index s p)) n)) count
+          ∙ part-shows p hp room

@@ -1,7 +1,7 @@
 -- Origins written one by one: what is written belongs where it stands, and the place of each note so far is taken.
 use Rattle.std.proofs.Common.{◌≡◌, ◌≢◌, ℕ, zero, suc, ◌+◌, ◌<◌, ◌≤◌, inl, inr, List, length, get_or, set, replicate, refl, ap, sym, subst, ◌∙◌, arith, get_or-set_same, get_or-set_other}
 use Rattle.std.specs.Prelude.{Option, Some, None, IsSome, option_and_then, slice_get}
-use Rattle.std.proofs.lemmas.Option.{slice_get_within, slice_get_past, slice_get_read}
+use Rattle.std.proofs.lemmas.Option.{slice_get_within, slice_get_past}
 use Rattle.std.proofs.lemmas.Bool.{cases_eq}
 use Rattle.co_object.specs.declared.Note.{Note}
 use Rattle.co_program.specs.declared.Script.{Script}
@@ -26,13 +26,6 @@ none-written s lists starts n = record {
   belong = λ q note at. (let none : note_behind lists (replicate n (nowhere lists)) q ≡ None = ap (note_from lists) (get-filled n q (nowhere lists)) ∙ no-note lists 0 in cc);
   taken = λ a k note before at. elim before [ inl less ↦ absurd (omega arith) | inr here ↦ absurd (omega (arith, here.1)) ];
 }
-
--- a note that is read from its list
-pub note-read : (lists : List (List Note)) (a i : ℕ) (row notes : List Note) (n : Note)
-    → a < length lists → row ≡ get_or lists a row → notes ≡ row → i < length notes → n ≡ get_or notes i n → note_at lists a i ≡ Some n
-note-read lists a i row notes n in_lists is_row is_notes in_notes is =
-    ap (λ o. option_and_then (λ ns. slice_get ns i) o) (slice_get_read lists (length lists) a row refl in_lists is_row)
-    ∙ (ap (λ ns. slice_get ns i) (sym is_notes) ∙ slice_get_read notes (length notes) i n refl in_notes is)
 
 abbrev some_or : Note → Option Note → Note
 some_or d None = d
@@ -81,15 +74,15 @@ module _ (s : Script) (lists : List (List Note)) (starts : List ℕ) (origins : 
 
 -- after the last note of a list
 pub list-written : (s : Script) (lists : List (List Note)) (starts : List ℕ) (origins : List Origin) (a i : ℕ) (row : List Note)
-    → a < length lists → row ≡ get_or lists a row → length row ≤ i → AreWritten s lists starts origins a i → AreWritten s lists starts origins (a + 1) 0
-list-written s lists starts origins a i row in_lists is_row past w = record {
+    → slice_get lists a ≡ Some row → length row ≤ i → AreWritten s lists starts origins a i → AreWritten s lists starts origins (a + 1) 0
+list-written s lists starts origins a i row is_row past w = record {
   belong = w.belong;
   taken = λ b k m before there. elim before [ inl less ↦ taken b k m less there | inr h ↦ absurd (omega (arith, h.1)) ];
 }
   where
     within : (k : ℕ) (m : Note) → note_at lists a k ≡ Some m → k < i
     within k m there =
-        let at : slice_get row k ≡ Some m = sym (ap (λ o. option_and_then (λ ns. slice_get ns k) o) (slice_get_read lists (length lists) a row refl in_lists is_row)) ∙ there in
+        let at : slice_get row k ≡ Some m = sym (ap (λ o. option_and_then (λ ns. slice_get ns k) o) is_row) ∙ there in
         omega (arith, slice_get_within row k m at)
 
     taken : (b k : ℕ) (m : Note) → b < a + 1 → note_at lists b k ≡ Some m → IsSome (note_behind lists origins (location s starts m))

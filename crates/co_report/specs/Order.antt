@@ -7,6 +7,8 @@ use Rattle.co_object.specs.Lists.{history}
 use Rattle.co_program.specs.declared.Script.{Script}
 use Rattle.co_report.specs.declared.origin.Origin.{Origin}
 use Rattle.co_report.specs.declared.order.Order.{Order}
+use Rattle.co_report.specs.declared.order.Spot.{Spot}
+use Rattle.co_report.specs.declared.order.Counted.{Counted}
 use Rattle.co_report.specs.Origins.{note_at, note_from, entries_from, lines_from}
 use Rattle.co_report.specs.Histories.{shown_history}
 use Rattle.co_report.specs.Reports.{shown_words}
@@ -24,6 +26,15 @@ all_of lists = flat_map (λ notes. notes) lists
 pub record ArePlaceCounts (s : Script) (lists : List (List Note)) (counts : List ℕ) : Type 0 where
   pub places : length counts ≡ place_count s
   pub each : (i : ℕ) → i < place_count s → slice_index counts i ≡ count_in s i (all_of lists)
+
+-- where a note belongs
+abbrev pub spot_of : Script → Note → Spot
+spot_of s note = record { place = place_index s note.place; pos = note.pos }
+
+-- this was counted of these lists: how many notes each place has, and where each note belongs
+pub record AreCounted (s : Script) (lists : List (List Note)) (counted : Counted) : Type 0 where
+  pub counts : ArePlaceCounts s lists counted.counts
+  pub spots : counted.spots ≡ map (map (spot_of s)) lists
 
 -- where runs of these lengths begin, one behind the other, and where the last one ends
 abbrev pub starts_from : ℕ → List ℕ → List ℕ
@@ -58,13 +69,13 @@ pub record AreWritten (s : Script) (lists : List (List Note)) (starts : List ℕ
 
 -- the origins of the notes of the place of this number
 abbrev pub origins_in : Order → ℕ → List Origin
-origins_in order i = slice_range order.origins (slice_index order.starts i) (slice_index order.starts (i + 1))
+origins_in order i = slice_range order.origins.items (slice_index order.starts i) (slice_index order.starts (i + 1))
 
 -- the order shows the history of each place
 pub record ShowsHistories (s : Script) (lists : List (List Note)) (order : Order) : Type 0 where
   pub count : length order.starts ≡ place_count s + 1
   pub rises : (i : ℕ) → i < place_count s → slice_index order.starts i ≤ slice_index order.starts (i + 1)
-  pub within : (i : ℕ) → i ≤ place_count s → slice_index order.starts i ≤ length order.origins
+  pub within : (i : ℕ) → i ≤ place_count s → slice_index order.starts i ≤ length order.origins.items
   -- the entries of each place's notes are its history
   pub entries : (p : Place) → place_exists s p ≡ true → entries_from lists (origins_in order (place_index s p)) ≡ history p lists
   -- and their lines those that a report shows of it

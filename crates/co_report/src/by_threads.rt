@@ -5,12 +5,13 @@ ghost use Rattle.co_text.specs.Lines.{text};
 ghost use Rattle.co_object.specs.Lists.{IsWellFormed};
 ghost use Rattle.co_program.specs.Places.{AllHavePlaces};
 ghost use Rattle.co_report.specs.Reports.{lines_between, head_text, report_of};
-ghost use Rattle.co_report.specs.Order.{place_count};
+ghost use Rattle.co_report.specs.Order.{place_count, ShowsHistories};
 ghost use denote.Param.Send.{IsSync};
 
-use crate::counting::counts_by_threads;
-use crate::frame::{append, head_piece, in_frame};
-use crate::order::order_from;
+use crate::counting::count_by_threads;
+use crate::frame::{head_piece, in_frame};
+use crate::joining::append;
+use crate::order::{Order, order_from};
 use crate::report::Printing;
 use co_packed::PackedNote;
 use co_program::Script;
@@ -74,6 +75,21 @@ fn print_halves<R: Threads + Sync>(
     Ok(pieces)
 }
 
+/// The order of the notes, which threads count. What was counted goes with the call.
+fn order_by_threads<R: Threads + Sync>(
+    rt: &R,
+    alloc: Global,
+    script: &Script,
+    lists: &[Seq<PackedNote>],
+) -> Result<Order, NoMemory>
+    requires places { AllHavePlaces script.now lists.now }
+    requires formed { IsWellFormed lists.now }
+    ensures { IfOk result (λ order. ShowsHistories script.now lists.now order) }
+{
+    let counted = count_by_threads(rt, alloc, script, lists)?;
+    order_from(alloc, script, lists, &counted)
+}
+
 /// All places in pieces, once their notes are in order.
 fn print_all_places<R: Threads + Sync>(
     rt: &R,
@@ -86,16 +102,16 @@ fn print_all_places<R: Threads + Sync>(
     ensures { IfOk result (λ parts. concat parts ≡ text (lines_between script.now lists.now 0 (place_count script.now))) }
 {
     let lists = lists.as_slice();
-    let counts = counts_by_threads(rt, alloc, script, lists)?;
-    let order = order_from(alloc, script, lists, counts.as_slice())?;
+    let order = order_by_threads(rt, alloc, script, lists)?;
     let printing = Printing::in_order(script, lists, order);
     print_halves(rt, alloc, &printing, 0, printing.place_count(), HALVINGS)
 }
 
 /// The report of a script and the lists of its actors' notes, as `print_report` gives it, in pieces: joined they are the
 /// report. A thread of its own prints the lines before the first place; beside it up to 8 threads count the notes of each
-/// place, each those of some lists, the notes are put into order by these numbers, and then up to 8 threads print parts
-/// beside each other, each the notes of some places. Where no thread can be had all of this is done one after the other.
+/// place and write down where each note belongs, each those of some lists, the notes are put into order by what these
+/// wrote, and then up to 8 threads print parts beside each other, each the notes of some places. Where no thread can be had
+/// all of this is done one after the other.
 /// NoMemory where a part finds no memory, and where `print_report` gives it.
 pub fn print_by_threads<R: Threads + Sync>(
     rt: &R,

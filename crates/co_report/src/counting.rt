@@ -1,10 +1,11 @@
-//! The numbers of notes of the places, which threads count beside each other.
-ghost use Rattle.std.specs.Prelude.{◌≡◌, ◌<◌, ◌+◌, ℕ, length, slice_index, OnOk, IfOk};
+//! The numbers of notes of the places, and where each note belongs, which threads count beside each other.
+ghost use Rattle.std.specs.Prelude.{◌≡◌, ◌<◌, ◌+◌, ◌++◌, ℕ, length, slice_index, OnOk, IfOk};
 ghost use Rattle.co_program.specs.Places.{AllHavePlaces};
-ghost use Rattle.co_report.specs.Order.{ArePlaceCounts};
+ghost use Rattle.co_report.specs.Order.{AreCounted};
 ghost use denote.Param.Send.{IsSync};
 
-use crate::order::counts_of;
+use crate::joining::append;
+use crate::order::{Counted, count_lists};
 use co_packed::PackedNote;
 use co_program::Script;
 use co_sbt::{NoMemory, Seq};
@@ -29,8 +30,24 @@ fn add_counts(counts: &mut Seq<usize>, more: &[usize]) -> Result<(), NoMemory>
     Ok(())
 }
 
-/// The number of notes of each place. The lists are halved this often, and the halves are counted beside each other, the
-/// first one in a thread of its own where one can be had.
+/// What is counted of the lists in front and of those behind them, together. `NoMemory` where there is no room for it.
+fn joined(front: Counted, back: Counted) -> Result<Counted, NoMemory>
+    requires { length back.counts ≡ length front.counts }
+    ensures length { IfOk result (λ all. length all.counts ≡ length front.counts) }
+    ensures each { IfOk result (λ all. (i : ℕ) → i < length front.counts → slice_index all.counts i ≡ slice_index front.counts i + slice_index back.counts i) }
+    ensures spots { IfOk result (λ all. all.spots ≡ front.spots ++ back.spots) }
+{
+    let Counted {
+        mut counts,
+        mut spots,
+    } = front;
+    add_counts(&mut counts, back.counts.as_slice())?;
+    append(&mut spots, back.spots)?;
+    Ok(Counted { counts, spots })
+}
+
+/// What `count_lists` gives. The lists are halved this often, and the halves are counted beside each other, the first one
+/// in a thread of its own where one can be had.
 #[cycle(counted)]
 fn count_halves<R: Threads + Sync>(
     rt: &R,
@@ -38,40 +55,41 @@ fn count_halves<R: Threads + Sync>(
     script: &Script,
     lists: &[Seq<PackedNote>],
     halvings: u32,
-) -> Result<Seq<usize>, NoMemory>
+) -> Result<Counted, NoMemory>
     requires { AllHavePlaces script.now lists.now }
-    ensures { IfOk result (λ counts. ArePlaceCounts script.now lists.now counts) }
+    ensures { IfOk result (λ counted. AreCounted script.now lists.now counted) }
 {
     if halvings == 0 || lists.len() < 2 {
-        return counts_of(alloc, script, lists);
+        return count_lists(alloc, script, lists);
     }
     let (first, second) = lists.split_at(lists.len() / 2);
     let left = halvings - 1;
-    let front = || -> Result<Seq<usize>, NoMemory>
+    let front = || -> Result<Counted, NoMemory>
         requires { IsSync R.row × AllHavePlaces script.now first.now }
-        ensures { IfOk result (λ counts. ArePlaceCounts script.entry.now first.entry.now counts) }
+        ensures { IfOk result (λ counted. AreCounted script.entry.now first.entry.now counted) }
     { count_halves(rt, alloc, script, first, left) };
-    let back = || -> Result<Seq<usize>, NoMemory>
+    let back = || -> Result<Counted, NoMemory>
         requires { IsSync R.row × AllHavePlaces script.now second.now }
-        ensures { IfOk result (λ counts. ArePlaceCounts script.entry.now second.entry.now counts) }
+        ensures { IfOk result (λ counted. AreCounted script.entry.now second.entry.now counted) }
     { count_halves(rt, alloc, script, second, left) };
     let (before, behind) = join(rt, front, back);
-    let mut counts = before?;
+    let counted = before?;
     let more = behind?;
-    add_counts(&mut counts, more.as_slice())?;
-    Ok(counts)
+    let all = joined(counted, more)?;
+    Ok(all)
 }
 
-/// The number of notes of each place, as `counts_of` gives it: up to 8 threads count some lists each. `NoMemory` where
-/// the numbers find no memory.
-pub(crate) fn counts_by_threads<R: Threads + Sync>(
+/// The number of notes of each place and where each note belongs, as `count_lists` gives it: up to 8 threads count some
+/// lists each. `NoMemory` where there is no room for what is counted, and where the number of a note's place or its
+/// position is 2^32 or more.
+pub(crate) fn count_by_threads<R: Threads + Sync>(
     rt: &R,
     alloc: Global,
     script: &Script,
     lists: &[Seq<PackedNote>],
-) -> Result<Seq<usize>, NoMemory>
+) -> Result<Counted, NoMemory>
     requires { AllHavePlaces script.now lists.now }
-    ensures { IfOk result (λ counts. ArePlaceCounts script.now lists.now counts) }
+    ensures { IfOk result (λ counted. AreCounted script.now lists.now counted) }
 {
     count_halves(rt, alloc, script, lists, HALVINGS)
 }

@@ -7,6 +7,7 @@ ghost use Rattle.co_grammar.specs.Spelling.{numbered};
 ghost use Rattle.co_script.specs.Canonical.{canonical};
 ghost use Rattle.co_report.specs.Reports.{heading, head_text};
 
+use crate::joining::append;
 use co_grammar::{actor_name, print_numbered};
 use co_object::Place;
 use co_program::Script;
@@ -46,16 +47,6 @@ pub fn print_head(page: &mut Page, script: &Script) -> Result<(), NoMemory>
     print_numbered(page, b"callout-report".as_slice(), 1)?;
     print_lines(page, script)?;
     print_word(page, b"histories".as_slice())?;
-    Ok(())
-}
-
-/// Appends pieces of a text, none of which is copied. `NoMemory` where there is no room for them.
-pub fn append(pieces: &mut Seq<Seq<u8>>, more: Seq<Seq<u8>>) -> Result<(), NoMemory>
-    ensures { OnOk result (pieces.new ≡ pieces.old ++ more) }
-{
-    for piece in more.into_vec() {
-        pieces.push(piece)?;
-    }
     Ok(())
 }
 

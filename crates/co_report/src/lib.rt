@@ -4,6 +4,7 @@
 mod by_threads;
 mod counting;
 mod frame;
+mod joining;
 pub mod laws;
 mod line;
 mod listening;

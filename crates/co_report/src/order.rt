@@ -1,16 +1,35 @@
 //! The notes of all lists, place by place and in each place by position: counted first, then put where they belong.
-ghost use Rattle.std.specs.Prelude.{◌≡◌, ◌≤◌, ◌<◌, ◌+◌, ◌^◌, ℕ, true, length, slice_index, OnOk, IfOk};
+//!
+//! A note takes 88 bytes, and is read from memory once: as it is counted the 8 bytes are written down that say where it
+//! belongs, and the rest is done with these.
+ghost use Rattle.std.specs.Prelude.{◌≡◌, ◌≤◌, ◌<◌, ◌+◌, ◌^◌, ℕ, length, map, replicate, slice_index, OnOk, IfOk};
 ghost use Rattle.co_object.specs.Lists.{IsWellFormed};
-ghost use Rattle.co_program.specs.Places.{place_exists, HavePlaces, AllHavePlaces};
-ghost use Rattle.co_report.specs.Order.{place_index, place_count, count_in, ArePlaceCounts, starts_from, HasRoomForOrigins, location, AreWritten, origins_in, ShowsHistories};
+ghost use Rattle.co_program.specs.Places.{HavePlaces, AllHavePlaces};
+ghost use Rattle.co_report.specs.Order.{place_index, place_count, count_in, spot_of, AreCounted, starts_from, HasRoomForOrigins, AreWritten, origins_in, ShowsHistories};
 
 use crate::origin::Origin;
 use crate::packing::packed_lists;
 use co_object::Note;
 use co_packed::PackedNote;
 use co_program::{Script, place_index};
-use co_sbt::{NoMemory, Seq};
+use co_sbt::{NoMemory, Room, Seq};
 use std::alloc::Global;
+
+/// Where a note belongs in a report: the number of its place, and its position there.
+#[derive(Clone, Copy)]
+pub(crate) struct Spot {
+    place: u32,
+    pos: u32,
+}
+
+/// What was counted of lists of notes.
+#[derive(Drop)]
+pub(crate) struct Counted {
+    /// The number of notes of each place.
+    pub(crate) counts: Seq<usize>,
+    /// Where each note of each list belongs.
+    pub(crate) spots: Seq<Seq<Spot>>,
+}
 
 /// The notes of all lists, in the report's order.
 #[derive(Drop)]
@@ -18,7 +37,7 @@ pub struct Order {
     /// Where the notes of each place begin, and behind the last place the end.
     starts: Seq<usize>,
     /// The origins of all notes, place by place, and in each place by position.
-    origins: Seq<Origin>,
+    origins: Vec<Origin>,
 }
 
 impl Order {
@@ -34,7 +53,7 @@ impl Order {
     pub fn of_place(&self, place: usize) -> &[Origin]
         requires place { place + 1 < length self.now.starts }
         requires rises { slice_index self.now.starts place ≤ slice_index self.now.starts (place + 1) }
-        requires within { slice_index self.now.starts (place + 1) ≤ length self.now.origins }
+        requires within { slice_index self.now.starts (place + 1) ≤ length self.now.origins.items }
         ensures { result.now ≡ origins_in self.now place }
     {
         let starts = self.starts.as_slice();
@@ -79,12 +98,21 @@ fn place_count(script: &Script) -> Result<usize, NoMemory>
     }
 }
 
-/// The number of a note's place among those of a report.
-fn place_number(script: &Script, note: &PackedNote) -> usize
-    requires { place_index script.now note.now.place < 2 ^ 64 }
-    ensures { result ≡ place_index script.now note.now.place }
+/// A number of 32 bits. NoMemory from 2^32 on: so many notes, places or actors find no memory.
+pub fn short(number: usize) -> Result<u32, NoMemory>
+    ensures { IfOk result (λ short. short ≡ number) }
 {
-    place_index(script, note.place())
+    u32::try_from(number).map_err(|_| NoMemory {})
+}
+
+/// Where a note belongs. `NoMemory` where the number of its place or its position is 2^32 or more.
+fn spot_of(script: &Script, note: &PackedNote) -> Result<Spot, NoMemory>
+    requires { place_index script.now note.now.place < 2 ^ 64 }
+    ensures { IfOk result (λ spot. spot ≡ spot_of script.now note.now) }
+{
+    let place = short(place_index(script, note.place()))?;
+    let pos = short(note.pos() as usize)?;
+    Ok(Spot { place, pos })
 }
 
 /// One more than a count.
@@ -94,40 +122,49 @@ fn next(count: usize) -> Result<usize, NoMemory>
     count.checked_add(1).ok_or(NoMemory {})
 }
 
-/// Adds the numbers of an actor's notes to those of the places.
+/// Adds the numbers of an actor's notes to those of the places, and gives where each of these notes belongs. `NoMemory`
+/// where that is at a place's number or a position of 2^32 or more.
 fn count_list(
+    alloc: Global,
     script: &Script,
     counts: &mut Seq<usize>,
     notes: &[PackedNote],
-) -> Result<(), NoMemory>
+) -> Result<Seq<Spot>, NoMemory>
     requires places { length counts.old ≡ place_count script.now }
     requires exist { HavePlaces script.now notes.now }
     ensures places { OnOk result (length counts.new ≡ place_count script.now) }
     ensures each { OnOk result ((i : ℕ) → i < place_count script.now → slice_index counts.new i ≡ slice_index counts.old i + count_in script.now i notes.now) }
+    ensures spots { IfOk result (λ spots. spots ≡ map (spot_of script.now) notes.now) }
 {
+    let mut spots = Room::from_seq(Seq::new(alloc));
+    spots.reserve(notes.len())?;
     for note in notes {
         let counted = counts.as_slice();
-        let place = place_number(script, note);
+        let spot = spot_of(script, note)?;
+        let place = spot.place as usize;
         let count = next(counted[place])?;
         counts.replace(place, count);
+        spots.push(spot);
     }
-    Ok(())
+    Ok(spots.into_seq())
 }
 
-/// The number of notes of each place.
-pub(crate) fn counts_of(
+/// The number of notes of each place, and where each note belongs. `NoMemory` where there is no room for them, and where
+/// the number of a note's place or its position is 2^32 or more.
+pub(crate) fn count_lists(
     alloc: Global,
     script: &Script,
     lists: &[Seq<PackedNote>],
-) -> Result<Seq<usize>, NoMemory>
+) -> Result<Counted, NoMemory>
     requires { AllHavePlaces script.now lists.now }
-    ensures { IfOk result (λ counts. ArePlaceCounts script.now lists.now counts) }
+    ensures { IfOk result (λ counted. AreCounted script.now lists.now counted) }
 {
     let mut counts = Seq::filled(alloc, place_count(script)?, 0)?;
+    let mut spots = Seq::new(alloc);
     for notes in lists {
-        count_list(script, &mut counts, notes.as_slice())?;
+        spots.push(count_list(alloc, script, &mut counts, notes.as_slice())?)?;
     }
-    Ok(counts)
+    Ok(Counted { counts, spots })
 }
 
 /// Where the notes of each place begin, and behind the last place the end.
@@ -144,42 +181,52 @@ fn starts_of(alloc: Global, counts: &[usize]) -> Result<Seq<usize>, NoMemory>
     Ok(starts)
 }
 
-/// Where a note's origin stands.
-fn location(script: &Script, starts: &[usize], note: &PackedNote) -> usize
-    requires places { length starts.now ≡ place_count script.now + 1 }
-    requires exists { place_exists script.now note.now.place ≡ true }
-    requires fits { location script.now starts.now note.now < 2 ^ 64 }
-    ensures { result ≡ location script.now starts.now note.now }
+/// Where the origin of the note of a spot stands.
+fn location(starts: &[usize], spot: &Spot) -> usize
+    requires exists { spot.now.place < length starts.now }
+    requires fits { slice_index starts.now spot.now.place + spot.now.pos < 2 ^ 64 }
+    ensures { result ≡ slice_index starts.now spot.now.place + spot.now.pos }
 {
-    starts[place_number(script, note)] + note.pos() as usize
+    starts[spot.place as usize] + spot.pos as usize
 }
 
-/// A number of 32 bits. NoMemory from 2^32 on: so many notes or actors find no memory.
-pub fn short(number: usize) -> Result<u32, NoMemory>
-    ensures { IfOk result (λ short. short ≡ number) }
+/// Room for so many origins, where nothing is written yet: no actor has the number that stands there.
+fn no_origins(alloc: Global, actors: u32, room: usize) -> Result<Vec<Origin>, NoMemory>
+    ensures { IfOk result (λ origins. origins.items ≡ replicate room (record { actor = actors; number = 0 })) }
 {
-    u32::try_from(number).map_err(|_| NoMemory {})
+    let nowhere = Origin {
+        actor: actors,
+        number: 0,
+    };
+    match vec![in alloc; nowhere; room] {
+        Ok(origins) => Ok(origins),
+        Err(_) => Err(NoMemory {}),
+    }
 }
 
-/// Writes the origins of an actor's notes where they belong.
+/// Writes the origins of an actor's notes where they belong, which the spots say: no note is looked at.
 fn write_list(
     script: &Script,
     lists: &[Seq<PackedNote>],
+    spots: &[Seq<Spot>],
     starts: &[usize],
-    origins: &mut Seq<Origin>,
+    origins: &mut [Origin],
     actor: u32,
 ) -> Result<(), NoMemory>
     requires actor { actor < length lists.now }
+    requires spots { spots.now ≡ map (map (spot_of script.now)) lists.now }
     requires room { HasRoomForOrigins script.now lists.now starts.now (length origins.old) }
     requires written { AreWritten script.now lists.now starts.now origins.old actor 0 }
     ensures length { OnOk result (length origins.new ≡ length origins.old) }
     ensures written { OnOk result (AreWritten script.now lists.now starts.now origins.new (actor + 1) 0) }
 {
-    let notes = lists[actor as usize].as_slice();
-    for i in 0..notes.len() {
-        let number = short(i)?;
-        let at = location(script, starts, &notes[i]);
-        origins.replace(at, Origin { actor, number });
+    let _ = script;
+    let _ = lists;
+    let listed = spots[actor as usize].as_slice();
+    let count = short(listed.len())?;
+    for number in 0..count {
+        let at = location(starts, &listed[number as usize]);
+        origins[at] = Origin { actor, number };
     }
     Ok(())
 }
@@ -189,42 +236,40 @@ fn origins_of(
     alloc: Global,
     script: &Script,
     lists: &[Seq<PackedNote>],
+    spots: &[Seq<Spot>],
     starts: &[usize],
     room: usize,
-) -> Result<Seq<Origin>, NoMemory>
-    requires { HasRoomForOrigins script.now lists.now starts.now room }
-    ensures length { IfOk result (λ origins. length origins ≡ room) }
-    ensures written { IfOk result (λ origins. AreWritten script.now lists.now starts.now origins (length lists.now) 0) }
+) -> Result<Vec<Origin>, NoMemory>
+    requires spots { spots.now ≡ map (map (spot_of script.now)) lists.now }
+    requires room { HasRoomForOrigins script.now lists.now starts.now room }
+    ensures length { IfOk result (λ origins. length origins.items ≡ room) }
+    ensures written { IfOk result (λ origins. AreWritten script.now lists.now starts.now origins.items (length lists.now) 0) }
 {
     let actors = short(lists.len())?;
-    // No actor has this number: nothing is written yet.
-    let nowhere = Origin {
-        actor: actors,
-        number: 0,
-    };
-    let mut origins = Seq::filled(alloc, room, nowhere)?;
+    let mut origins = no_origins(alloc, actors, room)?;
     for actor in 0..actors {
-        write_list(script, lists, starts, &mut origins, actor)?;
+        write_list(script, lists, spots, starts, origins.as_mut_slice(), actor)?;
     }
     Ok(origins)
 }
 
-/// The order of packed notes whose numbers are counted.
+/// The order of packed notes that are counted.
 pub(crate) fn order_from(
     alloc: Global,
     script: &Script,
     lists: &[Seq<PackedNote>],
-    counts: &[usize],
+    counted: &Counted,
 ) -> Result<Order, NoMemory>
     requires places { AllHavePlaces script.now lists.now }
     requires formed { IsWellFormed lists.now }
-    requires counts { ArePlaceCounts script.now lists.now counts.now }
+    requires counted { AreCounted script.now lists.now counted.now }
     ensures { IfOk result (λ order. ShowsHistories script.now lists.now order) }
 {
+    let counts = counted.counts.as_slice();
     let starts = starts_of(alloc, counts)?;
     let from = starts.as_slice();
     let room = from[counts.len()];
-    let origins = origins_of(alloc, script, lists, from, room)?;
+    let origins = origins_of(alloc, script, lists, counted.spots.as_slice(), from, room)?;
     Ok(Order { starts, origins })
 }
 
@@ -238,14 +283,15 @@ pub(crate) fn packed_order(
     requires formed { IsWellFormed lists.now }
     ensures { IfOk result (λ order. ShowsHistories script.now lists.now order) }
 {
-    let counts = counts_of(alloc, script, lists)?;
-    order_from(alloc, script, lists, counts.as_slice())
+    let counted = count_lists(alloc, script, lists)?;
+    order_from(alloc, script, lists, &counted)
 }
 
 /// The notes of all lists, in the report's order: place by place, and in each place by position. It takes time and memory
 /// in proportion to the notes and the places, and no sorting. The notes are packed first.
 ///
-/// NoMemory where the order finds no memory, or has more than 2^32 notes of one actor.
+/// NoMemory where the order finds no memory, has more than 2^32 notes of one actor, or has a note at a position or in a
+/// place whose number is 2^32 or more.
 pub fn order_of(alloc: Global, script: &Script, lists: &[Seq<Note>]) -> Result<Order, NoMemory>
     requires places { AllHavePlaces script.now lists.now }
     requires formed { IsWellFormed lists.now }

@@ -46,8 +46,8 @@ pub struct Printing<'a> {
 }
 
 impl<'a> Printing<'a> {
-    /// What is printed of these notes. `NoMemory` where their order finds no memory, or has more than 2^32 notes of one
-    /// actor.
+    /// What is printed of these notes. `NoMemory` where their order finds no memory, has more than 2^32 notes of one
+    /// actor, or has a note at a position or in a place whose number is 2^32 or more.
     pub fn new(
         alloc: Global,
         script: &'a Script,

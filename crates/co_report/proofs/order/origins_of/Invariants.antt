@@ -5,6 +5,6 @@ use Rattle.co_report.proofs.order.origins_of.Given as goal
 -- the origins of the notes of the first actors are written
 abbrev pub invariant-loop-actor : goal.invariant-loop-actor
 invariant-loop-actor l = record {
-  length : length l.origins ≡ l.room;
-  written : AreWritten l.script l.lists l.starts l.origins l.actor 0;
+  length : length l.origins.items ≡ l.room;
+  written : AreWritten l.script l.lists l.starts l.origins.items l.actor 0;
 }
