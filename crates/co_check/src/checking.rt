@@ -2,6 +2,7 @@
 ghost use Rattle.std.specs.Prelude.{◌≡◌, ◌≤◌, ◌||◌, not, length, map, IfOk};
 ghost use Rattle.co_program.specs.Actors.{actor_count};
 ghost use Rattle.co_program.specs.Scripts.{IsScript};
+ghost use Rattle.co_report.specs.PackedLines.{note_from_line};
 ghost use Rattle.co_check.specs.Astray.{seen_lines};
 ghost use Rattle.co_check.specs.Hearing.{ComesTo};
 ghost use Rattle.co_check.specs.Index.{IsIndexed};
@@ -16,6 +17,7 @@ use crate::index::{Index, Indexed, index_all};
 use crate::replayed::ReplayedReport;
 use crate::verdict::{Unfit, Verdict};
 use crate::walk::{Walked, is_finished, walk};
+use co_object::Note;
 use co_program::{Script, actor_count};
 use co_report::{Line, PackedLines, Report};
 use co_sbt::NoMemory;
@@ -50,6 +52,17 @@ pub fn check_replayed(alloc: Global, report: &ReplayedReport) -> Result<Verdict,
     )
 }
 
+/// The note that a line shows, with its number as the position.
+fn note_in(line: &Line) -> Note
+    ensures { result ≡ note_from_line line.now }
+{
+    Note {
+        place: line.place,
+        pos: line.number,
+        entry: line.entry,
+    }
+}
+
 /// These lines in few bytes, and what they come to.
 fn replayed(
     alloc: Global,
@@ -61,7 +74,7 @@ fn replayed(
 {
     let mut heard = Heard::open(alloc, script)?;
     for line in lines {
-        heard.take(line)?;
+        heard.take(line.line, &note_in(line))?;
     }
     Ok(heard.ended())
 }

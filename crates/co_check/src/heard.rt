@@ -1,17 +1,18 @@
 //! The note lines of a report as they are read: packed, and replayed, each in the history of its place.
-ghost use Rattle.std.specs.Prelude.{◌≡◌, ◌++◌, ◌∷◌, [], None, List, Decides, OnOk, IfOk};
+ghost use Rattle.std.specs.Prelude.{◌≡◌, ◌++◌, ◌∷◌, [], ℕ, None, List, Decides, OnOk, IfOk};
 ghost use Rattle.co_program.specs.declared.script.Script.{Script as Scripts};
 ghost use Rattle.co_program.specs.Scripts.{IsScript};
 ghost use Rattle.co_report.specs.declared.line.Line.{Line};
+ghost use Rattle.co_report.specs.PackedLines.{line_of};
 ghost use Rattle.co_check.specs.Hearing.{ComesTo, IsHeard, IsSoFar};
 ghost use Rattle.co_check.specs.Lines.{IsLineOf, IsOfKind, NamesExist};
 
 use crate::fact::PackedFact;
 use crate::replaying::Replaying;
 use crate::verdict::Unfit;
-use co_object::{AnyEntry, Place, QOp};
+use co_object::{AnyEntry, Note, Place, QOp};
 use co_program::{Script, actor_count, place_exists};
-use co_report::{Line, LineListener, PackedLines, Subject};
+use co_report::{LineListener, PackedLines, Subject};
 use co_sbt::NoMemory;
 use std::alloc::Global;
 use std::marker::PhantomData;
@@ -95,14 +96,14 @@ fn names_exist(script: &Script, entry: &AnyEntry) -> bool
 }
 
 /// Whether the line is one of the script.
-fn is_line_of(script: &Script, line: &Line) -> bool
+fn is_line_of(script: &Script, note: &Note) -> bool
     requires { IsScript script.now }
-    ensures { Decides result (IsLineOf script.now line.now) }
+    ensures { (line : ℕ) → Decides result (IsLineOf script.now (line_of line note.now)) }
 {
-    place_exists(script, line.place)
-        && is_of_kind(line.place, &line.entry)
-        && line.entry.actor() < actor_count(script)
-        && names_exist(script, &line.entry)
+    place_exists(script, note.place)
+        && is_of_kind(note.place, &note.entry)
+        && note.entry.actor() < actor_count(script)
+        && names_exist(script, &note.entry)
 }
 
 impl<'a> Heard<'a> {
@@ -121,52 +122,49 @@ impl<'a> Heard<'a> {
     }
 
     /// Replays the next line, where none was bad before. The answer is what is wrong with it, if something is.
-    fn replay_next(&mut self, line: &Line) -> Result<Option<BadLine>, NoMemory>
+    fn replay_next(&mut self, line: u64, note: &Note) -> Result<Option<BadLine>, NoMemory>
         requires heard { (s : Scripts) × (lines : List Line) × IsHeard s lines self.old }
         requires fits { self.old.bad ≡ None }
         ensures script { self.new.script ≡ self.old.script }
         ensures lines { self.new.lines ≡ self.old.lines }
-        ensures replayed { IfOk result (λ bad. (s : Scripts) (lines : List Line) → IsHeard s lines self.old → IsSoFar s (lines ++ line.now ∷ []) self.new.replaying bad) }
+        ensures replayed { IfOk result (λ bad. (s : Scripts) (lines : List Line) → IsHeard s lines self.old → IsSoFar s (lines ++ line_of line note.now ∷ []) self.new.replaying bad) }
     {
         // A reader tells such lines alone, which no contract of a listener asks of it.
-        if LINES_MAX <= self.lines.len() || !is_line_of(self.script, line) {
+        if LINES_MAX <= self.lines.len() || !is_line_of(self.script, note) {
             return Ok(Some(BadLine {
-                line: line.line,
+                line,
                 cause: Unfit::Illegal,
             }));
         }
-        match self.replaying.take(self.script, line)? {
-            Some(cause) => Ok(Some(BadLine {
-                line: line.line,
-                cause,
-            })),
+        match self.replaying.take(self.script, note)? {
+            Some(cause) => Ok(Some(BadLine { line, cause })),
             None => Ok(None),
         }
     }
 
     /// Replays the next line, unless one was bad before.
-    fn replay(&mut self, line: &Line) -> Result<(), NoMemory>
+    fn replay(&mut self, line: u64, note: &Note) -> Result<(), NoMemory>
         requires { (s : Scripts) × (lines : List Line) × IsHeard s lines self.old }
         ensures script { OnOk result (self.new.script ≡ self.old.script) }
         ensures lines { OnOk result (self.new.lines ≡ self.old.lines) }
-        ensures replayed { OnOk result ((s : Scripts) (lines : List Line) → IsHeard s lines self.old → IsSoFar s (lines ++ line.now ∷ []) self.new.replaying self.new.bad) }
+        ensures replayed { OnOk result ((s : Scripts) (lines : List Line) → IsHeard s lines self.old → IsSoFar s (lines ++ line_of line note.now ∷ []) self.new.replaying self.new.bad) }
     {
         match self.bad {
             Some(_) => Ok(()),
             None => {
-                self.bad = self.replay_next(line)?;
+                self.bad = self.replay_next(line, note)?;
                 Ok(())
             }
         }
     }
 
     /// Takes the next line.
-    pub(crate) fn take(&mut self, line: &Line) -> Result<(), NoMemory>
+    pub(crate) fn take(&mut self, line: u64, note: &Note) -> Result<(), NoMemory>
         requires { (s : Scripts) × (lines : List Line) × IsHeard s lines self.old }
-        ensures { OnOk result ((s : Scripts) (lines : List Line) → IsHeard s lines self.old → IsHeard s (lines ++ line.now ∷ []) self.new) }
+        ensures { OnOk result ((s : Scripts) (lines : List Line) → IsHeard s lines self.old → IsHeard s (lines ++ line_of line note.now ∷ []) self.new) }
     {
-        self.replay(line)?;
-        self.lines.push(line)?;
+        self.replay(line, note)?;
+        self.lines.push(line, note)?;
         Ok(())
     }
 
@@ -218,7 +216,7 @@ impl<'a, S: Subject> LineListener for HeardOf<'a, S> {
 
     ghost has = { λ x lines. IsHeard S.script lines x.heard };
 
-    fn take(&mut self, line: &Line) -> Result<(), NoMemory> {
-        self.heard.take(line)
+    fn take(&mut self, line: u64, note: &Note) -> Result<(), NoMemory> {
+        self.heard.take(line, note)
     }
 }

@@ -1,7 +1,8 @@
 //! The replay of a report's lines, with what is said of each.
-ghost use Rattle.std.specs.Prelude.{◌≡◌, ◌<◌, [], List, length, IfOk};
+ghost use Rattle.std.specs.Prelude.{◌≡◌, ℕ, ◌<◌, [], List, length, IfOk};
 ghost use Rattle.co_program.specs.Scripts.{IsScript};
 ghost use Rattle.co_report.specs.declared.line.Line.{Line};
+ghost use Rattle.co_report.specs.PackedLines.{line_of};
 ghost use Rattle.co_check.specs.Hearing.{IsReplaying, IsReplayedOn};
 ghost use Rattle.co_check.specs.Lines.{IsLineOf, lines_max};
 
@@ -9,8 +10,8 @@ use crate::fact::PackedFact;
 use crate::index::count_entry;
 use crate::replay::Replay;
 use crate::verdict::Unfit;
+use co_object::Note;
 use co_program::{Script, actor_count};
-use co_report::Line;
 use co_sbt::{NoMemory, Seq};
 use std::alloc::Global;
 
@@ -40,16 +41,16 @@ impl Replaying {
     }
 
     /// Replays the next line. The answer is what is wrong with it, if something is; then the replay is of no more use.
-    pub(crate) fn take(&mut self, script: &Script, line: &Line) -> Result<Option<Unfit>, NoMemory>
+    pub(crate) fn take(&mut self, script: &Script, note: &Note) -> Result<Option<Unfit>, NoMemory>
         requires script { IsScript script.now }
-        requires line { IsLineOf script.now line.now }
+        requires line { (line : ℕ) → IsLineOf script.now (line_of line note.now) }
         requires after { (above : List Line) × IsReplaying script.now above self.old × (length above < lines_max) }
-        ensures { IfOk result (λ wrong. (above : List Line) → IsReplaying script.now above self.old → IsReplayedOn script.now above line.now wrong self.new) }
+        ensures { IfOk result (λ wrong. (line : ℕ) (above : List Line) → IsReplaying script.now above self.old → IsReplayedOn script.now above (line_of line note.now) wrong self.new) }
     {
-        match self.replay.take(script, line.place, &line.entry) {
+        match self.replay.take(script, note.place, &note.entry) {
             Ok(fact) => {
                 self.facts.push(fact)?;
-                count_entry(&mut self.counts, &line.entry);
+                count_entry(&mut self.counts, &note.entry);
                 Ok(None)
             }
             Err(cause) => Ok(Some(cause)),

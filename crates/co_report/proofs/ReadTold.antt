@@ -1,5 +1,5 @@
 -- The lines that are ahead in histories, told one after the other.
-use Rattle.std.proofs.Common.{◌≡◌, ℕ, ◌-◌, ◌≤◌, List, [], ◌∷◌, ◌++◌, length, refl, ap, sym, subst, ◌∙◌, arith, append_assoc}
+use Rattle.std.proofs.Common.{◌≡◌, ℕ, ◌-◌, List, [], ◌∷◌, ◌++◌, length, refl, ap, sym, subst, ◌∙◌, append_assoc}
 use Rattle.std.specs.Borrow.{Bor}
 use Rattle.std.specs.Prelude.{Option, Some, None, Result, Ok, Err}
 use Rattle.co_program.specs.declared.Script.{Script}
@@ -37,12 +37,6 @@ behind-refused (fault.Bad k c) xs a h = ap (behind xs) h
 pub report-refused : (e : ScriptFault) (s : Script) (a : Result Ahead Refusal) → Faults e a → Faults e (report_of_all s a)
 report-refused fault.NoMemory s a h = tt
 report-refused (fault.Bad k c) s a h = ap (report_of_all s) h
-
--- one line or none
-pub one-or-none : (ls : List Line) → length ls ≤ 1 → (found : Option Line) × (one_or_none found ≡ ls)
-one-or-none [] few = (None, refl)
-one-or-none (l ∷ []) few = (Some l, refl)
-one-or-none (l ∷ m ∷ ls) few = absurd (omega (arith, few))
 
 -- more lines are told behind others
 pub taken-more : {L : Type 0} (has : L → List Line → Type 0) (x y z : L) (front more : List Line) → HasTakenMore has x y front → HasTakenMore has y z more → HasTakenMore has x z (front ++ more)

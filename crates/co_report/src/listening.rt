@@ -1,6 +1,6 @@
 //! Note lines, told as they are read to whoever keeps them.
 
-use crate::line::Line;
+use co_object::Note;
 use co_sbt::NoMemory;
 
 /// Takes the note lines of a report, one after the other, as they are read.
@@ -9,12 +9,14 @@ use co_sbt::NoMemory;
 pub trait LineListener {
     ghost use Rattle.std.specs.Prelude.{◌++◌, ◌∷◌, [], List, OnOk};
     ghost use Rattle.co_report.specs.declared.line.Line.{Line};
+    ghost use Rattle.co_report.specs.PackedLines.{line_of};
 
     /// These are the lines that it has taken, in their order.
     ghost has: { Self → List Line → Type 0 };
 
-    /// Takes a line. Fails for want of memory alone; what the listener has after that is not told.
-    fn take(&mut self, line: &Line) -> Result<(), NoMemory>
+    /// Takes the line of this number, which shows this note: a note's position is its number in its actor's list. Fails for
+    /// want of memory alone; what the listener has after that is not told.
+    fn take(&mut self, line: u64, note: &Note) -> Result<(), NoMemory>
         requires { (lines : List Line) × has self.old lines }
-        ensures { OnOk result ((lines : List Line) → has self.old lines → has self.new (lines ++ line.now ∷ [])) };
+        ensures { OnOk result ((lines : List Line) → has self.old lines → has self.new (lines ++ line_of line note.now ∷ [])) };
 }

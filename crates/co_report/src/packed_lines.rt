@@ -87,25 +87,17 @@ impl PackedLines {
         }
     }
 
-    /// Appends a line. What the list has after `NoMemory` is not told.
-    pub fn push(&mut self, line: &Line) -> Result<(), NoMemory>
-        ensures { OnOk result (self.new ≡ self.old ++ line.now ∷ []) }
+    /// Appends the line of this number, which shows this note. What the list has after `NoMemory` is not told.
+    pub fn push(&mut self, line: u64, note: &Note) -> Result<(), NoMemory>
+        ensures { OnOk result (self.new ≡ self.old ++ line_of line note.now ∷ []) }
     {
-        let note = Note {
-            place: line.place,
-            pos: line.number,
-            entry: line.entry,
-        };
         let at = self.notes.len() as u64;
-        if is_next_of(self.latest, at, line.line) {
-            return self.notes.push(&note);
+        if is_next_of(self.latest, at, line) {
+            return self.notes.push(note);
         }
         self.earlier.push(self.latest)?;
-        self.latest = Stretch {
-            at,
-            line: line.line,
-        };
-        self.notes.push(&note)
+        self.latest = Stretch { at, line };
+        self.notes.push(note)
     }
 
     /// The number of lines.
@@ -163,7 +155,7 @@ impl LineListener for PackedLines {
 
     ghost has = { λ packed lines. packed ≡ lines };
 
-    fn take(&mut self, line: &Line) -> Result<(), NoMemory> {
-        self.push(line)
+    fn take(&mut self, line: u64, note: &Note) -> Result<(), NoMemory> {
+        self.push(line, note)
     }
 }

@@ -8,17 +8,17 @@ ghost use Rattle.co_report.specs.LineByLine.{before_all, line_at, standing, AreA
 ghost use Rattle.co_report.specs.NoteForms.{shown_note};
 ghost use Rattle.co_report.specs.NoteValues.{names_of};
 ghost use Rattle.co_report.specs.Reading.{halves_read, line_after, lines_report, report_read};
-ghost use Rattle.co_report.specs.ReadingViews.{halves_view, so_far, with_line, one_or_none, AreAtMost, IsReaderReady, IsSetting};
+ghost use Rattle.co_report.specs.ReadingViews.{halves_view, line_shown, so_far, with_line, one_or_none, AreAtMost, IsReaderReady, IsSetting};
 
 use crate::line::Line;
 use crate::listening::LineListener;
 use crate::reading::names::{Names, names_of};
-use crate::reading::notes::note_of;
+use crate::reading::notes::{NumberedEntry, note_of};
 use crate::reading::places::places;
 use crate::reading::progress::{Progress, Setting};
 use crate::reading::texts::{Halves, bad, behind_first, no_memory, none_cut, split_at_histories};
 use crate::reading::{is_canonical, script_in_report};
-use co_object::{AnyEntry, Place};
+use co_object::{AnyEntry, Note, Place};
 use co_program::Script;
 use co_sbt::{NoMemory, Seq};
 use co_script::laws::{fitting_scripts_are_accepted, read_scripts_fit};
@@ -218,17 +218,24 @@ fn take_note(
     Ok(found)
 }
 
-/// Tells the line that a list has, if it has one, and takes it out of the list.
-fn tell_found<L: LineListener>(found: &mut Seq<Line>, listener: &mut L) -> Result<(), NoMemory>
-    requires few { length found.old ≤ 1 }
-    requires has { (lines : List Line) × L.has listener.old lines }
-    ensures told { OnOk result (HasTakenMore L.has listener.old listener.new found.old) }
-    ensures none { OnOk result (found.new ≡ []) }
+/// Tells what line `number` shows, where a place is open.
+fn tell_shown<L: LineListener>(
+    place: Option<Place>,
+    number: u64,
+    shown: &NumberedEntry,
+    listener: &mut L,
+) -> Result<(), NoMemory>
+    requires { (lines : List Line) × L.has listener.old lines }
+    ensures { OnOk result (HasTakenMore L.has listener.old listener.new (one_or_none (line_shown number place shown.now))) }
 {
-    if let [line, ..] = found.as_slice() {
-        listener.take(line)?;
+    if let Some(place) = place {
+        let note = Note {
+            place,
+            pos: shown.number,
+            entry: shown.entry,
+        };
+        listener.take(number, &note)?;
     }
-    found.clear();
     Ok(())
 }
 
@@ -249,9 +256,17 @@ fn tell_note<L: LineListener>(
     ensures spelled { OnOk result (IsReaderReady setting.now progress.new) }
     ensures none { OnOk result (progress.new.lines ≡ []) }
 {
-    progress.line(alloc, setting, number, line)?;
-    tell_found(&mut progress.lines, listener)?;
-    Ok(())
+    if progress.is_closed_by(setting, line)? {
+        progress.close(alloc, setting, number)?;
+        return Ok(());
+    }
+    match &note_of(&setting.names, progress.current, line) {
+        Ok(shown) => {
+            tell_shown(progress.current, number, shown, listener)?;
+            Ok(())
+        }
+        Err(cause) => Err(LineFault::Bad(*cause)),
+    }
 }
 
 impl<'a> Reader<'a> {

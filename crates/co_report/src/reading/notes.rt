@@ -1,8 +1,7 @@
 //! The note that a line shows.
 ghost use Rattle.co_text.specs.Fallible.{Gives};
 ghost use Rattle.co_report.specs.NoteValues.{HasFewActors, maker, maker_is};
-ghost use Rattle.co_report.specs.NoteForms.{call_form, journal_form, head_form, timer_form, wheel_form, own_form, note_form, whole, shown_note};
-ghost use Rattle.co_report.specs.Parts.{parts};
+ghost use Rattle.co_report.specs.NoteForms.{call_form, journal_form, head_form, timer_form, wheel_form, own_form, note_form, shown_note};
 
 use crate::reading::names::Names;
 use crate::reading::operations::operation;
@@ -132,17 +131,6 @@ fn note(names: &Names, place: Place, parts: &mut Parts) -> Result<NumberedEntry,
     }
 }
 
-/// A note of a place, with nothing behind it.
-fn whole_note(names: &Names, place: Place, line: &[u8]) -> Result<NumberedEntry, Cause>
-    requires { HasFewActors names.now }
-    ensures { Gives (λ x. x) result (whole (note_form names.now place) (parts line.now)) }
-{
-    let mut parts = Parts::new(line);
-    let shown = note(names, place, &mut parts)?;
-    parts.end()?;
-    Ok(shown)
-}
-
 /// The note that a line shows, where a place is open; else `Note`.
 pub fn note_of(names: &Names, place: Option<Place>, line: &[u8]) -> Result<NumberedEntry, Cause>
     requires { HasFewActors names.now }
@@ -151,8 +139,10 @@ pub fn note_of(names: &Names, place: Option<Place>, line: &[u8]) -> Result<Numbe
     let Some(place) = place else {
         return Err(Cause::Note);
     };
-    match whole_note(names, place, line) {
-        Ok(shown) => Ok(shown),
-        Err(_) => Err(Cause::Note),
+    let mut parts = Parts::new(line);
+    let shown = note(names, place, &mut parts);
+    if shown.is_err() || parts.end().is_err() {
+        return Err(Cause::Note);
     }
+    shown
 }

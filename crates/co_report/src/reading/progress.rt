@@ -3,7 +3,7 @@ ghost use Rattle.std.specs.Prelude.{◌≡◌, ◌+◌, ◌^◌, ◌<◌, length
 ghost use Rattle.co_text.specs.Fallible.{LineGives, GivesOrNoMemory};
 ghost use Rattle.co_text.specs.Lines.{lines_of};
 ghost use Rattle.co_report.specs.Reading.{closed_by, note_read, reads_on, line_after, histories_read, first_progress};
-ghost use Rattle.co_report.specs.ReadingViews.{so_far, IsReaderReady, IsSetting};
+ghost use Rattle.co_report.specs.ReadingViews.{so_far, IsLineSorted, IsReaderReady, IsSetting};
 
 use crate::line::Line;
 use crate::reading::names::Names;
@@ -70,7 +70,7 @@ impl Progress {
     }
 
     /// The open place has no more notes: the next one begins, or the histories end with line `number`.
-    fn close(&mut self, alloc: Global, setting: &Setting, number: u64) -> Result<(), NoMemory>
+    pub fn close(&mut self, alloc: Global, setting: &Setting, number: u64) -> Result<(), NoMemory>
         requires { IsReaderReady setting.now self.old }
         ensures value { OnOk result (so_far setting.now self.new ≡ closed_by number (so_far setting.now self.old) (drop self.old.next setting.now.places.now)) }
         ensures spelled { OnOk result (IsReaderReady setting.now self.new) }
@@ -108,6 +108,18 @@ impl Progress {
         Ok(())
     }
 
+    /// Whether the line ends the notes of the open place, as the heading of the next and `end` do; `Note` where it may not
+    /// stand.
+    pub fn is_closed_by(&self, setting: &Setting, line: &[u8]) -> Result<bool, Cause>
+        requires { IsReaderReady setting.now self.now }
+        ensures { IsLineSorted setting.now.script.now (so_far setting.now self.now) line.now result }
+    {
+        if !goes_on(self.end) {
+            return Err(Cause::Note);
+        }
+        Ok(line == self.closing.as_slice())
+    }
+
     /// What line `number` does; `Note` where it may not stand.
     pub fn line(
         &mut self,
@@ -121,10 +133,7 @@ impl Progress {
         ensures value { LineGives (λ _. so_far setting.now self.new) result (line_after setting.now.script.now number (so_far setting.now self.old) line.now) }
         ensures spelled { OnOk result (IsReaderReady setting.now self.new) }
     {
-        if !goes_on(self.end) {
-            return Err(LineFault::Bad(Cause::Note));
-        }
-        if line == self.closing.as_slice() {
+        if self.is_closed_by(setting, line)? {
             self.close(alloc, setting, number)?;
             Ok(())
         } else {

@@ -1,6 +1,7 @@
 -- Something is wrong with the line.
 use Rattle.std.proofs.Common.{◌≡◌, subst, sym}
 use Rattle.std.specs.Prelude.{Some}
+use Rattle.co_report.specs.PackedLines.{line_of}
 use Rattle.co_check.specs.Hearing.{IsReplaying, IsReplayedOn, IsSoFar}
 use Rattle.co_check.specs.Replay.{unfit_at}
 use Rattle.co_check.proofs.Hearing.{now-bad}
@@ -9,8 +10,8 @@ use Rattle.co_check.proofs.heard.Heard.replay_next.Goals as goal
 pub returns-in-Some-clause-replayed : goal.returns-in-Some-clause-replayed
 returns-in-Some-clause-replayed c s lines h of few =
     let x = c.args.self.now in
-    let l = c.args.line.now in
+    let l = line_of c.args.line c.args.note.now in
     let so = subst (IsSoFar s lines x.replaying) c.requires.fits h.so_far in
     let at = subst (λ t. IsReplaying t lines x.replaying) (sym h.script) so.0 in
-    let wrong = subst (λ w. IsReplayedOn x.script.now lines l w c.take.new.self) c.in-Some.is (c.in_ok-cause.ensures lines at) in
+    let wrong = subst (λ w. IsReplayedOn x.script.now lines l w c.take.new.self) c.in-Some.is (c.in_ok-cause.ensures c.args.line lines at) in
     now-bad s lines l c.in-Some.cause so.0.fit (subst (λ t. unfit_at t lines l.place l.entry ≡ Some c.in-Some.cause) h.script wrong)
