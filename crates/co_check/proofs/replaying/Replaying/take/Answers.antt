@@ -25,3 +25,6 @@ returns-in_ok-push-in-Ok c line above h =
       facts = c.in_ok-push-in-Ok.ensures.ok ∙ facts-more s above l c.args.self.now.facts c.in-Ok.fact h.facts taken.2;
       counted = c.count_entry.ensures (actor_count s) l above refl h.counted;
     }
+
+pub returns-in-Err : goal.returns-in-Err
+returns-in-Err c line above h = c.in-Err.ensures above (line_of line c.args.note.now) refl refl h.after
