@@ -1,5 +1,5 @@
 //! The note lines of a report as they are read: packed, and replayed, each in the history of its place.
-ghost use Rattle.std.specs.Prelude.{◌≡◌, ◌++◌, ◌∷◌, [], ℕ, None, List, Decides, OnOk, IfOk};
+ghost use Rattle.std.specs.Prelude.{◌≡◌, ◌++◌, ◌∷◌, [], None, List, Decides, OnOk, IfOk};
 ghost use Rattle.co_program.specs.declared.script.Script.{Script as Scripts};
 ghost use Rattle.co_program.specs.Scripts.{IsScript};
 ghost use Rattle.co_report.specs.declared.line.Line.{Line};
@@ -96,9 +96,9 @@ fn names_exist(script: &Script, entry: &AnyEntry) -> bool
 }
 
 /// Whether the line is one of the script.
-fn is_line_of(script: &Script, note: &Note) -> bool
+fn is_line_of(script: &Script, line: u64, note: &Note) -> bool
     requires { IsScript script.now }
-    ensures { (line : ℕ) → Decides result (IsLineOf script.now (line_of line note.now)) }
+    ensures { Decides result (IsLineOf script.now (line_of line note.now)) }
 {
     place_exists(script, note.place)
         && is_of_kind(note.place, &note.entry)
@@ -130,13 +130,13 @@ impl<'a> Heard<'a> {
         ensures replayed { IfOk result (λ bad. (s : Scripts) (lines : List Line) → IsHeard s lines self.old → IsSoFar s (lines ++ line_of line note.now ∷ []) self.new.replaying bad) }
     {
         // A reader tells such lines alone, which no contract of a listener asks of it.
-        if LINES_MAX <= self.lines.len() || !is_line_of(self.script, note) {
+        if LINES_MAX <= self.lines.len() || !is_line_of(self.script, line, note) {
             return Ok(Some(BadLine {
                 line,
                 cause: Unfit::Illegal,
             }));
         }
-        match self.replaying.take(self.script, note)? {
+        match self.replaying.take(self.script, line, note)? {
             Some(cause) => Ok(Some(BadLine { line, cause })),
             None => Ok(None),
         }

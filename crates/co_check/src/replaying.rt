@@ -1,5 +1,5 @@
 //! The replay of a report's lines, with what is said of each.
-ghost use Rattle.std.specs.Prelude.{◌≡◌, ℕ, ◌<◌, [], List, length, IfOk};
+ghost use Rattle.std.specs.Prelude.{◌≡◌, ◌<◌, [], List, length, IfOk};
 ghost use Rattle.co_program.specs.Scripts.{IsScript};
 ghost use Rattle.co_report.specs.declared.line.Line.{Line};
 ghost use Rattle.co_report.specs.PackedLines.{line_of};
@@ -41,11 +41,16 @@ impl Replaying {
     }
 
     /// Replays the next line. The answer is what is wrong with it, if something is; then the replay is of no more use.
-    pub(crate) fn take(&mut self, script: &Script, note: &Note) -> Result<Option<Unfit>, NoMemory>
+    pub(crate) fn take(
+        &mut self,
+        script: &Script,
+        line: u64,
+        note: &Note,
+    ) -> Result<Option<Unfit>, NoMemory>
         requires script { IsScript script.now }
-        requires line { (line : ℕ) → IsLineOf script.now (line_of line note.now) }
+        requires line { IsLineOf script.now (line_of line note.now) }
         requires after { (above : List Line) × IsReplaying script.now above self.old × (length above < lines_max) }
-        ensures { IfOk result (λ wrong. (line : ℕ) (above : List Line) → IsReplaying script.now above self.old → IsReplayedOn script.now above (line_of line note.now) wrong self.new) }
+        ensures { IfOk result (λ wrong. (above : List Line) → IsReplaying script.now above self.old → IsReplayedOn script.now above (line_of line note.now) wrong self.new) }
     {
         match self.replay.take(script, note.place, &note.entry) {
             Ok(fact) => {

@@ -13,5 +13,5 @@ returns-in-Some-clause-replayed c s lines h of few =
     let l = line_of c.args.line c.args.note.now in
     let so = subst (IsSoFar s lines x.replaying) c.requires.fits h.so_far in
     let at = subst (λ t. IsReplaying t lines x.replaying) (sym h.script) so.0 in
-    let wrong = subst (λ w. IsReplayedOn x.script.now lines l w c.take.new.self) c.in-Some.is (c.in_ok-cause.ensures c.args.line lines at) in
+    let wrong = subst (λ w. IsReplayedOn x.script.now lines l w c.take.new.self) c.in-Some.is (c.in_ok-cause.ensures lines at) in
     now-bad s lines l c.in-Some.cause so.0.fit (subst (λ t. unfit_at t lines l.place l.entry ≡ Some c.in-Some.cause) h.script wrong)

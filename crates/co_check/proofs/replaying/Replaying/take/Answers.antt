@@ -6,18 +6,18 @@ use Rattle.co_check.proofs.Hearing.{still-fit, facts-more}
 use Rattle.co_check.proofs.replaying.Replaying.take.Goals as goal
 
 pub take-requires-clause-line : goal.take-requires-clause-line
-take-requires-clause-line c = (line_of 0 c.args.note.now, refl, refl, c.requires.line 0)
+take-requires-clause-line c = (line_of c.args.line c.args.note.now, refl, refl, c.requires.line)
 
 pub take-requires-clause-after : goal.take-requires-clause-after
 take-requires-clause-after c = let h = c.requires.after in (h.0, h.1.after, h.2)
 
 pub count_entry-requires-clause-actor : goal.count_entry-requires-clause-actor
-count_entry-requires-clause-actor c = let h = c.requires.after in omega (arith, (c.requires.line 0).actor, h.1.counted.long)
+count_entry-requires-clause-actor c = let h = c.requires.after in omega (arith, c.requires.line.actor, h.1.counted.long)
 
 pub returns-in_ok-push-in-Ok : goal.returns-in_ok-push-in-Ok
-returns-in_ok-push-in-Ok c line above h =
+returns-in_ok-push-in-Ok c above h =
     let s = c.args.script.now in
-    let l = line_of line c.args.note.now in
+    let l = line_of c.args.line c.args.note.now in
     let taken = c.in-Ok.ensures above l refl refl h.after in
     record {
       after = taken.1;
@@ -27,4 +27,4 @@ returns-in_ok-push-in-Ok c line above h =
     }
 
 pub returns-in-Err : goal.returns-in-Err
-returns-in-Err c line above h = c.in-Err.ensures above (line_of line c.args.note.now) refl refl h.after
+returns-in-Err c above h = c.in-Err.ensures above (line_of c.args.line c.args.note.now) refl refl h.after
