@@ -37,9 +37,10 @@ fn report_of_run<G: Gate + Sync, R: Threads + Wait + Sync>(
     ensures { IfOk result (λ report. IsReportOfRun script.now report.closing (concat report.pieces)) }
 {
     fitting_scripts_can_run();
-    let PackedRan { lists, closing } = run_packed(rt, alloc, script, gate)?;
-    lists_are_typed(lists.as_slice());
-    let pieces = print_by_threads(rt, alloc, script, &lists)?;
+    let ran = run_packed(rt, alloc, script, gate)?;
+    lists_are_typed(ran.lists.as_slice());
+    let pieces = print_by_threads(rt, alloc, script, &ran.lists)?;
+    let PackedRan { lists, closing } = ran;
     let_go(rt, lists);
     Ok(Report { pieces, closing })
 }
