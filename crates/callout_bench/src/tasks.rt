@@ -192,5 +192,5 @@ pub fn text_of<S: Source, R: Threads + Wait + Sync>(
         None => measure_script(rt, alloc, source, &mut page)?,
         Some((what, others)) => measure(rt, alloc, source, &mut page, what.as_str(), others)?,
     }
-    Ok(page.done())
+    Ok(page.done()?)
 }

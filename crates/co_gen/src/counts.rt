@@ -46,5 +46,5 @@ pub fn print_soak(alloc: Global, seed: u64, counts: &Counts) -> Result<Seq<u8>, 
     ];
     let mut page = Page::new(alloc);
     page.line(&Token::Text(b"soak".as_slice()), others.as_slice())?;
-    Ok(page.done())
+    page.done()
 }

@@ -37,7 +37,7 @@ fn print_piece(
     let mut page = Page::new(alloc);
     printing.print_places(&mut page, first, end)?;
     let mut pieces = Seq::new(alloc);
-    pieces.push(page.done())?;
+    pieces.push(page.done()?)?;
     Ok(pieces)
 }
 

@@ -148,5 +148,5 @@ pub fn print_report(alloc: Global, script: &Script, lists: &Lists) -> Result<Seq
     let printing = Printing::new(alloc, script, packed.as_slice())?;
     let mut page = Page::new(alloc);
     printing.print(&mut page)?;
-    Ok(page.done())
+    page.done()
 }

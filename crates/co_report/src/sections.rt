@@ -91,7 +91,7 @@ fn append_all(pieces: &mut Seq<Seq<u8>>, pages: Vec<Page>) -> Result<(), NoMemor
     ensures { OnOk result (pieces.new ≡ pieces.old ++ pages.items) }
 {
     for page in pages {
-        pieces.push(page.done())?;
+        pieces.push(page.done()?)?;
     }
     Ok(())
 }

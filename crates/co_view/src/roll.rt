@@ -38,7 +38,7 @@ impl Roll {
     {
         let page = std::mem::replace(&mut self.page, Page::new(alloc));
         self.rows = 0;
-        self.pieces.push(page.done())
+        self.pieces.push(page.done()?)
     }
 
     /// Begins a row, on another page where this one is full.

@@ -115,7 +115,7 @@ fn verdict(alloc: Global, changed: &Changed<'_>) -> Result<Seq<u8>, NoMemory> {
     }
     page.text(changed.cause)?;
     page.text(b"\n".as_slice())?;
-    Ok(page.done())
+    page.done()
 }
 
 /// Whether a status is the one with this number.

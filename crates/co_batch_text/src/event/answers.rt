@@ -175,7 +175,7 @@ fn answer_batch(alloc: Global, batch: &Batch<EventCommand>) -> Result<Seq<u8>, N
     let mut queue = EventQueue::new(alloc, batch.count())?;
     let mut out = places(alloc, batch.count())?;
     answer_all(&mut page, &mut queue, out.as_mut_slice(), batch.commands())?;
-    Ok(page.done())
+    page.done()
 }
 
 /// What the command `event` writes for a text, or why it refuses it.

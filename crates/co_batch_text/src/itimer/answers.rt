@@ -95,7 +95,8 @@ fn answer_on<N: Name, R: Wait>(
     let mut page = Page::new(alloc);
     let mut timers = Itimers::<N>::open(alloc, fresh)?;
     answer_all(rt, &mut page, &mut timers, batch.commands())?;
-    Ok((page.done(), timers.close(rt)))
+    let closing = timers.close(rt);
+    Ok((page.done()?, closing))
 }
 
 /// Answers a batch by interval timers of its own.

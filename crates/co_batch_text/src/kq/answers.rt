@@ -146,7 +146,8 @@ fn answer_on<N: Name, R: Wait>(
         events.as_mut_slice(),
         batch.commands(),
     )?;
-    Ok((page.done(), list.close(rt)))
+    let closing = list.close(rt);
+    Ok((page.done()?, closing))
 }
 
 /// Answers a batch by a kevent list of its own.

@@ -115,7 +115,8 @@ fn answer_on<N: SleepName, R: Wait>(
     let mut cpu = passes.into_vec().pop().unwrap();
     answer_all(rt, &mut page, &queue, &mut cpu, batch.commands())?;
     back.push(cpu);
-    Ok((page.done(), queue.close(rt, back.into_seq())))
+    let closing = queue.close(rt, back.into_seq());
+    Ok((page.done()?, closing))
 }
 
 /// Answers a batch by a sleep queue of its own, which has no clients.

@@ -74,7 +74,7 @@ fn heading(alloc: Global, script: &Script, place: Place) -> Result<Seq<u8>, NoMe
             )?;
         }
     }
-    Ok(page.done())
+    page.done()
 }
 
 /// The line behind the notes of a place: the first line of the next place, or behind the last `end`. `NoMemory` where

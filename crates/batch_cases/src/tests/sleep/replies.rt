@@ -30,6 +30,6 @@ fn each_reply_has_a_line(rt: HostRuntime) -> Result<(), NoMemory> {
     print(&mut page)?;
     let wanted =
         b"began 18446744073709551614\nalready\nwoke 2\none 1023\nnobody\nasleep\nnever\nwoken\ntimedout\nticked 1 2\n".as_slice();
-    assert!(rt; page.done().as_slice() == wanted);
+    assert!(rt; page.done()?.as_slice() == wanted);
     Ok(())
 }
