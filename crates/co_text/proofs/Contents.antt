@@ -4,11 +4,13 @@ use Rattle.std.specs.Prelude.{Result, Ok, Err, ◌==◌, slice_index_or}
 use Rattle.std.specs.List.{list_all, position_or_len}
 use Rattle.std.proofs.lemmas.Bool.Decides.{nat_tests}
 use Rattle.co_text.specs.Fallible.{◌>>◌, unless}
-use Rattle.co_text.specs.Lines.{content, is_hash, is_plain}
+use Rattle.std.proofs.lemmas.List.{take_all, length-drop}
+use Rattle.co_text.specs.Lines.{Line, lines_of, content, is_feed, is_hash, is_plain}
 use Rattle.co_text.specs.declared.cause.Cause.{Cause}
 use Rattle.co_text.specs.declared.cause.Cause.TheVariants.{Byte}
 use Rattle.co_text.proofs.Splits.{take-one, drop-one}
 use Rattle.co_text.proofs.LinesBack.{and_both}
+use Rattle.co_text.proofs.LineSplits.{lines-first}
 
 -- the part that is read ends before this byte
 abbrev pub is_stop : ℕ → Bool
@@ -90,3 +92,47 @@ content-other bs rest n en er some differs =
     let place : rest ≡ drop (position_or_len is_stop bs) bs = er ∙ ap (λ k. drop k bs) en in
     let bad = (walk bs).other (omega (arith, some, ap length place)) (λ h. differs (ap (λ r. slice_index_or r 0 0) place ∙ h)) in
     ap (λ b. read_as b (take (position_or_len is_hash bs) bs)) bad
+
+-- the walk went to a line feed: no other stands before it
+
+feed-itself : (c : ℕ) → c ≡ 10 → is_feed c ≡ true
+feed-itself c e = grind (arith, nat_tests)
+
+no-feed : (c : ℕ) → is_stop c ≡ false → is_feed c ≡ false
+no-feed c e = grind (arith, nat_tests)
+
+feed-step : (b : Bool) (c : ℕ) (cs : List ℕ) (n m : ℕ) → is_stop c ≡ b → (slice_index_or (drop n cs) 0 0 ≡ 10 → m ≡ n)
+    → slice_index_or (drop (cond (not b) (1 + n) 0) (c ∷ cs)) 0 0 ≡ 10 → cond (not (is_feed c)) (1 + m) 0 ≡ cond (not b) (1 + n) 0
+feed-step true c cs n m e ih feed = ap (λ f. cond (not f) (1 + m) 0) (feed-itself c feed)
+feed-step false c cs n m e ih feed = ap (λ f. cond (not f) (1 + m) 0) (no-feed c e)
+    ∙ ap (λ k. 1 + k) (ih (sym (ap (λ bs. slice_index_or bs 0 0) (drop-one n c cs)) ∙ feed))
+
+feed-at : (bs : List ℕ) → slice_index_or (drop (position_or_len is_stop bs) bs) 0 0 ≡ 10 → position_or_len is_feed bs ≡ position_or_len is_stop bs
+feed-at [] feed = refl
+feed-at (c ∷ cs) feed = feed-step (is_stop c) c cs _ _ refl (feed-at cs) feed
+
+whole-step : (b : Bool) (c : ℕ) (cs : List ℕ) (n : ℕ) → is_stop c ≡ b → position_or_len is_stop (take n cs) ≡ length (take n cs)
+    → position_or_len is_stop (take (cond (not b) (1 + n) 0) (c ∷ cs)) ≡ length (take (cond (not b) (1 + n) 0) (c ∷ cs))
+whole-step true c cs n e ih = refl
+whole-step false c cs n e ih =
+    let one : position_or_len is_stop (c ∷ take n cs) ≡ 1 + position_or_len is_stop (take n cs) = ap (λ b. cond (not b) (1 + position_or_len is_stop (take n cs)) 0) e in
+    let both : position_or_len is_stop (c ∷ take n cs) ≡ length (c ∷ take n cs) = omega (arith, one, ih) in
+    ap (position_or_len is_stop) (take-one n c cs) ∙ (both ∙ sym (ap length (take-one n c cs)))
+
+part-whole : (bs : List ℕ) → position_or_len is_stop (take (position_or_len is_stop bs) bs) ≡ length (take (position_or_len is_stop bs) bs)
+part-whole [] = refl
+part-whole (c ∷ cs) = whole-step (is_stop c) c cs _ refl (part-whole cs)
+
+pub content-feed : (bs part rest after : List ℕ) (n : ℕ) → n ≡ position_or_len is_stop bs → part ≡ take n bs → rest ≡ drop n bs → after ≡ drop 1 rest → 1 ≤ length rest → slice_index_or rest 0 0 ≡ 10
+    → (line : Line) × (lines_of bs ≡ line ∷ lines_of after) × (content line ≡ Ok part)
+content-feed bs part rest after n en ep er ea some feed =
+    let place : rest ≡ drop (position_or_len is_stop bs) bs = er ∙ ap (λ k. drop k bs) en in
+    let first : n ≡ position_or_len is_feed bs = en ∙ sym (feed-at bs (ap (λ r. slice_index_or r 0 0) (sym place) ∙ feed)) in
+    let here : part ≡ take (position_or_len is_stop bs) bs = ep ∙ ap (λ k. take k bs) en in
+    let m : ℕ = position_or_len is_stop part in
+    let all : m ≡ length part = ap (position_or_len is_stop) here ∙ (part-whole bs ∙ ap length (sym here)) in
+    let none : length (drop m part) < 1 = omega (arith, all, length-drop {A = ℕ} m part) in (
+      record { bytes = part; ended = true },
+      lines-first bs part rest after n first ep er ea (omega (arith, some)),
+      content-ends part part (drop m part) m refl (sym (take_all m part (omega (arith, all)))) refl none,
+    )
