@@ -5,5 +5,5 @@ use Rattle.co_grammar.proofs.print.frame.print_timer.Goals as goal
 
 pub returns : goal.returns
 returns c =
-    let begun = simp (c.as_slice.ensures, c.as_slice-2.ensures) at c.in_ok-begin.ensures in
+    let begun = simp (c.as_slice.ensures) at c.in_ok-print_lone.ensures in
     one_line _ _ _ _ (codes "timer") (decimal c.args.number ∷ []) (spec_words c.args.spec.now) begun c.in_ok-print_spec.ensures c.in_ok-end.ensures
