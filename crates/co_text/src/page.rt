@@ -4,7 +4,7 @@ ghost use Rattle.std.specs.Fmt.{signed_decimal};
 ghost use Rattle.co_text.specs.Lines.{spaced, line_text};
 ghost use Rattle.co_text.specs.Written.{token_word, token_words};
 
-use crate::tail::{Tail, digit};
+use crate::tail::Tail;
 use crate::token::Token;
 use co_sbt::{NoMemory, Seq};
 use itoa::Buffer;
@@ -104,9 +104,9 @@ impl Page {
         Ok(())
     }
 
-    // Apart, so that a number of one digit, which most are, is written with no call.
-    #[inline(never)]
-    fn longer(&mut self, number: u64) -> Result<(), NoMemory>
+    /// Appends a number, without leading zeros. `NoMemory` where there is no room.
+    #[inline(always)]
+    pub fn number(&mut self, number: u64) -> Result<(), NoMemory>
         ensures { OnOk result (self.new ≡ self.old ++ decimal number) }
     {
         if self.tail.has_room(24) {
@@ -114,19 +114,6 @@ impl Page {
             return Ok(());
         }
         self.late_number(number)
-    }
-
-    /// Appends a number, without leading zeros. `NoMemory` where there is no room.
-    #[inline(always)]
-    #[tactic(auto, using(std::proofs::lemmas::Fmt::decimal_digit))]
-    pub fn number(&mut self, number: u64) -> Result<(), NoMemory>
-        ensures { OnOk result (self.new ≡ self.old ++ decimal number) }
-    {
-        if number < 10 {
-            self.push(digit(number as u32))
-        } else {
-            self.longer(number)
-        }
     }
 
     /// Appends a number, with a `-` where it is below 0. `NoMemory` where there is no room.
@@ -140,13 +127,26 @@ impl Page {
         self.text(buffer.format(number).as_bytes())
     }
 
+    #[inline(never)]
+    fn late_tagged(&mut self, tag: &[u8], number: u64) -> Result<(), NoMemory>
+        ensures { OnOk result (self.new ≡ self.old ++ (tag.now ++ decimal number)) }
+    {
+        self.late_text(tag)?;
+        self.number(number)
+    }
+
     /// Appends these bytes and a number. `NoMemory` where there is no room.
+    // One look at the room does for both.
     #[inline(always)]
     pub fn tagged(&mut self, tag: &[u8], number: u64) -> Result<(), NoMemory>
         ensures { OnOk result (self.new ≡ self.old ++ (tag.now ++ decimal number)) }
     {
-        self.text(tag)?;
-        self.number(number)
+        if tag.len() <= 64 && self.tail.has_room(tag.len() + 24) {
+            self.tail.put(tag);
+            self.tail.number(number);
+            return Ok(());
+        }
+        self.late_tagged(tag, number)
     }
 
     fn lettered(&mut self, letter: u8, number: u64) -> Result<(), NoMemory>
@@ -195,6 +195,7 @@ impl Page {
     }
 
     /// Appends a line feed. `NoMemory` where there is no room.
+    #[inline(always)]
     pub fn end(&mut self) -> Result<(), NoMemory>
         ensures { OnOk result (self.new ≡ self.old ++ 10 ∷ []) }
     {

@@ -6,7 +6,7 @@ use std::marker::Model;
 
 /// The last digit of a number.
 #[inline(always)]
-pub(crate) fn digit(number: u32) -> u8
+fn digit(number: u32) -> u8
     ensures { result ≡ 48 + number % 10 }
 {
     b'0' + (number % 10) as u8
@@ -258,9 +258,9 @@ impl Tail {
         self.last_eight((number % 100_000_000) as u32);
     }
 
-    /// Appends a number, without leading zeros.
-    #[inline(always)]
-    pub(crate) fn number(&mut self, number: u64)
+    // Apart, so that a number of one digit, which most are, is written with no call.
+    #[inline(never)]
+    fn longer(&mut self, number: u64)
         requires { length self.old + 24 ≤ 512 }
         ensures { self.new ≡ self.old ++ decimal number }
     {
@@ -268,6 +268,20 @@ impl Tail {
             self.some_digits(number as u32);
         } else {
             self.many_digits(number);
+        }
+    }
+
+    /// Appends a number, without leading zeros.
+    #[inline(always)]
+    #[tactic(auto, using(std::proofs::lemmas::Fmt::decimal_digit))]
+    pub(crate) fn number(&mut self, number: u64)
+        requires { length self.old + 24 ≤ 512 }
+        ensures { self.new ≡ self.old ++ decimal number }
+    {
+        if number < 10 {
+            self.push(digit(number as u32));
+        } else {
+            self.longer(number);
         }
     }
 }
