@@ -80,10 +80,7 @@ fn print_head(page: &mut Page, number: u64, letter: u8, name: u64, act: u64) -> 
     ensures { OnOk result (page.new ≡ page.old ++ (decimal number ++ spaced (((letter ∷ decimal name) ++ 47 ∷ decimal act) ∷ []))) }
 {
     page.number(number)?;
-    // Apart: a page that copies two bytes stored one by one as one piece has to wait for them.
-    page.text(b" ".as_slice())?;
-    page.text([letter].as_slice())?;
-    page.number(name)?;
+    page.tagged([b' ', letter].as_slice(), name)?;
     page.tagged(b"/".as_slice(), act)?;
     Ok(())
 }

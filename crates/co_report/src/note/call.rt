@@ -6,7 +6,8 @@ ghost use Rattle.co_object.specs.declared.Op.TheVariants as ops;
 ghost use Rattle.co_object.specs.declared.PlainOp.TheVariants as plain;
 ghost use Rattle.co_object.specs.declared.RunOp.TheVariants as runs;
 
-use crate::note::words::{print_lone, print_target, print_truth};
+use crate::note::words::{print_target, print_truth};
+use co_grammar::print_lone;
 use co_object::{CallOp, Op, PlainOp, RunOp};
 use co_sbt::{NoMemory, Sbt};
 use co_text::Page;
@@ -31,11 +32,9 @@ fn print_reset(
 fn print_schedule(page: &mut Page, due: Sbt, prec: Sbt, place: Option<u32>) -> Result<(), NoMemory>
     ensures { OnOk result (page.new ≡ page.old ++ spaced (plain_words (plain.Schedule due prec place))) }
 {
-    page.text(b" schedule".as_slice())?;
-    page.tagged(b" u".as_slice(), due.raw())?;
+    page.tagged(b" schedule u".as_slice(), due.raw())?;
     page.tagged(b" pr u".as_slice(), prec.raw())?;
-    print_target(page, place)?;
-    Ok(())
+    print_target(page, place)
 }
 
 fn print_plain(page: &mut Page, op: &PlainOp) -> Result<(), NoMemory>

@@ -1,13 +1,9 @@
-use Rattle.std.proofs.Common.{◌≡◌, ◌∙◌, ap, codes, decimal, ◌++◌}
-use Rattle.co_text.proofs.Spacing.{four_pieces}
-use Rattle.co_report.specs.NoteTexts.{cpu_or_dash}
+use Rattle.std.proofs.lemmas.Result.{on_ok_weaker}
+use Rattle.co_text.proofs.Spacing.{three_pieces}
 use Rattle.co_report.proofs.note.call.print_schedule.Goals as goal
 
 pub returns : goal.returns
 returns c =
-    let verb : c.text.new.self ≡ c.args.page.now ++ codes " schedule" = c.in_ok-text.ensures ∙ ap (λ t. c.args.page.now ++ t) c.as_slice.ensures in
-    let due : c.tagged.new.self ≡ c.text.new.self ++ (codes " u" ++ decimal c.args.due) =
-    c.in_ok-tagged.ensures ∙ (ap (λ t. c.text.new.self ++ (t ++ decimal c.raw.result)) c.as_slice-2.ensures ∙ ap (λ n. c.text.new.self ++ (codes " u" ++ decimal n)) c.raw.ensures.units) in
-    let prec : c.tagged-2.new.self ≡ c.tagged.new.self ++ (codes " pr u" ++ decimal c.args.prec) =
-    c.in_ok-tagged-2.ensures ∙ (ap (λ t. c.tagged.new.self ++ (t ++ decimal c.raw-2.result)) c.as_slice-3.ensures ∙ ap (λ n. c.tagged.new.self ++ (codes " pr u" ++ decimal n)) c.raw-2.ensures.units) in
-    four_pieces c.args.page.now c.text.new.self c.tagged.new.self c.tagged-2.new.self c.print_target.new.page (codes " schedule") (codes " u" ++ decimal c.args.due) (codes " pr u" ++ decimal c.args.prec) (codes " cpu " ++ cpu_or_dash c.args.place) verb due prec c.in_ok-print_target.ensures
+    let e1 = simp (c.as_slice.ensures, c.raw.ensures.units) at c.in_ok-tagged.ensures in
+    let e2 = simp (c.as_slice-2.ensures, c.raw-2.ensures.units) at c.in_ok-tagged-2.ensures in
+    on_ok_weaker c.print_target.result (three_pieces _ _ _ _ _ _ _ e1 e2) c.print_target.ensures
