@@ -2,3 +2,4 @@ pub mod Spacing
 pub mod ActsBack
 pub mod FrameBack
 pub mod Sizes
+pub mod Typed

@@ -1,5 +1,8 @@
 -- Whether the numbers and locks that a line names are in their ranges and exist, in the script so far.
-use Rattle.std.specs.Prelude.{ℕ, ℤ, pos, negsuc, ◌^◌, ◌≤◌, Bool, true, false, ◌&&◌, length, Option, Some, nat_lt, nat_le, int_le, ◌==◌, slice_get}
+use Rattle.std.specs.Prelude.{ℕ, ℤ, pos, negsuc, ◌^◌, ◌≤◌, Bool, true, false, ◌&&◌, length, Option, Some, Result, Ok, nat_lt, nat_le, int_le, ◌==◌, slice_get}
+use Rattle.co_text.specs.Fallible.{◌>>=◌, ◌>>◌, unless}
+use Rattle.co_text.specs.declared.Cause.{Cause}
+use Rattle.co_text.specs.declared.Cause.TheVariants.{Number}
 use Rattle.co_object.specs.declared.LockUse.{LockUse}
 use Rattle.co_object.specs.declared.LockUse.TheVariants.{Free, Mtx, Rw, RwShared}
 use Rattle.co_lock.specs.declared.LockKind.{LockKind}
@@ -7,6 +10,10 @@ use Rattle.co_lock.specs.declared.LockKind.TheVariants as lock
 use Rattle.co_program.specs.declared.Script.{Script}
 use Rattle.co_program.specs.declared.Act.{Act}
 use Rattle.co_program.specs.declared.Act.TheVariants as act
+use Rattle.co_program.specs.declared.Who.{Who}
+use Rattle.co_program.specs.declared.Who.TheVariants as callout
+use Rattle.co_program.specs.declared.Where.{Where}
+use Rattle.co_program.specs.declared.Where.TheVariants as cpu
 use Rattle.co_program.specs.Scripts.{names_exist}
 
 -- ranges
@@ -46,6 +53,64 @@ values_fit funcs s _ = true
 
 abbrev pub act_fits : ℕ → Script → Act → Bool
 act_fits funcs s a = names_exist s a && values_fit funcs s a
+
+-- the types of an act's numbers: 32 bits, signed for ticks, and 64 for an argument. What they don't hold fits no script
+
+abbrev pub number_typed : ℕ → Result ℕ Cause
+number_typed n = unless (nat_lt n (2 ^ 32)) Number >> Ok n
+
+abbrev pub argument_typed : ℕ → Result ℕ Cause
+argument_typed n = unless (nat_lt n (2 ^ 64)) Number >> Ok n
+
+abbrev pub ticks_typed : ℤ → Result ℤ Cause
+ticks_typed k = unless (is_i32 k) Number >> Ok k
+
+abbrev pub who_typed : Who → Result Who Cause
+who_typed (callout.Timer i) = number_typed i >>= λ n. Ok (callout.Timer n)
+who_typed callout.Me = Ok callout.Me
+
+abbrev pub where_typed : Where → Result Where Cause
+where_typed cpu.Home = Ok cpu.Home
+where_typed (cpu.Cpu c) = number_typed c >>= λ n. Ok (cpu.Cpu n)
+where_typed cpu.Here = Ok cpu.Here
+
+abbrev pub act_typed : Act → Result Act Cause
+act_typed (act.Now t) = Ok (act.Now t)
+act_typed (act.Lock l) = number_typed l >>= λ n. Ok (act.Lock n)
+act_typed (act.ReadLock l) = number_typed l >>= λ n. Ok (act.ReadLock n)
+act_typed act.Unlock = Ok act.Unlock
+act_typed (act.Reset who when func arg place prec) = do
+  w ← who_typed who
+  f ← number_typed func
+  a ← argument_typed arg
+  c ← where_typed place
+  Ok (act.Reset w when f a c prec)
+act_typed (act.Ticks who ticks func arg place) = do
+  w ← who_typed who
+  k ← ticks_typed ticks
+  f ← number_typed func
+  a ← argument_typed arg
+  c ← where_typed place
+  Ok (act.Ticks w k f a c)
+act_typed (act.Schedule who when place prec) = do
+  w ← who_typed who
+  c ← where_typed place
+  Ok (act.Schedule w when c prec)
+act_typed (act.Stop who) = who_typed who >>= λ w. Ok (act.Stop w)
+act_typed (act.Drain i) = number_typed i >>= λ n. Ok (act.Drain n)
+act_typed (act.AsyncDrain who func) = do
+  w ← who_typed who
+  f ← number_typed func
+  Ok (act.AsyncDrain w f)
+act_typed (act.Active who) = who_typed who >>= λ w. Ok (act.Active w)
+act_typed (act.Pending who) = who_typed who >>= λ w. Ok (act.Pending w)
+act_typed (act.Deactivate who) = who_typed who >>= λ w. Ok (act.Deactivate w)
+act_typed (act.Init who) = who_typed who >>= λ w. Ok (act.Init w)
+act_typed (act.Retire who) = who_typed who >>= λ w. Ok (act.Retire w)
+act_typed (act.Tick t) = Ok (act.Tick t)
+
+abbrev pub typed : Result Act Cause → Result Act Cause
+typed act = act >>= act_typed
 
 -- kinds of locks
 

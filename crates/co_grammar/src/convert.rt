@@ -1,40 +1,48 @@
-//! Acts and specs whose numbers are known to be in their ranges.
+//! Parts of acts and specs, in their own types.
 ghost use Rattle.std.specs.Prelude.{◌≡◌, ◌<◌, ◌≤◌, ◌^◌, true, length};
+ghost use Rattle.co_text.specs.Fallible.{Gives};
 ghost use Rattle.co_text.specs.Values.{signed_value};
-ghost use Rattle.co_grammar.specs.Views.{who_view, where_view, lock_view, spec_view, act_view};
-ghost use Rattle.co_grammar.specs.Checks.{spec_exists, is_i32, act_fits};
-ghost use Rattle.co_program.specs.Scripts.{who_exists, cpu_exists};
-ghost use Rattle.co_grammar.specs.Checks.{HasSmallNumbers};
+ghost use Rattle.co_grammar.specs.Views.{who_view, where_view, lock_view, spec_view};
+ghost use Rattle.co_grammar.specs.Checks.{spec_exists, is_i32, number_typed, argument_typed, ticks_typed, who_typed, where_typed};
 
-use crate::raw::{RawAct, RawLock, RawSpec, RawWhere, RawWho};
+use crate::raw::{RawLock, RawSpec, RawWhere, RawWho};
 use co_object::{LockUse, Spec};
-use co_program::{Act, Script, Where, Who};
-use co_text::Integer;
+use co_program::{Script, Where, Who};
+use co_text::{Cause, Integer};
 
-fn who_of(script: &Script, who: RawWho) -> Who
-    requires small { length script.now.timers ≤ 1024 }
-    requires exists { who_exists script.now (who_view who) ≡ true }
-    ensures { result ≡ who_view who }
+/// The number of a callout, a lock, a function or a CPU; `Number` from 2^32 on.
+pub fn number_of(number: u128) -> Result<u32, Cause>
+    ensures { Gives (λ n. n) result (number_typed number) }
 {
-    match who {
-        RawWho::Timer(timer) => Who::Timer(timer as u32),
-        RawWho::Me => Who::Me,
+    if number < 0x1_0000_0000 {
+        Ok(number as u32)
+    } else {
+        Err(Cause::Number)
     }
 }
 
-fn where_of(script: &Script, place: RawWhere) -> Where
-    requires exists { cpu_exists script.now (where_view place) ≡ true }
-    ensures { result ≡ where_view place }
+/// The argument of a function; `Number` from 2^64 on.
+pub fn argument_of(number: u128) -> Result<u64, Cause>
+    ensures { Gives (λ n. n) result (argument_typed number) }
 {
-    let _cpus = script.cpus;
-    match place {
-        RawWhere::Home => Where::Home,
-        RawWhere::Cpu(cpu) => Where::Cpu(cpu as u32),
-        RawWhere::Here => Where::Here,
+    if number < 0x1_0000_0000_0000_0000 {
+        Ok(number as u64)
+    } else {
+        Err(Cause::Number)
     }
 }
 
-fn ticks_of(number: Integer) -> i32
+fn is_i32(number: Integer) -> bool
+    ensures { result ≡ is_i32 (signed_value number) }
+{
+    if number.negative {
+        number.size <= 2_147_483_648
+    } else {
+        number.size <= 2_147_483_647
+    }
+}
+
+fn i32_of(number: Integer) -> i32
     requires { is_i32 (signed_value number) ≡ true }
     ensures { result ≡ signed_value number }
 {
@@ -45,76 +53,43 @@ fn ticks_of(number: Integer) -> i32
     }
 }
 
+/// A number of ticks; `Number` where it is none of 32 bits.
+pub fn ticks_of(number: Integer) -> Result<i32, Cause>
+    ensures { Gives (λ k. k) result (ticks_typed (signed_value number)) }
+{
+    if is_i32(number) {
+        Ok(i32_of(number))
+    } else {
+        Err(Cause::Number)
+    }
+}
+
+/// The callout of an act; `Number` from timer 2^32 on.
+pub fn who_of(who: RawWho) -> Result<Who, Cause>
+    ensures { Gives (λ w. w) result (who_typed (who_view who)) }
+{
+    match who {
+        RawWho::Timer(timer) => Ok(Who::Timer(number_of(timer)?)),
+        RawWho::Me => Ok(Who::Me),
+    }
+}
+
+/// The CPU of an arming; `Number` from CPU 2^32 on.
+pub fn where_of(place: RawWhere) -> Result<Where, Cause>
+    ensures { Gives (λ p. p) result (where_typed (where_view place)) }
+{
+    match place {
+        RawWhere::Home => Ok(Where::Home),
+        RawWhere::Cpu(cpu) => Ok(Where::Cpu(number_of(cpu)?)),
+        RawWhere::Here => Ok(Where::Here),
+    }
+}
+
 fn small_of(number: u128) -> u32
     requires { number < 2 ^ 32 }
     ensures { result ≡ number }
 {
     number as u32
-}
-
-/// The act that a line states, where its numbers are known to be in their ranges.
-pub fn act_of(funcs: u32, script: &Script, act: &RawAct) -> Act
-    requires small { HasSmallNumbers script.now funcs }
-    requires fits { act_fits funcs script.now (act_view act.now) ≡ true }
-    ensures { result ≡ act_view act.now }
-{
-    match *act {
-        RawAct::Now(time) => Act::Now(time),
-        RawAct::Tick(time) => Act::Tick(time),
-        RawAct::Unlock => Act::Unlock,
-        RawAct::Lock(lock) => Act::Lock(small_of(lock)),
-        RawAct::ReadLock(lock) => Act::ReadLock(small_of(lock)),
-        RawAct::Reset {
-            who,
-            when,
-            func,
-            arg,
-            cpu,
-            prec,
-        } => Act::Reset {
-            who: who_of(script, who),
-            when,
-            func: small_of(func),
-            arg: arg as u64,
-            cpu: where_of(script, cpu),
-            prec,
-        },
-        RawAct::Ticks {
-            who,
-            ticks,
-            func,
-            arg,
-            cpu,
-        } => Act::Ticks {
-            who: who_of(script, who),
-            ticks: ticks_of(ticks),
-            func: small_of(func),
-            arg: arg as u64,
-            cpu: where_of(script, cpu),
-        },
-        RawAct::Schedule {
-            who,
-            when,
-            cpu,
-            prec,
-        } => Act::Schedule {
-            who: who_of(script, who),
-            when,
-            cpu: where_of(script, cpu),
-            prec,
-        },
-        RawAct::Stop(who) => Act::Stop(who_of(script, who)),
-        RawAct::Drain(timer) => Act::Drain(small_of(timer)),
-        RawAct::AsyncDrain { who, func } => Act::AsyncDrain {
-            who: who_of(script, who),
-            func: small_of(func),
-        },
-        RawAct::Active(who) => Act::Active(who_of(script, who)),
-        RawAct::Pending(who) => Act::Pending(who_of(script, who)),
-        RawAct::Deactivate(who) => Act::Deactivate(who_of(script, who)),
-        RawAct::Init(who) => Act::Init(who_of(script, who)),
-        RawAct::Retire(who) => Act::Retire(who_of(script, who)),
-    }
 }
 
 /// The spec that a timer line states, where its lock is known to exist.

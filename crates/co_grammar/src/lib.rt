@@ -14,8 +14,8 @@ mod print;
 mod raw;
 
 pub use actors::turn;
-pub use convert::{act_of, spec_of};
+pub use convert::spec_of;
 pub use keyword::{Kind, Opener, Verb, kind_of, verb_of};
 pub use operands::moment;
 pub use print::{actor_name, print_act, print_lock, print_lone, print_numbered, print_timer};
-pub use raw::{RawAct, RawLock, RawRole, RawSpec, RawTurn, RawWhere, RawWho};
+pub use raw::{RawLock, RawRole, RawSpec, RawTurn};
