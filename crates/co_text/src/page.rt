@@ -163,15 +163,7 @@ impl Page {
             Token::Text(text) => self.text(text),
             Token::Number(number) => self.number(number),
             Token::Lettered(letter, number) => self.lettered(letter, number),
-            Token::Units(sign, number) => {
-                self.push(sign)?;
-                self.lettered(b'u', number)
-            }
             Token::Signed(number) => self.signed(number),
-            Token::Joined(letter, number, mark, other) => {
-                self.lettered(letter, number)?;
-                self.lettered(mark, other)
-            }
         }
     }
 

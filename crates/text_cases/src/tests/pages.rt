@@ -7,10 +7,8 @@ use std::alloc::Global;
 fn write(page: &mut Page) -> Result<(), NoMemory> {
     let words = [
         Token::Number(3),
-        Token::Units(b'=', 5),
         Token::Lettered(b'f', 0),
         Token::Signed(-1),
-        Token::Joined(b'c', 0, b'*', 2),
     ];
     page.line(&Token::Text(b"reset".as_slice()), words.as_slice())?;
     for number in [0, 10, 999, 1000, 9999, 10000, 18446744073709551615] {
@@ -28,7 +26,7 @@ fn writes_words_and_numbers(rt: HostRuntime) {
     let mut page = Page::new(rt.alloc());
     assert!(rt; write(&mut page).is_ok());
     let wanted =
-        b"reset 3 =u5 f0 -1 c0*2\n u0 u10 u999 u1000 u9999 u10000 u18446744073709551615 -2147483648 -1 99".as_slice();
+        b"reset 3 f0 -1\n u0 u10 u999 u1000 u9999 u10000 u18446744073709551615 -2147483648 -1 99".as_slice();
     assert!(rt; page.done().unwrap_or(Seq::new(rt.alloc())).as_slice() == wanted);
 }
 
