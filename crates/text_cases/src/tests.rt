@@ -1,5 +1,6 @@
 mod beside;
 mod ends;
+mod lines;
 mod pages;
 mod reports;
 mod scripts;
