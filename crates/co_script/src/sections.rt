@@ -3,7 +3,7 @@ ghost use Rattle.std.specs.Prelude.{◌≤◌, IfOk, length};
 ghost use Rattle.co_script.specs.Beside.{IsSection};
 
 use crate::draft::Draft;
-use crate::spot::line_at;
+use crate::spot::{content_at, line_at};
 use co_grammar::{Kind, kind_of};
 use co_program::Acts;
 use co_sbt::{NoMemory, Sbt, Seq};
@@ -95,8 +95,8 @@ pub(crate) fn read_section(
     let at = start.at.min(text.len());
     let mut end = at;
     let mut lines = 0;
-    while let Some((line, ended, behind)) = line_at(text, end) {
-        if !draft.grow(line, ended)? {
+    while let Some((part, behind)) = content_at(text, end) {
+        if !draft.grow(part)? {
             break;
         }
         end = behind;

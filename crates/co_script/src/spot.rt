@@ -1,8 +1,9 @@
 //! Places in a text.
 ghost use Rattle.std.specs.Prelude.{◌≡◌, ◌∷◌, ◌≤◌, ◌<◌, length, drop, IfSome, MatchOption};
-ghost use Rattle.co_text.specs.Lines.{lines_of};
+ghost use Rattle.co_text.specs.Fallible.{Gives};
+ghost use Rattle.co_text.specs.Lines.{Line, lines_of, content};
 
-use co_text::next_line;
+use co_text::{Cause, next_content, next_line};
 
 /// A place in a text, where a line begins, or its end.
 #[derive(Clone, Copy)]
@@ -34,4 +35,19 @@ pub(crate) fn line_at(text: &[u8], at: usize) -> Option<(&[u8], bool, usize)>
         return None;
     };
     Some((line, ended, text.len() - after.len()))
+}
+
+/// The part before its comment of the line that begins at this byte, as `content` gives it, and the byte behind the line.
+/// None at the end of the text.
+#[inline(always)]
+pub(crate) fn content_at(text: &[u8], at: usize) -> Option<(Result<&[u8], Cause>, usize)>
+    requires { at ≤ length text.now }
+    ensures line { MatchOption result (at ≡ length text.now)
+        (λ x. (line : Line) × (lines_of (drop at text.now) ≡ line ∷ lines_of (drop x.1 text.now)) × Gives (λ part. part.now) x.0 (content line)) }
+    ensures further { IfSome result (λ x. (at < x.1) × (x.1 ≤ length text.now)) }
+{
+    let Some((part, after)) = next_content(text.split_at(at).1) else {
+        return None;
+    };
+    Some((part, text.len() - after.len()))
 }

@@ -1,12 +1,14 @@
 //! A section that is read on its own, beside others, and put into the draft where it stands.
 ghost use Rattle.std.specs.Prelude.{◌≡◌, ◌≤◌, ◌+◌, true, IfOk, IfSome, MatchBool, length};
+ghost use Rattle.co_text.specs.Fallible.{Gives};
+ghost use Rattle.co_text.specs.Lines.{Line, content};
 ghost use Rattle.co_script.specs.Beside.{HaveOneFrame, Begins, Grows, SaysAct, MayTakeActs, with_acts};
 
 use super::Draft;
 use co_grammar::{Kind, Opener, forms};
 use co_program::{Act, Acts, When};
 use co_sbt::{NoMemory, Sbt, Seq};
-use co_text::{Words, content};
+use co_text::{Cause, Words};
 use std::alloc::Global;
 
 impl Draft {
@@ -40,16 +42,17 @@ impl Draft {
             return None;
         };
         match self.refuse(&act) {
-            Ok(()) => Some(self.act_of(&act)),
+            Ok(()) => Some(act),
             Err(_) => None,
         }
     }
 
-    /// Takes a line of the open section. False where it is no such line, or is bad: then nothing is taken.
-    pub fn grow(&mut self, line: &[u8], ended: bool) -> Result<bool, NoMemory>
-        ensures { IfOk result (λ took. MatchBool took (Grows (record { bytes = line.now; ended = ended }) self.old self.new) (self.new ≡ self.old)) }
+    /// Takes a line of the open section, by its part before the comment. False where it is no such line, or is bad: then nothing is taken.
+    pub fn grow(&mut self, part: Result<&[u8], Cause>) -> Result<bool, NoMemory>
+        ensures { (line : Line) → Gives (λ part. part.now) part.entry (content line) →
+            IfOk result (λ took. MatchBool took (Grows line self.old self.new) (self.new ≡ self.old)) }
     {
-        let Ok(part) = content(line, ended) else {
+        let Ok(part) = part else {
             return Ok(false);
         };
         let mut words = Words::new(part);

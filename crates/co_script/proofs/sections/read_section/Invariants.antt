@@ -3,12 +3,12 @@ use Rattle.co_text.specs.Lines.{lines_of}
 use Rattle.co_script.specs.Beside.{HaveOneFrame, Reads}
 use Rattle.co_script.proofs.sections.read_section.Given as goal
 
-abbrev pub decreases-loop-line : goal.decreases-loop-line
-decreases-loop-line l = length l.text - l.end
+abbrev pub decreases-loop-part : goal.decreases-loop-part
+decreases-loop-part l = length l.text - l.end
 
 -- the lines so far are read
-abbrev pub invariant-loop-line : goal.invariant-loop-line
-invariant-loop-line l = record {
+abbrev pub invariant-loop-part : goal.invariant-loop-part
+invariant-loop-part l = record {
   frame : HaveOneFrame l.frame l.draft;
   kind : l.draft.stage ≡ l.start.stage;
   reads : Reads l.frame l.start.stage (lines_of (drop l.at l.text)) l.draft.acts l.draft.clock l.lines (lines_of (drop l.end l.text));
