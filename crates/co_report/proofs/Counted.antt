@@ -1,6 +1,6 @@
 -- The notes of each place, counted: how many there are, and that the position of each note is below that number.
-use Rattle.std.proofs.Common.{◌≡◌, ℕ, zero, suc, ◌+◌, ◌<◌, ◌≤◌, ◌==◌, Bool, true, cond, List, [], ◌∷◌, ◌++◌, map, take, drop, length, get_or, refl, ap, sym, subst, ◌∙◌, arith, length-append}
-use Rattle.std.specs.Prelude.{Some, slice_get}
+use Rattle.std.proofs.Common.{◌≡◌, ℕ, zero, suc, ◌+◌, ◌-◌, ◌<◌, ◌≤◌, ◌==◌, Bool, true, cond, List, [], ◌∷◌, ◌++◌, map, take, drop, length, get_or, refl, ap, sym, subst, ◌∙◌, arith, length-append, get_or-drop, get_or-take, length-take, length-drop}
+use Rattle.std.specs.Prelude.{Some, slice_get, slice_range}
 use Rattle.std.proofs.lemmas.Grind.{flat_map-append}
 use Rattle.std.proofs.lemmas.List.{map-append, take-append-drop}
 use Rattle.std.proofs.lemmas.List.Sums.{length-filter, sum_by-append}
@@ -59,9 +59,27 @@ count-all s p (notes ∷ lists) exists all =
     sum_by-append (λ (note : Note). cond (place_index s note.place == place_index s p) 1 0) notes (all_of lists) in
     omega (arith, both, count-list s p notes exists all.0, count-all s p lists exists all.1, length-append (notes_of p notes) (all_notes_of p lists))
 
-pub count-of : (s : Script) (lists : List (List Note)) (counts : List ℕ) (p : Place) → ArePlaceCounts s lists counts → AllHavePlaces s lists → place_exists s p ≡ true →
+count-of : (s : Script) (lists : List (List Note)) (counts : List ℕ) (p : Place) → ArePlaceCounts s lists counts → AllHavePlaces s lists → place_exists s p ≡ true →
     get_or counts (place_index s p) 0 ≡ length (all_notes_of p lists)
 count-of s lists counts p are all exists = are.each (place_index s p) (index_below s p exists) ∙ count-all s p lists exists all
+
+-- these are the numbers of notes of the places from `first` up to `end`
+pub record ArePartCounts (s : Script) (lists : List (List Note)) (first end : ℕ) (part : List ℕ) : Type 0 where
+  pub places : first + length part ≡ end
+  pub each : (p : Place) → place_exists s p ≡ true → first ≤ place_index s p → place_index s p < end → get_or part (place_index s p - first) 0 ≡ length (all_notes_of p lists)
+
+pub part-counted : (s : Script) (lists : List (List Note)) (counts : List ℕ) (first end : ℕ) → ArePlaceCounts s lists counts → AllHavePlaces s lists → first ≤ end → end ≤ place_count s
+    → ArePartCounts s lists first end (slice_range counts first end)
+part-counted s lists counts first end are all order upto = record {
+  places = omega (arith, order, upto, are.places, length-take (end - first) (drop first counts), length-drop first counts);
+  each = λ p exists from below. (
+      let inside : place_index s p - first < end - first = omega (arith, from, below) in
+      let same : first + (place_index s p - first) ≡ place_index s p = omega (arith, from) in
+      get_or-take (end - first) (drop first counts) (place_index s p - first) 0 inside
+      ∙ (get_or-drop first counts (place_index s p - first) 0
+      ∙ (ap (λ i. get_or counts i 0) same
+      ∙ count-of s lists counts p are all exists)));
+}
 
 -- what is counted of the lists up to one of them and of those behind it, together
 pub halves-counted : (s : Script) (lists : List (List Note)) (k : ℕ) (front back all : Counted)

@@ -14,11 +14,10 @@ use Rattle.co_text.specs.Lines.{line_text, text}
 use Rattle.co_text.specs.Values.{Word}
 use Rattle.co_text.proofs.Spacing.{text_append}
 use Rattle.co_report.specs.Histories.{shown_history}
-use Rattle.co_report.specs.declared.order.Order.{Order}
 use Rattle.co_report.specs.declared.origin.Origin.{Origin}
-use Rattle.co_report.specs.Order.{place_index, place_count, origins_in, ShowsHistories}
+use Rattle.co_report.specs.Order.{place_index, place_count, ShowsHistory}
 use Rattle.co_report.specs.Origins.{lines_from}
-use Rattle.co_report.specs.Reports.{places, heading, shown_words, place_lines, lines_between, report_of, head_text, framed}
+use Rattle.co_report.specs.Reports.{places, heading, place_lines, lines_between, report_of, head_text, framed}
 use Rattle.co_report.proofs.Framed.{report-framed, pieces-framed}
 use Rattle.co_report.proofs.Places.{index_below}
 use Rattle.co_report.proofs.ToldPages.{at-place, length-places}
@@ -62,24 +61,24 @@ module _ (s : Script) (lists : List (List Note)) where
       ∙ append-nil (lines_of p)))
 
   -- a heading and the lines of the place's notes
-  pub place-written : (order : Order) → ShowsHistories s lists order → (p : Place) (number : ℕ) (origins : List Origin) (p0 p1 p2 : List ℕ) → place_exists s p ≡ true → place_index s p ≡ number
-      → origins ≡ origins_in order number → p1 ≡ p0 ++ line_text (heading s p) → p2 ≡ p1 ++ text (lines_from s lists origins) → p2 ≡ p0 ++ text_between number (number + 1)
-  place-written order shows p number origins p0 p1 p2 exists index at e1 e2 =
-      let notes : lines_from s lists origins ≡ map (shown_words s) (shown_history lists p) = ap (lines_from s lists) (at ∙ ap (origins_in order) (sym index)) ∙ shows.shows p exists in
+  pub place-written : (p : Place) (origins : List Origin) (p0 p1 p2 : List ℕ) → ShowsHistory s lists p origins → p1 ≡ p0 ++ line_text (heading s p) → p2 ≡ p1 ++ text (lines_from s lists origins)
+      → p2 ≡ p0 ++ text (lines_of p)
+  place-written p origins p0 p1 p2 shows e1 e2 =
       e2
       ∙ (ap (λ t. t ++ text (lines_from s lists origins)) e1
       ∙ (append_assoc p0 (line_text (heading s p)) (text (lines_from s lists origins))
-      ∙ (ap (λ ls. p0 ++ text (heading s p ∷ ls)) notes
-      ∙ (ap (λ ls. p0 ++ text ls) (sym (alone p exists))
-      ∙ ap (λ i. p0 ++ text_between i (i + 1)) index))))
+      ∙ ap (λ ls. p0 ++ text (heading s p ∷ ls)) shows.shows))
 
   -- one more place
-  pub more-written : (first number : ℕ) (p0 p1 p2 : List ℕ) → first ≤ number → p1 ≡ p0 ++ text_between first number → p2 ≡ p1 ++ text_between number (number + 1) → p2 ≡ p0 ++ text_between first (number + 1)
-  more-written first number p0 p1 p2 order e1 e2 =
+  pub more-written : (first number : ℕ) (p : Place) (p0 p1 p2 : List ℕ) → first ≤ number → place_exists s p ≡ true → place_index s p ≡ number
+      → p1 ≡ p0 ++ text_between first number → p2 ≡ p1 ++ text (lines_of p) → p2 ≡ p0 ++ text_between first (number + 1)
+  more-written first number p p0 p1 p2 order exists index e1 e2 =
+      let one : text (lines_of p) ≡ text_between number (number + 1) = ap text (sym (alone p exists)) ∙ ap (λ i. text_between i (i + 1)) index in
       e2
-      ∙ (ap (λ t. t ++ text_between number (number + 1)) e1
-      ∙ (append_assoc p0 (text_between first number) (text_between number (number + 1))
-      ∙ ap (λ t. p0 ++ t) (sym (text-split first number (number + 1) order (omega arith)))))
+      ∙ (ap (λ t. t ++ text (lines_of p)) e1
+      ∙ (append_assoc p0 (text_between first number) (text (lines_of p))
+      ∙ (ap (λ t. p0 ++ (text_between first number ++ t)) one
+      ∙ ap (λ t. p0 ++ t) (sym (text-split first number (number + 1) order (omega arith))))))
 
   -- the pieces of both halves
   pub halves-written : (first middle end : ℕ) (q0 q1 q2 : List (List ℕ)) → first ≤ middle → middle ≤ end → concat q0 ≡ text_between first middle → concat q1 ≡ text_between middle end → q2 ≡ q0 ++ q1

@@ -1,5 +1,5 @@
 -- A spot that was written down is that of a note of the lists.
-use Rattle.std.proofs.Common.{◌≡◌, ℕ, zero, suc, ◌+◌, ◌<◌, ◌^◌, List, [], ◌∷◌, map, length, get_or, refl, ap, subst, ◌∙◌, arith}
+use Rattle.std.proofs.Common.{◌≡◌, ℕ, zero, suc, ◌+◌, ◌-◌, ◌<◌, ◌^◌, List, [], ◌∷◌, map, length, get_or, refl, ap, sym, subst, ◌∙◌, arith}
 use Rattle.std.specs.Prelude.{Some, option_and_then, slice_get}
 use Rattle.std.proofs.lemmas.List.{length-map}
 use Rattle.std.proofs.lemmas.Option.{slice_get-get_or, slice_get_read}
@@ -8,10 +8,8 @@ use Rattle.co_program.specs.declared.Script.{Script}
 use Rattle.co_report.specs.declared.order.Spot.{Spot}
 use Rattle.co_report.specs.Origins.{note_at}
 use Rattle.co_report.specs.declared.origin.Origin.{Origin}
-use Rattle.co_report.specs.Order.{place_index, spot_of, location, HasRoomForOrigins, AreWritten}
-use Rattle.co_report.proofs.Places.{index_below}
-use Rattle.co_report.proofs.Counted.{note-place}
-use Rattle.co_report.proofs.Written.{with_at, one-written}
+use Rattle.co_report.specs.Order.{place_index, spot_of, IsOfPart, location, HasRoomForOrigins, AreWritten}
+use Rattle.co_report.proofs.Written.{with_at, one-passed, one-written}
 
 -- what an item at an index was made of
 pub record MadeOf {A B : Type 0} (f : A → B) (xs : List A) (i : ℕ) (y : B) : Type 0 where
@@ -48,27 +46,33 @@ module _ (s : Script) (lists : List (List Note)) (a : ℕ) where
         is = of.is;
       }
 
-  -- where the origin of the note of a spot stands
-  module _ (starts : List ℕ) (i : ℕ) (spot : Spot) (of : NoteOf i spot) where
+  -- where the origin of the note of a spot stands, if its place is of the part
+  module _ (first : ℕ) (starts : List ℕ) (i : ℕ) (spot : Spot) (of : NoteOf i spot) where
     abbrev pub stand : ℕ
-    stand = get_or starts spot.place 0 + spot.pos
+    stand = get_or starts (spot.place - first) 0 + spot.pos
 
-    stands : stand ≡ location s starts of.note
-    stands = ap (λ (x : Spot). get_or starts x.place 0 + x.pos) of.is
+    stands : stand ≡ location s first starts of.note
+    stands = ap (λ (x : Spot). get_or starts (x.place - first) 0 + x.pos) of.is
 
-    pub place-inside : (room : ℕ) → HasRoomForOrigins s lists starts room → spot.place < length starts
-    place-inside room has =
-        let place : spot.place ≡ place_index s of.note.place = ap (λ (x : Spot). x.place) of.is in
-        omega (arith, place, index_below s of.note.place (note-place s lists a i of.note has.exist of.at), has.places)
+    place : spot.place ≡ place_index s of.note.place
+    place = ap (λ (x : Spot). x.place) of.is
 
-    pub stand-inside : (room : ℕ) → HasRoomForOrigins s lists starts room → stand < room
-    stand-inside room has = omega (arith, stands, has.inside a i of.note of.at)
+    pub spot-passed : (origins : List Origin) → (IsOfPart first starts spot.place → ⊥) → AreWritten s lists first starts origins a i → AreWritten s lists first starts origins a (i + 1)
+    spot-passed origins other w = one-passed s lists first starts origins a i of.note of.at w (λ is. other (subst (λ q. IsOfPart first starts q) (sym place) is))
 
-    pub stand-fits : (room : ℕ) → HasRoomForOrigins s lists starts room → stand < 2 ^ 64
-    stand-fits room has = omega (arith, stand-inside room has, has.fits)
+    module _ (of_part : IsOfPart first starts spot.place) where
+      of-part : IsOfPart first starts (place_index s of.note.place)
+      of-part = subst (λ q. IsOfPart first starts q) place of_part
 
-    pub at-inside : (room at : ℕ) → HasRoomForOrigins s lists starts room → at ≡ stand → at < room
-    at-inside room at has is = omega (arith, is, stand-inside room has)
+      stand-inside : (room : ℕ) → HasRoomForOrigins s lists first starts room → stand < room
+      stand-inside room has = omega (arith, stands, has.inside a i of.note of.at of-part)
 
-    pub spot-written : (origins : List Origin) (at : ℕ) → at ≡ stand → at < length origins → AreWritten s lists starts origins a i → AreWritten s lists starts (with_at origins at a i) a (i + 1)
-    spot-written origins at is inside w = one-written s lists starts origins a i at of.note of.at (is ∙ stands) inside w
+      pub stand-fits : (room : ℕ) → HasRoomForOrigins s lists first starts room → stand < 2 ^ 64
+      stand-fits room has = omega (arith, stand-inside room has, has.fits)
+
+      pub at-inside : (room at : ℕ) → HasRoomForOrigins s lists first starts room → at ≡ stand → at < room
+      at-inside room at has is = omega (arith, is, stand-inside room has)
+
+      pub spot-written : (origins : List Origin) (at : ℕ) → at ≡ stand → at < length origins → AreWritten s lists first starts origins a i
+          → AreWritten s lists first starts (with_at origins at a i) a (i + 1)
+      spot-written origins at is inside w = one-written s lists first starts origins a i of.note of.at w at of-part (is ∙ stands) inside

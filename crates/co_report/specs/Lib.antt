@@ -10,6 +10,8 @@ pub mod Reports
 pub mod Origins
 -- the notes of all lists in the report's order, as the code sorts them: by place and position
 pub mod Order
+-- that lists are well formed is a fact of one proof, which a struct may keep
+pub mod Once
 -- the sections of a report while its notes are told one by one
 pub mod Sections
 -- the parts of a line between its spaces

@@ -1,5 +1,6 @@
--- The notes of all lists in the report's order: place by place, and in each place by position.
-use Rattle.std.specs.Prelude.{◌≡◌, ◌<◌, ◌≤◌, ◌⊎◌, ℕ, ◌+◌, ◌^◌, true, List, [], ◌∷◌, length, map, ◌==◌, count_by, Option, Some, IsSome, slice_index, slice_index_or, slice_range}
+-- The notes of all lists in the report's order: place by place, and in each place by position. They are put into order by
+-- parts: a part has the notes of some places that follow each other.
+use Rattle.std.specs.Prelude.{◌≡◌, ◌<◌, ◌≤◌, ◌⊎◌, ℕ, ◌+◌, ◌-◌, ◌^◌, true, List, [], ◌∷◌, length, map, ◌==◌, count_by, Option, Some, IsSome, slice_index, slice_index_or, slice_range}
 use Rattle.std.specs.List.{flat_map}
 use Rattle.co_object.specs.declared.Place.{Place}
 use Rattle.co_object.specs.declared.Note.{Note}
@@ -13,7 +14,7 @@ use Rattle.co_report.specs.Origins.{note_at, note_from, entries_from, lines_from
 use Rattle.co_report.specs.Histories.{shown_history}
 use Rattle.co_report.specs.Reports.{shown_words}
 pub use Rattle.co_program.specs.Places.{place_index, place_count}
-use Rattle.co_program.specs.Places.{place_exists, AllHavePlaces}
+use Rattle.co_program.specs.Places.{place_exists}
 
 -- how many of these notes stand in the place of this number
 abbrev pub count_in : Script → ℕ → List Note → ℕ
@@ -41,16 +42,19 @@ abbrev pub starts_from : ℕ → List ℕ → List ℕ
 starts_from first [] = first ∷ []
 starts_from first (n ∷ ns) = first ∷ starts_from (first + n) ns
 
--- where a note's origin stands
-abbrev pub location : Script → List ℕ → Note → ℕ
-location s starts note = slice_index starts (place_index s note.place) + note.pos
+-- the place of this number is of the part from place `first` on: each of its places has a start, and behind the last one's
+-- stands the end
+abbrev pub IsOfPart : (first : ℕ) → List ℕ → ℕ → Type 0
+IsOfPart first starts i = (first ≤ i) × (i + 1 < first + length starts)
 
--- an array of this length has room for the origin of each note, by these starts
-pub record HasRoomForOrigins (s : Script) (lists : List (List Note)) (starts : List ℕ) (room : ℕ) : Type 0 where
+-- where a note's origin stands in its part
+abbrev pub location : Script → (first : ℕ) → List ℕ → Note → ℕ
+location s first starts note = slice_index starts (place_index s note.place - first) + note.pos
+
+-- an array of this length has room for the origin of each note of the part, by these starts
+pub record HasRoomForOrigins (s : Script) (lists : List (List Note)) (first : ℕ) (starts : List ℕ) (room : ℕ) : Type 0 where
   pub fits : room < 2 ^ 64
-  pub places : length starts ≡ place_count s + 1
-  pub exist : AllHavePlaces s lists
-  pub inside : (a k : ℕ) (note : Note) → note_at lists a k ≡ Some note → location s starts note < room
+  pub inside : (a k : ℕ) (note : Note) → note_at lists a k ≡ Some note → IsOfPart first starts (place_index s note.place) → location s first starts note < room
 
 -- the note at this index of an array of origins; where nothing was written, there is none
 abbrev pub note_behind : List (List Note) → List Origin → ℕ → Option Note
@@ -60,23 +64,28 @@ note_behind lists origins q = note_from lists (slice_index_or origins q (record 
 abbrev pub IsBefore : (actor number a k : ℕ) → Type 0
 IsBefore actor number a k = (a < actor) ⊎ ((a ≡ actor) × (k < number))
 
--- the origins of the notes before this one are written
-pub record AreWritten (s : Script) (lists : List (List Note)) (starts : List ℕ) (origins : List Origin) (actor number : ℕ) : Type 0 where
-  -- what is written is the origin of a note that belongs there
-  pub belong : (q : ℕ) (note : Note) → note_behind lists origins q ≡ Some note → location s starts note ≡ q
-  -- each note's place is taken
-  pub taken : (a k : ℕ) (note : Note) → IsBefore actor number a k → note_at lists a k ≡ Some note → IsSome (note_behind lists origins (location s starts note))
+-- the origins of the notes of the part before this note are written
+pub record AreWritten (s : Script) (lists : List (List Note)) (first : ℕ) (starts : List ℕ) (origins : List Origin) (actor number : ℕ) : Type 0 where
+  -- what is written is the origin of a note of the part that belongs there
+  pub belong : (q : ℕ) (note : Note) → note_behind lists origins q ≡ Some note → IsOfPart first starts (place_index s note.place) × (location s first starts note ≡ q)
+  -- the place of each note of the part is taken
+  pub taken : (a k : ℕ) (note : Note) → IsBefore actor number a k → note_at lists a k ≡ Some note → IsOfPart first starts (place_index s note.place)
+      → IsSome (note_behind lists origins (location s first starts note))
 
--- the origins of the notes of the place of this number
+-- the origins of the notes of the place of this number in the part
 abbrev pub origins_in : Order → ℕ → List Origin
 origins_in order i = slice_range order.origins.items (slice_index order.starts i) (slice_index order.starts (i + 1))
 
--- the order shows the history of each place
-pub record ShowsHistories (s : Script) (lists : List (List Note)) (order : Order) : Type 0 where
-  pub count : length order.starts ≡ place_count s + 1
-  pub rises : (i : ℕ) → i < place_count s → slice_index order.starts i ≤ slice_index order.starts (i + 1)
-  pub within : (i : ℕ) → i ≤ place_count s → slice_index order.starts i ≤ length order.origins.items
-  -- the entries of each place's notes are its history
-  pub entries : (p : Place) → place_exists s p ≡ true → entries_from lists (origins_in order (place_index s p)) ≡ history p lists
+-- these origins show the history of the place
+pub record ShowsHistory (s : Script) (lists : List (List Note)) (p : Place) (origins : List Origin) : Type 0 where
+  -- the entries of the notes are its history
+  pub entries : entries_from lists origins ≡ history p lists
   -- and their lines those that a report shows of it
-  pub shows : (p : Place) → place_exists s p ≡ true → lines_from s lists (origins_in order (place_index s p)) ≡ map (shown_words s) (shown_history lists p)
+  pub shows : lines_from s lists origins ≡ map (shown_words s) (shown_history lists p)
+
+-- the order is that of the places from `first` up to `end`, and shows the history of each of them
+pub record ShowsHistories (s : Script) (lists : List (List Note)) (first end : ℕ) (order : Order) : Type 0 where
+  pub count : first + length order.starts ≡ end + 1
+  pub rises : (i : ℕ) → first + i < end → slice_index order.starts i ≤ slice_index order.starts (i + 1)
+  pub within : (i : ℕ) → first + i ≤ end → slice_index order.starts i ≤ length order.origins.items
+  pub each : (p : Place) → place_exists s p ≡ true → first ≤ place_index s p → place_index s p < end → ShowsHistory s lists p (origins_in order (place_index s p - first))

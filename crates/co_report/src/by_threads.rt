@@ -5,13 +5,12 @@ ghost use Rattle.co_text.specs.Lines.{text};
 ghost use Rattle.co_object.specs.Lists.{IsWellFormed};
 ghost use Rattle.co_program.specs.Places.{AllHavePlaces};
 ghost use Rattle.co_report.specs.Reports.{lines_between, head_text, report_of};
-ghost use Rattle.co_report.specs.Order.{place_count, ShowsHistories};
+ghost use Rattle.co_report.specs.Order.{place_count};
 ghost use denote.Param.Send.{IsSync};
 
 use crate::counting::count_by_threads;
 use crate::frame::{head_piece, in_frame};
 use crate::joining::append;
-use crate::order::{Order, order_from};
 use crate::report::Printing;
 use co_packed::PackedNote;
 use co_program::Script;
@@ -20,7 +19,9 @@ use co_text::Page;
 use std::alloc::Global;
 use std::thread::{Threads, join};
 
-/// How often the places are halved: three times, for 8 parts.
+/// How often the places are halved: three times, for 8 parts. Each part makes its own order, so that no thread waits for
+/// another's, and what it wrote is in its processor's cache when it prints. Each therefore reads the spots of all notes, 8
+/// bytes a note one behind the other, and that 8 times: a fixed factor, by this number alone.
 const HALVINGS: u32 = 3;
 
 /// The places from `first` up to `end` in one piece.
@@ -35,7 +36,7 @@ fn print_piece(
     ensures { IfOk result (λ pieces. concat pieces ≡ text (lines_between printing.now.script.now printing.now.lists.now first end)) }
 {
     let mut page = Page::new(alloc);
-    printing.print_places(&mut page, first, end)?;
+    printing.print_places(alloc, &mut page, first, end)?;
     let mut pieces = Seq::new(alloc);
     pieces.push(page.done()?)?;
     Ok(pieces)
@@ -75,22 +76,7 @@ fn print_halves<R: Threads + Sync>(
     Ok(pieces)
 }
 
-/// The order of the notes, which threads count. What was counted goes with the call.
-fn order_by_threads<R: Threads + Sync>(
-    rt: &R,
-    alloc: Global,
-    script: &Script,
-    lists: &[Seq<PackedNote>],
-) -> Result<Order, NoMemory>
-    requires places { AllHavePlaces script.now lists.now }
-    requires formed { IsWellFormed lists.now }
-    ensures { IfOk result (λ order. ShowsHistories script.now lists.now order) }
-{
-    let counted = count_by_threads(rt, alloc, script, lists)?;
-    order_from(alloc, script, lists, &counted)
-}
-
-/// All places in pieces, once their notes are in order.
+/// All places in pieces, once their notes are counted.
 fn print_all_places<R: Threads + Sync>(
     rt: &R,
     alloc: Global,
@@ -102,16 +88,16 @@ fn print_all_places<R: Threads + Sync>(
     ensures { IfOk result (λ parts. concat parts ≡ text (lines_between script.now lists.now 0 (place_count script.now))) }
 {
     let lists = lists.as_slice();
-    let order = order_by_threads(rt, alloc, script, lists)?;
-    let printing = Printing::in_order(script, lists, order);
+    let counted = count_by_threads(rt, alloc, script, lists)?;
+    let printing = Printing::new(alloc, script, lists, counted)?;
     print_halves(rt, alloc, &printing, 0, printing.place_count(), HALVINGS)
 }
 
 /// The report of a script and the lists of its actors' notes, as `print_report` gives it, in pieces: joined they are the
 /// report. A thread of its own prints the lines before the first place; beside it up to 8 threads count the notes of each
-/// place and write down where each note belongs, each those of some lists, the notes are put into order by what these
-/// wrote, and then up to 8 threads print parts beside each other, each the notes of some places. Where no thread can be had
-/// all of this is done one after the other.
+/// place and write down where each note belongs, each those of some lists, and then up to 8 threads print parts beside each
+/// other: each puts the notes of some places into order by what was written down, and prints them. Where no thread can be
+/// had all of this is done one after the other.
 /// NoMemory where a part finds no memory, and where `print_report` gives it.
 pub fn print_by_threads<R: Threads + Sync>(
     rt: &R,

@@ -1,8 +1,9 @@
-//! The notes of all lists, place by place and in each place by position: counted first, then put where they belong.
+//! The notes of all lists, place by place and in each place by position: counted first, then put where they belong. They are
+//! put into order by parts, each by itself: a part has the notes of some places that follow each other.
 //!
 //! A note takes 88 bytes, and is read from memory once: as it is counted the 8 bytes are written down that say where it
 //! belongs, and the rest is done with these.
-ghost use Rattle.std.specs.Prelude.{◌≡◌, ◌≤◌, ◌<◌, ◌+◌, ◌^◌, ℕ, length, map, replicate, slice_index, OnOk, IfOk};
+ghost use Rattle.std.specs.Prelude.{◌≡◌, ◌≤◌, ◌<◌, ◌+◌, ◌-◌, ◌^◌, ℕ, length, map, replicate, slice_index, OnOk, IfOk};
 ghost use Rattle.co_object.specs.Lists.{IsWellFormed};
 ghost use Rattle.co_program.specs.Places.{HavePlaces, AllHavePlaces};
 ghost use Rattle.co_report.specs.Order.{place_index, place_count, count_in, spot_of, AreCounted, starts_from, HasRoomForOrigins, AreWritten, origins_in, ShowsHistories};
@@ -31,12 +32,12 @@ pub(crate) struct Counted {
     pub(crate) spots: Seq<Seq<Spot>>,
 }
 
-/// The notes of all lists, in the report's order.
+/// The notes of some places that follow each other, in the report's order.
 #[derive(Drop)]
 pub struct Order {
     /// Where the notes of each place begin, and behind the last place the end.
     starts: Seq<usize>,
-    /// The origins of all notes, place by place, and in each place by position.
+    /// The origins of the notes, place by place, and in each place by position.
     origins: Vec<Origin>,
 }
 
@@ -49,7 +50,7 @@ impl Order {
         self.starts.as_slice().len() - 1
     }
 
-    /// The origins of the notes of the place of this number.
+    /// The origins of the notes of the place of this number among its places.
     pub fn of_place(&self, place: usize) -> &[Origin]
         requires place { place + 1 < length self.now.starts }
         requires rises { slice_index self.now.starts place ≤ slice_index self.now.starts (place + 1) }
@@ -58,25 +59,6 @@ impl Order {
     {
         let starts = self.starts.as_slice();
         &self.origins.as_slice()[starts[place]..starts[place + 1]]
-    }
-
-    /// Of the places from `first` up to `end` one such that about half of their notes stand before it, or `end`. It looks
-    /// at them one by one.
-    pub(crate) fn middle(&self, first: usize, end: usize) -> usize
-        requires order { first ≤ end }
-        requires end { end < length self.now.starts }
-        ensures first { first ≤ result }
-        ensures end { result ≤ end }
-    {
-        let starts = self.starts.as_slice();
-        let half = starts[first] / 2 + starts[end] / 2;
-        for place in first..end {
-            // More of the place's notes stand behind the half than before it.
-            if starts[place] / 2 + starts[place + 1] / 2 >= half {
-                return place;
-            }
-        }
-        end
     }
 }
 
@@ -168,7 +150,7 @@ pub(crate) fn count_lists(
 }
 
 /// Where the notes of each place begin, and behind the last place the end.
-fn starts_of(alloc: Global, counts: &[usize]) -> Result<Seq<usize>, NoMemory>
+pub(crate) fn starts_of(alloc: Global, counts: &[usize]) -> Result<Seq<usize>, NoMemory>
     ensures { IfOk result (λ starts. starts ≡ starts_from 0 counts.now) }
 {
     let mut starts = Seq::new(alloc);
@@ -181,13 +163,14 @@ fn starts_of(alloc: Global, counts: &[usize]) -> Result<Seq<usize>, NoMemory>
     Ok(starts)
 }
 
-/// Where the origin of the note of a spot stands.
-fn location(starts: &[usize], spot: &Spot) -> usize
-    requires exists { spot.now.place < length starts.now }
-    requires fits { slice_index starts.now spot.now.place + spot.now.pos < 2 ^ 64 }
-    ensures { result ≡ slice_index starts.now spot.now.place + spot.now.pos }
+/// Where the origin of the note of a spot stands in the part from place `first` on.
+fn location(first: usize, starts: &[usize], spot: &Spot) -> usize
+    requires from { first ≤ spot.now.place }
+    requires exists { spot.now.place - first < length starts.now }
+    requires fits { slice_index starts.now (spot.now.place - first) + spot.now.pos < 2 ^ 64 }
+    ensures { result ≡ slice_index starts.now (spot.now.place - first) + spot.now.pos }
 {
-    starts[spot.place as usize] + spot.pos as usize
+    starts[spot.place as usize - first] + spot.pos as usize
 }
 
 /// Room for so many origins, where nothing is written yet: no actor has the number that stands there.
@@ -204,87 +187,102 @@ fn no_origins(alloc: Global, actors: u32, room: usize) -> Result<Vec<Origin>, No
     }
 }
 
-/// Writes the origins of an actor's notes where they belong, which the spots say: no note is looked at.
+/// Writes the origins of those of an actor's notes that are of the part from place `first` on, each where it belongs. The
+/// spots say all of this: no note is looked at.
 fn write_list(
     script: &Script,
     lists: &[Seq<PackedNote>],
     spots: &[Seq<Spot>],
+    first: usize,
     starts: &[usize],
     origins: &mut [Origin],
     actor: u32,
 ) -> Result<(), NoMemory>
     requires actor { actor < length lists.now }
     requires spots { spots.now ≡ map (map (spot_of script.now)) lists.now }
-    requires room { HasRoomForOrigins script.now lists.now starts.now (length origins.old) }
-    requires written { AreWritten script.now lists.now starts.now origins.old actor 0 }
+    requires room { HasRoomForOrigins script.now lists.now first starts.now (length origins.old) }
+    requires written { AreWritten script.now lists.now first starts.now origins.old actor 0 }
     ensures length { OnOk result (length origins.new ≡ length origins.old) }
-    ensures written { OnOk result (AreWritten script.now lists.now starts.now origins.new (actor + 1) 0) }
+    ensures written { OnOk result (AreWritten script.now lists.now first starts.now origins.new (actor + 1) 0) }
 {
     let _ = script;
     let _ = lists;
     let listed = spots[actor as usize].as_slice();
     let count = short(listed.len())?;
     for number in 0..count {
-        let at = location(starts, &listed[number as usize]);
-        origins[at] = Origin { actor, number };
+        let spot = &listed[number as usize];
+        let place = spot.place as usize;
+        // Each place of the part has a start, and behind the last one's stands the end.
+        if first <= place && place - first + 1 < starts.len() {
+            let at = location(first, starts, spot);
+            origins[at] = Origin { actor, number };
+        }
     }
     Ok(())
 }
 
-/// The origins of all notes, in the report's order.
+/// The origins of the notes of the part from place `first` on, in the report's order.
 fn origins_of(
     alloc: Global,
     script: &Script,
     lists: &[Seq<PackedNote>],
     spots: &[Seq<Spot>],
+    first: usize,
     starts: &[usize],
     room: usize,
 ) -> Result<Vec<Origin>, NoMemory>
     requires spots { spots.now ≡ map (map (spot_of script.now)) lists.now }
-    requires room { HasRoomForOrigins script.now lists.now starts.now room }
+    requires room { HasRoomForOrigins script.now lists.now first starts.now room }
     ensures length { IfOk result (λ origins. length origins.items ≡ room) }
-    ensures written { IfOk result (λ origins. AreWritten script.now lists.now starts.now origins.items (length lists.now) 0) }
+    ensures written { IfOk result (λ origins. AreWritten script.now lists.now first starts.now origins.items (length lists.now) 0) }
 {
     let actors = short(lists.len())?;
     let mut origins = no_origins(alloc, actors, room)?;
     for actor in 0..actors {
-        write_list(script, lists, spots, starts, origins.as_mut_slice(), actor)?;
+        write_list(
+            script,
+            lists,
+            spots,
+            first,
+            starts,
+            origins.as_mut_slice(),
+            actor,
+        )?;
     }
     Ok(origins)
 }
 
-/// The order of packed notes that are counted.
+/// The order of the counted notes of the places from `first` up to `end`. It goes over the spots of all notes, and passes by
+/// those of other places.
 pub(crate) fn order_from(
     alloc: Global,
     script: &Script,
     lists: &[Seq<PackedNote>],
     counted: &Counted,
+    first: usize,
+    end: usize,
 ) -> Result<Order, NoMemory>
     requires places { AllHavePlaces script.now lists.now }
     requires formed { IsWellFormed lists.now }
     requires counted { AreCounted script.now lists.now counted.now }
-    ensures { IfOk result (λ order. ShowsHistories script.now lists.now order) }
+    requires order { first ≤ end }
+    requires end { end ≤ place_count script.now }
+    ensures { IfOk result (λ order. ShowsHistories script.now lists.now first end order) }
 {
-    let counts = counted.counts.as_slice();
+    let counts = &counted.counts.as_slice()[first..end];
     let starts = starts_of(alloc, counts)?;
     let from = starts.as_slice();
     let room = from[counts.len()];
-    let origins = origins_of(alloc, script, lists, counted.spots.as_slice(), from, room)?;
+    let origins = origins_of(
+        alloc,
+        script,
+        lists,
+        counted.spots.as_slice(),
+        first,
+        from,
+        room,
+    )?;
     Ok(Order { starts, origins })
-}
-
-/// The order of packed notes, as [`order_of`] has it.
-pub(crate) fn packed_order(
-    alloc: Global,
-    script: &Script,
-    lists: &[Seq<PackedNote>],
-) -> Result<Order, NoMemory>
-    requires places { AllHavePlaces script.now lists.now }
-    requires formed { IsWellFormed lists.now }
-    ensures { IfOk result (λ order. ShowsHistories script.now lists.now order) }
-{
-    let counted = count_lists(alloc, script, lists)?;
-    order_from(alloc, script, lists, &counted)
 }
 
 /// The notes of all lists, in the report's order: place by place, and in each place by position. It takes time and memory
@@ -295,8 +293,17 @@ pub(crate) fn packed_order(
 pub fn order_of(alloc: Global, script: &Script, lists: &[Seq<Note>]) -> Result<Order, NoMemory>
     requires places { AllHavePlaces script.now lists.now }
     requires formed { IsWellFormed lists.now }
-    ensures { IfOk result (λ order. ShowsHistories script.now lists.now order) }
+    ensures { IfOk result (λ order. ShowsHistories script.now lists.now 0 (place_count script.now) order) }
 {
     let packed = packed_lists(alloc, lists)?;
-    packed_order(alloc, script, packed.as_slice())
+    let notes = packed.as_slice();
+    let counted = count_lists(alloc, script, notes)?;
+    order_from(
+        alloc,
+        script,
+        notes,
+        &counted,
+        0,
+        counted.counts.as_slice().len(),
+    )
 }

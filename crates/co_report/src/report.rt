@@ -1,14 +1,17 @@
 //! The text of a report: the script, then the notes of each place behind its heading.
-ghost use Rattle.std.specs.Prelude.{◌≡◌, ◌≤◌, ◌<◌, ◌+◌, ◌++◌, true, OnOk, IfOk};
+ghost use Rattle.std.specs.Prelude.{◌≡◌, ◌≤◌, ◌<◌, ◌+◌, ◌++◌, true, length, OnOk, IfOk};
+ghost use Rattle.std.proofs.Props.{props};
 ghost use Rattle.co_text.specs.Lines.{text};
 ghost use Rattle.co_object.specs.Lists.{IsWellFormed};
 ghost use Rattle.co_program.specs.Places.{place_exists, AllHavePlaces};
-ghost use Rattle.co_report.specs.Reports.{lines_between, report_of};
-ghost use Rattle.co_report.specs.Order.{place_index, place_count, ShowsHistories};
+ghost use Rattle.co_report.specs.Histories.{shown_history};
+ghost use Rattle.co_report.specs.Reports.{place_lines, lines_between, report_of};
+ghost use Rattle.co_report.specs.Once.{IsWellFormed-prop};
+ghost use Rattle.co_report.specs.Order.{place_index, place_count, AreCounted, ShowsHistory};
 
 use crate::frame::{print_head, print_heading, print_word};
-use crate::order::{Order, packed_order, short};
-use crate::origin::print_from;
+use crate::order::{Counted, count_lists, order_from, short, starts_of};
+use crate::origin::{Origin, print_from};
 use crate::packing::packed_lists;
 use co_object::{Lists, Place};
 use co_packed::PackedNote;
@@ -35,100 +38,108 @@ fn place_of(script: &Script, number: usize) -> Result<Place, NoMemory>
     }
 }
 
-/// What a report is printed of: the script, the notes of its actors, and their order, which shows the history of each
-/// place. Threads may share it.
+/// What a report is printed of: the script, the notes of its actors, and what was counted of these. Threads may share it.
 #[derive(Drop)]
 pub struct Printing<'a> {
     script: &'a Script,
     lists: &'a [Seq<PackedNote>],
-    order: Order,
-    ghost shows: { ShowsHistories script.now lists.now order },
+    counted: Counted,
+    /// Where the notes of each place begin among those of all places, and behind the last place the end.
+    starts: Seq<usize>,
+    ghost places: { AllHavePlaces script.now lists.now } by { Prim.hlevel props },
+    ghost formed: { IsWellFormed lists.now } by { IsWellFormed-prop lists.now },
+    ghost are_counted: { AreCounted script.now lists.now counted },
+    ghost begin: { length starts ≡ place_count script.now + 1 },
 }
 
 impl<'a> Printing<'a> {
-    /// What is printed of these notes. `NoMemory` where their order finds no memory, has more than 2^32 notes of one
-    /// actor, or has a note at a position or in a place whose number is 2^32 or more.
-    pub fn new(
+    /// What is printed of these notes, of which this was counted. `NoMemory` where there is no room for it.
+    pub(crate) fn new(
         alloc: Global,
         script: &'a Script,
         lists: &'a [Seq<PackedNote>],
+        counted: Counted,
     ) -> Result<Printing<'a>, NoMemory>
         requires places { AllHavePlaces script.now lists.now }
         requires formed { IsWellFormed lists.now }
+        requires counted { AreCounted script.now lists.now counted }
         ensures script { IfOk result (λ printing. printing.script.now ≡ script.now) }
         ensures lists { IfOk result (λ printing. printing.lists.now ≡ lists.now) }
     {
-        let order = packed_order(alloc, script, lists)?;
+        let starts = starts_of(alloc, counted.counts.as_slice())?;
         Ok(Printing {
             script,
             lists,
-            order,
+            counted,
+            starts,
         })
-    }
-
-    /// What is printed of these notes in this order.
-    pub(crate) fn in_order(
-        script: &'a Script,
-        lists: &'a [Seq<PackedNote>],
-        order: Order,
-    ) -> Printing<'a>
-        requires { ShowsHistories script.now lists.now order }
-        ensures script { result.script.now ≡ script.now }
-        ensures lists { result.lists.now ≡ lists.now }
-    {
-        Printing {
-            script,
-            lists,
-            order,
-        }
     }
 
     /// How many places there are.
     pub fn place_count(&self) -> usize
         ensures { result ≡ place_count self.now.script.now }
     {
-        self.order.place_count()
+        self.counted.counts.as_slice().len()
     }
 
-    /// A place between these, such that about half of the notes of the places from `first` up to `end` stand before it.
+    /// Of the places from `first` up to `end` one such that about half of their notes stand before it, or `end`. It looks
+    /// at them one by one.
     pub fn middle(&self, first: usize, end: usize) -> usize
         requires order { first ≤ end }
         requires end { end ≤ place_count self.now.script.now }
         ensures first { first ≤ result }
         ensures end { result ≤ end }
     {
-        self.order.middle(first, end)
+        let starts = self.starts.as_slice();
+        let half = starts[first] / 2 + starts[end] / 2;
+        for place in first..end {
+            // More of the place's notes stand behind the half than before it.
+            if starts[place] / 2 + starts[place + 1] / 2 >= half {
+                return place;
+            }
+        }
+        end
     }
 
-    /// Appends the part of the place of this number: the line that it begins with, and the lines of its notes in order.
-    fn print_place(&self, page: &mut Page, number: usize) -> Result<(), NoMemory>
-        requires { number < place_count self.now.script.now }
-        ensures { OnOk result (page.new ≡ page.old ++ text (lines_between self.now.script.now self.now.lists.now number (number + 1))) }
+    /// Appends the part of a place: the line that it begins with, and the lines of its notes in order, of which these are the
+    /// origins.
+    fn print_place(&self, page: &mut Page, place: Place, origins: &[Origin]) -> Result<(), NoMemory>
+        requires { ShowsHistory self.now.script.now self.now.lists.now place origins.now }
+        ensures { OnOk result (page.new ≡ page.old ++ text (place_lines self.now.script.now (shown_history self.now.lists.now) place)) }
     {
-        let place = place_of(self.script, number)?;
         print_heading(page, self.script, place)?;
-        print_from(page, self.script, self.lists, self.order.of_place(number))?;
+        print_from(page, self.script, self.lists, origins)?;
         Ok(())
     }
 
-    /// Appends the parts of the places from `first` up to `end`. `NoMemory` where the page finds no room.
-    pub fn print_places(&self, page: &mut Page, first: usize, end: usize) -> Result<(), NoMemory>
+    /// Appends the parts of the places from `first` up to `end`, whose notes it puts into order first. For this it goes over
+    /// the spots of all notes. `NoMemory` where their order finds no memory or has more than 2^32 notes of one actor, and
+    /// where the page finds no room.
+    pub fn print_places(
+        &self,
+        alloc: Global,
+        page: &mut Page,
+        first: usize,
+        end: usize,
+    ) -> Result<(), NoMemory>
         requires order { first ≤ end }
         requires end { end ≤ place_count self.now.script.now }
         ensures { OnOk result (page.new ≡ page.old ++ text (lines_between self.now.script.now self.now.lists.now first end)) }
     {
+        let order = order_from(alloc, self.script, self.lists, &self.counted, first, end)?;
         for number in first..end {
-            self.print_place(page, number)?;
+            let place = place_of(self.script, number)?;
+            self.print_place(page, place, order.of_place(number - first))?;
         }
         Ok(())
     }
 
     /// The whole report.
-    fn print(&self, page: &mut Page) -> Result<(), NoMemory>
+    fn print(&self, alloc: Global, page: &mut Page) -> Result<(), NoMemory>
         ensures { OnOk result (page.new ≡ page.old ++ report_of self.now.script.now self.now.lists.now) }
     {
         print_head(page, self.script)?;
-        self.print_places(page, 0, self.place_count())?;
+        self.print_places(alloc, page, 0, self.place_count())?;
         print_word(page, b"end".as_slice())?;
         Ok(())
     }
@@ -145,8 +156,10 @@ pub fn print_report(alloc: Global, script: &Script, lists: &Lists) -> Result<Seq
     ensures { IfOk result (λ bytes. bytes ≡ report_of script.now lists.now) }
 {
     let packed = packed_lists(alloc, lists.as_slice())?;
-    let printing = Printing::new(alloc, script, packed.as_slice())?;
+    let notes = packed.as_slice();
+    let counted = count_lists(alloc, script, notes)?;
+    let printing = Printing::new(alloc, script, notes, counted)?;
     let mut page = Page::new(alloc);
-    printing.print(&mut page)?;
+    printing.print(alloc, &mut page)?;
     page.done()
 }

@@ -13,5 +13,5 @@ loop-actor-init c =
     let filled : c.in_ok-origins.origins.items ≡ replicate c.args.room (nowhere c.args.lists.now) =
     c.in_ok-origins.ensures ∙ ap (λ n. replicate c.args.room (from_actor n)) c.in_ok-actors.ensures in record {
       length = ap length filled ∙ length-replicate c.args.room (nowhere c.args.lists.now);
-      written = subst (λ os. AreWritten c.args.script.now c.args.lists.now c.args.starts.now os 0 0) (sym filled) (none-written c.args.script.now c.args.lists.now c.args.starts.now c.args.room);
+      written = subst (λ os. AreWritten c.args.script.now c.args.lists.now c.args.first c.args.starts.now os 0 0) (sym filled) (none-written c.args.script.now c.args.lists.now c.args.first c.args.starts.now c.args.room);
     }

@@ -6,5 +6,5 @@ use Rattle.co_report.proofs.order.origins_of.Given as goal
 abbrev pub invariant-loop-actor : goal.invariant-loop-actor
 invariant-loop-actor l = record {
   length : length l.origins.items ≡ l.room;
-  written : AreWritten l.script l.lists l.starts l.origins.items l.actor 0;
+  written : AreWritten l.script l.lists l.first l.starts l.origins.items l.actor 0;
 }

@@ -7,4 +7,6 @@ pub loop-number-init : goal.loop-number-init
 loop-number-init c = sym (append-nil c.args.page.now) ∙ ap (λ t. c.args.page.now ++ t) (text-none c.args.self.now.script.now c.args.self.now.lists.now c.args.first)
 
 pub loop-number-preserved : goal.loop-number-preserved
-loop-number-preserved c = more-written c.args.self.now.script.now c.args.self.now.lists.now c.args.first c.loop-number.number _ _ _ (omega arith) c.loop-number.invariant c.in_ok-print_place.ensures
+loop-number-preserved c =
+    more-written c.args.self.now.script.now c.args.self.now.lists.now c.args.first c.loop-number.number c.in_ok-place.place _ _ _ (omega arith) c.in_ok-place.ensures.exists c.in_ok-place.ensures.number
+    c.loop-number.invariant c.in_ok-print_place.ensures
