@@ -56,7 +56,8 @@ pub fn head_piece(alloc: Global, script: &Script) -> Result<Seq<u8>, NoMemory>
 {
     let mut page = Page::new(alloc);
     print_head(&mut page, script)?;
-    page.done()
+    let head = page.done()?;
+    Ok(head)
 }
 
 /// The whole report in pieces, of the piece before its places and the pieces of its places: the last line comes behind
