@@ -17,7 +17,7 @@ module _ (s : Script) (lists : List (List Note)) (first end : ℕ) (part : List 
   pub of-part : (i : ℕ) → first ≤ i → i < end → IsOf i
   of-part i from below = (from, omega (arith, below, length-starts 0 part, are.places))
 
-  pub below-end : (i : ℕ) → IsOf i → i < end
+  below-end : (i : ℕ) → IsOf i → i < end
   below-end i of = omega (arith, of.0, of.1, length-starts 0 part, are.places)
 
   pub in-part : (i : ℕ) → IsOf i → i - first < length part

@@ -1,5 +1,5 @@
-//! The notes of all lists, place by place and in each place by position: counted first, then put where they belong. They are
-//! put into order by parts, each by itself: a part has the notes of some places that follow each other.
+//! The notes of all lists, place by place and in each place by position: counted first, then put where they belong. They
+//! are put into order by parts, each by itself: a part has the notes of some places that follow each other.
 //!
 //! A note takes 88 bytes, and is read from memory once: as it is counted the 8 bytes are written down that say where it
 //! belongs, and the rest is done with these.
@@ -252,8 +252,8 @@ fn origins_of(
     Ok(origins)
 }
 
-/// The order of the counted notes of the places from `first` up to `end`. It goes over the spots of all notes, and passes by
-/// those of other places.
+/// The order of the counted notes of the places from `first` up to `end`. It goes over the spots of all notes, and passes
+/// by those of other places.
 pub(crate) fn order_from(
     alloc: Global,
     script: &Script,

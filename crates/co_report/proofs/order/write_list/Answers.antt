@@ -1,4 +1,4 @@
-use Rattle.std.proofs.Common.{◌≡◌, ◌≤◌, ◌<◌, ◌+◌, length, ap, sym, subst, arith, rules}
+use Rattle.std.proofs.Common.{◌≤◌, ◌<◌, ◌+◌, length, ap, sym, subst, arith, rules}
 use Rattle.std.proofs.lemmas.List.{length-map}
 use Rattle.co_report.specs.Order.{spot_of, AreWritten}
 use Rattle.co_report.proofs.Spots.{row-of, note-of, stand-fits, at-inside, spot-passed, spot-written}
