@@ -354,5 +354,6 @@ pub fn print_summary(alloc: Global, report: &Report) -> Result<Seq<u8>, NoMemory
     let mut page = Page::new(alloc);
     print_timers(&mut page, &tally, timers as u32)?;
     print_total(&mut page, &tally, timers)?;
-    page.done()
+    let text = page.done()?;
+    Ok(text)
 }

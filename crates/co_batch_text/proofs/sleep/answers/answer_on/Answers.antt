@@ -46,7 +46,7 @@ answer_all-requires-clause-opening g c =
 pub returns-clause-text : goal.returns-clause-text
 returns-clause-text g c =
     let n : sleepers c.in_ok-queue.queue ≡ c.args.batch.now.count = ap sleepers c.in_ok-queue.ensures ∙ sleepers-are c.args.batch.now.count c.args.fresh.params c.requires.booted.params_are in
-    c.done.ensures ∙ (c.in_ok-answer_all.ensures.answered.text_is ∙ (ap (λ (l : List ℕ). l ++ text (answers answering (sleepers c.in_ok-queue.queue) clock_opening c.commands.result.now)) c.new-page.ensures
+    c.in_ok-done.ensures ∙ (c.in_ok-answer_all.ensures.answered.text_is ∙ (ap (λ (l : List ℕ). l ++ text (answers answering (sleepers c.in_ok-queue.queue) clock_opening c.commands.result.now)) c.new-page.ensures
     ∙ (ap (λ (m : ℕ). text (answers answering m clock_opening c.commands.result.now)) n ∙ ap (λ cs. text (answers answering c.args.batch.now.count clock_opening cs)) c.commands.ensures.value)))
 
 pub returns-clause-end : goal.returns-clause-end
@@ -58,6 +58,6 @@ returns-clause-end g c =
     let q = c.answer_all.new.cpu in
     let all : c.into_seq.result ≡ q ∷ [] = c.into_seq.ensures ∙ (c.push.ensures.items ∙ ap (λ l. l ++ q ∷ []) (c.in_ok-reserve.ensures.items ∙ (c.from_seq-back.ensures ∙ c.new.ensures))) in
     let done : AreObeyed b.count b.commands (fresh_passes c.args.fresh.name c.args.fresh.params 0) q = subst (λ (v : SleepPassesView). AreObeyed b.count b.commands v q) x (subst (λ cs. AreObeyed b.count cs c.unwrap-cpu.result q) c.commands.ensures.value (subst (λ (m : ℕ). AreObeyed m c.commands.result.now c.unwrap-cpu.result q) n c.in_ok-answer_all.ensures.answered.obeyed)) in
-    let timers : AreEnded c.args.fresh.params (q.service ∷ []) c.close.result.timers = subst (λ (p : Params). AreEnded p (q.service ∷ []) c.close.result.timers) same (subst (λ l. AreEnded c.in_ok-queue.queue (service_passes l) c.close.result.timers) all c.close.ensures.timers) in
-    let cpus : AreEndedCpus c.args.fresh.params (q.service ∷ []) c.close.result.cpus = subst (λ (p : Params). AreEndedCpus p (q.service ∷ []) c.close.result.cpus) same (subst (λ l. AreEndedCpus c.in_ok-queue.queue (service_passes l) c.close.result.cpus) all c.close.ensures.cpus) in
-    ends b.count c.args.fresh.name c.args.fresh.params c.requires.booted.named c.requires.booted.params_are b q c.close.result refl done (c.answer_all.ensures.cpu.of.params_are ∙ same) timers cpus
+    let timers : AreEnded c.args.fresh.params (q.service ∷ []) c.close-closing.result.timers = subst (λ (p : Params). AreEnded p (q.service ∷ []) c.close-closing.result.timers) same (subst (λ l. AreEnded c.in_ok-queue.queue (service_passes l) c.close-closing.result.timers) all c.close-closing.ensures.timers) in
+    let cpus : AreEndedCpus c.args.fresh.params (q.service ∷ []) c.close-closing.result.cpus = subst (λ (p : Params). AreEndedCpus p (q.service ∷ []) c.close-closing.result.cpus) same (subst (λ l. AreEndedCpus c.in_ok-queue.queue (service_passes l) c.close-closing.result.cpus) all c.close-closing.ensures.cpus) in
+    ends b.count c.args.fresh.name c.args.fresh.params c.requires.booted.named c.requires.booted.params_are b q c.close-closing.result refl done (c.answer_all.ensures.cpu.of.params_are ∙ same) timers cpus
