@@ -6,3 +6,4 @@ pub mod room
 pub mod groups
 pub mod merged
 pub mod FittingScripts
+pub mod PortCalls

@@ -24,5 +24,7 @@ pub mod Over
 pub mod Ready
 -- what the actors begin with and bring back, in groups: clients, CPUs, interrupts
 pub mod Jobs
--- a port over a running service that was just made
+-- the calls that are made through a port, each with its answer
+pub mod PortCalls
+-- a port over a running service: what it was made with, and what it has made
 pub mod Ports
