@@ -78,6 +78,6 @@ fn a_text_longer_than_what_is_kept_back_follows(rt: HostRuntime) -> Result<(), N
     assert!(rt; text.as_slice().len() == 1002);
     assert!(rt; text.as_slice().first() == Some(&b'7'));
     assert!(rt; text.as_slice().last() == Some(&b'7'));
-    assert!(rt; text.as_slice()[1..1001] == *long.as_slice());
+    assert!(rt; &text.as_slice()[1..1001] == long.as_slice());
     Ok(())
 }
