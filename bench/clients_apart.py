@@ -3,7 +3,7 @@
 its own but the machine gives the program one processor alone, as a table.
 
 PROGRAM is the built callout; of further programs with the same texts the same is measured. Where callouts fire, a client arms 256 of
-its own, each of which arms itself again as it fires, and each CPU ticks TICKS times (default 400). How many fire depends on the race, a
+its own, each of which arms itself again as it fires, and each CPU ticks TICKS times (default 100). How many fire depends on the race, a
 little on several processors; on one a CPU may have ticked before a client has armed anything, so that is left out. Else a client calls 16
 callouts of its own in turn, ACTS acts in all (default 60000): it resets and stops them, or stops them alone, or asks whether they are
 pending. The script is read from a file, and the report goes to /dev/null. Programs and places take turns. The times are by the clock, the
@@ -11,7 +11,7 @@ least of RUNS (default 9) and the median; the ratios are those of the times at o
 their own."""
 import os, subprocess, sys, tempfile, time
 
-RUNS, ACTS, TICKS, CPUS = int(os.environ.get("RUNS", 9)), int(os.environ.get("ACTS", 60_000)), int(os.environ.get("TICKS", 400)), 4
+RUNS, ACTS, TICKS, CPUS = int(os.environ.get("RUNS", 9)), int(os.environ.get("ACTS", 60_000)), int(os.environ.get("TICKS", 100)), 4
 KINDS = {"firings": None, "resets and stops": ("reset {i} =1000 f0 a0 cpu {cpu}", "stop {i}"), "stops": ("stop {i}",), "queries": ("pending {i}",)}
 
 
