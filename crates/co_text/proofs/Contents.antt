@@ -1,10 +1,10 @@
 -- The part of a line that is read, in one walk: up to the comment, or the first byte that may not stand there.
-use Rattle.std.proofs.Common.{◌≡◌, ℕ, ◌+◌, ◌<◌, ◌≤◌, Bool, true, false, cond, not, ◌&&◌, ◌||◌, List, [], ◌∷◌, length, take, drop, refl, ap, sym, ◌∙◌, arith}
+use Rattle.std.proofs.Common.{◌≡◌, ℕ, ◌+◌, ◌-◌, ◌<◌, ◌≤◌, Bool, true, false, cond, not, ◌&&◌, ◌||◌, List, [], ◌∷◌, length, take, drop, refl, ap, sym, ◌∙◌, arith}
 use Rattle.std.specs.Prelude.{Result, Ok, Err, ◌==◌, slice_index_or}
 use Rattle.std.specs.List.{list_all, position_or_len}
 use Rattle.std.proofs.lemmas.Bool.Decides.{nat_tests}
 use Rattle.co_text.specs.Fallible.{◌>>◌, unless}
-use Rattle.std.proofs.lemmas.List.{take_all, length-drop}
+use Rattle.std.proofs.lemmas.List.{take_all, length-drop, drop-drop}
 use Rattle.co_text.specs.Lines.{Line, lines_of, content, is_feed, is_hash, is_plain}
 use Rattle.co_text.specs.declared.cause.Cause.{Cause}
 use Rattle.co_text.specs.declared.cause.Cause.TheVariants.{Byte}
@@ -92,6 +92,55 @@ content-other bs rest n en er some differs =
     let place : rest ≡ drop (position_or_len is_stop bs) bs = er ∙ ap (λ k. drop k bs) en in
     let bad = (walk bs).other (omega (arith, some, ap length place)) (λ h. differs (ap (λ r. slice_index_or r 0 0) place ∙ h)) in
     ap (λ b. read_as b (take (position_or_len is_hash bs) bs)) bad
+
+-- a walk by fours
+
+clear-one : (c : ℕ) (cs : List ℕ) → is_stop c ≡ false → position_or_len is_stop (c ∷ cs) ≡ 1 + position_or_len is_stop cs
+clear-one c cs e = ap (λ b. cond (not b) (1 + position_or_len is_stop cs) 0) e
+
+or-first : (a b : Bool) → (a || b) ≡ false → a ≡ false
+or-first true b e = e
+or-first false b e = refl
+
+or-second : (a b : Bool) → (a || b) ≡ false → b ≡ false
+or-second true b e = absurd (cc)
+or-second false b e = e
+
+clear-four : (bs after : List ℕ) → 4 ≤ length bs → after ≡ drop 4 bs
+    → is_stop (slice_index_or bs 0 0) ≡ false → is_stop (slice_index_or bs 1 0) ≡ false → is_stop (slice_index_or bs 2 0) ≡ false → is_stop (slice_index_or bs 3 0) ≡ false
+    → position_or_len is_stop bs ≡ 4 + position_or_len is_stop after
+clear-four [] after some e ha hb hc hd = absurd (omega (arith, some))
+clear-four (a ∷ []) after some e ha hb hc hd = absurd (omega (arith, some))
+clear-four (a ∷ b ∷ []) after some e ha hb hc hd = absurd (omega (arith, some))
+clear-four (a ∷ b ∷ c ∷ []) after some e ha hb hc hd = absurd (omega (arith, some))
+clear-four (a ∷ b ∷ c ∷ d ∷ cs) after some e ha hb hc hd =
+    omega (arith, clear-one a (b ∷ c ∷ d ∷ cs) ha, clear-one b (c ∷ d ∷ cs) hb, clear-one c (d ∷ cs) hc, clear-one d cs hd, ap (position_or_len is_stop) e)
+
+-- what a walk by fours has left of a text
+pub record Left (text rest : List ℕ) : Type 0 where
+  pub bound : length rest ≤ length text
+  pub place : rest ≡ drop (length text - length rest) text
+  pub value : position_or_len is_stop text ≡ length text - length rest + position_or_len is_stop rest
+
+four-left : (text rest after : List ℕ) → Left text rest → 4 ≤ length rest → after ≡ drop 4 rest → position_or_len is_stop rest ≡ 4 + position_or_len is_stop after → Left text after
+four-left text rest after l some e more =
+    let long : length after ≡ length rest - 4 = ap length e ∙ length-drop 4 rest in
+    let on : length text - length rest + 4 ≡ length text - length after = omega (arith, long, some, l.bound) in record {
+      bound = omega (arith, long, l.bound);
+      place = e ∙ ap (drop 4) l.place ∙ drop-drop 4 (length text - length rest) text ∙ ap (λ n. drop n text) on;
+      value = omega (arith, l.value, more, on);
+    }
+
+-- none of the four tests passes
+pub left-step : (text rest after : List ℕ) (p q r s : Bool) → Left text rest → 4 ≤ length rest → after ≡ take (length rest - 4) (drop 4 rest)
+    → p ≡ is_stop (slice_index_or rest 0 0) → q ≡ is_stop (slice_index_or rest 1 0) → r ≡ is_stop (slice_index_or rest 2 0) → s ≡ is_stop (slice_index_or rest 3 0)
+    → (((p || q) || r) || s) ≡ false → Left text after
+left-step text rest after p q r s l some e ep eq er es none =
+    let here : after ≡ drop 4 rest = e ∙ take_all (length rest - 4) (drop 4 rest) (omega (arith, length-drop 4 rest)) in
+    let no_r = or-first ((p || q) || r) s none in
+    let no_q = or-first (p || q) r no_r in
+    four-left text rest after l some here (clear-four rest after some here
+    (sym ep ∙ or-first p q no_q) (sym eq ∙ or-second p q no_q) (sym er ∙ or-second (p || q) r no_r) (sym es ∙ or-second ((p || q) || r) s none))
 
 -- the walk went to a line feed: no other stands before it
 
