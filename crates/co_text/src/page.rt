@@ -39,6 +39,18 @@ fn spill(bytes: &mut Seq<u8>, tail: &mut Tail) -> Result<(), NoMemory>
     Ok(())
 }
 
+/// The same, where they are many: the first memory then is of 512 bytes, so that what it is doubled to are powers of two.
+fn spill_many(bytes: &mut Seq<u8>, tail: &mut Tail) -> Result<(), NoMemory>
+    ensures bytes { OnOk result (bytes.new ≡ bytes.old ++ tail.old) }
+    ensures tail { OnOk result (tail.new ≡ []) }
+{
+    if bytes.as_slice().is_empty() {
+        bytes.extend_from_slice(tail.room())?;
+        bytes.clear();
+    }
+    spill(bytes, tail)
+}
+
 impl Page {
     /// The empty text, which takes no memory.
     pub fn new(alloc: Global) -> Page
@@ -67,7 +79,7 @@ impl Page {
     fn late_text(&mut self, text: &[u8]) -> Result<(), NoMemory>
         ensures { OnOk result (self.new ≡ self.old ++ text.now) }
     {
-        spill(&mut self.bytes, &mut self.tail)?;
+        spill_many(&mut self.bytes, &mut self.tail)?;
         self.bytes.extend_from_slice(text)
     }
 
@@ -99,7 +111,7 @@ impl Page {
     fn late_number(&mut self, number: u64) -> Result<(), NoMemory>
         ensures { OnOk result (self.new ≡ self.old ++ decimal number) }
     {
-        spill(&mut self.bytes, &mut self.tail)?;
+        spill_many(&mut self.bytes, &mut self.tail)?;
         self.tail.number(number);
         Ok(())
     }

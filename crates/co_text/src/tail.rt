@@ -120,6 +120,11 @@ impl Tail {
         &self.bytes[..self.filled]
     }
 
+    /// As many bytes as are kept back at most, whatever they are.
+    pub(crate) fn room(&self) -> &[u8] {
+        self.bytes.as_slice()
+    }
+
     /// Lets all bytes go.
     pub(crate) fn clear(&mut self)
         ensures { self.new ≡ [] }
