@@ -1,9 +1,9 @@
 -- The widths of the numbers of a row, and what reads the numbers by them.
-use Rattle.std.proofs.Common.{ℕ, zero, suc, ◌≡◌, ◌<◌, ◌≤◌, ◌+◌, ◌-◌, ◌*◌, ◌/◌, ◌%◌, ◌^◌, List, [], ◌∷◌, ◌++◌, length, get_or, take, drop, replicate, refl, sym, ap, ◌∙◌, ⊎_elim, length-drop, arith}
+use Rattle.std.proofs.Common.{ℕ, zero, suc, ◌≡◌, ◌<◌, ◌≤◌, ◌+◌, ◌-◌, ◌*◌, ◌/◌, ◌%◌, ◌^◌, List, [], ◌∷◌, ◌++◌, length, get_or, take, drop, replicate, refl, sym, ap, ◌∙◌, ⊎_elim, length-drop, append-nil, arith}
 use Rattle.std.proofs.lemmas.Bool.{cases_lt}
-use Rattle.std.proofs.lemmas.List.{drop_more, take_more, take-take, take_at, length-take-le, drop-drop, flat_map_more, get_or_append_left, get_or_past, get_or-drop, get_or-replicate, length-replicate}
+use Rattle.std.proofs.lemmas.List.{drop_more, take_more, take-take, take_at, length-take-le, drop-drop, flat_map_more, get_or_append_left, get_or_past, get_or-drop, get_or-replicate, length-replicate, drop-take}
 use Rattle.std.proofs.Math.Nat.{pow-suc}
-use Rattle.std.proofs.Math.Seq.{take-append-add, take-append_seam, get_or-append_right}
+use Rattle.std.proofs.Math.Seq.{take-append-add, take-append_seam, take-add, drop-append_seam, get_or-append_right}
 use Rattle.std.specs.List.{flat_map}
 use Rattle.co_packed.proofs.Again.{first_bytes, same_value}
 use Rattle.co_packed.proofs.Limits.{few_bytes}
@@ -27,16 +27,6 @@ widths_below zero [] h = rw widths_none (omega arith)
 widths_below zero (n ∷ ns) h = absurd (omega arith)
 widths_below (suc k) [] h = rw widths_none (omega (arith, pow-suc 16 k, widths_below k [] (omega arith)))
 widths_below (suc k) (n ∷ ns) h = rw (widths_some n ns) (omega (arith, widths_below k ns (omega arith), few_bytes n, pow-suc 16 k))
-
--- of what is left of so few numbers
-pub widths_left : (ns : List ℕ) (at ws : ℕ) → length ns ≤ 16 → 0 < at → ws ≡ widths (drop at ns) → ws < 1152921504606846976
-widths_left ns at ws h more e = rw e (widths_below 15 (drop at ns) (omega (arith, length-drop at ns)))
-
-pub first_width : (ns : List ℕ) (at ws : ℕ) → at < length ns → ws ≡ widths (drop at ns) → ws % 16 ≡ width (get_or ns at 0)
-first_width ns at ws h e = omega (arith, widths_before ns at h, few_bytes (get_or ns at 0))
-
-pub next_widths : (ns : List ℕ) (at ws : ℕ) → at < length ns → ws ≡ widths (drop at ns) → ws / 16 ≡ widths (drop (at + 1) ns)
-next_widths ns at ws h e = omega (arith, widths_before ns at h, few_bytes (get_or ns at 0))
 
 -- a word is put in the place of what was there
 pub word_put : (old ys rest : List ℕ) (at : ℕ) → at ≤ length old → length ys ≡ 8 → take (at + 8) (take at old ++ (ys ++ rest)) ≡ take at old ++ ys
@@ -74,6 +64,84 @@ number_put old new front ns end at w within more is put so_far =
     ∙ ap (λ (xs : List ℕ). (front ++ flat_map number_bytes (take at ns)) ++ xs) (number_bytes_are (get_or ns at 0) w is)
     ∙ flat_map_more number_bytes front (take at ns) (get_or ns at 0)
     ∙ ap (λ (xs : List ℕ). front ++ flat_map number_bytes xs) (sym (take_more ns at 0 more))
+
+-- four numbers more are put behind those before them
+pub four_put : (old a b c new front ns : List ℕ) (at k wa wb wc wd : ℕ)
+    → length old ≡ 136 → length a ≡ 136 → length b ≡ 136 → length c ≡ 136 → k + 4 ≤ length ns → at ≤ 104
+    → wa ≡ width (get_or ns k 0) → wb ≡ width (get_or ns (k + 1) 0) → wc ≡ width (get_or ns (k + 2) 0) → wd ≡ width (get_or ns (k + 3) 0)
+    → take (at + 8) a ≡ take at old ++ bytes_of 8 (get_or ns k 0)
+    → take (at + wa + 8) b ≡ take (at + wa) a ++ bytes_of 8 (get_or ns (k + 1) 0)
+    → take (at + wa + wb + 8) c ≡ take (at + wa + wb) b ++ bytes_of 8 (get_or ns (k + 2) 0)
+    → take (at + wa + wb + wc + 8) new ≡ take (at + wa + wb + wc) c ++ bytes_of 8 (get_or ns (k + 3) 0)
+    → take at old ≡ front ++ flat_map number_bytes (take k ns)
+    → take (at + wa + wb + wc + wd) new ≡ front ++ flat_map number_bytes (take (k + 4) ns)
+four_put old a b c new front ns at k wa wb wc wd lo la lb lc within low ea eb ec ed pa pb pc pd so_far =
+    let fa : wa ≤ 8 = omega (arith, few_bytes (get_or ns k 0), ea) in
+    let fb : wb ≤ 8 = omega (arith, few_bytes (get_or ns (k + 1) 0), eb) in
+    let fc : wc ≤ 8 = omega (arith, few_bytes (get_or ns (k + 2) 0), ec) in
+    let second : k + 1 + 1 ≡ k + 2 = omega arith in
+    let third : k + 2 + 1 ≡ k + 3 = omega arith in
+    let fourth : k + 3 + 1 ≡ k + 4 = omega arith in
+    let ha = number_put old a front ns at k wa (omega arith) (omega arith) ea pa so_far in
+    let hb = rw second at (number_put a b front ns (at + wa) (k + 1) wb (omega arith) (omega arith) eb pb ha) in
+    let hc = rw third at (number_put b c front ns (at + wa + wb) (k + 2) wc (omega arith) (omega arith) ec pc hb) in
+    rw fourth at (number_put c new front ns (at + wa + wb + wc) (k + 3) wd (omega arith) (omega arith) ed pd hc)
+
+pub four_widths : (ns : List ℕ) (k : ℕ) → k + 4 ≤ length ns
+    → widths (drop k ns) ≡ width (get_or ns k 0) + 16 * width (get_or ns (k + 1) 0) + 256 * width (get_or ns (k + 2) 0) + 4096 * width (get_or ns (k + 3) 0) + 65536 * widths (drop (k + 4) ns)
+four_widths ns k h =
+    let second : k + 1 + 1 ≡ k + 2 = omega arith in
+    let third : k + 2 + 1 ≡ k + 3 = omega arith in
+    let fourth : k + 3 + 1 ≡ k + 4 = omega arith in
+    let b = rw second at (widths_before ns (k + 1) (omega arith)) in
+    let c = rw third at (widths_before ns (k + 2) (omega arith)) in
+    let d = rw fourth at (widths_before ns (k + 3) (omega arith)) in
+    omega (arith, widths_before ns k (omega arith), b, c, d)
+
+-- 0 takes no bytes
+width_zero : width 0 ≡ 0
+unfolding width lib.Count.count_leading_zeros
+width_zero = refl
+
+no_bytes : number_bytes 0 ≡ []
+unfolding number_bytes bytes_of
+no_bytes = ap (λ (k : ℕ). bytes_of k 0) width_zero
+
+zero_put : (front ns : List ℕ) (k : ℕ) → k < length ns → get_or ns k 0 ≡ 0 → front ++ flat_map number_bytes (take k ns) ≡ front ++ flat_map number_bytes (take (k + 1) ns)
+zero_put front ns k h e =
+    sym (append-nil (front ++ flat_map number_bytes (take k ns)))
+    ∙ ap (λ (xs : List ℕ). (front ++ flat_map number_bytes (take k ns)) ++ xs) (sym no_bytes ∙ ap number_bytes (sym e))
+    ∙ flat_map_more number_bytes front (take k ns) (get_or ns k 0)
+    ∙ ap (λ (xs : List ℕ). front ++ flat_map number_bytes xs) (sym (take_more ns k 0 h))
+
+pub zeros_put : (front ns : List ℕ) (k : ℕ) → k + 4 ≤ length ns → get_or ns k 0 ≡ 0 → get_or ns (k + 1) 0 ≡ 0 → get_or ns (k + 2) 0 ≡ 0 → get_or ns (k + 3) 0 ≡ 0
+    → front ++ flat_map number_bytes (take k ns) ≡ front ++ flat_map number_bytes (take (k + 4) ns)
+zeros_put front ns k h a b c d =
+    let second : k + 1 + 1 ≡ k + 2 = omega arith in
+    let third : k + 2 + 1 ≡ k + 3 = omega arith in
+    let fourth : k + 3 + 1 ≡ k + 4 = omega arith in
+    zero_put front ns k (omega arith) a
+    ∙ (zero_put front ns (k + 1) (omega arith) b ∙ ap (λ (j : ℕ). front ++ flat_map number_bytes (take j ns)) second)
+    ∙ (zero_put front ns (k + 2) (omega arith) c ∙ ap (λ (j : ℕ). front ++ flat_map number_bytes (take j ns)) third)
+    ∙ (zero_put front ns (k + 3) (omega arith) d ∙ ap (λ (j : ℕ). front ++ flat_map number_bytes (take j ns)) fourth)
+
+pub zero_widths : (ns : List ℕ) (k : ℕ) → k + 4 ≤ length ns → get_or ns k 0 ≡ 0 → get_or ns (k + 1) 0 ≡ 0 → get_or ns (k + 2) 0 ≡ 0 → get_or ns (k + 3) 0 ≡ 0
+    → widths (drop k ns) ≡ 65536 * widths (drop (k + 4) ns)
+zero_widths ns k h a b c d =
+    four_widths ns k h ∙ rw (a, b, c, d, width_zero) (omega arith)
+
+-- the widths are put in front of the numbers
+pub row_put : (old new front ns : List ℕ) (end ws : ℕ) → ws ≡ widths ns → 8 ≤ end → length front ≡ 8 → take end old ≡ front ++ flat_map number_bytes ns → take 8 new ≡ bytes_of 8 ws → drop 8 new ≡ drop 8 old
+    → take end new ≡ bytes_of 8 (widths ns) ++ flat_map number_bytes ns
+row_put old new front ns end ws is behind short put first rest =
+    let e : 8 + (end - 8) ≡ end = omega arith in
+    let cut : drop 8 (take (8 + (end - 8)) old) ≡ drop 8 (front ++ flat_map number_bytes ns) = ap (drop 8) (ap (λ (k : ℕ). take k old) e ∙ put) in
+    let seam : drop 8 (front ++ flat_map number_bytes ns) ≡ flat_map number_bytes ns = ap (λ (k : ℕ). drop k (front ++ flat_map number_bytes ns)) (sym short) ∙ drop-append_seam front (flat_map number_bytes ns) in
+    let numbers : take (end - 8) (drop 8 old) ≡ flat_map number_bytes ns = sym (drop-take 8 (end - 8) old) ∙ cut ∙ seam in
+    ap (λ (k : ℕ). take k new) (sym e)
+    ∙ take-add 8 (end - 8) new
+    ∙ ap (λ (xs : List ℕ). xs ++ take (end - 8) (drop 8 new)) (first ∙ ap (bytes_of 8) is)
+    ∙ ap (λ (xs : List ℕ). bytes_of 8 (widths ns) ++ xs) (ap (take (end - 8)) rest ∙ numbers)
 
 pub numbers_none : (ws : ℕ) (bs : List ℕ) → numbers_in 0 ws bs ≡ []
 unfolding numbers_in

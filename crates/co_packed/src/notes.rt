@@ -6,7 +6,7 @@ ghost use Rattle.co_packed.specs.Stored.{after_rows, marked, start_of, rest_at};
 
 use crate::ahead::NotesAhead;
 use crate::note_numbers::{note_of, numbers_of};
-use crate::rows::{after_row, row_at, write_row};
+use crate::rows::{after_row, row_in, write_row};
 use co_object::Note;
 use co_sbt::{NoMemory, Seq};
 use std::alloc::Global;
@@ -83,9 +83,7 @@ fn rest_at<'a>(bytes: &'a [u8], starts: &[usize], at: usize) -> &'a [u8]
 fn note_in(bytes: &[u8]) -> Note
     ensures { result ≡ numbered_note (row_in bytes.now) }
 {
-    let mut row = [0; 16];
-    let _size = row_at(bytes, &mut row);
-    note_of(&row)
+    note_of(&row_in(bytes))
 }
 
 impl PackedNotes {

@@ -36,7 +36,8 @@ pub(crate) fn width_of(number: u64) -> u64
 #[inline]
 pub(crate) fn put_word(buffer: &mut [u8; 136], at: usize, word: u64)
     requires { at ≤ 128 }
-    ensures { take (at + 8) buffer.new ≡ take at buffer.old ++ bytes_of 8 word }
+    ensures written { take (at + 8) buffer.new ≡ take at buffer.old ++ bytes_of 8 word }
+    ensures behind { drop (at + 8) buffer.new ≡ drop (at + 8) buffer.old }
 {
     buffer[at..at + 8].copy_from_slice(&word.to_le_bytes());
 }

@@ -1,44 +1,80 @@
 //! Rows of sixteen numbers as bytes. Most numbers of a note are 0 or small, so a row has each number in as many bytes as it
 //! needs. Before them it has how many these are, four bits for each number, so a reader goes from one to the next with no
 //! look at them, and skips a row that it does not want by these alone.
-ghost use Rattle.std.specs.Prelude.{◌≡◌, ◌+◌, ◌<◌, ◌≤◌, ◌++◌, length, take, drop, get_or, ℕ};
+ghost use Rattle.std.specs.Prelude.{◌≡◌, ◌+◌, ◌*◌, ◌<◌, ◌≤◌, ◌++◌, true, List, length, take, drop, get_or, ℕ};
 ghost use Rattle.std.specs.List.{flat_map};
 ghost use Rattle.co_packed.specs.Numbers.{value};
 ghost use Rattle.co_packed.specs.Rows.{widths, number_bytes, row_bytes, numbers_in, row_in, size_in, row_size, after_row, IsRow};
 
 use crate::numbers::{number_at, put_word, width_of, word_at};
 
-/// The widths of the numbers, four bits each.
-#[inline]
-fn widths_of(numbers: &[u64]) -> u64
-    requires { length numbers.now ≤ 16 }
-    ensures { result ≡ widths numbers.now }
+/// Puts the four numbers from `from` on at `at`, and gives their widths, four bits each, and where they end. Each is put there
+/// with all its bytes, of which the next one takes those that are not needed.
+#[inline(always)]
+fn put_four(
+    buffer: &mut [u8; 136],
+    at: usize,
+    numbers: &[u64; 16],
+    from: usize,
+) -> (u64, usize)
+    requires low { at ≤ 104 }
+    requires within { from ≤ 12 }
+    ensures widths { widths (drop from numbers.now) ≡ result.0 + 65536 * widths (drop (from + 4) numbers.now) }
+    ensures few { result.0 < 65536 }
+    ensures written { (front : List ℕ) → take at buffer.old ≡ front ++ flat_map number_bytes (take from numbers.now)
+        → take result.1 buffer.new ≡ front ++ flat_map number_bytes (take (from + 4) numbers.now) }
+    ensures behind { at ≤ result.1 }
+    ensures bounded { result.1 ≤ at + 32 }
 {
-    let mut widths = 0;
-    let mut at = numbers.len();
-    while at > 0 {
-        at -= 1;
-        widths = 16 * widths + width_of(numbers[at]);
-    }
-    widths
+    let first = width_of(numbers[from]);
+    let second = width_of(numbers[from + 1]);
+    let third = width_of(numbers[from + 2]);
+    let fourth = width_of(numbers[from + 3]);
+    let second_at = at + first as usize;
+    let third_at = second_at + second as usize;
+    let fourth_at = third_at + third as usize;
+    put_word(buffer, at, numbers[from]);
+    put_word(buffer, second_at, numbers[from + 1]);
+    put_word(buffer, third_at, numbers[from + 2]);
+    put_word(buffer, fourth_at, numbers[from + 3]);
+    (
+        first + 16 * second + 256 * third + 4096 * fourth,
+        fourth_at + fourth as usize,
+    )
 }
 
-/// Puts the numbers behind the first eight bytes, each in as many bytes as it needs, and gives where they end. Each is put
-/// there with all its bytes, of which the next one takes those that are not needed.
-#[inline]
-fn put_numbers(buffer: &mut [u8; 136], numbers: &[u64; 16], word: u64) -> usize
-    requires { word ≡ widths numbers.now }
-    ensures written { take result buffer.new ≡ take 8 buffer.old ++ flat_map number_bytes numbers.now }
-    ensures bounded { result ≤ 136 }
+/// The same of numbers that often are all 0.
+#[inline(always)]
+#[tactic(auto, using(crate::proofs::Widths::zeros_put, crate::proofs::Widths::zero_widths))]
+fn put_four_if_some(
+    buffer: &mut [u8; 136],
+    at: usize,
+    numbers: &[u64; 16],
+    from: usize,
+) -> (u64, usize)
+    requires low { at ≤ 104 }
+    requires within { from ≤ 12 }
+    ensures widths { widths (drop from numbers.now) ≡ result.0 + 65536 * widths (drop (from + 4) numbers.now) }
+    ensures few { result.0 < 65536 }
+    ensures written { (front : List ℕ) → take at buffer.old ≡ front ++ flat_map number_bytes (take from numbers.now)
+        → take result.1 buffer.new ≡ front ++ flat_map number_bytes (take (from + 4) numbers.now) }
+    ensures behind { at ≤ result.1 }
+    ensures bounded { result.1 ≤ at + 32 }
 {
-    let mut widths = word;
-    let mut end = 8_usize;
-    for at in 0..16 {
-        put_word(buffer, end, numbers[at]);
-        end += (widths % 16) as usize;
-        widths /= 16;
+    if are_zero(numbers, from) {
+        (0, at)
+    } else {
+        put_four(buffer, at, numbers, from)
     }
-    end
+}
+
+/// Whether the four numbers from `from` on are 0.
+#[inline(always)]
+fn are_zero(numbers: &[u64; 16], from: usize) -> bool
+    requires { from ≤ 12 }
+    ensures { result ≡ true → (get_or numbers.now from 0 ≡ 0) × (get_or numbers.now (from + 1) 0 ≡ 0) × (get_or numbers.now (from + 2) 0 ≡ 0) × (get_or numbers.now (from + 3) 0 ≡ 0) }
+{
+    numbers[from] == 0 && numbers[from + 1] == 0 && numbers[from + 2] == 0 && numbers[from + 3] == 0
 }
 
 /// Puts the bytes of a row at the front of the buffer, and gives how many they are.
@@ -49,9 +85,14 @@ pub(crate) fn write_row(buffer: &mut [u8; 136], numbers: &[u64; 16]) -> usize
     ensures bounded { result ≤ 136 }
     ensures row { IsRow numbers.now }
 {
-    let word = widths_of(numbers);
-    put_word(buffer, 0, word);
-    put_numbers(buffer, numbers, word)
+    let (first, second_at) = put_four(buffer, 8, numbers, 0);
+    let (second, third_at) = put_four(buffer, second_at, numbers, 4);
+    let (third, fourth_at) = put_four_if_some(buffer, third_at, numbers, 8);
+    let (fourth, end) = put_four_if_some(buffer, fourth_at, numbers, 12);
+    let lower = first + 0x1_0000 * second;
+    let upper = third + 0x1_0000 * fourth;
+    put_word(buffer, 0, lower + 0x1_0000_0000 * upper);
+    end
 }
 
 /// As many bytes as a row may have, were all widths as great as four bits can say, and as a look at eight bytes may reach.
@@ -155,6 +196,31 @@ fn last_row(bytes: &[u8], row: &mut [u64; 16]) -> usize
     ensures size { result ≡ row_size bytes.now }
 {
     row_within(&with_room(bytes), row)
+}
+
+/// The row that the bytes begin with. Bytes that are missing count as 0.
+#[inline]
+pub(crate) fn row_in(bytes: &[u8]) -> [u64; 16]
+    ensures { result ≡ row_in bytes.now }
+{
+    if bytes.len() >= ROOM {
+        let mut row = [0; 16];
+        let _size = row_within(bytes, &mut row);
+        row
+    } else {
+        last_row_in(bytes)
+    }
+}
+
+/// The same where fewer bytes are left than a look may reach.
+#[inline(never)]
+fn last_row_in(bytes: &[u8]) -> [u64; 16]
+    requires { length bytes.now < 256 }
+    ensures { result ≡ row_in bytes.now }
+{
+    let mut row = [0; 16];
+    let _size = last_row(bytes, &mut row);
+    row
 }
 
 /// The first four numbers of the row that the bytes begin with, and how many bytes the row has. Bytes that are missing count
