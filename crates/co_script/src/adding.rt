@@ -28,21 +28,24 @@ pub(crate) fn pad_script(alloc: Global, script: &mut Script, funcs: u32) -> Resu
 }
 
 /// Appends an act.
-pub(crate) fn push_act(acts: &mut Acts, act: Act) -> Result<(), NoMemory>
-    ensures { OnOk result (acts.new ≡ acts.old ++ act ∷ []) }
+#[inline(always)]
+pub(crate) fn push_act(acts: &mut Acts, act: &Act) -> Result<(), NoMemory>
+    ensures { OnOk result (acts.new ≡ acts.old ++ act.now ∷ []) }
 {
     // Names the type that lies two deep in an act: the check needs it here.
     let _nested = When::At(Sbt::zero());
-    acts.push(act)
+    acts.push(*act)
 }
 
 /// How many acts a section may have.
+#[inline(always)]
 pub(crate) fn most_acts(func: bool) -> usize
     ensures { result ≡ most_acts func }
 {
     if func { 4096 } else { 65536 }
 }
 
+#[inline(always)]
 pub(crate) fn time_after(time: Sbt, act: &Act) -> Sbt
     ensures { result ≡ time_after time act.now }
 {
