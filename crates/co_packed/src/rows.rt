@@ -11,12 +11,7 @@ use crate::numbers::{number_at, put_word, width_of, word_at};
 /// Puts the four numbers from `from` on at `at`, and gives their widths, four bits each, and where they end. Each is put there
 /// with all its bytes, of which the next one takes those that are not needed.
 #[inline(always)]
-fn put_four(
-    buffer: &mut [u8; 136],
-    at: usize,
-    numbers: &[u64; 16],
-    from: usize,
-) -> (u64, usize)
+fn put_four(buffer: &mut [u8; 136], at: usize, numbers: &[u64; 16], from: usize) -> (u64, usize)
     requires low { at ≤ 104 }
     requires within { from ≤ 12 }
     ensures widths { widths (drop from numbers.now) ≡ result.0 + 65536 * widths (drop (from + 4) numbers.now) }
