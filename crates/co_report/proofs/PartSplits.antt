@@ -12,7 +12,7 @@ use Rattle.co_text.specs.Values.{Word}
 use Rattle.co_text.specs.Taking.{ended}
 use Rattle.co_text.proofs.Splits.{take-one, drop-one}
 use Rattle.co_text.proofs.LinesBack.{IsWord, is_ink}
-use Rattle.co_report.specs.Parts.{is_space, parts_behind, parts}
+use Rattle.co_report.specs.Parts.{is_space, parts_behind, parts, parts_left}
 use Rattle.co_report.specs.Reading.{joined}
 
 -- ---- the first part
@@ -55,6 +55,11 @@ only_part bs first rest n en fits ef er none =
     let outside : length bs ≤ position_or_len is_space bs = omega (arith, ap length er, length-drop {A = ℕ} n bs) in
     let far : length bs ≤ n = omega (arith, outside) in
     parts-last bs outside ∙ ap (λ w. w ∷ []) (sym (ef ∙ take_all n bs far))
+
+-- the first part, and what is left behind it
+pub split_part : (bs first rest : List ℕ) (n : ℕ) → n ≡ position_or_len is_space bs → n ≤ length bs → first ≡ take n bs → rest ≡ drop n bs → parts bs ≡ first ∷ parts_left rest
+split_part bs first [] n en fits ef er = only_part bs first [] n en fits ef er refl
+split_part bs first (c ∷ after) n en fits ef er = first_part bs first (c ∷ after) after n en ef er refl (omega arith)
 
 -- ---- the parts of joined words
 

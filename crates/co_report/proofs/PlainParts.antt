@@ -1,6 +1,6 @@
 -- What stands at the front of a text is its first part, or the front of it.
 use Rattle.std.proofs.Common.{◌≡◌, ℕ, ◌+◌, ◌^◌, ◌<◌, ◌≤◌, Bool, true, false, not, ◌&&◌, List, [], ◌∷◌, ◌++◌, length, take, drop, get_or, refl, ap, sym, subst, ◌∙◌, arith, decimal, append-nil, ℤ, pos}
-use Rattle.std.specs.Prelude.{Option, Some, None, Result, Ok, Err, codes, nat_lt, ◌==◌, if◌then◌else◌}
+use Rattle.std.specs.Prelude.{Option, Some, None, MatchBool, Result, Ok, Err, codes, nat_lt, ◌==◌, if◌then◌else◌}
 use Rattle.std.proofs.lemmas.Fmt.{decimal_is_IsNumeral}
 use Rattle.std.proofs.lemmas.List.{drop_more, length-take-le, take-append-drop}
 use Rattle.std.specs.List.{list_all}
@@ -23,7 +23,7 @@ use Rattle.co_report.specs.declared.reading.names.Names.{Names}
 use Rattle.co_report.specs.declared.reading.plain.ActorAct.{ActorAct}
 use Rattle.co_report.specs.Plain.{behind_end, behind_word, is_actor_letter, by_word}
 use Rattle.co_report.specs.NoteForms.{literal}
-use Rattle.co_report.specs.Parts.{is_space, parts_behind, parts}
+use Rattle.co_report.specs.Parts.{is_space, parts_behind, parts, parts_left}
 use Rattle.co_report.specs.NoteValues.{is_shortest, below, lettered, or_dash, truth, count64, count32, negative, code, actor_in, is_slash, maker}
 
 -- ---- no space
@@ -55,6 +55,24 @@ ends_first (c ∷ text) ps e = go (is_space c) refl e where
   go : (b : Bool) → is_space c ≡ b → (if b then Some (parts text) else None) ≡ Some ps → parts (c ∷ text) ≡ [] ∷ ps
   go true f h = let same : parts text ≡ ps = cc in ap (λ b. parts_behind b c (parts text)) f ∙ ap (λ qs. [] ∷ qs) same
   go false f h = cc
+
+pub ended_none : (text : List ℕ) → length text ≡ 0 → behind_end text ≡ Some (parts_left text)
+ended_none [] none = refl
+ended_none (c ∷ text) none = absurd (omega arith)
+
+pub ended_here : (text : List ℕ) (b : Bool) → 0 < length text → b ≡ (get_or text 0 0 == 32) → MatchBool b (behind_end text ≡ Some (parts_left text)) (behind_end text ≡ None)
+ended_here [] b some e = absurd (omega arith)
+ended_here (c ∷ text) true some e = ap (λ k. if k then Some (parts text) else None) (sym e)
+ended_here (c ∷ text) false some e = ap (λ k. if k then Some (parts text) else None) (sym e)
+
+-- what is left behind a part
+pub left_none : (rest : List ℕ) → length rest ≡ 0 → parts_left rest ≡ []
+left_none [] none = refl
+left_none (c ∷ text) none = absurd (omega arith)
+
+pub left_text : (rest text : List ℕ) → 0 < length rest → text ≡ drop 1 rest → parts_left rest ≡ parts text
+left_text [] text some e = absurd (omega arith)
+left_text (c ∷ behind) text some e = ap parts (sym e)
 
 -- either the text begins with this word as its first part, or another part is first
 abbrev Told : Word → List Word → Option (List Word) → Type 0

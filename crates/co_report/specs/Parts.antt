@@ -1,6 +1,5 @@
 -- The parts of a line between its spaces: each space ends one and begins the next.
-use Rattle.std.specs.Prelude.{ℕ, Bool, true, false, List, [], ◌∷◌, ◌==◌, Option, Some, None}
-use Rattle.std.specs.Borrow.{Bor}
+use Rattle.std.specs.Prelude.{ℕ, Bool, true, false, List, [], ◌∷◌, ◌==◌}
 use Rattle.co_text.specs.Values.{Word}
 
 abbrev pub is_space : ℕ → Bool
@@ -16,7 +15,7 @@ abbrev pub parts : List ℕ → List Word
 parts [] = [] ∷ []
 parts (c ∷ cs) = parts_behind (is_space c) c (parts cs)
 
--- the parts of what is left of a line, if anything is
-abbrev pub parts_left : Option (Bor (List ℕ)) → List Word
-parts_left None = []
-parts_left (Some text) = parts text.now
+-- the parts of what is left of a line behind a part: first comes the space that ended it, if a space did
+abbrev pub parts_left : List ℕ → List Word
+parts_left [] = []
+parts_left (c ∷ text) = parts text

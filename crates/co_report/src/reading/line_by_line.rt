@@ -13,12 +13,12 @@ ghost use Rattle.co_report.specs.ReadingViews.{halves_view, line_shown, so_far, 
 use crate::line::Line;
 use crate::listening::LineListener;
 use crate::reading::names::{Names, names_of};
-use crate::reading::notes::{NumberedEntry, note_of};
+use crate::reading::notes::{note_of, read_note, unread};
 use crate::reading::places::places;
 use crate::reading::progress::{Progress, Setting};
 use crate::reading::texts::{Halves, bad, behind_first, no_memory, none_cut, split_at_histories};
 use crate::reading::{is_canonical, script_in_report};
-use co_object::{AnyEntry, Note, Place};
+use co_object::{AnyEntry, Place};
 use co_program::Script;
 use co_sbt::{NoMemory, Seq};
 use co_script::laws::{fitting_scripts_are_accepted, read_scripts_fit};
@@ -218,27 +218,6 @@ fn take_note(
     Ok(found)
 }
 
-/// Tells what line `number` shows, where a place is open.
-fn tell_shown<L: LineListener>(
-    place: Option<Place>,
-    number: u64,
-    shown: &NumberedEntry,
-    listener: &mut L,
-) -> Result<(), NoMemory>
-    requires { (lines : List Line) × L.has listener.old lines }
-    ensures { OnOk result (HasTakenMore L.has listener.old listener.new (one_or_none (line_shown number place shown.now))) }
-{
-    if let Some(place) = place {
-        let note = Note {
-            place,
-            pos: shown.number,
-            entry: shown.entry,
-        };
-        listener.take(number, &note)?;
-    }
-    Ok(())
-}
-
 /// Reads a line, and tells the note that it shows, if it shows one.
 fn tell_note<L: LineListener>(
     alloc: Global,
@@ -260,13 +239,13 @@ fn tell_note<L: LineListener>(
         progress.close(alloc, setting, number)?;
         return Ok(());
     }
-    match &note_of(&setting.names, progress.current, line) {
-        Ok(shown) => {
-            tell_shown(progress.current, number, shown, listener)?;
-            Ok(())
-        }
-        Err(cause) => Err(LineFault::Bad(*cause)),
-    }
+    let Some(place) = progress.current else {
+        return Err(LineFault::Bad(Cause::Note));
+    };
+    let mut note = unread(place);
+    read_note(&setting.names, line, &mut note)?;
+    listener.take(number, &note)?;
+    Ok(())
 }
 
 impl<'a> Reader<'a> {

@@ -1,15 +1,17 @@
 //! The note that a line shows.
+ghost use Rattle.std.specs.Prelude.{◌≡◌, Some};
 ghost use Rattle.co_text.specs.Fallible.{Gives};
 ghost use Rattle.co_report.specs.NoteValues.{HasFewActors, maker, maker_is};
-ghost use Rattle.co_report.specs.NoteForms.{call_form, journal_form, head_form, timer_form, wheel_form, own_form, note_form, shown_note};
+ghost use Rattle.co_report.specs.NoteForms.{journal_form, head_form, timer_form, wheel_form, own_form, note_form, shown_note, whole};
+ghost use Rattle.co_report.specs.Parts.{parts};
 
 use crate::reading::names::Names;
 use crate::reading::operations::operation;
 use crate::reading::parts::Parts;
 use crate::reading::queue::{answer, may_answer, queue_op};
 use crate::reading::replies::reply;
-use crate::reading::values::{Maker, literal, made_by, made_by_actor, number64, own_kind};
-use co_object::{AnyEntry, Entry, Op, OwnEntry, Place, QEntry, QOp, QReply, Reply};
+use crate::reading::values::{Maker, first_number64, literal, made_by, made_by_actor, own_kind};
+use co_object::{AnyEntry, Entry, Note, OwnEntry, OwnKind, Place, QEntry, QOp, QReply};
 use co_text::Cause;
 
 /// What a note line says.
@@ -19,16 +21,6 @@ pub struct NumberedEntry {
     pub number: u64,
     /// Its entry.
     pub entry: AnyEntry,
-}
-
-/// An operation on a callout, `=` and its reply.
-fn call(names: &Names, parts: &mut Parts) -> Result<(Op, Reply), Cause>
-    ensures { Gives (λ x. (x, parts.new)) result (call_form names.now parts.old) }
-{
-    let op = operation(names, parts)?;
-    literal(b"=".as_slice(), parts)?;
-    let reply = reply(names, parts)?;
-    Ok((op, reply))
 }
 
 /// An operation on a timer queue, `=` and its answer; `Form` where that is an answer of another operation.
@@ -45,89 +37,131 @@ fn journal(names: &Names, parts: &mut Parts) -> Result<(QOp, QReply), Cause>
     }
 }
 
-/// A note's number, and who made it.
+/// The number of the note that a line shows, who made it, and the parts behind.
 #[inline(always)]
-fn head(names: &Names, parts: &mut Parts) -> Result<(u64, Maker), Cause>
+fn head<'a>(names: &Names, line: &'a [u8]) -> Result<((u64, Maker), Parts<'a>), Cause>
     requires { HasFewActors names.now }
-    ensures { Gives (λ x. (x, parts.new)) result (head_form (maker names.now) parts.old) }
+    ensures { Gives (λ x. x) result (head_form (maker names.now) (parts line.now)) }
 {
-    let number = number64(parts)?;
-    let maker = made_by(names, parts)?;
-    Ok((number, maker))
+    let (number, mut parts) = first_number64(line)?;
+    let maker = made_by(names, &mut parts)?;
+    Ok(((number, maker), parts))
 }
 
-/// A note's number, and who made it, which is this actor: `Form` where it is another.
-fn own_head(names: &Names, actor: u32, parts: &mut Parts) -> Result<(u64, Maker), Cause>
+/// The number of the note that a line shows, who made it, which is this actor, and the parts behind: `Form` where it is another.
+fn own_head<'a>(
+    names: &Names,
+    actor: u32,
+    line: &'a [u8],
+) -> Result<((u64, Maker), Parts<'a>), Cause>
     requires { HasFewActors names.now }
-    ensures { Gives (λ x. (x, parts.new)) result (head_form (maker_is names.now actor) parts.old) }
+    ensures { Gives (λ x. x) result (head_form (maker_is names.now actor) (parts line.now)) }
 {
-    let number = number64(parts)?;
-    let maker = made_by_actor(names, actor, parts)?;
-    Ok((number, maker))
+    let (number, mut parts) = first_number64(line)?;
+    let maker = made_by_actor(names, actor, &mut parts)?;
+    Ok(((number, maker), parts))
 }
 
-fn timer_note(names: &Names, parts: &mut Parts) -> Result<NumberedEntry, Cause>
+/// Reads a note of a callout. The entry is written where it is wanted, since it is too large to be handed on.
+#[inline(always)]
+fn timer_note(names: &Names, line: &[u8], note: &mut Note) -> Result<(), Cause>
     requires { HasFewActors names.now }
-    ensures { Gives (λ x. (x, parts.new)) result (timer_form names.now parts.old) }
+    ensures shown { Gives (λ _. record { number = note.new.pos; entry = note.new.entry }) result (whole (timer_form names.now) (parts line.now)) }
+    ensures place { note.new.place ≡ note.old.place }
 {
-    let (number, maker) = head(names, parts)?;
-    let (op, reply) = call(names, parts)?;
-    let entry = Entry {
+    let ((number, maker), mut parts) = head(names, line)?;
+    let op = operation(names, &mut parts)?;
+    literal(b"=".as_slice(), &mut parts)?;
+    let reply = reply(names, &mut parts)?;
+    parts.end()?;
+    note.pos = number;
+    note.entry = AnyEntry::Timer(Entry {
         actor: maker.actor,
         act: maker.act,
         op,
         reply,
-    };
-    Ok(NumberedEntry {
-        number,
-        entry: AnyEntry::Timer(entry),
-    })
+    });
+    Ok(())
 }
 
-fn wheel_note(names: &Names, parts: &mut Parts) -> Result<NumberedEntry, Cause>
+/// Reads a note of a CPU's queue.
+#[inline(always)]
+fn wheel_note(names: &Names, line: &[u8], note: &mut Note) -> Result<(), Cause>
     requires { HasFewActors names.now }
-    ensures { Gives (λ x. (x, parts.new)) result (wheel_form names.now parts.old) }
+    ensures shown { Gives (λ _. record { number = note.new.pos; entry = note.new.entry }) result (whole (wheel_form names.now) (parts line.now)) }
+    ensures place { note.new.place ≡ note.old.place }
 {
-    let (number, maker) = head(names, parts)?;
-    let (op, reply) = journal(names, parts)?;
-    let entry = QEntry {
+    let ((number, maker), mut parts) = head(names, line)?;
+    let (op, reply) = journal(names, &mut parts)?;
+    parts.end()?;
+    note.pos = number;
+    note.entry = AnyEntry::Cpu(QEntry {
         actor: maker.actor,
         act: maker.act,
         op,
         reply,
-    };
-    Ok(NumberedEntry {
-        number,
-        entry: AnyEntry::Cpu(entry),
-    })
+    });
+    Ok(())
 }
 
-fn own_note(names: &Names, actor: u32, parts: &mut Parts) -> Result<NumberedEntry, Cause>
+/// Reads an actor's own note.
+fn own_note(names: &Names, actor: u32, line: &[u8], note: &mut Note) -> Result<(), Cause>
     requires { HasFewActors names.now }
-    ensures { Gives (λ x. (x, parts.new)) result (own_form names.now actor parts.old) }
+    ensures shown { Gives (λ _. record { number = note.new.pos; entry = note.new.entry }) result (whole (own_form names.now actor) (parts line.now)) }
+    ensures place { note.new.place ≡ note.old.place }
 {
-    let (number, maker) = own_head(names, actor, parts)?;
-    let kind = own_kind(parts)?;
-    let entry = OwnEntry {
+    let ((number, maker), mut parts) = own_head(names, actor, line)?;
+    let kind = own_kind(&mut parts)?;
+    parts.end()?;
+    note.pos = number;
+    note.entry = AnyEntry::Own(OwnEntry {
         actor: maker.actor,
         act: maker.act,
         kind,
-    };
-    Ok(NumberedEntry {
-        number,
-        entry: AnyEntry::Own(entry),
-    })
+    });
+    Ok(())
 }
 
-/// A note of a place.
-fn note(names: &Names, place: Place, parts: &mut Parts) -> Result<NumberedEntry, Cause>
+/// Reads a note of its place.
+#[inline(always)]
+fn placed_note(names: &Names, line: &[u8], note: &mut Note) -> Result<(), Cause>
     requires { HasFewActors names.now }
-    ensures { Gives (λ x. (x, parts.new)) result (note_form names.now place parts.old) }
+    ensures shown { Gives (λ _. record { number = note.new.pos; entry = note.new.entry }) result (whole (note_form names.now note.old.place) (parts line.now)) }
+    ensures place { note.new.place ≡ note.old.place }
 {
-    match place {
-        Place::Timer(_) => timer_note(names, parts),
-        Place::Cpu(_) => wheel_note(names, parts),
-        Place::Actor(actor) => own_note(names, actor, parts),
+    match note.place {
+        Place::Timer(_) => timer_note(names, line, note),
+        Place::Cpu(_) => wheel_note(names, line, note),
+        Place::Actor(actor) => own_note(names, actor, line, note),
+    }
+}
+
+/// A note of a place, before it is read.
+#[inline(always)]
+pub fn unread(place: Place) -> Note
+    ensures { result.place ≡ place }
+{
+    Note {
+        place,
+        pos: 0,
+        entry: AnyEntry::Own(OwnEntry {
+            actor: 0,
+            act: 0,
+            kind: OwnKind::NotHeld,
+        }),
+    }
+}
+
+/// Reads the note of its place that a line shows; `Note` where it shows none.
+#[inline(always)]
+pub fn read_note(names: &Names, line: &[u8], note: &mut Note) -> Result<(), Cause>
+    requires { HasFewActors names.now }
+    ensures shown { Gives (λ _. record { number = note.new.pos; entry = note.new.entry }) result (shown_note names.now (Some note.old.place) line.now) }
+    ensures place { note.new.place ≡ note.old.place }
+{
+    match placed_note(names, line, note) {
+        Ok(()) => Ok(()),
+        Err(_) => Err(Cause::Note),
     }
 }
 
@@ -139,10 +173,10 @@ pub fn note_of(names: &Names, place: Option<Place>, line: &[u8]) -> Result<Numbe
     let Some(place) = place else {
         return Err(Cause::Note);
     };
-    let mut parts = Parts::new(line);
-    let shown = note(names, place, &mut parts);
-    if shown.is_err() || parts.end().is_err() {
-        return Err(Cause::Note);
-    }
-    shown
+    let mut note = unread(place);
+    read_note(names, line, &mut note)?;
+    Ok(NumberedEntry {
+        number: note.pos,
+        entry: note.entry,
+    })
 }

@@ -1,5 +1,5 @@
 //! The parts of a line between its spaces, taken one by one.
-ghost use Rattle.std.specs.Prelude.{◌≡◌, ◌≤◌, ◌∷◌, Ok, true, false, length, decimal, MatchOption};
+ghost use Rattle.std.specs.Prelude.{◌≡◌, ◌≤◌, ◌∷◌, [], Ok, true, false, length, decimal, IfSome, MatchOption};
 ghost use Rattle.std.specs.List.{position_or_len};
 ghost use Rattle.co_text.specs.Fallible.{Gives};
 ghost use Rattle.co_text.specs.Taking.{next, ended, option};
@@ -18,21 +18,18 @@ fn part_length(text: &[u8]) -> usize
     text.iter().take_while(|c| **c != b' ').count()
 }
 
-/// The first part of a text, and the text behind the space that ends it, if a space does.
-fn split(text: &[u8]) -> (&[u8], Option<&[u8]>)
-    ensures { parts text.now ≡ result.0.now ∷ parts_left result.1 }
+/// The first part of a text, and the text from the space on that ends it, if a space does.
+fn split(text: &[u8]) -> (&[u8], &[u8])
+    ensures { parts text.now ≡ result.0.now ∷ parts_left result.1.now }
 {
-    let (part, rest) = text.split_at(part_length(text));
-    if rest.is_empty() {
-        return (part, None);
-    }
-    (part, Some(rest.split_at(1).1))
+    text.split_at(part_length(text))
 }
 
-/// What is left of a line. Contracts see the list of its parts.
+/// What is left of a line behind a part: the space that ended it and all behind that, or nothing. Contracts see the list of the
+/// parts that follow.
 #[derive(Drop)]
 pub struct Parts<'a> {
-    rest: Option<&'a [u8]>,
+    rest: &'a [u8],
 }
 
 impl<'a> Model for Parts<'a> {
@@ -41,22 +38,44 @@ impl<'a> Model for Parts<'a> {
 
     ghost Value = { List (List ℕ) };
 
-    ghost view = { λ p. parts_left p.rest };
+    ghost view = { λ p. parts_left p.rest.now };
 }
 
 impl<'a> Parts<'a> {
-    /// The parts of a line.
-    pub fn new(line: &'a [u8]) -> Parts<'a>
-        ensures { result ≡ parts line.now }
+    /// The number that is the first part of a line in its shortest spelling, and the parts behind it.
+    #[inline(always)]
+    pub fn behind_number(line: &'a [u8]) -> Option<(u64, Parts<'a>)>
+        ensures { IfSome result (λ r. parts line.now ≡ decimal r.0 ∷ r.1) }
     {
-        Parts { rest: Some(line) }
+        let (number, rest) = number_part(line)?;
+        Some((number, Parts { rest }))
+    }
+
+    /// The first part of a line, and the parts behind it.
+    pub fn behind_word(line: &'a [u8]) -> (&'a [u8], Parts<'a>)
+        ensures { parts line.now ≡ result.0.now ∷ result.1 }
+    {
+        let (part, rest) = split(line);
+        (part, Parts { rest })
+    }
+
+    /// The text of the next part and of all behind it.
+    #[tactic(auto, using(crate::proofs::PlainParts::left_none, crate::proofs::PlainParts::left_text))]
+    #[inline(always)]
+    fn text(&self) -> Option<&'a [u8]>
+        ensures { MatchOption result (self.now ≡ []) (λ text. self.now ≡ parts text.now) }
+    {
+        match self.rest {
+            [] => None,
+            [_, text @ ..] => Some(text),
+        }
     }
 
     /// The next part; `Form` where there is none.
     pub fn word(&mut self) -> Result<&'a [u8], Cause>
         ensures { Gives (λ word. (word.now, self.new)) result (next Ok self.old) }
     {
-        match self.rest {
+        match self.text() {
             None => Err(Cause::Form),
             Some(text) => {
                 let (part, rest) = split(text);
@@ -71,7 +90,7 @@ impl<'a> Parts<'a> {
     pub fn number(&mut self) -> Option<u64>
         ensures { MatchOption result (self.new ≡ self.old) (λ n. self.old ≡ decimal n ∷ self.new) }
     {
-        let (number, rest) = number_part(self.rest?)?;
+        let (number, rest) = number_part(self.text()?)?;
         self.rest = rest;
         Some(number)
     }
@@ -82,7 +101,7 @@ impl<'a> Parts<'a> {
         requires { is_space letter ≡ false }
         ensures { MatchOption result (self.new ≡ self.old) (λ n. self.old ≡ (letter ∷ decimal n) ∷ self.new) }
     {
-        let (number, rest) = lettered_part(letter, self.rest?)?;
+        let (number, rest) = lettered_part(letter, self.text()?)?;
         self.rest = rest;
         Some(number)
     }
@@ -92,7 +111,7 @@ impl<'a> Parts<'a> {
     pub fn maker(&mut self) -> Option<ActorAct>
         ensures { MatchOption result (self.new ≡ self.old) (λ by. (is_actor_letter by.letter ≡ true) × (self.old ≡ by_word by ∷ self.new)) }
     {
-        let (by, rest) = maker_part(self.rest?)?;
+        let (by, rest) = maker_part(self.text()?)?;
         self.rest = rest;
         Some(by)
     }
@@ -103,7 +122,7 @@ impl<'a> Parts<'a> {
     pub fn option(&mut self, wanted: &[u8]) -> bool
         ensures { option wanted.now self.old ≡ Ok (result, self.new) }
     {
-        let Some(text) = self.rest else {
+        let Some(text) = self.text() else {
             return false;
         };
         match behind_word(wanted, text) {
@@ -120,7 +139,7 @@ impl<'a> Parts<'a> {
     pub fn end(&mut self) -> Result<(), Cause>
         ensures { Gives (λ _. true) result (ended self.old) }
     {
-        match self.rest {
+        match self.text() {
             None => Ok(()),
             Some(_) => Err(Cause::Form),
         }

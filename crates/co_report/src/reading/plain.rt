@@ -1,6 +1,6 @@
 //! What is read straight from the text of a line, where it stands in its usual spelling: in one pass, and with no slice of the
 //! word. An answer tells what stands there; none tells nothing, and the part is then read as any other word.
-ghost use Rattle.std.specs.Prelude.{◌≡◌, ◌∷◌, ◌++◌, ◌≤◌, ◌<◌, ◌^◌, true, false, length, take, decimal, Some, None, IfSome, MatchOption};
+ghost use Rattle.std.specs.Prelude.{◌≡◌, ◌∷◌, ◌++◌, ◌+◌, ◌≤◌, ◌<◌, ◌^◌, true, false, length, take, decimal, Some, None, IfSome, MatchBool, MatchOption};
 ghost use Rattle.std.specs.List.{list_all};
 ghost use Rattle.std.specs.Char.{is_ascii_digit};
 ghost use Rattle.co_sbt.specs.Seconds.{number as spelled};
@@ -19,10 +19,19 @@ pub fn is_shortest(word: &[u8]) -> bool
     }
 }
 
-/// The number that the digits at the front spell, and how many these are: at most 19, so that it has 64 bits.
+/// The value of a digit; of any other byte more than 9.
+#[inline(always)]
+fn digit_value(byte: u8) -> u64
+    ensures digit { result ≤ 9 → (is_ascii_digit byte ≡ true) × (byte ≡ 48 + result) }
+    ensures small { result < 2 ^ 64 }
+{
+    u64::from(byte).wrapping_sub(u64::from(b'0'))
+}
+
+/// The number that the digits at the front spell, and how many these are. Of more than 19 it is the lowest 64 bits.
 #[inline(always)]
 fn digits_at_front(text: &[u8]) -> (u64, usize)
-    ensures value { result.0 ≡ spelled (take result.1 text.now) }
+    ensures value { result.1 ≤ 19 → result.0 ≡ spelled (take result.1 text.now) }
     ensures digits { list_all is_ascii_digit (take result.1 text.now) ≡ true }
     ensures small { result.0 < 2 ^ 64 }
     ensures bound { result.1 ≤ length text.now }
@@ -30,10 +39,11 @@ fn digits_at_front(text: &[u8]) -> (u64, usize)
     let mut value = 0_u64;
     let mut count = 0_usize;
     for c in text {
-        if count == 19 || !c.is_ascii_digit() {
+        let digit = digit_value(*c);
+        if digit > 9 {
             break;
         }
-        value = value * 10 + u64::from(*c - b'0');
+        value = value.wrapping_mul(10).wrapping_add(digit);
         count += 1;
     }
     (value, count)
@@ -46,41 +56,43 @@ fn number_at_front(text: &[u8]) -> Option<(u64, &[u8])>
 {
     let (value, count) = digits_at_front(text);
     let (digits, rest) = text.split_at(count);
-    if count == 0 || !is_shortest(digits) {
+    if count == 0 || count > 19 || !is_shortest(digits) {
         return None;
     }
     Some((value, rest))
 }
 
-/// What is left behind a part that ends here.
+/// Whether a part ends before this text.
+#[tactic(auto, using(crate::proofs::PlainParts::ended_none, crate::proofs::PlainParts::ended_here))]
 #[inline(always)]
-fn behind_part(text: &[u8]) -> Option<Option<&[u8]>>
-    ensures { MatchOption result (behind_end text.now ≡ None) (λ rest. behind_end text.now ≡ Some (parts_left rest)) }
+fn ends_part(text: &[u8]) -> bool
+    ensures { MatchBool result (behind_end text.now ≡ Some (parts_left text.now)) (behind_end text.now ≡ None) }
 {
     match text {
-        [] => Some(None),
-        [b' ', rest @ ..] => Some(Some(rest)),
-        _ => None,
+        [] => true,
+        [first, ..] => *first == b' ',
     }
 }
 
 /// A number that is the first part, and what is left behind it.
 #[tactic(auto, using(crate::proofs::PlainParts::number_first))]
 #[inline(always)]
-pub fn number_part(text: &[u8]) -> Option<(u64, Option<&[u8]>)>
-    ensures { IfSome result (λ r. parts text.now ≡ decimal r.0 ∷ parts_left r.1) }
+pub fn number_part(text: &[u8]) -> Option<(u64, &[u8])>
+    ensures { IfSome result (λ r. parts text.now ≡ decimal r.0 ∷ parts_left r.1.now) }
 {
-    let (number, behind) = number_at_front(text)?;
-    let rest = behind_part(behind)?;
+    let (number, rest) = number_at_front(text)?;
+    if !ends_part(rest) {
+        return None;
+    }
     Some((number, rest))
 }
 
 /// A letter and a number that are the first part, and what is left behind it.
 #[tactic(auto, using(crate::proofs::PlainParts::letter_first))]
 #[inline(always)]
-pub fn lettered_part(letter: u8, text: &[u8]) -> Option<(u64, Option<&[u8]>)>
+pub fn lettered_part(letter: u8, text: &[u8]) -> Option<(u64, &[u8])>
     requires { is_space letter ≡ false }
-    ensures { IfSome result (λ r. parts text.now ≡ (letter ∷ decimal r.0) ∷ parts_left r.1) }
+    ensures { IfSome result (λ r. parts text.now ≡ (letter ∷ decimal r.0) ∷ parts_left r.1.now) }
 {
     match text {
         [first, digits @ ..] if *first == letter => number_part(digits),
@@ -107,8 +119,8 @@ fn is_actor_letter(letter: u8) -> bool
 
 /// `A/M` as the first part, and what is left behind it.
 #[inline(always)]
-pub fn maker_part(text: &[u8]) -> Option<(ActorAct, Option<&[u8]>)>
-    ensures { IfSome result (λ r. (is_actor_letter r.0.letter ≡ true) × (parts text.now ≡ by_word r.0 ∷ parts_left r.1)) }
+pub fn maker_part(text: &[u8]) -> Option<(ActorAct, &[u8])>
+    ensures { IfSome result (λ r. (is_actor_letter r.0.letter ≡ true) × (parts text.now ≡ by_word r.0 ∷ parts_left r.1.now)) }
 {
     let [letter, digits @ ..] = text else {
         return None;
@@ -128,9 +140,9 @@ pub fn maker_part(text: &[u8]) -> Option<(ActorAct, Option<&[u8]>)>
 
 /// What is left behind the first part, where that is this word.
 #[inline(always)]
-pub fn behind_word<'a>(wanted: &[u8], text: &'a [u8]) -> Option<Option<&'a [u8]>>
+pub fn behind_word<'a>(wanted: &[u8], text: &'a [u8]) -> Option<&'a [u8]>
     ensures { MatchOption result (behind_word wanted.now text.now ≡ None)
-        (λ rest. behind_word wanted.now text.now ≡ Some (parts_left rest)) }
+        (λ rest. behind_word wanted.now text.now ≡ Some (parts_left rest.now)) }
 {
     if text.len() < wanted.len() {
         return None;
@@ -140,5 +152,9 @@ pub fn behind_word<'a>(wanted: &[u8], text: &'a [u8]) -> Option<Option<&'a [u8]>
             return None;
         }
     }
-    behind_part(text.split_at(wanted.len()).1)
+    let rest = text.split_at(wanted.len()).1;
+    if !ends_part(rest) {
+        return None;
+    }
+    Some(rest)
 }

@@ -7,7 +7,7 @@ ghost use Rattle.co_text.specs.Values.{behind};
 ghost use Rattle.co_text.specs.Taking.{next};
 ghost use Rattle.co_report.specs.NoteValues.{below, lettered, count64, count32, time_in_units, arming, given, callout_value, func_of, cpu_in, or_dash, truth, actor_in, is_slash, maker, maker_is, own_kind, HasFewActors};
 ghost use Rattle.co_report.specs.NoteForms.{literal};
-ghost use Rattle.co_report.specs.Parts.{is_space};
+ghost use Rattle.co_report.specs.Parts.{parts, is_space};
 ghost use Rattle.co_report.specs.Plain.{is_actor_letter};
 
 use crate::reading::names::Names;
@@ -295,16 +295,17 @@ fn next_lettered32(letter: u8, bound: u32, parts: &mut Parts) -> Result<u32, Cau
     }
 }
 
-/// A number of 64 bits. `Form` where the next word is none.
+/// The number of 64 bits that a line begins with, and the parts behind it. `Form` where its first word is none.
 #[tactic(auto, using(crate::proofs::PlainParts::count_carried))]
 #[inline(always)]
-pub fn number64(parts: &mut Parts) -> Result<u64, Cause>
-    ensures { Gives (λ x. (x, parts.new)) result (next count64 parts.old) }
+pub fn first_number64(line: &[u8]) -> Result<(u64, Parts<'_>), Cause>
+    ensures { Gives (λ x. x) result (next count64 (parts line.now)) }
 {
-    match parts.number() {
-        Some(number) => whole(number),
-        None => count64(parts.word()?),
+    if let Some((number, parts)) = Parts::behind_number(line) {
+        return Ok((whole(number)?, parts));
     }
+    let (word, parts) = Parts::behind_word(line);
+    Ok((count64(word)?, parts))
 }
 
 /// A number of 32 bits. `Form` where the next word is none.
