@@ -6,3 +6,4 @@ mod reports;
 mod scripts;
 mod told;
 mod verdicts;
+mod words;

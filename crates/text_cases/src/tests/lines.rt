@@ -59,3 +59,31 @@ fn a_bad_line_gives_its_cause(rt: HostRuntime) {
         assert!(rt; refuses(text, cause, rest));
     }
 }
+
+// A line of nine letters and its line feed, with this byte in the place of one letter.
+fn with_byte(byte: u8, place: usize) -> [u8; 10] {
+    let mut line = [b'a'; 10];
+    line[9] = b'\n';
+    if place < 9 {
+        line[place] = byte;
+    }
+    line
+}
+
+#[test]
+fn a_part_ends_at_each_of_its_places(rt: HostRuntime) {
+    for place in 0..9_usize {
+        let line = with_byte(b'#', place);
+        assert!(rt;
+            gives(
+                line.as_slice(),
+                line.as_slice().split_at(place).0,
+                b"".as_slice()
+            )
+        );
+        let line = with_byte(b'\x7f', place);
+        assert!(rt; refuses(line.as_slice(), Cause::Byte, b"".as_slice()));
+    }
+    let line = with_byte(b'a', 9);
+    assert!(rt; gives(line.as_slice(), b"aaaaaaaaa".as_slice(), b"".as_slice()));
+}
