@@ -22,11 +22,11 @@ returns-clause-value g c =
     let sorted : IsLineSorted s d line (Ok false) = subst (λ b. IsLineSorted s d line (Ok b)) c.if-branch.false c.in_ok-is_closed_by.ensures in
     let at_place : d.current ≡ Some note.place = c.in-Some.is ∙ ap (λ p. Some p) (sym (c.in_ok-read_note.ensures.place ∙ c.unread-note.ensures)) in
     let shown : shown_note (names_of s) (Some note.place) line ≡ Ok x =
-        ap (λ names. shown_note names (Some note.place) line) (sym c.requires.setting.names)
-        ∙ (ap (λ p. shown_note c.args.setting.now.names (Some p) line) c.in_ok-read_note.ensures.place ∙ c.in_ok-read_note.ensures.shown) in
+    ap (λ names. shown_note names (Some note.place) line) (sym c.requires.setting.names)
+    ∙ (ap (λ p. shown_note c.args.setting.now.names (Some p) line) c.in_ok-read_note.ensures.place ∙ c.in_ok-read_note.ensures.shown) in
     let told : line_after s k d line ≡ Ok (with_line d (Some (line_of k note))) =
-        sorted k
-        ∙ (ap (λ current. shown_note (names_of s) current line >>= λ y. Ok (with_note k d current y)) at_place
-        ∙ (ap (λ read. read >>= λ y. Ok (with_note k d (Some note.place) y)) shown
-        ∙ ap (λ (ls : List Line). Ok (record { current = d.current; left = d.left; lines = ls ++ line_of k note ∷ []; end = d.end })) c.requires.none)) in
+    sorted k
+    ∙ (ap (λ current. shown_note (names_of s) current line >>= λ y. Ok (with_note k d current y)) at_place
+    ∙ (ap (λ read. read >>= λ y. Ok (with_note k d (Some note.place) y)) shown
+    ∙ ap (λ (ls : List Line). Ok (record { current = d.current; left = d.left; lines = ls ++ line_of k note ∷ []; end = d.end })) c.requires.none)) in
     (Some (line_of k note), told, c.in_ok-take.ensures)
