@@ -9,7 +9,7 @@ import glob, os, re, shutil, subprocess, sys, tempfile
 
 HERE = os.path.dirname(os.path.dirname(os.path.abspath(__file__)))
 KEEPING = """#!/bin/sh
-for word in "$@"; do case "$word" in *.bc) [ -f "$word" ] && cp "$word" "{kept}" && exit 1 ;; esac; done
+for word in "$@"; do case "$word" in *.bc) [ -n "$(find "$word" -size +99k)" ] && cp "$word" "{kept}" && exit 1 ;; esac; done
 exec "{clang}" "$@"
 """
 HINT = re.compile(r"#\[inline(?:\((always|never)\))?\]\s*(?:///.*\n\s*|//.*\n\s*|#\[.*\]\s*)*(?:pub(?:\([a-z]+\))? )?fn (\w+)")
@@ -17,8 +17,8 @@ KINDS = {"always": "alwaysinline", "never": "noinline", "": "inlinehint"}
 
 
 def kit_that_keeps(room, kept):
-    """A copy of the toolchain by links, whose compiler keeps the module that it is given and goes no further: its command rt, and the
-    compiler and the C libraries of the toolchain itself."""
+    """A copy of the toolchain by links, whose compiler keeps the program's module and goes no further, but compiles the small one of
+    options that comes first: its command rt, and the compiler and the C libraries of the toolchain itself."""
     kit = os.path.dirname(os.path.dirname(os.path.realpath(shutil.which("rt") or sys.exit("rt is not on the path"))))
     for part in os.listdir(kit):
         if part not in ("bin", "toolchain"):

@@ -1,5 +1,5 @@
 -- The bytes of a row of numbers, and the row that bytes begin with.
-use Rattle.std.specs.Prelude.{ℕ, ◌≡◌, zero, suc, ◌+◌, ◌*◌, ◌/◌, ◌%◌, List, [], ◌∷◌, ◌++◌, length, drop}
+use Rattle.std.specs.Prelude.{ℕ, ◌≡◌, ◌<◌, ◌≤◌, zero, suc, ◌+◌, ◌*◌, ◌/◌, ◌%◌, List, [], ◌∷◌, ◌++◌, length, drop, take}
 use Rattle.std.specs.List.{flat_map, AllByRecursion}
 use Rattle.co_packed.specs.Typed.{IsLong}
 use Rattle.co_packed.specs.Numbers.{width, bytes_of, value, number_in}
@@ -42,3 +42,11 @@ after_row bs = drop (row_size bs) bs
 -- a row has sixteen numbers, each of 64 bits
 abbrev pub IsRow : List ℕ → Type 0
 IsRow ns = (length ns ≡ 16) × AllByRecursion IsLong ns
+
+-- The four numbers from `from` on have been put at `at`, behind those before them. Their widths are `low`, and they reach up to `end`.
+pub record FourPut (ns : List ℕ) (from at : ℕ) (before after : List ℕ) (low end : ℕ) : Type 0 where
+  pub widths : widths (drop from ns) ≡ low + 65536 * widths (drop (from + 4) ns)
+  pub few : low < 65536
+  pub written : (front : List ℕ) → take at before ≡ front ++ flat_map number_bytes (take from ns) → take end after ≡ front ++ flat_map number_bytes (take (from + 4) ns)
+  pub behind : at ≤ end
+  pub bounded : end ≤ at + 32

@@ -1,10 +1,9 @@
 //! Rows of sixteen numbers as bytes. Most numbers of a note are 0 or small, so a row has each number in as many bytes as it
 //! needs. Before them it has how many these are, four bits for each number, so a reader goes from one to the next with no
 //! look at them, and skips a row that it does not want by these alone.
-ghost use Rattle.std.specs.Prelude.{◌≡◌, ◌+◌, ◌*◌, ◌<◌, ◌≤◌, ◌++◌, true, List, length, take, drop, get_or, ℕ};
-ghost use Rattle.std.specs.List.{flat_map};
+ghost use Rattle.std.specs.Prelude.{◌≡◌, ◌+◌, ◌*◌, ◌<◌, ◌≤◌, ◌++◌, true, length, take, drop, get_or, ℕ};
 ghost use Rattle.co_packed.specs.Numbers.{value};
-ghost use Rattle.co_packed.specs.Rows.{widths, number_bytes, row_bytes, numbers_in, row_in, size_in, row_size, after_row, IsRow};
+ghost use Rattle.co_packed.specs.Rows.{FourPut, row_bytes, numbers_in, row_in, size_in, row_size, after_row, IsRow};
 
 use crate::numbers::{number_at, put_word, width_of, word_at};
 
@@ -14,12 +13,7 @@ use crate::numbers::{number_at, put_word, width_of, word_at};
 fn put_four(buffer: &mut [u8; 136], at: usize, numbers: &[u64; 16], from: usize) -> (u64, usize)
     requires low { at ≤ 104 }
     requires within { from ≤ 12 }
-    ensures widths { widths (drop from numbers.now) ≡ result.0 + 65536 * widths (drop (from + 4) numbers.now) }
-    ensures few { result.0 < 65536 }
-    ensures written { (front : List ℕ) → take at buffer.old ≡ front ++ flat_map number_bytes (take from numbers.now)
-        → take result.1 buffer.new ≡ front ++ flat_map number_bytes (take (from + 4) numbers.now) }
-    ensures behind { at ≤ result.1 }
-    ensures bounded { result.1 ≤ at + 32 }
+    ensures { FourPut numbers.now from at buffer.old buffer.new result.0 result.1 }
 {
     let first = width_of(numbers[from]);
     let second = width_of(numbers[from + 1]);
@@ -49,12 +43,7 @@ fn put_four_if_some(
 ) -> (u64, usize)
     requires low { at ≤ 104 }
     requires within { from ≤ 12 }
-    ensures widths { widths (drop from numbers.now) ≡ result.0 + 65536 * widths (drop (from + 4) numbers.now) }
-    ensures few { result.0 < 65536 }
-    ensures written { (front : List ℕ) → take at buffer.old ≡ front ++ flat_map number_bytes (take from numbers.now)
-        → take result.1 buffer.new ≡ front ++ flat_map number_bytes (take (from + 4) numbers.now) }
-    ensures behind { at ≤ result.1 }
-    ensures bounded { result.1 ≤ at + 32 }
+    ensures { FourPut numbers.now from at buffer.old buffer.new result.0 result.1 }
 {
     if are_zero(numbers, from) {
         (0, at)
