@@ -148,6 +148,8 @@ impl<S: Subject> Listener for TallyOf<S> {
 
     ghost has = { λ x made. HasCounted S.script x.tally made };
 
+    ghost room = { λ x. 0 };
+
     fn write(&mut self, actor: u32, note: &Note) -> Result<(), NoMemory> {
         self.tally.take(note)
     }

@@ -70,6 +70,8 @@ impl Listener for KeptLists {
 
     ghost has = { λ kept made. kept ≡ lists_by (length kept) made };
 
+    ghost room = { λ kept. 0 };
+
     fn write(&mut self, actor: u32, note: &Note) -> Result<(), NoMemory> {
         let index = actor as usize;
         let notes = self.lists.replace(index, Seq::new(self.alloc));

@@ -134,6 +134,8 @@ impl<'a> Listener for Sections<'a> {
 
     ghost has = { NotesAreTold };
 
+    ghost room = { λ x. 0 };
+
     /// Appends the note's line to the section of its place. A note of a place that the script hasn't is written nowhere.
     fn write(&mut self, actor: u32, note: &Note) -> Result<(), NoMemory>
         requires actor { actor < actor_count self.old.script }

@@ -66,6 +66,8 @@ impl<'a, S: Subject> Listener for SectionsOf<'a, S> {
 
     ghost has = { λ x made. IsToldOf S.script x.sections made };
 
+    ghost room = { λ x. 0 };
+
     fn write(&mut self, actor: u32, note: &Note) -> Result<(), NoMemory> {
         self.sections.write(actor, note)
     }
