@@ -4,4 +4,4 @@ pub mod Undue
 pub mod Waits
 pub mod NextLock
 pub mod Standing
-pub mod InHand
+pub mod Idle

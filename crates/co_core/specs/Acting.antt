@@ -1,22 +1,28 @@
--- What an actor does in a step of the engine: before, in the middle, and after.
-use Rattle.std.specs.Prelude.{◌≡◌, ℕ, ◌+◌, ◌^◌, ◌≤◌, ◌<◌, length}
+-- What an actor does in a step of the engine: before and after.
+use Rattle.std.specs.Prelude.{◌≡◌, ℕ, ◌+◌, ◌^◌, ◌≤◌, ◌<◌, ◌++◌, List, length}
 use Rattle.std.specs.declared.option.Option.TheVariants.{None}
+use Rattle.co_object.specs.declared.note.Note.{Note}
+use Rattle.co_listener.specs.MadeNotes.{MadeNote}
 use Rattle.co_program.specs.declared.script.Script.{Script}
 use Rattle.co_program.specs.Action.{Action, action_for}
 use Rattle.co_program.specs.Actors.{actor_count}
 use Rattle.co_program.specs.Scripts.{IsScript}
 use Rattle.co_world.specs.Blocked.{blocked}
-use Rattle.co_world.specs.Step.{step}
-use Rattle.co_world.specs.World.{World}
-use Rattle.co_core.specs.declared.ledger.Hand.{Hand}
+use Rattle.co_world.specs.declared.turn.Turn.{Turn}
+use Rattle.co_world.specs.Step.{step, turn_of}
+use Rattle.co_world.specs.World.{World, lists_of}
 use Rattle.co_core.specs.declared.engine.Engine.{Engine}
-use Rattle.co_core.specs.InHand.{with_hand}
+use Rattle.co_core.specs.Noting.{made_by}
 use Rattle.co_core.specs.Stands.{StandsFor}
-use Rattle.co_core.specs.Written.{list_at}
+use Rattle.co_core.specs.Written.{noted, with_lists}
+
+-- the engine stands for this world, whose actors have made these notes
+abbrev pub StandsWith : Script → Engine → List (List Note) → World → Type 0
+StandsWith s e lists w = StandsFor s (with_lists e.ledger lists) e.depot w
 
 -- the engine stands for this world
 abbrev pub Stands : Script → Engine → World → Type 0
-Stands s e w = StandsFor s e.ledger e.depot w
+Stands s e w = StandsWith s e (lists_of s w) w
 
 -- it stands for some world of a sound script
 pub record IsRunning (s : Script) (e : Engine) : Type 0 where
@@ -38,46 +44,35 @@ pub record IsDue (s : Script) (w : World) (a : ℕ) (action : Action) : Type 0 w
   pub free : blocked s w a ≡ None
 
 -- the actor may do this now
-pub record MayStep (s : Script) (e : Engine) (a : ℕ) (action : Action) : Type 0 where
-  pub script : IsScript s
-  pub world : World
-  pub stands : Stands s e world
-  pub due : IsDue s world a action
-
--- the actor has done this, with so many notes
-pub record HasStepped (s : Script) (a : ℕ) (action : Action) (number : ℕ) (e e2 : Engine) : Type 0 where
-  -- from each world that the engine stood for, it stands for the one after the step
-  pub stands : (w : World) → Stands s e w → IsDue s w a action → Stands s e2 (step s w a)
-  -- nothing has been told
-  pub told : e2.ledger.told ≡ e.ledger.told
-  -- the actor's list is longer by so many notes
-  pub count : length (list_at e2.ledger a) ≡ length (list_at e.ledger a) + number
-
--- ---- in the middle of a step
-
--- the engine stands for this world, with the acting actor's notes in hand
-abbrev pub StandsWith : Script → Engine → Hand → World → Type 0
-StandsWith s e hand w = StandsFor s (with_hand e.ledger hand) e.depot w
-
--- the actor in hand may do this now
-pub record MayAct (s : Script) (e : Engine) (hand : Hand) (action : Action) : Type 0 where
+pub record MayAct (s : Script) (e : Engine) (a : ℕ) (action : Action) : Type 0 where
   pub script : IsScript s
   -- the engine stands for this world, in which the action is due
   pub world : World
-  pub held : StandsWith s e hand world
-  pub due : IsDue s world hand.actor action
-  -- no count wraps, and there is room for a section's notes
+  pub lists : List (List Note)
+  pub held : StandsWith s e lists world
+  pub due : IsDue s world a action
+  -- no count wraps
   pub few : e.ledger.made < 2 ^ 63
-  pub room : 3 ≤ hand.notes.spare
 
--- the actor in hand has done this, with so many notes
-pub record HasActed (s : Script) (action : Action) (number : ℕ) (e : Engine) (hand : Hand) (e2 : Engine) (hand2 : Hand) : Type 0 where
-  -- from each world that the engine stood for, it stands for the one after the step
-  pub stands : (w : World) → StandsWith s e hand w → IsDue s w hand.actor action → StandsWith s e2 hand2 (step s w hand.actor)
-  -- the hand is the same actor's still
-  pub actor : hand2.actor ≡ hand.actor
-  -- nothing has been told
-  pub told : e2.ledger.told ≡ e.ledger.told
-  -- the list in hand is longer by so many notes, of which a step makes at most three
-  pub count : length hand2.notes.items ≡ length hand.notes.items + number
+-- the actor has done this, with so many notes, of which a listener has been told
+pub record HasActed {B : Type 0} (s : Script) (has : B → List MadeNote → Type 0) (a : ℕ) (action : Action) (number : ℕ) (e e2 : Engine) (old new : B) : Type 0 where
+  -- of which a step makes at most three
+  pub notes : List Note
+  pub count : length notes ≡ number
   pub few : number ≤ 3
+  -- from each world that the engine stood for, it stands for the one after the step
+  pub stands : (lists : List (List Note)) (w : World) → StandsWith s e lists w → IsDue s w a action → StandsWith s e2 (noted lists a notes) (step s w a)
+  pub heard : (made : List MadeNote) → has old made → has new (made ++ made_by a notes)
+
+-- the actor has done this, which makes no note
+abbrev pub GoesSilently : Script → ℕ → Action → Engine → Engine → Type 0
+GoesSilently s a action e e2 = (lists : List (List Note)) (w : World) → StandsWith s e lists w → IsDue s w a action → StandsWith s e2 lists (step s w a)
+
+-- the actor has stepped, and a listener has been told of the step's notes
+pub record HasStepped {B : Type 0} (s : Script) (has : B → List MadeNote → Type 0) (a : ℕ) (turn : Turn) (e e2 : Engine) (old new : B) : Type 0 where
+  pub notes : List Note
+  -- from each world that the engine stood for, it stands for the one after the step
+  pub stands : (lists : List (List Note)) (w : World) → StandsWith s e lists w → StandsWith s e2 (noted lists a notes) (step s w a)
+  -- and answers as that tells
+  pub tells : (lists : List (List Note)) (w : World) → StandsWith s e lists w → turn ≡ turn_of s w a
+  pub heard : (made : List MadeNote) → has old made → has new (made ++ made_by a notes)

@@ -1,5 +1,5 @@
 -- What the world in code stands for: a plain world that some schedule reaches.
-use Rattle.std.specs.Prelude.{◌≡◌, ℕ, ◌≤◌, ◌<◌, ◌==◌, ◌&&◌, not, Bool, List, length, drop, if◌then◌else◌}
+use Rattle.std.specs.Prelude.{◌≡◌, ℕ, ◌≤◌, ◌<◌, ◌==◌, ◌&&◌, not, Bool, List, length, if◌then◌else◌}
 use Rattle.std.specs.declared.option.Option.{Option}
 use Rattle.std.specs.declared.option.Option.TheVariants.{Some, None}
 use Rattle.co_object.specs.declared.alone.Alone.{Alone}
@@ -16,38 +16,36 @@ use Rattle.co_program.specs.Indexed.{IsCounted, cursor_of}
 use Rattle.co_wheel.specs.Cpu.{Cpu as WheelOf}
 use Rattle.co_wheel.specs.Parcel.{Parcel}
 use Rattle.co_wheel.specs.Turns.{Shows}
-use Rattle.co_world.specs.World.{World}
+use Rattle.co_world.specs.World.{World, lists_of}
 use Rattle.co_world.specs.Blocked.{is_moving}
 use Rattle.co_world.specs.Step.{are_direct}
 use Rattle.co_world.specs.Laws.{IsReached}
 use Rattle.co_world.specs.Placed.{IsPlaced}
 use Rattle.co_core.specs.Stored.{Stored, bag_at, wheel_at}
 use Rattle.co_core.specs.Table.{table}
-use Rattle.co_core.specs.Written.{Written, cursor_at, told_at}
+use Rattle.co_core.specs.Written.{Booked, Written, cursor_at, with_lists}
 
 -- ---- what has been written
-
--- an actor's notes but for those that have been told and let go
-abbrev pub untold : Written → World → ℕ → List Note
-untold x w a = drop (told_at x a) (w.actors a).notes
 
 -- the ledger has each actor's place and notes, and how long each history is
 pub record ShowsWritten (s : Script) (x : Written) (w : World) : Type 0 where
   pub cursors_long : length x.cursors ≡ actor_count s
   pub each_place : (a : ℕ) → a < actor_count s → cursor_of s a (cursor_at x a) ≡ (w.actors a).cursor
-  pub told_long : length x.told ≡ actor_count s
-  pub each_list : x.lists ≡ table (actor_count s) (untold x w)
+  pub each_list : x.lists ≡ table (actor_count s) (λ a. (w.actors a).notes)
   pub each_history : x.histories ≡ table (length s.timers) (λ i. length (w.timers i).history)
   pub each_journal : x.journals ≡ table s.cpus (λ cpu. length (w.cpus cpu).journal)
   pub each_scan : x.scans ≡ table s.cpus (λ cpu. scan_count (w.cpus cpu).journal)
   pub each_own : x.own ≡ table (actor_count s) (λ a. length (notes_of (Actor a) (w.actors a).notes))
-  pub few_told : (a : ℕ) → told_at x a ≤ length (w.actors a).notes
   -- each act that has begun is over in its program or has made a note, and each entry is a note
   pub counted : (a : ℕ) → a < actor_count s → IsCounted (cursor_at x a) x.made
   pub few_entries : (i : ℕ) → length (w.timers i).history ≤ x.made
   pub few_turns : (cpu : ℕ) → length (w.cpus cpu).journal ≤ x.made
   pub few_notes : (a : ℕ) → length (w.actors a).notes ≤ x.made
   pub few_own : (a : ℕ) → length (notes_of (Actor a) (w.actors a).notes) ≤ x.made
+
+-- the same, where each actor's notes are those of the world
+abbrev pub ShowsBooked : Script → Booked → World → Type 0
+ShowsBooked s x w = ShowsWritten s (with_lists x (lists_of s w)) w
 
 -- ---- where each record is
 

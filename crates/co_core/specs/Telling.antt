@@ -1,7 +1,6 @@
 -- The notes of a script's walk, told as they are made.
-use Rattle.std.specs.Prelude.{◌≡◌, ℕ, ◌<◌, ◌≤◌, Bool, true, false, nat_lt, List, length, map, Result, IfOk, OnOk}
+use Rattle.std.specs.Prelude.{◌≡◌, ℕ, ◌<◌, ◌≤◌, Bool, true, List, length, map, Result, IfOk, OnOk}
 use Rattle.std.specs.List.{range_with_len}
-use Rattle.co_object.specs.declared.note.Note.{Note}
 use Rattle.co_object.specs.declared.note.Place.{Place}
 use Rattle.co_object.specs.declared.note.Place.TheVariants.{Actor, Cpu, Timer}
 use Rattle.co_object.specs.Lists.{notes_of}
@@ -10,14 +9,11 @@ use Rattle.co_program.specs.declared.script.Script.{Script}
 use Rattle.co_program.specs.Actors.{actor_count}
 use Rattle.co_program.specs.Scripts.{IsScript}
 use Rattle.co_core.specs.declared.engine.Engine.{Engine}
-use Rattle.co_world.specs.declared.turn.Turn.{Turn}
-use Rattle.co_world.specs.declared.turn.Turn.TheVariants.{Notes, Blocked, Finished}
 use Rattle.co_core.specs.Acting.{Stands}
 use Rattle.co_core.specs.Resting.{IsKnown}
 use Rattle.co_core.specs.declared.resting.Resting.{Resting}
 use Rattle.co_world.specs.Walk.{IsWalk}
 use Rattle.co_world.specs.World.{World}
-use Rattle.co_core.specs.Written.{told_at}
 
 -- these notes, in this order, are those of the script's walk, and the positions of each place count in their order
 pub record IsTelling (s : Script) (made : List MadeNote) : Type 0 where
@@ -25,12 +21,6 @@ pub record IsTelling (s : Script) (made : List MadeNote) : Type 0 where
   pub order : IsInOrder made
 
 -- ---- in the middle of a walk
-
--- what the step answers tells of notes
-abbrev pub makes_notes : Turn → Bool
-makes_notes (Notes count) = nat_lt 0 count
-makes_notes (Blocked why) = false
-makes_notes Finished = false
 
 -- how many entries the world's history of a place has
 abbrev pub entry_count : World → Place → ℕ
@@ -43,25 +33,16 @@ pub record AreMade (s : Script) (w : World) (made : List MadeNote) : Type 0 wher
   pub lists : (a : ℕ) → a < actor_count s → list_by made a ≡ (w.actors a).notes
   pub order : (here : Place) → map (λ note. note.pos) (made_in made here) ≡ range_with_len 0 (entry_count w here)
 
--- these notes, made by this actor
-abbrev pub made_by : ℕ → List Note → List MadeNote
-made_by a notes = map (λ note. record { actor = a; note = note }) notes
-
--- the engine stands for this world, and has told all its notes
-pub record EngineHasTold (s : Script) (e : Engine) (w : World) : Type 0 where
-  pub stands : Stands s e w
-  pub told : (a : ℕ) → a < actor_count s → told_at e.ledger a ≡ length (w.actors a).notes
-
--- it has told all notes of some world of a sound script, to a listener of so many actors
+-- the engine stands for some world of a sound script, and its notes may be told to a listener of so many actors
 pub record MayTell (s : Script) (e : Engine) (actors : ℕ) : Type 0 where
   pub script : IsScript s
   pub room : actor_count s ≤ actors
   pub world : World
-  pub told : EngineHasTold s e world
+  pub told : Stands s e world
 
 -- what a step of this actor makes may be told too
 pub record MayTellStep (s : Script) (e : Engine) (actors a : ℕ) : Type 0 where
-  -- all notes so far have been told
+  -- the engine does, and the listener
   pub may : MayTell s e actors
   -- the actor is one of the script's
   pub actor : a < actor_count s
@@ -81,20 +62,20 @@ pub record HasNotes (s : Script) {B : Type 0} (has : B → List MadeNote → Typ
 
 -- the engine has come to this world, and a listener that had the notes of the one before has those of this one
 pub record TellsOn (s : Script) {B : Type 0} (has : B → List MadeNote → Type 0) (e : Engine) (old new : B) (before after : World) : Type 0 where
-  pub told : EngineHasTold s e after
+  pub told : Stands s e after
   pub notes : HasNotes s has old before → HasNotes s has new after
 
 -- the same from each world that it may stand for, and of what is known of the actors
 abbrev pub GoesOnKnowing : (s : Script) {B : Type 0} (has : B → List MadeNote → Type 0) (e e2 : Engine) (old new : B) (known known2 : Resting) (after : World → World) → Type 0
-GoesOnKnowing s has e e2 old new known known2 after = (w : World) → EngineHasTold s e w → IsKnown s w known → TellsOn s has e2 old new w (after w) × IsKnown s (after w) known2
+GoesOnKnowing s has e e2 old new known known2 after = (w : World) → Stands s e w → IsKnown s w known → TellsOn s has e2 old new w (after w) × IsKnown s (after w) known2
 
 -- actors were asked for steps, whose notes were told; the answer is whether they had ended
 pub record HasAsked {B X : Type 0} (s : Script) (has : B → List MadeNote → Type 0) (count : B → ℕ) (e e2 : Engine) (old new : B) (known known2 : Resting) (result : Result Bool X) (after : World → World) (Ended : World → Type 0) : Type 0 where
   -- the engine has told all notes of some world
-  pub world : OnOk result ((w : World) × EngineHasTold s e2 w)
+  pub world : OnOk result ((w : World) × Stands s e2 w)
   -- it has come from each world that it may have stood for to the one after the steps
   pub told : OnOk result (GoesOnKnowing s has e e2 old new known known2 after)
   -- where the answer is so, they had ended in the world before
-  pub finished : IfOk result (λ finished. finished ≡ true → (w : World) → EngineHasTold s e w → IsKnown s w known → Ended w)
+  pub finished : IfOk result (λ finished. finished ≡ true → (w : World) → Stands s e w → IsKnown s w known → Ended w)
   -- the listener is one of as many actors
   pub actors : count new ≡ count old

@@ -9,11 +9,11 @@ ghost use Rattle.co_program.specs.Scripts.{IsScript};
 ghost use Rattle.co_world.specs.Blocked.{blocked, is_locked, is_moving, is_waiting};
 ghost use Rattle.co_core.specs.Acting.{RunsActor, Stands};
 ghost use Rattle.co_core.specs.Resting.{IsKeptOut, TakesNext};
-ghost use Rattle.co_core.specs.Stands.{ShowsWritten};
+ghost use Rattle.co_core.specs.Stands.{ShowsBooked};
 ghost use Rattle.co_lock.specs.declared.held.Held.{Held as HeldOf};
 ghost use Rattle.co_core.specs.Stored.{stand_at};
 ghost use Rattle.co_world.specs.World.{World as PlainWorld};
-ghost use Rattle.co_core.specs.Written.{cursor_at};
+ghost use Rattle.co_core.specs.Written.{booked_at};
 
 mod taking;
 
@@ -35,7 +35,7 @@ fn waits_for_lock(turn: Turn) -> bool {
 impl Engine {
     /// A lock is taken once no other actor holds it in a mode that excludes this one.
     fn lock_waits(&self, held: &Held) -> Option<Why>
-        ensures { (s : ScriptOf) (w : PlainWorld) → ShowsWritten s self.now.ledger w → result ≡ (if is_locked s w held.now then Some (Why.Lock held.now.id) else None) }
+        ensures { (s : ScriptOf) (w : PlainWorld) → ShowsBooked s self.now.ledger w → result ≡ (if is_locked s w held.now then Some (Why.Lock held.now.id) else None) }
     {
         if self.ledger.is_locked(held) {
             Some(Why::Lock(held.id))
@@ -46,7 +46,7 @@ impl Engine {
 
     /// Others keep an actor from what it wants, if anything.
     pub(crate) fn keeps_out(&self, wanted: Option<Held>) -> bool
-        ensures { result ≡ true → (s : ScriptOf) (w : PlainWorld) → ShowsWritten s self.now.ledger w → IsKeptOut s w wanted }
+        ensures { result ≡ true → (s : ScriptOf) (w : PlainWorld) → ShowsBooked s self.now.ledger w → IsKeptOut s w wanted }
     {
         match wanted {
             Some(held) => self.ledger.is_locked(&held),
@@ -57,7 +57,7 @@ impl Engine {
     /// The hold that the actor takes next, where it was not to be had.
     pub(crate) fn wanted_after(&self, script: &Script, actor: u32, turn: Turn) -> Option<Held>
         requires { actor < length self.now.ledger.cursors }
-        ensures { (held : HeldOf) (w : PlainWorld) → result ≡ Some held → ShowsWritten script.now self.now.ledger w → actor < actor_count script.now → TakesNext script.now w actor held }
+        ensures { (held : HeldOf) (w : PlainWorld) → result ≡ Some held → ShowsBooked script.now self.now.ledger w → actor < actor_count script.now → TakesNext script.now w actor held }
     {
         if waits_for_lock(turn) {
             takes_next(script, actor, self.ledger.cursor(actor))
@@ -100,7 +100,7 @@ impl Engine {
     /// A soft act waits for the Scans of its CPU.
     fn tick_waits(&self, cpu: u32, first: u32) -> Option<Why>
         requires { cpu < length self.now.ledger.scans }
-        ensures { (s : ScriptOf) (w : PlainWorld) → ShowsWritten s self.now.ledger w → cpu < s.cpus → result ≡ (if nat_lt (scan_count (w.cpus cpu).journal) first then Some (Why.Tick cpu) else None) }
+        ensures { (s : ScriptOf) (w : PlainWorld) → ShowsBooked s self.now.ledger w → cpu < s.cpus → result ≡ (if nat_lt (scan_count (w.cpus cpu).journal) first then Some (Why.Tick cpu) else None) }
     {
         if self.ledger.scans(cpu) < u64::from(first) {
             Some(Why::Tick(cpu))
@@ -119,7 +119,7 @@ impl Engine {
         action: &Action,
     ) -> Option<Why>
         requires runs { RunsActor script.now self.now actor }
-        requires cursor { cursor.now ≡ cursor_at self.now.ledger actor }
+        requires cursor { cursor.now ≡ booked_at self.now.ledger actor }
         requires action { action_of script.now actor cursor.now action.now ≡ action_for script.now actor (cursor_of script.now actor cursor.now) }
         ensures { (w : PlainWorld) → Stands script.now self.now w → result ≡ blocked script.now w actor }
     {

@@ -1,14 +1,14 @@
 //! One step of one actor.
-ghost use Rattle.std.specs.Prelude.{◌≡◌, OnOk, OnErr, IfOk};
+ghost use Rattle.std.specs.Prelude.{◌≡◌, ◌<◌, ◌^◌, false, IfOk};
 ghost use Rattle.co_program.specs.Scripts.{IsScript};
-ghost use Rattle.co_core.specs.Acting.{RunsActor, Stands};
-ghost use Rattle.co_world.specs.Step.{step, turn_of};
-ghost use Rattle.co_world.specs.World.{World as PlainWorld, open_world};
+ghost use Rattle.co_core.specs.Acting.{HasStepped, RunsActor, Stands};
+ghost use Rattle.co_core.specs.Noting.{Listens};
+ghost use Rattle.co_world.specs.World.{open_world};
 
 use crate::depot::Depot;
 use crate::engine::Engine;
 use crate::ledger::Ledger;
-use co_object::Lists;
+use co_listener::Listener;
 use co_program::{Action, Script, action_for};
 use co_sbt::NoMemory;
 use co_world::Turn;
@@ -25,26 +25,28 @@ impl Engine {
         Ok(Engine { ledger, depot })
     }
 
-    /// The notes so far.
-    pub(crate) fn lists(&self) -> &Lists
-        ensures { result.now ≡ self.now.ledger.lists }
+    /// Whether there are more notes than fit into memory: then no step is made.
+    pub(crate) fn is_full(&self) -> bool
+        ensures { result ≡ false → self.now.ledger.made < 2 ^ 63 }
     {
-        self.ledger.lists()
+        self.ledger.is_full()
     }
 
-    /// One step of an actor. After NoMemory all is as it was. Inlined, as are the parts that every step goes through: they are
+    /// One step of an actor, of whose notes a listener is told. Inlined, as are the parts that every step goes through: they are
     /// short beside the cost of calling them.
     #[inline(always)]
-    pub(crate) fn step(&mut self, script: &Script, actor: u32) -> Result<Turn, NoMemory>
-        requires { RunsActor script.now self.old actor }
-        ensures stands { OnOk result ((w : PlainWorld) → Stands script.now self.old w → Stands script.now self.new (step script.now w actor)) }
-        ensures turn { IfOk result (λ turn. (w : PlainWorld) → Stands script.now self.old w → turn ≡ turn_of script.now w actor) }
-        ensures told { self.new.ledger.told ≡ self.old.ledger.told }
-        ensures err { OnErr result (self.new ≡ self.old) }
+    pub(crate) fn step<N: Listener>(
+        &mut self,
+        script: &Script,
+        actor: u32,
+        listener: &mut N,
+    ) -> Result<Turn, NoMemory>
+        requires runs { RunsActor script.now self.old actor }
+        requires few { self.old.ledger.made < 2 ^ 63 }
+        requires room { actor < N.actors listener.old }
+        ensures stepped { IfOk result (λ turn. HasStepped script.now N.has actor turn self.old self.new listener.old listener.new) }
+        ensures listens { Listens N.actors N.room 3 listener.old listener.new result }
     {
-        if self.ledger.is_full() {
-            return Err(NoMemory {});
-        }
         let cursor = self.ledger.cursor(actor);
         // The checker knows the range of a number behind a reference once it is read.
         let _task = cursor.task;
@@ -56,7 +58,7 @@ impl Engine {
         match action {
             Action::Nothing => Ok(Turn::Finished),
             _ => {
-                let count = self.act(script, actor, &action)?;
+                let count = self.act(script, actor, listener, &action)?;
                 Ok(Turn::Notes(count))
             }
         }

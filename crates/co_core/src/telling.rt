@@ -5,7 +5,8 @@ ghost use Rattle.co_program.specs.Actors.{actor_count};
 ghost use Rattle.co_program.specs.Scripts.{IsScript};
 ghost use Rattle.co_core.specs.Resting.{IsKnown};
 ghost use Rattle.co_world.specs.Step.{step, turn_of};
-ghost use Rattle.co_core.specs.Telling.{TellsOn, GoesOnKnowing, HasAsked, EngineHasTold, IsTelling, IsToldTo, MayTell, MayTellStep, makes_notes};
+ghost use Rattle.co_core.specs.Acting.{Stands};
+ghost use Rattle.co_core.specs.Telling.{TellsOn, GoesOnKnowing, HasAsked, IsTelling, IsToldTo, MayTell, MayTellStep};
 ghost use Rattle.co_world.specs.Walk.{AllFinished, HasFinished, IsWalk, round, rounds, run};
 ghost use Rattle.co_world.specs.World.{World as PlainWorld};
 
@@ -28,18 +29,8 @@ fn is_finished(turn: Turn) -> bool
     }
 }
 
-/// The step made notes.
-fn makes_notes(turn: Turn) -> bool
-    ensures { result ≡ makes_notes turn }
-{
-    match turn {
-        Turn::Notes(count) => count > 0,
-        Turn::Blocked(_) | Turn::Finished => false,
-    }
-}
-
 impl Engine {
-    /// One step of an actor, whose notes are told and let go.
+    /// One step of an actor, of whose notes the listener is told.
     #[inline(always)]
     fn tell_step<N: Listener>(
         &mut self,
@@ -48,18 +39,13 @@ impl Engine {
         listener: &mut N,
     ) -> Result<Turn, NoMemory>
         requires { MayTellStep script.now self.old (N.actors listener.old) actor }
-        ensures told { IsToldTo N.actors listener.old listener.new result ((w : PlainWorld) → EngineHasTold script.now self.old w → TellsOn script.now N.has self.new listener.old listener.new w (step script.now w actor)) }
-        ensures turn { IfOk result (λ turn. (w : PlainWorld) → EngineHasTold script.now self.old w → turn ≡ turn_of script.now w actor) }
+        ensures told { IsToldTo N.actors listener.old listener.new result ((w : PlainWorld) → Stands script.now self.old w → TellsOn script.now N.has self.new listener.old listener.new w (step script.now w actor)) }
+        ensures turn { IfOk result (λ turn. (w : PlainWorld) → Stands script.now self.old w → turn ≡ turn_of script.now w actor) }
     {
-        let turn = self.step(script, actor)?;
-        if !makes_notes(turn) {
-            return Ok(turn);
-        }
-        if self.ledger.is_full() {
+        if self.is_full() {
             return Err(NoMemory {});
         }
-        self.ledger.tell(actor, listener)?;
-        Ok(turn)
+        self.step(script, actor, listener)
     }
 
     /// One step of an actor, and what it tells of the actor. The answer is whether it has finished.
@@ -145,7 +131,7 @@ impl Engine {
         listener: &mut N,
     ) -> Result<(), NoMemory>
         requires { MayTell script.now self.old (N.actors listener.old) }
-        ensures { IsToldTo N.actors listener.old listener.new result ((w : PlainWorld) → EngineHasTold script.now self.old w → IsKnown script.now w resting.old →
+        ensures { IsToldTo N.actors listener.old listener.new result ((w : PlainWorld) → Stands script.now self.old w → IsKnown script.now w resting.old →
             (number : ℕ) × TellsOn script.now N.has self.new listener.old listener.new w (rounds script.now w number) × AllFinished script.now (rounds script.now w number)) }
     {
         // What is left to do falls with every round, so it ends long before it has counted so far.

@@ -8,8 +8,9 @@ ghost use Rattle.co_world.specs.Step.{step, turn_of};
 ghost use Rattle.co_world.specs.World.{World as PlainWorld, lists_of, open_world};
 
 use crate::engine::Engine;
+use crate::hand::{empty_lists, put_back, take_out};
 use co_object::Lists;
-use co_program::Script;
+use co_program::{Script, actor_count};
 use co_sbt::NoMemory;
 use co_world::Turn;
 use std::alloc::Global;
@@ -25,8 +26,11 @@ use std::marker::Model;
 /// threads; how they are cut into steps is our own decision.
 #[derive(Drop)]
 pub struct World<'a> {
+    alloc: Global,
     script: &'a Script,
     engine: Engine,
+    /// By actor: its notes.
+    lists: Lists,
 }
 
 impl<'a> Model for World<'a> {
@@ -35,10 +39,11 @@ impl<'a> Model for World<'a> {
     ghost Value = { Seen };
 
     ghost use Rattle.co_core.specs.Shows.{IsWorld};
+    ghost use Rattle.co_core.specs.Written.{with_lists};
 
-    ghost view = { λ x. record { script = x.script.now; ledger = x.engine.ledger; depot = x.engine.depot } };
+    ghost view = { λ x. record { script = x.script.now; ledger = with_lists x.engine.ledger x.lists; depot = x.engine.depot } };
 
-    ghost invariant = { λ x. IsWorld x.script.now x.engine.ledger x.engine.depot };
+    ghost invariant = { λ x. IsWorld x.script.now (with_lists x.engine.ledger x.lists) x.engine.depot };
 }
 
 impl<'a> World<'a> {
@@ -50,7 +55,13 @@ impl<'a> World<'a> {
         ensures opens { IfOk result (λ world. Shows world (open_world script.now)) }
     {
         let engine = Engine::boot(alloc, script)?;
-        Ok(World { script, engine })
+        let lists = empty_lists(alloc, actor_count(script) as usize)?;
+        Ok(World {
+            alloc,
+            script,
+            engine,
+            lists,
+        })
     }
 
     /// One step of an actor, by its number: the clients come first, then the CPUs, then in version 2 their interrupts. It
@@ -63,7 +74,13 @@ impl<'a> World<'a> {
         ensures err { OnErr result (self.new ≡ self.old) }
         ensures script { self.new.script ≡ self.old.script }
     {
-        self.engine.step(self.script, actor)
+        if self.engine.is_full() {
+            return Err(NoMemory {});
+        }
+        let mut hand = take_out(self.alloc, &mut self.lists, actor)?;
+        let turn = self.engine.step(self.script, actor, &mut hand)?;
+        put_back(&mut self.lists, hand);
+        Ok(turn)
     }
 
     /// The notes so far: a list for each actor, by its number. The positions of a callout's notes count in the order of the
@@ -73,6 +90,6 @@ impl<'a> World<'a> {
         ensures stands { (w : PlainWorld) × Shows self.now w }
         ensures so_far { IsRunSoFar self.now.script result.now }
     {
-        self.engine.lists()
+        &self.lists
     }
 }

@@ -11,7 +11,7 @@ use Rattle.co_object.specs.Queue.{empty_queue}
 use Rattle.co_queue.proofs.Standing.{stands_for-empty}
 use Rattle.co_program.specs.declared.script.Script.{Script}
 use Rattle.co_program.specs.Actors.{actor_count, all_actors}
-use Rattle.co_world.specs.World.{open_world}
+use Rattle.co_world.specs.World.{lists_of, open_world}
 use Rattle.co_world.specs.Blocked.{is_moving}
 use Rattle.co_wheel.specs.Callouts.{new_callout, first_callouts}
 use Rattle.co_wheel.specs.Cpu.{first_wheel}
@@ -31,21 +31,13 @@ use Rattle.co_program.specs.Scripts.{IsScript}
 use Rattle.co_core.specs.Written.{Written, first_cursor}
 use Rattle.co_core.proofs.tables.Copies.{table-same}
 
-no-counts : (n a : ℕ) → ◌≡◌ {A = ℕ} (get_or (replicate n 0) a 0) 0
-no-counts zero a = refl
-no-counts (suc n) zero = refl
-no-counts (suc n) (suc a) = no-counts n a
-
 -- the ledger before the first step
 pub opening-written : (s : Script) (n timers cpus : ℕ) → n ≡ actor_count s → timers ≡ length s.timers → cpus ≡ s.cpus →
-    ShowsWritten s (record { cursors = replicate n first_cursor; lists = replicate n []; histories = replicate timers 0; journals = replicate cpus 0; scans = replicate cpus 0; own = replicate n 0; told = replicate n 0; made = 0 }) (open_world s)
+    ShowsWritten s (record { cursors = replicate n first_cursor; lists = lists_of s (open_world s); histories = replicate timers 0; journals = replicate cpus 0; scans = replicate cpus 0; own = replicate n 0; made = 0 }) (open_world s)
 opening-written s n timers cpus actors_is timers_is cpus_is = record {
   cursors_long = length-replicate n first_cursor ∙ actors_is;
   each_place = λ a h. rw (get_or-replicate n a first_cursor first_cursor (omega (arith, h, actors_is))) refl;
-  told_long = length-replicate n 0 ∙ actors_is;
-  each_list =
-      ap (λ k. replicate k []) actors_is ∙ sym (table-same (actor_count s) [])
-      ∙ same (actor_count s) (λ (a : ℕ). none) (λ (a : ℕ). drop (get_or (replicate n 0) a 0) none) (λ a within. ap (λ (k : ℕ). drop k none) (no-counts n a));
+  each_list = refl;
   each_history = ap (λ k. replicate k 0) timers_is ∙ sym (table-same (length s.timers) 0);
   each_journal = ap (λ k. replicate k 0) cpus_is ∙ sym (table-same s.cpus 0);
   each_scan = ap (λ k. replicate k 0) cpus_is ∙ sym (table-same s.cpus 0);
@@ -53,12 +45,13 @@ opening-written s n timers cpus actors_is timers_is cpus_is = record {
   counted = λ a h. rw (get_or-replicate n a first_cursor first_cursor (omega (arith, h, actors_is))) (omega arith);
   few_entries = λ i. omega arith;
   few_turns = λ cpu. omega arith;
-  few_told = λ a. (let none = no-counts n a in omega (arith, none));
   few_notes = λ a. omega arith;
   few_own = λ a. omega arith;
-} where
-  none : List Note
-  none = []
+}
+
+-- nobody has a note
+pub opening-lists : (s : Script) (lists : List (List Note)) (n : ℕ) → lists ≡ replicate n [] → n ≡ actor_count s → lists ≡ lists_of s (open_world s)
+opening-lists s lists n empty actors_is = empty ∙ ap (λ k. replicate k []) actors_is ∙ sym (table-same (actor_count s) [])
 
 -- nobody moves a callout yet
 none-any : (xs : List ℕ) → list_any (λ _. false) xs ≡ false

@@ -1,27 +1,56 @@
 -- What the type of the core's world keeps, from one step to the next.
-use Rattle.std.proofs.Common.{◌≡◌, ◌∙◌, ℕ, List, drop, get_or, ap, arith, sym, subst}
-use Rattle.std.specs.Prelude.{Result, Ok, Err, OnOk, OnErr}
-use Rattle.co_sbt.specs.declared.seq.NoMemory.{NoMemory}
+use Rattle.std.proofs.Common.{◌≡◌, ℕ, ◌+◌, ◌==◌, Bool, List, [], ◌∷◌, ◌++◌, cond, map, get_or, set, refl, sym, ap, ◌∙◌, subst, arith, eq-eqb}
+use Rattle.std.specs.List.{filter}
+use Rattle.std.proofs.lemmas.List.{map-append}
+use Rattle.co_object.specs.declared.note.Note.{Note}
+use Rattle.co_listener.specs.MadeNotes.{MadeNote, list_by}
 use Rattle.co_program.specs.declared.script.Script.{Script}
-use Rattle.co_core.specs.declared.engine.Engine.{Engine}
 use Rattle.co_world.specs.declared.turn.Turn.{Turn}
-use Rattle.co_program.specs.Actors.{actor_count}
-use Rattle.co_core.specs.Shows.{HasAll, IsWorld}
-use Rattle.co_core.specs.Stands.{ShowsWritten, StandsFor, untold}
-use Rattle.co_world.specs.World.{World, lists_of, open_world}
-use Rattle.co_core.specs.Written.{Written}
-use Rattle.co_core.proofs.tables.Values.{same}
+use Rattle.co_world.specs.Step.{step}
+use Rattle.co_world.specs.World.{World, lists_of}
+use Rattle.co_core.specs.declared.engine.Engine.{Engine}
+use Rattle.co_core.specs.Acting.{HasStepped, StandsWith}
+use Rattle.co_core.specs.Hand.{IsTakenOut, NotesInHand}
+use Rattle.co_core.specs.Noting.{made_by}
+use Rattle.co_core.specs.Stands.{ShowsWritten}
+use Rattle.co_core.specs.Written.{Written, noted}
+use Rattle.co_core.proofs.tables.PutBack.{set_twice}
 
--- a ledger that has all notes has those of the plain world
-pub lists_whole : (s : Script) (x : Written) (w : World) → ShowsWritten s x w → HasAll x → x.lists ≡ lists_of s w
-lists_whole s x w h whole = h.each_list ∙ same (actor_count s) (untold x w) (λ (a : ℕ). (w.actors a).notes) (λ a within. sym (ap (λ (k : ℕ). drop k (w.actors a).notes) (whole a)))
+-- the lists are those of the plain world
+pub lists_whole : (s : Script) (x : Written) (w : World) → ShowsWritten s x w → x.lists ≡ lists_of s w
+lists_whole s x w h = h.each_list
 
--- and so have those of the opening
-pub open_whole : (s : Script) (x : Written) → ShowsWritten s x (open_world s) → HasAll x
-open_whole s x h a = let few = h.few_told a in omega (arith, few)
+-- an actor's own notes, out of those that it made
+list_made : (a : ℕ) (notes : List Note) → list_by (made_by a notes) a ≡ notes
+list_made a [] = refl
+list_made a (note ∷ notes) =
+    let rest : List MadeNote = filter (λ (m : MadeNote). m.actor == a) (made_by a notes) in
+    ap (λ (own : Bool). map (λ (m : MadeNote). m.note) (cond own (record { actor = a; note = note } ∷ rest) rest)) (eq-eqb a a refl) ∙ ap (λ (l : List Note). note ∷ l) (list_made a notes)
 
--- a step that is made leads to a plain world, and one without memory changes nothing
-pub stays_world : (s : Script) (r : Result Turn NoMemory) (old new : Engine) (go : World → World) → IsWorld s old.ledger old.depot →
-    OnOk r ((w : World) → StandsFor s old.ledger old.depot w → StandsFor s new.ledger new.depot (go w)) → new.ledger.told ≡ old.ledger.told → OnErr r (new ≡ old) → IsWorld s new.ledger new.depot
-stays_world s (Ok turn) old new go h made told kept = record { sound = h.sound; whole = λ a. ap (λ (l : List ℕ). get_or l a 0) told ∙ h.whole a; world = go h.world; stands = made h.world h.stands }
-stays_world s (Err e) old new go h made told kept = subst (λ (x : Engine). IsWorld s x.ledger x.depot) (sym kept) h
+abbrev pub in_hand : NotesInHand → List MadeNote → Type 0
+in_hand hand made = hand.notes ≡ list_by made hand.actor
+
+-- the actor's notes were taken out of the lists, a step's came to them, and they are put back
+module _ (s : Script) (a : ℕ) (turn : Turn) (e e2 : Engine) (lists out : List (List Note)) (hand hand2 : NotesInHand)
+    (taken : IsTakenOut lists a out hand) (stepped : HasStepped s in_hand a turn e e2 hand hand2) (as_many : hand2.actor + 1 ≡ hand.actor + 1) where
+  pub same : hand2.actor ≡ a
+  same = let is = taken.actor in omega (arith, as_many, is)
+
+  abbrev before : List Note
+  before = get_or lists a []
+
+  held : hand.notes ≡ list_by (made_by a before) hand.actor
+  held = taken.notes ∙ sym (list_made a before) ∙ ap (list_by (made_by a before)) (sym taken.actor)
+
+  then_held : hand2.notes ≡ before ++ stepped.notes
+  then_held =
+      stepped.heard (made_by a before) held
+      ∙ ap (list_by (made_by a before ++ made_by a stepped.notes)) same
+      ∙ ap (λ (l : List MadeNote). list_by l a) (sym (map-append (λ (note : Note). record { actor = a; note = note }) before stepped.notes))
+      ∙ list_made a (before ++ stepped.notes)
+
+  pub put_in : (back : List (List Note)) → back ≡ set out hand2.actor hand2.notes → back ≡ noted lists a stepped.notes
+  put_in back is = is ∙ ap (λ (b : ℕ). set out b hand2.notes) same ∙ ap (set out a) then_held ∙ ap (λ (l : List (List Note)). set l a (before ++ stepped.notes)) taken.out ∙ set_twice lists a [] (before ++ stepped.notes)
+
+  pub stands_on : (back : List (List Note)) → back ≡ set out hand2.actor hand2.notes → (w : World) → StandsWith s e lists w → StandsWith s e2 back (step s w a)
+  stands_on back is w h = subst (λ (l : List (List Note)). StandsWith s e2 l (step s w a)) (sym (put_in back is)) (stepped.stands lists w h)

@@ -1,6 +1,5 @@
 -- What is never due to an actor: between two of its steps no section is open.
-use Rattle.std.proofs.Common.{◌≡◌, ℕ, ◌+◌, ◌-◌, ◌<◌, ◌≤◌, List, [], get_or, length, refl, sym, ap, ◌∙◌, subst, arith, Option, Some, None}
-use Rattle.std.proofs.lemmas.List.{length-drop}
+use Rattle.std.proofs.Common.{◌≡◌, ℕ, ◌+◌, ◌-◌, ◌<◌, ◌≤◌, List, length, length-append, refl, sym, ap, ◌∙◌, subst, arith, Option, Some, None}
 use Rattle.co_object.specs.declared.Op.TheVariants.{Run}
 use Rattle.co_object.specs.declared.RunOp.TheVariants.{Pick}
 use Rattle.co_object.specs.declared.QOp.{QOp}
@@ -18,7 +17,7 @@ use Rattle.co_program.specs.Action.{Asks, action_for, pop_of}
 use Rattle.co_program.specs.Scripts.{IsScript}
 use Rattle.co_world.specs.World.{World}
 use Rattle.co_core.specs.Acting.{IsDue}
-use Rattle.co_core.specs.Stands.{ShowsWritten, StandsFor, untold}
+use Rattle.co_core.specs.Stands.{ShowsWritten, StandsFor}
 use Rattle.co_world.specs.Blocked.{blocked}
 use Rattle.co_world.specs.Step.{step, turn_at, turn_of}
 use Rattle.co_world.specs.declared.turn.Why.{Why}
@@ -26,9 +25,11 @@ use Rattle.co_world.specs.declared.turn.Turn.TheVariants.{Notes}
 use Rattle.co_program.specs.declared.Action.{Action as ActionAt}
 use Rattle.co_program.specs.declared.action.Action.TheVariants as action
 use Rattle.co_program.specs.Indexed.{action_of}
-use Rattle.co_core.proofs.tables.Values.{read, long}
 use Rattle.co_core.specs.Stored.{Stored}
-use Rattle.co_core.specs.Written.{Written, list_at, told_at}
+use Rattle.co_core.specs.Written.{Written, noted}
+use Rattle.co_core.proofs.written.Counting.{notes_by}
+use Rattle.co_core.proofs.written.Notes.{notes_after}
+use Rattle.co_object.specs.declared.Note.{Note}
 use Rattle.co_world.proofs.basics.Actions.{IsAction, IsActionWith, inserts, goes_by, scans, starts, pops, frees, picks}
 use Rattle.co_world.proofs.kept.ByOwnSteps.{view_of}
 use Rattle.co_world.proofs.kept.Invariant.{IsBetween, cursors_of}
@@ -106,25 +107,11 @@ turn_notes s w a p x free due some =
       go (action.Take held to) some = refl
       go (action.Asks act asked) some = refl
 
--- an actor's list in the ledger has its notes
-pub list_is : (s : Script) (x : Written) (w : World) → ShowsWritten s x w → (a : ℕ) → a < actor_count s → list_at x a ≡ untold x w a
-list_is s x w h a may = read x.lists (actor_count s) (untold x w) a [] h.each_list may
-
--- how long it is
-list_long : (s : Script) (x : Written) (w : World) → ShowsWritten s x w → (a : ℕ) → a < actor_count s → length (list_at x a) ≡ length (w.actors a).notes - told_at x a
-list_long s x w h a may = ap length (list_is s x w h a may) ∙ length-drop (told_at x a) (w.actors a).notes
-
-pub list_row : (s : Script) (x : Written) (w : World) → ShowsWritten s x w → (a : ℕ) → a < actor_count s → a < length x.lists
-list_row s x w h a may = let l = long x.lists (actor_count s) (untold x w) h.each_list in omega (arith, l, may)
-
-pub turn_is : (s : Script) (x y : Written) (w : World) (a count : ℕ) (p : CursorAt) (act : ActionAt) → a < actor_count s → ShowsWritten s x w → ShowsWritten s y (step s w a) → blocked s w a ≡ None → action_for s a (cursors_of w a) ≡ action_of s a p act → (act ≡ action.Nothing → ⊥) →
-    y.told ≡ x.told → length (list_at y a) ≡ length (list_at x a) + count → Notes count ≡ turn_of s w a
-turn_is s x y w a count p act may before after free due some told counted =
-    ap Notes (close (length (list_at y a)) (length (list_at x a)) (length ((step s w a).actors a).notes) (length (w.actors a).notes) (told_at y a) (told_at x a) (list_long s y (step s w a) after a may) (list_long s x w before a may)
-    (ap (λ (l : List ℕ). get_or l a 0) told) (after.few_told a) (before.few_told a) counted)
-    ∙ sym (turn_notes s w a p act free due some) where
-      close : (m n m' n' k' k : ℕ) → m ≡ m' - k' → n ≡ n' - k → k' ≡ k → k' ≤ m' → k ≤ n' → m ≡ n + count → count ≡ m' - n'
-      close m n m' n' k' k e f same low' low g = omega (arith, e, f, same, low', low, g)
+-- a step that has led to a world in which the actor has so many notes more answers so
+pub turn_is : (s : Script) (x y : Written) (w : World) (a : ℕ) (notes : List Note) (p : CursorAt) (act : ActionAt) → a < actor_count s → ShowsWritten s x w → ShowsWritten s y (step s w a) → blocked s w a ≡ None → action_for s a (cursors_of w a) ≡ action_of s a p act → (act ≡ action.Nothing → ⊥) →
+    y.lists ≡ noted x.lists a notes → Notes (length notes) ≡ turn_of s w a
+turn_is s x y w a notes p act may before after free due some lists =
+    ap Notes (let long = ap length (notes_after s x y w (step s w a) a notes may before after lists) ∙ length-append (notes_by w a) notes in omega (arith, long)) ∙ sym (turn_notes s w a p act free due some)
 
 pub not_some : (o : Option Why) → ((why : Why) → o ≡ Some why → ⊥) → o ≡ None
 not_some None h = refl

@@ -1,11 +1,10 @@
 -- The notes of a step are told: those of the world's actors, and the positions of each place count in their order.
 use Rattle.std.proofs.Common.{◌≡◌, ℕ, ◌+◌, ◌<◌, ◌≤◌, ◌⊎◌, inl, inr, Bool, true, false, List, [], ◌∷◌, ◌++◌, length, drop, get_or, map, refl, sym, ap, subst, ◌∙◌, arith, append_assoc, length-append, length-set}
-use Rattle.std.specs.Prelude.{◌==◌, is_some, Option, Some, None}
+use Rattle.std.specs.Prelude.{◌==◌, is_some, Option, Some, None, Result, Ok, Err, IfOk, OnOk}
 use Rattle.std.specs.List.{range_with_len}
-use Rattle.std.proofs.lemmas.Bool.Decides.{eqb_tells, nat_tests}
-use Rattle.std.proofs.lemmas.List.{append-nil, get_or-set_other, get_or-set_same, length-drop, length-map, map-append}
+use Rattle.std.proofs.lemmas.Bool.Decides.{eqb_tells}
+use Rattle.std.proofs.lemmas.List.{append-nil, length-map, map-append}
 use Rattle.std.proofs.lemmas.List.FromFn.{length-map-range_with_len}
-use Rattle.std.proofs.Math.ListN.{drop_of_length-le}
 use Rattle.std.proofs.Math.Seq.{drop-append_seam}
 use Rattle.co_object.specs.declared.State.{State}
 use Rattle.co_object.specs.declared.Reply.{Reply}
@@ -33,24 +32,21 @@ use Rattle.co_program.specs.Actors.{actor_count}
 use Rattle.co_program.specs.Cursor.{Cursor}
 use Rattle.co_core.specs.declared.engine.Engine.{Engine}
 use Rattle.co_world.specs.declared.turn.Turn.{Turn}
-use Rattle.co_world.specs.declared.turn.Turn.TheVariants.{Notes, Blocked, Finished}
-use Rattle.co_core.specs.Stands.{ShowsWritten, StandsFor, untold}
+use Rattle.co_core.specs.Acting.{HasStepped, Stands, StandsWith}
+use Rattle.co_core.specs.Noting.{made_by}
 use Rattle.co_world.specs.Step.{world_answers, are_direct, callout_answers, enters, enters_journal, note_of, note_of_cpu, note_of_own, notes_down, queue_answers, step, turn_of}
-use Rattle.co_core.specs.Telling.{AreMade, TellsOn, HasNotes, EngineHasTold, IsTelling, MayTell, entry_count, made_by, makes_notes}
+use Rattle.co_core.specs.Telling.{AreMade, TellsOn, HasNotes, IsTelling, MayTell, entry_count}
 use Rattle.co_world.specs.Walk.{AllFinished, rounds, run}
-use Rattle.co_world.specs.World.{Actor, World, open_world, with_cursor}
-use Rattle.co_core.specs.Written.{Written, let_go, list_at, told_at}
+use Rattle.co_world.specs.World.{Actor, World, lists_of, open_world, with_cursor}
+use Rattle.co_core.specs.Written.{noted, with_lists}
 use Rattle.co_world.proofs.shown.Lists.{Tells, entries_at, placed_entries, placed_notes, tells_callout, tells_own, tells_queue}
 use Rattle.co_world.proofs.basics.Changes.{IsAt, decide}
 use Rattle.co_world.proofs.basics.Prefixes.{length_more}
-use Rattle.co_world.proofs.measure.Rounds.{range-more, turn-finished}
+use Rattle.co_world.proofs.measure.Rounds.{range-more}
 use Rattle.co_world.proofs.schedules.AnyAnswers.{step_keeps}
-use Rattle.co_core.proofs.tables.Values.{put, same}
-use Rattle.co_world.proofs.schedules.TurnsTold.{turns_tell}
-use Rattle.co_core.proofs.steps.Undue.{list_is}
-use Rattle.co_world.proofs.measure.Walks.{idle_steps_stay}
-use Rattle.co_core.proofs.steps.Standing.{open_whole}
+use Rattle.co_core.proofs.tables.Values.{same}
 use Rattle.co_core.proofs.written.Counting.{notes_at, notes_by}
+use Rattle.co_core.proofs.written.Notes.{notes_after}
 
 -- ---- one note more
 
@@ -160,137 +156,40 @@ module _ (s : Script) (w : World) (a : ℕ) where
       step_keeps s (λ b. b ≡ a) (Grows s w a) (λ v b act asked is g. subst (λ (k : ℕ). Grows s w a (world_answers s v k act asked)) (sym is) (answer_grows v act asked g))
       (λ v b to is g. place_grows v b to g) w a refl grows_not
 
--- ---- what has been told is let go
-
-module _ (s : Script) (x : Written) (w : World) (a : ℕ) (written : ShowsWritten s x w) (may : a < actor_count s) where
-  inside : a < length x.told
-  inside = let l = written.told_long in omega (arith, l)
-
-  told_here : told_at (let_go x a) a ≡ length (notes_by w a)
-  told_here =
-      get_or-set_same x.told a (told_at x a + length (list_at x a)) 0 inside
-      ∙ (let few = written.few_told a in let long = ap length (list_is s x w written a may) ∙ length-drop (told_at x a) (notes_by w a) in omega (arith, few, long))
-
-  told_else : (b : ℕ) → (b ≡ a → ⊥) → told_at (let_go x a) b ≡ told_at x b
-  told_else b other = get_or-set_other x.told a b (told_at x a + length (list_at x a)) 0 other
-
-  none_left : IsAt (untold x w) a [] (untold (let_go x a) w)
-  none_left = record {
-    here = drop_of_length-le (notes_by w a) (let e = told_here in omega (arith, e));
-    else = λ b other. ap (λ (k : ℕ). drop k (notes_by w b)) (told_else b other);
-  }
-
-  few_after : (b : ℕ) → (b ≡ a) ⊎ (b ≡ a → ⊥) → told_at (let_go x a) b ≤ length (notes_by w b)
-  few_after b (inl same) = subst (λ (k : ℕ). told_at (let_go x a) k ≤ length (notes_by w k)) (sym same) (let e = told_here in omega (arith, e))
-  few_after b (inr other) = let e = told_else b other in let few = written.few_told b in omega (arith, e, few)
-
-  pub written_let_go : ShowsWritten s (let_go x a) w
-  written_let_go = record {
-    cursors_long = written.cursors_long;
-    each_place = written.each_place;
-    told_long = length-set x.told a (told_at x a + length (list_at x a)) ∙ written.told_long;
-    each_list = put x.lists (actor_count s) (untold x w) a [] (untold (let_go x a) w) written.each_list none_left;
-    each_history = written.each_history;
-    each_journal = written.each_journal;
-    each_scan = written.each_scan;
-    each_own = written.each_own;
-    few_told = λ b. few_after b (decide b a);
-    counted = written.counted;
-    few_entries = written.few_entries;
-    few_turns = written.few_turns;
-    few_notes = written.few_notes;
-    few_own = written.few_own;
-  }
-
-  -- an actor's notes are no more than all notes
-  pub told_few : told_at x a + length (list_at x a) ≤ x.made
-  told_few =
-      let told = written.few_told a in
-      let long = ap length (list_is s x w written a may) ∙ length-drop (told_at x a) (notes_by w a) in
-      let notes = written.few_notes a in
-      omega (arith, told, long, notes)
-
--- a step, whose notes are told and let go
-module _ (s : Script) {B : Type 0} (has : B → List MadeNote → Type 0) (before after : Engine) (old new : B) (w : World) (a : ℕ) (may : a < actor_count s)
-    (start : EngineHasTold s before w) (stands : StandsFor s after.ledger after.depot (step s w a)) (same : after.ledger.told ≡ before.ledger.told)
-    (tells : (made : List MadeNote) → has old made → has new (made ++ made_by a (list_at after.ledger a))) where
+-- a step, of whose notes the listener was told
+pub step_told : (s : Script) {B : Type 0} (has : B → List MadeNote → Type 0) (before after : Engine) (old new : B) (w : World) (a : ℕ) (turn : Turn) → a < actor_count s →
+    Stands s before w → HasStepped s has a turn before after old new → TellsOn s has after old new w (step s w a)
+step_told s has before after old new w a turn may start stepped = record {
+  told = subst (λ (lists : List (List Note)). StandsWith s after lists (step s w a)) ended.written.each_list ended;
+  notes = λ notes. record {
+    made = notes.made ++ made_by a stepped.notes;
+    holds = stepped.heard notes.made notes.holds;
+    are = subst (λ (l : List Note). AreMade s (step s w a) (notes.made ++ made_by a l)) (sym same_notes) (grown.told notes.made notes.are);
+  };
+} where
   grown : Grows s w a (step s w a)
   grown = step_grows s w a
 
-  -- what the step has told before is what there was
-  told_is : (b : ℕ) → b < actor_count s → told_at after.ledger b ≡ length (notes_by w b)
-  told_is b within = ap (λ (l : List ℕ). get_or l b 0) same ∙ start.told b within
+  ended : StandsWith s after (noted (lists_of s w) a stepped.notes) (step s w a)
+  ended = stepped.stands (lists_of s w) w start
 
-  list_new : list_at after.ledger a ≡ grown.notes
-  list_new =
-      list_is s after.ledger (step s w a) stands.written a may
-      ∙ ap (λ (k : ℕ). drop k (notes_by (step s w a) a)) (told_is a may)
-      ∙ ap (drop (length (notes_by w a))) grown.own
+  -- they are those that the world's actor has made
+  same_notes : stepped.notes ≡ grown.notes
+  same_notes =
+      sym (drop-append_seam (notes_by w a) stepped.notes)
+      ∙ ap (drop (length (notes_by w a))) (sym (notes_after s (with_lists before.ledger (lists_of s w)) (with_lists after.ledger (noted (lists_of s w) a stepped.notes)) w (step s w a) a stepped.notes may start.written ended.written refl) ∙ grown.own)
       ∙ drop-append_seam (notes_by w a) grown.notes
 
-  told_all : (b : ℕ) → b < actor_count s → (b ≡ a) ⊎ (b ≡ a → ⊥) → told_at (let_go after.ledger a) b ≡ length (notes_by (step s w a) b)
-  told_all b within (inl is) = subst (λ (k : ℕ). told_at (let_go after.ledger a) k ≡ length (notes_by (step s w a) k)) (sym is) (told_here s after.ledger (step s w a) a stands.written may)
-  told_all b within (inr other) = told_else s after.ledger (step s w a) a stands.written may b other ∙ told_is b within ∙ ap length (sym (grown.else b other))
+-- what a step of the engine answers says so
+pub told_so : (s : Script) {B E : Type 0} (has : B → List MadeNote → Type 0) (before after : Engine) (old new : B) (a : ℕ) → a < actor_count s → (r : Result Turn E) →
+    IfOk r (λ turn. HasStepped s has a turn before after old new) → OnOk r ((w : World) → Stands s before w → TellsOn s has after old new w (step s w a))
+told_so s has before after old new a may (Ok turn) stepped = λ w h. step_told s has before after old new w a turn may h stepped
+told_so s has before after old new a may (Err e) stepped = tt
 
-  pub step_told : TellsOn s has (record after { ledger = let_go after.ledger a }) old new w (step s w a)
-  step_told = record {
-    told = record {
-      stands = record { written = written_let_go s after.ledger (step s w a) a stands.written may; stored = stands.stored; placed = stands.placed; reached = stands.reached };
-      told = λ b within. told_all b within (decide b a);
-    };
-    notes = λ notes.
-        record {
-          made = notes.made ++ made_by a grown.notes;
-          holds = subst (λ (l : List Note). has new (notes.made ++ made_by a l)) list_new (tells notes.made notes.holds);
-          are = grown.told notes.made notes.are;
-        };
-  }
-
--- ---- a step without notes
-
-without : (s : Script) (w : World) (a : ℕ) (turn : Turn) → turn ≡ turn_of s w a → makes_notes turn ≡ false → length (notes_by (step s w a) a) ≡ length (notes_by w a)
-without s w a (Notes count) is none =
-    let long = ap length (step_grows s w a).own ∙ length-append (notes_by w a) (step_grows s w a).notes in
-    let made = ((turns_tell s w a).counts count (sym is)).1 in
-    let zero : count ≡ 0 = grind (arith, nat_tests, none) in
-    omega (arith, long, made, zero)
-without s w a (Blocked why) is none = ap (λ (v : World). length (notes_by v a)) (idle_steps_stay s w a (inr (why, ((turns_tell s w a).waits why).0 (sym is))))
-without s w a Finished is none = ap (λ (v : World). length (notes_by v a)) (idle_steps_stay s w a (inl (turn-finished s w a (sym is))))
-
-nothing_in : (notes : List Note) → length notes ≡ 0 → notes ≡ []
-nothing_in [] h = refl
-nothing_in (note ∷ notes) h = absurd (let never : ⊥ = omega (arith, h) in never)
-
--- it tells none
-module _ (s : Script) {B : Type 0} (has : B → List MadeNote → Type 0) (before after : Engine) (book : B) (w : World) (a : ℕ) (turn : Turn)
-    (start : EngineHasTold s before w) (stands : StandsFor s after.ledger after.depot (step s w a)) (same : after.ledger.told ≡ before.ledger.told)
-    (is : turn ≡ turn_of s w a) (none : makes_notes turn ≡ false) where
-  unmade : Grows s w a (step s w a)
-  unmade = step_grows s w a
-
-  no_notes : unmade.notes ≡ []
-  no_notes =
-      let long = ap length unmade.own ∙ length-append (notes_by w a) unmade.notes in
-      let quiet = without s w a turn is none in
-      nothing_in unmade.notes (omega (arith, long, quiet))
-
-  as_long : (b : ℕ) → (b ≡ a) ⊎ (b ≡ a → ⊥) → length (notes_by (step s w a) b) ≡ length (notes_by w b)
-  as_long b (inl own) = subst (λ (k : ℕ). length (notes_by (step s w a) k) ≡ length (notes_by w k)) (sym own) (without s w a turn is none)
-  as_long b (inr other) = ap length (unmade.else b other)
-
-  pub quiet_told : TellsOn s has after book book w (step s w a)
-  quiet_told = record {
-    told = record {
-      stands = stands;
-      told = λ b within. ap (λ (l : List ℕ). get_or l b 0) same ∙ start.told b within ∙ sym (as_long b (decide b a));
-    };
-    notes = λ notes.
-        record {
-          made = notes.made;
-          holds = notes.holds;
-          are = subst (AreMade s (step s w a)) (ap (λ (l : List Note). notes.made ++ made_by a l) no_notes ∙ append-nil notes.made) (unmade.told notes.made notes.are);
-        };
-  }
+pub answered : (s : Script) {B E : Type 0} (has : B → List MadeNote → Type 0) (before after : Engine) (old new : B) (a : ℕ) (r : Result Turn E) →
+    IfOk r (λ turn. HasStepped s has a turn before after old new) → IfOk r (λ turn. (w : World) → Stands s before w → turn ≡ turn_of s w a)
+answered s has before after old new a (Ok turn) stepped = λ w h. stepped.tells (lists_of s w) w h
+answered s has before after old new a (Err e) stepped = tt
 
 -- ---- one step after another
 
@@ -298,16 +197,13 @@ pub further : (s : Script) {B : Type 0} (has : B → List MadeNote → Type 0) (
 further s has e e' first old new w v u before after = record { told = after.told; notes = λ notes. after.notes (before.notes notes) }
 
 -- what may be told goes on to a later engine, and a listener of as many actors
-pub may_tell : (s : Script) (e e2 : Engine) (actors actors2 : ℕ) → MayTell s e actors → actors2 ≡ actors → (w : World) × EngineHasTold s e2 w → MayTell s e2 actors2
+pub may_tell : (s : Script) (e e2 : Engine) (actors actors2 : ℕ) → MayTell s e actors → actors2 ≡ actors → (w : World) × Stands s e2 w → MayTell s e2 actors2
 may_tell s e e2 actors actors2 may as_many at = record { script = may.script; room = subst (λ (n : ℕ). actor_count s ≤ n) (sym as_many) may.room; world = at.0; told = at.1 }
 
-pub not_yet : (s : Script) {B : Type 0} (has : B → List MadeNote → Type 0) (e : Engine) (book : B) (w : World) → EngineHasTold s e w → TellsOn s has e book book w w
+pub not_yet : (s : Script) {B : Type 0} (has : B → List MadeNote → Type 0) (e : Engine) (book : B) (w : World) → Stands s e w → TellsOn s has e book book w w
 not_yet s has e book w told = record { told = told; notes = λ notes. notes }
 
 -- ---- the whole walk
-
-pub opening_told : (s : Script) (e : Engine) → StandsFor s e.ledger e.depot (open_world s) → EngineHasTold s e (open_world s)
-opening_told s e stands = record { stands = stands; told = λ a within. open_whole s e.ledger stands.written a }
 
 none_made : (s : Script) → AreMade s (open_world s) []
 none_made s = record { lists = λ a within. refl; order = order } where

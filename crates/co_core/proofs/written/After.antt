@@ -1,6 +1,6 @@
 -- What the ledger shows after a note, where the counts are right.
-use Rattle.std.proofs.Common.{◌≡◌, ℕ, ◌+◌, ◌<◌, ◌≤◌, ◌⊎◌, inl, inr, Bool, List, [], ◌∷◌, ◌++◌, length, drop, get_or, set, sym, ap, ◌∙◌, subst, arith, length-append, length-set}
-use Rattle.std.proofs.lemmas.List.{drop-append-le, get_or-set_same, get_or-set_other}
+use Rattle.std.proofs.Common.{◌≡◌, ℕ, ◌+◌, ◌<◌, ◌≤◌, ◌⊎◌, inl, inr, Bool, List, [], ◌∷◌, ◌++◌, length, get_or, set, sym, ap, ◌∙◌, subst, arith, length-append, length-set}
+use Rattle.std.proofs.lemmas.List.{get_or-set_same, get_or-set_other}
 use Rattle.co_object.specs.declared.Note.{Note}
 use Rattle.co_program.specs.declared.script.Script.{Script}
 use Rattle.co_program.specs.declared.cursor.Cursor.{Cursor as CursorAt}
@@ -10,8 +10,8 @@ use Rattle.co_program.specs.Advance.{advance}
 use Rattle.co_program.specs.Indexed.{IsCounted, cursor_of}
 use Rattle.co_world.specs.World.{World}
 use Rattle.co_core.specs.Table.{table}
-use Rattle.co_core.specs.Written.{Written, IsNoted, cursor_at, list_at, told_at, first_cursor}
-use Rattle.co_core.specs.Stands.{ShowsWritten, untold}
+use Rattle.co_core.specs.Written.{Written, IsNoted, cursor_at, list_at, noted as noted_in, first_cursor}
+use Rattle.co_core.specs.Stands.{ShowsWritten}
 use Rattle.co_world.proofs.basics.Changes.{IsAt, decide, at_all}
 use Rattle.co_world.proofs.kept.Invariant.{cursors_of}
 use Rattle.co_core.proofs.tables.Values.{put, read, same}
@@ -60,21 +60,10 @@ module _ (s : Script) (x x2 : Written) (w w' : World) (a : ℕ) (listed : Bool) 
         let after : IsCounted (cursor_at x b) (x.made + 1) = omega (arith, before) in
         subst (λ (p : CursorAt). IsCounted p (x.made + 1)) (sym (place_else b other)) after
 
-  untold_after : IsAt (untold x w) a (untold x w a ++ note ∷ []) (untold x w')
-  untold_after = record {
-    here = ap (drop (told_at x a)) notes.here ∙ drop-append-le (told_at x a) (notes_by w a) (note ∷ []) (written.few_told a);
-    else = λ b other. ap (drop (told_at x b)) (notes.else b other);
-  }
-
-  each_list : set x.lists a (list_at x a ++ note ∷ []) ≡ table (actor_count s) (untold x w')
+  each_list : noted_in x.lists a (note ∷ []) ≡ table (actor_count s) (notes_by w')
   each_list =
-      ap (λ (l : List Note). set x.lists a (l ++ note ∷ [])) (read x.lists (actor_count s) (untold x w) a [] written.each_list may)
-      ∙ put x.lists (actor_count s) (untold x w) a (untold x w a ++ note ∷ []) (untold x w') written.each_list untold_after
-
-  few_told : (b : ℕ) → told_at x b ≤ length (notes_by w' b)
-  few_told =
-      at_all (λ b (l : List Note). told_at x b ≤ length l) (notes_by w) a (notes_by w a ++ note ∷ []) (notes_by w') notes
-      (let few = written.few_told a in let more = length-append (notes_by w a) (note ∷ []) in omega (arith, few, more)) (λ b other. written.few_told b)
+      ap (λ (l : List Note). set x.lists a (l ++ note ∷ [])) (read x.lists (actor_count s) (notes_by w) a [] written.each_list may)
+      ∙ put x.lists (actor_count s) (notes_by w) a (notes_by w a ++ note ∷ []) (notes_by w') written.each_list notes
 
   few_notes : (b : ℕ) → length (notes_by w' b) ≤ x.made + 1
   few_notes =
@@ -85,13 +74,11 @@ module _ (s : Script) (x x2 : Written) (w w' : World) (a : ℕ) (listed : Bool) 
   written_after = subst (λ (y : Written). ShowsWritten s y w') (sym noted.noted) (record {
     cursors_long = length-set x.cursors a noted.to ∙ written.cursors_long;
     each_place = each_place;
-    told_long = written.told_long;
     each_list = each_list;
     each_history = each_history;
     each_journal = each_journal;
     each_scan = each_scan;
     each_own = each_own;
-    few_told = few_told;
     counted = counted;
     few_entries = few_entries;
     few_turns = few_turns;

@@ -1,5 +1,5 @@
 -- What the ledger shows after a note: of a callout, of a queue, or of the actor's own; and after a step without a note.
-use Rattle.std.proofs.Common.{◌≡◌, ℕ, ◌+◌, ◌<◌, ◌⊎◌, inl, inr, Bool, true, false, List, [], ◌∷◌, ◌++◌, length, drop, get_or, set, refl, sym, ap, ◌∙◌, subst, arith, length-set, eq-eqb, Some, None}
+use Rattle.std.proofs.Common.{◌≡◌, ℕ, ◌+◌, ◌<◌, ◌⊎◌, inl, inr, Bool, true, false, List, [], ◌∷◌, ◌++◌, length, get_or, set, refl, sym, ap, ◌∙◌, subst, arith, length-set, eq-eqb, Some, None}
 use Rattle.std.specs.Prelude.{is_some}
 use Rattle.std.proofs.lemmas.List.{get_or-set_same, get_or-set_other}
 use Rattle.co_object.specs.declared.State.{State}
@@ -26,8 +26,8 @@ use Rattle.co_program.specs.Follows.{scan_count, one_scan}
 use Rattle.co_program.specs.Indexed.{IsCounted, ActsAreCounted, cursor_of}
 use Rattle.co_world.specs.World.{World, Actor, Timer, Cpu, with_cursor}
 use Rattle.co_world.specs.Step.{notes_down, enters, enters_journal, note_of, note_of_cpu, note_of_own, callout_answers, queue_answers, own_note}
-use Rattle.co_core.specs.Written.{Written, IsNoted, cursor_at, told_at, put_cursor, first_cursor}
-use Rattle.co_core.specs.Stands.{ShowsWritten, untold}
+use Rattle.co_core.specs.Written.{Written, IsNoted, cursor_at, put_cursor, first_cursor}
+use Rattle.co_core.specs.Stands.{ShowsWritten}
 use Rattle.co_world.proofs.basics.Updates.{at_updated}
 use Rattle.co_world.proofs.basics.Changes.{IsAt, decide, at_read, at_updated_is, note_at, cursor_at as place_at_is}
 use Rattle.co_world.proofs.kept.Invariant.{cursors_of}
@@ -176,8 +176,7 @@ pub written_place : (s : Script) (x : Written) (w : World) (a : ℕ) (to : Curso
 written_place s x w a to written may counts = record {
   cursors_long = length-set x.cursors a to ∙ written.cursors_long;
   each_place = λ b within. each_place b within (decide b a);
-  told_long = written.told_long;
-  each_list = written.each_list ∙ same (actor_count s) (untold x w) (untold x w') (λ b within. ap (drop (told_at x b)) (notes b));
+  each_list = written.each_list ∙ same (actor_count s) (notes_by w) (notes_by w') (λ b within. sym (sym (notes b)));
   each_history = written.each_history;
   each_journal = written.each_journal;
   each_scan = written.each_scan;
@@ -185,7 +184,6 @@ written_place s x w a to written may counts = record {
   counted = λ b within. counted b within (decide b a);
   few_entries = written.few_entries;
   few_turns = written.few_turns;
-  few_told = λ b. (let e = ap length (notes b) in let few = written.few_told b in omega (arith, e, few));
   few_notes = λ b. (let e = ap length (notes b) in let few = written.few_notes b in omega (arith, e, few));
   few_own = λ b. (let e = own b in let few = written.few_own b in omega (arith, e, few));
 } where

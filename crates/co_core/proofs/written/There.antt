@@ -5,9 +5,9 @@ use Rattle.co_program.specs.Actors.{actor_count}
 use Rattle.co_program.specs.Indexed.{IsCounted}
 use Rattle.co_world.specs.World.{World}
 use Rattle.co_core.specs.Written.{Written, cursor_at}
-use Rattle.co_core.specs.Stands.{ShowsWritten, untold}
+use Rattle.co_core.specs.Stands.{ShowsWritten}
 use Rattle.co_core.proofs.tables.Values.{read, long}
-use Rattle.co_core.proofs.written.Counting.{own_by, entries_of, turns_of, scans_in, scans_few}
+use Rattle.co_core.proofs.written.Counting.{notes_by, own_by, entries_of, turns_of, scans_in, scans_few}
 
 module _ (s : Script) (x : Written) (w : World) (written : ShowsWritten s x w) where
   pub history_there : (i : ℕ) → i < length s.timers → (i < length x.histories) × (get_or x.histories i 0 ≤ x.made)
@@ -40,7 +40,7 @@ module _ (s : Script) (x : Written) (w : World) (written : ShowsWritten s x w) w
       (omega arith, omega arith)
 
   pub list_there : (a : ℕ) → a < actor_count s → a < length x.lists
-  list_there a known = let l = long x.lists (actor_count s) (untold x w) written.each_list in omega arith
+  list_there a known = let l = long x.lists (actor_count s) (notes_by w) written.each_list in omega arith
 
   pub place_there : (a : ℕ) → a < actor_count s → (a < length x.cursors) × IsCounted (cursor_at x a) x.made
   place_there a known = let l = written.cursors_long in let counts = written.counted a known in (omega arith, counts)

@@ -1,19 +1,18 @@
 //! The ledger before the first step.
-ghost use Rattle.std.specs.Prelude.{◌≡◌, [], replicate, IfOk};
+ghost use Rattle.std.specs.Prelude.{◌≡◌, replicate, IfOk};
 ghost use Rattle.co_program.specs.Scripts.{IsScript};
 ghost use Rattle.co_core.specs.Holders.{no_holders};
-ghost use Rattle.co_core.specs.Stands.{ShowsWritten};
+ghost use Rattle.co_core.specs.Stands.{ShowsBooked};
 ghost use Rattle.co_world.specs.World.{open_world};
 ghost use Rattle.co_core.specs.Written.{first_cursor};
-ghost use Rattle.co_program.specs.Actors.{actor_count};
 
 use super::Ledger;
 use super::holders::Holders;
 use crate::copies::copies;
 use co_lock::Held;
-use co_object::{Lists, Next, Note};
+use co_object::Next;
 use co_program::{Cursor, PendingInsert, Script, Stage, actor_count};
-use co_sbt::{NoMemory, Sbt, Seq};
+use co_sbt::{NoMemory, Sbt};
 use std::alloc::Global;
 
 /// The cursor before the first act of any program.
@@ -48,54 +47,23 @@ fn nobody(alloc: Global, locks: usize) -> Result<Vec<Holders>, NoMemory>
     copies(alloc, locks, Holders::none())
 }
 
-/// `count` empty lists of notes, one for each actor. `NoMemory` where there is no room for them.
-fn empty_lists(alloc: Global, count: usize) -> Result<Lists, NoMemory>
-    ensures { IfOk result (λ lists. lists ≡ replicate count []) }
-{
-    let mut lists: Lists = Seq::new(alloc);
-    while lists.as_slice().len() < count {
-        let notes: Seq<Note> = Seq::new(alloc);
-        lists.push(notes)?;
-    }
-    Ok(lists)
-}
-
 impl Ledger {
     /// The ledger before the first step: each actor stands before its first act, and nothing has been noted.
     pub(crate) fn boot(alloc: Global, script: &Script) -> Result<Ledger, NoMemory>
         requires { IsScript script.now }
-        ensures { IfOk result (λ ledger. ShowsWritten script.now ledger (open_world script.now)) }
-    {
-        let lists = empty_lists(alloc, actor_count(script) as usize)?;
-        Ledger::empty(alloc, script, lists)
-    }
-
-    fn empty(alloc: Global, script: &Script, lists: Lists) -> Result<Ledger, NoMemory>
-        requires script { IsScript script.now }
-        requires lists { lists ≡ replicate (actor_count script.now) [] }
-        ensures { IfOk result (λ ledger. ShowsWritten script.now ledger (open_world script.now)) }
+        ensures { IfOk result (λ ledger. ShowsBooked script.now ledger (open_world script.now)) }
     {
         let actors = actor_count(script) as usize;
         let timers = script.timers.as_slice().len();
         let cpus = script.cpus as usize;
         Ok(Ledger {
-            alloc,
             cursors: first_cursors(alloc, actors)?,
             holders: nobody(alloc, script.locks.as_slice().len())?,
-            lists,
             histories: copies(alloc, timers, 0)?,
             journals: copies(alloc, cpus, 0)?,
             scans: copies(alloc, cpus, 0)?,
             own: copies(alloc, actors, 0)?,
-            told: copies(alloc, actors, 0)?,
             made: 0,
         })
-    }
-
-    /// The notes so far.
-    pub(crate) fn lists(&self) -> &Lists
-        ensures { result.now ≡ self.now.lists }
-    {
-        &self.lists
     }
 }

@@ -5,13 +5,13 @@ use Rattle.co_world.specs.Walk.{run}
 use Rattle.co_world.specs.World.{open_world}
 use Rattle.std.proofs.lemmas.Result.{on_ok_weaker}
 use Rattle.co_core.proofs.walked.Known.{nothing_known}
-use Rattle.co_core.proofs.walked.Told.{opening_told, walk_told}
+use Rattle.co_core.proofs.walked.Told.{walk_told}
 use Rattle.co_core.proofs.telling.tell_walk.Goals as goal
 
 pub tell_turns-requires : goal.tell_turns-requires
 tell_turns-requires g c =
     let s = c.args.script.now in
-    record { script = c.requires.script; room = c.requires.actors; world = open_world s; told = opening_told s c.in_ok-engine.engine c.in_ok-engine.ensures }
+    record { script = c.requires.script; room = c.requires.actors; world = open_world s; told = c.in_ok-engine.ensures }
 
 pub tell_rounds-requires : goal.tell_rounds-requires
 tell_rounds-requires g c =
@@ -20,14 +20,14 @@ tell_rounds-requires g c =
       script = c.requires.script;
       room = subst (λ (n : ℕ). actor_count s ≤ n) (sym c.tell_turns.ensures.actors) c.requires.actors;
       world = run s (open_world s) s.turns;
-      told = (c.in_ok-tell_turns.ensures.told (open_world s) (opening_told s c.in_ok-engine.engine c.in_ok-engine.ensures)
+      told = (c.in_ok-tell_turns.ensures.told (open_world s) c.in_ok-engine.ensures
           (nothing_known s (open_world s) c.none-resting.result c.none-resting.ensures.ended c.none-resting.ensures.wanted)).0.told;
     }
 
 pub returns-clause-told : goal.returns-clause-told
 returns-clause-told g c =
     let s = c.args.script.now in
-    let turns = c.in_ok-tell_turns.ensures.told (open_world s) (opening_told s c.in_ok-engine.engine c.in_ok-engine.ensures)
+    let turns = c.in_ok-tell_turns.ensures.told (open_world s) c.in_ok-engine.ensures
     (nothing_known s (open_world s) c.none-resting.result c.none-resting.ensures.ended c.none-resting.ensures.wanted) in
     on_ok_weaker c.tell_rounds.result
     (λ ends empty. (let end = ends (run s (open_world s) s.turns) turns.0.told turns.1 in

@@ -1,13 +1,15 @@
 use Rattle.std.proofs.Common.{arith}
-use Rattle.co_core.specs.InHand.{with_hand}
+use Rattle.co_core.specs.Written.{noted, with_lists}
 use Rattle.co_core.proofs.steps.Silent.{stands_own}
 use Rattle.co_core.proofs.written.Notes.{acted, may_write}
 use Rattle.co_core.proofs.engine.Engine.own.Goals as goal
 
-pub write_own-requires : goal.write_own-requires
-write_own-requires c = may_write c.args.script.now c.args.self.now c.args.hand.now _ c.requires
+pub write_own-requires-clause-may : goal.write_own-requires-clause-may
+write_own-requires-clause-may g c = may_write c.args.script.now c.args.self.now c.args.author.actor _ c.requires.may
 
-pub returns : goal.returns
-returns c =
-    acted c.args.script.now c.args.self.now c.args.hand.now _ c.args.self.now.depot 1 c.write_own.new.self c.write_own.new.hand c.write_own.ensures.wrote (omega arith) (λ w held due.
-    stands_own c.args.script.now (with_hand c.args.self.now.ledger c.args.hand.now) (with_hand c.write_own.new.self c.write_own.new.hand) c.args.self.now.depot w c.args.hand.now.actor c.args.act c.args.kind held due (c.write_own.ensures.written w held.written))
+pub returns-clause-acted : goal.returns-clause-acted
+returns-clause-acted g c =
+    let a = c.args.author.actor in
+    let one = c.in_ok-write_own.ensures.made in
+    acted c.args.script.now g.N.Listener.has g.N.Listener.room c.args.self.now a _ c.args.self.now.depot one.notes 1 c.write_own.new.self c.args.listener.now c.write_own.new.listener one.wrote one.one (omega arith) (λ lists w held due.
+    stands_own c.args.script.now (with_lists c.args.self.now.ledger lists) (with_lists c.write_own.new.self (noted lists a one.notes)) c.args.self.now.depot w a c.args.author.act c.args.kind held due (one.written lists w held.written))

@@ -4,49 +4,49 @@ use Rattle.co_object.specs.declared.QOp.{QOp}
 use Rattle.co_program.specs.Action.{Asks}
 use Rattle.co_program.specs.declared.Asked.TheVariants.{Queue}
 use Rattle.co_core.specs.Acting.{IsDue, MayAct}
-use Rattle.co_core.specs.InHand.{with_hand}
+use Rattle.co_core.specs.Written.{with_lists}
 use Rattle.co_core.proofs.steps.Undue.{never_removes, never_frees, never_frees_direct}
 use Rattle.co_core.proofs.engine.Engine.queue.Goals as goal
 
 pub unreachable-requires : goal.unreachable-requires
-unreachable-requires c =
-    never_removes c.args.script.now c.requires.script (with_hand c.args.self.now.ledger c.args.hand.now) c.args.self.now.depot c.requires.world c.requires.held c.args.hand.now.actor c.args.act c.args.cpu c.in-Remove.i
-    (subst (λ (op : QOp). IsDue c.args.script.now c.requires.world c.args.hand.now.actor (Asks c.args.act (Queue c.args.cpu op))) c.in-Remove.is c.requires.due)
+unreachable-requires g c =
+    never_removes c.args.script.now c.requires.may.script (with_lists c.args.self.now.ledger c.requires.may.lists) c.args.self.now.depot c.requires.may.world c.requires.may.held c.args.author.actor c.args.author.act c.args.cpu c.in-Remove.i
+    (subst (λ (op : QOp). IsDue c.args.script.now c.requires.may.world c.args.author.actor (Asks c.args.author.act (Queue c.args.cpu op))) c.in-Remove.is c.requires.may.due)
 
 pub unreachable-requires-in-Free : goal.unreachable-requires-in-Free
-unreachable-requires-in-Free c =
-    never_frees c.args.script.now c.requires.script (with_hand c.args.self.now.ledger c.args.hand.now) c.args.self.now.depot c.requires.world c.requires.held c.args.hand.now.actor c.args.act c.args.cpu
-    (subst (λ (op : QOp). IsDue c.args.script.now c.requires.world c.args.hand.now.actor (Asks c.args.act (Queue c.args.cpu op))) c.in-Free.is c.requires.due)
+unreachable-requires-in-Free g c =
+    never_frees c.args.script.now c.requires.may.script (with_lists c.args.self.now.ledger c.requires.may.lists) c.args.self.now.depot c.requires.may.world c.requires.may.held c.args.author.actor c.args.author.act c.args.cpu
+    (subst (λ (op : QOp). IsDue c.args.script.now c.requires.may.world c.args.author.actor (Asks c.args.author.act (Queue c.args.cpu op))) c.in-Free.is c.requires.may.due)
 
 pub unreachable-requires-in-FreeDirect : goal.unreachable-requires-in-FreeDirect
-unreachable-requires-in-FreeDirect c =
-    never_frees_direct c.args.script.now c.requires.script (with_hand c.args.self.now.ledger c.args.hand.now) c.args.self.now.depot c.requires.world c.requires.held c.args.hand.now.actor c.args.act c.args.cpu
-    (subst (λ (op : QOp). IsDue c.args.script.now c.requires.world c.args.hand.now.actor (Asks c.args.act (Queue c.args.cpu op))) c.in-FreeDirect.is c.requires.due)
+unreachable-requires-in-FreeDirect g c =
+    never_frees_direct c.args.script.now c.requires.may.script (with_lists c.args.self.now.ledger c.requires.may.lists) c.args.self.now.depot c.requires.may.world c.requires.may.held c.args.author.actor c.args.author.act c.args.cpu
+    (subst (λ (op : QOp). IsDue c.args.script.now c.requires.may.world c.args.author.actor (Asks c.args.author.act (Queue c.args.cpu op))) c.in-FreeDirect.is c.requires.may.due)
 
-pub land-requires : goal.land-requires
-land-requires c =
-    subst (λ (op : QOp). MayAct c.args.script.now c.args.self.now c.args.hand.now (Asks c.args.act (Queue c.args.cpu op))) c.in-Insert.is c.requires
+pub land-requires-clause-may : goal.land-requires-clause-may
+land-requires-clause-may g c =
+    subst (λ (op : QOp). MayAct c.args.script.now c.args.self.now c.args.author.actor (Asks c.args.author.act (Queue c.args.cpu op))) c.in-Insert.is c.requires.may
 
-pub scan-requires : goal.scan-requires
-scan-requires c =
-    subst (λ (op : QOp). MayAct c.args.script.now c.args.self.now c.args.hand.now (Asks c.args.act (Queue c.args.cpu op))) c.in-Scan.is c.requires
+pub scan-requires-clause-may : goal.scan-requires-clause-may
+scan-requires-clause-may g c =
+    subst (λ (op : QOp). MayAct c.args.script.now c.args.self.now c.args.author.actor (Asks c.args.author.act (Queue c.args.cpu op))) c.in-Scan.is c.requires.may
 
-pub next-requires : goal.next-requires
-next-requires c =
-    subst (λ (op : QOp). MayAct c.args.script.now c.args.self.now c.args.hand.now (Asks c.args.act (Queue c.args.cpu op))) c.in-Pop.is c.requires
+pub next-requires-clause-may : goal.next-requires-clause-may
+next-requires-clause-may g c =
+    subst (λ (op : QOp). MayAct c.args.script.now c.args.self.now c.args.author.actor (Asks c.args.author.act (Queue c.args.cpu op))) c.in-Pop.is c.requires.may
 
-pub next-requires-in-PopDirect : goal.next-requires-in-PopDirect
-next-requires-in-PopDirect c =
-    subst (λ (op : QOp). MayAct c.args.script.now c.args.self.now c.args.hand.now (Asks c.args.act (Queue c.args.cpu op))) c.in-PopDirect.is c.requires
+pub next-requires-in-PopDirect-clause-may : goal.next-requires-in-PopDirect-clause-may
+next-requires-in-PopDirect-clause-may g c =
+    subst (λ (op : QOp). MayAct c.args.script.now c.args.self.now c.args.author.actor (Asks c.args.author.act (Queue c.args.cpu op))) c.in-PopDirect.is c.requires.may
 
-pub returns-in-Insert : goal.returns-in-Insert
-returns-in-Insert c = rw c.in-Insert.is c.land.ensures
+pub returns-in-Insert-clause-acted : goal.returns-in-Insert-clause-acted
+returns-in-Insert-clause-acted g c = rw c.in-Insert.is c.land.ensures.acted
 
-pub returns-in-Scan : goal.returns-in-Scan
-returns-in-Scan c = rw c.in-Scan.is c.scan.ensures
+pub returns-in-Scan-clause-acted : goal.returns-in-Scan-clause-acted
+returns-in-Scan-clause-acted g c = rw c.in-Scan.is c.scan.ensures.acted
 
-pub returns-in-Pop : goal.returns-in-Pop
-returns-in-Pop c = rw c.in-Pop.is c.next.ensures
+pub returns-in-Pop-clause-acted : goal.returns-in-Pop-clause-acted
+returns-in-Pop-clause-acted g c = rw c.in-Pop.is c.next.ensures.acted
 
-pub returns-in-PopDirect : goal.returns-in-PopDirect
-returns-in-PopDirect c = rw c.in-PopDirect.is c.next-in-PopDirect.ensures
+pub returns-in-PopDirect-clause-acted : goal.returns-in-PopDirect-clause-acted
+returns-in-PopDirect-clause-acted g c = rw c.in-PopDirect.is c.next-in-PopDirect.ensures.acted

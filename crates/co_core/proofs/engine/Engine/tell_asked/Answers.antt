@@ -8,7 +8,7 @@ use Rattle.co_core.proofs.engine.Engine.tell_asked.Goals as goal
 pub wanted_after-wanted-requires : goal.wanted_after-wanted-requires
 wanted_after-wanted-requires g c =
     let at = c.requires.may in
-    let long = (c.in_ok-turn.ensures.told.told at.world at.told).told.stands.written.cursors_long in
+    let long = (c.in_ok-turn.ensures.told.told at.world at.told).told.written.cursors_long in
     let actor = c.requires.actor in
     omega (arith, long, actor)
 
@@ -23,7 +23,7 @@ returns g c =
             goes,
             learnt s w a c.args.resting.now c.learn.new.self c.is_finished-finished.result c.wanted_after-wanted.result c.learn.ensures.ended c.learn.ensures.wanted
                 (λ done. turn-finished s w a (sym (c.in_ok-turn.ensures.turn w h) ∙ c.is_finished-finished.ensures done))
-                (λ held is. c.wanted_after-wanted.ensures held (step s w a) is goes.told.stands.written c.requires.actor)
+                (λ held is. c.wanted_after-wanted.ensures held (step s w a) is goes.told.written c.requires.actor)
                 have,
           ));
       finished = λ said w h have. turn-finished s w a (sym (c.in_ok-turn.ensures.turn w h) ∙ c.is_finished-finished.ensures said);

@@ -42,7 +42,7 @@ loop-round-preserved g c =
           let both = further s g.N.Listener.has c.loop-round.self c.tell_round.new.self c.args.listener.now c.loop-round.listener c.tell_round.new.listener w (rounds s w k) (round s (rounds s w k)) before.0 after.0 in (
             subst (λ (v : World). TellsOn s g.N.Listener.has c.tell_round.new.self c.args.listener.now c.tell_round.new.listener w v) (rounds-more s w k) both,
             subst (λ (v : World). IsKnown s v c.tell_round.new.resting) (rounds-more s w k) after.1,
-            λ ok. counted-more s ok w k before.0.told.stands.reached (before.2 ok),
+            λ ok. counted-more s ok w k before.0.told.reached (before.2 ok),
           ));
       actors = c.tell_round.ensures.actors ∙ c.loop-round.invariant.actors;
     }
@@ -53,7 +53,7 @@ returns g c =
     let k = c.loop-round._round in record {
       told = λ w h have.
           (let before = c.loop-round.invariant.told w h have in
-          (k, before.0, counted-all s c.requires.script w k h.stands.reached before.0.told.stands.reached (omega (arith, c.loop-round-test.false)) (before.2 c.requires.script)));
+          (k, before.0, counted-all s c.requires.script w k h.reached before.0.told.reached (omega (arith, c.loop-round-test.false)) (before.2 c.requires.script)));
       actors = c.loop-round.invariant.actors;
     }
 

@@ -29,7 +29,7 @@ returns-then-keeps_out g c =
     let a = c.args.actor in record {
       world = (c.requires.may.world, c.requires.may.told);
       told = λ w h have.
-          (let out : IsKeptOut s w c.wanted.result = c.keeps_out.ensures c.if-keeps_out.true s w h.stands.written in
+          (let out : IsKeptOut s w c.wanted.result = c.keeps_out.ensures c.if-keeps_out.true s w h.written in
           let same : step s w a ≡ w = kept_out s w a c.args.resting.now c.wanted.result c.wanted.ensures have out in
           subst (λ (v : World). TellsOn s g.N.Listener.has c.args.self.now c.args.listener.now c.args.listener.now w v × IsKnown s v c.args.resting.now) (sym same)
           (not_yet s g.N.Listener.has c.args.self.now c.args.listener.now w h, have));

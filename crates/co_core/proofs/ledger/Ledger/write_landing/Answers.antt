@@ -1,4 +1,4 @@
 use Rattle.co_core.proofs.ledger.Ledger.write_landing.Goals as goal
 
-pub returns : goal.returns
-returns c = record { written = c.write_queue.ensures.written; wrote = c.write_queue.ensures.wrote }
+pub returns-clause-made : goal.returns-clause-made
+returns-clause-made g c = c.write_queue.ensures.made

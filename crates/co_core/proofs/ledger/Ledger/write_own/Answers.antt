@@ -1,54 +1,60 @@
 -- The ledger holds a count of the actor's own notes, at most the number of notes; one more is as the plain world has it.
-use Rattle.std.proofs.Common.{rules, false, arith, ◌≡◌, ◌<◌, ◌≤◌, ◌+◌, sym, ap, subst, ◌∙◌, length, get_or, set}
+use Rattle.std.proofs.Common.{rules, false, arith, ◌≡◌, ◌<◌, ◌≤◌, ◌+◌, [], ◌∷◌, refl, sym, ap, subst, ◌∙◌, length, get_or, set}
 use Rattle.std.proofs.lemmas.List.{get_or_read}
-use Rattle.co_core.specs.InHand.{with_hand}
-use Rattle.co_core.specs.Written.{Written, IsNoted}
+use Rattle.std.proofs.lemmas.Result.{on_ok_weaker}
+use Rattle.co_object.specs.declared.note.Note.{Note}
+use Rattle.co_core.specs.Written.{Booked, Written, IsNoted, noted, with_lists}
 use Rattle.co_core.proofs.written.Entries.{written_own, own_entry}
 use Rattle.co_core.proofs.written.There.{own_there}
-use Rattle.co_core.proofs.written.Notes.{counts_from, may_note}
+use Rattle.co_core.proofs.written.Notes.{both, counts_from, is_noted, may_note}
 use Rattle.co_core.proofs.ledger.Ledger.write_own.Goals as goal
 
 pub index-pos-requires : goal.index-pos-requires
-index-pos-requires c =
-    let m = c.requires in
-    let there = own_there c.args.script.now (with_hand c.args.self.now c.args.hand.now) m.world m.written c.args.hand.now.actor m.exists in
-    let within : c.args.hand.now.actor < length c.self.inside.own.items = subst (λ (x : Written). c.args.hand.now.actor < length x.own) (sym c.self.view_is) there.0 in
+index-pos-requires g c =
+    let m = c.requires.may in
+    let there = own_there c.args.script.now (with_lists c.args.self.now m.lists) m.world m.written c.args.author.actor m.exists in
+    let within : c.args.author.actor < length c.self.inside.own.items = subst (λ (x : Booked). c.args.author.actor < length x.own) (sym c.self.view_is) there.0 in
     search (rules, within)
 
 pub index_mut-requires : goal.index_mut-requires
-index_mut-requires c =
-    let m = c.requires in
-    let there = own_there c.args.script.now (with_hand c.args.self.now c.args.hand.now) m.world m.written c.args.hand.now.actor m.exists in
-    let within : c.args.hand.now.actor < length c.self.inside.own.items = subst (λ (x : Written). c.args.hand.now.actor < length x.own) (sym c.self.view_is) there.0 in
+index_mut-requires g c =
+    let m = c.requires.may in
+    let there = own_there c.args.script.now (with_lists c.args.self.now m.lists) m.world m.written c.args.author.actor m.exists in
+    let within : c.args.author.actor < length c.self.inside.own.items = subst (λ (x : Booked). c.args.author.actor < length x.own) (sym c.self.view_is) there.0 in
     search (rules, within)
 
 pub overflow_add-pos : goal.overflow_add-pos
-overflow_add-pos c =
-    let m = c.requires in
-    let there = own_there c.args.script.now (with_hand c.args.self.now c.args.hand.now) m.world m.written c.args.hand.now.actor m.exists in
-    let within : c.args.hand.now.actor < length c.self.inside.own.items = subst (λ (x : Written). c.args.hand.now.actor < length x.own) (sym c.self.view_is) there.0 in
-    let few : get_or c.self.inside.own.items c.args.hand.now.actor 0 ≤ c.args.self.now.made = subst (λ (x : Written). get_or x.own c.args.hand.now.actor 0 ≤ c.args.self.now.made) (sym c.self.view_is) there.1 in
-    let read : c.index-pos.result.now ≡ get_or c.self.inside.own.items c.args.hand.now.actor 0 = get_or_read c.self.inside.own.items c.args.hand.now.actor c.index-pos.result.now within c.index-pos.ensures 0 in
-    let most = c.requires.few in
+overflow_add-pos g c =
+    let m = c.requires.may in
+    let there = own_there c.args.script.now (with_lists c.args.self.now m.lists) m.world m.written c.args.author.actor m.exists in
+    let within : c.args.author.actor < length c.self.inside.own.items = subst (λ (x : Booked). c.args.author.actor < length x.own) (sym c.self.view_is) there.0 in
+    let few : get_or c.self.inside.own.items c.args.author.actor 0 ≤ c.args.self.now.made = subst (λ (x : Booked). get_or x.own c.args.author.actor 0 ≤ c.args.self.now.made) (sym c.self.view_is) there.1 in
+    let read : c.index-pos.result.now ≡ get_or c.self.inside.own.items c.args.author.actor 0 = get_or_read c.self.inside.own.items c.args.author.actor c.index-pos.result.now within c.index-pos.ensures 0 in
+    let most = c.requires.may.few in
     omega (arith, few, read, most)
 
-pub write-requires : goal.write-requires
-write-requires c =
-    may_note c.args.script.now c.args.self.now _ c.args.hand.now c.requires (ap (λ (x : Written). x.cursors) c.self.view_is) (ap (λ (x : Written). x.lists) c.self.view_is) (ap (λ (x : Written). x.made) c.self.view_is)
+pub write-requires-clause-may : goal.write-requires-clause-may
+write-requires-clause-may g c =
+    may_note c.args.script.now c.args.self.now _ c.args.author.actor c.requires.may (ap (λ (x : Booked). x.cursors) c.self.view_is) (ap (λ (x : Booked). x.made) c.self.view_is)
 
-pub returns : goal.returns
-returns c = record {
-  written = λ w written.
-      (let x : Written = with_hand c.args.self.now c.args.hand.now in
-      let x2 : Written = with_hand c.write.new.self c.write.new.hand in
-      let there = own_there c.args.script.now x w written c.args.hand.now.actor c.requires.exists in
-      let within : c.args.hand.now.actor < length c.self.inside.own.items = subst (λ (x : Written). c.args.hand.now.actor < length x.own) (sym c.self.view_is) there.0 in
-      let pos = c.index-pos.result.now in
-      let at : pos ≡ get_or c.args.self.now.own c.args.hand.now.actor 0 =
-      get_or_read c.self.inside.own.items c.args.hand.now.actor pos within c.index-pos.ensures 0 ∙ ap (λ (x : Written). get_or x.own c.args.hand.now.actor 0) c.self.view_is in
-      written_own c.args.script.now x x2 w c.args.hand.now.actor c.args.act pos c.args.kind written c.requires.exists at
-      (subst (λ (y : Written). IsNoted c.args.script.now c.args.hand.now.actor false (own_entry c.args.hand.now.actor c.args.act pos c.args.kind)
-      (record (with_hand y c.args.hand.now) { own = set y.own c.args.hand.now.actor (pos + 1) }) x2) c.self.view_is c.write.ensures.noted));
-  wrote =
-      counts_from 1 c.args.self.now _ c.args.hand.now c.write.new.self c.write.new.hand (ap (λ (x : Written). x.told) c.self.view_is) (ap (λ (x : Written). x.made) c.self.view_is) c.write.ensures.wrote;
-}
+pub returns-clause-made : goal.returns-clause-made
+returns-clause-made g c =
+    let s = c.args.script.now in
+    let a = c.args.author.actor in
+    let pos = c.index-pos.result.now in
+    let note : Note = own_entry a c.args.author.act pos c.args.kind in
+    on_ok_weaker c.write.result (λ booked. record {
+      notes = note ∷ [];
+      one = refl;
+      written = λ lists w written.
+          (let x : Written = with_lists c.args.self.now lists in
+          let x2 : Written = with_lists c.write.new.self (noted lists a (note ∷ [])) in
+          let there = own_there s x w written a c.requires.may.exists in
+          let within : a < length c.self.inside.own.items = subst (λ (x : Booked). a < length x.own) (sym c.self.view_is) there.0 in
+          let at : pos ≡ get_or c.args.self.now.own a 0 =
+          get_or_read c.self.inside.own.items a pos within c.index-pos.ensures 0 ∙ ap (λ (x : Booked). get_or x.own a 0) c.self.view_is in
+          written_own s x x2 w a c.args.author.act pos c.args.kind written c.requires.may.exists at
+          (subst (λ (y : Booked). IsNoted s a false note (record (with_lists y lists) { own = set y.own a (pos + 1) }) x2) c.self.view_is
+          (is_noted s a false note _ c.write.new.self lists booked.0)));
+      wrote = counts_from g.N.Listener.has g.N.Listener.room a (note ∷ []) c.args.self.now _ c.write.new.self c.args.listener.now c.write.new.listener (ap (λ (x : Booked). x.made) c.self.view_is) booked.1;
+    }) (both _ _ c.write.result c.write.ensures.booked c.write.ensures.wrote)
