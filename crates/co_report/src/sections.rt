@@ -14,7 +14,6 @@ use crate::frame::{head_piece, in_frame, print_heading};
 use crate::note::print_note;
 use crate::reading::places::places;
 use crate::typed::note_is_typed;
-use co_listener::Listener;
 use co_object::{Note, Place};
 use co_program::{Script, actor_count, place_exists, place_index};
 use co_sbt::{NoMemory, Seq};
@@ -112,32 +111,8 @@ impl<'a> Sections<'a> {
         })
     }
 
-    /// The whole report in pieces, where the notes of each place were told in the order of their positions: the
-    /// canonical text of the script, the sections, and the last line. Joined they are the report. `NoMemory` where
-    /// there is no room for the pieces.
-    pub fn pieces(self, alloc: Global) -> Result<Seq<Seq<u8>>, NoMemory>
-        ensures { IfOk result (λ pieces. (made : List MadeNote) → NotesAreTold self.entry made → IsInOrder made → concat pieces ≡ report_of self.entry.script (lists_by (actor_count self.entry.script) made)) }
-    {
-        let Sections { script, pages, .. } = self;
-        let mut parts = Seq::new(alloc);
-        append_all(&mut parts, pages)?;
-        let head = head_piece(alloc, script)?;
-        in_frame(alloc, head, parts)
-    }
-}
-
-impl<'a> Listener for Sections<'a> {
-    ghost use Rattle.co_program.specs.Actors.{actor_count};
-    ghost use Rattle.co_report.specs.Sections.{NotesAreTold};
-
-    ghost actors = { λ x. actor_count x.script };
-
-    ghost has = { NotesAreTold };
-
-    ghost room = { λ x. 0 };
-
     /// Appends the note's line to the section of its place. A note of a place that the script hasn't is written nowhere.
-    fn write(&mut self, actor: u32, note: &Note) -> Result<(), NoMemory>
+    pub fn write(&mut self, actor: u32, note: &Note) -> Result<(), NoMemory>
         requires actor { actor < actor_count self.old.script }
         ensures has { OnOk result ((made : List MadeNote) → NotesAreTold self.old made → NotesAreTold self.new (made ++ record { actor = actor; note = note.now } ∷ [])) }
         ensures actors { actor_count self.new.script ≡ actor_count self.old.script }
@@ -155,5 +130,18 @@ impl<'a> Listener for Sections<'a> {
             }
             None => Ok(()),
         }
+    }
+
+    /// The whole report in pieces, where the notes of each place were told in the order of their positions: the
+    /// canonical text of the script, the sections, and the last line. Joined they are the report. `NoMemory` where
+    /// there is no room for the pieces.
+    pub fn pieces(self, alloc: Global) -> Result<Seq<Seq<u8>>, NoMemory>
+        ensures { IfOk result (λ pieces. (made : List MadeNote) → NotesAreTold self.entry made → IsInOrder made → concat pieces ≡ report_of self.entry.script (lists_by (actor_count self.entry.script) made)) }
+    {
+        let Sections { script, pages, .. } = self;
+        let mut parts = Seq::new(alloc);
+        append_all(&mut parts, pages)?;
+        let head = head_piece(alloc, script)?;
+        in_frame(alloc, head, parts)
     }
 }

@@ -3,7 +3,7 @@ use Rattle.std.proofs.Common.{◌<◌, sym, subst}
 use Rattle.co_report.specs.Sections.{Written, NotesAreTold}
 use Rattle.co_program.specs.Actors.{actor_count}
 use Rattle.co_report.proofs.ToldPages.{told-written, told-nowhere}
-use Rattle.co_report.proofs.sections.SectionsListener.write.Goals as goal
+use Rattle.co_report.proofs.sections.Sections.write.Goals as goal
 
 pub returns-in_ok-print_note-in-Some-clause-has : goal.returns-in_ok-print_note-in-Some-clause-has
 returns-in_ok-print_note-in-Some-clause-has c made told =
