@@ -1,5 +1,5 @@
 //! One step after another: the ledger and the depot of a world.
-ghost use Rattle.std.specs.Prelude.{◌≡◌, ◌<◌, IfOk, OnOk};
+ghost use Rattle.std.specs.Prelude.{◌≡◌, ◌<◌, IfOk};
 ghost use Rattle.co_lock.specs.declared.held.Held.{Held};
 ghost use Rattle.co_program.specs.Action.{Asks, Silent, Take};
 ghost use Rattle.co_program.specs.Indexed.{cursor_of, after_silent};

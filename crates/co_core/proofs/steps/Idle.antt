@@ -1,5 +1,5 @@
 -- A step that changes nothing: of an actor that waits, or has finished. And the notes beside which an engine stands.
-use Rattle.std.proofs.Common.{◌≡◌, ℕ, List, [], refl, sym, ap, ◌∙◌, subst, inl, inr, Some, None}
+use Rattle.std.proofs.Common.{◌≡◌, ℕ, List, [], sym, ap, ◌∙◌, subst, inl, inr, Some, None}
 use Rattle.std.specs.Prelude.{Option}
 use Rattle.std.proofs.lemmas.List.{append-nil}
 use Rattle.co_object.specs.declared.note.Note.{Note}
@@ -8,14 +8,14 @@ use Rattle.co_program.specs.declared.script.Script.{Script}
 use Rattle.co_program.specs.declared.cursor.Cursor.{Cursor as CursorAt}
 use Rattle.co_program.specs.declared.Action.{Action as ActionAt}
 use Rattle.co_program.specs.declared.action.Action.TheVariants as action
-use Rattle.co_program.specs.Action.{Action, action_for}
+use Rattle.co_program.specs.Action.{action_for}
 use Rattle.co_program.specs.Indexed.{action_of}
 use Rattle.co_world.specs.Blocked.{blocked}
 use Rattle.co_world.specs.declared.turn.Turn.{Turn}
 use Rattle.co_world.specs.declared.turn.Turn.TheVariants.{Blocked, Finished}
 use Rattle.co_world.specs.declared.turn.Why.{Why}
 use Rattle.co_world.specs.Step.{step, turn_at, turn_of}
-use Rattle.co_world.specs.World.{World, lists_of}
+use Rattle.co_world.specs.World.{World}
 use Rattle.co_world.proofs.measure.Rounds.{turn-finished}
 use Rattle.co_world.proofs.measure.Walks.{idle_steps_stay}
 use Rattle.co_core.specs.declared.engine.Engine.{Engine}

@@ -1,5 +1,5 @@
 -- What is never due to an actor: between two of its steps no section is open.
-use Rattle.std.proofs.Common.{◌≡◌, ℕ, ◌+◌, ◌-◌, ◌<◌, ◌≤◌, List, length, length-append, refl, sym, ap, ◌∙◌, subst, arith, Option, Some, None}
+use Rattle.std.proofs.Common.{◌≡◌, ℕ, ◌-◌, ◌<◌, List, length, length-append, refl, sym, ap, ◌∙◌, subst, arith, Option, Some, None}
 use Rattle.co_object.specs.declared.Op.TheVariants.{Run}
 use Rattle.co_object.specs.declared.RunOp.TheVariants.{Pick}
 use Rattle.co_object.specs.declared.QOp.{QOp}

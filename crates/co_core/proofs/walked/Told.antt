@@ -1,5 +1,5 @@
 -- The notes of a step are told: those of the world's actors, and the positions of each place count in their order.
-use Rattle.std.proofs.Common.{◌≡◌, ℕ, ◌+◌, ◌<◌, ◌≤◌, ◌⊎◌, inl, inr, Bool, true, false, List, [], ◌∷◌, ◌++◌, length, drop, get_or, map, refl, sym, ap, subst, ◌∙◌, arith, append_assoc, length-append, length-set}
+use Rattle.std.proofs.Common.{◌≡◌, ℕ, ◌+◌, ◌<◌, ◌≤◌, ◌⊎◌, inl, inr, Bool, true, false, List, [], ◌∷◌, ◌++◌, length, drop, map, refl, sym, ap, subst, ◌∙◌, append_assoc}
 use Rattle.std.specs.Prelude.{◌==◌, is_some, Option, Some, None, Result, Ok, Err, IfOk, OnOk}
 use Rattle.std.specs.List.{range_with_len}
 use Rattle.std.proofs.lemmas.Bool.Decides.{eqb_tells}
@@ -40,7 +40,7 @@ use Rattle.co_world.specs.Walk.{AllFinished, rounds, run}
 use Rattle.co_world.specs.World.{Actor, World, lists_of, open_world, with_cursor}
 use Rattle.co_core.specs.Written.{noted, with_lists}
 use Rattle.co_world.proofs.shown.Lists.{Tells, entries_at, placed_entries, placed_notes, tells_callout, tells_own, tells_queue}
-use Rattle.co_world.proofs.basics.Changes.{IsAt, decide}
+use Rattle.co_world.proofs.basics.Changes.{IsAt}
 use Rattle.co_world.proofs.basics.Prefixes.{length_more}
 use Rattle.co_world.proofs.measure.Rounds.{range-more}
 use Rattle.co_world.proofs.schedules.AnyAnswers.{step_keeps}

@@ -10,7 +10,7 @@ use Rattle.co_program.specs.Advance.{advance}
 use Rattle.co_program.specs.Indexed.{IsCounted, cursor_of}
 use Rattle.co_world.specs.World.{World}
 use Rattle.co_core.specs.Table.{table}
-use Rattle.co_core.specs.Written.{Written, IsNoted, cursor_at, list_at, noted as noted_in, first_cursor}
+use Rattle.co_core.specs.Written.{Written, IsNoted, cursor_at, noted as noted_in, first_cursor}
 use Rattle.co_core.specs.Stands.{ShowsWritten}
 use Rattle.co_world.proofs.basics.Changes.{IsAt, decide, at_all}
 use Rattle.co_world.proofs.kept.Invariant.{cursors_of}

@@ -1,5 +1,5 @@
 -- Notes are made: what is booked of them, and each actor's list.
-use Rattle.std.proofs.Common.{arith, ◌≡◌, ℕ, zero, suc, ◌+◌, ◌^◌, ◌<◌, ◌≤◌, Bool, List, [], ◌∷◌, ◌++◌, length, map, get_or, set, refl, sym, subst, ap, ◌∙◌, append_assoc, length-append}
+use Rattle.std.proofs.Common.{arith, ◌≡◌, ℕ, zero, suc, ◌+◌, ◌^◌, ◌<◌, ◌≤◌, Bool, List, [], ◌∷◌, ◌++◌, length, get_or, refl, sym, subst, ap, ◌∙◌, append_assoc, length-append}
 use Rattle.std.specs.Prelude.{Result, Ok, Err, OnOk}
 use Rattle.std.proofs.lemmas.List.{append-nil, get_or-set_same, map-append}
 use Rattle.co_object.specs.declared.note.Note.{Note}
@@ -16,7 +16,7 @@ use Rattle.co_core.specs.Acting.{GoesSilently, HasActed, StandsWith, IsDue, MayA
 use Rattle.co_core.specs.Noting.{HasWritten, MayNote, MayWrite, made_by}
 use Rattle.co_core.specs.Stands.{ShowsWritten, StandsFor}
 use Rattle.co_core.specs.Stored.{Stored}
-use Rattle.co_core.specs.Written.{Booked, Written, IsBooked, IsNoted, first_cursor, booked_at, cursor_at, noted, with_lists}
+use Rattle.co_core.specs.Written.{Booked, Written, IsBooked, IsNoted, first_cursor, booked_at, noted, with_lists}
 use Rattle.co_core.proofs.tables.Values.{read}
 use Rattle.co_core.proofs.written.Counting.{notes_by}
 use Rattle.co_core.proofs.written.There.{list_there, place_there}

@@ -1,5 +1,5 @@
 -- The depot's call, the Remove before its entry, the entry and the Insert after it are together the plain world's step.
-use Rattle.std.proofs.Common.{arith, ◌≡◌, ◌+◌, true, List, ◌++◌, sym, ap, ◌∙◌, subst, length-append}
+use Rattle.std.proofs.Common.{arith, ◌+◌, List, ◌++◌, sym, ap, ◌∙◌, subst, length-append}
 use Rattle.co_object.specs.declared.note.Note.{Note}
 use Rattle.co_world.specs.Step.{step}
 use Rattle.co_core.specs.Stored.{Stored}

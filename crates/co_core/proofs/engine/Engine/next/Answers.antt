@@ -1,11 +1,7 @@
 -- The depot's next, the Pop and, where a callout has come due, its Pick are together the plain world's step.
-use Rattle.std.proofs.Common.{arith, ◌≡◌, ℕ, true, false, List, ◌++◌, sym, ◌∙◌, subst, length-append, Some}
-use Rattle.std.specs.Prelude.{is_some}
-use Rattle.co_object.specs.declared.state.State.{State}
-use Rattle.co_object.specs.declared.op.Op.TheVariants.{Run}
+use Rattle.std.proofs.Common.{arith, ◌≡◌, true, false, List, ◌++◌, sym, ◌∙◌, subst, length-append, Some}
 use Rattle.co_object.specs.declared.RunOp.TheVariants.{Pick}
 use Rattle.co_object.specs.Entries.{is_armed}
-use Rattle.co_object.specs.Stand.{off}
 use Rattle.co_object.specs.declared.queue.QOp.{QOp}
 use Rattle.co_object.specs.declared.queue.QReply.TheVariants.{Got, Empty}
 use Rattle.co_object.specs.Queue.{Queue as TimerQueue}
@@ -15,7 +11,7 @@ use Rattle.co_core.specs.Stored.{Stored}
 use Rattle.co_core.specs.Written.{Written, noted, with_lists}
 use Rattle.co_object.specs.declared.note.Note.{Note}
 use Rattle.co_core.specs.Stands.{StandsFor, ShowsWritten}
-use Rattle.co_world.specs.Step.{queue_answers, callout_answers, step}
+use Rattle.co_world.specs.Step.{queue_answers, step}
 use Rattle.co_world.proofs.kept.Invariant.{queues_of}
 use Rattle.co_core.proofs.services.Picks.{pop_there, pop_below, lane_free, pick_known, unarmed, stands_none, stands_picked}
 use Rattle.co_core.proofs.written.Notes.{acted, may_go_on, may_write, noted_more, then_written}

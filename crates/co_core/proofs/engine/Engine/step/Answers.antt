@@ -1,5 +1,5 @@
 -- The step is the plain world's, and what it answers is told by how many notes it made.
-use Rattle.std.proofs.Common.{rules, ◌≡◌, ◌<◌, ◌^◌, List, [], arith, subst, sym, ap, ◌∙◌, refl, Some}
+use Rattle.std.proofs.Common.{rules, ◌≡◌, ◌<◌, ◌^◌, List, arith, subst, sym, ap, ◌∙◌, refl, Some}
 use Rattle.co_object.specs.declared.note.Note.{Note}
 use Rattle.co_program.specs.declared.cursor.Cursor.{Cursor as CursorAt}
 use Rattle.co_program.specs.Indexed.{IsCounted}

@@ -1,4 +1,4 @@
-use Rattle.std.proofs.Common.{◌≡◌, List, ap, sym, subst, ◌∙◌}
+use Rattle.std.proofs.Common.{◌≡◌, List, sym, subst}
 use Rattle.co_object.specs.declared.note.Note.{Note}
 use Rattle.co_world.specs.World.{lists_of, open_world}
 use Rattle.co_core.specs.Acting.{StandsWith}
