@@ -19,6 +19,8 @@ impl Listener for Told {
 
     ghost has = { λ x made. Unit {0} };
 
+    ghost room = { λ x. 0 };
+
     fn write(&mut self, actor: u32, note: &Note) -> Result<(), NoMemory> {
         self.notes.push((actor, note.pos))
     }
