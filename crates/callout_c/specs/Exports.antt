@@ -7,7 +7,7 @@ use Rattle.co_wheel.specs.Callouts.{in_service}
 use Rattle.co_embed.specs.declared.refusal.Refusal.{Refusal}
 use Rattle.co_embed.specs.declared.refusal.Refusal.TheVariants.{Nothing}
 use Rattle.co_embed.specs.Embedded.{Embedded, new_embedded}
-use Rattle.co_embed.specs.Refusals.{errno, status_of}
+use Rattle.co_embed.specs.Refusals.{errno}
 use Rattle.co_embed.specs.Sizes.{are_sizes}
 use Rattle.callout_c.specs.declared.inner.Inner.{Inner}
 

@@ -1,5 +1,5 @@
 //! Wheels, and callouts that come and go.
-ghost use Rattle.std.specs.Prelude.{◌≡◌, is_some};
+ghost use Rattle.std.specs.Prelude.{◌≡◌};
 ghost use Rattle.co_embed.specs.Lives.{FiniAnswers, InitAnswers, LandAnswers};
 ghost use Rattle.co_embed.specs.Refusals.{status_of};
 ghost use Rattle.callout_c.specs.Exports.{FreeAnswers, NewAnswers, OnWheel, done_or, put_or};

@@ -1,20 +1,15 @@
 -- One line more is heard: what is the first bad one, and what is said of each.
-use Rattle.std.proofs.Common.{◌≡◌, ℕ, ◌+◌, ◌≤◌, ◌<◌, List, [], ◌∷◌, ◌++◌, length, map, refl, ap, sym, subst, ◌∙◌, append_assoc, append-nil, arith}
+use Rattle.std.proofs.Common.{◌≡◌, ◌+◌, ◌≤◌, List, [], ◌∷◌, ◌++◌, length, map, refl, ap, sym, ◌∙◌, append_assoc, append-nil, arith}
 use Rattle.std.specs.Prelude.{Option, Some, None}
-use Rattle.std.specs.List.{AllByRecursion}
 use Rattle.std.proofs.lemmas.List.{length-append}
 use Rattle.co_program.specs.declared.script.Script.{Script}
-use Rattle.co_program.specs.Actors.{actor_count}
 use Rattle.co_report.specs.declared.line.Line.{Line}
-use Rattle.co_check.specs.declared.replaying.Replaying.{Replaying}
 use Rattle.co_check.specs.declared.verdict.Unfit.{Unfit}
 use Rattle.co_check.specs.Astray.{SeenLine, seen_at, seen_from, seen_lines}
 use Rattle.co_check.specs.Facts.{Fact}
-use Rattle.co_check.specs.Hearing.{IsReplaying}
 use Rattle.co_check.specs.Lines.{AreLinesOf, IsLineOf, lines_max}
-use Rattle.co_check.specs.Numbers.{AreActorCounts}
 use Rattle.co_check.specs.Replay.{Bad, bad_or, first_bad, first_unfit, unfit_at}
-use Rattle.co_check.specs.Replayed.{IsAfter, fact_of}
+use Rattle.co_check.specs.Replayed.{fact_of}
 
 -- ---- the first bad line
 

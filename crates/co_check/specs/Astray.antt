@@ -3,7 +3,6 @@ use Rattle.std.specs.Prelude.{ℕ, ◌&&◌, not, nat_le, Bool, if◌then◌else
 use Rattle.std.specs.List.{filter_map, find, range_with_len}
 use Rattle.co_program.specs.declared.script.Script.{Script}
 use Rattle.co_program.specs.Action.{action_for, scans_first}
-use Rattle.co_program.specs.Actors.{actor_count}
 use Rattle.co_program.specs.Advance.{advance}
 use Rattle.co_program.specs.Cursor.{Cursor, start_of}
 use Rattle.co_program.specs.Follows.{at_next_note}

@@ -1,5 +1,5 @@
 //! The histories of timers and CPUs, line by line.
-ghost use Rattle.std.specs.Prelude.{◌≡◌, ℕ, ◌<◌, ◌≤◌, [], List, is_some, length, map, replicate, IfOk};
+ghost use Rattle.std.specs.Prelude.{◌≡◌, ◌<◌, ◌≤◌, [], List, is_some, length, map, replicate, IfOk};
 ghost use Rattle.co_object.specs.declared.Place.TheVariants as places;
 ghost use Rattle.co_object.specs.declared.AnyEntry.TheVariants as of;
 ghost use Rattle.co_object.specs.Queue.{Queue};

@@ -1,5 +1,5 @@
 //! The replay of a report's lines, with what is said of each.
-ghost use Rattle.std.specs.Prelude.{◌≡◌, ◌<◌, [], List, length, IfOk};
+ghost use Rattle.std.specs.Prelude.{◌<◌, [], List, length, IfOk};
 ghost use Rattle.co_program.specs.Scripts.{IsScript};
 ghost use Rattle.co_report.specs.declared.line.Line.{Line};
 ghost use Rattle.co_report.specs.PackedLines.{line_of};

@@ -1,7 +1,7 @@
 //! A CPU's callouts.
-ghost use Rattle.std.specs.Prelude.{◌≡◌, ◌≤◌, length, replicate, IfOk};
+ghost use Rattle.std.specs.Prelude.{◌≡◌, IfOk};
 ghost use Rattle.co_embed.specs.Embedded.{IsMade, new_embedded};
-ghost use Rattle.co_queue.specs.Timers.{IsSize, IsWheel, empty_timers};
+ghost use Rattle.co_queue.specs.Timers.{IsSize, IsWheel};
 
 use crate::Refusal;
 use crate::sizes::{are_sizes, directs};

@@ -1,6 +1,5 @@
 //! How large a wheel may be.
-ghost use Rattle.std.specs.Prelude.{◌≡◌, map, nat_le, IfOk};
-ghost use Rattle.std.specs.List.{range_with_len};
+ghost use Rattle.std.specs.Prelude.{◌≡◌, IfOk};
 ghost use Rattle.co_object.specs.Queue.{is_wheel_size};
 ghost use Rattle.co_embed.specs.Sizes.{are_sizes, directs};
 

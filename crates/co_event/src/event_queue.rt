@@ -1,5 +1,5 @@
 //! The queue of what is pending, and the moment for which its clock is programmed.
-ghost use Rattle.std.specs.Prelude.{◌≡◌, ℕ, ◌<◌, ◌≤◌, length, map, take as list_take, IfOk, IfSome};
+ghost use Rattle.std.specs.Prelude.{◌≡◌, ◌<◌, ◌≤◌, length, map, take as list_take, IfOk, IfSome};
 ghost use Rattle.std.specs.Option.{option_map};
 ghost use Rattle.co_sbt.specs.Time.{sat_add};
 ghost use Rattle.co_event.specs.Queue.{IsSize};

@@ -2,7 +2,6 @@
 ghost use Rattle.std.specs.Prelude.{◌≡◌, ◌≤◌, ◌<◌, ◌∷◌, [], IfOk, length, None};
 ghost use Rattle.std.specs.List.{AllByRecursion};
 ghost use Rattle.std.specs.Option.{option_copied, option_copied_mut};
-ghost use Rattle.co_program.specs.Actors.{acts_at};
 ghost use Rattle.co_program.specs.Calls.{plain_op};
 ghost use Rattle.co_program.specs.Scripts.{IsScript};
 ghost use Rattle.co_hand.specs.Functions.{functions_of, needs_of, CallExists, Makes, Runs, scene_of};

@@ -12,7 +12,6 @@ use co_object::PlainOp;
 pub trait Port {
     ghost use Rattle.std.specs.Prelude.{◌≡◌, ◌<◌, ◌∷◌, [], length};
     ghost use Rattle.std.specs.Option.{option_copied};
-    ghost use Rattle.co_hand.specs.declared.port_call.PortCall.{PortCall};
     ghost use Rattle.co_hand.specs.Ports.{PortState, after_calls, NamesCpuBelow, IsCoverAnswered};
 
     /// What the port was made with.

@@ -2,7 +2,6 @@
 ghost use Rattle.std.specs.Prelude.{◌≡◌};
 ghost use Rattle.co_object.specs.Callout.{opening, call, live_call, retired_call, serve};
 ghost use Rattle.co_object.specs.History.{outcome};
-ghost use Rattle.co_object.specs.Stand.{is_idle, off};
 
 mod arm;
 mod drain;

@@ -1,5 +1,5 @@
 //! Note lines in few bytes.
-ghost use Rattle.std.specs.Prelude.{nat_le, if◌then◌else◌, ◌≡◌, ℕ, ◌<◌, ◌++◌, ◌∷◌, [], Some, length, map, slice_get, OnOk, IfOk};
+ghost use Rattle.std.specs.Prelude.{nat_le, if◌then◌else◌, ◌≡◌, ℕ, ◌<◌, ◌++◌, ◌∷◌, [], Some, length, map, slice_get, OnOk};
 ghost use Rattle.co_report.specs.declared.line.Line.{Line};
 ghost use Rattle.co_report.specs.PackedLines.{is_next_of, line_of, no_stretch, note_from_line, line_in, stretch_at};
 

@@ -1,8 +1,7 @@
 -- What is kept of an actor of a run, between two sections.
-use Rattle.std.specs.Prelude.{◌≡◌, ℕ, ◌+◌, ◌<◌, ◌≤◌, Bool, true, false, List, Option, Some, None, length, slice_get}
+use Rattle.std.specs.Prelude.{◌≡◌, ℕ, ◌+◌, ◌<◌, ◌≤◌, Bool, true, false, List, Option, Some, None, length}
 use Rattle.std.specs.List.{AllByRecursion}
 use Rattle.co_object.specs.declared.note.Note.{Note}
-use Rattle.co_object.specs.Queue.{Due}
 use Rattle.co_lock.specs.declared.held.Held.{Held}
 use Rattle.co_lock.specs.declared.lock_kind.LockKind.{LockKind}
 use Rattle.co_lock.specs.Service.{hold_of}
@@ -13,7 +12,6 @@ use Rattle.co_program.specs.Action.{spec_at}
 use Rattle.co_program.specs.declared.script.Script.{Script}
 use Rattle.co_program.specs.declared.role.Role.{Role}
 use Rattle.co_program.specs.declared.role.Role.TheVariants.{Client, Cpu, Interrupt}
-use Rattle.co_program.specs.declared.cursor.InService.{InService}
 use Rattle.co_program.specs.Actors.{actor_count, acts_at, client_count, role_of}
 use Rattle.co_program.specs.Cursor.{Cursor}
 use Rattle.co_program.specs.Existing.{IsIn}

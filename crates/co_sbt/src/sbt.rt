@@ -1,5 +1,5 @@
 //! Times in units of 2^-32 second, after the kernel's `sbintime_t`.
-ghost use Rattle.std.specs.Prelude.{◌≡◌, ◌≤◌, ◌<◌, ◌^◌, IfSome, IsNone, ◌↔◌};
+ghost use Rattle.std.specs.Prelude.{◌≡◌, ◌≤◌, ◌<◌, ◌^◌, IfSome, IsNone};
 ghost use Rattle.co_sbt.specs.Time.{IsTime, sat_add, hash, ticks_of, from_ticks};
 
 use std::marker::Model;

@@ -1,5 +1,5 @@
 -- The open service with its client locks, as contracts see it.
-use Rattle.std.specs.Prelude.{◌≡◌, ℕ, ◌<◌, Bool, true, false, List, length, slice_get}
+use Rattle.std.specs.Prelude.{◌≡◌, ℕ, List}
 use Rattle.std.specs.declared.option.Option.TheVariants.{Some}
 use Rattle.co_lock.specs.declared.held.Held.{Held}
 use Rattle.co_lock.specs.declared.lock_kind.LockKind.{LockKind}

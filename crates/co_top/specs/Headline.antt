@@ -38,7 +38,7 @@ use Rattle.co_top.specs.declared.status.Status.{Status}
 use Rattle.co_top.specs.declared.status.Status.TheVariants.{Done, BadScript, Usage, ReadFault, WriteFault, NoMemory, NotLegal}
 use Rattle.co_front.specs.Texts.{refusal_text, fault_text}
 use Rattle.co_top.specs.Commands.{command_of, usage_text, legal_text, unfit_word}
-use Rattle.co_front.specs.Outside.{Output, Outside, ReadsToEnd, Reads, ReadFails, Writes, WriteFails, WritesFront}
+use Rattle.co_front.specs.Outside.{Outside, ReadsToEnd, Reads, ReadFails, Writes, WriteFails, WritesFront}
 
 -- ---- `steps` and `run`
 

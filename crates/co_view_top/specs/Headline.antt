@@ -1,12 +1,12 @@
 -- What a call promises: for each status what was read, and what was written.
-use Rattle.std.specs.Prelude.{◌≡◌, ℕ, ◌⊎◌, List, Option, Some, None, Ok, Err, codes}
+use Rattle.std.specs.Prelude.{◌≡◌, ℕ, List, Option, Some, None, Ok, Err, codes}
 use Rattle.co_text.specs.Values.{Word}
 use Rattle.co_report.specs.Reading.{report_read}
 use Rattle.co_report.specs.declared.line.Report.{Report}
 use Rattle.co_text.specs.Fallible.{Refusal}
 use Rattle.co_view_top.specs.declared.status.Status.{Status}
 use Rattle.co_view_top.specs.declared.status.Status.TheVariants.{Done, BadReport, Usage, ReadFault, WriteFault, NoMemory, NoOrder}
-use Rattle.co_front.specs.Outside.{Output, Outside, ReadsToEnd, Reads, ReadFails, Writes, WritesFront}
+use Rattle.co_front.specs.Outside.{Outside, ReadsToEnd, Reads, ReadFails, Writes, WritesFront}
 use Rattle.co_front.specs.Texts.{fault_text, refusal_text}
 use Rattle.co_view_top.specs.Texts.{usage_text}
 use Rattle.co_view.specs.Order.{IsOrder, IsStuck}

@@ -1,6 +1,5 @@
 -- The plain world: a script's callouts, CPUs and actors between two steps.
 use Rattle.std.specs.Prelude.{ℕ, List, [], map, ◌==◌, if◌then◌else◌}
-use Rattle.std.specs.List.{range_with_len}
 use Rattle.co_object.specs.declared.State.{State}
 use Rattle.co_object.specs.declared.Entry.{Entry}
 use Rattle.co_object.specs.declared.QEntry.{QEntry}
@@ -8,7 +7,7 @@ use Rattle.co_object.specs.declared.Note.{Note}
 use Rattle.co_object.specs.Callout.{opening}
 use Rattle.co_object.specs.Queue.{Queue, empty_queue}
 use Rattle.co_program.specs.declared.Script.{Script}
-use Rattle.co_program.specs.Actors.{actor_count, all_actors}
+use Rattle.co_program.specs.Actors.{all_actors}
 use Rattle.co_program.specs.Cursor.{Cursor, start_of}
 use Rattle.co_program.specs.Follows.{Histories}
 

@@ -1,5 +1,5 @@
 -- What the example's service has: one client, one CPU, and one callout without a lock; and what its functions call.
-use Rattle.std.specs.Prelude.{ℕ, false, [], ◌∷◌}
+use Rattle.std.specs.Prelude.{false, [], ◌∷◌}
 use Rattle.co_hand.specs.Handlers.{Needs}
 use Rattle.co_object.specs.declared.spec.LockUse.TheVariants.{Free}
 use Rattle.co_service.specs.declared.params.Params.{Params}

@@ -1,14 +1,14 @@
 //! A report that is read line by line: first its script, and then each note line when it is asked for.
 ghost use Rattle.std.specs.Prelude.{◌≡◌, ◌≤◌, ◌<◌, ◌∷◌, Some, [], List, length, IfOk, OnOk};
 ghost use Rattle.co_program.specs.Scripts.{IsScript};
-ghost use Rattle.co_text.specs.Fallible.{Gives, GivesOrNoMemory, LineGives};
+ghost use Rattle.co_text.specs.Fallible.{Gives, LineGives};
 ghost use Rattle.co_text.specs.Lines.{lines_of, Line as TextLine};
 ghost use Rattle.co_report.specs.declared.line.Line.{Line};
-ghost use Rattle.co_report.specs.LineByLine.{before_all, line_at, standing, AreAllTold, HasTakenMore, IsReportOpened, IsReading, IsLineRead, IsLineTold, IsNextFound, IsNoteTold};
+ghost use Rattle.co_report.specs.LineByLine.{before_all, line_at, standing, AreAllTold, IsReportOpened, IsReading, IsLineRead, IsLineTold, IsNextFound, IsNoteTold};
 ghost use Rattle.co_report.specs.NoteForms.{shown_note};
 ghost use Rattle.co_report.specs.NoteValues.{names_of};
 ghost use Rattle.co_report.specs.Reading.{halves_read, line_after, lines_report, report_read};
-ghost use Rattle.co_report.specs.ReadingViews.{halves_view, line_shown, so_far, with_line, one_or_none, AreAtMost, IsReaderReady, IsSetting};
+ghost use Rattle.co_report.specs.ReadingViews.{halves_view, so_far, with_line, one_or_none, AreAtMost, IsReaderReady, IsSetting};
 
 use crate::line::Line;
 use crate::listening::LineListener;

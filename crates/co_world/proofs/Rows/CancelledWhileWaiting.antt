@@ -16,7 +16,6 @@ use Rattle.co_lock.specs.declared.LockKind.TheVariants.{Mtx}
 use Rattle.co_program.specs.declared.Script.{Script}
 use Rattle.co_program.specs.declared.Act.TheVariants as act
 use Rattle.co_program.specs.declared.Who.TheVariants as who
-use Rattle.co_program.specs.declared.Who.TheVariants.{Me}
 use Rattle.co_program.specs.declared.When.TheVariants.{At}
 use Rattle.co_program.specs.declared.Where.TheVariants.{Home}
 use Rattle.co_world.specs.declared.turn.Turn.TheVariants.{Finished}

@@ -15,10 +15,9 @@ use Rattle.co_object.specs.declared.Note.{Note}
 use Rattle.co_program.specs.declared.Script.{Script}
 use Rattle.co_program.specs.declared.Act.TheVariants as act
 use Rattle.co_program.specs.declared.Who.TheVariants as who
-use Rattle.co_program.specs.declared.Who.TheVariants.{Me}
 use Rattle.co_program.specs.declared.When.TheVariants.{At}
 use Rattle.co_program.specs.declared.Where.TheVariants as where_
-use Rattle.co_program.specs.declared.Where.TheVariants.{Home, Here}
+use Rattle.co_program.specs.declared.Where.TheVariants.{Home}
 use Rattle.co_world.specs.declared.turn.Turn.TheVariants.{Finished}
 use Rattle.co_world.specs.World.{World, open_world, lists_of}
 use Rattle.co_world.specs.Step.{turn_of}

@@ -29,7 +29,7 @@ use Rattle.co_world.specs.Step.{notes_down, enters, note_of}
 use Rattle.co_world.proofs.kept.Invariant.{Holds, IsListed, IsCarried, FitsRole, states_of, queues_of, cursors_of, carries, in_hand, has_popped, service_of}
 use Rattle.co_world.proofs.basics.Changes.{IsAt, at_all, note_at, state_at}
 use Rattle.co_world.proofs.basics.Actions.{IsAction}
-use Rattle.co_world.proofs.kept.Operations.{Did, GoesOn, keeps, clears, arms, is_plain, did}
+use Rattle.co_world.proofs.kept.Operations.{Did, GoesOn, keeps, clears, arms, is_plain}
 use Rattle.co_world.proofs.kept.Operations as deed
 use Rattle.co_world.proofs.kept.Stages.{place, Fits, fits_callout, plain_called}
 use Rattle.co_world.proofs.kept.Services.{serving_same, runs_on}

@@ -28,7 +28,7 @@ use Rattle.co_world.specs.Step.{notes_down, enters, note_of}
 use Rattle.co_world.proofs.kept.Invariant.{Holds, IsListed, IsCarried, FitsRole, states_of, queues_of, cursors_of, carries, in_hand, in_stage, has_popped, under_way, service_of}
 use Rattle.co_world.proofs.basics.Changes.{IsAt, note_at, state_at}
 use Rattle.co_world.proofs.basics.Actions.{IsAction}
-use Rattle.co_world.proofs.kept.Operations.{Did, GoesOn, keeps, clears, arms, is_plain, did}
+use Rattle.co_world.proofs.kept.Operations.{Did, keeps}
 use Rattle.co_world.proofs.kept.Operations as deed
 use Rattle.co_world.proofs.kept.Stages.{Fits, fits_callout}
 use Rattle.co_world.proofs.kept.Listed.{Nobody, carried_state, unlisted}

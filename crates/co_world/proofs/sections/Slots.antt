@@ -23,7 +23,7 @@ use Rattle.co_program.specs.Advance.{act_over, call_made, tail_of}
 use Rattle.co_world.specs.Step.{is_within_service}
 use Rattle.co_world.specs.Placed.{in_slot, stage_callout, due_in_service}
 use Rattle.co_world.proofs.basics.Actions.{IsAction, drops, passes, grabs, tells, asks, drains, waits, waits_told, enters, unlocks, fires, fires_told, releases, serves, serves_told}
-use Rattle.co_world.proofs.kept.Operations.{Did, is_plain}
+use Rattle.co_world.proofs.kept.Operations.{Did}
 use Rattle.co_world.proofs.kept.Operations as deed
 use Rattle.co_world.proofs.kept.Stages.{plain_called, is_acting}
 

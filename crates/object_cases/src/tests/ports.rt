@@ -1,8 +1,7 @@
 //! Ports over callouts alone.
-ghost use Rattle.std.specs.Prelude.{◌≡◌, ◌↔◌, ◌≤◌, ◌<◌, ◌∷◌, [], map, length, false, IfOk};
+ghost use Rattle.std.specs.Prelude.{◌≡◌, ◌↔◌, ◌≤◌, ◌<◌, map, length, false, IfOk};
 ghost use Rattle.co_object.specs.declared.CallOp.TheVariants.{Plain};
 ghost use Rattle.co_lock.specs.Covers.{covers};
-ghost use Rattle.co_hand.specs.Ports.{PortState};
 
 use co_hand::{Port, PortCall, PortReply};
 use co_lock::{Held, Hold, covers};
@@ -51,7 +50,6 @@ impl<'a> AlonePort<'a> {
 
 impl<'a> Port for AlonePort<'a> {
     ghost use Rattle.std.specs.Prelude.{map};
-    ghost use Rattle.co_hand.specs.Ports.{PortState};
 
     type Origin = u64;
 

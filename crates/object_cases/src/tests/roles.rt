@@ -1,5 +1,5 @@
 //! Who the actors of a script are, and what the first of them does.
-ghost use Rattle.std.specs.Prelude.{◌≡◌, false};
+ghost use Rattle.std.specs.Prelude.{false};
 
 use super::functions::{spec_of, worked_script};
 use co_object::{LockUse, QOp};

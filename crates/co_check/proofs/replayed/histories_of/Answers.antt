@@ -1,6 +1,6 @@
 -- All lines are heard.
 use Rattle.std.proofs.Common.{[], Ok, ap, subst, sym, ◌∙◌}
-use Rattle.co_report.specs.LineByLine.{Ahead, Standing}
+use Rattle.co_report.specs.LineByLine.{Standing}
 use Rattle.co_check.specs.Hearing.{ComesTo}
 use Rattle.co_check.proofs.replayed.histories_of.Goals as goal
 

@@ -1,5 +1,5 @@
 -- A note of an actor's own: the others are of the kind of their place.
-use Rattle.std.proofs.Common.{ap, subst, sym, ◌∙◌}
+use Rattle.std.proofs.Common.{subst, ◌∙◌}
 use Rattle.co_check.specs.Lines.{IsOfKind}
 use Rattle.co_check.proofs.Noted.{not-timer, not-cpu}
 use Rattle.co_check.proofs.Taken.{taken-own}
