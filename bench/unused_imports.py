@@ -12,7 +12,9 @@ LINE = re.compile(r"^[ \t]*(?:ghost )?use [^\n]*$", re.M)
 
 
 def is_used(name, text):
-    """Whether the text has the name; an operator is written with ◌ for each operand."""
+    """Whether the text has the name; an operator is written with ◌ for each operand, and a `do` block stands for those of steps."""
+    if name.startswith("◌>>") and re.search(r"(?<!\w)do\b", text):
+        return True
     if "◌" in name:
         return all(part in text for part in name.split("◌") if part)
     if not re.search(r"\w", name):

@@ -5,6 +5,7 @@ use Rattle.std.specs.List.{cons_option}
 use Rattle.std.specs.Option.{option_map}
 use Rattle.std.proofs.lemmas.Option.{slice_get-map}
 use Rattle.co_lock.specs.declared.Held.{Held}
+use Rattle.co_program.specs.declared.action.Action.{Action as ActionAt}
 use Rattle.co_program.specs.declared.action.Asked.{Asked}
 use Rattle.co_program.specs.declared.script.Script.{Script}
 use Rattle.co_program.specs.Action.{Nothing, Silent, Take, Asks, action_for}
@@ -87,9 +88,9 @@ module _ (s : Script) (a : ℕ) where
     all : (m n : ℕ) → m ≡ n → m + 1 - 0 ≡ suc n
     all m n h = omega arith
 
-  pub settle-next : (at to : CursorAt) (steps k : ℕ) (end : Cursor) → k < steps → IsQuietStep s a at None to → past s a (steps - k) (cursor_of s a at) (action_for s a (cursor_of s a at)) ≡ end
+  pub settle-next : (at to : CursorAt) (steps k : ℕ) (end : Cursor) (action : ActionAt) → k < steps → IsQuietStep s a at true action to → past s a (steps - k) (cursor_of s a at) (action_for s a (cursor_of s a at)) ≡ end
       → past s a (steps - (k + 1)) (cursor_of s a to) (action_for s a (cursor_of s a to)) ≡ end
-  settle-next at to steps k end below quiet h =
+  settle-next at to steps k end action below quiet h =
       sym (quiet (steps - (k + 1))) ∙ (ap (λ n. past s a n (cursor_of s a at) (action_for s a (cursor_of s a at))) (one_less steps k below) ∙ h) where
         one_less : (n k : ℕ) → k < n → suc (n - (k + 1)) ≡ n - k
         one_less n k h = omega arith

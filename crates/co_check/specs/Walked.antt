@@ -25,11 +25,11 @@ IsWalked s a notes (At c) = (first_astray s a (start_of s a) notes ≡ None) × 
 abbrev pub IsActionAt : Script → ℕ → CursorAt → Action → Type 0
 IsActionAt s a c action = action_of s a c action ≡ action_for s a (cursor_of s a c)
 
--- the cursor steps there without a note, or has no such step and stays
-abbrev pub IsQuietStep : Script → ℕ → CursorAt → Option Action → CursorAt → Type 0
-IsQuietStep s a c (Some action) to =
+-- the cursor steps there without a note, or has no such step and stays where it does this
+abbrev pub IsQuietStep : Script → ℕ → CursorAt → Bool → Action → CursorAt → Type 0
+IsQuietStep s a c false action to =
     (to ≡ c) × IsActionAt s a c action × ((fuel : ℕ) → past s a fuel (cursor_of s a c) (action_for s a (cursor_of s a c)) ≡ cursor_of s a c)
-IsQuietStep s a c None to = (fuel : ℕ) →
+IsQuietStep s a c true action to = (fuel : ℕ) →
     past s a (suc fuel) (cursor_of s a c) (action_for s a (cursor_of s a c)) ≡ past s a fuel (cursor_of s a to) (action_for s a (cursor_of s a to))
 
 -- the note is the next one of the program, which goes on there; or it is not

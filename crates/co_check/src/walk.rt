@@ -71,7 +71,8 @@ fn walk_note(
     ensures note { (line : ℕ) → IsNoteWalked script.now actor cursor.old (record { line = line_of line note.now; listed = fact.now.listed; scans = fact.now.scans }) result cursor.new }
     ensures counted { result ≡ true → ActsAreCounted cursor.old cursor.new 1 }
 {
-    let action = settle(script, actor, cursor);
+    let mut action = Action::Nothing;
+    settle(script, actor, cursor, &mut action);
     if !is_next(script, actor, cursor, &action, note, fact.scans()) {
         return false;
     }
@@ -87,7 +88,9 @@ pub(crate) fn is_finished(script: &Script, actor: u32, cursor: &Cursor) -> bool
     ensures { let s = script.now in result ≡ is_nothing (action_for s actor (at_next_note s actor (cursor_of s actor cursor.now))) }
 {
     let mut at = *cursor;
-    matches!(settle(script, actor, &mut at), Action::Nothing)
+    let mut action = Action::Nothing;
+    settle(script, actor, &mut at, &mut action);
+    matches!(action, Action::Nothing)
 }
 
 /// Whether the note is the next one of the program, and stands below the Scans that it waits for. `action` is what the
@@ -109,43 +112,41 @@ fn is_next(
         && scans_first(script, actor, cursor) <= scans
 }
 
-/// Past the steps without a note. The answer is what the program does then.
-fn settle(script: &Script, actor: u32, cursor: &mut Cursor) -> Action
+/// Past the steps without a note. What the program does then is put into `next`, since a return of so large a value would be a
+/// copy.
+fn settle(script: &Script, actor: u32, cursor: &mut Cursor, next: &mut Action)
     requires script { IsScript script.now }
     requires counted { IsCounted cursor.old lines_max }
     ensures cursor { let s = script.now in cursor_of s actor cursor.new ≡ at_next_note s actor (cursor_of s actor cursor.old) }
     ensures counted { ActsAreCounted cursor.old cursor.new 0 }
-    ensures action { IsActionAt script.now actor cursor.new result }
+    ensures action { IsActionAt script.now actor cursor.new next.new }
 {
     let steps = u64::from(acts_left(script, actor, cursor.task)) + 1;
     for _ in 0..steps {
-        if let Some(action) = quiet_step(script, actor, cursor) {
-            return action;
+        if !quiet_step(script, actor, cursor, next) {
+            return;
         }
     }
     let _over = cursor.task;
-    let mut action = Action::Nothing;
-    action_for(script, actor, cursor, &mut action);
-    action
+    action_for(script, actor, cursor, next);
 }
 
-/// Does a step without a note, if that is the next one. If not, the answer is what the program does instead.
-fn quiet_step(script: &Script, actor: u32, cursor: &mut Cursor) -> Option<Action>
+/// Does a step without a note, if that is the next one, and says whether it is. What the actor does is put into `next`.
+fn quiet_step(script: &Script, actor: u32, cursor: &mut Cursor, next: &mut Action) -> bool
     requires script { IsScript script.now }
     requires counted { IsCounted cursor.old lines_max }
-    ensures step { IsQuietStep script.now actor cursor.old result cursor.new }
+    ensures step { IsQuietStep script.now actor cursor.old result next.new cursor.new }
     ensures counted { ActsAreCounted cursor.old cursor.new 0 }
 {
     let _over = cursor.task;
-    let mut action = Action::Nothing;
-    action_for(script, actor, cursor, &mut action);
-    match &action {
+    action_for(script, actor, cursor, next);
+    match next {
         Action::Silent(to) => go(script, cursor, to),
         Action::Take { to, .. } => go(script, cursor, to),
-        Action::Nothing => return Some(action),
-        Action::Asks { .. } => return Some(action),
+        Action::Nothing => return false,
+        Action::Asks { .. } => return false,
     }
-    None
+    true
 }
 
 /// How many acts of the actor's program are left once so many are over.

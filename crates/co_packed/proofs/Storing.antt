@@ -106,16 +106,16 @@ stored_none = record {
   enough = omega arith;
 }
 
-marked_not : (starts : List ℕ) (count end : ℕ) → count / 4 < length starts → marked starts count end ≡ starts
+marked_not : (starts : List ℕ) (count end : ℕ) → count / 2 < length starts → marked starts count end ≡ starts
 unfolding marked
 marked_not starts count end h = grind (arith, common_steps)
 
-marked_now : (starts : List ℕ) (count end : ℕ) → length starts ≤ count / 4 → marked starts count end ≡ starts ++ end ∷ []
+marked_now : (starts : List ℕ) (count end : ℕ) → length starts ≤ count / 2 → marked starts count end ≡ starts ++ end ∷ []
 unfolding marked
 marked_now starts count end h = grind (arith, common_steps)
 
 -- a start for a row that comes next
-start_pushed : (bytes starts : List ℕ) (count : ℕ) → IsStored bytes starts count → length starts ≤ count / 4 → IsStored bytes (starts ++ length bytes ∷ []) count
+start_pushed : (bytes starts : List ℕ) (count : ℕ) → IsStored bytes starts count → length starts ≤ count / 2 → IsStored bytes (starts ++ length bytes ∷ []) count
 start_pushed bytes starts count h full =
     let enough = h.enough in
     let more : length (starts ++ length bytes ∷ []) ≡ length starts + 1 = length_push starts (length bytes) in
@@ -125,35 +125,35 @@ start_pushed bytes starts count h full =
           (λ (old : k < length starts). get_or_append_left starts (length bytes ∷ []) 0 k old ∙ h.places k old)
           (λ (new : length starts ≤ k).
           let at : length starts ≡ k = omega arith in
-          let all : take (4 * k) (rows_in count bytes) ≡ rows_in count bytes = take_all (4 * k) (rows_in count bytes) (omega (arith, length_of_rows count bytes)) in
+          let all : take (2 * k) (rows_in count bytes) ≡ rows_in count bytes = take_all (2 * k) (rows_in count bytes) (omega (arith, length_of_rows count bytes)) in
           get_or_push starts (length bytes) 0 k at ∙ ap length h.whole ∙ ap (λ (x : List (List ℕ)). length (flat_map row_bytes x)) (sym all))
           (cases_lt k (length starts));
       few = λ k within. omega arith;
       enough = omega arith;
     }
 
--- the next start is noted down where it is a fourth one
+-- the next start is noted down where it is a second one
 pub stored_marked : (bytes starts : List ℕ) (count : ℕ) → IsStored bytes starts count → IsStored bytes (marked starts count (length bytes)) count
 stored_marked bytes starts count h = ⊎_elim
-    (λ (k : count / 4 < length starts). rw (marked_not starts count (length bytes) k) h)
-    (λ (k : length starts ≤ count / 4). rw (marked_now starts count (length bytes) k) (start_pushed bytes starts count h k))
-    (cases_lt (count / 4) (length starts))
+    (λ (k : count / 2 < length starts). rw (marked_not starts count (length bytes) k) h)
+    (λ (k : length starts ≤ count / 2). rw (marked_now starts count (length bytes) k) (start_pushed bytes starts count h k))
+    (cases_lt (count / 2) (length starts))
 
-pub marked_more : (bytes starts : List ℕ) (count : ℕ) → IsStored bytes starts count → count < 4 * length (marked starts count (length bytes))
+pub marked_more : (bytes starts : List ℕ) (count : ℕ) → IsStored bytes starts count → count < 2 * length (marked starts count (length bytes))
 marked_more bytes starts count h = ⊎_elim
-    (λ (k : count / 4 < length starts). rw (marked_not starts count (length bytes) k) (omega arith))
-    (λ (k : length starts ≤ count / 4).
+    (λ (k : count / 2 < length starts). rw (marked_not starts count (length bytes) k) (omega arith))
+    (λ (k : length starts ≤ count / 2).
     let enough = h.enough in
     rw (marked_now starts count (length bytes) k, length_push starts (length bytes)) (omega arith))
-    (cases_lt (count / 4) (length starts))
+    (cases_lt (count / 2) (length starts))
 
-pub stored_more : (bytes starts row : List ℕ) (count : ℕ) → IsStored bytes starts count → count < 4 * length starts → IsRow row → IsStored (bytes ++ row_bytes row) starts (count + 1)
+pub stored_more : (bytes starts row : List ℕ) (count : ℕ) → IsStored bytes starts count → count < 2 * length starts → IsRow row → IsStored (bytes ++ row_bytes row) starts (count + 1)
 stored_more bytes starts row count h more is =
     let pushed = rows_pushed bytes row count h.whole is in
     record {
       whole = rw (pushed, flat_push (rows_in count bytes) row) (ap (λ (x : List ℕ). x ++ row_bytes row) h.whole);
       places = λ k within. rw pushed (h.places k within
-          ∙ ap (λ (x : List (List ℕ)). length (flat_map row_bytes x)) (sym (take-append-le (4 * k) (rows_in count bytes) (row ∷ []) (omega (arith, length_of_rows count bytes, h.few k within)))));
+          ∙ ap (λ (x : List (List ℕ)). length (flat_map row_bytes x)) (sym (take-append-le (2 * k) (rows_in count bytes) (row ∷ []) (omega (arith, length_of_rows count bytes, h.few k within)))));
       few = λ k within. omega (arith, h.few k within);
       enough = omega arith;
     }
@@ -168,35 +168,35 @@ pub record IsPlaced (bytes row rest : List ℕ) (start : ℕ) : Type 0 where
   pub in_range : start ≤ length bytes
   pub row_is : row_in rest ≡ row
 
-start_at : (bytes starts : List ℕ) (count k : ℕ) → IsStored bytes starts count → k < length starts → drop (get_or starts k 0) bytes ≡ flat_map row_bytes (drop (4 * k) (rows_in count bytes))
+start_at : (bytes starts : List ℕ) (count k : ℕ) → IsStored bytes starts count → k < length starts → drop (get_or starts k 0) bytes ≡ flat_map row_bytes (drop (2 * k) (rows_in count bytes))
 start_at bytes starts count k h within =
     ap (λ (n : ℕ). drop n bytes) (h.places k within)
-    ∙ ap (drop (length (flat_map row_bytes (take (4 * k) (rows_in count bytes))))) h.whole
-    ∙ flat_drop (rows_in count bytes) (4 * k)
+    ∙ ap (drop (length (flat_map row_bytes (take (2 * k) (rows_in count bytes))))) h.whole
+    ∙ flat_drop (rows_in count bytes) (2 * k)
 
 start_within : (bytes starts : List ℕ) (count k : ℕ) → IsStored bytes starts count → k < length starts → get_or starts k 0 ≤ length bytes
 start_within bytes starts count k h within =
-    let parts = ap (λ (x : List (List ℕ)). length (flat_map row_bytes x)) (take-append-drop (4 * k) (rows_in count bytes)) in
-    let flat = ap length (flat_map-append row_bytes (take (4 * k) (rows_in count bytes)) (drop (4 * k) (rows_in count bytes))) in
-    let both = length-append (flat_map row_bytes (take (4 * k) (rows_in count bytes))) (flat_map row_bytes (drop (4 * k) (rows_in count bytes))) in
+    let parts = ap (λ (x : List (List ℕ)). length (flat_map row_bytes x)) (take-append-drop (2 * k) (rows_in count bytes)) in
+    let flat = ap length (flat_map-append row_bytes (take (2 * k) (rows_in count bytes)) (drop (2 * k) (rows_in count bytes))) in
+    let both = length-append (flat_map row_bytes (take (2 * k) (rows_in count bytes))) (flat_map row_bytes (drop (2 * k) (rows_in count bytes))) in
     omega (arith, h.places k within, ap length h.whole, parts, flat, both)
 
 -- the bytes from a row on
-rest_at : (bytes starts : List ℕ) (count at : ℕ) → IsStored bytes starts count → at < count → after_rows (at % 4) (drop (get_or starts (at / 4) 0) bytes) ≡ row_bytes (get_or (rows_in count bytes) at []) ++ flat_map row_bytes (drop (at + 1) (rows_in count bytes))
+rest_at : (bytes starts : List ℕ) (count at : ℕ) → IsStored bytes starts count → at < count → after_rows (at % 2) (drop (get_or starts (at / 2) 0) bytes) ≡ row_bytes (get_or (rows_in count bytes) at []) ++ flat_map row_bytes (drop (at + 1) (rows_in count bytes))
 rest_at bytes starts count at h within =
     let enough = h.enough in
     let many = length_of_rows count bytes in
-    let e : 4 * (at / 4) + at % 4 ≡ at = omega arith in
-    rw (start_at bytes starts count (at / 4) h (omega arith), after_rows_drop (at % 4) (drop (4 * (at / 4)) (rows_in count bytes)) (all_left (4 * (at / 4)) (rows_in count bytes) (rows_are_rows count bytes)), drop-drop (at % 4) (4 * (at / 4)) (rows_in count bytes), e, drop_more (rows_in count bytes) at [] (omega arith)) refl
+    let e : 2 * (at / 2) + at % 2 ≡ at = omega arith in
+    rw (start_at bytes starts count (at / 2) h (omega arith), after_rows_drop (at % 2) (drop (2 * (at / 2)) (rows_in count bytes)) (all_left (2 * (at / 2)) (rows_in count bytes) (rows_are_rows count bytes)), drop-drop (at % 2) (2 * (at / 2)) (rows_in count bytes), e, drop_more (rows_in count bytes) at [] (omega arith)) refl
 
-pub stored_at : (bytes starts : List ℕ) (count at : ℕ) → IsStored bytes starts count → at < count → IsPlaced bytes (get_or (rows_in count bytes) at []) (after_rows (at % 4) (drop (get_or starts (at / 4) 0) bytes)) (get_or starts (at / 4) 0)
+pub stored_at : (bytes starts : List ℕ) (count at : ℕ) → IsStored bytes starts count → at < count → IsPlaced bytes (get_or (rows_in count bytes) at []) (after_rows (at % 2) (drop (get_or starts (at / 2) 0) bytes)) (get_or starts (at / 2) 0)
 stored_at bytes starts count at h within =
     let enough = h.enough in
     let many = length_of_rows count bytes in
     let rest = rest_at bytes starts count at h within in
     let row = row_there (rows_in count bytes) at (rows_are_rows count bytes) (omega arith) in
     record {
-      in_range = start_within bytes starts count (at / 4) h (omega arith);
+      in_range = start_within bytes starts count (at / 2) h (omega arith);
       row_is = rw rest (row_again (get_or (rows_in count bytes) at []) (flat_map row_bytes (drop (at + 1) (rows_in count bytes))) row);
     }
 

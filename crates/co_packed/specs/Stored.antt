@@ -13,21 +13,21 @@ unfoldable pub after_rows : ℕ → List ℕ → List ℕ
 after_rows zero bs = bs
 after_rows (suc count) bs = after_rows count (after_row bs)
 
--- where the rows 0, 4, 8 .. start, and the row that comes next
+-- where the rows 0, 2, 4 .. start, and the row that comes next
 unfoldable pub marked : List ℕ → ℕ → ℕ → List ℕ
-marked starts count end = if nat_lt (count / 4) (length starts) then starts else starts ++ end ∷ []
+marked starts count end = if nat_lt (count / 2) (length starts) then starts else starts ++ end ∷ []
 
 -- where the row starts that is the last one at or before this whose start is known
 abbrev pub start_of : List ℕ → ℕ → ℕ
-start_of starts at = get_or starts (at / 4) 0
+start_of starts at = get_or starts (at / 2) 0
 
 -- the bytes from the row at a place on
 abbrev pub rest_at : List ℕ → List ℕ → ℕ → List ℕ
-rest_at bytes starts at = after_rows (at % 4) (drop (start_of starts at) bytes)
+rest_at bytes starts at = after_rows (at % 2) (drop (start_of starts at) bytes)
 
--- the bytes are those of so many rows, and each fourth start is known
+-- the bytes are those of so many rows, and each second start is known
 pub record IsStored (bytes starts : List ℕ) (count : ℕ) : Type 0 where
   pub whole : bytes ≡ flat_map row_bytes (rows_in count bytes)
-  pub places : (k : ℕ) → k < length starts → get_or starts k 0 ≡ length (flat_map row_bytes (take (4 * k) (rows_in count bytes)))
-  pub few : (k : ℕ) → k < length starts → 4 * k ≤ count
-  pub enough : count ≤ 4 * length starts
+  pub places : (k : ℕ) → k < length starts → get_or starts k 0 ≡ length (flat_map row_bytes (take (2 * k) (rows_in count bytes)))
+  pub few : (k : ℕ) → k < length starts → 2 * k ≤ count
+  pub enough : count ≤ 2 * length starts

@@ -6,7 +6,7 @@ ghost use Rattle.co_packed.specs.Stored.{after_rows, marked, start_of, rest_at};
 
 use crate::ahead::NotesAhead;
 use crate::note_numbers::{note_of, numbers_of};
-use crate::rows::{after_row, row_in, write_row};
+use crate::rows::{after_row, row_at, write_row};
 use co_object::Note;
 use co_sbt::{NoMemory, Seq};
 use std::alloc::Global;
@@ -15,14 +15,14 @@ use std::marker::Model;
 /// A growing list of notes. A usual note takes 20 to 26 bytes, where a [`PackedNote`](crate::PackedNote) has 88: its numbers
 /// are there in as many bytes as they need.
 ///
-/// A note takes as many bytes as it needs, so the list keeps where each fourth one starts, two bytes a note. A reader
-/// goes on from there by the notes' sizes.
+/// A note takes as many bytes as it needs, so the list keeps where each second one starts, two bytes a note. A reader
+/// goes on from there by the note's size.
 ///
 /// Contracts see the notes.
 #[derive(Drop)]
 pub struct PackedNotes {
     bytes: Seq<u8>,
-    starts: Seq<usize>,
+    starts: Seq<u32>,
     count: usize,
 }
 
@@ -39,16 +39,23 @@ impl Model for PackedNotes {
     ghost invariant = { λ s. IsStored s.bytes s.starts s.count };
 }
 
-/// Notes down that the next row starts at `end`, where it is a fourth one. After `NoMemory` the list is as before.
+/// More bytes than this no start is a number of.
+const MOST_BYTES: usize = 0xffff_ffff;
+
+/// Notes down that the next row starts at `end`, where it is a second one. After `NoMemory` the list is as before; it comes too
+/// where the rows have 4 GiB, as no report's have.
 #[tactic(auto, unfolding(crate::specs::Stored::marked))]
-fn mark(starts: &mut Seq<usize>, count: usize, end: usize) -> Result<(), NoMemory>
+fn mark(starts: &mut Seq<u32>, count: usize, end: usize) -> Result<(), NoMemory>
     ensures ok { OnOk result (starts.new ≡ marked starts.old count end) }
     ensures err { OnErr result (starts.new ≡ starts.old) }
 {
-    if count / 4 < starts.as_slice().len() {
+    if count / 2 < starts.as_slice().len() {
         return Ok(());
     }
-    starts.push(end)
+    if end > MOST_BYTES {
+        return Err(NoMemory {});
+    }
+    starts.push(end as u32)
 }
 
 /// The bytes after so many rows.
@@ -71,19 +78,23 @@ fn one_more(count: usize, end: usize) -> usize
 }
 
 /// The bytes from the row at `at` on, by the start before it.
-fn rest_at<'a>(bytes: &'a [u8], starts: &[usize], at: usize) -> &'a [u8]
-    requires marked { at / 4 < length starts.now }
+fn rest_at<'a>(bytes: &'a [u8], starts: &[u32], at: usize) -> &'a [u8]
+    requires marked { at / 2 < length starts.now }
     requires within { start_of starts.now at ≤ length bytes.now }
     ensures { result.now ≡ rest_at bytes.now starts.now at }
 {
-    after_rows(&bytes[starts[at / 4]..], at % 4)
+    let start = starts[at / 2] as usize;
+    after_rows(&bytes[start..], at % 2)
 }
 
 /// The note of the row that the bytes begin with.
 fn note_in(bytes: &[u8]) -> Note
     ensures { result ≡ numbered_note (row_in bytes.now) }
 {
-    note_of(&row_in(bytes))
+    // The row is looked at where it was read: a copy would have to wait for it.
+    let mut row = [0; 16];
+    let _size = row_at(bytes, &mut row);
+    note_of(&row)
 }
 
 impl PackedNotes {

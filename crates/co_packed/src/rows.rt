@@ -182,31 +182,6 @@ fn last_row(bytes: &[u8], row: &mut [u64; 16]) -> usize
     row_within(&with_room(bytes), row)
 }
 
-/// The row that the bytes begin with. Bytes that are missing count as 0.
-#[inline]
-pub(crate) fn row_in(bytes: &[u8]) -> [u64; 16]
-    ensures { result ≡ row_in bytes.now }
-{
-    if bytes.len() >= ROOM {
-        let mut row = [0; 16];
-        let _size = row_within(bytes, &mut row);
-        row
-    } else {
-        last_row_in(bytes)
-    }
-}
-
-/// The same where fewer bytes are left than a look may reach.
-#[inline(never)]
-fn last_row_in(bytes: &[u8]) -> [u64; 16]
-    requires { length bytes.now < 256 }
-    ensures { result ≡ row_in bytes.now }
-{
-    let mut row = [0; 16];
-    let _size = last_row(bytes, &mut row);
-    row
-}
-
 /// The first four numbers of the row that the bytes begin with, and how many bytes the row has. Bytes that are missing count
 /// as 0.
 #[inline]

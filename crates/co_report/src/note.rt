@@ -74,15 +74,26 @@ fn print_entry(page: &mut Page, entry: &AnyEntry) -> Result<(), NoMemory>
     }
 }
 
+/// A space, an actor's letter and its number.
+fn print_maker(page: &mut Page, letter: u8, name: u64) -> Result<(), NoMemory>
+    ensures { OnOk result (page.new ≡ page.old ++ (32 ∷ letter ∷ decimal name)) }
+{
+    // Literals are stored at once: bytes that were put together just before would have to be waited for.
+    match letter {
+        b'c' => page.tagged(b" c".as_slice(), name),
+        b'p' => page.tagged(b" p".as_slice(), name),
+        _ => page.tagged([b' ', letter].as_slice(), name),
+    }
+}
+
 /// The first words of a note.
 #[tactic(auto, using(crate::proofs::NoteHeads::note_head))]
 fn print_head(page: &mut Page, number: u64, letter: u8, name: u64, act: u64) -> Result<(), NoMemory>
     ensures { OnOk result (page.new ≡ page.old ++ (decimal number ++ spaced (((letter ∷ decimal name) ++ 47 ∷ decimal act) ∷ []))) }
 {
     page.number(number)?;
-    page.tagged([b' ', letter].as_slice(), name)?;
-    page.tagged(b"/".as_slice(), act)?;
-    Ok(())
+    print_maker(page, letter, name)?;
+    page.tagged(b"/".as_slice(), act)
 }
 
 /// A note as a line: its number in its actor's list, who made it at which act, and what it says. `NoMemory` where the

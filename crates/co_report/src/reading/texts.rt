@@ -7,7 +7,7 @@ ghost use Rattle.co_report.specs.Reading.{none_cut, first_line, halves, same_lin
 ghost use Rattle.co_report.specs.ReadingViews.{halves_view, AreAtMost};
 
 use co_sbt::NoMemory;
-use co_text::{Cause, ScriptFault, next_line};
+use co_text::{Cause, ScriptFault, is_word, next_line};
 
 /// A report behind its first line, in two at the first line `histories`.
 #[derive(Clone, Copy)]
@@ -90,7 +90,7 @@ pub fn split_at_histories(text: &[u8]) -> Option<Halves<'_>>
     let mut rest = text;
     let mut count: u64 = 0;
     while let Some((line, _, after)) = next_line(rest) {
-        if line == b"histories".as_slice() {
+        if is_word(line, b"histories".as_slice()) {
             let script = text.split_at(text.len() - rest.len()).0;
             return Some(Halves {
                 script,

@@ -10,6 +10,6 @@ pub loop-preserved : goal.loop-preserved
 loop-preserved c =
     let below : c.loop.counter < c.from-steps.result + 1 = omega arith in
     record {
-      left = settle-next c.args.script.now c.args.actor c.loop.cursor c.quiet_step.new.cursor (c.from-steps.result + 1) c.loop.counter _ below c.in_default.ensures.step c.loop.invariant.left;
-      counted = omega (arith, c.in_default.ensures.counted, c.loop.invariant.counted);
+      left = settle-next c.args.script.now c.args.actor c.loop.cursor c.quiet_step.new.cursor (c.from-steps.result + 1) c.loop.counter _ c.quiet_step.new.next below c.if-not-quiet_step.ensures.step c.loop.invariant.left;
+      counted = omega (arith, c.if-not-quiet_step.ensures.counted, c.loop.invariant.counted);
     }

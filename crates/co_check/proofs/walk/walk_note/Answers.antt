@@ -17,8 +17,8 @@ returns-then-not-is_next-clause-note c line =
     let a = c.args.actor in
     let l = line_of line c.args.note.now in
     let f = c.args.fact.now in
-    ap (λ (x : Cursor). is_next_note s a x (seen_note l f.listed f.scans)) (sym c.settle-action.ensures.cursor)
-    ∙ (ap (λ n. is_next_note s a (cursor_of s a c.settle-action.new.cursor) (seen_note l f.listed n)) (sym c.scans.ensures)
+    ap (λ (x : Cursor). is_next_note s a x (seen_note l f.listed f.scans)) (sym c.settle.ensures.cursor)
+    ∙ (ap (λ n. is_next_note s a (cursor_of s a c.settle.new.cursor) (seen_note l f.listed n)) (sym c.scans.ensures)
     ∙ (sym (c.is_next.ensures line f.listed) ∙ c.if-not-is_next.true))
 
 pub returns-clause-note : goal.returns-clause-note
@@ -27,10 +27,10 @@ returns-clause-note c line =
     let a = c.args.actor in
     let l = line_of line c.args.note.now in
     let f = c.args.fact.now in (
-      ap (λ (x : Cursor). is_next_note s a x (seen_note l f.listed f.scans)) (sym c.settle-action.ensures.cursor)
-          ∙ (ap (λ n. is_next_note s a (cursor_of s a c.settle-action.new.cursor) (seen_note l f.listed n)) (sym c.scans.ensures)
+      ap (λ (x : Cursor). is_next_note s a x (seen_note l f.listed f.scans)) (sym c.settle.ensures.cursor)
+          ∙ (ap (λ n. is_next_note s a (cursor_of s a c.settle.new.cursor) (seen_note l f.listed n)) (sym c.scans.ensures)
           ∙ (sym (c.is_next.ensures line f.listed) ∙ c.if-not-is_next.false)),
       c.advance.ensures.cursor a
-          ∙ (ap (λ (b : Bool). advance s (cursor_of s a c.settle-action.new.cursor) b l.place l.entry) c.listed.ensures
-          ∙ ap (λ (x : Cursor). advance s x f.listed l.place l.entry) c.settle-action.ensures.cursor),
+          ∙ (ap (λ (b : Bool). advance s (cursor_of s a c.settle.new.cursor) b l.place l.entry) c.listed.ensures
+          ∙ ap (λ (x : Cursor). advance s x f.listed l.place l.entry) c.settle.ensures.cursor),
     )
