@@ -40,13 +40,6 @@ module _ (f g : ℕ → ℕ) where
       earlier : n ≢ j → (j < n → sum_below g n ≡ sum_below f n + d) → sum_below g (n + 1) ≡ sum_below f (n + 1) + d
       earlier apart before = omega (arith, sum-more g n, sum-more f n, before (omega (arith, below, apart)), other n apart)
 
--- two sums in one
-pub both-terms : (f g h : ℕ → ℕ) (n : ℕ) → ((k : ℕ) → k < n → h k ≡ f k + g k) → sum_below h n ≡ sum_below f n + sum_below g n
-both-terms f g h zero same = refl
-both-terms f g h (suc n) same =
-    subst (λ m. sum_below h m ≡ sum_below f m + sum_below g m) (more-is n)
-    (omega (arith, sum-more f n, sum-more g n, sum-more h n, both-terms f g h n (λ k below. same k (omega (arith, below))), same n (omega arith)))
-
 pub sum-mapped : {X Y : Type 0} (f : X → Y) (g : Y → ℕ) (xs : List X) → sum_by g (map f xs) ≡ sum_by (λ x. g (f x)) xs
 sum-mapped f g [] = refl
 sum-mapped f g (x ∷ xs) = omega (arith, sum_by-cons g (f x) (map f xs), sum_by-cons (λ y. g (f y)) x xs, sum-mapped f g xs)

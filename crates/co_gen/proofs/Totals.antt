@@ -1,21 +1,22 @@
 -- The counts of all callouts: that the fates add up to the accepted armings.
-use Rattle.std.proofs.Common.{◌≡◌, ℕ, zero, suc, ◌+◌, ◌≤◌, Bool, List, length, refl, ap, sym, subst, ◌∙◌, arith}
+use Rattle.std.proofs.Common.{◌≡◌, ℕ, zero, suc, ◌+◌, ◌≤◌, Bool, false, List, length, refl, ap, sym, subst, ◌∙◌, arith, count_by}
 use Rattle.co_object.specs.declared.Entry.{Entry}
 use Rattle.co_object.specs.declared.Note.{Note}
 use Rattle.co_object.specs.Actors.{Actors}
-use Rattle.co_object.specs.Callout.{opening}
-use Rattle.co_object.specs.Fate.{Fate}
+use Rattle.co_object.specs.Fate.{Fate, Pending}
 use Rattle.co_object.specs.History.{IsLegal}
 use Rattle.co_object.specs.Laws.OneFate.{is_fired}
 use Rattle.co_object.specs.Lists.{callout_history}
-use Rattle.co_object.proofs.Passing.{passing, count-passing}
+use Rattle.co_object.proofs.Passing.{count-passing}
 use Rattle.co_program.specs.declared.Script.{Script}
 use Rattle.co_program.specs.Action.{spec_at}
 use Rattle.co_gen.specs.declared.counts.Counts.{Counts}
+use Rattle.co_gen.specs.declared.fates.ToFire.TheVariants.{Nothing}
+use Rattle.co_gen.specs.Fates.{fates_told}
 use Rattle.co_gen.specs.Soak.{is_superseded, is_stopped, is_pending, armings, fates_of, with_fate, counts_of_first, counts_of}
 use Rattle.co_gen.specs.Laws.{HaveLegalHistories, FatesAddUp}
 use Rattle.co_gen.proofs.Ranges.{sum-more}
-use Rattle.co_gen.proofs.Replays.{accepts, closings, made-is, fates-met, fates-count, four-kinds}
+use Rattle.co_gen.proofs.FatesMet.{accepts, made-is, fates-met, fates-count, four-kinds}
 
 abbrev made_of : ℕ → ℕ → ℕ → ℕ → ℕ → ℕ → Counts
 made_of n a f p s q = record { notes = n; armed = a; fired = f; superseded = p; stopped = s; pending = q }
@@ -34,8 +35,8 @@ module _ (actors : Actors) (s : Script) (lists : List (List Note)) (i : ℕ) (le
   abbrev H : List Entry
   H = callout_history i lists
 
-  pub met : (P : Fate → Bool) → with_fate P s lists i ≡ passing P (closings (spec_at s i) (opening 0) H)
-  met P = count-passing P (fates_of s lists i) ∙ fates-met actors (spec_at s i) P H legal
+  pub met : (P : Fate → Bool) → P Pending ≡ false → with_fate P s lists i ≡ count_by P (fates_told Nothing H)
+  met P no_end = count-passing P (fates_of s lists i) ∙ (fates-met actors (spec_at s i) P no_end H legal ∙ sym (count-passing P (fates_told Nothing H)))
 
   -- each accepted arming has one fate
   callout-adds-up : armings H ≡ with_fate is_fired s lists i + with_fate is_superseded s lists i + with_fate is_stopped s lists i + with_fate is_pending s lists i

@@ -4,8 +4,8 @@
 pub mod Generator
 -- the counts of a run's notes: armings fired, superseded, stopped, pending; and their line
 pub mod Soak
--- the same counts by one walk along each history
-pub mod Replay
+-- what an entry decides, as its reply tells
+pub mod Fates
 -- the same counts while notes are told one by one
 pub mod Tally
 -- generated scripts fit, and each accepted arming is counted once

@@ -6,8 +6,8 @@ mod acts;
 mod choice;
 mod counts;
 mod draws;
+mod fates;
 pub mod laws;
-mod replay;
 mod script;
 mod tally;
 

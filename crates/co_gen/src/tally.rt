@@ -1,57 +1,41 @@
 //! A listener that counts: what becomes of the armings of a script's callouts, note by note as they are told.
-ghost use Rattle.std.specs.Prelude.{◌≡◌, ℕ, ◌<◌, ◌++◌, ◌∷◌, [], List, length, map, slice_get, IfOk, OnOk};
-ghost use Rattle.std.specs.List.{range_with_len};
+ghost use Rattle.std.specs.Prelude.{◌≡◌, ℕ, ◌<◌, ◌++◌, ◌∷◌, [], List, slice_get, IfOk, OnOk};
 ghost use Rattle.co_listener.specs.MadeNotes.{MadeNote, IsInOrder, lists_by};
 ghost use Rattle.co_program.specs.declared.script.Script.{Script};
 ghost use Rattle.co_program.specs.Actors.{actor_count};
 ghost use Rattle.co_program.specs.Runs.{actors_of};
 ghost use Rattle.co_gen.specs.Laws.{HaveLegalHistories};
 ghost use Rattle.co_gen.specs.Soak.{counts_of};
-ghost use Rattle.co_gen.specs.Tally.{HasCounted, IsEntryTaken, at_ends, callout_told};
+ghost use Rattle.co_gen.specs.Tally.{HasCounted, IsEntryTaken, at_end};
 
 use crate::counts::Counts;
-use crate::replay::{count_entry, more, open_arming};
+use crate::fates::{ToFire, count_entry, more};
 use co_listener::Listener;
-use co_object::{Alone, AnyEntry, Arming, Entry, Note, Place, Run, State};
+use co_object::{AnyEntry, Entry, Note, Place};
 use co_program::Script;
 use co_report::Subject;
 use co_sbt::{NoMemory, Seq};
 use std::alloc::Global;
 use std::marker::PhantomData;
 
-/// Each callout after its entries so far, and the counts of what they decided. No note is kept. Our own decision.
+/// What of each callout is to fire after its entries so far, and the counts of what they decided. No note is kept. Our own
+/// decision.
 #[derive(Drop)]
 pub struct Tally {
-    callouts: Vec<Alone>,
+    callouts: Vec<ToFire>,
     counts: Counts,
 }
 
-/// Each callout as it is made.
-fn opened(alloc: Global, script: &Script) -> Result<Vec<Alone>, NoMemory>
-    ensures { IfOk result (λ callouts. callouts.items ≡ map (callout_told script.now []) (range_with_len 0 (length script.now.timers))) }
+/// The counts at the end of all histories: an accepted arming whose fate no entry decided is pending.
+fn ended(counts: Counts) -> Counts
+    ensures { result ≡ at_end counts }
 {
-    let timers = script.timers.as_slice();
-    let mut callouts = Seq::new(alloc);
-    for timer in 0..timers.len() {
-        let _run = Run::Idle;
-        let _armed: Option<Arming> = None;
-        let _state: Option<State> = None;
-        callouts.push(Alone::open(timers[timer], 0))?;
-    }
-    Ok(callouts.into_vec())
-}
-
-/// The counts at the end of all histories: what is to fire yet is pending.
-fn ended(counts: Counts, callouts: &[Alone]) -> Result<Counts, NoMemory>
-    ensures { IfOk result (λ ended. ended ≡ at_ends counts callouts.now) }
-{
-    let mut counts = counts;
-    for callout in callouts {
-        if open_arming(&callout.state).is_some() {
-            counts.pending = more(counts.pending)?;
-        }
-    }
-    Ok(counts)
+    let pending = counts
+        .armed
+        .saturating_sub(counts.fired)
+        .saturating_sub(counts.superseded)
+        .saturating_sub(counts.stopped);
+    Counts { pending, ..counts }
 }
 
 impl Tally {
@@ -59,7 +43,8 @@ impl Tally {
     fn new(alloc: Global, script: &Script) -> Result<Tally, NoMemory>
         ensures { IfOk result (λ tally. HasCounted script.now tally []) }
     {
-        let callouts = opened(alloc, script)?;
+        let timers = script.timers.as_slice();
+        let callouts = Seq::filled(alloc, timers.len(), ToFire::Nothing)?;
         let counts = Counts {
             notes: 0,
             armed: 0,
@@ -68,7 +53,10 @@ impl Tally {
             stopped: 0,
             pending: 0,
         };
-        Ok(Tally { callouts, counts })
+        Ok(Tally {
+            callouts: callouts.into_vec(),
+            counts,
+        })
     }
 
     /// Takes an entry of a callout; one that the script hasn't is not counted.
@@ -79,8 +67,7 @@ impl Tally {
         if at >= self.callouts.len() {
             return Ok(());
         }
-        let callout = &mut self.callouts[at];
-        count_entry(&mut self.counts, callout, entry)
+        count_entry(&mut self.counts, &mut self.callouts[at], entry)
     }
 
     /// Takes a note.
@@ -101,11 +88,11 @@ impl Tally {
     }
 
     /// The counts of all notes.
-    fn total(self) -> Result<Counts, NoMemory>
-        ensures { IfOk result (λ counts. (s : Script) (made : List MadeNote) → HasCounted s self made → IsInOrder made →
-            HaveLegalHistories (actors_of s) s (lists_by (actor_count s) made) → counts ≡ counts_of s (lists_by (actor_count s) made)) }
+    fn total(self) -> Counts
+        ensures { (s : Script) (made : List MadeNote) → HasCounted s self made → IsInOrder made →
+            HaveLegalHistories (actors_of s) s (lists_by (actor_count s) made) → result ≡ counts_of s (lists_by (actor_count s) made) }
     {
-        ended(self.counts, self.callouts.as_slice())
+        ended(self.counts)
     }
 }
 
@@ -130,13 +117,13 @@ impl<S: Subject> TallyOf<S> {
     }
 
     /// The counts of the notes that were told, where each place's came in the order of their positions: of all notes, and
-    /// of the accepted armings by what became of them. What is counted is our own decision. NoMemory where a count is 2^64
-    /// or more.
+    /// of the accepted armings by what became of them. What is counted is our own decision. It does not fail: a count of
+    /// 2^64 or more is NoMemory where its note is told.
     pub fn counts(self) -> Result<Counts, NoMemory>
         ensures { IfOk result (λ counts. (made : List MadeNote) → HasCounted S.script self.tally made → IsInOrder made →
             HaveLegalHistories (actors_of S.script) S.script (lists_by (actor_count S.script) made) → counts ≡ counts_of S.script (lists_by (actor_count S.script) made)) }
     {
-        self.tally.total()
+        Ok(self.tally.total())
     }
 }
 

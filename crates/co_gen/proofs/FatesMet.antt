@@ -1,6 +1,6 @@
--- The walk along a history counts the fates of its accepted armings. An entry decides the fate of the one arming that was
--- open before it, if any; so over all numbers of armings the fates that it decides are that one.
-use Rattle.std.proofs.Common.{◌≡◌, ◌≢◌, ℕ, zero, suc, ◌+◌, ◌<◌, ◌≤◌, ◌==◌, Bool, true, false, cond, not, ◌&&◌, ◌||◌, inl, inr, List, [], ◌∷◌, ◌++◌, length, refl, ap, sym, subst, ◌∙◌, arith, fold, append-nil, length-append}
+-- The fates that are told along a history are those of its accepted armings. An entry decides the fate of the one arming that
+-- was to fire before it, if any; so over all numbers of armings the fates that it decides are that one.
+use Rattle.std.proofs.Common.{◌≡◌, ◌≢◌, ℕ, zero, suc, ◌+◌, ◌<◌, ◌≤◌, ◌==◌, Bool, true, false, cond, not, ◌&&◌, ◌||◌, inl, inr, List, [], ◌∷◌, ◌++◌, length, refl, ap, sym, ◌∙◌, arith, fold, append-nil, length-append}
 use Rattle.std.specs.Prelude.{Option, Some, None}
 use Rattle.std.specs.List.{flat_map, range_with_len}
 use Rattle.std.proofs.lemmas.Bool.{cases_eq, cases_lt}
@@ -28,95 +28,18 @@ use Rattle.co_object.proofs.Numbers.{same_itself}
 use Rattle.co_object.proofs.Passing.{passing, passing-append}
 use Rattle.co_object.proofs.Replies.{no-armed}
 use Rattle.co_object.proofs.Sound.{sound-next, sound-opening}
-use Rattle.co_gen.specs.declared.counts.Counts.{Counts}
+use Rattle.co_gen.specs.declared.fates.ToFire.TheVariants.{Nothing}
 use Rattle.co_gen.specs.Soak.{is_superseded, is_stopped, is_pending, all_fates}
-use Rattle.co_gen.specs.Replay.{open_in, open_arming, is_closed, fate_counted, accepted, counted_if, after_entry, at_end, replayed}
-
--- ---- what the walk adds
-
--- from c to d these fates and this number of armings are added
-pub record Adds (c d : Counts) (fs : List Fate) (a : ℕ) : Type 0 where
-  pub notes : d.notes ≡ c.notes
-  pub armed : d.armed ≡ c.armed + a
-  pub fired : d.fired ≡ c.fired + passing is_fired fs
-  pub superseded : d.superseded ≡ c.superseded + passing is_superseded fs
-  pub stopped : d.stopped ≡ c.stopped + passing is_stopped fs
-  pub pending : d.pending ≡ c.pending + passing is_pending fs
-
-adds-none : (c : Counts) → Adds c c [] 0
-adds-none c = record { notes = refl; armed = omega arith; fired = omega arith; superseded = omega arith; stopped = omega arith; pending = omega arith }
-
-adds-then : (c d e : Counts) (fs gs : List Fate) (a b : ℕ) → Adds c d fs a → Adds d e gs b → Adds c e (fs ++ gs) (a + b)
-adds-then c d e fs gs a b h k = record {
-  notes = k.notes ∙ h.notes;
-  armed = omega (arith, h.armed, k.armed);
-  fired = omega (arith, h.fired, k.fired, passing-append is_fired fs gs);
-  superseded = omega (arith, h.superseded, k.superseded, passing-append is_superseded fs gs);
-  stopped = omega (arith, h.stopped, k.stopped, passing-append is_stopped fs gs);
-  pending = omega (arith, h.pending, k.pending, passing-append is_pending fs gs);
-}
-
-adds-fate : (c : Counts) (f : Fate) → Adds c (fate_counted c f) (f ∷ []) 0
-adds-fate c Pending = record { notes = refl; armed = omega arith; fired = omega arith; superseded = omega arith; stopped = omega arith; pending = omega arith }
-adds-fate c Fired = record { notes = refl; armed = omega arith; fired = omega arith; superseded = omega arith; stopped = omega arith; pending = omega arith }
-adds-fate c Superseded = record { notes = refl; armed = omega arith; fired = omega arith; superseded = omega arith; stopped = omega arith; pending = omega arith }
-adds-fate c Stopped = record { notes = refl; armed = omega arith; fired = omega arith; superseded = omega arith; stopped = omega arith; pending = omega arith }
+use Rattle.co_gen.specs.Fates.{fate_told, fates_told, to_fire_after}
+use Rattle.co_gen.proofs.OneToFire.{open_in, open_arming, to_fire, is_it, closed_by, IsBelow, told-next}
 
 abbrev pub one_if : Bool → ℕ
 one_if b = cond b 1 0
 
-adds-armed : (c : Counts) (b : Bool) → Adds c (cond b (record c { armed = c.armed + 1 }) c) [] (one_if b)
-adds-armed c true = record { notes = refl; armed = refl; fired = omega arith; superseded = omega arith; stopped = omega arith; pending = omega arith }
-adds-armed c false = adds-none c
-
--- the fate that an entry decides, and the end
-abbrev decided : Bool → Fate → List Fate
-decided b f = cond b (f ∷ []) []
-
-abbrev pub closing : Spec → State → Entry → List Fate
-closing spec s e = decided (is_closed (open_arming s) (next spec s e)) (fate_by e.op)
-
-abbrev ending : Option ℕ → List Fate
-ending None = []
-ending (Some n) = Pending ∷ []
-
--- the fates that a history decides one after the other
-abbrev pub closings : Spec → State → List Entry → List Fate
-closings spec s [] = ending (open_arming s)
-closings spec s (e ∷ es) = closing spec s e ++ closings spec (next spec s e) es
-
-adds-if : (c : Counts) (b : Bool) (f : Fate) → Adds c (counted_if b c f) (decided b f) 0
-adds-if c true f = adds-fate c f
-adds-if c false f = adds-none c
-
-adds-end : (c : Counts) (o : Option ℕ) → Adds c (at_end c o) (ending o) 0
-adds-end c None = adds-none c
-adds-end c (Some n) = adds-fate c Pending
-
 abbrev pub accepts : Entry → Bool
 accepts e = is_armed e.reply
 
-same-number : (c d : Counts) (fs : List Fate) (a b : ℕ) → a ≡ b → Adds c d fs a → Adds c d fs b
-same-number c d fs a b is h = subst (Adds c d fs) is h
-
-pub adds-entry : (spec : Spec) (c : Counts) (s : State) (e : Entry) → Adds c (after_entry spec c s e) (closing spec s e) (one_if (accepts e))
-adds-entry spec c s e =
-    let b : Bool = is_closed (open_arming s) (next spec s e) in
-    let two : Adds c (counted_if b (accepted c e.reply) (fate_by e.op)) ([] ++ decided b (fate_by e.op)) (one_if (accepts e) + 0) =
-    adds-then c (accepted c e.reply) (counted_if b (accepted c e.reply) (fate_by e.op)) [] (decided b (fate_by e.op)) (one_if (accepts e)) 0 (adds-armed c (accepts e)) (adds-if (accepted c e.reply) b (fate_by e.op)) in
-    same-number c (after_entry spec c s e) (closing spec s e) (one_if (accepts e) + 0) (one_if (accepts e)) (omega arith) two
-
-pub adds-replayed : (spec : Spec) (c : Counts) (s : State) (H : List Entry) → Adds c (replayed spec c s H) (closings spec s H) (passing accepts H)
-adds-replayed spec c s [] = adds-end c (open_arming s)
-adds-replayed spec c s (e ∷ H) =
-    adds-then c (after_entry spec c s e) (replayed spec (after_entry spec c s e) (next spec s e) H) (closing spec s e) (closings spec (next spec s e) H) (one_if (accepts e)) (passing accepts H)
-    (adds-entry spec c s e) (adds-replayed spec (after_entry spec c s e) (next spec s e) H)
-
 -- ---- lists of which at most one is not empty
-
-abbrev is_it : Option ℕ → ℕ → Bool
-is_it None n = false
-is_it (Some m) n = m == n
 
 abbrev at : Option ℕ → (ℕ → List Fate) → List Fate
 at None f = []
@@ -189,41 +112,46 @@ open-in (Some a) (Running m cpu) h n = or_false (a.n == n)
 open-is : (s : State) → IsSound s → (n : ℕ) → is_open s n ≡ is_it (open_arming s) n
 open-is s h n = open-in s.armed s.run h.picked n
 
+-- a test that passes no pending arming passes nothing at the end
+none-at-end : (P : Fate → Bool) → P Pending ≡ false → (spec : Spec) (s : State) (ns : List ℕ) → passing P (flat_map (fates_from spec s []) ns) ≡ 0
+none-at-end P no_end spec s [] = refl
+none-at-end P no_end spec s (n ∷ ns) = by_test (is_open s n) (none-at-end P no_end spec s ns) where
+  by_test : (b : Bool) → passing P (flat_map (fates_from spec s []) ns) ≡ 0 → passing P (cond b (Pending ∷ []) [] ++ flat_map (fates_from spec s []) ns) ≡ 0
+  by_test true rest = let none : one_if (P Pending) ≡ 0 = ap one_if no_end in omega (arith, none, rest)
+  by_test false rest = rest
+
 module _ (spec : Spec) where
   -- what an entry decides is of the open arming
-  decides : (s : State) (e : Entry) (o : Option ℕ) → ((n : ℕ) → is_open s n ≡ is_it o n) → at o (fate_at spec s e) ≡ decided (is_closed o (next spec s e)) (fate_by e.op)
-  decides s e None is = refl
-  decides s e (Some m) is =
-      let open_now : is_open s m ≡ true = is m ∙ same_itself m m refl in
-      ap (λ b. cond (b && not (is_open (next spec s e) m)) (fate_by e.op ∷ []) []) open_now
-
-  ends : (s : State) (o : Option ℕ) → ((n : ℕ) → is_open s n ≡ is_it o n) → at o (fates_from spec s []) ≡ ending o
-  ends s None is = refl
-  ends s (Some m) is = ap (λ b. cond b (Pending ∷ []) []) (is m ∙ same_itself m m refl)
+  decides-one : (s t : State) (f : Fate) (o p : Option ℕ) → ((n : ℕ) → is_open s n ≡ is_it o n) → ((n : ℕ) → is_open t n ≡ is_it p n)
+      → at o (λ n. cond (is_open s n && not (is_open t n)) (f ∷ []) []) ≡ cond (closed_by o p) (f ∷ []) []
+  decides-one s t f None p was is = refl
+  decides-one s t f (Some m) p was is =
+      ap (λ b. cond (b && not (is_open t m)) (f ∷ []) []) (was m ∙ same_itself m m refl)
+      ∙ ap (λ b. cond (not b) (f ∷ []) []) (is m)
 
   not-open : (s : State) (e : Entry) (n : ℕ) → is_open s n ≡ false → fate_at spec s e n ≡ []
   not-open s e n is = ap (λ b. cond (b && not (is_open (next spec s e) n)) (fate_by e.op ∷ []) []) is
 
-  not-pending : (s : State) (n : ℕ) → is_open s n ≡ false → fates_from spec s [] n ≡ []
-  not-pending s n is = ap (λ b. cond b (Pending ∷ []) []) is
-
-  module _ (actors : Actors) (P : Fate → Bool) (N : ℕ) where
-    -- the fates of all armings are those that are decided one after the other
-    sum-fates : (s : State) (H : List Entry) → IsSound s → IsLegalFrom (next spec) (May actors spec) s H
+  module _ (actors : Actors) (P : Fate → Bool) (no_end : P Pending ≡ false) (N : ℕ) where
+    -- the fates of all armings are those that are told one after the other
+    sum-fates : (s : State) (H : List Entry) → IsSound s → IsBelow (open_arming s) s.made → IsLegalFrom (next spec) (May actors spec) s H
         → ((n : ℕ) → N ≤ n → fates_from spec s H n ≡ [])
-        → passing P (flat_map (fates_from spec s H) (range_with_len 0 N)) ≡ passing P (closings spec s H)
-    sum-fates s [] h legal beyond =
-        ap (passing P) (alone (fates_from spec s []) (open_arming s) N (λ n other. not-pending s n (open-is s h n ∙ other)) beyond ∙ ends s (open_arming s) (open-is s h))
-    sum-fates s (e ∷ H) h legal beyond =
+        → passing P (flat_map (fates_from spec s H) (range_with_len 0 N)) ≡ passing P (fates_told (to_fire s) H)
+    sum-fates s [] h below legal beyond = none-at-end P no_end spec s (range_with_len 0 N)
+    sum-fates s (e ∷ H) h below legal beyond =
         let t : State = next spec s e in
-        let here : flat_map (fate_at spec s e) (range_with_len 0 N) ≡ closing spec s e =
+        let sound : IsSound t = sound-next actors spec s e h legal.0 in
+        let tells = told-next actors spec s e h below legal.0 in
+        let here : flat_map (fate_at spec s e) (range_with_len 0 N) ≡ fate_told (to_fire s) e =
         alone (fate_at spec s e) (open_arming s) N (λ n other. not-open s e n (open-is s h n ∙ other)) (λ n above. (both-empty (fate_at spec s e n) (fates_from spec t H n) (beyond n above)).0)
-        ∙ decides s e (open_arming s) (open-is s h) in
-        let later : passing P (flat_map (fates_from spec t H) (range_with_len 0 N)) ≡ passing P (closings spec t H) =
-        sum-fates t H (sound-next actors spec s e h legal.0) legal.1 (λ n above. (both-empty (fate_at spec s e n) (fates_from spec t H n) (beyond n above)).1) in
+        ∙ (decides-one s t (fate_by e.op) (open_arming s) (open_arming t) (open-is s h) (open-is t sound)
+        ∙ ap (λ b. cond b (fate_by e.op ∷ []) []) tells.decided) in
+        let later : passing P (flat_map (fates_from spec t H) (range_with_len 0 N)) ≡ passing P (fates_told (to_fire_after (to_fire s) e.op e.reply) H) =
+        sum-fates t H sound tells.below legal.1 (λ n above. (both-empty (fate_at spec s e n) (fates_from spec t H n) (beyond n above)).1)
+        ∙ ap (λ x. passing P (fates_told x H)) (sym tells.after_is) in
         let split : passing P (flat_map (λ n. fate_at spec s e n ++ fates_from spec t H n) (range_with_len 0 N)) ≡ passing P (flat_map (fate_at spec s e) (range_with_len 0 N)) + passing P (flat_map (fates_from spec t H) (range_with_len 0 N)) =
         joined P (fate_at spec s e) (fates_from spec t H) (range_with_len 0 N) in
-        omega (arith, split, ap (passing P) here, later, passing-append P (closing spec s e) (closings spec t H))
+        omega (arith, split, ap (passing P) here, later, passing-append P (fate_told (to_fire s) e) (fates_told (to_fire_after (to_fire s) e.op e.reply) H))
 
 -- ---- the accepted armings
 
@@ -255,10 +183,10 @@ module _ (actors : Actors) (spec : Spec) where
   pub made-is : (H : List Entry) → IsLegal actors spec H → (state spec H).made ≡ passing accepts H
   made-is H legal = omega (arith, made-along (opening 0) H legal)
 
-  -- the fates of the accepted armings are those that the walk meets
-  pub fates-met : (P : Fate → Bool) (H : List Entry) → IsLegal actors spec H → passing P (all_fates spec H) ≡ passing P (closings spec (opening 0) H)
-  fates-met P H legal =
-      sum-fates spec actors P (state spec H).made (opening 0) H sound-opening legal (λ n above. (one_fate actors spec H n legal).others above)
+  -- the fates of the accepted armings are those that are told, and the pending ones
+  pub fates-met : (P : Fate → Bool) → P Pending ≡ false → (H : List Entry) → IsLegal actors spec H → passing P (all_fates spec H) ≡ passing P (fates_told Nothing H)
+  fates-met P no_end H legal =
+      sum-fates spec actors P no_end (state spec H).made (opening 0) H sound-opening tt legal (λ n above. (one_fate actors spec H n legal).others above)
 
   -- one fate each
   one-each : (f : ℕ → List Fate) (a N : ℕ) → ((n : ℕ) → n < a + N → length (f n) ≡ 1) → length (flat_map f (range_with_len a N)) ≡ N
