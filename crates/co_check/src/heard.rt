@@ -127,6 +127,7 @@ impl<'a> Heard<'a> {
         requires fits { self.old.bad ≡ None }
         ensures script { self.new.script ≡ self.old.script }
         ensures lines { self.new.lines ≡ self.old.lines }
+        ensures bad { self.new.bad ≡ self.old.bad }
         ensures replayed { IfOk result (λ bad. (s : Scripts) (lines : List Line) → IsHeard s lines self.old → IsSoFar s (lines ++ line_of line note.now ∷ []) self.new.replaying bad) }
     {
         // A reader tells such lines alone, which no contract of a listener asks of it.
@@ -152,7 +153,10 @@ impl<'a> Heard<'a> {
         match self.bad {
             Some(_) => Ok(()),
             None => {
-                self.bad = self.replay_next(line, note)?;
+                // Kept as it is after a good line, since it would be copied.
+                if let Some(bad) = self.replay_next(line, note)? {
+                    self.bad = Some(bad);
+                }
                 Ok(())
             }
         }

@@ -77,8 +77,8 @@ impl Engine {
             author,
             listener,
             i,
-            Op::Call(*op),
-            out.reply,
+            &Op::Call(*op),
+            &out.reply,
             listed,
         )?;
         let inserted = self
@@ -154,7 +154,7 @@ impl Engine {
                     .write_queue(script, author, listener, cpu, op, got)?;
                 let pick = Op::Run(RunOp::Pick { n, cpu, at });
                 self.ledger
-                    .write_callout(script, author, listener, i, pick, reply, false)?;
+                    .write_callout(script, author, listener, i, &pick, &reply, false)?;
                 Ok(2)
             }
         }
@@ -178,7 +178,7 @@ impl Engine {
         let reply = self.depot.begin(cpu);
         let begin = Op::Run(RunOp::Begin { n, cpu });
         self.ledger
-            .write_callout(script, author, listener, i, begin, reply, false)?;
+            .write_callout(script, author, listener, i, &begin, &reply, false)?;
         Ok(1)
     }
 
@@ -201,7 +201,7 @@ impl Engine {
         let reply = self.depot.end(cpu, direct, author.actor);
         let end = Op::Run(RunOp::End { n, cpu });
         self.ledger
-            .write_callout(script, author, listener, i, end, reply, false)?;
+            .write_callout(script, author, listener, i, &end, &reply, false)?;
         self.ledger.write_queue(
             script,
             author,

@@ -1,5 +1,5 @@
 //! What is booked: each actor's cursor in its program, and how long each history is. The notes themselves are told to a listener.
-ghost use Rattle.std.specs.Prelude.{◌≡◌, ℕ, ◌+◌, ◌<◌, ◌≤◌, ◌^◌, true, false, [], ◌∷◌, length, is_some, Some, IfOk, OnOk};
+ghost use Rattle.std.specs.Prelude.{◌≡◌, ℕ, ◌+◌, ◌<◌, ◌≤◌, ◌^◌, true, false, [], ◌∷◌, length, is_some, Some, IfOk, OnOk, MatchBool};
 ghost use Rattle.std.specs.declared.option.Option.TheVariants.{None};
 ghost use Rattle.co_object.specs.declared.queue.QOp.TheVariants.{Insert, Remove};
 ghost use Rattle.co_object.specs.declared.queue.QReply.TheVariants.{At, Off};
@@ -96,7 +96,7 @@ impl Ledger {
 
     /// Whether there are more notes than fit into memory.
     pub(crate) fn is_full(&self) -> bool
-        ensures { result ≡ false → self.now.made < 2 ^ 63 }
+        ensures { MatchBool result (2 ^ 63 ≤ self.now.made) (self.now.made < 2 ^ 63) }
     {
         self.made >= MOST
     }
@@ -134,15 +134,15 @@ impl Ledger {
         author: Author,
         listener: &mut N,
         i: u32,
-        op: Op,
-        reply: Reply,
+        op: &Op,
+        reply: &Reply,
         listed: bool,
     ) -> Result<(), NoMemory>
         requires may { MayWrite script.now self.old author.actor }
         requires room { author.actor < N.actors listener.old }
         requires known { i < length script.now.timers }
         ensures made { OnOk result (IsNoteMade N.has N.room author.actor self.old self.new listener.old listener.new
-            (λ notes. (state : State) → (is_armed reply ≡ true → listed ≡ is_some (off state)) → FollowsWorld script.now author.actor notes self.old self.new (λ w. callout_answers script.now w author.actor author.act i op (Some (state, reply))))) }
+            (λ notes. (state : State) → (is_armed reply.now ≡ true → listed ≡ is_some (off state)) → FollowsWorld script.now author.actor notes self.old self.new (λ w. callout_answers script.now w author.actor author.act i op.now (Some (state, reply.now))))) }
         ensures listens { Listens N.actors N.room 1 listener.old listener.new result }
     {
         let pos = self.histories[i as usize];
@@ -153,8 +153,8 @@ impl Ledger {
             entry: AnyEntry::Timer(Entry {
                 actor: author.actor,
                 act: author.act,
-                op,
-                reply,
+                op: *op,
+                reply: *reply,
             }),
         };
         self.write(script, author.actor, listener, listed, &note)

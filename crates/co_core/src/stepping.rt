@@ -1,5 +1,5 @@
 //! One step of one actor.
-ghost use Rattle.std.specs.Prelude.{◌≡◌, ◌<◌, ◌^◌, false, IfOk};
+ghost use Rattle.std.specs.Prelude.{◌≤◌, ◌<◌, ◌^◌, IfOk, MatchBool};
 ghost use Rattle.co_program.specs.Scripts.{IsScript};
 ghost use Rattle.co_core.specs.Acting.{HasStepped, RunsActor, Stands};
 ghost use Rattle.co_core.specs.Noting.{Listens};
@@ -27,7 +27,7 @@ impl Engine {
 
     /// Whether there are more notes than fit into memory: then no step is made.
     pub(crate) fn is_full(&self) -> bool
-        ensures { result ≡ false → self.now.ledger.made < 2 ^ 63 }
+        ensures { MatchBool result (2 ^ 63 ≤ self.now.ledger.made) (self.now.ledger.made < 2 ^ 63) }
     {
         self.ledger.is_full()
     }

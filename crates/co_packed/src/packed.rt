@@ -88,6 +88,7 @@ fn cpu_parts(entry: &QEntry) -> EntryParts
 }
 
 /// An entry of any history in kinds and numbers.
+#[inline(always)]
 pub(crate) fn entry_parts(entry: &AnyEntry) -> EntryParts
     ensures { entry_of result.sort result.actor result.act result.op result.reply ≡ entry.now }
 {

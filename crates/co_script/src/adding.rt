@@ -6,6 +6,7 @@ ghost use Rattle.co_script.specs.Drafts.{time_after, padded, padded_script};
 use co_program::{Act, Acts, Script, When};
 use co_sbt::{NoMemory, Sbt, Seq};
 use std::alloc::Global;
+use std::slice;
 
 /// Appends lists without acts, up to this number of lists.
 pub(crate) fn pad(alloc: Global, lists: &mut Seq<Acts>, number: usize) -> Result<(), NoMemory>
@@ -34,7 +35,8 @@ pub(crate) fn push_act(acts: &mut Acts, act: &Act) -> Result<(), NoMemory>
 {
     // Names the type that lies two deep in an act: the check needs it here.
     let _nested = When::At(Sbt::zero());
-    acts.push(*act)
+    // Copied once, to its place: what is pushed is copied on its way too.
+    acts.extend_from_slice(slice::from_ref(act))
 }
 
 /// How many acts a section may have.

@@ -11,7 +11,7 @@ use crate::reading::parts::Parts;
 use crate::reading::queue::{answer, may_answer, queue_op};
 use crate::reading::replies::reply;
 use crate::reading::values::{Maker, first_number64, literal, made_by, made_by_actor, own_kind};
-use co_object::{AnyEntry, Entry, Note, OwnEntry, OwnKind, Place, QEntry, QOp, QReply};
+use co_object::{AnyEntry, Entry, Note, OwnEntry, OwnKind, Place, QEntry, QOp, QReply, Reply};
 use co_text::Cause;
 
 /// What a note line says.
@@ -72,16 +72,17 @@ fn timer_note(names: &Names, line: &[u8], note: &mut Note) -> Result<(), Cause>
     let ((number, maker), mut parts) = head(names, line)?;
     let op = operation(names, &mut parts)?;
     literal(b"=".as_slice(), &mut parts)?;
-    let reply = reply(names, &mut parts)?;
-    parts.end()?;
     note.pos = number;
     note.entry = AnyEntry::Timer(Entry {
         actor: maker.actor,
         act: maker.act,
         op,
-        reply,
+        reply: Reply::Done,
     });
-    Ok(())
+    if let AnyEntry::Timer(entry) = &mut note.entry {
+        reply(names, &mut parts, &mut entry.reply)?;
+    }
+    parts.end()
 }
 
 /// Reads a note of a CPU's queue.

@@ -19,6 +19,7 @@ fn off(names: &Names, parts: &mut Parts) -> Result<Option<u32>, Cause>
     cpu_or_none(names, parts)
 }
 
+#[inline(always)]
 fn armed(names: &Names, parts: &mut Parts) -> Result<Reply, Cause>
     ensures { Gives (λ x. (x, parts.new)) result (armed_form names.now parts.old) }
 {
@@ -35,6 +36,7 @@ fn not_armed(parts: &mut Parts) -> Result<Reply, Cause>
     Ok(Reply::NotArmed { code: code(parts)? })
 }
 
+#[inline(always)]
 fn stopped(names: &Names, parts: &mut Parts) -> Result<Reply, Cause>
     ensures { Gives (λ x. (x, parts.new)) result (stopped_form names.now parts.old) }
 {
@@ -52,6 +54,7 @@ fn wait(names: &Names, parts: &mut Parts) -> Result<Reply, Cause>
     Ok(Reply::Wait { n, took, off })
 }
 
+#[inline(always)]
 fn drained(names: &Names, parts: &mut Parts) -> Result<Reply, Cause>
     ensures { Gives (λ x. (x, parts.new)) result (drained_form names.now parts.old) }
 {
@@ -189,6 +192,7 @@ fn reply_by(names: &Names, word: &[u8], parts: &mut Parts) -> Result<Reply, Caus
 }
 
 /// A reply, looked up by its word.
+#[inline(never)]
 fn reply_by_word(names: &Names, parts: &mut Parts) -> Result<Reply, Cause>
     ensures { Gives (λ x. (x, parts.new)) result (reply_form names.now parts.old) }
 {
@@ -198,35 +202,39 @@ fn reply_by_word(names: &Names, parts: &mut Parts) -> Result<Reply, Cause>
 
 /// A reply to a client or to a pick. The frequent ones are compared in place.
 #[inline(always)]
-fn short_reply(names: &Names, parts: &mut Parts) -> Result<Reply, Cause>
-    ensures { Gives (λ x. (x, parts.new)) result (reply_form names.now parts.old) }
+fn short_reply(names: &Names, parts: &mut Parts, into: &mut Reply) -> Result<(), Cause>
+    ensures { Gives (λ _. (into.new, parts.new)) result (reply_form names.now parts.old) }
 {
     if parts.option(b"stopped".as_slice()) {
-        stopped(names, parts)
+        *into = stopped(names, parts)?;
     } else if parts.option(b"hold".as_slice()) {
-        Ok(Reply::Hold)
+        *into = Reply::Hold;
     } else if parts.option(b"drained".as_slice()) {
-        drained(names, parts)
+        *into = drained(names, parts)?;
     } else if parts.option(b"no".as_slice()) {
-        Ok(Reply::No)
+        *into = Reply::No;
     } else if parts.option(b"yes".as_slice()) {
-        Ok(Reply::Yes)
+        *into = Reply::Yes;
     } else {
-        reply_by_word(names, parts)
+        *into = reply_by_word(names, parts)?;
     }
+    Ok(())
 }
 
-/// A reply; `Form` where the parts begin none. The most frequent ones are compared first.
-pub fn reply(names: &Names, parts: &mut Parts) -> Result<Reply, Cause>
-    ensures { Gives (λ x. (x, parts.new)) result (reply_form names.now parts.old) }
+/// Reads a reply to where it is to stay; `Form` where the parts begin none. The most frequent ones are compared first.
+// A reply that is handed on would be copied right behind its stores, which takes longer than to make it.
+#[inline(always)]
+pub fn reply(names: &Names, parts: &mut Parts, into: &mut Reply) -> Result<(), Cause>
+    ensures { Gives (λ _. (into.new, parts.new)) result (reply_form names.now parts.old) }
 {
     if parts.option(b"armed".as_slice()) {
-        armed(names, parts)
+        *into = armed(names, parts)?;
     } else if parts.option(b"go".as_slice()) {
-        go(names, parts)
+        *into = go(names, parts)?;
     } else if parts.option(b"ended".as_slice()) {
-        ended(names, parts)
+        *into = ended(names, parts)?;
     } else {
-        short_reply(names, parts)
+        return short_reply(names, parts, into);
     }
+    Ok(())
 }

@@ -1,15 +1,6 @@
-use Rattle.std.proofs.Common.{◌≤◌, ◌^◌, arith}
-use Rattle.std.proofs.Math.Nat.{pow-le-pow_right}
+use Rattle.std.proofs.Common.{arith}
+use Rattle.co_text.proofs.Spelling.{ten_most}
 use Rattle.co_text.proofs.values.short_spelled.Goals as goal
 
-pub overflow_mul-value : goal.overflow_mul-value
-overflow_mul-value c =
-    let few : c.loop-c.c-index ≤ 18 = omega arith in
-    let small : 10 ^ c.loop-c.c-index ≤ 10 ^ 18 = pow-le-pow_right {n = 10} (omega arith) few in
-    omega (arith, small)
-
-pub overflow_add-value : goal.overflow_add-value
-overflow_add-value c =
-    let few : c.loop-c.c-index ≤ 18 = omega arith in
-    let small : 10 ^ c.loop-c.c-index ≤ 10 ^ 18 = pow-le-pow_right {n = 10} (omega arith) few in
-    omega (arith, small)
+pub spelled_on-requires-clause-few : goal.spelled_on-requires-clause-few
+spelled_on-requires-clause-few c = ten_most _ _ _ (omega (arith, c.requires)) c.fours_spelled-value.ensures.below

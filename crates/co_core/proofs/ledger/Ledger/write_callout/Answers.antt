@@ -42,7 +42,7 @@ returns-clause-made g c =
     let s = c.args.script.now in
     let a = c.args.author.actor in
     let pos = c.index-pos.result.now in
-    let note : Note = callout_note a c.args.author.act c.args.i pos c.args.op c.args.reply in
+    let note : Note = callout_note a c.args.author.act c.args.i pos c.args.op.now c.args.reply.now in
     on_ok_weaker c.write.result (λ booked. record {
       notes = note ∷ [];
       one = refl;
@@ -53,7 +53,7 @@ returns-clause-made g c =
           let within : c.args.i < length c.self.inside.histories.items = subst (λ (x : Booked). c.args.i < length x.histories) (sym c.self.view_is) there.0 in
           let at : pos ≡ get_or c.args.self.now.histories c.args.i 0 =
           get_or_read c.self.inside.histories.items c.args.i pos within c.index-pos.ensures 0 ∙ ap (λ (x : Booked). get_or x.histories c.args.i 0) c.self.view_is in
-          written_callout s x x2 w a c.args.author.act c.args.i pos c.args.op (state, c.args.reply) c.args.listed written c.requires.may.exists c.requires.known is at
+          written_callout s x x2 w a c.args.author.act c.args.i pos c.args.op.now (state, c.args.reply.now) c.args.listed written c.requires.may.exists c.requires.known is at
           (subst (λ (y : Booked). IsNoted s a c.args.listed note (record (with_lists y lists) { histories = set y.histories c.args.i (pos + 1) }) x2) c.self.view_is
           (is_noted s a c.args.listed note _ c.write.new.self lists booked.0)));
       wrote = counts_from g.N.Listener.has g.N.Listener.room a (note ∷ []) c.args.self.now _ c.write.new.self c.args.listener.now c.write.new.listener (ap (λ (x : Booked). x.made) c.self.view_is) booked.1;

@@ -11,7 +11,7 @@ loop-line-preserved c =
     let rest = c.loop-line.rest.now in
     let after = c.in-Some.after.now in
     let l : Line = record { bytes = c.in-Some.line.now; ended = c.in-Some.field-0-1 } in
-    let other : is_line (codes "histories") l ≡ false = ap (λ w. bytes_eq c.in-Some.line.now w) (sym c.as_slice.ensures) ∙ (sym c.eq.ensures ∙ c.if-eq.false) in
+    let other : is_line (codes "histories") l ≡ false = ap (λ w. bytes_eq c.in-Some.line.now w) (sym c.as_slice.ensures) ∙ (sym c.is_word.ensures ∙ c.if-is_word.false) in
     record {
       whole = whole_more text rest after l c.loop-line.invariant.whole c.in-Some.ensures.line;
       same = sym (halves_more text rest after l c.loop-line.count c.loop-line.invariant.whole c.in-Some.ensures.line other) ∙ c.loop-line.invariant.same;
