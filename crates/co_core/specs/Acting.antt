@@ -1,5 +1,5 @@
 -- What an actor does in a step of the engine: before and after.
-use Rattle.std.specs.Prelude.{◌≡◌, ℕ, ◌+◌, ◌^◌, ◌≤◌, ◌<◌, ◌++◌, List, length}
+use Rattle.std.specs.Prelude.{◌≡◌, ℕ, ◌^◌, ◌≤◌, ◌<◌, ◌++◌, List, length}
 use Rattle.std.specs.declared.option.Option.TheVariants.{None}
 use Rattle.co_object.specs.declared.note.Note.{Note}
 use Rattle.co_listener.specs.MadeNotes.{MadeNote}

@@ -52,7 +52,8 @@ impl Engine {
         Ok(1)
     }
 
-    /// A covered call on a callout that stands still.
+    /// A covered call on a callout that stands still. `whole` is the call as an operation: it is noted as it stands, since to put
+    /// it together anew takes longer.
     fn call<N: Listener>(
         &mut self,
         script: &Script,
@@ -60,8 +61,10 @@ impl Engine {
         listener: &mut N,
         i: u32,
         op: &CallOp,
+        whole: &Op,
     ) -> Result<u32, NoMemory>
         requires may { MayAct script.now self.old author.actor (Asks author.act (Asked.Callout i (Op.Call op.now))) }
+        requires whole { whole.now ≡ Op.Call op.now }
         requires room { author.actor < N.actors listener.old }
         ensures acted { IfOk result (λ number. HasActed script.now N.has author.actor (Asks author.act (Asked.Callout i (Op.Call op.now))) number self.old self.new listener.old listener.new) }
         ensures listens { Listens N.actors N.room 3 listener.old listener.new result }
@@ -72,15 +75,8 @@ impl Engine {
         let removed = self
             .ledger
             .write_removal(script, author, listener, cpu, i, out.removed)?;
-        self.ledger.write_callout(
-            script,
-            author,
-            listener,
-            i,
-            &Op::Call(*op),
-            &out.reply,
-            listed,
-        )?;
+        self.ledger
+            .write_callout(script, author, listener, i, whole, &out.reply, listed)?;
         let inserted = self
             .ledger
             .write_insertion(script, author.actor, listener, out.inserted)?;

@@ -16,6 +16,15 @@ pub(crate) struct Resting {
     wanted: [Option<Held>; MOST_ACTORS],
 }
 
+/// Replaces what an actor takes next. Nothing by nothing, which is what most steps come to, writes nothing.
+fn replace(known: &mut Option<Held>, wanted: Option<Held>)
+    ensures { known.new ≡ wanted }
+{
+    if known.is_some() || wanted.is_some() {
+        *known = wanted;
+    }
+}
+
 impl Resting {
     /// Nothing is known.
     pub(crate) fn none() -> Resting
@@ -75,7 +84,7 @@ impl Resting {
     {
         let index = actor as usize;
         if index < self.wanted.len() {
-            self.wanted[index] = wanted;
+            replace(&mut self.wanted[index], wanted);
         }
     }
 }

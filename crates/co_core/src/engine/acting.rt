@@ -63,7 +63,7 @@ impl Engine {
     {
         match asked {
             Asked::Callout { i, op } => match op {
-                Op::Call(call) => self.call(script, author, listener, *i, call),
+                Op::Call(call) => self.call(script, author, listener, *i, call, op),
                 Op::Run(run) => self.serve(script, author, listener, *i, run),
             },
             Asked::Queue { cpu, op } => self.queue(script, author, listener, *cpu, op),

@@ -1,6 +1,6 @@
 //! Replies of a callout, read from the words of a note.
 ghost use Rattle.co_text.specs.Fallible.{Gives};
-ghost use Rattle.co_report.specs.NoteForms.{off_form, armed_form, not_armed_form, stopped_form, wait_form, drained_form, in_use_form, go_form, later_form, next_form, drain_named, next_named, woke_form, ended_form, choice, valued_replies, reply_forms, reply_form};
+ghost use Rattle.co_report.specs.NoteForms.{reads_nothing, off_form, armed_form, not_armed_form, stopped_form, wait_form, drained_form, in_use_form, go_form, later_form, next_form, drain_named, next_named, woke_form, ended_form, choice, valued_replies, reply_forms, reply_form};
 
 use crate::reading::codes::code;
 use crate::reading::names::Names;
@@ -19,65 +19,85 @@ fn off(names: &Names, parts: &mut Parts) -> Result<Option<u32>, Cause>
     cpu_or_none(names, parts)
 }
 
+/// A reply of one word.
 #[inline(always)]
-fn armed(names: &Names, parts: &mut Parts) -> Result<Reply, Cause>
-    ensures { Gives (λ x. (x, parts.new)) result (armed_form names.now parts.old) }
+fn put(reply: Reply, parts: &mut Parts, into: &mut Reply) -> Result<(), Cause>
+    ensures { Gives (λ _. (into.new, parts.new)) result (reads_nothing reply parts.old) }
+{
+    let _ = parts;
+    // The check wants the enums inside a reply to be named.
+    let _inside: (Option<u32>, Option<Next>) = (None, None);
+    *into = reply;
+    Ok(())
+}
+
+#[inline(always)]
+fn armed(names: &Names, parts: &mut Parts, into: &mut Reply) -> Result<(), Cause>
+    ensures { Gives (λ _. (into.new, parts.new)) result (armed_form names.now parts.old) }
 {
     let code = code(parts)?;
     let n = arming(parts)?;
     let cpu = cpu(names, parts)?;
     let off = off(names, parts)?;
-    Ok(Reply::Armed { code, n, cpu, off })
+    *into = Reply::Armed { code, n, cpu, off };
+    Ok(())
 }
 
-fn not_armed(parts: &mut Parts) -> Result<Reply, Cause>
-    ensures { Gives (λ x. (x, parts.new)) result (not_armed_form parts.old) }
+fn not_armed(parts: &mut Parts, into: &mut Reply) -> Result<(), Cause>
+    ensures { Gives (λ _. (into.new, parts.new)) result (not_armed_form parts.old) }
 {
-    Ok(Reply::NotArmed { code: code(parts)? })
+    let code = code(parts)?;
+    *into = Reply::NotArmed { code };
+    Ok(())
 }
 
 #[inline(always)]
-fn stopped(names: &Names, parts: &mut Parts) -> Result<Reply, Cause>
-    ensures { Gives (λ x. (x, parts.new)) result (stopped_form names.now parts.old) }
+fn stopped(names: &Names, parts: &mut Parts, into: &mut Reply) -> Result<(), Cause>
+    ensures { Gives (λ _. (into.new, parts.new)) result (stopped_form names.now parts.old) }
 {
     let code = code(parts)?;
     let off = off(names, parts)?;
-    Ok(Reply::Stopped { code, off })
+    *into = Reply::Stopped { code, off };
+    Ok(())
 }
 
-fn wait(names: &Names, parts: &mut Parts) -> Result<Reply, Cause>
-    ensures { Gives (λ x. (x, parts.new)) result (wait_form names.now parts.old) }
+fn wait(names: &Names, parts: &mut Parts, into: &mut Reply) -> Result<(), Cause>
+    ensures { Gives (λ _. (into.new, parts.new)) result (wait_form names.now parts.old) }
 {
     let n = arming(parts)?;
     let took = truth(parts)?;
     let off = off(names, parts)?;
-    Ok(Reply::Wait { n, took, off })
+    *into = Reply::Wait { n, took, off };
+    Ok(())
 }
 
 #[inline(always)]
-fn drained(names: &Names, parts: &mut Parts) -> Result<Reply, Cause>
-    ensures { Gives (λ x. (x, parts.new)) result (drained_form names.now parts.old) }
+fn drained(names: &Names, parts: &mut Parts, into: &mut Reply) -> Result<(), Cause>
+    ensures { Gives (λ _. (into.new, parts.new)) result (drained_form names.now parts.old) }
 {
     let code = code(parts)?;
     let off = off(names, parts)?;
-    Ok(Reply::Drained { code, off })
+    *into = Reply::Drained { code, off };
+    Ok(())
 }
 
-fn in_use(parts: &mut Parts) -> Result<Reply, Cause>
-    ensures { Gives (λ x. (x, parts.new)) result (in_use_form parts.old) }
+fn in_use(parts: &mut Parts, into: &mut Reply) -> Result<(), Cause>
+    ensures { Gives (λ _. (into.new, parts.new)) result (in_use_form parts.old) }
 {
     let armed = truth(parts)?;
     let serviced = truth(parts)?;
-    Ok(Reply::InUse { armed, serviced })
+    *into = Reply::InUse { armed, serviced };
+    Ok(())
 }
 
 #[inline(always)]
-fn go(names: &Names, parts: &mut Parts) -> Result<Reply, Cause>
-    ensures { Gives (λ x. (x, parts.new)) result (go_form names.now parts.old) }
+fn go(names: &Names, parts: &mut Parts, into: &mut Reply) -> Result<(), Cause>
+    ensures { Gives (λ _. (into.new, parts.new)) result (go_form names.now parts.old) }
 {
     let func = func(names, parts)?;
     let arg = argument(parts)?;
-    Ok(Reply::Go { func, arg })
+    *into = Reply::Go { func, arg };
+    Ok(())
 }
 
 /// `#N pC uDUE`.
@@ -126,36 +146,37 @@ fn woke(parts: &mut Parts) -> Result<bool, Cause>
 }
 
 #[inline(always)]
-fn ended(names: &Names, parts: &mut Parts) -> Result<Reply, Cause>
-    ensures { Gives (λ x. (x, parts.new)) result (ended_form names.now parts.old) }
+fn ended(names: &Names, parts: &mut Parts, into: &mut Reply) -> Result<(), Cause>
+    ensures { Gives (λ _. (into.new, parts.new)) result (ended_form names.now parts.old) }
 {
     let drain = drain_named(names, parts)?;
     let next = next_named(names, parts)?;
     let woke = woke(parts)?;
-    Ok(Reply::Ended { drain, next, woke })
+    *into = Reply::Ended { drain, next, woke };
+    Ok(())
 }
 
 /// The reply that a word begins, where it has values.
 #[tactic(auto, unfolding(crate::specs::NoteForms::valued_replies))]
-fn valued(names: &Names, word: &[u8], parts: &mut Parts) -> Result<Reply, Cause>
-    ensures { Gives (λ x. (x, parts.new)) result (choice (valued_replies names.now) word.now parts.old) }
+fn valued(names: &Names, word: &[u8], parts: &mut Parts, into: &mut Reply) -> Result<(), Cause>
+    ensures { Gives (λ _. (into.new, parts.new)) result (choice (valued_replies names.now) word.now parts.old) }
 {
     if word == b"armed".as_slice() {
-        armed(names, parts)
+        armed(names, parts, into)
     } else if word == b"notarmed".as_slice() {
-        not_armed(parts)
+        not_armed(parts, into)
     } else if word == b"stopped".as_slice() {
-        stopped(names, parts)
+        stopped(names, parts, into)
     } else if word == b"wait".as_slice() {
-        wait(names, parts)
+        wait(names, parts, into)
     } else if word == b"drained".as_slice() {
-        drained(names, parts)
+        drained(names, parts, into)
     } else if word == b"inuse".as_slice() {
-        in_use(parts)
+        in_use(parts, into)
     } else if word == b"go".as_slice() {
-        go(names, parts)
+        go(names, parts, into)
     } else if word == b"ended".as_slice() {
-        ended(names, parts)
+        ended(names, parts, into)
     } else {
         Err(Cause::Form)
     }
@@ -163,41 +184,41 @@ fn valued(names: &Names, word: &[u8], parts: &mut Parts) -> Result<Reply, Cause>
 
 /// The reply that a word begins.
 #[tactic(auto, unfolding(crate::specs::NoteForms::reply_forms))]
-fn reply_by(names: &Names, word: &[u8], parts: &mut Parts) -> Result<Reply, Cause>
-    ensures { Gives (λ x. (x, parts.new)) result (choice (reply_forms names.now) word.now parts.old) }
+fn reply_by(names: &Names, word: &[u8], parts: &mut Parts, into: &mut Reply) -> Result<(), Cause>
+    ensures { Gives (λ _. (into.new, parts.new)) result (choice (reply_forms names.now) word.now parts.old) }
 {
     if word == b"nohandler".as_slice() {
-        Ok(Reply::NoHandler)
+        put(Reply::NoHandler, parts, into)
     } else if word == b"worn".as_slice() {
-        Ok(Reply::Worn)
+        put(Reply::Worn, parts, into)
     } else if word == b"busy".as_slice() {
-        Ok(Reply::Busy)
+        put(Reply::Busy, parts, into)
     } else if word == b"yes".as_slice() {
-        Ok(Reply::Yes)
+        put(Reply::Yes, parts, into)
     } else if word == b"no".as_slice() {
-        Ok(Reply::No)
+        put(Reply::No, parts, into)
     } else if word == b"done".as_slice() {
-        Ok(Reply::Done)
+        put(Reply::Done, parts, into)
     } else if word == b"live".as_slice() {
-        Ok(Reply::Live)
+        put(Reply::Live, parts, into)
     } else if word == b"retired".as_slice() {
-        Ok(Reply::Retired)
+        put(Reply::Retired, parts, into)
     } else if word == b"hold".as_slice() {
-        Ok(Reply::Hold)
+        put(Reply::Hold, parts, into)
     } else if word == b"skip".as_slice() {
-        Ok(Reply::Skip)
+        put(Reply::Skip, parts, into)
     } else {
-        valued(names, word, parts)
+        valued(names, word, parts, into)
     }
 }
 
 /// A reply, looked up by its word.
 #[inline(never)]
-fn reply_by_word(names: &Names, parts: &mut Parts) -> Result<Reply, Cause>
-    ensures { Gives (λ x. (x, parts.new)) result (reply_form names.now parts.old) }
+fn reply_by_word(names: &Names, parts: &mut Parts, into: &mut Reply) -> Result<(), Cause>
+    ensures { Gives (λ _. (into.new, parts.new)) result (reply_form names.now parts.old) }
 {
     let word = parts.word()?;
-    reply_by(names, word, parts)
+    reply_by(names, word, parts, into)
 }
 
 /// A reply to a client or to a pick. The frequent ones are compared in place.
@@ -206,19 +227,18 @@ fn short_reply(names: &Names, parts: &mut Parts, into: &mut Reply) -> Result<(),
     ensures { Gives (λ _. (into.new, parts.new)) result (reply_form names.now parts.old) }
 {
     if parts.option(b"stopped".as_slice()) {
-        *into = stopped(names, parts)?;
+        stopped(names, parts, into)
     } else if parts.option(b"hold".as_slice()) {
-        *into = Reply::Hold;
+        put(Reply::Hold, parts, into)
     } else if parts.option(b"drained".as_slice()) {
-        *into = drained(names, parts)?;
+        drained(names, parts, into)
     } else if parts.option(b"no".as_slice()) {
-        *into = Reply::No;
+        put(Reply::No, parts, into)
     } else if parts.option(b"yes".as_slice()) {
-        *into = Reply::Yes;
+        put(Reply::Yes, parts, into)
     } else {
-        *into = reply_by_word(names, parts)?;
+        reply_by_word(names, parts, into)
     }
-    Ok(())
 }
 
 /// Reads a reply to where it is to stay; `Form` where the parts begin none. The most frequent ones are compared first.
@@ -228,13 +248,12 @@ pub fn reply(names: &Names, parts: &mut Parts, into: &mut Reply) -> Result<(), C
     ensures { Gives (λ _. (into.new, parts.new)) result (reply_form names.now parts.old) }
 {
     if parts.option(b"armed".as_slice()) {
-        *into = armed(names, parts)?;
+        armed(names, parts, into)
     } else if parts.option(b"go".as_slice()) {
-        *into = go(names, parts)?;
+        go(names, parts, into)
     } else if parts.option(b"ended".as_slice()) {
-        *into = ended(names, parts)?;
+        ended(names, parts, into)
     } else {
-        return short_reply(names, parts, into);
+        short_reply(names, parts, into)
     }
-    Ok(())
 }

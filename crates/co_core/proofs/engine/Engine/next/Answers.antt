@@ -1,6 +1,5 @@
 -- The depot's next, the Pop and, where a callout has come due, its Pick are together the plain world's step.
 use Rattle.std.proofs.Common.{arith, ◌≡◌, true, false, List, ◌++◌, sym, ◌∙◌, subst, length-append, Some}
-use Rattle.co_object.specs.declared.RunOp.TheVariants.{Pick}
 use Rattle.co_object.specs.Entries.{is_armed}
 use Rattle.co_object.specs.declared.queue.QOp.{QOp}
 use Rattle.co_object.specs.declared.queue.QReply.TheVariants.{Got, Empty}
