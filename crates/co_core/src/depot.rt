@@ -65,6 +65,7 @@ impl Depot {
     /// A caller's operation on a callout that is at this CPU, answered in `out`. Where its record leaves it goes into the
     /// actor's bag, which is empty. The result is whether an accepted arming stands in the queue, or is on its way into
     /// another one.
+    #[inline(always)]
     pub(crate) fn call(
         &mut self,
         cpu: u32,
@@ -105,6 +106,7 @@ impl Depot {
     }
 
     /// The first callout that has come due goes into service: of this CPU, or of its interrupt where `direct`.
+    #[inline(always)]
     pub(crate) fn next(&mut self, cpu: u32, direct: bool) -> NextOut
         requires cpu { cpu < length self.old.wheels }
         requires free { in_service direct (wheel_at self.old cpu).callouts ≡ None }

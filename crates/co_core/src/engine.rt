@@ -27,6 +27,7 @@ pub(crate) struct Engine {
 
 impl Engine {
     /// A step without a note.
+    #[inline(always)]
     fn go(&mut self, script: &Script, actor: u32, to: &SilentStep)
         requires { MayMove script.now self.old.ledger actor to.now }
         ensures silent { GoesSilently script.now actor (Silent (after_silent (cursor_of script.now actor (booked_at self.old.ledger actor)) to.now)) self.old self.new }

@@ -83,6 +83,7 @@ impl Ledger {
     }
 
     /// The actor goes on in its program without a note.
+    #[inline(always)]
     pub(crate) fn go(&mut self, script: &Script, actor: u32, to: &SilentStep)
         requires { MayMove script.now self.old actor to.now }
         ensures { HasGoneOn script.now actor to.now self.old self.new }
@@ -103,6 +104,8 @@ impl Ledger {
 
     /// The actor makes a note, of which the listener is told, and goes on in its program. `listed` is whether the callout stands
     /// in a queue now.
+    // Inlined, as is `go`: what is booked is short beside the cost of a call.
+    #[inline(always)]
     fn write<N: Listener>(
         &mut self,
         script: &Script,
