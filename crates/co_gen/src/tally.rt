@@ -117,13 +117,13 @@ impl<S: Subject> TallyOf<S> {
     }
 
     /// The counts of the notes that were told, where each place's came in the order of their positions: of all notes, and
-    /// of the accepted armings by what became of them. What is counted is our own decision. It does not fail: a count of
-    /// 2^64 or more is NoMemory where its note is told.
-    pub fn counts(self) -> Result<Counts, NoMemory>
-        ensures { IfOk result (λ counts. (made : List MadeNote) → HasCounted S.script self.tally made → IsInOrder made →
-            HaveLegalHistories (actors_of S.script) S.script (lists_by (actor_count S.script) made) → counts ≡ counts_of S.script (lists_by (actor_count S.script) made)) }
+    /// of the accepted armings by what became of them. What is counted is our own decision. A count of 2^64 or more is
+    /// NoMemory where its note is told.
+    pub fn counts(self) -> Counts
+        ensures { (made : List MadeNote) → HasCounted S.script self.tally made → IsInOrder made →
+            HaveLegalHistories (actors_of S.script) S.script (lists_by (actor_count S.script) made) → result ≡ counts_of S.script (lists_by (actor_count S.script) made) }
     {
-        Ok(self.tally.total())
+        self.tally.total()
     }
 }
 

@@ -34,7 +34,7 @@ fn counts_told<S: Subject>(alloc: Global, script: &Script) -> Result<Counts, NoM
 {
     let mut tally = TallyOf::<S>::new(alloc, script)?;
     tell_walk(alloc, script, &mut tally)?;
-    tally.counts()
+    Ok(tally.counts())
 }
 
 /// The counts of a script's walk.

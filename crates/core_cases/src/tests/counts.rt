@@ -122,7 +122,7 @@ fn counts_told<S: Subject>(
         }
         pos = pos.wrapping_add(1);
     }
-    tally.counts()
+    Ok(tally.counts())
 }
 
 /// The counts of a script with this history.

@@ -8,7 +8,6 @@ use Rattle.co_program.specs.Runs.{actors_of}
 use Rattle.co_world.proofs.legal.Runs.{walks_are_runs}
 use Rattle.co_gen.specs.Laws.{HaveLegalHistories}
 use Rattle.co_gen.specs.Soak.{counts_of}
-use Rattle.co_gen.proofs.OneMoreCounted.{if-ok}
 use Rattle.co_top.proofs.making.counts_told.Goals as goal
 
 as-many : (s t : Script) → s ≡ t → actor_count s ≤ actor_count t
@@ -22,10 +21,9 @@ returns g c =
     let s = c.args.script.now in
     let told = c.in_ok-tell_walk.ensures.told c.in_ok-tally.ensures in
     let lists : List (List Note) = lists_by (actor_count s) told.0 in
-    let legal = (walks_are_runs s c.requires.accepted lists told.2.walk).callouts in
-    if-ok c.counts.result c.counts.ensures (λ counts is. (
+    let legal = (walks_are_runs s c.requires.accepted lists told.2.walk).callouts in (
       lists,
       told.2.walk,
-      is told.0 told.1 told.2.order (subst (λ (z : Script). HaveLegalHistories (actors_of z) z (lists_by (actor_count z) told.0)) c.requires.subject legal)
+      c.counts.ensures told.0 told.1 told.2.order (subst (λ (z : Script). HaveLegalHistories (actors_of z) z (lists_by (actor_count z) told.0)) c.requires.subject legal)
           ∙ ap (λ (z : Script). counts_of z (lists_by (actor_count z) told.0)) (sym c.requires.subject),
-    ))
+    )
