@@ -109,7 +109,7 @@ impl PackedNotes {
         }
     }
 
-    /// Appends a note. After `NoMemory` the list is as before.
+    /// Appends a note. After `NoMemory` the list is as before; it comes too where the rows have 4 GiB, as no report's have.
     pub fn push(&mut self, note: &Note) -> Result<(), NoMemory>
         ensures ok { OnOk result (self.new ≡ self.old ++ note.now ∷ []) }
         ensures err { OnErr result (self.new ≡ self.old) }
