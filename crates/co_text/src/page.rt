@@ -6,10 +6,11 @@ ghost use Rattle.co_text.specs.Written.{token_word, token_words};
 
 use crate::tail::Tail;
 use crate::token::Token;
-use co_sbt::{NoMemory, Seq};
+use co_sbt::{NoMemory, Room, Seq};
 use itoa::Buffer;
 use std::alloc::Global;
 use std::marker::Model;
+use std::mem;
 
 /// A text that grows at its end, by whole words and lines. Contracts see its bytes.
 ///
@@ -72,6 +73,24 @@ impl Page {
         } = self;
         spill(&mut bytes, &mut tail)?;
         Ok(bytes)
+    }
+
+    /// How many bytes there are, but for those that are kept back.
+    #[inline(always)]
+    pub fn stored(&self) -> usize {
+        self.bytes.as_slice().len()
+    }
+
+    /// Takes the text out, and makes room for another one of `room` bytes. `NoMemory` where there is no such room, or none for
+    /// the last bytes.
+    pub fn take(&mut self, alloc: Global, room: usize) -> Result<Seq<u8>, NoMemory>
+        ensures taken { IfOk result (λ bytes. bytes ≡ self.old) }
+        ensures empty { OnOk result (self.new ≡ []) }
+    {
+        spill(&mut self.bytes, &mut self.tail)?;
+        let mut next = Room::from_seq(Seq::new(alloc));
+        next.reserve(room)?;
+        Ok(mem::replace(&mut self.bytes, next.into_seq()))
     }
 
     // Apart, as the other ways that are gone once in 512 bytes: the usual way stays short.
