@@ -1,5 +1,5 @@
 //! Lines of words at the end of one text.
-ghost use Rattle.std.specs.Prelude.{◌≡◌, ◌++◌, ◌∷◌, [], decimal, OnOk, IfOk};
+ghost use Rattle.std.specs.Prelude.{◌≡◌, ◌≤◌, ◌++◌, ◌∷◌, [], decimal, length, OnOk, IfOk};
 ghost use Rattle.std.specs.Fmt.{signed_decimal};
 ghost use Rattle.co_text.specs.Lines.{spaced, line_text};
 ghost use Rattle.co_text.specs.Written.{token_word, token_words};
@@ -77,7 +77,9 @@ impl Page {
 
     /// How many bytes there are, but for those that are kept back.
     #[inline(always)]
-    pub fn stored(&self) -> usize {
+    pub fn stored(&self) -> usize
+        ensures { result ≤ length self.now }
+    {
         self.bytes.as_slice().len()
     }
 
