@@ -38,7 +38,8 @@ impl Draft {
         if !self.may_stand(Opener::Act(verb)) {
             return None;
         }
-        let Ok(act) = forms::act(self.stage.is_func(), verb, words) else {
+        let mut act = Act::Unlock;
+        let Ok(()) = forms::act(self.stage.is_func(), verb, words, &mut act) else {
             return None;
         };
         match self.refuse(&act) {
