@@ -13,6 +13,7 @@ pub mod SectionsWritten
 pub mod ToldNotes
 pub mod ToldShown
 pub mod Framed
+pub mod Pieces
 pub mod ToldPages
 pub mod PartsWritten
 pub mod PartSplits

@@ -338,10 +338,10 @@ whole-told x made told order =
     ∙ ap (report s) shown)
 
 pub pieces-told : (x y : Written) (made : List MadeNote) → x ≡ y → NotesAreTold x made → IsInOrder made → (q0 q1 q2 : List (List ℕ))
-    → q0 ≡ [] → q1 ≡ q0 ++ y.pages → concat q2 ≡ framed y.script (concat q1) → concat q2 ≡ report_of x.script (lists_by (actor_count x.script) made)
+    → q0 ≡ [] → concat q1 ≡ concat q0 ++ concat y.pages → concat q2 ≡ framed y.script (concat q1) → concat q2 ≡ report_of x.script (lists_by (actor_count x.script) made)
 pieces-told x y made same told order q0 q1 q2 e0 e1 e2 =
     e2
-    ∙ (ap (λ q. framed y.script (concat q)) (e1 ∙ ap (λ q. q ++ y.pages) e0)
+    ∙ (ap (framed y.script) (e1 ∙ ap (λ q. concat q ++ concat y.pages) e0)
     ∙ (ap (framed y.script) (concat_is y.pages)
     ∙ (ap (λ (z : Written). framed z.script (flat_map (λ page. page) z.pages)) (sym same)
     ∙ whole-told x made told order)))

@@ -15,6 +15,7 @@ mod packed_lines;
 mod packing;
 mod reading;
 mod report;
+mod section;
 mod sections;
 mod subject;
 mod typed;

@@ -42,14 +42,6 @@ pub struct Order {
 }
 
 impl Order {
-    /// How many places there are.
-    pub fn place_count(&self) -> usize
-        requires { 1 ≤ length self.now.starts }
-        ensures { result + 1 ≡ length self.now.starts }
-    {
-        self.starts.as_slice().len() - 1
-    }
-
     /// The origins of the notes of the place of this number among its places.
     pub fn of_place(&self, place: usize) -> &[Origin]
         requires place { place + 1 < length self.now.starts }

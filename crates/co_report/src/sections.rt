@@ -11,8 +11,9 @@ ghost use Rattle.co_report.specs.Reports.{places, heading, report_of};
 ghost use Rattle.co_report.specs.Sections.{NotesAreTold};
 
 use crate::frame::{head_piece, in_frame, print_heading};
-use crate::note::print_note;
+use crate::joining::append;
 use crate::reading::places::places;
+use crate::section::Section;
 use crate::typed::note_is_typed;
 use co_object::{Note, Place};
 use co_program::{Script, actor_count, place_exists, place_index};
@@ -28,7 +29,7 @@ use std::marker::Model;
 #[derive(Drop)]
 pub struct Sections<'a> {
     script: &'a Script,
-    pages: Vec<Page>,
+    pages: Vec<Section>,
     counts: Vec<u64>,
 }
 
@@ -43,16 +44,16 @@ impl<'a> Model for Sections<'a> {
 }
 
 /// The section of a place that has no note yet.
-fn opened(alloc: Global, script: &Script, place: Place) -> Result<Page, NoMemory>
-    ensures { IfOk result (λ page. page ≡ line_text (heading script.now place)) }
+fn opened(alloc: Global, script: &Script, place: Place) -> Result<Section, NoMemory>
+    ensures { IfOk result (λ section. section ≡ line_text (heading script.now place)) }
 {
     let mut page = Page::new(alloc);
     print_heading(&mut page, script, place)?;
-    Ok(page)
+    Ok(Section::new(alloc, page))
 }
 
 /// The sections before the first note, in the report's order.
-fn all_opened(alloc: Global, script: &Script) -> Result<Vec<Page>, NoMemory>
+fn all_opened(alloc: Global, script: &Script) -> Result<Vec<Section>, NoMemory>
     requires { IsScript script.now }
     ensures { IfOk result (λ pages. pages.items ≡ map (λ place. line_text (heading script.now place)) (places script.now)) }
 {
@@ -85,12 +86,12 @@ fn existing_index(script: &Script, place: Place) -> Option<usize>
     }
 }
 
-/// Appends the pages' texts, none of which is copied.
-fn append_all(pieces: &mut Seq<Seq<u8>>, pages: Vec<Page>) -> Result<(), NoMemory>
-    ensures { OnOk result (pieces.new ≡ pieces.old ++ pages.items) }
+/// Appends the texts of the sections in pieces, none of which is copied.
+fn append_all(pieces: &mut Seq<Seq<u8>>, pages: Vec<Section>) -> Result<(), NoMemory>
+    ensures { OnOk result (concat pieces.new ≡ concat pieces.old ++ concat pages.items) }
 {
     for page in pages {
-        pieces.push(page.done()?)?;
+        append(pieces, page.pieces()?)?;
     }
     Ok(())
 }
@@ -125,7 +126,7 @@ impl<'a> Sections<'a> {
         match existing_index(self.script, note.place) {
             Some(place) => {
                 let page = &mut self.pages[place];
-                print_note(page, self.script, number, &note.entry)?;
+                page.write(self.script, number, &note.entry)?;
                 Ok(())
             }
             None => Ok(()),

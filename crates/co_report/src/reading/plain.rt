@@ -8,6 +8,8 @@ ghost use Rattle.co_report.specs.NoteValues.{is_shortest};
 ghost use Rattle.co_report.specs.Parts.{parts, parts_left, is_space};
 ghost use Rattle.co_report.specs.Plain.{behind_end, behind_word, by_word, is_actor_letter};
 
+use co_text::digit_value;
+
 /// No zero stands before another digit.
 #[inline(always)]
 pub fn is_shortest(word: &[u8]) -> bool
@@ -17,15 +19,6 @@ pub fn is_shortest(word: &[u8]) -> bool
         [] => true,
         [first, rest @ ..] => rest.is_empty() || *first != b'0',
     }
-}
-
-/// The value of a digit; of any other byte more than 9.
-#[inline(always)]
-fn digit_value(byte: u8) -> u64
-    ensures digit { result ≤ 9 → (is_ascii_digit byte ≡ true) × (byte ≡ 48 + result) }
-    ensures small { result < 2 ^ 64 }
-{
-    u64::from(byte).wrapping_sub(u64::from(b'0'))
 }
 
 /// The number that the digits at the front spell, and how many these are. Of more than 19 it is the lowest 64 bits.
