@@ -1,8 +1,8 @@
 -- An act whose numbers its type holds is the same there, and one that it doesn't hold fits no script.
 use Rattle.std.proofs.Common.{◌≡◌, ℕ, ℤ, ◌^◌, ◌≤◌, Bool, true, false, ◌&&◌, length, refl, ap, sym, subst, ◌∙◌, arith}
-use Rattle.std.specs.Prelude.{Result, Ok, Err, OnOk, nat_lt}
+use Rattle.std.specs.Prelude.{Result, Ok, Err, nat_lt}
 use Rattle.std.proofs.lemmas.Bool.Decides.{nat_tests}
-use Rattle.co_text.specs.Fallible.{◌>>=◌, ◌>>◌, unless, Gives}
+use Rattle.co_text.specs.Fallible.{◌>>=◌, ◌>>◌, unless}
 use Rattle.co_text.specs.declared.Cause.{Cause}
 use Rattle.co_text.specs.declared.Cause.TheVariants.{Number}
 use Rattle.co_text.proofs.LinesBack.{and_left, and_right}
@@ -87,11 +87,6 @@ kept (Err cause) a b e same = cc
 pub typed_ok : (r : Result Act Cause) (a : Act) → typed r ≡ Ok a → r ≡ Ok a
 typed_ok (Ok b) a e = kept (act_typed b) b a e (act-keeps b) ∙ e
 typed_ok (Err cause) a e = cc
-
--- the same of an act that was put into a place
-pub typed-found : (found : Result (Unit {0}) Cause) (a : Act) (read form : Result Act Cause) → read ≡ form → Gives (λ _. a) found (typed form) → OnOk found (read ≡ Ok a)
-typed-found (Ok done) a read form e given = e ∙ typed_ok form a given
-typed-found (Err cause) a read form e given = tt
 
 refused : (r : Result Act Cause) (a : Act) (cause : Cause) → r ≡ Err cause → Keeps a r → cause ≡ Number
 refused (Ok b) a cause e same = cc

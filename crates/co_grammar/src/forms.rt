@@ -109,69 +109,25 @@ pub fn act(serviced: bool, verb: Verb, words: &mut Words, into: &mut Act) -> Res
     ensures act { OnOk result (act_form serviced verb words.old ≡ Ok into.new) }
 {
     match verb {
-        Verb::Now => {
-            let time = words.lone_time()?;
-            *into = Act::Now(time);
-            Ok(())
-        }
-        Verb::Lock => {
-            let lock = number_of(words.lone_number()?)?;
-            *into = Act::Lock(lock);
-            Ok(())
-        }
-        Verb::ReadLock => {
-            let lock = number_of(words.lone_number()?)?;
-            *into = Act::ReadLock(lock);
-            Ok(())
-        }
+        Verb::Now => *into = Act::Now(words.lone_time()?),
+        Verb::Lock => *into = Act::Lock(number_of(words.lone_number()?)?),
+        Verb::ReadLock => *into = Act::ReadLock(number_of(words.lone_number()?)?),
         Verb::Unlock => {
             words.end()?;
             *into = Act::Unlock;
-            Ok(())
         }
-        Verb::Reset => reset(serviced, words, into),
-        Verb::Ticks => ticks(serviced, words, into),
-        Verb::Schedule => schedule(serviced, words, into),
-        Verb::Stop => {
-            let who = who_of(lone_who(serviced, words)?)?;
-            *into = Act::Stop(who);
-            Ok(())
-        }
-        Verb::Drain => {
-            let timer = number_of(words.lone_number()?)?;
-            *into = Act::Drain(timer);
-            Ok(())
-        }
-        Verb::AsyncDrain => async_drain(serviced, words, into),
-        Verb::Active => {
-            let who = who_of(lone_who(serviced, words)?)?;
-            *into = Act::Active(who);
-            Ok(())
-        }
-        Verb::Pending => {
-            let who = who_of(lone_who(serviced, words)?)?;
-            *into = Act::Pending(who);
-            Ok(())
-        }
-        Verb::Deactivate => {
-            let who = who_of(lone_who(serviced, words)?)?;
-            *into = Act::Deactivate(who);
-            Ok(())
-        }
-        Verb::Init => {
-            let who = who_of(lone_who(serviced, words)?)?;
-            *into = Act::Init(who);
-            Ok(())
-        }
-        Verb::Retire => {
-            let who = who_of(lone_who(serviced, words)?)?;
-            *into = Act::Retire(who);
-            Ok(())
-        }
-        Verb::Tick => {
-            let time = words.lone_time()?;
-            *into = Act::Tick(time);
-            Ok(())
-        }
+        Verb::Reset => reset(serviced, words, into)?,
+        Verb::Ticks => ticks(serviced, words, into)?,
+        Verb::Schedule => schedule(serviced, words, into)?,
+        Verb::Stop => *into = Act::Stop(who_of(lone_who(serviced, words)?)?),
+        Verb::Drain => *into = Act::Drain(number_of(words.lone_number()?)?),
+        Verb::AsyncDrain => async_drain(serviced, words, into)?,
+        Verb::Active => *into = Act::Active(who_of(lone_who(serviced, words)?)?),
+        Verb::Pending => *into = Act::Pending(who_of(lone_who(serviced, words)?)?),
+        Verb::Deactivate => *into = Act::Deactivate(who_of(lone_who(serviced, words)?)?),
+        Verb::Init => *into = Act::Init(who_of(lone_who(serviced, words)?)?),
+        Verb::Retire => *into = Act::Retire(who_of(lone_who(serviced, words)?)?),
+        Verb::Tick => *into = Act::Tick(words.lone_time()?),
     }
+    Ok(())
 }

@@ -1,16 +1,13 @@
-use Rattle.std.proofs.Common.{ap}
-use Rattle.co_grammar.specs.Forms.{act_form, reset_form, ticks_form, schedule_form, drain_form}
-use Rattle.co_grammar.proofs.Typed.{typed-found}
+use Rattle.std.proofs.Common.{ap, ◌∙◌}
+use Rattle.co_grammar.specs.Forms.{act_form, reset_form, ticks_form, schedule_form}
+use Rattle.co_grammar.proofs.Typed.{typed_ok}
 use Rattle.co_grammar.proofs.forms.act.Goals as goal
 
-pub returns-in-Reset-clause-act : goal.returns-in-Reset-clause-act
-returns-in-Reset-clause-act c = typed-found c.reset.result c.reset.new.into (act_form c.args.serviced c.args.verb c.args.words.now) (reset_form c.args.serviced c.args.words.now) (ap (λ v. act_form c.args.serviced v c.args.words.now) c.in-Reset.is) c.reset.ensures
+pub returns-in_ok-reset-in-Reset-clause-act : goal.returns-in_ok-reset-in-Reset-clause-act
+returns-in_ok-reset-in-Reset-clause-act c = ap (λ v. act_form c.args.serviced v c.args.words.now) c.in-Reset.is ∙ typed_ok (reset_form c.args.serviced c.args.words.now) c.reset.new.into c.in_ok-reset-in-Reset.ensures
 
-pub returns-in-Ticks-clause-act : goal.returns-in-Ticks-clause-act
-returns-in-Ticks-clause-act c = typed-found c.ticks.result c.ticks.new.into (act_form c.args.serviced c.args.verb c.args.words.now) (ticks_form c.args.serviced c.args.words.now) (ap (λ v. act_form c.args.serviced v c.args.words.now) c.in-Ticks.is) c.ticks.ensures
+pub returns-in_ok-ticks-in-Ticks-clause-act : goal.returns-in_ok-ticks-in-Ticks-clause-act
+returns-in_ok-ticks-in-Ticks-clause-act c = ap (λ v. act_form c.args.serviced v c.args.words.now) c.in-Ticks.is ∙ typed_ok (ticks_form c.args.serviced c.args.words.now) c.ticks.new.into c.in_ok-ticks-in-Ticks.ensures
 
-pub returns-in-Schedule-clause-act : goal.returns-in-Schedule-clause-act
-returns-in-Schedule-clause-act c = typed-found c.schedule.result c.schedule.new.into (act_form c.args.serviced c.args.verb c.args.words.now) (schedule_form c.args.serviced c.args.words.now) (ap (λ v. act_form c.args.serviced v c.args.words.now) c.in-Schedule.is) c.schedule.ensures
-
-pub returns-in-AsyncDrain-clause-act : goal.returns-in-AsyncDrain-clause-act
-returns-in-AsyncDrain-clause-act c = typed-found c.async_drain.result c.async_drain.new.into (act_form c.args.serviced c.args.verb c.args.words.now) (drain_form c.args.serviced c.args.words.now) (ap (λ v. act_form c.args.serviced v c.args.words.now) c.in-AsyncDrain.is) c.async_drain.ensures
+pub returns-in_ok-schedule-in-Schedule-clause-act : goal.returns-in_ok-schedule-in-Schedule-clause-act
+returns-in_ok-schedule-in-Schedule-clause-act c = ap (λ v. act_form c.args.serviced v c.args.words.now) c.in-Schedule.is ∙ typed_ok (schedule_form c.args.serviced c.args.words.now) c.schedule.new.into c.in_ok-schedule-in-Schedule.ensures
