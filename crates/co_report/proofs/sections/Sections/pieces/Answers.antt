@@ -13,5 +13,5 @@ returns c =
     IfOk-weaker c.in_frame.result (λ q. concat q ≡ c.in_ok-head.head ++ concat c.append_all.new.pieces ++ line_text (codes "end" ∷ [])) _
     (λ q is made told order.
     pieces-told c.args.self (record { script = c.self.inside.script.now; pages = c.self.inside.pages.items; counts = c.self.inside.counts.items }) made (sym c.self.view_is) told order
-    _ _ q c.new-parts.ensures c.in_ok-append_all.ensures (pieces-framed c.self.inside.script.now c.in_ok-head.head q c.append_all.new.pieces c.in_ok-head.ensures is))
+    _ c.append_all.new.pieces q c.new-parts.ensures c.in_ok-append_all.ensures (pieces-framed c.self.inside.script.now c.in_ok-head.head q c.append_all.new.pieces c.in_ok-head.ensures is))
     c.in_frame.ensures
