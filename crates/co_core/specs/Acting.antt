@@ -1,5 +1,5 @@
 -- What an actor does in a step of the engine: before and after.
-use Rattle.std.specs.Prelude.{◌≡◌, ℕ, ◌^◌, ◌≤◌, ◌<◌, ◌++◌, List, length}
+use Rattle.std.specs.Prelude.{◌≡◌, ℕ, ◌^◌, ◌≤◌, ◌<◌, ◌++◌, List, length, Result, IfOk}
 use Rattle.std.specs.declared.option.Option.TheVariants.{None}
 use Rattle.co_object.specs.declared.note.Note.{Note}
 use Rattle.co_listener.specs.MadeNotes.{MadeNote}
@@ -12,7 +12,7 @@ use Rattle.co_world.specs.declared.turn.Turn.{Turn}
 use Rattle.co_world.specs.Step.{step, turn_of}
 use Rattle.co_world.specs.World.{World, lists_of}
 use Rattle.co_core.specs.declared.engine.Engine.{Engine}
-use Rattle.co_core.specs.Noting.{made_by}
+use Rattle.co_core.specs.Noting.{Listens, made_by}
 use Rattle.co_core.specs.Stands.{StandsFor}
 use Rattle.co_core.specs.Written.{noted, with_lists}
 
@@ -63,6 +63,20 @@ pub record HasActed {B : Type 0} (s : Script) (has : B → List MadeNote → Typ
   -- from each world that the engine stood for, it stands for the one after the step
   pub stands : (lists : List (List Note)) (w : World) → StandsWith s e lists w → IsDue s w a action → StandsWith s e2 (noted lists a notes) (step s w a)
   pub heard : (made : List MadeNote) → has old made → has new (made ++ made_by a notes)
+
+-- the actor may do this, and tell a listener of it
+pub record MayDo {B : Type 0} (s : Script) (actors : B → ℕ) (e : Engine) (old : B) (a : ℕ) (action : Action) : Type 0 where
+  -- it may do this now
+  pub may : MayAct s e a action
+  -- the listener has a place for its notes
+  pub room : a < actors old
+
+-- the actor has done this and told a listener of it, unless memory was wanting; the answer is with how many notes
+pub record HasDone {B E : Type 0} (s : Script) (has : B → List MadeNote → Type 0) (actors room : B → ℕ) (a : ℕ) (action : Action) (e e2 : Engine) (old new : B) (result : Result ℕ E) : Type 0 where
+  -- what it did, where there was memory
+  pub acted : IfOk result (λ number. HasActed s has a action number e e2 old new)
+  -- which was wanting only where the listener had no room for the notes of a step
+  pub listens : Listens actors room 3 old new result
 
 -- the actor has done this, which makes no note
 abbrev pub GoesSilently : Script → ℕ → Action → Engine → Engine → Type 0

@@ -1,11 +1,10 @@
 //! One step after another: the ledger and the depot of a world.
-ghost use Rattle.std.specs.Prelude.{◌≡◌, ◌<◌, IfOk};
+ghost use Rattle.std.specs.Prelude.{◌≡◌};
 ghost use Rattle.co_lock.specs.declared.held.Held.{Held};
 ghost use Rattle.co_program.specs.Action.{Asks, Silent, Take};
 ghost use Rattle.co_program.specs.Indexed.{cursor_of, after_silent};
 ghost use Rattle.co_wheel.specs.Turns.{pop_of, free_of};
-ghost use Rattle.co_core.specs.Acting.{GoesSilently, HasActed, MayAct};
-ghost use Rattle.co_core.specs.Noting.{Listens};
+ghost use Rattle.co_core.specs.Acting.{GoesSilently, HasDone, MayDo};
 ghost use Rattle.co_core.specs.Written.{MayMove, booked_at};
 
 mod acting;
@@ -44,10 +43,8 @@ impl Engine {
         listener: &mut N,
         kind: OwnKind,
     ) -> Result<u32, NoMemory>
-        requires may { MayAct script.now self.old author.actor (Asks author.act (Asked.Itself kind)) }
-        requires room { author.actor < N.actors listener.old }
-        ensures acted { IfOk result (λ number. HasActed script.now N.has author.actor (Asks author.act (Asked.Itself kind)) number self.old self.new listener.old listener.new) }
-        ensures listens { Listens N.actors N.room 3 listener.old listener.new result }
+        requires { MayDo script.now N.actors self.old listener.old author.actor (Asks author.act (Asked.Itself kind)) }
+        ensures { HasDone script.now N.has N.actors N.room author.actor (Asks author.act (Asked.Itself kind)) self.old self.new listener.old listener.new result }
     {
         self.ledger.write_own(script, author, listener, kind)?;
         Ok(1)
@@ -64,11 +61,9 @@ impl Engine {
         op: &CallOp,
         whole: &Op,
     ) -> Result<u32, NoMemory>
-        requires may { MayAct script.now self.old author.actor (Asks author.act (Asked.Callout i (Op.Call op.now))) }
+        requires may { MayDo script.now N.actors self.old listener.old author.actor (Asks author.act (Asked.Callout i (Op.Call op.now))) }
         requires whole { whole.now ≡ Op.Call op.now }
-        requires room { author.actor < N.actors listener.old }
-        ensures acted { IfOk result (λ number. HasActed script.now N.has author.actor (Asks author.act (Asked.Callout i (Op.Call op.now))) number self.old self.new listener.old listener.new) }
-        ensures listens { Listens N.actors N.room 3 listener.old listener.new result }
+        ensures { HasDone script.now N.has N.actors N.room author.actor (Asks author.act (Asked.Callout i (Op.Call op.now))) self.old self.new listener.old listener.new result }
     {
         let cpu = self.depot.stand(i);
         let mut out = CallOut::none();
@@ -92,10 +87,8 @@ impl Engine {
         listener: &mut N,
         parcel: &PendingInsert,
     ) -> Result<u32, NoMemory>
-        requires may { MayAct script.now self.old actor (Asks parcel.now.act (Asked.Queue parcel.now.cpu (QOp.Insert parcel.now.i parcel.now.n parcel.now.due))) }
-        requires room { actor < N.actors listener.old }
-        ensures acted { IfOk result (λ number. HasActed script.now N.has actor (Asks parcel.now.act (Asked.Queue parcel.now.cpu (QOp.Insert parcel.now.i parcel.now.n parcel.now.due))) number self.old self.new listener.old listener.new) }
-        ensures listens { Listens N.actors N.room 3 listener.old listener.new result }
+        requires { MayDo script.now N.actors self.old listener.old actor (Asks parcel.now.act (Asked.Queue parcel.now.cpu (QOp.Insert parcel.now.i parcel.now.n parcel.now.due))) }
+        ensures { HasDone script.now N.has N.actors N.room actor (Asks parcel.now.act (Asked.Queue parcel.now.cpu (QOp.Insert parcel.now.i parcel.now.n parcel.now.due))) self.old self.new listener.old listener.new result }
     {
         let at = self.depot.land(parcel.cpu, actor);
         self.ledger
@@ -112,10 +105,8 @@ impl Engine {
         cpu: u32,
         now: Sbt,
     ) -> Result<u32, NoMemory>
-        requires may { MayAct script.now self.old author.actor (Asks author.act (Asked.Queue cpu (QOp.Scan now))) }
-        requires room { author.actor < N.actors listener.old }
-        ensures acted { IfOk result (λ number. HasActed script.now N.has author.actor (Asks author.act (Asked.Queue cpu (QOp.Scan now))) number self.old self.new listener.old listener.new) }
-        ensures listens { Listens N.actors N.room 3 listener.old listener.new result }
+        requires { MayDo script.now N.actors self.old listener.old author.actor (Asks author.act (Asked.Queue cpu (QOp.Scan now))) }
+        ensures { HasDone script.now N.has N.actors N.room author.actor (Asks author.act (Asked.Queue cpu (QOp.Scan now))) self.old self.new listener.old listener.new result }
     {
         let count = self.depot.scan(cpu, now);
         let op = QOp::Scan { now };
@@ -133,10 +124,8 @@ impl Engine {
         cpu: u32,
         direct: bool,
     ) -> Result<u32, NoMemory>
-        requires may { MayAct script.now self.old author.actor (Asks author.act (Asked.Queue cpu (pop_of direct))) }
-        requires room { author.actor < N.actors listener.old }
-        ensures acted { IfOk result (λ number. HasActed script.now N.has author.actor (Asks author.act (Asked.Queue cpu (pop_of direct))) number self.old self.new listener.old listener.new) }
-        ensures listens { Listens N.actors N.room 3 listener.old listener.new result }
+        requires { MayDo script.now N.actors self.old listener.old author.actor (Asks author.act (Asked.Queue cpu (pop_of direct))) }
+        ensures { HasDone script.now N.has N.actors N.room author.actor (Asks author.act (Asked.Queue cpu (pop_of direct))) self.old self.new listener.old listener.new result }
     {
         let op = pop_of(direct);
         match self.depot.next(cpu, direct) {
@@ -167,10 +156,8 @@ impl Engine {
         n: u64,
         cpu: u32,
     ) -> Result<u32, NoMemory>
-        requires may { MayAct script.now self.old author.actor (Asks author.act (Asked.Callout i (Op.Run (RunOp.Begin n cpu)))) }
-        requires room { author.actor < N.actors listener.old }
-        ensures acted { IfOk result (λ number. HasActed script.now N.has author.actor (Asks author.act (Asked.Callout i (Op.Run (RunOp.Begin n cpu)))) number self.old self.new listener.old listener.new) }
-        ensures listens { Listens N.actors N.room 3 listener.old listener.new result }
+        requires { MayDo script.now N.actors self.old listener.old author.actor (Asks author.act (Asked.Callout i (Op.Run (RunOp.Begin n cpu)))) }
+        ensures { HasDone script.now N.has N.actors N.room author.actor (Asks author.act (Asked.Callout i (Op.Run (RunOp.Begin n cpu)))) self.old self.new listener.old listener.new result }
     {
         let reply = self.depot.begin(cpu);
         let begin = Op::Run(RunOp::Begin { n, cpu });
@@ -189,10 +176,8 @@ impl Engine {
         n: u64,
         cpu: u32,
     ) -> Result<u32, NoMemory>
-        requires may { MayAct script.now self.old author.actor (Asks author.act (Asked.Callout i (Op.Run (RunOp.End n cpu)))) }
-        requires room { author.actor < N.actors listener.old }
-        ensures acted { IfOk result (λ number. HasActed script.now N.has author.actor (Asks author.act (Asked.Callout i (Op.Run (RunOp.End n cpu)))) number self.old self.new listener.old listener.new) }
-        ensures listens { Listens N.actors N.room 3 listener.old listener.new result }
+        requires { MayDo script.now N.actors self.old listener.old author.actor (Asks author.act (Asked.Callout i (Op.Run (RunOp.End n cpu)))) }
+        ensures { HasDone script.now N.has N.actors N.room author.actor (Asks author.act (Asked.Callout i (Op.Run (RunOp.End n cpu)))) self.old self.new listener.old listener.new result }
     {
         let direct = script.timers.as_slice()[i as usize].direct;
         let reply = self.depot.end(cpu, direct, author.actor);

@@ -40,6 +40,7 @@ impl Engine {
         script: &Script,
         actor: u32,
         listener: &mut N,
+        action: &mut Action,
     ) -> Result<Turn, NoMemory>
         requires runs { RunsActor script.now self.old actor }
         requires few { self.old.ledger.made < 2 ^ 63 }
@@ -50,15 +51,14 @@ impl Engine {
         let cursor = self.ledger.cursor(actor);
         // The checker knows the range of a number behind a reference once it is read.
         let _task = cursor.task;
-        let mut action = Action::Nothing;
-        action_for(script, actor, cursor, &mut action);
-        if let Some(why) = self.blocked(script, actor, cursor, &action) {
+        action_for(script, actor, cursor, action);
+        if let Some(why) = self.blocked(script, actor, cursor, action) {
             return Ok(Turn::Blocked(why));
         }
-        match action {
+        match *action {
             Action::Nothing => Ok(Turn::Finished),
             _ => {
-                let count = self.act(script, actor, listener, &action)?;
+                let count = self.act(script, actor, listener, action)?;
                 Ok(Turn::Notes(count))
             }
         }

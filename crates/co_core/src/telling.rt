@@ -14,7 +14,7 @@ use crate::engine::Engine;
 use crate::resting::Resting;
 use co_listener::{KeptLists, Listener};
 use co_object::Lists;
-use co_program::{Script, actor_count};
+use co_program::{Action, Script, actor_count};
 use co_sbt::NoMemory;
 use co_world::Turn;
 use std::alloc::Global;
@@ -29,6 +29,8 @@ fn is_finished(turn: Turn) -> bool
     }
 }
 
+// The place where an action is put is handed on from step to step: to make it anew takes a few stores each time.
+
 impl Engine {
     /// One step of an actor, of whose notes the listener is told.
     #[inline(always)]
@@ -37,6 +39,7 @@ impl Engine {
         script: &Script,
         actor: u32,
         listener: &mut N,
+        next: &mut Action,
     ) -> Result<Turn, NoMemory>
         requires { MayTellStep script.now self.old (N.actors listener.old) actor }
         ensures told { IsToldTo N.actors listener.old listener.new result ((w : PlainWorld) → Stands script.now self.old w → TellsOn script.now N.has self.new listener.old listener.new w (step script.now w actor)) }
@@ -45,22 +48,24 @@ impl Engine {
         if self.is_full() {
             return Err(NoMemory {});
         }
-        self.step(script, actor, listener)
+        self.step(script, actor, listener, next)
     }
 
-    /// One step of an actor, and what it tells of the actor. The answer is whether it has finished.
-    #[inline(never)]
+    /// One step of an actor, and what it tells of the actor. The answer is whether it has finished. Inlined, since a call of it
+    /// takes a tenth of a step.
+    #[inline(always)]
     fn tell_asked<N: Listener>(
         &mut self,
         script: &Script,
         actor: u32,
         resting: &mut Resting,
         listener: &mut N,
+        next: &mut Action,
     ) -> Result<bool, NoMemory>
         requires { MayTellStep script.now self.old (N.actors listener.old) actor }
         ensures { HasAsked script.now N.has N.actors self.old self.new listener.old listener.new resting.old resting.new result (λ w. step script.now w actor) (λ w. HasFinished script.now w actor) }
     {
-        let turn = self.tell_step(script, actor, listener)?;
+        let turn = self.tell_step(script, actor, listener, next)?;
         let finished = is_finished(turn);
         let wanted = self.wanted_after(script, actor, turn);
         resting.learn(actor, finished, wanted);
@@ -76,6 +81,7 @@ impl Engine {
         actor: u32,
         resting: &mut Resting,
         listener: &mut N,
+        next: &mut Action,
     ) -> Result<bool, NoMemory>
         requires { MayTellStep script.now self.old (N.actors listener.old) actor }
         ensures { HasAsked script.now N.has N.actors self.old self.new listener.old listener.new resting.old resting.new result (λ w. step script.now w actor) (λ w. HasFinished script.now w actor) }
@@ -86,7 +92,7 @@ impl Engine {
         if self.keeps_out(resting.wanted(actor)) {
             return Ok(false);
         }
-        self.tell_asked(script, actor, resting, listener)
+        self.tell_asked(script, actor, resting, listener, next)
     }
 
     /// The script's turns, one step each.
@@ -95,12 +101,13 @@ impl Engine {
         script: &Script,
         resting: &mut Resting,
         listener: &mut N,
+        next: &mut Action,
     ) -> Result<(), NoMemory>
         requires { MayTell script.now self.old (N.actors listener.old) }
         ensures { IsToldTo N.actors listener.old listener.new result (GoesOnKnowing script.now N.has self.old self.new listener.old listener.new resting.old resting.new (λ w. run script.now w script.now.turns)) }
     {
         for actor in script.turns.as_slice() {
-            let _finished = self.tell_unless_resting(script, *actor, resting, listener)?;
+            let _finished = self.tell_unless_resting(script, *actor, resting, listener, next)?;
         }
         Ok(())
     }
@@ -111,13 +118,14 @@ impl Engine {
         script: &Script,
         resting: &mut Resting,
         listener: &mut N,
+        next: &mut Action,
     ) -> Result<bool, NoMemory>
         requires { MayTell script.now self.old (N.actors listener.old) }
         ensures { HasAsked script.now N.has N.actors self.old self.new listener.old listener.new resting.old resting.new result (round script.now) (λ w. AllFinished script.now w × (round script.now w ≡ w)) }
     {
         let mut finished = true;
         for actor in 0..actor_count(script) {
-            let done = self.tell_unless_resting(script, actor, resting, listener)?;
+            let done = self.tell_unless_resting(script, actor, resting, listener, next)?;
             finished = finished && done;
         }
         Ok(finished)
@@ -129,6 +137,7 @@ impl Engine {
         script: &Script,
         resting: &mut Resting,
         listener: &mut N,
+        next: &mut Action,
     ) -> Result<(), NoMemory>
         requires { MayTell script.now self.old (N.actors listener.old) }
         ensures { IsToldTo N.actors listener.old listener.new result ((w : PlainWorld) → Stands script.now self.old w → IsKnown script.now w resting.old →
@@ -136,7 +145,7 @@ impl Engine {
     {
         // What is left to do falls with every round, so it ends long before it has counted so far.
         for _round in 0..u64::MAX {
-            if self.tell_round(script, resting, listener)? {
+            if self.tell_round(script, resting, listener, next)? {
                 return Ok(());
             }
         }
@@ -159,8 +168,9 @@ pub fn tell_walk<N: Listener>(
 {
     let mut engine = Engine::boot(alloc, script)?;
     let mut resting = Resting::none();
-    engine.tell_turns(script, &mut resting, listener)?;
-    engine.tell_rounds(script, &mut resting, listener)
+    let mut next = Action::Nothing;
+    engine.tell_turns(script, &mut resting, listener, &mut next)?;
+    engine.tell_rounds(script, &mut resting, listener, &mut next)
 }
 
 /// The lists of notes of a script's walk: the script's turns in order, then round robin until all actors have

@@ -10,7 +10,7 @@ ghost use Rattle.co_world.specs.World.{World as PlainWorld, lists_of, open_world
 use crate::engine::Engine;
 use crate::hand::{empty_lists, put_back, take_out};
 use co_object::Lists;
-use co_program::{Script, actor_count};
+use co_program::{Action, Script, actor_count};
 use co_sbt::NoMemory;
 use co_world::Turn;
 use std::alloc::Global;
@@ -78,7 +78,10 @@ impl<'a> World<'a> {
             return Err(NoMemory {});
         }
         let mut hand = take_out(self.alloc, &mut self.lists, actor)?;
-        let turn = self.engine.step(self.script, actor, &mut hand)?;
+        let mut action = Action::Nothing;
+        let turn = self
+            .engine
+            .step(self.script, actor, &mut hand, &mut action)?;
         put_back(&mut self.lists, hand);
         Ok(turn)
     }

@@ -1,10 +1,8 @@
 //! What an actor does in a step.
-ghost use Rattle.std.specs.Prelude.{◌<◌, IfOk};
 ghost use Rattle.co_object.specs.declared.op.Op.{Op};
 ghost use Rattle.co_program.specs.Action.{Asks};
 ghost use Rattle.co_program.specs.Indexed.{ActionCounts, action_of};
-ghost use Rattle.co_core.specs.Acting.{HasActed, MayAct};
-ghost use Rattle.co_core.specs.Noting.{Listens};
+ghost use Rattle.co_core.specs.Acting.{HasDone, MayDo};
 ghost use Rattle.co_core.specs.Written.{booked_at};
 
 use super::Engine;
@@ -24,11 +22,9 @@ impl Engine {
         listener: &mut N,
         action: &Action,
     ) -> Result<u32, NoMemory>
-        requires may { MayAct script.now self.old actor (action_of script.now actor (booked_at self.old.ledger actor) action.now) }
+        requires may { MayDo script.now N.actors self.old listener.old actor (action_of script.now actor (booked_at self.old.ledger actor) action.now) }
         requires counted { ActionCounts (booked_at self.old.ledger actor) action.now }
-        requires room { actor < N.actors listener.old }
-        ensures acted { IfOk result (λ number. HasActed script.now N.has actor (action_of script.now actor (booked_at self.old.ledger actor) action.now) number self.old self.new listener.old listener.new) }
-        ensures listens { Listens N.actors N.room 3 listener.old listener.new result }
+        ensures { HasDone script.now N.has N.actors N.room actor (action_of script.now actor (booked_at self.old.ledger actor) action.now) self.old self.new listener.old listener.new result }
     {
         match action {
             Action::Nothing => Ok(0),
@@ -56,10 +52,8 @@ impl Engine {
         listener: &mut N,
         asked: &Asked,
     ) -> Result<u32, NoMemory>
-        requires may { MayAct script.now self.old author.actor (Asks author.act asked.now) }
-        requires room { author.actor < N.actors listener.old }
-        ensures acted { IfOk result (λ number. HasActed script.now N.has author.actor (Asks author.act asked.now) number self.old self.new listener.old listener.new) }
-        ensures listens { Listens N.actors N.room 3 listener.old listener.new result }
+        requires { MayDo script.now N.actors self.old listener.old author.actor (Asks author.act asked.now) }
+        ensures { HasDone script.now N.has N.actors N.room author.actor (Asks author.act asked.now) self.old self.new listener.old listener.new result }
     {
         match asked {
             Asked::Callout { i, op } => match op {
@@ -80,10 +74,8 @@ impl Engine {
         i: u32,
         run: &RunOp,
     ) -> Result<u32, NoMemory>
-        requires may { MayAct script.now self.old author.actor (Asks author.act (Asked.Callout i (Op.Run run.now))) }
-        requires room { author.actor < N.actors listener.old }
-        ensures acted { IfOk result (λ number. HasActed script.now N.has author.actor (Asks author.act (Asked.Callout i (Op.Run run.now))) number self.old self.new listener.old listener.new) }
-        ensures listens { Listens N.actors N.room 3 listener.old listener.new result }
+        requires { MayDo script.now N.actors self.old listener.old author.actor (Asks author.act (Asked.Callout i (Op.Run run.now))) }
+        ensures { HasDone script.now N.has N.actors N.room author.actor (Asks author.act (Asked.Callout i (Op.Run run.now))) self.old self.new listener.old listener.new result }
     {
         match run {
             RunOp::Begin { n, cpu } => self.begin(script, author, listener, i, *n, *cpu),
@@ -101,10 +93,8 @@ impl Engine {
         cpu: u32,
         op: &QOp,
     ) -> Result<u32, NoMemory>
-        requires may { MayAct script.now self.old author.actor (Asks author.act (Asked.Queue cpu op.now)) }
-        requires room { author.actor < N.actors listener.old }
-        ensures acted { IfOk result (λ number. HasActed script.now N.has author.actor (Asks author.act (Asked.Queue cpu op.now)) number self.old self.new listener.old listener.new) }
-        ensures listens { Listens N.actors N.room 3 listener.old listener.new result }
+        requires { MayDo script.now N.actors self.old listener.old author.actor (Asks author.act (Asked.Queue cpu op.now)) }
+        ensures { HasDone script.now N.has N.actors N.room author.actor (Asks author.act (Asked.Queue cpu op.now)) self.old self.new listener.old listener.new result }
     {
         match op {
             QOp::Insert { i, n, t } => {

@@ -1,5 +1,5 @@
 -- The depot's end, its entry and the Free are together the plain world's step.
-use Rattle.std.proofs.Common.{◌≡◌, ℕ, ◌<◌, Bool, true, false, List, slice_index_or, ◌++◌, sym, ap, ◌∙◌, subst, length, length-append, Some, arith}
+use Rattle.std.proofs.Common.{rules, ◌≡◌, ℕ, ◌<◌, Bool, true, false, List, slice_index_or, ◌++◌, sym, ap, ◌∙◌, subst, length, length-append, Some, arith}
 use Rattle.std.specs.Prelude.{is_some}
 use Rattle.co_object.specs.declared.spec.LockUse.TheVariants.{Free}
 use Rattle.co_object.specs.declared.spec.Spec.{Spec}
@@ -78,8 +78,8 @@ write_queue-requires-clause-may g c =
       known = omega (arith, there, long);
     }
 
-pub returns-clause-acted : goal.returns-clause-acted
-returns-clause-acted g c =
+pub returns : goal.returns
+returns g c =
     let a = c.args.author.actor in
     let s = c.args.script.now in
     let i = c.args.i in
@@ -94,19 +94,22 @@ returns-clause-acted g c =
     let lane : lane_of c.as_slice.result.now i ≡ (spec_at s i).direct = ap (λ (timers : List Spec). lane_of timers i) c.as_slice.ensures in
     let op_is : c.free_of.result ≡ free_of (spec_at s i).direct = c.free_of.ensures ∙ ap free_of lane in
     let ended = subst (λ (direct : Bool). IsEnded direct (wheel_at c.args.self.now.depot cpu) reply out.1 out.0) lane out.2 in
-    acted s has room c.args.self.now a _ c.end-reply.new.self (one.notes ++ two.notes) 2 c.write_queue.new.self c.args.listener.now c.write_queue.new.listener
-    (then_written has room a one.notes two.notes c.args.self.now.ledger c.write_callout.new.self c.write_queue.new.self c.args.listener.now c.write_callout.new.listener c.write_queue.new.listener one.wrote two.wrote)
-    (let long = length-append one.notes two.notes in omega (arith, long, one.one, two.one)) (omega arith)
-    (λ lists w held due.
-    (let ledger : Written = with_lists c.args.self.now.ledger lists in
-    let lists1 : List (List Note) = noted lists a one.notes in
-    let ledger1 : Written = with_lists c.write_callout.new.self lists1 in
-    let ledger2 : Written = with_lists c.write_queue.new.self (noted lists1 a two.notes) in
-    let none : is_armed reply ≡ false = end_unarmed s c.requires.may.script ledger c.args.self.now.depot w held a act i c.args.n cpu due reply out.1 out.0 ended in
-    let written2 : (queue : TimerQueue) (v : World) → ShowsWritten s ledger1 v → ShowsWritten s ledger2 (queue_answers s v a act cpu (free_of (spec_at s i).direct) (Some (queue, Freed))) =
-    subst (λ (op : QOp). (queue : TimerQueue) (v : World) → ShowsWritten s ledger1 v → ShowsWritten s ledger2 (queue_answers s v a act cpu op (Some (queue, Freed)))) op_is
-    (λ queue v h. two.written queue lists1 v h) in
-    subst (λ (l : List (List Note)). StandsFor s (with_lists c.write_queue.new.self l) c.end-reply.new.self (step s w a)) (noted_more lists a one.notes two.notes)
-    (subst (λ (d : Stored). StandsFor s ledger2 d (step s w a)) (sym out.3)
-    (stands_ended s c.requires.may.script ledger c.args.self.now.depot w held a act i c.args.n cpu due reply out.1 out.0 ended ledger2
-    (λ queue state. written2 queue (callout_answers s w a act i (Run (End c.args.n cpu)) (Some (state, reply))) (one.written state (λ e. absurd (let clash : true ≡ false = sym e ∙ none in cc)) lists w held.written))))))
+    record {
+      acted = acted s has room c.args.self.now a _ c.end-reply.new.self (one.notes ++ two.notes) 2 c.write_queue.new.self c.args.listener.now c.write_queue.new.listener
+          (then_written has room a one.notes two.notes c.args.self.now.ledger c.write_callout.new.self c.write_queue.new.self c.args.listener.now c.write_callout.new.listener c.write_queue.new.listener one.wrote two.wrote)
+          (let long = length-append one.notes two.notes in omega (arith, long, one.one, two.one)) (omega arith)
+          (λ lists w held due.
+          (let ledger : Written = with_lists c.args.self.now.ledger lists in
+          let lists1 : List (List Note) = noted lists a one.notes in
+          let ledger1 : Written = with_lists c.write_callout.new.self lists1 in
+          let ledger2 : Written = with_lists c.write_queue.new.self (noted lists1 a two.notes) in
+          let none : is_armed reply ≡ false = end_unarmed s c.requires.may.script ledger c.args.self.now.depot w held a act i c.args.n cpu due reply out.1 out.0 ended in
+          let written2 : (queue : TimerQueue) (v : World) → ShowsWritten s ledger1 v → ShowsWritten s ledger2 (queue_answers s v a act cpu (free_of (spec_at s i).direct) (Some (queue, Freed))) =
+          subst (λ (op : QOp). (queue : TimerQueue) (v : World) → ShowsWritten s ledger1 v → ShowsWritten s ledger2 (queue_answers s v a act cpu op (Some (queue, Freed)))) op_is
+          (λ queue v h. two.written queue lists1 v h) in
+          subst (λ (l : List (List Note)). StandsFor s (with_lists c.write_queue.new.self l) c.end-reply.new.self (step s w a)) (noted_more lists a one.notes two.notes)
+          (subst (λ (d : Stored). StandsFor s ledger2 d (step s w a)) (sym out.3)
+          (stands_ended s c.requires.may.script ledger c.args.self.now.depot w held a act i c.args.n cpu due reply out.1 out.0 ended ledger2
+          (λ queue state. written2 queue (callout_answers s w a act i (Run (End c.args.n cpu)) (Some (state, reply))) (one.written state (λ e. absurd (let clash : true ≡ false = sym e ∙ none in cc)) lists w held.written))))));
+      listens = search rules;
+    }

@@ -1,5 +1,5 @@
 -- The depot's next, the Pop and, where a callout has come due, its Pick are together the plain world's step.
-use Rattle.std.proofs.Common.{arith, ◌≡◌, true, false, List, ◌++◌, sym, ◌∙◌, subst, length-append, Some}
+use Rattle.std.proofs.Common.{rules, arith, ◌≡◌, true, false, List, ◌++◌, sym, ◌∙◌, subst, length-append, Some}
 use Rattle.co_object.specs.Entries.{is_armed}
 use Rattle.co_object.specs.declared.queue.QOp.{QOp}
 use Rattle.co_object.specs.declared.queue.QReply.TheVariants.{Got, Empty}
@@ -55,22 +55,25 @@ write_callout-requires-clause-known g c =
     let next = c.in-Took.ensures in
     pick_known c.args.script.now c.requires.may.script (with_lists c.args.self.now.ledger m.lists) c.args.self.now.depot m.world m.held c.args.author.actor c.args.author.act c.args.cpu c.args.direct m.due c.in-Took.i c.in-Took.n c.in-Took.at c.in-Took.reply next.0 next.1
 
-pub returns-in_ok-write_queue-in-Empty-clause-acted : goal.returns-in_ok-write_queue-in-Empty-clause-acted
-returns-in_ok-write_queue-in-Empty-clause-acted g c =
+pub returns-in_ok-write_queue-in-Empty : goal.returns-in_ok-write_queue-in-Empty
+returns-in_ok-write_queue-in-Empty g c =
     let a = c.args.author.actor in
     let s = c.args.script.now in
     let next = c.in-Empty.ensures in
     let one = c.in_ok-write_queue-in-Empty.ensures.made in
-    acted s g.N.Listener.has g.N.Listener.room c.args.self.now a _ c.next.new.self one.notes 1 c.write_queue.new.self c.args.listener.now c.write_queue.new.listener one.wrote one.one (omega arith) (λ lists w held due.
-    (let ledger : Written = with_lists c.args.self.now.ledger lists in
-    let ledger' : Written = with_lists c.write_queue.new.self (noted lists a one.notes) in
-    let written : (queue : TimerQueue) (v : World) → ShowsWritten s ledger v → ShowsWritten s ledger' (queue_answers s v a c.args.author.act c.args.cpu (pop_of c.args.direct) (Some (queue, Empty))) =
-    subst (λ (o : QOp). (queue : TimerQueue) (v : World) → ShowsWritten s ledger v → ShowsWritten s ledger' (queue_answers s v a c.args.author.act c.args.cpu o (Some (queue, Empty)))) c.pop_of-op.ensures (λ queue v h. one.written queue lists v h) in
-    subst (λ (d : Stored). StandsFor s ledger' d (step s w a)) (sym next.2)
-    (stands_none s c.requires.may.script ledger c.args.self.now.depot w held a c.args.author.act c.args.cpu c.args.direct due next.0 next.1 ledger' (λ queue. written queue w held.written))))
+    record {
+      acted = acted s g.N.Listener.has g.N.Listener.room c.args.self.now a _ c.next.new.self one.notes 1 c.write_queue.new.self c.args.listener.now c.write_queue.new.listener one.wrote one.one (omega arith) (λ lists w held due.
+          (let ledger : Written = with_lists c.args.self.now.ledger lists in
+          let ledger' : Written = with_lists c.write_queue.new.self (noted lists a one.notes) in
+          let written : (queue : TimerQueue) (v : World) → ShowsWritten s ledger v → ShowsWritten s ledger' (queue_answers s v a c.args.author.act c.args.cpu (pop_of c.args.direct) (Some (queue, Empty))) =
+          subst (λ (o : QOp). (queue : TimerQueue) (v : World) → ShowsWritten s ledger v → ShowsWritten s ledger' (queue_answers s v a c.args.author.act c.args.cpu o (Some (queue, Empty)))) c.pop_of-op.ensures (λ queue v h. one.written queue lists v h) in
+          subst (λ (d : Stored). StandsFor s ledger' d (step s w a)) (sym next.2)
+          (stands_none s c.requires.may.script ledger c.args.self.now.depot w held a c.args.author.act c.args.cpu c.args.direct due next.0 next.1 ledger' (λ queue. written queue w held.written))));
+      listens = search rules;
+    }
 
-pub returns-in_ok-write_callout-in-Took-clause-acted : goal.returns-in_ok-write_callout-in-Took-clause-acted
-returns-in_ok-write_callout-in-Took-clause-acted g c =
+pub returns-in_ok-write_callout-in-Took : goal.returns-in_ok-write_callout-in-Took
+returns-in_ok-write_callout-in-Took g c =
     let a = c.args.author.actor in
     let s = c.args.script.now in
     let act = c.args.author.act in
@@ -84,18 +87,21 @@ returns-in_ok-write_callout-in-Took-clause-acted g c =
     let one = c.in_ok-write_queue-in-Took.ensures.made in
     let two = c.in_ok-write_callout-in-Took.ensures.made in
     let next = c.in-Took.ensures in
-    acted s has room c.args.self.now a _ c.next.new.self (one.notes ++ two.notes) 2 c.write_callout.new.self c.args.listener.now c.write_callout.new.listener
-    (then_written has room a one.notes two.notes c.args.self.now.ledger c.write_queue-in-Took.new.self c.write_callout.new.self c.args.listener.now c.write_queue-in-Took.new.listener c.write_callout.new.listener one.wrote two.wrote)
-    (let long = length-append one.notes two.notes in omega (arith, long, one.one, two.one)) (omega arith)
-    (λ lists w held due.
-    (let ledger : Written = with_lists c.args.self.now.ledger lists in
-    let lists1 : List (List Note) = noted lists a one.notes in
-    let ledger1 : Written = with_lists c.write_queue-in-Took.new.self lists1 in
-    let ledger2 : Written = with_lists c.write_callout.new.self (noted lists1 a two.notes) in
-    let written1 : (queue : TimerQueue) (v : World) → ShowsWritten s ledger v → ShowsWritten s ledger1 (queue_answers s v a act cpu (pop_of c.args.direct) (Some (queue, Got i n at))) =
-    subst (λ (o : QOp). (queue : TimerQueue) (v : World) → ShowsWritten s ledger v → ShowsWritten s ledger1 (queue_answers s v a act cpu o (Some (queue, Got i n at)))) c.pop_of-op.ensures (λ queue v h. one.written queue lists v h) in
-    let none : is_armed reply ≡ false = unarmed s c.requires.may.script ledger c.args.self.now.depot w held a act cpu c.args.direct due i n at reply next.0 next.1 in
-    subst (λ (l : List (List Note)). StandsFor s (with_lists c.write_callout.new.self l) c.next.new.self (step s w a)) (noted_more lists a one.notes two.notes)
-    (subst (λ (d : Stored). StandsFor s ledger2 d (step s w a)) (sym next.2)
-    (stands_picked s c.requires.may.script ledger c.args.self.now.depot w held a act cpu c.args.direct due i n at reply next.0 next.1 ledger2
-    (λ queue state. two.written state (λ e. absurd (let clash : true ≡ false = sym e ∙ none in cc)) lists1 (queue_answers s w a act cpu (pop_of c.args.direct) (Some (queue, Got i n at))) (written1 queue w held.written))))))
+    record {
+      acted = acted s has room c.args.self.now a _ c.next.new.self (one.notes ++ two.notes) 2 c.write_callout.new.self c.args.listener.now c.write_callout.new.listener
+          (then_written has room a one.notes two.notes c.args.self.now.ledger c.write_queue-in-Took.new.self c.write_callout.new.self c.args.listener.now c.write_queue-in-Took.new.listener c.write_callout.new.listener one.wrote two.wrote)
+          (let long = length-append one.notes two.notes in omega (arith, long, one.one, two.one)) (omega arith)
+          (λ lists w held due.
+          (let ledger : Written = with_lists c.args.self.now.ledger lists in
+          let lists1 : List (List Note) = noted lists a one.notes in
+          let ledger1 : Written = with_lists c.write_queue-in-Took.new.self lists1 in
+          let ledger2 : Written = with_lists c.write_callout.new.self (noted lists1 a two.notes) in
+          let written1 : (queue : TimerQueue) (v : World) → ShowsWritten s ledger v → ShowsWritten s ledger1 (queue_answers s v a act cpu (pop_of c.args.direct) (Some (queue, Got i n at))) =
+          subst (λ (o : QOp). (queue : TimerQueue) (v : World) → ShowsWritten s ledger v → ShowsWritten s ledger1 (queue_answers s v a act cpu o (Some (queue, Got i n at)))) c.pop_of-op.ensures (λ queue v h. one.written queue lists v h) in
+          let none : is_armed reply ≡ false = unarmed s c.requires.may.script ledger c.args.self.now.depot w held a act cpu c.args.direct due i n at reply next.0 next.1 in
+          subst (λ (l : List (List Note)). StandsFor s (with_lists c.write_callout.new.self l) c.next.new.self (step s w a)) (noted_more lists a one.notes two.notes)
+          (subst (λ (d : Stored). StandsFor s ledger2 d (step s w a)) (sym next.2)
+          (stands_picked s c.requires.may.script ledger c.args.self.now.depot w held a act cpu c.args.direct due i n at reply next.0 next.1 ledger2
+          (λ queue state. two.written state (λ e. absurd (let clash : true ≡ false = sym e ∙ none in cc)) lists1 (queue_answers s w a act cpu (pop_of c.args.direct) (Some (queue, Got i n at))) (written1 queue w held.written))))));
+      listens = search rules;
+    }

@@ -3,7 +3,7 @@ use Rattle.std.proofs.Common.{subst}
 use Rattle.co_object.specs.declared.QOp.{QOp}
 use Rattle.co_program.specs.Action.{Asks}
 use Rattle.co_program.specs.declared.Asked.TheVariants.{Queue}
-use Rattle.co_core.specs.Acting.{IsDue, MayAct}
+use Rattle.co_core.specs.Acting.{IsDue, MayDo}
 use Rattle.co_core.specs.Written.{with_lists}
 use Rattle.co_core.proofs.steps.Undue.{never_removes, never_frees, never_frees_direct}
 use Rattle.co_core.proofs.engine.Engine.queue.Goals as goal
@@ -23,30 +23,30 @@ unreachable-requires-in-FreeDirect g c =
     never_frees_direct c.args.script.now c.requires.may.script (with_lists c.args.self.now.ledger c.requires.may.lists) c.args.self.now.depot c.requires.may.world c.requires.may.held c.args.author.actor c.args.author.act c.args.cpu
     (subst (λ (op : QOp). IsDue c.args.script.now c.requires.may.world c.args.author.actor (Asks c.args.author.act (Queue c.args.cpu op))) c.in-FreeDirect.is c.requires.may.due)
 
-pub land-requires-clause-may : goal.land-requires-clause-may
-land-requires-clause-may g c =
-    subst (λ (op : QOp). MayAct c.args.script.now c.args.self.now c.args.author.actor (Asks c.args.author.act (Queue c.args.cpu op))) c.in-Insert.is c.requires.may
+pub land-requires : goal.land-requires
+land-requires g c =
+    subst (λ (op : QOp). MayDo c.args.script.now g.N.Listener.actors c.args.self.now c.args.listener.now c.args.author.actor (Asks c.args.author.act (Queue c.args.cpu op))) c.in-Insert.is c.requires
 
-pub scan-requires-clause-may : goal.scan-requires-clause-may
-scan-requires-clause-may g c =
-    subst (λ (op : QOp). MayAct c.args.script.now c.args.self.now c.args.author.actor (Asks c.args.author.act (Queue c.args.cpu op))) c.in-Scan.is c.requires.may
+pub scan-requires : goal.scan-requires
+scan-requires g c =
+    subst (λ (op : QOp). MayDo c.args.script.now g.N.Listener.actors c.args.self.now c.args.listener.now c.args.author.actor (Asks c.args.author.act (Queue c.args.cpu op))) c.in-Scan.is c.requires
 
-pub next-requires-clause-may : goal.next-requires-clause-may
-next-requires-clause-may g c =
-    subst (λ (op : QOp). MayAct c.args.script.now c.args.self.now c.args.author.actor (Asks c.args.author.act (Queue c.args.cpu op))) c.in-Pop.is c.requires.may
+pub next-requires : goal.next-requires
+next-requires g c =
+    subst (λ (op : QOp). MayDo c.args.script.now g.N.Listener.actors c.args.self.now c.args.listener.now c.args.author.actor (Asks c.args.author.act (Queue c.args.cpu op))) c.in-Pop.is c.requires
 
-pub next-requires-in-PopDirect-clause-may : goal.next-requires-in-PopDirect-clause-may
-next-requires-in-PopDirect-clause-may g c =
-    subst (λ (op : QOp). MayAct c.args.script.now c.args.self.now c.args.author.actor (Asks c.args.author.act (Queue c.args.cpu op))) c.in-PopDirect.is c.requires.may
+pub next-requires-in-PopDirect : goal.next-requires-in-PopDirect
+next-requires-in-PopDirect g c =
+    subst (λ (op : QOp). MayDo c.args.script.now g.N.Listener.actors c.args.self.now c.args.listener.now c.args.author.actor (Asks c.args.author.act (Queue c.args.cpu op))) c.in-PopDirect.is c.requires
 
-pub returns-in-Insert-clause-acted : goal.returns-in-Insert-clause-acted
-returns-in-Insert-clause-acted g c = rw c.in-Insert.is c.land.ensures.acted
+pub returns-in-Insert : goal.returns-in-Insert
+returns-in-Insert g c = rw c.in-Insert.is c.land.ensures
 
-pub returns-in-Scan-clause-acted : goal.returns-in-Scan-clause-acted
-returns-in-Scan-clause-acted g c = rw c.in-Scan.is c.scan.ensures.acted
+pub returns-in-Scan : goal.returns-in-Scan
+returns-in-Scan g c = rw c.in-Scan.is c.scan.ensures
 
-pub returns-in-Pop-clause-acted : goal.returns-in-Pop-clause-acted
-returns-in-Pop-clause-acted g c = rw c.in-Pop.is c.next.ensures.acted
+pub returns-in-Pop : goal.returns-in-Pop
+returns-in-Pop g c = rw c.in-Pop.is c.next.ensures
 
-pub returns-in-PopDirect-clause-acted : goal.returns-in-PopDirect-clause-acted
-returns-in-PopDirect-clause-acted g c = rw c.in-PopDirect.is c.next-in-PopDirect.ensures.acted
+pub returns-in-PopDirect : goal.returns-in-PopDirect
+returns-in-PopDirect g c = rw c.in-PopDirect.is c.next-in-PopDirect.ensures

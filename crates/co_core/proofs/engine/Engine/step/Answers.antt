@@ -28,7 +28,7 @@ act-requires-clause-may g c =
     let lists : List (List Note) = lists_of c.args.script.now at.world in
     let due = due_of c.args.script.now at.script (with_lists c.args.self.now.ledger lists) c.args.self.now.depot at.world at.stands c.args.actor c.requires.runs.actor c.cursor-cursor.result.now c.action_for.new.next c.cursor-cursor.ensures c.action_for.ensures.action in
     let free = sym (c.blocked.ensures at.world at.stands) ∙ not_some c.blocked.result c.in_default.not-Some in
-    record { script = at.script; world = at.world; lists = lists; held = at.stands; due = record { may = c.requires.runs.actor; due = due; free = free }; few = c.requires.few }
+    record { may = record { script = at.script; world = at.world; lists = lists; held = at.stands; due = record { may = c.requires.runs.actor; due = due; free = free }; few = c.requires.few }; room = c.requires.room }
 
 pub returns-in_ok-count-in_default-action-clause-stepped : goal.returns-in_ok-count-in_default-action-clause-stepped
 returns-in_ok-count-in_default-action-clause-stepped g c =
