@@ -70,7 +70,8 @@ impl Tally {
         count_entry(&mut self.counts, &mut self.callouts[at], entry)
     }
 
-    /// Takes a note.
+    /// Takes a note. Inlined where one is told, where its place is known, so that of most nothing is looked at.
+    #[inline(always)]
     fn take(&mut self, note: &Note) -> Result<(), NoMemory>
         ensures { OnOk result ((s : Script) (made : List MadeNote) (actor : ℕ) → actor < actor_count s → HasCounted s self.old made →
             HasCounted s self.new (made ++ record { actor = actor; note = note.now } ∷ [])) }
@@ -137,6 +138,7 @@ impl<S: Subject> Listener for TallyOf<S> {
 
     ghost room = { λ x. 0 };
 
+    #[inline(always)]
     fn write(&mut self, actor: u32, note: &Note) -> Result<(), NoMemory> {
         self.tally.take(note)
     }
