@@ -92,7 +92,7 @@ began s r c (Does (does.ReadLock id) ∷ left) = taken c left (record { id = id;
 began s r c (Does does.Unlock ∷ left) = either (is_some c.hold) (Silent (over c left None)) (Asks c.act (Itself NotHolding)) tt tt
 began s r c (Does (does.Drain i) ∷ left) = drains c i false
 began s r c (Does (does.Tick time) ∷ left) = tt
-began s r c (Does (does.Reset who when func arg cpu prec) ∷ left) = called s c (does.Reset who when func arg cpu prec) (record { time = c.now; here = cpu_of s r; me = 0 })
+began s r c (Does (does.Reset who func when arg cpu prec) ∷ left) = called s c (does.Reset who func when arg cpu prec) (record { time = c.now; here = cpu_of s r; me = 0 })
 began s r c (Does (does.Ticks who ticks func arg cpu) ∷ left) = called s c (does.Ticks who ticks func arg cpu) (record { time = c.now; here = cpu_of s r; me = 0 })
 began s r c (Does (does.Schedule who when cpu prec) ∷ left) = called s c (does.Schedule who when cpu prec) (record { time = c.now; here = cpu_of s r; me = 0 })
 began s r c (Does (does.Stop who) ∷ left) = called s c (does.Stop who) (record { time = c.now; here = cpu_of s r; me = 0 })

@@ -35,7 +35,7 @@ script = record {
   locks = [];
   timers = (record { lock = Free; returns_unlocked = false; direct = false }) ∷ [];
   funcs = [] ∷ [];
-  clients = (Reset (Timer 0) (at.At due) 0 7 Home 0 ∷ []) ∷ [];
+  clients = (Reset (Timer 0) 0 (at.At due) 7 Home 0 ∷ []) ∷ [];
   ticks = (Tick due ∷ []) ∷ [];
   turns = [];
 }

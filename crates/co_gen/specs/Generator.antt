@@ -86,7 +86,7 @@ abbrev pub where_of : ℕ → Where
 where_of w = if nat_lt w 4 then Cpu w else Home
 
 abbrev pub call_of_kind : Choice → Kind → Act
-call_of_kind c kind.Reset = act.Reset (Timer c.timer) (After c.span) (c.timer % 4) c.timer (where_of c.cpu) 0
+call_of_kind c kind.Reset = act.Reset (Timer c.timer) (c.timer % 4) (After c.span) c.timer (where_of c.cpu) 0
 call_of_kind c kind.Schedule = act.Schedule (Timer c.timer) (After c.span) Home 0
 call_of_kind c kind.Stop = act.Stop (Timer c.timer)
 call_of_kind c kind.AsyncDrain = act.AsyncDrain (Timer c.timer) 3

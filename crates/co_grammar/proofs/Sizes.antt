@@ -54,7 +54,7 @@ act-weight serviced (act.Now t) h = omega (arith, time-short t h)
 act-weight serviced (act.Lock l) h = omega (arith, number-short l h)
 act-weight serviced (act.ReadLock l) h = omega (arith, number-short l h)
 act-weight serviced act.Unlock h = omega arith
-act-weight serviced (act.Reset w m f a c p) h =
+act-weight serviced (act.Reset w f m a c p) h =
     omega (arith, who-short serviced w h.0, moment-short m h.1, number-short f h.2, number-short a h.3, cpu-weight c (precision_words p) h.4, precision-weight p h.5)
 act-weight serviced (act.Ticks w k f a c) h = omega (arith, who-short serviced w h.0, signed-short k h.1, number-short f h.2, number-short a h.3, home-weight c h.4)
 act-weight serviced (act.Schedule w m c p) h = omega (arith, who-short serviced w h.0, moment-short m h.1, cpu-weight c (precision_words p) h.2, precision-weight p h.3)

@@ -57,10 +57,10 @@ act-keeps (act.Now t) = refl
 act-keeps (act.Lock l) = keeps-then l (act.Lock l) (number_typed l) _ (number-keeps l) refl
 act-keeps (act.ReadLock l) = keeps-then l (act.ReadLock l) (number_typed l) _ (number-keeps l) refl
 act-keeps act.Unlock = refl
-act-keeps (act.Reset w m f a c p) = keeps-then w (act.Reset w m f a c p) (who_typed w) _ (who-keeps w)
-    (keeps-then f (act.Reset w m f a c p) (number_typed f) _ (number-keeps f)
-    (keeps-then a (act.Reset w m f a c p) (argument_typed a) _ (argument-keeps a)
-    (keeps-then c (act.Reset w m f a c p) (where_typed c) _ (where-keeps c) refl)))
+act-keeps (act.Reset w f m a c p) = keeps-then w (act.Reset w f m a c p) (who_typed w) _ (who-keeps w)
+    (keeps-then f (act.Reset w f m a c p) (number_typed f) _ (number-keeps f)
+    (keeps-then a (act.Reset w f m a c p) (argument_typed a) _ (argument-keeps a)
+    (keeps-then c (act.Reset w f m a c p) (where_typed c) _ (where-keeps c) refl)))
 act-keeps (act.Ticks w k f a c) = keeps-then w (act.Ticks w k f a c) (who_typed w) _ (who-keeps w)
     (keeps-then k (act.Ticks w k f a c) (ticks_typed k) _ (ticks-keep k)
     (keeps-then f (act.Ticks w k f a c) (number_typed f) _ (number-keeps f)
@@ -126,7 +126,7 @@ fit-held funcs s (act.Now t) h e = refl
 fit-held funcs s (act.Lock l) h e = ap (λ r. r >>= λ n. Ok (act.Lock n)) (lock-fits funcs s l h e)
 fit-held funcs s (act.ReadLock l) h e = ap (λ r. r >>= λ n. Ok (act.ReadLock n)) (lock-fits funcs s l h e)
 fit-held funcs s act.Unlock h e = refl
-fit-held funcs s (act.Reset w m f a c p) h e =
+fit-held funcs s (act.Reset w f m a c p) h e =
     let names = and_left (who_exists s w && cpu_exists s c) (nat_lt f funcs && nat_lt a (2 ^ 64)) e in
     let values = and_right (who_exists s w && cpu_exists s c) (nat_lt f funcs && nat_lt a (2 ^ 64)) e in
     rw (

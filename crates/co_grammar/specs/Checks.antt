@@ -46,7 +46,7 @@ call_fits funcs f a = nat_lt f funcs && nat_lt a (2 ^ 64)
 abbrev pub values_fit : ℕ → Script → Act → Bool
 values_fit funcs s (act.Lock l) = lock_exists s l
 values_fit funcs s (act.ReadLock l) = lock_exists s l
-values_fit funcs s (act.Reset w m f a c p) = call_fits funcs f a
+values_fit funcs s (act.Reset w f m a c p) = call_fits funcs f a
 values_fit funcs s (act.Ticks w k f a c) = is_i32 k && call_fits funcs f a
 values_fit funcs s (act.AsyncDrain w f) = nat_lt f funcs
 values_fit funcs s _ = true
@@ -79,12 +79,12 @@ act_typed (act.Now t) = Ok (act.Now t)
 act_typed (act.Lock l) = number_typed l >>= λ n. Ok (act.Lock n)
 act_typed (act.ReadLock l) = number_typed l >>= λ n. Ok (act.ReadLock n)
 act_typed act.Unlock = Ok act.Unlock
-act_typed (act.Reset who when func arg place prec) = do
+act_typed (act.Reset who func when arg place prec) = do
   w ← who_typed who
   f ← number_typed func
   a ← argument_typed arg
   c ← where_typed place
-  Ok (act.Reset w when f a c prec)
+  Ok (act.Reset w f when a c prec)
 act_typed (act.Ticks who ticks func arg place) = do
   w ← who_typed who
   k ← ticks_typed ticks

@@ -28,7 +28,7 @@ module _ (s : Script) (at : Scene) (here : at.here < s.cpus) (me : at.me < lengt
   where_in Here exists = here
 
   call_in : (a : Act) → is_call a ≡ true → names_exist s a ≡ true → CallExists (length s.timers) s.cpus (plain_op a s.hz at)
-  call_in (act.Reset who when func arg cpu prec) is exists = let both = both_true (who_exists s who) (cpu_exists s cpu) exists in (who_in who both.0, where_in cpu both.1)
+  call_in (act.Reset who func when arg cpu prec) is exists = let both = both_true (who_exists s who) (cpu_exists s cpu) exists in (who_in who both.0, where_in cpu both.1)
   call_in (act.Ticks who ticks func arg cpu) is exists = let both = both_true (who_exists s who) (cpu_exists s cpu) exists in (who_in who both.0, where_in cpu both.1)
   call_in (act.Schedule who when cpu prec) is exists = let both = both_true (who_exists s who) (cpu_exists s cpu) exists in (who_in who both.0, where_in cpu both.1)
   call_in (act.Stop who) is exists = (who_in who exists, tt)

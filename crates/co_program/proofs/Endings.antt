@@ -62,7 +62,7 @@ AreCalls acts = AllByRecursion (λ x. is_call x ≡ true) acts
 
 -- a function's act is a call
 pub some-call : (x : Act) (hz : ℕ) (at : Scene) → is_call x ≡ true → is_some (plain_op x hz at) ≡ true
-some-call (act.Reset who when func arg cpu prec) hz at h = refl
+some-call (act.Reset who func when arg cpu prec) hz at h = refl
 some-call (act.Ticks who ticks func arg cpu) hz at h = refl
 some-call (act.Schedule who when cpu prec) hz at h = refl
 some-call (act.Stop who) hz at h = refl

@@ -82,7 +82,7 @@ tick_in s (act.Now time) tick = cc
 tick_in s (act.Lock id) tick = cc
 tick_in s (act.ReadLock id) tick = cc
 tick_in s act.Unlock tick = cc
-tick_in s (act.Reset who when func arg cpu prec) tick = cc
+tick_in s (act.Reset who func when arg cpu prec) tick = cc
 tick_in s (act.Ticks who ticks func arg cpu) tick = cc
 tick_in s (act.Schedule who when cpu prec) tick = cc
 tick_in s (act.Stop who) tick = cc
@@ -127,7 +127,7 @@ module _ (s : Script) (at : Scene) (here : IsCpu s at.here) (me : IsCallout s at
   CallExists (Some (i, op)) = IsCallout s i × PlainOpExists s op
 
   pub call_in : (a : Act) (hz : ℕ) → names_exist s a ≡ true → CallExists (plain_op a hz at)
-  call_in (act.Reset who when func arg cpu prec) hz exists = let both = both_true (who_exists s who) (cpu_exists s cpu) exists in (who_in who both.0, where_in cpu both.1)
+  call_in (act.Reset who func when arg cpu prec) hz exists = let both = both_true (who_exists s who) (cpu_exists s cpu) exists in (who_in who both.0, where_in cpu both.1)
   call_in (act.Ticks who ticks func arg cpu) hz exists = let both = both_true (who_exists s who) (cpu_exists s cpu) exists in (who_in who both.0, where_in cpu both.1)
   call_in (act.Schedule who when cpu prec) hz exists = let both = both_true (who_exists s who) (cpu_exists s cpu) exists in (who_in who both.0, where_in cpu both.1)
   call_in (act.Stop who) hz exists = (who_in who exists, tt)

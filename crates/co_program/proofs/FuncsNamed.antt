@@ -85,7 +85,7 @@ module _ (s : Script) where
 
   tick_names : (a : Act) → is_tick a ≡ true → ActNamesFunc s a
   tick_names (act.Tick time) tick = tt
-  tick_names (act.Reset who when func arg cpu prec) tick = cc
+  tick_names (act.Reset who func when arg cpu prec) tick = cc
   tick_names (act.Ticks who ticks func arg cpu) tick = cc
   tick_names (act.AsyncDrain who func) tick = cc
   tick_names a tick = tt
@@ -113,7 +113,7 @@ module _ (s : Script) where
     CallNames (Some (i, op)) = OpNamesFunc s (Call (Plain op))
 
     call_names : (a : Act) (hz : ℕ) → ActNamesFunc s a → CallNames (plain_op a hz at)
-    call_names (act.Reset who when func arg cpu prec) hz name = name
+    call_names (act.Reset who func when arg cpu prec) hz name = name
     call_names (act.Ticks who ticks func arg cpu) hz name = name
     call_names (act.Schedule who when cpu prec) hz name = tt
     call_names (act.Stop who) hz name = tt

@@ -53,7 +53,7 @@ module _ (s : Script) (role : Role) (c : Cursor) (left : List Task) where
   begins_call (act.Lock id) _ other _ _ _ _ = absurd (other id refl)
   begins_call (act.ReadLock id) _ _ other _ _ _ = absurd (other id refl)
   begins_call act.Unlock _ _ _ other _ _ = absurd (other refl)
-  begins_call (act.Reset who when func arg cpu prec) _ _ _ _ _ _ = refl
+  begins_call (act.Reset who func when arg cpu prec) _ _ _ _ _ _ = refl
   begins_call (act.Ticks who ticks func arg cpu) _ _ _ _ _ _ = refl
   begins_call (act.Schedule who when cpu prec) _ _ _ _ _ _ = refl
   begins_call (act.Stop who) _ _ _ _ _ _ = refl

@@ -32,7 +32,7 @@ is_me Me = true
 
 -- the act is about the callout in service
 abbrev pub names_me : Act → Bool
-names_me (Reset who when func arg cpu prec) = is_me who
+names_me (Reset who func when arg cpu prec) = is_me who
 names_me (Ticks who ticks func arg cpu) = is_me who
 names_me (Schedule who when cpu prec) = is_me who
 names_me (Stop who) = is_me who
@@ -46,7 +46,7 @@ names_me act = false
 
 -- the callout and the operation of a call; None for an act that is no call, and for a drain
 abbrev pub plain_op : Act → ℕ → Scene → Option (ℕ × PlainOp)
-plain_op (Reset who when func arg cpu prec) hz at = Some (callout_of_who at who, op.Reset (time_of_when at when) prec func arg (cpu_named at cpu))
+plain_op (Reset who func when arg cpu prec) hz at = Some (callout_of_who at who, op.Reset (time_of_when at when) prec func arg (cpu_named at cpu))
 plain_op (Ticks who ticks func arg cpu) hz at = Some (callout_of_who at who, op.Reset (sat_add at.time (from_ticks ticks hz)) 0 func arg (cpu_named at cpu))
 plain_op (Schedule who when cpu prec) hz at = Some (callout_of_who at who, op.Schedule (time_of_when at when) prec (cpu_named at cpu))
 plain_op (Stop who) hz at = Some (callout_of_who at who, op.Stop)
@@ -69,7 +69,7 @@ is_own_cpu Here = true
 is_own_cpu cpu = false
 
 abbrev pub names_here : Act → Bool
-names_here (Reset who when func arg cpu prec) = is_own_cpu cpu
+names_here (Reset who func when arg cpu prec) = is_own_cpu cpu
 names_here (Ticks who ticks func arg cpu) = is_own_cpu cpu
 names_here (Schedule who when cpu prec) = is_own_cpu cpu
 names_here act = false

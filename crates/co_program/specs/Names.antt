@@ -35,7 +35,7 @@ FuncExists s (Some f) = IsFunc s f
 
 -- the function that an act names
 abbrev pub ActNamesFunc : Script → Act → Type 0
-ActNamesFunc s (Reset who when func arg cpu prec) = IsFunc s func
+ActNamesFunc s (Reset who func when arg cpu prec) = IsFunc s func
 ActNamesFunc s (Ticks who ticks func arg cpu) = IsFunc s func
 ActNamesFunc s (AsyncDrain who func) = IsFunc s func
 ActNamesFunc s act = ⊤

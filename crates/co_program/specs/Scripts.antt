@@ -34,7 +34,7 @@ cpu_exists s Here = true
 
 -- the callout and the CPU that an act names
 abbrev pub names_exist : Script → Act → Bool
-names_exist s (Reset who when func arg cpu prec) = who_exists s who && cpu_exists s cpu
+names_exist s (Reset who func when arg cpu prec) = who_exists s who && cpu_exists s cpu
 names_exist s (Ticks who ticks func arg cpu) = who_exists s who && cpu_exists s cpu
 names_exist s (Schedule who when cpu prec) = who_exists s who && cpu_exists s cpu
 names_exist s (Stop who) = who_exists s who

@@ -38,7 +38,7 @@ abbrev wheel : ℕ → ℕ → ℕ → QOp → QReply → Note
 wheel pos' actor act' op reply' = record { place = place.Cpu 0; pos = pos'; entry = Cpu (record { actor = actor; act = act'; op = op; reply = reply' }) }
 
 abbrev one_firing : Script
-one_firing = record { version = 1; hz = 1000; cpus = 1; buckets = 256; locks = []; timers = record { lock = Free; returns_unlocked = false; direct = false } ∷ []; funcs = [] ∷ []; clients = (act.Reset (callout.Timer 0) (when.At 6442450944) 0 7 cpu.Home 0 ∷ []) ∷ []; ticks = (act.Tick 6442450944 ∷ []) ∷ []; turns = [] }
+one_firing = record { version = 1; hz = 1000; cpus = 1; buckets = 256; locks = []; timers = record { lock = Free; returns_unlocked = false; direct = false } ∷ []; funcs = [] ∷ []; clients = (act.Reset (callout.Timer 0) 0 (when.At 6442450944) 7 cpu.Home 0 ∷ []) ∷ []; ticks = (act.Tick 6442450944 ∷ []) ∷ []; turns = [] }
 
 abbrev one_firing-notes : List (List Note)
 one_firing-notes =

@@ -20,7 +20,7 @@ module _ (s : Script) where
   called f a h = ltb-true f (length s.funcs) ((and_parts (nat_lt f (length s.funcs)) (nat_lt a (2 ^ 64)) h).0)
 
   act_names : (a : Act) → values_fit (length s.funcs) s a ≡ true → ActNamesFunc s a
-  act_names (act.Reset w m f a c p) h = called f a h
+  act_names (act.Reset w f m a c p) h = called f a h
   act_names (act.Ticks w k f a c) h = called f a ((and_parts (is_i32 k) (call_fits (length s.funcs) f a) h).1)
   act_names (act.AsyncDrain w f) h = ltb-true f (length s.funcs) h
   act_names a h = tt

@@ -71,7 +71,7 @@ module _ (k : Kind) (funcs : ℕ) (s : Script) (small : HasSmallNumbers s funcs)
   act-stands (act.Lock l) h = lock-stands l h.values
   act-stands (act.ReadLock l) h = lock-stands l h.values
   act-stands act.Unlock h = tt
-  act-stands (act.Reset w m f a c p) h =
+  act-stands (act.Reset w f m a c p) h =
       let t = and_parts (is_moment m) (is_time p) h.times in
       let n = and_parts (who_exists s w) (cpu_exists s c) h.names in
       let j = and_parts (nat_lt f funcs) (nat_lt a (2 ^ 64)) h.values in

@@ -45,7 +45,7 @@ begins-lock s role c ts (ReadLock id) held is free =
     subst (λ (h : Held). (to : Cursor) × (begins_next s role c (Does (ReadLock id) ∷ ts) ≡ Take h to)) same
     (over c ts (Some (record { id = id; exclusive = false })), ap (λ (o : Option Held). cond (is_some o) (Asks c.act (Itself Holding)) (Take (record { id = id; exclusive = false }) (over c ts (Some (record { id = id; exclusive = false }))))) free)
 begins-lock s role c ts Unlock held is free = cc
-begins-lock s role c ts (Reset who when func arg cpu prec) held is free = cc
+begins-lock s role c ts (Reset who func when arg cpu prec) held is free = cc
 begins-lock s role c ts (Ticks who ticks func arg cpu) held is free = cc
 begins-lock s role c ts (Schedule who when cpu prec) held is free = cc
 begins-lock s role c ts (Stop who) held is free = cc

@@ -30,7 +30,7 @@ cpu-named s (cpu.Cpu c) = refl
 cpu-named s cpu.Here = refl
 
 pub fits-named : (funcs : ℕ) (s : Script) (a : Act) → act_fits funcs s a ≡ act_fits funcs (named_by s) a
-fits-named funcs s (act.Reset w m f a c p) = rw (who-named s w, cpu-named s c) refl
+fits-named funcs s (act.Reset w f m a c p) = rw (who-named s w, cpu-named s c) refl
 fits-named funcs s (act.Ticks w k f a c) = rw (who-named s w, cpu-named s c) refl
 fits-named funcs s (act.Schedule w m c p) = rw (who-named s w, cpu-named s c) refl
 fits-named funcs s (act.Stop w) = rw (who-named s w) refl

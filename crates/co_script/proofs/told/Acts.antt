@@ -51,7 +51,7 @@ about serviced w x a me times h = record { verb = refl; me = rw me (who-ok servi
 
 module _ (serviced : Bool) where
   abbrev reset_ends : Who → When → ℕ → ℕ → Where → ℕ → List Word → Result Act Cause
-  reset_ends w m f a c p ws = ended ws >>= λ _. Ok (act.Reset w m f a c p)
+  reset_ends w m f a c p ws = ended ws >>= λ _. Ok (act.Reset w f m a c p)
 
   abbrev reset_from_cpu : Who → When → ℕ → ℕ → Where → List Word → Result Act Cause
   reset_from_cpu w m f a c ws = optional_precision ws >>= λ p. reset_ends w m f a c p.0 p.1
@@ -76,11 +76,11 @@ module _ (serviced : Bool) where
       let a = bind-ok (next argument f.0.1) (λ a. reset_from_argument w.0.0 m.0.0 f.0.0 a.0 a.1) x f.2 in
       let c = bind-ok (optional_cpu a.0.1) (λ c. reset_from_cpu w.0.0 m.0.0 f.0.0 a.0.0 c.0 c.1) x a.2 in
       let p = bind-ok (optional_precision c.0.1) (λ p. reset_ends w.0.0 m.0.0 f.0.0 a.0.0 c.0.0 p.0 p.1) x c.2 in
-      let e = bind-ok (ended p.0.1) (λ _. Ok (act.Reset w.0.0 m.0.0 f.0.0 a.0.0 c.0.0 p.0.0)) x p.2 in
-      let same : act.Reset w.0.0 m.0.0 f.0.0 a.0.0 c.0.0 p.0.0 ≡ x = cc in
+      let e = bind-ok (ended p.0.1) (λ _. Ok (act.Reset w.0.0 f.0.0 m.0.0 a.0.0 c.0.0 p.0.0)) x p.2 in
+      let same : act.Reset w.0.0 f.0.0 m.0.0 a.0.0 c.0.0 p.0.0 ≡ x = cc in
       let who_read = next-ok (who serviced) ws w.0 w.1 in
       let moment_read = next-ok moment w.0.1 m.0 m.1 in
-      subst (λ y. IsFormed serviced verb.Reset y) {x = act.Reset w.0.0 m.0.0 f.0.0 a.0.0 c.0.0 p.0.0} same (record {
+      subst (λ y. IsFormed serviced verb.Reset y) {x = act.Reset w.0.0 f.0.0 m.0.0 a.0.0 c.0.0 p.0.0} same (record {
         verb = refl {a = verb.Reset};
         me = who-ok serviced who_read.0 w.0.0 who_read.1;
         times = and_from (is_moment m.0.0) (is_time p.0.0) (moment-ok moment_read.0 m.0.0 moment_read.1) (precision-ok c.0.1 p.0 p.1);

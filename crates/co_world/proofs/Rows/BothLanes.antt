@@ -41,8 +41,8 @@ script = record {
   timers = (record { lock = lockuse.Free; returns_unlocked = false; direct = true }) ∷
       (record { lock = lockuse.Free; returns_unlocked = false; direct = false }) ∷ [];
   funcs = ([]) ∷ [];
-  clients = (((act.Reset (who.Timer 0) (At 4294967296) 0 0 Home 0) ∷
-      (act.Reset (who.Timer 1) (At 4294967296) 0 1 Home 0) ∷ [])) ∷ [];
+  clients = (((act.Reset (who.Timer 0) 0 (At 4294967296) 0 Home 0) ∷
+      (act.Reset (who.Timer 1) 0 (At 4294967296) 1 Home 0) ∷ [])) ∷ [];
   ticks = (((act.Tick 4294967296) ∷ [])) ∷ [];
   turns = (0) ∷
       (0) ∷

@@ -40,7 +40,7 @@ script = record {
   timers = (record { lock = lockuse.Free; returns_unlocked = false; direct = false }) ∷ [];
   funcs = ([]) ∷ [];
   clients = (((act.Stop (who.Timer 0)) ∷
-      (act.Reset (who.Timer 0) (At 4294967296) 0 0 Home 0) ∷
+      (act.Reset (who.Timer 0) 0 (At 4294967296) 0 Home 0) ∷
       (act.Stop (who.Timer 0)) ∷
       (act.Stop (who.Timer 0)) ∷
       (act.Active (who.Timer 0)) ∷ [])) ∷ [];

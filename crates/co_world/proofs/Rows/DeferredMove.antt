@@ -41,8 +41,8 @@ script = record {
   locks = [];
   timers = (record { lock = lockuse.Free; returns_unlocked = false; direct = false }) ∷ [];
   funcs = ([]) ∷ [];
-  clients = (((act.Reset (who.Timer 0) (At 4294967296) 0 0 Home 0) ∷
-      (act.Reset (who.Timer 0) (At 8589934592) 0 1 (where_.Cpu 1) 0) ∷ [])) ∷ [];
+  clients = (((act.Reset (who.Timer 0) 0 (At 4294967296) 0 Home 0) ∷
+      (act.Reset (who.Timer 0) 0 (At 8589934592) 1 (where_.Cpu 1) 0) ∷ [])) ∷ [];
   ticks = (((act.Tick 4294967296) ∷ [])) ∷
       (((act.Tick 8589934592) ∷ [])) ∷ [];
   turns = (0) ∷

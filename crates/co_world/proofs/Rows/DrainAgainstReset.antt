@@ -40,10 +40,10 @@ script = record {
   locks = [];
   timers = (record { lock = lockuse.Free; returns_unlocked = false; direct = false }) ∷ [];
   funcs = ([]) ∷ [];
-  clients = (((act.Reset (who.Timer 0) (At 4294967296) 0 0 Home 0) ∷
+  clients = (((act.Reset (who.Timer 0) 0 (At 4294967296) 0 Home 0) ∷
       (act.Drain 0) ∷
-      (act.Reset (who.Timer 0) (At 12884901888) 0 2 Home 0) ∷ [])) ∷
-      (((act.Reset (who.Timer 0) (At 8589934592) 0 1 Home 0) ∷ [])) ∷ [];
+      (act.Reset (who.Timer 0) 0 (At 12884901888) 2 Home 0) ∷ [])) ∷
+      (((act.Reset (who.Timer 0) 0 (At 8589934592) 1 Home 0) ∷ [])) ∷ [];
   ticks = (((act.Tick 4294967296) ∷ [])) ∷ [];
   turns = (0) ∷
       (2) ∷

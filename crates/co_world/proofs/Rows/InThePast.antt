@@ -40,7 +40,7 @@ script = record {
   locks = [];
   timers = (record { lock = lockuse.Free; returns_unlocked = false; direct = false }) ∷ [];
   funcs = ([]) ∷ [];
-  clients = (((act.Reset (who.Timer 0) (At 0) 0 0 Home 0) ∷ [])) ∷ [];
+  clients = (((act.Reset (who.Timer 0) 0 (At 0) 0 Home 0) ∷ [])) ∷ [];
   ticks = (((act.Tick 21474836480) ∷
       (act.Tick 21474836480) ∷ [])) ∷ [];
   turns = (1) ∷

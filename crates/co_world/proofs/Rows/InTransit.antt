@@ -41,7 +41,7 @@ script = record {
   locks = [];
   timers = (record { lock = lockuse.Free; returns_unlocked = false; direct = false }) ∷ [];
   funcs = ([]) ∷ [];
-  clients = (((act.Reset (who.Timer 0) (At 4294967296) 0 0 (where_.Cpu 1) 0) ∷ [])) ∷
+  clients = (((act.Reset (who.Timer 0) 0 (At 4294967296) 0 (where_.Cpu 1) 0) ∷ [])) ∷
       (((act.Stop (who.Timer 0)) ∷ [])) ∷ [];
   ticks = ([]) ∷
       ([]) ∷ [];

@@ -41,7 +41,7 @@ script = record {
   timers = (record { lock = lockuse.Free; returns_unlocked = false; direct = false }) ∷ [];
   funcs = ([]) ∷ [];
   clients = (((act.Now 4294967296) ∷
-      (act.Reset (who.Timer 0) (After 9223372036854775807) 0 0 Home 0) ∷ [])) ∷ [];
+      (act.Reset (who.Timer 0) 0 (After 9223372036854775807) 0 Home 0) ∷ [])) ∷ [];
   ticks = (((act.Tick 9223372036854775806) ∷
       (act.Tick 9223372036854775807) ∷ [])) ∷ [];
   turns = (0) ∷

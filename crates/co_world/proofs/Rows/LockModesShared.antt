@@ -46,8 +46,8 @@ script = record {
       (record { lock = (lockuse.RwShared 0); returns_unlocked = false; direct = false }) ∷ [];
   funcs = (((act.Stop Me) ∷ [])) ∷ [];
   clients = (((act.Lock 0) ∷
-      (act.Reset (who.Timer 0) (At 4294967296) 0 0 Home 0) ∷
-      (act.Reset (who.Timer 1) (At 4294967296) 0 1 (where_.Cpu 1) 0) ∷
+      (act.Reset (who.Timer 0) 0 (At 4294967296) 0 Home 0) ∷
+      (act.Reset (who.Timer 1) 0 (At 4294967296) 1 (where_.Cpu 1) 0) ∷
       (act.Unlock) ∷ [])) ∷ [];
   ticks = (((act.Tick 4294967296) ∷ [])) ∷
       (((act.Tick 4294967296) ∷ [])) ∷ [];

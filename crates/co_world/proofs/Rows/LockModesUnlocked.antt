@@ -44,7 +44,7 @@ script = record {
   timers = (record { lock = (lockuse.Mtx 0); returns_unlocked = true; direct = false }) ∷ [];
   funcs = (((act.Stop Me) ∷ [])) ∷ [];
   clients = (((act.Lock 0) ∷
-      (act.Reset (who.Timer 0) (At 4294967296) 0 0 Home 0) ∷
+      (act.Reset (who.Timer 0) 0 (At 4294967296) 0 Home 0) ∷
       (act.Unlock) ∷
       (act.Lock 0) ∷ [])) ∷ [];
   ticks = (((act.Tick 4294967296) ∷ [])) ∷ [];

@@ -43,10 +43,10 @@ script = record {
       (record { lock = lockuse.Free; returns_unlocked = false; direct = false }) ∷
       (record { lock = lockuse.Free; returns_unlocked = false; direct = false }) ∷ [];
   funcs = ([]) ∷ [];
-  clients = (((act.Reset (who.Timer 0) (At 285212672) 0 0 Home 0) ∷
-      (act.Reset (who.Timer 1) (At 33554432) 0 0 Home 0) ∷
-      (act.Reset (who.Timer 2) (At 16777216) 0 0 Home 0) ∷
-      (act.Reset (who.Timer 3) (At 838860800) 0 0 Home 0) ∷ [])) ∷ [];
+  clients = (((act.Reset (who.Timer 0) 0 (At 285212672) 0 Home 0) ∷
+      (act.Reset (who.Timer 1) 0 (At 33554432) 0 Home 0) ∷
+      (act.Reset (who.Timer 2) 0 (At 16777216) 0 Home 0) ∷
+      (act.Reset (who.Timer 3) 0 (At 838860800) 0 Home 0) ∷ [])) ∷ [];
   ticks = (((act.Tick 671088640) ∷ [])) ∷ [];
   turns = (0) ∷
       (0) ∷

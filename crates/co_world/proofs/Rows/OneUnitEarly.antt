@@ -39,7 +39,7 @@ script = record {
   locks = [];
   timers = (record { lock = lockuse.Free; returns_unlocked = false; direct = false }) ∷ [];
   funcs = ([]) ∷ [];
-  clients = (((act.Reset (who.Timer 0) (At 6442450944) 0 7 Home 0) ∷
+  clients = (((act.Reset (who.Timer 0) 0 (At 6442450944) 7 Home 0) ∷
       (act.Pending (who.Timer 0)) ∷ [])) ∷ [];
   ticks = (((act.Tick 6442450943) ∷ [])) ∷ [];
   turns = (0) ∷

@@ -42,9 +42,9 @@ script = record {
       (record { lock = lockuse.Free; returns_unlocked = false; direct = false }) ∷
       (record { lock = lockuse.Free; returns_unlocked = false; direct = false }) ∷ [];
   funcs = ([]) ∷ [];
-  clients = (((act.Reset (who.Timer 0) (At 16777215) 0 0 Home 0) ∷
-      (act.Reset (who.Timer 1) (At 16777216) 0 1 Home 0) ∷
-      (act.Reset (who.Timer 2) (At 16777217) 0 2 Home 0) ∷ [])) ∷ [];
+  clients = (((act.Reset (who.Timer 0) 0 (At 16777215) 0 Home 0) ∷
+      (act.Reset (who.Timer 1) 0 (At 16777216) 1 Home 0) ∷
+      (act.Reset (who.Timer 2) 0 (At 16777217) 2 Home 0) ∷ [])) ∷ [];
   ticks = (((act.Tick 16777217) ∷ [])) ∷ [];
   turns = (0) ∷
       (0) ∷

@@ -40,8 +40,8 @@ script = record {
   locks = [];
   timers = (record { lock = lockuse.Free; returns_unlocked = false; direct = false }) ∷ [];
   funcs = ([]) ∷ [];
-  clients = (((act.Reset (who.Timer 0) (At 4294967296) 0 1 Home 0) ∷
-      (act.Reset (who.Timer 0) (At 8589934592) 0 2 Home 0) ∷ [])) ∷ [];
+  clients = (((act.Reset (who.Timer 0) 0 (At 4294967296) 1 Home 0) ∷
+      (act.Reset (who.Timer 0) 0 (At 8589934592) 2 Home 0) ∷ [])) ∷ [];
   ticks = (((act.Tick 8589934592) ∷ [])) ∷ [];
   turns = (0) ∷
       (0) ∷ [];

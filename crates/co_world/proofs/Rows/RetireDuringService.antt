@@ -42,7 +42,7 @@ script = record {
   timers = (record { lock = lockuse.Free; returns_unlocked = false; direct = false }) ∷ [];
   funcs = ([]) ∷
       (((act.Retire Me) ∷ [])) ∷ [];
-  clients = (((act.Reset (who.Timer 0) (At 4294967296) 0 0 Home 0) ∷
+  clients = (((act.Reset (who.Timer 0) 0 (At 4294967296) 0 Home 0) ∷
       (act.Retire (who.Timer 0)) ∷
       (act.AsyncDrain (who.Timer 0) 1) ∷
       (act.Pending (who.Timer 0)) ∷

@@ -40,8 +40,8 @@ script = record {
   buckets = 256;
   locks = [];
   timers = (record { lock = lockuse.Free; returns_unlocked = false; direct = false }) ∷ [];
-  funcs = (((act.Reset Me (After 4294967296) 0 0 Home 0) ∷ [])) ∷ [];
-  clients = (((act.Reset (who.Timer 0) (At 4294967296) 0 0 Home 0) ∷
+  funcs = (((act.Reset Me 0 (After 4294967296) 0 Home 0) ∷ [])) ∷ [];
+  clients = (((act.Reset (who.Timer 0) 0 (At 4294967296) 0 Home 0) ∷
       (act.Stop (who.Timer 0)) ∷ [])) ∷ [];
   ticks = (((act.Tick 4294967296) ∷ [])) ∷ [];
   turns = (0) ∷

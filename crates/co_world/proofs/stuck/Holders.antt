@@ -38,7 +38,7 @@ only_covered s hold act (Some (i, op)) h = only_choice (covers hold (spec_at s i
 
 -- whether an act is a call does not depend on when and where it is made
 call_anywhere : (act : Act) (hz : ℕ) (at : Scene) → is_call act ≡ true → is_some (plain_op act hz at) ≡ true
-call_anywhere (Reset who when func arg cpu prec) hz at h = refl
+call_anywhere (Reset who func when arg cpu prec) hz at h = refl
 call_anywhere (Ticks who ticks func arg cpu) hz at h = refl
 call_anywhere (Schedule who when cpu prec) hz at h = refl
 call_anywhere (Stop who) hz at h = refl

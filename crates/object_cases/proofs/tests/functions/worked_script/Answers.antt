@@ -15,7 +15,7 @@ use Rattle.co_program.specs.Scripts.{IsScript, is_call, is_tick, names_exist}
 use Rattle.object_cases.proofs.tests.functions.worked_script.Goals as goal
 
 abbrev arms : ℕ → ℕ → List Act
-arms span zero_time = Reset Me (After span) 0 0 Home zero_time ∷ Stop Me ∷ []
+arms span zero_time = Reset Me 0 (After span) 0 Home zero_time ∷ Stop Me ∷ []
 
 abbrev script : Spec → ℕ → ℕ → Script
 script spec span zero_time =
