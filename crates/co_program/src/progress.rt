@@ -22,6 +22,7 @@ use co_sbt::Sbt;
 /// the entry (no matter for the entries of CPUs and of actors). Of the acts that have begun, each is over in the program or
 /// has made a note: so `act` is at most `task` and the number of the actor's notes, which bounds it for every caller. No
 /// note changes what the actor holds.
+#[inline(always)]
 pub fn advance(script: &Script, cursor: &mut Cursor, listed: bool, place: Place, entry: &AnyEntry)
     requires script { IsScript script.now }
     requires room { cursor.old.act < 2 ^ 64 - 1 }
