@@ -6,6 +6,7 @@ ghost use Rattle.co_wheel.specs.Callouts.{is_here, is_serviced, in_service};
 ghost use Rattle.co_wheel.specs.Cpu.{Cpu};
 ghost use Rattle.co_wheel.specs.Parcel.{Parcel as Travelling};
 ghost use Rattle.co_wheel.specs.Service.{begin_here, end_here};
+ghost use Rattle.co_wheel.specs.Next.{next_out};
 ghost use Rattle.co_core.specs.Stored.{IsBegun, IsCalled, IsEnded, IsLanded, IsNext, IsScanned, MayCarry, MayLand, bag_at, stand_at, wheel_at, with_bag, with_stand, with_wheel};
 
 mod boot;
@@ -14,7 +15,7 @@ use co_bucket::WheelQueue;
 use co_object::{CallOp, Reply};
 use co_queue::Looks;
 use co_sbt::Sbt;
-use co_wheel::{CallOut, EndOut, NextOut, Parcel, Wheel};
+use co_wheel::{CallOut, EndOut, Parcel, Started, Wheel};
 use std::marker::Model;
 
 /// Where the callouts' records are: at the wheels of the CPUs, or on their way.
@@ -107,13 +108,13 @@ impl Depot {
 
     /// The first callout that has come due goes into service: of this CPU, or of its interrupt where `direct`.
     #[inline(always)]
-    pub(crate) fn next(&mut self, cpu: u32, direct: bool) -> NextOut
+    pub(crate) fn next(&mut self, cpu: u32, direct: bool) -> Option<Started>
         requires cpu { cpu < length self.old.wheels }
         requires free { in_service direct (wheel_at self.old cpu).callouts ≡ None }
-        ensures { (after : Cpu) × IsNext direct (wheel_at self.old cpu) result after × (self.new ≡ with_wheel self.old cpu after) }
+        ensures { (after : Cpu) × IsNext direct (wheel_at self.old cpu) (next_out result) after × (self.new ≡ with_wheel self.old cpu after) }
     {
         let wheel = &mut self.wheels[cpu as usize];
-        next(wheel, direct)
+        wheel.start(direct)
     }
 
     /// What is due at this CPU by this time has come due. The answer is how many entries that were.
@@ -164,8 +165,16 @@ fn call(
     if out.leaves.is_none() {
         return out.inserted.is_some();
     }
-    *bag = std::mem::replace(&mut out.leaves, None);
+    carry(bag, &mut out.leaves);
     true
+}
+
+/// What leaves goes into the bag. Not inlined: it is rare, and each call would pay for its locals.
+#[inline(never)]
+fn carry(bag: &mut Option<Parcel>, leaves: &mut Option<Parcel>)
+    ensures { bag.new ≡ leaves.old }
+{
+    *bag = std::mem::replace(leaves, None);
 }
 
 /// The bag is empty, and written only where the callout leaves, which is rare.
@@ -181,15 +190,4 @@ fn end(wheel: &mut Wheel<WheelQueue>, direct: bool, bag: &mut Option<Parcel>) ->
     }
     *bag = out.leaves;
     out.reply
-}
-
-fn next(wheel: &mut Wheel<WheelQueue>, direct: bool) -> NextOut
-    requires free { in_service direct wheel.old.callouts ≡ None }
-    ensures { IsNext direct wheel.old result wheel.new }
-{
-    if direct {
-        wheel.next_direct()
-    } else {
-        wheel.next()
-    }
 }

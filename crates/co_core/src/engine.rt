@@ -15,13 +15,15 @@ use co_listener::Listener;
 use co_object::{CallOp, Op, OwnKind, QOp, QReply, RunOp};
 use co_program::{Asked, PendingInsert, Script, SilentStep};
 use co_sbt::{NoMemory, Sbt};
-use co_wheel::{CallOut, NextOut};
+use co_wheel::{CallOut, Started};
 
 /// What is written, and where the records are.
 #[derive(Drop)]
 pub(crate) struct Engine {
     pub ledger: Ledger,
     pub depot: Depot,
+    /// What the last call on a callout answered. Each call overwrites it: to make a place anew takes some stores each time.
+    pub out: CallOut,
 }
 
 impl Engine {
@@ -66,16 +68,14 @@ impl Engine {
         ensures { HasDone script.now N.has N.actors N.room author.actor (Asks author.act (Asked.Callout i (Op.Call op.now))) self.old self.new listener.old listener.new result }
     {
         let cpu = self.depot.stand(i);
-        let mut out = CallOut::none();
-        let listed = self.depot.call(cpu, i, op, author.actor, &mut out);
+        let listed = self.depot.call(cpu, i, op, author.actor, &mut self.out);
         let removed = self
             .ledger
-            .write_removal(script, author, listener, cpu, i, out.removed)?;
-        self.ledger
-            .write_callout(script, author, listener, i, whole, &out.reply, listed)?;
+            .write_removal(script, author, listener, cpu, i, self.out.removed)?;
+        self.ledger.write_callout(script, author, listener, i, whole, &self.out.reply, listed)?;
         let inserted = self
             .ledger
-            .write_insertion(script, author.actor, listener, out.inserted)?;
+            .write_insertion(script, author.actor, listener, self.out.inserted)?;
         Ok(removed + 1 + inserted)
     }
 
@@ -129,16 +129,18 @@ impl Engine {
     {
         let op = pop_of(direct);
         match self.depot.next(cpu, direct) {
-            NextOut::Empty => {
+            None => {
                 self.ledger
                     .write_queue(script, author, listener, cpu, op, QReply::Empty)?;
                 Ok(1)
             }
-            NextOut::Took { i, n, at, reply } => {
+            Some(started) => {
+                let (i, n, at) = (started.i, started.n, started.at);
                 let got = QReply::Got { i, n, at };
                 self.ledger
                     .write_queue(script, author, listener, cpu, op, got)?;
                 let pick = Op::Run(RunOp::Pick { n, cpu, at });
+                let reply = started.reply.reply();
                 self.ledger
                     .write_callout(script, author, listener, i, &pick, &reply, false)?;
                 Ok(2)

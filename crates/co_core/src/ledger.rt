@@ -131,6 +131,7 @@ impl Ledger {
     }
 
     /// An entry in a callout's history. Where it accepts an arming, `listed` is whether the callout stands in a queue now.
+    #[inline(always)]
     pub(crate) fn write_callout<N: Listener>(
         &mut self,
         script: &Script,

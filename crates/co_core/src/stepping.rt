@@ -11,6 +11,7 @@ use crate::ledger::Ledger;
 use co_listener::Listener;
 use co_program::{Action, Script, action_for};
 use co_sbt::NoMemory;
+use co_wheel::CallOut;
 use co_world::Turn;
 use std::alloc::Global;
 
@@ -22,7 +23,11 @@ impl Engine {
     {
         let ledger = Ledger::boot(alloc, script)?;
         let depot = Depot::boot(alloc, script)?;
-        Ok(Engine { ledger, depot })
+        Ok(Engine {
+            ledger,
+            depot,
+            out: CallOut::none(),
+        })
     }
 
     /// Whether there are more notes than fit into memory: then no step is made.

@@ -9,6 +9,7 @@ use Rattle.co_program.specs.declared.script.Script.{Script}
 use Rattle.co_program.specs.Action.{Action}
 use Rattle.co_program.specs.Actors.{actor_count}
 use Rattle.co_program.specs.Indexed.{IsCounted}
+use Rattle.co_wheel.specs.declared.outs.CallOut.{CallOut}
 use Rattle.co_world.specs.Step.{step}
 use Rattle.co_world.specs.World.{World}
 use Rattle.co_core.specs.declared.engine.Engine.{Engine}
@@ -96,10 +97,10 @@ pub may_go_on : (s : Script) (e : Engine) (a : ℕ) (action : Action) (count : �
 may_go_on s e a action count x2 lists w m made few written = record { script = m.script; world = w; lists = lists; written = written; exists = m.due.may; few = omega (arith, m.few, made, few) }
 
 -- a section's notes have been made, and what it did to the depot is the plain world's step
-pub acted : (s : Script) {B : Type 0} (has : B → List MadeNote → Type 0) (room : B → ℕ) (e : Engine) (a : ℕ) (action : Action) (depot2 : Stored) (notes : List Note) (number : ℕ) (x2 : Booked) (old new : B) →
+pub acted : (s : Script) {B : Type 0} (has : B → List MadeNote → Type 0) (room : B → ℕ) (e : Engine) (a : ℕ) (action : Action) (depot2 : Stored) (notes : List Note) (number : ℕ) (x2 : Booked) (old new : B) {out2 : CallOut} →
     HasWritten has room a notes e.ledger x2 old new → length notes ≡ number → number ≤ 3 →
     ((lists : List (List Note)) (w : World) → StandsWith s e lists w → IsDue s w a action → StandsFor s (with_lists x2 (noted lists a notes)) depot2 (step s w a)) →
-    HasActed s has a action number e (record { ledger = x2; depot = depot2 }) old new
+    HasActed s has a action number e (record { ledger = x2; depot = depot2; out = out2 }) old new
 acted s has room e a action depot2 notes number x2 old new h count few stands = record { notes = notes; count = count; few = few; stands = stands; heard = h.heard }
 
 -- an action that makes no note
