@@ -165,6 +165,7 @@ impl Ledger {
     }
 
     /// An entry in a CPU's journal.
+    #[inline(always)]
     pub(crate) fn write_queue<N: Listener>(
         &mut self,
         script: &Script,

@@ -94,6 +94,7 @@ fn called(script: &Script, cursor: &mut Cursor, i: u32, listed: bool, op: &Op, r
 }
 
 /// The act is over: after a call, or in its place a note of the actor's own.
+#[inline(always)]
 fn act_over(script: &Script, cursor: &mut Cursor)
     requires script { IsScript script.now }
     requires room { cursor.old.act < 2 ^ 64 - 1 }
