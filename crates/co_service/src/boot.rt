@@ -77,11 +77,11 @@ fn empty_seats<E: Drop, S: Story<Entry = Line<E>>>(
     Ok(all)
 }
 
-/// How many bytes are fetched together: two cache lines.
+/// How many bytes are fetched together, two cache lines: so many items take at least as much, since each has a byte or more.
 const LINES: usize = 128;
 
-/// A list with no item yet and room for `count`, whose items are bytes that one actor or one desk stores at each call. Behind these
-/// there is as much room as two cache lines have, so that a thread at the next CPU doesn't wait for what is stored here.
+/// A list with no item yet and room for `count` and `LINES` more, whose items one actor or one desk stores at each call. The room behind
+/// the items is at least two cache lines, so that a thread at the next CPU doesn't wait for what is stored here.
 pub(crate) fn apart<T: Drop>(alloc: Global, count: usize) -> Result<Vec<T>, NoMemory>
     ensures { IfOk result (λ items. items.items ≡ []) }
 {
