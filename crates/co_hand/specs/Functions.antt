@@ -1,5 +1,5 @@
 -- The functions of a script, and the calls of one.
-use Rattle.std.specs.Prelude.{◌≡◌, ℕ, ◌<◌, ◌≤◌, List, map, length, Option, Some, None}
+use Rattle.std.specs.Prelude.{◌≡◌, ℕ, ◌<◌, ◌≤◌, List, map, length, Option, Some, None, unwrap_or}
 use Rattle.std.specs.List.{AllByRecursion}
 use Rattle.co_object.specs.declared.PlainOp.{PlainOp}
 use Rattle.co_lock.specs.declared.held.Held.{Held}
@@ -57,3 +57,9 @@ pub record Makes {Origin : Type 0} (hz : ℕ) (at : Scene) (acts : List Act) (ho
 -- the port after the acts of this function, each once
 abbrev pub Runs : {Origin : Type 0} → Functions → Fire → ℕ → Option Held → PortState Origin → PortState Origin → Type 0
 Runs f fire func hold old new = Makes f.hz (scene_of fire) (acts_at f.funcs func) hold old new
+
+-- what it is to run a function of a script, that of the service or of a drain: the calls are what its acts ask for, in order and each
+-- once, and the functions stay the same
+pub record HasMadeActs (f : Functions) (fire : Fire) (drain : Option ℕ) (hold : Option Held) (calls : List PortCall) (g : Functions) : Type 0 where
+  pub asked : map (λ call. Some (call.i, call.op)) calls ≡ map (λ act. plain_op act f.hz (scene_of fire)) (acts_at f.funcs (unwrap_or drain fire.func))
+  pub same : g ≡ f

@@ -1,4 +1,4 @@
--- What a handler needs of a port, and what it leaves of it.
+-- What a handler needs of a port, what it is that it has run a function, and what it leaves of the port.
 use Rattle.std.specs.Borrow.{MutBor}
 use Rattle.std.proofs.Common.{inl, inr}
 use Rattle.co_lock.specs.declared.held.Held.{Held}
@@ -22,11 +22,15 @@ pub record Serves {Origin : Type 0} (needs : Needs) (port : PortState Origin) (f
   pub cpu : fire.cpu < needs.cpus
   pub room : needs.calls func ≤ port.room
 
--- the port after some calls, of which there are at most so many
-pub record GoesOn {Origin : Type 0} (old new : PortState Origin) (most : ℕ) : Type 0 where
+-- a function has run: it made some calls, of which there are at most so many, the port is as it is after these, and they are what the
+-- handler says that it is to run it. Where `drain` is none it is the function of the service, and else that of an asynchronous drain.
+-- `runs` holds of the handler before and after, what was told, the hold, and exactly these calls
+pub record HasRun {Handler Origin : Type 0} (runs : Handler → Fire → Option ℕ → Option Held → List PortCall → Handler → Type 0)
+    (before : Handler) (fire : Fire) (drain : Option ℕ) (hold : Option Held) (most : ℕ) (old new : PortState Origin) (after : Handler) : Type 0 where
   pub calls : List PortCall
   pub few : length calls ≤ most
-  pub after : new ≡ after_calls old calls
+  pub made : new ≡ after_calls old calls
+  pub ran : runs before fire drain hold calls after
 
 -- a hold that was lent has come back as it was
 abbrev pub HoldStays : Option (MutBor Held) → Unit {0} ⊎ ((MutBor Held × Unit {0}) ⊎ ⊥) → Type 0

@@ -2,7 +2,7 @@
 
 -- a port: its callouts, the calls so far, how many more it takes; how a call is answered
 pub mod Ports
--- what a handler needs of a port (callouts, CPUs, room), and what it leaves of it
+-- what a handler needs of a port (callouts, CPUs, room), and that it has run a function, with which calls
 pub mod Handlers
 -- what an act asks for
 pub mod Operations

@@ -103,9 +103,11 @@ fn copies(alloc: Global, funcs: &[Acts]) -> Result<Seq<Acts>, NoMemory>
 }
 
 impl Handler for FuncTable {
-    ghost use Rattle.co_hand.specs.Functions.{needs_of};
+    ghost use Rattle.co_hand.specs.Functions.{needs_of, HasMadeActs};
 
     ghost needs = { needs_of };
+
+    ghost runs = { HasMadeActs };
 
     fn run<P: Port>(&mut self, fire: &Fire, hold: Option<&mut Hold<'_>>, port: &mut P)
         requires { Serves (needs_of self.old) (P.state port.old) fire.now fire.now.func }
