@@ -1,5 +1,6 @@
 -- What the calls of a function keep: the actor's handle, and what it has in service.
 use Rattle.std.proofs.Common.{◌≡◌, ℕ, Bool, List, [], ◌∷◌, ◌++◌, refl, sym, ◌∙◌, subst}
+use Rattle.co_hand.specs.declared.fire.Fire.{Fire}
 use Rattle.co_hand.specs.declared.port_call.PortCall.{PortCall}
 use Rattle.co_hand.specs.declared.port_call.PortReply.{PortReply}
 use Rattle.co_hand.specs.declared.port_call.PortReply.TheVariants.{NotHeld, Reply as Answered}
@@ -23,7 +24,7 @@ use Rattle.co_hand.specs.Handlers.{Needs}
 use Rattle.std.specs.declared.option.Option.TheVariants.{Some, None}
 use Rattle.co_timers.specs.Handles.{HandleView, IsHandle}
 use Rattle.co_timers.specs.Ports.{AreCalls, CameTo, IsPortCall}
-use Rattle.co_timers.specs.Rounds.{IsAbout, IsAtEase, RunsIf}
+use Rattle.co_timers.specs.Rounds.{DrainsIf, IsAbout, IsAtEase, RunsIf}
 use Rattle.co_timers.proofs.Told.{all_sized}
 
 -- the same actor's passes of the same service, after entries
@@ -56,9 +57,10 @@ module _ (name : ServiceName) (params : Params) (direct : Bool) (cpu : ℕ) (d :
   calls_about p q [] are is = subst (λ (x : HandleView). AboutIt x.passes) (sym are) is
   calls_about p q (c ∷ calls) are is = calls_about are.0 q calls are.2 (came_about p are.0 are.1.hold c.i c.op c.answer are.1.came is)
 
-  pub runs_about : (needs : Needs) (func : Option ℕ) (p q : HandleView) → RunsIf needs func p q → AboutIt p.passes → AboutIt q.passes
-  runs_about needs None p q runs is = subst (λ (x : HandleView). AboutIt x.passes) (sym runs) is
-  runs_about needs (Some func) p q runs is = calls_about p q runs.calls runs.are is
+  module _ {H : Type 0} (needs : Needs) (runs : H → Fire → Option ℕ → Option Held → List PortCall → H → Type 0) where
+    pub runs_about : (before : H) (fire : Option Fire) (hold : Option Held) (p : HandleView) (after : H) (q : HandleView) → RunsIf needs runs before fire hold p after q → AboutIt p.passes → AboutIt q.passes
+    runs_about before None hold p after q ran is = subst (λ (x : HandleView). AboutIt x.passes) (sym ran.1) is
+    runs_about before (Some fire) hold p after q ran is = calls_about p q ran.calls ran.are is
 
 module _ (name : ServiceName) (params : Params) (direct : Bool) (cpu : ℕ) where
   abbrev AtEase : PassesView → Type 0
@@ -77,9 +79,10 @@ module _ (name : ServiceName) (params : Params) (direct : Bool) (cpu : ℕ) wher
   calls_free p q [] are is = subst (λ (x : HandleView). AtEase x.passes) (sym are) is
   calls_free p q (c ∷ calls) are is = calls_free are.0 q calls are.2 (came_free p are.0 are.1.hold c.i c.op c.answer are.1.came is)
 
-  pub runs_free : (needs : Needs) (func : Option ℕ) (p q : HandleView) → RunsIf needs func p q → AtEase p.passes → AtEase q.passes
-  runs_free needs None p q runs is = subst (λ (x : HandleView). AtEase x.passes) (sym runs) is
-  runs_free needs (Some func) p q runs is = calls_free p q runs.calls runs.are is
+  module _ {H : Type 0} (needs : Needs) (runs : H → Fire → Option ℕ → Option Held → List PortCall → H → Type 0) where
+    pub drains_free : (before : H) (fire : ℕ → Fire) (drain : Option ℕ) (p : HandleView) (after : H) (q : HandleView) → DrainsIf needs runs before fire drain p after q → AtEase p.passes → AtEase q.passes
+    drains_free before fire None p after q ran is = subst (λ (x : HandleView). AtEase x.passes) (sym ran.1) is
+    drains_free before fire (Some func) p after q ran is = calls_free p q ran.calls ran.are is
 
 -- what is taken leaves the actor's handle
 pub taken_after : (name : ServiceName) (params : Params) (direct : Bool) (p q : PassesView) (cpu act : ℕ) (taken : Taken) → IsHandle name params p → IsTaken direct p cpu act taken q → IsHandle name params q

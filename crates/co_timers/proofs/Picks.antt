@@ -1,4 +1,4 @@
--- What is taken into service is a callout of the service. It waits for its lock only where it has one, and a direct one has none.
+-- What is taken into service is a callout of the service. It waits for its lock exactly where it has one, and a direct one has none.
 use Rattle.std.proofs.Common.{◌≡◌, ℕ, ◌<◌, Bool, true, false, cond, ◌&&◌, List, [], ◌∷◌, ◌++◌, length, refl, sym, ap, ◌∙◌, subst, arith, ◌⊎◌, inl, inr}
 use Rattle.std.specs.Prelude.{slice_index_or}
 use Rattle.std.specs.List.{All}
@@ -44,21 +44,18 @@ use Rattle.co_timers.proofs.Kept.{taken_after}
 
 -- ---- the callout alone
 
--- a Pick that waits is of a callout with a lock
-waits_taken : (lock : Bool) (s : State) (a : Arming) (reply : Reply) → reply_of (Some (cond lock (record s { armed = None; run = Picked a }, Hold) (go (record s { armed = None }) a))) ≡ Some reply → waits_for_lock reply ≡ true → lock ≡ true
-waits_taken true s a reply h w = refl
-waits_taken false s a reply h w =
-    let e : Go a.func a.arg ≡ reply = cc in
-    let f : waits_for_lock (Go a.func a.arg) ≡ true = subst (λ (r : Reply). waits_for_lock r ≡ true) (sym e) w in
-    absurd (cc)
+-- a Pick waits exactly where its callout has a lock
+waits_taken : (lock : Bool) (s : State) (a : Arming) (reply : Reply) → reply_of (Some (cond lock (record s { armed = None; run = Picked a }, Hold) (go (record s { armed = None }) a))) ≡ Some reply → waits_for_lock reply ≡ lock
+waits_taken true s a reply h = let e : Hold ≡ reply = cc in ap waits_for_lock (sym e)
+waits_taken false s a reply h = let e : Go a.func a.arg ≡ reply = cc in ap waits_for_lock (sym e)
 
-waits_armed : (spec : Spec) (s : State) (a : Arming) (b : Bool) (reply : Reply) → reply_of (cond b (Some (taken spec s a)) None) ≡ Some reply → waits_for_lock reply ≡ true → has_lock spec.lock ≡ true
-waits_armed spec s a true reply h w = waits_taken (has_lock spec.lock) s a reply h w
-waits_armed spec s a false reply h w = absurd (cc)
+waits_armed : (spec : Spec) (s : State) (a : Arming) (b : Bool) (reply : Reply) → reply_of (cond b (Some (taken spec s a)) None) ≡ Some reply → waits_for_lock reply ≡ has_lock spec.lock
+waits_armed spec s a true reply h = waits_taken (has_lock spec.lock) s a reply h
+waits_armed spec s a false reply h = absurd (cc)
 
-waits_locked : (spec : Spec) (s : State) (o : Option Arming) (n cpu time : ℕ) (reply : Reply) → reply_of (pick_armed spec s o n cpu time) ≡ Some reply → waits_for_lock reply ≡ true → has_lock spec.lock ≡ true
-waits_locked spec s None n cpu time reply h w = absurd (cc)
-waits_locked spec s (Some a) n cpu time reply h w = waits_armed spec s a (is_due a n cpu time && is_idle s.run) reply h w
+waits_locked : (spec : Spec) (s : State) (o : Option Arming) (n cpu time : ℕ) (reply : Reply) → reply_of (pick_armed spec s o n cpu time) ≡ Some reply → waits_for_lock reply ≡ has_lock spec.lock
+waits_locked spec s None n cpu time reply h = absurd (cc)
+waits_locked spec s (Some a) n cpu time reply h = waits_armed spec s a (is_due a n cpu time && is_idle s.run) reply h
 
 -- ---- the note of the Pick
 
@@ -126,9 +123,8 @@ module _ (name : ServiceName) (params : Params) (limits : AreParams params) (dir
       let here : i < length params.specs = (let b = one.below in let s = handle.sized in omega arith) in
       let may : May (actors_of params) (spec_at params i) one.before (run_entry p act (Pick n cpu time) reply) = subst (λ (r : Params). May (actors_of r) (spec_at r i) one.before (run_entry p act (Pick n cpu time) reply)) handle.of.params_are one.may in record {
         callout = here;
-        lock = λ w.
-            let locked = waits_locked (spec_at params i) one.before one.before.armed n cpu time reply may.0 w in
-            (lane direct refl here may.1 locked, locked);
+        lock = waits_locked (spec_at params i) one.before one.before.armed n cpu time reply may.0;
+        locked = λ locked. lane direct refl here may.1 locked;
       } where
         lane : (b : Bool) → direct ≡ b → i < length params.specs → p.actor ≡ server (actors_of params) (spec_at params i) cpu → has_lock (spec_at params i).lock ≡ true → b ≡ false
         lane false is here at lock = refl

@@ -1,8 +1,11 @@
 -- A CPU's handle, and its turns.
-use Rattle.std.specs.Prelude.{◌≡◌, ◌<◌, ℕ, true, false, []}
+use Rattle.std.specs.Prelude.{◌≡◌, ◌<◌, ℕ, true, false, List, []}
 use Rattle.std.specs.declared.option.Option.{Option}
 use Rattle.std.specs.declared.option.Option.TheVariants.{Some, None}
+use Rattle.co_hand.specs.declared.fire.Fire.{Fire}
+use Rattle.co_hand.specs.declared.port_call.PortCall.{PortCall}
 use Rattle.co_hand.specs.Handlers.{Needs}
+use Rattle.co_lock.specs.declared.held.Held.{Held}
 use Rattle.co_object.specs.Actors.{cpu_actor, interrupt_actor}
 use Rattle.co_service.specs.declared.outs.Scanned.{Scanned}
 use Rattle.co_service.specs.declared.params.Params.{Params}
@@ -50,16 +53,20 @@ abbrev pub IsCpuWith : ServiceName → Params → ℕ → Option Lanes → Type 
 IsCpuWith name params k None = ⊥
 IsCpuWith name params k (Some l) = IsCpuHandle name params (cpu_view k l)
 
--- one act of each actor: a scan, then all that has come due for the interrupt, then all that has for the CPU, after a Scan for each turn
-pub record IsTurned (needs : Needs) (p : CpuView) (now : ℕ) (turned : Turned) (q : CpuView) : Type 0 where
-  pub out : Scanned
-  pub scanned : PassesView
-  pub scan : IsScan p.direct.passes p.cpu p.direct.act now out scanned
-  pub count : turned.scanned ≡ out.count
-  pub direct : IsLaneServed true needs 0 p.cpu p.direct.act (record { passes = scanned; act = next_act p.direct.act }) turned.direct q.direct
-  pub others : IsLaneServed false needs q.turns p.cpu p.others.act (record { passes = p.others.passes; act = next_act p.others.act }) turned.others q.others
-  pub turns : q.turns ≡ next_act p.turns
-  pub same : q.cpu ≡ p.cpu
+-- of a handler with these needs, for which `runs` tells what it is to run a function
+module _ {H : Type 0} (needs : Needs) (runs : H → Fire → Option ℕ → Option Held → List PortCall → H → Type 0) where
+  -- one act of each actor: a scan, then all that has come due for the interrupt, then all that has for the CPU, after a Scan for each turn.
+  -- The handler goes from service to service, as `before` first and as `after` last
+  pub record IsTurned (before : H) (p : CpuView) (now : ℕ) (turned : Turned) (after : H) (q : CpuView) : Type 0 where
+    pub out : Scanned
+    pub scanned : PassesView
+    pub scan : IsScan p.direct.passes p.cpu p.direct.act now out scanned
+    pub count : turned.scanned ≡ out.count
+    pub between : H
+    pub direct : IsLaneServed needs runs true p.cpu p.direct.act 0 before (record { passes = scanned; act = next_act p.direct.act }) turned.direct between q.direct
+    pub others : IsLaneServed needs runs false p.cpu p.others.act q.turns between (record { passes = p.others.passes; act = next_act p.others.act }) turned.others after q.others
+    pub turns : q.turns ≡ next_act p.turns
+    pub same : q.cpu ≡ p.cpu
 
 -- a CPU before its first turn
 abbrev pub first_cpu : ServiceName → Params → ℕ → CpuView

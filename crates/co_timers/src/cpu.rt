@@ -63,7 +63,7 @@ impl Lanes {
     ) -> (Lanes, Turned)
         requires cpu { IsCpuHandle N.name timers.now.params (cpu_view cpu self) }
         requires needs { AreNeedsOf (H.needs handler.old) timers.now.params }
-        ensures turned { IsTurned (H.needs handler.old) (cpu_view cpu self) now result.1 (cpu_view cpu result.0) }
+        ensures turned { IsTurned (H.needs handler.old) H.runs handler.old (cpu_view cpu self) now result.1 handler.new (cpu_view cpu result.0) }
         ensures cpu { IsCpuHandle N.name timers.now.params (cpu_view cpu result.0) }
         ensures needs { H.needs handler.new ≡ H.needs handler.old }
     {
@@ -100,7 +100,7 @@ fn turn_direct<'a, N: Name, R: Wait + Sync, H: Handler>(
 ) -> (Lane, Scanned, Served)
     requires at_ease { IsAtEase N.name timers.now.params true cpu lane.passes }
     requires needs { AreNeedsOf (H.needs handler.old) timers.now.params }
-    ensures scan { (scanned : PassesView) × IsScan lane.passes cpu lane.act now result.1 scanned × IsLaneServed true (H.needs handler.old) 0 cpu lane.act (record { passes = scanned; act = next_act lane.act }) result.2 (handle_of result.0) }
+    ensures scan { (scanned : PassesView) × IsScan lane.passes cpu lane.act now result.1 scanned × IsLaneServed (H.needs handler.old) H.runs true cpu lane.act 0 handler.old (record { passes = scanned; act = next_act lane.act }) result.2 handler.new (handle_of result.0) }
     ensures at_ease { IsAtEase N.name timers.now.params true cpu result.0.passes }
     ensures needs { H.needs handler.new ≡ H.needs handler.old }
 {
@@ -123,7 +123,7 @@ fn turn_others<'a, N: Name, R: Wait + Sync, H: Handler>(
 ) -> (Lane, Served)
     requires at_ease { IsAtEase N.name timers.now.params false cpu lane.passes }
     requires needs { AreNeedsOf (H.needs handler.old) timers.now.params }
-    ensures served { IsLaneServed false (H.needs handler.old) scans cpu lane.act (record { passes = lane.passes; act = next_act lane.act }) result.1 (handle_of result.0) }
+    ensures served { IsLaneServed (H.needs handler.old) H.runs false cpu lane.act scans handler.old (record { passes = lane.passes; act = next_act lane.act }) result.1 handler.new (handle_of result.0) }
     ensures at_ease { IsAtEase N.name timers.now.params false cpu result.0.passes }
     ensures needs { H.needs handler.new ≡ H.needs handler.old }
 {
@@ -201,7 +201,7 @@ impl<'a, N: Name> Cpu<'a, N> {
     /// was answered that nothing is left.
     pub fn turn<R: Wait + Sync, H: Handler>(&mut self, rt: &R, now: Sbt, handler: &mut H) -> Turned
         requires { AreNeedsOf (H.needs handler.old) self.old.others.passes.params }
-        ensures turned { IsTurned (H.needs handler.old) self.old now result self.new }
+        ensures turned { IsTurned (H.needs handler.old) H.runs handler.old self.old now result handler.new self.new }
         ensures params { self.new.others.passes.params ≡ self.old.others.passes.params }
         ensures needs { H.needs handler.new ≡ H.needs handler.old }
     {

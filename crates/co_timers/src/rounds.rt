@@ -1,8 +1,8 @@
 //! The rounds of a turn: one for each callout that has come due.
-ghost use Rattle.std.specs.Prelude.{◌≡◌, ◌<◌, is_some, true};
+ghost use Rattle.std.specs.Prelude.{◌≡◌, ◌<◌, is_some, true, unwrap_or};
 ghost use Rattle.co_service.specs.Serving.{stage_picked};
 ghost use Rattle.co_timers.specs.Ports.{handle_of};
-ghost use Rattle.co_timers.specs.Rounds.{IsAbout, IsAtEase, AreNeedsOf, IsNextRound, IsLaneServed, IsLaneService, MayBeServed, counted_where, fire_of, served_after};
+ghost use Rattle.co_timers.specs.Rounds.{IsAbout, IsAtEase, AreNeedsOf, IsNextRound, IsLaneServed, IsLaneService, MayBeServed, counted_where, fire_after, fire_of, served_after};
 
 use crate::Timers;
 use crate::lane::Lane;
@@ -45,8 +45,7 @@ fn fire_of(taken: &Picked, cpu: u32, call: Option<(u32, u64)>) -> Option<Fire>
 
 /// What the function `func` of a drain is told. Where the callout's own function was skipped, it is the one that is named, with argument 0.
 fn fire_after(taken: &Picked, cpu: u32, call: Option<(u32, u64)>, drain: Option<u32>) -> Fire
-    ensures i { result.i ≡ taken.now.i }
-    ensures cpu { result.cpu ≡ cpu }
+    ensures { result ≡ fire_after (record { i = taken.now.i; n = taken.now.n }) cpu taken.now.at call (unwrap_or drain 0) }
 {
     let (func, arg) = match call {
         Some(call) => call,
@@ -98,7 +97,7 @@ fn serve<'a, N: Name, R: Wait + Sync, H: Handler>(
     requires about { IsAbout N.name timers.now.params direct cpu (record { i = taken.now.i; n = taken.now.n }) (stage_picked taken.now.n taken.now.reply) lane.passes }
     requires may { MayBeServed direct timers.now.params taken.now.i taken.now.reply }
     requires needs { AreNeedsOf (H.needs handler.old) timers.now.params }
-    ensures service { IsLaneService direct (H.needs handler.old) cpu act (record { i = taken.now.i; n = taken.now.n }) taken.now.at taken.now.reply (handle_of lane) result.1 (handle_of result.0) }
+    ensures service { IsLaneService (H.needs handler.old) H.runs direct cpu act (record { i = taken.now.i; n = taken.now.n }) taken.now.at taken.now.reply handler.old (handle_of lane) result.1 handler.new (handle_of result.0) }
     ensures at_ease { IsAtEase N.name timers.now.params direct cpu result.0.passes }
     ensures needs { H.needs handler.new ≡ H.needs handler.old }
 {
@@ -116,7 +115,7 @@ fn serve<'a, N: Name, R: Wait + Sync, H: Handler>(
     );
     let call = called_by(&said);
     let fire = fire_of(taken, cpu, call);
-    let mut ran = run_if(rt, timers, begun, &fire, hold, handler);
+    let mut ran = run_if(rt, timers, begun, i, &fire, hold, handler);
     let made = timers.finish(rt, &mut ran.passes, cpu, act, direct, i, n);
     let drain = drain_of(&made.reply);
     let after = fire_after(taken, cpu, call, drain);
@@ -142,7 +141,7 @@ fn round<'a, N: Name, R: Wait + Sync, H: Handler>(
     requires at_ease { IsAtEase N.name timers.now.params direct cpu lane.passes }
     requires needs { AreNeedsOf (H.needs handler.old) timers.now.params }
     requires none { direct ≡ true → scans ≡ 0 }
-    ensures next { IsNextRound direct (H.needs handler.old) scans cpu act (handle_of lane) result.1 (handle_of result.0) }
+    ensures next { IsNextRound (H.needs handler.old) H.runs direct cpu act scans handler.old (handle_of lane) result.1 handler.new (handle_of result.0) }
     ensures at_ease { IsAtEase N.name timers.now.params direct cpu result.0.passes }
     ensures needs { H.needs handler.new ≡ H.needs handler.old }
 {
@@ -178,7 +177,7 @@ pub(crate) fn serve_all<'a, N: Name, R: Wait + Sync, H: Handler>(
     requires at_ease { IsAtEase N.name timers.now.params direct cpu lane.passes }
     requires needs { AreNeedsOf (H.needs handler.old) timers.now.params }
     requires none { direct ≡ true → scans ≡ 0 }
-    ensures served { IsLaneServed direct (H.needs handler.old) scans cpu act (handle_of lane) result.1 (handle_of result.0) }
+    ensures served { IsLaneServed (H.needs handler.old) H.runs direct cpu act scans handler.old (handle_of lane) result.1 handler.new (handle_of result.0) }
     ensures at_ease { IsAtEase N.name timers.now.params direct cpu result.0.passes }
     ensures needs { H.needs handler.new ≡ H.needs handler.old }
 {

@@ -1,9 +1,12 @@
 //! The functions that a CPU runs in its services, each through a port.
 ghost use Rattle.std.specs.Prelude.{◌≡◌, ◌<◌, IfSome, length};
-ghost use Rattle.co_hand.specs.Handlers.{GoesOn, Serves};
+ghost use Rattle.std.specs.declared.option.Option.TheVariants.{None, Some};
+ghost use Rattle.co_hand.specs.Handlers.{HasRun, Serves};
+ghost use Rattle.co_lock.specs.Service.{hold_of};
+ghost use Rattle.co_service.specs.Params.{spec_at};
 ghost use Rattle.co_timers.specs.Handles.{IsHandle};
 ghost use Rattle.co_timers.specs.Ports.{handle_of};
-ghost use Rattle.co_timers.specs.Rounds.{HasRun, AreNeedsOf, RunsIf, func_in};
+ghost use Rattle.co_timers.specs.Rounds.{AreNeedsOf, DrainsIf, IsRun, RunsIf, hold_in, unless_released};
 
 use crate::Timers;
 use crate::lane::Lane;
@@ -22,7 +25,7 @@ fn hand_over<P: Port, H: Handler>(
     port: &mut P,
 )
     requires { Serves (H.needs handler.old) (P.state port.old) fire.now fire.now.func }
-    ensures port { GoesOn (P.state port.old) (P.state port.new) ((H.needs handler.old).calls fire.now.func) }
+    ensures port { HasRun H.runs handler.old fire.now None (unless_released unlocked hold.entry) ((H.needs handler.old).calls fire.now.func) (P.state port.old) (P.state port.new) handler.new }
     ensures needs { H.needs handler.new ≡ H.needs handler.old }
 {
     match hold {
@@ -37,7 +40,7 @@ fn hand_over<P: Port, H: Handler>(
     }
 }
 
-/// The actor after the acts of the function of the service, which begins under this hold.
+/// The actor after the acts of the function of the service, which begins under this hold of the callout's lock, where it has one.
 fn run<'a, N: Name, R: Wait, H: Handler>(
     rt: &'a R,
     timers: &'a Timers<N>,
@@ -50,7 +53,8 @@ fn run<'a, N: Name, R: Wait, H: Handler>(
     requires needs { AreNeedsOf (H.needs handler.old) timers.now.params }
     requires callout { fire.now.i < length timers.now.params.specs }
     requires cpu { fire.now.cpu < timers.now.params.cpus }
-    ensures run { HasRun ((H.needs handler.old).calls fire.now.func) (handle_of lane) (handle_of result) }
+    requires hold { hold ≡ hold_of (spec_at timers.now.params fire.now.i).lock }
+    ensures run { IsRun (H.needs handler.old) H.runs handler.old fire.now None (hold_in (spec_at timers.now.params fire.now.i)) fire.now.func (handle_of lane) handler.new (handle_of result) }
     ensures needs { H.needs handler.new ≡ H.needs handler.old }
 {
     let unlocked = timers.spec(fire.i).returns_unlocked;
@@ -59,19 +63,22 @@ fn run<'a, N: Name, R: Wait, H: Handler>(
     port.into_lane()
 }
 
-/// The actor after the acts of the function, where one is called.
+/// The actor after the acts of callout `i`'s function, where one is called, which begins under this hold of the callout's lock.
 pub(crate) fn run_if<'a, N: Name, R: Wait, H: Handler>(
     rt: &'a R,
     timers: &'a Timers<N>,
     lane: Lane,
+    i: u32,
     fire: &Option<Fire>,
     hold: Option<Hold<'_>>,
     handler: &mut H,
 ) -> Lane
     requires handle { IsHandle N.name timers.now.params lane.passes }
     requires needs { AreNeedsOf (H.needs handler.old) timers.now.params }
-    requires fire { IfSome fire.now (λ f. (f.i < length timers.now.params.specs) × (f.cpu < timers.now.params.cpus)) }
-    ensures runs { RunsIf (H.needs handler.old) (func_in fire.now) (handle_of lane) (handle_of result) }
+    requires callout { i < length timers.now.params.specs }
+    requires fire { IfSome fire.now (λ f. (f.i ≡ i) × (f.cpu < timers.now.params.cpus)) }
+    requires hold { hold ≡ hold_of (spec_at timers.now.params i).lock }
+    ensures runs { RunsIf (H.needs handler.old) H.runs handler.old fire.now (hold_in (spec_at timers.now.params i)) (handle_of lane) handler.new (handle_of result) }
     ensures needs { H.needs handler.new ≡ H.needs handler.old }
 {
     match fire {
@@ -93,7 +100,7 @@ fn run_drained<'a, N: Name, R: Wait, H: Handler>(
     requires needs { AreNeedsOf (H.needs handler.old) timers.now.params }
     requires callout { fire.now.i < length timers.now.params.specs }
     requires cpu { fire.now.cpu < timers.now.params.cpus }
-    ensures run { HasRun ((H.needs handler.old).calls func) (handle_of lane) (handle_of result) }
+    ensures run { IsRun (H.needs handler.old) H.runs handler.old fire.now (Some func) None func (handle_of lane) handler.new (handle_of result) }
     ensures needs { H.needs handler.new ≡ H.needs handler.old }
 {
     let mut port = CpuPort::new(rt, timers, lane, &*handler, func);
@@ -114,7 +121,7 @@ pub(crate) fn drained_if<'a, N: Name, R: Wait, H: Handler>(
     requires needs { AreNeedsOf (H.needs handler.old) timers.now.params }
     requires callout { fire.now.i < length timers.now.params.specs }
     requires cpu { fire.now.cpu < timers.now.params.cpus }
-    ensures runs { RunsIf (H.needs handler.old) drain (handle_of lane) (handle_of result) }
+    ensures runs { DrainsIf (H.needs handler.old) H.runs handler.old (λ _. fire.now) drain (handle_of lane) handler.new (handle_of result) }
     ensures needs { H.needs handler.new ≡ H.needs handler.old }
 {
     match drain {

@@ -156,6 +156,7 @@ impl<N: Name> Timers<N> {
     ) -> (Reply, Hold<'_>)
         requires about { IsAbout N.name self.now.params false cpu (record { i = i; n = n }) (Waits n) passes.old }
         requires lock { has_lock (spec_at self.now.params i).lock ≡ true }
+        ensures hold { hold_of (spec_at self.now.params i).lock ≡ Some result.1 }
         ensures begins { (out : Made) × (out.reply ≡ result.0) × IsBegun passes.old cpu act (record { i = i; n = n }) out passes.new }
         ensures about { IsAbout N.name self.now.params false cpu (record { i = i; n = n }) (Runs n) passes.new }
     {
@@ -179,6 +180,7 @@ impl<N: Name> Timers<N> {
         requires about { IsAbout N.name self.now.params direct cpu (record { i = i; n = n }) (stage_picked n reply) passes.old }
         requires may { MayBeServed direct self.now.params i reply }
         ensures begins { IsBegin (waits_for_lock reply) passes.old cpu act (record { i = i; n = n }) reply result.0 passes.new }
+        ensures hold { result.1 ≡ hold_of (spec_at self.now.params i).lock }
         ensures about { IsAbout N.name self.now.params direct cpu (record { i = i; n = n }) (Runs n) passes.new }
     {
         if !waits(&reply) {

@@ -4,6 +4,7 @@ use Rattle.std.specs.declared.option.Option.{Option}
 use Rattle.co_hand.specs.Handlers.{Needs}
 use Rattle.co_timers.specs.declared.turned.Round.{Round}
 use Rattle.co_timers.specs.declared.turned.Served.{Served}
+use Rattle.co_timers.specs.Handles.{HandleView}
 use Rattle.co_timers.specs.Ports.{handle_of}
 use Rattle.co_timers.specs.Rounds.{AreRounds, IsNextRound, IsRound, again, start}
 use Rattle.co_timers.proofs.rounds.serve_all.Goals as goal
@@ -14,10 +15,12 @@ loop-init g c = record { at_ease = c.requires.at_ease; needs = refl; rounds = st
 pub loop-preserved : goal.loop-preserved
 loop-preserved g c =
     let first : Needs = g.H.Handler.needs c.args.handler.now in
-    let next = subst (λ (o : Option Round). IsNextRound c.args.direct (g.H.Handler.needs c.loop.handler) c.args.scans c.args.cpu c.args.act (handle_of c.loop.here) o (handle_of c.round-next.result.0)) c.in-Some-one.is c.round-next.ensures.next in
-    let one = subst (λ (n : Needs). IsRound c.args.direct n c.args.cpu c.args.act (handle_of c.loop.here) c.in-Some-one.one (handle_of c.round-next.result.0)) c.loop.invariant.needs next in record {
+    let before : HandleView = handle_of c.loop.here in
+    let after : HandleView = handle_of c.round-next.result.0 in
+    let next = subst (λ (o : Option Round). IsNextRound (g.H.Handler.needs c.loop.handler) g.H.Handler.runs c.args.direct c.args.cpu c.args.act c.args.scans c.loop.handler before o c.round-next.new.handler after) c.in-Some-one.is c.round-next.ensures.next in
+    let one = subst (λ (n : Needs). IsRound n g.H.Handler.runs c.args.direct c.args.cpu c.args.act c.loop.handler before c.in-Some-one.one c.round-next.new.handler after) c.loop.invariant.needs next in record {
       at_ease = c.round-next.ensures.at_ease;
       needs = c.round-next.ensures.needs ∙ c.loop.invariant.needs;
-      rounds = subst (λ (s : Served). AreRounds c.args.direct first c.args.cpu c.args.act (handle_of c.args.lane) s (handle_of c.round-next.result.0)) (sym c.served_after-served.ensures)
-          (again c.loop.served c.in-Some-one.one (handle_of c.loop.here) (handle_of c.round-next.result.0) c.loop.invariant.rounds one);
+      rounds = subst (λ (s : Served). AreRounds first g.H.Handler.runs c.args.direct c.args.cpu c.args.act c.args.handler.now (handle_of c.args.lane) s c.round-next.new.handler after) (sym c.served_after-served.ensures)
+          (again c.loop.served c.in-Some-one.one c.loop.handler c.round-next.new.handler before after c.loop.invariant.rounds one);
     }
