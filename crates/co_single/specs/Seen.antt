@@ -1,6 +1,8 @@
 -- What the one actor of a service sees: all that happens.
 use Rattle.std.specs.Prelude.{◌≡◌, ℕ, List, [], ◌∷◌, ◌++◌, length, replicate, slice_set}
-use Rattle.std.specs.List.{AllByRecursion}
+use Rattle.std.specs.List.{All, AllByRecursion}
+use Rattle.co_object.specs.declared.note.Entry.{Entry}
+use Rattle.co_object.specs.declared.note.QEntry.{QEntry}
 use Rattle.co_object.specs.declared.note.AnyEntry.{AnyEntry}
 use Rattle.co_object.specs.declared.note.AnyEntry.TheVariants as of
 use Rattle.co_object.specs.declared.note.Place.{Place}
@@ -43,6 +45,11 @@ pub record AddsEntries (p : PassesView) (act : ℕ) (q : PassesView) : Type 0 wh
   pub entries : List Placed
   pub added : q ≡ with_entries p entries
   pub of_act : AllByRecursion (IsOfAct p.actor act) entries
+
+-- each entry of these histories of callouts and of CPUs is of this actor
+pub record AreOfActor (actor : ℕ) (Hs : List (List Entry)) (Js : List (List QEntry)) : Type 0 where
+  pub timers : All (All (λ (e : Entry). e.actor ≡ actor)) Hs
+  pub cpus : All (All (λ (e : QEntry). e.actor ≡ actor)) Js
 
 -- what is seen of each callout and of the CPU is legal
 pub record AreLegal (p : PassesView) : Type 0 where

@@ -2,7 +2,7 @@
 ghost use Rattle.std.specs.Prelude.{◌≡◌, ◌<◌, ◌^◌, [], IfNone, IfOk, IfSome};
 ghost use Rattle.co_single.specs.Acts.{IsArmed, IsDisarmed, IsFired, NothingWaits, IsNew, IsScanned};
 ghost use Rattle.co_single.specs.Alarms.{arg_in, callout_count, made_at, waiting_of};
-ghost use Rattle.co_single.specs.Seen.{AddsEntries};
+ghost use Rattle.co_single.specs.Seen.{AddsEntries, AreOfActor};
 
 use crate::SingleFresh;
 use co_object::{CallOp, PlainOp, Reply};
@@ -140,11 +140,13 @@ impl<N: Name> Single<N> {
         }
     }
 
-    /// Ends the service. The final histories are what the actor has seen.
+    /// Ends the service. The final histories are what the actor has seen, and each of their entries is the actor's, whose number
+    /// is 0.
     pub fn close<R: Wait>(self, rt: &R) -> Closing
         ensures name { result.name ≡ N.name }
         ensures timers { result.timers ≡ self.timers }
         ensures cpus { result.cpus ≡ self.cpus }
+        ensures actors { AreOfActor 0 result.timers result.cpus }
     {
         let Single {
             service,
