@@ -1,7 +1,7 @@
 -- What a tick leaves.
-use Rattle.std.proofs.Common.{◌≡◌, ◌≢◌, ℕ, suc, ◌+◌, ◌<◌, ◌≤◌, ◌^◌, Bool, true, false, cond, List, [], ◌∷◌, ◌++◌, map, max, length, take, drop, get_or, refl, ap, sym, subst, ◌∙◌, arith, Option, Some, None, is_some, count_by, append-nil}
-use Rattle.std.specs.Prelude.{◌==◌, nat_lt}
-use Rattle.std.proofs.lemmas.Bool.Decides.{nat_tests}
+use Rattle.std.proofs.Common.{◌≡◌, ◌≢◌, ℕ, suc, ◌+◌, ◌<◌, ◌≤◌, ◌^◌, Bool, true, false, cond, List, [], ◌∷◌, ◌++◌, map, max, length, take, drop, get_or, refl, ap, sym, subst, ◌∙◌, arith, Option, Some, None, is_some, count_by, append-nil, inl, inr}
+use Rattle.std.specs.Prelude.{nat_lt}
+use Rattle.std.proofs.lemmas.Bool.{cases_eq, eq-eqb, ne_eqb}
 use Rattle.std.proofs.lemmas.List.{take_all, drop_all}
 use Rattle.std.proofs.lemmas.List.Sums.{sum_by-cons}
 use Rattle.slab.specs.Slab.{Slab}
@@ -17,6 +17,7 @@ use Rattle.co_kq.specs.Slots.{slot_at, knotes_in, ticked_slot, slot_expires, Are
 use Rattle.co_kq.specs.Numbers.{use_at, is_held, HaveOwnCallouts, AreArmed, AreKept, IsKq, KqView, HasTimer, FiresCounted, kevents_in, callouts_in, ident_callout}
 use Rattle.co_kq.specs.Ticks.{AreCleared, AreDue, IsTicking, part_ticked, slot_waits}
 use Rattle.co_kq.proofs.InSlots.{some_is, found}
+use Rattle.co_kq.proofs.Placing.{knote_of_other}
 use Rattle.co_kq.proofs.Counting.{one_if, count_twice, gos_same}
 use Rattle.co_kq.proofs.Clearing.{cleared_numbered, cleared_armed}
 use Rattle.co_kq.proofs.Ticking.{ident_kept, ticked_at, ticked_list, expirations_in, distinct_ticked, filled_ticked}
@@ -48,27 +49,17 @@ callouts_ticked now (Some s ∷ ss) =
     ap (λ l. ((ticked_knote now s.knote).ident, s.timer) ∷ l) (callouts_ticked now ss)
     ∙ ap (λ i. (i, s.timer) ∷ callouts_in ss) (ident_kept now s.knote)
 
-test_is : (a b : ℕ) → (a == b) ≡ true → a ≡ b
-test_is a b h = grind (arith, nat_tests)
-
-callout_slot : (slots : List (Option Slot)) (ident number : ℕ) → ident_callout ident (callouts_in slots) ≡ Some number
-    → (key : ℕ) × ((s : Slot) × (slot_at slots key ≡ Some s) × (s.knote.ident ≡ ident) × (s.timer ≡ number))
-callout_slot [] ident number h = let never : None ≡ Some number = h in cc
-callout_slot (None ∷ ss) ident number h = let r = callout_slot ss ident number h in (suc r.0, r.1)
-callout_slot (Some s ∷ ss) ident number h = go (s.knote.ident == ident) refl (λ rest. callout_slot ss ident number rest) where
-  number_or : ℕ → Option ℕ → ℕ
-  number_or d None = d
-  number_or d (Some n) = n
-
-  go : (b : Bool) → (s.knote.ident == ident) ≡ b → (ident_callout ident (callouts_in ss) ≡ Some number → (key : ℕ) × ((t : Slot) × (slot_at ss key ≡ Some t) × (t.knote.ident ≡ ident) × (t.timer ≡ number)))
-      → (key : ℕ) × ((t : Slot) × (slot_at (Some s ∷ ss) key ≡ Some t) × (t.knote.ident ≡ ident) × (t.timer ≡ number))
-  go true e behind =
-      let is : Some s.timer ≡ Some number = sym (ap (λ b. cond b (Some s.timer) (ident_callout ident (callouts_in ss))) e) ∙ h in
-      (0, (s, refl, test_is s.knote.ident ident e, ap (number_or 0) is))
-  go false e behind =
-      let rest : ident_callout ident (callouts_in ss) ≡ Some number = sym (ap (λ b. cond b (Some s.timer) (ident_callout ident (callouts_in ss))) e) ∙ h in
-      let r = behind rest in
-      (suc r.0, r.1)
+-- the slot of an ident's knote, which has the ident's callout
+known_slot : (slots : List (Option Slot)) (ident : ℕ) (k : Knote) → knote_of ident (knotes_in slots) ≡ Some k
+    → (key : ℕ) × ((s : Slot) × (slot_at slots key ≡ Some s) × (s.knote.ident ≡ ident) × (ident_callout ident (callouts_in slots) ≡ Some s.timer))
+known_slot [] ident k h = let never : None ≡ Some k = h in cc
+known_slot (None ∷ ss) ident k h = let r = known_slot ss ident k h in (suc r.0, r.1)
+known_slot (Some s ∷ ss) ident k h = elim (cases_eq s.knote.ident ident) [
+  | inl same ↦ (0, (s, refl, same, ap (λ b. cond b (Some s.timer) (ident_callout ident (callouts_in ss))) (eq-eqb s.knote.ident ident same)))
+  | inr differs ↦
+      let r = known_slot ss ident k (sym (knote_of_other ident s.knote (knotes_in ss) differs) ∙ h) in
+      (suc r.0, (r.1.0, r.1.1, r.1.2, ap (λ b. cond b (Some s.timer) (ident_callout ident (callouts_in ss))) (ne_eqb s.knote.ident ident differs) ∙ r.1.3))
+]
 
 ticked_count : (now : ℕ) (k : Knote) → k.count < 2 ^ 62 → (ticked_knote now k).count ≡ k.count + one_if (expires now k)
 ticked_count now k low = go (expires now k) where
@@ -209,8 +200,8 @@ module _ (clock now after room work k : ℕ) (knotes : Slab Slot) (u v : List Us
 
     pub new_counts : FiresCounted old_view now k new_view
     new_counts = record {
-      counts = λ ident number before known of.
-          let c = callout_slot knotes.slots ident number of in
+      counts = λ ident before known.
+          let c = known_slot knotes.slots ident before known in
           let s = c.1.0 in
           let there : slot_at knotes.slots c.0 ≡ Some s = c.1.1 in
           let was : Some s.knote ≡ Some before = sym (found knotes.slots c.0 s there (kq.kept.distinct c.0 s there)) ∙ (ap (λ i. knote_of i (knotes_in knotes.slots)) c.1.2 ∙ known) in
@@ -218,14 +209,17 @@ module _ (clock now after room work k : ℕ) (knotes : Slab Slot) (u v : List Us
           let t : Slot = record s { knote = ticked_knote after s.knote } in
           let now_there : slot_at new.slots c.0 ≡ Some t = is_at c.0 s there in
           let ident_is : t.knote.ident ≡ ident = ident_kept after s.knote ∙ c.1.2 in
-          let times : times_in number (waiting_of r) ≡ one_if (expires after s.knote) = ap (λ i. times_in i (waiting_of r)) (sym c.1.3) ∙ wait_is after work knotes.slots v r are_due c.0 s there in
+          let times : times_in s.timer (waiting_of r) ≡ one_if (expires after s.knote) = wait_is after work knotes.slots v r are_due c.0 s there in
           let count : (ticked_knote after s.knote).count ≡ s.knote.count + one_if (expires after s.knote) = ticked_count after s.knote (count_low c.0 s there) in
-          let counted : s.knote.count ≡ before.count = ap (λ (n : Knote). n.count) is in (
-            t.knote,
-            ap (λ i. knote_of i (knotes_in new.slots)) (sym ident_is) ∙ found new.slots c.0 t now_there (new_distinct c.0 t now_there),
-            ap (ident_callout ident) (ap callouts_in all_ticked ∙ callouts_ticked after knotes.slots) ∙ of,
-            omega (arith, count, counted, times, far.fired number, none_left number, scan.callouts.fired number, cleared.fired number),
-          );
+          let same : s.knote.count ≡ before.count = ap (λ (n : Knote). n.count) is in
+          record {
+            number = s.timer;
+            had = c.1.3;
+            has = ap (ident_callout ident) (ap callouts_in all_ticked ∙ callouts_ticked after knotes.slots) ∙ c.1.3;
+            after = t.knote;
+            there = ap (λ i. knote_of i (knotes_in new.slots)) (sym ident_is) ∙ found new.slots c.0 t now_there (new_distinct c.0 t now_there);
+            counted = omega (arith, count, same, times, far.fired s.timer, none_left s.timer, scan.callouts.fired s.timer, cleared.fired s.timer);
+          };
       all =
           let a : all_gos r.timers ≡ all_gos q.timers = gos_same q.timers r.timers scan.callouts.count scan.callouts.fired in
           let b : all_gos q.timers ≡ all_gos p.timers = gos_same p.timers q.timers cleared.count cleared.fired in

@@ -126,12 +126,18 @@ pub record KqView : Type 0 where
   pub passes : PassesView
   pub callouts : List (ℕ × ℕ)
 
--- a tick: each knote keeps its callout, and its count rises by exactly how often that fires. In all so many fire, and the scan
--- is the only one
+-- an ident's knote has a callout and keeps it, and its count rises by exactly how often that fires
+pub record CountsFirings (ident : ℕ) (before : Knote) (v w : KqView) : Type 0 where
+  pub number : ℕ
+  pub had : ident_callout ident v.callouts ≡ Some number
+  pub has : ident_callout ident w.callouts ≡ Some number
+  pub after : Knote
+  pub there : knote_of ident w.list.knotes ≡ Some after
+  pub counted : after.count + fired_at v.passes number ≡ before.count + fired_at w.passes number
+
+-- a tick: each knote's count rises by how often its callout fires. In all so many fire, and the scan is the only one
 pub record FiresCounted (v : KqView) (now k : ℕ) (w : KqView) : Type 0 where
-  pub counts : (ident number : ℕ) (before : Knote) → knote_of ident v.list.knotes ≡ Some before → ident_callout ident v.callouts ≡ Some number →
-      (after : Knote) × (knote_of ident w.list.knotes ≡ Some after) × (ident_callout ident w.callouts ≡ Some number)
-      × (after.count + fired_at v.passes number ≡ before.count + fired_at w.passes number)
+  pub counts : (ident : ℕ) (before : Knote) → knote_of ident v.list.knotes ≡ Some before → CountsFirings ident before v w
   pub all : all_gos w.passes.timers ≡ all_gos v.passes.timers + k
   pub scans : scan_times_of w.passes ≡ scan_times_of v.passes ++ now ∷ []
 

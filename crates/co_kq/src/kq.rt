@@ -3,7 +3,7 @@ ghost use Rattle.std.specs.Prelude.{◌≡◌, ◌≤◌, ◌<◌, ◌+◌, ◌^
 ghost use Rattle.co_kq.specs.Kevents.{span_of, is_span, new_knote, add_answer, added, deleted_count, deleted, ticked, expirations, events, delivered, put};
 ghost use Rattle.co_kq.specs.Numbers.{AreKept, CanPlace, FiresCounted, IsOpened, IsPut};
 ghost use Rattle.co_single.specs.Acts.{NothingFires};
-ghost use Rattle.co_single.specs.Seen.{AddsEntries};
+ghost use Rattle.co_single.specs.Seen.{AddsEntries, AreOfActor};
 ghost use Rattle.co_kq.specs.Slots.{StandsAtKey, HasNoEvent, TellsOne};
 
 use crate::fresh::KqFresh;
@@ -289,11 +289,13 @@ impl<N: Name> Kq<N> {
         self.work
     }
 
-    /// Ends the service. Its final histories are what its one actor has seen.
+    /// Ends the service. Its final histories are what its one actor has seen, and each of their entries is that actor's, whose
+    /// number is 0.
     pub fn close<R: Wait>(self, rt: &R) -> Closing
         ensures name { result.name ≡ N.name }
         ensures timers { result.timers ≡ self.passes.timers }
         ensures cpus { result.cpus ≡ self.passes.cpus }
+        ensures actors { AreOfActor 0 result.timers result.cpus }
     {
         self.single.close(rt)
     }
