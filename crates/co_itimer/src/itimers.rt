@@ -2,7 +2,7 @@
 ghost use Rattle.std.specs.Prelude.{◌≡◌, ◌+◌, ◌<◌, ◌≤◌, ◌^◌, IfOk, length};
 ghost use Rattle.co_itimer.specs.Itimers.{EachFires, IsOpened};
 ghost use Rattle.co_single.specs.Acts.{NothingFires};
-ghost use Rattle.co_single.specs.Seen.{AddsEntries};
+ghost use Rattle.co_single.specs.Seen.{AddsEntries, AreOfActor};
 ghost use Rattle.co_itimer.specs.Timers.{alarm_of, alarmed, clock_after, expirations, set, ticked, value_of};
 
 use crate::book::Book;
@@ -132,11 +132,13 @@ impl<N: Name> Itimers<N> {
         self.work
     }
 
-    /// Ends the service. It takes no memory. The final histories are what was seen.
+    /// Ends the service. It takes no memory. The final histories are what was seen, and each of their entries is of the service's
+    /// one actor, whose number is 0.
     pub fn close<R: Wait>(self, rt: &R) -> Closing
         ensures name { result.name ≡ N.name }
         ensures timers { result.timers ≡ self.seen.timers }
         ensures cpus { result.cpus ≡ self.seen.cpus }
+        ensures actors { AreOfActor 0 result.timers result.cpus }
     {
         let Itimers {
             single,
