@@ -95,10 +95,10 @@ over-retired s Deactivate = tt
 over-retired s Init = tt
 over-retired s Retire = tt
 
-over-call : (s : State) (op : PlainOp) → Over (call s (Plain op))
+pub over-call : (s : State) (op : PlainOp) → Over (call s (Plain op))
 over-call s op = either_way Over s.live (live_call s op) (retired_call s op) (λ _. over-live s op) (λ _. over-retired s op)
 
-called-over : (c : Cursor) (i : ℕ) (op : Op) (reply : Reply) → IsOver reply → call_made c i false op reply ≡ act_over c c.stage
+pub called-over : (c : Cursor) (i : ℕ) (op : Op) (reply : Reply) → IsOver reply → call_made c i false op reply ≡ act_over c c.stage
 called-over c i op (Wait n took off) h = absurd h
 called-over c i op (Armed code n cpu o) h = refl
 called-over c i op (NotArmed code) h = refl

@@ -23,3 +23,5 @@ pub mod NextNotes
 pub mod ServiceReplies
 pub mod Rounds
 pub mod Places
+pub mod Programs
+pub mod Ticks

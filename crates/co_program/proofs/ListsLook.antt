@@ -1,5 +1,5 @@
 -- What comes next in the list of an actor: the rest of its notes, from its place in its program on.
-use Rattle.std.proofs.Common.{◌≡◌, ◌⊎◌, inl, inr, ◌<◌, ◌≤◌, ℕ, suc, ◌+◌, ◌++◌, List, ◌∷◌, [], length, take, subst, arith, ap, ◌∙◌, Option, None}
+use Rattle.std.proofs.Common.{◌≡◌, ◌⊎◌, inl, inr, ◌<◌, ◌≤◌, ◌==◌, ℕ, suc, ◌+◌, Bool, true, false, cond, map, ◌++◌, List, ◌∷◌, [], length, take, refl, subst, arith, ap, ◌∙◌, Option, None}
 use Rattle.std.specs.List.{AllByRecursion}
 use Rattle.co_object.specs.declared.Note.{Note}
 use Rattle.co_object.specs.declared.Place.{Place}
@@ -9,13 +9,16 @@ use Rattle.co_object.specs.Group.{Placed}
 use Rattle.co_object.specs.Lists.{cpu_journal}
 use Rattle.co_program.specs.declared.script.Script.{Script}
 use Rattle.co_program.specs.declared.program.Task.{Task}
+use Rattle.co_program.specs.declared.program.Task.TheVariants.{Does}
 use Rattle.co_program.specs.Action.{Nothing, action_for, Asks, action_with, action_in, begins_next, pop_of, scans_first, scans_with, scans_at, scans_of}
 use Rattle.co_program.specs.Advance.{popped}
 use Rattle.co_program.specs.Cursor.{Cursor, start_of}
 use Rattle.co_program.specs.Follows.{Histories, AreNext, cursor_after, goes_on, scan_count, scans_before, at_next_note}
-use Rattle.co_program.specs.Laws.{cursor_before_next, Begin, CallsAreGroups, DrainsAreGroups, FunctionsMakeTheirActs, ProgramsEndWhereNothingIsLeft, RoundsAreOfServices, IsRoundOrEmpty, SoftActsBeginWithRounds}
+use Rattle.co_program.specs.Laws.{cursor_before_next, Begin, ActsMakeTheirNotes, CallsAreGroups, DrainsAreGroups, FunctionsMakeTheirActs, ProgramsEndWhereNothingIsLeft, RoundsAreOfServices, IsRoundOrEmpty, SoftActsBeginWithRounds}
 use Rattle.co_program.specs.Runs.{notes_by, shown_histories, IsRunOf, are_direct}
-use Rattle.co_program.specs.Actors.{actor_count, cpu_of, role_of}
+use Rattle.co_program.specs.declared.role.Role.{Role}
+use Rattle.co_program.specs.declared.role.Role.TheVariants as role
+use Rattle.co_program.specs.Actors.{actor_count, acts_at, program_of, softs as softs_of, cpu_of, role_of}
 use Rattle.co_program.specs.Groups.{AreActsOf, turns}
 use Rattle.co_program.specs.Scripts.{IsScript}
 use Rattle.co_program.specs.Stages.{Firing, Picking, Drained, Stage}
@@ -25,6 +28,9 @@ use Rattle.co_program.proofs.Endings.{StageDoes, ended-there, nothing-there, doe
 use Rattle.co_program.proofs.FunctionActs.{in-function, in-drain}
 use Rattle.co_program.proofs.Groups.{call-first}
 use Rattle.co_program.proofs.Known.{are-known}
+use Rattle.co_program.specs.Programs.{AreOfActs, AreOfTicks, AreOfSofts, AreOfCpu, AreOfProgram}
+use Rattle.co_program.proofs.Programs.{Goes, acts-made}
+use Rattle.co_program.proofs.Ticks.{ticks-made, softs-made}
 use Rattle.co_program.proofs.Rests.{IsKnown, IsRest, rest-of, next-after, cursor-after}
 use Rattle.co_program.specs.declared.cursor.PendingInsert.{PendingInsert}
 use Rattle.co_program.specs.declared.action.Asked.TheVariants.{Queue as IsQueue}
@@ -47,6 +53,31 @@ module _ (s : Script) (lists : List (List Note)) (a : ℕ) (before after : List 
       rest-of s H a (cursor_after s H a (start_of s a) before) after (next-after s H a (start_of s a) before after each)
       (subst (λ (c : Cursor). action_for s a (at_next_note s a c) ≡ Nothing) (cursor-after s H a (start_of s a) before after) whole)
       (all-rest (IsKnown s H) before after known)
+
+-- ---- whole lists
+
+module _ (s : Script) (ok : IsScript s) (lists : List (List Note)) (a : ℕ) where
+  -- a version 2 CPU's list, and another's
+  cpu-made : (x : ℕ) (b : Bool) → role_of s a ≡ role.Cpu x → Goes s (shown_histories lists) a (cond b (softs_of 0 (length (acts_at s.ticks x))) (map Does (acts_at s.ticks x))) 0 0 None (notes_by lists a) →
+      AreOfCpu s (shown_histories lists) a b x (notes_by lists a)
+  cpu-made x true is rest =
+      subst (λ (r : Role). AreOfSofts s (shown_histories lists) a r 0 0 (length (acts_at s.ticks x)) (notes_by lists a)) is (softs-made s ok (shown_histories lists) a (length (acts_at s.ticks x)) 0 0 0 (notes_by lists a) rest)
+  cpu-made x false is rest =
+      subst (λ (r : Role). AreOfTicks s (shown_histories lists) a r 0 (acts_at s.ticks x) (notes_by lists a)) is (ticks-made s ok (shown_histories lists) a (acts_at s.ticks x) 0 0 (notes_by lists a) (ok.ticks x) rest)
+
+  program-made : (as_role : Role) → role_of s a ≡ as_role → Goes s (shown_histories lists) a (program_of s as_role) 0 0 None (notes_by lists a) → AreOfProgram s (shown_histories lists) a as_role (notes_by lists a)
+  program-made (role.Client c) is rest =
+      subst (λ (r : Role). AreOfActs s (shown_histories lists) a (cpu_of s r) 0 0 None (acts_at s.clients c) (notes_by lists a)) is
+      (acts-made s (shown_histories lists) a (acts_at s.clients c) 0 0 None (notes_by lists a) (ok.clients c) rest)
+  program-made (role.Cpu x) is rest = cpu-made x (s.version == 2) is rest
+  program-made (role.Interrupt x) is rest =
+      subst (λ (r : Role). AreOfTicks s (shown_histories lists) a r 0 (acts_at s.ticks x) (notes_by lists a)) is (ticks-made s ok (shown_histories lists) a (acts_at s.ticks x) 0 0 (notes_by lists a) (ok.ticks x) rest)
+
+-- at its start an actor's whole program is left
+pub acts : ActsMakeTheirNotes
+acts s lists a ok run may = program-made s ok lists a (role_of s a) refl (rest-is s lists a [] (notes_by lists a) run may refl)
+
+-- ---- what comes next
 
 pub calls : CallsAreGroups
 calls s lists a before after act i op due =

@@ -1,5 +1,5 @@
 -- The notes of a round of services that comes next, from the Pop that takes an arming to the acts of a drain function.
-use Rattle.std.proofs.Common.{◌≡◌, ℕ, inl, inr, Bool, true, false, cond, List, [], ◌∷◌, ◌++◌, take, refl, sym, ap, subst, ◌∙◌, Option, Some, None, append_assoc}
+use Rattle.std.proofs.Common.{◌≡◌, ℕ, inl, inr, Bool, true, false, cond, List, [], ◌∷◌, ◌++◌, ◌+◌, length, refl, sym, ap, subst, ◌∙◌, Option, Some, None, append_assoc}
 use Rattle.co_object.specs.declared.Next.{Next}
 use Rattle.co_object.specs.declared.Note.{Note}
 use Rattle.co_object.specs.declared.Op.TheVariants.{Run}
@@ -22,7 +22,7 @@ use Rattle.co_program.specs.declared.cursor.InService.{InService}
 use Rattle.co_program.specs.declared.action.Asked.{Asked}
 use Rattle.co_program.specs.declared.action.Asked.TheVariants.{Callout, Queue as IsQueue}
 use Rattle.co_program.specs.Actors.{role_of, cpu_of, acts_at}
-use Rattle.co_program.specs.Stages.{Stage, Picking, Locking, Beginning, Unlocking, Releasing, Ending, Freeing}
+use Rattle.co_program.specs.Stages.{Stage, Popping, Picking, Locking, Beginning, Unlocking, Releasing, Ending, Freeing}
 use Rattle.co_program.specs.Cursor.{Cursor}
 use Rattle.co_program.specs.Action.{Take, Asks, spec_at, firing, draining, locks, action_for, pop_of, free_of}
 use Rattle.co_program.specs.Advance.{advance_callout, advance_queue, service_picked, service_begun, drain_acts, popped, freed}
@@ -33,11 +33,11 @@ use Rattle.co_program.specs.Scripts.{IsScript}
 use Rattle.co_program.proofs.Endings.{AreCalls, some-call, drain-calls}
 use Rattle.co_program.proofs.FunctionActs.{in_act, AreFirst, acts-first, asks-some}
 use Rattle.co_program.proofs.Groups.{inserted-at}
-use Rattle.co_program.proofs.Rests.{IsRest, first, at-next-asks, at-next-silent, at-next-take}
+use Rattle.co_program.proofs.Rests.{IsRest, at-next-asks, at-next-silent, at-next-take}
 use Rattle.co_program.proofs.NextNotes.{IsTurnFirst, turn-first, IsServeFirst, serve-first}
 use Rattle.co_program.proofs.ServiceReplies.{Picks, pick-replies, Begins, begin-replies, end-replies, free-replies}
 
-after-pop : (s : Script) (d : Cursor) (cpu : ℕ) (role : Role) (reply : QReply) → advance_queue s d cpu (pop_of role) reply ≡ popped d reply d.stage
+pub after-pop : (s : Script) (d : Cursor) (cpu : ℕ) (role : Role) (reply : QReply) → advance_queue s d cpu (pop_of role) reply ≡ popped d reply d.stage
 after-pop s d cpu (Client c) reply = refl
 after-pop s d cpu (Cpu x) reply = refl
 after-pop s d cpu (Interrupt x) reply = refl
@@ -74,6 +74,9 @@ module _ (s : Script) (ok : IsScript s) (H : Histories) (a : ℕ) (left : List T
     freed_is : placed free ≡ turns s H a v.act at_cpu (free_of role) Freed
     sent_on : IsSent s H a v next sent
     drained : AreActsOf s H a at_cpu v None n (drain_acts s drain) acts
+    over : ℕ
+    over_is : over ≡ n + length (drain_acts s drain)
+    later : IsRest s H a (at_next_note s a (here None over (Popping v.act))) rest
 
   record IsSending (n : ℕ) (drain : Option ℕ) (next : Option Next) (notes : List Note) : Type 0 where
     sent : List Note
@@ -82,6 +85,9 @@ module _ (s : Script) (ok : IsScript s) (H : Histories) (a : ℕ) (left : List T
     split : notes ≡ sent ++ (acts ++ rest)
     sent_on : IsSent s H a v next sent
     drained : AreActsOf s H a at_cpu v None n (drain_acts s drain) acts
+    over : ℕ
+    over_is : over ≡ n + length (drain_acts s drain)
+    later : IsRest s H a (at_next_note s a (here None over (Popping v.act))) rest
 
   drained-first : (n : ℕ) (drain : Option ℕ) (notes : List Note) → IsRest s H a (at_next_note s a (here None n (draining v (drain_acts s drain)))) notes → AreFirst s H a left now v None (draining v) (λ n y ys. refl) (λ n y ys. refl) (drain_acts s drain) n notes
   drained-first n drain notes rest = acts-first s H a left now v None (draining v) (λ n y ys. refl) (λ n y ys. refl) (drain_acts s drain) n notes (drain-calls s ok drain) rest
@@ -89,7 +95,7 @@ module _ (s : Script) (ok : IsScript s) (H : Histories) (a : ℕ) (left : List T
   sending : (n : ℕ) (drain : Option ℕ) (next : Option Next) (notes : List Note) → IsRest s H a (at_next_note s a (freed s (here None n (Freeing v drain next)) (Freeing v drain next))) notes → IsSending n drain next notes
   sending n drain None notes rest =
       let f = drained-first n drain notes rest in
-      record { sent = []; acts = f.front; rest = f.rest; split = f.split; sent_on = refl; drained = f.are }
+      record { sent = []; acts = f.front; rest = f.rest; split = f.split; sent_on = refl; drained = f.are; over = f.last; over_is = f.last_is; later = f.later }
   sending n drain (Some nx) notes rest =
       let d : Cursor = record (here None n (draining v (drain_acts s drain))) { parcel = Some (record { act = v.act; i = v.i; n = nx.n; due = nx.due; cpu = nx.cpu }) } in
       let t = turn-first s H a d v.act nx.cpu (Insert v.i nx.n nx.due) notes (subst (λ (c : Cursor). IsRest s H a c notes) (at-next-asks s a d v.act (IsQueue nx.cpu (Insert v.i nx.n nx.due)) refl) rest) refl in
@@ -102,6 +108,9 @@ module _ (s : Script) (ok : IsScript s) (H : Histories) (a : ℕ) (left : List T
         split = t.split ∙ ap (λ (l : List Note). t.note ∷ l) f.split;
         sent_on = (time.0, t.at ∙ ap (turns s H a v.act nx.cpu (Insert v.i nx.n nx.due)) time.1);
         drained = f.are;
+        over = f.last;
+        over_is = f.last_is;
+        later = f.later;
       }
 
   ending-first : (n : ℕ) (notes : List Note) → IsRest s H a (at_next_note s a (here None n (Ending v))) notes → IsEnd n notes
@@ -128,6 +137,9 @@ module _ (s : Script) (ok : IsScript s) (H : Histories) (a : ℕ) (left : List T
         freed_is = f.at ∙ ap (turns s H a v.act at_cpu (free_of role)) free_is;
         sent_on = more.sent_on;
         drained = more.drained;
+        over = more.over;
+        over_is = more.over_is;
+        later = more.later;
       }
 
   -- ---- what runs
@@ -234,6 +246,10 @@ module _ (s : Script) (ok : IsScript s) (H : Histories) (a : ℕ) (d : Cursor) (
     pub rest : List Note
     pub split : notes ≡ front ++ rest
     pub round : IsRoundOf s H a (role_of s a) act first d.hold front
+    -- and after it the next callout, in an act of this number
+    pub over : ℕ
+    pub over_is : over ≡ round.last + length (drain_acts s round.drain)
+    pub later : IsRest s H a (at_next_note s a (in_act s H a d.left d.now v None over (Popping act))) rest
 
   pub round-first : (t : IsTurnFirst s H a d act cpu_is (pop_of (role_of s a)) notes) → t.reply ≡ Got i n at → popped d (Got i n at) d.stage ≡ record d { act = first; stage = Picking v } → d.parcel ≡ None → d.removed ≡ None → IsRoundFirst
   round-first t got taken unsent unmade =
@@ -274,4 +290,7 @@ module _ (s : Script) (ok : IsScript s) (H : Histories) (a : ℕ) (d : Cursor) (
           last = b.last;
           drained = e.drained;
         };
+        over = e.over;
+        over_is = e.over_is;
+        later = e.later;
       }

@@ -22,6 +22,7 @@ use Rattle.co_program.specs.Cursor.{Cursor, start_of}
 use Rattle.co_program.specs.Follows.{cursor_after, scan_count, at_next_note}
 use Rattle.co_program.specs.Groups.{IsCallOf, IsDrainOf, AreActsOf, IsRoundOf, IsNote, turns}
 use Rattle.co_program.specs.Names.{FuncsExist, AllNotesName}
+use Rattle.co_program.specs.Programs.{AreOfProgram}
 use Rattle.co_program.specs.Runs.{notes_by, shown_histories, IsRunOf}
 use Rattle.co_program.specs.Scripts.{IsScript}
 use Rattle.co_program.specs.Stages.{Ready, Popping, Firing, Drained}
@@ -31,6 +32,10 @@ abbrev pub RunsNameWhatExists : Type 0
 RunsNameWhatExists = (s : Script) (lists : List (List Note)) → IsScript s → FuncsExist s → IsRunOf s lists → AllNotesName s lists
 
 -- ---- what the list of an actor looks like
+
+-- the list of an actor is that of its program: the notes of its acts, each once and in order, and no others
+abbrev pub ActsMakeTheirNotes : Type 0
+ActsMakeTheirNotes = (s : Script) (lists : List (List Note)) (a : ℕ) → IsScript s → IsRunOf s lists → a < actor_count s → AreOfProgram s (shown_histories lists) a (role_of s a) (notes_by lists a)
 
 -- the actor's cursor after these notes, past the steps that make none: before its next note
 abbrev pub cursor_before_next : Script → List (List Note) → ℕ → List Note → Cursor

@@ -22,6 +22,8 @@ pub mod Places
 pub mod Runs
 -- the notes of a call, a drain, a function and a round of services, as they stand in a list
 pub mod Groups
+-- an actor's whole list, told by the acts of its program, without a cursor
+pub mod Programs
 -- the callouts and CPUs that a cursor, an action or a note names exist in the script
 pub mod Existing
 -- so do the functions and actors that notes name; and each queue's answer is of its operation

@@ -1,10 +1,24 @@
 //! What holds of every run of a script, each law the contract of a function that does nothing.
-ghost use Rattle.co_program.specs.Laws.{CallsAreGroups, DrainsAreGroups, FunctionsMakeTheirActs, ProgramsEndWhereNothingIsLeft, RoundsAreOfServices, RunsNameWhatExists, SoftActsBeginWithRounds};
+ghost use Rattle.co_program.specs.Laws.{ActsMakeTheirNotes, CallsAreGroups, DrainsAreGroups, FunctionsMakeTheirActs, ProgramsEndWhereNothingIsLeft, RoundsAreOfServices, RunsNameWhatExists, SoftActsBeginWithRounds};
 
 /// What each note of a run names exists in the script, its actor, callouts, CPUs and functions, where the functions that the
 /// script's acts name do; each entry is of its place's kind, and the answer of each queue is one to its operation.
 pub fn runs_name_what_exists()
     ensures { RunsNameWhatExists }
+{}
+
+/// The list of each actor is that of its program: the notes of its acts, in order, each with its act's number, and no others. What
+/// an act makes is told by the act, in `specs/Programs`, and by no cursor.
+///
+/// Of a client each call (a reset, a `ticks`, a schedule, a stop, an asynchronous drain, `active`, `pending`, a deactivation, an
+/// init, a retirement) makes the group of exactly that call on exactly that callout, at the client's time and CPU, or the note
+/// NotHeld where what the client holds does not cover it; a drain the groups of its tries, or HoldsLock where it holds a lock; a
+/// lock nothing, or Holding where it holds one already; an unlock nothing, or NotHolding where it holds none; and `now`
+/// nothing. Each tick of a CPU, in version 2 of its interrupt, makes the Scan of that CPU at that time, rounds of services, and
+/// a Pop that finds nothing; each soft act of a CPU the same without a Scan, its first Pop after as many Scans as the ticks
+/// that it serves.
+pub fn acts_make_their_notes()
+    ensures { ActsMakeTheirNotes }
 {}
 
 /// Where an actor's program makes a call, the actor holds what covers it, and its next notes are the call's group: a Remove
