@@ -28,7 +28,7 @@ pub mod Programs
 pub mod Existing
 -- so do the functions and actors that notes name; and each queue's answer is of its operation
 pub mod Names
--- what holds of every run: calls, drains, rounds and soft acts stand as groups; where programs end
+-- what holds of every run: each actor's list is that of its program; calls, drains, rounds and soft acts stand as groups; where programs end
 pub mod Laws
 -- the cursor and the action as the code keeps them, by numbers, and what these stand for
 pub mod Indexed

@@ -8,15 +8,16 @@ pub fn runs_name_what_exists()
 {}
 
 /// The list of each actor is that of its program: the notes of its acts, in order, each with its act's number, and no others. What
-/// an act makes is told by the act, in `specs/Programs`, and by no cursor.
+/// an act makes is told by the act (`specs/Programs`), and by no cursor.
 ///
-/// Of a client each call (a reset, a `ticks`, a schedule, a stop, an asynchronous drain, `active`, `pending`, a deactivation, an
+/// Each call of a client (a reset, a `ticks`, a schedule, a stop, an asynchronous drain, `active`, `pending`, a deactivation, an
 /// init, a retirement) makes the group of exactly that call on exactly that callout, at the client's time and CPU, or the note
 /// NotHeld where what the client holds does not cover it; a drain the groups of its tries, or HoldsLock where it holds a lock; a
-/// lock nothing, or Holding where it holds one already; an unlock nothing, or NotHolding where it holds none; and `now`
-/// nothing. Each tick of a CPU, in version 2 of its interrupt, makes the Scan of that CPU at that time, rounds of services, and
-/// a Pop that finds nothing; each soft act of a CPU the same without a Scan, its first Pop after as many Scans as the ticks
-/// that it serves.
+/// lock nothing, or Holding where it holds one already; an unlock nothing, or NotHolding where it holds none; and `now` nothing.
+///
+/// Each tick of a CPU, in version 2 of its interrupt, makes the Scan of that CPU at that time, rounds of services, and a Pop that
+/// finds nothing. A soft act of a CPU makes the same without a Scan; before the first Pop of the j-th, counted from 0, at least
+/// j + 1 Scans stand in the CPU's history.
 pub fn acts_make_their_notes()
     ensures { ActsMakeTheirNotes }
 {}
