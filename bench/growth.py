@@ -4,13 +4,15 @@ its double, as a table.
 
 PROGRAM is the built callout (default crates/callout_cli/out/callout_cli, which `rt run` in crates/callout_cli makes). Each command gets
 inputs of a quarter, a half and the whole of a size; the largest is close to the format's limits. SHRINK divides all sizes (default 1).
-Times are processor times of whole runs, the least of RUNS (default 5), of `run`, whose work depends on the race, the medians; peaks are of
-resident memory, the highest. time(1) is needed."""
+Times are processor times of whole runs, the least of RUNS (default 7), of `run`, whose work depends on the race, the medians; peaks are of
+resident memory, the highest. The three sizes take turns, so that a machine that gets slower meets all, and before each run memory is
+touched and let go (bench/warm.py). time(1) is needed."""
 import os, subprocess, sys, tempfile
+from warm import warm
 
 HERE = os.path.dirname(os.path.abspath(__file__))
 PROGRAM = sys.argv[1] if len(sys.argv) > 1 else os.path.join(HERE, "../crates/callout_cli/out/callout_cli")
-RUNS, SHRINK = int(os.environ.get("RUNS", 5)), int(os.environ.get("SHRINK", 1))
+RUNS, SHRINK = int(os.environ.get("RUNS", 7)), int(os.environ.get("SHRINK", 1))
 COMMANDS = 262_144
 
 
@@ -90,6 +92,7 @@ ROWS += [(made.__name__, "commands", COMMANDS, made) for made in (kq, sleep, iti
 def once(command, source, folder):
     """Seconds of processor time and KiB at the peak of one run."""
     out, report = os.path.join(folder, "out"), os.path.join(folder, "peak")
+    warm(1300)
     with open(source, "rb") as stdin, open(out, "wb") as stdout:
         child = subprocess.Popen(["time", "-q", "-f", "%M", "-o", report, PROGRAM, command], stdin=stdin, stdout=stdout)
         _, status, usage = os.wait4(child.pid, 0)
@@ -99,15 +102,16 @@ def once(command, source, folder):
         return usage.ru_utime + usage.ru_stime, int(text.read().split()[-1])
 
 
-def measured(command, source, folder):
-    """Least time, or of `run` the median, and the highest peak."""
-    seconds, peaks = zip(*(once(command, source, folder) for _ in range(RUNS)))
-    return sorted(seconds)[RUNS // 2 if command == "run" else 0], max(peaks)
+def measured(command, sources, folder):
+    """Of each input the least time, or of `run` the median, and the highest peak."""
+    runs = [[once(command, source, folder) for source in sources] for _ in range(RUNS)]
+    for of_one in zip(*runs):
+        seconds, peaks = zip(*of_one)
+        yield sorted(seconds)[RUNS // 2 if command == "run" else 0], max(peaks)
 
 
-def make_input(command, lines, folder):
+def make_input(command, lines, source, folder):
     """A file with these lines, or for `check` with their report."""
-    source = os.path.join(folder, "in")
     with open(source, "w") as text:
         text.write("\n".join(lines) + "\n")
     if command == "check":
@@ -126,7 +130,8 @@ def main():
         for command, what, whole, made in ROWS:
             least = whole // SHRINK // 4
             sizes = [least, 2 * least, 4 * least]
-            seconds, peaks = zip(*(measured(command, make_input(command, made(size), folder), folder) for size in sizes))
+            sources = [make_input(command, made(size), os.path.join(folder, f"in-{size}"), folder) for size in sizes]
+            seconds, peaks = zip(*measured(command, sources, folder))
             print(f"| `{command}` | {', '.join(map(str, sizes))} {what} | {', '.join(f'{s:.3g}' for s in seconds)} s | {ratios(seconds)} | "
                   f"{', '.join(f'{p / 1024:.0f}' for p in peaks)} MiB | {ratios(peaks)} |", flush=True)
 

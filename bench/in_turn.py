@@ -3,8 +3,10 @@
 table: of each the least time of RUNS (default 21) and the median, and its peak of memory; and the ratios of PROGRAM's times to OTHER's.
 
 The two take turns, so that a machine that gets slower meets both. INPUT is a file; what is written goes to /dev/null. The peak is told by
-Debian's package time, since a child of Python's would count what Python holds."""
+Debian's package time, since a child of Python's would count what Python holds. WARM=1300 has so many
+MiB touched and let go before each run, for large inputs (bench/warm.py)."""
 import os, subprocess, sys, tempfile
+from warm import warm
 
 RUNS = int(os.environ.get("RUNS", 21))
 
@@ -12,6 +14,7 @@ RUNS = int(os.environ.get("RUNS", 21))
 def once(program, words, source):
     """Seconds of processors that a run takes."""
     source.seek(0)
+    warm(0)
     child = subprocess.Popen([program, *words], stdin=source, stdout=subprocess.DEVNULL)
     _, status, usage = os.wait4(child.pid, 0)
     child.returncode = os.waitstatus_to_exitcode(status)
