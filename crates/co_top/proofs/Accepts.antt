@@ -3,7 +3,9 @@ use Rattle.std.proofs.Common.{◌≡◌, ℕ, ◌≤◌, true, List, length, sym
 use Rattle.co_object.specs.declared.Note.{Note}
 use Rattle.co_program.specs.declared.Script.{Script}
 use Rattle.co_program.specs.Runs.{IsRunOf}
+use Rattle.co_program.proofs.ListsLook.{acts}
 use Rattle.co_script.specs.Fits.{fits}
+use Rattle.co_script.proofs.Accepted.{fits-accepted}
 use Rattle.co_report.specs.Histories.{shown_history}
 use Rattle.co_report.specs.Laws.{report_of_histories}
 use Rattle.co_report.specs.Reports.{report_of}
@@ -22,6 +24,7 @@ run_legal s f lists run typed short =
 pub reported_run : (s : Script) → fits s ≡ true → (lists : List (List Note)) (text : List ℕ) → IsRunOf s lists → ListsTyped lists → text ≡ report_of s lists → IsReportOf s lists text
 reported_run s f lists text run typed shown = record {
   run = run;
+  programs = λ a below. acts s lists a (fits-accepted s f) run below;
   shown = shown;
   legal = λ short. subst IsLegalReport (sym shown) (run_legal s f lists run typed (subst (λ (bytes : List ℕ). length bytes ≤ 268435456) shown short));
 }

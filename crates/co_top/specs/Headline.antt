@@ -1,8 +1,10 @@
 -- What the program promises: for each status what was read, and what was written.
-use Rattle.std.specs.Prelude.{◌≡◌, ℕ, ◌≤◌, ◌⊎◌, List, length, Option, Some, None, Result, Ok, Err, IfSome}
+use Rattle.std.specs.Prelude.{◌≡◌, ℕ, ◌<◌, ◌≤◌, ◌⊎◌, List, length, Option, Some, None, Result, Ok, Err, IfSome}
 use Rattle.co_object.specs.declared.note.Note.{Note}
 use Rattle.co_program.specs.declared.script.Script.{Script}
-use Rattle.co_program.specs.Runs.{IsRunOf}
+use Rattle.co_program.specs.Actors.{actor_count, role_of}
+use Rattle.co_program.specs.Programs.{AreOfProgram}
+use Rattle.co_program.specs.Runs.{IsRunOf, notes_by, shown_histories}
 use Rattle.co_text.specs.Fallible.{Refusal}
 use Rattle.co_text.specs.Values.{Word}
 use Rattle.co_script.specs.Reading.{script_of}
@@ -48,11 +50,16 @@ pub record IsLegalReport (text : List ℕ) : Type 0 where
   pub read : report_read text ≡ Ok report
   pub legal : verdict report ≡ Legal
 
+-- each actor's list is that of its program: the notes of its acts, each once and in order, and no others
+abbrev pub AreOfPrograms : Script → List (List Note) → Type 0
+AreOfPrograms s lists = (a : ℕ) → a < actor_count s → AreOfProgram s (shown_histories lists) a (role_of s a) (notes_by lists a)
+
 -- the text is the report of these lists, which are a run of the script: every callout has one legal history of that callout alone
--- and every CPU one of a plain timer queue, made of exactly the steps of the script's actors. It is legal, where it is not too
--- long for a report
+-- and every CPU one of a plain timer queue, made of exactly the steps of the script's actors, which are told by their acts. It is
+-- legal, where it is not too long for a report
 pub record IsReportOf (script : Script) (lists : List (List Note)) (text : List ℕ) : Type 0 where
   pub run : IsRunOf script lists
+  pub programs : AreOfPrograms script lists
   pub shown : text ≡ report_of script lists
   pub legal : length text ≤ 268435456 → IsLegalReport text
 
