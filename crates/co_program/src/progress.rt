@@ -44,7 +44,9 @@ pub fn advance(script: &Script, cursor: &mut Cursor, listed: bool, place: Place,
 
 // ---- after a call, or in its place a note of the actor's own
 
-/// The cursor goes on after an entry of callout `i`.
+/// The cursor goes on after an entry of callout `i`. Inlined, as is all to which it hands the operation or the reply: where no
+/// function is passed a part of the note, and the listener keeps none, the note is never put together.
+#[inline(always)]
 fn advance_callout(
     script: &Script,
     cursor: &mut Cursor,
@@ -69,6 +71,7 @@ fn advance_callout(
 }
 
 /// After the entry of a call: an accepted arming that is listed is on its way into its CPU's queue.
+#[inline(always)]
 fn called(script: &Script, cursor: &mut Cursor, i: u32, listed: bool, op: &Op, reply: &Reply)
     requires script { IsScript script.now }
     requires room { cursor.old.act < 2 ^ 64 - 1 }
@@ -126,6 +129,7 @@ fn one_less(left: ActsLeft) -> ActsLeft
 }
 
 /// The time for which a call arms.
+#[inline(always)]
 fn due_of_call(op: &Op) -> Sbt
     ensures { result ≡ due_of_call op.now }
 {
@@ -139,6 +143,7 @@ fn due_of_call(op: &Op) -> Sbt
 // ---- in a service
 
 /// After a Pick: the function runs, or waits for the callout's lock.
+#[inline(always)]
 fn picked(script: &Script, cursor: &mut Cursor, v: &InService, reply: &Reply)
     ensures cursor { (role : Role) → let s = script.now in
         cursor_as s role cursor.new ≡ service_picked s (cursor_as s role cursor.old) v.now reply.now }
@@ -151,6 +156,7 @@ fn picked(script: &Script, cursor: &mut Cursor, v: &InService, reply: &Reply)
 }
 
 /// After a Begin: the function runs, or it was cancelled meanwhile and the lock is released.
+#[inline(always)]
 fn begun(script: &Script, cursor: &mut Cursor, v: &InService, reply: &Reply)
     ensures cursor { (role : Role) → let s = script.now in
         cursor_as s role cursor.new ≡ service_begun s (cursor_as s role cursor.old) v.now reply.now }
@@ -182,6 +188,7 @@ fn whole(func: u32) -> ActsLeft
 }
 
 /// After an End.
+#[inline(always)]
 fn ended(cursor: &mut Cursor, v: &InService, reply: &Reply)
     ensures cursor { (s : Script) (role : Role) →
         cursor_as s role cursor.new ≡ service_ended (cursor_as s role cursor.old) v.now reply.now }
