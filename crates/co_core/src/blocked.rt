@@ -8,7 +8,7 @@ ghost use Rattle.co_program.specs.Indexed.{action_of, cursor_of, stage_of};
 ghost use Rattle.co_program.specs.Scripts.{IsScript};
 ghost use Rattle.co_world.specs.Blocked.{blocked, is_locked, is_moving, is_waiting};
 ghost use Rattle.co_core.specs.Acting.{RunsActor, Stands};
-ghost use Rattle.co_core.specs.Resting.{IsKeptOut, TakesNext};
+ghost use Rattle.co_core.specs.Resting.{TakesNext};
 ghost use Rattle.co_core.specs.Stands.{ShowsBooked};
 ghost use Rattle.co_lock.specs.declared.held.Held.{Held as HeldOf};
 ghost use Rattle.co_core.specs.Stored.{stand_at};
@@ -18,19 +18,12 @@ ghost use Rattle.co_core.specs.Written.{booked_at};
 mod taking;
 
 use crate::engine::Engine;
+use crate::resting::Known;
 use co_lock::Held;
 use co_object::Op;
 use co_program::{Action, Asked, Cursor, Script, Stage, scans_first};
 use co_world::{Turn, Why};
 use taking::takes_next;
-
-/// The step has to wait for a lock.
-fn waits_for_lock(turn: Turn) -> bool {
-    match turn {
-        Turn::Blocked(Why::Lock(_)) => true,
-        _ => false,
-    }
-}
 
 impl Engine {
     /// A lock is taken once no other actor holds it in a mode that excludes this one.
@@ -44,25 +37,40 @@ impl Engine {
         }
     }
 
-    /// Others keep an actor from what it wants, if anything.
-    pub(crate) fn keeps_out(&self, wanted: Option<Held>) -> bool
-        ensures { result ≡ true → (s : ScriptOf) (w : PlainWorld) → ShowsBooked s self.now.ledger w → IsKeptOut s w wanted }
+    /// Others keep an actor from this hold.
+    pub(crate) fn keeps_out(&self, held: &Held) -> bool
+        ensures { result ≡ true → (s : ScriptOf) (w : PlainWorld) → ShowsBooked s self.now.ledger w → is_locked s w held.now ≡ true }
     {
-        match wanted {
-            Some(held) => self.ledger.is_locked(&held),
-            None => false,
+        self.ledger.is_locked(held)
+    }
+
+    /// What is known of an actor after its step: that it has finished, or the hold that it takes next, where that was not to be
+    /// had.
+    #[inline(always)]
+    pub(crate) fn known_after(&self, script: &Script, actor: u32, turn: Turn) -> Known
+        requires { actor < length self.now.ledger.cursors }
+        ensures ended { result ≡ Known.Ended → turn ≡ Turn.Finished }
+        ensures wanted { (held : HeldOf) (w : PlainWorld) → result ≡ Known.Wants held → ShowsBooked script.now self.now.ledger w → actor < actor_count script.now → TakesNext script.now w actor held }
+    {
+        match turn {
+            Turn::Notes(_) => Known::Nothing,
+            Turn::Finished => Known::Ended,
+            Turn::Blocked(why) => self.known_of_blocked(script, actor, why),
         }
     }
 
-    /// The hold that the actor takes next, where it was not to be had.
-    pub(crate) fn wanted_after(&self, script: &Script, actor: u32, turn: Turn) -> Option<Held>
+    /// What is known of an actor that has to wait for this.
+    fn known_of_blocked(&self, script: &Script, actor: u32, why: Why) -> Known
         requires { actor < length self.now.ledger.cursors }
-        ensures { (held : HeldOf) (w : PlainWorld) → result ≡ Some held → ShowsBooked script.now self.now.ledger w → actor < actor_count script.now → TakesNext script.now w actor held }
+        ensures ended { result ≡ Known.Ended → ⊥ }
+        ensures wanted { (held : HeldOf) (w : PlainWorld) → result ≡ Known.Wants held → ShowsBooked script.now self.now.ledger w → actor < actor_count script.now → TakesNext script.now w actor held }
     {
-        if waits_for_lock(turn) {
-            takes_next(script, actor, self.ledger.cursor(actor))
-        } else {
-            None
+        match why {
+            Why::Lock(_) => match takes_next(script, actor, self.ledger.cursor(actor)) {
+                Some(held) => Known::Wants(held),
+                None => Known::Nothing,
+            },
+            _ => Known::Nothing,
         }
     }
 

@@ -1,90 +1,65 @@
 //! What is known of actors that a step would leave as they are.
-ghost use Rattle.std.specs.Prelude.{◌≡◌, ◌⊎◌, ℕ, false, true, get_or, None, Some};
-ghost use Rattle.co_lock.specs.declared.held.Held.{Held as HeldOf};
+ghost use Rattle.std.specs.Prelude.{◌≡◌, ◌<◌, ℕ, get_or};
+ghost use Rattle.co_core.specs.declared.resting.Known.TheVariants.{Nothing};
+ghost use Rattle.co_core.specs.Resting.{HasLearnt};
 
 use co_lock::Held;
 
 // The most actors of a script: 16 clients, 16 CPUs and 16 interrupts.
 const MOST_ACTORS: usize = 48;
 
-/// What is known of the actors: which have finished, and which take a lock next that another held when they were asked. One
-/// that has finished is asked no more, and one that takes a lock not before that is free.
-#[derive(Drop)]
-pub(crate) struct Resting {
-    ended: [bool; MOST_ACTORS],
-    /// By actor: the hold that it takes next, where that is known.
-    wanted: [Option<Held>; MOST_ACTORS],
+/// What is known of an actor.
+#[derive(Clone, Copy)]
+pub(crate) enum Known {
+    /// Nothing.
+    Nothing,
+    /// It has finished, and is asked no more.
+    Ended,
+    /// It takes this next, and another held the lock when it was asked. It is not asked before that is free.
+    Wants(Held),
 }
 
-/// Replaces what an actor takes next. Nothing by nothing, which is what most steps come to, writes nothing.
-fn replace(known: &mut Option<Held>, wanted: Option<Held>)
-    ensures { known.new ≡ wanted }
-{
-    if known.is_some() || wanted.is_some() {
-        *known = wanted;
-    }
+/// What is known of the actors.
+#[derive(Drop)]
+pub(crate) struct Resting {
+    known: [Known; MOST_ACTORS],
 }
 
 impl Resting {
     /// Nothing is known.
     pub(crate) fn none() -> Resting
-        ensures ended { (a : ℕ) → get_or result.ended a false ≡ false }
-        ensures wanted { (a : ℕ) → get_or result.wanted a None ≡ None }
+        ensures { (a : ℕ) → get_or result.known a Nothing ≡ Nothing }
     {
         Resting {
-            ended: [false; MOST_ACTORS],
-            wanted: [None; MOST_ACTORS],
+            known: [Known::Nothing; MOST_ACTORS],
         }
     }
 
-    /// Whether the actor is known to have finished.
-    pub(crate) fn has_ended(&self, actor: u32) -> bool
-        ensures { result ≡ get_or self.now.ended actor false }
+    /// What is known of the actor.
+    pub(crate) fn known(&self, actor: u32) -> Known
+        requires { actor < 48 }
+        ensures { result ≡ get_or self.now.known actor Nothing }
     {
-        let index = actor as usize;
-        index < self.ended.len() && self.ended[index]
+        self.known[actor as usize]
     }
 
-    /// The hold that the actor takes next, where that is known.
-    pub(crate) fn wanted(&self, actor: u32) -> Option<Held>
-        ensures { result ≡ get_or self.now.wanted actor None }
+    /// Nothing is known of the actor any more.
+    pub(crate) fn forget(&mut self, actor: u32)
+        requires { actor < 48 }
+        ensures { HasLearnt self.old.known actor Nothing self.new.known }
     {
-        let index = actor as usize;
-        if index < self.wanted.len() {
-            self.wanted[index]
-        } else {
-            None
-        }
+        self.known[actor as usize] = Known::Nothing;
     }
 
-    /// The actor has been asked: it has finished, or takes this next, or neither is known.
-    pub(crate) fn learn(&mut self, actor: u32, finished: bool, wanted: Option<Held>)
-        ensures ended { (a : ℕ) → get_or self.new.ended a false ≡ true → (get_or self.old.ended a false ≡ true) ⊎ ((a ≡ actor) × (finished ≡ true)) }
-        ensures wanted { (a : ℕ) (held : HeldOf) → get_or self.new.wanted a None ≡ Some held →
-            ((a ≡ actor → ⊥) × (get_or self.old.wanted a None ≡ Some held)) ⊎ ((a ≡ actor) × (wanted ≡ Some held)) }
+    /// This is known of the actor now, of whom nothing was. Nothing, which is what most steps come to, writes nothing.
+    pub(crate) fn learn(&mut self, actor: u32, known: Known)
+        requires actor { actor < 48 }
+        requires nothing { get_or self.old.known actor Nothing ≡ Nothing }
+        ensures { HasLearnt self.old.known actor known self.new.known }
     {
-        self.learn_end(actor, finished);
-        self.learn_want(actor, wanted);
-    }
-
-    fn learn_end(&mut self, actor: u32, finished: bool)
-        ensures ended { (a : ℕ) → get_or self.new.ended a false ≡ true → (get_or self.old.ended a false ≡ true) ⊎ ((a ≡ actor) × (finished ≡ true)) }
-        ensures wanted { self.new.wanted ≡ self.old.wanted }
-    {
-        let index = actor as usize;
-        if finished && index < self.ended.len() {
-            self.ended[index] = true;
-        }
-    }
-
-    fn learn_want(&mut self, actor: u32, wanted: Option<Held>)
-        ensures wanted { (a : ℕ) (held : HeldOf) → get_or self.new.wanted a None ≡ Some held →
-            ((a ≡ actor → ⊥) × (get_or self.old.wanted a None ≡ Some held)) ⊎ ((a ≡ actor) × (wanted ≡ Some held)) }
-        ensures ended { self.new.ended ≡ self.old.ended }
-    {
-        let index = actor as usize;
-        if index < self.wanted.len() {
-            replace(&mut self.wanted[index], wanted);
+        match known {
+            Known::Nothing => {}
+            Known::Ended | Known::Wants(_) => self.known[actor as usize] = known,
         }
     }
 }

@@ -1,9 +1,11 @@
 //! The walk of a script, its turns and then round robin until all have finished: told note by note.
-ghost use Rattle.std.specs.Prelude.{◌≡◌, ℕ, ◌<◌, ◌≤◌, List, [], true, OnOk, IfOk};
+ghost use Rattle.std.specs.Prelude.{◌≡◌, ℕ, ◌<◌, ◌≤◌, List, [], Bool, true, Some, None, get_or, OnOk, IfOk};
 ghost use Rattle.co_listener.specs.MadeNotes.{MadeNote};
 ghost use Rattle.co_program.specs.Actors.{actor_count};
 ghost use Rattle.co_program.specs.Scripts.{IsScript};
-ghost use Rattle.co_core.specs.Resting.{IsKnown};
+ghost use Rattle.co_program.specs.declared.script.Script.{Script as ScriptOf};
+ghost use Rattle.co_core.specs.Resting.{IsForgotten, IsKnown, RestsStill};
+ghost use Rattle.co_core.specs.Stands.{ShowsBooked};
 ghost use Rattle.co_world.specs.Step.{step, turn_of};
 ghost use Rattle.co_core.specs.Acting.{Stands};
 ghost use Rattle.co_core.specs.Telling.{TellsOn, GoesOnKnowing, HasAsked, IsTelling, IsToldTo, MayTell, MayTellStep};
@@ -11,7 +13,7 @@ ghost use Rattle.co_world.specs.Walk.{AllFinished, HasFinished, IsWalk, round, r
 ghost use Rattle.co_world.specs.World.{World as PlainWorld};
 
 use crate::engine::Engine;
-use crate::resting::Resting;
+use crate::resting::{Known, Resting};
 use co_listener::{KeptLists, Listener};
 use co_object::Lists;
 use co_program::{Action, Script, actor_count};
@@ -32,6 +34,28 @@ fn is_finished(turn: Turn) -> bool
 // The place where an action is put is handed on from step to step: to make it anew takes a few stores each time.
 
 impl Engine {
+    /// Whether it is known that a step of the actor would change nothing, and then whether the actor has finished. Else nothing
+    /// is known of it from now on, since it is to be asked.
+    #[inline(always)]
+    fn still_rests(&self, resting: &mut Resting, actor: u32) -> Option<bool>
+        requires { actor < 48 }
+        ensures rests { (ended : Bool) → result ≡ Some ended → (s : ScriptOf) (w : PlainWorld) → ShowsBooked s self.now.ledger w → IsKnown s w resting.old → RestsStill s w actor ended }
+        ensures same { (ended : Bool) → result ≡ Some ended → resting.new ≡ resting.old }
+        ensures asked { result ≡ None → IsForgotten resting.old.known actor resting.new.known }
+    {
+        match resting.known(actor) {
+            Known::Nothing => None,
+            Known::Ended => Some(true),
+            Known::Wants(held) => {
+                if self.keeps_out(&held) {
+                    return Some(false);
+                }
+                resting.forget(actor);
+                None
+            }
+        }
+    }
+
     /// One step of an actor, of whose notes the listener is told.
     #[inline(always)]
     fn tell_step<N: Listener>(
@@ -62,14 +86,14 @@ impl Engine {
         listener: &mut N,
         next: &mut Action,
     ) -> Result<bool, NoMemory>
-        requires { MayTellStep script.now self.old (N.actors listener.old) actor }
+        requires may { MayTellStep script.now self.old (N.actors listener.old) actor }
+        requires nothing { get_or resting.old.known actor Known.Nothing ≡ Known.Nothing }
         ensures { HasAsked script.now N.has N.actors self.old self.new listener.old listener.new resting.old resting.new result (λ w. step script.now w actor) (λ w. HasFinished script.now w actor) }
     {
         let turn = self.tell_step(script, actor, listener, next)?;
-        let finished = is_finished(turn);
-        let wanted = self.wanted_after(script, actor, turn);
-        resting.learn(actor, finished, wanted);
-        Ok(finished)
+        let known = self.known_after(script, actor, turn);
+        resting.learn(actor, known);
+        Ok(is_finished(turn))
     }
 
     /// The same, unless the actor is known to have finished, or to wait for a lock that is held still: then a step changes
@@ -86,11 +110,8 @@ impl Engine {
         requires { MayTellStep script.now self.old (N.actors listener.old) actor }
         ensures { HasAsked script.now N.has N.actors self.old self.new listener.old listener.new resting.old resting.new result (λ w. step script.now w actor) (λ w. HasFinished script.now w actor) }
     {
-        if resting.has_ended(actor) {
-            return Ok(true);
-        }
-        if self.keeps_out(resting.wanted(actor)) {
-            return Ok(false);
+        if let Some(ended) = self.still_rests(resting, actor) {
+            return Ok(ended);
         }
         self.tell_asked(script, actor, resting, listener, next)
     }

@@ -1,5 +1,5 @@
 -- What is known of the actors stays so, whoever steps: that one has finished, and what one takes next.
-use Rattle.std.proofs.Common.{◌≡◌, ℕ, zero, suc, ◌⊎◌, Bool, true, false, List, [], ◌∷◌, ◌++◌, get_or, set, length, cond, ◌<◌, ◌≤◌, replicate, inl, inr, refl, sym, ap, subst, ◌∙◌, Option, Some, None}
+use Rattle.std.proofs.Common.{◌≡◌, ℕ, zero, suc, ◌⊎◌, Bool, true, false, List, [], ◌∷◌, ◌++◌, get_or, set, length, cond, ◌<◌, ◌+◌, ◌*◌, ◌==◌, if◌then◌else◌, arith, replicate, inl, inr, refl, sym, ap, subst, ◌∙◌, Option, Some, None}
 use Rattle.co_object.specs.declared.Op.{Op}
 use Rattle.co_object.specs.declared.QOp.{QOp}
 use Rattle.co_object.specs.declared.Note.{Note}
@@ -18,12 +18,16 @@ use Rattle.co_program.specs.declared.Asked.TheVariants.{Callout, Queue, Itself}
 use Rattle.co_world.specs.World.{World, Actor, with_cursor}
 use Rattle.co_world.specs.Step.{are_direct, notes_down, callout_answers, queue_answers, world_answers, step}
 use Rattle.co_world.specs.Walk.{HasFinished}
-use Rattle.std.proofs.lemmas.List.{get_or-set_other, get_or-set_same, get_or_past}
+use Rattle.co_program.specs.Actors.{actor_count}
+use Rattle.co_program.specs.Scripts.{IsScript}
+use Rattle.std.proofs.lemmas.List.{get_or-set_other, get_or-set_same}
 use Rattle.co_lock.specs.declared.Held.{Held}
 use Rattle.co_world.specs.Blocked.{blocked, is_locked, waits_for}
 use Rattle.co_world.specs.declared.turn.Why.TheVariants.{Lock}
+use Rattle.co_core.specs.declared.resting.Known.{Known}
+use Rattle.co_core.specs.declared.resting.Known.TheVariants.{Nothing, Ended, Wants}
 use Rattle.co_core.specs.declared.resting.Resting.{Resting}
-use Rattle.co_core.specs.Resting.{HaveEnded, IsKeptOut, IsKnown, TakeNext, TakesNext}
+use Rattle.co_core.specs.Resting.{HasLearnt, HaveEnded, IsForgotten, IsKnown, RestsStill, TakeNext, TakesNext}
 use Rattle.co_world.proofs.basics.Updates.{updated_elsewhere}
 use Rattle.co_world.proofs.basics.Changes.{decide}
 use Rattle.co_world.proofs.schedules.AnyAnswers as steps
@@ -71,38 +75,57 @@ module _ (s : Script) (b : ℕ) where
 
 -- ---- after a step, what was known and what is learnt
 
-module _ (s : Script) (w : World) (i : ℕ) (known more : Resting) (finished : Bool) (wanted : Option Held) where
-  ended_learnt : ((a : ℕ) → get_or more.ended a false ≡ true → (get_or known.ended a false ≡ true) ⊎ ((a ≡ i) × (finished ≡ true))) →
-      (finished ≡ true → HasFinished s w i) → HaveEnded s w known.ended → HaveEnded s (step s w i) more.ended
-  ended_learnt learnt done have a said = go (learnt a said) where
-    go : (get_or known.ended a false ≡ true) ⊎ ((a ≡ i) × (finished ≡ true)) → HasFinished s (step s w i) a
-    go (inl before) = ended_stays s a w i (have a before)
-    go (inr now) = ended_stays s a w i (subst (λ (k : ℕ). HasFinished s w k) (sym now.0) (done now.1))
+module _ (s : Script) (w : World) (i : ℕ) (known more : Resting) (what : Known) (learns : HasLearnt known.known i what more.known) where
+  ended_learnt : (what ≡ Ended → HasFinished s w i) → HaveEnded s w known.known → HaveEnded s (step s w i) more.known
+  ended_learnt done have a said = go (learns a) where
+    go : ((a ≡ i) × (get_or more.known a Nothing ≡ what)) ⊎ ((a ≡ i → ⊥) × (get_or more.known a Nothing ≡ get_or known.known a Nothing)) → HasFinished s (step s w i) a
+    go (inl now) = ended_stays s a w i (subst (λ (k : ℕ). HasFinished s w k) (sym now.0) (done (sym now.1 ∙ said)))
+    go (inr before) = ended_stays s a w i (have a (sym before.1 ∙ said))
 
-  wanted_learnt : ((a : ℕ) (held : Held) → get_or more.wanted a None ≡ Some held → ((a ≡ i → ⊥) × (get_or known.wanted a None ≡ Some held)) ⊎ ((a ≡ i) × (wanted ≡ Some held))) →
-      ((held : Held) → wanted ≡ Some held → TakesNext s (step s w i) i held) → TakeNext s w known.wanted → TakeNext s (step s w i) more.wanted
-  wanted_learnt learnt takes have a held said = go (learnt a held said) where
-    go : ((a ≡ i → ⊥) × (get_or known.wanted a None ≡ Some held)) ⊎ ((a ≡ i) × (wanted ≡ Some held)) → TakesNext s (step s w i) a held
-    go (inl before) =
-        let next = have a held before.1 in
+  wanted_learnt : ((held : Held) → what ≡ Wants held → TakesNext s (step s w i) i held) → TakeNext s w known.known → TakeNext s (step s w i) more.known
+  wanted_learnt takes have a held said = go (learns a) where
+    go : ((a ≡ i) × (get_or more.known a Nothing ≡ what)) ⊎ ((a ≡ i → ⊥) × (get_or more.known a Nothing ≡ get_or known.known a Nothing)) → TakesNext s (step s w i) a held
+    go (inl now) = subst (λ (k : ℕ). TakesNext s (step s w i) k held) (sym now.0) (takes held (sym now.1 ∙ said))
+    go (inr before) =
+        let next = have a held (sym before.1 ∙ said) in
         (next.0, ap (λ (x : Actor). action_for s a x.cursor) (others_same s a w i before.0) ∙ next.1)
-    go (inr now) = subst (λ (k : ℕ). TakesNext s (step s w i) k held) (sym now.0) (takes held now.1)
 
-  pub learnt : ((a : ℕ) → get_or more.ended a false ≡ true → (get_or known.ended a false ≡ true) ⊎ ((a ≡ i) × (finished ≡ true))) →
-      ((a : ℕ) (held : Held) → get_or more.wanted a None ≡ Some held → ((a ≡ i → ⊥) × (get_or known.wanted a None ≡ Some held)) ⊎ ((a ≡ i) × (wanted ≡ Some held))) →
-      (finished ≡ true → HasFinished s w i) → ((held : Held) → wanted ≡ Some held → TakesNext s (step s w i) i held) → IsKnown s w known → IsKnown s (step s w i) more
-  learnt ends wants done takes have = record { ended = ended_learnt ends done have.ended; wanted = wanted_learnt wants takes have.wanted }
+  pub learnt : (what ≡ Ended → HasFinished s w i) → ((held : Held) → what ≡ Wants held → TakesNext s (step s w i) i held) → IsKnown s w known → IsKnown s (step s w i) more
+  learnt done takes have = record { ended = ended_learnt done have.ended; wanted = wanted_learnt takes have.wanted }
 
--- ---- an actor that is kept from what it takes next
+-- where something of an actor is forgotten, all else that is known holds still
+pub forgotten : (s : Script) (w : World) (i : ℕ) (known less : Resting) → IsForgotten known.known i less.known → IsKnown s w known → IsKnown s w less
+forgotten s w i known less forgets have = record { ended = ended; wanted = wanted } where
+  ended : HaveEnded s w less.known
+  ended a said = go (forgets.others a) where
+    go : (get_or less.known a Nothing ≡ Nothing) ⊎ (get_or less.known a Nothing ≡ get_or known.known a Nothing) → HasFinished s w a
+    go (inl none) = (let never : Nothing ≡ Ended = sym none ∙ said in cc)
+    go (inr same) = have.ended a (sym same ∙ said)
+
+  wanted : TakeNext s w less.known
+  wanted a held said = go (forgets.others a) where
+    go : (get_or less.known a Nothing ≡ Nothing) ⊎ (get_or less.known a Nothing ≡ get_or known.known a Nothing) → TakesNext s w a held
+    go (inl none) = (let never : Nothing ≡ Wants held = sym none ∙ said in cc)
+    go (inr same) = have.wanted a held (sym same ∙ said)
+
+-- ---- an actor whose step changes nothing
 
 blocked_at : (s : Script) (w : World) (a : ℕ) (held : Held) → TakesNext s w a held → is_locked s w held ≡ true → blocked s w a ≡ Some (Lock held.id)
 blocked_at s w a held next locked =
     ap (waits_for s w (w.actors a).cursor) next.1 ∙ ap (λ (b : Bool). cond b (Some (Lock held.id)) None) locked
 
--- its step changes nothing
-pub kept_out : (s : Script) (w : World) (a : ℕ) (known : Resting) (wanted : Option Held) → wanted ≡ get_or known.wanted a None → IsKnown s w known → IsKeptOut s w wanted → step s w a ≡ w
-kept_out s w a known None is have out = absurd out
-kept_out s w a known (Some held) is have out = idle_steps_stay s w a (inr (Lock held.id, blocked_at s w a held (have.wanted a held (sym is)) out))
+-- one that is kept from what it takes next
+pub kept_out : (s : Script) (w : World) (a : ℕ) (held : Held) → TakesNext s w a held → is_locked s w held ≡ true → RestsStill s w a false
+kept_out s w a held next locked = record {
+  idle = idle_steps_stay s w a (inr (Lock held.id, blocked_at s w a held next locked));
+  finished = λ said. (let never : false ≡ true = said in cc);
+}
+
+-- one that has finished
+pub over : (s : Script) (w : World) (a : ℕ) → HasFinished s w a → RestsStill s w a true
+over s w a done = record { idle = finished_step s w a done; finished = λ said. done }
+
+-- ---- the table
 
 -- where nothing is known
 pub none_known : {X : Type 0} (x : X) (n a : ℕ) → get_or (replicate n x) a x ≡ x
@@ -110,23 +133,53 @@ none_known x zero a = refl
 none_known x (suc n) zero = refl
 none_known x (suc n) (suc a) = none_known x n a
 
--- one hold is learnt, or forgotten
-pub want_put : (known : List (Option Held)) (i a : ℕ) (held : Held) (wanted : Option Held) → i < length known → get_or (set known i wanted) a None ≡ Some held →
-    ((a ≡ i → ⊥) × (get_or known a None ≡ Some held)) ⊎ ((a ≡ i) × (wanted ≡ Some held))
-want_put known i a held wanted within said = go (decide a i) where
-  go : (a ≡ i) ⊎ (a ≡ i → ⊥) → ((a ≡ i → ⊥) × (get_or known a None ≡ Some held)) ⊎ ((a ≡ i) × (wanted ≡ Some held))
-  go (inl same) = inr (same, sym (get_or-set_same known i wanted None within) ∙ (ap (λ (k : ℕ). get_or (set known i wanted) k None) (sym same) ∙ said))
-  go (inr other) = inl (other, sym (get_or-set_other known i a wanted None other) ∙ said)
+-- what is put there is learnt
+pub learnt_at : (known : List Known) (i : ℕ) (what : Known) → i < length known → HasLearnt known i what (set known i what)
+learnt_at known i what within b = go (decide b i) where
+  go : (b ≡ i) ⊎ (b ≡ i → ⊥) → ((b ≡ i) × (get_or (set known i what) b Nothing ≡ what)) ⊎ ((b ≡ i → ⊥) × (get_or (set known i what) b Nothing ≡ get_or known b Nothing))
+  go (inl same) = inl (same, ap (λ (k : ℕ). get_or (set known i what) k Nothing) same ∙ get_or-set_same known i what Nothing within)
+  go (inr other) = inr (other, get_or-set_other known i b what Nothing other)
 
--- beyond the table nothing is known
-pub want_past : (known : List (Option Held)) (i a : ℕ) (held : Held) → length known ≤ i → get_or known a None ≡ Some held → (a ≡ i → ⊥)
-want_past known i a held past said same =
-    let none : get_or known a None ≡ None = ap (λ (k : ℕ). get_or known k None) same ∙ get_or_past known i None past in
-    (let never : None ≡ Some held = sym none ∙ said in cc)
+-- nothing is learnt of one of whom nothing is known
+pub none_learnt : (known : List Known) (i : ℕ) (what : Known) → get_or known i Nothing ≡ Nothing → what ≡ Nothing → HasLearnt known i what known
+none_learnt known i what none is b = go (decide b i) where
+  go : (b ≡ i) ⊎ (b ≡ i → ⊥) → ((b ≡ i) × (get_or known b Nothing ≡ what)) ⊎ ((b ≡ i → ⊥) × (get_or known b Nothing ≡ get_or known b Nothing))
+  go (inl same) = inl (same, ap (λ (k : ℕ). get_or known k Nothing) same ∙ (none ∙ sym is))
+  go (inr other) = inr (other, refl)
+
+-- once an actor is forgotten
+pub forgotten_at : (known : List Known) (i : ℕ) (known2 : List Known) → HasLearnt known i Nothing known2 → IsForgotten known i known2
+forgotten_at known i known2 learns = record { nothing = at (learns i); others = others } where
+  at : ((i ≡ i) × (get_or known2 i Nothing ≡ Nothing)) ⊎ ((i ≡ i → ⊥) × (get_or known2 i Nothing ≡ get_or known i Nothing)) → get_or known2 i Nothing ≡ Nothing
+  at (inl now) = now.1
+  at (inr other) = absurd (other.0 refl)
+
+  others : (b : ℕ) → (get_or known2 b Nothing ≡ Nothing) ⊎ (get_or known2 b Nothing ≡ get_or known b Nothing)
+  others b = go (learns b) where
+    go : ((b ≡ i) × (get_or known2 b Nothing ≡ Nothing)) ⊎ ((b ≡ i → ⊥) × (get_or known2 b Nothing ≡ get_or known b Nothing)) → (get_or known2 b Nothing ≡ Nothing) ⊎ (get_or known2 b Nothing ≡ get_or known b Nothing)
+    go (inl now) = inl now.1
+    go (inr before) = inr before.1
+
+-- one of whom nothing is known is forgotten already
+pub forgotten_before : (known : List Known) (i : ℕ) → get_or known i Nothing ≡ Nothing → IsForgotten known i known
+forgotten_before known i none = record { nothing = none; others = λ b. inr refl }
 
 -- of nobody anything
-pub nothing_known : (s : Script) (w : World) (x : Resting) → ((a : ℕ) → get_or x.ended a false ≡ false) → ((a : ℕ) → get_or x.wanted a None ≡ None) → IsKnown s w x
-nothing_known s w x ended wanted = record {
-  ended = λ a said. (let never : false ≡ true = sym (ended a) ∙ said in cc);
-  wanted = λ a held said. (let never : None ≡ Some held = sym (wanted a) ∙ said in cc);
+pub nothing_known : (s : Script) (w : World) (x : Resting) → ((a : ℕ) → get_or x.known a Nothing ≡ Nothing) → IsKnown s w x
+nothing_known s w x none = record {
+  ended = λ a said. (let never : Nothing ≡ Ended = sym (none a) ∙ said in cc);
+  wanted = λ a held said. (let never : Nothing ≡ Wants held = sym (none a) ∙ said in cc);
 }
+
+-- ---- the number of actors
+
+-- no script has more actors than the table has places
+pub few_actors : (s : Script) (a : ℕ) → IsScript s → a < actor_count s → a < 48
+few_actors s a script within = go script.version where
+  go : (s.version ≡ 1) ⊎ (s.version ≡ 2) → a < 48
+  go (inl one) =
+      let count : actor_count s ≡ length s.clients + s.cpus = ap (λ (v : ℕ). if v == 2 then length s.clients + 2 * s.cpus else length s.clients + s.cpus) one in
+      omega (arith, count, within, script.few_clients, script.cpus)
+  go (inr two) =
+      let count : actor_count s ≡ length s.clients + 2 * s.cpus = ap (λ (v : ℕ). if v == 2 then length s.clients + 2 * s.cpus else length s.clients + s.cpus) two in
+      omega (arith, count, within, script.few_clients, script.cpus)

@@ -21,14 +21,14 @@ tell_rounds-requires g c =
       room = subst (λ (n : ℕ). actor_count s ≤ n) (sym c.tell_turns.ensures.actors) c.requires.actors;
       world = run s (open_world s) s.turns;
       told = (c.in_ok-tell_turns.ensures.told (open_world s) c.in_ok-engine.ensures
-          (nothing_known s (open_world s) c.none-resting.result c.none-resting.ensures.ended c.none-resting.ensures.wanted)).0.told;
+          (nothing_known s (open_world s) c.none-resting.result c.none-resting.ensures)).0.told;
     }
 
 pub returns-clause-told : goal.returns-clause-told
 returns-clause-told g c =
     let s = c.args.script.now in
     let turns = c.in_ok-tell_turns.ensures.told (open_world s) c.in_ok-engine.ensures
-    (nothing_known s (open_world s) c.none-resting.result c.none-resting.ensures.ended c.none-resting.ensures.wanted) in
+    (nothing_known s (open_world s) c.none-resting.result c.none-resting.ensures) in
     on_ok_weaker c.tell_rounds.result
     (λ ends empty. (let end = ends (run s (open_world s) s.turns) turns.0.told turns.1 in
     walk_told s g.N.Listener.has c.tell_turns.new.self c.tell_rounds.new.self c.args.listener.now c.tell_turns.new.listener c.tell_rounds.new.listener end.0 turns.0 end.1 end.2 empty))
