@@ -31,6 +31,14 @@ fn is_finished(turn: Turn) -> bool
     }
 }
 
+/// Both are so. Where the second is known, as at the end of each way through a step, nothing is compared.
+#[inline(always)]
+fn both(before: bool, now: bool) -> bool
+    ensures { result ≡ true → (before ≡ true) × (now ≡ true) }
+{
+    if now { before } else { false }
+}
+
 // The place where an action is put is handed on from step to step: to make it anew takes a few stores each time.
 
 impl Engine {
@@ -147,7 +155,7 @@ impl Engine {
         let mut finished = true;
         for actor in 0..actor_count(script) {
             let done = self.tell_unless_resting(script, actor, resting, listener, next)?;
-            finished = finished && done;
+            finished = both(finished, done);
         }
         Ok(finished)
     }

@@ -1,4 +1,4 @@
-use Rattle.std.proofs.Common.{rules, ◌≡◌, ℕ, List, ◌∙◌, ap, subst, sym, true, false, refl, arith}
+use Rattle.std.proofs.Common.{rules, ◌≡◌, ℕ, List, ◌∙◌, ap, subst, sym, refl, arith}
 use Rattle.std.specs.List.{range_with_len}
 use Rattle.co_program.specs.Actors.{actor_count}
 use Rattle.co_core.specs.Resting.{IsKnown}
@@ -10,7 +10,6 @@ use Rattle.co_world.proofs.basics.Changes.{decide}
 use Rattle.co_world.proofs.measure.Rounds.{last_finished, range-more}
 use Rattle.co_core.proofs.walked.Told.{further, may_tell, not_yet}
 use Rattle.co_world.proofs.measure.Walks.{run_more, finished_step}
-use Rattle.co_core.proofs.engine.Engine.tell_round.Goals.{then-finished, else-finished}
 use Rattle.co_core.proofs.engine.Engine.tell_round.Goals as goal
 
 pub loop-actor-init : goal.loop-actor-init
@@ -34,17 +33,15 @@ loop-actor-preserved g c =
           let after = c.in_ok-done.ensures.told at before.0.told before.1 in
           subst (λ (v : World). TellsOn s has c.tell_unless_resting.new.self c.args.listener.now c.tell_unless_resting.new.listener w v × IsKnown s v known) (sym (run_more s w (range_with_len 0 i) i) ∙ ap (λ (xs : List ℕ). run s w xs) (range-more i))
           (further s has c.loop-actor.self c.tell_unless_resting.new.self c.args.listener.now c.loop-actor.listener c.tell_unless_resting.new.listener w at (step s at i) before.0 after.0, after.1));
-      finished = elim c.if-finished.branch [
-        | then-finished b ↦ (λ all w h have.
-            let rest = c.loop-actor.invariant.finished b.if-finished.true w h have in
-            let at = run s w (range_with_len 0 i) in
-            let before = c.loop-actor.invariant.told w h have in
-            let finished : HasFinished s at i = c.in_ok-done.ensures.finished (sym b.finished-is ∙ all) at before.0.told before.1 in (
-              λ a below. last_finished s w i a rest.0 (subst (λ (v : World). HasFinished s v i) rest.1 finished) (decide a i) below,
-              ap (λ (xs : List ℕ). run s w xs) (sym (range-more i)) ∙ (run_more s w (range_with_len 0 i) i ∙ (finished_step s at i finished ∙ rest.1)),
-            ))
-        | else-finished b ↦ (λ all w h have. let never : false ≡ true = sym b.if-finished.false ∙ (sym b.finished-is ∙ all) in cc)
-      ];
+      finished = λ all w h have.
+          (let is = c.both-finished.ensures all in
+          let rest = c.loop-actor.invariant.finished is.0 w h have in
+          let at = run s w (range_with_len 0 i) in
+          let before = c.loop-actor.invariant.told w h have in
+          let finished : HasFinished s at i = c.in_ok-done.ensures.finished is.1 at before.0.told before.1 in (
+            λ a below. last_finished s w i a rest.0 (subst (λ (v : World). HasFinished s v i) rest.1 finished) (decide a i) below,
+            ap (λ (xs : List ℕ). run s w xs) (sym (range-more i)) ∙ (run_more s w (range_with_len 0 i) i ∙ (finished_step s at i finished ∙ rest.1)),
+          ));
       actors = c.tell_unless_resting.ensures.actors ∙ c.loop-actor.invariant.actors;
     }
 
