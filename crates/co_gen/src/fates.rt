@@ -60,6 +60,7 @@ fn cancelled(before: ToFire) -> ToFire
 }
 
 /// After a stop, or an asynchronous drain that answers as a stop does.
+#[inline(always)]
 fn stopped(before: ToFire, op: &Op) -> ToFire
     ensures { result ≡ (if is_stop op.now then Nothing else disarmed before) }
 {
@@ -70,6 +71,7 @@ fn stopped(before: ToFire, op: &Op) -> ToFire
 }
 
 /// What is to fire after an operation with this reply.
+#[inline(always)]
 fn to_fire_after(before: ToFire, op: &Op, reply: &Reply) -> ToFire
     ensures { result ≡ to_fire_after before op.now reply.now }
 {
@@ -93,6 +95,7 @@ fn is_armed(reply: &Reply) -> bool
     }
 }
 
+#[inline(always)]
 fn is_arming(op: &PlainOp) -> bool
     ensures { result ≡ is_arming op.now }
 {
@@ -103,6 +106,7 @@ fn is_arming(op: &PlainOp) -> bool
 }
 
 /// Counts an arming that ceases to be open by a caller's operation.
+#[inline(always)]
 fn count_call(counts: &mut Counts, op: &CallOp) -> Result<(), NoMemory>
     ensures { OnOk result (counts.new ≡ fate_counted counts.old (fate_by (ByCaller op.now))) }
 {
@@ -120,6 +124,7 @@ fn count_call(counts: &mut Counts, op: &CallOp) -> Result<(), NoMemory>
 }
 
 /// Counts an arming that ceases to be open by an operation.
+#[inline(always)]
 fn count_fate(counts: &mut Counts, op: &Op) -> Result<(), NoMemory>
     ensures { OnOk result (counts.new ≡ fate_counted counts.old (fate_by op.now)) }
 {
@@ -134,6 +139,7 @@ fn count_fate(counts: &mut Counts, op: &Op) -> Result<(), NoMemory>
 
 /// Counts the arming that an entry accepts and the fate that it decides, and takes the callout along. NoMemory where a
 /// count would be 2^64.
+#[inline(always)]
 pub(crate) fn count_entry(
     counts: &mut Counts,
     callout: &mut ToFire,

@@ -59,7 +59,9 @@ impl Tally {
         })
     }
 
-    /// Takes an entry of a callout; one that the script hasn't is not counted.
+    /// Takes an entry of a callout; one that the script hasn't is not counted. Inlined, as is all to which the entry is handed:
+    /// then the note that it stands in is never put together, since nothing else is looked at.
+    #[inline(always)]
     fn take_entry(&mut self, timer: u32, entry: &Entry) -> Result<(), NoMemory>
         ensures { OnOk result (IsEntryTaken (slice_get self.old.callouts.items timer) self.old timer entry.now self.new) }
     {
