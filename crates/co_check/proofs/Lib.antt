@@ -29,3 +29,4 @@ pub mod Reformed
 pub mod Removing
 pub mod LegalReports
 pub mod Hearing
+pub mod Passing

@@ -121,8 +121,13 @@ fn settle(script: &Script, actor: u32, cursor: &mut Cursor, next: &mut Action)
     ensures counted { ActsAreCounted cursor.old cursor.new 0 }
     ensures action { IsActionAt script.now actor cursor.new next.new }
 {
-    let steps = u64::from(acts_left(script, actor, cursor.task)) + 1;
-    for _ in 0..steps {
+    // Most often there is none, so it is looked at before the acts that are left are counted.
+    let over = cursor.task;
+    if !quiet_step(script, actor, cursor, next) {
+        return;
+    }
+    let steps = u64::from(acts_left(script, actor, over)) + 1;
+    for _ in 1..steps {
         if !quiet_step(script, actor, cursor, next) {
             return;
         }
@@ -132,6 +137,7 @@ fn settle(script: &Script, actor: u32, cursor: &mut Cursor, next: &mut Action)
 }
 
 /// Does a step without a note, if that is the next one, and says whether it is. What the actor does is put into `next`.
+#[inline(always)]
 fn quiet_step(script: &Script, actor: u32, cursor: &mut Cursor, next: &mut Action) -> bool
     requires script { IsScript script.now }
     requires counted { IsCounted cursor.old lines_max }
