@@ -18,7 +18,7 @@ use crate::reading::places::places;
 use crate::reading::progress::{Progress, Setting};
 use crate::reading::texts::{Halves, bad, behind_first, no_memory, none_cut, split_at_histories};
 use crate::reading::{is_canonical, script_in_report};
-use co_object::{AnyEntry, Place};
+use co_object::{AnyEntry, Note, Place};
 use co_program::Script;
 use co_sbt::{NoMemory, Seq};
 use co_script::laws::{fitting_scripts_are_accepted, read_scripts_fit};
@@ -218,13 +218,14 @@ fn take_note(
     Ok(found)
 }
 
-/// Reads a line, and tells the note that it shows, if it shows one.
+/// Reads a line, and tells the note that it shows, if it shows one. `note` is room for it, which serves all lines.
 fn tell_note<L: LineListener>(
     alloc: Global,
     setting: &Setting,
     progress: &mut Progress,
     number: u64,
     line: &[u8],
+    note: &mut Note,
     listener: &mut L,
 ) -> Result<(), LineFault>
     requires setting { IsSetting setting.now }
@@ -242,19 +243,21 @@ fn tell_note<L: LineListener>(
     let Some(place) = progress.current else {
         return Err(LineFault::Bad(Cause::Note));
     };
-    let mut note = unread(place);
-    read_note(&setting.names, line, &mut note)?;
-    listener.take(number, &note)?;
+    note.place = place;
+    read_note(&setting.names, line, note)?;
+    listener.take(number, note)?;
     Ok(())
 }
 
 impl<'a> Reader<'a> {
-    /// Reads the next line, behind which `after` stands, and tells the note that it shows, if it shows one.
+    /// Reads the next line, behind which `after` stands, and tells the note that it shows, if it shows one. `note` is room for
+    /// it.
     fn tell_line<L: LineListener>(
         &mut self,
         alloc: Global,
         line: &[u8],
         after: &'a [u8],
+        note: &mut Note,
         listener: &mut L,
     ) -> Result<(), ScriptFault>
         requires reading { IsReading self.old }
@@ -270,6 +273,7 @@ impl<'a> Reader<'a> {
             &mut self.progress,
             number,
             line,
+            note,
             listener,
         ) {
             Ok(()) => {
@@ -292,8 +296,9 @@ impl<'a> Reader<'a> {
         requires has { (lines : List Line) × L.has listener.old lines }
         ensures { AreAllTold L.has listener.old listener.new self.old result }
     {
+        let mut note = unread(Place::Cpu(0));
         while let Some((line, _, after)) = next_line(self.rest) {
-            self.tell_line(alloc, line, after, listener)?;
+            self.tell_line(alloc, line, after, &mut note, listener)?;
         }
         match self.progress.end {
             Some(end) => Ok(end),

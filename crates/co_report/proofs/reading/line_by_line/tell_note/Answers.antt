@@ -20,7 +20,7 @@ returns-clause-value g c =
     let note : Note = c.read_note.new.note in
     let x : NumberedEntry = record { number = note.pos; entry = note.entry } in
     let sorted : IsLineSorted s d line (Ok false) = subst (λ b. IsLineSorted s d line (Ok b)) c.if-branch.false c.in_ok-is_closed_by.ensures in
-    let at_place : d.current ≡ Some note.place = c.in-Some.is ∙ ap (λ p. Some p) (sym (c.in_ok-read_note.ensures.place ∙ c.unread-note.ensures)) in
+    let at_place : d.current ≡ Some note.place = c.in-Some.is ∙ ap (λ p. Some p) (sym c.in_ok-read_note.ensures.place) in
     let shown : shown_note (names_of s) (Some note.place) line ≡ Ok x =
     ap (λ names. shown_note names (Some note.place) line) (sym c.requires.setting.names)
     ∙ (ap (λ p. shown_note c.args.setting.now.names (Some p) line) c.in_ok-read_note.ensures.place ∙ c.in_ok-read_note.ensures.shown) in
