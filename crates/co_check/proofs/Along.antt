@@ -1,12 +1,10 @@
 -- Going along the lines: those above one more, and those that are left.
-use Rattle.std.proofs.Common.{◌≡◌, ◌≢◌, ℕ, zero, suc, ◌+◌, ◌<◌, List, [], ◌∷◌, ◌++◌, map, length, take, drop, refl, ap, sym, ◌∙◌, add-one, arith}
+use Rattle.std.proofs.Common.{◌≡◌, ◌≢◌, ℕ, zero, suc, ◌+◌, ◌<◌, List, [], ◌∷◌, ◌++◌, map, length, take, drop, ap, sym, ◌∙◌, add-one, arith}
 use Rattle.std.specs.Prelude.{Option, Some, None, slice_get}
 use Rattle.std.proofs.Math.Seq.{drop-cons}
 use Rattle.std.proofs.lemmas.List.{take_more}
 use Rattle.std.proofs.lemmas.Option.{slice_get_within, get_or_from_slice_get}
 use Rattle.co_object.specs.declared.note.Note.{Note}
-use Rattle.co_packed.specs.declared.heads.Head.{Head}
-use Rattle.co_packed.specs.Heads.{head_of}
 use Rattle.co_program.specs.declared.script.Script.{Script}
 use Rattle.co_report.specs.declared.line.Line.{Line}
 use Rattle.co_report.specs.PackedLines.{line_of, note_from_line}
@@ -20,39 +18,25 @@ front xs k x h = take_more xs k x (slice_get_within xs k x h) ∙ ap (λ y. take
 pub back : {X : Type 0} (xs : List X) (k : ℕ) (x : X) → slice_get xs k ≡ Some x → drop k xs ≡ x ∷ drop (k + 1) xs
 back xs k x h = drop-cons xs k x (slice_get_within xs k x h) ∙ (ap (λ y. y ∷ drop (suc k) xs) (get_or_from_slice_get xs k x x h) ∙ ap (λ n. x ∷ drop n xs) (sym (add-one k)))
 
--- ---- a pass over the heads of the notes
+-- ---- a pass over the notes
 
 -- one is ahead where there is a line
-pub some-ahead : {heads : List Head} (lines : List Line) (k : ℕ) → k < length lines → heads ≡ map head_of (map note_from_line (drop k lines)) → heads ≢ []
+pub some-ahead : {notes : List Note} (lines : List Line) (k : ℕ) → k < length lines → notes ≡ map note_from_line (drop k lines) → notes ≢ []
 some-ahead lines k h ahead none = left lines k h (sym ahead ∙ none) where
-  left : (lines : List Line) (k : ℕ) → k < length lines → map head_of (map note_from_line (drop k lines)) ≢ []
+  left : (lines : List Line) (k : ℕ) → k < length lines → map note_from_line (drop k lines) ≢ []
   left [] k h = absurd (omega (arith, h))
   left (l ∷ ls) zero h = λ none. cc
   left (l ∷ ls) (suc k) h = left ls k (omega (arith, h))
 
--- the line of the next one, and behind it are those of the lines that follow
-pub record IsAhead (lines : List Line) (k : ℕ) (head : Head) (rest : List Head) : Type 0 where
-  pub line : ℕ
-  pub note : Note
-  pub here : slice_get lines k ≡ Some (line_of line note)
-  pub head_is : head ≡ head_of note
-  pub rest_is : rest ≡ map head_of (map note_from_line (drop (k + 1) lines))
-
-pub line-ahead : {heads rest : List Head} {head : Head} (lines : List Line) (k : ℕ) → heads ≡ map head_of (map note_from_line (drop k lines)) → heads ≡ head ∷ rest → IsAhead lines k head rest
-line-ahead {heads} {rest} {head} lines k ahead next = let x = from lines k (sym ahead ∙ next) in record {
-  line = x.0;
-  note = x.1;
-  here = x.2;
-  head_is = x.3;
-  rest_is = x.4 ∙ ap (λ m. map head_of (map note_from_line (drop m lines))) (sym (add-one k));
-}
-  where
-    from : (lines : List Line) (k : ℕ) → map head_of (map note_from_line (drop k lines)) ≡ head ∷ rest →
-        (line : ℕ) × (note : Note) × (slice_get lines k ≡ Some (line_of line note)) × (head ≡ head_of note) × (rest ≡ map head_of (map note_from_line (drop (suc k) lines)))
-    from [] zero h = cc
-    from [] (suc k) h = cc
-    from (l ∷ ls) zero h = (l.line, note_from_line l, refl, cc, cc)
-    from (l ∷ ls) (suc k) h = from ls k h
+-- the next one is that of the line, and behind it are those of the lines that follow
+pub line-ahead : {notes rest : List Note} {n : Note} (lines : List Line) (k : ℕ) → notes ≡ map note_from_line (drop k lines) → notes ≡ n ∷ rest →
+    (line : ℕ) × (slice_get lines k ≡ Some (line_of line n)) × (rest ≡ map note_from_line (drop (k + 1) lines))
+line-ahead {notes} {rest} {n} lines k ahead next = let x = from lines k (sym ahead ∙ next) in (x.0, x.1, x.2 ∙ ap (λ m. map note_from_line (drop m lines)) (sym (add-one k))) where
+  from : (lines : List Line) (k : ℕ) → map note_from_line (drop k lines) ≡ n ∷ rest → (line : ℕ) × (slice_get lines k ≡ Some (line_of line n)) × (rest ≡ map note_from_line (drop (suc k) lines))
+  from [] zero h = cc
+  from [] (suc k) h = cc
+  from (l ∷ ls) zero h = let first : note_from_line l ≡ n = cc in (l.line, ap (λ m. Some (line_of l.line m)) first, cc)
+  from (l ∷ ls) (suc k) h = from ls k h
 
 -- ---- the first line that is wrong
 

@@ -29,4 +29,3 @@ pub mod Reformed
 pub mod Removing
 pub mod LegalReports
 pub mod Hearing
-pub mod Passing

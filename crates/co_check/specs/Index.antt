@@ -1,7 +1,6 @@
 -- What the code keeps of the numbers above: which line has each note, and how far the numbers have come in each place.
-use Rattle.std.specs.Prelude.{◌≡◌, ◌≢◌, ℕ, ◌<◌, ◌≤◌, ◌+◌, Bool, true, false, max, if◌then◌else◌, List, [], ◌∷◌, ◌++◌, length, Option, Some, None, is_some, Vec, slice_get, slice_set, slice_index}
+use Rattle.std.specs.Prelude.{◌≡◌, ◌≢◌, ℕ, ◌<◌, ◌≤◌, ◌+◌, Bool, true, false, max, if◌then◌else◌, List, [], ◌∷◌, ◌++◌, length, Option, Some, None, Vec, slice_get, slice_set, slice_index}
 use Rattle.co_object.specs.declared.Place.{Place}
-use Rattle.co_packed.specs.declared.heads.Head.{Head}
 use Rattle.co_program.specs.declared.script.Script.{Script}
 use Rattle.co_program.specs.Actors.{actor_count}
 use Rattle.co_program.specs.Places.{place_exists}
@@ -27,19 +26,6 @@ note_slot above a number = index_of (is_note a number) 0 above
 abbrev pub highest : (Line → Bool) → List Line → ℕ
 highest p [] = 0
 highest p (l ∷ ls) = max (if p l then l.number + 1 else 0) (highest p ls)
-
--- a slot has a line
-abbrev pub has_line : Option (Option ℕ) → Bool
-has_line None = false
-has_line (Some slot) = is_some slot
-
-abbrev pub is_taken_in : {A : Type 0} → Option (Vec (Option ℕ) A) → ℕ → Bool
-is_taken_in None number = false
-is_taken_in (Some row) number = has_line (slice_get row.items number)
-
--- a line has the number of the note with this head
-abbrev pub is_number_taken : Index → Head → Bool
-is_number_taken x head = is_taken_in (slice_get x.slots.items head.actor) head.pos
 
 -- the slots of an actor
 pub record AreActorSlots (lines above : List Line) (a : ℕ) (row : List (Option ℕ)) : Type 0 where

@@ -32,8 +32,6 @@ pub mod Slots
 pub mod Replayed
 -- what the code keeps of the lines while they are read
 pub mod Hearing
--- the heads of notes that are still to come, of which some are read ahead
-pub mod Pass
 -- what the code keeps of the numbers above: which line has each note, the highest in each place
 pub mod Index
 -- where an actor's notes lead, as the code walks along them

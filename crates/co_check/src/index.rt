@@ -1,6 +1,5 @@
 //! The notes of each actor by their numbers.
 ghost use Rattle.std.specs.Prelude.{◌≡◌, ◌<◌, ◌≤◌, ◌^◌, ◌++◌, ◌∷◌, [], ℕ, List, length, map, replicate, IfOk};
-ghost use Rattle.std.specs.List.{list_any};
 ghost use Rattle.co_object.specs.declared.note.Note.{Note};
 ghost use Rattle.co_packed.specs.Heads.{head_of};
 ghost use Rattle.co_program.specs.Actors.{actor_count};
@@ -9,12 +8,12 @@ ghost use Rattle.co_program.specs.Scripts.{IsScript};
 ghost use Rattle.co_report.specs.Order.{place_index, place_count};
 ghost use Rattle.co_report.specs.declared.line.Line.{Line};
 ghost use Rattle.co_report.specs.PackedLines.{line_of};
-ghost use Rattle.co_check.specs.Index.{AreNotesIndexed, AreActorSlots, IsIndexed, IsNumbered, IsLinePut, IsRaised, is_number_taken};
+ghost use Rattle.co_check.specs.Index.{AreNotesIndexed, AreActorSlots, IsIndexed, IsNumbered, IsLinePut, IsRaised};
 ghost use Rattle.co_check.specs.Lines.{AreLinesOf, IsLineOf, lines_max};
 ghost use Rattle.co_check.specs.Numbers.{AreActorCounts};
 ghost use Rattle.co_check.specs.Shown.{actor_of};
 
-use crate::pass::HeadsAhead;
+use crate::pass::next_head;
 use crate::slot::Slot;
 use co_object::AnyEntry;
 use co_packed::Head;
@@ -55,13 +54,10 @@ pub(crate) fn index_all(
     ensures { IfOk result (AreNotesIndexed script.now lines.now) }
 {
     let mut index = Index::open(alloc, script, counts)?;
-    let mut heads = HeadsAhead::new(alloc, lines.notes());
-    let mut taken = false;
+    let mut notes = lines.notes();
     for i in 0..lines.len() {
-        if heads.read_ahead()? {
-            taken = index.any_taken(heads.read());
-        }
-        if !index.take(script, heads.next(), i as u32, taken) {
+        let head = next_head(&mut notes);
+        if !index.take(script, head, i as u32) {
             return Ok(Indexed::Bad {
                 line: lines.number(i),
             });
@@ -91,66 +87,10 @@ impl Index {
         Ok(Index { slots, latest })
     }
 
-    /// Whether one of these notes has a number that is taken already. The looks at their slots wait for memory together, where
-    /// those of `take` wait one after the other.
-    #[inline(never)]
-    fn any_taken(&self, heads: &[Head]) -> bool
-        ensures { result ≡ list_any (is_number_taken self.now) heads.now }
-    {
-        let mut any = false;
-        for head in heads {
-            any |= self.is_taken(head);
-        }
-        any
-    }
-
-    /// Whether a line has the number of the note with this head.
-    #[inline(always)]
-    fn is_taken(&self, head: &Head) -> bool
-        ensures { result ≡ is_number_taken self.now head.now }
-    {
-        let Some(row) = self.slots.get(head.actor as usize) else {
-            return false;
-        };
-        let Some(slot) = row.get(head.pos as usize) else {
-            return false;
-        };
-        slot.line().is_some()
-    }
-
     /// Takes the number of the next line, the one at `at` of all, by the head of its note. False where something is wrong with
-    /// it; then the index is of no more use. `taken` says whether a number was taken when it was looked at with others, and the
-    /// answer is the same either way.
-    #[inline(always)]
-    fn take(&mut self, script: &Script, head: Head, at: u32, taken: bool) -> bool
-        requires script { IsScript script.now }
-        requires line { (note : Note) × (head ≡ head_of note) × IsLineOf script.now (line_of 0 note) }
-        requires indexed { (lines : List Line) × (above : List Line) × IsIndexed script.now lines above self.old × (length lines ≤ lines_max) }
-        requires at { at < lines_max }
-        ensures { (note : Note) (line : ℕ) (lines : List Line) (above : List Line) → head ≡ head_of note → IsLineOf script.now (line_of 0 note) → at ≡ length above → IsIndexed script.now lines above self.old → IsNumbered script.now lines above (line_of line note) result self.new }
-    {
-        if taken {
-            self.take_again(script, head, at)
-        } else {
-            self.take_next(script, head, at)
-        }
-    }
-
-    /// The same, in a place of its own: the look ahead leads here, so it isn't left out.
-    #[inline(never)]
-    fn take_again(&mut self, script: &Script, head: Head, at: u32) -> bool
-        requires script { IsScript script.now }
-        requires line { (note : Note) × (head ≡ head_of note) × IsLineOf script.now (line_of 0 note) }
-        requires indexed { (lines : List Line) × (above : List Line) × IsIndexed script.now lines above self.old × (length lines ≤ lines_max) }
-        requires at { at < lines_max }
-        ensures { (note : Note) (line : ℕ) (lines : List Line) (above : List Line) → head ≡ head_of note → IsLineOf script.now (line_of 0 note) → at ≡ length above → IsIndexed script.now lines above self.old → IsNumbered script.now lines above (line_of line note) result self.new }
-    {
-        self.take_next(script, head, at)
-    }
-
-    /// The same, and nothing was seen of it.
-    #[inline(always)]
-    fn take_next(&mut self, script: &Script, head: Head, at: u32) -> bool
+    /// it; then the index is of no more use.
+    #[inline]
+    fn take(&mut self, script: &Script, head: Head, at: u32) -> bool
         requires script { IsScript script.now }
         requires line { (note : Note) × (head ≡ head_of note) × IsLineOf script.now (line_of 0 note) }
         requires indexed { (lines : List Line) × (above : List Line) × IsIndexed script.now lines above self.old × (length lines ≤ lines_max) }

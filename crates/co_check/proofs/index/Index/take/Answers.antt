@@ -12,7 +12,7 @@ use Rattle.co_report.specs.PackedLines.{line_of}
 use Rattle.co_report.proofs.Places.{index_below}
 use Rattle.co_check.proofs.Noted.{renumbered}
 use Rattle.co_check.proofs.Numbered.{numbered, not_free, too_low, in_range}
-use Rattle.co_check.proofs.index.Index.take_next.Goals as goal
+use Rattle.co_check.proofs.index.Index.take.Goals as goal
 
 pub place_index-place-requires : goal.place_index-place-requires
 place_index-place-requires c = index_fits c.args.script.now c.args.head.place c.requires.script (ap (λ (h : Head). place_exists c.args.script.now h.place) c.requires.line.1 ∙ c.requires.line.2.place)
