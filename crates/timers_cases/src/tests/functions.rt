@@ -1,4 +1,6 @@
 //! The functions of callouts. Function 0 counts, and function 2 asks about its own callout by a client's handle.
+ghost use Rattle.std.specs.Prelude.{◌≡◌};
+
 use super::steps::{Step, wrong_step};
 use co_hand::{Fire, Handler, Port, PortReply};
 use co_lock::Hold;
@@ -53,7 +55,9 @@ const IN_SERVICE: [Step; 6] = [
 
 impl<'r, 'a, N: Name, R: Wait> Functions<'r, 'a, N, R> {
     /// A function is called.
-    fn call(&mut self, fire: &Fire) {
+    fn call(&mut self, fire: &Fire)
+        ensures { self.new.seen.drained ≡ self.old.seen.drained }
+    {
         self.seen.called = self.seen.called.wrapping_add(1);
         if fire.func == ASKS {
             let wrong = wrong_step(self.rt, &mut self.client, None, Some(fire), &IN_SERVICE);
@@ -63,9 +67,11 @@ impl<'r, 'a, N: Name, R: Wait> Functions<'r, 'a, N, R> {
 }
 
 impl<'r, 'a, N: Name, R: Wait> Handler for Functions<'r, 'a, N, R> {
-    ghost use Rattle.timers_cases.specs.Scenes.{scene_needs};
+    ghost use Rattle.timers_cases.specs.Scenes.{scene_needs, MakesOneCall};
 
     ghost needs = { λ _. scene_needs };
+
+    ghost runs = { λ before fire drain hold calls after. MakesOneCall drain calls before.seen.drained after.seen.drained };
 
     fn run<P: Port>(&mut self, fire: &Fire, hold: Option<&mut Hold<'_>>, port: &mut P) {
         self.call(fire);
