@@ -1,4 +1,4 @@
 -- The example's service.
 
--- its parameters (one client, one CPU, one callout without a lock), and what its functions call
+-- its parameters (one client, one CPU, one callout without a lock), what its functions call, and what a run of one is
 pub mod Example

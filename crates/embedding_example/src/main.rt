@@ -7,7 +7,7 @@
 mod parts;
 
 ghost use Rattle.std.specs.Prelude.{◌≡◌};
-ghost use Rattle.embedding_example.specs.Example.{example};
+ghost use Rattle.embedding_example.specs.Example.{AreAllBeats, example};
 
 use crate::parts::{Heart, boot};
 use co_sbt::{NoMemory, Sbt};
@@ -28,8 +28,10 @@ struct Story {
 }
 
 /// The client arms its callout for 1.5 seconds. The CPU turns at 1.5, 2 and 2.5 seconds, and then the client drains the callout.
+/// The heart has beaten as often as the turns say that functions were called.
 fn play<N: Name, R: Wait + Sync>(rt: &R, client: &mut Client<'_, N>, cpu: &mut Cpu<'_, N>) -> Story
     requires example { cpu.old.others.passes.params ≡ example }
+    ensures beats { AreAllBeats result.beats result.turns }
     ensures client { client.new.passes.params ≡ client.old.passes.params }
     ensures cpu { cpu.new.others.passes.params ≡ cpu.old.others.passes.params }
 {

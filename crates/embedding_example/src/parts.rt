@@ -32,9 +32,11 @@ pub struct Heart {
 }
 
 impl Handler for Heart {
-    ghost use Rattle.embedding_example.specs.Example.{example_needs};
+    ghost use Rattle.embedding_example.specs.Example.{BeatsOrRests, example_needs};
 
     ghost needs = { λ _. example_needs };
+
+    ghost runs = { BeatsOrRests };
 
     /// Counts, and arms its callout again for a second later.
     fn run<P: Port>(&mut self, fire: &Fire, hold: Option<&mut Hold<'_>>, port: &mut P) {
