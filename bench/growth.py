@@ -1,19 +1,20 @@
 #!/usr/bin/env python3
-"""growth.py [PROGRAM]: how time and memory of `steps`, `check`, `run`, `kq`, `sleep`, `itimer` and `event` grow from one size of input to
-its double, as a table.
+"""growth.py [PROGRAM [COMMAND ..]]: how time and memory of `steps`, `check`, `run`, `kq`, `sleep`, `itimer` and `event`, or of these
+commands alone, grow from one size of input to its double, as a table.
 
 PROGRAM is the built callout (default crates/callout_cli/out/callout_cli, which `rt run` in crates/callout_cli makes). Each command gets
 inputs of a quarter, a half and the whole of a size; the largest is close to the format's limits. SHRINK divides all sizes (default 1).
 Times are processor times of whole runs, the least of RUNS (default 7), of `run`, whose work depends on the race, the medians; peaks are of
 resident memory, the highest. The three sizes take turns, so that a machine that gets slower meets all, and before each run memory is
-touched and let go (bench/warm.py). time(1) is needed."""
+touched and let go (bench/warm.py). How much `run` writes depends on the race too, by a half in a small script, so its ratio is that of the
+times for a byte of its report, doubled. time(1) is needed."""
 import os, subprocess, sys, tempfile
 from warm import warm
 
 HERE = os.path.dirname(os.path.abspath(__file__))
 PROGRAM = sys.argv[1] if len(sys.argv) > 1 else os.path.join(HERE, "../crates/callout_cli/out/callout_cli")
 RUNS, SHRINK = int(os.environ.get("RUNS", 7)), int(os.environ.get("SHRINK", 1))
-COMMANDS = 262_144
+COMMANDS, WANTED = 262_144, sys.argv[2:]
 
 
 def draws():
@@ -90,7 +91,7 @@ ROWS += [(made.__name__, "commands", COMMANDS, made) for made in (kq, sleep, iti
 
 
 def once(command, source, folder):
-    """Seconds of processor time and KiB at the peak of one run."""
+    """Seconds of processor time, KiB at the peak and bytes that are written of one run."""
     out, report = os.path.join(folder, "out"), os.path.join(folder, "peak")
     warm(1300)
     with open(source, "rb") as stdin, open(out, "wb") as stdout:
@@ -99,15 +100,22 @@ def once(command, source, folder):
     child.returncode = os.waitstatus_to_exitcode(status)
     assert child.returncode == 0, (command, child.returncode)
     with open(report) as text:
-        return usage.ru_utime + usage.ru_stime, int(text.read().split()[-1])
+        return usage.ru_utime + usage.ru_stime, int(text.read().split()[-1]), os.path.getsize(out)
+
+
+def middle(values):
+    return sorted(values)[len(values) // 2]
 
 
 def measured(command, sources, folder):
-    """Of each input the least time, or of `run` the median, and the highest peak."""
+    """Of each input the least time, the highest peak, and what a double of the time is to be judged by: the same time, or of `run` the
+    median time and that for a byte of the report."""
     runs = [[once(command, source, folder) for source in sources] for _ in range(RUNS)]
     for of_one in zip(*runs):
-        seconds, peaks = zip(*of_one)
-        yield sorted(seconds)[RUNS // 2 if command == "run" else 0], max(peaks)
+        seconds, peaks, sizes = zip(*of_one)
+        least = min(seconds)
+        each = [of / size for of, size in zip(seconds, sizes)]
+        yield (middle(seconds), max(peaks), middle(each)) if command == "run" else (least, max(peaks), least)
 
 
 def make_input(command, lines, source, folder):
@@ -120,19 +128,19 @@ def make_input(command, lines, source, folder):
     return source
 
 
-def ratios(values):
-    return ", ".join(f"{more / less:.2f}" for less, more in zip(values, values[1:]))
+def ratios(values, of_each=1):
+    return ", ".join(f"{of_each * more / less:.2f}" for less, more in zip(values, values[1:]))
 
 
 def main():
     print("| Command | Sizes | CPU | Ratios | Peak | Ratios |\n|---|---|---|---|---|---|")
     with tempfile.TemporaryDirectory() as folder:
-        for command, what, whole, made in ROWS:
+        for command, what, whole, made in [row for row in ROWS if not WANTED or row[0] in WANTED]:
             least = whole // SHRINK // 4
             sizes = [least, 2 * least, 4 * least]
             sources = [make_input(command, made(size), os.path.join(folder, f"in-{size}"), folder) for size in sizes]
-            seconds, peaks = zip(*measured(command, sources, folder))
-            print(f"| `{command}` | {', '.join(map(str, sizes))} {what} | {', '.join(f'{s:.3g}' for s in seconds)} s | {ratios(seconds)} | "
+            seconds, peaks, judged = zip(*measured(command, sources, folder))
+            print(f"| `{command}` | {', '.join(map(str, sizes))} {what} | {', '.join(f'{s:.3g}' for s in seconds)} s | {ratios(judged, 2 if command == 'run' else 1)} | "
                   f"{', '.join(f'{p / 1024:.0f}' for p in peaks)} MiB | {ratios(peaks)} |", flush=True)
 
 
