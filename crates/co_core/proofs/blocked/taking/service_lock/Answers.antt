@@ -1,5 +1,5 @@
 -- The lock of the callout, where the script has it.
-use Rattle.std.proofs.Common.{◌≡◌, List, Option, ap, sym, ◌∙◌}
+use Rattle.std.proofs.Common.{List, Option, ap, sym, ◌∙◌}
 use Rattle.std.specs.Prelude.{slice_get}
 use Rattle.std.specs.Option.{option_and_then, option_copied}
 use Rattle.co_lock.specs.Service.{hold_of}
