@@ -1,5 +1,5 @@
 //! Replies in kinds and numbers.
-ghost use Rattle.std.specs.Prelude.{◌≡◌, pos};
+ghost use Rattle.std.specs.Prelude.{◌≡◌, None, Some, pos};
 ghost use Rattle.co_object.specs.declared.reply.Reply.TheVariants as replies;
 ghost use Rattle.co_packed.specs.Parts.{queue_reply_of, reply_of};
 
@@ -7,94 +7,44 @@ use crate::kinds::{Answer, QAnswer};
 use crate::words::{ReplyWords, no_reply_words};
 use co_object::{Next, QReply, Reply};
 
+/// The kind and the numbers of the reply to an end after which no arming moves.
+fn rested_parts(drain: Option<u32>, woke: bool) -> (Answer, ReplyWords)
+    ensures { reply_of result.0 result.1 ≡ replies.Ended drain None woke }
+{
+    let none = no_reply_words();
+    match (drain, woke) {
+        (None, false) => (Answer::Ended, none),
+        (None, true) => (Answer::EndedWoke, none),
+        (Some(off), false) => (Answer::EndedDrain, ReplyWords { off, ..none }),
+        (Some(off), true) => (Answer::EndedDrainWoke, ReplyWords { off, ..none }),
+    }
+}
+
+/// The kind and the numbers of the reply to an end after which an arming moves to its CPU.
+fn moved_parts(drain: Option<u32>, next: Next, woke: bool) -> (Answer, ReplyWords)
+    ensures { reply_of result.0 result.1 ≡ replies.Ended drain (Some next) woke }
+{
+    let words = ReplyWords {
+        time: next.due,
+        word: next.n,
+        number: next.cpu,
+        ..no_reply_words()
+    };
+    match (drain, woke) {
+        (None, false) => (Answer::EndedNext, words),
+        (None, true) => (Answer::EndedNextWoke, words),
+        (Some(off), false) => (Answer::EndedNextDrain, ReplyWords { off, ..words }),
+        (Some(off), true) => (Answer::EndedNextDrainWoke, ReplyWords { off, ..words }),
+    }
+}
+
 /// The kind and the numbers of the reply to an end.
 fn ended_parts(drain: Option<u32>, next: Option<Next>, woke: bool) -> (Answer, ReplyWords)
     ensures { reply_of result.0 result.1 ≡ replies.Ended drain next woke }
 {
-    let none = no_reply_words();
-    match (drain, next, woke) {
-        (None, None, false) => (Answer::Ended, none),
-        (None, None, true) => (Answer::EndedWoke, none),
-        (Some(off), None, false) => (Answer::EndedDrain, ReplyWords { off, ..none }),
-        (Some(off), None, true) => (Answer::EndedDrainWoke, ReplyWords { off, ..none }),
-        (
-            None,
-            Some(
-                Next {
-                    n: word,
-                    cpu: number,
-                    due: time,
-                },
-            ),
-            false,
-        ) => (
-            Answer::EndedNext,
-            ReplyWords {
-                time,
-                word,
-                number,
-                ..none
-            },
-        ),
-        (
-            None,
-            Some(
-                Next {
-                    n: word,
-                    cpu: number,
-                    due: time,
-                },
-            ),
-            true,
-        ) => (
-            Answer::EndedNextWoke,
-            ReplyWords {
-                time,
-                word,
-                number,
-                ..none
-            },
-        ),
-        (
-            Some(off),
-            Some(
-                Next {
-                    n: word,
-                    cpu: number,
-                    due: time,
-                },
-            ),
-            false,
-        ) => (
-            Answer::EndedNextDrain,
-            ReplyWords {
-                time,
-                word,
-                number,
-                off,
-                ..none
-            },
-        ),
-        (
-            Some(off),
-            Some(
-                Next {
-                    n: word,
-                    cpu: number,
-                    due: time,
-                },
-            ),
-            true,
-        ) => (
-            Answer::EndedNextDrainWoke,
-            ReplyWords {
-                time,
-                word,
-                number,
-                off,
-                ..none
-            },
-        ),
+    match next {
+        None => rested_parts(drain, woke),
+        Some(next) => moved_parts(drain, next, woke),
     }
 }
 
