@@ -10,7 +10,7 @@ ghost use Rattle.co_world.specs.Step.{step, turn_of};
 ghost use Rattle.co_core.specs.Acting.{Stands};
 ghost use Rattle.co_core.specs.Telling.{TellsOn, GoesOnKnowing, HasAsked, IsTelling, IsToldTo, MayTell, MayTellStep};
 ghost use Rattle.co_world.specs.Walk.{AllFinished, HasFinished, IsWalk, round, rounds, run};
-ghost use Rattle.co_world.specs.World.{World as PlainWorld};
+ghost use Rattle.co_world.specs.World.{World as PlainWorld, open_world};
 
 use crate::engine::Engine;
 use crate::resting::{Known, Resting};
@@ -180,6 +180,17 @@ impl Engine {
         }
         Ok(())
     }
+
+    /// The script's turns, and then rounds: the whole walk, where the engine stands before the first step.
+    fn tell_all<N: Listener>(&mut self, script: &Script, listener: &mut N) -> Result<(), NoMemory>
+        requires { MayTell script.now self.old (N.actors listener.old) }
+        ensures { IsToldTo N.actors listener.old listener.new result (Stands script.now self.old (open_world script.now) → N.has listener.old [] → (made : List MadeNote) × N.has listener.new made × IsTelling script.now made) }
+    {
+        let mut resting = Resting::none();
+        let mut next = Action::Nothing;
+        self.tell_turns(script, &mut resting, listener, &mut next)?;
+        self.tell_rounds(script, &mut resting, listener, &mut next)
+    }
 }
 
 /// Tells the notes of a script's walk, one after the other, as they are made, and keeps none: the notes that `run_steps`
@@ -196,10 +207,7 @@ pub fn tell_walk<N: Listener>(
     ensures actors { N.actors listener.new ≡ N.actors listener.old }
 {
     let mut engine = Engine::boot(alloc, script)?;
-    let mut resting = Resting::none();
-    let mut next = Action::Nothing;
-    engine.tell_turns(script, &mut resting, listener, &mut next)?;
-    engine.tell_rounds(script, &mut resting, listener, &mut next)
+    engine.tell_all(script, listener)
 }
 
 /// The lists of notes of a script's walk: the script's turns in order, then round robin until all actors have

@@ -54,8 +54,8 @@ impl<'a> World<'a> {
         ensures script { IfOk result (λ world. world.script ≡ script.now) }
         ensures opens { IfOk result (λ world. Shows world (open_world script.now)) }
     {
-        let engine = Engine::boot(alloc, script)?;
         let lists = empty_lists(alloc, actor_count(script) as usize)?;
+        let engine = Engine::boot(alloc, script)?;
         Ok(World {
             alloc,
             script,

@@ -87,3 +87,17 @@ LandAnswers (Err Invalid) before after p = (is_for_if before (unpacked p) ≡ fa
 LandAnswers (Err Exists) before after p =
     ((c : Carried) × (unpacked p ≡ Some c) × (is_for before c ≡ true) × (is_here before.cpu.callouts c.i ≡ true)) × (after ≡ before)
 LandAnswers (Err _) before after p = ⊥
+
+-- what is carried is here, with its function, and stands in the queue at this time
+pub record IsLandedOf (before after : Embedded) (c : Carried) (func at : ℕ) : Type 0 where
+  pub for_here : is_for before c ≡ true
+  pub absent : is_here before.cpu.callouts c.i ≡ false
+  pub landing : IsLanding before.cpu after.cpu (parcel_carried c) at
+  pub funcs : after.funcs ≡ set before.funcs c.i func
+  pub drains : after.drains ≡ before.drains
+
+abbrev pub CarriedAnswers : Result ℕ Refusal → (before after : Embedded) → Carried → (func : ℕ) → Type 0
+CarriedAnswers (Ok at) before after c func = IsLandedOf before after c func at
+CarriedAnswers (Err Invalid) before after c func = (is_for before c ≡ false) × (after ≡ before)
+CarriedAnswers (Err Exists) before after c func = (is_for before c ≡ true) × (is_here before.cpu.callouts c.i ≡ true) × (after ≡ before)
+CarriedAnswers (Err _) before after c func = ⊥

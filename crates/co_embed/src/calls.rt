@@ -40,13 +40,15 @@ impl Embed {
         ensures { ArmedOr result self.old self.new id op.now func reply.old reply.new parcel.old parcel.new }
     {
         let mut out = CallOut::none();
-        if let Err(refusal) = self.call(id, op, &mut out) {
-            return Err(refusal);
+        match self.call(id, op, &mut out) {
+            Err(refusal) => Err(refusal),
+            Ok(()) => {
+                keep_func(&mut self.funcs, id, func, &out.reply);
+                *reply = told_call(id, &out);
+                send_if(&out.leaves, &self.funcs, id, parcel);
+                Ok(())
+            }
         }
-        keep_func(&mut self.funcs, id, func, &out.reply);
-        *reply = told_call(id, &out);
-        send_if(&out.leaves, &self.funcs, id, parcel);
-        Ok(())
     }
 
     /// Arms callout `id`, as `callout_reset_sbt_on` does: from `when.due` on it may call `func` with `arg` at `when.cpu`.
@@ -133,12 +135,14 @@ impl Embed {
     {
         let op = CallOp::Plain(PlainOp::AsyncDrain { func: 0 });
         let mut out = CallOut::none();
-        if let Err(refusal) = self.call(id, &op, &mut out) {
-            return Err(refusal);
+        match self.call(id, &op, &mut out) {
+            Err(refusal) => Err(refusal),
+            Ok(()) => {
+                keep_drain(&mut self.drains, id, func, &out.reply);
+                *reply = told_call(id, &out);
+                Ok(())
+            }
         }
-        keep_drain(&mut self.drains, id, func, &out.reply);
-        *reply = told_call(id, &out);
-        Ok(())
     }
 
     /// Whether callout `id` is armed, as `callout_pending` tells. `NotHere` exactly where it is not here.

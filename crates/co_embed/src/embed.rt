@@ -1,5 +1,5 @@
 //! A CPU's callouts.
-ghost use Rattle.std.specs.Prelude.{◌≡◌, IfOk};
+ghost use Rattle.std.specs.Prelude.{◌≡◌, IfOk, replicate};
 ghost use Rattle.co_embed.specs.Embedded.{IsMade, new_embedded};
 ghost use Rattle.co_queue.specs.Timers.{IsSize, IsWheel};
 
@@ -65,6 +65,33 @@ impl Embed {
     }
 }
 
+/// The wheel of a CPU with no callout yet, for sizes that may be.
+fn empty_wheel(
+    alloc: Global,
+    cpu: u32,
+    buckets: u32,
+    callouts: u32,
+    first: u32,
+) -> Result<Wheel<WheelQueue>, NoMemory>
+    requires size { IsSize callouts }
+    requires buckets { IsWheel buckets }
+    ensures { IfOk result (λ wheel. wheel ≡ (new_embedded cpu buckets callouts first).cpu) }
+{
+    let direct = directs(alloc, callouts, first)?;
+    let queue = WheelQueue::new(alloc, callouts, buckets, direct.as_slice())?;
+    Wheel::new(alloc, cpu, callouts, queue)
+}
+
+/// The word 0 for each callout. `NoMemory` where there is no room for them.
+fn no_words(alloc: Global, callouts: u32) -> Result<Vec<u64>, NoMemory>
+    ensures { IfOk result (λ words. words.items ≡ replicate callouts 0) }
+{
+    match vec![in alloc; 0; callouts as usize] {
+        Ok(words) => Ok(words),
+        Err(_) => Err(NoMemory {}),
+    }
+}
+
 /// What a CPU is made of, for sizes that may be.
 fn build(
     alloc: Global,
@@ -77,15 +104,9 @@ fn build(
     requires buckets { IsWheel buckets }
     ensures { IfOk result (λ e. e ≡ new_embedded cpu buckets callouts first) }
 {
-    let direct = directs(alloc, callouts, first)?;
-    let queue = WheelQueue::new(alloc, callouts, buckets, direct.as_slice())?;
-    let wheel = Wheel::new(alloc, cpu, callouts, queue)?;
-    let Ok(funcs) = vec![in alloc; 0; callouts as usize] else {
-        return Err(NoMemory {});
-    };
-    let Ok(drains) = vec![in alloc; 0; callouts as usize] else {
-        return Err(NoMemory {});
-    };
+    let funcs = no_words(alloc, callouts)?;
+    let drains = no_words(alloc, callouts)?;
+    let wheel = empty_wheel(alloc, cpu, buckets, callouts, first)?;
     Ok(Embed {
         wheel,
         funcs,

@@ -1,12 +1,12 @@
 //! Callouts that come and go.
-ghost use Rattle.std.specs.Prelude.{◌≡◌};
-ghost use Rattle.co_embed.specs.Lives.{FiniAnswers, InitAnswers, LandAnswers, spec_of};
+ghost use Rattle.std.specs.Prelude.{◌≡◌, ◌≤◌};
+ghost use Rattle.co_embed.specs.Lives.{CarriedAnswers, FiniAnswers, InitAnswers, LandAnswers, is_for, spec_of};
 
 use crate::parcel::{lock_of, unpack};
 use crate::words::set_word;
 use crate::{CalloutParcel, Embed, Refusal};
 use co_object::{LockUse, Spec};
-use co_record::Record;
+use co_record::{Carried, Record};
 use co_wheel::Parcel;
 
 /// What is fixed of a callout: its lock's kind, 0 none, 1 a mutex, 2 a reader-writer lock, 3 one that is taken to read, its
@@ -83,20 +83,34 @@ impl Embed {
     pub fn land(&mut self, parcel: &CalloutParcel) -> Result<u64, Refusal>
         ensures { LandAnswers result self.old self.new parcel.now }
     {
-        let Some(carried) = unpack(parcel) else {
-            return Err(Refusal::Invalid);
-        };
-        if carried.cpu != self.wheel.cpu() || carried.i as usize >= self.wheel.size() {
-            return Err(Refusal::Invalid);
+        match unpack(parcel) {
+            None => Err(Refusal::Invalid),
+            Some(carried) => self.land_carried(&carried, parcel.func),
         }
-        if carried.spec.direct != self.wheel.queue().is_direct(carried.i) {
+    }
+
+    /// The same of what a parcel carries, with its function.
+    fn land_carried(&mut self, carried: &Carried, func: u64) -> Result<u64, Refusal>
+        requires { 1 ≤ carried.now.made }
+        ensures { CarriedAnswers result self.old self.new carried.now func }
+    {
+        if !self.is_for(carried) {
             return Err(Refusal::Invalid);
         }
         if self.wheel.holds(carried.i) {
             return Err(Refusal::Exists);
         }
-        let at = self.wheel.land(Parcel::of_carried(&carried));
-        set_word(&mut self.funcs, carried.i, parcel.func);
+        let at = self.wheel.land(Parcel::of_carried(carried));
+        set_word(&mut self.funcs, carried.i, func);
         Ok(at.raw())
+    }
+
+    /// Whether what is carried is for this CPU, by an id that is one here, and of its lane.
+    fn is_for(&self, carried: &Carried) -> bool
+        ensures { result ≡ is_for self.now carried.now }
+    {
+        carried.cpu == self.wheel.cpu()
+            && (carried.i as usize) < self.wheel.size()
+            && carried.spec.direct == self.wheel.queue().is_direct(carried.i)
     }
 }

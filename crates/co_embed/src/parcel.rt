@@ -1,5 +1,5 @@
 //! A callout on its way, as plain numbers.
-ghost use Rattle.std.specs.Prelude.{◌≡◌, get_or};
+ghost use Rattle.std.specs.Prelude.{◌≡◌, ◌≤◌, IfSome, get_or};
 ghost use Rattle.co_embed.specs.Calls.{IsSent};
 ghost use Rattle.co_embed.specs.Carrying.{kind_of, lock_of, number_of, packed, unpacked, IsParcelOf};
 
@@ -108,7 +108,8 @@ pub(crate) fn send_if(leaves: &Option<Parcel>, funcs: &[u64], i: u32, parcel: &m
 
 /// What these numbers carry, if anything.
 pub(crate) fn unpack(parcel: &CalloutParcel) -> Option<Carried>
-    ensures { result ≡ unpacked parcel.now }
+    ensures carried { result ≡ unpacked parcel.now }
+    ensures armed { IfSome result (λ carried. 1 ≤ carried.made) }
 {
     let due = Sbt::new(parcel.due)?;
     let prec = Sbt::new(parcel.prec)?;

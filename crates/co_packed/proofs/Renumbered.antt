@@ -53,6 +53,30 @@ note_again note whose sort op reply w k answer act place actor code few whose_is
     let reply_is = reply_words_again reply (32 * w + k) note.pos place actor answer act op.time op.prec op.word op.number op.cpu code reply_fits code_is in
     rw (op_is, reply_is, high, low, whose_is, sort_is, short_again place place_fits, short_again actor actor_fits, at, said) refl
 
+-- a number stands where it is put, and is below a limit
+pub record IsPut (limit put n : ℕ) : Type 0 where
+  pub same : put ≡ n
+  pub bounded : put < limit
+
+below : (limit put n : ℕ) → IsPut limit put n → n < limit
+below limit put n p = omega arith
+
+-- the same where the numbers are put by calls, each of which gives its number again
+pub numbers_again : (note : Note) (whose : Whose) (sort : Sort) (op : OpWords) (reply : ReplyWords) (w k answer act place actor code : ℕ)
+    → (place_put actor_put time_put prec_put number_put cpu_put reply_time_put reply_number_put off_put : ℕ)
+    → k < 27 → whose_at w ≡ whose → sort_at k answer ≡ sort → code_at code ≡ reply.code
+    → IsPut (2 ^ 32) place_put place → IsPut (2 ^ 32) actor_put actor
+    → IsPut (2 ^ 63) time_put op.time → IsPut (2 ^ 63) prec_put op.prec → IsPut (2 ^ 32) number_put op.number → IsPut (2 ^ 32) cpu_put op.cpu
+    → IsPut (2 ^ 63) reply_time_put reply.time → IsPut (2 ^ 32) reply_number_put reply.number → IsPut (2 ^ 32) off_put reply.off
+    → place_of whose place ≡ note.place → entry_of sort actor act op reply ≡ note.entry
+    → numbered_note ((32 * w + k) ∷ note.pos ∷ place_put ∷ actor_put ∷ answer ∷ act ∷ time_put ∷ prec_put ∷ op.word ∷ number_put ∷ cpu_put ∷ reply_time_put ∷ reply.word ∷ code ∷ reply_number_put ∷ off_put ∷ []) ≡ note
+numbers_again note whose sort op reply w k answer act place actor code place_put actor_put time_put prec_put number_put cpu_put reply_time_put reply_number_put off_put few whose_is sort_is code_is pl ac ti pr nu cp rt rn of at said =
+    rw (pl.same, ac.same, ti.same, pr.same, nu.same, cp.same, rt.same, rn.same, of.same)
+    (note_again note whose sort op reply w k answer act place actor code few whose_is sort_is code_is (below (2 ^ 32) place_put place pl) (below (2 ^ 32) actor_put actor ac)
+    (record { time = below (2 ^ 63) time_put op.time ti; prec = below (2 ^ 63) prec_put op.prec pr; number = below (2 ^ 32) number_put op.number nu; cpu = below (2 ^ 32) cpu_put op.cpu cp })
+    (record { time = below (2 ^ 63) reply_time_put reply.time rt; number = below (2 ^ 32) reply_number_put reply.number rn; off = below (2 ^ 32) off_put reply.off of })
+    at said)
+
 actor_is : (sort : Sort) (actor act : ℕ) (op : OpWords) (reply : ReplyWords) → actor_of (entry_of sort actor act op reply) ≡ actor
 actor_is (sorts.Timer kind answer) actor act op reply = refl
 actor_is (sorts.Cpu kind answer) actor act op reply = refl

@@ -1,5 +1,5 @@
 //! Replies in kinds and numbers.
-ghost use Rattle.std.specs.Prelude.{◌≡◌};
+ghost use Rattle.std.specs.Prelude.{◌≡◌, None, Some, pos};
 ghost use Rattle.co_object.specs.declared.reply.Reply.TheVariants as replies;
 ghost use Rattle.co_packed.specs.Parts.{queue_reply_of, reply_of};
 
@@ -7,94 +7,44 @@ use crate::kinds::{Answer, QAnswer};
 use crate::words::{ReplyWords, no_reply_words};
 use co_object::{Next, QReply, Reply};
 
+/// The kind and the numbers of the reply to an end after which no arming moves.
+fn rested_parts(drain: Option<u32>, woke: bool) -> (Answer, ReplyWords)
+    ensures { reply_of result.0 result.1 ≡ replies.Ended drain None woke }
+{
+    let none = no_reply_words();
+    match (drain, woke) {
+        (None, false) => (Answer::Ended, none),
+        (None, true) => (Answer::EndedWoke, none),
+        (Some(off), false) => (Answer::EndedDrain, ReplyWords { off, ..none }),
+        (Some(off), true) => (Answer::EndedDrainWoke, ReplyWords { off, ..none }),
+    }
+}
+
+/// The kind and the numbers of the reply to an end after which an arming moves to its CPU.
+fn moved_parts(drain: Option<u32>, next: Next, woke: bool) -> (Answer, ReplyWords)
+    ensures { reply_of result.0 result.1 ≡ replies.Ended drain (Some next) woke }
+{
+    let words = ReplyWords {
+        time: next.due,
+        word: next.n,
+        number: next.cpu,
+        ..no_reply_words()
+    };
+    match (drain, woke) {
+        (None, false) => (Answer::EndedNext, words),
+        (None, true) => (Answer::EndedNextWoke, words),
+        (Some(off), false) => (Answer::EndedNextDrain, ReplyWords { off, ..words }),
+        (Some(off), true) => (Answer::EndedNextDrainWoke, ReplyWords { off, ..words }),
+    }
+}
+
 /// The kind and the numbers of the reply to an end.
 fn ended_parts(drain: Option<u32>, next: Option<Next>, woke: bool) -> (Answer, ReplyWords)
     ensures { reply_of result.0 result.1 ≡ replies.Ended drain next woke }
 {
-    let none = no_reply_words();
-    match (drain, next, woke) {
-        (None, None, false) => (Answer::Ended, none),
-        (None, None, true) => (Answer::EndedWoke, none),
-        (Some(off), None, false) => (Answer::EndedDrain, ReplyWords { off, ..none }),
-        (Some(off), None, true) => (Answer::EndedDrainWoke, ReplyWords { off, ..none }),
-        (
-            None,
-            Some(
-                Next {
-                    n: word,
-                    cpu: number,
-                    due: time,
-                },
-            ),
-            false,
-        ) => (
-            Answer::EndedNext,
-            ReplyWords {
-                time,
-                word,
-                number,
-                ..none
-            },
-        ),
-        (
-            None,
-            Some(
-                Next {
-                    n: word,
-                    cpu: number,
-                    due: time,
-                },
-            ),
-            true,
-        ) => (
-            Answer::EndedNextWoke,
-            ReplyWords {
-                time,
-                word,
-                number,
-                ..none
-            },
-        ),
-        (
-            Some(off),
-            Some(
-                Next {
-                    n: word,
-                    cpu: number,
-                    due: time,
-                },
-            ),
-            false,
-        ) => (
-            Answer::EndedNextDrain,
-            ReplyWords {
-                time,
-                word,
-                number,
-                off,
-                ..none
-            },
-        ),
-        (
-            Some(off),
-            Some(
-                Next {
-                    n: word,
-                    cpu: number,
-                    due: time,
-                },
-            ),
-            true,
-        ) => (
-            Answer::EndedNextDrainWoke,
-            ReplyWords {
-                time,
-                word,
-                number,
-                off,
-                ..none
-            },
-        ),
+    match next {
+        None => rested_parts(drain, woke),
+        Some(next) => moved_parts(drain, next, woke),
     }
 }
 
@@ -111,91 +61,110 @@ fn wait_parts(word: u64, took: bool, off: Option<u32>) -> (Answer, ReplyWords)
     }
 }
 
+/// The kind and the numbers of the reply to an arming that was accepted.
+fn armed_parts(code: i32, word: u64, number: u32, off: Option<u32>) -> (Answer, ReplyWords)
+    ensures { reply_of result.0 result.1 ≡ replies.Armed code word number off }
+{
+    let words = ReplyWords {
+        code,
+        word,
+        number,
+        ..no_reply_words()
+    };
+    match off {
+        None => (Answer::Armed, words),
+        Some(off) => (Answer::ArmedOff, ReplyWords { off, ..words }),
+    }
+}
+
+/// The kind and the numbers of the reply to a stop, or to the begin of an asynchronous drain.
+fn stopped_parts(code: i32, off: Option<u32>) -> (Answer, ReplyWords)
+    ensures { reply_of result.0 result.1 ≡ replies.Stopped code off }
+{
+    let words = code_alone(code);
+    match off {
+        None => (Answer::Stopped, words),
+        Some(off) => (Answer::StoppedOff, ReplyWords { off, ..words }),
+    }
+}
+
+/// The kind and the numbers of the reply to a drain that is done.
+fn drained_parts(code: i32, off: Option<u32>) -> (Answer, ReplyWords)
+    ensures { reply_of result.0 result.1 ≡ replies.Drained code off }
+{
+    let words = code_alone(code);
+    match off {
+        None => (Answer::Drained, words),
+        Some(off) => (Answer::DrainedOff, ReplyWords { off, ..words }),
+    }
+}
+
+/// The kind and the numbers of the reply to a retire that is refused.
+fn in_use_parts(armed: bool, serviced: bool) -> (Answer, ReplyWords)
+    ensures { reply_of result.0 result.1 ≡ replies.InUse armed serviced }
+{
+    match (armed, serviced) {
+        (false, false) => bare(Answer::InUse),
+        (true, false) => bare(Answer::InUseArmed),
+        (false, true) => bare(Answer::InUseServiced),
+        (true, true) => bare(Answer::InUseBoth),
+    }
+}
+
+/// A reply with no numbers.
+#[inline(always)]
+fn bare(answer: Answer) -> (Answer, ReplyWords)
+    ensures { result ≡ (answer, record { time = 0; word = 0; code = pos 0; number = 0; off = 0 }) }
+{
+    (answer, no_reply_words())
+}
+
+/// A code is all that the reply has.
+#[inline(always)]
+fn code_alone(code: i32) -> ReplyWords
+    ensures { result ≡ record { time = 0; word = 0; code = code; number = 0; off = 0 } }
+{
+    ReplyWords {
+        code,
+        ..no_reply_words()
+    }
+}
+
+/// The kind and the numbers of the reply that the function is to run.
+fn go_parts(number: u32, word: u64) -> (Answer, ReplyWords)
+    ensures { reply_of result.0 result.1 ≡ replies.Go number word }
+{
+    let words = ReplyWords {
+        word,
+        number,
+        ..no_reply_words()
+    };
+    (Answer::Go, words)
+}
+
 /// The kind and the numbers of a callout's reply.
 pub(crate) fn reply_parts(reply: &Reply) -> (Answer, ReplyWords)
     ensures { reply_of result.0 result.1 ≡ reply.now }
 {
-    let none = no_reply_words();
     match *reply {
-        Reply::Armed {
-            code,
-            n: word,
-            cpu: number,
-            off: None,
-        } => (
-            Answer::Armed,
-            ReplyWords {
-                code,
-                word,
-                number,
-                ..none
-            },
-        ),
-        Reply::Armed {
-            code,
-            n: word,
-            cpu: number,
-            off: Some(off),
-        } => (
-            Answer::ArmedOff,
-            ReplyWords {
-                code,
-                word,
-                number,
-                off,
-                ..none
-            },
-        ),
-        Reply::NotArmed { code } => (Answer::NotArmed, ReplyWords { code, ..none }),
-        Reply::NoHandler => (Answer::NoHandler, none),
-        Reply::Worn => (Answer::Worn, none),
-        Reply::Stopped { code, off: None } => (Answer::Stopped, ReplyWords { code, ..none }),
-        Reply::Stopped {
-            code,
-            off: Some(off),
-        } => (Answer::StoppedOff, ReplyWords { code, off, ..none }),
+        Reply::Armed { code, n, cpu, off } => armed_parts(code, n, cpu, off),
+        Reply::NotArmed { code } => (Answer::NotArmed, code_alone(code)),
+        Reply::NoHandler => bare(Answer::NoHandler),
+        Reply::Worn => bare(Answer::Worn),
+        Reply::Stopped { code, off } => stopped_parts(code, off),
         Reply::Wait { n, took, off } => wait_parts(n, took, off),
-        Reply::Drained { code, off: None } => (Answer::Drained, ReplyWords { code, ..none }),
-        Reply::Drained {
-            code,
-            off: Some(off),
-        } => (Answer::DrainedOff, ReplyWords { code, off, ..none }),
-        Reply::Busy => (Answer::Busy, none),
-        Reply::Yes => (Answer::Yes, none),
-        Reply::No => (Answer::No, none),
-        Reply::Done => (Answer::Done, none),
-        Reply::Go {
-            func: number,
-            arg: word,
-        } => (
-            Answer::Go,
-            ReplyWords {
-                word,
-                number,
-                ..none
-            },
-        ),
-        Reply::Hold => (Answer::Hold, none),
-        Reply::Skip => (Answer::Skip, none),
+        Reply::Drained { code, off } => drained_parts(code, off),
+        Reply::Busy => bare(Answer::Busy),
+        Reply::Yes => bare(Answer::Yes),
+        Reply::No => bare(Answer::No),
+        Reply::Done => bare(Answer::Done),
+        Reply::Go { func, arg } => go_parts(func, arg),
+        Reply::Hold => bare(Answer::Hold),
+        Reply::Skip => bare(Answer::Skip),
         Reply::Ended { drain, next, woke } => ended_parts(drain, next, woke),
-        Reply::Live => (Answer::Live, none),
-        Reply::Retired => (Answer::Retired, none),
-        Reply::InUse {
-            armed: false,
-            serviced: false,
-        } => (Answer::InUse, none),
-        Reply::InUse {
-            armed: true,
-            serviced: false,
-        } => (Answer::InUseArmed, none),
-        Reply::InUse {
-            armed: false,
-            serviced: true,
-        } => (Answer::InUseServiced, none),
-        Reply::InUse {
-            armed: true,
-            serviced: true,
-        } => (Answer::InUseBoth, none),
+        Reply::Live => bare(Answer::Live),
+        Reply::Retired => bare(Answer::Retired),
+        Reply::InUse { armed, serviced } => in_use_parts(armed, serviced),
     }
 }
 

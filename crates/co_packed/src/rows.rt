@@ -2,10 +2,22 @@
 //! needs. Before them it has how many these are, four bits for each number, so a reader goes from one to the next with no
 //! look at them, and skips a row that it does not want by these alone.
 ghost use Rattle.std.specs.Prelude.{◌≡◌, ◌+◌, ◌*◌, ◌<◌, ◌≤◌, ◌++◌, true, length, take, drop, get_or, ℕ};
-ghost use Rattle.co_packed.specs.Numbers.{value};
+ghost use Rattle.co_packed.specs.Numbers.{width, bytes_of, value};
 ghost use Rattle.co_packed.specs.Rows.{FourPut, row_bytes, numbers_in, row_in, size_in, row_size, after_row, IsRow};
 
 use crate::numbers::{number_at, put_word, width_of, word_at};
+
+/// Puts a number at `at`, with all its bytes, and gives its width: how many of them it needs.
+#[inline(always)]
+fn put_number(buffer: &mut [u8; 136], at: usize, number: u64) -> u64
+    requires { at ≤ 128 }
+    ensures width { result ≡ width number }
+    ensures few { result ≤ 8 }
+    ensures written { take (at + 8) buffer.new ≡ take at buffer.old ++ bytes_of 8 number }
+{
+    put_word(buffer, at, number);
+    width_of(number)
+}
 
 /// Puts the four numbers from `from` on at `at`, and gives their widths, four bits each, and where they end. Each is put there
 /// with all its bytes, of which the next one takes those that are not needed.
@@ -15,17 +27,13 @@ fn put_four(buffer: &mut [u8; 136], at: usize, numbers: &[u64; 16], from: usize)
     requires within { from ≤ 12 }
     ensures { FourPut numbers.now from at buffer.old buffer.new result.0 result.1 }
 {
-    let first = width_of(numbers[from]);
-    let second = width_of(numbers[from + 1]);
-    let third = width_of(numbers[from + 2]);
-    let fourth = width_of(numbers[from + 3]);
+    let first = put_number(buffer, at, numbers[from]);
     let second_at = at + first as usize;
+    let second = put_number(buffer, second_at, numbers[from + 1]);
     let third_at = second_at + second as usize;
+    let third = put_number(buffer, third_at, numbers[from + 2]);
     let fourth_at = third_at + third as usize;
-    put_word(buffer, at, numbers[from]);
-    put_word(buffer, second_at, numbers[from + 1]);
-    put_word(buffer, third_at, numbers[from + 2]);
-    put_word(buffer, fourth_at, numbers[from + 3]);
+    let fourth = put_number(buffer, fourth_at, numbers[from + 3]);
     (
         first + 16 * second + 256 * third + 4096 * fourth,
         fourth_at + fourth as usize,

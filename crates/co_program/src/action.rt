@@ -23,7 +23,7 @@ use co_object::{CallOp, LockUse, Op, OwnKind, QOp, RunOp, Spec};
 use co_sbt::Sbt;
 
 /// Whom an actor asks, and what.
-#[derive(Clone, Copy, Debug, PartialEq, Eq)]
+#[derive(Clone, Copy, PartialEq, Eq)]
 pub enum Asked {
     /// Callout `i`, by an operation in its history.
     Callout { i: u32, op: Op },
@@ -34,7 +34,7 @@ pub enum Asked {
 }
 
 /// What a step without a note does to the actor's place.
-#[derive(Clone, Copy, Debug, PartialEq, Eq)]
+#[derive(Clone, Copy, PartialEq, Eq)]
 pub enum SilentStep {
     /// The act is over. This is the client's now then, in units of 2^-32 s, and the lock that it holds.
     Over { time: Sbt, hold: Option<Held> },
@@ -45,7 +45,7 @@ pub enum SilentStep {
 }
 
 /// What an actor does next.
-#[derive(Clone, Copy, Debug, PartialEq, Eq)]
+#[derive(Clone, Copy, PartialEq, Eq)]
 pub enum Action {
     /// The program has ended.
     Nothing,

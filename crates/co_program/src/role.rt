@@ -11,7 +11,7 @@ use crate::script::Script;
 use co_object::Spec;
 
 /// Who an actor is.
-#[derive(Clone, Copy, Debug, PartialEq, Eq)]
+#[derive(Clone, Copy, PartialEq, Eq)]
 pub enum Role {
     /// The client of this number.
     Client(u32),

@@ -1,6 +1,6 @@
 //! Which lock an actor takes next, by its cursor.
 ghost use Rattle.std.specs.Prelude.{◌≡◌, Some, slice_get};
-ghost use Rattle.std.specs.Option.{option_and_then};
+ghost use Rattle.std.specs.Option.{option_and_then, option_copied};
 ghost use Rattle.co_lock.specs.declared.held.Held.{Held as HeldOf};
 ghost use Rattle.co_lock.specs.Service.{hold_of};
 ghost use Rattle.co_program.specs.Action.{Take, action_for};
@@ -32,15 +32,22 @@ pub(crate) fn takes_next(script: &Script, actor: u32, cursor: &Cursor) -> Option
     }
 }
 
+/// The act of a client at this index, counted from 0, where there is one.
+fn act_of(script: &Script, client: u32, index: u32) -> Option<&Act>
+    ensures { option_copied result ≡ slice_get (acts_at script.now.clients client) index }
+{
+    match script.clients.as_slice().get(client as usize) {
+        Some(acts) => acts.as_slice().get(index as usize),
+        None => None,
+    }
+}
+
 /// What the act of a client takes, counted from 0.
 fn client_lock(script: &Script, client: u32, index: u32) -> Option<Held>
     ensures { result ≡ option_and_then lock_taken_by (slice_get (acts_at script.now.clients client) index) }
 {
-    match script.clients.as_slice().get(client as usize) {
-        Some(acts) => match acts.as_slice().get(index as usize) {
-            Some(act) => lock_of(act),
-            None => None,
-        },
+    match act_of(script, client, index) {
+        Some(act) => lock_of(act),
         None => None,
     }
 }

@@ -1,5 +1,6 @@
 //! The ledger before the first step.
 ghost use Rattle.std.specs.Prelude.{◌≡◌, replicate, IfOk};
+ghost use Rattle.co_core.specs.Booted.{HasNoEntries, NobodyActs};
 ghost use Rattle.co_program.specs.Scripts.{IsScript};
 ghost use Rattle.co_core.specs.Holders.{no_holders};
 ghost use Rattle.co_core.specs.Stands.{ShowsBooked};
@@ -47,6 +48,50 @@ fn nobody(alloc: Global, locks: usize) -> Result<Vec<Holders>, NoMemory>
     copies(alloc, locks, Holders::none())
 }
 
+/// What is booked by actor, and who holds the locks.
+#[derive(Drop)]
+struct ActorTables {
+    cursors: Vec<Cursor>,
+    holders: Vec<Holders>,
+    own: Vec<u64>,
+}
+
+/// `actors` actors before their first acts, of which none holds one of the `locks` locks. `NoMemory` where there is no room.
+fn first_actors(alloc: Global, actors: usize, locks: usize) -> Result<ActorTables, NoMemory>
+    ensures { IfOk result (λ tables. NobodyActs actors locks tables.cursors.items tables.holders.items tables.own.items) }
+{
+    let cursors = first_cursors(alloc, actors)?;
+    let holders = nobody(alloc, locks)?;
+    let own = copies(alloc, actors, 0)?;
+    Ok(ActorTables {
+        cursors,
+        holders,
+        own,
+    })
+}
+
+/// How many entries there are, by callout and by CPU.
+#[derive(Drop)]
+struct EntryCounts {
+    histories: Vec<u64>,
+    journals: Vec<u64>,
+    scans: Vec<u64>,
+}
+
+/// No entry of `timers` callouts and `cpus` CPUs. `NoMemory` where there is no room for the counts.
+fn no_entries(alloc: Global, timers: usize, cpus: usize) -> Result<EntryCounts, NoMemory>
+    ensures { IfOk result (λ counts. HasNoEntries timers cpus counts.histories.items counts.journals.items counts.scans.items) }
+{
+    let histories = copies(alloc, timers, 0)?;
+    let journals = copies(alloc, cpus, 0)?;
+    let scans = copies(alloc, cpus, 0)?;
+    Ok(EntryCounts {
+        histories,
+        journals,
+        scans,
+    })
+}
+
 impl Ledger {
     /// The ledger before the first step: each actor stands before its first act, and nothing has been noted.
     pub(crate) fn boot(alloc: Global, script: &Script) -> Result<Ledger, NoMemory>
@@ -54,15 +99,17 @@ impl Ledger {
         ensures { IfOk result (λ ledger. ShowsBooked script.now ledger (open_world script.now)) }
     {
         let actors = actor_count(script) as usize;
+        let locks = script.locks.as_slice().len();
         let timers = script.timers.as_slice().len();
-        let cpus = script.cpus as usize;
+        let tables = first_actors(alloc, actors, locks)?;
+        let counts = no_entries(alloc, timers, script.cpus as usize)?;
         Ok(Ledger {
-            cursors: first_cursors(alloc, actors)?,
-            holders: nobody(alloc, script.locks.as_slice().len())?,
-            histories: copies(alloc, timers, 0)?,
-            journals: copies(alloc, cpus, 0)?,
-            scans: copies(alloc, cpus, 0)?,
-            own: copies(alloc, actors, 0)?,
+            cursors: tables.cursors,
+            holders: tables.holders,
+            histories: counts.histories,
+            journals: counts.journals,
+            scans: counts.scans,
+            own: tables.own,
             made: 0,
         })
     }

@@ -1,6 +1,6 @@
-use Rattle.std.proofs.Common.{◌≡◌, ◌<◌, ℕ, List, ◌+◌, ◌∙◌, ◌++◌, ◌∷◌, [], ap, subst, sym, take, get_or, refl}
+use Rattle.std.proofs.Common.{◌≡◌, ◌<◌, ◌≤◌, ℕ, List, ◌+◌, ◌∙◌, ◌++◌, ◌∷◌, [], ap, subst, sym, take, get_or, length, refl, arith, rules}
 use Rattle.std.specs.List.{AllByRecursion}
-use Rattle.std.proofs.lemmas.List.{take_more}
+use Rattle.std.proofs.lemmas.List.{take_all, take_more}
 use Rattle.co_program.specs.Actors.{actor_count}
 use Rattle.co_world.specs.Step.{step}
 use Rattle.co_core.specs.Resting.{IsKnown}
@@ -44,3 +44,18 @@ tell_unless_resting-requires g c =
       may = may_tell s c.args.self.now c.loop-actor.self _ _ c.requires c.loop-actor.invariant.actors c.loop-actor.invariant.world;
       actor = all-at (λ (a : ℕ). a < actor_count s) turns c.loop-actor.actor-index 0 exist c.loop-actor-test.true;
     }
+
+pub returns : goal.returns
+returns g c =
+    let s = c.args.script.now in
+    let turns = c.as_slice-actor-items.result.now in
+    let past : length turns ≤ c.loop-actor.actor-index = omega arith in record {
+      told = λ w h have.
+          subst (λ (xs : List ℕ). TellsOn s g.N.Listener.has c.loop-actor.self c.args.listener.now c.loop-actor.listener w (run s w xs) × IsKnown s (run s w xs) c.loop-actor.resting)
+          (take_all c.loop-actor.actor-index turns past ∙ c.as_slice-actor-items.ensures)
+          (c.loop-actor.invariant.told w h have);
+      actors = c.loop-actor.invariant.actors;
+    }
+
+pub returns-in_err-_finished : goal.returns-in_err-_finished
+returns-in_err-_finished g c = record { told = search rules; actors = c.tell_unless_resting.ensures.actors ∙ c.loop-actor.invariant.actors }

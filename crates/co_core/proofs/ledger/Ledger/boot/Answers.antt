@@ -6,8 +6,10 @@ use Rattle.co_core.proofs.ledger.Ledger.boot.Goals as goal
 
 pub returns : goal.returns
 returns c =
-    rw (c.in_ok-first_cursors.ensures, c.in_ok-copies.ensures, c.in_ok-copies-2.ensures, c.in_ok-copies-3.ensures, c.in_ok-copies-4.ensures, c.actor_count-actors.ensures) (
+    let actors = c.in_ok-tables.ensures in
+    let entries = c.in_ok-counts.ensures in
+    rw (actors.cursors_are, actors.own_are, entries.histories_are, entries.journals_are, entries.scans_are, c.actor_count-actors.ensures) (
     opening-written c.args.script.now (actor_count c.args.script.now) (length c.as_slice-timers.result.now) c.args.script.now.cpus refl (ap (λ xs. length xs) c.as_slice-timers.ensures) refl)
 
 pub invariant_of-result : goal.invariant_of-result
-invariant_of-result c = no-one _ _ c.in_ok-nobody.ensures c.in_ok-first_cursors.ensures
+invariant_of-result c = no-one _ _ c.in_ok-tables.ensures.holders_are c.in_ok-tables.ensures.cursors_are
