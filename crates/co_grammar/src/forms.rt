@@ -133,6 +133,7 @@ fn numbered_act(verb: Verb, number: u32) -> Act
 }
 
 /// A number of 32 bits alone.
+#[inline(always)]
 fn typed_number(words: &mut Words) -> Result<u32, Cause>
     ensures { Gives (λ n. n) result (number_alone words.old) }
 {
@@ -164,6 +165,7 @@ fn who_act(verb: Verb, who: Who) -> Act
 }
 
 /// A callout alone.
+#[inline(always)]
 fn typed_who(serviced: bool, words: &mut Words) -> Result<Who, Cause>
     ensures { Gives (λ w. w) result (who_alone serviced words.old) }
 {
@@ -180,6 +182,7 @@ fn of_who(serviced: bool, verb: Verb, words: &mut Words, into: &mut Act) -> Resu
 }
 
 /// `unlock`.
+#[inline(always)]
 fn unlock(words: &mut Words, into: &mut Act) -> Result<(), Cause>
     ensures { Gives (λ _. into.new) result (typed (unlock_form words.old)) }
 {
