@@ -3,3 +3,4 @@ pub mod ActsBack
 pub mod FrameBack
 pub mod Sizes
 pub mod Typed
+pub mod LoneActs

@@ -1,8 +1,8 @@
 -- An act whose numbers its type holds is the same there, and one that it doesn't hold fits no script.
 use Rattle.std.proofs.Common.{◌≡◌, ℕ, ℤ, ◌^◌, ◌≤◌, Bool, true, false, ◌&&◌, length, refl, ap, sym, subst, ◌∙◌, arith}
-use Rattle.std.specs.Prelude.{Result, Ok, Err, nat_lt}
+use Rattle.std.specs.Prelude.{Result, Ok, Err, OnOk, nat_lt}
 use Rattle.std.proofs.lemmas.Bool.Decides.{nat_tests}
-use Rattle.co_text.specs.Fallible.{◌>>=◌, ◌>>◌, unless}
+use Rattle.co_text.specs.Fallible.{◌>>=◌, ◌>>◌, unless, Gives}
 use Rattle.co_text.specs.declared.Cause.{Cause}
 use Rattle.co_text.specs.declared.Cause.TheVariants.{Number}
 use Rattle.co_text.proofs.LinesBack.{and_left, and_right}
@@ -84,9 +84,14 @@ kept (Ok c) a b e same = ap (λ x. Ok x) (sym same)
 kept (Err cause) a b e same = cc
 
 -- an act that was read into its type is the act that the words say
-pub typed_ok : (r : Result Act Cause) (a : Act) → typed r ≡ Ok a → r ≡ Ok a
+typed_ok : (r : Result Act Cause) (a : Act) → typed r ≡ Ok a → r ≡ Ok a
 typed_ok (Ok b) a e = kept (act_typed b) b a e (act-keeps b) ∙ e
 typed_ok (Err cause) a e = cc
+
+-- the same of what a function returned
+pub typed_result : (result : Result (Unit {0}) Cause) (r : Result Act Cause) (a : Act) → Gives (λ _. a) result (typed r) → OnOk result (r ≡ Ok a)
+typed_result (Ok x) r a e = typed_ok r a e
+typed_result (Err cause) r a e = tt
 
 refused : (r : Result Act Cause) (a : Act) (cause : Cause) → r ≡ Err cause → Keeps a r → cause ≡ Number
 refused (Ok b) a cause e same = cc

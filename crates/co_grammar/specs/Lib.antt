@@ -10,6 +10,8 @@ pub mod Turns
 pub mod Statements
 -- the form of each line, word by word: acts, locks, timers, turns, the rest of the frame
 pub mod Forms
+-- the acts of one operand, by their verbs
+pub mod LoneActs
 -- whether what a line names exists and is in range, has the right kind of lock, and its time rises
 pub mod Checks
 -- the values, with numbers of any size, for which the reader's own types stand

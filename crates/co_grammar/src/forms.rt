@@ -3,11 +3,13 @@ ghost use Rattle.std.specs.Prelude.{◌≡◌, Ok, OnOk};
 ghost use Rattle.co_text.specs.Fallible.{Gives};
 ghost use Rattle.co_grammar.specs.Checks.{typed};
 ghost use Rattle.co_grammar.specs.Forms.{reset_form, ticks_form, schedule_form, drain_form, act_form};
+ghost use Rattle.co_grammar.specs.LoneActs.{timed_act, numbered_act, who_act, timed_form, numbered_form, who_form, unlock_form, number_alone, who_alone};
 
 use crate::convert::{argument_of, number_of, ticks_of, where_of, who_of};
 use crate::keyword::Verb;
 use crate::operands::{lone_who, moment, optional_cpu, optional_precision, who};
-use co_program::Act;
+use co_program::{Act, Who};
+use co_sbt::Sbt;
 use co_text::{Cause, Words};
 
 // The act is put where the caller wants it, since each return of so large a value would be a copy. So the choice by the
@@ -98,36 +100,123 @@ fn async_drain(serviced: bool, words: &mut Words, into: &mut Act) -> Result<(), 
     Ok(())
 }
 
+/// The act of a time, by its verb.
+#[inline(always)]
+fn timed_act(verb: Verb, time: Sbt) -> Act
+    ensures { result ≡ timed_act verb time }
+{
+    match verb {
+        Verb::Now => Act::Now(time),
+        _ => Act::Tick(time),
+    }
+}
+
+/// `now T` or `tick T`.
+#[inline(always)]
+fn timed(verb: Verb, words: &mut Words, into: &mut Act) -> Result<(), Cause>
+    ensures { Gives (λ _. into.new) result (typed (timed_form verb words.old)) }
+{
+    *into = timed_act(verb, words.lone_time()?);
+    Ok(())
+}
+
+/// The act of a number, by its verb.
+#[inline(always)]
+fn numbered_act(verb: Verb, number: u32) -> Act
+    ensures { result ≡ numbered_act verb number }
+{
+    match verb {
+        Verb::Lock => Act::Lock(number),
+        Verb::ReadLock => Act::ReadLock(number),
+        _ => Act::Drain(number),
+    }
+}
+
+/// A number of 32 bits alone.
+#[inline(always)]
+fn typed_number(words: &mut Words) -> Result<u32, Cause>
+    ensures { Gives (λ n. n) result (number_alone words.old) }
+{
+    number_of(words.lone_number()?)
+}
+
+/// `lock N`, `rlock N` or `drain N`.
+#[inline(always)]
+fn numbered(verb: Verb, words: &mut Words, into: &mut Act) -> Result<(), Cause>
+    ensures { Gives (λ _. into.new) result (typed (numbered_form verb words.old)) }
+{
+    *into = numbered_act(verb, typed_number(words)?);
+    Ok(())
+}
+
+/// The act of a callout alone, by its verb.
+#[inline(always)]
+fn who_act(verb: Verb, who: Who) -> Act
+    ensures { result ≡ who_act verb who }
+{
+    match verb {
+        Verb::Stop => Act::Stop(who),
+        Verb::Active => Act::Active(who),
+        Verb::Pending => Act::Pending(who),
+        Verb::Deactivate => Act::Deactivate(who),
+        Verb::Init => Act::Init(who),
+        _ => Act::Retire(who),
+    }
+}
+
+/// A callout alone.
+#[inline(always)]
+fn typed_who(serviced: bool, words: &mut Words) -> Result<Who, Cause>
+    ensures { Gives (λ w. w) result (who_alone serviced words.old) }
+{
+    who_of(lone_who(serviced, words)?)
+}
+
+/// `stop W` and what else is of a callout alone.
+#[inline(always)]
+fn of_who(serviced: bool, verb: Verb, words: &mut Words, into: &mut Act) -> Result<(), Cause>
+    ensures { Gives (λ _. into.new) result (typed (who_form serviced verb words.old)) }
+{
+    *into = who_act(verb, typed_who(serviced, words)?);
+    Ok(())
+}
+
+/// `unlock`.
+#[inline(always)]
+fn unlock(words: &mut Words, into: &mut Act) -> Result<(), Cause>
+    ensures { Gives (λ _. into.new) result (typed (unlock_form words.old)) }
+{
+    words.end()?;
+    *into = Act::Unlock;
+    Ok(())
+}
+
+/// The act of a verb and of the words behind it.
+#[inline(always)]
+fn read_act(serviced: bool, verb: Verb, words: &mut Words, into: &mut Act) -> Result<(), Cause>
+    ensures { Gives (λ _. into.new) result (typed (act_form serviced verb words.old)) }
+{
+    match verb {
+        Verb::Now | Verb::Tick => timed(verb, words, into),
+        Verb::Lock | Verb::ReadLock | Verb::Drain => numbered(verb, words, into),
+        Verb::Unlock => unlock(words, into),
+        Verb::Reset => reset(serviced, words, into),
+        Verb::Ticks => ticks(serviced, words, into),
+        Verb::Schedule => schedule(serviced, words, into),
+        Verb::AsyncDrain => async_drain(serviced, words, into),
+        Verb::Stop | Verb::Active | Verb::Pending => of_who(serviced, verb, words, into),
+        Verb::Deactivate | Verb::Init | Verb::Retire => of_who(serviced, verb, words, into),
+    }
+}
+
 /// Puts into `into` the act of this first word and of the words behind it; `Form` where they are not of its form, else
 /// `Number` where an act's type does not hold one of its numbers: then it fits no script. `serviced` says that the act is
 /// of a function, where `me` names a callout. What was in `into` does not matter, and after an error nothing is said of
 /// what is there.
-#[tactic(auto, using(crate::proofs::Typed::typed_ok))]
 #[inline(always)]
 pub fn act(serviced: bool, verb: Verb, words: &mut Words, into: &mut Act) -> Result<(), Cause>
     ensures read { Gives (λ _. into.new) result (typed (act_form serviced verb words.old)) }
     ensures act { OnOk result (act_form serviced verb words.old ≡ Ok into.new) }
 {
-    match verb {
-        Verb::Now => *into = Act::Now(words.lone_time()?),
-        Verb::Lock => *into = Act::Lock(number_of(words.lone_number()?)?),
-        Verb::ReadLock => *into = Act::ReadLock(number_of(words.lone_number()?)?),
-        Verb::Unlock => {
-            words.end()?;
-            *into = Act::Unlock;
-        }
-        Verb::Reset => reset(serviced, words, into)?,
-        Verb::Ticks => ticks(serviced, words, into)?,
-        Verb::Schedule => schedule(serviced, words, into)?,
-        Verb::Stop => *into = Act::Stop(who_of(lone_who(serviced, words)?)?),
-        Verb::Drain => *into = Act::Drain(number_of(words.lone_number()?)?),
-        Verb::AsyncDrain => async_drain(serviced, words, into)?,
-        Verb::Active => *into = Act::Active(who_of(lone_who(serviced, words)?)?),
-        Verb::Pending => *into = Act::Pending(who_of(lone_who(serviced, words)?)?),
-        Verb::Deactivate => *into = Act::Deactivate(who_of(lone_who(serviced, words)?)?),
-        Verb::Init => *into = Act::Init(who_of(lone_who(serviced, words)?)?),
-        Verb::Retire => *into = Act::Retire(who_of(lone_who(serviced, words)?)?),
-        Verb::Tick => *into = Act::Tick(words.lone_time()?),
-    }
-    Ok(())
+    read_act(serviced, verb, words, into)
 }

@@ -1,13 +1,14 @@
 -- What a section adds is the same in each draft of the same frame.
-use Rattle.std.proofs.Common.{◌≡◌, ℕ, ◌+◌, ◌-◌, ◌≤◌, Bool, true, false, ◌&&◌, List, [], ◌∷◌, length, refl, ap, sym, subst, ◌∙◌, arith}
-use Rattle.std.specs.Prelude.{Some, Ok}
+use Rattle.std.proofs.Common.{◌≡◌, ℕ, ◌+◌, ◌-◌, ◌≤◌, Bool, true, false, ◌&&◌, List, [], ◌∷◌, length, drop, refl, ap, sym, subst, ◌∙◌, arith}
+use Rattle.std.specs.Prelude.{Some, Result, Ok, Err, IfOk}
 use Rattle.std.specs.Cmp.Lexicographic.{pointwise}
 use Rattle.co_program.specs.declared.Act.{Act}
 use Rattle.co_grammar.specs.declared.Kind.{Kind}
-use Rattle.co_text.specs.Lines.{Line}
+use Rattle.co_text.specs.Lines.{Line, lines_of}
+use Rattle.co_script.specs.declared.sections.Section.{Section}
 use Rattle.co_script.specs.Drafts.{Draft}
 use Rattle.co_script.specs.Reading.{line_read, lines_read}
-use Rattle.co_script.specs.Beside.{HaveOneFrame, StandAlike, Begins, Grows, Reads, with_acts}
+use Rattle.co_script.specs.Beside.{HaveOneFrame, StandAlike, Begins, Grows, Reads, HasTaken, IsSection, with_acts}
 use Rattle.co_script.proofs.LinesFold.{lines-cons}
 
 pub frame-between : (f d e : Draft) → HaveOneFrame f d → HaveOneFrame f e → HaveOneFrame d e
@@ -58,6 +59,34 @@ reads-more f d e stage lines rest after l n same kind is reads g o k frame begin
     ∙ (ap (λ ls. lines_read (k + n) (Some p) ls) is
     ∙ (lines-cons (k + n) (Some p) (Some (with_acts o e.acts e.clock (o.count + length e.acts))) l after read
     ∙ ap (λ m. lines_read m (Some (with_acts o e.acts e.clock (o.count + length e.acts))) after) number))
+
+pub frame-same : (d : Draft) → HaveOneFrame d d
+frame-same d = record { version = refl; cpus = refl; locks = refl; timers = refl; funcs = refl }
+
+-- a section that was read in a draft of the frame
+reads-framed : (f d : Draft) (stage : Kind) (lines rest : List Line) (acts : List Act) (clock count : ℕ) → HaveOneFrame f d → d.stage ≡ stage → Reads d d.stage lines acts clock count rest → Reads f stage lines acts clock count rest
+reads-framed f d stage lines rest acts clock count h is reads o k frame begins few =
+    reads o k (frame-between f d o h frame) (subst (λ s. Begins s o) (sym is) begins) few
+
+-- a section that has just begun, and has taken lines
+pub section-read : (text : List ℕ) (d e : Draft) (stage : Kind) (from to count : ℕ) (said : List Act × ℕ) → Begins stage d → HasTaken text d e from to count → said ≡ (e.acts, e.clock)
+    → IsSection text d (record { stage = stage; at = from; end = to; lines = count; acts = said.0; clock = said.1 })
+section-read text d e stage from to count said begins took is =
+    let taken : IsSection text d (record { stage = stage; at = from; end = to; lines = count; acts = e.acts; clock = e.clock }) = record {
+      reads = reads-framed d d stage (lines_of (drop from text)) (lines_of (drop to text)) e.acts e.clock count (frame-same d) begins.kind took.reads;
+      within = took.within;
+      few = took.few;
+    } in
+    subst (λ (p : List Act × ℕ). IsSection text d (record { stage = stage; at = from; end = to; lines = count; acts = p.0; clock = p.1 })) (sym is) taken
+
+-- the same in each draft of the frame
+pub section-framed : {E : Type 0} (text : List ℕ) (f d : Draft) (r : Result Section E) → HaveOneFrame f d → IfOk r (IsSection text d) → IfOk r (IsSection text f)
+section-framed text f d (Ok s) same h = record {
+  reads = λ o k frame begins few. h.reads o k (frame-between f d o same frame) begins few;
+  within = h.within;
+  few = h.few;
+}
+section-framed text f d (Err e) same h = tt
 
 -- two drafts of one frame, seen by their parts
 both_pass : (a b : Bool) → (a && b) ≡ true → (a ≡ true) × (b ≡ true)

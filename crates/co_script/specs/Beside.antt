@@ -55,6 +55,12 @@ abbrev pub Reads : Draft → Kind → List Line → List Act → ℕ → ℕ →
 Reads frame stage lines acts clock count rest = (d : Draft) (k : ℕ) → HaveOneFrame frame d → Begins stage d → d.count + length acts ≤ 262144
     → lines_read k (Some d) lines ≡ lines_read (k + count) (Some (with_acts d acts clock (d.count + length acts))) rest
 
+-- the draft, whose section had just begun, took the lines from one place in the text to another
+pub record HasTaken (text : List ℕ) (d e : Draft) (from to count : ℕ) : Type 0 where
+  pub reads : Reads d d.stage (lines_of (drop from text)) e.acts e.clock count (lines_of (drop to text))
+  pub within : to ≤ length text
+  pub few : from + count ≤ to
+
 -- a section of the text was read by itself
 pub record IsSection (text : List ℕ) (frame : Draft) (s : Section) : Type 0 where
   pub reads : Reads frame s.stage (lines_of (drop s.at text)) s.acts s.clock s.lines (lines_of (drop s.end text))

@@ -1,11 +1,11 @@
 //! The script that a text stands for, of which threads read the long sections beside each other.
-ghost use Rattle.std.specs.Prelude.{◌≡◌, ◌≤◌, ◌++◌, None, length, IfOk, OnOk};
+ghost use Rattle.std.specs.Prelude.{◌≡◌, ◌≤◌, ◌++◌, length, IfOk, OnOk};
 ghost use Rattle.std.specs.List.{All};
 ghost use Rattle.co_text.specs.Fallible.{GivesOrNoMemory};
 ghost use Rattle.co_text.specs.declared.ScriptFault.TheVariants as fault;
 ghost use Rattle.co_text.specs.Lines.{lines_of};
 ghost use Rattle.co_script.specs.Beside.{IsSection, IsSpot, left_read};
-ghost use Rattle.co_script.specs.Reading.{lines_read, script_of};
+ghost use Rattle.co_script.specs.Reading.{lines_script, script_of};
 ghost use denote.Param.Send.{IsSync};
 
 use crate::draft::Draft;
@@ -29,6 +29,22 @@ fn no_memory(_fault: NoMemory) -> ScriptFault
     ScriptFault::NoMemory
 }
 
+/// Appends the section that begins here. `NoMemory` where there is no room for it.
+fn push_section(
+    alloc: Global,
+    text: &[u8],
+    frame: &Draft,
+    start: Start,
+    sections: &mut Seq<Section>,
+) -> Result<(), NoMemory>
+    requires small { length text.now ≤ 67108864 }
+    requires before { All (IsSection text.now frame.now) sections.old }
+    ensures { OnOk result (All (IsSection text.now frame.now) sections.new) }
+{
+    let section = read_section(alloc, text, frame, start)?;
+    sections.push(section)
+}
+
 /// Sections that begin here, read one after the other.
 fn read_in_turn(
     alloc: Global,
@@ -41,7 +57,7 @@ fn read_in_turn(
 {
     let mut sections = Seq::new(alloc);
     for start in starts {
-        sections.push(read_section(alloc, text, frame, *start)?)?;
+        push_section(alloc, text, frame, *start, &mut sections)?;
     }
     Ok(sections)
 }
@@ -148,6 +164,55 @@ fn frame_of(alloc: Global, draft: &Option<Draft>) -> Result<Draft, NoMemory> {
     }
 }
 
+/// Reads the lines of a text from a place on. Threads read the sections that begin here, against this frame.
+fn read_against<R: Threads + Sync>(
+    rt: &R,
+    alloc: Global,
+    text: &[u8],
+    draft: &mut Option<Draft>,
+    frame: &Draft,
+    starts: &[Start],
+    from: Spot,
+) -> Result<(), ScriptFault>
+    requires small { length text.now ≤ 67108864 }
+    requires from { IsSpot text.now from }
+    ensures { GivesOrNoMemory (λ _. draft.new) result (left_read text.now draft.old from) }
+{
+    match read_halves(rt, alloc, text, frame, starts, HALVINGS) {
+        Ok(sections) => read_around(alloc, text, draft, frame, from, sections),
+        Err(fault) => Err(no_memory(fault)),
+    }
+}
+
+/// The same, against the frame of the draft so far.
+fn read_on<R: Threads + Sync>(
+    rt: &R,
+    alloc: Global,
+    text: &[u8],
+    draft: &mut Option<Draft>,
+    starts: &[Start],
+    from: Spot,
+) -> Result<(), ScriptFault>
+    requires small { length text.now ≤ 67108864 }
+    requires from { IsSpot text.now from }
+    ensures { GivesOrNoMemory (λ _. draft.new) result (left_read text.now draft.old from) }
+{
+    match frame_of(alloc, draft) {
+        Ok(frame) => read_against(rt, alloc, text, draft, &frame, starts, from),
+        Err(fault) => Err(no_memory(fault)),
+    }
+}
+
+/// The byte where the first of these sections begins, or the text's end.
+fn first_start(text: &[u8], starts: &[Start]) -> usize
+    ensures { result ≤ length text.now }
+{
+    match starts.first() {
+        Some(start) => start.at.min(text.len()),
+        None => text.len(),
+    }
+}
+
 /// Reads all lines of a text into a draft. Threads read the sections that begin here, against the frame of the lines before
 /// the first of them.
 fn read_beside<R: Threads + Sync>(
@@ -160,29 +225,23 @@ fn read_beside<R: Threads + Sync>(
     requires { length text.now ≤ 67108864 }
     ensures { GivesOrNoMemory (λ _. draft.new) result (left_read text.now draft.old (record { number = 0; at = 0 })) }
 {
-    let first = match starts.first() {
-        Some(start) => start.at.min(text.len()),
-        None => text.len(),
-    };
-    let spot = read_to(alloc, text, draft, Spot::start(), first)?;
-    let frame = frame_of(alloc, draft).map_err(no_memory)?;
-    let sections = read_halves(rt, alloc, text, &frame, starts, HALVINGS).map_err(no_memory)?;
-    read_around(alloc, text, draft, &frame, spot, sections)
+    let spot = read_to(alloc, text, draft, Spot::start(), first_start(text, starts))?;
+    read_on(rt, alloc, text, draft, starts, spot)
 }
 
-/// All lines of a text, of which threads read the sections that begin here.
-fn lines_read_by_threads<R: Threads + Sync>(
+/// The script of all lines of a text, of which threads read the sections that begin here.
+fn script_beside<R: Threads + Sync>(
     rt: &R,
     alloc: Global,
     text: &[u8],
     starts: &[Start],
-) -> Result<Option<Draft>, ScriptFault>
+) -> Result<Script, ScriptFault>
     requires { length text.now ≤ 67108864 }
-    ensures { GivesOrNoMemory (λ d. d) result (lines_read 1 None (lines_of text.now)) }
+    ensures { GivesOrNoMemory (λ s. s) result (lines_script (lines_of text.now)) }
 {
     let mut draft = None;
     read_beside(rt, alloc, text, &mut draft, starts)?;
-    Ok(draft)
+    finished(alloc, draft)
 }
 
 /// The script that a text stands for, or its first bad line and the first cause for which it is bad, as `read_script` gives
@@ -201,6 +260,5 @@ pub fn read_script_by_threads<R: Threads + Sync>(
         return Err(LineFault::Bad(Cause::Size).at(0));
     }
     let starts = starts_of(alloc, bytes).map_err(no_memory)?;
-    let draft = lines_read_by_threads(rt, alloc, bytes, starts.as_slice())?;
-    finished(alloc, draft)
+    script_beside(rt, alloc, bytes, starts.as_slice())
 }

@@ -1,6 +1,6 @@
 //! The long sections of a text, each read by itself.
 ghost use Rattle.std.specs.Prelude.{◌≤◌, IfOk, length};
-ghost use Rattle.co_script.specs.Beside.{IsSection};
+ghost use Rattle.co_script.specs.Beside.{IsSection, Begins, HasTaken};
 
 use crate::draft::Draft;
 use crate::spot::{content_at, line_at};
@@ -81,6 +81,46 @@ pub(crate) fn starts_of(alloc: Global, text: &[u8]) -> Result<Seq<Start>, NoMemo
     Ok(starts)
 }
 
+/// Takes lines into a draft whose section has just begun, from a place on, up to the first that it does not take. The byte
+/// behind the last line that was taken, and how many were.
+fn grow_on(text: &[u8], draft: &mut Draft, from: usize) -> Result<(usize, u64), NoMemory>
+    requires small { length text.now ≤ 67108864 }
+    requires from { from ≤ length text.now }
+    requires begins { Begins draft.old.stage draft.old }
+    ensures { IfOk result (λ x. HasTaken text.now draft.old draft.new from x.0 x.1) }
+{
+    let mut end = from;
+    let mut lines = 0;
+    while let Some((part, behind)) = content_at(text, end) {
+        if !draft.grow(part)? {
+            break;
+        }
+        end = behind;
+        lines += 1;
+    }
+    Ok((end, lines))
+}
+
+/// The section of a draft where it has just begun, with the lines from a place on. That place is the byte behind its
+/// opening line.
+fn section_of(text: &[u8], mut draft: Draft, stage: Kind, at: usize) -> Result<Section, NoMemory>
+    requires small { length text.now ≤ 67108864 }
+    requires at { at ≤ length text.now }
+    requires begins { Begins stage draft }
+    ensures { IfOk result (IsSection text.now draft) }
+{
+    let (end, lines) = grow_on(text, &mut draft, at)?;
+    let (acts, clock) = draft.into_section();
+    Ok(Section {
+        stage,
+        at,
+        end,
+        lines,
+        acts,
+        clock,
+    })
+}
+
 /// A section, read against the frame up to its end, its first bad line or one that finds no room.
 pub(crate) fn read_section(
     alloc: Global,
@@ -91,24 +131,6 @@ pub(crate) fn read_section(
     requires { length text.now ≤ 67108864 }
     ensures { IfOk result (IsSection text.now frame.now) }
 {
-    let mut draft = frame.beside(alloc, start.stage)?;
-    let at = start.at.min(text.len());
-    let mut end = at;
-    let mut lines = 0;
-    while let Some((part, behind)) = content_at(text, end) {
-        if !draft.grow(part)? {
-            break;
-        }
-        end = behind;
-        lines += 1;
-    }
-    let (acts, clock) = draft.into_section();
-    Ok(Section {
-        stage: start.stage,
-        at,
-        end,
-        lines,
-        acts,
-        clock,
-    })
+    let draft = frame.beside(alloc, start.stage)?;
+    section_of(text, draft, start.stage, start.at.min(text.len()))
 }

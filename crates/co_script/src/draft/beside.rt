@@ -6,7 +6,9 @@ ghost use Rattle.co_script.specs.Beside.{HaveOneFrame, Begins, Grows, SaysAct, M
 
 use super::Draft;
 use co_grammar::{Kind, Opener, forms};
-use co_program::{Act, Acts, When};
+use co_lock::LockKind;
+use co_object::Spec;
+use co_program::{Act, Acts, Script, When};
 use co_sbt::{NoMemory, Sbt, Seq};
 use co_text::{Cause, Words};
 use std::alloc::Global;
@@ -17,13 +19,38 @@ impl Draft {
         ensures frame { IfOk result (HaveOneFrame self.now) }
         ensures begins { IfOk result (Begins stage) }
     {
-        let mut draft = Draft::opening(alloc, self.script.version);
-        draft.script.cpus = self.script.cpus;
-        draft.script.locks = Seq::copy_of(alloc, self.script.locks.as_slice())?;
-        draft.script.timers = Seq::copy_of(alloc, self.script.timers.as_slice())?;
-        draft.funcs = self.funcs;
-        draft.stage = stage;
-        Ok(draft)
+        let locks = Seq::copy_of(alloc, self.script.locks.as_slice())?;
+        let timers = Seq::copy_of(alloc, self.script.timers.as_slice())?;
+        Ok(self.framed(alloc, stage, locks, timers))
+    }
+
+    /// A draft of the same frame, whose locks and timers these are, where a section of this kind has just begun.
+    fn framed(&self, alloc: Global, stage: Kind, locks: Seq<LockKind>, timers: Seq<Spec>) -> Draft
+        requires locks { locks ≡ self.now.script.locks }
+        requires timers { timers ≡ self.now.script.timers }
+        ensures frame { HaveOneFrame self.now result }
+        ensures begins { Begins stage result }
+    {
+        let script = Script {
+            version: self.script.version,
+            hz: 1000,
+            cpus: self.script.cpus,
+            buckets: 256,
+            locks,
+            timers,
+            funcs: Seq::new(alloc),
+            clients: Seq::new(alloc),
+            ticks: Seq::new(alloc),
+            turns: Seq::new(alloc),
+        };
+        Draft {
+            script,
+            stage,
+            funcs: self.funcs,
+            acts: Seq::new(alloc),
+            clock: Sbt::zero(),
+            count: 0,
+        }
     }
 
     /// The act that a line of the open section says, where it may be added.

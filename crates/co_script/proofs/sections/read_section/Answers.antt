@@ -1,31 +1,5 @@
-use Rattle.std.proofs.Common.{◌≡◌, drop, subst, ◌∙◌, arith}
-use Rattle.std.specs.Prelude.{MatchBool}
-use Rattle.co_text.specs.Lines.{Line, lines_of}
-use Rattle.co_script.specs.Beside.{Grows}
-use Rattle.co_script.proofs.Beside.{frame-further, reads-none, reads-more}
+use Rattle.co_script.proofs.Beside.{section-framed}
 use Rattle.co_script.proofs.sections.read_section.Goals as goal
 
-pub loop-part-init : goal.loop-part-init
-loop-part-init c =
-    let begins = c.in_ok-draft.ensures.begins in
-    record {
-      frame = c.in_ok-draft.ensures.frame;
-      kind = begins.kind;
-      reads = reads-none c.args.frame.now c.in_ok-draft.draft c.args.start.stage (lines_of (drop c.min-at.result c.args.text.now)) begins;
-      within = omega (arith, c.min-at.ensures);
-      few = omega arith;
-    }
-
-pub loop-part-preserved : goal.loop-part-preserved
-loop-part-preserved c =
-    let before = c.loop-part.invariant in
-    let l : Line = c.in-Some.ensures.line.0 in
-    let grows : Grows l c.loop-part.draft c.grow.new.self = subst (λ b. MatchBool b (Grows l c.loop-part.draft c.grow.new.self) (c.grow.new.self ≡ c.loop-part.draft)) c.if-not-branch.false (c.in_ok-grow.ensures l c.in-Some.ensures.line.2) in
-    record {
-      frame = frame-further c.args.frame.now c.loop-part.draft c.grow.new.self before.frame grows.frame;
-      kind = grows.kind ∙ before.kind;
-      reads = reads-more c.args.frame.now c.loop-part.draft c.grow.new.self c.args.start.stage (lines_of (drop c.min-at.result c.args.text.now)) (lines_of (drop c.loop-part.end c.args.text.now)) (lines_of (drop c.in-Some.behind c.args.text.now)) l c.loop-part.lines
-          before.frame before.kind c.in-Some.ensures.line.1 before.reads grows;
-      within = c.in-Some.ensures.further.1;
-      few = omega (arith, before.few, c.in-Some.ensures.further.0);
-    }
+pub returns : goal.returns
+returns c = section-framed c.args.text.now c.args.frame.now c.in_ok-draft.draft c.section_of.result c.in_ok-draft.ensures.frame c.section_of.ensures

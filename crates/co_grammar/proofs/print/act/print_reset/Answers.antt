@@ -1,4 +1,5 @@
 use Rattle.std.proofs.Common.{[], ◌∷◌, ◌++◌, codes}
+use Rattle.std.proofs.lemmas.Result.{on_ok_weaker}
 use Rattle.co_text.specs.Written.{func_word, argument_word}
 use Rattle.co_text.proofs.Spacing.{both_more, one_more}
 use Rattle.co_grammar.specs.Spelling.{who_word, cpu_words, moment_word, precision_words}
@@ -9,4 +10,4 @@ returns c =
     let begun = simp (c.as_slice.ensures) at c.in_ok-begin_call.ensures in
     let handled = both_more _ _ _ (moment_word c.args.when ∷ []) (func_word c.args.func ∷ argument_word c.args.arg ∷ []) c.in_ok-print_moment.ensures c.in_ok-print_handler.ensures in
     let words = both_more _ _ _ (moment_word c.args.when ∷ func_word c.args.func ∷ argument_word c.args.arg ∷ []) (cpu_words c.args.cpu ++ precision_words c.args.prec) handled c.in_ok-print_options.ensures in
-    one_more _ _ _ _ (codes "reset") (who_word c.args.who ∷ []) (moment_word c.args.when ∷ func_word c.args.func ∷ argument_word c.args.arg ∷ (cpu_words c.args.cpu ++ precision_words c.args.prec)) begun words c.in_ok-end.ensures
+    on_ok_weaker c.end.result (λ end. one_more _ _ _ _ (codes "reset") (who_word c.args.who ∷ []) (moment_word c.args.when ∷ func_word c.args.func ∷ argument_word c.args.arg ∷ (cpu_words c.args.cpu ++ precision_words c.args.prec)) begun words end) c.end.ensures

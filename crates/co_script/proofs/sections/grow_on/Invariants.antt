@@ -1,7 +1,7 @@
 use Rattle.std.proofs.Common.{◌≡◌, ◌+◌, ◌-◌, ◌≤◌, length, drop}
 use Rattle.co_text.specs.Lines.{lines_of}
 use Rattle.co_script.specs.Beside.{HaveOneFrame, Reads}
-use Rattle.co_script.proofs.sections.read_section.Given as goal
+use Rattle.co_script.proofs.sections.grow_on.Given as goal
 
 abbrev pub decreases-loop-part : goal.decreases-loop-part
 decreases-loop-part l = length l.text - l.end
@@ -9,9 +9,9 @@ decreases-loop-part l = length l.text - l.end
 -- the lines so far are read
 abbrev pub invariant-loop-part : goal.invariant-loop-part
 invariant-loop-part l = record {
-  frame : HaveOneFrame l.frame l.draft;
-  kind : l.draft.stage ≡ l.start.stage;
-  reads : Reads l.frame l.start.stage (lines_of (drop l.at l.text)) l.draft.acts l.draft.clock l.lines (lines_of (drop l.end l.text));
+  frame : HaveOneFrame l.fn.draft l.draft;
+  kind : l.draft.stage ≡ l.fn.draft.stage;
+  reads : Reads l.fn.draft l.fn.draft.stage (lines_of (drop l.from l.text)) l.draft.acts l.draft.clock l.lines (lines_of (drop l.end l.text));
   within : l.end ≤ length l.text;
-  few : l.at + l.lines ≤ l.end;
+  few : l.from + l.lines ≤ l.end;
 }
