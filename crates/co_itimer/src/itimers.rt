@@ -51,14 +51,16 @@ impl Itimers<Brand> {
 }
 
 impl<N: Name> Itimers<N> {
-    /// Opens the service. The clock shows 0. `NoMemory` where its opening or the timers find no room; no later call
-    /// takes any.
+    /// Opens the service. The clock shows 0. `NoMemory` where its opening finds no room; no later call takes any.
     pub fn open(alloc: Global, fresh: ItimersFresh) -> Result<Itimers<N>, NoMemory>
         requires { fresh.name ≡ N.name }
         ensures { IfOk result (λ timers. IsOpened fresh.processes timers) }
     {
-        let ItimersFresh { single, processes } = fresh;
-        let book = Book::new(alloc, processes)?;
+        let ItimersFresh {
+            single,
+            processes: _,
+            book,
+        } = fresh;
         let single = Single::open(alloc, single)?;
         Ok(Itimers {
             single,

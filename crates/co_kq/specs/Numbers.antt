@@ -1,5 +1,5 @@
 -- Which callout each knote has.
-use Rattle.std.specs.Prelude.{◌≡◌, ◌≢◌, ℕ, ◌<◌, ◌≤◌, ◌+◌, ◌^◌, ◌==◌, Bool, true, false, List, [], ◌∷◌, ◌++◌, length, Option, Some, None, is_some, slice_index_or, if◌then◌else◌}
+use Rattle.std.specs.Prelude.{◌≡◌, ◌≢◌, ℕ, ◌<◌, ◌≤◌, ◌+◌, ◌^◌, ◌==◌, Bool, true, false, List, [], ◌∷◌, ◌++◌, length, Option, Some, None, is_some, slice_index_or, replicate, if◌then◌else◌}
 use Rattle.std.specs.List.{count_by}
 use Rattle.slab.specs.Slab.{Slab, slab_len}
 use Rattle.co_service.specs.Views.{PassesView}
@@ -148,3 +148,11 @@ pub record IsOpened (knotes : ℕ) (v : KqView) : Type 0 where
   pub list : v.list ≡ opening
   pub fired : all_gos v.passes.timers ≡ 0
   pub scans : scan_times_of v.passes ≡ []
+
+-- a list before it is opened: it has no knotes, and its callouts are in use for nothing
+pub record IsKqFresh (callouts room : ℕ) (knotes : Slab Slot) (uses : List Use) : Type 0 where
+  pub same : room ≡ callouts
+  pub most : room ≤ 1024
+  pub empty : knotes.slots ≡ []
+  pub capacity : room ≤ knotes.capacity
+  pub free : uses ≡ replicate room Free

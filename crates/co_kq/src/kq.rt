@@ -136,9 +136,12 @@ impl<N: Name> Kq<N> {
         requires { fresh.name ≡ N.name }
         ensures { IfOk result (IsOpened fresh.callouts) }
     {
-        let KqFresh { single, room } = fresh;
-        let uses = Uses::new(alloc, room)?;
-        let knotes = Knotes::new(alloc, room)?;
+        let KqFresh {
+            single,
+            room,
+            knotes,
+            uses,
+        } = fresh;
         let single = Single::open(alloc, single)?;
         Ok(Kq {
             single,

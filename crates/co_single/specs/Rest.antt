@@ -87,3 +87,8 @@ pub record IsSingleFresh (fresh : FreshView) (p : PassesView) : Type 0 where
   pub params : fresh.params ≡ single_params (length fresh.params.specs)
   pub passes : p ≡ booted fresh.name fresh.params 0
   pub named : AreNamed fresh.name fresh.params
+
+-- an empty list with room for the one actor's passes
+pub record IsEndingRoom (ending : RoomView PassesView) : Type 0 where
+  pub nothing : ending.items ≡ []
+  pub room : 0 < ending.spare

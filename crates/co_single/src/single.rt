@@ -6,7 +6,7 @@ ghost use Rattle.co_single.specs.Seen.{AddsEntries, AreOfActor};
 
 use crate::SingleFresh;
 use co_object::{CallOp, PlainOp, Reply};
-use co_sbt::{NoMemory, Room, Sbt, Seq};
+use co_sbt::{NoMemory, Room, Sbt};
 use co_service::{Closing, Finished, Name, Passes, Popped, Service, Told};
 use std::alloc::Global;
 use std::marker::Model;
@@ -64,10 +64,12 @@ impl<N: Name> Single<N> {
         requires { fresh.name ≡ N.name }
         ensures { IfOk result (λ single. IsNew fresh.callouts single) }
     {
-        let SingleFresh { fresh, passes } = fresh;
+        let SingleFresh {
+            fresh,
+            passes,
+            ending,
+        } = fresh;
         let service = Service::open(alloc, fresh)?;
-        let mut ending = Room::from_seq(Seq::new(alloc));
-        ending.reserve(1)?;
         Ok(Single {
             service,
             passes,

@@ -166,16 +166,29 @@ fn places(alloc: Global, callouts: u32) -> Result<Vec<u32>, NoMemory>
     vec![in alloc; 0; callouts as usize].map_err(|_| NoMemory {})
 }
 
+/// What a queue answers to the commands of a batch.
+fn text_of(
+    alloc: Global,
+    queue: &mut EventQueue,
+    batch: &Batch<EventCommand>,
+) -> Result<Seq<u8>, NoMemory>
+    requires fit { list_all (fits queue.old.timers.size) batch.now.commands ≡ true }
+    requires size { queue.old.timers.size ≡ batch.now.count }
+    ensures { (e : Events) → StandsFor queue.old e → IfOk result (λ bytes. bytes ≡ text (answers answering queue.old.timers.size e batch.now.commands)) }
+{
+    let mut page = Page::new(alloc);
+    let mut out = places(alloc, batch.count())?;
+    answer_all(&mut page, queue, out.as_mut_slice(), batch.commands())?;
+    page.done()
+}
+
 /// The text that a batch is answered by.
 fn answer_batch(alloc: Global, batch: &Batch<EventCommand>) -> Result<Seq<u8>, NoMemory>
     requires { AllFit event_language batch.now }
     ensures { IfOk result (λ bytes. bytes ≡ batch_text answering batch.now) }
 {
-    let mut page = Page::new(alloc);
     let mut queue = EventQueue::new(alloc, batch.count())?;
-    let mut out = places(alloc, batch.count())?;
-    answer_all(&mut page, &mut queue, out.as_mut_slice(), batch.commands())?;
-    page.done()
+    text_of(alloc, &mut queue, batch)
 }
 
 /// What the command `event` writes for a text, or why it refuses it.

@@ -1,11 +1,16 @@
 //! The commands of a text.
-ghost use Rattle.co_batch_text.specs.Event.Commands.{event_language};
+ghost use Rattle.std.specs.Prelude.{ℕ};
+ghost use Rattle.co_text.specs.Fallible.{Gives};
+ghost use Rattle.co_text.specs.Values.{number, time};
+ghost use Rattle.co_batch_text.specs.Event.Commands.{arm_form, event_language, fits};
+ghost use Rattle.co_batch_text.specs.Stated.{lone_of, stated};
+ghost use Rattle.co_batch_text.specs.declared.event.command.EventCommand.TheVariants.{Stop, Until};
 
 use co_batch::{Command, object};
 use co_grammar::moment;
 use co_program::When;
 use co_sbt::Sbt;
-use co_text::{Cause, Words};
+use co_text::{Cause, Words, is_word};
 
 /// A command line of a text for `event`.
 #[derive(Clone, Copy)]
@@ -16,6 +21,34 @@ pub enum EventCommand {
     Stop(u32),
     /// `until T`: takes the events that come by a time, in units of 2^-32 s, and settles then.
     Until(Sbt),
+}
+
+/// The words after `arm`.
+fn read_arm(count: u32, words: &mut Words) -> Result<EventCommand, Cause>
+    ensures { Gives (λ c. c) result (stated (fits count) (arm_form words.old)) }
+{
+    let number = words.number()?;
+    let when = moment(words)?;
+    if !words.option(b"pr".as_slice()) {
+        return Err(Cause::Form);
+    }
+    let prec = words.lone_time()?;
+    Ok(EventCommand::Arm(object(count, number)?, when, prec))
+}
+
+/// The words after `stop`.
+fn read_stop(count: u32, words: &mut Words) -> Result<EventCommand, Cause>
+    ensures { Gives (λ c. c) result (stated (fits count) (lone_of number Stop words.old)) }
+{
+    let number = words.lone_number()?;
+    Ok(EventCommand::Stop(object(count, number)?))
+}
+
+/// The words after `until`.
+fn read_until(words: &mut Words) -> Result<EventCommand, Cause>
+    ensures { (n : ℕ) → Gives (λ c. c) result (stated (fits n) (lone_of time Until words.old)) }
+{
+    Ok(EventCommand::Until(words.lone_time()?))
 }
 
 impl Command for EventCommand {
@@ -30,19 +63,12 @@ impl Command for EventCommand {
     }
 
     fn read(count: u32, first: &[u8], words: &mut Words) -> Result<EventCommand, Cause> {
-        if first == b"arm".as_slice() {
-            let number = words.number()?;
-            let when = moment(words)?;
-            if !words.option(b"pr".as_slice()) {
-                return Err(Cause::Form);
-            }
-            let prec = words.lone_time()?;
-            Ok(EventCommand::Arm(object(count, number)?, when, prec))
-        } else if first == b"stop".as_slice() {
-            let number = words.lone_number()?;
-            Ok(EventCommand::Stop(object(count, number)?))
-        } else if first == b"until".as_slice() {
-            Ok(EventCommand::Until(words.lone_time()?))
+        if is_word(first, b"arm".as_slice()) {
+            read_arm(count, words)
+        } else if is_word(first, b"stop".as_slice()) {
+            read_stop(count, words)
+        } else if is_word(first, b"until".as_slice()) {
+            read_until(words)
         } else {
             Err(Cause::Form)
         }

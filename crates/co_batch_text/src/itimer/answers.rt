@@ -79,6 +79,23 @@ fn answer_all<N: Name, R: Wait>(
     Ok(())
 }
 
+/// What the timers answer to the commands of a batch.
+fn text_of<N: Name, R: Wait>(
+    rt: &R,
+    alloc: Global,
+    timers: &mut Itimers<N>,
+    batch: &Batch<TimerCommand>,
+) -> Result<Seq<u8>, NoMemory>
+    requires fit { list_all (fits (length timers.old.alone.timers)) batch.now.commands ≡ true }
+    requires new { timers.old.work ≡ 0 }
+    ensures text { IfOk result (λ bytes. bytes ≡ text (answers answering (length timers.old.alone.timers) timers.old.alone batch.now.commands)) }
+    ensures served { IfOk result (λ _. AreServed timer_served (length timers.old.alone.timers) timers.old.alone timers.old.seen batch.now.commands timers.new.seen) }
+{
+    let mut page = Page::new(alloc);
+    answer_all(rt, &mut page, timers, batch.commands())?;
+    page.done()
+}
+
 /// Opens the service, answers a batch by it, and ends it.
 fn answer_on<N: Name, R: Wait>(
     rt: &R,
@@ -92,11 +109,10 @@ fn answer_on<N: Name, R: Wait>(
     ensures text { IfOk result (λ out. out.0 ≡ batch_text answering batch.now) }
     ensures end { IfOk result (λ out. IsEnd timer_served batch.now out.1) }
 {
-    let mut page = Page::new(alloc);
     let mut timers = Itimers::<N>::open(alloc, fresh)?;
-    answer_all(rt, &mut page, &mut timers, batch.commands())?;
+    let text = text_of(rt, alloc, &mut timers, batch);
     let closing = timers.close(rt);
-    Ok((page.done()?, closing))
+    Ok((text?, closing))
 }
 
 /// Answers a batch by interval timers of its own.

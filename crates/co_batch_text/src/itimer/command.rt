@@ -1,10 +1,15 @@
 //! The commands of a text.
-ghost use Rattle.co_batch_text.specs.Itimer.Commands.{timer_language};
+ghost use Rattle.std.specs.Prelude.{ℕ};
+ghost use Rattle.co_text.specs.Fallible.{Gives};
+ghost use Rattle.co_text.specs.Values.{number, time};
+ghost use Rattle.co_batch_text.specs.Itimer.Commands.{fits, set_form, timer_language};
+ghost use Rattle.co_batch_text.specs.Stated.{lone_of, stated};
+ghost use Rattle.co_batch_text.specs.declared.itimer.command.TimerCommand.TheVariants.{Get, Tick, Alarm};
 
 use co_batch::{Command, object};
 use co_itimer::Itimerval;
 use co_sbt::Sbt;
-use co_text::{Cause, Words};
+use co_text::{Cause, Words, is_word};
 
 /// A command line of a text for `itimer`.
 #[derive(Clone, Copy)]
@@ -19,6 +24,41 @@ pub enum TimerCommand {
     Alarm(u32),
 }
 
+/// The words after `set`.
+fn read_set(count: u32, words: &mut Words) -> Result<TimerCommand, Cause>
+    ensures { Gives (λ c. c) result (stated (fits count) (set_form words.old)) }
+{
+    let number = words.number()?;
+    let value = words.time()?;
+    let interval = words.time()?;
+    words.end()?;
+    let to = Itimerval { value, interval };
+    Ok(TimerCommand::Set(object(count, number)?, to))
+}
+
+/// The words after `get`.
+fn read_get(count: u32, words: &mut Words) -> Result<TimerCommand, Cause>
+    ensures { Gives (λ c. c) result (stated (fits count) (lone_of number Get words.old)) }
+{
+    let number = words.lone_number()?;
+    Ok(TimerCommand::Get(object(count, number)?))
+}
+
+/// The words after `tick`.
+fn read_tick(words: &mut Words) -> Result<TimerCommand, Cause>
+    ensures { (n : ℕ) → Gives (λ c. c) result (stated (fits n) (lone_of time Tick words.old)) }
+{
+    Ok(TimerCommand::Tick(words.lone_time()?))
+}
+
+/// The words after `alarm`.
+fn read_alarm(count: u32, words: &mut Words) -> Result<TimerCommand, Cause>
+    ensures { Gives (λ c. c) result (stated (fits count) (lone_of number Alarm words.old)) }
+{
+    let number = words.lone_number()?;
+    Ok(TimerCommand::Alarm(object(count, number)?))
+}
+
 impl Command for TimerCommand {
     ghost language = { timer_language };
 
@@ -31,21 +71,14 @@ impl Command for TimerCommand {
     }
 
     fn read(count: u32, first: &[u8], words: &mut Words) -> Result<TimerCommand, Cause> {
-        if first == b"set".as_slice() {
-            let number = words.number()?;
-            let value = words.time()?;
-            let interval = words.time()?;
-            words.end()?;
-            let to = Itimerval { value, interval };
-            Ok(TimerCommand::Set(object(count, number)?, to))
-        } else if first == b"get".as_slice() {
-            let number = words.lone_number()?;
-            Ok(TimerCommand::Get(object(count, number)?))
-        } else if first == b"tick".as_slice() {
-            Ok(TimerCommand::Tick(words.lone_time()?))
-        } else if first == b"alarm".as_slice() {
-            let number = words.lone_number()?;
-            Ok(TimerCommand::Alarm(object(count, number)?))
+        if is_word(first, b"set".as_slice()) {
+            read_set(count, words)
+        } else if is_word(first, b"get".as_slice()) {
+            read_get(count, words)
+        } else if is_word(first, b"tick".as_slice()) {
+            read_tick(words)
+        } else if is_word(first, b"alarm".as_slice()) {
+            read_alarm(count, words)
         } else {
             Err(Cause::Form)
         }

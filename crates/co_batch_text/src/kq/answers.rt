@@ -123,6 +123,24 @@ fn no_events(alloc: Global) -> Result<Vec<Event>, NoMemory>
     vec![in alloc; Event { ident: 0, count: 0 }; 1024].map_err(|_| NoMemory {})
 }
 
+/// What a list answers to the commands of a batch.
+fn text_of<N: Name, R: Wait>(
+    rt: &R,
+    alloc: Global,
+    list: &mut Kq<N>,
+    batch: &Batch<KqCommand>,
+) -> Result<Seq<u8>, NoMemory>
+    requires fit { list_all (fits list.old.room) batch.now.commands ≡ true }
+    requires new { list.old.work ≡ 0 }
+    ensures text { IfOk result (λ bytes. bytes ≡ text (answers answering list.old.room list.old.list batch.now.commands)) }
+    ensures served { IfOk result (λ _. AreServed kq_served list.old.room list.old.list list.old.passes batch.now.commands list.new.passes) }
+{
+    let mut page = Page::new(alloc);
+    let mut events = no_events(alloc)?;
+    answer_all(rt, &mut page, list, events.as_mut_slice(), batch.commands())?;
+    page.done()
+}
+
 /// Opens the service, answers a batch by it, and ends it.
 fn answer_on<N: Name, R: Wait>(
     rt: &R,
@@ -136,18 +154,10 @@ fn answer_on<N: Name, R: Wait>(
     ensures text { IfOk result (λ out. out.0 ≡ batch_text answering batch.now) }
     ensures end { IfOk result (λ out. IsEnd kq_served batch.now out.1) }
 {
-    let mut page = Page::new(alloc);
-    let mut events = no_events(alloc)?;
     let mut list = Kq::<N>::open(alloc, fresh)?;
-    answer_all(
-        rt,
-        &mut page,
-        &mut list,
-        events.as_mut_slice(),
-        batch.commands(),
-    )?;
+    let text = text_of(rt, alloc, &mut list, batch);
     let closing = list.close(rt);
-    Ok((page.done()?, closing))
+    Ok((text?, closing))
 }
 
 /// Answers a batch by a kevent list of its own.

@@ -1,12 +1,16 @@
 //! The commands of a text.
+ghost use Rattle.std.specs.Prelude.{ℕ};
 ghost use Rattle.co_text.specs.Fallible.{Gives};
-ghost use Rattle.co_batch_text.specs.Kq.Commands.{kq_language, unit_of};
+ghost use Rattle.co_text.specs.Values.{number, time};
+ghost use Rattle.co_batch_text.specs.Kq.Commands.{add_form, fits, kq_language, unit_of};
+ghost use Rattle.co_batch_text.specs.Stated.{in_range, lone_of, stated};
+ghost use Rattle.co_batch_text.specs.declared.kq.command.KqCommand.TheVariants.{Add, Delete, Tick, Events};
 
 use crate::number::narrow;
 use co_batch::Command;
 use co_kq::Unit;
 use co_sbt::Sbt;
-use co_text::{Cause, Words};
+use co_text::{Cause, Words, is_word};
 
 /// A line of a text for the kevent list.
 #[derive(Clone, Copy)]
@@ -26,17 +30,63 @@ pub enum KqCommand {
 fn unit_of(word: &[u8]) -> Result<Unit, Cause>
     ensures { Gives (λ u. u) result (unit_of word.now) }
 {
-    if word == b"s".as_slice() {
+    if is_word(word, b"s".as_slice()) {
         Ok(Unit::Seconds)
-    } else if word == b"ms".as_slice() {
+    } else if is_word(word, b"ms".as_slice()) {
         Ok(Unit::Milli)
-    } else if word == b"us".as_slice() {
+    } else if is_word(word, b"us".as_slice()) {
         Ok(Unit::Micro)
-    } else if word == b"ns".as_slice() {
+    } else if is_word(word, b"ns".as_slice()) {
         Ok(Unit::Nano)
     } else {
         Err(Cause::Form)
     }
+}
+
+/// The command `add`, where its numbers are in their ranges.
+fn add_of(ident: u128, value: u128, unit: Unit, oneshot: bool) -> Result<KqCommand, Cause>
+    ensures { (n : ℕ) → Gives (λ c. c) result (in_range (fits n) (Add ident value unit oneshot)) }
+{
+    let ident = narrow(ident)?;
+    Ok(KqCommand::Add(ident, narrow(value)?, unit, oneshot))
+}
+
+/// The words after `add`.
+fn read_add(words: &mut Words) -> Result<KqCommand, Cause>
+    ensures { (n : ℕ) → Gives (λ c. c) result (stated (fits n) (add_form words.old)) }
+{
+    let ident = words.number()?;
+    let value = words.number()?;
+    let unit = unit_of(words.word()?)?;
+    let oneshot = words.option(b"oneshot".as_slice());
+    words.end()?;
+    add_of(ident, value, unit, oneshot)
+}
+
+/// The words after `delete`.
+fn read_delete(words: &mut Words) -> Result<KqCommand, Cause>
+    ensures { (n : ℕ) → Gives (λ c. c) result (stated (fits n) (lone_of number Delete words.old)) }
+{
+    let ident = words.lone_number()?;
+    Ok(KqCommand::Delete(narrow(ident)?))
+}
+
+/// The words after `tick`.
+fn read_tick(words: &mut Words) -> Result<KqCommand, Cause>
+    ensures { (n : ℕ) → Gives (λ c. c) result (stated (fits n) (lone_of time Tick words.old)) }
+{
+    Ok(KqCommand::Tick(words.lone_time()?))
+}
+
+/// The words after `events`.
+fn read_events(words: &mut Words) -> Result<KqCommand, Cause>
+    ensures { (n : ℕ) → Gives (λ c. c) result (stated (fits n) (lone_of number Events words.old)) }
+{
+    let most = words.lone_number()?;
+    if most > 1024 {
+        return Err(Cause::Number);
+    }
+    Ok(KqCommand::Events(most as u32))
 }
 
 impl Command for KqCommand {
@@ -51,24 +101,14 @@ impl Command for KqCommand {
     }
 
     fn read(_count: u32, first: &[u8], words: &mut Words) -> Result<KqCommand, Cause> {
-        if first == b"add".as_slice() {
-            let ident = words.number()?;
-            let value = words.number()?;
-            let unit = unit_of(words.word()?)?;
-            let oneshot = words.option(b"oneshot".as_slice());
-            words.end()?;
-            Ok(KqCommand::Add(narrow(ident)?, narrow(value)?, unit, oneshot))
-        } else if first == b"delete".as_slice() {
-            let ident = words.lone_number()?;
-            Ok(KqCommand::Delete(narrow(ident)?))
-        } else if first == b"tick".as_slice() {
-            Ok(KqCommand::Tick(words.lone_time()?))
-        } else if first == b"events".as_slice() {
-            let most = words.lone_number()?;
-            if most > 1024 {
-                return Err(Cause::Number);
-            }
-            Ok(KqCommand::Events(most as u32))
+        if is_word(first, b"add".as_slice()) {
+            read_add(words)
+        } else if is_word(first, b"delete".as_slice()) {
+            read_delete(words)
+        } else if is_word(first, b"tick".as_slice()) {
+            read_tick(words)
+        } else if is_word(first, b"events".as_slice()) {
+            read_events(words)
         } else {
             Err(Cause::Form)
         }

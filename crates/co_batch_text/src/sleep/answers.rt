@@ -1,17 +1,19 @@
 //! What the commands of a text are answered.
-ghost use Rattle.std.specs.Prelude.{◌≡◌, ◌<◌, ◌^◌, ℕ, List, true, max, OnOk, IfOk};
+ghost use Rattle.std.specs.Prelude.{◌≡◌, ◌<◌, ◌≤◌, ◌^◌, ℕ, List, [], true, max, OnOk, IfOk};
+ghost use Rattle.std.specs.List.{list_all};
 ghost use Rattle.co_text.specs.Fallible.{GivesOrNoMemory};
 ghost use Rattle.co_batch.specs.Laws.{AllFit};
-ghost use Rattle.co_batch.specs.Answers.{batch_text};
+ghost use Rattle.co_text.specs.Lines.{text};
+ghost use Rattle.co_batch.specs.Answers.{answers, batch_text};
 ghost use Rattle.co_service.specs.Closing.{ClosingView};
 ghost use Rattle.co_single.specs.Alarms.{made_at};
 ghost use Rattle.co_sleepq.specs.Params.{ArePasses, actors, sleepers};
 ghost use Rattle.co_batch_text.specs.Sleep.Answers.{answering, sleep_text};
-ghost use Rattle.co_batch_text.specs.Sleep.Clock.{Clocked, obey};
+ghost use Rattle.co_batch_text.specs.Sleep.Clock.{Clocked, clock_opening, obey};
 ghost use Rattle.co_batch_text.specs.Sleep.Commands.{fits, sleep_language};
 ghost use Rattle.co_batch_text.specs.Ends.{IsEnd};
 ghost use Rattle.co_batch_text.specs.Sleep.Ends.{EndsRun, sleep_served};
-ghost use Rattle.co_batch_text.specs.Sleep.Matching.{IsMatched, IsObeyed, answer_of, now_after};
+ghost use Rattle.co_batch_text.specs.Sleep.Matching.{AreObeyed, IsMatched, IsObeyed, answer_of, now_after};
 ghost use Rattle.co_batch_text.specs.Sleep.Running.{AreAnswered, AreCommands, AreFree, AreOpening, IsBooted};
 
 use crate::sleep::command::SleepCommand;
@@ -94,29 +96,59 @@ fn answer_all<N: SleepName, R: Wait>(
     Ok(())
 }
 
+/// What a sleep queue answers to the commands of a batch.
+fn text_of<N: SleepName, R: Wait>(
+    rt: &R,
+    alloc: Global,
+    queue: &SleepQueue<N>,
+    cpu: &mut SleepPasses,
+    batch: &Batch<SleepCommand>,
+) -> Result<Seq<u8>, NoMemory>
+    requires cpu { AreFree N.name N.book queue.now cpu.old }
+    requires alone { actors queue.now ≡ 1 }
+    requires opening { AreOpening (sleepers queue.now) cpu.old }
+    requires fit { list_all (fits (sleepers queue.now)) batch.now.commands ≡ true }
+    ensures cpu { ArePasses N.name N.book queue.now cpu.new }
+    ensures text { IfOk result (λ bytes. bytes ≡ text (answers answering (sleepers queue.now) clock_opening batch.now.commands)) }
+    ensures obeyed { IfOk result (λ _. AreObeyed (sleepers queue.now) batch.now.commands cpu.old cpu.new) }
+{
+    let mut page = Page::new(alloc);
+    answer_all(rt, &mut page, queue, cpu, batch.commands())?;
+    page.done()
+}
+
 /// Opens the sleep queue, answers a batch by it, and ends it.
 fn answer_on<N: SleepName, R: Wait>(
     rt: &R,
     alloc: Global,
     fresh: SleepFresh,
     passes: Seq<SleepPasses>,
+    mut back: Room<SleepPasses>,
     batch: &Batch<SleepCommand>,
 ) -> Result<(Seq<u8>, Closing), NoMemory>
     requires name { fresh.name ≡ record { service = N.name; book = N.book } }
     requires booted { IsBooted batch.now.count fresh passes }
+    requires nothing { back.items ≡ [] }
+    requires room { 1 ≤ back.spare }
     requires fit { AllFit sleep_language batch.now }
     ensures text { IfOk result (λ out. out.0 ≡ batch_text answering batch.now) }
     ensures end { IfOk result (λ out. IsEnd sleep_served batch.now out.1) }
 {
-    let mut page = Page::new(alloc);
-    let mut back = Room::from_seq(Seq::new(alloc));
-    back.reserve(1)?;
     let queue = SleepQueue::<N>::open(alloc, fresh)?;
     let mut cpu = passes.into_vec().pop().unwrap();
-    answer_all(rt, &mut page, &queue, &mut cpu, batch.commands())?;
+    let text = text_of(rt, alloc, &queue, &mut cpu, batch);
     back.push(cpu);
     let closing = queue.close(rt, back.into_seq());
-    Ok((page.done()?, closing))
+    Ok((text?, closing))
+}
+
+/// Room for the passes of one actor.
+fn room_for_one(alloc: Global) -> Result<Room<SleepPasses>, NoMemory>
+    ensures { IfOk result (λ room. (room.items ≡ []) × (1 ≤ room.spare)) }
+{
+    let mut room = Room::from_seq(Seq::new(alloc));
+    room.reserve(1)?;
+    Ok(room)
 }
 
 /// Answers a batch by a sleep queue of its own, which has no clients.
@@ -129,8 +161,9 @@ fn answer_batch<R: Wait>(
     ensures text { IfOk result (λ out. out.0 ≡ batch_text answering batch.now) }
     ensures end { IfOk result (λ out. IsEnd sleep_served batch.now out.1) }
 {
+    let back = room_for_one(alloc)?;
     let (fresh, passes) = SleepQueue::boot(alloc, batch.count(), 0)?;
-    answer_on::<Brand, R>(rt, alloc, fresh, passes, batch)
+    answer_on::<Brand, R>(rt, alloc, fresh, passes, back, batch)
 }
 
 /// What the command `sleep` writes for a text, and what is left of the service that answered it; or why the text is refused.

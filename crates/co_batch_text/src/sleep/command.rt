@@ -1,10 +1,15 @@
 //! The commands of a text.
-ghost use Rattle.co_batch_text.specs.Sleep.Commands.{sleep_language};
+ghost use Rattle.std.specs.Prelude.{ℕ};
+ghost use Rattle.co_text.specs.Fallible.{Gives};
+ghost use Rattle.co_text.specs.Values.{number, time};
+ghost use Rattle.co_batch_text.specs.Sleep.Commands.{fits, sleep_form, sleep_language};
+ghost use Rattle.co_batch_text.specs.Stated.{in_range, lone_of, stated};
+ghost use Rattle.co_batch_text.specs.declared.sleep.command.SleepCommand.TheVariants.{Sleep, Wakeup, WakeupOne, Awake, Tick};
 
 use crate::number::narrow;
 use co_batch::{Command, object};
 use co_sbt::Sbt;
-use co_text::{Cause, Words};
+use co_text::{Cause, Words, is_word};
 
 /// A command line of a text for `sleep`.
 #[derive(Clone, Copy)]
@@ -22,6 +27,56 @@ pub enum SleepCommand {
     Tick(Sbt),
 }
 
+/// The command `sleep` of these numbers, where they are in their ranges.
+fn sleep_of(count: u32, i: u128, chan: u128, timo: u128) -> Result<SleepCommand, Cause>
+    ensures { Gives (λ c. c) result (in_range (fits count) (Sleep i chan timo)) }
+{
+    let i = object(count, i)?;
+    let chan = narrow(chan)?;
+    Ok(SleepCommand::Sleep(i, chan, object(2_147_483_648, timo)?))
+}
+
+/// The words after `sleep`.
+fn read_sleep(count: u32, words: &mut Words) -> Result<SleepCommand, Cause>
+    ensures { Gives (λ c. c) result (stated (fits count) (sleep_form words.old)) }
+{
+    let i = words.number()?;
+    let chan = words.number()?;
+    let timo = words.lone_number()?;
+    sleep_of(count, i, chan, timo)
+}
+
+/// The words after `wakeup`.
+fn read_wakeup(words: &mut Words) -> Result<SleepCommand, Cause>
+    ensures { (n : ℕ) → Gives (λ c. c) result (stated (fits n) (lone_of number Wakeup words.old)) }
+{
+    let chan = words.lone_number()?;
+    Ok(SleepCommand::Wakeup(narrow(chan)?))
+}
+
+/// The words after `wakeup1`.
+fn read_wakeup_one(words: &mut Words) -> Result<SleepCommand, Cause>
+    ensures { (n : ℕ) → Gives (λ c. c) result (stated (fits n) (lone_of number WakeupOne words.old)) }
+{
+    let chan = words.lone_number()?;
+    Ok(SleepCommand::WakeupOne(narrow(chan)?))
+}
+
+/// The words after `awake`.
+fn read_awake(count: u32, words: &mut Words) -> Result<SleepCommand, Cause>
+    ensures { Gives (λ c. c) result (stated (fits count) (lone_of number Awake words.old)) }
+{
+    let number = words.lone_number()?;
+    Ok(SleepCommand::Awake(object(count, number)?))
+}
+
+/// The words after `tick`.
+fn read_tick(words: &mut Words) -> Result<SleepCommand, Cause>
+    ensures { (n : ℕ) → Gives (λ c. c) result (stated (fits n) (lone_of time Tick words.old)) }
+{
+    Ok(SleepCommand::Tick(words.lone_time()?))
+}
+
 impl Command for SleepCommand {
     ghost language = { sleep_language };
 
@@ -34,24 +89,16 @@ impl Command for SleepCommand {
     }
 
     fn read(count: u32, first: &[u8], words: &mut Words) -> Result<SleepCommand, Cause> {
-        if first == b"sleep".as_slice() {
-            let i = words.number()?;
-            let chan = words.number()?;
-            let timo = words.lone_number()?;
-            let i = object(count, i)?;
-            let chan = narrow(chan)?;
-            Ok(SleepCommand::Sleep(i, chan, object(2_147_483_648, timo)?))
-        } else if first == b"wakeup".as_slice() {
-            let chan = words.lone_number()?;
-            Ok(SleepCommand::Wakeup(narrow(chan)?))
-        } else if first == b"wakeup1".as_slice() {
-            let chan = words.lone_number()?;
-            Ok(SleepCommand::WakeupOne(narrow(chan)?))
-        } else if first == b"awake".as_slice() {
-            let number = words.lone_number()?;
-            Ok(SleepCommand::Awake(object(count, number)?))
-        } else if first == b"tick".as_slice() {
-            Ok(SleepCommand::Tick(words.lone_time()?))
+        if is_word(first, b"sleep".as_slice()) {
+            read_sleep(count, words)
+        } else if is_word(first, b"wakeup".as_slice()) {
+            read_wakeup(words)
+        } else if is_word(first, b"wakeup1".as_slice()) {
+            read_wakeup_one(words)
+        } else if is_word(first, b"awake".as_slice()) {
+            read_awake(count, words)
+        } else if is_word(first, b"tick".as_slice()) {
+            read_tick(words)
         } else {
             Err(Cause::Form)
         }

@@ -8,13 +8,13 @@ pub returns : goal.returns
 returns g c =
     let p = c.in_ok-single.single in
     let n = c.fresh.inside.processes in
-    let new : IsNew n p = subst (λ m. IsNew m p) (sym c.fresh.invariant.same) c.in_ok-single.ensures in
-    subst (λ f. IsOpened f.processes (record { alone = c.in_ok-book.book; seen = p; work = 0 })) c.fresh.view_is
-    (subst (λ b. IsOpened n (record { alone = b; seen = p; work = 0 })) (sym c.in_ok-book.ensures) (opened n p new))
+    let new : IsNew n p = subst (λ m. IsNew m p) (sym c.fresh.invariant.0.same) c.in_ok-single.ensures in
+    subst (λ f. IsOpened f.processes (record { alone = c.fresh.inside.book; seen = p; work = 0 })) c.fresh.view_is
+    (subst (λ b. IsOpened n (record { alone = b; seen = p; work = 0 })) (sym c.fresh.invariant.1) (opened n p new))
 
 pub invariant_of-result : goal.invariant_of-result
 invariant_of-result g c =
     let p = c.in_ok-single.single in
     let n = c.fresh.inside.processes in
-    let new : IsNew n p = subst (λ m. IsNew m p) (sym c.fresh.invariant.same) c.in_ok-single.ensures in
-    subst (λ b. IsBetweenTicks p b 0) (sym c.in_ok-book.ensures) (opens n p new)
+    let new : IsNew n p = subst (λ m. IsNew m p) (sym c.fresh.invariant.0.same) c.in_ok-single.ensures in
+    subst (λ b. IsBetweenTicks p b 0) (sym c.fresh.invariant.1) (opens n p new)
