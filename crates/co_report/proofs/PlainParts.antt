@@ -224,6 +224,14 @@ pub carried : {X Y : Type 0} (value : Word → Result Y Cause) (view : X → Y) 
 carried value view w ws us (Ok x) e h = ap (next value) e ∙ ap (λ z. z >>= λ y. Ok (y, us)) h
 carried value view w ws us (Err c) e h = ap (next value) e ∙ ap (λ z. z >>= λ y. Ok (y, us)) h
 
+-- the same of a word that was taken
+pub word_carried : {X Y : Type 0} (value : Word → Result Y Cause) (view : X → Y) (w : Word) (ws us : List Word) (r : Result X Cause) → next Ok ws ≡ Ok (w, us) → Gives view r (value w)
+    → Gives (λ x. (view x, us)) r (next value ws)
+word_carried value view w [] us r e h = cc
+word_carried value view w (v ∷ ws) us r e h =
+    let same = same_pair v w ws us e in
+    carried value view w (v ∷ ws) us r (ap (λ x. x ∷ ws) same.0 ∙ ap (λ xs. w ∷ xs) same.1) h
+
 pub below_bound : (bound n : ℕ) → n < 2 ^ 64 → n < bound → below bound (decimal n) ≡ Ok n
 below_bound bound n small less = below_decimal bound n small ∙ ap (λ b. unless b Form >>= λ _. Ok n) (lt-ltb n bound less)
 

@@ -22,7 +22,7 @@ use std::alloc::Global;
 
 /// The place of this number among those of a report: the timers come first, then the CPUs, then the actors. `NoMemory`
 /// where its number among its kind is 2^32 or more: so many timers or actors find no memory.
-fn place_of(script: &Script, number: usize) -> Result<Place, NoMemory>
+pub(crate) fn place_of(script: &Script, number: usize) -> Result<Place, NoMemory>
     requires { number < place_count script.now }
     ensures exists { IfOk result (λ place. place_exists script.now place ≡ true) }
     ensures number { IfOk result (λ place. place_index script.now place ≡ number) }
@@ -143,6 +143,29 @@ impl<'a> Printing<'a> {
         print_word(page, b"end".as_slice())?;
         Ok(())
     }
+
+    /// The text of the whole report.
+    fn text(&self, alloc: Global) -> Result<Seq<u8>, NoMemory>
+        ensures { IfOk result (λ bytes. bytes ≡ report_of self.now.script.now self.now.lists.now) }
+    {
+        let mut page = Page::new(alloc);
+        self.print(alloc, &mut page)?;
+        page.done()
+    }
+}
+
+/// The report of a script and the packed notes of its actors, as `print_report` gives it.
+fn print_packed(
+    alloc: Global,
+    script: &Script,
+    lists: &[Seq<PackedNote>],
+) -> Result<Seq<u8>, NoMemory>
+    requires places { AllHavePlaces script.now lists.now }
+    requires formed { IsWellFormed lists.now }
+    ensures { IfOk result (λ bytes. bytes ≡ report_of script.now lists.now) }
+{
+    let counted = count_lists(alloc, script, lists)?;
+    Printing::new(alloc, script, lists, counted)?.text(alloc)
 }
 
 /// The report of a script and the lists of its actors' notes: the canonical text of the script, then the notes of each
@@ -156,10 +179,5 @@ pub fn print_report(alloc: Global, script: &Script, lists: &Lists) -> Result<Seq
     ensures { IfOk result (λ bytes. bytes ≡ report_of script.now lists.now) }
 {
     let packed = packed_lists(alloc, lists.as_slice())?;
-    let notes = packed.as_slice();
-    let counted = count_lists(alloc, script, notes)?;
-    let printing = Printing::new(alloc, script, notes, counted)?;
-    let mut page = Page::new(alloc);
-    printing.print(alloc, &mut page)?;
-    page.done()
+    print_packed(alloc, script, packed.as_slice())
 }
