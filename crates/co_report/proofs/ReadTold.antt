@@ -8,6 +8,7 @@ use Rattle.co_text.specs.Lines.{Line as TextLine}
 use Rattle.co_text.specs.declared.cause.ScriptFault.{ScriptFault}
 use Rattle.co_text.specs.declared.cause.ScriptFault.TheVariants as fault
 use Rattle.co_report.specs.declared.line.Line.{Line}
+use Rattle.co_report.specs.declared.line.Report.{Report}
 use Rattle.co_report.specs.declared.reading.line_by_line.Reader.{Reader}
 use Rattle.co_report.specs.declared.reading.progress.Progress.{Progress as Kept}
 use Rattle.co_report.specs.LineByLine.{Ahead, Opening, Standing, AreTold, AreAllTold, HasTakenMore, behind, before_all, report_of_all, standing, ReadsOn}
@@ -71,3 +72,9 @@ pub all_in_list : (x : Reader) (o : Opening) (old new : List Line) (result : Res
 all_in_list x o old new (Ok end) is none told = sym (ap (λ (t : Standing). t.ahead) is) ∙ (told.1 ∙ ap (λ ls. Ok (record { lines = ls; end = end })) (sym (told.2 [] none)))
 all_in_list x o old new (Err fault.NoMemory) is none told = tt
 all_in_list x o old new (Err (fault.Bad k c)) is none told = sym (ap (λ (t : Standing). t.ahead) is) ∙ told
+
+-- what is read of an opened report is what is read of its text
+pub all_of_text : (text all : Result Report Refusal) (result : Result Report ScriptFault) → text ≡ all → GivesOrNoMemory (λ r. r) result all → GivesOrNoMemory (λ r. r) result text
+all_of_text text all (Ok r) same h = same ∙ h
+all_of_text text all (Err fault.NoMemory) same h = tt
+all_of_text text all (Err (fault.Bad k c)) same h = same ∙ h

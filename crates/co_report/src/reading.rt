@@ -4,7 +4,7 @@ ghost use Rattle.co_text.specs.Fallible.{GivesOrNoMemory};
 ghost use Rattle.co_text.specs.Lines.{lines_of};
 ghost use Rattle.co_script.specs.Reading.{script_of};
 ghost use Rattle.co_script.specs.Canonical.{canonical};
-ghost use Rattle.co_report.specs.LineByLine.{before_all};
+ghost use Rattle.co_report.specs.LineByLine.{before_all, report_of_all};
 ghost use Rattle.co_report.specs.Reading.{in_report, same_lines, report_read};
 
 mod codes;
@@ -74,6 +74,19 @@ fn add_lines(
     }
 }
 
+/// An opened report with all its note lines.
+fn all_of(alloc: Global, report: OpenReport<'_>) -> Result<Report, ScriptFault>
+    ensures { GivesOrNoMemory (λ r. r) result (report_of_all report.entry.script (before_all report.entry).ahead) }
+{
+    let mut lines = Seq::new(alloc);
+    let end = add_lines(alloc, &report, &mut lines)?;
+    Ok(Report {
+        script: report.into_script(),
+        lines,
+        end,
+    })
+}
+
 /// The report that a text stands for: its script, each note line with its number and place, and the number of the line
 /// `end`; or the first bad line, counted from 1, and the cause for which it is bad. Reports have one spelling, that of
 /// `print_report`.
@@ -86,12 +99,5 @@ fn add_lines(
 pub fn read_report(alloc: Global, bytes: &[u8]) -> Result<Report, ScriptFault>
     ensures { GivesOrNoMemory (λ r. r) result (report_read bytes.now) }
 {
-    let report = open_report(alloc, bytes)?;
-    let mut lines = Seq::new(alloc);
-    let end = add_lines(alloc, &report, &mut lines)?;
-    Ok(Report {
-        script: report.into_script(),
-        lines,
-        end,
-    })
+    all_of(alloc, open_report(alloc, bytes)?)
 }
