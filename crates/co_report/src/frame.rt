@@ -63,8 +63,7 @@ pub fn print_head(page: &mut Page, script: &Script) -> Result<(), NoMemory>
 {
     print_numbered(page, b"callout-report".as_slice(), 1)?;
     print_lines(page, script)?;
-    print_word(page, b"histories".as_slice())?;
-    Ok(())
+    print_word(page, b"histories".as_slice())
 }
 
 /// The lines before the first place as a piece of their own. `NoMemory` where there is no room for them.
@@ -73,8 +72,7 @@ pub fn head_piece(alloc: Global, script: &Script) -> Result<Seq<u8>, NoMemory>
 {
     let mut page = Page::new(alloc);
     print_head(&mut page, script)?;
-    let head = page.done()?;
-    Ok(head)
+    page.done()
 }
 
 /// The whole report in pieces, of the piece before its places and the pieces of its places: the last line comes behind

@@ -108,8 +108,7 @@ impl<'a> Printing<'a> {
         ensures { OnOk result (page.new ≡ page.old ++ text (place_lines self.now.script.now (shown_history self.now.lists.now) place)) }
     {
         print_heading(page, self.script, place)?;
-        print_from(page, self.script, self.lists, origins)?;
-        Ok(())
+        print_from(page, self.script, self.lists, origins)
     }
 
     /// Appends the parts of the places from `first` up to `end`, whose notes it puts into order first. For this it goes over
@@ -140,8 +139,7 @@ impl<'a> Printing<'a> {
     {
         print_head(page, self.script)?;
         self.print_places(alloc, page, 0, self.place_count())?;
-        print_word(page, b"end".as_slice())?;
-        Ok(())
+        print_word(page, b"end".as_slice())
     }
 
     /// The text of the whole report.

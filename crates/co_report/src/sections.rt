@@ -126,8 +126,7 @@ impl<'a> Sections<'a> {
         match existing_index(self.script, note.place) {
             Some(place) => {
                 let page = &mut self.pages[place];
-                page.write(self.script, number, &note.entry)?;
-                Ok(())
+                page.write(self.script, number, &note.entry)
             }
             None => Ok(()),
         }
