@@ -20,6 +20,11 @@ taken_more xs k x inside is =
     let next : k + 1 ≡ suc k = omega arith in
     ap (λ j. take j xs) next ∙ (take-suc xs k x inside ∙ ap (λ y. take k xs ++ y ∷ []) (sym is))
 
+-- copies of the first items, and of the next one
+pub copied_more : {A : Type 0} (xs : List A) (k : ℕ) (x y : A) (old new : List A) → k < length xs → x ≡ get_or xs k x → y ≡ x → old ≡ take k xs → new ≡ old ++ y ∷ [] → new ≡ take (k + 1) xs
+copied_more xs k x y old new inside is same before put =
+    put ∙ (ap (λ ys. ys ++ y ∷ []) before ∙ (ap (λ z. take k xs ++ z ∷ []) same ∙ sym (taken_more xs k x inside is)))
+
 -- what was made of the first items, and of the next one
 pub made_more : {A B : Type 0} (f : A → B) (xs : List A) (k : ℕ) (x : A) (y : B) (old new : List B) → k < length xs → x ≡ get_or xs k x → y ≡ f x → old ≡ map f (take k xs) → new ≡ old ++ y ∷ []
     → new ≡ map f (take (k + 1) xs)
