@@ -123,6 +123,15 @@ too_short (c ∷ w) (d ∷ text) less = ap (λ (o : Option (List Word)). if (c =
   none true = refl
   none false = refl
 
+-- a byte that both begin with is passed
+pub byte_passed : (w text : List ℕ) (i : ℕ) → i < length w → i < length text → (get_or w i 0 ≡ 32 → ⊥) → get_or text i 0 ≡ get_or w i 0 → behind_word (drop i w) (drop i text) ≡ behind_word (drop (i + 1) w) (drop (i + 1) text)
+byte_passed w text i in_w in_text other same =
+    let tight : (get_or w i 0 == 32) ≡ false = grind (arith, nat_tests) in
+    ap (λ v. behind_word v (drop i text)) (drop_more w i 0 in_w)
+    ∙ (ap (behind_word (get_or w i 0 ∷ drop (i + 1) w)) (drop_more text i 0 in_text)
+    ∙ (ap (λ b. if b && not (get_or w i 0 == 32) then behind_word (drop (i + 1) w) (drop (i + 1) text) else None) (eq-eqb (get_or w i 0) (get_or text i 0) (sym same))
+    ∙ ap (λ b. if not b then behind_word (drop (i + 1) w) (drop (i + 1) text) else None) tight))
+
 -- what taking a word from the front gives
 pub not_next : (w : Word) (text : List ℕ) → behind_word w text ≡ None → option w (parts text) ≡ Ok (false, parts text)
 not_next w text e = ap (λ b. if b then Ok (true, after_next (parts text)) else Ok (false, parts text)) (subst (Told w (parts text)) e (told w text))
