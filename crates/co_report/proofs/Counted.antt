@@ -1,10 +1,11 @@
 -- The notes of each place, counted: how many there are, and that the position of each note is below that number.
 use Rattle.std.proofs.Common.{◌≡◌, ℕ, zero, suc, ◌+◌, ◌-◌, ◌<◌, ◌≤◌, ◌==◌, Bool, true, cond, List, [], ◌∷◌, ◌++◌, map, take, drop, length, get_or, refl, ap, sym, subst, ◌∙◌, arith, length-append, get_or-drop, get_or-take, length-take, length-drop}
-use Rattle.std.specs.Prelude.{Some, slice_get, slice_range}
+use Rattle.std.specs.Prelude.{Some, Result, Ok, Err, IfOk, slice_get, slice_range}
 use Rattle.std.proofs.lemmas.Grind.{flat_map-append}
 use Rattle.std.proofs.lemmas.List.{map-append, take-append-drop}
 use Rattle.std.proofs.lemmas.List.Sums.{length-filter, sum_by-append}
 use Rattle.std.proofs.lemmas.Bool.Decides.{nat_tests}
+use Rattle.co_sbt.specs.declared.NoMemory.{NoMemory}
 use Rattle.co_object.specs.declared.Note.{Note}
 use Rattle.co_object.specs.declared.Place.{Place}
 use Rattle.co_object.specs.Lists.{same_place, notes_of, all_notes_of, count_at, IsWellFormed}
@@ -82,7 +83,7 @@ part-counted s lists counts first end are all order upto = record {
 }
 
 -- what is counted of the lists up to one of them and of those behind it, together
-pub halves-counted : (s : Script) (lists : List (List Note)) (k : ℕ) (front back all : Counted)
+halves-counted : (s : Script) (lists : List (List Note)) (k : ℕ) (front back all : Counted)
     → AreCounted s (take k lists) front → AreCounted s (drop k lists) back
     → length all.counts ≡ length front.counts
     → ((i : ℕ) → i < length front.counts → get_or all.counts i 0 ≡ get_or front.counts i 0 + get_or back.counts i 0)
@@ -108,6 +109,15 @@ halves-counted s lists k front back all before behind places each spots = record
         let all : all_of lists ≡ all_of (take k lists) ++ all_of (drop k lists) =
         ap all_of (sym split) ∙ flat_map-append (λ (notes : List Note). notes) (take k lists) (drop k lists) in
         omega (arith, one, ap (λ ns. count_in s i ns) all, before.counts.each i below, behind.counts.each i below)
+
+-- the same where there was room for what they come to
+pub halves-joined : (s : Script) (lists : List (List Note)) (k : ℕ) (front back : Counted) (joined : Result Counted NoMemory)
+    → AreCounted s (take k lists) front → AreCounted s (drop k lists) back
+    → IfOk joined (λ all. length all.counts ≡ length front.counts)
+    → IfOk joined (λ all. (i : ℕ) → i < length front.counts → get_or all.counts i 0 ≡ get_or front.counts i 0 + get_or back.counts i 0)
+    → IfOk joined (λ all. all.spots ≡ front.spots ++ back.spots) → IfOk joined (λ all. AreCounted s lists all)
+halves-joined s lists k front back (Ok all) before behind places each spots = halves-counted s lists k front back all before behind places each spots
+halves-joined s lists k front back (Err none) before behind places each spots = tt
 
 -- positions
 

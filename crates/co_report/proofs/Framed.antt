@@ -3,6 +3,8 @@ use Rattle.std.proofs.Common.{◌≡◌, ℕ, List, [], ◌∷◌, ◌++◌, ref
 use Rattle.std.specs.Prelude.{codes}
 use Rattle.std.specs.List.{concat, flat_map}
 use Rattle.std.proofs.lemmas.List.Folds.{concat-append}
+use Rattle.co_object.specs.declared.Place.{Place}
+use Rattle.co_object.specs.declared.Place.TheVariants.{Timer, Cpu, Actor}
 use Rattle.co_program.specs.declared.Script.{Script}
 use Rattle.co_script.specs.Canonical.{canonical, canonical_lines}
 use Rattle.co_grammar.specs.Spelling.{numbered}
@@ -10,7 +12,8 @@ use Rattle.co_text.specs.Lines.{line_text, text}
 use Rattle.co_text.specs.Values.{Word}
 use Rattle.co_text.proofs.Spacing.{text_one, text_append}
 use Rattle.co_report.specs.Histories.{PlaceHistories}
-use Rattle.co_report.specs.Reports.{places, place_lines, report, report_lines, head_text, framed}
+use Rattle.co_report.specs.Reports.{places, heading, place_lines, report, report_lines, head_text, framed}
+use Rattle.co_report.specs.Reading.{joined}
 
 parts : (a : List Word) (b : List (List Word)) (h : List Word) (ls : List (List Word)) (e : List Word)
     → text (a ∷ (b ++ (h ∷ (ls ++ e ∷ [])))) ≡ line_text a ++ text b ++ line_text h ++ text ls ++ line_text e
@@ -60,3 +63,11 @@ pieces-joined head q0 q1 q2 q3 inner {last} f0 f1 f2 is f3 =
 -- behind the head of a script
 pub pieces-framed : (s : Script) (head : List ℕ) (q inner : List (List ℕ)) → head ≡ head_text s → concat q ≡ head ++ concat inner ++ line_text (codes "end" ∷ []) → concat q ≡ framed s (concat inner)
 pieces-framed s head q inner is joined = joined ∙ ap (λ t. t ++ concat inner ++ line_text (codes "end" ∷ [])) is
+
+-- the line that a place begins with, and its line feed
+pub heading_ended : (s : Script) (p : Place) (old begun done : List ℕ) → begun ≡ old ++ joined (heading s p) → done ≡ begun ++ 10 ∷ [] → done ≡ old ++ line_text (heading s p)
+heading_ended s p old begun done e f = f ∙ (ap (λ t. t ++ 10 ∷ []) e ∙ (append_assoc old (joined (heading s p)) (10 ∷ []) ∙ ap (λ t. old ++ t) (ended p))) where
+  ended : (p : Place) → joined (heading s p) ++ 10 ∷ [] ≡ line_text (heading s p)
+  ended (Timer i) = refl
+  ended (Cpu c) = refl
+  ended (Actor a) = refl

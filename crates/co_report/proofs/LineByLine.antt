@@ -6,17 +6,19 @@ use Rattle.std.proofs.lemmas.List.{length-take-le}
 use Rattle.co_object.specs.declared.Place.{Place}
 use Rattle.co_program.specs.declared.Script.{Script}
 use Rattle.co_program.specs.Places.{place_exists}
-use Rattle.co_text.specs.Fallible.{◌>>=◌, unless, some_or, Refusal, at_line}
+use Rattle.co_text.specs.Fallible.{◌>>=◌, ◌>>◌, unless, some_or, Refusal, at_line}
 use Rattle.co_text.specs.Lines.{Line, lines_of}
 use Rattle.co_text.specs.declared.cause.Cause.{Cause}
 use Rattle.co_text.specs.declared.cause.Cause.TheVariants as cause
+use Rattle.co_script.specs.Reading.{script_of}
+use Rattle.co_script.specs.Canonical.{canonical}
 use Rattle.co_script.proofs.told.Steps.{bind-ok, cond-ok}
 use Rattle.co_report.specs.declared.line.Line.{Line as NoteLine}
 use Rattle.co_report.specs.declared.reading.notes.NumberedEntry.{NumberedEntry}
 use Rattle.co_report.specs.NoteValues.{names_of, IsSmallScript}
 use Rattle.co_report.specs.NoteForms.{shown_note}
 use Rattle.co_report.specs.NoteFits.{LineFits}
-use Rattle.co_report.specs.Reading.{Progress, joined, closing_words, closed_by, with_note, note_read, line_read, line_after, histories_read, first_progress, reads_on, end_read, notes_read}
+use Rattle.co_report.specs.Reading.{Halves, Progress, in_report, same_lines, halves_read, joined, closing_words, closed_by, with_note, note_read, line_read, line_after, histories_read, first_progress, reads_on, end_read, notes_read}
 use Rattle.co_report.proofs.ReadLines.{closed-lines}
 use Rattle.co_report.proofs.ReadFit.{Stands, line-stands}
 use Rattle.co_report.proofs.LinesWhole.{whole_more, whole_start}
@@ -96,7 +98,7 @@ module _ (s : Script) where
   ahead-note k d e x l ls h = ahead-step k d l ls ∙ (ap (λ r. at_line k r >>= λ e. ahead_from s (k + 1) e ls) h ∙ ahead-front (x ∷ []) (k + 1) e ls)
 
   -- the whole
-  pub notes-ahead : (k : ℕ) (ls : List Line) → notes_read s k ls ≡ report_of_all s (ahead_from s k (first_progress s) ls)
+  notes-ahead : (k : ℕ) (ls : List Line) → notes_read s k ls ≡ report_of_all s (ahead_from s k (first_progress s) ls)
   notes-ahead k ls = go (histories_read s k (first_progress s) ls) where
     last : (d : Progress) (r : Result ℕ Refusal) → (r >>= λ end. Ok (record { script = s; lines = d.lines; end = end })) ≡ report_of_all s (r >>= λ end. Ok (record { lines = d.lines; end = end }))
     last d (Ok end) = refl
@@ -105,6 +107,14 @@ module _ (s : Script) where
     go : (r : Result Progress Refusal) → (r >>= λ d. end_read (k + length ls) d >>= λ end. Ok (record { script = s; lines = d.lines; end = end })) ≡ report_of_all s (r >>= ended_at (k + length ls))
     go (Ok d) = last d (end_read (k + length ls) d)
     go (Err e) = refl
+
+  -- behind a script that is read
+  pub halves-ahead : (h : Halves) → in_report (script_of h.script) ≡ Ok s → same_lines 2 (lines_of h.script) (lines_of (canonical s)) ≡ Ok true
+      → halves_read h ≡ report_of_all s (ahead_from s (h.count + 3) (first_progress s) h.notes)
+  halves-ahead h read same =
+      ap (λ r. r >>= λ t. same_lines 2 (lines_of h.script) (lines_of (canonical t)) >> notes_read t (h.count + 3) h.notes) read
+      ∙ (ap (λ r. r >> notes_read s (h.count + 3) h.notes) same
+      ∙ notes-ahead (h.count + 3) h.notes)
 
 -- ---- the note that a line shows
 

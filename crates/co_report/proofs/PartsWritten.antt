@@ -4,7 +4,7 @@ use Rattle.std.specs.Prelude.{slice_range, codes}
 use Rattle.std.specs.List.{concat, flat_map}
 use Rattle.std.proofs.Math.Seq.{take-add}
 use Rattle.std.proofs.lemmas.Grind.{flat_map-append}
-use Rattle.std.proofs.lemmas.List.{drop-drop, drop_more, map-id, take_all}
+use Rattle.std.proofs.lemmas.List.{drop-drop, drop_more, take_all}
 use Rattle.std.proofs.lemmas.List.Folds.{concat-append}
 use Rattle.co_object.specs.declared.Note.{Note}
 use Rattle.co_object.specs.declared.Place.{Place}
@@ -20,7 +20,7 @@ use Rattle.co_report.specs.Origins.{lines_from}
 use Rattle.co_report.specs.Reports.{places, heading, place_lines, lines_between, report_of, head_text, framed}
 use Rattle.co_report.proofs.Framed.{report-framed, pieces-framed}
 use Rattle.co_report.proofs.Places.{index_below}
-use Rattle.co_report.proofs.ToldPages.{at-place, length-places}
+use Rattle.co_report.proofs.PlacesAdded.{length-all, at-index}
 
 -- what stands from a to c stands from a to b and from b to c
 split : (xs : List Place) (a b c : ℕ) → a ≤ b → b ≤ c → slice_range xs a c ≡ slice_range xs a b ++ slice_range xs b c
@@ -43,9 +43,6 @@ module _ (s : Script) (lists : List (List Note)) where
       ap text (ap (flat_map lines_of) (split (places s) a b c ab bc) ∙ flat_map-append lines_of (slice_range (places s) a b) (slice_range (places s) b c))
       ∙ text_append (lines_between s lists a b) (lines_between s lists b c)
 
-  length-all : length (places s) ≡ place_count s
-  length-all = ap length (sym (map-id (places s))) ∙ length-places s (λ p. p)
-
   -- no place is before the first
   pub text-none : (first : ℕ) → [] ≡ text_between first first
   text-none first = let none : 0 ≡ first - first = omega arith in ap (λ n. text (flat_map lines_of (take n (drop first (places s))))) none
@@ -54,9 +51,9 @@ module _ (s : Script) (lists : List (List Note)) where
   alone : (p : Place) → place_exists s p ≡ true → lines_between s lists (place_index s p) (place_index s p + 1) ≡ lines_of p
   alone p exists =
       let one : place_index s p + 1 - place_index s p ≡ 1 = omega arith in
-      let at : get_or (places s) (place_index s p) p ≡ p = ap (λ ps. get_or ps (place_index s p) p) (sym (map-id (places s))) ∙ at-place s (λ q. q) p p exists in
+      let at : get_or (places s) (place_index s p) p ≡ p = at-index s p exists in
       ap (λ n. flat_map lines_of (take n (drop (place_index s p) (places s)))) one
-      ∙ (ap (λ ps. flat_map lines_of (take 1 ps)) (drop_more (places s) (place_index s p) p (omega (arith, index_below s p exists, length-all)))
+      ∙ (ap (λ ps. flat_map lines_of (take 1 ps)) (drop_more (places s) (place_index s p) p (omega (arith, index_below s p exists, length-all s)))
       ∙ (ap (λ q. lines_of q ++ []) at
       ∙ append-nil (lines_of p)))
 
@@ -93,7 +90,7 @@ module _ (s : Script) (lists : List (List Note)) where
   -- in the frame, all places are the report
   pub report-written : (count : ℕ) → count ≡ place_count s → framed s (text_between 0 count) ≡ report_of s lists
   report-written count is =
-      let long : length (places s) ≤ count - 0 = omega (arith, is, length-all) in
+      let long : length (places s) ≤ count - 0 = omega (arith, is, length-all s) in
       ap (λ ps. framed s (text (flat_map lines_of ps))) (take_all (count - 0) (places s) long)
       ∙ sym (report-framed s (shown_history lists))
 

@@ -123,6 +123,15 @@ too_short (c ∷ w) (d ∷ text) less = ap (λ (o : Option (List Word)). if (c =
   none true = refl
   none false = refl
 
+-- a byte that both begin with is passed
+pub byte_passed : (w text : List ℕ) (i : ℕ) → i < length w → i < length text → (get_or w i 0 ≡ 32 → ⊥) → get_or text i 0 ≡ get_or w i 0 → behind_word (drop i w) (drop i text) ≡ behind_word (drop (i + 1) w) (drop (i + 1) text)
+byte_passed w text i in_w in_text other same =
+    let tight : (get_or w i 0 == 32) ≡ false = grind (arith, nat_tests) in
+    ap (λ v. behind_word v (drop i text)) (drop_more w i 0 in_w)
+    ∙ (ap (behind_word (get_or w i 0 ∷ drop (i + 1) w)) (drop_more text i 0 in_text)
+    ∙ (ap (λ b. if b && not (get_or w i 0 == 32) then behind_word (drop (i + 1) w) (drop (i + 1) text) else None) (eq-eqb (get_or w i 0) (get_or text i 0) (sym same))
+    ∙ ap (λ b. if not b then behind_word (drop (i + 1) w) (drop (i + 1) text) else None) tight))
+
 -- what taking a word from the front gives
 pub not_next : (w : Word) (text : List ℕ) → behind_word w text ≡ None → option w (parts text) ≡ Ok (false, parts text)
 not_next w text e = ap (λ b. if b then Ok (true, after_next (parts text)) else Ok (false, parts text)) (subst (Told w (parts text)) e (told w text))
@@ -223,6 +232,14 @@ pub carried : {X Y : Type 0} (value : Word → Result Y Cause) (view : X → Y) 
     → Gives (λ x. (view x, us)) r (next value ws)
 carried value view w ws us (Ok x) e h = ap (next value) e ∙ ap (λ z. z >>= λ y. Ok (y, us)) h
 carried value view w ws us (Err c) e h = ap (next value) e ∙ ap (λ z. z >>= λ y. Ok (y, us)) h
+
+-- the same of a word that was taken
+pub word_carried : {X Y : Type 0} (value : Word → Result Y Cause) (view : X → Y) (w : Word) (ws us : List Word) (r : Result X Cause) → next Ok ws ≡ Ok (w, us) → Gives view r (value w)
+    → Gives (λ x. (view x, us)) r (next value ws)
+word_carried value view w [] us r e h = cc
+word_carried value view w (v ∷ ws) us r e h =
+    let same = same_pair v w ws us e in
+    carried value view w (v ∷ ws) us r (ap (λ x. x ∷ ws) same.0 ∙ ap (λ xs. w ∷ xs) same.1) h
 
 pub below_bound : (bound n : ℕ) → n < 2 ^ 64 → n < bound → below bound (decimal n) ≡ Ok n
 below_bound bound n small less = below_decimal bound n small ∙ ap (λ b. unless b Form >>= λ _. Ok n) (lt-ltb n bound less)

@@ -3,14 +3,15 @@ use Rattle.std.proofs.Common.{◌≡◌, ℕ, ◌-◌, List, [], ◌∷◌, ◌+
 use Rattle.std.specs.Borrow.{Bor}
 use Rattle.std.specs.Prelude.{Option, Some, None, Result, Ok, Err}
 use Rattle.co_program.specs.declared.Script.{Script}
-use Rattle.co_text.specs.Fallible.{Refusal, Faults}
+use Rattle.co_text.specs.Fallible.{Refusal, Faults, GivesOrNoMemory}
 use Rattle.co_text.specs.Lines.{Line as TextLine}
 use Rattle.co_text.specs.declared.cause.ScriptFault.{ScriptFault}
 use Rattle.co_text.specs.declared.cause.ScriptFault.TheVariants as fault
 use Rattle.co_report.specs.declared.line.Line.{Line}
+use Rattle.co_report.specs.declared.line.Report.{Report}
 use Rattle.co_report.specs.declared.reading.line_by_line.Reader.{Reader}
 use Rattle.co_report.specs.declared.reading.progress.Progress.{Progress as Kept}
-use Rattle.co_report.specs.LineByLine.{Ahead, AreTold, HasTakenMore, behind, report_of_all, standing, ReadsOn}
+use Rattle.co_report.specs.LineByLine.{Ahead, Opening, Standing, AreTold, AreAllTold, HasTakenMore, behind, before_all, report_of_all, standing, ReadsOn}
 use Rattle.co_report.specs.ReadingViews.{one_or_none}
 use Rattle.co_report.proofs.LineByLine.{further, passed-note, passed-quiet, IsPassed}
 
@@ -64,3 +65,16 @@ module _ {L : Type 0} (has : L → List Line → Type 0) (old new : L) (x : Read
   line-told (Some n) h taken =
       let found = passed-note x p rest l (length x.text.now - length x.rest.now) n refl h in
       (found.on, record { lines = n ∷ []; ahead = sym found.ahead; taken = taken })
+
+-- a list that was empty has all that was ahead
+pub all_in_list : (x : Reader) (o : Opening) (old new : List Line) (result : Result ℕ ScriptFault) → standing x ≡ before_all o → old ≡ [] → AreAllTold (λ (taken lines : List Line). taken ≡ lines) old new x result
+    → GivesOrNoMemory (λ end. record { lines = new; end = end }) result (before_all o).ahead
+all_in_list x o old new (Ok end) is none told = sym (ap (λ (t : Standing). t.ahead) is) ∙ (told.1 ∙ ap (λ ls. Ok (record { lines = ls; end = end })) (sym (told.2 [] none)))
+all_in_list x o old new (Err fault.NoMemory) is none told = tt
+all_in_list x o old new (Err (fault.Bad k c)) is none told = sym (ap (λ (t : Standing). t.ahead) is) ∙ told
+
+-- what is read of an opened report is what is read of its text
+pub all_of_text : (text all : Result Report Refusal) (result : Result Report ScriptFault) → text ≡ all → GivesOrNoMemory (λ r. r) result all → GivesOrNoMemory (λ r. r) result text
+all_of_text text all (Ok r) same h = same ∙ h
+all_of_text text all (Err fault.NoMemory) same h = tt
+all_of_text text all (Err (fault.Bad k c)) same h = same ∙ h

@@ -31,19 +31,15 @@ fn add_counts(counts: &mut Seq<usize>, more: &[usize]) -> Result<(), NoMemory>
 }
 
 /// What is counted of the lists in front and of those behind them, together. `NoMemory` where there is no room for it.
-fn joined(front: Counted, back: Counted) -> Result<Counted, NoMemory>
+fn joined(mut front: Counted, back: Counted) -> Result<Counted, NoMemory>
     requires { length back.counts ≡ length front.counts }
     ensures length { IfOk result (λ all. length all.counts ≡ length front.counts) }
     ensures each { IfOk result (λ all. (i : ℕ) → i < length front.counts → slice_index all.counts i ≡ slice_index front.counts i + slice_index back.counts i) }
     ensures spots { IfOk result (λ all. all.spots ≡ front.spots ++ back.spots) }
 {
-    let Counted {
-        mut counts,
-        mut spots,
-    } = front;
-    add_counts(&mut counts, back.counts.as_slice())?;
-    append(&mut spots, back.spots)?;
-    Ok(Counted { counts, spots })
+    add_counts(&mut front.counts, back.counts.as_slice())?;
+    append(&mut front.spots, back.spots)?;
+    Ok(front)
 }
 
 /// What `count_lists` gives. The lists are halved this often, and the halves are counted beside each other, the first one
@@ -74,9 +70,7 @@ fn count_halves<R: Threads + Sync>(
     { count_halves(rt, alloc, script, second, left) };
     let (before, behind) = join(rt, front, back);
     let counted = before?;
-    let more = behind?;
-    let all = joined(counted, more)?;
-    Ok(all)
+    joined(counted, behind?)
 }
 
 /// The number of notes of each place and where each note belongs, as `count_lists` gives it: up to 8 threads count some

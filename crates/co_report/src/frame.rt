@@ -3,9 +3,11 @@
 ghost use Rattle.std.specs.Prelude.{◌≡◌, ◌++◌, ◌∷◌, [], codes, OnOk, IfOk};
 ghost use Rattle.std.specs.List.{concat};
 ghost use Rattle.co_text.specs.Lines.{line_text};
+ghost use Rattle.co_text.specs.Written.{token_word};
 ghost use Rattle.co_grammar.specs.Spelling.{numbered};
 ghost use Rattle.co_script.specs.Canonical.{canonical};
 ghost use Rattle.co_report.specs.Reports.{heading, head_text};
+ghost use Rattle.co_report.specs.Reading.{joined};
 
 use crate::joining::append;
 use co_grammar::{actor_name, print_numbered};
@@ -23,21 +25,36 @@ pub fn print_word(page: &mut Page, word: &[u8]) -> Result<(), NoMemory>
     page.line(&Token::Text(word), [].as_slice())
 }
 
+/// Two words: one that is given, and what the token says.
+fn begin_named(page: &mut Page, word: &[u8], name: Token) -> Result<(), NoMemory>
+    ensures { OnOk result (page.new ≡ page.old ++ joined (word.now ∷ token_word name.entry ∷ [])) }
+{
+    page.begin(&Token::Text(word), [name].as_slice())
+}
+
+/// The line that a place begins with, without its line feed. `NoMemory` where the page finds no room.
+pub fn begin_heading(page: &mut Page, script: &Script, place: Place) -> Result<(), NoMemory>
+    ensures { OnOk result (page.new ≡ page.old ++ joined (heading script.now place)) }
+{
+    match place {
+        Place::Timer(timer) => {
+            begin_named(page, b"timer".as_slice(), Token::Number(u64::from(timer)))
+        }
+        Place::Cpu(cpu) => begin_named(page, b"wheel".as_slice(), Token::Number(u64::from(cpu))),
+        Place::Actor(actor) => {
+            let (letter, name) = actor_name(script, actor);
+            begin_named(page, b"actor".as_slice(), Token::Lettered(letter, name))
+        }
+    }
+}
+
 /// The line that a place begins with. `NoMemory` where the page finds no room.
+#[tactic(auto, using(crate::proofs::Framed::heading_ended))]
 pub fn print_heading(page: &mut Page, script: &Script, place: Place) -> Result<(), NoMemory>
     ensures { OnOk result (page.new ≡ page.old ++ line_text (heading script.now place)) }
 {
-    match place {
-        Place::Timer(timer) => print_numbered(page, b"timer".as_slice(), u64::from(timer)),
-        Place::Cpu(cpu) => print_numbered(page, b"wheel".as_slice(), u64::from(cpu)),
-        Place::Actor(actor) => {
-            let (letter, name) = actor_name(script, actor);
-            page.line(
-                &Token::Text(b"actor".as_slice()),
-                [Token::Lettered(letter, name)].as_slice(),
-            )
-        }
-    }
+    begin_heading(page, script, place)?;
+    page.end()
 }
 
 /// The lines before the first place. `NoMemory` where the page finds no room.
@@ -46,8 +63,7 @@ pub fn print_head(page: &mut Page, script: &Script) -> Result<(), NoMemory>
 {
     print_numbered(page, b"callout-report".as_slice(), 1)?;
     print_lines(page, script)?;
-    print_word(page, b"histories".as_slice())?;
-    Ok(())
+    print_word(page, b"histories".as_slice())
 }
 
 /// The lines before the first place as a piece of their own. `NoMemory` where there is no room for them.
@@ -56,8 +72,7 @@ pub fn head_piece(alloc: Global, script: &Script) -> Result<Seq<u8>, NoMemory>
 {
     let mut page = Page::new(alloc);
     print_head(&mut page, script)?;
-    let head = page.done()?;
-    Ok(head)
+    page.done()
 }
 
 /// The whole report in pieces, of the piece before its places and the pieces of its places: the last line comes behind

@@ -1,7 +1,8 @@
 //! Note lines, told as they are read to whoever keeps them.
 
+use crate::line::Line;
 use co_object::Note;
-use co_sbt::NoMemory;
+use co_sbt::{NoMemory, Seq};
 
 /// Takes the note lines of a report, one after the other, as they are read.
 ///
@@ -19,4 +20,20 @@ pub trait LineListener {
     fn take(&mut self, line: u64, note: &Note) -> Result<(), NoMemory>
         requires { (lines : List Line) × has self.old lines }
         ensures { OnOk result ((lines : List Line) → has self.old lines → has self.new (lines ++ line_of line note.now ∷ [])) };
+}
+
+/// A list that has all lines.
+impl LineListener for Seq<Line> {
+    ghost use Rattle.std.specs.Prelude.{◌≡◌};
+
+    ghost has = { λ taken lines. taken ≡ lines };
+
+    fn take(&mut self, line: u64, note: &Note) -> Result<(), NoMemory> {
+        self.push(Line {
+            line,
+            place: note.place,
+            number: note.pos,
+            entry: note.entry,
+        })
+    }
 }

@@ -23,34 +23,20 @@ fn print_equals(page: &mut Page) -> Result<(), NoMemory>
     page.text(b" =".as_slice())
 }
 
-/// `=` and a reply.
-fn print_reply_part(page: &mut Page, reply: &Reply) -> Result<(), NoMemory>
-    ensures { OnOk result (page.new ≡ page.old ++ spaced (codes "=" ∷ reply_words reply.now)) }
-{
-    print_equals(page)?;
-    print_reply(page, reply)
-}
-
-/// `=` and an answer.
-fn print_answer_part(page: &mut Page, answer: &QReply) -> Result<(), NoMemory>
-    ensures { OnOk result (page.new ≡ page.old ++ spaced (codes "=" ∷ answer_words answer.now)) }
-{
-    print_equals(page)?;
-    print_answer(page, answer)
-}
-
 fn print_call_entry(page: &mut Page, op: &Op, reply: &Reply) -> Result<(), NoMemory>
     ensures { OnOk result (page.new ≡ page.old ++ spaced (with_answer (op_words op.now) (reply_words reply.now))) }
 {
     print_op(page, op)?;
-    print_reply_part(page, reply)
+    print_equals(page)?;
+    print_reply(page, reply)
 }
 
 fn print_queue_entry(page: &mut Page, op: &QOp, reply: &QReply) -> Result<(), NoMemory>
     ensures { OnOk result (page.new ≡ page.old ++ spaced (with_answer (queue_words op.now) (answer_words reply.now))) }
 {
     print_queue_op(page, op)?;
-    print_answer_part(page, reply)
+    print_equals(page)?;
+    print_answer(page, reply)
 }
 
 fn print_own_entry(page: &mut Page, kind: OwnKind) -> Result<(), NoMemory>

@@ -55,7 +55,7 @@ impl Order {
 }
 
 /// How many places a report of the script has.
-fn place_count(script: &Script) -> Result<usize, NoMemory>
+pub(crate) fn place_count(script: &Script) -> Result<usize, NoMemory>
     ensures { IfOk result (λ count. count ≡ place_count script.now) }
 {
     let timers = script.timers.as_slice().len();

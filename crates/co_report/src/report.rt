@@ -22,7 +22,7 @@ use std::alloc::Global;
 
 /// The place of this number among those of a report: the timers come first, then the CPUs, then the actors. `NoMemory`
 /// where its number among its kind is 2^32 or more: so many timers or actors find no memory.
-fn place_of(script: &Script, number: usize) -> Result<Place, NoMemory>
+pub(crate) fn place_of(script: &Script, number: usize) -> Result<Place, NoMemory>
     requires { number < place_count script.now }
     ensures exists { IfOk result (λ place. place_exists script.now place ≡ true) }
     ensures number { IfOk result (λ place. place_index script.now place ≡ number) }
@@ -108,8 +108,7 @@ impl<'a> Printing<'a> {
         ensures { OnOk result (page.new ≡ page.old ++ text (place_lines self.now.script.now (shown_history self.now.lists.now) place)) }
     {
         print_heading(page, self.script, place)?;
-        print_from(page, self.script, self.lists, origins)?;
-        Ok(())
+        print_from(page, self.script, self.lists, origins)
     }
 
     /// Appends the parts of the places from `first` up to `end`, whose notes it puts into order first. For this it goes over
@@ -140,9 +139,31 @@ impl<'a> Printing<'a> {
     {
         print_head(page, self.script)?;
         self.print_places(alloc, page, 0, self.place_count())?;
-        print_word(page, b"end".as_slice())?;
-        Ok(())
+        print_word(page, b"end".as_slice())
     }
+
+    /// The text of the whole report.
+    fn text(&self, alloc: Global) -> Result<Seq<u8>, NoMemory>
+        ensures { IfOk result (λ bytes. bytes ≡ report_of self.now.script.now self.now.lists.now) }
+    {
+        let mut page = Page::new(alloc);
+        self.print(alloc, &mut page)?;
+        page.done()
+    }
+}
+
+/// The report of a script and the packed notes of its actors, as `print_report` gives it.
+fn print_packed(
+    alloc: Global,
+    script: &Script,
+    lists: &[Seq<PackedNote>],
+) -> Result<Seq<u8>, NoMemory>
+    requires places { AllHavePlaces script.now lists.now }
+    requires formed { IsWellFormed lists.now }
+    ensures { IfOk result (λ bytes. bytes ≡ report_of script.now lists.now) }
+{
+    let counted = count_lists(alloc, script, lists)?;
+    Printing::new(alloc, script, lists, counted)?.text(alloc)
 }
 
 /// The report of a script and the lists of its actors' notes: the canonical text of the script, then the notes of each
@@ -156,10 +177,5 @@ pub fn print_report(alloc: Global, script: &Script, lists: &Lists) -> Result<Seq
     ensures { IfOk result (λ bytes. bytes ≡ report_of script.now lists.now) }
 {
     let packed = packed_lists(alloc, lists.as_slice())?;
-    let notes = packed.as_slice();
-    let counted = count_lists(alloc, script, notes)?;
-    let printing = Printing::new(alloc, script, notes, counted)?;
-    let mut page = Page::new(alloc);
-    printing.print(alloc, &mut page)?;
-    page.done()
+    print_packed(alloc, script, packed.as_slice())
 }

@@ -43,13 +43,18 @@ impl<'a> Model for Sections<'a> {
     ghost invariant = { λ x. HasRooms (record { script = x.script.now; pages = x.pages.items; counts = x.counts.items }) };
 }
 
-/// The section of a place that has no note yet.
-fn opened(alloc: Global, script: &Script, place: Place) -> Result<Section, NoMemory>
-    ensures { IfOk result (λ section. section ≡ line_text (heading script.now place)) }
+/// Appends the section of a place that has no note yet.
+fn open_next(
+    alloc: Global,
+    script: &Script,
+    pages: &mut Seq<Section>,
+    place: Place,
+) -> Result<(), NoMemory>
+    ensures { OnOk result (pages.new ≡ pages.old ++ line_text (heading script.now place) ∷ []) }
 {
     let mut page = Page::new(alloc);
     print_heading(&mut page, script, place)?;
-    Ok(Section::new(alloc, page))
+    pages.push(Section::new(alloc, page))
 }
 
 /// The sections before the first note, in the report's order.
@@ -60,7 +65,7 @@ fn all_opened(alloc: Global, script: &Script) -> Result<Vec<Section>, NoMemory>
     let places = places(alloc, script)?;
     let mut pages = Seq::new(alloc);
     for place in places.as_slice() {
-        pages.push(opened(alloc, script, *place)?)?;
+        open_next(alloc, script, &mut pages, *place)?;
     }
     Ok(pages.into_vec())
 }
@@ -126,8 +131,7 @@ impl<'a> Sections<'a> {
         match existing_index(self.script, note.place) {
             Some(place) => {
                 let page = &mut self.pages[place];
-                page.write(self.script, number, &note.entry)?;
-                Ok(())
+                page.write(self.script, number, &note.entry)
             }
             None => Ok(()),
         }

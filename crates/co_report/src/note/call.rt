@@ -1,7 +1,7 @@
 //! Operations on a callout.
-ghost use Rattle.std.specs.Prelude.{◌≡◌, ◌++◌, ◌∷◌, [], codes, OnOk};
+ghost use Rattle.std.specs.Prelude.{◌≡◌, ◌++◌, ◌∷◌, [], codes, decimal, OnOk};
 ghost use Rattle.co_text.specs.Lines.{spaced};
-ghost use Rattle.co_report.specs.NoteTexts.{plain_words, op_words, truth_word};
+ghost use Rattle.co_report.specs.NoteTexts.{plain_words, op_words, cpu_word, truth_word};
 ghost use Rattle.co_object.specs.declared.Op.TheVariants as ops;
 ghost use Rattle.co_object.specs.declared.PlainOp.TheVariants as plain;
 ghost use Rattle.co_object.specs.declared.RunOp.TheVariants as runs;
@@ -83,17 +83,12 @@ fn print_pick(page: &mut Page, n: u64, cpu: u32, at: Sbt) -> Result<(), NoMemory
     page.tagged(b" u".as_slice(), at.raw())
 }
 
-fn print_begin(page: &mut Page, n: u64, cpu: u32) -> Result<(), NoMemory>
-    ensures { OnOk result (page.new ≡ page.old ++ spaced (op_words (ops.Run (runs.Begin n cpu)))) }
+/// A text, the number of an arming and a CPU.
+#[inline(always)]
+fn print_serviced(page: &mut Page, tag: &[u8], n: u64, cpu: u32) -> Result<(), NoMemory>
+    ensures { OnOk result (page.new ≡ page.old ++ (tag.now ++ (decimal n ++ spaced (cpu_word cpu ∷ [])))) }
 {
-    page.tagged(b" begin #".as_slice(), n)?;
-    page.tagged(b" p".as_slice(), cpu as u64)
-}
-
-fn print_end(page: &mut Page, n: u64, cpu: u32) -> Result<(), NoMemory>
-    ensures { OnOk result (page.new ≡ page.old ++ spaced (op_words (ops.Run (runs.End n cpu)))) }
-{
-    page.tagged(b" end #".as_slice(), n)?;
+    page.tagged(tag, n)?;
     page.tagged(b" p".as_slice(), cpu as u64)
 }
 
@@ -102,8 +97,8 @@ fn print_run(page: &mut Page, op: &RunOp) -> Result<(), NoMemory>
 {
     match *op {
         RunOp::Pick { n, cpu, at } => print_pick(page, n, cpu, at),
-        RunOp::Begin { n, cpu } => print_begin(page, n, cpu),
-        RunOp::End { n, cpu } => print_end(page, n, cpu),
+        RunOp::Begin { n, cpu } => print_serviced(page, b" begin #".as_slice(), n, cpu),
+        RunOp::End { n, cpu } => print_serviced(page, b" end #".as_slice(), n, cpu),
     }
 }
 

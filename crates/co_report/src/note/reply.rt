@@ -74,18 +74,12 @@ fn print_not_armed(page: &mut Page, code: i32) -> Result<(), NoMemory>
     page.signed(code)
 }
 
-fn print_stopped(page: &mut Page, code: i32, off: Option<u32>) -> Result<(), NoMemory>
-    ensures { OnOk result (page.new ≡ page.old ++ spaced (codes "stopped" ∷ signed_decimal code ∷ off_words off)) }
+/// A text, a code, and the queue that an arming was taken off.
+#[inline(always)]
+fn print_taken(page: &mut Page, text: &[u8], code: i32, off: Option<u32>) -> Result<(), NoMemory>
+    ensures { OnOk result (page.new ≡ page.old ++ (text.now ++ (signed_decimal code ++ spaced (off_words off)))) }
 {
-    page.text(b" stopped ".as_slice())?;
-    page.signed(code)?;
-    print_off(page, off)
-}
-
-fn print_drain_done(page: &mut Page, code: i32, off: Option<u32>) -> Result<(), NoMemory>
-    ensures { OnOk result (page.new ≡ page.old ++ spaced (codes "drained" ∷ signed_decimal code ∷ off_words off)) }
-{
-    page.text(b" drained ".as_slice())?;
+    page.text(text)?;
     page.signed(code)?;
     print_off(page, off)
 }
@@ -122,9 +116,9 @@ pub fn print_reply(page: &mut Page, reply: &Reply) -> Result<(), NoMemory>
         Reply::NotArmed { code } => print_not_armed(page, *code),
         Reply::NoHandler => page.text(b" nohandler".as_slice()),
         Reply::Worn => page.text(b" worn".as_slice()),
-        Reply::Stopped { code, off } => print_stopped(page, *code, *off),
+        Reply::Stopped { code, off } => print_taken(page, b" stopped ".as_slice(), *code, *off),
         Reply::Wait { n, took, off } => print_wait(page, *n, *took, *off),
-        Reply::Drained { code, off } => print_drain_done(page, *code, *off),
+        Reply::Drained { code, off } => print_taken(page, b" drained ".as_slice(), *code, *off),
         Reply::Busy => page.text(b" busy".as_slice()),
         Reply::Yes => page.text(b" yes".as_slice()),
         Reply::No => page.text(b" no".as_slice()),

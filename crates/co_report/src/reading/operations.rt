@@ -10,7 +10,7 @@ use crate::reading::parts::Parts;
 use crate::reading::values::{argument, arming, cpu, cpu_or_none, func, literal, time, truth};
 use co_object::{CallOp, Op, PlainOp, RunOp};
 use co_sbt::Sbt;
-use co_text::Cause;
+use co_text::{Cause, is_word};
 
 /// `uDUE pr uPREC`.
 #[inline(always)]
@@ -114,11 +114,11 @@ fn plain(op: PlainOp) -> Op
 fn run_by(names: &Names, word: &[u8], parts: &mut Parts) -> Result<Op, Cause>
     ensures { Gives (λ x. (x, parts.new)) result (choice (run_forms names.now) word.now parts.old) }
 {
-    if word == b"pick".as_slice() {
+    if is_word(word, b"pick".as_slice()) {
         pick(names, parts)
-    } else if word == b"begin".as_slice() {
+    } else if is_word(word, b"begin".as_slice()) {
         begin(names, parts)
-    } else if word == b"end".as_slice() {
+    } else if is_word(word, b"end".as_slice()) {
         end(names, parts)
     } else {
         Err(Cause::Form)
@@ -130,25 +130,25 @@ fn run_by(names: &Names, word: &[u8], parts: &mut Parts) -> Result<Op, Cause>
 fn op_by(names: &Names, word: &[u8], parts: &mut Parts) -> Result<Op, Cause>
     ensures { Gives (λ x. (x, parts.new)) result (choice (op_forms names.now) word.now parts.old) }
 {
-    if word == b"reset".as_slice() {
+    if is_word(word, b"reset".as_slice()) {
         reset(names, parts)
-    } else if word == b"schedule".as_slice() {
+    } else if is_word(word, b"schedule".as_slice()) {
         schedule(names, parts)
-    } else if word == b"stop".as_slice() {
+    } else if is_word(word, b"stop".as_slice()) {
         Ok(plain(PlainOp::Stop))
-    } else if word == b"adrain".as_slice() {
+    } else if is_word(word, b"adrain".as_slice()) {
         async_drain(names, parts)
-    } else if word == b"active".as_slice() {
+    } else if is_word(word, b"active".as_slice()) {
         Ok(plain(PlainOp::Active))
-    } else if word == b"pending".as_slice() {
+    } else if is_word(word, b"pending".as_slice()) {
         Ok(plain(PlainOp::Pending))
-    } else if word == b"deactivate".as_slice() {
+    } else if is_word(word, b"deactivate".as_slice()) {
         Ok(plain(PlainOp::Deactivate))
-    } else if word == b"init".as_slice() {
+    } else if is_word(word, b"init".as_slice()) {
         Ok(plain(PlainOp::Init))
-    } else if word == b"retire".as_slice() {
+    } else if is_word(word, b"retire".as_slice()) {
         Ok(plain(PlainOp::Retire))
-    } else if word == b"drain".as_slice() {
+    } else if is_word(word, b"drain".as_slice()) {
         drain(parts)
     } else {
         run_by(names, word, parts)

@@ -1,5 +1,5 @@
 //! The parts of a line between its spaces, taken one by one.
-ghost use Rattle.std.specs.Prelude.{◌≡◌, ◌≤◌, ◌∷◌, [], Ok, true, false, length, decimal, IfSome, MatchOption};
+ghost use Rattle.std.specs.Prelude.{◌≡◌, ◌==◌, ◌≤◌, ◌∷◌, [], Ok, true, false, length, decimal, IfSome, MatchOption};
 ghost use Rattle.std.specs.List.{position_or_len};
 ghost use Rattle.co_text.specs.Fallible.{Gives};
 ghost use Rattle.co_text.specs.Taking.{next, ended, option};
@@ -10,19 +10,19 @@ use crate::reading::plain::{ActorAct, behind_word, lettered_part, maker_part, nu
 use co_text::Cause;
 use std::marker::Model;
 
-/// The number of bytes before the first space.
-fn part_length(text: &[u8]) -> usize
-    ensures value { result ≡ position_or_len is_space text.now }
+/// The number of bytes before the first one that is `end`; of all where none is.
+pub fn length_before(end: u8, text: &[u8]) -> usize
+    ensures value { result ≡ position_or_len (λ c. c == end) text.now }
     ensures bound { result ≤ length text.now }
 {
-    text.iter().take_while(|c| **c != b' ').count()
+    text.iter().take_while(|c| **c != end).count()
 }
 
 /// The first part of a text, and the text from the space on that ends it, if a space does.
 fn split(text: &[u8]) -> (&[u8], &[u8])
     ensures { parts text.now ≡ result.0.now ∷ parts_left result.1.now }
 {
-    text.split_at(part_length(text))
+    text.split_at(length_before(b' ', text))
 }
 
 /// What is left of a line behind a part: the space that ended it and all behind that, or nothing. Contracts see the list of the

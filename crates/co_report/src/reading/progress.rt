@@ -1,19 +1,17 @@
 //! The histories of a report, line by line.
-ghost use Rattle.std.specs.Prelude.{◌≡◌, ◌+◌, ◌^◌, ◌<◌, length, drop, OnOk, IfOk};
-ghost use Rattle.co_text.specs.Fallible.{LineGives, GivesOrNoMemory};
-ghost use Rattle.co_text.specs.Lines.{lines_of};
-ghost use Rattle.co_report.specs.Reading.{closed_by, note_read, reads_on, line_after, histories_read, first_progress};
+ghost use Rattle.std.specs.Prelude.{◌≡◌, drop, OnOk, IfOk};
+ghost use Rattle.co_text.specs.Fallible.{LineGives};
+ghost use Rattle.co_report.specs.Reading.{closed_by, note_read, reads_on, line_after, first_progress};
 ghost use Rattle.co_report.specs.ReadingViews.{so_far, IsLineSorted, IsReaderReady, IsSetting};
 
 use crate::line::Line;
 use crate::reading::names::Names;
 use crate::reading::notes::note_of;
 use crate::reading::places::closing;
-use crate::reading::texts::no_memory;
 use co_object::Place;
 use co_program::Script;
 use co_sbt::{NoMemory, Seq};
-use co_text::{Cause, LineFault, ScriptFault, next_line};
+use co_text::{Cause, LineFault};
 use std::alloc::Global;
 
 /// How far the histories are read.
@@ -140,33 +138,4 @@ impl Progress {
             self.note(setting, number, line)
         }
     }
-}
-
-/// The histories, whose first line has this number, and the number behind their last line.
-pub fn histories_read(
-    alloc: Global,
-    setting: &Setting,
-    first: u64,
-    text: &[u8],
-) -> Result<(Progress, u64), ScriptFault>
-    requires setting { IsSetting setting.now }
-    requires few { first + length text.now < 2 ^ 32 }
-    ensures value { GivesOrNoMemory (λ x. so_far setting.now x.0) result (histories_read setting.now.script.now first (first_progress setting.now.script.now) (lines_of text.now)) }
-    ensures last { IfOk result (λ x. x.1 ≡ first + length (lines_of text.now)) }
-{
-    let mut progress = match Progress::opening(alloc, setting) {
-        Ok(progress) => progress,
-        Err(fault) => return Err(no_memory(fault)),
-    };
-    let mut rest = text;
-    let mut number = first;
-    while let Some((line, _, after)) = next_line(rest) {
-        match progress.line(alloc, setting, number, line) {
-            Ok(()) => {}
-            Err(fault) => return Err(fault.at(number)),
-        }
-        rest = after;
-        number += 1;
-    }
-    Ok((progress, number))
 }

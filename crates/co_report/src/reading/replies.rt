@@ -9,7 +9,7 @@ use crate::reading::values::{
     argument, arming, cpu, cpu_or_none, func, func_or_none, literal, time, truth,
 };
 use co_object::{Next, Reply};
-use co_text::Cause;
+use co_text::{Cause, is_word};
 
 /// `off pC` or `off -`.
 fn off(names: &Names, parts: &mut Parts) -> Result<Option<u32>, Cause>
@@ -161,21 +161,21 @@ fn ended(names: &Names, parts: &mut Parts, into: &mut Reply) -> Result<(), Cause
 fn valued(names: &Names, word: &[u8], parts: &mut Parts, into: &mut Reply) -> Result<(), Cause>
     ensures { Gives (λ _. (into.new, parts.new)) result (choice (valued_replies names.now) word.now parts.old) }
 {
-    if word == b"armed".as_slice() {
+    if is_word(word, b"armed".as_slice()) {
         armed(names, parts, into)
-    } else if word == b"notarmed".as_slice() {
+    } else if is_word(word, b"notarmed".as_slice()) {
         not_armed(parts, into)
-    } else if word == b"stopped".as_slice() {
+    } else if is_word(word, b"stopped".as_slice()) {
         stopped(names, parts, into)
-    } else if word == b"wait".as_slice() {
+    } else if is_word(word, b"wait".as_slice()) {
         wait(names, parts, into)
-    } else if word == b"drained".as_slice() {
+    } else if is_word(word, b"drained".as_slice()) {
         drained(names, parts, into)
-    } else if word == b"inuse".as_slice() {
+    } else if is_word(word, b"inuse".as_slice()) {
         in_use(parts, into)
-    } else if word == b"go".as_slice() {
+    } else if is_word(word, b"go".as_slice()) {
         go(names, parts, into)
-    } else if word == b"ended".as_slice() {
+    } else if is_word(word, b"ended".as_slice()) {
         ended(names, parts, into)
     } else {
         Err(Cause::Form)
@@ -187,25 +187,25 @@ fn valued(names: &Names, word: &[u8], parts: &mut Parts, into: &mut Reply) -> Re
 fn reply_by(names: &Names, word: &[u8], parts: &mut Parts, into: &mut Reply) -> Result<(), Cause>
     ensures { Gives (λ _. (into.new, parts.new)) result (choice (reply_forms names.now) word.now parts.old) }
 {
-    if word == b"nohandler".as_slice() {
+    if is_word(word, b"nohandler".as_slice()) {
         put(Reply::NoHandler, parts, into)
-    } else if word == b"worn".as_slice() {
+    } else if is_word(word, b"worn".as_slice()) {
         put(Reply::Worn, parts, into)
-    } else if word == b"busy".as_slice() {
+    } else if is_word(word, b"busy".as_slice()) {
         put(Reply::Busy, parts, into)
-    } else if word == b"yes".as_slice() {
+    } else if is_word(word, b"yes".as_slice()) {
         put(Reply::Yes, parts, into)
-    } else if word == b"no".as_slice() {
+    } else if is_word(word, b"no".as_slice()) {
         put(Reply::No, parts, into)
-    } else if word == b"done".as_slice() {
+    } else if is_word(word, b"done".as_slice()) {
         put(Reply::Done, parts, into)
-    } else if word == b"live".as_slice() {
+    } else if is_word(word, b"live".as_slice()) {
         put(Reply::Live, parts, into)
-    } else if word == b"retired".as_slice() {
+    } else if is_word(word, b"retired".as_slice()) {
         put(Reply::Retired, parts, into)
-    } else if word == b"hold".as_slice() {
+    } else if is_word(word, b"hold".as_slice()) {
         put(Reply::Hold, parts, into)
-    } else if word == b"skip".as_slice() {
+    } else if is_word(word, b"skip".as_slice()) {
         put(Reply::Skip, parts, into)
     } else {
         valued(names, word, parts, into)

@@ -71,7 +71,7 @@ pub fn behind_first(text: &[u8]) -> Result<&[u8], ScriptFault>
     match next_line(text) {
         None => Err(bad(0, Cause::Version)),
         Some((line, _, after)) => {
-            if line == b"callout-report 1".as_slice() {
+            if is_word(line, b"callout-report 1".as_slice()) {
                 Ok(after)
             } else {
                 Err(bad(1, Cause::Version))
@@ -116,7 +116,7 @@ fn same_line_by_line(text: &[u8], wanted: &[u8]) -> Result<(), ScriptFault>
         let Some((want, _, behind)) = next_line(left) else {
             return Err(bad(number, Cause::Form));
         };
-        if line != want {
+        if !is_word(line, want) {
             return Err(bad(number, Cause::Form));
         }
         rest = after;

@@ -1,21 +1,20 @@
 //! The values that words of a note carry, each in its one spelling: no zero stands before another digit. Each function takes
 //! the next part of a line; it answers `Form` where there is none, or where it is not spelled so.
-ghost use Rattle.std.specs.Prelude.{◌≡◌, ◌==◌, ◌∷◌, ◌++◌, ◌+◌, ◌≤◌, ◌<◌, ◌^◌, true, false, decimal, length, IfOk};
-ghost use Rattle.std.specs.List.{position_or_len};
+ghost use Rattle.std.specs.Prelude.{◌≡◌, ◌==◌, ◌∷◌, ◌++◌, ◌+◌, ◌<◌, ◌^◌, true, false, decimal, IfOk};
 ghost use Rattle.co_text.specs.Fallible.{Gives};
 ghost use Rattle.co_text.specs.Values.{behind};
 ghost use Rattle.co_text.specs.Taking.{next};
-ghost use Rattle.co_report.specs.NoteValues.{below, lettered, count64, count32, time_in_units, arming, given, callout_value, func_of, cpu_in, or_dash, truth, actor_in, is_slash, maker, maker_is, own_kind, HasFewActors};
+ghost use Rattle.co_report.specs.NoteValues.{below, lettered, count64, count32, time_in_units, arming, given, callout_value, func_of, cpu_in, or_dash, truth, actor_in, maker, maker_is, own_kind, HasFewActors};
 ghost use Rattle.co_report.specs.NoteForms.{literal};
 ghost use Rattle.co_report.specs.Parts.{parts, is_space};
 ghost use Rattle.co_report.specs.Plain.{is_actor_letter};
 
 use crate::reading::names::Names;
-use crate::reading::parts::Parts;
+use crate::reading::parts::{Parts, length_before};
 use crate::reading::plain::is_shortest;
 use co_object::OwnKind;
 use co_sbt::Sbt;
-use co_text::{Cause, number};
+use co_text::{Cause, is_word, number};
 
 /// A number below a bound.
 #[inline(always)]
@@ -141,20 +140,12 @@ pub struct Maker {
     pub act: u64,
 }
 
-/// How many bytes stand before the slash.
-fn name_length(word: &[u8]) -> usize
-    ensures value { result ≡ position_or_len is_slash word.now }
-    ensures bound { result ≤ length word.now }
-{
-    word.iter().take_while(|c| **c != b'/').count()
-}
-
 #[inline(never)]
 fn maker_of(names: &Names, word: &[u8]) -> Result<Maker, Cause>
     requires { HasFewActors names.now }
     ensures { Gives (λ m. m) result (maker names.now word.now) }
 {
-    let (name, rest) = word.split_at(name_length(word));
+    let (name, rest) = word.split_at(length_before(b'/', word));
     let actor = actor_in(names, name)?;
     let act = lettered64(b'/', rest)?;
     Ok(Maker { actor, act })
@@ -181,13 +172,13 @@ fn own_maker(names: &Names, actor: u32, word: &[u8]) -> Result<Maker, Cause>
 fn own_kind_of(word: &[u8]) -> Result<OwnKind, Cause>
     ensures { Gives (λ k. k) result (own_kind word.now) }
 {
-    if word == b"notheld".as_slice() {
+    if is_word(word, b"notheld".as_slice()) {
         Ok(OwnKind::NotHeld)
-    } else if word == b"holdslock".as_slice() {
+    } else if is_word(word, b"holdslock".as_slice()) {
         Ok(OwnKind::HoldsLock)
-    } else if word == b"holding".as_slice() {
+    } else if is_word(word, b"holding".as_slice()) {
         Ok(OwnKind::Holding)
-    } else if word == b"notholding".as_slice() {
+    } else if is_word(word, b"notholding".as_slice()) {
         Ok(OwnKind::NotHolding)
     } else {
         Err(Cause::Form)

@@ -2,6 +2,8 @@
 use Rattle.std.proofs.Common.{◌≡◌, true, arith}
 use Rattle.co_script.specs.Reading.{script_of}
 use Rattle.co_script.specs.Fits.{fits}
+use Rattle.co_report.specs.ReadingViews.{halves_view}
+use Rattle.co_report.proofs.LineByLine.{halves-ahead}
 use Rattle.co_report.proofs.OneSpelling.{small_script}
 use Rattle.co_report.proofs.ScriptLines.{in_report-ok}
 use Rattle.co_report.proofs.reading.line_by_line.open_halves.Goals as goal
@@ -23,3 +25,9 @@ invariant_of-result c =
       actors = c.names_of-names.ensures.few;
       few = omega (arith, c.requires.count, c.requires.notes);
     }
+
+pub returns : goal.returns
+returns c = record {
+  opened = halves-ahead c.in_ok-script.script (halves_view c.args.halves) c.in_ok-script.ensures c.in_ok-is_canonical.ensures;
+  short = c.requires.notes;
+}
