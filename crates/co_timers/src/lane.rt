@@ -5,6 +5,7 @@ ghost use Rattle.co_hand.specs.Ports.{IsCoverAnswered, NamesCpuBelow};
 ghost use Rattle.co_timers.specs.Handles.{IsHandle};
 
 use crate::Timers;
+use crate::timers::held_of;
 use co_hand::PortReply;
 use co_lock::{Hold, covers};
 use co_object::{CallOp, PlainOp};
@@ -39,8 +40,7 @@ impl Lane {
         ensures answered { IsCoverAnswered timers.now.params.specs (option_copied hold.entry) (record { i = i; op = op.now; answer = result }) }
     {
         let asked = CallOp::Plain(*op);
-        let held = hold.map(|hold| hold.held());
-        if !covers(held, &timers.spec(i), &asked) {
+        if !covers(held_of(hold), &timers.spec(i), &asked) {
             return PortReply::NotHeld;
         }
         let reply = timers.make(rt, &mut self.passes, self.act, i, &asked, hold);
