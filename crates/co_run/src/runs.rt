@@ -170,12 +170,8 @@ fn play_books<N: Name + Send + Sync, G: Gate + Sync, B: Book + Send, R: Threads 
     ensures over { IfOk result (λ all. AreOver script.now N.name 0 all.passes (map B.notes all.books)) }
     ensures count { IfOk result (λ all. length all.books ≡ actor_count script.now) }
 {
+    let groups = deal_all::<N, B>(alloc, script, passes, books)?;
     let locks = ClientLocks::new(alloc, script.locks.as_slice())?;
-    let Crew {
-        clients,
-        cpus,
-        interrupts,
-    } = deal_all::<N, B>(alloc, script, passes, books)?;
     let shared = Shared {
         script,
         service,
@@ -183,7 +179,7 @@ fn play_books<N: Name + Send + Sync, G: Gate + Sync, B: Book + Send, R: Threads 
         gate,
         longest: longest_of(script),
     };
-    let crew = play_all(rt, alloc, &shared, clients, cpus, interrupts)?;
+    let crew = play_all(rt, alloc, &shared, groups)?;
     add_crew::<N, B>(alloc, script, crew)
 }
 
