@@ -238,6 +238,19 @@ fn told<B: Notebook>(alloc: Global, script: &Script, left: Left<B>) -> Result<Ra
     })
 }
 
+/// The same, where the notes are packed.
+fn packed(alloc: Global, script: &Script, left: Left<PackedBook>) -> Result<PackedRan, NoMemory>
+    requires { IsRan script.now (record { lists = map (λ b. b.notes.items) left.books; closing = left.closing }) }
+    ensures { IfOk result (λ ran. IsRan script.now (record { lists = ran.lists; closing = ran.closing })) }
+{
+    let _ = script;
+    let Left { books, closing } = left;
+    Ok(PackedRan {
+        lists: packed_lists(alloc, books)?,
+        closing,
+    })
+}
+
 /// Runs a script on threads over an open service, each actor in a branch of nested joins, and ends the service. Each actor
 /// notes into one of the books, in the order of the actors' numbers; all are empty.
 ///
@@ -379,9 +392,6 @@ pub fn run_packed<G: Gate + Sync, R: Threads + Wait + Sync>(
     ensures { IfOk result (λ ran. IsRan script.now (record { lists = ran.lists; closing = ran.closing })) }
 {
     let books = empty_books::<PackedNote>(alloc, script)?;
-    let Left { books, closing } = run_booted(rt, alloc, script, gate, books)?;
-    Ok(PackedRan {
-        lists: packed_lists(alloc, books)?,
-        closing,
-    })
+    let left = run_booted(rt, alloc, script, gate, books)?;
+    packed(alloc, script, left)
 }

@@ -1,5 +1,5 @@
 -- The jobs of a group of actors, and what they bring back: the first stands last.
-use Rattle.std.proofs.Common.{◌≡◌, ℕ, suc, ◌+◌, ◌⊎◌, inl, inr, List, [], ◌∷◌, ◌++◌, map, length, sym, subst, arith, length-append}
+use Rattle.std.proofs.Common.{◌≡◌, ℕ, suc, ◌+◌, ◌≤◌, ◌⊎◌, inl, inr, List, [], ◌∷◌, ◌++◌, map, length, sym, subst, arith, length-append}
 use Rattle.std.proofs.lemmas.List.{length-map, map-append}
 use Rattle.std.specs.Prelude.{Err, IfOk, Ok, Result, Some, slice_get}
 use Rattle.co_object.specs.declared.note.Note.{Note}
@@ -60,6 +60,14 @@ module _ {B : Type 0} (s : Script) (name : ServiceName) (notes : B → List Note
   }
 
 module _ {B : Type 0} (s : Script) (name : ServiceName) (notes : B → List Note) where
+  -- no one is of an empty group
+  pub group_over : (all : List (Played B)) (first end jobs : ℕ) → all ≡ [] → first + jobs ≡ end → end ≤ first → IsGroup (HavePlayed notes s name) first end all
+  group_over all first end jobs none count over =
+      subst (IsGroup (HavePlayed notes s name) first end) (sym none)
+      (record { count = (let same : first + 0 ≡ end = omega (arith, count, over) in same); each = λ k one is a at. absurd (no_more k one is) }) where
+        no_more : (k : ℕ) (one : Played B) → slice_get [] k ≡ Some one → ⊥
+        no_more k one is = cc
+
   -- one more has played, before these
   pub group_more : (all : List (Played B)) (one : Played B) (number end : ℕ) → IsGroup (HavePlayed notes s name) (number + 1) end all → IsActorOver s name number one.passes (notes one.book) → IsGroup (HavePlayed notes s name) number end (all ++ one ∷ [])
   group_more all one number end group over = record {
