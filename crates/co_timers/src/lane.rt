@@ -23,7 +23,6 @@ impl Lane {
     ghost use Rattle.co_timers.specs.Ports.{CameTo, handle_of};
 
     /// A call on callout `i` under this hold, which uses up an act where it is made.
-    #[tactic(auto, using(crate::proofs::Allowed::allowed))]
     pub(crate) fn ask<N: Name, R: Wait>(
         &mut self,
         rt: &R,
