@@ -1,5 +1,5 @@
 -- A list with one item more at its end.
-use Rattle.std.proofs.Common.{◌≡◌, ℕ, zero, suc, ◌⊎◌, inl, inr, List, [], ◌∷◌, ◌++◌, length, refl, sym, ap, subst}
+use Rattle.std.proofs.Common.{◌≡◌, ℕ, zero, suc, ◌⊎◌, inl, inr, List, [], ◌∷◌, ◌++◌, length, refl, sym, ap, subst, ◌∙◌}
 use Rattle.std.specs.Prelude.{Some, slice_get}
 
 module _ {X : Type 0} where
@@ -30,3 +30,12 @@ module _ {X : Type 0} where
     at_either : (slice_get xs k ≡ Some y) ⊎ ((k ≡ length xs) × (y ≡ x)) → P y
     at_either (inl here) = each k y here
     at_either (inr there) = subst P (sym there.1) one
+
+  -- one more is taken of those that are left
+  pub one_taken : (taken left rest all : List X) (x : X) → left ≡ x ∷ rest → taken ++ left ≡ all → (taken ++ x ∷ []) ++ rest ≡ all
+  one_taken [] left rest all x is are = sym is ∙ are
+  one_taken (y ∷ taken) left rest [] x is are = absurd cc
+  one_taken (y ∷ taken) left rest (z ∷ all) x is are =
+      let same : y ≡ z = cc in
+      let tail : taken ++ left ≡ all = cc in
+      ap (λ (l : List X). y ∷ l) (one_taken taken left rest all x is tail) ∙ ap (λ (w : X). w ∷ all) same
