@@ -23,6 +23,15 @@ pub all_here : {A : Type 0} (xs : List A) → map is_some (map Some xs) ≡ repl
 all_here [] = refl
 all_here (x ∷ xs) = ap (λ l. true ∷ l) (all_here xs)
 
+-- one more is taken of those that are left
+pub one_taken : {A : Type 0} (taken left rest all : List A) (x : A) → left ≡ x ∷ rest → taken ++ left ≡ all → (taken ++ x ∷ []) ++ rest ≡ all
+one_taken [] left rest all x is are = sym is ∙ are
+one_taken (y ∷ taken) left rest [] x is are = absurd cc
+one_taken (y ∷ taken) left rest (z ∷ all) x is are =
+    let same : y ≡ z = cc in
+    let tail : taken ++ left ≡ all = cc in
+    ap (λ l. y ∷ l) (one_taken taken left rest all x is tail) ∙ ap (λ w. w ∷ all) same
+
 module _ (name : ServiceName) (p : Params) where
   -- who has seen nothing has a handle
   pub booted_handle : (j : ℕ) (q : PassesView) → AreNamed name p → q ≡ booted name p j → IsHandle name p q
