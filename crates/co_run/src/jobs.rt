@@ -119,6 +119,15 @@ pub(crate) fn deal_all<N: Name, B: Book>(
     })
 }
 
+/// What an actor brings back whose program is over.
+fn played_by<B: Book>(actor: Actor<'_, B>) -> Played<B>
+    ensures passes { result.passes ≡ actor.entry.passes }
+    ensures book { result.book ≡ actor.entry.book }
+{
+    let Actor { passes, book, .. } = actor;
+    Played { passes, book }
+}
+
 /// Plays the whole program of the actor of this number.
 pub(crate) fn play_job<B: Book, N: Name, G: Gate, R: Wait + Sync>(
     rt: &R,
@@ -132,6 +141,5 @@ pub(crate) fn play_job<B: Book, N: Name, G: Gate, R: Wait + Sync>(
     let Job { passes, book } = job;
     let mut actor = Actor::begins(shared, number, passes, book);
     actor.play(rt, shared)?;
-    let Actor { passes, book, .. } = actor;
-    Ok(Played { passes, book })
+    Ok(played_by(actor))
 }

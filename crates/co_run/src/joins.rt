@@ -2,8 +2,8 @@
 //!
 //! A join runs its second branch in the thread that calls it, and the first one in a new thread, or last where none can be
 //! had. So the clients come first, then the interrupts, then the CPUs: an actor waits only for actors that have begun.
-ghost use Rattle.std.specs.Prelude.{◌≡◌, ◌+◌, ◌<◌, IfOk, OnOk, length};
-ghost use Rattle.co_run.specs.Jobs.{AreJobs, HasJobs, HavePlayed, IsGroup, IsJob};
+ghost use Rattle.std.specs.Prelude.{◌≡◌, ◌+◌, ◌<◌, IfOk, Ok, OnOk, length};
+ghost use Rattle.co_run.specs.Jobs.{AreDealt, AreJobs, HasJobs, HavePlayed, IsCrew, IsGroup, IsJob};
 ghost use Rattle.co_run.specs.Over.{IsActorOver};
 ghost use denote.Param.Send.{IsSend, IsSync};
 
@@ -53,6 +53,51 @@ fn add<N: Name, B: Book>(
     all.push(one)
 }
 
+/// What the first of these actors and the rest of them bring back, in their order: the first comes last.
+fn all_of<N: Name, B: Book>(
+    script: &Script,
+    rest: Result<Seq<Played<B>>, NoMemory>,
+    one: Result<Played<B>, NoMemory>,
+    first: u32,
+    end: u32,
+) -> Result<Seq<Played<B>>, NoMemory>
+    requires rest { IfOk rest (IsGroup (HavePlayed B.notes script.now N.name) (first + 1) end) }
+    requires one { IfOk one (λ played. IsActorOver script.now N.name first played.passes (B.notes played.book)) }
+    ensures { IfOk result (IsGroup (HavePlayed B.notes script.now N.name) first end) }
+{
+    let mut all = rest?;
+    add::<N, B>(script, &mut all, one?, first, end)?;
+    Ok(all)
+}
+
+/// Both of two outcomes, or `NoMemory` where one of them is.
+fn both<S: Drop, T: Drop>(
+    one: Result<S, NoMemory>,
+    other: Result<T, NoMemory>,
+) -> Result<(S, T), NoMemory>
+    ensures one { IfOk result (λ pair. one ≡ Ok pair.0) }
+    ensures other { IfOk result (λ pair. other ≡ Ok pair.1) }
+{
+    Ok((one?, other?))
+}
+
+/// The crew of these actors, or `NoMemory` where a part of it is refused.
+fn crew_of<T: Drop>(
+    others: Result<(T, T), NoMemory>,
+    clients: Result<T, NoMemory>,
+) -> Result<Crew<T>, NoMemory>
+    ensures clients { IfOk result (λ crew. clients ≡ Ok crew.clients) }
+    ensures others { IfOk result (λ crew. others ≡ Ok (crew.cpus, crew.interrupts)) }
+{
+    let clients = clients?;
+    let (cpus, interrupts) = others?;
+    Ok(Crew {
+        clients,
+        cpus,
+        interrupts,
+    })
+}
+
 /// Plays all of these jobs at once, each in a thread of its own. What they bring back stands in their order: the first
 /// comes last.
 fn play_group<B: Book + Send, N: Name + Send + Sync, G: Gate + Sync, R: Threads + Wait + Sync>(
@@ -89,9 +134,7 @@ fn play_group<B: Book + Send, N: Name + Send + Sync, G: Gate + Sync, R: Threads 
             ensures { IfOk result (λ played. IsActorOver shared.entry.now.script.now N.name first played.passes (B.notes played.book)) }
         { play_job(rt, shared, first, job) },
     );
-    let mut all = rest?;
-    add::<N, B>(shared.script, &mut all, one?, first, end)?;
-    Ok(all)
+    all_of::<N, B>(shared.script, rest, one, first, end)
 }
 
 /// Plays the programs of all interrupts and of all CPUs at once. The interrupts begin first.
@@ -104,8 +147,7 @@ fn play_cpus<B: Book + Send, N: Name + Send + Sync, G: Gate + Sync, R: Threads +
 ) -> Result<(Seq<Played<B>>, Seq<Played<B>>), NoMemory>
     requires cpus { HasJobs B.notes B.spare shared.now.script.now N.name cpus }
     requires interrupts { HasJobs B.notes B.spare shared.now.script.now N.name interrupts }
-    ensures cpus { IfOk result (λ all. IsGroup (HavePlayed B.notes shared.now.script.now N.name) cpus.first cpus.end all.0) }
-    ensures interrupts { IfOk result (λ all. IsGroup (HavePlayed B.notes shared.now.script.now N.name) interrupts.first interrupts.end all.1) }
+    ensures { IfOk result (λ all. IsGroup (HavePlayed B.notes shared.now.script.now N.name) cpus.first cpus.end all.0 × IsGroup (HavePlayed B.notes shared.now.script.now N.name) interrupts.first interrupts.end all.1) }
 {
     let (second, first) = join(
         rt,
@@ -118,7 +160,7 @@ fn play_cpus<B: Book + Send, N: Name + Send + Sync, G: Gate + Sync, R: Threads +
             ensures { IfOk result (IsGroup (HavePlayed B.notes shared.entry.now.script.now N.name) interrupts.first interrupts.end) }
         { play_group(rt, alloc, shared, interrupts) },
     );
-    Ok((second?, first?))
+    both(second, first)
 }
 
 /// Plays the programs of all actors at once. The clients begin first.
@@ -131,34 +173,26 @@ pub(crate) fn play_all<
     rt: &R,
     alloc: Global,
     shared: &Shared<'_, N, G>,
-    clients: Group<B>,
-    cpus: Group<B>,
-    interrupts: Group<B>,
+    groups: Crew<Group<B>>,
 ) -> Result<Crew<Seq<Played<B>>>, NoMemory>
-    requires clients { HasJobs B.notes B.spare shared.now.script.now N.name clients }
-    requires cpus { HasJobs B.notes B.spare shared.now.script.now N.name cpus }
-    requires interrupts { HasJobs B.notes B.spare shared.now.script.now N.name interrupts }
-    ensures clients { IfOk result (λ all. IsGroup (HavePlayed B.notes shared.now.script.now N.name) clients.first clients.end all.clients) }
-    ensures cpus { IfOk result (λ all. IsGroup (HavePlayed B.notes shared.now.script.now N.name) cpus.first cpus.end all.cpus) }
-    ensures interrupts { IfOk result (λ all. IsGroup (HavePlayed B.notes shared.now.script.now N.name) interrupts.first interrupts.end all.interrupts) }
+    requires { AreDealt B.notes B.spare shared.now.script.now N.name groups }
+    ensures { IfOk result (λ all. IsCrew shared.now.script.now (HavePlayed B.notes shared.now.script.now N.name) all.clients all.cpus all.interrupts) }
 {
+    let Crew {
+        clients,
+        cpus,
+        interrupts,
+    } = groups;
     let (others, first) = join(
         rt,
         || -> Result<(Seq<Played<B>>, Seq<Played<B>>), NoMemory>
             requires { IsSync R.row × IsSync G.row × IsSend B.row × HasJobs B.notes B.spare shared.now.script.now N.name cpus × HasJobs B.notes B.spare shared.now.script.now N.name interrupts }
-            ensures cpus { IfOk result (λ all. IsGroup (HavePlayed B.notes shared.entry.now.script.now N.name) cpus.first cpus.end all.0) }
-            ensures interrupts { IfOk result (λ all. IsGroup (HavePlayed B.notes shared.entry.now.script.now N.name) interrupts.first interrupts.end all.1) }
+            ensures { IfOk result (λ all. IsGroup (HavePlayed B.notes shared.entry.now.script.now N.name) cpus.first cpus.end all.0 × IsGroup (HavePlayed B.notes shared.entry.now.script.now N.name) interrupts.first interrupts.end all.1) }
         { play_cpus(rt, alloc, shared, cpus, interrupts) },
         || -> Result<Seq<Played<B>>, NoMemory>
             requires { IsSync R.row × IsSync G.row × IsSend B.row × HasJobs B.notes B.spare shared.now.script.now N.name clients }
             ensures { IfOk result (IsGroup (HavePlayed B.notes shared.entry.now.script.now N.name) clients.first clients.end) }
         { play_group(rt, alloc, shared, clients) },
     );
-    let clients = first?;
-    let (cpus, interrupts) = others?;
-    Ok(Crew {
-        clients,
-        cpus,
-        interrupts,
-    })
+    crew_of(others, first)
 }

@@ -170,12 +170,8 @@ fn play_books<N: Name + Send + Sync, G: Gate + Sync, B: Book + Send, R: Threads 
     ensures over { IfOk result (λ all. AreOver script.now N.name 0 all.passes (map B.notes all.books)) }
     ensures count { IfOk result (λ all. length all.books ≡ actor_count script.now) }
 {
+    let groups = deal_all::<N, B>(alloc, script, passes, books)?;
     let locks = ClientLocks::new(alloc, script.locks.as_slice())?;
-    let Crew {
-        clients,
-        cpus,
-        interrupts,
-    } = deal_all::<N, B>(alloc, script, passes, books)?;
     let shared = Shared {
         script,
         service,
@@ -183,7 +179,7 @@ fn play_books<N: Name + Send + Sync, G: Gate + Sync, B: Book + Send, R: Threads 
         gate,
         longest: longest_of(script),
     };
-    let crew = play_all(rt, alloc, &shared, clients, cpus, interrupts)?;
+    let crew = play_all(rt, alloc, &shared, groups)?;
     add_crew::<N, B>(alloc, script, crew)
 }
 
@@ -238,6 +234,19 @@ fn told<B: Notebook>(alloc: Global, script: &Script, left: Left<B>) -> Result<Ra
     let Left { books, closing } = left;
     Ok(Ran {
         lists: lists_of(alloc, books)?,
+        closing,
+    })
+}
+
+/// The same, where the notes are packed.
+fn packed(alloc: Global, script: &Script, left: Left<PackedBook>) -> Result<PackedRan, NoMemory>
+    requires { IsRan script.now (record { lists = map (λ b. b.notes.items) left.books; closing = left.closing }) }
+    ensures { IfOk result (λ ran. IsRan script.now (record { lists = ran.lists; closing = ran.closing })) }
+{
+    let _ = script;
+    let Left { books, closing } = left;
+    Ok(PackedRan {
+        lists: packed_lists(alloc, books)?,
         closing,
     })
 }
@@ -383,9 +392,6 @@ pub fn run_packed<G: Gate + Sync, R: Threads + Wait + Sync>(
     ensures { IfOk result (λ ran. IsRan script.now (record { lists = ran.lists; closing = ran.closing })) }
 {
     let books = empty_books::<PackedNote>(alloc, script)?;
-    let Left { books, closing } = run_booted(rt, alloc, script, gate, books)?;
-    Ok(PackedRan {
-        lists: packed_lists(alloc, books)?,
-        closing,
-    })
+    let left = run_booted(rt, alloc, script, gate, books)?;
+    packed(alloc, script, left)
 }

@@ -1,6 +1,6 @@
 -- A call that nothing refuses.
-use Rattle.std.proofs.Common.{◌≡◌, ℕ, ◌<◌, Bool, true, false, cond, List, ◌++◌, length, refl, sym, subst, ◌∙◌, arith}
-use Rattle.std.specs.Prelude.{is_some, nat_lt}
+use Rattle.std.proofs.Common.{◌≡◌, ℕ, ◌<◌, Bool, true, false, cond, List, ◌++◌, length, refl, sym, ap, subst, ◌∙◌, arith}
+use Rattle.std.specs.Prelude.{is_some, nat_lt, Result, Ok, Err}
 use Rattle.std.proofs.lemmas.Bool.{ltb-true}
 use Rattle.std.specs.declared.option.Option.{Option}
 use Rattle.std.specs.declared.option.Option.TheVariants.{Some, None}
@@ -24,8 +24,8 @@ use Rattle.co_timers.specs.declared.answers.Refused.{Refused}
 use Rattle.co_timers.specs.declared.answers.Refused.TheVariants.{NoCallout, NoCpu}
 use Rattle.co_timers.specs.Acts.{IsAct, IsCallMade}
 use Rattle.co_timers.specs.Drains.{is_try}
-use Rattle.co_timers.specs.Answers.{names_cpu, refusal, uncovered}
-use Rattle.co_timers.specs.Handles.{HandleView, IsHandle}
+use Rattle.co_timers.specs.Answers.{IsSaid, names_cpu, refusal, uncovered}
+use Rattle.co_timers.specs.Handles.{HandleView, IsHandle, next_act}
 use Rattle.co_timers.proofs.Replies.{drain_said}
 use Rattle.co_timers.proofs.Told.{all_sized, called_reply}
 
@@ -78,6 +78,23 @@ said_by word p q i op reply r says same act =
     let it : r ≡ reply = cc in
     let h = act.made.answered in
     subst (λ x. is_some (word x) ≡ true) (sym h.alone ∙ it) (says (state (spec_at p.passes.params i) (seen_of p.passes i ++ h.between)))
+
+-- what a call answers in the word of its reply
+pub said_as : {A : Type 0} (word : Reply → Option A) (p q : HandleView) (hold : Option Held) (i : ℕ) (op : CallOp) (reply : Reply) (said : A) → word reply ≡ Some said → IsSaid Some p hold i op (Ok reply) q → IsSaid word p hold i op (Ok said) q
+said_as word p q hold i op reply said is h =
+    let same : Some h.1.0 ≡ Some reply = h.1.1 in
+    let it : h.1.0 ≡ reply = cc in
+    (h.0, (h.1.0, ap word it ∙ is, h.1.2))
+
+-- a call that was made is told by its reply
+pub made_said : (p q : HandleView) (params : Params) (hold : Option Held) (i : ℕ) (op : CallOp) (reply : Reply) → p.passes.params ≡ params → refusal params hold i op ≡ None → IsCallMade p.passes p.act i op reply q.passes → q.act ≡ next_act p.act → IsSaid Some p hold i op (Ok reply) q
+made_said p q params hold i op reply same none made counts =
+    (subst (λ (r : Params). refusal r hold i op ≡ None) (sym same) none, (reply, refl, record { made = made; counts = counts }))
+
+-- a call that was refused, and changed nothing
+pub refused_said : {A : Type 0} (word : Reply → Option A) (p q : HandleView) (params : Params) (hold : Option Held) (i : ℕ) (op : CallOp) (out : Result A Refused) (why : Refused) → out ≡ Err why → p.passes.params ≡ params → refusal params hold i op ≡ Some why → q ≡ p → IsSaid word p hold i op out q
+refused_said word p q params hold i op out why is same refused unchanged =
+    subst (λ (o : Result _ Refused). IsSaid word p hold i op o q) (sym is) (subst (λ (r : Params). refusal r hold i op ≡ Some why) (sym same) refused, unchanged)
 
 pub tries : (p q : PassesView) (act i : ℕ) (took : Bool) (reply : Reply) → IsCallMade p act i (DrainTry took) reply q → is_try reply ≡ true
 tries p q act i took reply m =

@@ -2,7 +2,7 @@
 use Rattle.std.proofs.Common.{◌≡◌, ℕ, zero, suc, ◌+◌, ◌<◌, ◌≤◌, ◌==◌, Bool, true, false, replicate, List, [], ◌∷◌, ◌++◌, length, map, set, refl, sym, ap, ◌∙◌, subst, arith, length-append}
 use Rattle.std.proofs.lemmas.List.{length-map}
 use Rattle.std.proofs.Math.ListN.{length-set}
-use Rattle.std.specs.Prelude.{is_some, slice_get}
+use Rattle.std.specs.Prelude.{IfSome, is_some, slice_get}
 use Rattle.std.specs.List.{All}
 use Rattle.std.specs.declared.option.Option.{Option}
 use Rattle.std.specs.declared.option.Option.TheVariants.{Some, None}
@@ -22,6 +22,15 @@ use Rattle.co_timers.specs.Posts.{ArePosts}
 pub all_here : {A : Type 0} (xs : List A) → map is_some (map Some xs) ≡ replicate (length xs) true
 all_here [] = refl
 all_here (x ∷ xs) = ap (λ l. true ∷ l) (all_here xs)
+
+-- one more is taken of those that are left
+pub one_taken : {A : Type 0} (taken left rest all : List A) (x : A) → left ≡ x ∷ rest → taken ++ left ≡ all → (taken ++ x ∷ []) ++ rest ≡ all
+one_taken [] left rest all x is are = sym is ∙ are
+one_taken (y ∷ taken) left rest [] x is are = absurd cc
+one_taken (y ∷ taken) left rest (z ∷ all) x is are =
+    let same : y ≡ z = cc in
+    let tail : taken ++ left ≡ all = cc in
+    ap (λ l. y ∷ l) (one_taken taken left rest all x is tail) ∙ ap (λ w. w ∷ all) same
 
 module _ (name : ServiceName) (p : Params) where
   -- who has seen nothing has a handle
@@ -65,6 +74,15 @@ module _ (name : ServiceName) (p : Params) where
           let there : slice_get (set seats a None) j ≡ Some None = ap (λ k. slice_get (set seats a None) k) same ∙ get_set seats a None low in
           absurd (cc)
       go j q false is h = are.each j q (sym (get_else seats a j None (λ same. let t = same_itself j a same in cc)) ∙ h)
+
+    -- who is here has seen nothing, and has a handle
+    pub seat_booted : (j : ℕ) (o : Option PassesView) → slice_get seats j ≡ Some o → IfSome o (λ q. q ≡ booted name p j)
+    seat_booted j None h = tt
+    seat_booted j (Some q) h = are.each j q h
+
+    pub seat_handle : (j : ℕ) (o : Option PassesView) → slice_get seats j ≡ Some o → IfSome o (IsHandle name p)
+    seat_handle j None h = tt
+    seat_handle j (Some q) h = booted_handle j q are.named (are.each j q h)
 
     pub posts_back : (after : RoomView PassesView) (q : PassesView) → AreOf name p q → after.items ≡ back.items ++ q ∷ [] → back.spare ≤ after.spare + 1 → ArePosts name p seats after
     posts_back after q of items spare = record {

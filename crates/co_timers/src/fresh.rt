@@ -32,6 +32,34 @@ impl Model for TimersFresh {
     ghost invariant = { λ f. AreFreshTimers f.fresh f.passes f.params f.locks f.kinds };
 }
 
+/// The parameters of a service of version 2 with these callouts. `NoMemory` where there is no room for them.
+fn params_of(
+    alloc: Global,
+    cpus: u32,
+    clients: u32,
+    buckets: u32,
+    specs: &[Spec],
+) -> Result<Params, NoMemory>
+    ensures { IfOk result (λ params. params ≡ record { version = 2; clients = clients; cpus = cpus; buckets = buckets; specs = specs.now }) }
+{
+    Ok(Params {
+        version: 2,
+        clients,
+        cpus,
+        buckets,
+        specs: Seq::copy_of(alloc, specs)?,
+    })
+}
+
+/// Client locks of these kinds, and the kinds. `NoMemory` where there is no room for them.
+fn locks_of(alloc: Global, kinds: &[LockKind]) -> Result<(ClientLocks, Seq<LockKind>), NoMemory>
+    ensures locks { IfOk result (λ made. made.0 ≡ kinds.now) }
+    ensures kinds { IfOk result (λ made. made.1 ≡ kinds.now) }
+{
+    let locks = ClientLocks::new(alloc, kinds)?;
+    Ok((locks, Seq::copy_of(alloc, kinds)?))
+}
+
 impl TimersFresh {
     /// A service of 1 to 16 CPUs with `buckets` buckets each, up to 16 clients, these callouts and these client locks.
     /// It and the opening take all memory that the service and its handles ever take.
@@ -52,20 +80,15 @@ impl TimersFresh {
         ensures params { IfOk result (λ fresh. fresh.params ≡ record { version = 2; clients = clients; cpus = cpus; buckets = buckets; specs = specs.now }) }
         ensures locks { IfOk result (λ fresh. fresh.locks ≡ locks.now) }
     {
+        let params = params_of(alloc, cpus, clients, buckets, specs)?;
+        let (locks, kinds) = locks_of(alloc, locks)?;
         let (fresh, passes) = Service::boot(alloc, 2, cpus, buckets, clients, specs)?;
-        let params = Params {
-            version: 2,
-            clients,
-            cpus,
-            buckets,
-            specs: Seq::copy_of(alloc, specs)?,
-        };
         Ok(TimersFresh {
             fresh,
             passes,
             params,
-            locks: ClientLocks::new(alloc, locks)?,
-            kinds: Seq::copy_of(alloc, locks)?,
+            locks,
+            kinds,
         })
     }
 }

@@ -5,6 +5,7 @@ ghost use Rattle.co_hand.specs.Ports.{IsCoverAnswered, NamesCpuBelow};
 ghost use Rattle.co_timers.specs.Handles.{IsHandle};
 
 use crate::Timers;
+use crate::timers::held_of;
 use co_hand::PortReply;
 use co_lock::{Hold, covers};
 use co_object::{CallOp, PlainOp};
@@ -22,7 +23,6 @@ impl Lane {
     ghost use Rattle.co_timers.specs.Ports.{CameTo, handle_of};
 
     /// A call on callout `i` under this hold, which uses up an act where it is made.
-    #[tactic(auto, using(crate::proofs::Allowed::allowed))]
     pub(crate) fn ask<N: Name, R: Wait>(
         &mut self,
         rt: &R,
@@ -39,8 +39,7 @@ impl Lane {
         ensures answered { IsCoverAnswered timers.now.params.specs (option_copied hold.entry) (record { i = i; op = op.now; answer = result }) }
     {
         let asked = CallOp::Plain(*op);
-        let held = hold.map(|hold| hold.held());
-        if !covers(held, &timers.spec(i), &asked) {
+        if !covers(held_of(hold), &timers.spec(i), &asked) {
             return PortReply::NotHeld;
         }
         let reply = timers.make(rt, &mut self.passes, self.act, i, &asked, hold);

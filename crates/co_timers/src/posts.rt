@@ -45,14 +45,11 @@ impl<N: Name> Model for Posts<N> {
 fn seated(alloc: Global, passes: Seq<Passes>) -> Result<Vec<Option<Passes>>, NoMemory>
     ensures { IfOk result (λ seats. seats.items ≡ map Some passes) }
 {
-    let mut seats = Vec::new(alloc);
+    let mut seats = Seq::new(alloc);
     for one in passes.into_vec() {
-        match seats.push(Some(one)) {
-            Ok(()) => {}
-            Err(_) => return Err(NoMemory {}),
-        }
+        seats.push(Some(one))?;
     }
-    Ok(seats)
+    Ok(seats.into_vec())
 }
 
 impl<N: Name> Posts<N> {

@@ -3,7 +3,9 @@ ghost use Rattle.std.specs.Prelude.{◌≡◌, ◌≢◌, ◌≤◌, [], ℕ, Bo
 ghost use Rattle.std.specs.Option.{option_copied};
 ghost use Rattle.std.specs.declared.option.Option.TheVariants.{Some, None};
 ghost use Rattle.co_object.specs.Queue.{Due};
+ghost use Rattle.co_service.specs.Booted.{AreBooted};
 ghost use Rattle.co_service.specs.Closing.{AreEnded, AreEndedCpus, HasEach};
+ghost use Rattle.co_service.specs.Fresh.{AreNamed};
 ghost use Rattle.co_service.specs.Params.{actor_count, spec_at};
 ghost use Rattle.co_service.specs.Services.{IsFree, IsServing};
 ghost use Rattle.co_service.specs.Serving.{ServiceStage as Progress};
@@ -18,7 +20,7 @@ use crate::{Drained, Posts, Refused, TimersFresh};
 use co_lock::{ClientLocks, Held, Hold, LockKind, covers};
 use co_object::{CallOp, LockUse, PlainOp, Reply, Spec};
 use co_sbt::{NoMemory, Seq};
-use co_service::{Closing, Name, Params, Passes, Service, Told};
+use co_service::{Closing, Fresh, Name, Params, Passes, Service, Told};
 use std::alloc::Global;
 use std::marker::Model;
 use std::sync::Wait;
@@ -43,6 +45,13 @@ impl<N: Name> Model for Timers<N> {
     ghost view = { λ t. record { params = t.params; locks = t.locks } };
 
     ghost invariant = { λ t. AreTimers t.service t.params t.locks t.kinds };
+}
+
+/// What is held.
+pub(crate) fn held_of(hold: Option<&Hold<'_>>) -> Option<Held>
+    ensures { result ≡ option_copied hold.entry }
+{
+    hold.map(|hold| hold.held())
 }
 
 /// A CPU of this number exists, where one is named.
@@ -93,6 +102,25 @@ fn what_is(reply: &Reply) -> Tried
         Reply::Wait { n, took, .. } => Tried::Waits { n, takes: took },
         _ => unreachable!(),
     }
+}
+
+/// The open service of these parameters, and the posts of its actors. `NoMemory` where there is no room for them.
+fn open_both<N: Name>(
+    alloc: Global,
+    params: &Params,
+    fresh: Fresh,
+    passes: Seq<Passes>,
+) -> Result<(Service<N>, Posts<N>), NoMemory>
+    requires name { fresh.name ≡ N.name }
+    requires booted { AreBooted N.name params.now passes }
+    requires named { AreNamed N.name params.now }
+    ensures service { IfOk result (λ made. made.0 ≡ fresh.params) }
+    ensures params { IfOk result (λ made. made.1.params ≡ params.now) }
+    ensures here { IfOk result (λ made. made.1.here ≡ replicate (actor_count params.now) true) }
+    ensures back { IfOk result (λ made. made.1.back ≡ []) }
+{
+    let posts = open_posts(alloc, params, passes)?;
+    Ok((Service::open(alloc, fresh)?, posts))
 }
 
 impl<N: Name> Timers<N> {
@@ -166,8 +194,7 @@ impl<N: Name> Timers<N> {
         ensures free { (direct : Bool) (cpu : ℕ) → IsFree direct passes.old cpu → IsFree direct passes.new cpu }
         ensures serving { (direct : Bool) (cpu : ℕ) (d : Due) (far : Progress) → IsServing direct passes.old cpu d far → IsServing direct passes.new cpu d far }
     {
-        let held = hold.map(|hold| hold.held());
-        match self.refusal(held, i, op) {
+        match self.refusal(held_of(hold), i, op) {
             Some(why) => Err(why),
             None => Ok(self.make(rt, passes, act, i, op, hold)),
         }
@@ -215,8 +242,7 @@ impl<N: Name> Timers<N> {
         ensures drained { IfOk result (λ said. (refusal self.now.params (option_copied hold.entry) i (DrainTry false) ≡ None) × IsDrainOf passes.old act i said passes.new) }
         ensures refused { IfErr result (λ why. (refusal self.now.params (option_copied hold.entry) i (DrainTry false) ≡ Some why) × (passes.new ≡ passes.old)) }
     {
-        let held = hold.map(|hold| hold.held());
-        match self.refusal(held, i, &CallOp::DrainTry { took: false }) {
+        match self.refusal(held_of(hold), i, &CallOp::DrainTry { took: false }) {
             Some(why) => Err(why),
             None => Ok(self.drain_on(rt, passes, act, i, hold)),
         }
@@ -238,8 +264,7 @@ impl<N: Name> Timers<N> {
             locks,
             kinds,
         } = fresh;
-        let posts = open_posts(alloc, &params, passes)?;
-        let service = Service::open(alloc, fresh)?;
+        let (service, posts) = open_both(alloc, &params, fresh, passes)?;
         let timers = Timers {
             service,
             locks,

@@ -49,21 +49,9 @@ module _ {B : Type 0} (notes : B → List Note) (spare : B → ℕ) where
   pub empty_last : (books : List B) (book : B) → AreEmptyBooks notes spare (books ++ book ∷ []) → IsEmpty (notes book) (spare book)
   empty_last books book empty = empty (length books) book (get_last books book)
 
-  pub empty_more : (books : List B) (book : B) → AreEmptyBooks notes spare books → IsEmpty (notes book) (spare book) → AreEmptyBooks notes spare (books ++ book ∷ [])
-  empty_more books book empty one = λ k x is. at_either x (get_snoc books book x k is) where
-    at_either : {k : ℕ} (x : B) → (slice_get books k ≡ Some x) ⊎ ((k ≡ length books) × (x ≡ book)) → IsEmpty (notes x) (spare x)
-    at_either {k} x (inl here) = empty k x here
-    at_either x (inr there) = subst (λ (b : B). IsEmpty (notes b) (spare b)) (sym there.1) one
-
 -- ---- jobs
 
 module _ {B : Type 0} (s : Script) (name : ServiceName) (notes : B → List Note) (spare : B → ℕ) where
-  -- no job is dealt yet
-  pub group_none : (end : ℕ) → IsGroup (AreJobs s name notes spare) end end []
-  group_none end = record { count = (let e : end + 0 ≡ end = omega arith in e); each = λ k job is a at. absurd (no_more k job is) } where
-    no_more : (k : ℕ) (job : Job B) → slice_get [] k ≡ Some job → ⊥
-    no_more k job is = cc
-
   -- the job of the actor before
   pub group_dealt : (jobs : List (Job B)) (job : Job B) (first next end : ℕ) → first ≡ next + 1 → IsGroup (AreJobs s name notes spare) first end jobs → IsJob s name next job.passes (notes job.book) (spare job.book) → IsGroup (AreJobs s name notes spare) next end (jobs ++ job ∷ [])
   group_dealt jobs job first next end one group ok = record {

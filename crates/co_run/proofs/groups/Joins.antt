@@ -1,14 +1,16 @@
 -- The jobs of a group of actors, and what they bring back: the first stands last.
-use Rattle.std.proofs.Common.{◌≡◌, ℕ, suc, ◌+◌, ◌⊎◌, inl, inr, List, [], ◌∷◌, ◌++◌, map, length, sym, subst, arith, length-append}
+use Rattle.std.proofs.Common.{◌≡◌, ℕ, suc, ◌+◌, ◌≤◌, ◌⊎◌, inl, inr, List, [], ◌∷◌, ◌++◌, map, length, sym, subst, arith, length-append}
 use Rattle.std.proofs.lemmas.List.{length-map, map-append}
-use Rattle.std.specs.Prelude.{Some, slice_get}
+use Rattle.std.specs.Prelude.{Err, IfOk, Ok, Result, Some, slice_get}
 use Rattle.co_object.specs.declared.note.Note.{Note}
 use Rattle.co_program.specs.declared.script.Script.{Script}
 use Rattle.co_service.specs.Name.{ServiceName}
 use Rattle.co_service.specs.Views.{PassesView}
+use Rattle.co_program.specs.Actors.{client_count, actor_count}
+use Rattle.co_run.specs.declared.jobs.Crew.{Crew}
 use Rattle.co_run.specs.declared.jobs.Job.{Job}
 use Rattle.co_run.specs.declared.jobs.Played.{Played}
-use Rattle.co_run.specs.Jobs.{AreJobs, HavePlayed, IsGroup, IsJob}
+use Rattle.co_run.specs.Jobs.{AreBounds, AreJobs, HavePlayed, IsCrew, IsGroup, IsJob}
 use Rattle.co_run.specs.Over.{AreOver, IsActorOver}
 use Rattle.co_run.proofs.groups.LastItem.{get_front, get_last, get_snoc}
 
@@ -58,6 +60,14 @@ module _ {B : Type 0} (s : Script) (name : ServiceName) (notes : B → List Note
   }
 
 module _ {B : Type 0} (s : Script) (name : ServiceName) (notes : B → List Note) where
+  -- no one is of an empty group
+  pub group_over : (all : List (Played B)) (first end jobs : ℕ) → all ≡ [] → first + jobs ≡ end → end ≤ first → IsGroup (HavePlayed notes s name) first end all
+  group_over all first end jobs none count over =
+      subst (IsGroup (HavePlayed notes s name) first end) (sym none)
+      (record { count = (let same : first + 0 ≡ end = omega (arith, count, over) in same); each = λ k one is a at. absurd (no_more k one is) }) where
+        no_more : (k : ℕ) (one : Played B) → slice_get [] k ≡ Some one → ⊥
+        no_more k one is = cc
+
   -- one more has played, before these
   pub group_more : (all : List (Played B)) (one : Played B) (number end : ℕ) → IsGroup (HavePlayed notes s name) (number + 1) end all → IsActorOver s name number one.passes (notes one.book) → IsGroup (HavePlayed notes s name) number end (all ++ one ∷ [])
   group_more all one number end group over = record {
@@ -82,3 +92,26 @@ module _ {B : Type 0} (s : Script) (name : ServiceName) (notes : B → List Note
     count = (let long = length-append all (one ∷ []) in let count = group.count in omega (arith, count, long));
     each = λ k p is a at. group.each k p (get_front all one p k is) a at;
   }
+
+-- ---- what is brought back at once
+
+-- where neither of two outcomes is refused, both are as they are
+pub both_are : {X Y E : Type 0} (P : X → Type 0) (Q : Y → Type 0) (pair : Result (X × Y) E) (one : Result X E) (other : Result Y E)
+    → IfOk pair (λ p. one ≡ Ok p.0) → IfOk pair (λ p. other ≡ Ok p.1) → IfOk one P → IfOk other Q → IfOk pair (λ p. P p.0 × Q p.1)
+both_are P Q (Ok p) one other is also h k = (subst (λ (r : Result _ _). IfOk r P) is h, subst (λ (r : Result _ _). IfOk r Q) also k)
+both_are P Q (Err e) one other is also h k = tt
+
+-- a crew whose groups have these bounds, where no part of it is refused
+pub crew_is : {X E : Type 0} (s : Script) (Are : ℕ → List X → Type 0) (a b d e f h : ℕ) → AreBounds s a b d e f h
+    → (crew : Result (Crew (List X)) E) (clients : Result (List X) E) (others : Result (List X × List X) E)
+    → IfOk crew (λ c. clients ≡ Ok c.clients) → IfOk crew (λ c. others ≡ Ok (c.cpus, c.interrupts))
+    → IfOk clients (IsGroup Are a b) → IfOk others (λ o. IsGroup Are d e o.0 × IsGroup Are f h o.1)
+    → IfOk crew (λ c. IsCrew s Are c.clients c.cpus c.interrupts)
+crew_is s Are a b d e f h bounds (Err x) clients others one two first rest = tt
+crew_is s Are a b d e f h bounds (Ok crew) clients others one two first rest =
+    let both = subst (λ (r : Result _ _). IfOk r (λ o. IsGroup Are d e o.0 × IsGroup Are f h o.1)) two rest in
+    record {
+      of_clients = group_at Are a 0 b (client_count s) crew.clients bounds.clients.0 bounds.clients.1 (subst (λ (r : Result _ _). IfOk r (IsGroup Are a b)) one first);
+      of_cpus = group_at Are d (client_count s) e (client_count s + s.cpus) crew.cpus bounds.cpus.0 bounds.cpus.1 both.0;
+      of_interrupts = group_at Are f (client_count s + s.cpus) h (actor_count s) crew.interrupts bounds.interrupts.0 bounds.interrupts.1 both.1;
+    }

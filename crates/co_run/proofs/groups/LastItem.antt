@@ -1,5 +1,5 @@
 -- A list with one item more at its end.
-use Rattle.std.proofs.Common.{◌≡◌, ℕ, zero, suc, ◌⊎◌, inl, inr, List, [], ◌∷◌, ◌++◌, length, refl, sym, ap}
+use Rattle.std.proofs.Common.{◌≡◌, ℕ, zero, suc, ◌⊎◌, inl, inr, List, [], ◌∷◌, ◌++◌, length, refl, sym, ap, subst, ◌∙◌}
 use Rattle.std.specs.Prelude.{Some, slice_get}
 
 module _ {X : Type 0} where
@@ -23,3 +23,19 @@ module _ {X : Type 0} where
     on : (slice_get xs k ≡ Some y) ⊎ ((k ≡ length xs) × (y ≡ x)) → (slice_get xs k ≡ Some y) ⊎ ((suc k ≡ suc (length xs)) × (y ≡ x))
     on (inl here) = inl here
     on (inr there) = inr (ap suc there.0, there.1)
+
+  -- what holds of each item, and of one more behind them
+  pub each_snoc : (P : X → Type 0) (xs : List X) (x : X) → ((k : ℕ) (y : X) → slice_get xs k ≡ Some y → P y) → P x → (k : ℕ) (y : X) → slice_get (xs ++ x ∷ []) k ≡ Some y → P y
+  each_snoc P xs x each one k y is = at_either (get_snoc xs x y k is) where
+    at_either : (slice_get xs k ≡ Some y) ⊎ ((k ≡ length xs) × (y ≡ x)) → P y
+    at_either (inl here) = each k y here
+    at_either (inr there) = subst P (sym there.1) one
+
+  -- one more is taken of those that are left
+  pub one_taken : (taken left rest all : List X) (x : X) → left ≡ x ∷ rest → taken ++ left ≡ all → (taken ++ x ∷ []) ++ rest ≡ all
+  one_taken [] left rest all x is are = sym is ∙ are
+  one_taken (y ∷ taken) left rest [] x is are = absurd cc
+  one_taken (y ∷ taken) left rest (z ∷ all) x is are =
+      let same : y ≡ z = cc in
+      let tail : taken ++ left ≡ all = cc in
+      ap (λ (l : List X). y ∷ l) (one_taken taken left rest all x is tail) ∙ ap (λ (w : X). w ∷ all) same

@@ -8,5 +8,5 @@ invariant-loop-one l =
     record {
       yields : l.yielded ++ into_iter_items l.one-iterator ≡ into_iter_items l.initial.one-iterator;
       left : length (into_iter_items l.one-iterator) ≡ into_iter_len l.one-iterator;
-      here : l.seats.items ≡ map Some l.yielded;
+      here : l.seats ≡ map Some l.yielded;
     }
