@@ -170,14 +170,14 @@ fn others_are_free<R: Threads + Wait + Sync>(rt: &R, locks: &ClientLocks, kept: 
     free
 }
 
-// Keeps the three locks at once. Whether each hold is of its own.
-fn keep_each<R: Wait + Sync>(rt: &R, locks: &ClientLocks) -> bool
+// Keeps the three locks at once: which each hold says that it is of.
+fn keep_each<R: Wait + Sync>(rt: &R, locks: &ClientLocks) -> [u32; 3]
     requires { locks.now ≡ LockKind.Mtx ∷ LockKind.Rw ∷ LockKind.Rw ∷ [] }
 {
     let mutex = locks.lock(rt, 0);
     let first = locks.read(rt, 1);
     let second = locks.lock(rt, 2);
-    mutex.id() == 0 && first.id() == 1 && second.id() == 2
+    [mutex.id(), first.id(), second.id()]
 }
 
 #[test]
@@ -186,6 +186,6 @@ fn each_lock_is_its_own(rt: HostRuntime) -> Result<(), Fail> {
     for kept in 0..3 {
         assert!(rt; others_are_free(&rt, &locks, kept));
     }
-    assert!(rt; keep_each(&rt, &locks));
+    assert!(rt; keep_each(&rt, &locks) == [0, 1, 2]);
     Ok(())
 }
