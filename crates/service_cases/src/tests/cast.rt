@@ -1,12 +1,50 @@
-//! The end of a service that is played.
-ghost use Rattle.std.specs.Prelude.{◌≡◌};
-ghost use Rattle.co_service.specs.Params.{actor_count};
+//! Who leaves a service that is played, and its end.
+ghost use Rattle.std.specs.Prelude.{◌≡◌, IfOk, false};
+ghost use Rattle.co_object.specs.Actors.{cpu_actor};
+ghost use Rattle.co_object.specs.Journal.{scanner};
+ghost use Rattle.co_service.specs.Booted.{AreBooted};
+ghost use Rattle.co_service.specs.Closing.{AreAll};
+ghost use Rattle.co_service.specs.Kept.{KeepsFree};
+ghost use Rattle.co_service.specs.Params.{actor_count, actors_of};
 ghost use Rattle.co_service.specs.Views.{AreOf};
 
-use co_sbt::NoMemory;
+use co_sbt::{NoMemory, Seq};
 use co_service::{Crew, Name, Passes, Service};
 use std::alloc::Global;
 use std::sync::Wait;
+
+/// The passes of the one client and of the one CPU.
+pub(super) fn leave_two<N: Name>(service: &Service<N>, passes: Seq<Passes>) -> (Passes, Passes)
+    requires version { service.now.version ≡ 1 }
+    requires clients { service.now.clients ≡ 1 }
+    requires cpus { service.now.cpus ≡ 1 }
+    requires passes { AreBooted N.name service.now passes }
+    ensures client { AreOf N.name service.now result.0 }
+    ensures cpu { KeepsFree N.name service.now (cpu_actor (actors_of service.now) 0) false 0 result.1 }
+    ensures scans { result.1.actor ≡ scanner (actors_of service.now) 0 }
+{
+    let mut all = passes.into_vec();
+    let cpu = service.leave_cpu(&mut all, 0);
+    (service.leave(&mut all, 0), cpu)
+}
+
+/// The passes of two actors, who are all.
+fn all_back<N: Name>(
+    alloc: Global,
+    service: &Service<N>,
+    first: Passes,
+    second: Passes,
+) -> Result<Seq<Passes>, NoMemory>
+    requires count { actor_count service.now ≡ 2 }
+    requires first { AreOf N.name service.now first }
+    requires second { AreOf N.name service.now second }
+    ensures { IfOk result (AreAll N.name service.now) }
+{
+    let mut crew = Crew::new(alloc, service)?;
+    crew.back(first);
+    crew.back(second);
+    Ok(crew.into_all())
+}
 
 /// The end of a service of two actors.
 pub(super) fn close_two<N: Name, R: Wait>(
@@ -20,9 +58,7 @@ pub(super) fn close_two<N: Name, R: Wait>(
     requires first { AreOf N.name service first }
     requires second { AreOf N.name service second }
 {
-    let mut crew = Crew::new(alloc, &service)?;
-    crew.back(first);
-    crew.back(second);
-    let _closing = service.close(rt, crew.into_all());
+    let all = all_back(alloc, &service, first, second)?;
+    let _closing = service.close(rt, all);
     Ok(())
 }

@@ -1,6 +1,10 @@
 //! A direct callout is serviced by its CPU's interrupt.
 ghost use Rattle.std.specs.Prelude.{◌≡◌, ◌<◌, true};
+ghost use Rattle.co_object.specs.Actors.{interrupt_actor};
+ghost use Rattle.co_object.specs.Journal.{scanner};
 ghost use Rattle.co_service.specs.Booted.{AreBooted};
+ghost use Rattle.co_service.specs.Kept.{KeepsFree};
+ghost use Rattle.co_service.specs.Params.{actors_of};
 ghost use Rattle.co_service.specs.Services.{IsFree};
 ghost use Rattle.co_service.specs.Views.{AreOf};
 ghost use Rattle.service_cases.specs.Scenes.{IsScene};
@@ -43,7 +47,44 @@ fn serve<N: Name, R: Wait + Abort>(
     keep(rt, log, note);
 }
 
-/// The acts of the client and of the interrupt, whose CPU does nothing.
+/// The acts of the client and of the interrupt.
+fn acts<N: Name, R: Wait + Abort>(
+    rt: &R,
+    service: &Service<N>,
+    log: &mut Vec<Note>,
+    client: &mut Passes,
+    interrupt: &mut Passes,
+)
+    requires scene { IsScene 2 1 1 3 service.now }
+    requires client { AreOf N.name service.now client.old }
+    requires kept { KeepsFree N.name service.now (interrupt_actor (actors_of service.now) 0) true 0 interrupt.old }
+    requires scans { interrupt.old.actor ≡ scanner (actors_of service.now) 0 }
+{
+    arm(rt, service, log, client, 0, 0, seconds(1), 0, None);
+    tick(rt, service, log, interrupt, 0, seconds(1));
+    serve(rt, service, log, interrupt, 0);
+}
+
+/// The notes of these acts. The CPU does nothing.
+fn play_on<N: Name, R: Wait + Abort>(
+    rt: &R,
+    alloc: Global,
+    service: &Service<N>,
+    passes: Seq<Passes>,
+) -> Vec<Note>
+    requires scene { IsScene 2 1 1 3 service.now }
+    requires passes { AreBooted N.name service.now passes }
+{
+    let mut all = passes.into_vec();
+    let mut interrupt = service.leave_interrupt(&mut all, 0);
+    let _cpu = service.leave_cpu(&mut all, 0);
+    let mut client = service.leave(&mut all, 0);
+    let mut log = Vec::new(alloc);
+    acts(rt, service, &mut log, &mut client, &mut interrupt);
+    log
+}
+
+/// The same on a service that is opened for it.
 fn play<N: Name, R: Wait + Abort>(
     rt: &R,
     alloc: Global,
@@ -55,25 +96,7 @@ fn play<N: Name, R: Wait + Abort>(
     requires passes { AreBooted fresh.name fresh.params passes }
 {
     let service = Service::<N>::open(alloc, fresh)?;
-    let mut all = passes.into_vec();
-    let mut interrupt = service.leave_interrupt(&mut all, 0);
-    let _cpu = service.leave_cpu(&mut all, 0);
-    let mut client = service.leave(&mut all, 0);
-    let mut log = Vec::new(alloc);
-    arm(
-        rt,
-        &service,
-        &mut log,
-        &mut client,
-        0,
-        0,
-        seconds(1),
-        0,
-        None,
-    );
-    tick(rt, &service, &mut log, &mut interrupt, 0, seconds(1));
-    serve(rt, &service, &mut log, &mut interrupt, 0);
-    Ok(log)
+    Ok(play_on(rt, alloc, &service, passes))
 }
 
 const NOTES: [Row; 8] = [

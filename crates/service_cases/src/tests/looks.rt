@@ -1,9 +1,10 @@
 //! A scan looks at what stands in the buckets that it visits.
 ghost use Rattle.std.specs.Prelude.{◌≡◌, ◌<◌};
 ghost use Rattle.co_service.specs.Booted.{AreBooted};
+ghost use Rattle.co_service.specs.Views.{AreOf};
 ghost use Rattle.service_cases.specs.Scenes.{IsScene};
 
-use super::cast::close_two;
+use super::cast::{close_two, leave_two};
 use super::stage::{arm, boot};
 use co_sbt::{NoMemory, Sbt, Seq};
 use co_service::{Fresh, Name, Passes, Service};
@@ -24,6 +25,33 @@ fn bucket(number: u32) -> Sbt
 }
 
 /// Each of 64 callouts is due at the beginning of a bucket of its own number.
+fn arm_all<N: Name, R: Wait + Abort>(
+    rt: &R,
+    alloc: Global,
+    service: &Service<N>,
+    client: &mut Passes,
+)
+    requires scene { IsScene 1 1 64 2 service.now }
+    requires client { AreOf N.name service.now client.old }
+    ensures { AreOf N.name service.now client.new }
+{
+    let mut log = Vec::new(alloc);
+    for i in 0u32..64 {
+        arm(
+            rt,
+            service,
+            &mut log,
+            client,
+            u64::from(i),
+            i,
+            bucket(i),
+            0,
+            None,
+        );
+    }
+}
+
+/// The count and the looks of a scan of the third bucket, with a callout in each of the first 64.
 fn play<N: Name, R: Wait + Abort>(
     rt: &R,
     alloc: Global,
@@ -35,23 +63,8 @@ fn play<N: Name, R: Wait + Abort>(
     requires passes { AreBooted fresh.name fresh.params passes }
 {
     let service = Service::<N>::open(alloc, fresh)?;
-    let mut all = passes.into_vec();
-    let mut cpu = service.leave_cpu(&mut all, 0);
-    let mut client = service.leave(&mut all, 0);
-    let mut log = Vec::new(alloc);
-    for i in 0u32..64 {
-        arm(
-            rt,
-            &service,
-            &mut log,
-            &mut client,
-            u64::from(i),
-            i,
-            bucket(i),
-            0,
-            None,
-        );
-    }
+    let (mut client, mut cpu) = leave_two(&service, passes);
+    arm_all(rt, alloc, &service, &mut client);
     let scan = service.scan(rt, &mut cpu, 0, 0, bucket(2));
     close_two(rt, alloc, service, client, cpu)?;
     Ok((scan.count, scan.looks))
@@ -63,7 +76,6 @@ fn visited_buckets(rt: HostRuntime) -> Result<(), Fail> {
     assert!(rt; bucket(2).raw() == 33554432);
     let (fresh, passes) = boot(rt.alloc(), 1, 1, 64, false)?;
     let (count, looks) = play::<Brand, _>(&rt, rt.alloc(), fresh, passes)?;
-    assert!(rt; count == 3);
-    assert!(rt; looks == 12);
+    assert!(rt; (count, looks) == (3, 12));
     Ok(())
 }
