@@ -20,13 +20,12 @@ use super::acts::begun;
 use super::notes::{Row, Told, are};
 use super::stage::{boot, keep, keep_all, seconds};
 use co_object::{CallOp, Note, Place, PlainOp, QOp, QReply, Reply};
-use co_sbt::{NoMemory, Sbt, Seq};
+use co_sbt::{Sbt, Seq};
 use co_service::{Finished, Fresh, Name, Passes, Popped, Service};
 use std::alloc::Global;
 use std::marker::Brand;
 use std::process::Abort;
 use std::sync::Wait;
-use std::test::Fail;
 
 /// The client's call on callout 0, which needs no hold.
 fn ask<N: Name, R: Wait + Abort>(
@@ -207,13 +206,15 @@ fn play<N: Name, R: Wait + Abort>(
     alloc: Global,
     fresh: Fresh,
     passes: Seq<Passes>,
-) -> Result<Vec<Note>, NoMemory>
+) -> Vec<Note>
     requires name { fresh.name ≡ N.name }
     requires scene { IsScene 1 2 1 3 fresh.params }
     requires passes { AreBooted fresh.name fresh.params passes }
 {
-    let mut service = Service::<N>::open(alloc, fresh)?;
-    Ok(play_on(rt, alloc, &mut service, passes))
+    let Ok(mut service) = Service::<N>::open(alloc, fresh) else {
+        panic!(rt; "no memory");
+    };
+    play_on(rt, alloc, &mut service, passes)
 }
 
 /// A stop that takes an arming away from CPU 1.
@@ -249,9 +250,10 @@ const NOTES: [Row; 11] = [
 ];
 
 #[test]
-fn calls_alone(rt: HostRuntime) -> Result<(), Fail> {
-    let (fresh, passes) = boot(rt.alloc(), 1, 2, 1, false)?;
-    let notes = play::<Brand, _>(&rt, rt.alloc(), fresh, passes)?;
+fn calls_alone(rt: HostRuntime) {
+    let Ok((fresh, passes)) = boot(rt.alloc(), 1, 2, 1, false) else {
+        panic!(rt; "no memory");
+    };
+    let notes = play::<Brand, _>(&rt, rt.alloc(), fresh, passes);
     assert!(rt; are(notes.as_slice(), &NOTES));
-    Ok(())
 }

@@ -1,5 +1,5 @@
 //! Who leaves a service that is played, and its end.
-ghost use Rattle.std.specs.Prelude.{◌≡◌, IfOk, false};
+ghost use Rattle.std.specs.Prelude.{◌≡◌, false};
 ghost use Rattle.co_object.specs.Actors.{cpu_actor};
 ghost use Rattle.co_object.specs.Journal.{scanner};
 ghost use Rattle.co_service.specs.Booted.{AreBooted};
@@ -8,9 +8,10 @@ ghost use Rattle.co_service.specs.Kept.{KeepsFree};
 ghost use Rattle.co_service.specs.Params.{actor_count, actors_of};
 ghost use Rattle.co_service.specs.Views.{AreOf};
 
-use co_sbt::{NoMemory, Seq};
+use co_sbt::Seq;
 use co_service::{Crew, Name, Passes, Service};
 use std::alloc::Global;
+use std::process::Abort;
 use std::sync::Wait;
 
 /// The passes of the one client and of the one CPU.
@@ -29,36 +30,38 @@ pub(super) fn leave_two<N: Name>(service: &Service<N>, passes: Seq<Passes>) -> (
 }
 
 /// The passes of two actors, who are all.
-fn all_back<N: Name>(
+fn all_back<N: Name, R: Abort>(
+    rt: &R,
     alloc: Global,
     service: &Service<N>,
     first: Passes,
     second: Passes,
-) -> Result<Seq<Passes>, NoMemory>
+) -> Seq<Passes>
     requires count { actor_count service.now ≡ 2 }
     requires first { AreOf N.name service.now first }
     requires second { AreOf N.name service.now second }
-    ensures { IfOk result (AreAll N.name service.now) }
+    ensures { AreAll N.name service.now result }
 {
-    let mut crew = Crew::new(alloc, service)?;
+    let Ok(mut crew) = Crew::new(alloc, service) else {
+        panic!(rt; "no memory");
+    };
     crew.back(first);
     crew.back(second);
-    Ok(crew.into_all())
+    crew.into_all()
 }
 
 /// The end of a service of two actors.
-pub(super) fn close_two<N: Name, R: Wait>(
+pub(super) fn close_two<N: Name, R: Wait + Abort>(
     rt: &R,
     alloc: Global,
     service: Service<N>,
     first: Passes,
     second: Passes,
-) -> Result<(), NoMemory>
+)
     requires count { actor_count service ≡ 2 }
     requires first { AreOf N.name service first }
     requires second { AreOf N.name service second }
 {
-    let all = all_back(alloc, &service, first, second)?;
+    let all = all_back(rt, alloc, &service, first, second);
     let _closing = service.close(rt, all);
-    Ok(())
 }

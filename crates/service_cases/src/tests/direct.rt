@@ -13,13 +13,12 @@ use super::acts::{begun, nothing, tick};
 use super::notes::{Row, Told, are};
 use super::stage::{arm, boot, keep, keep_all, seconds};
 use co_object::{Note, Place, QOp, QReply};
-use co_sbt::{NoMemory, Seq};
+use co_sbt::Seq;
 use co_service::{Fresh, Name, Passes, Service};
 use std::alloc::Global;
 use std::marker::Brand;
 use std::process::Abort;
 use std::sync::Wait;
-use std::test::Fail;
 
 /// The interrupt services the one callout that has come due: its function is called and returns, and nothing more is there.
 fn serve<N: Name, R: Wait + Abort>(
@@ -90,13 +89,15 @@ fn play<N: Name, R: Wait + Abort>(
     alloc: Global,
     fresh: Fresh,
     passes: Seq<Passes>,
-) -> Result<Vec<Note>, NoMemory>
+) -> Vec<Note>
     requires name { fresh.name ≡ N.name }
     requires scene { IsScene 2 1 1 3 fresh.params }
     requires passes { AreBooted fresh.name fresh.params passes }
 {
-    let service = Service::<N>::open(alloc, fresh)?;
-    Ok(play_on(rt, alloc, &service, passes))
+    let Ok(service) = Service::<N>::open(alloc, fresh) else {
+        panic!(rt; "no memory");
+    };
+    play_on(rt, alloc, &service, passes)
 }
 
 const NOTES: [Row; 8] = [
@@ -129,9 +130,10 @@ const NOTES: [Row; 8] = [
 ];
 
 #[test]
-fn served_by_the_interrupt(rt: HostRuntime) -> Result<(), Fail> {
-    let (fresh, passes) = boot(rt.alloc(), 2, 1, 1, true)?;
-    let notes = play::<Brand, _>(&rt, rt.alloc(), fresh, passes)?;
+fn served_by_the_interrupt(rt: HostRuntime) {
+    let Ok((fresh, passes)) = boot(rt.alloc(), 2, 1, 1, true) else {
+        panic!(rt; "no memory");
+    };
+    let notes = play::<Brand, _>(&rt, rt.alloc(), fresh, passes);
     assert!(rt; are(notes.as_slice(), &NOTES));
-    Ok(())
 }

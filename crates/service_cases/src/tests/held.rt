@@ -24,7 +24,6 @@ use std::alloc::Global;
 use std::marker::Brand;
 use std::process::Abort;
 use std::sync::Wait;
-use std::test::Fail;
 
 /// A callout with mutex 0.
 fn locked_spec() -> Spec
@@ -245,14 +244,18 @@ fn play<N: Name, R: Wait + Abort + Sync>(
     alloc: Global,
     fresh: Fresh,
     passes: Seq<Passes>,
-) -> Result<Vec<Note>, NoMemory>
+) -> Vec<Note>
     requires name { fresh.name ≡ N.name }
     requires scene { IsLocked fresh.params }
     requires passes { AreBooted fresh.name fresh.params passes }
 {
-    let locks = mutex(alloc)?;
-    let service = Service::<N>::open(alloc, fresh)?;
-    Ok(play_on(rt, alloc, &service, passes, &locks))
+    let Ok(locks) = mutex(alloc) else {
+        panic!(rt; "no memory");
+    };
+    let Ok(service) = Service::<N>::open(alloc, fresh) else {
+        panic!(rt; "no memory");
+    };
+    play_on(rt, alloc, &service, passes, &locks)
 }
 
 const NOTES: [Row; 10] = [
@@ -277,9 +280,10 @@ const NOTES: [Row; 10] = [
 const CANCELLED: Reply = Reply::Stopped { code: 1, off: None };
 
 #[test]
-fn cancelled_while_it_waits(rt: HostRuntime) -> Result<(), Fail> {
-    let (fresh, passes) = boot_locked(rt.alloc())?;
-    let notes = play::<Brand, _>(&rt, rt.alloc(), fresh, passes)?;
+fn cancelled_while_it_waits(rt: HostRuntime) {
+    let Ok((fresh, passes)) = boot_locked(rt.alloc()) else {
+        panic!(rt; "no memory");
+    };
+    let notes = play::<Brand, _>(&rt, rt.alloc(), fresh, passes);
     assert!(rt; are(notes.as_slice(), &NOTES));
-    Ok(())
 }

@@ -6,13 +6,12 @@ ghost use Rattle.service_cases.specs.Scenes.{IsScene};
 
 use super::cast::{close_two, leave_two};
 use super::stage::{arm, boot};
-use co_sbt::{NoMemory, Sbt, Seq};
+use co_sbt::{Sbt, Seq};
 use co_service::{Fresh, Name, Passes, Service};
 use std::alloc::Global;
 use std::marker::Brand;
 use std::process::Abort;
 use std::sync::Wait;
-use std::test::Fail;
 
 /// The beginning of a bucket's time, as many buckets after the first.
 fn bucket(number: u32) -> Sbt
@@ -57,25 +56,27 @@ fn play<N: Name, R: Wait + Abort>(
     alloc: Global,
     fresh: Fresh,
     passes: Seq<Passes>,
-) -> Result<(u32, u64), NoMemory>
+) -> (u32, u64)
     requires name { fresh.name ≡ N.name }
     requires scene { IsScene 1 1 64 2 fresh.params }
     requires passes { AreBooted fresh.name fresh.params passes }
 {
-    let service = Service::<N>::open(alloc, fresh)?;
+    let Ok(service) = Service::<N>::open(alloc, fresh) else {
+        panic!(rt; "no memory");
+    };
     let (mut client, mut cpu) = leave_two(&service, passes);
     arm_all(rt, alloc, &service, &mut client);
     let scan = service.scan(rt, &mut cpu, 0, 0, bucket(2));
-    close_two(rt, alloc, service, client, cpu)?;
-    Ok((scan.count, scan.looks))
+    close_two(rt, alloc, service, client, cpu);
+    (scan.count, scan.looks)
 }
 
 #[test]
-fn visited_buckets(rt: HostRuntime) -> Result<(), Fail> {
+fn visited_buckets(rt: HostRuntime) {
     assert!(rt; bucket(1).raw() == 16777216);
     assert!(rt; bucket(2).raw() == 33554432);
-    let (fresh, passes) = boot(rt.alloc(), 1, 1, 64, false)?;
-    let (count, looks) = play::<Brand, _>(&rt, rt.alloc(), fresh, passes)?;
-    assert!(rt; (count, looks) == (3, 12));
-    Ok(())
+    let Ok((fresh, passes)) = boot(rt.alloc(), 1, 1, 64, false) else {
+        panic!(rt; "no memory");
+    };
+    assert!(rt; play::<Brand, _>(&rt, rt.alloc(), fresh, passes) == (3, 12));
 }

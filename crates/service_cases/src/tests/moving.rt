@@ -15,13 +15,12 @@ use super::acts::{finish, rest, start, tick};
 use super::notes::{Row, Told, are};
 use super::stage::{arm, boot, seconds};
 use co_object::{Note, Place, QOp, QReply};
-use co_sbt::{NoMemory, Seq};
+use co_sbt::Seq;
 use co_service::{Fresh, Name, Passes, Service};
 use std::alloc::Global;
 use std::marker::Brand;
 use std::process::Abort;
 use std::sync::Wait;
-use std::test::Fail;
 
 /// A CPU's queue is scanned at a time in seconds, and the function of what has come due is called.
 fn begin_turn<N: Name, R: Wait + Abort>(
@@ -119,13 +118,15 @@ fn play<N: Name, R: Wait + Abort>(
     alloc: Global,
     fresh: Fresh,
     passes: Seq<Passes>,
-) -> Result<Vec<Note>, NoMemory>
+) -> Vec<Note>
     requires name { fresh.name ≡ N.name }
     requires scene { IsScene 1 2 1 3 fresh.params }
     requires passes { AreBooted fresh.name fresh.params passes }
 {
-    let service = Service::<N>::open(alloc, fresh)?;
-    Ok(play_on(rt, alloc, &service, passes))
+    let Ok(service) = Service::<N>::open(alloc, fresh) else {
+        panic!(rt; "no memory");
+    };
+    play_on(rt, alloc, &service, passes)
 }
 
 const NOTES: [Row; 16] = [
@@ -148,9 +149,10 @@ const NOTES: [Row; 16] = [
 ];
 
 #[test]
-fn deferred_move(rt: HostRuntime) -> Result<(), Fail> {
-    let (fresh, passes) = boot(rt.alloc(), 1, 2, 1, false)?;
-    let notes = play::<Brand, _>(&rt, rt.alloc(), fresh, passes)?;
+fn deferred_move(rt: HostRuntime) {
+    let Ok((fresh, passes)) = boot(rt.alloc(), 1, 2, 1, false) else {
+        panic!(rt; "no memory");
+    };
+    let notes = play::<Brand, _>(&rt, rt.alloc(), fresh, passes);
     assert!(rt; are(notes.as_slice(), &NOTES));
-    Ok(())
 }

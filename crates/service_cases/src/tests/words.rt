@@ -19,13 +19,12 @@ use super::cast::leave_two;
 use super::notes::{Row, Told, are};
 use super::stage::{boot, keep, keep_all, seconds};
 use co_object::{CallOp, Note, Place, PlainOp, QOp, QReply, Reply};
-use co_sbt::{NoMemory, Sbt, Seq};
+use co_sbt::{Sbt, Seq};
 use co_service::{Finished, Fresh, Name, Passes, Popped, Service};
 use std::alloc::Global;
 use std::marker::Brand;
 use std::process::Abort;
 use std::sync::Wait;
-use std::test::Fail;
 
 /// A stop that takes an arming away.
 const STOPPED: Reply = Reply::Stopped {
@@ -195,13 +194,15 @@ fn play<N: Name, R: Wait + Abort>(
     alloc: Global,
     fresh: Fresh,
     passes: Seq<Passes>,
-) -> Result<Vec<Note>, NoMemory>
+) -> Vec<Note>
     requires name { fresh.name ≡ N.name }
     requires scene { IsScene 1 1 1 2 fresh.params }
     requires passes { AreBooted fresh.name fresh.params passes }
 {
-    let service = Service::<N>::open(alloc, fresh)?;
-    Ok(play_on(rt, alloc, &service, passes))
+    let Ok(service) = Service::<N>::open(alloc, fresh) else {
+        panic!(rt; "no memory");
+    };
+    play_on(rt, alloc, &service, passes)
 }
 
 const NOTES: [Row; 11] = [
@@ -231,9 +232,10 @@ const NOTES: [Row; 11] = [
 ];
 
 #[test]
-fn tells_in_few_words(rt: HostRuntime) -> Result<(), Fail> {
-    let (fresh, passes) = boot(rt.alloc(), 1, 1, 1, false)?;
-    let notes = play::<Brand, _>(&rt, rt.alloc(), fresh, passes)?;
+fn tells_in_few_words(rt: HostRuntime) {
+    let Ok((fresh, passes)) = boot(rt.alloc(), 1, 1, 1, false) else {
+        panic!(rt; "no memory");
+    };
+    let notes = play::<Brand, _>(&rt, rt.alloc(), fresh, passes);
     assert!(rt; are(notes.as_slice(), &NOTES));
-    Ok(())
 }
