@@ -48,9 +48,9 @@ const VERDICTS: [(&str, Verdict); 2] = [
 
 #[test]
 fn reports_are_judged(rt: HostRuntime) {
-    for (text, verdict) in VERDICTS {
-        assert!(rt; verdict_of(rt.alloc(), text.as_bytes()) == Ok(verdict));
-        assert!(rt; replayed_verdict_of(rt.alloc(), text.as_bytes()) == Ok(verdict));
+    for (text, verdict) in &VERDICTS {
+        assert!(rt; verdict_of(rt.alloc(), text.as_bytes()) == Ok(*verdict));
+        assert!(rt; replayed_verdict_of(rt.alloc(), text.as_bytes()) == Ok(*verdict));
     }
 }
 
