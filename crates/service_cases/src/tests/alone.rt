@@ -17,6 +17,7 @@ ghost use Rattle.co_service.specs.Views.{AreOf};
 ghost use Rattle.service_cases.specs.Scenes.{IsScene};
 
 use super::acts::begun;
+use super::cast::{leave_three, let_go};
 use super::notes::{Row, Told, are};
 use super::stage::{boot, keep, keep_all, seconds};
 use co_object::{CallOp, Note, Place, PlainOp, QOp, QReply, Reply};
@@ -191,10 +192,7 @@ fn play_on<N: Name, R: Wait + Abort>(
     requires scene { IsScene 1 2 1 3 service.old }
     requires passes { AreBooted N.name service.old passes }
 {
-    let mut all = passes.into_vec();
-    let mut second = service.leave_cpu(&mut all, 1);
-    let _first = service.leave_cpu(&mut all, 0);
-    let mut client = service.leave(&mut all, 0);
+    let (mut client, _first, mut second) = leave_three(service, passes);
     let mut log = Vec::new(alloc);
     acts(rt, service, &mut log, &mut client, &mut second);
     log
@@ -214,7 +212,9 @@ fn play<N: Name, R: Wait + Abort>(
     let Ok(mut service) = Service::<N>::open(alloc, fresh) else {
         panic!(rt; "no memory");
     };
-    play_on(rt, alloc, &mut service, passes)
+    let log = play_on(rt, alloc, &mut service, passes);
+    let_go(service);
+    log
 }
 
 /// A stop that takes an arming away from CPU 1.

@@ -29,6 +29,30 @@ pub(super) fn leave_two<N: Name>(service: &Service<N>, passes: Seq<Passes>) -> (
     (service.leave(&mut all, 0), cpu)
 }
 
+/// The passes of the one client, and of the first and the second of two CPUs.
+pub(super) fn leave_three<N: Name>(
+    service: &Service<N>,
+    passes: Seq<Passes>,
+) -> (Passes, Passes, Passes)
+    requires version { service.now.version ≡ 1 }
+    requires clients { service.now.clients ≡ 1 }
+    requires cpus { service.now.cpus ≡ 2 }
+    requires passes { AreBooted N.name service.now passes }
+    ensures client { AreOf N.name service.now result.0 }
+    ensures first { KeepsFree N.name service.now (cpu_actor (actors_of service.now) 0) false 0 result.1 }
+    ensures first_scans { result.1.actor ≡ scanner (actors_of service.now) 0 }
+    ensures second { KeepsFree N.name service.now (cpu_actor (actors_of service.now) 1) false 1 result.2 }
+    ensures second_scans { result.2.actor ≡ scanner (actors_of service.now) 1 }
+{
+    let mut all = passes.into_vec();
+    let second = service.leave_cpu(&mut all, 1);
+    let first = service.leave_cpu(&mut all, 0);
+    (service.leave(&mut all, 0), first, second)
+}
+
+/// Lets a service go.
+pub(super) fn let_go<N: Name>(_service: Service<N>) {}
+
 /// The passes of two actors, who are all.
 fn all_back<N: Name, R: Abort>(
     rt: &R,

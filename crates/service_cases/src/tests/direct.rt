@@ -10,6 +10,7 @@ ghost use Rattle.co_service.specs.Views.{AreOf};
 ghost use Rattle.service_cases.specs.Scenes.{IsScene};
 
 use super::acts::{begun, nothing, tick};
+use super::cast::let_go;
 use super::notes::{Row, Told, are};
 use super::stage::{arm, boot, keep, keep_all, seconds};
 use co_object::{Note, Place, QOp, QReply};
@@ -97,7 +98,9 @@ fn play<N: Name, R: Wait + Abort>(
     let Ok(service) = Service::<N>::open(alloc, fresh) else {
         panic!(rt; "no memory");
     };
-    play_on(rt, alloc, &service, passes)
+    let log = play_on(rt, alloc, &service, passes);
+    let_go(service);
+    log
 }
 
 const NOTES: [Row; 8] = [

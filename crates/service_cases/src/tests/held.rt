@@ -13,7 +13,7 @@ ghost use Rattle.co_service.specs.Serving.{Runs, Waits};
 ghost use Rattle.co_service.specs.Views.{AreOf, PassesView};
 
 use super::acts::{finish, rest, tick};
-use super::cast::leave_two;
+use super::cast::{leave_two, let_go};
 use super::notes::{Row, Told, are};
 use super::stage::{keep, keep_all, seconds};
 use co_lock::{ClientLocks, Hold, LockKind};
@@ -255,7 +255,9 @@ fn play<N: Name, R: Wait + Abort + Sync>(
     let Ok(service) = Service::<N>::open(alloc, fresh) else {
         panic!(rt; "no memory");
     };
-    play_on(rt, alloc, &service, passes, &locks)
+    let log = play_on(rt, alloc, &service, passes, &locks);
+    let_go(service);
+    log
 }
 
 const NOTES: [Row; 10] = [

@@ -12,6 +12,7 @@ ghost use Rattle.co_service.specs.Views.{AreOf};
 ghost use Rattle.service_cases.specs.Scenes.{IsScene};
 
 use super::acts::{finish, rest, start, tick};
+use super::cast::{leave_three, let_go};
 use super::notes::{Row, Told, are};
 use super::stage::{arm, boot, seconds};
 use co_object::{Note, Place, QOp, QReply};
@@ -102,10 +103,7 @@ fn play_on<N: Name, R: Wait + Abort>(
     requires scene { IsScene 1 2 1 3 service.now }
     requires passes { AreBooted N.name service.now passes }
 {
-    let mut all = passes.into_vec();
-    let mut second = service.leave_cpu(&mut all, 1);
-    let mut first = service.leave_cpu(&mut all, 0);
-    let mut client = service.leave(&mut all, 0);
+    let (mut client, mut first, mut second) = leave_three(service, passes);
     let mut log = Vec::new(alloc);
     move_in_service(rt, service, &mut log, &mut client, &mut first);
     serve_moved(rt, service, &mut log, &mut second);
@@ -126,7 +124,9 @@ fn play<N: Name, R: Wait + Abort>(
     let Ok(service) = Service::<N>::open(alloc, fresh) else {
         panic!(rt; "no memory");
     };
-    play_on(rt, alloc, &service, passes)
+    let log = play_on(rt, alloc, &service, passes);
+    let_go(service);
+    log
 }
 
 const NOTES: [Row; 16] = [

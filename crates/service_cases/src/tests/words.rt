@@ -15,7 +15,7 @@ ghost use Rattle.co_service.specs.Views.{AreOf};
 ghost use Rattle.service_cases.specs.Scenes.{IsScene};
 
 use super::acts::{begun, tick};
-use super::cast::leave_two;
+use super::cast::{leave_two, let_go};
 use super::notes::{Row, Told, are};
 use super::stage::{boot, keep, keep_all, seconds};
 use co_object::{CallOp, Note, Place, PlainOp, QOp, QReply, Reply};
@@ -202,7 +202,9 @@ fn play<N: Name, R: Wait + Abort>(
     let Ok(service) = Service::<N>::open(alloc, fresh) else {
         panic!(rt; "no memory");
     };
-    play_on(rt, alloc, &service, passes)
+    let log = play_on(rt, alloc, &service, passes);
+    let_go(service);
+    log
 }
 
 const NOTES: [Row; 11] = [
