@@ -129,21 +129,25 @@ fn copy<S: Source, K: Sink>(alloc: Global, limit: usize, source: &mut S, sink: &
     }
 }
 
-// Pours three bytes into a sink, and copies three more: whether it has them all then.
-fn takes_all(alloc: Global, sink: &mut QuietSink) -> Result<bool, NoMemory>
+// Pours three bytes into an empty sink: whether it has them then.
+fn takes_poured(alloc: Global, sink: &mut QuietSink) -> Result<bool, NoMemory>
     requires { 3 ≤ sink.old.room }
 {
-    let mut quiet = QuietSource::new(alloc, b"abc")?;
-    pour(alloc, &mut quiet, sink)?;
-    let poured = sink.bytes() == b"abc".as_slice();
+    let mut source = QuietSource::new(alloc, b"abc")?;
+    pour(alloc, &mut source, sink)?;
+    Ok(sink.bytes() == b"abc".as_slice())
+}
+
+// Copies three bytes more: whether it has them all then.
+fn takes_copied(alloc: Global, sink: &mut QuietSink) -> Result<bool, NoMemory> {
     let mut source = MemSource::new(alloc, b"def", 1, &[])?;
-    Ok(poured && copy(alloc, 3, &mut source, sink) && sink.bytes() == b"abcdef".as_slice())
+    Ok(copy(alloc, 3, &mut source, sink) && sink.bytes() == b"abcdef".as_slice())
 }
 
 // Whether a sink with room for them takes them.
 fn takes_six(alloc: Global) -> Result<bool, NoMemory> {
     let mut sink = QuietSink::new(alloc, 6)?;
-    takes_all(alloc, &mut sink)
+    Ok(takes_poured(alloc, &mut sink)? && takes_copied(alloc, &mut sink)?)
 }
 
 #[test]
