@@ -4,7 +4,6 @@ ghost use Rattle.std.specs.Prelude.{◌≡◌, ◌<◌, ◌≤◌, ◌^◌, IfOk
 use co_bucket::WheelQueue;
 use co_queue::{ListQueue, Looks, TimerQueue};
 use co_sbt::{NoMemory, Sbt};
-use std::alloc::Global;
 
 /// The next number of a linear congruence modulo 2^31.
 fn next_number(x: u64) -> u64
@@ -118,17 +117,16 @@ fn agree_for(list: &mut ListQueue, wheel: &mut WheelQueue, rounds: u64) -> u64
     rounds
 }
 
-/// The round in which a list and a wheel first differ, or 4000.
-fn agree_from_new(alloc: Global) -> Result<u64, NoMemory> {
-    let direct = [false, true, false, false, true, false, false, false];
-    let mut list = ListQueue::new(alloc, 8, 16, &direct)?;
-    let mut wheel = WheelQueue::new(alloc, 8, 16, &direct)?;
-    Ok(agree_for(&mut list, &mut wheel, 4000))
-}
-
 #[test]
 fn answers_agree(rt: HostRuntime) {
-    assert!(rt; agree_from_new(rt.alloc()) == Ok(4000));
+    let direct = [false, true, false, false, true, false, false, false];
+    let Ok(mut list) = ListQueue::new(rt.alloc(), 8, 16, &direct) else {
+        panic!(rt; "no memory");
+    };
+    let Ok(mut wheel) = WheelQueue::new(rt.alloc(), 8, 16, &direct) else {
+        panic!(rt; "no memory");
+    };
+    assert!(rt; agree_for(&mut list, &mut wheel, 4000) == 4000);
 }
 
 /// Whether the callouts come due in this order, and no others.
