@@ -1,7 +1,7 @@
 //! A worked script's walk, as lists and note by note.
 ghost use Rattle.std.specs.Prelude.{◌^◌};
 
-use super::in_transit;
+use super::{IN_TRANSIT, script_of};
 use co_core::{run_steps, tell_walk};
 use co_listener::Listener;
 use co_object::{Lists, Note};
@@ -34,19 +34,28 @@ fn notes_of(lists: &Lists, actor: usize) -> usize {
     }
 }
 
+/// How many notes the first four actors have.
+fn counts(lists: &Lists) -> [usize; 4] {
+    [
+        notes_of(lists, 0),
+        notes_of(lists, 1),
+        notes_of(lists, 2),
+        notes_of(lists, 3),
+    ]
+}
+
 #[test]
 fn keeps_a_list_for_each_actor(rt: HostRuntime) -> Result<(), Fail> {
-    let script = in_transit(rt.alloc())?;
+    let script = script_of(rt.alloc(), IN_TRANSIT.as_bytes())?;
     let lists = run_steps(rt.alloc(), &script)?;
     assert!(rt; lists.as_slice().len() == 4);
-    assert!(rt; notes_of(&lists, 0) == 2 && notes_of(&lists, 1) == 2);
-    assert!(rt; notes_of(&lists, 2) == 0 && notes_of(&lists, 3) == 0);
+    assert!(rt; counts(&lists) == [2, 2, 0, 0]);
     Ok(())
 }
 
 #[test]
 fn tells_as_it_walks(rt: HostRuntime) -> Result<(), Fail> {
-    let script = in_transit(rt.alloc())?;
+    let script = script_of(rt.alloc(), IN_TRANSIT.as_bytes())?;
     let mut told = Told {
         notes: Seq::new(rt.alloc()),
     };
