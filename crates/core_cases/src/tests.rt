@@ -21,8 +21,7 @@ fn script_of(alloc: Global, text: &[u8]) -> Result<Script, ScriptFault>
 }
 
 /// A client arms the callout for the other CPU, and another stops it.
-fn in_transit_text() -> &'static [u8] {
-    b"callout 1
+const IN_TRANSIT: &str = "callout 1
 cpus 2
 funcs 1
 timer 0 mpsafe
@@ -30,13 +29,4 @@ client 0
 reset 0 =1 f0 a0 cpu 1
 client 1
 stop 0
-"
-        .as_slice()
-}
-
-/// That script.
-fn in_transit(alloc: Global) -> Result<Script, ScriptFault>
-    ensures { IfOk result IsScript }
-{
-    script_of(alloc, in_transit_text())
-}
+";

@@ -1,5 +1,5 @@
 //! Worked histories of callout 0, and their counts.
-ghost use Rattle.std.specs.Prelude.{◌≡◌, IfOk};
+ghost use Rattle.std.specs.Prelude.{◌≡◌};
 ghost use Rattle.co_program.specs.Scripts.{IsScript};
 
 use super::script_of;
@@ -12,38 +12,21 @@ use co_sbt::{NoMemory, Sbt};
 use co_text::ScriptFault;
 use std::alloc::Global;
 use std::marker::Brand;
-use std::test::Fail;
 
 /// A callout without a lock, and a client.
-fn free(alloc: Global) -> Result<Script, ScriptFault>
-    ensures { IfOk result IsScript }
-{
-    script_of(
-        alloc,
-        b"callout 1
+const FREE: &str = "callout 1
 funcs 1
 timer 0 mpsafe
 client 0
-"
-            .as_slice(),
-    )
-}
+";
 
 /// A callout with a mutex, and a client.
-fn locked(alloc: Global) -> Result<Script, ScriptFault>
-    ensures { IfOk result IsScript }
-{
-    script_of(
-        alloc,
-        b"callout 1
+const LOCKED: &str = "callout 1
 funcs 1
 lock 0 mtx
 timer 0 mtx 0
 client 0
-"
-            .as_slice(),
-    )
-}
+";
 
 const NOTHING: Counts = Counts {
     notes: 0,
@@ -132,20 +115,19 @@ fn counts_of(alloc: Global, script: &Script, history: &[(Op, Reply)]) -> Result<
     counts_told::<Brand>(alloc, script, history)
 }
 
-/// Whether a callout without a lock has these counts after this history.
-fn of_free(alloc: Global, history: &[(Op, Reply)], wanted: Counts) -> Result<bool, ScriptFault> {
-    let script = free(alloc)?;
-    Ok(counts_of(alloc, &script, history) == Ok(wanted))
-}
-
-/// Whether a callout with a mutex has these counts after this history.
-fn of_locked(alloc: Global, history: &[(Op, Reply)], wanted: Counts) -> Result<bool, ScriptFault> {
-    let script = locked(alloc)?;
+/// Whether the callout of a text's script has these counts after this history.
+fn has(
+    alloc: Global,
+    text: &str,
+    history: &[(Op, Reply)],
+    wanted: Counts,
+) -> Result<bool, ScriptFault> {
+    let script = script_of(alloc, text.as_bytes())?;
     Ok(counts_of(alloc, &script, history) == Ok(wanted))
 }
 
 #[test]
-fn replaced(rt: HostRuntime) -> Result<(), Fail> {
+fn replaced(rt: HostRuntime) {
     let history = [
         (reset(seconds(1)), armed(0, 0, None)),
         (reset(seconds(2)), armed(1, 1, Some(0))),
@@ -159,12 +141,11 @@ fn replaced(rt: HostRuntime) -> Result<(), Fail> {
         superseded: 1,
         ..NOTHING
     };
-    assert!(rt; of_free(rt.alloc(), &history, wanted)?);
-    Ok(())
+    assert!(rt; has(rt.alloc(), FREE, &history, wanted) == Ok(true));
 }
 
 #[test]
-fn cancelled_while_it_waits(rt: HostRuntime) -> Result<(), Fail> {
+fn cancelled_while_it_waits(rt: HostRuntime) {
     let history = [
         (reset(seconds(1)), armed(0, 0, None)),
         (pick(0, seconds(1)), Reply::Hold),
@@ -178,12 +159,11 @@ fn cancelled_while_it_waits(rt: HostRuntime) -> Result<(), Fail> {
         stopped: 1,
         ..NOTHING
     };
-    assert!(rt; of_locked(rt.alloc(), &history, wanted)?);
-    Ok(())
+    assert!(rt; has(rt.alloc(), LOCKED, &history, wanted) == Ok(true));
 }
 
 #[test]
-fn stop_during_service(rt: HostRuntime) -> Result<(), Fail> {
+fn stop_during_service(rt: HostRuntime) {
     let off = Some(0);
     let history = [
         (reset(seconds(1)), armed(0, 0, None)),
@@ -199,12 +179,11 @@ fn stop_during_service(rt: HostRuntime) -> Result<(), Fail> {
         stopped: 1,
         ..NOTHING
     };
-    assert!(rt; of_free(rt.alloc(), &history, wanted)?);
-    Ok(())
+    assert!(rt; has(rt.alloc(), FREE, &history, wanted) == Ok(true));
 }
 
 #[test]
-fn still_armed(rt: HostRuntime) -> Result<(), Fail> {
+fn still_armed(rt: HostRuntime) {
     let history = [(reset(seconds(1)), armed(0, 0, None))];
     let wanted = Counts {
         notes: 1,
@@ -212,12 +191,10 @@ fn still_armed(rt: HostRuntime) -> Result<(), Fail> {
         pending: 1,
         ..NOTHING
     };
-    assert!(rt; of_free(rt.alloc(), &history, wanted)?);
-    Ok(())
+    assert!(rt; has(rt.alloc(), FREE, &history, wanted) == Ok(true));
 }
 
 #[test]
-fn empty_run(rt: HostRuntime) -> Result<(), Fail> {
-    assert!(rt; of_free(rt.alloc(), &[], NOTHING)?);
-    Ok(())
+fn empty_run(rt: HostRuntime) {
+    assert!(rt; has(rt.alloc(), FREE, &[], NOTHING) == Ok(true));
 }

@@ -2,7 +2,7 @@
 
 use co_gen::{Counts, Draws, gen_script, print_soak};
 use co_program::{Act, Script};
-use co_sbt::Sbt;
+use co_sbt::{NoMemory, Sbt};
 use co_script::fits;
 use std::test::Fail;
 
@@ -21,13 +21,20 @@ fn has_eight_clients(script: &Script) -> bool {
     acts.len() >= 2 && acts[0] == Act::Now(Sbt::zero()) && acts[1] == Act::Drain(22)
 }
 
+/// Whether a script was made that fits, with its 64 callouts and those clients.
+fn is_first(made: Result<Script, NoMemory>) -> bool {
+    match made {
+        Ok(script) => {
+            let has_all = script.timers.as_slice().len() == 64;
+            fits(&script) && has_all && has_eight_clients(&script)
+        }
+        Err(_) => false,
+    }
+}
+
 #[test]
-fn first_script(rt: HostRuntime) -> Result<(), Fail> {
-    let script = gen_script(rt.alloc(), 1)?;
-    assert!(rt; fits(&script));
-    assert!(rt; script.timers.as_slice().len() == 64);
-    assert!(rt; has_eight_clients(&script));
-    Ok(())
+fn first_script(rt: HostRuntime) {
+    assert!(rt; is_first(gen_script(rt.alloc(), 1)));
 }
 
 const COUNTS: Counts = Counts {

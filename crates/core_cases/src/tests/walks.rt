@@ -1,12 +1,14 @@
 //! A worked script's walk, as lists and note by note.
 ghost use Rattle.std.specs.Prelude.{◌^◌};
+ghost use Rattle.co_program.specs.Scripts.{IsScript};
 
-use super::in_transit;
+use super::{IN_TRANSIT, script_of};
 use co_core::{run_steps, tell_walk};
 use co_listener::Listener;
 use co_object::{Lists, Note};
+use co_program::Script;
 use co_sbt::{NoMemory, Seq};
-use std::test::Fail;
+use std::alloc::Global;
 
 /// Keeps who makes each note, and at which position of its place.
 #[derive(Drop)]
@@ -34,23 +36,48 @@ fn notes_of(lists: &Lists, actor: usize) -> usize {
     }
 }
 
-#[test]
-fn keeps_a_list_for_each_actor(rt: HostRuntime) -> Result<(), Fail> {
-    let script = in_transit(rt.alloc())?;
-    let lists = run_steps(rt.alloc(), &script)?;
-    assert!(rt; lists.as_slice().len() == 4);
-    assert!(rt; notes_of(&lists, 0) == 2 && notes_of(&lists, 1) == 2);
-    assert!(rt; notes_of(&lists, 2) == 0 && notes_of(&lists, 3) == 0);
-    Ok(())
+/// How many notes the first four actors have.
+fn counts(lists: &Lists) -> [usize; 4] {
+    [
+        notes_of(lists, 0),
+        notes_of(lists, 1),
+        notes_of(lists, 2),
+        notes_of(lists, 3),
+    ]
+}
+
+/// How many lists a script's walk makes, and how many notes their first four have.
+fn counted(alloc: Global, script: &Script) -> Option<(usize, [usize; 4])>
+    requires { IsScript script.now }
+{
+    match run_steps(alloc, script) {
+        Ok(lists) => Some((lists.as_slice().len(), counts(&lists))),
+        Err(_) => None,
+    }
 }
 
 #[test]
-fn tells_as_it_walks(rt: HostRuntime) -> Result<(), Fail> {
-    let script = in_transit(rt.alloc())?;
-    let mut told = Told {
-        notes: Seq::new(rt.alloc()),
+fn keeps_a_list_for_each_actor(rt: HostRuntime) {
+    let Ok(script) = script_of(rt.alloc(), IN_TRANSIT.as_bytes()) else {
+        panic!(rt; "no script");
     };
-    assert!(rt; tell_walk(rt.alloc(), &script, &mut told).is_ok());
-    assert!(rt; told.notes.as_slice() == [(0, 0), (0, 0), (1, 1), (1, 1)].as_slice());
-    Ok(())
+    assert!(rt; counted(rt.alloc(), &script) == Some((4, [2, 2, 0, 0])));
+}
+
+/// Whether a script's walk tells these notes, of an actor and at a position each.
+fn tells(alloc: Global, script: &Script, notes: &[(u32, u64)]) -> bool
+    requires { IsScript script.now }
+{
+    let mut told = Told {
+        notes: Seq::new(alloc),
+    };
+    tell_walk(alloc, script, &mut told).is_ok() && told.notes.as_slice() == notes
+}
+
+#[test]
+fn tells_as_it_walks(rt: HostRuntime) {
+    let Ok(script) = script_of(rt.alloc(), IN_TRANSIT.as_bytes()) else {
+        panic!(rt; "no script");
+    };
+    assert!(rt; tells(rt.alloc(), &script, &[(0, 0), (0, 0), (1, 1), (1, 1)]));
 }

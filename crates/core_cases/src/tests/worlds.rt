@@ -2,7 +2,7 @@
 ghost use Rattle.std.specs.Prelude.{◌≡◌};
 ghost use Rattle.co_program.specs.Scripts.{IsScript};
 
-use super::{in_transit_text, script_of};
+use super::{IN_TRANSIT, script_of};
 use co_core::{Turn, Why, World};
 use co_object::{AnyEntry, CallOp, Entry, Note, Op, Place, PlainOp, QEntry, QOp, QReply, Reply};
 use co_program::{Script, actor_count};
@@ -10,11 +10,9 @@ use co_sbt::{NoMemory, Seq};
 use co_text::ScriptFault;
 use std::alloc::Global;
 use std::process::Abort;
-use std::test::Fail;
 
 /// A client arms the callout under its lock and stops it while the CPU's service waits for the lock.
-fn cancelled() -> &'static [u8] {
-    b"callout 1
+const CANCELLED_SCRIPT: &str = "callout 1
 funcs 1
 lock 0 mtx
 timer 0 mtx 0
@@ -24,13 +22,10 @@ reset 0 =1 f0 a0
 stop 0
 cpu 0
 tick 1
-"
-        .as_slice()
-}
+";
 
 /// A client drains the callout while it is serviced, and another tries to arm it meanwhile.
-fn drained() -> &'static [u8] {
-    b"callout 1
+const DRAINED_SCRIPT: &str = "callout 1
 funcs 1
 timer 0 mpsafe
 client 0
@@ -41,13 +36,10 @@ client 1
 reset 0 =2 f0 a1
 cpu 0
 tick 1
-"
-        .as_slice()
-}
+";
 
 /// A client drains the callout while its service waits for the lock that another client has taken.
-fn drain_behind_cancelled() -> &'static [u8] {
-    b"callout 1
+const BEHIND_CANCELLED_SCRIPT: &str = "callout 1
 funcs 1
 lock 0 mtx
 timer 0 mtx 0
@@ -61,13 +53,10 @@ lock 0
 stop 0
 cpu 0
 tick 1
-"
-        .as_slice()
-}
+";
 
 /// A direct callout and another one, which the CPU services only after its interrupt's tick.
-fn soft_before_tick() -> &'static [u8] {
-    b"callout 2
+const SOFT_FIRST_SCRIPT: &str = "callout 2
 funcs 1
 timer 0 mpsafe direct
 timer 1 mpsafe
@@ -76,9 +65,7 @@ reset 0 =1 f0 a0
 reset 1 =1 f0 a1
 cpu 0
 tick 1
-"
-        .as_slice()
-}
+";
 
 /// The actors step in this order, with these answers.
 fn steps(rt: &impl Abort, script: &Script, world: &mut World, turns: &[(u32, Turn)])
@@ -119,22 +106,33 @@ fn notes_after(
 fn notes_of(
     rt: &impl Abort,
     alloc: Global,
-    text: &[u8],
+    text: &str,
     turns: &[(u32, Turn)],
     actor: usize,
 ) -> Result<Seq<Note>, ScriptFault> {
-    let script = script_of(alloc, text)?;
+    let script = script_of(alloc, text.as_bytes())?;
     match notes_after(rt, alloc, &script, turns, actor) {
         Ok(notes) => Ok(notes),
         Err(_) => Err(ScriptFault::NoMemory),
     }
 }
 
+/// What is told of an actor.
+type Told = Result<Seq<Note>, ScriptFault>;
+
+/// How many notes are there.
+fn count(told: &Told) -> Option<usize> {
+    match told {
+        Ok(notes) => Some(notes.as_slice().len()),
+        Err(_) => None,
+    }
+}
+
 /// Whether so many notes are there, and this is the one behind the first `at`.
-fn is_at(notes: &Seq<Note>, count: usize, at: usize, note: &Note) -> bool {
-    match notes.as_slice().get(at) {
-        Some(found) => notes.as_slice().len() == count && *found == *note,
-        None => false,
+fn is_at(told: &Told, count: usize, at: usize, note: &Note) -> bool {
+    match told {
+        Ok(notes) => notes.as_slice().len() == count && notes.as_slice().get(at) == Some(note),
+        Err(_) => false,
     }
 }
 
@@ -185,12 +183,11 @@ const CANCELLED: [(u32, Turn); 15] = [
 ];
 
 #[test]
-fn cancelled_while_it_waits(rt: HostRuntime) -> Result<(), Fail> {
-    let client = notes_of(&rt, rt.alloc(), cancelled(), &CANCELLED, 0)?;
+fn cancelled_while_it_waits(rt: HostRuntime) {
+    let client = notes_of(&rt, rt.alloc(), CANCELLED_SCRIPT, &CANCELLED, 0);
     assert!(rt; is_at(&client, 3, 2, &stopped(0, 2, 2, None)));
-    let cpu = notes_of(&rt, rt.alloc(), cancelled(), &CANCELLED, 1)?;
-    assert!(rt; cpu.as_slice().len() == 7);
-    Ok(())
+    let cpu = notes_of(&rt, rt.alloc(), CANCELLED_SCRIPT, &CANCELLED, 1);
+    assert!(rt; count(&cpu) == Some(7));
 }
 
 const MOVING: [(u32, Turn); 8] = [
@@ -219,13 +216,12 @@ fn removed() -> Note {
 }
 
 #[test]
-fn moving(rt: HostRuntime) -> Result<(), Fail> {
-    let first = notes_of(&rt, rt.alloc(), in_transit_text(), &MOVING, 0)?;
-    assert!(rt; first.as_slice().len() == 2);
-    let second = notes_of(&rt, rt.alloc(), in_transit_text(), &MOVING, 1)?;
+fn moving(rt: HostRuntime) {
+    let first = notes_of(&rt, rt.alloc(), IN_TRANSIT, &MOVING, 0);
+    assert!(rt; count(&first) == Some(2));
+    let second = notes_of(&rt, rt.alloc(), IN_TRANSIT, &MOVING, 1);
     assert!(rt; is_at(&second, 2, 0, &removed()));
     assert!(rt; is_at(&second, 2, 1, &stopped(1, 0, 1, Some(1))));
-    Ok(())
 }
 
 const DRAINED: [(u32, Turn); 13] = [
@@ -258,11 +254,10 @@ const IS_OVER: Reply = Reply::Drained {
 };
 
 #[test]
-fn drain_against_reset(rt: HostRuntime) -> Result<(), Fail> {
-    let client = notes_of(&rt, rt.alloc(), drained(), &DRAINED, 0)?;
+fn drain_against_reset(rt: HostRuntime) {
+    let client = notes_of(&rt, rt.alloc(), DRAINED_SCRIPT, &DRAINED, 0);
     assert!(rt; is_at(&client, 6, 2, &tried(2, WAITS)));
     assert!(rt; is_at(&client, 6, 3, &tried(5, IS_OVER)));
-    Ok(())
 }
 
 const BEHIND_CANCELLED: [(u32, Turn); 8] = [
@@ -277,21 +272,14 @@ const BEHIND_CANCELLED: [(u32, Turn); 8] = [
 ];
 
 #[test]
-fn drain_behind_a_cancelled_call(rt: HostRuntime) -> Result<(), Fail> {
-    notes_of(
-        &rt,
-        rt.alloc(),
-        drain_behind_cancelled(),
-        &BEHIND_CANCELLED,
-        0,
-    )?;
-    Ok(())
+fn drain_behind_a_cancelled_call(rt: HostRuntime) {
+    let script = BEHIND_CANCELLED_SCRIPT;
+    assert!(rt; notes_of(&rt, rt.alloc(), script, &BEHIND_CANCELLED, 0).is_ok());
 }
 
 const SOFT_FIRST: [(u32, Turn); 1] = [(1, Turn::Blocked(Why::Tick(0)))];
 
 #[test]
-fn soft_before_its_tick(rt: HostRuntime) -> Result<(), Fail> {
-    notes_of(&rt, rt.alloc(), soft_before_tick(), &SOFT_FIRST, 0)?;
-    Ok(())
+fn soft_before_its_tick(rt: HostRuntime) {
+    assert!(rt; notes_of(&rt, rt.alloc(), SOFT_FIRST_SCRIPT, &SOFT_FIRST, 0).is_ok());
 }

@@ -49,8 +49,8 @@ fn is_covered(held: Option<Held>, lock: LockUse, call: &CallOp) -> bool {
 
 #[test]
 fn covers_calls(rt: HostRuntime) {
-    for (held, lock, call, covered) in COVERED {
-        assert!(rt; is_covered(held, lock, &call) == covered);
+    for (held, lock, call, covered) in &COVERED {
+        assert!(rt; is_covered(*held, *lock, call) == *covered);
     }
 }
 
@@ -75,7 +75,7 @@ const HOLDS: [(LockUse, Option<Held>); 3] = [
 
 #[test]
 fn shares_a_lock_that_the_callout_shares(rt: HostRuntime) {
-    for (lock, held) in HOLDS {
-        assert!(rt; hold_of(lock) == held);
+    for (lock, held) in &HOLDS {
+        assert!(rt; hold_of(*lock) == *held);
     }
 }

@@ -14,7 +14,6 @@ use co_program::{Act, Acts, Script, When, Where, Who};
 use co_sbt::{NoMemory, Sbt, Seq};
 use std::alloc::Global;
 use std::sync::Wait;
-use std::test::Fail;
 
 /// The time of so many seconds, of which there are few.
 fn seconds(count: u32) -> Sbt
@@ -26,6 +25,7 @@ fn seconds(count: u32) -> Sbt
     }
 }
 
+/// The list of one item.
 fn one<T: Drop>(alloc: Global, item: T) -> Result<Seq<T>, NoMemory>
     ensures { IfOk result (λ list. list ≡ item ∷ []) }
 {
@@ -34,7 +34,8 @@ fn one<T: Drop>(alloc: Global, item: T) -> Result<Seq<T>, NoMemory>
     Ok(list)
 }
 
-fn two<T: Drop>(alloc: Global, first: T, second: T) -> Result<Seq<T>, NoMemory>
+/// The list of two items.
+pub fn two<T: Drop>(alloc: Global, first: T, second: T) -> Result<Seq<T>, NoMemory>
     ensures { IfOk result (λ list. list ≡ first ∷ second ∷ []) }
 {
     let mut list = Seq::new(alloc);
@@ -208,17 +209,19 @@ const STOPPED: PortReply = PortReply::Reply(Reply::Stopped {
     off: Some(0),
 });
 
-/// Whether the calls are these.
-pub fn are(calls: &Seq<PortCall>, expected: &[PortCall]) -> bool {
-    calls.as_slice() == expected
+/// Whether the calls could be stored, and are these.
+pub fn are(calls: Result<Seq<PortCall>, NoMemory>, expected: &[PortCall]) -> bool {
+    match calls {
+        Ok(calls) => calls.as_slice() == expected,
+        Err(_) => false,
+    }
 }
 
 #[test]
-fn a_function_makes_its_acts_in_order(rt: HostRuntime) -> Result<(), Fail> {
+fn a_function_makes_its_acts_in_order(rt: HostRuntime) {
     let free = spec_of(LockUse::Free, false);
-    let calls = calls_of_run(rt.alloc(), free, None)?;
-    assert!(rt; are(&calls, &[again(ARMED), stop(STOPPED)]));
-    Ok(())
+    let calls = calls_of_run(rt.alloc(), free, None);
+    assert!(rt; are(calls, &[again(ARMED), stop(STOPPED)]));
 }
 
 /// A mutex and a reader-writer lock.
@@ -228,54 +231,43 @@ fn two_locks(alloc: Global) -> Result<ClientLocks, NoMemory>
     ClientLocks::new(alloc, &[LockKind::Mtx, LockKind::Rw])
 }
 
-/// The calls that function 0 makes under this hold, and what is held after them.
-fn calls_under(
-    alloc: Global,
-    spec: Spec,
-    mut hold: Hold<'_>,
-) -> Result<(Seq<PortCall>, Held), NoMemory>
-    requires { spec.direct ≡ false }
-{
-    let calls = calls_of_run(alloc, spec, Some(&mut hold))?;
-    Ok((calls, hold.held()))
-}
-
 /// Whether both calls are made under the mutex.
-fn are_made_under_the_mutex<R: Wait + Sync>(
-    rt: &R,
-    alloc: Global,
-    locks: &ClientLocks,
-) -> Result<bool, NoMemory>
+fn are_made_under_the_mutex<R: Wait + Sync>(rt: &R, alloc: Global, locks: &ClientLocks) -> bool
     requires { locks.now ≡ kind.Mtx ∷ kind.Rw ∷ [] }
 {
     let locked = spec_of(LockUse::Mtx(0), false);
-    let (calls, _) = calls_under(alloc, locked, locks.lock(rt, 0))?;
-    Ok(are(&calls, &[again(ARMED), stop(STOPPED)]))
+    let mut hold = locks.lock(rt, 0);
+    let calls = calls_of_run(alloc, locked, Some(&mut hold));
+    are(calls, &[again(ARMED), stop(STOPPED)])
 }
 
 /// Whether the stop is refused under a hold in read mode, which stays.
-fn is_refused_under_a_read<R: Wait + Sync>(
-    rt: &R,
-    alloc: Global,
-    locks: &ClientLocks,
-) -> Result<bool, NoMemory>
+fn is_refused_under_a_read<R: Wait + Sync>(rt: &R, alloc: Global, locks: &ClientLocks) -> bool
     requires { locks.now ≡ kind.Mtx ∷ kind.Rw ∷ [] }
 {
     let shared = spec_of(LockUse::RwShared(1), false);
-    let (calls, held) = calls_under(alloc, shared, locks.read(rt, 1))?;
+    let mut hold = locks.read(rt, 1);
+    let calls = calls_of_run(alloc, shared, Some(&mut hold));
     let reading = Held {
         id: 1,
         exclusive: false,
     };
-    Ok(held == reading && are(&calls, &[again(ARMED), stop(PortReply::NotHeld)]))
+    let stays = hold.held() == reading;
+    are(calls, &[again(ARMED), stop(PortReply::NotHeld)]) && stays
+}
+
+/// Whether the calls under the mutex are as they have to be, and those under a hold in read mode.
+fn are_made_under_holds<R: Wait + Sync>(rt: &R, alloc: Global) -> Result<[bool; 2], NoMemory> {
+    let locks = two_locks(alloc)?;
+    Ok([
+        are_made_under_the_mutex(rt, alloc, &locks),
+        is_refused_under_a_read(rt, alloc, &locks),
+    ])
 }
 
 #[test]
-fn calls_are_made_under_the_hold(rt: HostRuntime) -> Result<(), Fail> {
-    let locks = two_locks(rt.alloc())?;
-    assert!(rt; are_made_under_the_mutex(&rt, rt.alloc(), &locks)?);
-    assert!(rt; is_refused_under_a_read(&rt, rt.alloc(), &locks)?);
-    Ok(())
+fn calls_are_made_under_the_hold(rt: HostRuntime) {
+    assert!(rt; are_made_under_holds(&rt, rt.alloc()) == Ok([true, true]));
 }
 
 /// The calls that this function of that table makes in an asynchronous drain.
@@ -301,15 +293,14 @@ fn calls_of_drained(alloc: Global, func: u32) -> Result<Seq<PortCall>, NoMemory>
 }
 
 #[test]
-fn a_drain_function_makes_its_acts(rt: HostRuntime) -> Result<(), Fail> {
+fn a_drain_function_makes_its_acts(rt: HostRuntime) {
     let asks = PortCall {
         i: 0,
         op: PlainOp::Active,
         answer: PortReply::Reply(Reply::No),
     };
-    assert!(rt; are(&calls_of_drained(rt.alloc(), 1)?, &[asks]));
-    assert!(rt; are(&calls_of_drained(rt.alloc(), 7)?, &[]));
-    Ok(())
+    assert!(rt; are(calls_of_drained(rt.alloc(), 1), &[asks]));
+    assert!(rt; are(calls_of_drained(rt.alloc(), 7), &[]));
 }
 
 #[test]

@@ -1,22 +1,24 @@
 //! Client locks, taken by one thread and by two.
-ghost use Rattle.std.specs.Prelude.{◌≡◌, ◌<◌, IfOk, Some, length, slice_get, ◌∷◌, []};
+ghost use Rattle.std.specs.Prelude.{◌≡◌, ◌<◌, Some, length, slice_get, ◌∷◌, []};
 ghost use denote.Param.Send.{IsSync};
 
 use super::turns::comes_to;
 use co_lock::{ClientLocks, Held, Hold, LockKind};
-use co_sbt::NoMemory;
 use std::alloc::Global;
+use std::process::Abort;
 use std::sync::atomic::{AtomicU64, Ordering};
 use std::sync::{Barrier, Wait};
-use std::test::Fail;
 use std::thread;
 use std::thread::{Threads, join};
 
 // A mutex and two reader-writer locks.
-fn three_locks(alloc: Global) -> Result<ClientLocks, NoMemory>
-    ensures { IfOk result (λ locks. locks ≡ LockKind.Mtx ∷ LockKind.Rw ∷ LockKind.Rw ∷ []) }
+fn three_locks<R: Abort>(rt: &R, alloc: Global) -> ClientLocks
+    ensures { result ≡ LockKind.Mtx ∷ LockKind.Rw ∷ LockKind.Rw ∷ [] }
 {
-    ClientLocks::new(alloc, &[LockKind::Mtx, LockKind::Rw, LockKind::Rw])
+    match ClientLocks::new(alloc, &[LockKind::Mtx, LockKind::Rw, LockKind::Rw]) {
+        Ok(locks) => locks,
+        Err(_) => panic!(rt; "no memory"),
+    }
 }
 
 // Whether the hold says that it is this one.
@@ -36,10 +38,9 @@ fn take_each<R: Wait + Sync>(rt: &R, locks: &ClientLocks) -> bool
 }
 
 #[test]
-fn a_drop_releases_each_lock(rt: HostRuntime) -> Result<(), Fail> {
-    let locks = three_locks(rt.alloc())?;
+fn a_drop_releases_each_lock(rt: HostRuntime) {
+    let locks = three_locks(&rt, rt.alloc());
     assert!(rt; take_each(&rt, &locks) && take_each(&rt, &locks));
-    Ok(())
 }
 
 // Adds 1 so often, by a read and a write of which others may come between unless the lock keeps them out.
@@ -72,11 +73,10 @@ fn counted_by_two<R: Threads + Wait + Sync>(rt: &R, locks: &ClientLocks, id: u32
 }
 
 #[test]
-fn exclusive_holds_exclude_each_other(rt: HostRuntime) -> Result<(), Fail> {
-    let locks = three_locks(rt.alloc())?;
+fn exclusive_holds_exclude_each_other(rt: HostRuntime) {
+    let locks = three_locks(&rt, rt.alloc());
     assert!(rt; counted_by_two(&rt, &locks, 0) == 2000);
     assert!(rt; counted_by_two(&rt, &locks, 1) == 2000);
-    Ok(())
 }
 
 // Takes the lock in read mode, and keeps it until another has it as well.
@@ -105,14 +105,13 @@ fn read_by_two<R: Threads + Wait + Sync>(rt: &R, locks: &ClientLocks, id: u32) -
 }
 
 #[test]
-fn readers_share_a_lock(rt: HostRuntime) -> Result<(), Fail> {
-    let locks = three_locks(rt.alloc())?;
+fn readers_share_a_lock(rt: HostRuntime) {
+    let locks = three_locks(&rt, rt.alloc());
     let reading = Held {
         id: 1,
         exclusive: false,
     };
     assert!(rt; read_by_two(&rt, &locks, 1) == (reading, reading));
-    Ok(())
 }
 
 // Takes the locks but `kept`, one after the other, once that one is kept.
@@ -170,22 +169,21 @@ fn others_are_free<R: Threads + Wait + Sync>(rt: &R, locks: &ClientLocks, kept: 
     free
 }
 
-// Keeps the three locks at once. Whether each hold is of its own.
-fn keep_each<R: Wait + Sync>(rt: &R, locks: &ClientLocks) -> bool
+// Keeps the three locks at once: which each hold says that it is of.
+fn keep_each<R: Wait + Sync>(rt: &R, locks: &ClientLocks) -> [u32; 3]
     requires { locks.now ≡ LockKind.Mtx ∷ LockKind.Rw ∷ LockKind.Rw ∷ [] }
 {
     let mutex = locks.lock(rt, 0);
     let first = locks.read(rt, 1);
     let second = locks.lock(rt, 2);
-    mutex.id() == 0 && first.id() == 1 && second.id() == 2
+    [mutex.id(), first.id(), second.id()]
 }
 
 #[test]
-fn each_lock_is_its_own(rt: HostRuntime) -> Result<(), Fail> {
-    let locks = three_locks(rt.alloc())?;
+fn each_lock_is_its_own(rt: HostRuntime) {
+    let locks = three_locks(&rt, rt.alloc());
     for kept in 0..3 {
         assert!(rt; others_are_free(&rt, &locks, kept));
     }
-    assert!(rt; keep_each(&rt, &locks));
-    Ok(())
+    assert!(rt; keep_each(&rt, &locks) == [0, 1, 2]);
 }

@@ -1,11 +1,9 @@
 //! The plain list and the wheel side by side, and worked rows of both.
-ghost use Rattle.std.specs.Prelude.{◌≡◌, ◌<◌, ◌≤◌, ◌^◌, length};
+ghost use Rattle.std.specs.Prelude.{◌≡◌, ◌<◌, ◌≤◌, ◌^◌, IfOk, length};
 
 use co_bucket::WheelQueue;
 use co_queue::{ListQueue, Looks, TimerQueue};
-use co_sbt::Sbt;
-use std::process::Abort;
-use std::test::Fail;
+use co_sbt::{NoMemory, Sbt};
 
 /// The next number of a linear congruence modulo 2^31.
 fn next_number(x: u64) -> u64
@@ -120,12 +118,15 @@ fn agree_for(list: &mut ListQueue, wheel: &mut WheelQueue, rounds: u64) -> u64
 }
 
 #[test]
-fn answers_agree(rt: HostRuntime) -> Result<(), Fail> {
+fn answers_agree(rt: HostRuntime) {
     let direct = [false, true, false, false, true, false, false, false];
-    let mut list = ListQueue::new(rt.alloc(), 8, 16, &direct)?;
-    let mut wheel = WheelQueue::new(rt.alloc(), 8, 16, &direct)?;
+    let Ok(mut list) = ListQueue::new(rt.alloc(), 8, 16, &direct) else {
+        panic!(rt; "no memory");
+    };
+    let Ok(mut wheel) = WheelQueue::new(rt.alloc(), 8, 16, &direct) else {
+        panic!(rt; "no memory");
+    };
     assert!(rt; agree_for(&mut list, &mut wheel, 4000) == 4000);
-    Ok(())
 }
 
 /// Whether the callouts come due in this order, and no others.
@@ -149,50 +150,57 @@ fn plays<Q: TimerQueue>(queue: &mut Q, times: &[u64], now: u64, order: &[u32]) -
 }
 
 /// Three callouts at the border of two buckets, taken out bucket by bucket.
-fn takes_a_bucket_in_order<Q: TimerQueue + Drop>(mut queue: Q) -> bool
-    requires { (Q.state queue).size ≡ 3 }
+fn takes_a_bucket_in_order<Q: TimerQueue + Drop>(made: Result<Q, NoMemory>) -> bool
+    requires { IfOk made (λ queue. (Q.state queue).size ≡ 3) }
 {
+    let Ok(mut queue) = made else {
+        return false;
+    };
     let times = [16777215, 16777216, 16777217];
     plays(&mut queue, &times, 16777217, &[0, 2, 1]) == ((3, 3), true)
 }
 
 /// What is more than a turn away stays until the turn of its time.
-fn takes_in_two_turns<Q: TimerQueue + Drop>(mut queue: Q) -> bool
-    requires { (Q.state queue).size ≡ 4 }
+fn takes_in_two_turns<Q: TimerQueue + Drop>(made: Result<Q, NoMemory>) -> bool
+    requires { IfOk made (λ queue. (Q.state queue).size ≡ 4) }
 {
+    let Ok(mut queue) = made else {
+        return false;
+    };
     let times = [285212672, 33554432, 16777216, 838860800];
     let first = plays(&mut queue, &times, 671088640, &[2, 0, 1]);
     let other = plays(&mut queue, &[], 838860800, &[3]);
-    first == ((3, 4), true) && other == ((1, 1), true)
+    [first, other] == [((3, 4), true), ((1, 1), true)]
 }
 
 #[test]
-fn order_in_a_bucket_and_in_two_turns(rt: HostRuntime) -> Result<(), Fail> {
+fn order_in_a_bucket_and_in_two_turns(rt: HostRuntime) {
     let alloc = rt.alloc();
-    assert!(rt; takes_a_bucket_in_order(ListQueue::new(alloc, 3, 256, &[false; 3])?));
-    assert!(rt; takes_a_bucket_in_order(WheelQueue::new(alloc, 3, 256, &[false; 3])?));
-    assert!(rt; takes_in_two_turns(ListQueue::new(alloc, 4, 16, &[false; 4])?));
-    assert!(rt; takes_in_two_turns(WheelQueue::new(alloc, 4, 16, &[false; 4])?));
-    Ok(())
+    assert!(rt; takes_a_bucket_in_order(ListQueue::new(alloc, 3, 256, &[false; 3])));
+    assert!(rt; takes_a_bucket_in_order(WheelQueue::new(alloc, 3, 256, &[false; 3])));
+    assert!(rt; takes_in_two_turns(ListQueue::new(alloc, 4, 16, &[false; 4])));
+    assert!(rt; takes_in_two_turns(WheelQueue::new(alloc, 4, 16, &[false; 4])));
 }
 
 /// The count and the looks of a scan that comes to the third of 64 buckets, with a callout in each.
-fn scan_of_three<Q: TimerQueue + Drop>(mut queue: Q) -> (u32, u64)
-    requires { (Q.state queue).size ≡ 64 }
+fn scan_of_three<Q: TimerQueue + Drop>(made: Result<Q, NoMemory>) -> Option<(u32, u64)>
+    requires { IfOk made (λ queue. (Q.state queue).size ≡ 64) }
 {
+    let Ok(mut queue) = made else {
+        return None;
+    };
     let mut times = [0; 64];
     for (i, at) in times.iter_mut().enumerate() {
         *at = i as u64 * 16777216;
     }
     arm(&mut queue, &times);
-    scan(&mut queue, time(33554432))
+    Some(scan(&mut queue, time(33554432)))
 }
 
 #[test]
-fn looks_at_visited_buckets(rt: HostRuntime) -> Result<(), Fail> {
-    let listed = scan_of_three(ListQueue::new(rt.alloc(), 64, 16, &[false; 64])?);
-    assert!(rt; listed == (3, 64));
-    let wheeled = scan_of_three(WheelQueue::new(rt.alloc(), 64, 16, &[false; 64])?);
-    assert!(rt; wheeled == (3, 12));
-    Ok(())
+fn looks_at_visited_buckets(rt: HostRuntime) {
+    let listed = scan_of_three(ListQueue::new(rt.alloc(), 64, 16, &[false; 64]));
+    assert!(rt; listed == Some((3, 64)));
+    let wheeled = scan_of_three(WheelQueue::new(rt.alloc(), 64, 16, &[false; 64]));
+    assert!(rt; wheeled == Some((3, 12)));
 }

@@ -13,7 +13,6 @@ use co_sbt::{NoMemory, Seq};
 use std::alloc::Global;
 use std::sync::Wait;
 use std::sync::atomic::{AtomicU64, Ordering};
-use std::test::Fail;
 use std::thread::{Threads, join};
 
 /// How many calls have begun, how often the other thread has had the lock, and in how many calls it had not in time.
@@ -100,12 +99,12 @@ fn lock_in_calls<R: Wait + Sync>(rt: &R, locks: &ClientLocks, needs: &Needs)
     }
 }
 
-/// The calls of function 0, and in how many of them the other thread waited for the lock in vain.
+/// Whether function 0 makes its calls without a hold, and the other thread waited for the lock in vain in none.
 fn calls_beside_a_lock<R: Threads + Wait + Sync>(
     rt: &R,
     alloc: Global,
     locks: &ClientLocks,
-) -> Result<(Seq<PortCall>, u64), NoMemory>
+) -> [bool; 2]
     requires { 0 < length locks.now }
 {
     let needs = Needs {
@@ -122,19 +121,21 @@ fn calls_beside_a_lock<R: Threads + Wait + Sync>(
             requires { IsSync R.row × (0 < length locks.now) }
         { lock_in_calls(rt, locks, &needs) },
     );
-    Ok((calls?, needs.in_vain.load(Ordering::SeqCst)))
+    let not_held = [again(PortReply::NotHeld), stop(PortReply::NotHeld)];
+    let none_in_vain = needs.in_vain.load(Ordering::SeqCst) == 0;
+    [are(calls, &not_held), none_in_vain]
+}
+
+/// The same beside a mutex of its own.
+fn calls_beside_a_mutex<R: Threads + Wait + Sync>(
+    rt: &R,
+    alloc: Global,
+) -> Result<[bool; 2], NoMemory> {
+    let locks = ClientLocks::new(alloc, &[LockKind::Mtx])?;
+    Ok(calls_beside_a_lock(rt, alloc, &locks))
 }
 
 #[test]
-fn the_hold_is_released_before_the_first_act(rt: HostRuntime) -> Result<(), Fail> {
-    let locks = ClientLocks::new(rt.alloc(), &[LockKind::Mtx])?;
-    let (calls, in_vain) = calls_beside_a_lock(&rt, rt.alloc(), &locks)?;
-    assert!(rt; in_vain == 0);
-    assert!(rt;
-        are(
-            &calls,
-            &[again(PortReply::NotHeld), stop(PortReply::NotHeld)]
-        )
-    );
-    Ok(())
+fn the_hold_is_released_before_the_first_act(rt: HostRuntime) {
+    assert!(rt; calls_beside_a_mutex(&rt, rt.alloc()) == Ok([true, true]));
 }

@@ -7,8 +7,11 @@ const TICKS: [(i32, u32, u64); 3] = [(1, 1000000, 4294), (0, 1000, 4294967), (-5
 
 #[test]
 fn counts_ticks(rt: HostRuntime) {
-    for (ticks, hz, raw) in TICKS {
-        assert!(rt; Some(Sbt::from_ticks(ticks, hz)) == Sbt::new(raw), "{raw}");
+    for (ticks, hz, raw) in &TICKS {
+        assert!(rt;
+            Some(Sbt::from_ticks(*ticks, *hz)) == Sbt::new(*raw),
+            "{raw}"
+        );
     }
 }
 
@@ -24,8 +27,8 @@ const SECONDS: [(&str, u64); 6] = [
 
 #[test]
 fn reads_seconds(rt: HostRuntime) {
-    for (text, raw) in SECONDS {
-        assert!(rt; read_seconds(text.as_bytes()) == Sbt::new(raw), "{text}");
+    for (text, raw) in &SECONDS {
+        assert!(rt; read_seconds(text.as_bytes()) == Sbt::new(*raw), "{text}");
     }
 }
 

@@ -1,14 +1,19 @@
 //! A callout with a mutex is stopped while its service waits for the mutex.
 ghost use Rattle.std.specs.Prelude.{◌≡◌, ◌∷◌, [], ◌<◌, ℕ, Bool, IfOk, IfSome, false, true};
+ghost use Rattle.co_object.specs.Actors.{cpu_actor};
+ghost use Rattle.co_object.specs.Journal.{scanner};
 ghost use Rattle.co_object.specs.Queue.{Due};
 ghost use Rattle.co_object.specs.declared.spec.LockUse.TheVariants.{Mtx};
 ghost use Rattle.co_service.specs.Booted.{AreBooted};
 ghost use Rattle.service_cases.specs.Scenes.{IsLocked};
+ghost use Rattle.co_service.specs.Kept.{KeepsFree};
+ghost use Rattle.co_service.specs.Params.{actors_of};
 ghost use Rattle.co_service.specs.Services.{HasNext, IsFree, IsServing};
 ghost use Rattle.co_service.specs.Serving.{Runs, Waits};
 ghost use Rattle.co_service.specs.Views.{AreOf, PassesView};
 
 use super::acts::{finish, rest, tick};
+use super::cast::{leave_two, let_go};
 use super::notes::{Row, Told, are};
 use super::stage::{keep, keep_all, seconds};
 use co_lock::{ClientLocks, Hold, LockKind};
@@ -19,7 +24,6 @@ use std::alloc::Global;
 use std::marker::Brand;
 use std::process::Abort;
 use std::sync::Wait;
-use std::test::Fail;
 
 /// A callout with mutex 0.
 fn locked_spec() -> Spec
@@ -150,36 +154,110 @@ fn begin_held<N: Name, R: Wait + Abort>(
     keep_all(rt, log, made.notes);
 }
 
-/// The acts of the client, and of the CPU.
+/// The client holds the mutex, and stops the callout while its service waits for that. The answer is the arming that waits.
+fn stop_what_waits<N: Name, R: Wait + Abort + Sync>(
+    rt: &R,
+    service: &Service<N>,
+    log: &mut Vec<Note>,
+    client: &mut Passes,
+    cpu: &mut Passes,
+    locks: &ClientLocks,
+) -> u64
+    requires scene { IsLocked service.now }
+    requires client { AreOf N.name service.now client.old }
+    requires kept { KeepsFree N.name service.now (cpu_actor (actors_of service.now) 0) false 0 cpu.old }
+    requires scans { cpu.old.actor ≡ scanner (actors_of service.now) 0 }
+    requires locks { locks.now ≡ LockKind.Mtx ∷ [] }
+    ensures of { AreOf N.name service.now cpu.new }
+    ensures serving { IsServing false cpu.new 0 (record { i = 0; n = result }) (Waits result) }
+{
+    let hold = locks.lock(rt, 0);
+    arm_held(rt, service, log, client, &hold);
+    tick(rt, service, log, cpu, 0, seconds(1));
+    let n = start_waiting(rt, service, log, cpu);
+    stop_held(rt, service, log, client, &hold);
+    n
+}
+
+/// The CPU, whose service of this arming waits, holds the mutex.
+fn begin_locked<N: Name, R: Wait + Abort + Sync>(
+    rt: &R,
+    service: &Service<N>,
+    log: &mut Vec<Note>,
+    cpu: &mut Passes,
+    n: u64,
+    locks: &ClientLocks,
+)
+    requires scene { IsLocked service.now }
+    requires cpu { AreOf N.name service.now cpu.old }
+    requires serving { IsServing false cpu.old 0 (record { i = 0; n = n }) (Waits n) }
+    requires locks { locks.now ≡ LockKind.Mtx ∷ [] }
+    ensures of { AreOf N.name service.now cpu.new }
+    ensures serving { (d : Due) × IsServing false cpu.new 0 d (Runs d.n) }
+{
+    let hold = locks.lock(rt, 0);
+    begin_held(rt, service, log, cpu, n, &hold);
+}
+
+/// The service of the arming that waits ends.
+fn end_what_waits<N: Name, R: Wait + Abort + Sync>(
+    rt: &R,
+    service: &Service<N>,
+    log: &mut Vec<Note>,
+    cpu: &mut Passes,
+    n: u64,
+    locks: &ClientLocks,
+)
+    requires scene { IsLocked service.now }
+    requires cpu { AreOf N.name service.now cpu.old }
+    requires serving { IsServing false cpu.old 0 (record { i = 0; n = n }) (Waits n) }
+    requires locks { locks.now ≡ LockKind.Mtx ∷ [] }
+{
+    begin_locked(rt, service, log, cpu, n, locks);
+    finish(rt, service, log, cpu, 0);
+    service.drain_wait(rt, 0, 0);
+    rest(rt, service, log, cpu, 0);
+}
+
+/// The notes of these acts.
+fn play_on<N: Name, R: Wait + Abort + Sync>(
+    rt: &R,
+    alloc: Global,
+    service: &Service<N>,
+    passes: Seq<Passes>,
+    locks: &ClientLocks,
+) -> Vec<Note>
+    requires scene { IsLocked service.now }
+    requires passes { AreBooted N.name service.now passes }
+    requires locks { locks.now ≡ LockKind.Mtx ∷ [] }
+{
+    let (mut client, mut cpu) = leave_two(service, passes);
+    let mut log = Vec::new(alloc);
+    let n = stop_what_waits(rt, service, &mut log, &mut client, &mut cpu, locks);
+    end_what_waits(rt, service, &mut log, &mut cpu, n, locks);
+    log
+}
+
+/// The same on a service that is opened for it.
 fn play<N: Name, R: Wait + Abort + Sync>(
     rt: &R,
     alloc: Global,
     fresh: Fresh,
     passes: Seq<Passes>,
-) -> Result<Vec<Note>, NoMemory>
+) -> Vec<Note>
     requires name { fresh.name ≡ N.name }
     requires scene { IsLocked fresh.params }
     requires passes { AreBooted fresh.name fresh.params passes }
 {
-    let locks = mutex(alloc)?;
-    let service = Service::<N>::open(alloc, fresh)?;
-    let mut all = passes.into_vec();
-    let mut cpu = service.leave_cpu(&mut all, 0);
-    let mut client = service.leave(&mut all, 0);
-    let mut log = Vec::new(alloc);
-    let hold = locks.lock(rt, 0);
-    arm_held(rt, &service, &mut log, &mut client, &hold);
-    tick(rt, &service, &mut log, &mut cpu, 0, seconds(1));
-    let n = start_waiting(rt, &service, &mut log, &mut cpu);
-    stop_held(rt, &service, &mut log, &mut client, &hold);
-    drop(hold);
-    let hold = locks.lock(rt, 0);
-    begin_held(rt, &service, &mut log, &mut cpu, n, &hold);
-    drop(hold);
-    finish(rt, &service, &mut log, &mut cpu, 0);
-    service.drain_wait(rt, 0, 0);
-    rest(rt, &service, &mut log, &mut cpu, 0);
-    Ok(log)
+    let Ok(locks) = mutex(alloc) else {
+        panic!(rt; "no memory");
+    };
+    let Ok(service) = Service::<N>::open(alloc, fresh) else {
+        panic!(rt; "no memory");
+    };
+    let log = play_on(rt, alloc, &service, passes, &locks);
+    let_go(service);
+    log
 }
 
 const NOTES: [Row; 10] = [
@@ -204,9 +282,10 @@ const NOTES: [Row; 10] = [
 const CANCELLED: Reply = Reply::Stopped { code: 1, off: None };
 
 #[test]
-fn cancelled_while_it_waits(rt: HostRuntime) -> Result<(), Fail> {
-    let (fresh, passes) = boot_locked(rt.alloc())?;
-    let notes = play::<Brand, _>(&rt, rt.alloc(), fresh, passes)?;
+fn cancelled_while_it_waits(rt: HostRuntime) {
+    let Ok((fresh, passes)) = boot_locked(rt.alloc()) else {
+        panic!(rt; "no memory");
+    };
+    let notes = play::<Brand, _>(&rt, rt.alloc(), fresh, passes);
     assert!(rt; are(notes.as_slice(), &NOTES));
-    Ok(())
 }

@@ -1,17 +1,17 @@
 //! A scan looks at what stands in the buckets that it visits.
 ghost use Rattle.std.specs.Prelude.{◌≡◌, ◌<◌};
 ghost use Rattle.co_service.specs.Booted.{AreBooted};
+ghost use Rattle.co_service.specs.Views.{AreOf};
 ghost use Rattle.service_cases.specs.Scenes.{IsScene};
 
-use super::cast::close_two;
+use super::cast::{close_two, leave_two};
 use super::stage::{arm, boot};
-use co_sbt::{NoMemory, Sbt, Seq};
+use co_sbt::{Sbt, Seq};
 use co_service::{Fresh, Name, Passes, Service};
 use std::alloc::Global;
 use std::marker::Brand;
 use std::process::Abort;
 use std::sync::Wait;
-use std::test::Fail;
 
 /// The beginning of a bucket's time, as many buckets after the first.
 fn bucket(number: u32) -> Sbt
@@ -24,27 +24,23 @@ fn bucket(number: u32) -> Sbt
 }
 
 /// Each of 64 callouts is due at the beginning of a bucket of its own number.
-fn play<N: Name, R: Wait + Abort>(
+fn arm_all<N: Name, R: Wait + Abort>(
     rt: &R,
     alloc: Global,
-    fresh: Fresh,
-    passes: Seq<Passes>,
-) -> Result<(u32, u64), NoMemory>
-    requires name { fresh.name ≡ N.name }
-    requires scene { IsScene 1 1 64 2 fresh.params }
-    requires passes { AreBooted fresh.name fresh.params passes }
+    service: &Service<N>,
+    client: &mut Passes,
+)
+    requires scene { IsScene 1 1 64 2 service.now }
+    requires client { AreOf N.name service.now client.old }
+    ensures { AreOf N.name service.now client.new }
 {
-    let service = Service::<N>::open(alloc, fresh)?;
-    let mut all = passes.into_vec();
-    let mut cpu = service.leave_cpu(&mut all, 0);
-    let mut client = service.leave(&mut all, 0);
     let mut log = Vec::new(alloc);
     for i in 0u32..64 {
         arm(
             rt,
-            &service,
+            service,
             &mut log,
-            &mut client,
+            client,
             u64::from(i),
             i,
             bucket(i),
@@ -52,18 +48,35 @@ fn play<N: Name, R: Wait + Abort>(
             None,
         );
     }
+}
+
+/// The count and the looks of a scan of the third bucket, with a callout in each of the first 64.
+fn play<N: Name, R: Wait + Abort>(
+    rt: &R,
+    alloc: Global,
+    fresh: Fresh,
+    passes: Seq<Passes>,
+) -> (u32, u64)
+    requires name { fresh.name ≡ N.name }
+    requires scene { IsScene 1 1 64 2 fresh.params }
+    requires passes { AreBooted fresh.name fresh.params passes }
+{
+    let Ok(service) = Service::<N>::open(alloc, fresh) else {
+        panic!(rt; "no memory");
+    };
+    let (mut client, mut cpu) = leave_two(&service, passes);
+    arm_all(rt, alloc, &service, &mut client);
     let scan = service.scan(rt, &mut cpu, 0, 0, bucket(2));
-    close_two(rt, alloc, service, client, cpu)?;
-    Ok((scan.count, scan.looks))
+    close_two(rt, alloc, service, client, cpu);
+    (scan.count, scan.looks)
 }
 
 #[test]
-fn visited_buckets(rt: HostRuntime) -> Result<(), Fail> {
+fn visited_buckets(rt: HostRuntime) {
     assert!(rt; bucket(1).raw() == 16777216);
     assert!(rt; bucket(2).raw() == 33554432);
-    let (fresh, passes) = boot(rt.alloc(), 1, 1, 64, false)?;
-    let (count, looks) = play::<Brand, _>(&rt, rt.alloc(), fresh, passes)?;
-    assert!(rt; count == 3);
-    assert!(rt; looks == 12);
-    Ok(())
+    let Ok((fresh, passes)) = boot(rt.alloc(), 1, 1, 64, false) else {
+        panic!(rt; "no memory");
+    };
+    assert!(rt; play::<Brand, _>(&rt, rt.alloc(), fresh, passes) == (3, 12));
 }

@@ -1,25 +1,30 @@
 //! Calls that tell in few words what they did, and the notes that are made of these.
 ghost use Rattle.std.specs.Prelude.{◌≡◌, ◌<◌, ℕ, false, length};
+ghost use Rattle.co_object.specs.Actors.{cpu_actor};
+ghost use Rattle.co_object.specs.Journal.{scanner};
+ghost use Rattle.co_object.specs.Queue.{Due};
 ghost use Rattle.co_object.specs.declared.op.CallOp.TheVariants.{Plain};
 ghost use Rattle.co_object.specs.declared.spec.LockUse.TheVariants.{Free};
 ghost use Rattle.co_service.specs.Booted.{AreBooted};
 ghost use Rattle.co_service.specs.Call.{NamesCpu};
-ghost use Rattle.co_service.specs.Params.{spec_at};
-ghost use Rattle.co_service.specs.Services.{IsFree};
+ghost use Rattle.co_service.specs.Kept.{KeepsFree};
+ghost use Rattle.co_service.specs.Params.{actors_of, spec_at};
+ghost use Rattle.co_service.specs.Services.{IsFree, IsServing};
+ghost use Rattle.co_service.specs.Serving.{Runs};
 ghost use Rattle.co_service.specs.Views.{AreOf};
 ghost use Rattle.service_cases.specs.Scenes.{IsScene};
 
 use super::acts::{begun, tick};
+use super::cast::{leave_two, let_go};
 use super::notes::{Row, Told, are};
 use super::stage::{boot, keep, keep_all, seconds};
 use co_object::{CallOp, Note, Place, PlainOp, QOp, QReply, Reply};
-use co_sbt::{NoMemory, Sbt, Seq};
+use co_sbt::{Sbt, Seq};
 use co_service::{Finished, Fresh, Name, Passes, Popped, Service};
 use std::alloc::Global;
 use std::marker::Brand;
 use std::process::Abort;
 use std::sync::Wait;
-use std::test::Fail;
 
 /// A stop that takes an arming away.
 const STOPPED: Reply = Reply::Stopped {
@@ -74,6 +79,47 @@ fn ask<N: Name, R: Wait + Abort>(
     keep_all(rt, log, told.answer(actor, act, 0, &op).notes);
 }
 
+/// What has come due at the CPU goes into its service, and its function is called.
+fn start<N: Name, R: Wait + Abort>(
+    rt: &R,
+    service: &Service<N>,
+    log: &mut Vec<Note>,
+    passes: &mut Passes,
+)
+    requires cpu { 0 < service.now.cpus }
+    requires passes { AreOf N.name service.now passes.old }
+    requires free { IsFree false passes.old 0 }
+    ensures of { AreOf N.name service.now passes.new }
+    ensures serving { (d : Due) × IsServing false passes.new 0 d (Runs d.n) }
+{
+    let actor = passes.actor();
+    let popped = service.pop(rt, passes, 0, 0, 1, false);
+    let Some((pop, pick)) = begun(popped.answer(actor, 0, 0, false)) else {
+        panic!(rt; "no function is to be called");
+    };
+    keep(rt, log, pop);
+    keep(rt, log, pick);
+}
+
+/// The CPU's function returns.
+fn finish<N: Name, R: Wait + Abort>(
+    rt: &R,
+    service: &Service<N>,
+    log: &mut Vec<Note>,
+    passes: &mut Passes,
+)
+    requires cpu { 0 < service.now.cpus }
+    requires passes { AreOf N.name service.now passes.old }
+    requires serving { (d : Due) × IsServing false passes.old 0 d (Runs d.n) }
+    ensures of { AreOf N.name service.now passes.new }
+    ensures free { IsFree false passes.new 0 }
+{
+    let actor = passes.actor();
+    let mut told = Finished::none();
+    service.end_into(rt, passes, 0, 0, false, &mut told);
+    keep_all(rt, log, told.answer(actor, 0).notes);
+}
+
 /// The CPU services the one callout that has come due: its function is called and returns, and nothing more is there.
 fn serve<N: Name, R: Wait + Abort>(
     rt: &R,
@@ -85,66 +131,80 @@ fn serve<N: Name, R: Wait + Abort>(
     requires passes { AreOf N.name service.now passes.old }
     requires free { IsFree false passes.old 0 }
 {
-    let actor = passes.actor();
-    let popped = service.pop(rt, passes, 0, 0, 1, false);
-    let Some((pop, pick)) = begun(popped.answer(actor, 0, 0, false)) else {
-        panic!(rt; "no function is to be called");
-    };
-    keep(rt, log, pop);
-    keep(rt, log, pick);
-    let mut told = Finished::none();
-    service.end_into(rt, passes, 0, 0, false, &mut told);
-    keep_all(rt, log, told.answer(actor, 0).notes);
+    start(rt, service, log, passes);
+    finish(rt, service, log, passes);
     let popped = service.pop(rt, passes, 0, 0, 1, false);
     assert!(rt; matches!(popped, Popped::Empty { pop: 4 }));
 }
 
+/// The client arms the callout once more, and takes the arming away.
+fn arm_and_stop<N: Name, R: Wait + Abort>(
+    rt: &R,
+    service: &Service<N>,
+    log: &mut Vec<Note>,
+    client: &mut Passes,
+)
+    requires scene { IsScene 1 1 1 2 service.now }
+    requires client { AreOf N.name service.now client.old }
+{
+    let again = reset(seconds(2));
+    ask(rt, service, log, client, 1, again, armed(1));
+    ask(rt, service, log, client, 2, PlainOp::Stop, STOPPED);
+}
+
 /// The acts of the client and of the CPU, and one more arming that the client takes away.
+fn acts<N: Name, R: Wait + Abort>(
+    rt: &R,
+    service: &Service<N>,
+    log: &mut Vec<Note>,
+    client: &mut Passes,
+    cpu: &mut Passes,
+)
+    requires scene { IsScene 1 1 1 2 service.now }
+    requires client { AreOf N.name service.now client.old }
+    requires kept { KeepsFree N.name service.now (cpu_actor (actors_of service.now) 0) false 0 cpu.old }
+    requires scans { cpu.old.actor ≡ scanner (actors_of service.now) 0 }
+{
+    let first = reset(seconds(1));
+    ask(rt, service, log, client, 0, first, armed(0));
+    tick(rt, service, log, cpu, 0, seconds(1));
+    serve(rt, service, log, cpu);
+    arm_and_stop(rt, service, log, client);
+}
+
+/// The notes of these acts.
+fn play_on<N: Name, R: Wait + Abort>(
+    rt: &R,
+    alloc: Global,
+    service: &Service<N>,
+    passes: Seq<Passes>,
+) -> Vec<Note>
+    requires scene { IsScene 1 1 1 2 service.now }
+    requires passes { AreBooted N.name service.now passes }
+{
+    let (mut client, mut cpu) = leave_two(service, passes);
+    let mut log = Vec::new(alloc);
+    acts(rt, service, &mut log, &mut client, &mut cpu);
+    log
+}
+
+/// The same on a service that is opened for it.
 fn play<N: Name, R: Wait + Abort>(
     rt: &R,
     alloc: Global,
     fresh: Fresh,
     passes: Seq<Passes>,
-) -> Result<Vec<Note>, NoMemory>
+) -> Vec<Note>
     requires name { fresh.name ≡ N.name }
     requires scene { IsScene 1 1 1 2 fresh.params }
     requires passes { AreBooted fresh.name fresh.params passes }
 {
-    let service = Service::<N>::open(alloc, fresh)?;
-    let mut all = passes.into_vec();
-    let mut cpu = service.leave_cpu(&mut all, 0);
-    let mut client = service.leave(&mut all, 0);
-    let mut log = Vec::new(alloc);
-    ask(
-        rt,
-        &service,
-        &mut log,
-        &mut client,
-        0,
-        reset(seconds(1)),
-        armed(0),
-    );
-    tick(rt, &service, &mut log, &mut cpu, 0, seconds(1));
-    serve(rt, &service, &mut log, &mut cpu);
-    ask(
-        rt,
-        &service,
-        &mut log,
-        &mut client,
-        1,
-        reset(seconds(2)),
-        armed(1),
-    );
-    ask(
-        rt,
-        &service,
-        &mut log,
-        &mut client,
-        2,
-        PlainOp::Stop,
-        STOPPED,
-    );
-    Ok(log)
+    let Ok(service) = Service::<N>::open(alloc, fresh) else {
+        panic!(rt; "no memory");
+    };
+    let log = play_on(rt, alloc, &service, passes);
+    let_go(service);
+    log
 }
 
 const NOTES: [Row; 11] = [
@@ -174,9 +234,10 @@ const NOTES: [Row; 11] = [
 ];
 
 #[test]
-fn tells_in_few_words(rt: HostRuntime) -> Result<(), Fail> {
-    let (fresh, passes) = boot(rt.alloc(), 1, 1, 1, false)?;
-    let notes = play::<Brand, _>(&rt, rt.alloc(), fresh, passes)?;
+fn tells_in_few_words(rt: HostRuntime) {
+    let Ok((fresh, passes)) = boot(rt.alloc(), 1, 1, 1, false) else {
+        panic!(rt; "no memory");
+    };
+    let notes = play::<Brand, _>(&rt, rt.alloc(), fresh, passes);
     assert!(rt; are(notes.as_slice(), &NOTES));
-    Ok(())
 }

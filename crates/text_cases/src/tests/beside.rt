@@ -4,7 +4,6 @@ use co_sbt::{NoMemory, Seq};
 use co_script::{print_script, read_script, read_script_by_threads};
 use co_text::{Cause, ScriptFault};
 use std::alloc::Global;
-use std::test::Fail;
 use std::thread::Threads;
 
 /// Lines, and how often they stand.
@@ -30,20 +29,24 @@ fn text_of(alloc: Global, parts: &[Part]) -> Result<Seq<u8>, NoMemory> {
     Ok(text)
 }
 
-/// Whether a text was read as this other script, or refused with this fault.
-fn is_same(
-    alloc: Global,
-    read: Result<Script, ScriptFault>,
-    other: Result<Script, ScriptFault>,
-) -> Result<bool, NoMemory> {
-    match (read, other) {
-        (Ok(one), Ok(two)) => {
-            let one = print_script(alloc, &one)?;
-            let two = print_script(alloc, &two)?;
-            Ok(one.as_slice() == two.as_slice())
-        }
-        (Err(one), Err(two)) => Ok(one == two),
-        _ => Ok(false),
+/// What is printed of a script that was read, or why none was.
+fn printed(alloc: Global, read: Result<Script, ScriptFault>) -> Result<Seq<u8>, ScriptFault> {
+    match print_script(alloc, &read?) {
+        Ok(text) => Ok(text),
+        Err(_) => Err(ScriptFault::NoMemory),
+    }
+}
+
+/// Whether the same script was read twice, or this fault found.
+fn are_same(
+    one: &Result<Seq<u8>, ScriptFault>,
+    two: &Result<Seq<u8>, ScriptFault>,
+    fault: Option<ScriptFault>,
+) -> bool {
+    match (one, two) {
+        (Ok(one), Ok(two)) => fault.is_none() && one.as_slice() == two.as_slice(),
+        (Err(one), Err(two)) => one == two && fault == Some(*two),
+        _ => false,
     }
 }
 
@@ -55,187 +58,164 @@ fn is_read_alike<R: Threads + Sync>(
     fault: Option<ScriptFault>,
 ) -> Result<bool, NoMemory> {
     let text = text_of(alloc, parts)?;
-    let wanted = read_script(alloc, text.as_slice());
-    let found = match &wanted {
-        Ok(_) => None,
-        Err(found) => Some(*found),
-    };
-    let read = read_script_by_threads(rt, alloc, text.as_slice());
-    Ok(found == fault && is_same(alloc, read, wanted)?)
+    let wanted = printed(alloc, read_script(alloc, text.as_slice()));
+    let read = printed(alloc, read_script_by_threads(rt, alloc, text.as_slice()));
+    Ok(are_same(&read, &wanted, fault))
 }
 
-/// A line is refused.
-fn bad(line: u64, cause: Cause) -> Option<ScriptFault> {
+/// What a case shows, the parts of its text, and the line that is refused with its cause, where one is.
+type Case = (&'static str, &'static [Part], Option<(u64, Cause)>);
+
+const CASES: [Case; 13] = [
+    (
+        "sections of each kind",
+        &[
+            HEAD,
+            ("func 0\n", 1),
+            (RESET, 4000),
+            ("func 2\n", 1),
+            (RESET, 4096),
+            ("client 0\n", 1),
+            ("stop 0\n", 20_000),
+            ("client 1\n", 1),
+            ("now 5\n", 12_000),
+            ("now 6\n", 1),
+            ("client 2\nclient 3\n", 1),
+            ("now 1\n", 12_000),
+            ("cpu 0\n", 1),
+            ("tick 2\n", 10_000),
+            ("cpu 1\n", 1),
+            ("tick 1\n", 10_000),
+            ("turns c0*5 c1\n", 1),
+        ],
+        None,
+    ),
+    (
+        "blanks and comments",
+        &[
+            HEAD,
+            ("client 0 # of many words\n", 1),
+            ("# client 1\n", 5000),
+            ("\n \t\r\n", 3),
+            (" stop 0 # twice\n", 6000),
+            (" \tclient 1\n", 1),
+            ("now 3\n", 12_000),
+        ],
+        None,
+    ),
+    (
+        "a bad line in the first section",
+        &[
+            HEAD,
+            ("client 0\n", 1),
+            ("stop 0\n", 10_000),
+            ("stop 1\n", 1),
+            ("stop 0\n", 10_000),
+            ("client 1\n", 1),
+            ("stop 2\n", 10_000),
+        ],
+        Some((10_008, Cause::Number)),
+    ),
+    (
+        "a bad line in the middle",
+        &[
+            HEAD,
+            ("client 0\n", 1),
+            ("stop 0\n", 10_000),
+            ("client 1\n", 1),
+            ("stop 0\n", 10_000),
+            ("now 5\nnow 4\n", 1),
+            ("client 2\n", 1),
+            ("stop 0\n", 10_000),
+        ],
+        Some((20_010, Cause::Falls)),
+    ),
+    (
+        "a bad line in the last section",
+        &[
+            HEAD,
+            ("cpu 0\n", 1),
+            ("tick 1\n", 10_000),
+            ("cpu 1\n", 1),
+            ("tick 1\n", 10_000),
+            ("stop 0\n", 1),
+        ],
+        Some((20_009, Cause::Order)),
+    ),
+    (
+        "too many acts of a client",
+        &[HEAD, ("client 0\n", 1), ("stop 0\n", 65_537)],
+        Some((65_544, Cause::Many)),
+    ),
+    (
+        "too many acts of a function",
+        &[HEAD, ("func 0\n", 1), (RESET, 4097)],
+        Some((4104, Cause::Many)),
+    ),
+    // 196608 and 60000 acts stand before the last client, whose 5537th is one too many.
+    (
+        "too many acts in all",
+        &[
+            HEAD,
+            ("client 0\n", 1),
+            ("stop 0\n", 65_536),
+            ("client 1\n", 1),
+            ("stop 0\n", 65_536),
+            ("client 2\n", 1),
+            ("stop 0\n", 65_536),
+            ("client 3\n", 1),
+            ("stop 0\n", 60_000),
+            ("client 4\n", 1),
+            ("stop 0\n", 10_000),
+        ],
+        Some((6 + 3 * 65_537 + 60_001 + 1 + 5537, Cause::Many)),
+    ),
+    (
+        "sections in a wrong order",
+        &[
+            HEAD,
+            ("cpu 0\n", 1),
+            ("tick 1\n", 10_000),
+            ("client 0\n", 1),
+            ("stop 0\n", 10_000),
+        ],
+        Some((10_008, Cause::Order)),
+    ),
+    (
+        "the frame behind a section",
+        &[
+            HEAD,
+            ("client 0\n", 1),
+            ("stop 0\n", 10_000),
+            ("timer 1 mpsafe\n", 1),
+            ("client 1\n", 1),
+            ("stop 1\n", 10_000),
+        ],
+        Some((10_008, Cause::Order)),
+    ),
+    (
+        "a line that is cut",
+        &[HEAD, ("client 0\n", 1), ("stop 0\n", 10_000), ("stop 0", 1)],
+        Some((10_008, Cause::Cut)),
+    ),
+    ("a frame alone", &[HEAD], None),
+    (
+        "no version",
+        &[("client 0\n", 1), ("stop 0\n", 10_000)],
+        Some((1, Cause::Version)),
+    ),
+];
+
+/// A line that is refused.
+fn bad(refused: Option<(u64, Cause)>) -> Option<ScriptFault> {
+    let (line, cause) = refused?;
     Some(ScriptFault::Bad { line, cause })
 }
 
 #[test]
-fn sections_of_each_kind(rt: HostRuntime) -> Result<(), Fail> {
-    let parts = [
-        HEAD,
-        ("func 0\n", 1),
-        (RESET, 4000),
-        ("func 2\n", 1),
-        (RESET, 4096),
-        ("client 0\n", 1),
-        ("stop 0\n", 20_000),
-        ("client 1\n", 1),
-        ("now 5\n", 12_000),
-        ("now 6\n", 1),
-        ("client 2\nclient 3\n", 1),
-        ("now 1\n", 12_000),
-        ("cpu 0\n", 1),
-        ("tick 2\n", 10_000),
-        ("cpu 1\n", 1),
-        ("tick 1\n", 10_000),
-        ("turns c0*5 c1\n", 1),
-    ];
-    assert!(rt; is_read_alike(&rt, rt.alloc(), parts.as_slice(), None)?);
-    Ok(())
-}
-
-#[test]
-fn blanks_and_comments(rt: HostRuntime) -> Result<(), Fail> {
-    let parts = [
-        HEAD,
-        ("client 0 # of many words\n", 1),
-        ("# client 1\n", 5000),
-        ("\n \t\r\n", 3),
-        (" stop 0 # twice\n", 6000),
-        (" \tclient 1\n", 1),
-        ("now 3\n", 12_000),
-    ];
-    assert!(rt; is_read_alike(&rt, rt.alloc(), parts.as_slice(), None)?);
-    Ok(())
-}
-
-#[test]
-fn a_bad_line_in_the_first_section(rt: HostRuntime) -> Result<(), Fail> {
-    let parts = [
-        HEAD,
-        ("client 0\n", 1),
-        ("stop 0\n", 10_000),
-        ("stop 1\n", 1),
-        ("stop 0\n", 10_000),
-        ("client 1\n", 1),
-        ("stop 2\n", 10_000),
-    ];
-    let fault = bad(10_008, Cause::Number);
-    assert!(rt; is_read_alike(&rt, rt.alloc(), parts.as_slice(), fault)?);
-    Ok(())
-}
-
-#[test]
-fn a_bad_line_in_the_middle(rt: HostRuntime) -> Result<(), Fail> {
-    let parts = [
-        HEAD,
-        ("client 0\n", 1),
-        ("stop 0\n", 10_000),
-        ("client 1\n", 1),
-        ("stop 0\n", 10_000),
-        ("now 5\nnow 4\n", 1),
-        ("client 2\n", 1),
-        ("stop 0\n", 10_000),
-    ];
-    let fault = bad(20_010, Cause::Falls);
-    assert!(rt; is_read_alike(&rt, rt.alloc(), parts.as_slice(), fault)?);
-    Ok(())
-}
-
-#[test]
-fn a_bad_line_in_the_last_section(rt: HostRuntime) -> Result<(), Fail> {
-    let parts = [
-        HEAD,
-        ("cpu 0\n", 1),
-        ("tick 1\n", 10_000),
-        ("cpu 1\n", 1),
-        ("tick 1\n", 10_000),
-        ("stop 0\n", 1),
-    ];
-    let fault = bad(20_009, Cause::Order);
-    assert!(rt; is_read_alike(&rt, rt.alloc(), parts.as_slice(), fault)?);
-    Ok(())
-}
-
-#[test]
-fn too_many_acts_of_a_client(rt: HostRuntime) -> Result<(), Fail> {
-    let parts = [HEAD, ("client 0\n", 1), ("stop 0\n", 65_537)];
-    let fault = bad(65_544, Cause::Many);
-    assert!(rt; is_read_alike(&rt, rt.alloc(), parts.as_slice(), fault)?);
-    Ok(())
-}
-
-#[test]
-fn too_many_acts_of_a_function(rt: HostRuntime) -> Result<(), Fail> {
-    let parts = [HEAD, ("func 0\n", 1), (RESET, 4097)];
-    let fault = bad(4104, Cause::Many);
-    assert!(rt; is_read_alike(&rt, rt.alloc(), parts.as_slice(), fault)?);
-    Ok(())
-}
-
-#[test]
-fn too_many_acts_in_all(rt: HostRuntime) -> Result<(), Fail> {
-    let parts = [
-        HEAD,
-        ("client 0\n", 1),
-        ("stop 0\n", 65_536),
-        ("client 1\n", 1),
-        ("stop 0\n", 65_536),
-        ("client 2\n", 1),
-        ("stop 0\n", 65_536),
-        ("client 3\n", 1),
-        ("stop 0\n", 60_000),
-        ("client 4\n", 1),
-        ("stop 0\n", 10_000),
-    ];
-    // 196608 and 60000 acts stand before the last client, whose 5537th is one too many.
-    let fault = bad(6 + 3 * 65_537 + 60_001 + 1 + 5537, Cause::Many);
-    assert!(rt; is_read_alike(&rt, rt.alloc(), parts.as_slice(), fault)?);
-    Ok(())
-}
-
-#[test]
-fn sections_in_a_wrong_order(rt: HostRuntime) -> Result<(), Fail> {
-    let parts = [
-        HEAD,
-        ("cpu 0\n", 1),
-        ("tick 1\n", 10_000),
-        ("client 0\n", 1),
-        ("stop 0\n", 10_000),
-    ];
-    let fault = bad(10_008, Cause::Order);
-    assert!(rt; is_read_alike(&rt, rt.alloc(), parts.as_slice(), fault)?);
-    Ok(())
-}
-
-#[test]
-fn the_frame_behind_a_section(rt: HostRuntime) -> Result<(), Fail> {
-    let parts = [
-        HEAD,
-        ("client 0\n", 1),
-        ("stop 0\n", 10_000),
-        ("timer 1 mpsafe\n", 1),
-        ("client 1\n", 1),
-        ("stop 1\n", 10_000),
-    ];
-    let fault = bad(10_008, Cause::Order);
-    assert!(rt; is_read_alike(&rt, rt.alloc(), parts.as_slice(), fault)?);
-    Ok(())
-}
-
-#[test]
-fn a_line_that_is_cut(rt: HostRuntime) -> Result<(), Fail> {
-    let parts = [HEAD, ("client 0\n", 1), ("stop 0\n", 10_000), ("stop 0", 1)];
-    let fault = bad(10_008, Cause::Cut);
-    assert!(rt; is_read_alike(&rt, rt.alloc(), parts.as_slice(), fault)?);
-    Ok(())
-}
-
-#[test]
-fn no_version_and_no_section(rt: HostRuntime) -> Result<(), Fail> {
-    let parts = [("client 0\n", 1), ("stop 0\n", 10_000)];
-    let fault = bad(1, Cause::Version);
-    assert!(rt; is_read_alike(&rt, rt.alloc(), parts.as_slice(), fault)?);
-    assert!(rt; is_read_alike(&rt, rt.alloc(), [HEAD].as_slice(), None)?);
-    Ok(())
+fn long_texts_are_read_alike(rt: HostRuntime) {
+    for (name, parts, refused) in &CASES {
+        let alike = is_read_alike(&rt, rt.alloc(), parts, bad(*refused));
+        assert!(rt; alike == Ok(true), "{name}");
+    }
 }

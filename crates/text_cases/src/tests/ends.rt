@@ -9,7 +9,6 @@ use co_io::{
 use co_sbt::{NoMemory, Seq};
 use std::alloc::Global;
 use std::io::{self, ErrorKind, Read, Write};
-use std::test::Fail;
 
 // Whether a source fails before its end.
 fn fails<S: Source>(alloc: Global, source: &mut S) -> bool {
@@ -40,18 +39,22 @@ fn gives_of_five(alloc: Global, limit: usize, bytes: &[u8], over: bool) -> Resul
     Ok(gives(alloc, &mut source, limit, bytes, over))
 }
 
+// Limits, what is read of five bytes, and whether they are over the limit.
+const LIMITS: [(u8, &str, bool); 4] = [
+    (6, "abcde", false),
+    (5, "abcde", false),
+    (4, "abcde", true),
+    (0, "a", true),
+];
+
 // A source is read up to one byte past the limit.
 #[test]
 fn sources_give_up_to_a_failure_and_the_limit(rt: HostRuntime) {
     let alloc = rt.alloc();
     assert!(rt; fails_once(alloc) == Ok(true));
-    for (limit, bytes, over) in [
-        (6_u8, b"abcde".as_slice(), false),
-        (5, b"abcde".as_slice(), false),
-        (4, b"abcde".as_slice(), true),
-        (0, b"a".as_slice(), true),
-    ] {
-        assert!(rt; gives_of_five(alloc, usize::from(limit), bytes, over) == Ok(true));
+    for (limit, bytes, over) in &LIMITS {
+        let limit = usize::from(*limit);
+        assert!(rt; gives_of_five(alloc, limit, bytes.as_bytes(), *over) == Ok(true));
     }
 }
 
@@ -67,14 +70,17 @@ fn fails_and_is_full(alloc: Global) -> Result<bool, NoMemory> {
     Ok(failed && writes(&mut sink, b"bc", Err(WriteEnd::Stalled), b"ab"))
 }
 
-// Three pieces, of which the second is empty.
-fn three_pieces(alloc: Global) -> Result<Seq<Seq<u8>>, NoMemory> {
+// These pieces.
+fn pieces_of(alloc: Global, texts: &[&[u8]]) -> Result<Seq<Seq<u8>>, NoMemory> {
     let mut pieces = Seq::new(alloc);
-    pieces.push(Seq::copy_of(alloc, b"ab".as_slice())?)?;
-    pieces.push(Seq::new(alloc))?;
-    pieces.push(Seq::copy_of(alloc, b"cd".as_slice())?)?;
+    for text in texts {
+        pieces.push(Seq::copy_of(alloc, text)?)?;
+    }
     Ok(pieces)
 }
+
+// Three pieces, of which the second is empty.
+const PIECES: [&[u8]; 3] = [b"ab", b"", b"cd"];
 
 // Whether their write ends so into a sink with this room, which then has these bytes.
 fn writes_three(
@@ -83,7 +89,7 @@ fn writes_three(
     end: Result<(), WriteEnd>,
     held: &[u8],
 ) -> Result<bool, NoMemory> {
-    let pieces = three_pieces(alloc)?;
+    let pieces = pieces_of(alloc, &PIECES)?;
     let mut sink = MemSink::new(alloc, room, 9, &[])?;
     Ok(write_pieces(&mut sink, pieces.as_slice()) == end && sink.bytes() == held)
 }
@@ -123,22 +129,30 @@ fn copy<S: Source, K: Sink>(alloc: Global, limit: usize, source: &mut S, sink: &
     }
 }
 
-// Pours three bytes into a sink, and copies three more: whether it has them all then.
-fn takes_all(alloc: Global, sink: &mut QuietSink) -> Result<bool, NoMemory>
+// Pours three bytes into an empty sink: whether it has them then.
+fn takes_poured(alloc: Global, sink: &mut QuietSink) -> Result<bool, NoMemory>
     requires { 3 ≤ sink.old.room }
 {
-    let mut quiet = QuietSource::new(alloc, b"abc")?;
-    pour(alloc, &mut quiet, sink)?;
-    let poured = sink.bytes() == b"abc".as_slice();
+    let mut source = QuietSource::new(alloc, b"abc")?;
+    pour(alloc, &mut source, sink)?;
+    Ok(sink.bytes() == b"abc".as_slice())
+}
+
+// Copies three bytes more: whether it has them all then.
+fn takes_copied(alloc: Global, sink: &mut QuietSink) -> Result<bool, NoMemory> {
     let mut source = MemSource::new(alloc, b"def", 1, &[])?;
-    Ok(poured && copy(alloc, 3, &mut source, sink) && sink.bytes() == b"abcdef".as_slice())
+    Ok(copy(alloc, 3, &mut source, sink) && sink.bytes() == b"abcdef".as_slice())
+}
+
+// Whether a sink with room for them takes them.
+fn takes_six(alloc: Global) -> Result<bool, NoMemory> {
+    let mut sink = QuietSink::new(alloc, 6)?;
+    Ok(takes_poured(alloc, &mut sink)? && takes_copied(alloc, &mut sink)?)
 }
 
 #[test]
-fn quiet_ends_take_all(rt: HostRuntime) -> Result<(), Fail> {
-    let mut sink = QuietSink::new(rt.alloc(), 6)?;
-    assert!(rt; takes_all(rt.alloc(), &mut sink) == Ok(true));
-    Ok(())
+fn quiet_ends_take_all(rt: HostRuntime) {
+    assert!(rt; takes_six(rt.alloc()) == Ok(true));
 }
 
 // A reader and a writer that always fail.

@@ -1,4 +1,6 @@
 //! The first line of a text, in one walk.
+ghost use Rattle.std.specs.Prelude.{◌<◌};
+
 use co_text::{Cause, next_content};
 
 // Whether the first line has this part before its comment, and these lines after it.
@@ -17,46 +19,36 @@ fn refuses(text: &[u8], cause: Cause, rest: &[u8]) -> bool {
     }
 }
 
+// Texts, what the first line has before its comment, and the lines after it.
+const GOOD: [(&[u8], &[u8], &[u8]); 5] = [
+    (b"hz 9\ncpus 2\n", b"hz 9", b"cpus 2\n"),
+    (b"\n\n", b"", b"\n"),
+    (b"hz\t9\r\n", b"hz\t9\r", b""),
+    (b"hz 9 # ticks\ncpus", b"hz 9 ", b"cpus"),
+    (b"#\x01\xff\n", b"", b""),
+];
+
 #[test]
 fn a_good_line_gives_its_part(rt: HostRuntime) {
-    for (text, part, rest) in [
-        (
-            b"hz 9\ncpus 2\n".as_slice(),
-            b"hz 9".as_slice(),
-            b"cpus 2\n".as_slice(),
-        ),
-        (b"\n\n".as_slice(), b"".as_slice(), b"\n".as_slice()),
-        (
-            b"hz\t9\r\n".as_slice(),
-            b"hz\t9\r".as_slice(),
-            b"".as_slice(),
-        ),
-        (
-            b"hz 9 # ticks\ncpus".as_slice(),
-            b"hz 9 ".as_slice(),
-            b"cpus".as_slice(),
-        ),
-        (b"#\x01\xff\n".as_slice(), b"".as_slice(), b"".as_slice()),
-    ] {
+    for (text, part, rest) in &GOOD {
         assert!(rt; gives(text, part, rest));
     }
     assert!(rt; next_content(b"".as_slice()).is_none());
 }
 
+// Texts, the cause for which the first line is refused, and the lines after it.
+const REFUSED: [(&[u8], Cause, &[u8]); 5] = [
+    (b"hz 9", Cause::Cut, b""),
+    (b"hz 9 # ticks", Cause::Cut, b""),
+    (b"hz\x00 9\ncpus\n", Cause::Byte, b"cpus\n"),
+    (b"hz 9\x7f\n", Cause::Byte, b""),
+    (b"hz\x80", Cause::Cut, b""),
+];
+
 #[test]
 fn a_bad_line_gives_its_cause(rt: HostRuntime) {
-    for (text, cause, rest) in [
-        (b"hz 9".as_slice(), Cause::Cut, b"".as_slice()),
-        (b"hz 9 # ticks".as_slice(), Cause::Cut, b"".as_slice()),
-        (
-            b"hz\x00 9\ncpus\n".as_slice(),
-            Cause::Byte,
-            b"cpus\n".as_slice(),
-        ),
-        (b"hz 9\x7f\n".as_slice(), Cause::Byte, b"".as_slice()),
-        (b"hz\x80".as_slice(), Cause::Cut, b"".as_slice()),
-    ] {
-        assert!(rt; refuses(text, cause, rest));
+    for (text, cause, rest) in &REFUSED {
+        assert!(rt; refuses(text, *cause, rest));
     }
 }
 
@@ -70,19 +62,20 @@ fn with_byte(byte: u8, place: usize) -> [u8; 10] {
     line
 }
 
+// Whether a comment that begins at this place ends the part there, and a byte that may not stand there is refused.
+fn ends_at(place: usize) -> bool
+    requires { place < 9 }
+{
+    let line = with_byte(b'#', place);
+    let (part, _) = line.as_slice().split_at(place);
+    let bad = with_byte(b'\x7f', place);
+    gives(line.as_slice(), part, &[]) && refuses(bad.as_slice(), Cause::Byte, &[])
+}
+
 #[test]
 fn a_part_ends_at_each_of_its_places(rt: HostRuntime) {
     for place in 0..9_usize {
-        let line = with_byte(b'#', place);
-        assert!(rt;
-            gives(
-                line.as_slice(),
-                line.as_slice().split_at(place).0,
-                b"".as_slice()
-            )
-        );
-        let line = with_byte(b'\x7f', place);
-        assert!(rt; refuses(line.as_slice(), Cause::Byte, b"".as_slice()));
+        assert!(rt; ends_at(place), "{place}");
     }
     let line = with_byte(b'a', 9);
     assert!(rt; gives(line.as_slice(), b"aaaaaaaaa".as_slice(), b"".as_slice()));

@@ -21,13 +21,26 @@ fn write(page: &mut Page) -> Result<(), NoMemory> {
     Ok(())
 }
 
+/// A page of these.
+fn written(alloc: Global) -> Result<Seq<u8>, NoMemory> {
+    let mut page = Page::new(alloc);
+    write(&mut page)?;
+    page.done()
+}
+
+/// Whether a text was put together, and is this one.
+fn is(made: Result<Seq<u8>, NoMemory>, wanted: &[u8]) -> bool {
+    match made {
+        Ok(text) => text.as_slice() == wanted,
+        Err(_) => false,
+    }
+}
+
 #[test]
 fn writes_words_and_numbers(rt: HostRuntime) {
-    let mut page = Page::new(rt.alloc());
-    assert!(rt; write(&mut page).is_ok());
     let wanted =
         b"reset 3 f0 -1\n u0 u10 u999 u1000 u9999 u10000 u18446744073709551615 -2147483648 -1 99".as_slice();
-    assert!(rt; page.done().unwrap_or(Seq::new(rt.alloc())).as_slice() == wanted);
+    assert!(rt; is(written(rt.alloc()), wanted));
 }
 
 /// So many `x`.
@@ -39,15 +52,20 @@ fn blanks(alloc: Global, count: usize) -> Result<Seq<u8>, NoMemory> {
     Ok(text)
 }
 
-/// A page of so many `x`, each appended by itself, the longest number and a word.
-fn paged(alloc: Global, count: usize) -> Result<Seq<u8>, NoMemory> {
-    let mut page = Page::new(alloc);
+/// Appends so many `x`, each by itself, the longest number and a word.
+fn fill(page: &mut Page, count: usize) -> Result<(), NoMemory> {
     for _ in 0..count {
         page.text(b"x".as_slice())?;
     }
     page.number(18446744073709551615)?;
     page.text(b" pages".as_slice())?;
-    page.end()?;
+    page.end()
+}
+
+/// A page of these.
+fn paged(alloc: Global, count: usize) -> Result<Seq<u8>, NoMemory> {
+    let mut page = Page::new(alloc);
+    fill(&mut page, count)?;
     page.done()
 }
 
@@ -58,26 +76,44 @@ fn wanted(alloc: Global, count: usize) -> Result<Seq<u8>, NoMemory> {
     Ok(text)
 }
 
-#[test]
-fn no_byte_is_lost_where_a_page_goes_on(rt: HostRuntime) -> Result<(), NoMemory> {
-    for count in [0, 484, 485, 486, 487, 488, 489, 505, 511, 512, 513, 1100] {
-        let text = paged(rt.alloc(), count)?;
-        assert!(rt; text.as_slice() == wanted(rt.alloc(), count)?.as_slice());
-    }
-    Ok(())
+/// Whether such a page has each byte.
+fn is_whole(alloc: Global, count: usize) -> Result<bool, NoMemory> {
+    let wanted = wanted(alloc, count)?;
+    Ok(is(paged(alloc, count), wanted.as_slice()))
 }
 
 #[test]
-fn a_text_longer_than_what_is_kept_back_follows(rt: HostRuntime) -> Result<(), NoMemory> {
-    let long = blanks(rt.alloc(), 1000)?;
-    let mut page = Page::new(rt.alloc());
+fn no_byte_is_lost_where_a_page_goes_on(rt: HostRuntime) {
+    for count in [0, 484, 485, 486, 487, 488, 489, 505, 511, 512, 513, 1100] {
+        assert!(rt; is_whole(rt.alloc(), count) == Ok(true), "{count}");
+    }
+}
+
+/// Appends a digit, a text and the digit once more.
+fn surround(page: &mut Page, text: &[u8]) -> Result<(), NoMemory> {
     page.number(7)?;
-    page.text(long.as_slice())?;
-    page.number(7)?;
+    page.text(text)?;
+    page.number(7)
+}
+
+/// Whether a text is 1000 bytes with the digit before and behind them.
+fn is_surrounded(text: &[u8], long: &[u8]) -> bool {
+    text.len() == 1002
+        && text.first() == Some(&b'7')
+        && text.last() == Some(&b'7')
+        && &text[1..1001] == long
+}
+
+/// Whether 1000 bytes and the digit before and behind them make a text.
+fn surrounds(alloc: Global) -> Result<bool, NoMemory> {
+    let long = blanks(alloc, 1000)?;
+    let mut page = Page::new(alloc);
+    surround(&mut page, long.as_slice())?;
     let text = page.done()?;
-    assert!(rt; text.as_slice().len() == 1002);
-    assert!(rt; text.as_slice().first() == Some(&b'7'));
-    assert!(rt; text.as_slice().last() == Some(&b'7'));
-    assert!(rt; &text.as_slice()[1..1001] == long.as_slice());
-    Ok(())
+    Ok(is_surrounded(text.as_slice(), long.as_slice()))
+}
+
+#[test]
+fn a_text_longer_than_what_is_kept_back_follows(rt: HostRuntime) {
+    assert!(rt; surrounds(rt.alloc()) == Ok(true));
 }

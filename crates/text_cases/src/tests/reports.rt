@@ -3,12 +3,11 @@ ghost use Rattle.std.specs.Prelude.{◌≡◌, ◌∷◌, [], IfOk};
 
 use co_object::{AnyEntry, Lists, OwnEntry, OwnKind, Place};
 use co_program::Script;
-use co_report::{Line, Report, print_report, read_report};
+use co_report::{Line, print_report, read_report};
 use co_sbt::{NoMemory, Seq};
 use co_script::read_script;
 use co_text::{Cause, ScriptFault};
 use std::alloc::Global;
-use std::test::Fail;
 
 /// The lists of one actor that has no notes.
 fn no_notes(alloc: Global) -> Result<Lists, NoMemory>
@@ -25,30 +24,44 @@ fn report_of_nobody(alloc: Global, script: &Script) -> Result<Seq<u8>, NoMemory>
     print_report(alloc, script, &lists)
 }
 
-/// The script that a text is.
-fn script_of(alloc: Global, text: &[u8]) -> Result<Script, ScriptFault> {
-    read_script(alloc, text)
+/// The report of the script that a text is, of which nobody makes notes.
+fn report_of_text(alloc: Global, text: &[u8]) -> Result<Seq<u8>, ScriptFault> {
+    let script = read_script(alloc, text)?;
+    match report_of_nobody(alloc, &script) {
+        Ok(report) => Ok(report),
+        Err(_) => Err(ScriptFault::NoMemory),
+    }
+}
+
+/// Whether a report was made, and is this one.
+pub(super) fn is(made: Result<Seq<u8>, ScriptFault>, wanted: &[u8]) -> bool {
+    match made {
+        Ok(report) => report.as_slice() == wanted,
+        Err(_) => false,
+    }
 }
 
 #[test]
-fn empty_run(rt: HostRuntime) -> Result<(), Fail> {
+fn empty_run(rt: HostRuntime) {
     let wanted =
         b"callout-report 1\ncallout 1\nhz 1000\ncpus 1\nwheel 256\nfuncs 0\ntimer 0 mpsafe\ncpu 0\nhistories\n\
-        timer 0\nwheel 0\nactor p0\nend\n";
-    let script = script_of(rt.alloc(), b"callout 1\ntimer 0 mpsafe\n".as_slice())?;
-    let report = report_of_nobody(rt.alloc(), &script)?;
-    assert!(rt; report.as_slice() == wanted.as_slice());
-    Ok(())
+        timer 0\nwheel 0\nactor p0\nend\n"
+            .as_slice();
+    let script = b"callout 1\ntimer 0 mpsafe\n".as_slice();
+    assert!(rt; is(report_of_text(rt.alloc(), script), wanted));
 }
 
-/// The report that a text is.
-fn report_of(alloc: Global, text: &[u8]) -> Result<Report, ScriptFault> {
-    read_report(alloc, text)
+/// How many notes a report has that is read, and the number of the line `end`.
+fn size_of(alloc: Global, text: &[u8]) -> Option<(usize, u64)> {
+    match read_report(alloc, text) {
+        Ok(report) => Some((report.lines.as_slice().len(), report.end)),
+        Err(_) => None,
+    }
 }
 
 /// Eight notes, and the line `end` behind them.
 #[test]
-fn one_firing_is_read(rt: HostRuntime) -> Result<(), Fail> {
+fn one_firing_is_read(rt: HostRuntime) {
     let text =
         b"callout-report 1\ncallout 1\nhz 1000\ncpus 1\nwheel 256\nfuncs 1\ntimer 0 mpsafe\nfunc 0\nclient 0\n\
         reset 0 =u6442450944 f0 a7\ncpu 0\ntick u6442450944\nhistories\ntimer 0\n\
@@ -56,9 +69,7 @@ fn one_firing_is_read(rt: HostRuntime) -> Result<(), Fail> {
         2 p0/0 pick #0 p0 u6442450944 = go f0 a7\n3 p0/0 end #0 p0 = ended drain - next - woke 0\nwheel 0\n\
         1 c0/0 insert i0 #0 u6442450944 = at u6442450944\n0 p0/0 scan u6442450944 = count 1\n\
         1 p0/0 pop = got i0 #0 u6442450944\n4 p0/0 free = freed\n5 p0/0 pop = empty\nactor c0\nactor p0\nend\n";
-    let report = report_of(rt.alloc(), text.as_slice())?;
-    assert!(rt; report.lines.as_slice().len() == 8 && report.end == 26);
-    Ok(())
+    assert!(rt; size_of(rt.alloc(), text.as_slice()) == Some((8, 26)));
 }
 
 /// Whether line 16 is the only note: the actor's own, that it does not hold the lock.
@@ -79,14 +90,20 @@ fn is_one_own_note(lines: &[Line]) -> bool {
     }
 }
 
+/// Whether a report is read that has that note.
+fn has_own_note(alloc: Global, text: &[u8]) -> bool {
+    match read_report(alloc, text) {
+        Ok(report) => is_one_own_note(report.lines.as_slice()),
+        Err(_) => false,
+    }
+}
+
 #[test]
-fn own_note_is_read(rt: HostRuntime) -> Result<(), Fail> {
+fn own_note_is_read(rt: HostRuntime) {
     let text =
         b"callout-report 1\ncallout 2\nhz 1000\ncpus 1\nwheel 256\nfuncs 0\nlock 0 mtx\ntimer 0 mtx 0\nclient 0\nstop 0\n\
         cpu 0\nhistories\ntimer 0\nwheel 0\nactor c0\n0 c0/0 notheld\nactor p0\nactor h0\nend\n";
-    let report = report_of(rt.alloc(), text.as_slice())?;
-    assert!(rt; is_one_own_note(report.lines.as_slice()));
-    Ok(())
+    assert!(rt; has_own_note(rt.alloc(), text.as_slice()));
 }
 
 /// Texts that are no reports, with the first bad line and its cause.
@@ -158,9 +175,12 @@ fn fault_of(alloc: Global, text: &str) -> Option<ScriptFault> {
 
 #[test]
 fn first_bad_line_is_named(rt: HostRuntime) {
-    for (text, line, cause) in BAD {
-        let fault = fault_of(rt.alloc(), text);
-        assert!(rt; fault == Some(ScriptFault::Bad { line, cause }), "{text}");
+    for (text, line, cause) in &BAD {
+        let wanted = ScriptFault::Bad {
+            line: *line,
+            cause: *cause,
+        };
+        assert!(rt; fault_of(rt.alloc(), text) == Some(wanted), "{text}");
     }
 }
 

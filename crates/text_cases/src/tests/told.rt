@@ -2,6 +2,7 @@
 ghost use Rattle.std.specs.Prelude.{◌≡◌};
 ghost use Rattle.co_program.specs.Scripts.{IsScript};
 
+use super::reports::is;
 use co_listener::Listener;
 use co_object::{
     AnyEntry, CallOp, Entry, Note, Op, Place, PlainOp, QEntry, QOp, QReply, Reply, RunOp,
@@ -13,7 +14,6 @@ use co_script::read_script;
 use co_text::ScriptFault;
 use std::alloc::Global;
 use std::marker::Brand;
-use std::test::Fail;
 
 /// The report of a script after these notes, each with its actor.
 fn report_told<S: Subject>(
@@ -31,8 +31,13 @@ fn report_told<S: Subject>(
             sections.write(*actor, note)?;
         }
     }
+    joined(alloc, sections.pieces(alloc)?.as_slice())
+}
+
+/// These pieces, one behind the other.
+fn joined(alloc: Global, pieces: &[Seq<u8>]) -> Result<Seq<u8>, NoMemory> {
     let mut text = Seq::new(alloc);
-    for piece in sections.pieces(alloc)?.as_slice() {
+    for piece in pieces {
         text.extend_from_slice(piece.as_slice())?;
     }
     Ok(text)
@@ -127,7 +132,7 @@ fn first_firing(due: Sbt) -> [(u32, Note); 6] {
 }
 
 #[test]
-fn notes_are_printed_as_they_are_told(rt: HostRuntime) -> Result<(), Fail> {
+fn notes_are_printed_as_they_are_told(rt: HostRuntime) {
     let script =
         b"callout 1\nfuncs 1\ntimer 0 mpsafe\nfunc 0\nclient 0\nreset 0 =u4294967296 f0 a7\ncpu 0\ntick u4294967296\n";
     let wanted =
@@ -136,7 +141,6 @@ fn notes_are_printed_as_they_are_told(rt: HostRuntime) -> Result<(), Fail> {
         2 p0/0 pick #0 p0 u4294967296 = go f0 a7\nwheel 0\n1 c0/0 insert i0 #0 u4294967296 = at u4294967296\n0 p0/0 scan u4294967296 = count 1\n\
         1 p0/0 pop = got i0 #0 u4294967296\n3 p0/0 free = freed\nactor c0\nactor p0\nend\n";
     let told = first_firing(Sbt::from_ticks(1, 1));
-    let report = text_told(rt.alloc(), script.as_slice(), told.as_slice())?;
-    assert!(rt; report.as_slice() == wanted.as_slice());
-    Ok(())
+    let report = text_told(rt.alloc(), script.as_slice(), told.as_slice());
+    assert!(rt; is(report, wanted.as_slice()));
 }

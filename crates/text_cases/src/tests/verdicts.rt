@@ -2,7 +2,7 @@
 use co_check::laws::read_reports_may_be_checked;
 use co_check::{Unfit, Verdict, check, check_replayed, read_replayed_report};
 use co_object::{AnyEntry, OwnEntry, OwnKind, Place};
-use co_report::{Line, PackedLines, open_report, read_report};
+use co_report::{Line, OpenReport, PackedLines, open_report, read_report};
 use co_sbt::NoMemory;
 use co_text::ScriptFault;
 use std::alloc::Global;
@@ -48,9 +48,9 @@ const VERDICTS: [(&str, Verdict); 2] = [
 
 #[test]
 fn reports_are_judged(rt: HostRuntime) {
-    for (text, verdict) in VERDICTS {
-        assert!(rt; verdict_of(rt.alloc(), text.as_bytes()) == Ok(verdict));
-        assert!(rt; replayed_verdict_of(rt.alloc(), text.as_bytes()) == Ok(verdict));
+    for (text, verdict) in &VERDICTS {
+        assert!(rt; verdict_of(rt.alloc(), text.as_bytes()) == Ok(*verdict));
+        assert!(rt; replayed_verdict_of(rt.alloc(), text.as_bytes()) == Ok(*verdict));
     }
 }
 
@@ -63,15 +63,23 @@ fn only(lines: &PackedLines) -> Option<Line> {
     }
 }
 
-/// How many note lines of a report are told as they are read, the only one, and the number of the line `end`.
-fn told(alloc: Global, text: &[u8]) -> Result<(usize, Option<Line>, u64), ScriptFault> {
-    let report = open_report(alloc, text)?;
+/// How many note lines are told, the only one, and the number of the line `end`.
+type Told = (usize, Option<Line>, u64);
+
+/// What is told of an open report's notes as they are read.
+fn told_of(alloc: Global, report: &OpenReport<'_>) -> Result<Told, ScriptFault> {
     let Ok(mut reader) = report.reader(alloc) else {
         return Err(ScriptFault::NoMemory);
     };
     let mut lines = PackedLines::new(alloc);
     let end = reader.tell_all(alloc, &mut lines)?;
     Ok((lines.len(), only(&lines), end))
+}
+
+/// What is told of the report that a text is.
+fn told(alloc: Global, text: &[u8]) -> Result<Told, ScriptFault> {
+    let report = open_report(alloc, text)?;
+    told_of(alloc, &report)
 }
 
 /// The note of the second report above.

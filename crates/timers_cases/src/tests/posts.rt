@@ -2,14 +2,12 @@
 ghost use Rattle.std.specs.Prelude.{◌≡◌};
 
 use super::stage::boot;
-use co_sbt::NoMemory;
 use co_service::Name;
 use co_timers::{Posts, Timers, TimersFresh};
 use std::alloc::Global;
 use std::marker::Brand;
 use std::process::Abort;
 use std::sync::Wait;
-use std::test::Fail;
 
 /// Who leaves.
 #[derive(Clone, Copy)]
@@ -35,17 +33,36 @@ const LEFT: [(Post, bool); 9] = [
     (Post::CpuAlone(1), true),
 ];
 
+/// Whether somebody leaves.
+fn is_some<T: Drop>(left: Option<T>) -> bool {
+    left.is_some()
+}
+
 /// Whether a post is left.
 fn is_left<N: Name>(timers: &Timers<N>, posts: &mut Posts<N>, post: Post) -> bool
     requires { timers.now.params ≡ posts.old.params }
     ensures { posts.new.params ≡ posts.old.params }
 {
     match post {
-        Post::Client(k) => posts.client(timers, k).is_some(),
-        Post::Cpu(k) => posts.cpu_handle(timers, k).is_some(),
-        Post::Interrupt(k) => posts.interrupt(timers, k).is_some(),
-        Post::CpuAlone(k) => posts.cpu(timers, k).is_some(),
+        Post::Client(k) => is_some(posts.client(timers, k)),
+        Post::Cpu(k) => is_some(posts.cpu_handle(timers, k)),
+        Post::Interrupt(k) => is_some(posts.interrupt(timers, k)),
+        Post::CpuAlone(k) => is_some(posts.cpu(timers, k)),
     }
+}
+
+/// Whether each post is left once.
+fn each_leaves<N: Name>(timers: &Timers<N>, posts: &mut Posts<N>) -> bool
+    requires { timers.now.params ≡ posts.old.params }
+    ensures { posts.new.params ≡ posts.old.params }
+{
+    let mut once = true;
+    for (post, leaves) in &LEFT {
+        if is_left(timers, posts, *post) != *leaves {
+            once = false;
+        }
+    }
+    once
 }
 
 /// All leave and come back: whether the first CPU was, and all are missed until the last.
@@ -67,46 +84,36 @@ fn all_leave<N: Name, R: Abort>(rt: &R, timers: &Timers<N>, posts: &mut Posts<N>
 }
 
 /// Whether each post is left once, and the service then does not end.
-fn play_once<N: Name, R: Wait + Sync>(
-    rt: &R,
-    alloc: Global,
-    fresh: TimersFresh,
-) -> Result<bool, NoMemory>
+fn play_once<N: Name, R: Wait + Sync + Abort>(rt: &R, alloc: Global, fresh: TimersFresh) -> bool
     requires { fresh.name ≡ N.name }
 {
-    let (timers, mut posts) = Timers::<N>::open(alloc, fresh)?;
-    let mut once = true;
-    for (post, leaves) in LEFT {
-        if is_left(&timers, &mut posts, post) != leaves {
-            once = false;
-        }
-    }
-    Ok(timers.close(rt, posts).is_err() && once)
+    let Ok((timers, mut posts)) = Timers::<N>::open(alloc, fresh) else {
+        panic!(rt; "no memory");
+    };
+    let once = each_leaves(&timers, &mut posts);
+    timers.close(rt, posts).is_err() && once
 }
 
 /// Whether all leave and come back, and the service then ends.
-fn play_all<N: Name, R: Wait + Sync + Abort>(
-    rt: &R,
-    alloc: Global,
-    fresh: TimersFresh,
-) -> Result<bool, NoMemory>
+fn play_all<N: Name, R: Wait + Sync + Abort>(rt: &R, alloc: Global, fresh: TimersFresh) -> bool
     requires { fresh.name ≡ N.name }
 {
-    let (timers, mut posts) = Timers::<N>::open(alloc, fresh)?;
+    let Ok((timers, mut posts)) = Timers::<N>::open(alloc, fresh) else {
+        panic!(rt; "no memory");
+    };
     let all = all_leave(rt, &timers, &mut posts);
-    Ok(timers.close(rt, posts).is_ok() && all)
-}
-
-/// Whether each post is left once, and the service ends only where all have come back.
-fn play_both<R: Wait + Sync + Abort>(rt: &R, alloc: Global) -> Result<bool, NoMemory> {
-    let once = boot(alloc)?;
-    let all = boot(alloc)?;
-    Ok(play_once::<Brand, R>(rt, alloc, once)? && play_all::<Brand, R>(rt, alloc, all)?)
+    timers.close(rt, posts).is_ok() && all
 }
 
 /// Who left doesn't leave again, and the end needs all.
 #[test]
-fn posts(rt: HostRuntime) -> Result<(), Fail> {
-    assert!(rt; play_both(&rt, rt.alloc())?);
-    Ok(())
+fn posts(rt: HostRuntime) {
+    let Ok(one) = boot(rt.alloc()) else {
+        panic!(rt; "no memory");
+    };
+    assert!(rt; play_once::<Brand, _>(&rt, rt.alloc(), one));
+    let Ok(other) = boot(rt.alloc()) else {
+        panic!(rt; "no memory");
+    };
+    assert!(rt; play_all::<Brand, _>(&rt, rt.alloc(), other));
 }

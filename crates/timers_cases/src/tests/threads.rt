@@ -5,15 +5,14 @@ ghost use denote.Param.Send.{IsSync};
 
 use super::functions::{Functions, NOTHING};
 use super::stage::{boot, seconds};
-use co_sbt::{NoMemory, Sbt};
+use co_sbt::Sbt;
 use co_service::Name;
-use co_timers::{Client, Cpu, Stopped, Timers, TimersFresh};
+use co_timers::{Client, Cpu, Posts, Stopped, Timers, TimersFresh};
 use std::alloc::Global;
 use std::marker::Brand;
 use std::process::Abort;
 use std::sync::Wait;
 use std::sync::atomic::{AtomicBool, Ordering};
-use std::test::Fail;
 use std::thread::{Threads, join};
 
 /// How often callout 0 is armed.
@@ -33,6 +32,27 @@ fn arm_often<N: Name, R: Wait>(rt: &R, mut client: Client<'_, N>, over: &AtomicB
 }
 
 /// Turns until all is over, and once more. The answer is how many functions it called.
+fn turn_until<N: Name, R: Wait + Sync>(
+    rt: &R,
+    cpu: &mut Cpu<'_, N>,
+    functions: &mut Functions<'_, '_, N, R>,
+    over: &AtomicBool,
+) -> u64
+    requires { cpu.old.others.passes.params ≡ scene }
+{
+    let mut called: u64 = 0;
+    for _ in rt.forever() {
+        let last = over.load(Ordering::SeqCst);
+        let turned = cpu.turn(rt, seconds(1), functions);
+        called = called.wrapping_add(turned.others.called);
+        if last {
+            return called;
+        }
+    }
+    unreachable!()
+}
+
+/// The same with functions of this client.
 fn turn_often<N: Name, R: Wait + Sync>(
     rt: &R,
     mut cpu: Cpu<'_, N>,
@@ -46,16 +66,7 @@ fn turn_often<N: Name, R: Wait + Sync>(
         client,
         seen: NOTHING,
     };
-    let mut called: u64 = 0;
-    for _ in rt.forever() {
-        let last = over.load(Ordering::SeqCst);
-        let turned = cpu.turn(rt, seconds(1), &mut functions);
-        called = called.wrapping_add(turned.others.called);
-        if last {
-            return called;
-        }
-    }
-    unreachable!()
+    turn_until(rt, &mut cpu, &mut functions, over)
 }
 
 /// Both at once: how many armings were cancelled, and how many functions were called.
@@ -80,26 +91,41 @@ fn both<N: Name + Send + Sync, R: Threads + Wait + Sync>(
 }
 
 /// The same on an open service.
+fn play_on<N: Name + Send + Sync, R: Threads + Wait + Sync + Abort>(
+    rt: &R,
+    timers: &Timers<N>,
+    posts: &mut Posts<N>,
+) -> (u64, u64)
+    requires posts { timers.now.params ≡ posts.old.params }
+    requires scene { timers.now.params ≡ scene }
+{
+    let client = posts.client(timers, 0).expect(rt, "client 0 is here");
+    let cpu = posts.cpu_handle(timers, 0).expect(rt, "CPU 0 is here");
+    let other = posts.client(timers, 1).expect(rt, "client 1 is here");
+    both(rt, client, cpu, other)
+}
+
+/// The same on a service that is opened for it.
 fn play<N: Name + Send + Sync, R: Threads + Wait + Sync + Abort>(
     rt: &R,
     alloc: Global,
     fresh: TimersFresh,
-) -> Result<(u64, u64), NoMemory>
+) -> (u64, u64)
     requires name { fresh.name ≡ N.name }
     requires scene { fresh.params ≡ scene }
 {
-    let (timers, mut posts) = Timers::<N>::open(alloc, fresh)?;
-    let client = posts.client(&timers, 0).expect(rt, "client 0 is here");
-    let cpu = posts.cpu_handle(&timers, 0).expect(rt, "CPU 0 is here");
-    let other = posts.client(&timers, 1).expect(rt, "client 1 is here");
-    Ok(both(rt, client, cpu, other))
+    let Ok((timers, mut posts)) = Timers::<N>::open(alloc, fresh) else {
+        panic!(rt; "no memory");
+    };
+    play_on(rt, &timers, &mut posts)
 }
 
 #[test]
-fn no_arming_is_called_and_cancelled(rt: HostRuntime) -> Result<(), Fail> {
-    let fresh = boot(rt.alloc())?;
-    let (cancelled, called) = play::<Brand, _>(&rt, rt.alloc(), fresh)?;
+fn no_arming_is_called_and_cancelled(rt: HostRuntime) {
+    let Ok(fresh) = boot(rt.alloc()) else {
+        panic!(rt; "no memory");
+    };
+    let (cancelled, called) = play::<Brand, _>(&rt, rt.alloc(), fresh);
     // A stop while an earlier call runs answers 0, and takes the new arming away.
     assert!(rt; cancelled.wrapping_add(called) <= ARMINGS);
-    Ok(())
 }

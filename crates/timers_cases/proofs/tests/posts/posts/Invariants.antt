@@ -1,5 +1,5 @@
 -- The services that were just booted.
-use Rattle.timers_cases.proofs.tests.posts.play_both.Given as goal
+use Rattle.timers_cases.proofs.tests.posts.posts.Given as goal
 
 abbrev pub ghosts-play_once : goal.ghosts-play_once
 ghosts-play_once g a = record { name = a.fresh.name }

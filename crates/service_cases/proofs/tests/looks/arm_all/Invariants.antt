@@ -1,5 +1,5 @@
 use Rattle.co_service.specs.Views.{AreOf}
-use Rattle.service_cases.proofs.tests.looks.play.Given as goal
+use Rattle.service_cases.proofs.tests.looks.arm_all.Given as goal
 
 abbrev pub invariant-loop-i : goal.invariant-loop-i
 invariant-loop-i g l = AreOf g.N.Name.name l.service l.client

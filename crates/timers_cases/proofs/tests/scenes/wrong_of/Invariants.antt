@@ -1,7 +1,7 @@
 -- The CPUs stay those of the scene.
 use Rattle.std.proofs.Common.{◌≡◌}
 use Rattle.timers_cases.specs.Scenes.{scene}
-use Rattle.timers_cases.proofs.tests.scenes.wrong_row.Given as goal
+use Rattle.timers_cases.proofs.tests.scenes.wrong_of.Given as goal
 
 abbrev pub invariant-loop-number : goal.invariant-loop-number
 invariant-loop-number g l = record {
