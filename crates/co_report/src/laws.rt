@@ -18,7 +18,7 @@ pub fn reports_read_back()
 {}
 
 /// The report of a run of a script that fits, whose notes have values that their types allow, is read back as that
-/// script and exactly its notes.
+/// script and exactly its notes, where it has at most 268435456 bytes.
 pub fn reports_of_runs_read_back()
     ensures { RunReadsBack }
 {}

@@ -280,8 +280,8 @@ pub(crate) fn order_from(
 /// The notes of all lists, in the report's order: place by place, and in each place by position. It takes time and memory
 /// in proportion to the notes and the places, and no sorting. The notes are packed first.
 ///
-/// NoMemory where the order finds no memory, has more than 2^32 notes of one actor, or has a note at a position or in a
-/// place whose number is 2^32 or more.
+/// NoMemory where the order finds no memory, has 2^32 notes of one actor or more, or has a note at a position or in a place
+/// whose number is 2^32 or more.
 pub fn order_of(alloc: Global, script: &Script, lists: &[Seq<Note>]) -> Result<Order, NoMemory>
     requires places { AllHavePlaces script.now lists.now }
     requires formed { IsWellFormed lists.now }

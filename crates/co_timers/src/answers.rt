@@ -8,7 +8,8 @@ pub enum Refused {
     /// The call names a CPU that there is not.
     NoCpu,
     /// The caller doesn't hold the callout's lock as the call wants it, which `co_lock::covers` tells: in either mode to
-    /// arm, exclusively to stop or to begin an asynchronous drain.
+    /// arm, exclusively to stop or to begin an asynchronous drain. A hold is told by its number and mode: of which set of
+    /// client locks it is, no clause says.
     NotHeld,
     /// The caller of a drain, which waits, holds a lock.
     HoldsLock,
