@@ -25,5 +25,5 @@ loop-parts-preserved g c =
       yields = append_assoc at.yielded (x ∷ []) _ ∙ rw (← steps) i.yields;
       left = (let was = i.left in let gone = c.in-Some.ensures.steps.1 in let short = ap length steps in omega arith);
       at = ap (λ n. n + 1) i.at ∙ sym (length-append at.yielded (x ∷ []));
-      count = (let was = i.count in let e = ap length c.in_ok-push.ensures ∙ length-append at.desks.items _ in let m = c.push.new.items.ok.0 in let n = at.desks.ok.0 in omega arith);
+      count = (let was = i.count in let e = ap length c.in_ok-push.ensures.pushed ∙ length-append at.desks.items _ in let m = c.push.new.items.ok.0 in let n = at.desks.ok.0 in omega arith);
     }
