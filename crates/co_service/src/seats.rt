@@ -52,13 +52,6 @@ impl<S: Story> Lives<S> {
         self.lives
     }
 
-    /// How many there are.
-    pub(crate) fn len(&self) -> usize
-        ensures { result ≡ length self.now }
-    {
-        self.lives.len()
-    }
-
     /// The life of a place.
     #[inline(always)]
     pub(crate) fn get(&self, i: u32) -> &Life<S>

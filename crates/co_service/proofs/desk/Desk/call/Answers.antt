@@ -11,6 +11,7 @@ use Rattle.co_service.specs.Call.{IsAnswer, due_named, number_accepted, told_not
 use Rattle.co_service.specs.Desk.{IsDesk}
 use Rattle.co_service.specs.Moving.{IsOfService, MayDepart, MovingView, departed, moving_from, target_of}
 use Rattle.co_service.specs.Views.{PassesView}
+use Rattle.co_service.specs.Written.{AreTogether}
 use Rattle.co_service.proofs.CallSection.{answer_section, desk_section, leaves_nothing, may_section, off_here, owes_section, reply_here, service_section}
 use Rattle.co_service.proofs.ServedDesk.{some_of}
 use Rattle.co_service.proofs.desk.Desk.call.Goals as goal
@@ -81,3 +82,8 @@ returns-clause-tried g c = record {
         room = λ some. c.write_group.ensures.room (leaves_nothing w w' b at i op answer here.0 desk here.1 c.call_into.ensures b' (number_accepted answer.reply) (due_named op) (ap is_some (sym moves) ∙ some));
       };
 }
+
+pub write_group-requires-clause-together : goal.write_group-requires-clause-together
+write_group-requires-clause-together g c =
+    let met = c.meet.ensures in
+    subst (λ (t : PassesView × BooksView). AreTogether g.N.Name.name c.args.places.now t.0 t.1) (λ d. (sym met.passes d, sym met.kept d)) record { here = c.requires.service; params_are = met.params }
