@@ -1,7 +1,7 @@
 //! A service before its locks.
 ghost use Rattle.std.specs.Prelude.{◌≡◌, ◌≤◌, IfOk, length};
 ghost use Rattle.co_service.specs.Booted.{AreBooted, AreSetUp};
-ghost use Rattle.co_service.specs.Fresh.{AreJoined, AreNamed, IsFreshlyMade};
+ghost use Rattle.co_service.specs.Fresh.{AreNamed, IsFreshlyMade};
 ghost use Rattle.co_service.specs.Params.{AreParams, actor_count};
 ghost use Rattle.co_service.specs.Stories.{IsHistory, IsJournal};
 
@@ -66,24 +66,29 @@ fn make_cpus(alloc: Global, params: &Params, actors: u32) -> Result<SetUp<CpuSto
     make_places(alloc, params, params.cpus, actors)
 }
 
-/// The places of a service, what each of its CPUs has before the locks, and each actor's passes.
+/// A service before its locks, of these callouts and CPUs, and each actor's passes of it.
 fn join_fresh(
     alloc: Global,
-    params: &Params,
+    params: Params,
     actors: u32,
     callouts: SetUp<TimerStory>,
     cpus: SetUp<CpuStory>,
-) -> Result<(Places, Vec<DeskParts>, Seq<Passes>), NoMemory>
-    requires params { AreParams params.now }
-    requires actors { actors ≡ actor_count params.now }
-    requires callouts { AreSetUp IsHistory params.now (length params.now.specs) callouts.lives callouts.keepers.items callouts.seats.items }
-    requires cpus { AreSetUp IsJournal params.now params.now.cpus cpus.lives cpus.keepers.items cpus.seats.items }
-    ensures { IfOk result (λ made. AreJoined made.0 params.now made.1.items made.2) }
+) -> Result<(Fresh, Seq<Passes>), NoMemory>
+    requires params { AreParams params }
+    requires actors { actors ≡ actor_count params }
+    requires callouts { AreSetUp IsHistory params (length params.specs) callouts.lives callouts.keepers.items callouts.seats.items }
+    requires cpus { AreSetUp IsJournal params params.cpus cpus.lives cpus.keepers.items cpus.seats.items }
+    ensures { IfOk result (λ made. IsFreshlyMade params made.0 made.1) }
 {
     let places = Places::new(callouts.lives, cpus.lives);
-    let passes = join_all(alloc, params, &places, actors, callouts.seats, cpus.seats)?;
-    let all_parts = make_all_parts(alloc, params, &places, callouts.keepers, cpus.keepers)?;
-    Ok((places, all_parts, passes))
+    let passes = join_all(alloc, &params, &places, actors, callouts.seats, cpus.seats)?;
+    let all_parts = make_all_parts(alloc, &params, &places, callouts.keepers, cpus.keepers)?;
+    let fresh = Fresh {
+        places,
+        params,
+        all_parts,
+    };
+    Ok((fresh, passes))
 }
 
 /// A service of these parameters before its locks, and each actor's passes of it.
@@ -94,13 +99,7 @@ fn make_fresh(alloc: Global, params: Params) -> Result<(Fresh, Seq<Passes>), NoM
     let actors = count_actors(&params);
     let callouts = make_callouts(alloc, &params, actors)?;
     let cpus = make_cpus(alloc, &params, actors)?;
-    let (places, all_parts, passes) = join_fresh(alloc, &params, actors, callouts, cpus)?;
-    let fresh = Fresh {
-        places,
-        params,
-        all_parts,
-    };
-    Ok((fresh, passes))
+    join_fresh(alloc, params, actors, callouts, cpus)
 }
 
 impl Fresh {

@@ -100,14 +100,6 @@ impl<N: Name> Service<N> {
         })
     }
 
-    /// From now on this CPU's desk is asked first for callout `i`.
-    #[inline(always)]
-    fn ask_first(&self, i: u32, cpu: u32) {
-        if let Some(hint) = self.hints.get(i as usize) {
-            hint.store(cpu, Ordering::SeqCst);
-        }
-    }
-
     /// A callout comes to the desk of the CPU at which it is armed.
     #[inline(always)]
     fn land_once<R: Wait>(
@@ -127,11 +119,11 @@ impl<N: Name> Service<N> {
             return Err(moving);
         };
         let mut desk = locked.desk.lock(rt);
-        let landed = desk.land(&self.places, passes, act, moving);
-        if landed.is_ok() {
-            self.ask_first(i, cpu);
+        let landed = desk.land(&self.places, passes, act, moving)?;
+        if let Some(hint) = self.hints.get(i as usize) {
+            hint.store(cpu, Ordering::SeqCst);
         }
-        landed
+        Ok(landed)
     }
 
     /// A callout comes to its CPU. It is tried again where that desk can't take it.

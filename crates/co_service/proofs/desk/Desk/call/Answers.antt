@@ -20,7 +20,7 @@ pub write_group-requires-clause-may : goal.write_group-requires-clause-may
 write_group-requires-clause-may g c =
     let desk : IsDesk c.self.inside.wheel c.meet.new.self c.self.inside.scans = subst (λ b. IsDesk c.self.inside.wheel b c.self.inside.scans) (sym c.meet.ensures.kept) c.self.invariant in
     let same : is_kept c.meet.new.self c.args.i ≡ is_kept c.self.inside.books c.args.i = ap (λ (b : BooksView). is_kept b c.args.i) c.meet.ensures.kept in
-    let here : (H : List Entry) × (history_at c.meet.new.self c.args.i ≡ Some H) = some_of (history_at c.meet.new.self c.args.i) (cc) in
+    let here : (H : List Entry) × (history_at c.meet.new.self c.args.i ≡ Some H) = some_of (history_at c.meet.new.self c.args.i) (same ∙ (sym c.has.ensures ∙ c.if-not-has.false)) in
     let at = c.self.inside.scans in
     record {
       here = ap is_some here.1;
@@ -34,7 +34,7 @@ pub depart-requires-clause-may : goal.depart-requires-clause-may
 depart-requires-clause-may g c =
     let desk : IsDesk c.self.inside.wheel c.meet.new.self c.self.inside.scans = subst (λ b. IsDesk c.self.inside.wheel b c.self.inside.scans) (sym c.meet.ensures.kept) c.self.invariant in
     let same : is_kept c.meet.new.self c.args.i ≡ is_kept c.self.inside.books c.args.i = ap (λ (b : BooksView). is_kept b c.args.i) c.meet.ensures.kept in
-    let here : (H : List Entry) × (history_at c.meet.new.self c.args.i ≡ Some H) = some_of (history_at c.meet.new.self c.args.i) (cc) in
+    let here : (H : List Entry) × (history_at c.meet.new.self c.args.i ≡ Some H) = some_of (history_at c.meet.new.self c.args.i) (same ∙ (sym c.has.ensures ∙ c.if-not-has.false)) in
     let out = c.write_group.ensures.out in
     let number : c.number-n.result ≡ number_accepted c.call_into.new.out.reply = c.number-n.ensures ∙ ap (λ (o : CallOut). number_accepted o.reply) out in
     subst (λ (t : ℕ × ℕ × Option Parcel). MayDepart c.write_group.new.books t.0 t.1 t.2) (λ d. (sym number d, sym c.time.ensures d, sym (ap (λ (o : CallOut). o.leaves) out) d))
@@ -44,7 +44,7 @@ pub invariant_of-self : goal.invariant_of-self
 invariant_of-self g c =
     let desk : IsDesk c.self.inside.wheel c.meet.new.self c.self.inside.scans = subst (λ b. IsDesk c.self.inside.wheel b c.self.inside.scans) (sym c.meet.ensures.kept) c.self.invariant in
     let same : is_kept c.meet.new.self c.args.i ≡ is_kept c.self.inside.books c.args.i = ap (λ (b : BooksView). is_kept b c.args.i) c.meet.ensures.kept in
-    let here : (H : List Entry) × (history_at c.meet.new.self c.args.i ≡ Some H) = some_of (history_at c.meet.new.self c.args.i) (cc) in
+    let here : (H : List Entry) × (history_at c.meet.new.self c.args.i ≡ Some H) = some_of (history_at c.meet.new.self c.args.i) (same ∙ (sym c.has.ensures ∙ c.if-not-has.false)) in
     let goes = ap (λ (o : CallOut). o.leaves) c.write_group.ensures.out in
     subst (λ b. IsDesk c.call_into.new.self b c.self.inside.scans) (sym (c.depart.ensures.books ∙ ap (departed c.write_group.new.books) goes))
     (desk_section c.self.inside.wheel c.call_into.new.self c.meet.new.self c.self.inside.scans c.args.i c.args.op.now c.call_into.new.out here.0 desk here.1 c.call_into.ensures c.meet.new.passes c.args.act c.write_group.new.books c.write_group.ensures.books
@@ -67,7 +67,7 @@ returns-clause-tried g c = record {
       let answer = c.call_into.new.out in
       let desk : IsDesk w b at = subst (λ b. IsDesk w b at) (sym c.meet.ensures.kept) c.self.invariant in
       let same : is_kept b i ≡ is_kept c.self.inside.books i = ap (λ (b : BooksView). is_kept b i) c.meet.ensures.kept in
-      let here : (H : List Entry) × (history_at b i ≡ Some H) = some_of (history_at b i) (cc) in
+      let here : (H : List Entry) × (history_at b i ≡ Some H) = some_of (history_at b i) (same ∙ (sym c.has.ensures ∙ c.if-not-has.false)) in
       let params : b.params ≡ p.params = ap (λ (b : BooksView). b.params) c.meet.ensures.kept ∙ c.meet.ensures.params in
       let out = c.write_group.ensures.out in
       let number : c.number-n.result ≡ number_accepted answer.reply = c.number-n.ensures ∙ ap (λ (o : CallOut). number_accepted o.reply) out in
