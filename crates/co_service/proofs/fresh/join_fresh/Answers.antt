@@ -1,5 +1,6 @@
-use Rattle.std.proofs.Common.{ℕ, sym, subst}
+use Rattle.std.proofs.Common.{ℕ, refl, sym, subst}
 use Rattle.co_service.specs.Booted.{AreBegun, AreLeft}
+use Rattle.co_service.specs.Fresh.{AreNamed}
 use Rattle.co_service.specs.Name.{ServiceName}
 use Rattle.co_service.specs.Stories.{IsHistory, IsJournal}
 use Rattle.co_service.proofs.fresh.join_fresh.Goals as goal
@@ -22,4 +23,14 @@ pub make_all_parts-requires-clause-journals : goal.make_all_parts-requires-claus
 make_all_parts-requires-clause-journals c = record {
   keepers_are = c.requires.cpus.keepers_are;
   begun = subst (λ (n : ServiceName). AreBegun IsJournal n.cpus c.args.params c.args.cpus.keepers.items) (sym c.new-places.ensures) c.requires.cpus.begun;
+}
+
+pub join_all-requires-clause-named : goal.join_all-requires-clause-named
+join_all-requires-clause-named c = subst (λ (n : ServiceName). AreNamed n c.args.params) (sym c.new-places.ensures) record { timers = c.requires.callouts.lives_are; cpus = c.requires.cpus.lives_are }
+
+pub returns : goal.returns
+returns c = record {
+  params_are = refl;
+  passes_are = c.in_ok-passes.ensures;
+  named = subst (λ (n : ServiceName). AreNamed n c.args.params) (sym c.new-places.ensures) record { timers = c.requires.callouts.lives_are; cpus = c.requires.cpus.lives_are };
 }

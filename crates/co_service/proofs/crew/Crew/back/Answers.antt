@@ -1,4 +1,4 @@
-use Rattle.std.proofs.Common.{ap, ◌∙◌, subst, sym, arith}
+use Rattle.std.proofs.Common.{ap, subst, sym, arith}
 use Rattle.co_service.specs.declared.params.Params.{Params}
 use Rattle.co_service.specs.Crew.{CrewView}
 use Rattle.co_service.specs.Views.{AreOf}
