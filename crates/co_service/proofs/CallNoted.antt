@@ -1,5 +1,6 @@
 -- The notes of a call beside its entry: what it took out of the queue, and what it put in.
-use Rattle.std.proofs.Common.{◌≡◌, ℕ, List, [], ◌∷◌, ◌++◌, map, refl, sym, ap, ◌∙◌, subst}
+use Rattle.std.proofs.Common.{◌≡◌, ℕ, true, false, List, [], ◌∷◌, ◌++◌, map, refl, sym, ap, ◌∙◌, subst}
+use Rattle.std.specs.Prelude.{is_some}
 use Rattle.std.specs.declared.option.Option.{Option}
 use Rattle.std.specs.declared.option.Option.TheVariants.{Some, None}
 use Rattle.co_object.specs.declared.note.Entry.{Entry}
@@ -20,13 +21,29 @@ use Rattle.co_service.specs.Outcomes.{noted_entry, queue_entry_by}
 use Rattle.co_service.specs.Views.{PassesView}
 use Rattle.co_service.specs.Kinds.{timer_kind}
 use Rattle.co_service.specs.Writes.{Writes, WritesEntry}
-use Rattle.co_service.specs.Written.{IsInsertionWritten, IsTurnWritten}
+use Rattle.co_service.specs.Written.{IsInsertionWritten, IsRemovalWritten, IsTurnWritten}
 use Rattle.co_service.proofs.DeskKept.{scans_same}
 use Rattle.co_service.proofs.Noting.{turn_written, writes-append}
 
 -- the books after an entry of the journal: it alone has changed
 journal_alone : (p q : PassesView) (b b' : BooksView) (e : QEntry) (pos : ℕ) → IsTurnWritten p b e pos q b' → b' ≡ record b { journal = b'.journal }
 journal_alone p q b b' e pos w = w.books ∙ ap (λ (J : List QEntry). record b { journal = J }) (sym (ap (λ (v : BooksView). v.journal) w.books))
+
+-- where a call took no arming out of the queue
+pub no_removal : (p : PassesView) (b : BooksView) (act i pos : ℕ) (off : Option ℕ) → is_some off ≡ false → IsRemovalWritten p b act i off pos p b
+no_removal p b act i pos None none = record { books = refl; scans = refl; written = refl; timers = refl; goes_on = λ turns w o. o }
+no_removal p b act i pos (Some x) none = absurd (cc)
+
+-- where it took one, its Remove
+pub removal_written : (p q : PassesView) (b b' : BooksView) (act i pos : ℕ) (off : Option ℕ) → is_some off ≡ true → ((x : ℕ) → off ≡ Some x → x ≡ b.cpu) → IsTurnWritten p b (queue_entry_by p act (Remove i) Off) pos q b' → IsRemovalWritten p b act i off pos q b'
+removal_written p q b b' act i pos None some here w = absurd (cc)
+removal_written p q b b' act i pos (Some x) some here w = record {
+  books = journal_alone p q b b' (queue_entry_by p act (Remove i) Off) pos w;
+  scans = ap (λ (v : BooksView). scans_in v.journal) w.books ∙ scans_same b (queue_entry_by p act (Remove i) Off) refl;
+  written = turn_written p q act b.cpu x (Remove i) Off pos b'.journal (here x refl) w.written;
+  timers = ap (λ (v : PassesView). v.timers) w.written.passes;
+  goes_on = w.goes_on;
+}
 
 -- where the queue has an accepted arming, its Insert
 pub insertion_written : (p q : PassesView) (b b' : BooksView) (act i n due : ℕ) (o : Option ℕ) (place time pos : ℕ) → o ≡ Some time → place ≡ b.cpu → IsTurnWritten p b (queue_entry_by p act (Insert i n due) (At time)) pos q b'

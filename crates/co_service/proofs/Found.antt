@@ -1,11 +1,13 @@
 -- A pass at its place in an actor's list.
-use Rattle.std.proofs.Common.{◌≡◌, ℕ, ◌<◌, List, [], length, map, set, Option, Some, None, sym, ap, ◌∙◌, subst, rules}
-use Rattle.std.specs.Prelude.{slice_get, slice_index_or, IsSome}
+use Rattle.std.proofs.Common.{◌≡◌, ℕ, ◌<◌, List, [], ◌∷◌, ◌++◌, length, map, set, Option, Some, None, sym, ap, ◌∙◌, subst, rules}
+use Rattle.std.specs.Prelude.{slice_get, slice_index_or, IsSome, OnErr, OnOk}
+use Rattle.std.specs.declared.result.Result.{Result}
+use Rattle.std.specs.declared.result.Result.TheVariants.{Ok, Err}
 use Rattle.std.specs.List.{All}
 use Rattle.co_life.specs.Identity.{LifeId}
 use Rattle.co_life.specs.Views.{PassView}
-use Rattle.co_service.specs.Seats.{life_in, seen_in, IsOwn}
-use Rattle.co_service.proofs.Items.{get_or_of, set_set, set_same, all_at, all_set, set_map, get_map, got_map}
+use Rattle.co_service.specs.Seats.{SeatsView, life_in, seats_of, seen_in, IsOwn}
+use Rattle.co_service.proofs.Items.{get_or_of, set_set, set_same, all_at, all_more, all_set, set_map, get_map, got_map, map_more}
 use Rattle.co_service.proofs.Writing.{below_get}
 
 module _ {E : Type 0} where
@@ -55,3 +57,15 @@ module _ {E : Type 0} where
   -- the actor's pass is put back
   pub owned : (ps : List (Option (PassView E))) (i : ℕ) (gone : Option (PassView E)) (new : PassView E) (a : ℕ) → All (IsOwn a) ps → new.actor ≡ a → All (IsOwn a) (set (set ps i gone) i (Some new))
   owned ps i gone new a all own = subst (All (IsOwn a)) (sym (set_set ps i gone (Some new))) (all_set (IsOwn a) ps i (Some new) all own)
+
+  -- a pass of one place more, where there was room for it
+  module _ {V R : Type 0} (a : ℕ) (ps ps' : List (Option (PassView E))) (h : PassView E) where
+    pub seats_pushed : (r : Result V R) (s : SeatsView E) → seats_of a ps ≡ s → OnOk r (ps' ≡ ps ++ Some h ∷ []) → OnOk r (seats_of a ps' ≡ record s { name = s.name ++ h.life ∷ []; seen = s.seen ++ h.seen ∷ [] })
+    seats_pushed (Err e) s view is = tt
+    seats_pushed (Ok x) s view is =
+        (λ d. record { name = (ap (map life_in) is ∙ map_more life_in ps (Some h)) d; actor = a; seen = (ap (map seen_in) is ∙ map_more seen_in ps (Some h)) d })
+        ∙ ap (λ (t : SeatsView E). record t { name = t.name ++ h.life ∷ []; seen = t.seen ++ h.seen ∷ [] }) view
+
+    pub owned_pushed : (r : Result V R) → All (IsOwn a) ps → h.actor ≡ a → OnOk r (ps' ≡ ps ++ Some h ∷ []) → OnErr r (ps' ≡ ps) → All (IsOwn a) ps'
+    owned_pushed (Err e) all own more same = subst (All (IsOwn a)) (sym same) all
+    owned_pushed (Ok x) all own more same = subst (All (IsOwn a)) (sym more) (all_more (IsOwn a) ps (Some h) all own)

@@ -1,8 +1,9 @@
 -- The section of a landing on a desk: what its wheel and its books have after it.
-use Rattle.std.proofs.Common.{◌≡◌, ℕ, ◌<◌, true, false, List, [], ◌∷◌, ◌++◌, length, set, sym, ap, ◌∙◌, subst, arith}
-use Rattle.std.specs.Prelude.{slice_set}
+use Rattle.std.proofs.Common.{◌≡◌, ℕ, ◌<◌, true, false, List, [], ◌∷◌, ◌++◌, length, set, refl, sym, ap, ◌∙◌, subst, arith}
+use Rattle.std.specs.Prelude.{is_some, slice_set}
 use Rattle.std.specs.declared.option.Option.{Option}
-use Rattle.std.specs.declared.option.Option.TheVariants.{Some}
+use Rattle.std.specs.declared.option.Option.TheVariants.{Some, None}
+use Rattle.co_object.specs.declared.alone.Alone.{Alone}
 use Rattle.co_object.specs.declared.note.Entry.{Entry}
 use Rattle.co_object.specs.declared.note.QEntry.{QEntry}
 use Rattle.co_object.specs.declared.queue.QOp.{QOp}
@@ -15,8 +16,9 @@ use Rattle.co_wheel.specs.Callouts.{Callouts}
 use Rattle.co_wheel.specs.Cpu.{Cpu}
 use Rattle.co_wheel.specs.Parcel.{Parcel}
 use Rattle.co_wheel.specs.Sections.{IsLanding}
+use Rattle.co_service.specs.declared.params.Params.{Params}
 use Rattle.co_service.specs.Books.{BooksView, is_kept}
-use Rattle.co_service.specs.Desk.{IsAtCpu, IsDesk, Owes, alone_after, is_scan}
+use Rattle.co_service.specs.Desk.{IsAtCpu, IsDesk, Owes, StandsAs, alone_after, is_scan}
 use Rattle.co_service.proofs.CallJoined.{idle_free}
 use Rattle.co_service.proofs.CallKept.{some_off}
 use Rattle.co_service.proofs.CalledDesk.{of_changed, stand_after}
@@ -32,6 +34,12 @@ pub record Comes (b : BooksView) (parcel : Parcel) (H : List Entry) (n due : ℕ
   pub here : parcel.arming.cpu ≡ b.cpu
   pub number : n ≡ parcel.arming.n
   pub due_is : due ≡ parcel.arming.due
+
+-- a callout whose history isn't there has no record
+pub absent_at : (p : Params) (i : ℕ) (o : Option Alone) (h : Option (List Entry)) → StandsAs p i o h → is_some h ≡ false → is_some o ≡ false
+absent_at p i None h st none = refl
+absent_at p i (Some a) None st none = absurd st
+absent_at p i (Some a) (Some H) st none = absurd (cc)
 
 module _ (w : Cpu) (b : BooksView) (scans : ℕ) (parcel : Parcel) (H : List Entry) (n due : ℕ) (desk : IsDesk w b scans) (is : Comes b parcel H n due) where
   at_here : IsAtCpu b.cpu parcel.callout

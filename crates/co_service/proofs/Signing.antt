@@ -15,6 +15,16 @@ use Rattle.co_service.specs.Booted.{IsOpened, IsSeated, AreSeatedAt, AreSeated, 
 use Rattle.co_service.proofs.Items.{index_set, index_else, get_mid}
 use Rattle.co_service.proofs.Writing.{below_get}
 
+module _ {A : Type 0} where
+  index_front : (xs : List A) (y d : A) (k : ℕ) → k < length xs → slice_index_or (xs ++ y ∷ []) k d ≡ slice_index_or xs k d
+  index_front [] y d k below = absurd (omega arith)
+  index_front (x ∷ xs) y d zero below = refl
+  index_front (x ∷ xs) y d (suc k) below = index_front xs y d k (omega arith)
+
+  index_last : (xs : List A) (y d : A) → slice_index_or (xs ++ y ∷ []) (length xs) d ≡ y
+  index_last [] y d = refl
+  index_last (x ∷ xs) y d = index_last xs y d
+
 module _ {E : Type 0} where
   -- an opening entry that carries this service and this place
   abbrev pub IsOpening : Params → ℕ → Line E → Type 0
@@ -51,15 +61,6 @@ module _ {E : Type 0} where
   opened_seated p i n (Opening a j q ∷ h) at = record { opened = λ d. Some (at.carry.0 d, at.carry.1 d); nothing = at.nothing }
   opened_seated p i n (Made e ∷ h) at = let none = at.nothing in absurd (cc)
 
-  index_front : (xs : List (List (Line E))) (y : List (Line E)) (k : ℕ) → k < length xs → slice_index_or (xs ++ y ∷ []) k [] ≡ slice_index_or xs k []
-  index_front [] y k below = absurd (omega arith)
-  index_front (x ∷ xs) y zero below = refl
-  index_front (x ∷ xs) y (suc k) below = index_front xs y k (omega arith)
-
-  index_last : (xs : List (List (Line E))) (y : List (Line E)) → slice_index_or (xs ++ y ∷ []) (length xs) [] ≡ y
-  index_last [] y = refl
-  index_last (x ∷ xs) y = index_last xs y
-
   -- an actor's passes with that of one place more
   pub seated_more : (p : Params) (name : List LifeId) (life : LifeId) (a : ℕ) (s s' : SeatsView (Line E)) (h : List (Line E)) → AreSeatedAt p name a s → IsSeated p (length name) h
       → s' ≡ record s { name = s.name ++ life ∷ []; seen = s.seen ++ h ∷ [] } → AreSeatedAt p (name ++ life ∷ []) a s'
@@ -68,9 +69,9 @@ module _ {E : Type 0} where
     actor_is = at.actor_is;
     count = length-append s.seen (h ∷ []) ∙ (ap (λ (n : ℕ). n + 1) at.count ∙ sym (length-append name (life ∷ [])));
     each = λ k below. dite (ℕ_discrete k (length name))
-        (λ last. subst (λ (t : ℕ × List (Line E)). IsSeated p t.0 t.1) (λ d. (sym last d, (sym (ap (λ (n : ℕ). slice_index_or (s.seen ++ h ∷ []) n []) (last ∙ sym at.count) ∙ index_last s.seen h)) d)) seated)
+        (λ last. subst (λ (t : ℕ × List (Line E)). IsSeated p t.0 t.1) (λ d. (sym last d, (sym (ap (λ (n : ℕ). slice_index_or (s.seen ++ h ∷ []) n []) (last ∙ sym at.count) ∙ index_last s.seen h [])) d)) seated)
         (λ front. let early : k < length name = (let n = length-append name (life ∷ []) in omega arith) in
-        subst (IsSeated p k) (sym (index_front s.seen h k (let c = at.count in omega arith))) (at.each k early));
+        subst (IsSeated p k) (sym (index_front s.seen h [] k (let c = at.count in omega arith))) (at.each k early));
   }
 
   pub all_more : (p : Params) (name : List LifeId) (life : LifeId) (n j : ℕ) (all : List (SeatsView (Line E))) (new : SeatsView (Line E)) → AreSeated p name (life ∷ []) n j all → j < n → AreSeatedAt p (name ++ life ∷ []) j new → AreSeated p name (life ∷ []) n (j + 1) (set all j new)
@@ -100,6 +101,12 @@ module _ {E : Type 0} where
       behind = λ k late inside. subst (AreSeatedAt p [] k) (sym (each k inside)) (record { name_is = refl; actor_is = refl; count = refl; each = λ i below. absurd (omega arith) });
     };
   }
+
+  -- an actor more that has no place yet
+  pub fresh_more : (all : List (SeatsView (Line E))) (x : SeatsView (Line E)) (n : ℕ) → length all ≡ n → ((k : ℕ) → k < n → seats_at all k ≡ fresh_seats [] k) → x ≡ fresh_seats [] n → (k : ℕ) → k < n + 1 → seats_at (all ++ x ∷ []) k ≡ fresh_seats [] k
+  fresh_more all x n long each is k below = dite (ℕ_discrete k n)
+      (λ last. ap (seats_at (all ++ x ∷ [])) (last ∙ sym long) ∙ (index_last all x (fresh_seats [] 0) ∙ (is ∙ ap (λ (m : ℕ). fresh_seats [] m) (sym last))))
+      (λ other. index_front all x (fresh_seats [] 0) k (omega arith) ∙ each k (omega arith))
 
   pub ready_for : (p : Params) (name more : List LifeId) (n m : ℕ) (all : List (SeatsView (Line E))) → n ≡ m → AreSeated p name [] n 0 all → AreSeated p name more m 0 all
   ready_for p name more n m all same at = subst (λ (k : ℕ). AreSeated p name more k 0 all) same record {

@@ -36,12 +36,6 @@ pub record IsService (name places : ServiceName) (p : Params) (desks : ℕ) : Ty
   pub limits : AreParams p
   pub named : AreNamed name p
 
--- what the desks begin with, and each actor's passes
-pub record AreJoined (name : ServiceName) (p : Params) (all_parts : List DeskParts) (passes : List PassesView) : Type 0 where
-  pub parts_are : AreDeskParts name p all_parts
-  pub passes_are : AreBooted name p passes
-  pub named : AreNamed name p
-
 -- a service of these parameters before its locks, and each actor's passes of it
 pub record IsFreshlyMade (p : Params) (fresh : FreshView) (passes : List PassesView) : Type 0 where
   pub params_are : fresh.params ≡ p

@@ -1,5 +1,5 @@
 //! The places of a service, made one after the other.
-ghost use Rattle.std.specs.Prelude.{◌≡◌, ◌≤◌, ◌+◌, ◌<◌, ◌^◌, ℕ, [], ◌∷◌, ◌++◌, IfOk, OnOk, vec_len};
+ghost use Rattle.std.specs.Prelude.{◌≡◌, ◌≤◌, ◌+◌, ◌<◌, ◌^◌, ℕ, [], ◌∷◌, ◌++◌, IfOk, OnErr, OnOk, vec_len};
 ghost use Rattle.co_life.specs.Views.{AreFresh};
 ghost use Rattle.co_service.specs.Booted.{ArePlaces, AreWaiting, IsOpened, IsPlaced, IsSigned, MaySign, seats_at as seats_in};
 ghost use Rattle.co_service.specs.Seats.{fresh_seats};
@@ -91,9 +91,10 @@ pub(crate) fn apart<T: Drop>(alloc: Global, count: usize) -> Result<Vec<T>, NoMe
     }
 }
 
-/// Appends an item.
+/// Appends an item. `NoMemory` where there is no room for it: the list stays as it was.
 pub(crate) fn push<T: Drop>(items: &mut Vec<T>, item: T) -> Result<(), NoMemory>
-    ensures { OnOk result (items.new.items ≡ items.old.items ++ item ∷ []) }
+    ensures pushed { OnOk result (items.new.items ≡ items.old.items ++ item ∷ []) }
+    ensures kept { OnErr result (items.new.items ≡ items.old.items) }
 {
     match items.push(item) {
         Ok(()) => Ok(()),
@@ -101,35 +102,74 @@ pub(crate) fn push<T: Drop>(items: &mut Vec<T>, item: T) -> Result<(), NoMemory>
     }
 }
 
-/// The places of a kind, made one after the other: their lives, their keepers, and each actor's passes of them, which
-/// have seen the opening entries alone.
+/// The places of a kind as they are made: their lives, their keepers, and each actor's passes of them, which have seen
+/// the opening entries alone.
+#[derive(Drop)]
+pub(crate) struct SetUp<S: Story> {
+    pub(crate) lives: Lives<S>,
+    pub(crate) keepers: Vec<Keeper<S>>,
+    pub(crate) seats: Vec<Seats<S>>,
+}
+
+impl<S: Story> SetUp<S> {
+    /// Keeps the life and the keeper of one place more.
+    fn keep(&mut self, life: Life<S>, keeper: Keeper<S>) -> Result<(), NoMemory>
+        ensures { OnOk result ((self.new.lives ≡ self.old.lives ++ life ∷ []) × (self.new.keepers.items ≡ self.old.keepers.items ++ keeper ∷ []) × (self.new.seats ≡ self.old.seats)) }
+    {
+        self.lives.push(life)?;
+        push(&mut self.keepers, keeper)
+    }
+}
+
+/// Makes one place more.
+fn make_place<E: Drop, S: Story<Entry = Line<E>>>(
+    alloc: Global,
+    params: &Params,
+    actors: u32,
+    place: u32,
+    made: &mut SetUp<S>,
+) -> Result<(), NoMemory>
+    requires some { 1 ≤ actors }
+    requires may { MaySign params.now place S.legal S.actor }
+    requires places { ArePlaces params.now place actors made.old.lives made.old.keepers.items made.old.seats.items }
+    ensures { OnOk result (ArePlaces params.now (place + 1) actors made.new.lives made.new.keepers.items made.new.seats.items) }
+{
+    let (life, mut keeper, passes) = Life::new(alloc, actors)?;
+    let passes = passes.into_vec();
+    let seats = &mut made.seats;
+    add_place(
+        &made.lives,
+        &life,
+        &mut keeper,
+        seats,
+        passes,
+        place,
+        params,
+    )?;
+    made.keep(life, keeper)
+}
+
+/// The places of a kind, made one after the other.
 pub(crate) fn make_places<E: Drop, S: Story<Entry = Line<E>>>(
     alloc: Global,
     params: &Params,
     count: u32,
     actors: u32,
-) -> Result<(Lives<S>, Vec<Keeper<S>>, Vec<Seats<S>>), NoMemory>
+) -> Result<SetUp<S>, NoMemory>
     requires some { 1 ≤ actors }
     requires may { (i : ℕ) → MaySign params.now i S.legal S.actor }
-    ensures { IfOk result (λ made. ArePlaces params.now count actors made.0 made.1.items made.2.items) }
+    ensures { IfOk result (λ made. ArePlaces params.now count actors made.lives made.keepers.items made.seats.items) }
 {
-    let mut lives = Lives::new(alloc);
-    let mut keepers = Vec::new(alloc);
-    let mut seats = empty_seats(alloc, actors, count)?;
+    let seats = empty_seats(alloc, actors, count)?;
+    let lives = Lives::new(alloc);
+    let keepers = Vec::new(alloc);
+    let mut made = SetUp {
+        lives,
+        keepers,
+        seats,
+    };
     for place in 0..count {
-        let (life, mut keeper, passes) = Life::new(alloc, actors)?;
-        let passes = passes.into_vec();
-        add_place(
-            &lives,
-            &life,
-            &mut keeper,
-            &mut seats,
-            passes,
-            place,
-            params,
-        )?;
-        lives.push(life)?;
-        push(&mut keepers, keeper)?;
+        make_place(alloc, params, actors, place, &mut made)?;
     }
-    Ok((lives, keepers, seats))
+    Ok(made)
 }

@@ -5,6 +5,7 @@ ghost use Rattle.std.specs.declared.option.Option.TheVariants.{Some};
 ghost use Rattle.co_service.specs.declared.params.Params.{Params};
 ghost use Rattle.co_service.specs.Closing.{AreMeeting, EndEach, Ends, HasEnded, HaveEnded, IsClosing, IsMet, MayEndAll, of_actor};
 ghost use Rattle.co_service.specs.Lines.{made, opening_of};
+ghost use Rattle.co_service.specs.Views.{IsKeeperOf};
 
 use crate::books::Books;
 use crate::kinds::Kind;
@@ -36,7 +37,7 @@ impl<N: Name> Model for Ending<N> {
 }
 
 /// An empty list with room for `count` items. `NoMemory` where there is none for these.
-fn room_for<T: Drop>(alloc: Global, count: usize) -> Result<Room<T>, NoMemory>
+pub(crate) fn room_for<T: Drop>(alloc: Global, count: usize) -> Result<Room<T>, NoMemory>
     ensures { IfOk result (λ room. (room.items ≡ []) × (count ≤ room.spare)) }
 {
     let mut room = Room::from_seq(Seq::new(alloc));
@@ -132,6 +133,22 @@ fn meet_all<E: Drop, S: Kind<E>>(
     }
 }
 
+/// Takes the keeper of place `i` from the books where it is. It is asked for again where none has it.
+fn take<E: Drop, S: Kind<E>, N: Name, R: Wait>(
+    rt: &R,
+    books: &mut Vec<Books<N>>,
+    i: u32,
+) -> Keeper<S>
+    ensures { (params : Params) × IsKeeperOf S.kind.Legal (S.kind.lives N.name) params i result }
+{
+    for _ in rt.forever() {
+        if let Some(keeper) = S::take_at(books, i) {
+            return keeper;
+        }
+    }
+    unreachable!()
+}
+
 /// Ends the history of place `i`, once each actor's pass was compared with it.
 fn end_place<E: Drop, S: Kind<E>, N: Name, R: Wait>(
     rt: &R,
@@ -144,7 +161,7 @@ fn end_place<E: Drop, S: Kind<E>, N: Name, R: Wait>(
     requires passes { All (λ q. q.name ≡ N.name) passes.old.items }
     ensures { HasEnded passes.old.items passes.new.items (Ends S.kind (made result) i) }
 {
-    let mut keeper = S::take_at(rt, books, i);
+    let mut keeper = take::<E, S, N, R>(rt, books, i);
     meet_all(passes, &life, &mut keeper, i);
     life.close(keeper)
 }

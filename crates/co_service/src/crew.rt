@@ -11,6 +11,7 @@ ghost use Rattle.co_service.specs.Serving.{lane_actor};
 ghost use Rattle.co_service.specs.Views.{AreOf};
 ghost use Rattle.co_service.specs.Kept.{KeepsFree};
 
+use crate::closing::room_for;
 use crate::{Name, Passes, Service};
 use co_life::Shown;
 use co_sbt::{NoMemory, Room, Seq};
@@ -96,11 +97,9 @@ impl<N: Name> Crew<N> {
     pub fn new(alloc: Global, service: &Service<N>) -> Result<Crew<N>, NoMemory>
         ensures { IfOk result (λ crew. crew ≡ record { params = service.now; count = 0 }) }
     {
-        let mut back = Room::from_seq(Seq::new(alloc));
-        back.reserve(MOST)?;
         Ok(Crew {
             of: Shown::of(service),
-            back,
+            back: room_for(alloc, MOST)?,
         })
     }
 

@@ -1,17 +1,15 @@
 //! A service before its locks.
 ghost use Rattle.std.specs.Prelude.{◌≡◌, ◌≤◌, IfOk, length};
 ghost use Rattle.co_service.specs.Booted.{AreBooted, AreSetUp};
-ghost use Rattle.co_service.specs.Fresh.{AreJoined, AreNamed, IsFreshlyMade};
+ghost use Rattle.co_service.specs.Fresh.{AreNamed, IsFreshlyMade};
 ghost use Rattle.co_service.specs.Params.{AreParams, actor_count};
 ghost use Rattle.co_service.specs.Stories.{IsHistory, IsJournal};
 
-use crate::boot::make_places;
+use crate::boot::{SetUp, make_places};
 use crate::desk_parts::{DeskParts, make_all_parts};
 use crate::joining::join_all;
 use crate::places::Places;
-use crate::seats::{Lives, Seats};
 use crate::{CpuStory, Params, Passes, TimerStory};
-use co_life::Keeper;
 use co_object::Spec;
 use co_sbt::{NoMemory, Seq};
 use std::alloc::Global;
@@ -51,62 +49,46 @@ fn count_actors(params: &Params) -> u32
 }
 
 /// The callouts of a service, in whose histories no call has made an entry.
-fn make_callouts(
-    alloc: Global,
-    params: &Params,
-    actors: u32,
-) -> Result<
-    (
-        Lives<TimerStory>,
-        Vec<Keeper<TimerStory>>,
-        Vec<Seats<TimerStory>>,
-    ),
-    NoMemory,
->
+fn make_callouts(alloc: Global, params: &Params, actors: u32) -> Result<SetUp<TimerStory>, NoMemory>
     requires params { AreParams params.now }
     requires actors { (actors ≡ actor_count params.now) × (1 ≤ actors) }
-    ensures { IfOk result (λ made. AreSetUp IsHistory params.now (length params.now.specs) made.0 made.1.items made.2.items) }
+    ensures { IfOk result (λ made. AreSetUp IsHistory params.now (length params.now.specs) made.lives made.keepers.items made.seats.items) }
 {
     let count = params.specs.as_slice().len() as u32;
     make_places(alloc, params, count, actors)
 }
 
 /// The CPUs of a service, in whose journals no call has made an entry.
-fn make_cpus(
-    alloc: Global,
-    params: &Params,
-    actors: u32,
-) -> Result<(Lives<CpuStory>, Vec<Keeper<CpuStory>>, Vec<Seats<CpuStory>>), NoMemory>
+fn make_cpus(alloc: Global, params: &Params, actors: u32) -> Result<SetUp<CpuStory>, NoMemory>
     requires actors { (actors ≡ actor_count params.now) × (1 ≤ actors) }
-    ensures { IfOk result (λ made. AreSetUp IsJournal params.now params.now.cpus made.0 made.1.items made.2.items) }
+    ensures { IfOk result (λ made. AreSetUp IsJournal params.now params.now.cpus made.lives made.keepers.items made.seats.items) }
 {
     make_places(alloc, params, params.cpus, actors)
 }
 
-/// The places of a service, what each of its CPUs has before the locks, and each actor's passes.
+/// A service before its locks, of these callouts and CPUs, and each actor's passes of it.
 fn join_fresh(
     alloc: Global,
-    params: &Params,
+    params: Params,
     actors: u32,
-    callouts: (
-        Lives<TimerStory>,
-        Vec<Keeper<TimerStory>>,
-        Vec<Seats<TimerStory>>,
-    ),
-    cpus: (Lives<CpuStory>, Vec<Keeper<CpuStory>>, Vec<Seats<CpuStory>>),
-) -> Result<(Places, Vec<DeskParts>, Seq<Passes>), NoMemory>
-    requires params { AreParams params.now }
-    requires actors { actors ≡ actor_count params.now }
-    requires callouts { AreSetUp IsHistory params.now (length params.now.specs) callouts.0 callouts.1.items callouts.2.items }
-    requires cpus { AreSetUp IsJournal params.now params.now.cpus cpus.0 cpus.1.items cpus.2.items }
-    ensures { IfOk result (λ made. AreJoined made.0 params.now made.1.items made.2) }
+    callouts: SetUp<TimerStory>,
+    cpus: SetUp<CpuStory>,
+) -> Result<(Fresh, Seq<Passes>), NoMemory>
+    requires params { AreParams params }
+    requires actors { actors ≡ actor_count params }
+    requires callouts { AreSetUp IsHistory params (length params.specs) callouts.lives callouts.keepers.items callouts.seats.items }
+    requires cpus { AreSetUp IsJournal params params.cpus cpus.lives cpus.keepers.items cpus.seats.items }
+    ensures { IfOk result (λ made. IsFreshlyMade params made.0 made.1) }
 {
-    let (lives, timers, timer_seats) = callouts;
-    let (wheels, journals, cpu_seats) = cpus;
-    let places = Places::new(lives, wheels);
-    let passes = join_all(alloc, params, &places, actors, timer_seats, cpu_seats)?;
-    let all_parts = make_all_parts(alloc, params, &places, timers, journals)?;
-    Ok((places, all_parts, passes))
+    let places = Places::new(callouts.lives, cpus.lives);
+    let passes = join_all(alloc, &params, &places, actors, callouts.seats, cpus.seats)?;
+    let all_parts = make_all_parts(alloc, &params, &places, callouts.keepers, cpus.keepers)?;
+    let fresh = Fresh {
+        places,
+        params,
+        all_parts,
+    };
+    Ok((fresh, passes))
 }
 
 /// A service of these parameters before its locks, and each actor's passes of it.
@@ -117,13 +99,7 @@ fn make_fresh(alloc: Global, params: Params) -> Result<(Fresh, Seq<Passes>), NoM
     let actors = count_actors(&params);
     let callouts = make_callouts(alloc, &params, actors)?;
     let cpus = make_cpus(alloc, &params, actors)?;
-    let (places, all_parts, passes) = join_fresh(alloc, &params, actors, callouts, cpus)?;
-    let fresh = Fresh {
-        places,
-        params,
-        all_parts,
-    };
-    Ok((fresh, passes))
+    join_fresh(alloc, params, actors, callouts, cpus)
 }
 
 impl Fresh {

@@ -4,11 +4,10 @@ use crate::seats::Lives;
 use crate::{CpuStory, Line, Name, Passes, TimerStory};
 use co_life::{Keeper, Life, Story};
 use co_object::{Entry, QEntry};
-use std::sync::Wait;
 
 /// A kind of places: their story, and where an actor's passes of them stand.
 pub(crate) trait Kind<E: Drop>: Story<Entry = Line<E>> + Sized {
-    ghost use Rattle.std.specs.Prelude.{◌≡◌};
+    ghost use Rattle.std.specs.Prelude.{◌≡◌, IfSome};
     ghost use Rattle.std.specs.declared.option.Option.TheVariants.{Some};
     ghost use Rattle.co_service.specs.declared.params.Params.{Params};
     ghost use Rattle.co_service.specs.Closing.{IsMeeting, IsMet};
@@ -40,9 +39,9 @@ pub(crate) trait Kind<E: Drop>: Story<Entry = Line<E>> + Sized {
         requires opened { (params : Params) × (opening_of keeper.old.history ≡ Some (params, i)) }
         ensures { IsMeeting keeper.old keeper.new passes.old passes.new (IsMet kind i keeper.old passes.old) };
 
-    /// Takes the keeper of place `i` from the books where it is. It is asked for again where none has it.
-    fn take_at<N: Name, R: Wait>(rt: &R, books: &mut Vec<Books<N>>, i: u32) -> Keeper<Self>
-        ensures { (params : Params) × IsKeeperOf kind.Legal (kind.lives N.name) params i result };
+    /// Takes the keeper of place `i` from the books where it is. None where none has it.
+    fn take_at<N: Name>(books: &mut Vec<Books<N>>, i: u32) -> Option<Keeper<Self>>
+        ensures { IfSome result (λ keeper. (params : Params) × IsKeeperOf kind.Legal (kind.lives N.name) params i keeper) };
 }
 
 impl Kind<Entry> for TimerStory {
@@ -73,16 +72,14 @@ impl Kind<Entry> for TimerStory {
         passes.timers.meet(life, keeper, i);
     }
 
-    fn take_at<N: Name, R: Wait>(rt: &R, books: &mut Vec<Books<N>>, i: u32) -> Keeper<TimerStory> {
-        for _ in rt.forever() {
-            for at in 0..books.len() {
-                let one = &mut books[at];
-                if one.has(i) {
-                    return one.take(i);
-                }
+    fn take_at<N: Name>(books: &mut Vec<Books<N>>, i: u32) -> Option<Keeper<TimerStory>> {
+        for at in 0..books.len() {
+            let one = &mut books[at];
+            if one.has(i) {
+                return Some(one.take(i));
             }
         }
-        unreachable!()
+        None
     }
 }
 
@@ -109,14 +106,12 @@ impl Kind<QEntry> for CpuStory {
         passes.cpus.meet(life, keeper, i);
     }
 
-    fn take_at<N: Name, R: Wait>(rt: &R, books: &mut Vec<Books<N>>, i: u32) -> Keeper<CpuStory> {
-        for _ in rt.forever() {
-            for at in 0..books.len() {
-                if books[at].cpu() == i {
-                    return books.swap_remove(at).into_journal();
-                }
+    fn take_at<N: Name>(books: &mut Vec<Books<N>>, i: u32) -> Option<Keeper<CpuStory>> {
+        for at in 0..books.len() {
+            if books[at].cpu() == i {
+                return Some(books.swap_remove(at).into_journal());
             }
         }
-        unreachable!()
+        None
     }
 }

@@ -3,7 +3,7 @@ use co_object::Spec;
 use co_sbt::Seq;
 
 /// What is fixed of a service when it is booted. The limits are our own.
-#[derive(Debug, Drop)]
+#[derive(Drop)]
 pub struct Params {
     /// The version of what it does, 1 or 2 (our own). From 2 on a CPU's interrupt scans, and services the direct
     /// callouts.

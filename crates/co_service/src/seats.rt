@@ -4,7 +4,7 @@ ghost use Rattle.std.specs.List.{All};
 ghost use Rattle.co_life.specs.Views.{};
 ghost use Rattle.co_service.specs.Seats.{IsAt, IsCompared, IsWritten, fresh_seats};
 
-use crate::boot::apart;
+use crate::boot::{apart, push};
 use co_life::{Keeper, Life, Pass, Story};
 use co_sbt::NoMemory;
 use std::alloc::Global;
@@ -42,10 +42,7 @@ impl<S: Story> Lives<S> {
     pub(crate) fn push(&mut self, life: Life<S>) -> Result<(), NoMemory>
         ensures { OnOk result (self.new ≡ self.old ++ life ∷ []) }
     {
-        match self.lives.push(life) {
-            Ok(()) => Ok(()),
-            Err(_) => Err(NoMemory {}),
-        }
+        push(&mut self.lives, life)
     }
 
     /// The lives, in the order of their places.
@@ -53,13 +50,6 @@ impl<S: Story> Lives<S> {
         ensures { result.items ≡ self }
     {
         self.lives
-    }
-
-    /// How many there are.
-    pub(crate) fn len(&self) -> usize
-        ensures { result ≡ length self.now }
-    {
-        self.lives.len()
     }
 
     /// The life of a place.
@@ -116,10 +106,7 @@ impl<S: Story> Seats<S> {
         requires { pass.actor ≡ self.old.actor }
         ensures { OnOk result (self.new ≡ record self.old { name = self.old.name ++ pass.life ∷ []; seen = self.old.seen ++ pass.seen ∷ [] }) }
     {
-        match self.passes.push(Some(pass)) {
-            Ok(()) => Ok(()),
-            Err(_) => Err(NoMemory {}),
-        }
+        push(&mut self.passes, Some(pass))
     }
 
     /// Writes an entry of the actor at a place, with its pass of that place. The other passes stay.

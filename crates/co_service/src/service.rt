@@ -12,7 +12,7 @@ ghost use Rattle.co_service.specs.Params.{AreParams, actors_of, spec_at};
 ghost use Rattle.co_service.specs.Services.{IsBegun, IsLanded, IsServing};
 ghost use Rattle.co_service.specs.Serving.{Waits};
 ghost use Rattle.co_service.specs.Views.{AreOf};
-ghost use Rattle.co_service.specs.Kept.{Keeps, KeepsBegun, MayLand};
+ghost use Rattle.co_service.specs.Kept.{IsAsked, Keeps, KeepsBegun, MayLand, MayScan};
 
 use crate::closing::{Closing, Ending, check_each, end_all};
 use crate::desk::Desk;
@@ -147,6 +147,30 @@ impl<N: Name> Service<N> {
         unreachable!()
     }
 
+    /// A scan on the CPU's desk, by its lock. None where the desk is of another CPU.
+    #[inline(always)]
+    fn scan_locked<R: Wait>(
+        &self,
+        rt: &R,
+        passes: &mut Passes,
+        cpu: u32,
+        act: u64,
+        now: Sbt,
+    ) -> Option<Scanned>
+        requires { MayScan N.name self.now passes.old cpu }
+        ensures { IsAsked passes.old result (λ out. IsScan passes.old cpu act now out passes.new) passes.new }
+    {
+        let locked = &self.desks[cpu as usize];
+        let out = locked
+            .desk
+            .lock(rt)
+            .scan(&self.places, passes, cpu, act, now);
+        if out.is_some() {
+            locked.changed.notify_all();
+        }
+        out
+    }
+
     /// What is due at this CPU has come due. It waits for the desk's lock.
     ///
     /// The passes are those of the actor that scans this CPU: its own, and from version 2 on its interrupt. It still has in
@@ -166,13 +190,7 @@ impl<N: Name> Service<N> {
         ensures kept { Keeps N.name self.now passes.old passes.new }
     {
         for _ in rt.forever() {
-            let locked = &self.desks[cpu as usize];
-            let out = locked
-                .desk
-                .lock(rt)
-                .scan(&self.places, passes, cpu, act, now);
-            if let Some(out) = out {
-                locked.changed.notify_all();
+            if let Some(out) = self.scan_locked(rt, passes, cpu, act, now) {
                 return out;
             }
         }

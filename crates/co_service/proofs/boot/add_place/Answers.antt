@@ -1,9 +1,9 @@
-use Rattle.std.proofs.Common.{◌≡◌, ◌+◌, ◌<◌, [], ◌∷◌, ◌++◌, length, sym, ap, ◌∙◌, subst, arith, append_assoc, length-append, vec_len}
+use Rattle.std.proofs.Common.{refl, ◌≡◌, ◌+◌, ◌<◌, [], ◌∷◌, ◌++◌, length, sym, ap, ◌∙◌, subst, arith, append_assoc, length-append, vec_len}
 use Rattle.std.specs.Prelude.{slice_get}
 use Rattle.std.specs.Vec.Iter.{into_iter_items}
 use Rattle.co_life.specs.Views.{pass_view}
 use Rattle.co_service.specs.Seats.{fresh_seats}
-use Rattle.co_service.specs.Booted.{AreSeatedAt, IsSeated}
+use Rattle.co_service.specs.Booted.{AreSeatedAt, IsOpened, IsSeated}
 use Rattle.co_service.proofs.Items.{item_at, get_here, get_or_of}
 use Rattle.co_service.proofs.Signing.{seated_more, all_more, keeper_kept}
 use Rattle.co_service.proofs.boot.add_place.Goals as goal
@@ -71,3 +71,15 @@ add-requires g c =
     let within : at.actor < length at.seats.items = (let n = i.seats.count in omega arith) in
     let was : AreSeatedAt p lives at.actor one = subst (AreSeatedAt p lives at.actor) (get_or_of at.seats.items at.actor (fresh_seats [] 0) one (get_here at.seats.items at.actor one within c.index_mut-one.ensures.value)) (i.seats.behind at.actor (omega arith) few) in
     ap (λ q. q.actor) s.pass ∙ (ap (λ q. q.actor) fresh ∙ sym was.actor_is)
+
+pub loop-pass-init : goal.loop-pass-init
+loop-pass-init g c =
+    let gives = c.into_iter-pass-iterator.ensures.into_iter_gives in
+    record {
+      yields = refl;
+      left = (let a = ap length gives.0 in let b = gives.1 in let m = c.args.passes.ok.0 in omega arith);
+      at = refl;
+      keeper = refl;
+      opened = subst (IsOpened c.args.params.now c.args.place 0) (sym c.requires.keeper.1) record { carry = tt; nothing = refl; count = refl };
+      seats = c.requires.seats.seats;
+    }

@@ -16,6 +16,6 @@ returns g c =
     record {
       keeper = search rules;
       opened = opened;
-      pass = search rules;
+      pass = c.write.ensures.pass;
       seated = opened_seated c.args.params.now c.args.place c.args.actor c.write.new.keeper.history opened;
     }

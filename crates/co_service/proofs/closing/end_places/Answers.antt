@@ -6,7 +6,8 @@ use Rattle.std.proofs.lemmas.Grind.{common_steps}
 use Rattle.std.proofs.lemmas.List.{length-map}
 use Rattle.co_service.specs.Closing.{EndEach, Ends}
 use Rattle.co_service.specs.Lines.{made}
-use Rattle.co_service.proofs.Items.{each_place, map_more}
+use Rattle.co_service.specs.Views.{PassesView}
+use Rattle.co_service.proofs.Items.{each_place, get_mid, map_more}
 use Rattle.co_service.proofs.closing.end_places.Goals as goal
 
 pub loop-life-preserved : goal.loop-life-preserved
@@ -37,3 +38,31 @@ returns g c = record {
   count = grind (arith, common_steps);
   ends = subst (λ l. EndEach g.S.Kind.kind c.args.passes.now.items (map made l)) (sym c.into_seq.ensures) c.loop-life.invariant.ends;
 }
+
+pub loop-life-init : goal.loop-life-init
+loop-life-init g c =
+    let gives = c.into_iter-life-iterator.ensures.into_iter_gives in
+    record {
+      yields = λ _. into_iter_items c.into_iter-life-iterator.result;
+      left = (let a = ap length gives.0 in let b = gives.1 in let m = c.into_vec-life-items.result.ok.0 in omega arith);
+      at = λ _. 0;
+      passes = λ _. c.args.passes.now.items;
+      count = ap length c.requires.may.empty;
+      spare = (let a = ap length gives.0 in let b = ap length (c.into_vec-life-items.ensures ∙ c.requires.may.lives_are) in let s = c.requires.may.spare in omega arith);
+      ends = λ k H is. (let none = ap (λ l. slice_get (map made l) k) (sym c.requires.may.empty) ∙ is in absurd (cc));
+    }
+
+pub end_place-closed-requires-clause-at : goal.end_place-closed-requires-clause-at
+end_place-closed-requires-clause-at g c =
+    let at = c.loop-life in
+    let x = c.in-Some.life in
+    let rest = into_iter_items c.next.new.self in
+    let steps : into_iter_items at.life-iterator ≡ x ∷ rest = c.in-Some.ensures.steps.0 in
+    let all = ap (λ l. at.yielded ++ l) (sym steps) ∙ (at.invariant.yields ∙ (c.into_iter-life-iterator.ensures.into_iter_gives.0 ∙ (c.into_vec-life-items.ensures ∙ c.requires.may.lives_are))) in
+    ap (λ l. slice_get l at.i) (sym all) ∙ (ap (slice_get (at.yielded ++ x ∷ rest)) at.invariant.at ∙ get_mid at.yielded x rest)
+
+pub end_place-closed-requires-clause-passes : goal.end_place-closed-requires-clause-passes
+end_place-closed-requires-clause-passes g c = subst (All (λ (q : PassesView). q.name ≡ g.N.Name.name)) (sym c.loop-life.invariant.passes) c.requires.passes
+
+pub push-requires : goal.push-requires
+push-requires g c = let short = ap length c.in-Some.ensures.steps.0 in let s = c.loop-life.invariant.spare in omega arith

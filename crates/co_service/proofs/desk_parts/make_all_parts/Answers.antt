@@ -39,7 +39,7 @@ loop-journal-preserved c =
     let name = c.args.places.now in
     let p = c.args.params.now in
     let steps : into_iter_items at.journal-iterator ≡ x ∷ into_iter_items c.next.new.self = c.in-Some.ensures.steps.0 in
-    let more : c.push.new.items.items ≡ at.all_parts.items ++ b ∷ [] = c.in_ok-push.ensures in
+    let more : c.push.new.items.items ≡ at.all_parts.items ++ b ∷ [] = c.in_ok-push.ensures.pushed in
     record {
       yields = append_assoc at.yielded (x ∷ []) _ ∙ rw (← steps) i.yields;
       left = (let was = i.left in let gone = c.in-Some.ensures.steps.1 in let short = ap length steps in omega arith);

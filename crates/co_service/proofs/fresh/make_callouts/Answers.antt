@@ -12,5 +12,5 @@ pub returns : goal.returns
 returns c =
     let p = c.args.params.now in
     IfOk-weaker c.make_places.result _ _
-    (λ made is. subst (λ n. AreSetUp IsHistory p n made.0 made.1.items made.2.items) (ap length c.as_slice.ensures)
-    (set_up IsHistory p _ c.args.actors made.0 made.1.items made.2.items (no_history p) c.requires.actors.0 c.requires.actors.1 is)) c.make_places.ensures
+    (λ made is. subst (λ n. AreSetUp IsHistory p n made.lives made.keepers.items made.seats.items) (ap length c.as_slice.ensures)
+    (set_up IsHistory p _ c.args.actors made.lives made.keepers.items made.seats.items (no_history p) c.requires.actors.0 c.requires.actors.1 is)) c.make_places.ensures

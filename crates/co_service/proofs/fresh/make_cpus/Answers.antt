@@ -9,4 +9,4 @@ make_places-requires-clause-may c = λ i. record { legal = λ h n is. story_open
 pub returns : goal.returns
 returns c =
     let p = c.args.params.now in
-    IfOk-weaker c.make_places.result _ _ (λ made is. set_up IsJournal p _ c.args.actors made.0 made.1.items made.2.items (no_journal p) c.requires.actors.0 c.requires.actors.1 is) c.make_places.ensures
+    IfOk-weaker c.make_places.result _ _ (λ made is. set_up IsJournal p _ c.args.actors made.lives made.keepers.items made.seats.items (no_journal p) c.requires.actors.0 c.requires.actors.1 is) c.make_places.ensures

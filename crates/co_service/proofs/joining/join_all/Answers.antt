@@ -49,3 +49,11 @@ loop-actor-preserved c =
       timers = left_after p c.args.places.now.timers c.args.actors at.actor at.timers.items c.replace-callouts.new.dest at.invariant.timers;
       cpus = left_after p c.args.places.now.cpus c.args.actors at.actor at.cpus.items c.replace-wheels.new.dest at.invariant.cpus;
     }
+
+pub join-requires-clause-cpus : goal.join-requires-clause-cpus
+join-requires-clause-cpus c =
+    let at = c.loop-actor in
+    let one = c.index_mut-in-loop-actor.result.now in
+    let within : at.actor < length at.cpus.items = (let n = at.invariant.cpus.count in let t = c.loop-actor-test.true in omega arith) in
+    let was : AreSeatedAt c.args.params.now c.args.places.now.cpus at.actor one = subst (AreSeatedAt c.args.params.now c.args.places.now.cpus at.actor) (get_or_of at.cpus.items at.actor (fresh_seats [] 0) one (get_here at.cpus.items at.actor one within c.index_mut-in-loop-actor.ensures.value)) (at.invariant.cpus.left at.actor (omega arith) (omega arith)) in
+    seated_own c.args.params.now c.args.places.now.cpus at.actor c.replace-wheels.result (subst (AreSeatedAt c.args.params.now c.args.places.now.cpus at.actor) (sym c.replace-wheels.ensures.value) was)

@@ -25,5 +25,15 @@ loop-parts-preserved g c =
       yields = append_assoc at.yielded (x ∷ []) _ ∙ rw (← steps) i.yields;
       left = (let was = i.left in let gone = c.in-Some.ensures.steps.1 in let short = ap length steps in omega arith);
       at = ap (λ n. n + 1) i.at ∙ sym (length-append at.yielded (x ∷ []));
-      count = (let was = i.count in let e = ap length c.in_ok-push.ensures ∙ length-append at.desks.items _ in let m = c.push.new.items.ok.0 in let n = at.desks.ok.0 in omega arith);
+      count = (let was = i.count in let e = ap length c.in_ok-push.ensures.pushed ∙ length-append at.desks.items _ in let m = c.push.new.items.ok.0 in let n = at.desks.ok.0 in omega arith);
+    }
+
+pub loop-parts-init : goal.loop-parts-init
+loop-parts-init g c =
+    let gives = c.into_iter-parts-iterator.ensures.into_iter_gives in
+    record {
+      yields = λ _. into_iter_items c.into_iter-parts-iterator.result;
+      left = (let a = ap length gives.0 in let b = gives.1 in let m = c.args.all_parts.ok.0 in omega arith);
+      at = λ _. 0;
+      count = (let none = ap length c.new-desks.ensures.items in let m = c.new-desks.result.ok.0 in omega arith);
     }

@@ -1,5 +1,6 @@
-use Rattle.std.proofs.Common.{sym, ap, ◌∙◌}
+use Rattle.std.proofs.Common.{sym, ap, ◌∙◌, arith}
 use Rattle.co_service.specs.Name.{ServiceName}
+use Rattle.co_service.proofs.BooksKept.{below_here}
 use Rattle.co_service.proofs.BooksWritten.{timer_keeper, timer_legal, timer_back, timer_books, timer_noted}
 use Rattle.co_service.proofs.books.Books.write_timer.Goals as goal
 
@@ -21,3 +22,9 @@ returns g c = record {
 
 pub write_at-requires-clause-name : goal.write_at-requires-clause-name
 write_at-requires-clause-name g c = ap (λ (n : ServiceName). n.timers) c.requires.together.here.passes_are ∙ sym (c.timers.ensures ∙ ap (λ (n : ServiceName). n.timers) c.requires.together.here.places_are)
+
+pub index_mut-requires : goal.index_mut-requires
+index_mut-requires g c =
+    let here = below_here g.N.Name.name c.self.inside.params.value c.self.inside.cpu c.self.inside.keepers.items c.self.inside.journal c.args.self.now c.self.invariant c.self.view_is c.args.i c.requires.here in
+    let n = c.self.inside.keepers.ok.0 in
+    omega arith

@@ -10,6 +10,8 @@ use Rattle.co_service.specs.May.{MayHappen}
 use Rattle.co_service.specs.Outcomes.{noted_entry}
 use Rattle.co_service.specs.Services.{run_entry}
 use Rattle.co_service.specs.Serving.{Waits}
+use Rattle.co_service.specs.Views.{PassesView}
+use Rattle.co_service.specs.Written.{AreHere, AreTogether}
 use Rattle.co_service.proofs.MetDesk.{Meets, here_kept, served_after, serves_one, serves_some}
 use Rattle.co_service.proofs.ServiceSection.{IsServed, begun_desk, begun_told, may_begin_here, may_write_begin}
 use Rattle.co_service.proofs.desk.Desk.begin.Goals as goal
@@ -61,3 +63,18 @@ pub unreachable-requires : goal.unreachable-requires
 unreachable-requires g c =
     let met : Meets c.self.inside.wheel c.self.inside.books c.self.inside.scans c.args.cpu c.args.passes.now = record { desk = c.self.invariant; legal = c.meet.ensures.legal; shown = c.meet.ensures.shown; params = c.meet.ensures.params; here = (let n = c.cpu.ensures in let f = c.if-cpu.false in omega arith) } in
     serves_some c.self.inside.wheel c.self.inside.books c.self.inside.scans c.args.cpu c.args.passes.now met false c.requires.serves.0 (Waits c.requires.serves.0.n) c.requires.serves.1 c.in_default.ensures.which
+
+pub meet_timer-requires-clause-service : goal.meet_timer-requires-clause-service
+meet_timer-requires-clause-service g c = subst (AreHere g.N.Name.name c.args.places.now) (sym c.meet.ensures.passes) c.requires.service
+
+pub meet_timer-requires-clause-here : goal.meet_timer-requires-clause-here
+meet_timer-requires-clause-here g c = here_kept c.self.inside.wheel c.self.inside.books c.meet.new.self c.self.inside.scans c.in-Some.i c.self.invariant c.meet.ensures.kept c.in-Some.ensures.here
+
+pub enter_run-pos-requires-clause-together : goal.enter_run-pos-requires-clause-together
+enter_run-pos-requires-clause-together g c =
+    let passes = c.meet_timer.ensures.passes ∙ c.meet.ensures.passes in
+    let kept = c.meet_timer.ensures.kept ∙ c.meet.ensures.kept in
+    subst (λ (t : PassesView × BooksView). AreTogether g.N.Name.name c.args.places.now t.0 t.1) (λ k. (sym passes k, sym kept k)) record { here = c.requires.service; params_are = c.meet.ensures.params }
+
+pub enter_run-pos-requires-clause-here : goal.enter_run-pos-requires-clause-here
+enter_run-pos-requires-clause-here g c = here_kept c.self.inside.wheel c.self.inside.books c.meet_timer.new.self c.self.inside.scans c.in-Some.i c.self.invariant (c.meet_timer.ensures.kept ∙ c.meet.ensures.kept) c.in-Some.ensures.here

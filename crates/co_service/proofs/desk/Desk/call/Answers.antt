@@ -11,6 +11,7 @@ use Rattle.co_service.specs.Call.{IsAnswer, due_named, number_accepted, told_not
 use Rattle.co_service.specs.Desk.{IsDesk}
 use Rattle.co_service.specs.Moving.{IsOfService, MayDepart, MovingView, departed, moving_from, target_of}
 use Rattle.co_service.specs.Views.{PassesView}
+use Rattle.co_service.specs.Written.{AreTogether}
 use Rattle.co_service.proofs.CallSection.{answer_section, desk_section, leaves_nothing, may_section, off_here, owes_section, reply_here, service_section}
 use Rattle.co_service.proofs.ServedDesk.{some_of}
 use Rattle.co_service.proofs.desk.Desk.call.Goals as goal
@@ -19,7 +20,7 @@ pub write_group-requires-clause-may : goal.write_group-requires-clause-may
 write_group-requires-clause-may g c =
     let desk : IsDesk c.self.inside.wheel c.meet.new.self c.self.inside.scans = subst (λ b. IsDesk c.self.inside.wheel b c.self.inside.scans) (sym c.meet.ensures.kept) c.self.invariant in
     let same : is_kept c.meet.new.self c.args.i ≡ is_kept c.self.inside.books c.args.i = ap (λ (b : BooksView). is_kept b c.args.i) c.meet.ensures.kept in
-    let here : (H : List Entry) × (history_at c.meet.new.self c.args.i ≡ Some H) = some_of (history_at c.meet.new.self c.args.i) (cc) in
+    let here : (H : List Entry) × (history_at c.meet.new.self c.args.i ≡ Some H) = some_of (history_at c.meet.new.self c.args.i) (same ∙ (sym c.has.ensures ∙ c.if-not-has.false)) in
     let at = c.self.inside.scans in
     record {
       here = ap is_some here.1;
@@ -33,7 +34,7 @@ pub depart-requires-clause-may : goal.depart-requires-clause-may
 depart-requires-clause-may g c =
     let desk : IsDesk c.self.inside.wheel c.meet.new.self c.self.inside.scans = subst (λ b. IsDesk c.self.inside.wheel b c.self.inside.scans) (sym c.meet.ensures.kept) c.self.invariant in
     let same : is_kept c.meet.new.self c.args.i ≡ is_kept c.self.inside.books c.args.i = ap (λ (b : BooksView). is_kept b c.args.i) c.meet.ensures.kept in
-    let here : (H : List Entry) × (history_at c.meet.new.self c.args.i ≡ Some H) = some_of (history_at c.meet.new.self c.args.i) (cc) in
+    let here : (H : List Entry) × (history_at c.meet.new.self c.args.i ≡ Some H) = some_of (history_at c.meet.new.self c.args.i) (same ∙ (sym c.has.ensures ∙ c.if-not-has.false)) in
     let out = c.write_group.ensures.out in
     let number : c.number-n.result ≡ number_accepted c.call_into.new.out.reply = c.number-n.ensures ∙ ap (λ (o : CallOut). number_accepted o.reply) out in
     subst (λ (t : ℕ × ℕ × Option Parcel). MayDepart c.write_group.new.books t.0 t.1 t.2) (λ d. (sym number d, sym c.time.ensures d, sym (ap (λ (o : CallOut). o.leaves) out) d))
@@ -43,7 +44,7 @@ pub invariant_of-self : goal.invariant_of-self
 invariant_of-self g c =
     let desk : IsDesk c.self.inside.wheel c.meet.new.self c.self.inside.scans = subst (λ b. IsDesk c.self.inside.wheel b c.self.inside.scans) (sym c.meet.ensures.kept) c.self.invariant in
     let same : is_kept c.meet.new.self c.args.i ≡ is_kept c.self.inside.books c.args.i = ap (λ (b : BooksView). is_kept b c.args.i) c.meet.ensures.kept in
-    let here : (H : List Entry) × (history_at c.meet.new.self c.args.i ≡ Some H) = some_of (history_at c.meet.new.self c.args.i) (cc) in
+    let here : (H : List Entry) × (history_at c.meet.new.self c.args.i ≡ Some H) = some_of (history_at c.meet.new.self c.args.i) (same ∙ (sym c.has.ensures ∙ c.if-not-has.false)) in
     let goes = ap (λ (o : CallOut). o.leaves) c.write_group.ensures.out in
     subst (λ b. IsDesk c.call_into.new.self b c.self.inside.scans) (sym (c.depart.ensures.books ∙ ap (departed c.write_group.new.books) goes))
     (desk_section c.self.inside.wheel c.call_into.new.self c.meet.new.self c.self.inside.scans c.args.i c.args.op.now c.call_into.new.out here.0 desk here.1 c.call_into.ensures c.meet.new.passes c.args.act c.write_group.new.books c.write_group.ensures.books
@@ -66,7 +67,7 @@ returns-clause-tried g c = record {
       let answer = c.call_into.new.out in
       let desk : IsDesk w b at = subst (λ b. IsDesk w b at) (sym c.meet.ensures.kept) c.self.invariant in
       let same : is_kept b i ≡ is_kept c.self.inside.books i = ap (λ (b : BooksView). is_kept b i) c.meet.ensures.kept in
-      let here : (H : List Entry) × (history_at b i ≡ Some H) = some_of (history_at b i) (cc) in
+      let here : (H : List Entry) × (history_at b i ≡ Some H) = some_of (history_at b i) (same ∙ (sym c.has.ensures ∙ c.if-not-has.false)) in
       let params : b.params ≡ p.params = ap (λ (b : BooksView). b.params) c.meet.ensures.kept ∙ c.meet.ensures.params in
       let out = c.write_group.ensures.out in
       let number : c.number-n.result ≡ number_accepted answer.reply = c.number-n.ensures ∙ ap (λ (o : CallOut). number_accepted o.reply) out in
@@ -81,3 +82,8 @@ returns-clause-tried g c = record {
         room = λ some. c.write_group.ensures.room (leaves_nothing w w' b at i op answer here.0 desk here.1 c.call_into.ensures b' (number_accepted answer.reply) (due_named op) (ap is_some (sym moves) ∙ some));
       };
 }
+
+pub write_group-requires-clause-together : goal.write_group-requires-clause-together
+write_group-requires-clause-together g c =
+    let met = c.meet.ensures in
+    subst (λ (t : PassesView × BooksView). AreTogether g.N.Name.name c.args.places.now t.0 t.1) (λ d. (sym met.passes d, sym met.kept d)) record { here = c.requires.service; params_are = met.params }

@@ -16,6 +16,8 @@ use Rattle.co_service.specs.Params.{directs}
 use Rattle.co_service.specs.Services.{next_due, next_number, run_entry}
 use Rattle.co_service.specs.Serving.{Runs}
 use Rattle.co_service.specs.Views.{PassesView}
+use Rattle.co_service.specs.Written.{AreHere, AreTogether}
+use Rattle.co_service.proofs.GroupWritten.{entry_same, still_together}
 use Rattle.co_service.proofs.EndSection.{ended_told, freed_desk, freed_may, freed_possible, freed_service, freed_target, may_end_here, may_write_end}
 use Rattle.co_service.proofs.MetDesk.{Meets, here_kept, served_after, serves_one, serves_some}
 use Rattle.co_service.proofs.ServiceSection.{IsServed, frees_actor}
@@ -101,3 +103,30 @@ pub unreachable-requires : goal.unreachable-requires
 unreachable-requires g c =
     let met : Meets c.self.inside.wheel c.self.inside.books c.self.inside.scans c.args.cpu c.args.passes.now = record { desk = c.self.invariant; legal = c.meet.ensures.legal; shown = c.meet.ensures.shown; params = c.meet.ensures.params; here = (let n = c.cpu.ensures in let f = c.if-cpu.false in omega arith) } in
     serves_some c.self.inside.wheel c.self.inside.books c.self.inside.scans c.args.cpu c.args.passes.now met c.args.direct c.requires.serves.0 (Runs c.requires.serves.0.n) c.requires.serves.1 c.in_default.ensures.which
+
+pub meet_timer-requires-clause-service : goal.meet_timer-requires-clause-service
+meet_timer-requires-clause-service g c = subst (AreHere g.N.Name.name c.args.places.now) (sym c.meet.ensures.passes) c.requires.service
+
+pub meet_timer-requires-clause-here : goal.meet_timer-requires-clause-here
+meet_timer-requires-clause-here g c = here_kept c.self.inside.wheel c.self.inside.books c.meet.new.self c.self.inside.scans c.in-Some.i c.self.invariant c.meet.ensures.kept c.in-Some.ensures.here
+
+pub enter_run-entry-requires-clause-together : goal.enter_run-entry-requires-clause-together
+enter_run-entry-requires-clause-together g c =
+    let passes = c.meet_timer.ensures.passes ∙ c.meet.ensures.passes in
+    let kept = c.meet_timer.ensures.kept ∙ c.meet.ensures.kept in
+    subst (λ (t : PassesView × BooksView). AreTogether g.N.Name.name c.args.places.now t.0 t.1) (λ k. (sym passes k, sym kept k)) record { here = c.requires.service; params_are = c.meet.ensures.params }
+
+pub enter_run-entry-requires-clause-here : goal.enter_run-entry-requires-clause-here
+enter_run-entry-requires-clause-here g c = here_kept c.self.inside.wheel c.self.inside.books c.meet_timer.new.self c.self.inside.scans c.in-Some.i c.self.invariant (c.meet_timer.ensures.kept ∙ c.meet.ensures.kept) c.in-Some.ensures.here
+
+pub write_turn-freed-requires-clause-together : goal.write_turn-freed-requires-clause-together
+write_turn-freed-requires-clause-together g c =
+    let p = c.meet_timer.new.passes in
+    let q = c.enter_run-entry.new.passes in
+    let b = c.meet_timer.new.self in
+    let b' = c.enter_run-entry.new.books in
+    let passes = c.meet_timer.ensures.passes ∙ c.meet.ensures.passes in
+    let kept = c.meet_timer.ensures.kept ∙ c.meet.ensures.kept in
+    let together = subst (λ (t : PassesView × BooksView). AreTogether g.N.Name.name c.args.places.now t.0 t.1) (λ k. (sym passes k, sym kept k)) record { here = c.requires.service; params_are = c.meet.ensures.params } in
+    still_together g.N.Name.name c.args.places.now p q b b' together
+    (entry_same p q b b' c.in-Some.i c.enter_run-entry.result (run_entry p c.args.act (End c.in-Some.n c.args.cpu) c.end_into.new.out.reply) c.enter_run-entry.ensures) (ap (λ (v : BooksView). v.params) c.enter_run-entry.ensures.books)

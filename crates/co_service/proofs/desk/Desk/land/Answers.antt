@@ -1,20 +1,27 @@
-use Rattle.std.proofs.Common.{◌≡◌, ℕ, length, List, [], ◌∷◌, ◌++◌, refl, sym, ap, ◌∙◌, subst, arith}
+use Rattle.std.proofs.Common.{◌≡◌, ℕ, length, List, Bool, [], ◌∷◌, ◌++◌, refl, sym, ap, ◌∙◌, subst, arith}
 use Rattle.std.specs.Prelude.{slice_set}
 use Rattle.std.specs.declared.option.Option.TheVariants.{Some}
 use Rattle.co_object.specs.declared.note.Entry.{Entry}
+use Rattle.co_object.specs.declared.alone.Alone.{Alone}
+use Rattle.co_object.specs.Scan.{is_direct}
 use Rattle.co_object.specs.declared.queue.QOp.{QOp}
 use Rattle.co_object.specs.declared.queue.QReply.{QReply}
 use Rattle.co_object.specs.declared.queue.QOp.TheVariants.{Insert}
 use Rattle.co_object.specs.declared.queue.QReply.TheVariants.{At}
-use Rattle.co_service.specs.Books.{BooksView, is_kept, with_history}
+use Rattle.co_service.specs.Books.{BooksView, history_at, is_kept, with_history}
+use Rattle.co_wheel.specs.Callouts.{callout}
+use Rattle.co_service.specs.declared.params.Params.{Params}
 use Rattle.co_service.specs.Desk.{IsDesk, alone_after}
 use Rattle.co_service.specs.Lines.{made}
 use Rattle.co_service.specs.Moving.{MovingView, params_in}
 use Rattle.co_service.specs.declared.told.Inserted.{Inserted}
 use Rattle.co_service.specs.Outcomes.{noted_turn, queue_entry_by}
-use Rattle.co_service.specs.Views.{PassesView}
+use Rattle.co_service.specs.Params.{directs}
+use Rattle.co_service.specs.Stories.{IsHistory}
+use Rattle.co_service.specs.Views.{IsKeeperOf, PassesView}
 use Rattle.co_service.specs.Writes.{Writes}
-use Rattle.co_service.proofs.LandSection.{Comes, landed_desk}
+use Rattle.co_service.proofs.Lanes.{direct_spec}
+use Rattle.co_service.proofs.LandSection.{Comes, absent_at, landed_desk}
 use Rattle.co_service.proofs.Noting.{turn_written}
 use Rattle.co_service.proofs.desk.Desk.land.Goals as goal
 
@@ -66,3 +73,28 @@ returns-clause-landed g c =
           (λ d. (c.meet.ensures.passes d, Insert (c.callout-i.ensures d) (sym (ap (λ (y : Inserted). y.n) told) d) (sym (ap (λ (y : Inserted). y.due) told) d), At (sym (ap (λ (y : Inserted). y.at) told) d)))
           (turn_written c.meet.new.passes c.write_landed.new.passes c.args.act c.put.new.self.cpu x.cpu (Insert c.callout-i.result m.n m.due) (At c.land-at.result) x.pos c.write_landed.new.books.journal (ap (λ (y : Inserted). y.cpu) told) w.written.written);
     }
+
+pub land-at-requires-clause-absent : goal.land-at-requires-clause-absent
+land-at-requires-clause-absent g c =
+    let i : ℕ = c.moving.inside.parcel.i in
+    let b : BooksView = c.self.inside.books in
+    let at_is : c.callout-i.result ≡ i = c.callout-i.ensures ∙ ap (λ (v : MovingView). v.i) (sym c.moving.view_is) in
+    absent_at b.params i (callout c.self.inside.wheel.callouts i) (history_at b i) (c.self.invariant.stand.each i) (ap (is_kept b) (sym at_is) ∙ (sym c.has.ensures ∙ c.if-has.false))
+
+pub land-at-requires-clause-lane : goal.land-at-requires-clause-lane
+land-at-requires-clause-lane g c =
+    let i : ℕ = c.moving.inside.parcel.i in
+    let params : c.moving.invariant.params ≡ c.self.inside.books.params =
+    ap params_in (sym c.moving.invariant.kept.opened) ∙ (ap (λ (v : MovingView). v.params) c.moving.view_is ∙ (c.requires.params ∙ sym c.meet.ensures.params)) in
+    ap (λ (a : Alone). a.spec.direct) c.moving.invariant.callout
+    ∙ (sym (direct_spec c.moving.invariant.params i)
+    ∙ (ap (λ (p : Params). is_direct (directs p) i) params
+    ∙ ap (λ (l : List Bool). is_direct l i) (sym c.self.invariant.of.direct)))
+
+pub put-requires-clause-keeper : goal.put-requires-clause-keeper
+put-requires-clause-keeper g c =
+    let m = c.moving.inside in
+    let at_is : c.callout-i.result ≡ m.parcel.i = c.callout-i.ensures ∙ ap (λ (v : MovingView). v.i) (sym c.moving.view_is) in
+    let params : c.moving.invariant.params ≡ c.meet.new.self.params =
+    ap params_in (sym c.moving.invariant.kept.opened) ∙ (ap (λ (v : MovingView). v.params) c.moving.view_is ∙ (c.requires.params ∙ (sym c.meet.ensures.params ∙ ap (λ (v : BooksView). v.params) (sym c.meet.ensures.kept)))) in
+    subst (λ (t : Params × ℕ). IsKeeperOf IsHistory g.N.Name.name.timers t.0 t.1 m.keeper) (λ d. (params d, sym at_is d)) c.moving.invariant.kept

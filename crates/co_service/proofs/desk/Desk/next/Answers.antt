@@ -4,6 +4,8 @@ use Rattle.co_service.specs.Desk.{IsDesk}
 use Rattle.co_service.specs.Params.{actors_of}
 use Rattle.co_service.specs.Serving.{lane_actor}
 use Rattle.co_service.specs.Views.{PassesView}
+use Rattle.co_service.specs.Written.{AreTogether}
+use Rattle.co_service.specs.Books.{BooksView}
 use Rattle.co_service.proofs.MetDesk.{Meets, free_now, lane_here, meets_then}
 use Rattle.co_service.proofs.NextSection.{may_pick, next_desk, owes_pop}
 use Rattle.co_service.proofs.desk.Desk.next.Goals as goal
@@ -41,3 +43,8 @@ write_taken-requires-clause-owes g c =
     let m = meets_then c.self.inside.wheel c.self.inside.books c.meet.new.self c.self.inside.scans c.args.cpu c.args.passes.now c.meet.new.passes met c.meet.ensures.kept c.meet.ensures.passes in
     let actor = lane_here c.self.inside.wheel c.meet.new.self c.self.inside.scans c.args.cpu c.meet.new.passes m c.args.direct (subst (λ (p : PassesView). p.actor ≡ lane_actor c.args.direct (actors_of p.params) c.args.cpu) (sym c.meet.ensures.passes) c.requires.free.actor) in
     (c.start-out.new.self, owes_pop c.self.inside.wheel c.start-out.new.self c.meet.new.self c.self.inside.scans c.args.direct c.meet.new.passes c.args.act m.desk m.legal actor (next_out c.start-out.result) c.start-out.ensures)
+
+pub write_taken-requires-clause-together : goal.write_taken-requires-clause-together
+write_taken-requires-clause-together g c =
+    let met = c.meet.ensures in
+    subst (λ (t : PassesView × BooksView). AreTogether g.N.Name.name c.args.places.now t.0 t.1) (λ d. (sym met.passes d, sym met.kept d)) record { here = c.requires.service; params_are = met.params }

@@ -7,6 +7,9 @@ use Rattle.co_service.specs.declared.outs.Scanned.{Scanned}
 use Rattle.co_service.specs.Outcomes.{noted_turn, queue_entry_by, IsScan}
 use Rattle.co_service.specs.Kinds.{cpu_kind}
 use Rattle.co_service.specs.Writes.{WritesEntry}
+use Rattle.co_service.specs.Written.{AreTogether}
+use Rattle.co_service.specs.Books.{BooksView}
+use Rattle.co_service.specs.Views.{PassesView}
 use Rattle.co_service.proofs.DeskKept.{scanned_desk}
 use Rattle.co_service.proofs.ScanTold.{scan_told}
 use Rattle.co_service.proofs.desk.Desk.scan.Goals as goal
@@ -35,3 +38,8 @@ returns g c =
       };
       why = tt;
     }
+
+pub write_turn-pos-requires-clause-together : goal.write_turn-pos-requires-clause-together
+write_turn-pos-requires-clause-together g c =
+    let met = c.meet.ensures in
+    subst (λ (t : PassesView × BooksView). AreTogether g.N.Name.name c.args.places.now t.0 t.1) (λ d. (sym met.passes d, sym met.kept d)) record { here = c.requires.service; params_are = met.params }

@@ -1,4 +1,4 @@
-use Rattle.std.proofs.Common.{ℕ, List, sym, ap, ◌∙◌, subst, arith}
+use Rattle.std.proofs.Common.{ℕ, List, sym, ap, ◌∙◌, subst, arith, length-set}
 use Rattle.std.specs.Prelude.{slice_get, slice_set, IsSome}
 use Rattle.co_life.specs.Seen.{Extends}
 use Rattle.co_service.specs.Seats.{seen_at}
@@ -57,3 +57,12 @@ invariant_of-self g c =
     let named = ap (λ l. slice_get l c.args.i) (ap (λ s. s.name) c.self.view_is) ∙ c.requires.place.at in
     let f = found ps c.args.i c.args.life.now _ c.unwrap-pass.result named c.index_mut.ensures.value (sym c.take.ensures.value ∙ c.unwrap-pass.ensures) in
     owned ps c.args.i _ c.write-pass.result.0 c.self.inside.actor c.self.invariant (ap (λ t. t.actor) c.write-pass.ensures.pass ∙ own_at ps c.args.i c.args.life.now c.unwrap-pass.result c.self.inside.actor f c.self.invariant)
+
+pub index_mut-requires-2 : goal.index_mut-requires-2
+index_mut-requires-2 g c =
+    let ps = c.self.inside.passes.items in
+    let named = ap (λ l. slice_get l c.args.i) (ap (λ s. s.name) c.self.view_is) ∙ c.requires.place.at in
+    let here = within ps c.args.i c.args.life.now named in
+    let long = length-set ps c.args.i c.take.new.self in
+    let n = c.self.inside.passes.ok.0 in
+    omega arith

@@ -1,4 +1,4 @@
-use Rattle.std.proofs.Common.{sym, ◌∙◌, subst}
+use Rattle.std.proofs.Common.{sym, ap, ◌∙◌, subst}
 use Rattle.co_service.specs.declared.params.Params.{Params}
 use Rattle.co_service.specs.Kept.{Keeps}
 use Rattle.co_service.specs.Moving.{IsDone}
@@ -24,3 +24,9 @@ returns-then-here g c =
         keeps = subst (λ (r : Params). Keeps g.N.Name.name r p c.land_left.new.passes) same (c.land_left.ensures.kept p c.args.op.now are done);
       };
     }
+
+pub call-here-requires-clause-service : goal.call-here-requires-clause-service
+call-here-requires-clause-service g c = record { places_are = c.self.invariant.same; passes_are = ap (λ (p : PassesView). p.name) c.loop.invariant.0 ∙ c.requires.passes.name_is }
+
+pub loop-preserved : goal.loop-preserved
+loop-preserved g c = let none = c.call-here.ensures.tried.none c.if-here.false in (none.0 ∙ c.loop.invariant.0, none.1, c.next_desk-cpu.ensures, c.self.view_is ∙ c.loop.invariant.3)

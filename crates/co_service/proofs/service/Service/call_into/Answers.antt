@@ -1,4 +1,4 @@
-use Rattle.std.proofs.Common.{subst}
+use Rattle.std.proofs.Common.{ap, ◌∙◌, subst}
 use Rattle.co_service.specs.Moving.{IsDone}
 use Rattle.co_service.specs.Views.{PassesView}
 use Rattle.co_service.proofs.service.Service.call_into.Goals as goal
@@ -15,3 +15,9 @@ returns-then-here g c =
       called = c.land_left.ensures.called c.args.passes.now c.args.op.now done;
       kept = c.land_left.ensures.kept c.args.passes.now c.args.op.now c.requires.passes done;
     }
+
+pub call-here-requires-clause-service : goal.call-here-requires-clause-service
+call-here-requires-clause-service g c = record { places_are = c.self.invariant.same; passes_are = ap (λ (p : PassesView). p.name) c.loop.invariant.0 ∙ c.requires.passes.name_is }
+
+pub loop-preserved : goal.loop-preserved
+loop-preserved g c = let none = c.call-here.ensures.tried.none c.if-here.false in (none.0 ∙ c.loop.invariant.0, none.1, c.next_desk-cpu.ensures)
