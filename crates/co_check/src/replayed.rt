@@ -1,9 +1,10 @@
 //! A report that is read and replayed.
-ghost use Rattle.std.specs.Prelude.{◌≡◌, [], IfOk};
+ghost use Rattle.std.specs.Prelude.{◌≡◌, [], List, IfOk};
 ghost use Rattle.co_program.specs.Scripts.{IsScript};
 ghost use Rattle.co_text.specs.Fallible.{GivesOrNoMemory};
 ghost use Rattle.co_text.specs.declared.ScriptFault.TheVariants as fault;
-ghost use Rattle.co_report.specs.LineByLine.{IsReading, before_all, standing};
+ghost use Rattle.co_report.specs.declared.line.Line.{Line};
+ghost use Rattle.co_report.specs.LineByLine.{IsReading, before_all, report_of_all, standing};
 ghost use Rattle.co_report.specs.Reading.{report_read};
 ghost use Rattle.co_check.specs.Hearing.{ComesTo, IsHeard};
 
@@ -53,6 +54,19 @@ fn no_memory(_fault: NoMemory) -> ScriptFault
     ScriptFault::NoMemory
 }
 
+/// What was heard, with the number of the line `end`.
+fn read_of<S: Subject>(heard: HeardOf<'_, S>, end: u64) -> Read
+    ensures end { result.end ≡ end }
+    ensures read { (lines : List Line) → IsHeard S.script lines heard.entry.heard → (result.lines ≡ lines) × ComesTo S.script lines result.replayed }
+{
+    let (lines, replayed) = heard.heard.ended();
+    Read {
+        lines,
+        replayed,
+        end,
+    }
+}
+
 /// What a reader's lines come to, for a listener that has heard none.
 fn hear_all<S: Subject>(
     alloc: Global,
@@ -65,13 +79,10 @@ fn hear_all<S: Subject>(
     ensures replayed { IfOk result (λ x. ComesTo S.script x.lines x.replayed) }
 {
     let mut heard = heard;
-    let end = reader.tell_all(alloc, &mut heard)?;
-    let (lines, replayed) = heard.heard.ended();
-    Ok(Read {
-        lines,
-        replayed,
-        end,
-    })
+    match reader.tell_all(alloc, &mut heard) {
+        Ok(end) => Ok(read_of(heard, end)),
+        Err(fault) => Err(fault),
+    }
 }
 
 /// What a reader's lines come to, of a type's script.
@@ -130,14 +141,21 @@ fn replayed_report(opened: OpenReport, read: Read) -> ReplayedReport
     }
 }
 
+/// The report that is open, with its histories.
+fn read_histories(alloc: Global, opened: OpenReport) -> Result<ReplayedReport, ScriptFault>
+    ensures { GivesOrNoMemory (λ r. r) result (report_of_all opened.entry.script (before_all opened.entry).ahead) }
+{
+    match histories(alloc, &opened) {
+        Ok(read) => Ok(replayed_report(opened, read)),
+        Err(fault) => Err(fault),
+    }
+}
+
 /// The report that a text stands for, as `read_report` gives it, in few bytes; or the same refusal. Each line is replayed as
 /// it is read.
 pub fn read_replayed_report(alloc: Global, bytes: &[u8]) -> Result<ReplayedReport, ScriptFault>
     ensures { GivesOrNoMemory (λ r. r) result (report_read bytes.now) }
 {
-    let open = open_report(alloc, bytes)?;
-    match histories(alloc, &open) {
-        Ok(read) => Ok(replayed_report(open, read)),
-        Err(fault) => Err(fault),
-    }
+    let opened = open_report(alloc, bytes)?;
+    read_histories(alloc, opened)
 }

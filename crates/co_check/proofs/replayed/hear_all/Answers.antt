@@ -3,16 +3,14 @@ use Rattle.std.proofs.Common.{[], Ok, ap, subst, sym, ◌∙◌}
 use Rattle.co_check.specs.Hearing.{ComesTo}
 use Rattle.co_check.proofs.replayed.hear_all.Goals as goal
 
-pub returns-clause-read : goal.returns-clause-read
-returns-clause-read g c =
-    let told = c.in_ok-end.ensures in
-    let heard = told.2 [] c.requires.heard in
-    let ended = c.ended-lines.ensures g.S.Subject.script told.0 heard in
-    told.1 ∙ ap (λ ls. Ok (record { lines = ls; end = c.in_ok-end.end })) (sym ended.0)
+pub returns-in-Ok-clause-read : goal.returns-in-Ok-clause-read
+returns-in-Ok-clause-read g c =
+    let told = c.in-Ok.ensures in
+    let read = c.read_of.ensures.read told.0 (told.2 [] c.requires.heard) in
+    told.1 ∙ (ap (λ ls. Ok (record { lines = ls; end = c.in-Ok.end })) (sym read.0) ∙ ap (λ n. Ok (record { lines = c.read_of.result.lines; end = n })) (sym c.read_of.ensures.end))
 
-pub returns-clause-replayed : goal.returns-clause-replayed
-returns-clause-replayed g c =
-    let told = c.in_ok-end.ensures in
-    let heard = told.2 [] c.requires.heard in
-    let ended = c.ended-lines.ensures g.S.Subject.script told.0 heard in
-    subst (λ ls. ComesTo g.S.Subject.script ls c.ended-lines.result.1) (sym ended.0) ended.1
+pub returns-in-Ok-clause-replayed : goal.returns-in-Ok-clause-replayed
+returns-in-Ok-clause-replayed g c =
+    let told = c.in-Ok.ensures in
+    let read = c.read_of.ensures.read told.0 (told.2 [] c.requires.heard) in
+    subst (λ ls. ComesTo g.S.Subject.script ls c.read_of.result.replayed) (sym read.0) read.1
