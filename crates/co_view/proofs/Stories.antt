@@ -12,6 +12,7 @@ use Rattle.co_view.specs.declared.scene.Watch.{Watch}
 use Rattle.co_view.specs.Pictures.{story, told_of}
 use Rattle.co_view.specs.Scenes.{scene_after, watch_of}
 use Rattle.co_view.specs.Svg.{callout_marks, marks_of}
+use Rattle.co_view.specs.Trace.{callout_text, effect_text}
 use Rattle.co_view.proofs.Rows.{ok_then}
 
 drop_item : (xs : List ℕ) (i : ℕ) → i < length xs → drop i xs ≡ get_or xs i 0 ∷ drop (i + 1) xs
@@ -48,4 +49,11 @@ pub marks_is : {X E : Type 0} (r : Result X E) (old new : List ℕ) (step : ℕ)
 marks_is r old new step scene p any i e w w_is p_is e_is h =
     let same : callout_marks i step w e ≡ marks_of step scene p any =
     ap (λ v. callout_marks i step v e) w_is ∙ (sym (ap (λ a. marks_of step scene (place.Timer i) a) e_is) ∙ sym (ap (λ q. marks_of step scene q any) p_is)) in
+    ok_then r h (λ is. is ∙ ap (λ t. old ++ t) same)
+
+pub effect_is : {X E : Type 0} (r : Result X E) (old new : List ℕ) (step : ℕ) (scene : List Watch) (p : Place) (any : AnyEntry) (i : ℕ) (e : Entry) (w : Watch) → w ≡ watch_of scene i → p ≡ place.Timer i → any ≡ of.Timer e →
+    OnOk r (new ≡ old ++ callout_text i step w e) → OnOk r (new ≡ old ++ effect_text step scene p any)
+effect_is r old new step scene p any i e w w_is p_is e_is h =
+    let same : callout_text i step w e ≡ effect_text step scene p any =
+    ap (λ v. callout_text i step v e) w_is ∙ (sym (ap (λ a. effect_text step scene (place.Timer i) a) e_is) ∙ sym (ap (λ q. effect_text step scene q any) p_is)) in
     ok_then r h (λ is. is ∙ ap (λ t. old ++ t) same)

@@ -157,19 +157,47 @@ fn ended(board: &Board, merge: Merge) -> Ordered
     }
 }
 
+/// Takes a note that may come next, and goes on as long as that wakes something.
+fn go_on(
+    board: &Board,
+    hints: &Hints,
+    merge: &mut Merge,
+    woken: &mut Vec<usize>,
+    first: usize,
+) -> Result<(), NoMemory>
+    requires board { IsBoard board.now }
+    requires merge { IsMerging board.now.script.now board.now.lines.now merge.old }
+    requires next { MayCome board.now.script.now board.now.lines.now merge.old.order first }
+    ensures merge { OnOk result (IsMerging board.now.script.now board.now.lines.now merge.new) }
+    ensures left { OnOk result (not_come merge.new < not_come merge.old) }
+{
+    let next = step(board, hints, merge, woken, first)?;
+    wake(woken, next)?;
+    follow_woken(board, hints, merge, woken)
+}
+
+/// Takes notes as long as one may come.
+fn take_all(alloc: Global, board: &Board, hints: &Hints, merge: &mut Merge) -> Result<(), NoMemory>
+    requires board { IsBoard board.now }
+    requires merge { IsMerging board.now.script.now board.now.lines.now merge.old }
+    ensures merge { OnOk result (IsMerging board.now.script.now board.now.lines.now merge.new) }
+    ensures nothing { OnOk result (FirstNext board.now.script.now board.now.lines.now merge.new.order None) }
+{
+    let mut woken = openings(alloc, board, merge)?;
+    follow_woken(board, hints, merge, &mut woken)?;
+    while let Some(first) = first_next(board, merge) {
+        go_on(board, hints, merge, &mut woken, first)?;
+    }
+    Ok(())
+}
+
 /// Merges the notes of a board.
 fn merged(alloc: Global, board: &Board, hints: &Hints) -> Result<Ordered, NoMemory>
     requires { IsBoard board.now }
     ensures { IfOk result (IsOrdered board.now.script.now board.now.lines.now) }
 {
     let mut merge = Merge::open(alloc, board)?;
-    let mut woken = openings(alloc, board, &merge)?;
-    follow_woken(board, hints, &mut merge, &mut woken)?;
-    while let Some(first) = first_next(board, &merge) {
-        let next = step(board, hints, &mut merge, &mut woken, first)?;
-        wake(&mut woken, next)?;
-        follow_woken(board, hints, &mut merge, &mut woken)?;
-    }
+    take_all(alloc, board, hints, &mut merge)?;
     Ok(ended(board, merge))
 }
 
