@@ -1,5 +1,5 @@
 -- One line more is heard.
-use Rattle.std.proofs.Common.{◌≡◌, [], ◌∷◌, ◌++◌, length, refl, take, subst, sym}
+use Rattle.std.proofs.Common.{[], ◌∷◌, ◌++◌, length, refl, take, subst, sym}
 use Rattle.std.proofs.lemmas.List.{take_all}
 use Rattle.std.proofs.lemmas.Option.{slice_get_read}
 use Rattle.co_report.specs.PackedLines.{line_of}
