@@ -53,29 +53,17 @@ pub(crate) fn index_all(
     requires few { length lines.now ≤ lines_max }
     ensures { IfOk result (AreNotesIndexed script.now lines.now) }
 {
-    let index = Index::open(alloc, script, counts)?;
-    Ok(take_all(script, lines, index))
-}
-
-/// Takes all lines into an index that has none.
-fn take_all(script: &Script, lines: &PackedLines, index: Index) -> Indexed
-    requires script { IsScript script.now }
-    requires open { IsIndexed script.now lines.now [] index }
-    requires lines { AreLinesOf script.now lines.now }
-    requires few { length lines.now ≤ lines_max }
-    ensures { AreNotesIndexed script.now lines.now result }
-{
-    let mut index = index;
+    let mut index = Index::open(alloc, script, counts)?;
     let mut notes = lines.notes();
     for i in 0..lines.len() {
         let head = next_head(&mut notes);
         if !index.take(script, head, i as u32) {
-            return Indexed::Bad {
+            return Ok(Indexed::Bad {
                 line: lines.number(i),
-            };
+            });
         }
     }
-    Indexed::Fits(index)
+    Ok(Indexed::Fits(index))
 }
 
 impl Index {
@@ -139,17 +127,10 @@ fn rows_of<T: Copy + Drop>(alloc: Global, lengths: &[u32], item: T) -> Result<Ve
 {
     let mut rows = Seq::new(alloc);
     for count in lengths {
-        rows.push(row_of(alloc, *count, item)?)?;
+        let row = Seq::filled(alloc, *count as usize, item)?;
+        rows.push(row.into_vec())?;
     }
     Ok(rows.into_vec())
-}
-
-/// A row of copies of one item.
-fn row_of<T: Copy + Drop>(alloc: Global, count: u32, item: T) -> Result<Vec<T>, NoMemory>
-    ensures { IfOk result (λ row. row.items ≡ replicate count item) }
-{
-    let row = Seq::filled(alloc, count as usize, item)?;
-    Ok(row.into_vec())
 }
 
 /// Puts a line where its number belongs, if nothing is there yet.

@@ -119,20 +119,13 @@ fn cpus_of(alloc: Global, script: &Script) -> Result<Vec<CpuQueue>, NoMemory>
     requires { IsScript script.now }
     ensures { IfOk result (λ cpus. cpus.items ≡ replicate script.now.cpus (empty_cpu (length script.now.timers) script.now.buckets (are_direct script.now))) }
 {
-    let direct = Spec::directs(alloc, script.timers.as_slice())?;
-    cpus_with(alloc, script, direct.as_slice())
-}
-
-/// The same, with what is known of each callout: whether it is direct.
-fn cpus_with(alloc: Global, script: &Script, direct: &[bool]) -> Result<Vec<CpuQueue>, NoMemory>
-    requires accepted { IsScript script.now }
-    requires direct { direct.now ≡ are_direct script.now }
-    ensures { IfOk result (λ cpus. cpus.items ≡ replicate script.now.cpus (empty_cpu (length script.now.timers) script.now.buckets (are_direct script.now))) }
-{
-    let callouts = script.timers.as_slice().len() as u32;
+    let timers = script.timers.as_slice();
+    let direct = Spec::directs(alloc, timers)?;
+    let callouts = timers.len() as u32;
     let mut cpus = Seq::new(alloc);
     for _ in 0..script.cpus {
-        cpus.push(CpuQueue::open(alloc, callouts, script.buckets, direct)?)?;
+        let cpu = CpuQueue::open(alloc, callouts, script.buckets, direct.as_slice())?;
+        cpus.push(cpu)?;
     }
     Ok(cpus.into_vec())
 }

@@ -8,7 +8,7 @@ use Rattle.co_check.specs.Numbers.{number_at}
 use Rattle.co_check.specs.declared.verdict.Unfit.TheVariants.{Number}
 use Rattle.co_check.proofs.Along.{front, first-on, first-at, line-ahead, some-ahead}
 use Rattle.co_check.proofs.Noted.{fits-at}
-use Rattle.co_check.proofs.index.take_all.Goals as goal
+use Rattle.co_check.proofs.index.index_all.Goals as goal
 
 pub returns-then-not-take : goal.returns-then-not-take
 returns-then-not-take c =

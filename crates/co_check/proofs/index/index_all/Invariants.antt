@@ -3,7 +3,7 @@ use Rattle.co_report.specs.PackedLines.{note_from_line}
 use Rattle.co_check.specs.Index.{IsIndexed}
 use Rattle.co_check.specs.Numbers.{number_at, first_misnumbered}
 use Rattle.co_check.specs.Replay.{first_bad}
-use Rattle.co_check.proofs.index.take_all.Given as goal
+use Rattle.co_check.proofs.index.index_all.Given as goal
 
 -- the lines above are indexed and nothing is wrong with their numbers; what is left decides
 abbrev pub invariant-loop-i : goal.invariant-loop-i
