@@ -1,11 +1,10 @@
 //! The verdict on a report.
-ghost use Rattle.std.specs.Prelude.{◌≡◌, ◌≤◌, ◌||◌, [], not, length, map, IfOk, OnOk};
-ghost use Rattle.co_program.specs.declared.script.Script.{Script as Scripts};
+ghost use Rattle.std.specs.Prelude.{◌≡◌, ◌≤◌, ◌||◌, not, length, map, IfOk};
 ghost use Rattle.co_program.specs.Actors.{actor_count};
 ghost use Rattle.co_program.specs.Scripts.{IsScript};
 ghost use Rattle.co_report.specs.PackedLines.{note_from_line};
 ghost use Rattle.co_check.specs.Astray.{seen_lines};
-ghost use Rattle.co_check.specs.Hearing.{ComesTo, IsHeard};
+ghost use Rattle.co_check.specs.Hearing.{ComesTo};
 ghost use Rattle.co_check.specs.Index.{IsIndexed};
 ghost use Rattle.co_check.specs.Lines.{AreLinesOf, IsReport, lines_max};
 ghost use Rattle.co_check.specs.Numbers.{AreActorCounts};
@@ -74,19 +73,10 @@ fn replayed(
     ensures { IfOk result (λ x. (x.0 ≡ lines.now) × ComesTo script.now lines.now x.1) }
 {
     let mut heard = Heard::open(alloc, script)?;
-    hear_all(&mut heard, lines)?;
-    Ok(heard.ended())
-}
-
-/// Hears these lines, where none was heard.
-fn hear_all(heard: &mut Heard<'_>, lines: &[Line]) -> Result<(), NoMemory>
-    requires { (s : Scripts) × IsHeard s [] heard.old }
-    ensures { OnOk result ((s : Scripts) → IsHeard s [] heard.old → IsHeard s lines.now heard.new) }
-{
     for line in lines {
         heard.take(line.line, &note_in(line))?;
     }
-    Ok(())
+    Ok(heard.ended())
 }
 
 /// The verdict on the lines of a report, by what they come to.
