@@ -12,7 +12,7 @@ use co_sbt::NoMemory;
 
 /// What of a callout is to fire yet. It is all that has to be kept of one, since at most one arming is to fire. Our own
 /// decision.
-#[derive(Clone, Copy, Debug, PartialEq, Eq)]
+#[derive(Clone, Copy)]
 pub(crate) enum ToFire {
     /// No arming.
     Nothing,

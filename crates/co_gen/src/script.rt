@@ -106,7 +106,6 @@ fn ticks(alloc: Global) -> Result<Seq<Acts>, NoMemory>
 /// gives the same script. Its draws, its numbers and its acts are our own decision.
 ///
 /// NoMemory where the script finds no memory.
-#[tactic(auto, unfolding(crate::specs::Generator::generated))]
 pub fn gen_script(alloc: Global, seed: u64) -> Result<Script, NoMemory>
     ensures { IfOk result (λ script. script ≡ generated seed) }
 {

@@ -49,6 +49,13 @@ five_texts old p1 p2 p3 p4 p5 a b c d e e1 e2 e3 e4 e5 = rw (e5, e4, e3, e2, e1)
 pub six_texts : (old p1 p2 p3 p4 p5 p6 a b c d e f : List ℕ) → p1 ≡ old ++ a → p2 ≡ p1 ++ b → p3 ≡ p2 ++ c → p4 ≡ p3 ++ d → p5 ≡ p4 ++ e → p6 ≡ p5 ++ f → p6 ≡ old ++ (a ++ (b ++ (c ++ (d ++ (e ++ f)))))
 six_texts old p1 p2 p3 p4 p5 p6 a b c d e f e1 e2 e3 e4 e5 e6 = rw (e6, e5, e4, e3, e2, e1) (simp append_assoc)
 
+pub seven_texts : (old p1 p2 p3 p4 p5 p6 p7 a b c d e f g : List ℕ) → p1 ≡ old ++ a → p2 ≡ p1 ++ b → p3 ≡ p2 ++ c → p4 ≡ p3 ++ d → p5 ≡ p4 ++ e → p6 ≡ p5 ++ f → p7 ≡ p6 ++ g → p7 ≡ old ++ (a ++ (b ++ (c ++ (d ++ (e ++ (f ++ g))))))
+seven_texts old p1 p2 p3 p4 p5 p6 p7 a b c d e f g e1 e2 e3 e4 e5 e6 e7 = rw (e7, e6, e5, e4, e3, e2, e1) (simp append_assoc)
+
+-- a word and further ones
+pub four_words : (old p1 p2 p3 p4 : List ℕ) (w : Word) (us vs ws : List Word) → p1 ≡ old ++ spaced (w ∷ []) → p2 ≡ p1 ++ spaced us → p3 ≡ p2 ++ spaced vs → p4 ≡ p3 ++ spaced ws → p4 ≡ old ++ spaced (w ∷ (us ++ (vs ++ ws)))
+four_words old p1 p2 p3 p4 w us vs ws e1 e2 e3 e4 = rw (spaced-append (w ∷ []) (us ++ (vs ++ ws)), spaced-append us (vs ++ ws), spaced-append vs ws) (four_texts old p1 p2 p3 p4 (spaced (w ∷ [])) (spaced us) (spaced vs) (spaced ws) e1 e2 e3 e4)
+
 -- a tag and a number, and a text alone, by what they are equal to
 pub tagged_is : (p q t u : List ℕ) (n m : ℕ) → q ≡ p ++ (t ++ decimal n) → t ≡ u → n ≡ m → q ≡ p ++ (u ++ decimal m)
 tagged_is p q t u n m e f g = e ∙ (ap (λ v. p ++ (v ++ decimal n)) f ∙ ap (λ k. p ++ (u ++ decimal k)) g)

@@ -1,9 +1,12 @@
 -- Rows that are written one by one.
-use Rattle.std.proofs.Common.{◌≡◌, ℕ, zero, suc, ◌+◌, ◌<◌, List, [], ◌∷◌, ◌++◌, length, take, get_or, Result, Ok, Err, refl, ap, sym, ◌∙◌, arith, append_assoc, append-nil, take-suc}
-use Rattle.std.specs.Prelude.{IfOk, OnOk}
+use Rattle.std.proofs.Common.{◌≡◌, Bool, true, cond, ℕ, zero, suc, ◌+◌, ◌<◌, List, [], ◌∷◌, ◌++◌, length, take, get_or, Result, Ok, Err, refl, ap, sym, ◌∙◌, arith, append_assoc, append-nil, take-suc}
+use Rattle.std.specs.Prelude.{IfOk, OnOk, Some, slice_get}
+use Rattle.std.proofs.lemmas.Option.{slice_get-get_or}
 use Rattle.std.specs.List.{flat_map, range_with_len, concat}
 use Rattle.co_report.proofs.SectionsWritten.{range-more}
-use Rattle.co_view.specs.Lanes.{passing}
+use Rattle.co_report.specs.declared.line.Line.{Line}
+use Rattle.co_view.specs.declared.lanes.Focus.{Focus}
+use Rattle.co_view.specs.Lanes.{concerns, lane_row, passing, row_at, shown_row}
 
 -- one more lane
 pub passing_more : (k : ℕ) → passing (k + 1) ≡ passing k ++ 124 ∷ 9 ∷ []
@@ -56,3 +59,14 @@ ok_then (Err e) h f = tt
 pub same_text : {E : Type 0} (r : Result (List (List ℕ)) E) (t u : List ℕ) → t ≡ u → IfOk r (λ ps. concat ps ≡ t) → IfOk r (λ ps. concat ps ≡ u)
 same_text (Ok ps) t u e h = h ∙ e
 same_text (Err x) t u e h = tt
+
+-- the line at this index
+pub some_read : (lines : List Line) (i : ℕ) (l : Line) → i < length lines → l ≡ get_or lines i l → slice_get lines i ≡ Some l
+some_read lines i l inside is = slice_get-get_or lines i l inside ∙ ap (λ m. Some m) (sym is)
+
+-- the row of the note of a line that there is, and that is shown
+pub shown_is : {X E : Type 0} (r : Result X E) (old new : List ℕ) (f : Focus) (lines : List Line) (i : ℕ) (l : Line) (b : Bool) → slice_get lines i ≡ Some l → b ≡ concerns f l → b ≡ true →
+    OnOk r (new ≡ old ++ lane_row l) → OnOk r (new ≡ old ++ row_at f lines i)
+shown_is r old new f lines i l b at b_is shown h =
+    let same : row_at f lines i ≡ lane_row l = ap (shown_row f) at ∙ ap (λ (c : Bool). cond {A = List ℕ} c (lane_row l) []) (sym b_is ∙ shown) in
+    ok_then r h (λ e. e ∙ ap (λ t. old ++ t) (sym same))

@@ -157,20 +157,72 @@ fn ended(board: &Board, merge: Merge) -> Ordered
     }
 }
 
+/// Takes a note that may come next, and goes on as long as that wakes something.
+fn go_on(
+    board: &Board,
+    hints: &Hints,
+    merge: &mut Merge,
+    woken: &mut Vec<usize>,
+    first: usize,
+) -> Result<(), NoMemory>
+    requires board { IsBoard board.now }
+    requires merge { IsMerging board.now.script.now board.now.lines.now merge.old }
+    requires next { MayCome board.now.script.now board.now.lines.now merge.old.order first }
+    ensures merge { OnOk result (IsMerging board.now.script.now board.now.lines.now merge.new) }
+    ensures left { OnOk result (not_come merge.new < not_come merge.old) }
+{
+    let next = step(board, hints, merge, woken, first)?;
+    wake(woken, next)?;
+    follow_woken(board, hints, merge, woken)
+}
+
+/// Goes on with what was woken, and then with each first note that may come.
+fn take_rest(
+    board: &Board,
+    hints: &Hints,
+    merge: &mut Merge,
+    woken: &mut Vec<usize>,
+) -> Result<(), NoMemory>
+    requires board { IsBoard board.now }
+    requires merge { IsMerging board.now.script.now board.now.lines.now merge.old }
+    ensures merge { OnOk result (IsMerging board.now.script.now board.now.lines.now merge.new) }
+    ensures nothing { OnOk result (FirstNext board.now.script.now board.now.lines.now merge.new.order None) }
+{
+    follow_woken(board, hints, merge, woken)?;
+    while let Some(first) = first_next(board, merge) {
+        go_on(board, hints, merge, woken, first)?;
+    }
+    Ok(())
+}
+
+/// Takes notes as long as one may come.
+fn take_all(alloc: Global, board: &Board, hints: &Hints, merge: &mut Merge) -> Result<(), NoMemory>
+    requires board { IsBoard board.now }
+    requires merge { IsMerging board.now.script.now board.now.lines.now merge.old }
+    ensures merge { OnOk result (IsMerging board.now.script.now board.now.lines.now merge.new) }
+    ensures nothing { OnOk result (FirstNext board.now.script.now board.now.lines.now merge.new.order None) }
+{
+    let mut woken = openings(alloc, board, merge)?;
+    take_rest(board, hints, merge, &mut woken)
+}
+
 /// Merges the notes of a board.
 fn merged(alloc: Global, board: &Board, hints: &Hints) -> Result<Ordered, NoMemory>
     requires { IsBoard board.now }
     ensures { IfOk result (IsOrdered board.now.script.now board.now.lines.now) }
 {
     let mut merge = Merge::open(alloc, board)?;
-    let mut woken = openings(alloc, board, &merge)?;
-    follow_woken(board, hints, &mut merge, &mut woken)?;
-    while let Some(first) = first_next(board, &merge) {
-        let next = step(board, hints, &mut merge, &mut woken, first)?;
-        wake(&mut woken, next)?;
-        follow_woken(board, hints, &mut merge, &mut woken)?;
-    }
+    take_all(alloc, board, hints, &mut merge)?;
     Ok(ended(board, merge))
+}
+
+/// Merges the notes of a board, with hints where the next ones stand.
+fn hinted(alloc: Global, board: &Board) -> Result<Ordered, NoMemory>
+    requires { IsBoard board.now }
+    ensures { IfOk result (IsOrdered board.now.script.now board.now.lines.now) }
+{
+    let hints = Hints::new(alloc, board.script, board.lines)?;
+    merged(alloc, board, &hints)
 }
 
 /// The indices of a report's note lines in one order in which the numbers of each actor are 0, 1, 2 and so on, and the notes of
@@ -181,8 +233,6 @@ pub fn order_of(alloc: Global, report: &Report) -> Result<Ordered, NoMemory>
     requires { IsReport report.now }
     ensures { IfOk result (IsOrdered report.now.script report.now.lines) }
 {
-    let lines = report.lines.as_slice();
-    let board = Board::new(alloc, &report.script, lines)?;
-    let hints = Hints::new(alloc, &report.script, lines)?;
-    merged(alloc, &board, &hints)
+    let board = Board::new(alloc, &report.script, report.lines.as_slice())?;
+    hinted(alloc, &board)
 }

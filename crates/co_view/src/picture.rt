@@ -1,10 +1,10 @@
 //! Pictures: what is told of each note of an order, one by one.
-ghost use Rattle.std.specs.Prelude.{◌≡◌, ◌++◌, OnOk, IfOk};
+ghost use Rattle.std.specs.Prelude.{◌≡◌, ◌++◌, OnOk, IfOk, length, replicate};
 ghost use Rattle.std.specs.List.{concat};
 ghost use Rattle.co_check.specs.Lines.{IsReport};
 ghost use Rattle.co_program.specs.Scripts.{IsScript};
 ghost use Rattle.co_view.specs.Rolls.{roll_text};
-ghost use Rattle.co_view.specs.Scenes.{scene_after};
+ghost use Rattle.co_view.specs.Scenes.{quiet, scene_after};
 ghost use Rattle.co_view.specs.Pictures.{back_text, front_text, picture_text, story, picture_told, told_of};
 ghost use Rattle.std.specs.Prelude.{slice_get};
 
@@ -109,6 +109,43 @@ fn print_back(page: &mut Page, picture: Picture) -> Result<(), NoMemory>
     }
 }
 
+/// Tells the notes of an order from the first on, behind what is there.
+fn tell_order(
+    alloc: Global,
+    roll: &mut Roll,
+    picture: Picture,
+    report: &Report,
+    order: &[usize],
+) -> Result<(), NoMemory>
+    ensures { OnOk result (roll_text roll.new ≡ roll_text roll.old ++ story picture report.now.lines 0 (replicate (length report.now.script.timers) quiet) order.now) }
+{
+    let mut scene = opened(alloc, report.script.timers.as_slice().len())?;
+    tell_all(
+        alloc,
+        roll,
+        picture,
+        &mut scene,
+        report.lines.as_slice(),
+        order,
+    )
+}
+
+/// The picture, behind what is there.
+fn print_all(
+    alloc: Global,
+    roll: &mut Roll,
+    picture: Picture,
+    report: &Report,
+    order: &[usize],
+) -> Result<(), NoMemory>
+    requires { IsReport report.now }
+    ensures { OnOk result (roll_text roll.new ≡ roll_text roll.old ++ picture_text picture report.now.script report.now.lines order.now) }
+{
+    print_front(&mut roll.page, picture, &report.script, order.len())?;
+    tell_order(alloc, roll, picture, report, order)?;
+    print_back(&mut roll.page, picture)
+}
+
 /// The text of a picture, in pieces. In a trace a step of this order is a microsecond: each note is an event in its
 /// actor's lane, and each callout has the lanes *armed* and *in service*; an arrow goes from a drain's wait to the end
 /// that wakes it. In SVG each actor has a column and each step a row, and a bar is a service. The layout is our own.
@@ -123,16 +160,6 @@ pub fn print_picture(
     ensures { IfOk result (λ pieces. concat pieces ≡ picture_text picture report.now.script report.now.lines order.now) }
 {
     let mut roll = Roll::new(alloc);
-    print_front(&mut roll.page, picture, &report.script, order.len())?;
-    let mut scene = opened(alloc, report.script.timers.as_slice().len())?;
-    tell_all(
-        alloc,
-        &mut roll,
-        picture,
-        &mut scene,
-        report.lines.as_slice(),
-        order,
-    )?;
-    print_back(&mut roll.page, picture)?;
+    print_all(alloc, &mut roll, picture, report, order)?;
     roll.done(alloc)
 }

@@ -8,7 +8,7 @@ use co_sbt::{NoMemory, Seq};
 use std::alloc::Global;
 
 /// What is known of a callout.
-#[derive(Clone, Copy, Debug, PartialEq, Eq)]
+#[derive(Clone, Copy)]
 pub(crate) struct Watch {
     /// An arming is in a queue, or waits for the end of a service on another CPU.
     pub(crate) armed: bool,

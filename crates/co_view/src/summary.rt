@@ -3,7 +3,7 @@ ghost use Rattle.std.specs.Prelude.{◌≡◌, ◌≤◌, ◌<◌, ◌+◌, ◌*
 ghost use Rattle.std.specs.List.{range_with_len};
 ghost use Rattle.co_check.specs.Lines.{IsReport};
 ghost use Rattle.co_view.specs.Scenes.{watch_of};
-ghost use Rattle.co_view.specs.Summary.{cell_at, cell_text, coded_column, column_name, entry_counted, fate_column, fates_text, is_open, reply_noted, one_if, opened_tally, replaced_column, reply_column, row_text, stopped_column, summary_text, tally_entry, tally_of, tallied, timer_row};
+ghost use Rattle.co_view.specs.Summary.{cell_at, cell_text, coded_column, column_name, entry_counted, fate_column, fates_text, is_open, reply_noted, one_if, opened_tally, replaced_column, reply_column, row_text, rows_text, stopped_column, summary_text, tally_entry, tally_of, tallied, timer_row};
 
 use crate::order::counts::raise;
 use crate::scene::{Watch, opened, take, watch_of, watched};
@@ -342,6 +342,25 @@ fn print_total(page: &mut Page, tally: &Tally, timers: usize) -> Result<(), NoMe
     )
 }
 
+/// The rows of all callouts, and that of all.
+fn print_rows(page: &mut Page, tally: &Tally, timers: usize) -> Result<(), NoMemory>
+    requires { timers ≤ 1024 }
+    ensures { OnOk result (page.new ≡ page.old ++ rows_text timers tally.now) }
+{
+    print_timers(page, tally, timers as u32)?;
+    print_total(page, tally, timers)
+}
+
+/// The text of these counts.
+fn print_tally(alloc: Global, tally: &Tally, timers: usize) -> Result<Seq<u8>, NoMemory>
+    requires { timers ≤ 1024 }
+    ensures { IfOk result (λ text. text ≡ rows_text timers tally.now) }
+{
+    let mut page = Page::new(alloc);
+    print_rows(&mut page, tally, timers)?;
+    page.done()
+}
+
 /// The text of `summary`: for each callout a row with its armings and what became of them, and how often each reply
 /// came; and a row for all. It takes no order: the notes of each callout stand in theirs. The layout is our own.
 /// `NoMemory` where there is no room for it.
@@ -351,9 +370,5 @@ pub fn print_summary(alloc: Global, report: &Report) -> Result<Seq<u8>, NoMemory
 {
     let timers = report.script.timers.as_slice().len();
     let tally = tally_of(alloc, timers, report.lines.as_slice())?;
-    let mut page = Page::new(alloc);
-    print_timers(&mut page, &tally, timers as u32)?;
-    print_total(&mut page, &tally, timers)?;
-    let text = page.done()?;
-    Ok(text)
+    print_tally(alloc, &tally, timers)
 }

@@ -1,5 +1,5 @@
 //! The text of `svg`: one picture, which a browser shows.
-ghost use Rattle.std.specs.Prelude.{◌≡◌, ◌+◌, ◌*◌, ◌++◌, OnOk, IfOk, flat_map};
+ghost use Rattle.std.specs.Prelude.{◌≡◌, ◌+◌, ◌*◌, ◌++◌, OnOk, IfOk, decimal, flat_map};
 ghost use Rattle.std.specs.List.{range_with_len};
 ghost use Rattle.co_program.specs.Scripts.{IsScript};
 ghost use Rattle.co_program.specs.Actors.{actor_count};
@@ -32,17 +32,22 @@ fn down(from: u64, step: usize) -> Result<u64, NoMemory>
     }
 }
 
+/// A tag, and a place in the row of a step. Inlined, as `tagged` is.
+#[inline(always)]
+fn print_down(page: &mut Page, tag: &[u8], from: u64, step: usize) -> Result<(), NoMemory>
+    ensures { OnOk result (page.new ≡ page.old ++ (tag.now ++ decimal (from + 18 * step))) }
+{
+    page.tagged(tag, down(from, step)?)
+}
+
 /// The line of the report, and a point in the actor's column.
 fn print_point(page: &mut Page, step: usize, line: u64, actor: u32) -> Result<(), NoMemory>
     ensures { OnOk result (page.new ≡ page.old ++ point_head step line actor) }
 {
-    page.tagged(
-        b"<text class=\"l\" x=\"8\" y=\"".as_slice(),
-        down(84, step)?,
-    )?;
+    print_down(page, b"<text class=\"l\" x=\"8\" y=\"".as_slice(), 84, step)?;
     page.tagged(b"\">".as_slice(), line)?;
     page.tagged(b"</text><circle cx=\"".as_slice(), x_of(actor))?;
-    page.tagged(b"\" cy=\"".as_slice(), down(80, step)?)
+    print_down(page, b"\" cy=\"".as_slice(), 80, step)
 }
 
 /// A note: its point, and the words beside it.
@@ -55,7 +60,7 @@ fn print_note_point(page: &mut Page, step: usize, line: &Line) -> Result<(), NoM
         b"\" r=\"3\"/><text x=\"".as_slice(),
         82 + 400 * u64::from(actor),
     )?;
-    page.tagged(b"\" y=\"".as_slice(), down(84, step)?)?;
+    print_down(page, b"\" y=\"".as_slice(), 84, step)?;
     page.text(b"\">".as_slice())?;
     print_note(page, line.place, &line.entry)?;
     page.text(b"</text>\n".as_slice())
@@ -67,10 +72,12 @@ fn print_bar(page: &mut Page, i: u32, actor: u32, since: usize, step: usize) -> 
 {
     page.tagged(b"<rect class=\"t".as_slice(), u64::from(i % 8))?;
     page.tagged(b"\" x=\"".as_slice(), 66 + 400 * u64::from(actor))?;
-    page.tagged(b"\" y=\"".as_slice(), down(80, since)?)?;
-    page.tagged(
+    print_down(page, b"\" y=\"".as_slice(), 80, since)?;
+    print_down(
+        page,
         b"\" width=\"8\" height=\"".as_slice(),
-        down(0, step.saturating_sub(since))?,
+        0,
+        step.saturating_sub(since),
     )?;
     page.text(b"\"/>\n".as_slice())
 }
@@ -86,10 +93,10 @@ fn print_arrow(
     ensures { OnOk result (page.new ≡ page.old ++ arrow_text waiter waited actor step) }
 {
     page.tagged(b"<path class=\"a\" d=\"M".as_slice(), x_of(waiter))?;
-    page.tagged(b" ".as_slice(), down(80, waited)?)?;
-    page.tagged(b"V".as_slice(), down(89, step)?)?;
+    print_down(page, b" ".as_slice(), 80, waited)?;
+    print_down(page, b"V".as_slice(), 89, step)?;
     page.tagged(b"H".as_slice(), x_of(actor))?;
-    page.tagged(b"V".as_slice(), down(80, step)?)?;
+    print_down(page, b"V".as_slice(), 80, step)?;
     page.text(b"\"/>\n".as_slice())
 }
 
@@ -158,7 +165,7 @@ fn print_column(page: &mut Page, script: &Script, steps: usize, actor: u32) -> R
 {
     let (letter, number) = actor_name(script, actor);
     page.tagged(b"<path class=\"c\" d=\"M".as_slice(), x_of(actor))?;
-    page.tagged(b" 66V".as_slice(), down(80, steps)?)?;
+    print_down(page, b" 66V".as_slice(), 80, steps)?;
     page.tagged(b"\"/><text class=\"h\" x=\"".as_slice(), x_of(actor))?;
     page.text(b"\" y=\"58\">".as_slice())?;
     page.tagged([letter].as_slice(), number)?;
@@ -205,7 +212,7 @@ pub(crate) fn print_frame(page: &mut Page, script: &Script, steps: usize) -> Res
         b"<svg xmlns=\"http://www.w3.org/2000/svg\" width=\"".as_slice(),
         x_of(actors),
     )?;
-    page.tagged(b"\" height=\"".as_slice(), down(80, steps)?)?;
+    print_down(page, b"\" height=\"".as_slice(), 80, steps)?;
     page.text(
         b"\">\n<rect width=\"100%\" height=\"100%\" style=\"fill:#fff;fill-opacity:1\"/>\n".as_slice(),
     )?;

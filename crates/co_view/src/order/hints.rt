@@ -15,6 +15,26 @@ pub(crate) struct Hints {
     slots: Seq<usize>,
 }
 
+/// By actor: how many of these lines it made.
+fn counts_of(alloc: Global, script: &Script, lines: &[Line]) -> Result<Seq<u64>, NoMemory>
+    requires { IsScript script.now }
+{
+    let mut counts = Seq::filled(alloc, actor_count(script) as usize, 0_u64)?;
+    count(&mut counts, lines)?;
+    Ok(counts)
+}
+
+/// Counts these lines by their actors.
+fn count(counts: &mut Seq<u64>, lines: &[Line]) -> Result<(), NoMemory> {
+    for line in lines {
+        let actor = line.entry.actor() as usize;
+        if actor < counts.as_slice().len() {
+            raise(counts, actor)?;
+        }
+    }
+    Ok(())
+}
+
 /// Where runs of these lengths begin, one behind the other.
 fn starts_of(alloc: Global, counts: &[u64]) -> Result<Seq<u64>, NoMemory> {
     let mut starts = Seq::new(alloc);
@@ -31,13 +51,7 @@ impl Hints {
     pub(crate) fn new(alloc: Global, script: &Script, lines: &[Line]) -> Result<Hints, NoMemory>
         requires { IsScript script.now }
     {
-        let mut counts = Seq::filled(alloc, actor_count(script) as usize, 0_u64)?;
-        for line in lines {
-            let actor = line.entry.actor() as usize;
-            if actor < counts.as_slice().len() {
-                raise(&mut counts, actor)?;
-            }
-        }
+        let counts = counts_of(alloc, script, lines)?;
         let starts = starts_of(alloc, counts.as_slice())?;
         let slots = Seq::filled(alloc, lines.len(), lines.len())?;
         let mut hints = Hints { starts, slots };

@@ -1,4 +1,4 @@
-use Rattle.std.proofs.Common.{◌<◌, ◌^◌, ◌∷◌, [], ◌++◌, get_or, replicate, ap, sym, subst, ◌∙◌, arith}
+use Rattle.std.proofs.Common.{◌<◌, ◌^◌, ◌∷◌, [], ◌++◌, get_or, length, replicate, ap, sym, subst, ◌∙◌, arith}
 use Rattle.std.specs.Prelude.{ℕ, List}
 use Rattle.std.proofs.lemmas.Option.{slice_get-get_or}
 use Rattle.co_report.specs.Order.{place_count, place_index}
@@ -32,3 +32,23 @@ loop-line-preserved c =
 
 pub returns : goal.returns
 returns c = ranking_all c.args.script.now c.args.lines.now c.loop-line.line-index c.loop-line.counts c.loop-line.ranks c.loop-line.invariant c.loop-line-test.false
+
+pub bounds-as_slice-place : goal.bounds-as_slice-place
+bounds-as_slice-place c =
+    let s = c.args.script.now in
+    let lines = c.args.lines.now in
+    let i = c.loop-line.line-index in
+    let l = get_or lines i c.line-item.result in
+    let at = slice_get-get_or lines i c.line-item.result c.loop-line-test.true in
+    let p_is = c.place_index-place.ensures ∙ ap (λ (m : Line). place_index s m.place) c.line-item.is in
+    omega (arith, ap length c.as_slice.ensures, p_is, place_below s lines i l c.requires.lines at, c.loop-line.invariant.counted.long)
+
+pub raise-requires : goal.raise-requires
+raise-requires c =
+    let s = c.args.script.now in
+    let lines = c.args.lines.now in
+    let i = c.loop-line.line-index in
+    let l = get_or lines i c.line-item.result in
+    let at = slice_get-get_or lines i c.line-item.result c.loop-line-test.true in
+    let p_is = c.place_index-place.ensures ∙ ap (λ (m : Line). place_index s m.place) c.line-item.is in
+    omega (arith, p_is, place_below s lines i l c.requires.lines at, c.loop-line.invariant.counted.long)

@@ -1,5 +1,5 @@
 use Rattle.std.proofs.Common.{◌≡◌, ◌<◌, ◌^◌, get_or, ap, sym, subst, ◌∙◌, arith}
-use Rattle.std.proofs.lemmas.Option.{get_or_from_slice_get}
+use Rattle.std.proofs.lemmas.Option.{get_or_from_slice_get, slice_get_within}
 use Rattle.co_program.specs.Actors.{actor_count}
 use Rattle.co_report.specs.Order.{place_index, place_count}
 use Rattle.co_report.specs.declared.line.Line.{Line}
@@ -35,3 +35,27 @@ returns-clause-left c =
     let s = c.args.board.now.script.now in
     let lines = c.args.board.now.lines.now in
     ok_then c.push.result c.push.ensures.ok (λ order_is. left_falls s lines c.args.self.now _ c.args.i c.requires.next.line c.requires.merge c.requires.next.stands c.requires.next.next c.in_ok-raise-3.ensures)
+
+pub bounds-board-i : goal.bounds-board-i
+bounds-board-i c = slice_get_within c.args.board.now.lines.now c.args.i c.requires.next.line c.requires.next.stands
+
+pub raise-requires : goal.raise-requires
+raise-requires c =
+    let s = c.args.board.now.script.now in
+    let lines = c.args.board.now.lines.now in
+    let l = c.requires.next.line in
+    let same : get_or lines c.args.i c.index-board-i.result ≡ l = get_or_from_slice_get lines c.args.i l c.index-board-i.result c.requires.next.stands in
+    let a_is : c.actor.result ≡ actor_key l = c.actor.ensures ∙ ap (λ (m : Line). actor_of m.entry) same in
+    omega (arith, a_is, actor_below s lines c.args.i l c.requires.board.lines c.requires.next.stands, c.requires.merge.numbers.long)
+
+pub raise-requires-2 : goal.raise-requires-2
+raise-requires-2 c =
+    let s = c.args.board.now.script.now in
+    let lines = c.args.board.now.lines.now in
+    let l = c.requires.next.line in
+    let same : get_or lines c.args.i c.index-board-i.result ≡ l = get_or_from_slice_get lines c.args.i l c.index-board-i.result c.requires.next.stands in
+    let p_is : c.place_index.result ≡ place_key s l = c.place_index.ensures ∙ ap (λ (m : Line). place_index s m.place) same in
+    omega (arith, p_is, place_below s lines c.args.i l c.requires.board.lines c.requires.next.stands, c.requires.merge.positions.long)
+
+pub raise-requires-3 : goal.raise-requires-3
+raise-requires-3 c = omega (arith, slice_get_within c.args.board.now.lines.now c.args.i c.requires.next.line c.requires.next.stands, c.requires.merge.come.long)

@@ -1,5 +1,5 @@
 use Rattle.co_view.specs.Merging.{IsMerging, not_come}
-use Rattle.co_view.proofs.order.merged.Given as goal
+use Rattle.co_view.proofs.order.take_rest.Given as goal
 
 abbrev pub invariant-loop-first : goal.invariant-loop-first
 invariant-loop-first l = IsMerging l.board.script.now l.board.lines.now l.merge

@@ -1,0 +1,7 @@
+use Rattle.co_view.proofs.Rows.{some_read}
+use Rattle.co_view.proofs.Stories.{told_is}
+use Rattle.co_view.proofs.picture.tell_step.Goals as goal
+
+pub returns-in_ok-tell-in-Some-clause-text : goal.returns-in_ok-tell-in-Some-clause-text
+returns-in_ok-tell-in-Some-clause-text c =
+    told_is c.args.picture c.args.lines.now c.args.index c.args.step c.args.scene.now c.as_slice.result.now c.in-Some.line.now c.args.page.now c.tell.new.page (some_read c.args.lines.now c.args.index c.in-Some.line.now c.in-Some.ensures.lookup.3.0 c.in-Some.ensures.lookup.1) c.as_slice.ensures c.in_ok-tell-in-Some.ensures
