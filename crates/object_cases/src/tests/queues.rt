@@ -49,43 +49,37 @@ fn scan<Q: TimerQueue>(queue: &mut Q, now: Sbt) -> (u32, u64)
     (count, looks.count())
 }
 
-/// What an operation answered.
-#[derive(Clone, Copy, PartialEq, Eq)]
-enum Answer {
-    Put(bool, Sbt),
-    Taken(bool),
-    Count(u32),
-    Popped(Option<(u32, u64)>),
-}
-
-/// An operation by its kind, with the looks of it where it is a scan.
-fn operate<Q: TimerQueue>(
-    queue: &mut Q,
+/// Whether a list and a wheel answer an operation of this kind the same, the wheel with no more looks.
+fn answer_alike(
+    list: &mut ListQueue,
+    wheel: &mut WheelQueue,
     kind: u64,
     i: u32,
     n: u64,
-    t: Sbt,
+    due: Sbt,
     now: Sbt,
-) -> (Answer, u64)
-    requires { i < (Q.state queue.old).size }
-    ensures { (Q.state queue.new).size ≡ (Q.state queue.old).size }
+) -> bool
+    requires list { list.old.size ≡ 8 }
+    requires wheel { wheel.old.size ≡ 8 }
+    requires callout { i < 8 }
+    ensures list { list.new.size ≡ 8 }
+    ensures wheel { wheel.new.size ≡ 8 }
 {
     match kind {
-        0 | 1 | 2 | 3 => {
-            let (found, at) = replace(queue, i, n, t);
-            (Answer::Put(found, at), 0)
-        }
-        4 => (Answer::Taken(queue.remove(i)), 0),
+        0 | 1 | 2 | 3 => replace(list, i, n, due) == replace(wheel, i, n, due),
+        4 => list.remove(i) == wheel.remove(i),
         5 => {
-            let (count, looks) = scan(queue, now);
-            (Answer::Count(count), looks)
+            let (listed, most) = scan(list, now);
+            let (wheeled, looks) = scan(wheel, now);
+            listed == wheeled && looks <= most
         }
-        6 => (Answer::Popped(queue.pop()), 0),
-        _ => (Answer::Popped(queue.pop_direct()), 0),
+        6 => list.pop() == wheel.pop(),
+        _ => list.pop_direct() == wheel.pop_direct(),
     }
 }
 
-/// Whether a list and a wheel answer an operation the same, the wheel with no more looks. The draw x picks the kind and the callout, and y the time.
+/// Whether both answer an operation the same, and then have the same last time. The draw x picks the kind and the callout, and y
+/// the time.
 fn agree(list: &mut ListQueue, wheel: &mut WheelQueue, round: u64, x: u64, y: u64) -> bool
     requires list { list.old.size ≡ 8 }
     requires wheel { wheel.old.size ≡ 8 }
@@ -95,9 +89,8 @@ fn agree(list: &mut ListQueue, wheel: &mut WheelQueue, round: u64, x: u64, y: u6
     let kind = x / 65536 % 8;
     let i = (x / 1024 % 8) as u32;
     let now = round % 4000 * 400_000;
-    let (listed, most) = operate(list, kind, i, round, time(now + y / 64), time(now));
-    let (wheeled, looks) = operate(wheel, kind, i, round, time(now + y / 64), time(now));
-    listed == wheeled && looks <= most && list.last() == wheel.last()
+    let same = answer_alike(list, wheel, kind, i, round, time(now + y / 64), time(now));
+    same && list.last() == wheel.last()
 }
 
 /// The round in which they first differ, or else the number of rounds.
