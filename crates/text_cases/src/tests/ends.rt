@@ -83,23 +83,21 @@ fn pieces_of(alloc: Global, texts: &[&[u8]]) -> Result<Seq<Seq<u8>>, NoMemory> {
 const PIECES: [&[u8]; 3] = [b"ab", b"", b"cd"];
 
 // Whether their write ends so into a sink with this room, which then has these bytes.
-fn writes_three(
-    alloc: Global,
-    room: usize,
-    end: Result<(), WriteEnd>,
-    held: &[u8],
-) -> Result<bool, NoMemory> {
-    let pieces = pieces_of(alloc, &PIECES)?;
-    let mut sink = MemSink::new(alloc, room, 9, &[])?;
-    Ok(write_pieces(&mut sink, pieces.as_slice()) == end && sink.bytes() == held)
+fn writes_three(alloc: Global, room: usize, end: Result<(), WriteEnd>, held: &[u8]) -> bool {
+    match (pieces_of(alloc, &PIECES), MemSink::new(alloc, room, 9, &[])) {
+        (Ok(pieces), Ok(mut sink)) => {
+            write_pieces(&mut sink, pieces.as_slice()) == end && sink.bytes() == held
+        }
+        _ => false,
+    }
 }
 
 #[test]
 fn sinks_take_up_to_a_failure_and_their_room(rt: HostRuntime) {
     let alloc = rt.alloc();
     assert!(rt; fails_and_is_full(alloc) == Ok(true));
-    assert!(rt; writes_three(alloc, 9, Ok(()), b"abcd") == Ok(true));
-    assert!(rt; writes_three(alloc, 3, Err(WriteEnd::Stalled), b"abc") == Ok(true));
+    assert!(rt; writes_three(alloc, 9, Ok(()), b"abcd"));
+    assert!(rt; writes_three(alloc, 3, Err(WriteEnd::Stalled), b"abc"));
 }
 
 // Pours a source of three bytes at most into a sink that has room for it: no fault comes between.
@@ -130,29 +128,38 @@ fn copy<S: Source, K: Sink>(alloc: Global, limit: usize, source: &mut S, sink: &
 }
 
 // Pours three bytes into an empty sink: whether it has them then.
-fn takes_poured(alloc: Global, sink: &mut QuietSink) -> Result<bool, NoMemory>
+fn takes_poured(alloc: Global, sink: &mut QuietSink) -> bool
     requires { 3 ≤ sink.old.room }
 {
-    let mut source = QuietSource::new(alloc, b"abc")?;
-    pour(alloc, &mut source, sink)?;
-    Ok(sink.bytes() == b"abc".as_slice())
+    match QuietSource::new(alloc, b"abc") {
+        Ok(mut source) => {
+            pour(alloc, &mut source, sink).is_ok() && sink.bytes() == b"abc".as_slice()
+        }
+        Err(_) => false,
+    }
 }
 
 // Copies three bytes more: whether it has them all then.
-fn takes_copied(alloc: Global, sink: &mut QuietSink) -> Result<bool, NoMemory> {
-    let mut source = MemSource::new(alloc, b"def", 1, &[])?;
-    Ok(copy(alloc, 3, &mut source, sink) && sink.bytes() == b"abcdef".as_slice())
+fn takes_copied(alloc: Global, sink: &mut QuietSink) -> bool {
+    match MemSource::new(alloc, b"def", 1, &[]) {
+        Ok(mut source) => {
+            copy(alloc, 3, &mut source, sink) && sink.bytes() == b"abcdef".as_slice()
+        }
+        Err(_) => false,
+    }
 }
 
 // Whether a sink with room for them takes them.
-fn takes_six(alloc: Global) -> Result<bool, NoMemory> {
-    let mut sink = QuietSink::new(alloc, 6)?;
-    Ok(takes_poured(alloc, &mut sink)? && takes_copied(alloc, &mut sink)?)
+fn takes_six(alloc: Global) -> bool {
+    match QuietSink::new(alloc, 6) {
+        Ok(mut sink) => takes_poured(alloc, &mut sink) && takes_copied(alloc, &mut sink),
+        Err(_) => false,
+    }
 }
 
 #[test]
 fn quiet_ends_take_all(rt: HostRuntime) {
-    assert!(rt; takes_six(rt.alloc()) == Ok(true));
+    assert!(rt; takes_six(rt.alloc()));
 }
 
 // A reader and a writer that always fail.

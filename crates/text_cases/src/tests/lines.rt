@@ -3,53 +3,34 @@ ghost use Rattle.std.specs.Prelude.{◌<◌};
 
 use co_text::{Cause, next_content};
 
-// Whether the first line has this part before its comment, and these lines after it.
-fn gives(text: &[u8], part: &[u8], rest: &[u8]) -> bool {
+// Whether the first line has this part before its comment, or is refused so, and has these lines after it.
+fn gives(text: &[u8], part: Result<&[u8], Cause>, rest: &[u8]) -> bool {
     match next_content(text) {
-        Some((Ok(found), behind)) => found == part && behind == rest,
-        _ => false,
+        Some((found, behind)) => found == part && behind == rest,
+        None => false,
     }
 }
 
-// Whether the first line is refused so, and has these lines after it.
-fn refuses(text: &[u8], cause: Cause, rest: &[u8]) -> bool {
-    match next_content(text) {
-        Some((Err(found), behind)) => found == cause && behind == rest,
-        _ => false,
-    }
-}
-
-// Texts, what the first line has before its comment, and the lines after it.
-const GOOD: [(&[u8], &[u8], &[u8]); 5] = [
-    (b"hz 9\ncpus 2\n", b"hz 9", b"cpus 2\n"),
-    (b"\n\n", b"", b"\n"),
-    (b"hz\t9\r\n", b"hz\t9\r", b""),
-    (b"hz 9 # ticks\ncpus", b"hz 9 ", b"cpus"),
-    (b"#\x01\xff\n", b"", b""),
+// Texts, what the first line has before its comment or why it is refused, and the lines after it.
+const LINES: [(&[u8], Result<&[u8], Cause>, &[u8]); 10] = [
+    (b"hz 9\ncpus 2\n", Ok(b"hz 9"), b"cpus 2\n"),
+    (b"\n\n", Ok(b""), b"\n"),
+    (b"hz\t9\r\n", Ok(b"hz\t9\r"), b""),
+    (b"hz 9 # ticks\ncpus", Ok(b"hz 9 "), b"cpus"),
+    (b"#\x01\xff\n", Ok(b""), b""),
+    (b"hz 9", Err(Cause::Cut), b""),
+    (b"hz 9 # ticks", Err(Cause::Cut), b""),
+    (b"hz\x00 9\ncpus\n", Err(Cause::Byte), b"cpus\n"),
+    (b"hz 9\x7f\n", Err(Cause::Byte), b""),
+    (b"hz\x80", Err(Cause::Cut), b""),
 ];
 
 #[test]
-fn a_good_line_gives_its_part(rt: HostRuntime) {
-    for (text, part, rest) in &GOOD {
-        assert!(rt; gives(text, part, rest));
+fn a_line_gives_its_part_or_its_cause(rt: HostRuntime) {
+    for (text, part, rest) in &LINES {
+        assert!(rt; gives(text, *part, rest));
     }
     assert!(rt; next_content(b"".as_slice()).is_none());
-}
-
-// Texts, the cause for which the first line is refused, and the lines after it.
-const REFUSED: [(&[u8], Cause, &[u8]); 5] = [
-    (b"hz 9", Cause::Cut, b""),
-    (b"hz 9 # ticks", Cause::Cut, b""),
-    (b"hz\x00 9\ncpus\n", Cause::Byte, b"cpus\n"),
-    (b"hz 9\x7f\n", Cause::Byte, b""),
-    (b"hz\x80", Cause::Cut, b""),
-];
-
-#[test]
-fn a_bad_line_gives_its_cause(rt: HostRuntime) {
-    for (text, cause, rest) in &REFUSED {
-        assert!(rt; refuses(text, *cause, rest));
-    }
 }
 
 // A line of nine letters and its line feed, with this byte in the place of one letter.
@@ -69,7 +50,7 @@ fn ends_at(place: usize) -> bool
     let line = with_byte(b'#', place);
     let (part, _) = line.as_slice().split_at(place);
     let bad = with_byte(b'\x7f', place);
-    gives(line.as_slice(), part, &[]) && refuses(bad.as_slice(), Cause::Byte, &[])
+    gives(line.as_slice(), Ok(part), &[]) && gives(bad.as_slice(), Err(Cause::Byte), &[])
 }
 
 #[test]
@@ -78,5 +59,5 @@ fn a_part_ends_at_each_of_its_places(rt: HostRuntime) {
         assert!(rt; ends_at(place), "{place}");
     }
     let line = with_byte(b'a', 9);
-    assert!(rt; gives(line.as_slice(), b"aaaaaaaaa".as_slice(), b"".as_slice()));
+    assert!(rt; gives(line.as_slice(), Ok(b"aaaaaaaaa".as_slice()), &[]));
 }

@@ -43,15 +43,6 @@ fn writes_words_and_numbers(rt: HostRuntime) {
     assert!(rt; is(written(rt.alloc()), wanted));
 }
 
-/// So many `x`.
-fn blanks(alloc: Global, count: usize) -> Result<Seq<u8>, NoMemory> {
-    let mut text = Seq::new(alloc);
-    for _ in 0..count {
-        text.push(b'x')?;
-    }
-    Ok(text)
-}
-
 /// Appends so many `x`, each by itself, the longest number and a word.
 fn fill(page: &mut Page, count: usize) -> Result<(), NoMemory> {
     for _ in 0..count {
@@ -63,29 +54,44 @@ fn fill(page: &mut Page, count: usize) -> Result<(), NoMemory> {
 }
 
 /// A page of these.
-fn paged(alloc: Global, count: usize) -> Result<Seq<u8>, NoMemory> {
+fn filled(alloc: Global, count: usize) -> Result<Seq<u8>, NoMemory> {
     let mut page = Page::new(alloc);
     fill(&mut page, count)?;
     page.done()
 }
 
-/// The same text, put together by itself.
-fn wanted(alloc: Global, count: usize) -> Result<Seq<u8>, NoMemory> {
-    let mut text = blanks(alloc, count)?;
-    text.extend_from_slice(b"18446744073709551615 pages\n".as_slice())?;
-    Ok(text)
+/// Whether these are `x` alone.
+fn are_blanks(text: &[u8]) -> bool {
+    for byte in text {
+        if *byte != b'x' {
+            return false;
+        }
+    }
+    true
+}
+
+/// Whether a text is so many `x`, the number and the word.
+fn is_filled(text: &[u8], count: usize) -> bool {
+    match text.split_at_checked(count) {
+        Some((blanks, rest)) => {
+            are_blanks(blanks) && rest == b"18446744073709551615 pages\n".as_slice()
+        }
+        None => false,
+    }
 }
 
 /// Whether such a page has each byte.
-fn is_whole(alloc: Global, count: usize) -> Result<bool, NoMemory> {
-    let wanted = wanted(alloc, count)?;
-    Ok(is(paged(alloc, count), wanted.as_slice()))
+fn is_whole(alloc: Global, count: usize) -> bool {
+    match filled(alloc, count) {
+        Ok(text) => is_filled(text.as_slice(), count),
+        Err(_) => false,
+    }
 }
 
 #[test]
 fn no_byte_is_lost_where_a_page_goes_on(rt: HostRuntime) {
     for count in [0, 484, 485, 486, 487, 488, 489, 505, 511, 512, 513, 1100] {
-        assert!(rt; is_whole(rt.alloc(), count) == Ok(true), "{count}");
+        assert!(rt; is_whole(rt.alloc(), count), "{count}");
     }
 }
 
@@ -96,24 +102,26 @@ fn surround(page: &mut Page, text: &[u8]) -> Result<(), NoMemory> {
     page.number(7)
 }
 
-/// Whether a text is 1000 bytes with the digit before and behind them.
-fn is_surrounded(text: &[u8], long: &[u8]) -> bool {
-    text.len() == 1002
-        && text.first() == Some(&b'7')
-        && text.last() == Some(&b'7')
-        && &text[1..1001] == long
+/// A page of these.
+fn surrounded(alloc: Global, text: &[u8]) -> Result<Seq<u8>, NoMemory> {
+    let mut page = Page::new(alloc);
+    surround(&mut page, text)?;
+    page.done()
 }
 
 /// Whether 1000 bytes and the digit before and behind them make a text.
-fn surrounds(alloc: Global) -> Result<bool, NoMemory> {
-    let long = blanks(alloc, 1000)?;
-    let mut page = Page::new(alloc);
-    surround(&mut page, long.as_slice())?;
-    let text = page.done()?;
-    Ok(is_surrounded(text.as_slice(), long.as_slice()))
+fn surrounds(alloc: Global) -> bool {
+    let long = [b'x'; 1000];
+    match surrounded(alloc, &long) {
+        Ok(text) => match text.as_slice() {
+            [b'7', between @ .., b'7'] => between == long.as_slice(),
+            _ => false,
+        },
+        Err(_) => false,
+    }
 }
 
 #[test]
 fn a_text_longer_than_what_is_kept_back_follows(rt: HostRuntime) {
-    assert!(rt; surrounds(rt.alloc()) == Ok(true));
+    assert!(rt; surrounds(rt.alloc()));
 }

@@ -51,49 +51,108 @@ fn empty_run(rt: HostRuntime) {
     assert!(rt; is(report_of_text(rt.alloc(), script), wanted));
 }
 
-/// How many notes a report has that is read, and the number of the line `end`.
-fn size_of(alloc: Global, text: &[u8]) -> Option<(usize, u64)> {
-    match read_report(alloc, text) {
-        Ok(report) => Some((report.lines.as_slice().len(), report.end)),
-        Err(_) => None,
-    }
-}
-
-/// Eight notes, and the line `end` behind them.
-#[test]
-fn one_firing_is_read(rt: HostRuntime) {
-    let text =
-        b"callout-report 1\ncallout 1\nhz 1000\ncpus 1\nwheel 256\nfuncs 1\ntimer 0 mpsafe\nfunc 0\nclient 0\n\
+/// Texts, and how many notes each has, with the number of the line `end`; or where it is no report the first bad line and its cause.
+const TEXTS: [(&str, Result<(usize, u64), (u64, Cause)>); 15] = [
+    // One firing, and nobody's notes.
+    (
+        "callout-report 1\ncallout 1\nhz 1000\ncpus 1\nwheel 256\nfuncs 1\ntimer 0 mpsafe\nfunc 0\nclient 0\n\
         reset 0 =u6442450944 f0 a7\ncpu 0\ntick u6442450944\nhistories\ntimer 0\n\
         0 c0/0 reset u6442450944 pr u0 f0 a7 cpu - = armed 0 #0 p0 off -\n\
         2 p0/0 pick #0 p0 u6442450944 = go f0 a7\n3 p0/0 end #0 p0 = ended drain - next - woke 0\nwheel 0\n\
         1 c0/0 insert i0 #0 u6442450944 = at u6442450944\n0 p0/0 scan u6442450944 = count 1\n\
-        1 p0/0 pop = got i0 #0 u6442450944\n4 p0/0 free = freed\n5 p0/0 pop = empty\nactor c0\nactor p0\nend\n";
-    assert!(rt; size_of(rt.alloc(), text.as_slice()) == Some((8, 26)));
-}
+        1 p0/0 pop = got i0 #0 u6442450944\n4 p0/0 free = freed\n5 p0/0 pop = empty\nactor c0\nactor p0\nend\n",
+        Ok((8, 26)),
+    ),
+    (
+        "callout-report 1\ncallout 1\nhz 1000\ncpus 1\nwheel 256\nfuncs 0\ntimer 0 mpsafe\ncpu 0\nhistories\n\
+        timer 0\nwheel 0\nactor p0\nend\n",
+        Ok((0, 13)),
+    ),
+    ("", Err((0, Cause::Version))),
+    ("callout-report 2\nend", Err((2, Cause::Cut))),
+    ("callout-report 01\n", Err((1, Cause::Version))),
+    ("callout-report 1\nend\n", Err((0, Cause::Note))),
+    (
+        "callout-report 1\ncallout 1\nhz 0\nhistories\n",
+        Err((3, Cause::Number)),
+    ),
+    (
+        "callout-report 1\ncallout 1\ntimer 0 mpsafe\nhistories\n",
+        Err((3, Cause::Form)),
+    ),
+    // Behind the line `histories`, which is line 9: a line too many, and too few.
+    (
+        "callout-report 1\ncallout 1\nhz 1000\ncpus 1\nwheel 256\nfuncs 0\ntimer 0 mpsafe\ncpu 0\nhistories\n\
+        timer 0\nwheel 0\nactor p0\nend\nend\n",
+        Err((14, Cause::Note)),
+    ),
+    (
+        "callout-report 1\ncallout 1\nhz 1000\ncpus 1\nwheel 256\nfuncs 0\ntimer 0 mpsafe\ncpu 0\nhistories\n\
+        timer 0\n",
+        Err((11, Cause::Note)),
+    ),
+    (
+        "callout-report 1\ncallout 1\nhz 1000\ncpus 1\nwheel 256\nfuncs 0\ntimer 0 mpsafe\ncpu 0\nhistories\n\
+        timer 0\nactor p0\n",
+        Err((11, Cause::Note)),
+    ),
+    // A code, a number, a callout and an actor that no note has.
+    (
+        "callout-report 1\ncallout 1\nhz 1000\ncpus 1\nwheel 256\nfuncs 0\ntimer 0 mpsafe\ncpu 0\nhistories\n\
+        timer 0\n0 p0/0 stop = stopped -1 off -\n0 p0/0 stop = stopped -0 off -\n",
+        Err((12, Cause::Note)),
+    ),
+    (
+        "callout-report 1\ncallout 1\nhz 1000\ncpus 1\nwheel 256\nfuncs 0\ntimer 0 mpsafe\ncpu 0\nhistories\n\
+        timer 0\n00 p0/0 stop = done\n",
+        Err((11, Cause::Note)),
+    ),
+    (
+        "callout-report 1\ncallout 1\nhz 1000\ncpus 1\nwheel 256\nfuncs 0\ntimer 0 mpsafe\ncpu 0\nhistories\n\
+        timer 0\nwheel 0\n0 p0/0 remove i0 = off\n0 p0/0 remove i1 = off\n",
+        Err((13, Cause::Note)),
+    ),
+    (
+        "callout-report 1\ncallout 1\nhz 1000\ncpus 1\nwheel 256\nfuncs 0\ntimer 0 mpsafe\ncpu 0\nhistories\n\
+        timer 0\nwheel 0\n0 p0/0 pop = empty\n0 h0/0 pop = empty\n",
+        Err((13, Cause::Note)),
+    ),
+];
 
-/// Whether line 16 is the only note: the actor's own, that it does not hold the lock.
-fn is_one_own_note(lines: &[Line]) -> bool {
-    let entry = OwnEntry {
-        actor: 0,
-        act: 0,
-        kind: OwnKind::NotHeld,
-    };
-    match lines {
-        [line] => {
-            line.line == 16
-                && line.number == 0
-                && line.place == Place::Actor(0)
-                && line.entry == AnyEntry::Own(entry)
+/// Whether a text is read so.
+fn is_read_as(alloc: Global, text: &str, wanted: &Result<(usize, u64), (u64, Cause)>) -> bool {
+    match (read_report(alloc, text.as_bytes()), wanted) {
+        (Ok(report), Ok((notes, end))) => {
+            report.lines.as_slice().len() == *notes && report.end == *end
         }
+        (Err(ScriptFault::Bad { line, cause }), Err(bad)) => (line, cause) == *bad,
         _ => false,
     }
 }
 
-/// Whether a report is read that has that note.
+#[test]
+fn notes_are_counted_and_the_first_bad_line_is_named(rt: HostRuntime) {
+    for (text, wanted) in &TEXTS {
+        assert!(rt; is_read_as(rt.alloc(), text, wanted), "{text}");
+    }
+}
+
+/// Line 16 says that the actor does not hold the lock.
+const OWN_NOTE: Line = Line {
+    line: 16,
+    place: Place::Actor(0),
+    number: 0,
+    entry: AnyEntry::Own(OwnEntry {
+        actor: 0,
+        act: 0,
+        kind: OwnKind::NotHeld,
+    }),
+};
+
+/// Whether a report is read that has that note alone.
 fn has_own_note(alloc: Global, text: &[u8]) -> bool {
     match read_report(alloc, text) {
-        Ok(report) => is_one_own_note(report.lines.as_slice()),
+        Ok(report) => report.lines.as_slice() == [OWN_NOTE].as_slice(),
         Err(_) => false,
     }
 }
@@ -104,90 +163,4 @@ fn own_note_is_read(rt: HostRuntime) {
         b"callout-report 1\ncallout 2\nhz 1000\ncpus 1\nwheel 256\nfuncs 0\nlock 0 mtx\ntimer 0 mtx 0\nclient 0\nstop 0\n\
         cpu 0\nhistories\ntimer 0\nwheel 0\nactor c0\n0 c0/0 notheld\nactor p0\nactor h0\nend\n";
     assert!(rt; has_own_note(rt.alloc(), text.as_slice()));
-}
-
-/// Texts that are no reports, with the first bad line and its cause.
-const BAD: [(&str, u64, Cause); 13] = [
-    ("", 0, Cause::Version),
-    ("callout-report 2\nend", 2, Cause::Cut),
-    ("callout-report 01\n", 1, Cause::Version),
-    ("callout-report 1\nend\n", 0, Cause::Note),
-    (
-        "callout-report 1\ncallout 1\nhz 0\nhistories\n",
-        3,
-        Cause::Number,
-    ),
-    (
-        "callout-report 1\ncallout 1\ntimer 0 mpsafe\nhistories\n",
-        3,
-        Cause::Form,
-    ),
-    // Behind the line `histories`, which is line 9: a line too many, and too few.
-    (
-        "callout-report 1\ncallout 1\nhz 1000\ncpus 1\nwheel 256\nfuncs 0\ntimer 0 mpsafe\ncpu 0\nhistories\n\
-        timer 0\nwheel 0\nactor p0\nend\nend\n",
-        14,
-        Cause::Note,
-    ),
-    (
-        "callout-report 1\ncallout 1\nhz 1000\ncpus 1\nwheel 256\nfuncs 0\ntimer 0 mpsafe\ncpu 0\nhistories\n\
-        timer 0\n",
-        11,
-        Cause::Note,
-    ),
-    (
-        "callout-report 1\ncallout 1\nhz 1000\ncpus 1\nwheel 256\nfuncs 0\ntimer 0 mpsafe\ncpu 0\nhistories\n\
-        timer 0\nactor p0\n",
-        11,
-        Cause::Note,
-    ),
-    // A code, a number, a callout and an actor that no note has.
-    (
-        "callout-report 1\ncallout 1\nhz 1000\ncpus 1\nwheel 256\nfuncs 0\ntimer 0 mpsafe\ncpu 0\nhistories\n\
-        timer 0\n0 p0/0 stop = stopped -1 off -\n0 p0/0 stop = stopped -0 off -\n",
-        12,
-        Cause::Note,
-    ),
-    (
-        "callout-report 1\ncallout 1\nhz 1000\ncpus 1\nwheel 256\nfuncs 0\ntimer 0 mpsafe\ncpu 0\nhistories\n\
-        timer 0\n00 p0/0 stop = done\n",
-        11,
-        Cause::Note,
-    ),
-    (
-        "callout-report 1\ncallout 1\nhz 1000\ncpus 1\nwheel 256\nfuncs 0\ntimer 0 mpsafe\ncpu 0\nhistories\n\
-        timer 0\nwheel 0\n0 p0/0 remove i0 = off\n0 p0/0 remove i1 = off\n",
-        13,
-        Cause::Note,
-    ),
-    (
-        "callout-report 1\ncallout 1\nhz 1000\ncpus 1\nwheel 256\nfuncs 0\ntimer 0 mpsafe\ncpu 0\nhistories\n\
-        timer 0\nwheel 0\n0 p0/0 pop = empty\n0 h0/0 pop = empty\n",
-        13,
-        Cause::Note,
-    ),
-];
-
-/// The fault of this text.
-fn fault_of(alloc: Global, text: &str) -> Option<ScriptFault> {
-    read_report(alloc, text.as_bytes()).err()
-}
-
-#[test]
-fn first_bad_line_is_named(rt: HostRuntime) {
-    for (text, line, cause) in &BAD {
-        let wanted = ScriptFault::Bad {
-            line: *line,
-            cause: *cause,
-        };
-        assert!(rt; fault_of(rt.alloc(), text) == Some(wanted), "{text}");
-    }
-}
-
-#[test]
-fn no_notes_are_read(rt: HostRuntime) {
-    let text =
-        "callout-report 1\ncallout 1\nhz 1000\ncpus 1\nwheel 256\nfuncs 0\ntimer 0 mpsafe\ncpu 0\nhistories\n\
-        timer 0\nwheel 0\nactor p0\nend\n";
-    assert!(rt; fault_of(rt.alloc(), text).is_none());
 }

@@ -1,17 +1,11 @@
 //! Worked scripts.
-use co_program::Script;
 use co_script::{fits, print_script, read_script};
 use co_text::{Cause, ScriptFault};
 use std::alloc::Global;
 
-/// The script that a text is.
-fn script_of(alloc: Global, text: &[u8]) -> Result<Script, ScriptFault> {
-    read_script(alloc, text)
-}
-
 /// Whether the script that a text is fits, and is printed as this text.
 fn is_printed_as(alloc: Global, text: &[u8], wanted: &[u8]) -> Result<bool, ScriptFault> {
-    let script = script_of(alloc, text)?;
+    let script = read_script(alloc, text)?;
     match print_script(alloc, &script) {
         Ok(printed) => Ok(fits(&script) && printed.as_slice() == wanted),
         Err(_) => Err(ScriptFault::NoMemory),
@@ -37,5 +31,5 @@ fn first_bad_line_is_named(rt: HostRuntime) {
         line: 8,
         cause: Cause::Falls,
     };
-    assert!(rt; script_of(rt.alloc(), text.as_slice()).err() == Some(wanted));
+    assert!(rt; read_script(rt.alloc(), text.as_slice()).err() == Some(wanted));
 }

@@ -15,6 +15,18 @@ use co_text::ScriptFault;
 use std::alloc::Global;
 use std::marker::Brand;
 
+/// Tells these notes, each of its actor.
+fn tell<L: Listener>(listener: &mut L, actors: u32, told: &[(u32, Note)]) -> Result<(), NoMemory>
+    requires { actors ≡ L.actors listener.old }
+{
+    for (actor, note) in told {
+        if *actor < actors {
+            listener.write(*actor, note)?;
+        }
+    }
+    Ok(())
+}
+
 /// The report of a script after these notes, each with its actor.
 fn report_told<S: Subject>(
     alloc: Global,
@@ -24,13 +36,8 @@ fn report_told<S: Subject>(
     requires sound { IsScript script.now }
     requires subject { script.now ≡ S.script }
 {
-    let actors = actor_count(script);
     let mut sections = SectionsOf::<S>::new(alloc, script)?;
-    for (actor, note) in told {
-        if *actor < actors {
-            sections.write(*actor, note)?;
-        }
-    }
+    tell(&mut sections, actor_count(script), told)?;
     joined(alloc, sections.pieces(alloc)?.as_slice())
 }
 
