@@ -9,7 +9,6 @@ use co_object::{AnyEntry, CallOp, Entry, Note, Op, Place, PlainOp, Reply, RunOp}
 use co_program::{Script, actor_count};
 use co_report::Subject;
 use co_sbt::{NoMemory, Sbt};
-use co_text::ScriptFault;
 use std::alloc::Global;
 use std::marker::Brand;
 
@@ -37,164 +36,254 @@ const NOTHING: Counts = Counts {
     pending: 0,
 };
 
+/// What a client or the CPU does with callout 0, and what it is told.
+enum Step {
+    /// It is armed for this second, with this number.
+    Reset {
+        second: i32,
+        code: i32,
+        n: u64,
+        off: Option<u32>,
+    },
+    /// The service of this arming begins at this second, or waits for its lock.
+    Pick {
+        n: u64,
+        second: i32,
+        waits: bool,
+    },
+    Stop {
+        code: i32,
+        off: Option<u32>,
+    },
+    /// The service of arming 0 has its lock, and finds it cancelled.
+    Skip,
+    End {
+        n: u64,
+    },
+}
+
 fn seconds(ticks: i32) -> Sbt {
     Sbt::from_ticks(ticks, 1)
 }
 
-fn reset(due: Sbt) -> Op {
-    Op::Call(CallOp::Plain(PlainOp::Reset {
-        due,
-        prec: Sbt::zero(),
-        func: 0,
-        arg: 0,
-        cpu: None,
-    }))
-}
-
-fn armed(code: i32, n: u64, off: Option<u32>) -> Reply {
-    Reply::Armed {
-        code,
-        n,
-        cpu: 0,
-        off,
+/// The operation of a step, and its reply.
+fn told(step: &Step) -> (Op, Reply) {
+    match step {
+        Step::Reset {
+            second,
+            code,
+            n,
+            off,
+        } => (
+            Op::Call(CallOp::Plain(PlainOp::Reset {
+                due: seconds(*second),
+                prec: Sbt::zero(),
+                func: 0,
+                arg: 0,
+                cpu: None,
+            })),
+            Reply::Armed {
+                code: *code,
+                n: *n,
+                cpu: 0,
+                off: *off,
+            },
+        ),
+        Step::Pick { n, second, waits } => {
+            let at = seconds(*second);
+            let reply = if *waits {
+                Reply::Hold
+            } else {
+                Reply::Go { func: 0, arg: 0 }
+            };
+            (Op::Run(RunOp::Pick { n: *n, cpu: 0, at }), reply)
+        }
+        Step::Stop { code, off } => (
+            Op::Call(CallOp::Plain(PlainOp::Stop)),
+            Reply::Stopped {
+                code: *code,
+                off: *off,
+            },
+        ),
+        Step::Skip => (Op::Run(RunOp::Begin { n: 0, cpu: 0 }), Reply::Skip),
+        Step::End { n } => (
+            Op::Run(RunOp::End { n: *n, cpu: 0 }),
+            Reply::Ended {
+                drain: None,
+                next: None,
+                woke: false,
+            },
+        ),
     }
 }
 
-fn pick(n: u64, at: Sbt) -> Op {
-    Op::Run(RunOp::Pick { n, cpu: 0, at })
+/// Actor 0's note of a step, at this position of callout 0.
+fn note_of(step: &Step, pos: u64) -> Note {
+    let (op, reply) = told(step);
+    Note {
+        place: Place::Timer(0),
+        pos,
+        entry: AnyEntry::Timer(Entry {
+            actor: 0,
+            act: 0,
+            op,
+            reply,
+        }),
+    }
 }
 
-fn end(n: u64) -> Op {
-    Op::Run(RunOp::End { n, cpu: 0 })
+/// Tells actor 0's history of callout 0.
+fn tell<L: Listener>(listener: &mut L, actors: u32, history: &[Step]) -> Result<(), NoMemory>
+    requires { actors ≡ L.actors listener.old }
+{
+    let mut pos: u64 = 0;
+    for step in history {
+        if actors > 0 {
+            listener.write(0, &note_of(step, pos))?;
+        }
+        pos = pos.wrapping_add(1);
+    }
+    Ok(())
 }
 
-const STOP: Op = Op::Call(CallOp::Plain(PlainOp::Stop));
-
-const GO: Reply = Reply::Go { func: 0, arg: 0 };
-
-const ENDED: Reply = Reply::Ended {
-    drain: None,
-    next: None,
-    woke: false,
-};
-
-/// The counts of a type's script, whose callout 0 has this history, told by actor 0.
+/// The counts of a type's script, whose callout 0 has this history.
 fn counts_told<S: Subject>(
     alloc: Global,
     script: &Script,
-    history: &[(Op, Reply)],
+    history: &[Step],
 ) -> Result<Counts, NoMemory>
     requires of { script.now ≡ S.script }
     requires script { IsScript script.now }
 {
     let mut tally = TallyOf::<S>::new(alloc, script)?;
-    let mut pos: u64 = 0;
-    for (op, reply) in history {
-        let note = Note {
-            place: Place::Timer(0),
-            pos,
-            entry: AnyEntry::Timer(Entry {
-                actor: 0,
-                act: 0,
-                op: *op,
-                reply: *reply,
-            }),
-        };
-        if actor_count(script) > 0 {
-            tally.write(0, &note)?;
-        }
-        pos = pos.wrapping_add(1);
-    }
+    tell(&mut tally, actor_count(script), history)?;
     Ok(tally.counts())
 }
 
-/// The counts of a script with this history.
-fn counts_of(alloc: Global, script: &Script, history: &[(Op, Reply)]) -> Result<Counts, NoMemory>
-    requires { IsScript script.now }
-{
-    counts_told::<Brand>(alloc, script, history)
-}
-
 /// Whether the callout of a text's script has these counts after this history.
-fn has(
-    alloc: Global,
-    text: &str,
-    history: &[(Op, Reply)],
-    wanted: Counts,
-) -> Result<bool, ScriptFault> {
-    let script = script_of(alloc, text.as_bytes())?;
-    Ok(counts_of(alloc, &script, history) == Ok(wanted))
+fn has(alloc: Global, text: &str, history: &[Step], wanted: &Counts) -> bool {
+    match script_of(alloc, text.as_bytes()) {
+        Ok(script) => counts_told::<Brand>(alloc, &script, history) == Ok(*wanted),
+        Err(_) => false,
+    }
 }
 
-#[test]
-fn replaced(rt: HostRuntime) {
-    let history = [
-        (reset(seconds(1)), armed(0, 0, None)),
-        (reset(seconds(2)), armed(1, 1, Some(0))),
-        (pick(1, seconds(2)), GO),
-        (end(1), ENDED),
-    ];
-    let wanted = Counts {
-        notes: 4,
-        armed: 2,
-        fired: 1,
-        superseded: 1,
-        ..NOTHING
-    };
-    assert!(rt; has(rt.alloc(), FREE, &history, wanted) == Ok(true));
-}
+/// What a case shows, its script, what happens to callout 0, and the counts then.
+const CASES: &[(&str, &str, &[Step], Counts)] = &[
+    (
+        "replaced",
+        FREE,
+        &[
+            Step::Reset {
+                second: 1,
+                code: 0,
+                n: 0,
+                off: None,
+            },
+            Step::Reset {
+                second: 2,
+                code: 1,
+                n: 1,
+                off: Some(0),
+            },
+            Step::Pick {
+                n: 1,
+                second: 2,
+                waits: false,
+            },
+            Step::End { n: 1 },
+        ],
+        Counts {
+            notes: 4,
+            armed: 2,
+            fired: 1,
+            superseded: 1,
+            ..NOTHING
+        },
+    ),
+    (
+        "cancelled while it waits",
+        LOCKED,
+        &[
+            Step::Reset {
+                second: 1,
+                code: 0,
+                n: 0,
+                off: None,
+            },
+            Step::Pick {
+                n: 0,
+                second: 1,
+                waits: true,
+            },
+            Step::Stop { code: 1, off: None },
+            Step::Skip,
+            Step::End { n: 0 },
+        ],
+        Counts {
+            notes: 5,
+            armed: 1,
+            stopped: 1,
+            ..NOTHING
+        },
+    ),
+    (
+        "stop during service",
+        FREE,
+        &[
+            Step::Reset {
+                second: 1,
+                code: 0,
+                n: 0,
+                off: None,
+            },
+            Step::Pick {
+                n: 0,
+                second: 1,
+                waits: false,
+            },
+            Step::Reset {
+                second: 2,
+                code: 0,
+                n: 1,
+                off: None,
+            },
+            Step::Stop {
+                code: 0,
+                off: Some(0),
+            },
+            Step::End { n: 0 },
+        ],
+        Counts {
+            notes: 5,
+            armed: 2,
+            fired: 1,
+            stopped: 1,
+            ..NOTHING
+        },
+    ),
+    (
+        "still armed",
+        FREE,
+        &[Step::Reset {
+            second: 1,
+            code: 0,
+            n: 0,
+            off: None,
+        }],
+        Counts {
+            notes: 1,
+            armed: 1,
+            pending: 1,
+            ..NOTHING
+        },
+    ),
+    ("empty run", FREE, &[], NOTHING),
+];
 
 #[test]
-fn cancelled_while_it_waits(rt: HostRuntime) {
-    let history = [
-        (reset(seconds(1)), armed(0, 0, None)),
-        (pick(0, seconds(1)), Reply::Hold),
-        (STOP, Reply::Stopped { code: 1, off: None }),
-        (Op::Run(RunOp::Begin { n: 0, cpu: 0 }), Reply::Skip),
-        (end(0), ENDED),
-    ];
-    let wanted = Counts {
-        notes: 5,
-        armed: 1,
-        stopped: 1,
-        ..NOTHING
-    };
-    assert!(rt; has(rt.alloc(), LOCKED, &history, wanted) == Ok(true));
-}
-
-#[test]
-fn stop_during_service(rt: HostRuntime) {
-    let off = Some(0);
-    let history = [
-        (reset(seconds(1)), armed(0, 0, None)),
-        (pick(0, seconds(1)), GO),
-        (reset(seconds(2)), armed(0, 1, None)),
-        (STOP, Reply::Stopped { code: 0, off }),
-        (end(0), ENDED),
-    ];
-    let wanted = Counts {
-        notes: 5,
-        armed: 2,
-        fired: 1,
-        stopped: 1,
-        ..NOTHING
-    };
-    assert!(rt; has(rt.alloc(), FREE, &history, wanted) == Ok(true));
-}
-
-#[test]
-fn still_armed(rt: HostRuntime) {
-    let history = [(reset(seconds(1)), armed(0, 0, None))];
-    let wanted = Counts {
-        notes: 1,
-        armed: 1,
-        pending: 1,
-        ..NOTHING
-    };
-    assert!(rt; has(rt.alloc(), FREE, &history, wanted) == Ok(true));
-}
-
-#[test]
-fn empty_run(rt: HostRuntime) {
-    assert!(rt; has(rt.alloc(), FREE, &[], NOTHING) == Ok(true));
+fn fates_are_counted(rt: HostRuntime) {
+    for (name, text, history, wanted) in CASES {
+        assert!(rt; has(rt.alloc(), text, history, wanted), "{name}");
+    }
 }

@@ -5,7 +5,7 @@ ghost use Rattle.co_program.specs.Scripts.{IsScript};
 use super::{IN_TRANSIT, script_of};
 use co_core::{run_steps, tell_walk};
 use co_listener::Listener;
-use co_object::{Lists, Note};
+use co_object::Note;
 use co_program::Script;
 use co_sbt::{NoMemory, Seq};
 use std::alloc::Global;
@@ -28,40 +28,27 @@ impl Listener for Told {
     }
 }
 
-/// How many notes an actor has.
-fn notes_of(lists: &Lists, actor: usize) -> usize {
-    match lists.as_slice().get(actor) {
-        Some(list) => list.as_slice().len(),
-        None => 0,
+/// How many notes each of four actors has.
+fn counts(lists: &[Seq<Note>]) -> Option<[usize; 4]> {
+    match lists {
+        [first, second, third, fourth] => Some([
+            first.as_slice().len(),
+            second.as_slice().len(),
+            third.as_slice().len(),
+            fourth.as_slice().len(),
+        ]),
+        _ => None,
     }
 }
 
-/// How many notes the first four actors have.
-fn counts(lists: &Lists) -> [usize; 4] {
-    [
-        notes_of(lists, 0),
-        notes_of(lists, 1),
-        notes_of(lists, 2),
-        notes_of(lists, 3),
-    ]
-}
-
-/// How many lists a script's walk makes, and how many notes their first four have.
-fn counted(alloc: Global, script: &Script) -> Option<(usize, [usize; 4])>
+/// How many notes each of the four actors of a script's walk has.
+fn counted(alloc: Global, script: &Script) -> Option<[usize; 4]>
     requires { IsScript script.now }
 {
     match run_steps(alloc, script) {
-        Ok(lists) => Some((lists.as_slice().len(), counts(&lists))),
+        Ok(lists) => counts(lists.as_slice()),
         Err(_) => None,
     }
-}
-
-#[test]
-fn keeps_a_list_for_each_actor(rt: HostRuntime) {
-    let Ok(script) = script_of(rt.alloc(), IN_TRANSIT.as_bytes()) else {
-        panic!(rt; "no script");
-    };
-    assert!(rt; counted(rt.alloc(), &script) == Some((4, [2, 2, 0, 0])));
 }
 
 /// Whether a script's walk tells these notes, of an actor and at a position each.
@@ -74,10 +61,19 @@ fn tells(alloc: Global, script: &Script, notes: &[(u32, u64)]) -> bool
     tell_walk(alloc, script, &mut told).is_ok() && told.notes.as_slice() == notes
 }
 
+/// Whether the walk of a text's script makes four lists of so many notes, and tells these notes.
+fn walks(alloc: Global, text: &str, lists: [usize; 4], notes: &[(u32, u64)]) -> [bool; 2] {
+    match script_of(alloc, text.as_bytes()) {
+        Ok(script) => [
+            counted(alloc, &script) == Some(lists),
+            tells(alloc, &script, notes),
+        ],
+        Err(_) => [false; 2],
+    }
+}
+
 #[test]
-fn tells_as_it_walks(rt: HostRuntime) {
-    let Ok(script) = script_of(rt.alloc(), IN_TRANSIT.as_bytes()) else {
-        panic!(rt; "no script");
-    };
-    assert!(rt; tells(rt.alloc(), &script, &[(0, 0), (0, 0), (1, 1), (1, 1)]));
+fn keeps_a_list_for_each_actor_and_tells_as_it_walks(rt: HostRuntime) {
+    let notes = [(0, 0), (0, 0), (1, 1), (1, 1)];
+    assert!(rt; walks(rt.alloc(), IN_TRANSIT, [2, 2, 0, 0], &notes) == [true, true]);
 }

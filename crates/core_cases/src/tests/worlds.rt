@@ -6,10 +6,8 @@ use super::{IN_TRANSIT, script_of};
 use co_core::{Turn, Why, World};
 use co_object::{AnyEntry, CallOp, Entry, Note, Op, Place, PlainOp, QEntry, QOp, QReply, Reply};
 use co_program::{Script, actor_count};
-use co_sbt::{NoMemory, Seq};
-use co_text::ScriptFault;
+use co_sbt::NoMemory;
 use std::alloc::Global;
-use std::process::Abort;
 
 /// A client arms the callout under its lock and stops it while the CPU's service waits for the lock.
 const CANCELLED_SCRIPT: &str = "callout 1
@@ -67,102 +65,92 @@ cpu 0
 tick 1
 ";
 
-/// The actors step in this order, with these answers.
-fn steps(rt: &impl Abort, script: &Script, world: &mut World, turns: &[(u32, Turn)])
-    requires world { world.old.script ≡ script.now }
-    requires script { IsScript script.now }
-{
-    for (actor, turn) in turns {
-        assert!(rt; *actor < actor_count(script));
-        assert!(rt; world.step(*actor) == Ok(*turn), "actor {actor}");
-    }
-}
-
-/// The notes of an actor in that world.
-fn copied_notes(alloc: Global, world: &World<'_>, actor: usize) -> Result<Seq<Note>, NoMemory> {
-    match world.lists().as_slice().get(actor) {
-        Some(list) => Seq::copy_of(alloc, list.as_slice()),
-        None => Ok(Seq::new(alloc)),
-    }
-}
-
-/// The notes of an actor after the script's actors have stepped in this order, with these answers.
-fn notes_after(
-    rt: &impl Abort,
-    alloc: Global,
-    script: &Script,
-    turns: &[(u32, Turn)],
+/// A run of a script by hand, and what one actor is told in it.
+struct Run {
+    name: &'static str,
+    script: &'static str,
+    /// Who steps, one after the other, and what the step comes to.
+    turns: &'static [(u32, Turn)],
     actor: usize,
-) -> Result<Seq<Note>, NoMemory>
-    requires { IsScript script.now }
-{
-    let mut world = World::boot(alloc, script)?;
-    steps(rt, script, &mut world, turns);
-    copied_notes(alloc, &world, actor)
+    /// How many notes the actor then has.
+    count: usize,
+    /// One of them, and how many stand before it.
+    note: Option<(usize, Note)>,
 }
 
-/// The notes of an actor after the actors of a text's script have stepped in this order, with these answers; the fault
-/// of a text that is no script.
-fn notes_of(
-    rt: &impl Abort,
-    alloc: Global,
-    text: &str,
-    turns: &[(u32, Turn)],
-    actor: usize,
-) -> Result<Seq<Note>, ScriptFault> {
-    let script = script_of(alloc, text.as_bytes())?;
-    match notes_after(rt, alloc, &script, turns, actor) {
-        Ok(notes) => Ok(notes),
-        Err(_) => Err(ScriptFault::NoMemory),
-    }
-}
+const STOP: Op = Op::Call(CallOp::Plain(PlainOp::Stop));
 
-/// What is told of an actor.
-type Told = Result<Seq<Note>, ScriptFault>;
+const DRAIN: Op = Op::Call(CallOp::DrainTry { took: false });
 
-/// How many notes are there.
-fn count(told: &Told) -> Option<usize> {
-    match told {
-        Ok(notes) => Some(notes.as_slice().len()),
-        Err(_) => None,
-    }
-}
+/// Client 0 stops the callout whose service waits for the lock.
+const STOPPED_BEFORE_ITS_LOCK: Note = Note {
+    place: Place::Timer(0),
+    pos: 2,
+    entry: AnyEntry::Timer(Entry {
+        actor: 0,
+        act: 2,
+        op: STOP,
+        reply: Reply::Stopped { code: 1, off: None },
+    }),
+};
 
-/// Whether so many notes are there, and this is the one behind the first `at`.
-fn is_at(told: &Told, count: usize, at: usize, note: &Note) -> bool {
-    match told {
-        Ok(notes) => notes.as_slice().len() == count && notes.as_slice().get(at) == Some(note),
-        Err(_) => false,
-    }
-}
+/// Client 1 stops the callout that has come to CPU 1.
+const STOPPED_ELSEWHERE: Note = Note {
+    place: Place::Timer(0),
+    pos: 1,
+    entry: AnyEntry::Timer(Entry {
+        actor: 1,
+        act: 0,
+        op: STOP,
+        reply: Reply::Stopped {
+            code: 1,
+            off: Some(1),
+        },
+    }),
+};
 
-/// A stop of callout 0.
-fn stopped(actor: u32, act: u64, pos: u64, off: Option<u32>) -> Note {
-    Note {
-        place: Place::Timer(0),
-        pos,
-        entry: AnyEntry::Timer(Entry {
-            actor,
-            act,
-            op: Op::Call(CallOp::Plain(PlainOp::Stop)),
-            reply: Reply::Stopped { code: 1, off },
-        }),
-    }
-}
+/// Client 1 takes the callout from the queue of CPU 1.
+const REMOVED: Note = Note {
+    place: Place::Cpu(1),
+    pos: 1,
+    entry: AnyEntry::Cpu(QEntry {
+        actor: 1,
+        act: 0,
+        op: QOp::Remove { i: 0 },
+        reply: QReply::Off,
+    }),
+};
 
-/// A try of the drain of callout 0.
-fn tried(pos: u64, reply: Reply) -> Note {
-    Note {
-        place: Place::Timer(0),
-        pos,
-        entry: AnyEntry::Timer(Entry {
-            actor: 0,
-            act: 1,
-            op: Op::Call(CallOp::DrainTry { took: false }),
-            reply,
-        }),
-    }
-}
+/// Client 0's drain has to wait.
+const WAITS: Note = Note {
+    place: Place::Timer(0),
+    pos: 2,
+    entry: AnyEntry::Timer(Entry {
+        actor: 0,
+        act: 1,
+        op: DRAIN,
+        reply: Reply::Wait {
+            n: 0,
+            took: false,
+            off: None,
+        },
+    }),
+};
+
+/// Client 0's drain is over.
+const IS_OVER: Note = Note {
+    place: Place::Timer(0),
+    pos: 5,
+    entry: AnyEntry::Timer(Entry {
+        actor: 0,
+        act: 1,
+        op: DRAIN,
+        reply: Reply::Drained {
+            code: -1,
+            off: None,
+        },
+    }),
+};
 
 const CANCELLED: [(u32, Turn); 15] = [
     (0, Turn::Notes(0)),
@@ -182,14 +170,6 @@ const CANCELLED: [(u32, Turn); 15] = [
     (1, Turn::Finished),
 ];
 
-#[test]
-fn cancelled_while_it_waits(rt: HostRuntime) {
-    let client = notes_of(&rt, rt.alloc(), CANCELLED_SCRIPT, &CANCELLED, 0);
-    assert!(rt; is_at(&client, 3, 2, &stopped(0, 2, 2, None)));
-    let cpu = notes_of(&rt, rt.alloc(), CANCELLED_SCRIPT, &CANCELLED, 1);
-    assert!(rt; count(&cpu) == Some(7));
-}
-
 const MOVING: [(u32, Turn); 8] = [
     (0, Turn::Notes(1)),
     (1, Turn::Blocked(Why::Moving(0))),
@@ -200,29 +180,6 @@ const MOVING: [(u32, Turn); 8] = [
     (2, Turn::Finished),
     (3, Turn::Finished),
 ];
-
-/// A remove of callout 0 from the queue of CPU 1 by actor 1.
-fn removed() -> Note {
-    Note {
-        place: Place::Cpu(1),
-        pos: 1,
-        entry: AnyEntry::Cpu(QEntry {
-            actor: 1,
-            act: 0,
-            op: QOp::Remove { i: 0 },
-            reply: QReply::Off,
-        }),
-    }
-}
-
-#[test]
-fn moving(rt: HostRuntime) {
-    let first = notes_of(&rt, rt.alloc(), IN_TRANSIT, &MOVING, 0);
-    assert!(rt; count(&first) == Some(2));
-    let second = notes_of(&rt, rt.alloc(), IN_TRANSIT, &MOVING, 1);
-    assert!(rt; is_at(&second, 2, 0, &removed()));
-    assert!(rt; is_at(&second, 2, 1, &stopped(1, 0, 1, Some(1))));
-}
 
 const DRAINED: [(u32, Turn); 13] = [
     (0, Turn::Notes(2)),
@@ -240,26 +197,6 @@ const DRAINED: [(u32, Turn); 13] = [
     (2, Turn::Finished),
 ];
 
-/// A drain's answer that it has to wait.
-const WAITS: Reply = Reply::Wait {
-    n: 0,
-    took: false,
-    off: None,
-};
-
-/// A drain's answer that it is over.
-const IS_OVER: Reply = Reply::Drained {
-    code: -1,
-    off: None,
-};
-
-#[test]
-fn drain_against_reset(rt: HostRuntime) {
-    let client = notes_of(&rt, rt.alloc(), DRAINED_SCRIPT, &DRAINED, 0);
-    assert!(rt; is_at(&client, 6, 2, &tried(2, WAITS)));
-    assert!(rt; is_at(&client, 6, 3, &tried(5, IS_OVER)));
-}
-
 const BEHIND_CANCELLED: [(u32, Turn); 8] = [
     (0, Turn::Notes(0)),
     (0, Turn::Notes(2)),
@@ -271,15 +208,131 @@ const BEHIND_CANCELLED: [(u32, Turn); 8] = [
     (2, Turn::Blocked(Why::Lock(0))),
 ];
 
-#[test]
-fn drain_behind_a_cancelled_call(rt: HostRuntime) {
-    let script = BEHIND_CANCELLED_SCRIPT;
-    assert!(rt; notes_of(&rt, rt.alloc(), script, &BEHIND_CANCELLED, 0).is_ok());
-}
-
 const SOFT_FIRST: [(u32, Turn); 1] = [(1, Turn::Blocked(Why::Tick(0)))];
 
+const RUNS: [Run; 9] = [
+    Run {
+        name: "cancelled while it waits",
+        script: CANCELLED_SCRIPT,
+        turns: &CANCELLED,
+        actor: 0,
+        count: 3,
+        note: Some((2, STOPPED_BEFORE_ITS_LOCK)),
+    },
+    Run {
+        name: "the CPU that finds it cancelled",
+        script: CANCELLED_SCRIPT,
+        turns: &CANCELLED,
+        actor: 1,
+        count: 7,
+        note: None,
+    },
+    Run {
+        name: "moving",
+        script: IN_TRANSIT,
+        turns: &MOVING,
+        actor: 0,
+        count: 2,
+        note: None,
+    },
+    Run {
+        name: "removed where it came to",
+        script: IN_TRANSIT,
+        turns: &MOVING,
+        actor: 1,
+        count: 2,
+        note: Some((0, REMOVED)),
+    },
+    Run {
+        name: "stopped where it came to",
+        script: IN_TRANSIT,
+        turns: &MOVING,
+        actor: 1,
+        count: 2,
+        note: Some((1, STOPPED_ELSEWHERE)),
+    },
+    Run {
+        name: "drain during a service",
+        script: DRAINED_SCRIPT,
+        turns: &DRAINED,
+        actor: 0,
+        count: 6,
+        note: Some((2, WAITS)),
+    },
+    Run {
+        name: "drain against reset",
+        script: DRAINED_SCRIPT,
+        turns: &DRAINED,
+        actor: 0,
+        count: 6,
+        note: Some((3, IS_OVER)),
+    },
+    Run {
+        name: "drain behind a cancelled call",
+        script: BEHIND_CANCELLED_SCRIPT,
+        turns: &BEHIND_CANCELLED,
+        actor: 0,
+        count: 3,
+        note: None,
+    },
+    Run {
+        name: "soft before its tick",
+        script: SOFT_FIRST_SCRIPT,
+        turns: &SOFT_FIRST,
+        actor: 0,
+        count: 0,
+        note: None,
+    },
+];
+
+/// Whether the actors can step in this order, with these answers.
+fn goes(script: &Script, world: &mut World, turns: &[(u32, Turn)]) -> bool
+    requires world { world.old.script ≡ script.now }
+    requires script { IsScript script.now }
+{
+    for (actor, turn) in turns {
+        if *actor >= actor_count(script) || world.step(*actor) != Ok(*turn) {
+            return false;
+        }
+    }
+    true
+}
+
+/// Whether the note stands in the list behind as many others, where one is wanted.
+fn has(list: &[Note], note: &Option<(usize, Note)>) -> bool {
+    match note {
+        Some((at, note)) => list.get(*at) == Some(note),
+        None => true,
+    }
+}
+
+/// Whether the run's actor has as many notes as it has to, and the one that is wanted.
+fn is_told(world: &World<'_>, run: &Run) -> bool {
+    match world.lists().as_slice().get(run.actor) {
+        Some(list) => list.as_slice().len() == run.count && has(list.as_slice(), &run.note),
+        None => false,
+    }
+}
+
+/// Whether a world of the script goes as the run does.
+fn is_stepped(alloc: Global, script: &Script, run: &Run) -> Result<bool, NoMemory>
+    requires { IsScript script.now }
+{
+    let mut world = World::boot(alloc, script)?;
+    Ok(goes(script, &mut world, run.turns) && is_told(&world, run))
+}
+
+/// Whether the run's text is a script that goes so.
+fn is_run(alloc: Global, run: &Run) -> bool {
+    match script_of(alloc, run.script.as_bytes()) {
+        Ok(script) => is_stepped(alloc, &script, run) == Ok(true),
+        Err(_) => false,
+    }
+}
+
 #[test]
-fn soft_before_its_tick(rt: HostRuntime) {
-    assert!(rt; notes_of(&rt, rt.alloc(), SOFT_FIRST_SCRIPT, &SOFT_FIRST, 0).is_ok());
+fn worlds_go_by_hand(rt: HostRuntime) {
+    for run in &RUNS {
+        assert!(rt; is_run(rt.alloc(), run), "{}", run.name);
+    }
 }
