@@ -13,10 +13,7 @@ fn add<R: Wait>(rt: &R, counters: &[Mutex<u64>], work: &Work, thread: u32) {
     let Some(counter) = counters.get(work.place(thread) as usize) else {
         return;
     };
-    for _ in 0..work.calls {
-        let mut count = counter.lock(rt);
-        *count = count.saturating_add(1);
-        drop(count);
+    for _ in 0..work.calls.saturating_mul(2) {
         let mut count = counter.lock(rt);
         *count = count.saturating_add(1);
     }

@@ -27,10 +27,12 @@ impl Failed {
             Failed::NoMemory => 5,
         }
     }
-}
 
-impl From<NoMemory> for Failed {
-    fn from(_: NoMemory) -> Failed {
-        Failed::NoMemory
+    /// What was made; `NoMemory` where there was no room for it.
+    pub fn of<T>(made: Result<T, NoMemory>) -> Result<T, Failed> {
+        match made {
+            Ok(made) => Ok(made),
+            Err(NoMemory {}) => Err(Failed::NoMemory),
+        }
     }
 }

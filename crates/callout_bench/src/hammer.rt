@@ -21,20 +21,19 @@ use std::thread::{Threads, join};
 /// How many callouts each thread has.
 const OWN: u32 = 16;
 
+/// What is fixed of a callout without a lock.
+const PLAIN: Spec = Spec {
+    lock: LockUse::Free,
+    returns_unlocked: false,
+    direct: false,
+};
+
 /// What is fixed of `callouts` callouts without a lock. `NoMemory` where there is no room for them.
 fn plain_specs(alloc: Global, callouts: u32) -> Result<Seq<Spec>, NoMemory>
     ensures count { IfOk result (λ specs. length specs ≡ callouts) }
     ensures each { IfOk result (All IsPlain) }
 {
-    let mut specs = Seq::new(alloc);
-    for _i in 0..callouts {
-        specs.push(Spec {
-            lock: LockUse::Free,
-            returns_unlocked: false,
-            direct: false,
-        })?;
-    }
-    Ok(specs)
+    Seq::filled(alloc, callouts as usize, PLAIN)
 }
 
 /// A service with a client and the callouts for each thread, and one CPU of 16 buckets more than there are threads, before its

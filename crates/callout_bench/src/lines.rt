@@ -1,51 +1,69 @@
-//! The lines that say what was counted.
+//! The lines that say what was counted. Each call answers `NoMemory` where the page finds no room.
 use crate::queues::{Counts, Kind};
 use crate::work::{Where, Work};
 use crate::world::Walked;
 use co_sbt::NoMemory;
-use co_text::Page;
+use co_text::{Page, Token};
 
-/// A run of a queue. `NoMemory` where the page finds no room.
+/// A run of a queue.
 pub fn queue(page: &mut Page, kind: Kind, counts: &Counts) -> Result<(), NoMemory> {
-    page.text(match kind {
-        Kind::List => b"list".as_slice(),
-        Kind::Wheel => b"wheel".as_slice(),
-    })?;
-    page.tagged(b": ".as_slice(), counts.replaced)?;
-    page.tagged(b" replaced, ".as_slice(), counts.stopped)?;
-    page.tagged(b" stopped, ".as_slice(), counts.fired)?;
-    page.tagged(b" fired, ".as_slice(), counts.scans)?;
-    page.tagged(b" scans, ".as_slice(), counts.looks)?;
-    page.text(b" looks\n".as_slice())
+    let name = match kind {
+        Kind::List => b"list:".as_slice(),
+        Kind::Wheel => b"wheel:".as_slice(),
+    };
+    page.line(
+        &Token::Text(name),
+        &[
+            Token::Number(counts.replaced),
+            Token::Text(b"replaced,"),
+            Token::Number(counts.stopped),
+            Token::Text(b"stopped,"),
+            Token::Number(counts.fired),
+            Token::Text(b"fired,"),
+            Token::Number(counts.scans),
+            Token::Text(b"scans,"),
+            Token::Number(counts.looks),
+            Token::Text(b"looks"),
+        ],
+    )
 }
 
-/// A script that was read. `NoMemory` where the page finds no room.
+/// A script that was read.
 pub fn timers(page: &mut Page, timers: u64) -> Result<(), NoMemory> {
-    page.number(timers)?;
-    page.text(b" timers\n".as_slice())
+    page.line(&Token::Number(timers), &[Token::Text(b"timers")])
 }
 
-/// A script's walk. `NoMemory` where the page finds no room.
+/// A script's walk.
 pub fn notes(page: &mut Page, notes: u64) -> Result<(), NoMemory> {
-    page.number(notes)?;
-    page.text(b" notes\n".as_slice())
+    page.line(&Token::Number(notes), &[Token::Text(b"notes")])
 }
 
-/// A world that was stepped. `NoMemory` where the page finds no room.
+/// A world that was stepped.
 pub fn world(page: &mut Page, walked: &Walked) -> Result<(), NoMemory> {
-    page.number(walked.notes)?;
-    page.tagged(b" notes, ".as_slice(), walked.refused)?;
-    page.text(b" steps refused\n".as_slice())
+    page.line(
+        &Token::Number(walked.notes),
+        &[
+            Token::Text(b"notes,"),
+            Token::Number(walked.refused),
+            Token::Text(b"steps refused"),
+        ],
+    )
 }
 
-/// A run of threads. `NoMemory` where the page finds no room.
+/// A run of threads.
 pub fn threads(page: &mut Page, what: &str, work: &Work, count: u64) -> Result<(), NoMemory> {
-    page.text(what.as_bytes())?;
-    page.text(match work.at {
-        Where::Apart => b" apart".as_slice(),
-        Where::One => b" one".as_slice(),
-    })?;
-    page.tagged(b": ".as_slice(), u64::from(work.threads))?;
-    page.tagged(b" threads, ".as_slice(), count)?;
-    page.text(b" counted\n".as_slice())
+    let place = match work.at {
+        Where::Apart => b"apart:".as_slice(),
+        Where::One => b"one:".as_slice(),
+    };
+    page.line(
+        &Token::Text(what.as_bytes()),
+        &[
+            Token::Text(place),
+            Token::Number(u64::from(work.threads)),
+            Token::Text(b"threads,"),
+            Token::Number(count),
+            Token::Text(b"counted"),
+        ],
+    )
 }

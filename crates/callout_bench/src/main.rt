@@ -30,48 +30,23 @@ mod world;
 
 use crate::failed::Failed;
 use crate::tasks::text_of;
-use co_io::{FileSink, FileSource, Sink, write_all};
-use std::env::{self, Env};
-use std::io::ErrorKind;
+use co_front::words;
+use co_io::{FileSink, FileSource, write_all};
 use std::process::ExitCode;
-
-/// The words after the program's name. They are none where one of them is not UTF-8.
-fn arguments(rt: &(impl Env + AllocGlobal)) -> Result<Vec<String>, Failed> {
-    let args = match env::args(rt) {
-        Ok(args) => args,
-        Err(error) if error.kind() == ErrorKind::InvalidData => return Err(Failed::Words),
-        Err(_) => return Err(Failed::NoMemory),
-    };
-    let mut words = Vec::new(rt.alloc());
-    for word in args.skip(1) {
-        if words.push(word).is_err() {
-            return Err(Failed::NoMemory);
-        }
-    }
-    Ok(words)
-}
-
-/// Writes what was counted.
-fn write<K: Sink>(sink: &mut K, text: &[u8]) -> Result<(), Failed> {
-    match write_all(sink, text) {
-        Ok(()) => Ok(()),
-        Err(_) => Err(Failed::Output),
-    }
-}
 
 fn main(rt: HostRuntime) -> ExitCode {
     let mut source = FileSource::new(rt.stdin());
-    let counted = match arguments(&rt) {
+    let counted = match words(&rt) {
         Ok(words) => text_of(&rt, rt.alloc(), &mut source, words.as_slice()),
-        Err(failed) => Err(failed),
+        Err(_) => Err(Failed::NoMemory),
     };
     let mut sink = FileSink::new(rt.stdout());
-    let written = match counted {
-        Ok(text) => write(&mut sink, text.as_slice()),
-        Err(failed) => Err(failed),
+    let status = match counted {
+        Ok(text) => match write_all(&mut sink, text.as_slice()) {
+            Ok(()) => 0,
+            Err(_) => Failed::Output.exit_status(),
+        },
+        Err(failed) => failed.exit_status(),
     };
-    match written {
-        Ok(()) => ExitCode::SUCCESS,
-        Err(failed) => ExitCode::from(failed.exit_status()),
-    }
+    ExitCode::from(status)
 }

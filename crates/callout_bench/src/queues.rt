@@ -1,11 +1,11 @@
 //! A timer queue through armings, stops and scans.
-ghost use Rattle.std.specs.Prelude.{◌≡◌, ◌≤◌, ◌<◌};
+ghost use Rattle.std.specs.Prelude.{◌≡◌, ◌≤◌, ◌<◌, IfOk};
 ghost use Rattle.co_queue.specs.Timers.{IsWheel};
 
 use crate::failed::Failed;
 use co_bucket::WheelQueue;
 use co_queue::{ListQueue, Looks, TimerQueue};
-use co_sbt::{NoMemory, Sbt};
+use co_sbt::{NoMemory, Sbt, Seq};
 use std::alloc::Global;
 
 /// The armings between two scans.
@@ -116,6 +116,18 @@ fn arm_all<Q: TimerQueue>(queue: &mut Q, work: &Work) -> Counts
     counts
 }
 
+/// Runs a queue that was made.
+fn run_made<Q: TimerQueue + Drop>(
+    made: Result<Q, NoMemory>,
+    work: &Work,
+) -> Result<Counts, NoMemory>
+    requires some { 1 ≤ work.now.callouts }
+    requires size { IfOk made (λ queue. work.now.callouts ≤ (Q.state queue).size) }
+{
+    let mut queue = made?;
+    Ok(arm_all(&mut queue, work))
+}
+
 /// Runs a new queue. `NoMemory` where there is no room for it.
 pub fn run(alloc: Global, kind: Kind, buckets: u32, work: &Work) -> Result<Counts, NoMemory>
     requires some { 1 ≤ work.now.callouts }
@@ -123,11 +135,15 @@ pub fn run(alloc: Global, kind: Kind, buckets: u32, work: &Work) -> Result<Count
     requires buckets { IsWheel buckets }
 {
     let size = work.callouts;
-    let Ok(direct) = vec![in alloc; false; size as usize] else {
-        return Err(NoMemory {});
-    };
+    let direct = Seq::filled(alloc, size as usize, false)?;
     match kind {
-        Kind::List => Ok(arm_all(&mut ListQueue::new(alloc, size, buckets, &direct)?, work)),
-        Kind::Wheel => Ok(arm_all(&mut WheelQueue::new(alloc, size, buckets, &direct)?, work)),
+        Kind::List => run_made(
+            ListQueue::new(alloc, size, buckets, direct.as_slice()),
+            work,
+        ),
+        Kind::Wheel => run_made(
+            WheelQueue::new(alloc, size, buckets, direct.as_slice()),
+            work,
+        ),
     }
 }

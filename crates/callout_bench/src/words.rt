@@ -57,14 +57,15 @@ pub fn buckets_of(word: &str) -> Result<u32, Failed>
     }
 }
 
-/// Which calls threads make of a service. None where the word says none.
-pub fn calls_of(word: &str) -> Option<Calls> {
+/// Which calls threads make of a service, where they make any: at `mutex` they add to counters. `Words` where the word says neither.
+pub fn calls_of(word: &str) -> Result<Option<Calls>, Failed> {
     match word {
-        "service" => Some(Calls::Told),
-        "notes" => Some(Calls::Noted),
-        "moves" => Some(Calls::Moved),
-        "shared" => Some(Calls::Shared),
-        _ => None,
+        "service" => Ok(Some(Calls::Told)),
+        "notes" => Ok(Some(Calls::Noted)),
+        "moves" => Ok(Some(Calls::Moved)),
+        "shared" => Ok(Some(Calls::Shared)),
+        "mutex" => Ok(None),
+        _ => Err(Failed::Words),
     }
 }
 

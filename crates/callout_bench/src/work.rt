@@ -1,6 +1,19 @@
 //! What a run is to do.
 ghost use Rattle.std.specs.Prelude.{◌<◌, ◌≤◌, ◌+◌, ◌*◌};
 
+/// What is done with a script.
+#[derive(Clone, Copy)]
+pub enum Task {
+    /// It is read and no more.
+    Read,
+    /// It is run as `callout steps` does, without a report.
+    Walk,
+    /// Its world is stepped.
+    Step,
+    /// Everything is run briefly, on this script too.
+    All,
+}
+
 /// Where the threads meet.
 #[derive(Clone, Copy)]
 pub enum Where {

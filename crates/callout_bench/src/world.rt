@@ -70,6 +70,25 @@ fn count_notes(world: &World<'_>) -> u64 {
     notes
 }
 
+/// Steps the world by the script's turns, and then by round robin until all have finished.
+fn finish<R: Wait>(
+    rt: &R,
+    script: &Script,
+    world: &mut World<'_>,
+    refused: &mut u64,
+) -> Result<(), NoMemory>
+    requires script { IsScript script.now }
+    requires world { world.old.script ≡ script.now }
+{
+    make_turns(script, world, refused)?;
+    for _ in rt.forever() {
+        if make_round(script, world, refused)? {
+            break;
+        }
+    }
+    Ok(())
+}
+
 /// Steps the script's world by its turns, and then by round robin until all have finished. `NoMemory` where a step was
 /// refused memory three times, or the world at its boot.
 pub fn walk<R: Wait>(rt: &R, alloc: Global, script: &Script) -> Result<Walked, NoMemory>
@@ -77,14 +96,11 @@ pub fn walk<R: Wait>(rt: &R, alloc: Global, script: &Script) -> Result<Walked, N
 {
     let mut world = World::boot(alloc, script)?;
     let mut refused = 0;
-    make_turns(script, &mut world, &mut refused)?;
-    for _ in rt.forever() {
-        if make_round(script, &mut world, &mut refused)? {
-            break;
-        }
+    match finish(rt, script, &mut world, &mut refused) {
+        Ok(()) => Ok(Walked {
+            notes: count_notes(&world),
+            refused,
+        }),
+        Err(NoMemory {}) => Err(NoMemory {}),
     }
-    Ok(Walked {
-        notes: count_notes(&world),
-        refused,
-    })
 }

@@ -1,5 +1,5 @@
 use Rattle.std.proofs.Common.{◌≡◌}
-use Rattle.callout_bench.proofs.world.walk.Given as goal
+use Rattle.callout_bench.proofs.world.finish.Given as goal
 
 abbrev pub invariant-loop : goal.invariant-loop
 invariant-loop g l = l.world.script ≡ l.script
