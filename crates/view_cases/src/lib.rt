@@ -2,11 +2,11 @@
 #![tactic(auto)]
 
 #[cfg(test)]
-mod outcome;
+mod calls;
 #[cfg(test)]
 mod reports;
 #[cfg(test)]
 mod tests;
 
 #[cfg(test)]
-pub use outcome::{Outcome, shown, view};
+pub use calls::{read, shows, sink, view};

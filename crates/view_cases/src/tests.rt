@@ -1,6 +1,4 @@
 mod ends;
-mod lanes;
-mod parts;
 mod pictures;
 mod statuses;
-mod summary;
+mod views;

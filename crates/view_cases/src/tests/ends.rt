@@ -1,61 +1,46 @@
 //! One firing over ends that fail.
 
 use crate::reports::ONE_FIRING;
-use crate::{Outcome, view};
+use crate::tests::views::TIMER_LANES;
+use crate::view;
 use co_io::{MemSink, MemSource};
-use co_sbt::NoMemory;
 use co_view_top::Status;
 use std::alloc::Global;
-use std::test::Fail;
 
-/// The text of the whole view `timer 0` here.
-const TEXT: &str = "line\tc0\tp0\n\
-    15\treset timer 0 at 1.500s to f0 a7 -> 0 armed #0 on CPU 0\n\
-    19\tCPU 0: insert timer 0 #0 at 1.500s -> in the queue at 1.500s\n\
-    21\t|\tCPU 0: next due -> timer 0 #0 at 1.500s\n\
-    16\t|\ttake timer 0 #0 at 1.500s -> calls f0 a7\n\
-    17\t|\tend timer 0 #0 -> over\n";
-
-/// A call whose ends give and take 32 bytes at a time.
-fn timer(
+/// Whether the view `timer 0` ends so, and so many bytes of its text are written, where its ends give and take 32 bytes at a time.
+fn ends(
     alloc: Global,
     read_fails: &[u64],
     room: usize,
     write_fails: &[u64],
-) -> Result<Outcome, NoMemory> {
-    let source = MemSource::new(alloc, ONE_FIRING.as_bytes(), 32, read_fails)?;
-    let sink = MemSink::new(alloc, room, 32, write_fails)?;
-    view(alloc, ["timer", "0"].as_slice(), source, sink)
+    status: Status,
+    written: usize,
+) -> bool {
+    let Ok(mut source) = MemSource::new(alloc, ONE_FIRING.as_bytes(), 32, read_fails) else {
+        return false;
+    };
+    let Ok(mut sink) = MemSink::new(alloc, room, 32, write_fails) else {
+        return false;
+    };
+    let ended = view(alloc, &["timer", "0"], &mut source, &mut sink);
+    ended == Ok(status) && Some(sink.bytes()) == TIMER_LANES.as_bytes().get(..written)
 }
 
 /// In each read, and in the one that finds the end.
 #[test]
-fn each_read_fails_in_turn(rt: HostRuntime) -> Result<(), Fail> {
+fn each_read_fails_in_turn(rt: HostRuntime) {
+    let room = TIMER_LANES.len();
     for turn in 0..ONE_FIRING.len() as u64 / 32 + 1 {
-        let outcome = timer(rt.alloc(), &[turn], TEXT.len(), &[])?;
-        assert!(rt; outcome.status == Status::ReadFault, "read {turn}");
-        assert!(rt; outcome.held.as_slice().len() == 0, "read {turn}");
+        let failed = ends(rt.alloc(), &[turn], room, &[], Status::ReadFault, 0);
+        assert!(rt; failed, "read {turn}");
     }
-    Ok(())
 }
 
-/// A front of the text was written.
+/// The second write fails, where a front of the text was written; then none does, into room for the whole text and for too little.
 #[test]
-fn the_second_write_fails(rt: HostRuntime) -> Result<(), Fail> {
-    let outcome = timer(rt.alloc(), &[], TEXT.len(), &[1])?;
-    assert!(rt; outcome.status == Status::WriteFault);
-    let written = outcome.held.as_slice();
-    assert!(rt; written.len() == 32 && Some(written) == TEXT.as_bytes().get(..32));
-    Ok(())
-}
-
-/// No write fails: a sink without room takes nothing.
-#[test]
-fn too_little_room(rt: HostRuntime) -> Result<(), Fail> {
-    let outcome = timer(rt.alloc(), &[], TEXT.len(), &[])?;
-    assert!(rt; outcome.status == Status::Done && outcome.held.as_slice() == TEXT.as_bytes());
-    let short = timer(rt.alloc(), &[], 100, &[])?;
-    assert!(rt; short.status == Status::WriteFault);
-    assert!(rt; Some(short.held.as_slice()) == TEXT.as_bytes().get(..100));
-    Ok(())
+fn writes_fail_and_find_no_room(rt: HostRuntime) {
+    let (alloc, whole) = (rt.alloc(), TIMER_LANES.len());
+    assert!(rt; ends(alloc, &[], whole, &[1], Status::WriteFault, 32));
+    assert!(rt; ends(alloc, &[], whole, &[], Status::Done, whole));
+    assert!(rt; ends(alloc, &[], 100, &[], Status::WriteFault, 100));
 }

@@ -1,10 +1,9 @@
 //! Traces and pictures.
 
 use crate::reports::{DRAIN_WAITS, ONE_FIRING};
-use crate::shown;
-use crate::tests::parts::times;
+use crate::{read, shows, sink};
 use co_view_top::Status;
-use std::test::Fail;
+use std::alloc::Global;
 
 /// The lanes are armed for four steps and in service for one; each note is an event of a microsecond in its actor's lane.
 const FIRING_TRACE: &str = r##"{"traceEvents":[
@@ -30,71 +29,87 @@ const FIRING_TRACE: &str = r##"{"traceEvents":[
 "##;
 
 #[test]
-fn trace_of_one_firing(rt: HostRuntime) -> Result<(), Fail> {
-    let outcome = shown(rt.alloc(), ["trace"].as_slice(), ONE_FIRING)?;
-    assert!(rt; outcome.status == Status::Done);
-    assert!(rt; outcome.held.as_slice() == FIRING_TRACE.as_bytes());
-    Ok(())
+fn trace_of_one_firing(rt: HostRuntime) {
+    assert!(rt;
+        shows(
+            rt.alloc(),
+            &["trace"],
+            ONE_FIRING,
+            Status::Done,
+            FIRING_TRACE
+        )
+    );
 }
 
-/// The eleven notes of the report, each as one event.
-const DRAIN_EVENTS: [&str; 11] = [
-    "\"line\":24,",
-    "\"line\":25,",
-    "\"line\":26,",
-    "\"line\":27,",
-    "\"line\":28,",
-    "\"line\":29,",
-    "\"line\":32,",
-    "\"line\":33,",
-    "\"line\":34,",
-    "\"line\":35,",
-    "\"line\":36,",
+/// How often a part stands in a text.
+fn times(text: &[u8], part: &[u8]) -> usize {
+    let mut count: usize = 0;
+    for at in 0..text.len() {
+        if text[at..].starts_with(part) {
+            count = count.saturating_add(1);
+        }
+    }
+    count
+}
+
+/// Whether the view of a drain that this word asks for has this part so often.
+fn has(alloc: Global, word: &str, part: &str, count: usize) -> bool {
+    let Ok(mut sink) = sink(alloc) else {
+        return false;
+    };
+    let ended = read(alloc, &[word], DRAIN_WAITS, &mut sink);
+    ended == Ok(Status::Done) && times(sink.bytes(), part.as_bytes()) == count
+}
+
+/// A word, a part of its view of a drain, and how often it stands there.
+const PARTS: &[(&str, &str, usize)] = &[
+    // The eleven notes of the report, each as one event.
+    ("trace", "\"ph\":\"X\"", 11),
+    ("trace", "\"line\":24,", 1),
+    ("trace", "\"line\":25,", 1),
+    ("trace", "\"line\":26,", 1),
+    ("trace", "\"line\":27,", 1),
+    ("trace", "\"line\":28,", 1),
+    ("trace", "\"line\":29,", 1),
+    ("trace", "\"line\":32,", 1),
+    ("trace", "\"line\":33,", 1),
+    ("trace", "\"line\":34,", 1),
+    ("trace", "\"line\":35,", 1),
+    ("trace", "\"line\":36,", 1),
+    // Its callout was armed and in service, with a wait for its lock.
+    ("trace", "\"ph\":\"B\"", 3),
+    ("trace", "\"ph\":\"E\"", 3),
+    (
+        "trace",
+        "\"tid\":1,\"ts\":4,\"name\":\"#0 waits for its lock\"}",
+        1,
+    ),
+    ("trace", "\"tid\":1,\"ts\":6,\"name\":\"#0 in service\"}", 1),
+    // An arrow goes from the wait of step 5 to the end of step 7.
+    ("trace", "\"ph\":\"s\",", 1),
+    ("trace", "\"ph\":\"f\",", 1),
+    ("trace", "\"id\":\"0.0\",\"pid\":2,\"tid\":1,\"ts\":5}", 1),
+    ("trace", "\"id\":\"0.0\",\"pid\":2,\"tid\":3,\"ts\":7}", 1),
+    ("svg", "<svg ", 1),
+    ("svg", "</svg>\n", 1),
+    ("svg", "<circle ", 11),
+    ("svg", "\">36</text>", 1),
+    // Columns of 400 points behind a margin of 70, steps of 18 points below 80: the bar of the service that CPU 1, the fourth actor,
+    // made from step 4 to step 7.
+    ("svg", "<rect class=", 1),
+    (
+        "svg",
+        "<rect class=\"t0\" x=\"1266\" y=\"152\" width=\"8\" height=\"54\"/>",
+        1,
+    ),
+    // The arrow to its end from the second client's step 5.
+    ("svg", "<path class=\"a\"", 1),
+    ("svg", "<path class=\"a\" d=\"M470 170V215H1270V206\"/>", 1),
 ];
 
 #[test]
-fn trace_has_each_note_once(rt: HostRuntime) -> Result<(), Fail> {
-    let outcome = shown(rt.alloc(), ["trace"].as_slice(), DRAIN_WAITS)?;
-    assert!(rt; outcome.status == Status::Done);
-    let text = outcome.held.as_slice();
-    assert!(rt; times(text, "\"ph\":\"X\"") == 11);
-    for event in DRAIN_EVENTS {
-        assert!(rt; times(text, event) == 1, "{event}");
+fn parts_of_a_drain(rt: HostRuntime) {
+    for (word, part, count) in PARTS {
+        assert!(rt; has(rt.alloc(), word, part, *count), "{word}: {part}");
     }
-    Ok(())
-}
-
-/// Its callout was armed and in service, with a wait for its lock; an arrow goes from the wait of step 5 to the end of step 7.
-#[test]
-fn trace_of_a_drain(rt: HostRuntime) -> Result<(), Fail> {
-    let outcome = shown(rt.alloc(), ["trace"].as_slice(), DRAIN_WAITS)?;
-    let text = outcome.held.as_slice();
-    assert!(rt; times(text, "\"ph\":\"B\"") == 3 && times(text, "\"ph\":\"E\"") == 3);
-    assert!(rt;
-        times(
-            text,
-            "\"tid\":1,\"ts\":4,\"name\":\"#0 waits for its lock\"}"
-        ) == 1
-    );
-    assert!(rt; times(text, "\"tid\":1,\"ts\":6,\"name\":\"#0 in service\"}") == 1);
-    assert!(rt; times(text, "\"ph\":\"s\",") == 1 && times(text, "\"ph\":\"f\",") == 1);
-    assert!(rt; times(text, "\"id\":\"0.0\",\"pid\":2,\"tid\":1,\"ts\":5}") == 1);
-    assert!(rt; times(text, "\"id\":\"0.0\",\"pid\":2,\"tid\":3,\"ts\":7}") == 1);
-    Ok(())
-}
-
-/// Columns of 400 points behind a margin of 70, steps of 18 points below 80: the bar of the service that CPU 1, the fourth actor,
-/// made from step 4 to step 7, and the arrow to its end from the second client's step 5.
-#[test]
-fn picture_of_a_drain(rt: HostRuntime) -> Result<(), Fail> {
-    let outcome = shown(rt.alloc(), ["svg"].as_slice(), DRAIN_WAITS)?;
-    assert!(rt; outcome.status == Status::Done);
-    let text = outcome.held.as_slice();
-    assert!(rt; times(text, "<svg ") == 1 && times(text, "</svg>\n") == 1);
-    assert!(rt; times(text, "<circle ") == 11 && times(text, "\">36</text>") == 1);
-    let bar = "<rect class=\"t0\" x=\"1266\" y=\"152\" width=\"8\" height=\"54\"/>";
-    assert!(rt; times(text, "<rect class=") == 1 && times(text, bar) == 1);
-    let arrow = "<path class=\"a\" d=\"M470 170V215H1270V206\"/>";
-    assert!(rt; times(text, "<path class=\"a\"") == 1 && times(text, arrow) == 1);
-    Ok(())
 }
