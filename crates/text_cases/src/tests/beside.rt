@@ -66,7 +66,7 @@ fn is_read_alike<R: Threads + Sync>(
 /// What a case shows, the parts of its text, and the line that is refused with its cause, where one is.
 type Case = (&'static str, &'static [Part], Option<(u64, Cause)>);
 
-const CASES: [Case; 13] = [
+const CASES: &[Case] = &[
     (
         "sections of each kind",
         &[
@@ -214,7 +214,7 @@ fn bad(refused: Option<(u64, Cause)>) -> Option<ScriptFault> {
 
 #[test]
 fn long_texts_are_read_alike(rt: HostRuntime) {
-    for (name, parts, refused) in &CASES {
+    for (name, parts, refused) in CASES {
         let alike = is_read_alike(&rt, rt.alloc(), parts, bad(*refused));
         assert!(rt; alike == Ok(true), "{name}");
     }

@@ -40,7 +40,7 @@ fn gives_of_five(alloc: Global, limit: usize, bytes: &[u8], over: bool) -> Resul
 }
 
 // Limits, what is read of five bytes, and whether they are over the limit.
-const LIMITS: [(u8, &str, bool); 4] = [
+const LIMITS: &[(u8, &str, bool)] = &[
     (6, "abcde", false),
     (5, "abcde", false),
     (4, "abcde", true),
@@ -52,7 +52,7 @@ const LIMITS: [(u8, &str, bool); 4] = [
 fn sources_give_up_to_a_failure_and_the_limit(rt: HostRuntime) {
     let alloc = rt.alloc();
     assert!(rt; fails_once(alloc) == Ok(true));
-    for (limit, bytes, over) in &LIMITS {
+    for (limit, bytes, over) in LIMITS {
         let limit = usize::from(*limit);
         assert!(rt; gives_of_five(alloc, limit, bytes.as_bytes(), *over) == Ok(true));
     }
@@ -80,11 +80,11 @@ fn pieces_of(alloc: Global, texts: &[&[u8]]) -> Result<Seq<Seq<u8>>, NoMemory> {
 }
 
 // Three pieces, of which the second is empty.
-const PIECES: [&[u8]; 3] = [b"ab", b"", b"cd"];
+const PIECES: &[&[u8]] = &[b"ab", b"", b"cd"];
 
 // Whether their write ends so into a sink with this room, which then has these bytes.
 fn writes_three(alloc: Global, room: usize, end: Result<(), WriteEnd>, held: &[u8]) -> bool {
-    match (pieces_of(alloc, &PIECES), MemSink::new(alloc, room, 9, &[])) {
+    match (pieces_of(alloc, PIECES), MemSink::new(alloc, room, 9, &[])) {
         (Ok(pieces), Ok(mut sink)) => {
             write_pieces(&mut sink, pieces.as_slice()) == end && sink.bytes() == held
         }

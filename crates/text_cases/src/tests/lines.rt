@@ -12,7 +12,7 @@ fn gives(text: &[u8], part: Result<&[u8], Cause>, rest: &[u8]) -> bool {
 }
 
 // Texts, what the first line has before its comment or why it is refused, and the lines after it.
-const LINES: [(&[u8], Result<&[u8], Cause>, &[u8]); 10] = [
+const LINES: &[(&[u8], Result<&[u8], Cause>, &[u8])] = &[
     (b"hz 9\ncpus 2\n", Ok(b"hz 9"), b"cpus 2\n"),
     (b"\n\n", Ok(b""), b"\n"),
     (b"hz\t9\r\n", Ok(b"hz\t9\r"), b""),
@@ -27,7 +27,7 @@ const LINES: [(&[u8], Result<&[u8], Cause>, &[u8]); 10] = [
 
 #[test]
 fn a_line_gives_its_part_or_its_cause(rt: HostRuntime) {
-    for (text, part, rest) in &LINES {
+    for (text, part, rest) in LINES {
         assert!(rt; gives(text, *part, rest));
     }
     assert!(rt; next_content(b"".as_slice()).is_none());

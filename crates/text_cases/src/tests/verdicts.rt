@@ -72,8 +72,10 @@ fn told_of(alloc: Global, report: &OpenReport<'_>) -> Result<Told, ScriptFault> 
         return Err(ScriptFault::NoMemory);
     };
     let mut lines = PackedLines::new(alloc);
-    let end = reader.tell_all(alloc, &mut lines)?;
-    Ok((lines.len(), only(&lines), end))
+    match reader.tell_all(alloc, &mut lines) {
+        Ok(end) => Ok((lines.len(), only(&lines), end)),
+        Err(fault) => Err(fault),
+    }
 }
 
 /// What is told of the report that a text is.

@@ -1,7 +1,7 @@
 //! Whether a word is the wanted one, byte by byte.
 use co_text::is_word;
 
-const WORDS: [(&str, &str, bool); 7] = [
+const WORDS: &[(&str, &str, bool)] = &[
     ("stop", "stop", true),
     ("stops", "stop", false),
     ("sto", "stop", false),
@@ -13,7 +13,7 @@ const WORDS: [(&str, &str, bool); 7] = [
 
 #[test]
 fn a_word_is_the_wanted_one_or_not(rt: HostRuntime) {
-    for (word, wanted, same) in &WORDS {
+    for (word, wanted, same) in WORDS {
         assert!(rt;
             is_word(word.as_bytes(), wanted.as_bytes()) == *same,
             "{word}"
