@@ -67,7 +67,7 @@ fn shares_a_schedule(rt: HostRuntime) {
 }
 
 /// The hold under which the service of a callout with this lock begins.
-const HOLDS: [(LockUse, Option<Held>); 3] = [
+const HOLDS: &[(LockUse, Option<Held>)] = &[
     (LockUse::Free, None),
     (LockUse::Rw(3), Some(WRITING)),
     (LockUse::RwShared(3), Some(READING)),
@@ -75,7 +75,7 @@ const HOLDS: [(LockUse, Option<Held>); 3] = [
 
 #[test]
 fn shares_a_lock_that_the_callout_shares(rt: HostRuntime) {
-    for (lock, held) in &HOLDS {
+    for (lock, held) in HOLDS {
         assert!(rt; hold_of(*lock) == *held);
     }
 }

@@ -1,5 +1,5 @@
 //! A script's functions, run over callouts alone.
-ghost use Rattle.std.specs.Prelude.{◌≡◌, ◌≤◌, ◌<◌, ◌^◌, ℕ, ◌∷◌, [], IfOk, length, false};
+ghost use Rattle.std.specs.Prelude.{◌≡◌, ◌≤◌, ℕ, ◌∷◌, [], IfOk, length, false};
 ghost use Rattle.co_lock.specs.declared.lock_kind.LockKind.TheVariants as kind;
 ghost use Rattle.co_program.specs.Actors.{acts_at};
 ghost use Rattle.co_program.specs.Scripts.{IsScript};
@@ -15,14 +15,9 @@ use co_sbt::{NoMemory, Sbt, Seq};
 use std::alloc::Global;
 use std::sync::Wait;
 
-/// The time of so many seconds, of which there are few.
-fn seconds(count: u32) -> Sbt
-    requires { count < 2 ^ 31 }
-{
-    match Sbt::new(u64::from(count) * 0x1_0000_0000) {
-        Some(time) => time,
-        None => unreachable!(),
-    }
+/// The time of so many seconds.
+fn seconds(count: i32) -> Sbt {
+    Sbt::from_ticks(count, 1)
 }
 
 /// The list of one item.

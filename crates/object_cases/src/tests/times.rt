@@ -16,7 +16,7 @@ fn counts_ticks(rt: HostRuntime) {
 }
 
 /// Texts, and the number of the time that each is read as, if it is one. 2^63 is no time.
-const SECONDS: [(&str, u64); 6] = [
+const SECONDS: &[(&str, u64)] = &[
     ("0.000000001", 4),
     ("2147483647.999999999", 9223372036854775803),
     ("2147483648", 9223372036854775808),
@@ -27,7 +27,7 @@ const SECONDS: [(&str, u64); 6] = [
 
 #[test]
 fn reads_seconds(rt: HostRuntime) {
-    for (text, raw) in &SECONDS {
+    for (text, raw) in SECONDS {
         assert!(rt; read_seconds(text.as_bytes()) == Sbt::new(*raw), "{text}");
     }
 }
