@@ -150,10 +150,7 @@ const OWN_NOTE: Line = Line {
 /// Whether a report is read that has that note alone.
 fn has_own_note(alloc: Global, text: &[u8]) -> bool {
     match read_report(alloc, text) {
-        Ok(report) => match report.lines.as_slice() {
-            [line] => *line == OWN_NOTE,
-            _ => false,
-        },
+        Ok(report) => report.lines.as_slice() == [OWN_NOTE].as_slice(),
         Err(_) => false,
     }
 }
