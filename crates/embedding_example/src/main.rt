@@ -49,27 +49,23 @@ fn play<N: Name, R: Wait + Sync>(rt: &R, client: &mut Client<'_, N>, cpu: &mut C
     }
 }
 
-/// The timers from their opening to their end. Their name is that of `N`.
+/// The timers from their opening to their end. Their name is that of `N`. Both handles are there, since nobody has left before.
 fn run<N: Name, R: Wait + Sync>(
     rt: &R,
     alloc: Global,
     fresh: TimersFresh,
-) -> Result<Option<Story>, NoMemory>
+) -> Result<Story, NoMemory>
     requires name { fresh.name ≡ N.name }
     requires example { fresh.params ≡ example }
 {
     let (timers, mut posts) = Timers::<N>::open(alloc, fresh)?;
-    let Some(mut client) = posts.client(&timers, 0) else {
-        return Ok(None);
-    };
-    let Some(mut cpu) = posts.cpu_handle(&timers, 0) else {
-        return Ok(None);
-    };
+    let mut client = posts.client(&timers, 0).unwrap();
+    let mut cpu = posts.cpu_handle(&timers, 0).unwrap();
     let story = play(rt, &mut client, &mut cpu);
     posts.client_back(client);
     posts.cpu_back(cpu);
-    let _closing = timers.close(rt, posts);
-    Ok(Some(story))
+    drop(timers.close(rt, posts));
+    Ok(story)
 }
 
 /// How many functions each turn called.
@@ -86,7 +82,7 @@ fn main(rt: HostRuntime) -> ExitCode {
     let Ok(fresh) = boot(rt.alloc()) else {
         return ExitCode::FAILURE;
     };
-    let Ok(Some(story)) = run::<Brand, _>(&rt, rt.alloc(), fresh) else {
+    let Ok(story) = run::<Brand, _>(&rt, rt.alloc(), fresh) else {
         return ExitCode::FAILURE;
     };
     let [first, second, third] = called(&story);

@@ -4,6 +4,7 @@ use co_batch_text::itimer::run_itimer;
 use co_batch_text::kq::run_kq;
 use co_batch_text::sleep::run_sleep;
 use co_sbt::Seq;
+use co_service::Closing;
 use co_text::{Cause, ScriptFault};
 use std::alloc::Global;
 use std::process::Abort;
@@ -24,6 +25,13 @@ pub(crate) type Answered = (&'static str, &'static str);
 /// A text, its first bad line, and the first cause for which that is bad.
 pub(crate) type Refused = (&'static str, u64, Cause);
 
+/// The answer to a text, of what is told with the end of its service.
+fn text_of(ran: Result<(Seq<u8>, Closing), ScriptFault>) -> Result<Seq<u8>, ScriptFault> {
+    let (answer, closing) = ran?;
+    drop(closing);
+    Ok(answer)
+}
+
 /// What the command makes of the text.
 fn answer_to<R: Wait>(
     rt: &R,
@@ -32,13 +40,20 @@ fn answer_to<R: Wait>(
     text: &str,
 ) -> Result<Seq<u8>, ScriptFault> {
     let bytes = text.as_bytes();
-    let (answer, _closing) = match command {
-        Command::Event => return run_event(alloc, bytes),
-        Command::Itimer => run_itimer(rt, alloc, bytes)?,
-        Command::Kq => run_kq(rt, alloc, bytes)?,
-        Command::Sleep => run_sleep(rt, alloc, bytes)?,
-    };
-    Ok(answer)
+    match command {
+        Command::Event => run_event(alloc, bytes),
+        Command::Itimer => text_of(run_itimer(rt, alloc, bytes)),
+        Command::Kq => text_of(run_kq(rt, alloc, bytes)),
+        Command::Sleep => text_of(run_sleep(rt, alloc, bytes)),
+    }
+}
+
+/// Whether a text is refused for this cause, at this line.
+pub(crate) fn is_refused(answer: &Result<Seq<u8>, ScriptFault>, line: u64, cause: Cause) -> bool {
+    match answer {
+        Ok(_) => false,
+        Err(fault) => *fault == ScriptFault::Bad { line, cause },
+    }
 }
 
 /// Each text is answered as its row says.
@@ -65,14 +80,9 @@ pub(crate) fn are_refused<R: Abort + Wait>(
     rows: &[Refused],
 ) {
     for (text, line, cause) in rows {
-        let wanted = ScriptFault::Bad {
-            line: *line,
-            cause: *cause,
-        };
-        let right = match answer_to(rt, alloc, command, text) {
-            Ok(_) => false,
-            Err(fault) => fault == wanted,
-        };
+        let answer = answer_to(rt, alloc, command, text);
+        let right = is_refused(&answer, *line, *cause);
+        drop(answer);
         assert!(rt; right, "{text}");
     }
 }

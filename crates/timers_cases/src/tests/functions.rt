@@ -13,7 +13,7 @@ use std::sync::Wait;
 pub(super) const ASKS: u32 = 2;
 
 /// What the functions have seen.
-#[derive(Clone, Copy, PartialEq, Eq)]
+#[derive(Clone, Copy, PartialEq)]
 pub(super) struct Seen {
     /// How many functions were called, and under how many holds.
     pub called: u64,

@@ -1,7 +1,7 @@
 //! Who leaves, and who comes back.
 ghost use Rattle.std.specs.Prelude.{◌≡◌};
 
-use super::stage::boot;
+use super::stage::{boot, open};
 use co_service::Name;
 use co_timers::{Posts, Timers, TimersFresh};
 use std::alloc::Global;
@@ -10,7 +10,6 @@ use std::process::Abort;
 use std::sync::Wait;
 
 /// Who leaves.
-#[derive(Clone, Copy)]
 enum Post {
     Client(u32),
     /// With its interrupt.
@@ -38,12 +37,17 @@ fn is_some<T: Drop>(left: Option<T>) -> bool {
     left.is_some()
 }
 
+/// Whether the end of a service ends it.
+fn is_ok<T: Drop, E: Drop>(ended: Result<T, E>) -> bool {
+    ended.is_ok()
+}
+
 /// Whether a post is left.
-fn is_left<N: Name>(timers: &Timers<N>, posts: &mut Posts<N>, post: Post) -> bool
+fn is_left<N: Name>(timers: &Timers<N>, posts: &mut Posts<N>, post: &Post) -> bool
     requires { timers.now.params ≡ posts.old.params }
     ensures { posts.new.params ≡ posts.old.params }
 {
-    match post {
+    match *post {
         Post::Client(k) => is_some(posts.client(timers, k)),
         Post::Cpu(k) => is_some(posts.cpu_handle(timers, k)),
         Post::Interrupt(k) => is_some(posts.interrupt(timers, k)),
@@ -58,7 +62,7 @@ fn each_leaves<N: Name>(timers: &Timers<N>, posts: &mut Posts<N>) -> bool
 {
     let mut once = true;
     for (post, leaves) in &LEFT {
-        if is_left(timers, posts, *post) != *leaves {
+        if is_left(timers, posts, post) != *leaves {
             once = false;
         }
     }
@@ -83,37 +87,29 @@ fn all_leave<N: Name, R: Abort>(rt: &R, timers: &Timers<N>, posts: &mut Posts<N>
     is_first && missed && posts.all_back()
 }
 
-/// Whether each post is left once, and the service then does not end.
-fn play_once<N: Name, R: Wait + Sync + Abort>(rt: &R, alloc: Global, fresh: TimersFresh) -> bool
+/// Whether all posts are left and returned as they have to be, or each is left once. The service ends only where all return.
+fn play<N: Name, R: Wait + Sync + Abort>(
+    rt: &R,
+    alloc: Global,
+    fresh: TimersFresh,
+    all_return: bool,
+) -> bool
     requires { fresh.name ≡ N.name }
 {
-    let Ok((timers, mut posts)) = Timers::<N>::open(alloc, fresh) else {
-        panic!(rt; "no memory");
+    let (timers, mut posts) = open::<N, R>(rt, alloc, fresh);
+    let right = if all_return {
+        all_leave(rt, &timers, &mut posts)
+    } else {
+        each_leaves(&timers, &mut posts)
     };
-    let once = each_leaves(&timers, &mut posts);
-    timers.close(rt, posts).is_err() && once
-}
-
-/// Whether all leave and come back, and the service then ends.
-fn play_all<N: Name, R: Wait + Sync + Abort>(rt: &R, alloc: Global, fresh: TimersFresh) -> bool
-    requires { fresh.name ≡ N.name }
-{
-    let Ok((timers, mut posts)) = Timers::<N>::open(alloc, fresh) else {
-        panic!(rt; "no memory");
-    };
-    let all = all_leave(rt, &timers, &mut posts);
-    timers.close(rt, posts).is_ok() && all
+    right & (is_ok(timers.close(rt, posts)) == all_return)
 }
 
 /// Who left doesn't leave again, and the end needs all.
 #[test]
 fn posts(rt: HostRuntime) {
-    let Ok(one) = boot(rt.alloc()) else {
-        panic!(rt; "no memory");
-    };
-    assert!(rt; play_once::<Brand, _>(&rt, rt.alloc(), one));
-    let Ok(other) = boot(rt.alloc()) else {
-        panic!(rt; "no memory");
-    };
-    assert!(rt; play_all::<Brand, _>(&rt, rt.alloc(), other));
+    for all_return in [false, true] {
+        let fresh = boot(&rt, rt.alloc());
+        assert!(rt; play::<Brand, _>(&rt, rt.alloc(), fresh, all_return));
+    }
 }

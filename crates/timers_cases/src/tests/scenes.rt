@@ -3,7 +3,7 @@ ghost use Rattle.std.specs.Prelude.{◌≡◌};
 ghost use Rattle.timers_cases.specs.Scenes.{scene};
 
 use super::functions::{ASKS, Functions, NOTHING, Seen};
-use super::stage::{ARMED, boot, seconds};
+use super::stage::{ARMED, boot, open, seconds};
 use super::steps::{Step, wrong_step};
 use co_hand::PortReply;
 use co_object::Reply;
@@ -18,7 +18,6 @@ use std::process::Abort;
 use std::sync::Wait;
 
 /// What is done next.
-#[derive(Clone, Copy)]
 enum Row {
     /// Calls of the client without a lock, and with that of callout 1.
     Free(&'static [Step]),
@@ -121,113 +120,76 @@ const SCENES: [Scene; 3] = [
     },
 ];
 
-/// A client's calls without a lock, or with that of callout 1. The first that is not answered as it has to be, if any is.
-fn wrong_call<N: Name, R: Wait + Sync>(
-    rt: &R,
-    timers: &Timers<N>,
-    client: &mut Client<'_, N>,
-    holds: bool,
-    steps: &[Step],
-) -> Option<usize> {
-    if !holds {
-        return wrong_step(rt, client, None, None, steps);
-    }
-    match timers.lock(rt, 0) {
-        Some(hold) => wrong_step(rt, client, Some(&hold), None, steps),
-        None => Some(0),
-    }
+/// Who plays: a client, both CPUs, and the functions with another client.
+#[derive(Drop)]
+struct Cast<'r, 'a, N: Name, R: Wait> {
+    client: Client<'a, N>,
+    first: Cpu<'a, N>,
+    second: Cpu<'a, N>,
+    functions: Functions<'r, 'a, N, R>,
 }
 
-/// Whether the turn of a CPU is as it has to be.
-fn turns<N: Name, R: Wait + Sync>(
-    rt: &R,
-    cpu: &mut Cpu<'_, N>,
-    functions: &mut Functions<'_, '_, N, R>,
-    at: i32,
-    wanted: Turned,
-) -> bool
-    requires { cpu.old.others.passes.params ≡ scene }
-    ensures { cpu.new.others.passes.params ≡ scene }
-{
-    cpu.turn(rt, seconds(at), functions) == wanted
-}
+impl<'r, 'a, N: Name, R: Wait + Sync> Cast<'r, 'a, N, R> {
+    /// The client's calls with the lock of callout 1: whether each is answered as it has to be.
+    fn calls_held(&mut self, rt: &R, timers: &Timers<N>, steps: &[Step]) -> bool
+        ensures first { self.new.first ≡ self.old.first }
+        ensures second { self.new.second ≡ self.old.second }
+    {
+        match timers.lock(rt, 0) {
+            Some(hold) => wrong_step(rt, &mut self.client, Some(&hold), None, steps).is_none(),
+            None => false,
+        }
+    }
 
-/// Whether a row is as it has to be.
-fn is_right<N: Name, R: Wait + Sync>(
-    rt: &R,
-    timers: &Timers<N>,
-    client: &mut Client<'_, N>,
-    first: &mut Cpu<'_, N>,
-    second: &mut Cpu<'_, N>,
-    functions: &mut Functions<'_, '_, N, R>,
-    row: &Row,
-) -> bool
-    requires first { first.old.others.passes.params ≡ scene }
-    requires second { second.old.others.passes.params ≡ scene }
-    ensures first { first.new.others.passes.params ≡ scene }
-    ensures second { second.new.others.passes.params ≡ scene }
-{
-    match *row {
-        Row::Free(steps) => wrong_call(rt, timers, client, false, steps).is_none(),
-        Row::Held(steps) => wrong_call(rt, timers, client, true, steps).is_none(),
-        Row::Turn(cpu, at, scanned, direct, others) => {
-            let wanted = Turned {
-                scanned,
-                direct,
-                others,
-            };
-            if cpu == 0 {
-                turns(rt, first, functions, at, wanted)
-            } else {
-                turns(rt, second, functions, at, wanted)
+    /// A CPU's turn: whether it is as it has to be.
+    fn turns(&mut self, rt: &R, cpu: u32, at: i32, wanted: Turned) -> bool
+        requires first { self.old.first.others.passes.params ≡ scene }
+        requires second { self.old.second.others.passes.params ≡ scene }
+        ensures first { self.new.first.others.passes.params ≡ scene }
+        ensures second { self.new.second.others.passes.params ≡ scene }
+    {
+        let at = seconds(at);
+        let turned = if cpu == 0 {
+            self.first.turn(rt, at, &mut self.functions)
+        } else {
+            self.second.turn(rt, at, &mut self.functions)
+        };
+        turned == wanted
+    }
+
+    /// Whether a row is as it has to be.
+    fn is_right(&mut self, rt: &R, timers: &Timers<N>, row: &Row) -> bool
+        requires first { self.old.first.others.passes.params ≡ scene }
+        requires second { self.old.second.others.passes.params ≡ scene }
+        ensures first { self.new.first.others.passes.params ≡ scene }
+        ensures second { self.new.second.others.passes.params ≡ scene }
+    {
+        match *row {
+            Row::Free(steps) => wrong_step(rt, &mut self.client, None, None, steps).is_none(),
+            Row::Held(steps) => self.calls_held(rt, timers, steps),
+            Row::Turn(cpu, at, scanned, direct, others) => {
+                let wanted = Turned {
+                    scanned,
+                    direct,
+                    others,
+                };
+                self.turns(rt, cpu, at, wanted)
             }
         }
     }
-}
 
-/// The first row that is not as it has to be, if any is.
-fn wrong_of<N: Name, R: Wait + Sync>(
-    rt: &R,
-    timers: &Timers<N>,
-    client: &mut Client<'_, N>,
-    first: &mut Cpu<'_, N>,
-    second: &mut Cpu<'_, N>,
-    functions: &mut Functions<'_, '_, N, R>,
-    rows: &[Row],
-) -> Option<usize>
-    requires first { first.old.others.passes.params ≡ scene }
-    requires second { second.old.others.passes.params ≡ scene }
-{
-    for (number, row) in rows.iter().enumerate() {
-        if !is_right(rt, timers, client, first, second, functions, row) {
-            return Some(number);
+    /// The first row that is not as it has to be, if any is, and what the functions have seen by then.
+    fn wrong_row(&mut self, rt: &R, timers: &Timers<N>, rows: &[Row]) -> (Option<usize>, Seen)
+        requires first { self.old.first.others.passes.params ≡ scene }
+        requires second { self.old.second.others.passes.params ≡ scene }
+    {
+        for (number, row) in rows.iter().enumerate() {
+            if !self.is_right(rt, timers, row) {
+                return (Some(number), self.functions.seen);
+            }
         }
+        (None, self.functions.seen)
     }
-    None
-}
-
-/// The same with handles that are then let go.
-fn wrong_row<N: Name, R: Wait + Sync>(
-    rt: &R,
-    timers: &Timers<N>,
-    mut client: Client<'_, N>,
-    mut first: Cpu<'_, N>,
-    mut second: Cpu<'_, N>,
-    functions: &mut Functions<'_, '_, N, R>,
-    rows: &[Row],
-) -> Option<usize>
-    requires first { first.others.passes.params ≡ scene }
-    requires second { second.others.passes.params ≡ scene }
-{
-    wrong_of(
-        rt,
-        timers,
-        &mut client,
-        &mut first,
-        &mut second,
-        functions,
-        rows,
-    )
 }
 
 /// The first row of a scene on an open service that is not as it has to be, if any is, and what the functions have seen.
@@ -240,16 +202,20 @@ fn play_on<N: Name, R: Wait + Sync + Abort>(
     requires posts { timers.now.params ≡ posts.old.params }
     requires scene { timers.now.params ≡ scene }
 {
-    let mut functions = Functions {
+    let functions = Functions {
         rt,
         client: posts.client(timers, 1).expect(rt, "client 1 is here"),
         seen: NOTHING,
     };
-    let client = posts.client(timers, 0).expect(rt, "client 0 is here");
-    let first = posts.cpu_handle(timers, 0).expect(rt, "CPU 0 is here");
-    let second = posts.cpu_handle(timers, 1).expect(rt, "CPU 1 is here");
-    let wrong = wrong_row(rt, timers, client, first, second, &mut functions, rows);
-    (wrong, functions.seen)
+    let mut cast = Cast {
+        client: posts.client(timers, 0).expect(rt, "client 0 is here"),
+        first: posts.cpu_handle(timers, 0).expect(rt, "CPU 0 is here"),
+        second: posts.cpu_handle(timers, 1).expect(rt, "CPU 1 is here"),
+        functions,
+    };
+    let story = cast.wrong_row(rt, timers, rows);
+    drop(cast);
+    story
 }
 
 /// The same on a service that is opened for it.
@@ -262,17 +228,15 @@ fn play<N: Name, R: Wait + Sync + Abort>(
     requires name { fresh.name ≡ N.name }
     requires scene { fresh.params ≡ scene }
 {
-    let Ok((timers, mut posts)) = Timers::<N>::open(alloc, fresh) else {
-        panic!(rt; "no memory");
-    };
-    play_on(rt, &timers, &mut posts, rows)
+    let (timers, mut posts) = open::<N, R>(rt, alloc, fresh);
+    let story = play_on(rt, &timers, &mut posts, rows);
+    drop((timers, posts));
+    story
 }
 
 /// The first row of a scene that is not as it has to be, if any is, or their number where the functions have seen something else.
 fn first_wrong<R: Wait + Sync + Abort>(rt: &R, alloc: Global, scene: &Scene) -> Option<usize> {
-    let Ok(fresh) = boot(alloc) else {
-        panic!(rt; "no memory");
-    };
+    let fresh = boot(rt, alloc);
     let (wrong, seen) = play::<Brand, R>(rt, alloc, fresh, scene.rows);
     if wrong.is_none() && seen != scene.seen {
         return Some(scene.rows.len());

@@ -9,7 +9,6 @@ use co_timers::{AsyncDrained, Client, Drained, Refused, Reset, Stopped};
 use std::sync::Wait;
 
 /// A call on a callout, and its answer. Times are whole seconds.
-#[derive(Clone, Copy)]
 pub(super) enum Step {
     /// Arms it with this function and argument 7, on a CPU, or where it is.
     Arm(u32, i32, u32, Option<u32>, Result<Reset, Refused>),
@@ -21,25 +20,6 @@ pub(super) enum Step {
     AsyncDrain(u32, Result<AsyncDrained, Refused>),
     /// It is done.
     Retire(u32),
-}
-
-/// Whether the call arms the callout, and is answered so under this hold.
-fn is_armed<N: Name, R: Wait>(
-    rt: &R,
-    client: &mut Client<'_, N>,
-    hold: Option<&Hold<'_>>,
-    step: &Step,
-) -> bool {
-    let zero = Sbt::zero();
-    match *step {
-        Step::Arm(i, at, func, cpu, wanted) => {
-            client.reset(rt, i, seconds(at), zero, func, 7, cpu, hold) == wanted
-        }
-        Step::Schedule(i, at, wanted) => {
-            client.schedule(rt, i, seconds(at), zero, None, hold) == wanted
-        }
-        _ => false,
-    }
 }
 
 /// Whether the drain is answered so, under this hold and in the function of this service.
@@ -65,12 +45,18 @@ fn is_answered<N: Name, R: Wait>(
     service: Option<&Fire>,
     step: &Step,
 ) -> bool {
+    let zero = Sbt::zero();
     match *step {
+        Step::Arm(i, at, func, cpu, wanted) => {
+            client.reset(rt, i, seconds(at), zero, func, 7, cpu, hold) == wanted
+        }
+        Step::Schedule(i, at, wanted) => {
+            client.schedule(rt, i, seconds(at), zero, None, hold) == wanted
+        }
         Step::Stop(i, wanted) => client.stop(rt, i, hold) == wanted,
         Step::Drain(i, wanted) => is_drained(rt, client, hold, service, i, wanted),
         Step::AsyncDrain(i, wanted) => client.async_drain(rt, i, 1, hold) == wanted,
         Step::Retire(i) => client.call(rt, i, &PlainOp::Retire, hold) == Ok(Reply::Done),
-        Step::Arm(..) | Step::Schedule(..) => is_armed(rt, client, hold, step),
     }
 }
 

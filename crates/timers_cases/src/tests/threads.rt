@@ -4,7 +4,7 @@ ghost use Rattle.timers_cases.specs.Scenes.{scene};
 ghost use denote.Param.Send.{IsSync};
 
 use super::functions::{Functions, NOTHING};
-use super::stage::{boot, seconds};
+use super::stage::{boot, open, seconds};
 use co_sbt::Sbt;
 use co_service::Name;
 use co_timers::{Client, Cpu, Posts, Stopped, Timers, TimersFresh};
@@ -28,6 +28,7 @@ fn arm_often<N: Name, R: Wait>(rt: &R, mut client: Client<'_, N>, over: &AtomicB
         }
     }
     over.store(true, Ordering::SeqCst);
+    drop(client);
     cancelled
 }
 
@@ -66,7 +67,9 @@ fn turn_often<N: Name, R: Wait + Sync>(
         client,
         seen: NOTHING,
     };
-    turn_until(rt, &mut cpu, &mut functions, over)
+    let called = turn_until(rt, &mut cpu, &mut functions, over);
+    drop((cpu, functions));
+    called
 }
 
 /// Both at once: how many armings were cancelled, and how many functions were called.
@@ -114,17 +117,15 @@ fn play<N: Name + Send + Sync, R: Threads + Wait + Sync + Abort>(
     requires name { fresh.name ≡ N.name }
     requires scene { fresh.params ≡ scene }
 {
-    let Ok((timers, mut posts)) = Timers::<N>::open(alloc, fresh) else {
-        panic!(rt; "no memory");
-    };
-    play_on(rt, &timers, &mut posts)
+    let (timers, mut posts) = open::<N, R>(rt, alloc, fresh);
+    let story = play_on(rt, &timers, &mut posts);
+    drop((timers, posts));
+    story
 }
 
 #[test]
 fn no_arming_is_called_and_cancelled(rt: HostRuntime) {
-    let Ok(fresh) = boot(rt.alloc()) else {
-        panic!(rt; "no memory");
-    };
+    let fresh = boot(&rt, rt.alloc());
     let (cancelled, called) = play::<Brand, _>(&rt, rt.alloc(), fresh);
     // A stop while an earlier call runs answers 0, and takes the new arming away.
     assert!(rt; cancelled.wrapping_add(called) <= ARMINGS);

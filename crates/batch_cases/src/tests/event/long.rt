@@ -1,46 +1,51 @@
 //! Texts that are too long.
+use crate::tests::rows::is_refused;
 use co_batch_text::event::run_event;
-use co_sbt::{NoMemory, Seq};
-use co_text::{Cause, ScriptFault};
+use co_sbt::Seq;
+use co_text::Cause;
 use std::alloc::Global;
+use std::process::Abort;
 
-/// A text with so many commands, of which the last is this line.
-fn long_text(alloc: Global, commands: u32, last: &[u8]) -> Result<Seq<u8>, NoMemory> {
-    let mut text = Seq::copy_of(alloc, b"event 1\ntimers 1\n".as_slice())?;
-    for _ in 1..commands {
-        text.extend_from_slice(b"until 1\n".as_slice())?;
+/// The most commands that a text may have, and one.
+const TOO_MANY: u32 = 262_145;
+
+/// The most bytes that a text may have, and one.
+const TOO_LONG: usize = 16_777_217;
+
+/// Last lines behind all that there may be, and for which cause each is bad.
+const LAST: [(&str, Cause); 2] = [("until 0.9\n", Cause::Falls), ("until 1\n", Cause::Many)];
+
+/// A text with one command too many, which is this line.
+fn long_text<R: Abort>(rt: &R, alloc: Global, last: &str) -> Seq<u8> {
+    let mut text = Seq::copy_of(alloc, b"event 1\ntimers 1\n".as_slice()).expect(rt, "no memory");
+    for _ in 1..TOO_MANY {
+        text.extend_from_slice(b"until 1\n".as_slice())
+            .expect(rt, "no memory");
     }
-    text.extend_from_slice(last)?;
-    Ok(text)
+    text.extend_from_slice(last.as_bytes())
+        .expect(rt, "no memory");
+    text
 }
 
-/// The fault of that text.
-fn long_fault(alloc: Global, last: &[u8]) -> Result<Option<ScriptFault>, NoMemory> {
-    let text = long_text(alloc, 262_145, last)?;
-    Ok(run_event(alloc, text.as_slice()).err())
+/// Whether the line is refused as it has to be behind all that there may be.
+fn is_last_refused<R: Abort>(rt: &R, alloc: Global, last: &str, cause: Cause) -> bool {
+    let text = long_text(rt, alloc, last);
+    is_refused(&run_event(alloc, text.as_slice()), 262_147, cause)
 }
 
-/// A line behind all that there may be, at this cause.
-fn behind_all(cause: Cause) -> Option<ScriptFault> {
-    Some(ScriptFault::Bad {
-        line: 262_147,
-        cause,
-    })
+/// Whether a text of a byte too many is refused.
+fn is_size_refused(alloc: Global) -> bool {
+    match vec![in alloc; b'\n'; TOO_LONG] {
+        Ok(text) => is_refused(&run_event(alloc, text.as_slice()), 0, Cause::Size),
+        Err(_) => false,
+    }
 }
 
 // Long for `rt try`, short once it is built.
 #[test]
-fn long_texts_are_refused(rt: HostRuntime) -> Result<(), NoMemory> {
-    let alloc = rt.alloc();
-    let falls = long_fault(alloc, b"until 0.9\n".as_slice())?;
-    let more = long_fault(alloc, b"until 1\n".as_slice())?;
-    assert!(rt; falls == behind_all(Cause::Falls) && more == behind_all(Cause::Many));
-    let larger = vec![in alloc; b'\n'; 16_777_217].map_err(|_| NoMemory {})?;
-    let fault = run_event(alloc, larger.as_slice()).err();
-    let size = ScriptFault::Bad {
-        line: 0,
-        cause: Cause::Size,
-    };
-    assert!(rt; fault == Some(size));
-    Ok(())
+fn long_texts_are_refused(rt: HostRuntime) {
+    for (last, cause) in &LAST {
+        assert!(rt; is_last_refused(&rt, rt.alloc(), last, *cause), "{last}");
+    }
+    assert!(rt; is_size_refused(rt.alloc()));
 }

@@ -2,10 +2,11 @@
 ghost use Rattle.std.specs.Prelude.{◌≡◌};
 
 use co_itimer::{Itimers, ItimersFresh, Itimerval};
-use co_sbt::{NoMemory, Sbt};
+use co_sbt::Sbt;
 use co_service::Name;
 use std::alloc::Global;
 use std::marker::Brand;
+use std::process::Abort;
 use std::sync::Wait;
 
 /// The time of `count` halves of a second.
@@ -30,11 +31,11 @@ fn unset() -> Itimerval {
 }
 
 /// A timer with an interval of 2 seconds, and a tick that is late: each answer is as it should be.
-fn follows<N: Name, R: Wait>(rt: &R, alloc: Global, fresh: ItimersFresh) -> Result<bool, NoMemory>
+fn follows<N: Name, R: Abort + Wait>(rt: &R, alloc: Global, fresh: ItimersFresh) -> bool
     requires name { fresh.name ≡ N.name }
     requires one { fresh.processes ≡ 1 }
 {
-    let mut timers = Itimers::<N>::open(alloc, fresh)?;
+    let mut timers = Itimers::<N>::open(alloc, fresh).expect(rt, "no memory");
     let mut right = timers.set(rt, 0, timer(2, 4)) == unset();
     right &= timers.tick(rt, halves(1)) == 0;
     right &= timers.get(0) == timer(1, 4);
@@ -49,13 +50,12 @@ fn follows<N: Name, R: Wait>(rt: &R, alloc: Global, fresh: ItimersFresh) -> Resu
     right &= timers.set(rt, 0, off) == timer(2, 4);
     right &= timers.get(0) == unset();
     right &= timers.work() == 4;
-    let _closing = timers.close(rt);
-    Ok(right)
+    drop(timers.close(rt));
+    right
 }
 
 #[test]
-fn a_timer_follows_its_interval(rt: HostRuntime) -> Result<(), NoMemory> {
-    let fresh = Itimers::boot(rt.alloc(), 1)?;
-    assert!(&rt; follows::<Brand, _>(&rt, rt.alloc(), fresh)?);
-    Ok(())
+fn a_timer_follows_its_interval(rt: HostRuntime) {
+    let fresh = Itimers::boot(rt.alloc(), 1).expect(&rt, "no memory");
+    assert!(rt; follows::<Brand, _>(&rt, rt.alloc(), fresh));
 }

@@ -25,11 +25,11 @@ fn print(page: &mut Page) -> Result<(), NoMemory> {
 }
 
 #[test]
-fn each_reply_has_a_line(rt: HostRuntime) -> Result<(), NoMemory> {
+fn each_reply_has_a_line(rt: HostRuntime) {
     let mut page = Page::new(rt.alloc());
-    print(&mut page)?;
+    print(&mut page).expect(&rt, "no memory");
+    let text = page.done().expect(&rt, "no memory");
     let wanted =
         b"began 18446744073709551614\nalready\nwoke 2\none 1023\nnobody\nasleep\nnever\nwoken\ntimedout\nticked 1 2\n".as_slice();
-    assert!(rt; page.done()?.as_slice() == wanted);
-    Ok(())
+    assert!(rt; text.as_slice() == wanted);
 }

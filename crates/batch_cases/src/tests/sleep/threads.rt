@@ -6,13 +6,13 @@ ghost use Rattle.co_sleepq.specs.Params.{ArePasses, sleepers};
 ghost use denote.Param.Send.{IsSync};
 
 use super::stage::leave;
-use co_sbt::{NoMemory, Sbt, Seq};
+use co_sbt::{Sbt, Seq};
 use co_sleepq::{End, SleepFresh, SleepName, SleepPasses, SleepQueue, SleepReply, Ticked};
 use std::alloc::Global;
 use std::marker::Brand;
+use std::process::Abort;
 use std::sync::Wait;
 use std::sync::atomic::{AtomicBool, Ordering};
-use std::test::Fail;
 use std::thread::{Threads, join};
 
 /// How the sleeper's sleeps ended.
@@ -77,6 +77,7 @@ fn sleep_often<N: SleepName, R: Wait>(
         slept.count(k, began, end);
     }
     over.store(true, Ordering::SeqCst);
+    drop(passes);
     slept
 }
 
@@ -92,6 +93,7 @@ fn wake_often<N: SleepName, R: Wait>(
     let mut woken: u32 = 0;
     for _ in rt.forever() {
         if over.load(Ordering::SeqCst) {
+            drop(passes);
             return woken;
         }
         if queue.wakeup_one(rt, &mut passes, 7) != SleepReply::Nobody {
@@ -115,6 +117,7 @@ fn tick_often<N: SleepName, R: Wait>(
     let mut all = Ticked { out: 0, late: 0 };
     for _ in rt.forever() {
         if over.load(Ordering::SeqCst) {
+            drop(passes);
             return all;
         }
         let ticked = queue.tick(rt, &mut passes, 0, second);
@@ -151,24 +154,27 @@ fn wake_and_tick<N: SleepName + Send + Sync, R: Threads + Wait + Sync>(
 }
 
 /// All three.
-fn play_all<N: SleepName + Send + Sync, R: Threads + Wait + Sync>(
+fn play_all<N: SleepName + Send + Sync, R: Abort + Threads + Wait + Sync>(
     rt: &R,
     alloc: Global,
     fresh: SleepFresh,
     passes: Seq<SleepPasses>,
-) -> Result<(Slept, (u32, Ticked)), NoMemory>
+) -> (Slept, (u32, Ticked))
     requires name { fresh.name ≡ record { service = N.name; book = N.book } }
     requires clients { fresh.params.clients ≡ 2 }
     requires sleeper { 0 < sleepers fresh.params }
     requires passes { AreFreshPasses fresh.name fresh.params 3 passes }
 {
-    let queue = SleepQueue::<N>::open(alloc, fresh)?;
+    let Ok(queue) = SleepQueue::<N>::open(alloc, fresh) else {
+        panic!(rt; "no memory");
+    };
     let mut passes = passes.into_vec();
     let cpu = leave(&queue, &mut passes, 2);
     let waker = leave(&queue, &mut passes, 1);
     let sleeper = leave(&queue, &mut passes, 0);
+    drop(passes);
     let over = AtomicBool::new(false);
-    Ok(join(
+    let ends = join(
         rt,
         || -> Slept
             requires { IsSync R.row × ArePasses N.name N.book queue sleeper × (0 < sleepers queue) }
@@ -176,16 +182,17 @@ fn play_all<N: SleepName + Send + Sync, R: Threads + Wait + Sync>(
         || -> (u32, Ticked)
             requires { IsSync R.row × ArePasses N.name N.book queue waker × ArePasses N.name N.book queue cpu × IsFree false cpu.service 0 }
         { wake_and_tick(rt, &queue, waker, cpu, &over) },
-    ))
+    );
+    drop(queue);
+    ends
 }
 
 // Each sleep is ended once, by the waker or by its time, and the sleeper is told by which.
 #[test]
-fn each_sleep_is_ended_once(rt: HostRuntime) -> Result<(), Fail> {
-    let (fresh, passes) = SleepQueue::boot(rt.alloc(), 1, 2)?;
-    let (slept, (woken, ticked)) = play_all::<Brand, HostRuntime>(&rt, rt.alloc(), fresh, passes)?;
+fn each_sleep_is_ended_once(rt: HostRuntime) {
+    let (fresh, passes) = SleepQueue::boot(rt.alloc(), 1, 2).expect(&rt, "no memory");
+    let (slept, (woken, ticked)) = play_all::<Brand, _>(&rt, rt.alloc(), fresh, passes);
     let all_ended = slept.other == 0 && slept.woken.wrapping_add(slept.timed_out) == 64;
     let as_told = slept.woken == woken && slept.timed_out == ticked.out;
     assert!(rt; all_ended && as_told && ticked.late <= woken);
-    Ok(())
 }

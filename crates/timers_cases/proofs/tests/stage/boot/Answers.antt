@@ -19,7 +19,7 @@ has_lock (suc (suc zero)) held h = absurd (cc)
 has_lock (suc (suc (suc i))) held h = absurd (cc)
 
 pub boot-requires-clause-params : goal.boot-requires-clause-params
-boot-requires-clause-params c = record {
+boot-requires-clause-params c d = record {
   version = inr refl;
   clients = omega arith;
   cpus = (omega arith, omega arith);
@@ -30,4 +30,4 @@ boot-requires-clause-params c = record {
 }
 
 pub boot-requires-clause-locks : goal.boot-requires-clause-locks
-boot-requires-clause-locks c = record { each = has_lock }
+boot-requires-clause-locks c d = record { each = has_lock }

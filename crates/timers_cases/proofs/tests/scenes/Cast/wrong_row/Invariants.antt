@@ -1,10 +1,10 @@
 -- The CPUs stay those of the scene.
 use Rattle.std.proofs.Common.{◌≡◌}
 use Rattle.timers_cases.specs.Scenes.{scene}
-use Rattle.timers_cases.proofs.tests.scenes.wrong_of.Given as goal
+use Rattle.timers_cases.proofs.tests.scenes.Cast.wrong_row.Given as goal
 
 abbrev pub invariant-loop-number : goal.invariant-loop-number
 invariant-loop-number g l = record {
-  first : l.first.others.passes.params ≡ scene;
-  second : l.second.others.passes.params ≡ scene;
+  first : l.self.first.others.passes.params ≡ scene;
+  second : l.self.second.others.passes.params ≡ scene;
 }
