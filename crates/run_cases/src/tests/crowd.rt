@@ -1,11 +1,12 @@
 //! Many clients reset, stop and move the same callouts, beside CPUs that service them.
-use super::running::{count_timers, notes_of, run_printed};
+use super::running::{count_timers, notes_of, run_text};
 use super::scene::FREE;
 use super::waits::comes_to;
 use co_hand::Gate;
 use co_object::Lists;
 use co_program::{Act, Acts, Script, When, Where, Who};
 use co_sbt::{Sbt, Seq};
+use co_script::print_script;
 use std::alloc::Global;
 use std::process::Abort;
 use std::sync::atomic::{AtomicU64, Ordering};
@@ -132,6 +133,15 @@ fn script(rt: &impl Abort, alloc: Global) -> Script {
     }
 }
 
+/// The text of the crowd's script.
+fn text(rt: &impl Abort, alloc: Global) -> Seq<u8> {
+    let script = script(rt, alloc);
+    let Ok(text) = print_script(alloc, &script) else {
+        panic!(rt; "no memory")
+    };
+    text
+}
+
 /// A gate at which a CPU's tick waits until the clients have come as far.
 #[derive(Drop)]
 struct Pace {
@@ -160,12 +170,12 @@ fn have_their_calls<R: Abort>(rt: &R, lists: &Lists) {
 
 #[test]
 fn eight_clients_and_four_cpus(rt: HostRuntime) {
-    let script = script(&rt, rt.alloc());
+    let text = text(&rt, rt.alloc());
     let gate = Pace {
         acts: AtomicU64::new(0),
         faults: AtomicU64::new(0),
     };
-    let lists = run_printed(&rt, rt.alloc(), &script, &gate);
+    let lists = run_text(&rt, rt.alloc(), text.as_slice(), &gate);
     assert!(rt; gate.faults.load(Ordering::SeqCst) == 0);
     have_their_calls(&rt, &lists);
 }

@@ -83,29 +83,6 @@ fn stop_beside_a_hold<N: Name + Send + Sync, R: Threads + Wait + Sync + Abort>(
 
 /// A callout is armed at the third CPU, and stopped while the second CPU's lock is kept. The answers are those to the reset and
 /// the stop, and whether the second came in time.
-fn arm_and_stop<N: Name + Send + Sync, R: Threads + Wait + Sync + Abort>(
-    rt: &R,
-    alloc: Global,
-    service: &Service<N>,
-    passes: Seq<Passes>,
-) -> (PortReply, bool, PortReply)
-    requires scene { service.now ≡ two_clients }
-    requires passes { AreBooted N.name service.now passes }
-{
-    let (one, other) = leave_clients(service, passes);
-    let reset = PlainOp::Reset {
-        due: Sbt::from_ticks(1, 1),
-        prec: Sbt::zero(),
-        func: 0,
-        arg: 0,
-        cpu: Some(2),
-    };
-    let armed = ask(rt, alloc, service, one, 0, reset);
-    let (in_time, stopped) = stop_beside_a_hold(rt, alloc, service, other);
-    (armed, in_time, stopped)
-}
-
-/// Opens the service, and lets both clients call.
 fn play<N: Name + Send + Sync, R: Threads + Wait + Sync + Abort>(
     rt: &R,
     alloc: Global,
@@ -119,7 +96,17 @@ fn play<N: Name + Send + Sync, R: Threads + Wait + Sync + Abort>(
     let Ok(service) = Service::<N>::open(alloc, fresh) else {
         panic!(rt; "no memory")
     };
-    arm_and_stop(rt, alloc, &service, passes)
+    let (one, other) = leave_clients(&service, passes);
+    let reset = PlainOp::Reset {
+        due: Sbt::from_ticks(1, 1),
+        prec: Sbt::zero(),
+        func: 0,
+        arg: 0,
+        cpu: Some(2),
+    };
+    let armed = ask(rt, alloc, &service, one, 0, reset);
+    let (in_time, stopped) = stop_beside_a_hold(rt, alloc, &service, other);
+    (armed, in_time, stopped)
 }
 
 #[test]

@@ -1,7 +1,7 @@
 //! Runs whose notes are packed, and their reports, which threads print.
 ghost use Rattle.run_cases.specs.Scenes.{CanRun};
 
-use super::running::{is_legal, run_script, script_of};
+use super::running::{is_legal, run_text, script_of};
 use co_hand::OpenGate;
 use co_object::Note;
 use co_packed::PackedNote;
@@ -96,8 +96,7 @@ fn a_report_that_threads_print_is_legal(rt: HostRuntime) {
 
 #[test]
 fn a_packed_note_is_the_note(rt: HostRuntime) {
-    let script = script_of(&rt, rt.alloc(), TICKING.as_bytes());
-    let lists = run_script(&rt, rt.alloc(), &script, &OpenGate {});
+    let lists = run_text(&rt, rt.alloc(), TICKING.as_bytes(), &OpenGate {});
     for notes in lists.as_slice() {
         come_back(&rt, notes.as_slice());
     }

@@ -188,23 +188,8 @@ fn are_made(first: &Seq<PortCall>, second: &Seq<PortCall>) -> bool {
     first.as_slice() == home.as_slice() && second.as_slice() == here.as_slice()
 }
 
-/// Runs both functions on a service that is booted for them. Whether their calls are as they have to be.
-fn run_functions<R: Threads + Wait + Sync + Abort>(
-    rt: &R,
-    alloc: Global,
-    script: &Script,
-    gate: &Waits<'_>,
-) -> bool
-    requires script { IsScript script.now }
-    requires callouts { length script.now.timers ≡ 2 }
-    requires cpus { script.now.cpus ≡ 3 }
-{
-    let (fresh, passes) = boot(rt, alloc);
-    let (first, second) = run_both::<Brand, _>(rt, alloc, script, gate, fresh, passes);
-    are_made(&first, &second)
-}
-
-/// Runs both functions. Each announces its acts.
+/// Runs both functions on a service that is booted for them. Whether their calls are as they have to be, and each announces
+/// its acts.
 fn run_through_ports<R: Threads + Wait + Sync + Abort>(
     rt: &R,
     alloc: Global,
@@ -216,7 +201,9 @@ fn run_through_ports<R: Threads + Wait + Sync + Abort>(
     assert!(rt; script.cpus == 3);
     let told = nothing_told(rt, alloc, 2);
     let gate = Waits::new(&[], told.as_slice());
-    run_functions(rt, alloc, script, &gate) && gate.is_kept(&[3, 3])
+    let (fresh, passes) = boot(rt, alloc);
+    let (first, second) = run_both::<Brand, _>(rt, alloc, script, &gate, fresh, passes);
+    are_made(&first, &second) && gate.is_kept(&[3, 3])
 }
 
 #[test]

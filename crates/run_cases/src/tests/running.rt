@@ -15,7 +15,7 @@ use co_program::Script;
 use co_report::{print_report, read_report};
 use co_run::{Notebook, Ran, run_books, run_threads};
 use co_sbt::{NoMemory, Seq};
-use co_script::{print_script, read_script};
+use co_script::read_script;
 use co_service::{Fresh, Name, Passes, Service};
 use std::alloc::Global;
 use std::marker::Brand;
@@ -59,33 +59,18 @@ pub(super) fn legal_lists(rt: &impl Abort, alloc: Global, script: &Script, ran: 
     ran.lists
 }
 
-/// Runs a script on threads. Its report is legal.
-pub(super) fn run_script<G: Gate + Sync, R: Threads + Wait + Sync + Abort>(
+/// Runs the script of a text on threads. Its report is legal.
+pub(super) fn run_text<G: Gate + Sync, R: Threads + Wait + Sync + Abort>(
     rt: &R,
     alloc: Global,
-    script: &Script,
-    gate: &G,
-) -> Lists
-    requires { CanRun script.now }
-{
-    let Ok(ran) = run_threads(rt, alloc, script, gate) else {
-        panic!(rt; "no memory")
-    };
-    legal_lists(rt, alloc, script, ran)
-}
-
-/// Runs the script that the text of this one is. Its report is legal.
-pub(super) fn run_printed<G: Gate + Sync, R: Threads + Wait + Sync + Abort>(
-    rt: &R,
-    alloc: Global,
-    script: &Script,
+    text: &[u8],
     gate: &G,
 ) -> Lists {
-    let Ok(text) = print_script(alloc, script) else {
+    let script = script_of(rt, alloc, text);
+    let Ok(ran) = run_threads(rt, alloc, &script, gate) else {
         panic!(rt; "no memory")
     };
-    let script = script_of(rt, alloc, text.as_slice());
-    run_script(rt, alloc, &script, gate)
+    legal_lists(rt, alloc, &script, ran)
 }
 
 /// Opens a service, and runs the script on it with these books.

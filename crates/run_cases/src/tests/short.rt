@@ -1,15 +1,13 @@
 //! Runs in which a CPU is refused the room for its notes.
-ghost use Rattle.std.specs.Prelude.{◌≡◌, IfOk, length};
-ghost use Rattle.co_program.specs.Actors.{actor_count};
+ghost use Rattle.std.specs.Prelude.{◌≡◌, length};
 ghost use Rattle.co_run.specs.Jobs.{AreEmptyBooks};
-ghost use Rattle.co_run.specs.Ran.{IsRan};
 ghost use Rattle.run_cases.specs.Scenes.{CanRun};
 
 use super::running::{is_run_legal, run_with, script_of};
 use co_hand::OpenGate;
 use co_program::{Script, actor_count};
-use co_run::{Ran, ShortBook};
-use co_sbt::{NoMemory, Seq};
+use co_run::ShortBook;
+use co_sbt::Seq;
 use std::alloc::Global;
 use std::process::Abort;
 use std::sync::Wait;
@@ -54,21 +52,8 @@ fn short_books(rt: &impl Abort, alloc: Global, actors: u32, refused: u64) -> Seq
     books
 }
 
-/// A run in which the CPU is refused the reserve of this number.
-fn run_short<R: Threads + Wait + Sync + Abort>(
-    rt: &R,
-    alloc: Global,
-    script: &Script,
-    refused: u64,
-) -> Result<Ran, NoMemory>
-    requires { CanRun script.now }
-    ensures { IfOk result (IsRan script.now) }
-{
-    let books = short_books(rt, alloc, actor_count(script), refused);
-    run_with(rt, alloc, script, &OpenGate {}, books)
-}
-
-/// The number of the first reserve that the CPU doesn't make, and whether the report of that run is legal.
+/// The number of the first reserve that the CPU doesn't make, and whether the report of that run is legal. Each run before it
+/// is refused a reserve.
 fn first_whole<R: Threads + Wait + Sync + Abort>(
     rt: &R,
     alloc: Global,
@@ -77,7 +62,8 @@ fn first_whole<R: Threads + Wait + Sync + Abort>(
     requires { CanRun script.now }
 {
     for refused in 0..MOST {
-        if let Ok(ran) = run_short(rt, alloc, script, refused) {
+        let books = short_books(rt, alloc, actor_count(script), refused);
+        if let Ok(ran) = run_with(rt, alloc, script, &OpenGate {}, books) {
             return Some((refused, is_run_legal(alloc, script, &ran)));
         }
     }

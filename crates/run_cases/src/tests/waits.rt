@@ -1,15 +1,12 @@
 //! Actors that wait for each other at the gate.
 ghost use Rattle.std.specs.Prelude.{◌≡◌, length, vec_len};
-ghost use Rattle.co_program.specs.Actors.{actor_count};
 ghost use Rattle.co_run.specs.Jobs.{AreEmptyBooks};
-ghost use Rattle.co_run.specs.Ran.{IsRan};
-ghost use Rattle.run_cases.specs.Scenes.{CanRun};
 
 use super::running::{legal_lists, run_with, script_of};
 use co_hand::Gate;
 use co_object::{Lists, Note};
-use co_program::{Script, actor_count};
-use co_run::{Notebook, Ran, RoomBook};
+use co_program::actor_count;
+use co_run::{Notebook, RoomBook};
 use co_sbt::{NoMemory, Seq};
 use std::alloc::Global;
 use std::process::Abort;
@@ -187,27 +184,6 @@ fn told_books<'a>(rt: &impl Abort, alloc: Global, told: &'a [Told]) -> Seq<ToldB
     books
 }
 
-/// Runs a script, with acts that wait for others. Each actor announces so many acts.
-fn run_waiting<R: Threads + Wait + Sync + Abort>(
-    rt: &R,
-    alloc: Global,
-    script: &Script,
-    after: &[After],
-    acts: &[u64],
-) -> Ran
-    requires { CanRun script.now }
-    ensures { IsRan script.now result }
-{
-    let told = nothing_told(rt, alloc, actor_count(script));
-    let gate = Waits::new(after, told.as_slice());
-    let books = told_books(rt, alloc, told.as_slice());
-    let Ok(ran) = run_with(rt, alloc, script, &gate, books) else {
-        panic!(rt; "no memory")
-    };
-    assert!(rt; gate.is_kept(acts));
-    ran
-}
-
 /// Runs the script of a text, with acts that wait for others. Its report is legal, and each actor announces so many acts.
 pub(super) fn run_in_order<R: Threads + Wait + Sync + Abort>(
     rt: &R,
@@ -217,6 +193,12 @@ pub(super) fn run_in_order<R: Threads + Wait + Sync + Abort>(
     acts: &[u64],
 ) -> Lists {
     let script = script_of(rt, alloc, text);
-    let ran = run_waiting(rt, alloc, &script, after, acts);
+    let told = nothing_told(rt, alloc, actor_count(&script));
+    let gate = Waits::new(after, told.as_slice());
+    let books = told_books(rt, alloc, told.as_slice());
+    let Ok(ran) = run_with(rt, alloc, &script, &gate, books) else {
+        panic!(rt; "no memory")
+    };
+    assert!(rt; gate.is_kept(acts));
     legal_lists(rt, alloc, &script, ran)
 }
