@@ -170,12 +170,13 @@ fn have_their_calls<R: Abort>(rt: &R, lists: &Lists) {
 
 #[test]
 fn eight_clients_and_four_cpus(rt: HostRuntime) {
-    let text = text(&rt, rt.alloc());
+    let alloc = rt.alloc();
+    let text = text(&rt, alloc);
     let gate = Pace {
         acts: AtomicU64::new(0),
         faults: AtomicU64::new(0),
     };
-    let lists = run_text(&rt, rt.alloc(), text.as_slice(), &gate);
+    let lists = run_text(&rt, alloc, text.as_slice(), &gate);
     assert!(rt; gate.faults.load(Ordering::SeqCst) == 0);
     have_their_calls(&rt, &lists);
 }

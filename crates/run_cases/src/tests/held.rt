@@ -111,8 +111,9 @@ fn play<N: Name + Send + Sync, R: Threads + Wait + Sync + Abort>(
 
 #[test]
 fn a_lock_for_each_cpu(rt: HostRuntime) {
-    let (fresh, passes) = boot(&rt, rt.alloc());
-    let (armed, in_time, stopped) = play::<Brand, _>(&rt, rt.alloc(), fresh, passes);
+    let alloc = rt.alloc();
+    let (fresh, passes) = boot(&rt, alloc);
+    let (armed, in_time, stopped) = play::<Brand, _>(&rt, alloc, fresh, passes);
     assert!(rt; in_time);
     assert!(rt; matches!(armed, PortReply::Reply(Reply::Armed { cpu: 2, .. })));
     let code = Reply::Stopped {

@@ -88,10 +88,11 @@ fn come_back(rt: &impl Abort, notes: &[Note]) {
 
 #[test]
 fn a_report_that_threads_print_is_legal(rt: HostRuntime) {
-    let script = script_of(&rt, rt.alloc(), TICKING.as_bytes());
-    let pieces = packed_report(&rt, rt.alloc(), &script);
-    let text = joined(&rt, rt.alloc(), pieces.as_slice());
-    assert!(rt; is_legal(rt.alloc(), text.as_slice()));
+    let alloc = rt.alloc();
+    let script = script_of(&rt, alloc, TICKING.as_bytes());
+    let pieces = packed_report(&rt, alloc, &script);
+    let text = joined(&rt, alloc, pieces.as_slice());
+    assert!(rt; is_legal(alloc, text.as_slice()));
 }
 
 #[test]

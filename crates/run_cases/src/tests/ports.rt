@@ -208,6 +208,7 @@ fn run_through_ports<R: Threads + Wait + Sync + Abort>(
 
 #[test]
 fn functions_call_through_ports(rt: HostRuntime) {
-    let script = script_of(&rt, rt.alloc(), FUNCTIONS.as_bytes());
-    assert!(rt; run_through_ports(&rt, rt.alloc(), &script));
+    let alloc = rt.alloc();
+    let script = script_of(&rt, alloc, FUNCTIONS.as_bytes());
+    assert!(rt; run_through_ports(&rt, alloc, &script));
 }

@@ -43,9 +43,10 @@ pub(super) fn leave_clients<N: Name>(service: &Service<N>, passes: Seq<Passes>) 
     ensures other { AreOf N.name service.now result.1 }
 {
     let mut all = passes.into_vec();
-    let _third_cpu = service.leave(&mut all, 4);
-    let _second_cpu = service.leave(&mut all, 3);
-    let _first_cpu = service.leave(&mut all, 2);
+    // The CPUs'.
+    let _ = service.leave(&mut all, 4);
+    let _ = service.leave(&mut all, 3);
+    let _ = service.leave(&mut all, 2);
     let other = service.leave(&mut all, 1);
     (service.leave(&mut all, 0), other)
 }

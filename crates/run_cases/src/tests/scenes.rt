@@ -2,10 +2,6 @@
 use super::running::count_in;
 use super::waits::{After, Far, run_in_order};
 use co_object::{AnyEntry, Entry, Lists, Note, Op, Place, Reply, RunOp};
-use std::alloc::Global;
-use std::process::Abort;
-use std::sync::Wait;
-use std::thread::Threads;
 
 /// What is told of an actor's notes.
 #[derive(Clone, Copy)]
@@ -492,16 +488,11 @@ fn are_told(lists: &Lists, all: &[(usize, Told)]) -> bool {
     true
 }
 
-/// Plays a scene, of which all is told that is to be.
-fn play<R: Threads + Wait + Sync + Abort>(rt: &R, alloc: Global, scene: &Scene) {
-    let text = scene.text.as_bytes();
-    let lists = run_in_order(rt, alloc, text, scene.after, scene.acts);
-    assert!(rt; are_told(&lists, scene.told), "{}", scene.name);
-}
-
 #[test]
 fn scenes(rt: HostRuntime) {
     for scene in &SCENES {
-        play(&rt, rt.alloc(), scene);
+        let text = scene.text.as_bytes();
+        let lists = run_in_order(&rt, rt.alloc(), text, scene.after, scene.acts);
+        assert!(rt; are_told(&lists, scene.told), "{}", scene.name);
     }
 }

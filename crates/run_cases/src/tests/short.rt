@@ -72,7 +72,8 @@ fn first_whole<R: Threads + Wait + Sync + Abort>(
 
 #[test]
 fn each_refusal_ends_the_run(rt: HostRuntime) {
-    let script = script_of(&rt, rt.alloc(), THREADS.as_bytes());
-    let whole = first_whole(&rt, rt.alloc(), &script);
+    let alloc = rt.alloc();
+    let script = script_of(&rt, alloc, THREADS.as_bytes());
+    let whole = first_whole(&rt, alloc, &script);
     assert!(rt; matches!(whole, Some((2..=3, true))));
 }
