@@ -18,7 +18,7 @@ struct Numbers {
 }
 
 /// None, some of one byte and of more, a high bit alone, and the greatest.
-const NUMBERS: [Numbers; 6] = [
+static NUMBERS: [Numbers; 6] = [
     Numbers {
         long: 0,
         short: 0,
@@ -237,7 +237,7 @@ fn queue_entries(numbers: &Numbers, time: Sbt) -> [(QOp, QReply); 7] {
 }
 
 /// What an actor's own history has.
-const OWN: [OwnKind; 4] = [
+static OWN: [OwnKind; 4] = [
     OwnKind::NotHeld,
     OwnKind::HoldsLock,
     OwnKind::Holding,

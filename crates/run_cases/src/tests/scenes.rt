@@ -65,7 +65,7 @@ fn reply_of(said: Said) -> Reply {
     }
 }
 
-const SCENES: [Scene; 10] = [
+static SCENES: [Scene; 10] = [
     // Two clients call beside each other.
     Scene {
         name: "two clients",
