@@ -139,6 +139,7 @@ fn text(rt: &impl Abort, alloc: Global) -> Seq<u8> {
     let Ok(text) = print_script(alloc, &script) else {
         panic!(rt; "no memory")
     };
+    drop(script);
     text
 }
 

@@ -106,6 +106,7 @@ fn play<N: Name + Send + Sync, R: Threads + Wait + Sync + Abort>(
     };
     let armed = ask(rt, alloc, &service, one, 0, reset);
     let (in_time, stopped) = stop_beside_a_hold(rt, alloc, &service, other);
+    drop(service);
     (armed, in_time, stopped)
 }
 

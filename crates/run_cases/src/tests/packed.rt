@@ -91,6 +91,7 @@ fn a_report_that_threads_print_is_legal(rt: HostRuntime) {
     let alloc = rt.alloc();
     let script = script_of(&rt, alloc, TICKING.as_bytes());
     let pieces = packed_report(&rt, alloc, &script);
+    drop(script);
     let text = joined(&rt, alloc, pieces.as_slice());
     assert!(rt; is_legal(alloc, text.as_slice()));
 }

@@ -81,7 +81,9 @@ fn calls_of<N: Name, R: Wait + Sync + Abort>(
         panic!(rt; "no memory")
     };
     table.run(&fire(i, 2), None, &mut port);
-    port.into_parts().1
+    let (passes, calls) = port.into_parts();
+    drop(passes);
+    calls
 }
 
 /// The calls of both functions, each in a thread of its own.
@@ -132,7 +134,9 @@ fn run_both<N: Name + Send + Sync, R: Threads + Wait + Sync + Abort>(
         panic!(rt; "no memory")
     };
     let (one, other) = leave_clients(&service, passes);
-    calls_of_both(rt, alloc, script, gate, &service, one, other)
+    let calls = calls_of_both(rt, alloc, script, gate, &service, one, other);
+    drop(service);
+    calls
 }
 
 /// A reset of function `i` to a time in seconds, at this CPU or at home.
@@ -211,4 +215,5 @@ fn functions_call_through_ports(rt: HostRuntime) {
     let alloc = rt.alloc();
     let script = script_of(&rt, alloc, FUNCTIONS.as_bytes());
     assert!(rt; run_through_ports(&rt, alloc, &script));
+    drop(script);
 }

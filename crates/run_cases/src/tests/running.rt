@@ -36,7 +36,11 @@ pub(super) fn script_of(rt: &impl Abort, alloc: Global, text: &[u8]) -> Script
 /// Whether a text is a legal report.
 pub(super) fn is_legal(alloc: Global, text: &[u8]) -> bool {
     match read_report(alloc, text) {
-        Ok(report) => matches!(check(alloc, &report), Ok(Verdict::Legal)),
+        Ok(report) => {
+            let verdict = check(alloc, &report);
+            drop(report);
+            matches!(verdict, Ok(Verdict::Legal))
+        }
         Err(_) => false,
     }
 }
@@ -70,7 +74,9 @@ pub(super) fn run_text<G: Gate + Sync, R: Threads + Wait + Sync + Abort>(
     let Ok(ran) = run_threads(rt, alloc, &script, gate) else {
         panic!(rt; "no memory")
     };
-    legal_lists(rt, alloc, &script, ran)
+    let lists = legal_lists(rt, alloc, &script, ran);
+    drop(script);
+    lists
 }
 
 /// Opens a service, and runs the script on it with these books.

@@ -44,9 +44,9 @@ pub(super) fn leave_clients<N: Name>(service: &Service<N>, passes: Seq<Passes>) 
 {
     let mut all = passes.into_vec();
     // The CPUs'.
-    let _ = service.leave(&mut all, 4);
-    let _ = service.leave(&mut all, 3);
-    let _ = service.leave(&mut all, 2);
+    drop(service.leave(&mut all, 4));
+    drop(service.leave(&mut all, 3));
+    drop(service.leave(&mut all, 2));
     let other = service.leave(&mut all, 1);
     (service.leave(&mut all, 0), other)
 }

@@ -75,5 +75,6 @@ fn each_refusal_ends_the_run(rt: HostRuntime) {
     let alloc = rt.alloc();
     let script = script_of(&rt, alloc, THREADS.as_bytes());
     let whole = first_whole(&rt, alloc, &script);
+    drop(script);
     assert!(rt; matches!(whole, Some((2..=3, true))));
 }

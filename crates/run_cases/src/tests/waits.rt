@@ -200,5 +200,7 @@ pub(super) fn run_in_order<R: Threads + Wait + Sync + Abort>(
         panic!(rt; "no memory")
     };
     assert!(rt; gate.is_kept(acts));
-    legal_lists(rt, alloc, &script, ran)
+    let lists = legal_lists(rt, alloc, &script, ran);
+    drop(script);
+    lists
 }

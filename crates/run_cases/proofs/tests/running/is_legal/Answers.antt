@@ -2,5 +2,5 @@
 use Rattle.co_check.proofs.ReadReports.{may_check}
 use Rattle.run_cases.proofs.tests.running.is_legal.Goals as goal
 
-pub check-requires : goal.check-requires
-check-requires c = may_check c.args.text.now c.in-Ok.report c.in-Ok.ensures
+pub check-verdict-requires : goal.check-verdict-requires
+check-verdict-requires c = may_check c.args.text.now c.in-Ok.report c.in-Ok.ensures
