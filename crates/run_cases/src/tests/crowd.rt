@@ -1,14 +1,15 @@
 //! Many clients reset, stop and move the same callouts, beside CPUs that service them.
-use super::running::{count_timers, notes_of, run_printed};
+use super::running::{count_timers, notes_of, run_text};
+use super::scene::FREE;
 use super::waits::comes_to;
 use co_hand::Gate;
-use co_object::{Lists, LockUse, Spec};
+use co_object::Lists;
 use co_program::{Act, Acts, Script, When, Where, Who};
-use co_sbt::{NoMemory, Sbt, Seq};
+use co_sbt::{Sbt, Seq};
+use co_script::print_script;
 use std::alloc::Global;
 use std::process::Abort;
 use std::sync::atomic::{AtomicU64, Ordering};
-use std::test::Fail;
 
 const CLIENTS: u32 = 8;
 
@@ -59,79 +60,87 @@ fn choose(number: u64, draw: u64) -> Act {
 }
 
 /// Adds an act to a program.
-fn add(acts: &mut Acts, act: Act) -> Result<(), NoMemory> {
+fn add(rt: &impl Abort, acts: &mut Acts, act: Act) {
     // The check has to be told of the types of an act's parts.
     let _parts: (Option<Who>, Option<When>, Option<Where>) = (None, None, None);
-    acts.push(act)
+    assert!(rt; acts.push(act).is_ok(), "no memory");
 }
 
 /// A client's program.
-fn acts_of(alloc: Global, client: u32) -> Result<Acts, NoMemory> {
+fn acts_of(rt: &impl Abort, alloc: Global, client: u32) -> Acts {
     let mut acts = Seq::new(alloc);
     let mut draw = u64::from(client);
     for number in 0..ACTS {
         draw = next_draw(draw);
-        add(&mut acts, choose(number, draw))?;
+        add(rt, &mut acts, choose(number, draw));
     }
-    Ok(acts)
+    acts
 }
 
 /// A CPU's ticks: one whenever the clients have made some acts more, up to all.
-fn ticks(alloc: Global) -> Result<Acts, NoMemory> {
+fn ticks_of(rt: &impl Abort, alloc: Global) -> Acts {
     let mut acts = Seq::new(alloc);
     let all = ACTS.saturating_mul(u64::from(CLIENTS));
     for tick in 0..=all / BETWEEN {
         add(
+            rt,
             &mut acts,
             Act::Tick(time_after(tick.saturating_mul(BETWEEN))),
-        )?;
+        );
     }
-    Ok(acts)
+    acts
 }
 
-/// Callouts without locks.
-fn timers(alloc: Global) -> Result<Seq<Spec>, NoMemory> {
-    let mut specs = Seq::new(alloc);
-    for _ in 0..CALLOUTS {
-        specs.push(Spec {
-            lock: LockUse::Free,
-            returns_unlocked: false,
-            direct: false,
-        })?;
-    }
-    Ok(specs)
-}
-
-/// The clients' programs, and those of the CPUs.
-fn programs(alloc: Global) -> Result<(Seq<Acts>, Seq<Acts>), NoMemory> {
-    let mut clients = Seq::new(alloc);
+/// The clients' programs.
+fn clients(rt: &impl Abort, alloc: Global) -> Seq<Acts> {
+    let mut programs = Seq::new(alloc);
     for client in 0..CLIENTS {
-        clients.push(acts_of(alloc, client)?)?;
+        assert!(rt;
+            programs.push(acts_of(rt, alloc, client)).is_ok(),
+            "no memory"
+        );
     }
-    let mut cpus = Seq::new(alloc);
-    for _ in 0..CPUS {
-        cpus.push(ticks(alloc)?)?;
-    }
-    Ok((clients, cpus))
+    programs
 }
 
-/// The crowd's script.
-fn script(alloc: Global) -> Result<Script, NoMemory> {
-    let (clients, ticks) = programs(alloc)?;
+/// The CPUs' ticks.
+fn ticks(rt: &impl Abort, alloc: Global) -> Seq<Acts> {
+    let mut programs = Seq::new(alloc);
+    for _ in 0..CPUS {
+        assert!(rt; programs.push(ticks_of(rt, alloc)).is_ok(), "no memory");
+    }
+    programs
+}
+
+/// The crowd's script, with callouts without locks.
+fn script(rt: &impl Abort, alloc: Global) -> Script {
     let mut funcs = Seq::new(alloc);
-    funcs.push(Seq::new(alloc))?;
-    Ok(Script {
+    assert!(rt; funcs.push(Seq::new(alloc)).is_ok(), "no memory");
+    let Ok(timers) = Seq::filled(alloc, CALLOUTS as usize, FREE) else {
+        panic!(rt; "no memory")
+    };
+    Script {
         version: 1,
         hz: 1000,
         cpus: CPUS,
         buckets: 16,
         locks: Seq::new(alloc),
-        timers: timers(alloc)?,
+        timers,
         funcs,
-        clients,
-        ticks,
+        clients: clients(rt, alloc),
+        ticks: ticks(rt, alloc),
         turns: Seq::new(alloc),
-    })
+    }
+}
+
+/// The text of the crowd's script.
+fn text(rt: &impl Abort, alloc: Global) -> Seq<u8> {
+    let script = script(rt, alloc);
+    let Ok(text) = print_script(alloc, &script) else {
+        panic!(rt; "no memory")
+    };
+    drop(script);
+    text
 }
 
 /// A gate at which a CPU's tick waits until the clients have come as far.
@@ -161,14 +170,14 @@ fn have_their_calls<R: Abort>(rt: &R, lists: &Lists) {
 }
 
 #[test]
-fn eight_clients_and_four_cpus(rt: HostRuntime) -> Result<(), Fail> {
-    let script = script(rt.alloc())?;
+fn eight_clients_and_four_cpus(rt: HostRuntime) {
+    let alloc = rt.alloc();
+    let text = text(&rt, alloc);
     let gate = Pace {
         acts: AtomicU64::new(0),
         faults: AtomicU64::new(0),
     };
-    let lists = run_printed(&rt, rt.alloc(), &script, &gate)?;
+    let lists = run_text(&rt, alloc, text.as_slice(), &gate);
     assert!(rt; gate.faults.load(Ordering::SeqCst) == 0);
     have_their_calls(&rt, &lists);
-    Ok(())
 }

@@ -9,13 +9,13 @@ use super::scene::{ask, boot, leave_clients};
 use super::waits::comes_to;
 use co_hand::PortReply;
 use co_object::{PlainOp, Reply};
-use co_sbt::{NoMemory, Sbt, Seq};
+use co_sbt::{Sbt, Seq};
 use co_service::{Fresh, Name, Passes, Service};
 use std::alloc::Global;
 use std::marker::Brand;
+use std::process::Abort;
 use std::sync::Wait;
 use std::sync::atomic::{AtomicU64, Ordering};
-use std::test::Fail;
 use std::thread::{Threads, join};
 
 /// What the two threads tell each other.
@@ -28,13 +28,13 @@ struct Words {
 }
 
 /// A client's stop once the lock is kept.
-fn stop_when_kept<N: Name, R: Wait>(
+fn stop_when_kept<N: Name, R: Wait + Abort>(
     rt: &R,
     alloc: Global,
     service: &Service<N>,
     passes: Passes,
     words: &Words,
-) -> Result<PortReply, NoMemory>
+) -> PortReply
     requires scene { service.now ≡ two_clients }
     requires passes { AreOf N.name service.now passes }
 {
@@ -57,12 +57,12 @@ fn keep_until_answered<N: Name, R: Wait>(rt: &R, service: &Service<N>, words: &W
 }
 
 /// A client stops the callout while another thread keeps the second CPU's lock.
-fn stop_beside_a_hold<N: Name + Send + Sync, R: Threads + Wait + Sync>(
+fn stop_beside_a_hold<N: Name + Send + Sync, R: Threads + Wait + Sync + Abort>(
     rt: &R,
     alloc: Global,
     service: &Service<N>,
     client: Passes,
-) -> (bool, Result<PortReply, NoMemory>)
+) -> (bool, PortReply)
     requires scene { service.now ≡ two_clients }
     requires client { AreOf N.name service.now client }
 {
@@ -75,7 +75,7 @@ fn stop_beside_a_hold<N: Name + Send + Sync, R: Threads + Wait + Sync>(
         || -> bool
             requires { IsSync R.row × (service.now ≡ two_clients) }
         { keep_until_answered(rt, service, &words) },
-        || -> Result<PortReply, NoMemory>
+        || -> PortReply
             requires { IsSync R.row × (service.now ≡ two_clients) × AreOf N.name service.now client }
         { stop_when_kept(rt, alloc, service, client, &words) },
     )
@@ -83,16 +83,20 @@ fn stop_beside_a_hold<N: Name + Send + Sync, R: Threads + Wait + Sync>(
 
 /// A callout is armed at the third CPU, and stopped while the second CPU's lock is kept. The answers are those to the reset and
 /// the stop, and whether the second came in time.
-fn arm_and_stop<N: Name + Send + Sync, R: Threads + Wait + Sync>(
+fn play<N: Name + Send + Sync, R: Threads + Wait + Sync + Abort>(
     rt: &R,
     alloc: Global,
-    service: &Service<N>,
+    fresh: Fresh,
     passes: Seq<Passes>,
-) -> Result<(PortReply, bool, PortReply), NoMemory>
-    requires scene { service.now ≡ two_clients }
-    requires passes { AreBooted N.name service.now passes }
+) -> (PortReply, bool, PortReply)
+    requires name { fresh.name ≡ N.name }
+    requires scene { fresh.params ≡ two_clients }
+    requires passes { AreBooted fresh.name fresh.params passes }
 {
-    let (one, other) = leave_clients(service, passes);
+    let Ok(service) = Service::<N>::open(alloc, fresh) else {
+        panic!(rt; "no memory")
+    };
+    let (one, other) = leave_clients(&service, passes);
     let reset = PlainOp::Reset {
         due: Sbt::from_ticks(1, 1),
         prec: Sbt::zero(),
@@ -100,30 +104,17 @@ fn arm_and_stop<N: Name + Send + Sync, R: Threads + Wait + Sync>(
         arg: 0,
         cpu: Some(2),
     };
-    let armed = ask(rt, alloc, service, one, 0, reset)?;
-    let (in_time, stopped) = stop_beside_a_hold(rt, alloc, service, other);
-    Ok((armed, in_time, stopped?))
-}
-
-/// Opens the service, and lets both clients call.
-fn play<N: Name + Send + Sync, R: Threads + Wait + Sync>(
-    rt: &R,
-    alloc: Global,
-    fresh: Fresh,
-    passes: Seq<Passes>,
-) -> Result<(PortReply, bool, PortReply), NoMemory>
-    requires name { fresh.name ≡ N.name }
-    requires scene { fresh.params ≡ two_clients }
-    requires passes { AreBooted fresh.name fresh.params passes }
-{
-    let service = Service::<N>::open(alloc, fresh)?;
-    arm_and_stop(rt, alloc, &service, passes)
+    let armed = ask(rt, alloc, &service, one, 0, reset);
+    let (in_time, stopped) = stop_beside_a_hold(rt, alloc, &service, other);
+    drop(service);
+    (armed, in_time, stopped)
 }
 
 #[test]
-fn a_lock_for_each_cpu(rt: HostRuntime) -> Result<(), Fail> {
-    let (fresh, passes) = boot(rt.alloc())?;
-    let (armed, in_time, stopped) = play::<Brand, _>(&rt, rt.alloc(), fresh, passes)?;
+fn a_lock_for_each_cpu(rt: HostRuntime) {
+    let alloc = rt.alloc();
+    let (fresh, passes) = boot(&rt, alloc);
+    let (armed, in_time, stopped) = play::<Brand, _>(&rt, alloc, fresh, passes);
     assert!(rt; in_time);
     assert!(rt; matches!(armed, PortReply::Reply(Reply::Armed { cpu: 2, .. })));
     let code = Reply::Stopped {
@@ -131,5 +122,4 @@ fn a_lock_for_each_cpu(rt: HostRuntime) -> Result<(), Fail> {
         off: Some(2),
     };
     assert!(rt; stopped == PortReply::Reply(code));
-    Ok(())
 }

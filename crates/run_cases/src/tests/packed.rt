@@ -1,19 +1,17 @@
 //! Runs whose notes are packed, and their reports, which threads print.
 ghost use Rattle.run_cases.specs.Scenes.{CanRun};
 
-use super::running::{Failed, run_script, script_of, verdict_on};
-use co_check::Verdict;
+use super::running::{is_legal, run_text, script_of};
 use co_hand::OpenGate;
 use co_object::Note;
 use co_packed::PackedNote;
 use co_program::Script;
 use co_report::print_by_threads;
 use co_run::run_packed;
-use co_sbt::{NoMemory, Seq};
+use co_sbt::Seq;
 use std::alloc::Global;
 use std::process::Abort;
 use std::sync::Wait;
-use std::test::Fail;
 use std::thread::Threads;
 
 /// Two clients, two CPUs and a function that arms its callout again: most of the notes are of its services.
@@ -47,51 +45,61 @@ tick 1
 ";
 
 /// The bytes of these pieces, one behind the other.
-fn joined(alloc: Global, pieces: &[Seq<u8>]) -> Result<Seq<u8>, NoMemory> {
+fn joined(rt: &impl Abort, alloc: Global, pieces: &[Seq<u8>]) -> Seq<u8> {
     let mut text = Seq::new(alloc);
     for piece in pieces {
-        text.extend_from_slice(piece.as_slice())?;
+        assert!(rt;
+            text.extend_from_slice(piece.as_slice()).is_ok(),
+            "no memory"
+        );
     }
-    Ok(text)
+    text
 }
 
-/// The report of a run with packed notes.
-fn packed_report<R: Threads + Wait + Sync>(
+/// The report of a run with packed notes, in pieces.
+fn packed_report<R: Threads + Wait + Sync + Abort>(
     rt: &R,
     alloc: Global,
     script: &Script,
-) -> Result<Seq<u8>, NoMemory>
+) -> Seq<Seq<u8>>
     requires { CanRun script.now }
 {
-    let ran = run_packed(rt, alloc, script, &OpenGate {})?;
-    let pieces = print_by_threads(rt, alloc, script, &ran.lists)?;
-    joined(alloc, pieces.as_slice())
+    let Ok(ran) = run_packed(rt, alloc, script, &OpenGate {}) else {
+        panic!(rt; "no memory")
+    };
+    let Ok(pieces) = print_by_threads(rt, alloc, script, &ran.lists) else {
+        panic!(rt; "no memory")
+    };
+    pieces
+}
+
+/// Whether a note is the same once it was packed.
+fn comes_back(note: &Note) -> bool {
+    let packed = PackedNote::of(note);
+    packed.place() == note.place && packed.pos() == note.pos && packed.note() == *note
 }
 
 /// Each of these notes is the same once it was packed.
 fn come_back(rt: &impl Abort, notes: &[Note]) {
     for note in notes {
-        let packed = PackedNote::of(note);
-        assert!(rt; packed.place() == note.place);
-        assert!(rt; packed.pos() == note.pos);
-        assert!(rt; packed.note() == *note);
+        assert!(rt; comes_back(note));
     }
 }
 
 #[test]
-fn a_report_that_threads_print_is_legal(rt: HostRuntime) -> Result<(), Fail> {
-    let script = script_of(rt.alloc(), TICKING.as_bytes())?;
-    let text = packed_report(&rt, rt.alloc(), &script)?;
-    assert!(rt; verdict_on(rt.alloc(), text.as_slice())? == Verdict::Legal);
-    Ok(())
+fn a_report_that_threads_print_is_legal(rt: HostRuntime) {
+    let alloc = rt.alloc();
+    let script = script_of(&rt, alloc, TICKING.as_bytes());
+    let pieces = packed_report(&rt, alloc, &script);
+    drop(script);
+    let text = joined(&rt, alloc, pieces.as_slice());
+    assert!(rt; is_legal(alloc, text.as_slice()));
 }
 
 #[test]
-fn a_packed_note_is_the_note(rt: HostRuntime) -> Result<(), Fail> {
-    let script = script_of(rt.alloc(), TICKING.as_bytes())?;
-    let lists = run_script(&rt, rt.alloc(), &script, &OpenGate {})?;
+fn a_packed_note_is_the_note(rt: HostRuntime) {
+    let lists = run_text(&rt, rt.alloc(), TICKING.as_bytes(), &OpenGate {});
     for notes in lists.as_slice() {
         come_back(&rt, notes.as_slice());
     }
-    Ok(())
 }

@@ -6,7 +6,7 @@ use co_object::{
 use co_packed::{Head, PackedNotes};
 use co_sbt::{NoMemory, Sbt, Seq};
 use std::alloc::Global;
-use std::test::Fail;
+use std::process::Abort;
 
 /// The numbers of a note.
 #[derive(Clone, Copy)]
@@ -18,7 +18,7 @@ struct Numbers {
 }
 
 /// None, some of one byte and of more, a high bit alone, and the greatest.
-const NUMBERS: [Numbers; 6] = [
+static NUMBERS: [Numbers; 6] = [
     Numbers {
         long: 0,
         short: 0,
@@ -117,14 +117,24 @@ fn other_ops(numbers: &Numbers, time: Sbt) -> [Op; 5] {
     ]
 }
 
-/// Replies of a callout with numbers.
-fn replies(numbers: &Numbers, off: Option<u32>) -> [Reply; 7] {
+/// An arming that moves to another CPU.
+fn next_of(numbers: &Numbers, time: Sbt) -> Option<Next> {
+    Some(Next {
+        n: numbers.long,
+        cpu: numbers.short,
+        due: time,
+    })
+}
+
+/// Replies of a callout with numbers, the ends of services among them.
+fn replies(numbers: &Numbers, time: Sbt, off: Option<u32>) -> [Reply; 11] {
     let Numbers {
         long,
         short,
         code,
         ..
     } = *numbers;
+    let drain = off;
     [
         Reply::Armed {
             code,
@@ -149,16 +159,27 @@ fn replies(numbers: &Numbers, off: Option<u32>) -> [Reply; 7] {
             func: short,
             arg: long,
         },
+        Reply::Ended {
+            drain,
+            next: None,
+            woke: false,
+        },
+        Reply::Ended {
+            drain,
+            next: None,
+            woke: true,
+        },
+        Reply::Ended {
+            drain,
+            next: next_of(numbers, time),
+            woke: false,
+        },
+        Reply::Ended {
+            drain,
+            next: next_of(numbers, time),
+            woke: true,
+        },
     ]
-}
-
-/// An arming that moves to another CPU.
-fn next_of(numbers: &Numbers, time: Sbt) -> Option<Next> {
-    Some(Next {
-        n: numbers.long,
-        cpu: numbers.short,
-        due: time,
-    })
 }
 
 /// Replies of a callout with none.
@@ -216,18 +237,20 @@ fn queue_entries(numbers: &Numbers, time: Sbt) -> [(QOp, QReply); 7] {
 }
 
 /// What an actor's own history has.
-const OWN: [OwnKind; 4] = [
+static OWN: [OwnKind; 4] = [
     OwnKind::NotHeld,
     OwnKind::HoldsLock,
     OwnKind::Holding,
     OwnKind::NotHolding,
 ];
 
-/// A list of notes with the same numbers.
+/// A list of notes, and the same list packed.
 #[derive(Drop)]
 struct Making {
+    /// Those of the notes that come next.
     numbers: Numbers,
     notes: Seq<Note>,
+    packed: PackedNotes,
 }
 
 impl Making {
@@ -235,11 +258,13 @@ impl Making {
     fn add(&mut self, entry: &AnyEntry) -> Result<(), NoMemory> {
         let Numbers { long, short, .. } = self.numbers;
         for place in [Place::Timer(short), Place::Cpu(short), Place::Actor(short)] {
-            self.notes.push(Note {
+            let note = Note {
                 place,
                 pos: long,
                 entry: *entry,
-            })?;
+            };
+            self.packed.push(&note)?;
+            self.notes.push(note)?;
         }
         Ok(())
     }
@@ -255,112 +280,102 @@ impl Making {
         }))
     }
 
-    /// Adds the entries of callouts.
-    fn add_timers(&mut self, time: Sbt) -> Result<(), NoMemory> {
-        let numbers = self.numbers;
-        for plain in plain_ops(&numbers, time) {
-            self.add_timer(Op::Call(CallOp::Plain(plain)), Reply::Yes)?;
-        }
-        for op in other_ops(&numbers, time) {
-            self.add_timer(op, Reply::Done)?;
-        }
-        for reply in BARE {
-            self.add_timer(Op::Call(CallOp::Plain(PlainOp::Stop)), reply)?;
+    /// Adds callers' operations.
+    fn add_calls(&mut self, calls: &[PlainOp]) -> Result<(), NoMemory> {
+        for plain in calls {
+            self.add_timer(Op::Call(CallOp::Plain(*plain)), Reply::Yes)?;
         }
         Ok(())
     }
 
-    /// Adds replies with numbers, and the ends of services.
-    fn add_replies(&mut self, time: Sbt) -> Result<(), NoMemory> {
-        let numbers = self.numbers;
-        for off in [None, Some(numbers.short)] {
-            for reply in replies(&numbers, off) {
-                self.add_timer(Op::Call(CallOp::Plain(PlainOp::Stop)), reply)?;
-            }
-            for (next, woke) in [
-                (None, false),
-                (None, true),
-                (next_of(&numbers, time), false),
-                (next_of(&numbers, time), true),
-            ] {
-                let drain = off;
-                self.add_timer(
-                    Op::Call(CallOp::Plain(PlainOp::Stop)),
-                    Reply::Ended { drain, next, woke },
-                )?;
-            }
+    /// Adds operations of drains and of the service.
+    fn add_others(&mut self, others: &[Op]) -> Result<(), NoMemory> {
+        for op in others {
+            self.add_timer(*op, Reply::Done)?;
         }
         Ok(())
     }
 
-    /// Adds the entries of queues and of actors.
-    fn add_others(&mut self, time: Sbt) -> Result<(), NoMemory> {
-        let numbers = self.numbers;
-        let Numbers {
-            long: act,
-            short: actor,
-            ..
-        } = numbers;
-        for (op, reply) in queue_entries(&numbers, time) {
+    /// Adds replies to a caller.
+    fn add_replies(&mut self, replies: &[Reply]) -> Result<(), NoMemory> {
+        for reply in replies {
+            self.add_timer(Op::Call(CallOp::Plain(PlainOp::Stop)), *reply)?;
+        }
+        Ok(())
+    }
+
+    /// Adds the entries of queues.
+    fn add_queues(&mut self, entries: &[(QOp, QReply)]) -> Result<(), NoMemory> {
+        let Numbers { long, short, .. } = self.numbers;
+        for (op, reply) in entries {
             self.add(&AnyEntry::Cpu(QEntry {
-                actor,
-                act,
-                op,
-                reply,
+                actor: short,
+                act: long,
+                op: *op,
+                reply: *reply,
             }))?;
         }
-        for kind in OWN {
-            self.add(&AnyEntry::Own(OwnEntry { actor, act, kind }))?;
+        Ok(())
+    }
+
+    /// Adds the entries of actors.
+    fn add_own(&mut self, kinds: &[OwnKind]) -> Result<(), NoMemory> {
+        let Numbers { long, short, .. } = self.numbers;
+        for kind in kinds {
+            self.add(&AnyEntry::Own(OwnEntry {
+                actor: short,
+                act: long,
+                kind: *kind,
+            }))?;
         }
         Ok(())
     }
-}
 
-/// Notes of each kind with these numbers.
-fn notes_of(alloc: Global, numbers: Numbers) -> Result<Seq<Note>, NoMemory> {
-    let time = Sbt::new(numbers.time).unwrap_or(Sbt::zero());
-    let mut making = Making {
-        numbers,
-        notes: Seq::new(alloc),
-    };
-    making.add_timers(time)?;
-    making.add_replies(time)?;
-    making.add_others(time)?;
-    Ok(making.notes)
-}
+    /// Adds notes of each kind with these numbers.
+    fn add_all(&mut self, numbers: Numbers) -> Result<(), NoMemory> {
+        self.numbers = numbers;
+        let time = Sbt::new(numbers.time).unwrap_or(Sbt::zero());
+        self.add_calls(&plain_ops(&numbers, time))?;
+        self.add_others(&other_ops(&numbers, time))?;
+        self.add_replies(&BARE)?;
+        self.add_replies(&replies(&numbers, time, None))?;
+        self.add_replies(&replies(&numbers, time, Some(numbers.short)))?;
+        self.add_queues(&queue_entries(&numbers, time))?;
+        self.add_own(&OWN)
+    }
 
-#[test]
-fn a_packed_list_has_the_notes(rt: HostRuntime) -> Result<(), Fail> {
-    let mut all = Seq::new(rt.alloc());
-    let mut packed = PackedNotes::new(rt.alloc());
-    for numbers in NUMBERS {
-        let notes = notes_of(rt.alloc(), numbers)?;
-        for note in notes.as_slice() {
-            packed.push(note)?;
+    /// Whether each note is found in the packed list, from the last to the first.
+    fn are_found(&self) -> bool {
+        for at in (0..self.packed.len()).rev() {
+            match self.notes.as_slice().get(at) {
+                Some(note) if at < self.packed.len() && self.packed.note(at) == *note => {}
+                _ => return false,
+            }
         }
-        all.extend_from_slice(notes.as_slice())?;
+        self.packed.len() == self.notes.as_slice().len()
     }
-    assert!(rt; packed.len() == all.as_slice().len());
-    for at in (0..packed.len()).rev() {
-        assert!(rt; at < packed.len() && at < all.as_slice().len());
-        assert!(rt; packed.note(at) == all.as_slice()[at]);
-    }
-    Ok(())
-}
 
-#[test]
-fn a_pass_over_a_packed_list_has_the_notes(rt: HostRuntime) -> Result<(), Fail> {
-    let mut packed = PackedNotes::new(rt.alloc());
-    let all = notes_of(rt.alloc(), NUMBERS[2])?;
-    for note in all.as_slice() {
-        packed.push(note)?;
+    /// Whether a pass over the packed list has each note.
+    fn are_passed(&self) -> bool {
+        let mut ahead = self.packed.ahead();
+        for note in self.notes.as_slice() {
+            if ahead.next() != Some(*note) {
+                return false;
+            }
+        }
+        ahead.next().is_none()
     }
-    let mut ahead = packed.ahead();
-    for note in all.as_slice() {
-        assert!(rt; ahead.next() == Some(*note));
+
+    /// Whether a pass over the heads has that of each note.
+    fn are_headed(&self) -> bool {
+        let mut ahead = self.packed.ahead();
+        for note in self.notes.as_slice() {
+            if !is_head_of(ahead.next_head(), note) {
+                return false;
+            }
+        }
+        ahead.next_head().is_none()
     }
-    assert!(rt; ahead.next() == None);
-    Ok(())
 }
 
 /// Whether this is the head of this note.
@@ -373,17 +388,30 @@ fn is_head_of(head: Option<Head>, note: &Note) -> bool {
     }
 }
 
+/// Notes of each kind with each of these numbers.
+fn made(rt: &impl Abort, alloc: Global, all: &[Numbers]) -> Making {
+    let mut making = Making {
+        numbers: NUMBERS[0],
+        notes: Seq::new(alloc),
+        packed: PackedNotes::new(alloc),
+    };
+    for numbers in all {
+        assert!(rt; making.add_all(*numbers).is_ok(), "no memory");
+    }
+    making
+}
+
 #[test]
-fn a_pass_over_the_heads_has_those_of_the_notes(rt: HostRuntime) -> Result<(), Fail> {
-    let mut packed = PackedNotes::new(rt.alloc());
-    let all = notes_of(rt.alloc(), NUMBERS[2])?;
-    for note in all.as_slice() {
-        packed.push(note)?;
-    }
-    let mut ahead = packed.ahead();
-    for note in all.as_slice() {
-        assert!(rt; is_head_of(ahead.next_head(), note));
-    }
-    assert!(rt; ahead.next_head().is_none());
-    Ok(())
+fn a_packed_list_has_the_notes(rt: HostRuntime) {
+    assert!(rt; made(&rt, rt.alloc(), &NUMBERS).are_found());
+}
+
+#[test]
+fn a_pass_over_a_packed_list_has_the_notes(rt: HostRuntime) {
+    assert!(rt; made(&rt, rt.alloc(), &NUMBERS[2..3]).are_passed());
+}
+
+#[test]
+fn a_pass_over_the_heads_has_those_of_the_notes(rt: HostRuntime) {
+    assert!(rt; made(&rt, rt.alloc(), &NUMBERS[2..3]).are_headed());
 }

@@ -13,13 +13,12 @@ use co_hand::{Fire, FuncTable, Handler, PortCall, PortReply};
 use co_object::{PlainOp, Reply};
 use co_program::Script;
 use co_run::ServicePort;
-use co_sbt::{NoMemory, Sbt, Seq};
+use co_sbt::{Sbt, Seq};
 use co_service::{Fresh, Name, Passes, Service};
 use std::alloc::Global;
 use std::marker::Brand;
 use std::process::Abort;
 use std::sync::Wait;
-use std::test::Fail;
 use std::thread::{Threads, join};
 
 /// Two functions over two callouts.
@@ -58,7 +57,7 @@ fn fire(i: u32, cpu: u32) -> Fire
 }
 
 /// The calls of a function, which runs in the service of callout `i`.
-fn calls_of<N: Name, R: Wait + Sync>(
+fn calls_of<N: Name, R: Wait + Sync + Abort>(
     rt: &R,
     alloc: Global,
     script: &Script,
@@ -66,7 +65,7 @@ fn calls_of<N: Name, R: Wait + Sync>(
     gate: &Waits<'_>,
     passes: Passes,
     i: u32,
-) -> Result<Seq<PortCall>, NoMemory>
+) -> Seq<PortCall>
     requires script { IsScript script.now }
     requires callouts { length script.now.timers ≡ 2 }
     requires cpus { script.now.cpus ≡ 3 }
@@ -74,20 +73,21 @@ fn calls_of<N: Name, R: Wait + Sync>(
     requires passes { AreOf N.name service.now passes }
     requires callout { i < 2 }
 {
-    let mut table = FuncTable::new(alloc, script)?;
-    let mut port = ServicePort::new(rt, alloc, gate, service, &SPECS, passes, 0, MOST_ACTS)?;
+    let Ok(mut table) = FuncTable::new(alloc, script) else {
+        panic!(rt; "no memory")
+    };
+    let Ok(mut port) = ServicePort::new(rt, alloc, gate, service, &SPECS, passes, 0, MOST_ACTS)
+    else {
+        panic!(rt; "no memory")
+    };
     table.run(&fire(i, 2), None, &mut port);
-    Ok(port.into_parts().1)
+    let (passes, calls) = port.into_parts();
+    drop(passes);
+    calls
 }
 
-/// What both functions' calls are answered.
-type Both = (
-    Result<Seq<PortCall>, NoMemory>,
-    Result<Seq<PortCall>, NoMemory>,
-);
-
 /// The calls of both functions, each in a thread of its own.
-fn calls_of_both<N: Name + Send + Sync, R: Threads + Wait + Sync>(
+fn calls_of_both<N: Name + Send + Sync, R: Threads + Wait + Sync + Abort>(
     rt: &R,
     alloc: Global,
     script: &Script,
@@ -95,7 +95,7 @@ fn calls_of_both<N: Name + Send + Sync, R: Threads + Wait + Sync>(
     service: &Service<N>,
     one: Passes,
     other: Passes,
-) -> Both
+) -> (Seq<PortCall>, Seq<PortCall>)
     requires script { IsScript script.now }
     requires callouts { length script.now.timers ≡ 2 }
     requires cpus { script.now.cpus ≡ 3 }
@@ -105,24 +105,24 @@ fn calls_of_both<N: Name + Send + Sync, R: Threads + Wait + Sync>(
 {
     join(
         rt,
-        || -> Result<Seq<PortCall>, NoMemory>
+        || -> Seq<PortCall>
             requires { IsSync R.row × IsScript script.now × (length script.now.timers ≡ 2) × (script.now.cpus ≡ 3) × (service.now ≡ two_clients) × AreOf N.name service.now one }
         { calls_of(rt, alloc, script, service, gate, one, 0) },
-        || -> Result<Seq<PortCall>, NoMemory>
+        || -> Seq<PortCall>
             requires { IsSync R.row × IsScript script.now × (length script.now.timers ≡ 2) × (script.now.cpus ≡ 3) × (service.now ≡ two_clients) × AreOf N.name service.now other }
         { calls_of(rt, alloc, script, service, gate, other, 1) },
     )
 }
 
 /// Opens the service, and runs both functions on it.
-fn run_both<N: Name + Send + Sync, R: Threads + Wait + Sync>(
+fn run_both<N: Name + Send + Sync, R: Threads + Wait + Sync + Abort>(
     rt: &R,
     alloc: Global,
     script: &Script,
     gate: &Waits<'_>,
     fresh: Fresh,
     passes: Seq<Passes>,
-) -> Result<(Seq<PortCall>, Seq<PortCall>), NoMemory>
+) -> (Seq<PortCall>, Seq<PortCall>)
     requires script { IsScript script.now }
     requires callouts { length script.now.timers ≡ 2 }
     requires cpus { script.now.cpus ≡ 3 }
@@ -130,10 +130,13 @@ fn run_both<N: Name + Send + Sync, R: Threads + Wait + Sync>(
     requires scene { fresh.params ≡ two_clients }
     requires passes { AreBooted fresh.name fresh.params passes }
 {
-    let service = Service::<N>::open(alloc, fresh)?;
+    let Ok(service) = Service::<N>::open(alloc, fresh) else {
+        panic!(rt; "no memory")
+    };
     let (one, other) = leave_clients(&service, passes);
-    let (first, second) = calls_of_both(rt, alloc, script, gate, &service, one, other);
-    Ok((first?, second?))
+    let calls = calls_of_both(rt, alloc, script, gate, &service, one, other);
+    drop(service);
+    calls
 }
 
 /// A reset of function `i` to a time in seconds, at this CPU or at home.
@@ -189,41 +192,28 @@ fn are_made(first: &Seq<PortCall>, second: &Seq<PortCall>) -> bool {
     first.as_slice() == home.as_slice() && second.as_slice() == here.as_slice()
 }
 
-/// Runs both functions on a service that is booted for them. Whether their calls are as they have to be.
-fn run_functions<R: Threads + Wait + Sync>(
-    rt: &R,
-    alloc: Global,
-    script: &Script,
-    gate: &Waits<'_>,
-) -> Result<bool, NoMemory>
-    requires script { IsScript script.now }
-    requires callouts { length script.now.timers ≡ 2 }
-    requires cpus { script.now.cpus ≡ 3 }
-{
-    let (fresh, passes) = boot(alloc)?;
-    let (first, second) = run_both::<Brand, _>(rt, alloc, script, gate, fresh, passes)?;
-    Ok(are_made(&first, &second))
-}
-
-/// Runs both functions. Each announces its acts.
+/// Runs both functions on a service that is booted for them. Whether their calls are as they have to be, and each announces
+/// its acts.
 fn run_through_ports<R: Threads + Wait + Sync + Abort>(
     rt: &R,
     alloc: Global,
     script: &Script,
-) -> Result<bool, NoMemory>
+) -> bool
     requires { IsScript script.now }
 {
     assert!(rt; script.timers.as_slice().len() == 2);
     assert!(rt; script.cpus == 3);
-    let told = nothing_told(alloc, 2)?;
+    let told = nothing_told(rt, alloc, 2);
     let gate = Waits::new(&[], told.as_slice());
-    let made = run_functions(rt, alloc, script, &gate)?;
-    Ok(made && gate.is_kept(&[3, 3]))
+    let (fresh, passes) = boot(rt, alloc);
+    let (first, second) = run_both::<Brand, _>(rt, alloc, script, &gate, fresh, passes);
+    are_made(&first, &second) && gate.is_kept(&[3, 3])
 }
 
 #[test]
-fn functions_call_through_ports(rt: HostRuntime) -> Result<(), Fail> {
-    let script = script_of(rt.alloc(), FUNCTIONS.as_bytes())?;
-    assert!(rt; run_through_ports(&rt, rt.alloc(), &script)?);
-    Ok(())
+fn functions_call_through_ports(rt: HostRuntime) {
+    let alloc = rt.alloc();
+    let script = script_of(&rt, alloc, FUNCTIONS.as_bytes());
+    assert!(rt; run_through_ports(&rt, alloc, &script));
+    drop(script);
 }

@@ -1,7 +1,6 @@
 //! Scripts that run on threads, and what is judged of their reports.
 ghost use Rattle.std.specs.Prelude.{◌≡◌, IfOk, length};
 ghost use Rattle.co_program.specs.Actors.{actor_count};
-ghost use Rattle.co_program.specs.Runs.{IsRunOf};
 ghost use Rattle.co_service.specs.Booted.{AreBooted};
 ghost use Rattle.co_service.specs.Fresh.{AreNamed};
 ghost use Rattle.co_run.specs.Acting.{params_of};
@@ -16,93 +15,68 @@ use co_program::Script;
 use co_report::{print_report, read_report};
 use co_run::{Notebook, Ran, run_books, run_threads};
 use co_sbt::{NoMemory, Seq};
-use co_script::{print_script, read_script};
+use co_script::read_script;
 use co_service::{Fresh, Name, Passes, Service};
-use co_text::ScriptFault;
 use std::alloc::Global;
 use std::marker::Brand;
 use std::process::Abort;
 use std::sync::Wait;
 use std::thread::Threads;
 
-/// Why nothing ran.
-#[derive(Clone, Copy, Debug, PartialEq, Eq, Drop)]
-pub(super) enum Failed {
-    NoMemory,
-    Text,
-}
-
-impl From<NoMemory> for Failed {
-    fn from(_: NoMemory) -> Failed {
-        Failed::NoMemory
-    }
-}
-
-impl From<ScriptFault> for Failed {
-    fn from(_: ScriptFault) -> Failed {
-        Failed::Text
-    }
-}
-
 /// The script that a text is.
-pub(super) fn script_of(alloc: Global, text: &[u8]) -> Result<Script, Failed>
-    ensures { IfOk result CanRun }
+pub(super) fn script_of(rt: &impl Abort, alloc: Global, text: &[u8]) -> Script
+    ensures { CanRun result }
 {
-    let script = read_script(alloc, text)?;
-    Ok(script)
+    let Ok(script) = read_script(alloc, text) else {
+        panic!(rt; "no script")
+    };
+    script
 }
 
-/// The verdict on the report that a text is.
-pub(super) fn verdict_on(alloc: Global, text: &[u8]) -> Result<Verdict, Failed> {
-    let report = read_report(alloc, text)?;
-    Ok(check(alloc, &report)?)
+/// Whether a text is a legal report.
+pub(super) fn is_legal(alloc: Global, text: &[u8]) -> bool {
+    match read_report(alloc, text) {
+        Ok(report) => {
+            let verdict = check(alloc, &report);
+            drop(report);
+            matches!(verdict, Ok(Verdict::Legal))
+        }
+        Err(_) => false,
+    }
 }
 
-/// The verdict on the report of these lists.
-pub(super) fn verdict_of(alloc: Global, script: &Script, lists: &Lists) -> Result<Verdict, Failed>
-    requires { IsRunOf script.now lists.now }
+/// Whether the report of a run is legal.
+pub(super) fn is_run_legal(alloc: Global, script: &Script, ran: &Ran) -> bool
+    requires { IsRan script.now ran.now }
 {
-    let text = print_report(alloc, script, lists)?;
-    verdict_on(alloc, text.as_slice())
+    match print_report(alloc, script, &ran.lists) {
+        Ok(text) => is_legal(alloc, text.as_slice()),
+        Err(_) => false,
+    }
 }
 
-/// The report of these lists is legal.
-pub(super) fn are_legal<R: Abort>(
+/// The notes of a run, whose report is legal.
+pub(super) fn legal_lists(rt: &impl Abort, alloc: Global, script: &Script, ran: Ran) -> Lists
+    requires { IsRan script.now ran }
+{
+    assert!(rt; is_run_legal(alloc, script, &ran));
+    ran.lists
+}
+
+/// Runs the script of a text on threads. Its report is legal.
+pub(super) fn run_text<G: Gate + Sync, R: Threads + Wait + Sync + Abort>(
     rt: &R,
     alloc: Global,
-    script: &Script,
-    lists: &Lists,
-) -> Result<(), Failed>
-    requires { IsRunOf script.now lists.now }
-{
-    assert!(rt; verdict_of(alloc, script, lists)? == Verdict::Legal);
-    Ok(())
-}
-
-/// Runs a script on threads. Its report is legal.
-pub(super) fn run_script<G: Gate + Sync, R: Threads + Wait + Sync + Abort>(
-    rt: &R,
-    alloc: Global,
-    script: &Script,
+    text: &[u8],
     gate: &G,
-) -> Result<Lists, Failed>
-    requires { CanRun script.now }
-{
-    let ran = run_threads(rt, alloc, script, gate)?;
-    are_legal(rt, alloc, script, &ran.lists)?;
-    Ok(ran.lists)
-}
-
-/// Runs the script that the text of this one is. Its report is legal.
-pub(super) fn run_printed<G: Gate + Sync, R: Threads + Wait + Sync + Abort>(
-    rt: &R,
-    alloc: Global,
-    script: &Script,
-    gate: &G,
-) -> Result<Lists, Failed> {
-    let text = print_script(alloc, script)?;
-    let script = script_of(alloc, text.as_slice())?;
-    run_script(rt, alloc, &script, gate)
+) -> Lists {
+    let script = script_of(rt, alloc, text);
+    let Ok(ran) = run_threads(rt, alloc, &script, gate) else {
+        panic!(rt; "no memory")
+    };
+    let lists = legal_lists(rt, alloc, &script, ran);
+    drop(script);
+    lists
 }
 
 /// Opens a service, and runs the script on it with these books.
@@ -110,7 +84,7 @@ fn open_and_run<
     N: Name + Send + Sync,
     G: Gate + Sync,
     B: Notebook + Send,
-    R: Threads + Wait + Sync,
+    R: Threads + Wait + Sync + Abort,
 >(
     rt: &R,
     alloc: Global,
@@ -129,12 +103,14 @@ fn open_and_run<
     requires empty { AreEmptyBooks B.notes B.spare books }
     ensures { IfOk result (IsRan script.now) }
 {
-    let service = Service::<N>::open(alloc, fresh)?;
+    let Ok(service) = Service::<N>::open(alloc, fresh) else {
+        panic!(rt; "no memory")
+    };
     run_books(rt, alloc, script, gate, service, passes, books)
 }
 
-/// Runs a script on threads over a service that is booted for it, each actor with one of these books.
-pub(super) fn run_with<G: Gate + Sync, B: Notebook + Send, R: Threads + Wait + Sync>(
+/// Runs a script on threads over a service that is booted for it, each actor with one of these books. `NoMemory` is the run's.
+pub(super) fn run_with<G: Gate + Sync, B: Notebook + Send, R: Threads + Wait + Sync + Abort>(
     rt: &R,
     alloc: Global,
     script: &Script,
@@ -147,14 +123,17 @@ pub(super) fn run_with<G: Gate + Sync, B: Notebook + Send, R: Threads + Wait + S
     ensures { IfOk result (IsRan script.now) }
 {
     let clients = script.clients.as_slice().len() as u32;
-    let (fresh, passes) = Fresh::boot(
+    let Ok(made) = Fresh::boot(
         alloc,
         script.version,
         script.cpus,
         script.buckets,
         clients,
         script.timers.as_slice(),
-    )?;
+    ) else {
+        panic!(rt; "no memory")
+    };
+    let (fresh, passes) = made;
     open_and_run::<Brand, G, B, R>(rt, alloc, script, gate, fresh, passes, books)
 }
 
@@ -166,13 +145,22 @@ pub(super) fn notes_of<'l>(rt: &impl Abort, lists: &'l Lists, actor: usize) -> &
 
 /// How many of these notes stand in a place.
 pub(super) fn count_in(notes: &[Note], place: Place) -> usize {
-    notes.iter().filter(|note| note.place == place).count()
+    let mut count: usize = 0;
+    for note in notes {
+        if note.place == place {
+            count = count.saturating_add(1);
+        }
+    }
+    count
 }
 
 /// How many of these notes stand in the histories of callouts.
 pub(super) fn count_timers(notes: &[Note]) -> usize {
-    notes
-        .iter()
-        .filter(|note| matches!(note.place, Place::Timer(_)))
-        .count()
+    let mut count: usize = 0;
+    for note in notes {
+        if let Place::Timer(_) = note.place {
+            count = count.saturating_add(1);
+        }
+    }
+    count
 }

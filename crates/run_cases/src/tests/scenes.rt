@@ -2,7 +2,6 @@
 use super::running::count_in;
 use super::waits::{After, Far, run_in_order};
 use co_object::{AnyEntry, Entry, Lists, Note, Op, Place, Reply, RunOp};
-use std::test::Fail;
 
 /// What is told of an actor's notes.
 #[derive(Clone, Copy)]
@@ -66,7 +65,7 @@ fn reply_of(said: Said) -> Reply {
     }
 }
 
-const SCENES: [Scene; 10] = [
+static SCENES: [Scene; 10] = [
     // Two clients call beside each other.
     Scene {
         name: "two clients",
@@ -490,11 +489,10 @@ fn are_told(lists: &Lists, all: &[(usize, Told)]) -> bool {
 }
 
 #[test]
-fn scenes(rt: HostRuntime) -> Result<(), Fail> {
-    for scene in SCENES {
+fn scenes(rt: HostRuntime) {
+    for scene in &SCENES {
         let text = scene.text.as_bytes();
-        let lists = run_in_order(&rt, rt.alloc(), text, scene.after, scene.acts)?;
+        let lists = run_in_order(&rt, rt.alloc(), text, scene.after, scene.acts);
         assert!(rt; are_told(&lists, scene.told), "{}", scene.name);
     }
-    Ok(())
 }

@@ -1,19 +1,16 @@
 //! Runs in which a CPU is refused the room for its notes.
-ghost use Rattle.std.specs.Prelude.{◌≡◌, IfOk, length};
-ghost use Rattle.co_program.specs.Actors.{actor_count};
+ghost use Rattle.std.specs.Prelude.{◌≡◌, length};
 ghost use Rattle.co_run.specs.Jobs.{AreEmptyBooks};
-ghost use Rattle.co_run.specs.Ran.{IsRan};
 ghost use Rattle.run_cases.specs.Scenes.{CanRun};
 
-use super::running::{Failed, run_with, script_of, verdict_of};
-use co_check::Verdict;
+use super::running::{is_run_legal, run_with, script_of};
 use co_hand::OpenGate;
 use co_program::{Script, actor_count};
-use co_run::{Ran, ShortBook};
-use co_sbt::{NoMemory, Seq};
+use co_run::ShortBook;
+use co_sbt::Seq;
 use std::alloc::Global;
+use std::process::Abort;
 use std::sync::Wait;
-use std::test::Fail;
 use std::thread::Threads;
 
 /// Two CPUs and two clients, each with a callout of its own. One of the CPUs has a tick.
@@ -41,53 +38,43 @@ const REFUSED: u32 = 2;
 const MOST: u64 = 100;
 
 /// An empty book for each actor, of which the refused one's refuses its reserve of this number.
-fn short_books(alloc: Global, actors: u32, refused: u64) -> Result<Seq<ShortBook>, NoMemory>
-    ensures count { IfOk result (λ books. length books ≡ actors) }
-    ensures empty { IfOk result (λ books. AreEmptyBooks (λ b. b.book.notes.items) (λ b. b.book.spare) books) }
+fn short_books(rt: &impl Abort, alloc: Global, actors: u32, refused: u64) -> Seq<ShortBook>
+    ensures count { length result ≡ actors }
+    ensures empty { AreEmptyBooks (λ b. b.book.notes.items) (λ b. b.book.spare) result }
 {
     let mut books = Seq::new(alloc);
     for actor in 0..actors {
         let number = if actor == REFUSED { refused } else { u64::MAX };
-        books.push(ShortBook::new(alloc, number))?;
+        let Ok(()) = books.push(ShortBook::new(alloc, number)) else {
+            panic!(rt; "no memory")
+        };
     }
-    Ok(books)
+    books
 }
 
-/// A run in which the CPU is refused the reserve of this number.
-fn run_short<R: Threads + Wait + Sync>(
+/// The number of the first reserve that the CPU doesn't make, and whether the report of that run is legal. Each run before it
+/// is refused a reserve.
+fn first_whole<R: Threads + Wait + Sync + Abort>(
     rt: &R,
     alloc: Global,
     script: &Script,
-    refused: u64,
-) -> Result<Ran, NoMemory>
-    requires { CanRun script.now }
-    ensures { IfOk result (IsRan script.now) }
-{
-    let books = short_books(alloc, actor_count(script), refused)?;
-    run_with(rt, alloc, script, &OpenGate {}, books)
-}
-
-/// The number of the first reserve that the CPU doesn't make, and the verdict on the report of that run.
-fn first_whole<R: Threads + Wait + Sync>(
-    rt: &R,
-    alloc: Global,
-    script: &Script,
-) -> Result<Option<(u64, Verdict)>, Failed>
+) -> Option<(u64, bool)>
     requires { CanRun script.now }
 {
     for refused in 0..MOST {
-        if let Ok(ran) = run_short(rt, alloc, script, refused) {
-            let verdict = verdict_of(alloc, script, &ran.lists)?;
-            return Ok(Some((refused, verdict)));
+        let books = short_books(rt, alloc, actor_count(script), refused);
+        if let Ok(ran) = run_with(rt, alloc, script, &OpenGate {}, books) {
+            return Some((refused, is_run_legal(alloc, script, &ran)));
         }
     }
-    Ok(None)
+    None
 }
 
 #[test]
-fn each_refusal_ends_the_run(rt: HostRuntime) -> Result<(), Fail> {
-    let script = script_of(rt.alloc(), THREADS.as_bytes())?;
-    let whole = first_whole(&rt, rt.alloc(), &script)?;
-    assert!(rt; matches!(whole, Some((2..=3, Verdict::Legal))));
-    Ok(())
+fn each_refusal_ends_the_run(rt: HostRuntime) {
+    let alloc = rt.alloc();
+    let script = script_of(&rt, alloc, THREADS.as_bytes());
+    let whole = first_whole(&rt, alloc, &script);
+    drop(script);
+    assert!(rt; matches!(whole, Some((2..=3, true))));
 }

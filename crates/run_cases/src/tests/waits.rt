@@ -1,15 +1,12 @@
 //! Actors that wait for each other at the gate.
-ghost use Rattle.std.specs.Prelude.{◌≡◌, IfOk, length, vec_len};
-ghost use Rattle.co_program.specs.Actors.{actor_count};
+ghost use Rattle.std.specs.Prelude.{◌≡◌, length, vec_len};
 ghost use Rattle.co_run.specs.Jobs.{AreEmptyBooks};
-ghost use Rattle.co_run.specs.Ran.{IsRan};
-ghost use Rattle.run_cases.specs.Scenes.{CanRun};
 
-use super::running::{Failed, are_legal, run_with, script_of};
+use super::running::{legal_lists, run_with, script_of};
 use co_hand::Gate;
 use co_object::{Lists, Note};
-use co_program::{Script, actor_count};
-use co_run::{Notebook, Ran, RoomBook};
+use co_program::actor_count;
+use co_run::{Notebook, RoomBook};
 use co_sbt::{NoMemory, Seq};
 use std::alloc::Global;
 use std::process::Abort;
@@ -41,8 +38,8 @@ pub(super) struct Told {
 }
 
 /// What is told of so many actors before they begin.
-pub(super) fn nothing_told(alloc: Global, actors: u32) -> Result<Vec<Told>, NoMemory>
-    ensures { IfOk result (λ all. vec_len all ≡ actors) }
+pub(super) fn nothing_told(rt: &impl Abort, alloc: Global, actors: u32) -> Vec<Told>
+    ensures { vec_len result ≡ actors }
 {
     let mut all = Vec::new(alloc);
     for made in 0..actors {
@@ -52,10 +49,10 @@ pub(super) fn nothing_told(alloc: Global, actors: u32) -> Result<Vec<Told>, NoMe
             notes: AtomicU64::new(0),
         };
         if all.push(told).is_err() {
-            return Err(NoMemory {});
+            panic!(rt; "no memory");
         }
     }
-    Ok(all)
+    all
 }
 
 /// How far an actor has come.
@@ -170,52 +167,21 @@ impl Notebook for ToldBook<'_> {
 }
 
 /// An empty book for each actor.
-fn told_books(alloc: Global, told: &[Told]) -> Result<Seq<ToldBook<'_>>, NoMemory>
-    ensures count { IfOk result (λ books. length books ≡ length told.now) }
-    ensures empty { IfOk result (λ books. AreEmptyBooks (λ b. b.book.notes.items) (λ b. b.book.spare) books) }
+fn told_books<'a>(rt: &impl Abort, alloc: Global, told: &'a [Told]) -> Seq<ToldBook<'a>>
+    ensures count { length result ≡ length told.now }
+    ensures empty { AreEmptyBooks (λ b. b.book.notes.items) (λ b. b.book.spare) result }
 {
     let mut books = Seq::new(alloc);
     for told in told {
-        books.push(ToldBook {
+        let book = ToldBook {
             book: RoomBook::new(alloc),
             told,
-        })?;
+        };
+        let Ok(()) = books.push(book) else {
+            panic!(rt; "no memory")
+        };
     }
-    Ok(books)
-}
-
-/// Runs a script through a gate, with books that tell what is told of its actors.
-fn run_told<R: Threads + Wait + Sync>(
-    rt: &R,
-    alloc: Global,
-    script: &Script,
-    gate: &Waits<'_>,
-    told: &[Told],
-) -> Result<Ran, NoMemory>
-    requires script { CanRun script.now }
-    requires told { length told.now ≡ actor_count script.now }
-    ensures { IfOk result (IsRan script.now) }
-{
-    let books = told_books(alloc, told)?;
-    run_with(rt, alloc, script, gate, books)
-}
-
-/// Runs a script, with acts that wait for others. Each actor announces so many acts.
-fn run_waiting<R: Threads + Wait + Sync + Abort>(
-    rt: &R,
-    alloc: Global,
-    script: &Script,
-    after: &[After],
-    acts: &[u64],
-) -> Result<Ran, NoMemory>
-    requires { CanRun script.now }
-    ensures { IfOk result (IsRan script.now) }
-{
-    let told = nothing_told(alloc, actor_count(script))?;
-    let gate = Waits::new(after, told.as_slice());
-    let ran = run_told(rt, alloc, script, &gate, told.as_slice())?;
-    assert!(rt; gate.is_kept(acts));
-    Ok(ran)
+    books
 }
 
 /// Runs the script of a text, with acts that wait for others. Its report is legal, and each actor announces so many acts.
@@ -225,9 +191,16 @@ pub(super) fn run_in_order<R: Threads + Wait + Sync + Abort>(
     text: &[u8],
     after: &[After],
     acts: &[u64],
-) -> Result<Lists, Failed> {
-    let script = script_of(alloc, text)?;
-    let ran = run_waiting(rt, alloc, &script, after, acts)?;
-    are_legal(rt, alloc, &script, &ran.lists)?;
-    Ok(ran.lists)
+) -> Lists {
+    let script = script_of(rt, alloc, text);
+    let told = nothing_told(rt, alloc, actor_count(&script));
+    let gate = Waits::new(after, told.as_slice());
+    let books = told_books(rt, alloc, told.as_slice());
+    let Ok(ran) = run_with(rt, alloc, &script, &gate, books) else {
+        panic!(rt; "no memory")
+    };
+    assert!(rt; gate.is_kept(acts));
+    let lists = legal_lists(rt, alloc, &script, ran);
+    drop(script);
+    lists
 }

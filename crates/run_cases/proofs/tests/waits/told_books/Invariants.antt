@@ -4,7 +4,7 @@ use Rattle.co_run.specs.Jobs.{AreEmptyBooks}
 use Rattle.run_cases.proofs.tests.waits.told_books.Given as goal
 
 abbrev pub invariant-loop-told : goal.invariant-loop-told
-invariant-loop-told l = record {
+invariant-loop-told g l = record {
   count : length l.books ≡ l.told-index;
   empty : AreEmptyBooks (λ b. b.book.notes.items) (λ b. b.book.spare) l.books;
 }

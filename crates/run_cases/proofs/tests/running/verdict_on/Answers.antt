@@ -1,6 +1,0 @@
--- What is read may be checked.
-use Rattle.co_check.proofs.ReadReports.{may_check}
-use Rattle.run_cases.proofs.tests.running.verdict_on.Goals as goal
-
-pub check-requires : goal.check-requires
-check-requires c = may_check c.args.text.now c.in_ok-report.report c.in_ok-report.ensures
