@@ -4,5 +4,6 @@ pub mod Commanded
 pub mod Completeness
 pub mod Generated
 pub mod Judged
+pub mod Outcomes
 pub mod Accepts
 pub mod OneMore

@@ -2,6 +2,8 @@
 
 -- for each status what was read, what was written, and what that text is
 pub mod Headline
+-- what an answered text of commands comes to
+pub mod Outcomes
 -- the words that are a command, and the texts of the program itself
 pub mod Commands
 -- the exit status by its number

@@ -3,10 +3,10 @@ ghost use Rattle.std.specs.Prelude.{◌≡◌, IfNone, IfSome, Some, map, string
 ghost use Rattle.co_top.specs.declared.command.Command.TheVariants.{Serve};
 ghost use Rattle.co_top.specs.Commands.{IsPlainCommand, command_of, making_of, reading_of, seed_of, serving_of, word_command};
 
-use co_text::number;
+use co_text::{is_word, number};
 
 /// A command that reads an input, and needs one thread alone.
-#[derive(Clone, Copy, Debug, PartialEq, Eq)]
+#[derive(Clone, Copy)]
 pub enum Reading {
     /// Reads a script and writes the report of its walk.
     Steps,
@@ -17,7 +17,7 @@ pub enum Reading {
 }
 
 /// A command that reads an input, works on a running service and leaves its closing.
-#[derive(Clone, Copy, Debug, PartialEq, Eq)]
+#[derive(Clone, Copy)]
 pub enum Serving {
     /// Reads a script, runs its actors on threads and writes the report of whatever happened.
     Run,
@@ -30,7 +30,7 @@ pub enum Serving {
 }
 
 /// A command that makes its text from a seed, below 2^64, and leaves the input unread.
-#[derive(Clone, Copy, Debug, PartialEq, Eq)]
+#[derive(Clone, Copy)]
 pub enum Making {
     /// Writes the generated script.
     Gen(u64),
@@ -39,7 +39,7 @@ pub enum Making {
 }
 
 /// A command of the program.
-#[derive(Clone, Copy, Debug, PartialEq, Eq)]
+#[derive(Clone, Copy)]
 pub enum Command {
     /// One that reads an input.
     Read(Reading),
@@ -53,11 +53,11 @@ pub enum Command {
 fn reading_of(word: &[u8]) -> Option<Reading>
     ensures { result ≡ reading_of word.now }
 {
-    if word == b"steps".as_slice() {
+    if is_word(word, b"steps".as_slice()) {
         Some(Reading::Steps)
-    } else if word == b"check".as_slice() {
+    } else if is_word(word, b"check".as_slice()) {
         Some(Reading::Check)
-    } else if word == b"event".as_slice() {
+    } else if is_word(word, b"event".as_slice()) {
         Some(Reading::Event)
     } else {
         None
@@ -68,13 +68,13 @@ fn reading_of(word: &[u8]) -> Option<Reading>
 fn serving_of(word: &[u8]) -> Option<Serving>
     ensures { result ≡ serving_of word.now }
 {
-    if word == b"run".as_slice() {
+    if is_word(word, b"run".as_slice()) {
         Some(Serving::Run)
-    } else if word == b"kq".as_slice() {
+    } else if is_word(word, b"kq".as_slice()) {
         Some(Serving::Kq)
-    } else if word == b"sleep".as_slice() {
+    } else if is_word(word, b"sleep".as_slice()) {
         Some(Serving::Sleep)
-    } else if word == b"itimer".as_slice() {
+    } else if is_word(word, b"itimer".as_slice()) {
         Some(Serving::Itimer)
     } else {
         None
@@ -109,9 +109,9 @@ fn making_of(word: &[u8], seed: Option<u64>) -> Option<Making>
     ensures { result ≡ making_of word.now seed }
 {
     let seed = seed?;
-    if word == b"gen".as_slice() {
+    if is_word(word, b"gen".as_slice()) {
         Some(Making::Gen(seed))
-    } else if word == b"soak".as_slice() {
+    } else if is_word(word, b"soak".as_slice()) {
         Some(Making::Soak(seed))
     } else {
         None

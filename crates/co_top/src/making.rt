@@ -45,13 +45,21 @@ fn counts_of_walk(alloc: Global, script: &Script) -> Result<Counts, NoMemory>
     counts_told::<Brand>(alloc, script)
 }
 
-/// The counts of the generated script's walk, in a line.
+/// The counts of a generated script's walk, in a line.
+fn soak_of(alloc: Global, seed: u64, script: &Script) -> Result<Seq<u8>, NoMemory>
+    requires { script.now ≡ generated seed }
+    ensures { IfOk result (IsSoakOf seed) }
+{
+    let counts = counts_of_walk(alloc, script)?;
+    print_soak(alloc, seed, &counts)
+}
+
+/// The line of a seed.
 fn soak(alloc: Global, seed: u64) -> Result<Seq<u8>, NoMemory>
     ensures { IfOk result (IsSoakOf seed) }
 {
     let script = gen_script(alloc, seed)?;
-    let counts = counts_of_walk(alloc, &script)?;
-    print_soak(alloc, seed, &counts)
+    soak_of(alloc, seed, &script)
 }
 
 /// The text that a command makes.

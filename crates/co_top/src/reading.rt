@@ -8,6 +8,7 @@ ghost use Rattle.co_check.specs.Lines.{IsReport};
 ghost use Rattle.co_check.specs.Verdict.{verdict};
 ghost use Rattle.co_top.specs.Headline.{Gives, IsJudged, IsReportOfWalk};
 ghost use Rattle.co_top.specs.declared.command.Reading.TheVariants as readings;
+ghost use Rattle.co_top.specs.declared.status.Status.TheVariants.{Done};
 
 use crate::answer::{Answer, refused, whole};
 use crate::command::Reading;
@@ -44,15 +45,24 @@ fn report_of_walk(alloc: Global, script: &Script) -> Result<Seq<Seq<u8>>, NoMemo
     report_told::<Brand>(alloc, script)
 }
 
+/// The report of a script's walk, as an answer.
+fn walked(alloc: Global, script: &Script) -> Result<Answer, NoMemory>
+    requires { fits script.now ≡ true }
+    ensures status { IfOk result (λ answer. answer.status ≡ Done) }
+    ensures report { IfOk result (λ answer. IsReportOfWalk script.now (concat answer.pieces)) }
+{
+    Ok(Answer {
+        status: Status::Done,
+        pieces: report_of_walk(alloc, script)?,
+    })
+}
+
 /// What `steps` makes of these bytes.
 fn steps(alloc: Global, bytes: &[u8]) -> Result<Answer, NoMemory>
     ensures { IfOk result (λ answer. Gives readings.Steps bytes.now answer.status (concat answer.pieces)) }
 {
     match read_script(alloc, bytes) {
-        Ok(script) => Ok(Answer {
-            status: Status::Done,
-            pieces: report_of_walk(alloc, &script)?,
-        }),
+        Ok(script) => walked(alloc, &script),
         Err(ScriptFault::Bad { line, cause }) => refused(alloc, line, cause),
         Err(ScriptFault::NoMemory) => Err(NoMemory {}),
     }

@@ -1,7 +1,8 @@
 //! The command `run`: what it makes of the bytes that it read.
-ghost use Rattle.std.specs.Prelude.{◌≡◌, true, IfOk};
+ghost use Rattle.std.specs.Prelude.{◌≡◌, ℕ, List, Ok, true, IfOk};
 ghost use Rattle.std.specs.List.{concat};
 ghost use Rattle.co_script.specs.Fits.{fits};
+ghost use Rattle.co_script.specs.Reading.{script_of};
 ghost use Rattle.co_top.specs.Headline.{GivesServed, IsReportOfRun};
 ghost use Rattle.co_top.specs.declared.command.Serving.TheVariants as servings;
 
@@ -45,6 +46,20 @@ fn report_of_run<G: Gate + Sync, R: Threads + Wait + Sync>(
     Ok(Report { pieces, closing })
 }
 
+/// The same, as what the command comes to.
+fn reported<G: Gate + Sync, R: Threads + Wait + Sync>(
+    rt: &R,
+    alloc: Global,
+    script: &Script,
+    gate: &G,
+) -> Result<Served, NoMemory>
+    requires { fits script.now ≡ true }
+    ensures { (bytes : List ℕ) → script_of bytes ≡ Ok script.now → IfOk result (λ served. GivesServed servings.Run bytes served.answer.status served.closing (concat served.answer.pieces)) }
+{
+    let report = report_of_run(rt, alloc, script, gate)?;
+    Ok(Served::done(report.pieces, report.closing))
+}
+
 /// What `run` makes of these bytes.
 pub(crate) fn run<G: Gate + Sync, R: Threads + Wait + Sync>(
     rt: &R,
@@ -55,10 +70,7 @@ pub(crate) fn run<G: Gate + Sync, R: Threads + Wait + Sync>(
     ensures { IfOk result (λ served. GivesServed servings.Run bytes.now served.answer.status served.closing (concat served.answer.pieces)) }
 {
     match read_script_by_threads(rt, alloc, bytes) {
-        Ok(script) => {
-            let report = report_of_run(rt, alloc, &script, gate)?;
-            Ok(Served::done(report.pieces, report.closing))
-        }
+        Ok(script) => reported(rt, alloc, &script, gate),
         Err(ScriptFault::Bad { line, cause }) => Served::refused(alloc, line, cause),
         Err(ScriptFault::NoMemory) => Err(NoMemory {}),
     }

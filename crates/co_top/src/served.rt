@@ -2,13 +2,14 @@
 ghost use Rattle.std.specs.Prelude.{◌≡◌, IfOk, Some, None};
 ghost use Rattle.std.specs.List.{concat};
 ghost use Rattle.co_top.specs.declared.status.Status.TheVariants.{Done, BadScript};
+ghost use Rattle.co_top.specs.Outcomes.{IsOutcome};
 ghost use Rattle.co_front.specs.Texts.{refusal_text};
 
-use crate::answer::{Answer, refused};
+use crate::answer::{Answer, refused, whole};
 use crate::status::Status;
 use co_sbt::{NoMemory, Seq};
 use co_service::Closing;
-use co_text::Cause;
+use co_text::{Cause, ScriptFault};
 use std::alloc::Global;
 
 /// The answer of a command, and the closing of the service that it worked on, where it is done.
@@ -31,6 +32,23 @@ impl Served {
                 pieces,
             },
             closing: Some(closing),
+        }
+    }
+
+    /// A text of commands is answered, or refused.
+    pub(crate) fn of_batch(
+        alloc: Global,
+        out: Result<(Seq<u8>, Closing), ScriptFault>,
+    ) -> Result<Served, NoMemory>
+        ensures { IfOk result (λ served. IsOutcome out served.answer.status served.closing (concat served.answer.pieces)) }
+    {
+        match out {
+            Ok((text, closing)) => match whole(alloc, text) {
+                Ok(pieces) => Ok(Served::done(pieces, closing)),
+                Err(end) => Err(end),
+            },
+            Err(ScriptFault::Bad { line, cause }) => Served::refused(alloc, line, cause),
+            Err(ScriptFault::NoMemory) => Err(NoMemory {}),
         }
     }
 

@@ -4,7 +4,6 @@ ghost use Rattle.std.specs.List.{concat};
 ghost use Rattle.co_top.specs.Headline.{GivesServed};
 ghost use Rattle.co_top.specs.declared.command.Serving.TheVariants as servings;
 
-use crate::answer::whole;
 use crate::command::Serving;
 use crate::running::run;
 use crate::served::Served;
@@ -13,7 +12,6 @@ use co_batch_text::kq::run_kq;
 use co_batch_text::sleep::run_sleep;
 use co_hand::Gate;
 use co_sbt::NoMemory;
-use co_text::ScriptFault;
 use std::alloc::Global;
 use std::sync::Wait;
 use std::thread::Threads;
@@ -22,33 +20,21 @@ use std::thread::Threads;
 fn kq<R: Wait>(rt: &R, alloc: Global, bytes: &[u8]) -> Result<Served, NoMemory>
     ensures { IfOk result (λ served. GivesServed servings.Kq bytes.now served.answer.status served.closing (concat served.answer.pieces)) }
 {
-    match run_kq(rt, alloc, bytes) {
-        Ok((text, closing)) => Ok(Served::done(whole(alloc, text)?, closing)),
-        Err(ScriptFault::Bad { line, cause }) => Served::refused(alloc, line, cause),
-        Err(ScriptFault::NoMemory) => Err(NoMemory {}),
-    }
+    Served::of_batch(alloc, run_kq(rt, alloc, bytes))
 }
 
 /// What `sleep` makes of these bytes.
 fn sleep<R: Wait>(rt: &R, alloc: Global, bytes: &[u8]) -> Result<Served, NoMemory>
     ensures { IfOk result (λ served. GivesServed servings.Sleep bytes.now served.answer.status served.closing (concat served.answer.pieces)) }
 {
-    match run_sleep(rt, alloc, bytes) {
-        Ok((text, closing)) => Ok(Served::done(whole(alloc, text)?, closing)),
-        Err(ScriptFault::Bad { line, cause }) => Served::refused(alloc, line, cause),
-        Err(ScriptFault::NoMemory) => Err(NoMemory {}),
-    }
+    Served::of_batch(alloc, run_sleep(rt, alloc, bytes))
 }
 
 /// What `itimer` makes of these bytes.
 fn itimer<R: Wait>(rt: &R, alloc: Global, bytes: &[u8]) -> Result<Served, NoMemory>
     ensures { IfOk result (λ served. GivesServed servings.Itimer bytes.now served.answer.status served.closing (concat served.answer.pieces)) }
 {
-    match run_itimer(rt, alloc, bytes) {
-        Ok((text, closing)) => Ok(Served::done(whole(alloc, text)?, closing)),
-        Err(ScriptFault::Bad { line, cause }) => Served::refused(alloc, line, cause),
-        Err(ScriptFault::NoMemory) => Err(NoMemory {}),
-    }
+    Served::of_batch(alloc, run_itimer(rt, alloc, bytes))
 }
 
 /// What a command makes of the bytes that it read. `run` calls the gate before each act of an actor.

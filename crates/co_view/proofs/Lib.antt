@@ -1,5 +1,6 @@
 pub mod Counts
 pub mod Pieces
+pub mod InParts
 pub mod Merges
 pub mod Stuck
 pub mod Boards

@@ -32,6 +32,9 @@ begun_is r old new ws vs e h = subst (λ (us : List Word). OnOk r (new ≡ old +
 pub more_is : {X E : Type 0} (r : Result X E) (old new : List ℕ) (ws vs : List Word) → ws ≡ vs → OnOk r (new ≡ old ++ spaced ws) → OnOk r (new ≡ old ++ spaced vs)
 more_is r old new ws vs e h = subst (λ (us : List Word). OnOk r (new ≡ old ++ spaced us)) e h
 
+pub said_is : {X E : Type 0} (r : Result X E) (old new t u : List ℕ) → t ≡ u → OnOk r (new ≡ old ++ t) → OnOk r (new ≡ old ++ u)
+said_is r old new t u e h = subst (λ (v : List ℕ). OnOk r (new ≡ old ++ v)) e h
+
 -- ---- texts that are written piece by piece
 
 pub two_texts : (old p1 p2 a b : List ℕ) → p1 ≡ old ++ a → p2 ≡ p1 ++ b → p2 ≡ old ++ (a ++ b)

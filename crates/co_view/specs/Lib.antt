@@ -18,6 +18,8 @@ pub mod Summary
 pub mod Trace
 -- the text of `svg`: points, words, bars of services, arrows of drains
 pub mod Svg
+-- texts in parts
+pub mod Parts
 -- what `trace` and `svg` share: a text before, one for each note, and one behind
 pub mod Pictures
 -- a text that grows in pieces

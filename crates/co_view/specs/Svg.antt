@@ -37,17 +37,13 @@ foot_of step = 84 + 18 * step
 
 -- ---- a note
 
--- at the left margin the line of the report, and a point in the actor's column
-abbrev pub point_head : (step line actor : ℕ) → List ℕ
-point_head step line actor =
-    codes "<text class=\"l\" x=\"8\" y=\"" ++ (decimal (foot_of step) ++ (codes "\">" ++ (decimal line
-    ++ (codes "</text><circle cx=\"" ++ (decimal (x_of actor) ++ (codes "\" cy=\"" ++ decimal (y_of step)))))))
-
--- and the words beside it
+-- at the left margin the line of the report, a point in the actor's column, and the words beside it
 abbrev pub point_text : (step : ℕ) → Line → List ℕ
 point_text step l =
-    point_head step l.line (actor_of l.entry) ++ (codes "\" r=\"3\"/><text x=\"" ++ (decimal (82 + 400 * actor_of l.entry) ++ (codes "\" y=\"" ++ (decimal (foot_of step)
-    ++ (codes "\">" ++ (note_text l.place l.entry ++ codes "</text>\n"))))))
+    codes "<text class=\"l\" x=\"8\" y=\"" ++ (decimal (foot_of step) ++ (codes "\">" ++ (decimal l.line
+    ++ (codes "</text><circle cx=\"" ++ (decimal (x_of (actor_of l.entry)) ++ (codes "\" cy=\"" ++ (decimal (y_of step)
+    ++ (codes "\" r=\"3\"/><text x=\"" ++ (decimal (82 + 400 * actor_of l.entry) ++ (codes "\" y=\"" ++ (decimal (foot_of step)
+    ++ (codes "\">" ++ (note_text l.place l.entry ++ codes "</text>\n")))))))))))))
 
 -- the bar of a service from one step to another, in the colour of its callout
 abbrev pub bar_text : (i actor since step : ℕ) → List ℕ
@@ -87,8 +83,12 @@ style_text = codes "<style>text{font:11px monospace}.l{fill:#888}.h{font:bold 14
 abbrev pub legend_text : List ℕ
 legend_text = codes "<text class=\"n\" x=\"8\" y=\"20\">Steps from top to bottom in one order; a column for each actor; at the left the line of the report.</text>\n<text class=\"n\" x=\"8\" y=\"36\">A bar is a service, in the colour of its callout; a dashed arrow goes from a drain that waits to the end that wakes it.</text>\n"
 
--- the size, the legend and the columns, for so many steps
+-- the size, the style and the legend
+abbrev pub frame_head : (actors steps : ℕ) → List ℕ
+frame_head actors steps =
+    codes "<svg xmlns=\"http://www.w3.org/2000/svg\" width=\"" ++ (decimal (x_of actors) ++ (codes "\" height=\"" ++ (decimal (y_of steps) ++ (codes "\">\n<rect width=\"100%\" height=\"100%\" style=\"fill:#fff;fill-opacity:1\"/>\n"
+    ++ (style_text ++ legend_text)))))
+
+-- and the columns, for so many steps
 abbrev pub frame_text : Script → (steps : ℕ) → List ℕ
-frame_text s steps =
-    codes "<svg xmlns=\"http://www.w3.org/2000/svg\" width=\"" ++ (decimal (x_of (actor_count s)) ++ (codes "\" height=\"" ++ (decimal (y_of steps) ++ (codes "\">\n<rect width=\"100%\" height=\"100%\" style=\"fill:#fff;fill-opacity:1\"/>\n"
-    ++ (style_text ++ (legend_text ++ flat_map (column_head s steps) (range_with_len 0 (actor_count s))))))))
+frame_text s steps = frame_head (actor_count s) steps ++ flat_map (column_head s steps) (range_with_len 0 (actor_count s))

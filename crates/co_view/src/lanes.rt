@@ -1,5 +1,5 @@
 //! The text of `lanes`: a column for each actor, a row for each note.
-ghost use Rattle.std.specs.Prelude.{◌≡◌, ◌++◌, ◌||◌, OnOk, IfOk, flat_map, ◌∷◌, None, Some};
+ghost use Rattle.std.specs.Prelude.{◌≡◌, ◌++◌, ◌||◌, OnOk, IfOk, flat_map, ◌∷◌, [], None, Some};
 ghost use Rattle.std.specs.List.{concat, range_with_len};
 ghost use Rattle.co_check.specs.Lines.{IsReport};
 ghost use Rattle.co_program.specs.Scripts.{IsScript};
@@ -20,7 +20,7 @@ use co_text::Page;
 use std::alloc::Global;
 
 /// Which notes are shown.
-#[derive(Clone, Copy, Debug, PartialEq, Eq)]
+#[derive(Clone, Copy)]
 pub enum Focus {
     /// All notes of the report.
     All,
@@ -190,6 +190,23 @@ fn print_rows(
     Ok(())
 }
 
+/// The header and the rows, on a roll that is empty.
+fn print_all(
+    alloc: Global,
+    roll: &mut Roll,
+    focus: Focus,
+    report: &Report,
+    order: &[usize],
+) -> Result<Seq<Seq<u8>>, NoMemory>
+    requires report { IsReport report.now }
+    requires empty { roll_text roll.old ≡ [] }
+    ensures { IfOk result (λ pieces. concat pieces ≡ lanes_text focus report.now.script report.now.lines order.now) }
+{
+    print_header(&mut roll.page, &report.script)?;
+    print_rows(alloc, roll, focus, report.lines.as_slice(), order)?;
+    roll.done(alloc)
+}
+
 /// The text of `lanes`, in pieces: a row with the names of the actors, and a row for each note of this order that is
 /// shown, with the number of its line in the report and the note in words, in the column of its actor. The layout is
 /// our own. `NoMemory` where there is no room for it.
@@ -203,7 +220,5 @@ pub fn print_lanes(
     ensures { IfOk result (λ pieces. concat pieces ≡ lanes_text focus report.now.script report.now.lines order.now) }
 {
     let mut roll = Roll::new(alloc);
-    print_header(&mut roll.page, &report.script)?;
-    print_rows(alloc, &mut roll, focus, report.lines.as_slice(), order)?;
-    roll.done(alloc)
+    print_all(alloc, &mut roll, focus, report, order)
 }

@@ -3,6 +3,7 @@
 
 mod lanes;
 mod order;
+mod parts;
 mod picture;
 mod roll;
 mod scene;

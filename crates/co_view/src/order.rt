@@ -1,5 +1,5 @@
 //! One order of all notes of a report, which keeps each actor's numbers and each place's positions.
-ghost use Rattle.std.specs.Prelude.{◌≤◌, ◌<◌, OnOk, IfOk};
+ghost use Rattle.std.specs.Prelude.{◌<◌, OnOk, IfOk};
 ghost use Rattle.co_check.specs.Lines.{IsReport};
 ghost use Rattle.co_view.specs.Merging.{FirstNext, FirstZero, IsBoard, IsMerging, not_come};
 ghost use Rattle.co_view.specs.Order.{IsOrdered, MayCome};
@@ -15,9 +15,10 @@ use co_sbt::{NoMemory, Seq};
 use hints::Hints;
 use merge::Merge;
 use std::alloc::Global;
+use std::mem;
 
 /// What the merge of a report's notes comes to.
-#[derive(Drop, Debug)]
+#[derive(Drop)]
 pub enum Ordered {
     /// The indices of all note lines, in an order that keeps the numbers and the positions.
     Whole(Seq<usize>),
@@ -25,15 +26,22 @@ pub enum Ordered {
     Stuck { line: u64 },
 }
 
-/// Takes a note, and tells where the next one of its actor likely is. What comes into reach by this at the front of its place goes
-/// to the woken ones.
+/// Keeps a note for later.
+fn wake(woken: &mut Vec<usize>, index: usize) -> Result<(), NoMemory> {
+    match woken.push(index) {
+        Ok(()) => Ok(()),
+        Err(_) => Err(NoMemory {}),
+    }
+}
+
+/// Takes a note, and wakes what may come by this: the note below it, and last the one that likely is its actor's next.
 fn step(
     board: &Board,
     hints: &Hints,
     merge: &mut Merge,
     woken: &mut Vec<usize>,
     at: usize,
-) -> Result<usize, NoMemory>
+) -> Result<(), NoMemory>
     requires board { IsBoard board.now }
     requires merge { IsMerging board.now.script.now board.now.lines.now merge.old }
     requires next { MayCome board.now.script.now board.now.lines.now merge.old.order at }
@@ -46,59 +54,7 @@ fn step(
     if below != next && merge.may_come(board, below) {
         wake(woken, below)?;
     }
-    Ok(next)
-}
-
-/// Takes a note, if it may come next, and goes on with its actor as long as that may.
-fn follow(
-    board: &Board,
-    hints: &Hints,
-    merge: &mut Merge,
-    woken: &mut Vec<usize>,
-    first: usize,
-) -> Result<(), NoMemory>
-    requires board { IsBoard board.now }
-    requires merge { IsMerging board.now.script.now board.now.lines.now merge.old }
-    ensures merge { OnOk result (IsMerging board.now.script.now board.now.lines.now merge.new) }
-    ensures left { OnOk result (not_come merge.new ≤ not_come merge.old) }
-{
-    let mut at = first;
-    for _ in 0..board.lines.len() {
-        if !merge.may_come(board, at) {
-            return Ok(());
-        }
-        at = step(board, hints, merge, woken, at)?;
-    }
-    Ok(())
-}
-
-/// Keeps a note for later.
-fn wake(woken: &mut Vec<usize>, index: usize) -> Result<(), NoMemory> {
-    match woken.push(index) {
-        Ok(()) => Ok(()),
-        Err(_) => Err(NoMemory {}),
-    }
-}
-
-/// Goes on with what was woken, as long as something is.
-fn follow_woken(
-    board: &Board,
-    hints: &Hints,
-    merge: &mut Merge,
-    woken: &mut Vec<usize>,
-) -> Result<(), NoMemory>
-    requires board { IsBoard board.now }
-    requires merge { IsMerging board.now.script.now board.now.lines.now merge.old }
-    ensures merge { OnOk result (IsMerging board.now.script.now board.now.lines.now merge.new) }
-    ensures left { OnOk result (not_come merge.new ≤ not_come merge.old) }
-{
-    for _ in 0..u64::MAX {
-        match woken.pop() {
-            Some(index) => follow(board, hints, merge, woken, index)?,
-            None => return Ok(()),
-        }
-    }
-    Ok(())
+    wake(woken, next)
 }
 
 /// The first note that may come next.
@@ -142,41 +98,21 @@ fn first_zero(come: &[u64]) -> Option<usize>
     None
 }
 
-/// What a merge comes to that is at its end.
-fn ended(board: &Board, merge: Merge) -> Ordered
+/// The note that comes next: the one that was woken last, of those that may come; and where there is none, the first that may.
+fn next_of(board: &Board, merge: &Merge, woken: &mut Vec<usize>) -> Option<usize>
     requires board { IsBoard board.now }
-    requires merge { IsMerging board.now.script.now board.now.lines.now merge }
-    requires nothing { FirstNext board.now.script.now board.now.lines.now merge.order None }
-    ensures { IsOrdered board.now.script.now board.now.lines.now result }
+    requires merge { IsMerging board.now.script.now board.now.lines.now merge.now }
+    ensures { FirstNext board.now.script.now board.now.lines.now merge.now.order result }
 {
-    match first_zero(merge.come.as_slice()) {
-        Some(i) => Ordered::Stuck {
-            line: board.lines[i].line,
-        },
-        None => Ordered::Whole(merge.order),
+    while let Some(index) = woken.pop() {
+        if merge.may_come(board, index) {
+            return Some(index);
+        }
     }
+    first_next(board, merge)
 }
 
-/// Takes a note that may come next, and goes on as long as that wakes something.
-fn go_on(
-    board: &Board,
-    hints: &Hints,
-    merge: &mut Merge,
-    woken: &mut Vec<usize>,
-    first: usize,
-) -> Result<(), NoMemory>
-    requires board { IsBoard board.now }
-    requires merge { IsMerging board.now.script.now board.now.lines.now merge.old }
-    requires next { MayCome board.now.script.now board.now.lines.now merge.old.order first }
-    ensures merge { OnOk result (IsMerging board.now.script.now board.now.lines.now merge.new) }
-    ensures left { OnOk result (not_come merge.new < not_come merge.old) }
-{
-    let next = step(board, hints, merge, woken, first)?;
-    wake(woken, next)?;
-    follow_woken(board, hints, merge, woken)
-}
-
-/// Goes on with what was woken, and then with each first note that may come.
+/// Takes notes as long as one may come.
 fn take_rest(
     board: &Board,
     hints: &Hints,
@@ -188,14 +124,13 @@ fn take_rest(
     ensures merge { OnOk result (IsMerging board.now.script.now board.now.lines.now merge.new) }
     ensures nothing { OnOk result (FirstNext board.now.script.now board.now.lines.now merge.new.order None) }
 {
-    follow_woken(board, hints, merge, woken)?;
-    while let Some(first) = first_next(board, merge) {
-        go_on(board, hints, merge, woken, first)?;
+    while let Some(at) = next_of(board, merge, woken) {
+        step(board, hints, merge, woken, at)?;
     }
     Ok(())
 }
 
-/// Takes notes as long as one may come.
+/// Takes notes from the first on, as long as one may come.
 fn take_all(alloc: Global, board: &Board, hints: &Hints, merge: &mut Merge) -> Result<(), NoMemory>
     requires board { IsBoard board.now }
     requires merge { IsMerging board.now.script.now board.now.lines.now merge.old }
@@ -206,14 +141,43 @@ fn take_all(alloc: Global, board: &Board, hints: &Hints, merge: &mut Merge) -> R
     take_rest(board, hints, merge, &mut woken)
 }
 
+/// What a merge comes to that is at its end. It is of no more use.
+fn ended(alloc: Global, board: &Board, merge: &mut Merge) -> Ordered
+    requires board { IsBoard board.now }
+    requires merge { IsMerging board.now.script.now board.now.lines.now merge.old }
+    requires nothing { FirstNext board.now.script.now board.now.lines.now merge.old.order None }
+    ensures { IsOrdered board.now.script.now board.now.lines.now result }
+{
+    match first_zero(merge.come.as_slice()) {
+        Some(i) => Ordered::Stuck {
+            line: board.lines[i].line,
+        },
+        None => Ordered::Whole(mem::replace(&mut merge.order, Seq::new(alloc))),
+    }
+}
+
+/// Merges the notes of a board, from before the first on.
+fn merge_all(
+    alloc: Global,
+    board: &Board,
+    hints: &Hints,
+    merge: &mut Merge,
+) -> Result<Ordered, NoMemory>
+    requires board { IsBoard board.now }
+    requires merge { IsMerging board.now.script.now board.now.lines.now merge.old }
+    ensures { IfOk result (IsOrdered board.now.script.now board.now.lines.now) }
+{
+    take_all(alloc, board, hints, merge)?;
+    Ok(ended(alloc, board, merge))
+}
+
 /// Merges the notes of a board.
 fn merged(alloc: Global, board: &Board, hints: &Hints) -> Result<Ordered, NoMemory>
     requires { IsBoard board.now }
     ensures { IfOk result (IsOrdered board.now.script.now board.now.lines.now) }
 {
     let mut merge = Merge::open(alloc, board)?;
-    take_all(alloc, board, hints, &mut merge)?;
-    Ok(ended(board, merge))
+    merge_all(alloc, board, hints, &mut merge)
 }
 
 /// Merges the notes of a board, with hints where the next ones stand.

@@ -1,5 +1,5 @@
 //! Pictures: what is told of each note of an order, one by one.
-ghost use Rattle.std.specs.Prelude.{◌≡◌, ◌++◌, OnOk, IfOk, length, replicate};
+ghost use Rattle.std.specs.Prelude.{◌≡◌, ◌++◌, OnOk, IfOk, [], length, replicate};
 ghost use Rattle.std.specs.List.{concat};
 ghost use Rattle.co_check.specs.Lines.{IsReport};
 ghost use Rattle.co_program.specs.Scripts.{IsScript};
@@ -19,7 +19,7 @@ use co_text::Page;
 use std::alloc::Global;
 
 /// A picture of a report.
-#[derive(Clone, Copy, Debug, PartialEq, Eq)]
+#[derive(Clone, Copy)]
 pub enum Picture {
     /// Chrome's trace format, which Perfetto and chrome://tracing open.
     Trace,
@@ -130,20 +130,22 @@ fn tell_order(
     )
 }
 
-/// The picture, behind what is there.
+/// The picture, on a roll that is empty.
 fn print_all(
     alloc: Global,
     roll: &mut Roll,
     picture: Picture,
     report: &Report,
     order: &[usize],
-) -> Result<(), NoMemory>
-    requires { IsReport report.now }
-    ensures { OnOk result (roll_text roll.new ≡ roll_text roll.old ++ picture_text picture report.now.script report.now.lines order.now) }
+) -> Result<Seq<Seq<u8>>, NoMemory>
+    requires report { IsReport report.now }
+    requires empty { roll_text roll.old ≡ [] }
+    ensures { IfOk result (λ pieces. concat pieces ≡ picture_text picture report.now.script report.now.lines order.now) }
 {
     print_front(&mut roll.page, picture, &report.script, order.len())?;
     tell_order(alloc, roll, picture, report, order)?;
-    print_back(&mut roll.page, picture)
+    print_back(&mut roll.page, picture)?;
+    roll.done(alloc)
 }
 
 /// The text of a picture, in pieces. In a trace a step of this order is a microsecond: each note is an event in its
@@ -160,6 +162,5 @@ pub fn print_picture(
     ensures { IfOk result (λ pieces. concat pieces ≡ picture_text picture report.now.script report.now.lines order.now) }
 {
     let mut roll = Roll::new(alloc);
-    print_all(alloc, &mut roll, picture, report, order)?;
-    roll.done(alloc)
+    print_all(alloc, &mut roll, picture, report, order)
 }

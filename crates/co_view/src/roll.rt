@@ -52,12 +52,11 @@ impl Roll {
         Ok(())
     }
 
-    /// The text, which is done.
-    pub(crate) fn done(self, alloc: Global) -> Result<Seq<Seq<u8>>, NoMemory>
-        ensures { IfOk result (λ pieces. concat pieces ≡ roll_text self) }
+    /// The text, which is done. The roll is of no more use.
+    pub(crate) fn done(&mut self, alloc: Global) -> Result<Seq<Seq<u8>>, NoMemory>
+        ensures { IfOk result (λ pieces. concat pieces ≡ roll_text self.old) }
     {
-        let mut roll = self;
-        roll.close(alloc)?;
-        Ok(roll.pieces)
+        self.close(alloc)?;
+        Ok(std::mem::replace(&mut self.pieces, Seq::new(alloc)))
     }
 }

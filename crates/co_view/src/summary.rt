@@ -6,6 +6,7 @@ ghost use Rattle.co_view.specs.Scenes.{watch_of};
 ghost use Rattle.co_view.specs.Summary.{cell_at, cell_text, coded_column, column_name, entry_counted, fate_column, fates_text, is_open, reply_noted, one_if, opened_tally, replaced_column, reply_column, row_text, rows_text, stopped_column, summary_text, tally_entry, tally_of, tallied, timer_row};
 
 use crate::order::counts::raise;
+use crate::parts::{Part, print_parts};
 use crate::scene::{Watch, opened, take, watch_of, watched};
 use co_object::{AnyEntry, Entry, Place, Reply};
 use co_report::{Line, Report};
@@ -205,19 +206,18 @@ impl Tally {
         take(&mut self.scene, 0, line);
         Ok(())
     }
-}
 
-/// The counts of all lines.
-fn tally_of(alloc: Global, timers: usize, lines: &[Line]) -> Result<Tally, NoMemory>
-    requires { timers ≤ 1024 }
-    ensures tally { IfOk result (λ t. t ≡ tally_of timers lines.now) }
-    ensures long { IfOk result (λ t. length t.counts ≡ (timers + 1) * 26) }
-{
-    let mut tally = Tally::open(alloc, timers)?;
-    for line in lines {
-        tally.take(timers, line)?;
+    /// Takes all lines, from the first on.
+    fn take_all(&mut self, timers: usize, lines: &[Line]) -> Result<(), NoMemory>
+        requires most { timers ≤ 1024 }
+        requires opened { self.old ≡ opened_tally timers }
+        ensures { OnOk result (self.new ≡ tally_of timers lines.now) }
+    {
+        for line in lines {
+            self.take(timers, line)?;
+        }
+        Ok(())
     }
-    Ok(tally)
 }
 
 /// A count of the table; 0 where there is none.
@@ -270,11 +270,17 @@ fn print_fates(page: &mut Page, counts: &[u64], row: usize, pending: u64) -> Res
     ensures { OnOk result (page.new ≡ page.old ++ fates_text counts.now row pending) }
 {
     let armings = armings_of(counts, row)?;
-    page.tagged(b": armings=".as_slice(), armings)?;
-    page.tagged(b" fired=".as_slice(), cell_at(counts, row, 19))?;
-    page.tagged(b" superseded=".as_slice(), cell_at(counts, row, 23))?;
-    page.tagged(b" stopped=".as_slice(), cell_at(counts, row, 24))?;
-    page.tagged(b" pending=".as_slice(), pending)
+    print_parts(
+        page,
+        [
+            Part::Tagged(b": armings=".as_slice(), armings),
+            Part::Tagged(b" fired=".as_slice(), cell_at(counts, row, 19)),
+            Part::Tagged(b" superseded=".as_slice(), cell_at(counts, row, 23)),
+            Part::Tagged(b" stopped=".as_slice(), cell_at(counts, row, 24)),
+            Part::Tagged(b" pending=".as_slice(), pending),
+        ]
+        .as_slice(),
+    )
 }
 
 /// A row behind its name.
@@ -351,11 +357,18 @@ fn print_rows(page: &mut Page, tally: &Tally, timers: usize) -> Result<(), NoMem
     print_total(page, tally, timers)
 }
 
-/// The text of these counts.
-fn print_tally(alloc: Global, tally: &Tally, timers: usize) -> Result<Seq<u8>, NoMemory>
-    requires { timers ≤ 1024 }
-    ensures { IfOk result (λ text. text ≡ rows_text timers tally.now) }
+/// The text of the counts of all lines.
+fn print_lines(
+    alloc: Global,
+    tally: &mut Tally,
+    timers: usize,
+    lines: &[Line],
+) -> Result<Seq<u8>, NoMemory>
+    requires most { timers ≤ 1024 }
+    requires opened { tally.old ≡ opened_tally timers }
+    ensures { IfOk result (λ text. text ≡ rows_text timers (tally_of timers lines.now)) }
 {
+    tally.take_all(timers, lines)?;
     let mut page = Page::new(alloc);
     print_rows(&mut page, tally, timers)?;
     page.done()
@@ -369,6 +382,6 @@ pub fn print_summary(alloc: Global, report: &Report) -> Result<Seq<u8>, NoMemory
     ensures { IfOk result (λ text. text ≡ summary_text report.now.script report.now.lines) }
 {
     let timers = report.script.timers.as_slice().len();
-    let tally = tally_of(alloc, timers, report.lines.as_slice())?;
-    print_tally(alloc, &tally, timers)
+    let mut tally = Tally::open(alloc, timers)?;
+    print_lines(alloc, &mut tally, timers, report.lines.as_slice())
 }

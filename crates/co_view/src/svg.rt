@@ -1,13 +1,13 @@
 //! The text of `svg`: one picture, which a browser shows.
-ghost use Rattle.std.specs.Prelude.{◌≡◌, ◌+◌, ◌*◌, ◌++◌, OnOk, IfOk, decimal, flat_map};
+ghost use Rattle.std.specs.Prelude.{◌≡◌, ◌++◌, OnOk, flat_map};
 ghost use Rattle.std.specs.List.{range_with_len};
 ghost use Rattle.co_program.specs.Scripts.{IsScript};
 ghost use Rattle.co_program.specs.Actors.{actor_count};
-ghost use Rattle.co_view.specs.Svg.{arrow_text, bar_text, callout_marks, column_head, figure, frame_text, is_end, legend_text, marks_of, point_head, point_text, style_text, x_of};
+ghost use Rattle.co_view.specs.Svg.{arrow_text, bar_text, callout_marks, column_head, figure, frame_text, is_end, marks_of, frame_head, point_text, x_of};
 
+use crate::parts::{Part, print_parts};
 use crate::scene::{Watch, watch_of};
 use crate::trace::wakes;
-use crate::words::print_note;
 use co_grammar::actor_name;
 use co_object::{AnyEntry, Entry, Op, Place, RunOp};
 use co_program::{Script, actor_count};
@@ -22,64 +22,50 @@ fn x_of(actor: u32) -> u64
     70 + 400 * u64::from(actor)
 }
 
-/// A place in the row of a step. NoMemory for so many steps that no picture holds them.
-fn down(from: u64, step: usize) -> Result<u64, NoMemory>
-    ensures { IfOk result (λ y. y ≡ from + 18 * step) }
-{
-    match (step as u64).checked_mul(18) {
-        Some(rows) => from.checked_add(rows).ok_or(NoMemory {}),
-        None => Err(NoMemory {}),
-    }
-}
-
-/// A tag, and a place in the row of a step. Inlined, as `tagged` is.
-#[inline(always)]
-fn print_down(page: &mut Page, tag: &[u8], from: u64, step: usize) -> Result<(), NoMemory>
-    ensures { OnOk result (page.new ≡ page.old ++ (tag.now ++ decimal (from + 18 * step))) }
-{
-    page.tagged(tag, down(from, step)?)
-}
-
-/// The line of the report, and a point in the actor's column.
-fn print_point(page: &mut Page, step: usize, line: u64, actor: u32) -> Result<(), NoMemory>
-    ensures { OnOk result (page.new ≡ page.old ++ point_head step line actor) }
-{
-    print_down(page, b"<text class=\"l\" x=\"8\" y=\"".as_slice(), 84, step)?;
-    page.tagged(b"\">".as_slice(), line)?;
-    page.tagged(b"</text><circle cx=\"".as_slice(), x_of(actor))?;
-    print_down(page, b"\" cy=\"".as_slice(), 80, step)
-}
-
-/// A note: its point, and the words beside it.
+/// A note: the line of the report, a point in the actor's column, and the words beside it.
 fn print_note_point(page: &mut Page, step: usize, line: &Line) -> Result<(), NoMemory>
     ensures { OnOk result (page.new ≡ page.old ++ point_text step line.now) }
 {
     let actor = line.entry.actor();
-    print_point(page, step, line.line, actor)?;
-    page.tagged(
-        b"\" r=\"3\"/><text x=\"".as_slice(),
-        82 + 400 * u64::from(actor),
-    )?;
-    print_down(page, b"\" y=\"".as_slice(), 84, step)?;
-    page.text(b"\">".as_slice())?;
-    print_note(page, line.place, &line.entry)?;
-    page.text(b"</text>\n".as_slice())
+    print_parts(
+        page,
+        [
+            Part::Down(b"<text class=\"l\" x=\"8\" y=\"".as_slice(), 84, step),
+            Part::Tagged(b"\">".as_slice(), line.line),
+            Part::Tagged(b"</text><circle cx=\"".as_slice(), x_of(actor)),
+            Part::Down(b"\" cy=\"".as_slice(), 80, step),
+            Part::Tagged(
+                b"\" r=\"3\"/><text x=\"".as_slice(),
+                82 + 400 * u64::from(actor),
+            ),
+            Part::Down(b"\" y=\"".as_slice(), 84, step),
+            Part::Text(b"\">".as_slice()),
+            Part::Note(line.place, &line.entry),
+            Part::Text(b"</text>\n".as_slice()),
+        ]
+        .as_slice(),
+    )
 }
 
 /// The bar of a service.
 fn print_bar(page: &mut Page, i: u32, actor: u32, since: usize, step: usize) -> Result<(), NoMemory>
     ensures { OnOk result (page.new ≡ page.old ++ bar_text i actor since step) }
 {
-    page.tagged(b"<rect class=\"t".as_slice(), u64::from(i % 8))?;
-    page.tagged(b"\" x=\"".as_slice(), 66 + 400 * u64::from(actor))?;
-    print_down(page, b"\" y=\"".as_slice(), 80, since)?;
-    print_down(
+    print_parts(
         page,
-        b"\" width=\"8\" height=\"".as_slice(),
-        0,
-        step.saturating_sub(since),
-    )?;
-    page.text(b"\"/>\n".as_slice())
+        [
+            Part::Tagged(b"<rect class=\"t".as_slice(), u64::from(i % 8)),
+            Part::Tagged(b"\" x=\"".as_slice(), 66 + 400 * u64::from(actor)),
+            Part::Down(b"\" y=\"".as_slice(), 80, since),
+            Part::Down(
+                b"\" width=\"8\" height=\"".as_slice(),
+                0,
+                step.saturating_sub(since),
+            ),
+            Part::Text(b"\"/>\n".as_slice()),
+        ]
+        .as_slice(),
+    )
 }
 
 /// The arrow from a drain's wait to the end that wakes it.
@@ -92,12 +78,18 @@ fn print_arrow(
 ) -> Result<(), NoMemory>
     ensures { OnOk result (page.new ≡ page.old ++ arrow_text waiter waited actor step) }
 {
-    page.tagged(b"<path class=\"a\" d=\"M".as_slice(), x_of(waiter))?;
-    print_down(page, b" ".as_slice(), 80, waited)?;
-    print_down(page, b"V".as_slice(), 89, step)?;
-    page.tagged(b"H".as_slice(), x_of(actor))?;
-    print_down(page, b"V".as_slice(), 80, step)?;
-    page.text(b"\"/>\n".as_slice())
+    print_parts(
+        page,
+        [
+            Part::Tagged(b"<path class=\"a\" d=\"M".as_slice(), x_of(waiter)),
+            Part::Down(b" ".as_slice(), 80, waited),
+            Part::Down(b"V".as_slice(), 89, step),
+            Part::Tagged(b"H".as_slice(), x_of(actor)),
+            Part::Down(b"V".as_slice(), 80, step),
+            Part::Text(b"\"/>\n".as_slice()),
+        ]
+        .as_slice(),
+    )
 }
 
 fn is_end(op: &Op) -> bool
@@ -164,12 +156,18 @@ fn print_column(page: &mut Page, script: &Script, steps: usize, actor: u32) -> R
     ensures { OnOk result (page.new ≡ page.old ++ column_head script.now steps actor) }
 {
     let (letter, number) = actor_name(script, actor);
-    page.tagged(b"<path class=\"c\" d=\"M".as_slice(), x_of(actor))?;
-    print_down(page, b" 66V".as_slice(), 80, steps)?;
-    page.tagged(b"\"/><text class=\"h\" x=\"".as_slice(), x_of(actor))?;
-    page.text(b"\" y=\"58\">".as_slice())?;
-    page.tagged([letter].as_slice(), number)?;
-    page.text(b"</text>\n".as_slice())
+    print_parts(
+        page,
+        [
+            Part::Tagged(b"<path class=\"c\" d=\"M".as_slice(), x_of(actor)),
+            Part::Down(b" 66V".as_slice(), 80, steps),
+            Part::Tagged(b"\"/><text class=\"h\" x=\"".as_slice(), x_of(actor)),
+            Part::Text(b"\" y=\"58\">".as_slice()),
+            Part::Tagged([letter].as_slice(), number),
+            Part::Text(b"</text>\n".as_slice()),
+        ]
+        .as_slice(),
+    )
 }
 
 fn print_columns(
@@ -186,37 +184,38 @@ fn print_columns(
     Ok(())
 }
 
-fn print_style(page: &mut Page) -> Result<(), NoMemory>
-    ensures { OnOk result (page.new ≡ page.old ++ style_text) }
+/// What stands before the columns: the size, the style and the legend, for so many steps.
+fn print_frame_head(page: &mut Page, actors: u32, steps: usize) -> Result<(), NoMemory>
+    ensures { OnOk result (page.new ≡ page.old ++ frame_head actors steps) }
 {
-    page.text(
-        b"<style>text{font:11px monospace}.l{fill:#888}.h{font:bold 14px sans-serif}.n{font:12px sans-serif;fill:#444}.c{stroke:#ccc}.a{stroke:#c00;stroke-width:1.5;fill:none;stroke-dasharray:4 2;marker-end:url(#m)}rect{fill-opacity:.55}.t0{fill:#4e79a7}.t1{fill:#f28e2b}.t2{fill:#59a14f}.t3{fill:#b07aa1}.t4{fill:#edc948}.t5{fill:#76b7b2}.t6{fill:#e15759}.t7{fill:#9c755f}</style>\n<marker id=\"m\" viewBox=\"0 0 8 8\" refX=\"8\" refY=\"4\" markerWidth=\"5\" markerHeight=\"5\" orient=\"auto\"><path d=\"M0 0L8 4L0 8z\" fill=\"#c00\"/></marker>\n".as_slice(),
+    print_parts(
+        page,
+        [
+            Part::Tagged(
+                b"<svg xmlns=\"http://www.w3.org/2000/svg\" width=\"".as_slice(),
+                x_of(actors),
+            ),
+            Part::Down(b"\" height=\"".as_slice(), 80, steps),
+            Part::Text(
+                b"\">\n<rect width=\"100%\" height=\"100%\" style=\"fill:#fff;fill-opacity:1\"/>\n".as_slice(),
+            ),
+            Part::Text(
+                b"<style>text{font:11px monospace}.l{fill:#888}.h{font:bold 14px sans-serif}.n{font:12px sans-serif;fill:#444}.c{stroke:#ccc}.a{stroke:#c00;stroke-width:1.5;fill:none;stroke-dasharray:4 2;marker-end:url(#m)}rect{fill-opacity:.55}.t0{fill:#4e79a7}.t1{fill:#f28e2b}.t2{fill:#59a14f}.t3{fill:#b07aa1}.t4{fill:#edc948}.t5{fill:#76b7b2}.t6{fill:#e15759}.t7{fill:#9c755f}</style>\n<marker id=\"m\" viewBox=\"0 0 8 8\" refX=\"8\" refY=\"4\" markerWidth=\"5\" markerHeight=\"5\" orient=\"auto\"><path d=\"M0 0L8 4L0 8z\" fill=\"#c00\"/></marker>\n".as_slice(),
+            ),
+            Part::Text(
+                b"<text class=\"n\" x=\"8\" y=\"20\">Steps from top to bottom in one order; a column for each actor; at the left the line of the report.</text>\n<text class=\"n\" x=\"8\" y=\"36\">A bar is a service, in the colour of its callout; a dashed arrow goes from a drain that waits to the end that wakes it.</text>\n".as_slice(),
+            ),
+        ]
+        .as_slice(),
     )
 }
 
-fn print_legend(page: &mut Page) -> Result<(), NoMemory>
-    ensures { OnOk result (page.new ≡ page.old ++ legend_text) }
-{
-    page.text(
-        b"<text class=\"n\" x=\"8\" y=\"20\">Steps from top to bottom in one order; a column for each actor; at the left the line of the report.</text>\n<text class=\"n\" x=\"8\" y=\"36\">A bar is a service, in the colour of its callout; a dashed arrow goes from a drain that waits to the end that wakes it.</text>\n".as_slice(),
-    )
-}
-
-/// What stands before the figures: the size, the legend and the columns, for so many steps.
+/// What stands before the figures.
 pub(crate) fn print_frame(page: &mut Page, script: &Script, steps: usize) -> Result<(), NoMemory>
     requires { IsScript script.now }
     ensures { OnOk result (page.new ≡ page.old ++ frame_text script.now steps) }
 {
     let actors = actor_count(script);
-    page.tagged(
-        b"<svg xmlns=\"http://www.w3.org/2000/svg\" width=\"".as_slice(),
-        x_of(actors),
-    )?;
-    print_down(page, b"\" height=\"".as_slice(), 80, steps)?;
-    page.text(
-        b"\">\n<rect width=\"100%\" height=\"100%\" style=\"fill:#fff;fill-opacity:1\"/>\n".as_slice(),
-    )?;
-    print_style(page)?;
-    print_legend(page)?;
+    print_frame_head(page, actors, steps)?;
     print_columns(page, script, steps, actors)
 }

@@ -1,12 +1,13 @@
 //! The text of `trace`: Chrome's trace format, which Perfetto and chrome://tracing open.
-ghost use Rattle.std.specs.Prelude.{◌≡◌, ◌+◌, ◌*◌, ◌++◌, ◌∷◌, OnOk, flat_map, codes, decimal};
+ghost use Rattle.std.specs.Prelude.{◌≡◌, ◌+◌, ◌*◌, ◌++◌, OnOk, flat_map, codes};
 ghost use Rattle.std.specs.List.{range_with_len};
 ghost use Rattle.co_program.specs.Scripts.{IsScript};
 ghost use Rattle.co_program.specs.Actors.{actor_count};
-ghost use Rattle.co_view.specs.Trace.{actor_lane, begin_text, arming_text, armed_begin, armed_text, at_text, callout_text, doing_word, effect_text, end_text, ends_armed, trace_events, flow_text, head_text, is_armed_reply, is_run, lane_head, note_event, opening_text, service_begin, service_text, text_if, timer_lane, timer_lanes, wait_text, wake_text, wakes};
+ghost use Rattle.co_view.specs.Parts.{part_text};
+ghost use Rattle.co_view.specs.Trace.{actor_lane, begin_text, arming_text, armed_begin, armed_text, callout_text, doing_word, effect_text, end_text, ends_armed, trace_events, flow_text, head_text, is_armed_reply, is_run, lane_head, note_event, opening_text, service_begin, service_text, text_if, timer_lane, timer_lanes, wait_text, wake_text, wakes};
 
+use crate::parts::{Part, print_parts};
 use crate::scene::{Watch, armed_by, watch_of};
-use crate::words::print_note;
 use co_grammar::actor_name;
 use co_object::{AnyEntry, Entry, Op, Place, Reply, RunOp};
 use co_program::{Script, actor_count};
@@ -14,30 +15,42 @@ use co_report::Line;
 use co_sbt::NoMemory;
 use co_text::Page;
 
-/// A lane, and when.
-fn print_at(page: &mut Page, lane: u64, step: usize) -> Result<(), NoMemory>
-    ensures { OnOk result (page.new ≡ page.old ++ at_text lane step) }
-{
-    page.number(lane)?;
-    page.tagged(b",\"ts\":".as_slice(), step as u64)
-}
-
 /// The end of a bar in a callout's lane.
 fn print_end(page: &mut Page, lane: u64, step: usize) -> Result<(), NoMemory>
     ensures { OnOk result (page.new ≡ page.old ++ end_text lane step) }
 {
-    page.text(b",\n{\"ph\":\"E\",\"pid\":1,\"tid\":".as_slice())?;
-    print_at(page, lane, step)?;
-    page.text(b"}".as_slice())
+    print_parts(
+        page,
+        [
+            Part::Text(b",\n{\"ph\":\"E\",\"pid\":1,\"tid\":".as_slice()),
+            Part::At(lane, step),
+            Part::Text(b"}".as_slice()),
+        ]
+        .as_slice(),
+    )
 }
 
-/// The beginning of a bar in a callout's lane, up to its arming's number.
-fn print_begin(page: &mut Page, lane: u64, step: usize, n: u64) -> Result<(), NoMemory>
-    ensures { OnOk result (page.new ≡ page.old ++ (codes ",\n{\"ph\":\"B\",\"pid\":1,\"tid\":" ++ (at_text lane step ++ (codes ",\"name\":\"" ++ 35 ∷ decimal n)))) }
+/// The beginning of a bar in a callout's lane: an arming's number, and what it is doing.
+fn print_begin(
+    page: &mut Page,
+    lane: u64,
+    step: usize,
+    n: u64,
+    doing: &Part,
+) -> Result<(), NoMemory>
+    ensures { OnOk result (page.new ≡ page.old ++ begin_text lane step (arming_text n (part_text doing.now))) }
 {
-    page.text(b",\n{\"ph\":\"B\",\"pid\":1,\"tid\":".as_slice())?;
-    print_at(page, lane, step)?;
-    page.tagged(b",\"name\":\"#".as_slice(), n)
+    print_parts(
+        page,
+        [
+            Part::Text(b",\n{\"ph\":\"B\",\"pid\":1,\"tid\":".as_slice()),
+            Part::At(lane, step),
+            Part::Tagged(b",\"name\":\"#".as_slice(), n),
+            *doing,
+            Part::Text(b"\"}".as_slice()),
+        ]
+        .as_slice(),
+    )
 }
 
 fn print_armed_begin(page: &mut Page, i: u32, step: usize, reply: &Reply) -> Result<(), NoMemory>
@@ -45,9 +58,8 @@ fn print_armed_begin(page: &mut Page, i: u32, step: usize, reply: &Reply) -> Res
 {
     match *reply {
         Reply::Armed { n, cpu, .. } => {
-            print_begin(page, 2 * u64::from(i), step, n)?;
-            page.tagged(b" on CPU ".as_slice(), u64::from(cpu))?;
-            page.text(b"\"}".as_slice())
+            let doing = Part::Tagged(b" on CPU ".as_slice(), u64::from(cpu));
+            print_begin(page, 2 * u64::from(i), step, n, &doing)
         }
         _ => Ok(()),
     }
@@ -115,9 +127,13 @@ fn print_service_bar(
 ) -> Result<(), NoMemory>
     ensures { OnOk result (page.new ≡ page.old ++ begin_text (2 * i + 1) step (arming_text n (doing_word reply.now))) }
 {
-    print_begin(page, 2 * u64::from(i) + 1, step, n)?;
-    page.text(doing_word(reply))?;
-    page.text(b"\"}".as_slice())
+    print_begin(
+        page,
+        2 * u64::from(i) + 1,
+        step,
+        n,
+        &Part::Text(doing_word(reply)),
+    )
 }
 
 fn print_service_begin(
@@ -155,9 +171,8 @@ fn print_service(
 ) -> Result<(), NoMemory>
     ensures { OnOk result (page.new ≡ page.old ++ service_text i step watch entry.now) }
 {
-    if watch.serviced && is_run(&entry.op) {
-        print_end(page, 2 * u64::from(i) + 1, step)?;
-    }
+    let ends = watch.serviced && is_run(&entry.op);
+    print_end_if(page, ends, 2 * u64::from(i) + 1, step)?;
     print_service_begin(page, i, step, &entry.op, &entry.reply)
 }
 
@@ -172,11 +187,17 @@ fn print_flow(
 ) -> Result<(), NoMemory>
     ensures { OnOk result (page.new ≡ page.old ++ flow_text head.now i n actor step) }
 {
-    page.tagged(head, u64::from(i))?;
-    page.tagged(b".".as_slice(), n)?;
-    page.text(b"\",\"pid\":2,\"tid\":".as_slice())?;
-    print_at(page, u64::from(actor), step)?;
-    page.text(b"}".as_slice())
+    print_parts(
+        page,
+        [
+            Part::Tagged(head, u64::from(i)),
+            Part::Tagged(b".".as_slice(), n),
+            Part::Text(b"\",\"pid\":2,\"tid\":".as_slice()),
+            Part::At(u64::from(actor), step),
+            Part::Text(b"}".as_slice()),
+        ]
+        .as_slice(),
+    )
 }
 
 fn print_wait(
@@ -284,13 +305,19 @@ fn print_effect(
 fn print_event(page: &mut Page, step: usize, line: &Line) -> Result<(), NoMemory>
     ensures { OnOk result (page.new ≡ page.old ++ note_event step line.now) }
 {
-    page.text(b",\n{\"ph\":\"X\",\"pid\":2,\"tid\":".as_slice())?;
-    print_at(page, u64::from(line.entry.actor()), step)?;
-    page.text(b",\"dur\":1,\"name\":\"".as_slice())?;
-    print_note(page, line.place, &line.entry)?;
-    page.tagged(b"\",\"args\":{\"line\":".as_slice(), line.line)?;
-    page.tagged(b",\"act\":".as_slice(), line.entry.act())?;
-    page.text(b"}}".as_slice())
+    print_parts(
+        page,
+        [
+            Part::Text(b",\n{\"ph\":\"X\",\"pid\":2,\"tid\":".as_slice()),
+            Part::At(u64::from(line.entry.actor()), step),
+            Part::Text(b",\"dur\":1,\"name\":\"".as_slice()),
+            Part::Note(line.place, &line.entry),
+            Part::Tagged(b"\",\"args\":{\"line\":".as_slice(), line.line),
+            Part::Tagged(b",\"act\":".as_slice(), line.entry.act()),
+            Part::Text(b"}}".as_slice()),
+        ]
+        .as_slice(),
+    )
 }
 
 /// The events of a note.
@@ -310,12 +337,18 @@ pub(crate) fn print_events(
 fn begin_lane(page: &mut Page, process: u64, lane: u64) -> Result<(), NoMemory>
     ensures { OnOk result (page.new ≡ page.old ++ lane_head process lane) }
 {
-    page.tagged(
-        b",\n{\"ph\":\"M\",\"name\":\"thread_name\",\"pid\":".as_slice(),
-        process,
-    )?;
-    page.tagged(b",\"tid\":".as_slice(), lane)?;
-    page.text(b",\"args\":{\"name\":\"".as_slice())
+    print_parts(
+        page,
+        [
+            Part::Tagged(
+                b",\n{\"ph\":\"M\",\"name\":\"thread_name\",\"pid\":".as_slice(),
+                process,
+            ),
+            Part::Tagged(b",\"tid\":".as_slice(), lane),
+            Part::Text(b",\"args\":{\"name\":\"".as_slice()),
+        ]
+        .as_slice(),
+    )
 }
 
 /// The name of a lane of a callout.
@@ -323,9 +356,15 @@ fn print_timer_lane(page: &mut Page, i: u32, lane: u64, what: &[u8]) -> Result<(
     ensures { OnOk result (page.new ≡ page.old ++ timer_lane i lane what.now) }
 {
     begin_lane(page, 1, lane)?;
-    page.tagged(b"timer ".as_slice(), u64::from(i))?;
-    page.text(what)?;
-    page.text(b"\"}}".as_slice())
+    print_parts(
+        page,
+        [
+            Part::Tagged(b"timer ".as_slice(), u64::from(i)),
+            Part::Text(what),
+            Part::Text(b"\"}}".as_slice()),
+        ]
+        .as_slice(),
+    )
 }
 
 /// The names of the lanes of a callout.
@@ -342,8 +381,14 @@ fn print_actor_lane(page: &mut Page, script: &Script, actor: u32) -> Result<(), 
 {
     let (letter, number) = actor_name(script, actor);
     begin_lane(page, 2, u64::from(actor))?;
-    page.tagged([letter].as_slice(), number)?;
-    page.text(b"\"}}".as_slice())
+    print_parts(
+        page,
+        [
+            Part::Tagged([letter].as_slice(), number),
+            Part::Text(b"\"}}".as_slice()),
+        ]
+        .as_slice(),
+    )
 }
 
 fn print_opening(page: &mut Page) -> Result<(), NoMemory>

@@ -29,6 +29,13 @@ fn place_number(place: Place) -> u32
     }
 }
 
+/// A further word.
+fn print_word(page: &mut Page, word: &[u8]) -> Result<(), NoMemory>
+    ensures { OnOk result (page.new ≡ page.old ++ spaced (word.now ∷ [])) }
+{
+    page.more([Token::Text(word)].as_slice())
+}
+
 /// Further words, `at` and a time.
 #[tactic(auto, using(crate::proofs::Pieces::more_at))]
 fn print_at(page: &mut Page, before: &[Token], time: Sbt) -> Result<(), NoMemory>

@@ -3,11 +3,11 @@ ghost use Rattle.std.specs.Prelude.{◌≡◌, map, string_bytes};
 ghost use Rattle.co_view_top.specs.Views.{lone_view, object_view, small_number, view_of};
 ghost use Rattle.co_text.specs.Values.{number};
 
-use co_text::number;
+use co_text::{is_word, number};
 use co_view::{Focus, Picture};
 
 /// A view of a report.
-#[derive(Clone, Copy, Debug, PartialEq, Eq)]
+#[derive(Clone, Copy)]
 pub enum View {
     /// A column for each actor and a row for each note.
     Lanes(Focus),
@@ -21,13 +21,13 @@ pub enum View {
 fn lone_view(word: &[u8]) -> Option<View>
     ensures { result ≡ lone_view word.now }
 {
-    if word == b"lanes".as_slice() {
+    if is_word(word, b"lanes".as_slice()) {
         Some(View::Lanes(Focus::All))
-    } else if word == b"summary".as_slice() {
+    } else if is_word(word, b"summary".as_slice()) {
         Some(View::Summary)
-    } else if word == b"trace".as_slice() {
+    } else if is_word(word, b"trace".as_slice()) {
         Some(View::Picture(Picture::Trace))
-    } else if word == b"svg".as_slice() {
+    } else if is_word(word, b"svg".as_slice()) {
         Some(View::Picture(Picture::Svg))
     } else {
         None
@@ -49,9 +49,9 @@ fn object_view(word: &[u8], number: Option<u32>) -> Option<View>
     ensures { result ≡ object_view word.now number }
 {
     let n = number?;
-    if word == b"timer".as_slice() {
+    if is_word(word, b"timer".as_slice()) {
         Some(View::Lanes(Focus::Timer(n)))
-    } else if word == b"cpu".as_slice() {
+    } else if is_word(word, b"cpu".as_slice()) {
         Some(View::Lanes(Focus::Cpu(n)))
     } else {
         None

@@ -1,24 +1,20 @@
 -- What each answer writes, for whatever events the queue stood.
-use Rattle.std.proofs.Common.{◌≡◌, ℕ, zero, suc, ◌+◌, ◌<◌, ◌≤◌, Bool, true, false, cond, List, [], ◌∷◌, ◌++◌, length, get_or, drop, ℤ, refl, ap, sym, subst, ◌∙◌, arith, append_assoc}
+use Rattle.std.proofs.Common.{◌≡◌, ℕ, zero, suc, ◌+◌, ◌<◌, ◌≤◌, List, [], ◌∷◌, ◌++◌, length, get_or, drop, refl, ap, sym, subst, ◌∙◌, arith, append_assoc}
 use Rattle.std.specs.Prelude.{Result, Ok, Err, OnOk}
-use Rattle.std.specs.declared.option.Option.{Option}
 use Rattle.std.specs.declared.option.Option.TheVariants.{Some, None}
-use Rattle.co_program.specs.declared.When.{When}
 use Rattle.co_text.specs.Lines.{line_text, text}
 use Rattle.co_text.specs.Values.{Word}
 use Rattle.co_text.proofs.Spacing.{text_one, text_append}
 use Rattle.co_batch.specs.Answers.{answers}
 use Rattle.co_batch.proofs.Answering.{answers_step}
-use Rattle.co_event.specs.declared.Armed.{Armed}
 use Rattle.co_event.specs.declared.Event.{Event}
-use Rattle.co_event.specs.Events.{Events, next_moment}
-use Rattle.co_event.specs.Calls.{arm, stop, take, settle}
+use Rattle.co_event.specs.Events.{Events}
+use Rattle.co_event.specs.Calls.{settle}
 use Rattle.co_event.specs.EventTimers.{EventTimers}
 use Rattle.co_event.specs.StandsFor.{StandsFor, Answers}
 use Rattle.co_event.proofs.Standing.{sound-of}
 use Rattle.co_batch_text.specs.declared.event.command.EventCommand.{EventCommand}
-use Rattle.co_batch_text.specs.declared.event.command.EventCommand.TheVariants.{Arm, Stop}
-use Rattle.co_batch_text.specs.Event.Answers.{answered, answering, armed_words, comes_by, earliest_of, event_lines, events_by, stopped_words, take_by, run_until, until_words}
+use Rattle.co_batch_text.specs.Event.Answers.{answered, answering, event_lines, events_by, take_by, run_until, until_words}
 use Rattle.co_batch_text.specs.Event.Written.{IsPageWritten}
 use Rattle.co_batch_text.proofs.EventText.Until.{ended, fewer-by, with-some}
 
@@ -31,51 +27,6 @@ on_ok (Err e) P Q f h = h
 one_line : (page then : List ℕ) (words : List Word) → then ≡ page ++ line_text words → then ≡ page ++ text (words ∷ [])
 one_line page then words is = is ∙ ap (λ t. page ++ t) (sym (text_one words))
 
--- ---- an arming and a stop
-
-pub arm-written : (s u : EventTimers) (i due prec : ℕ) (when : When) (armed : Armed) (page then : List ℕ) → due ≡ earliest_of s.clock when → Answers s u (λ e. arm e i due prec) armed →
-    then ≡ page ++ line_text (armed_words armed) → IsPageWritten s u page then (answered (Arm i when prec))
-arm-written s u i due prec when armed page then due-is answer is = record {
-  outcome = λ e h.
-      let out = answer.outcome e h in
-      let same : due ≡ earliest_of e.now when = due-is ∙ ap (λ (n : ℕ). earliest_of n when) (sym h.now) in (
-        one_line page then (armed_words armed) is
-            ∙ ap (λ (a : Armed). page ++ text (armed_words a ∷ [])) (sym out.0)
-            ∙ ap (λ (d : ℕ). page ++ text (armed_words (arm e i d prec).1 ∷ [])) same,
-        subst (λ (d : ℕ). StandsFor u (arm e i d prec).0) same out.1,
-      );
-}
-
-pub stop-written : (s u : EventTimers) (i : ℕ) (code : ℤ) (page then : List ℕ) → Answers s u (λ e. stop e i) code → then ≡ page ++ line_text (stopped_words code) → IsPageWritten s u page then (answered (Stop i))
-stop-written s u i code page then answer is = record {
-  outcome = λ e h.
-      let out = answer.outcome e h in
-      (one_line page then (stopped_words code) is ∙ ap (λ (z : ℤ). page ++ text (stopped_words z ∷ [])) (sym out.0), out.1);
-}
-
--- ---- the next event by a time
-
-pub none-by : (s : EventTimers) (t : ℕ) → ((e : Events) → StandsFor s e → comes_by t (next_moment e) ≡ false) → Answers s s (take_by t) (None, [])
-none-by s t none = record {
-  size = refl;
-  outcome = λ e h.
-      let is = none e h in (
-        ap (λ (b : Bool). (cond b (take e) (e, (None, []))).1) is,
-        subst (λ (b : Bool). StandsFor s (cond b (take e) (e, (None, []))).0) (sym is) h,
-      );
-}
-
-pub some-by : (s u : EventTimers) (t : ℕ) (reply : Option Event × List ℕ) → ((e : Events) → StandsFor s e → comes_by t (next_moment e) ≡ true) → Answers s u take reply → Answers s u (take_by t) reply
-some-by s u t reply some answer = record {
-  size = answer.size;
-  outcome = λ e h.
-      let is = some e h in
-      let out = answer.outcome e h in (
-        ap (λ (b : Bool). (cond b (take e) (e, (None, []))).1) is ∙ out.0,
-        subst (λ (b : Bool). StandsFor u (cond b (take e) (e, (None, []))).0) (sym is) out.1,
-      );
-}
-
 -- ---- an `until`
 
 -- Behind some of its events: what is pending now, at most how many events are to come, and the text that is to come.
@@ -86,9 +37,6 @@ pub record Halfway (t : ℕ) (first page : List ℕ) (s : EventTimers) (e : Even
   pub enough : length now.pending ≤ most
   pub to_come : page ++ text (events_by t most now).1 ≡ first ++ text (run_until t e).1
   pub ends : (events_by t most now).0 ≡ (run_until t e).0
-
-pub halfway-opening : (t : ℕ) (page : List ℕ) (s : EventTimers) (e : Events) → StandsFor s e → Halfway t page page s e
-halfway-opening t page s e h = record { now = e; most = length e.pending; stands = h; enough = omega arith; to_come = refl; ends = refl }
 
 module _ (t : ℕ) (first page : List ℕ) (s u : EventTimers) (e : Events) where
   pub halfway-more : (then : List ℕ) (event : Event) (numbers : List ℕ) → Answers s u (take_by t) (Some event, numbers) → then ≡ page ++ text (event_lines event numbers) → Halfway t first page s e → Halfway t first then u e

@@ -6,7 +6,7 @@ ghost use Rattle.co_text.specs.Lines.{spaced};
 ghost use Rattle.co_report.specs.Reading.{joined};
 ghost use Rattle.co_view.specs.Words.{answer_words, queue_words};
 
-use crate::words::{begin_at, print_at};
+use crate::words::{begin_at, print_at, print_word};
 use co_object::{QOp, QReply};
 use co_sbt::{NoMemory, Sbt};
 use co_text::{Page, Token};
@@ -50,12 +50,6 @@ pub(crate) fn print_queue_op(page: &mut Page, op: &QOp) -> Result<(), NoMemory>
         QOp::PopDirect => begin_word(page, b"next due direct".as_slice()),
         QOp::FreeDirect => begin_word(page, b"free direct".as_slice()),
     }
-}
-
-fn print_word(page: &mut Page, word: &[u8]) -> Result<(), NoMemory>
-    ensures { OnOk result (page.new ≡ page.old ++ spaced (word.now ∷ [])) }
-{
-    page.more([Token::Text(word)].as_slice())
 }
 
 fn print_got(page: &mut Page, i: u32, n: u64, at: Sbt) -> Result<(), NoMemory>

@@ -4,7 +4,7 @@ ghost use Rattle.co_object.specs.declared.Reply.TheVariants.{Armed, Ended, Go};
 ghost use Rattle.co_text.specs.Lines.{spaced};
 ghost use Rattle.co_view.specs.Words.{armed_word, coded, drain_words, drained_word, in_use_word, next_words, refused_word, reply_words, stopped_word, woke_words};
 
-use crate::words::print_at;
+use crate::words::{print_at, print_word};
 use co_object::{Next, Reply};
 use co_sbt::NoMemory;
 use co_text::{Page, Token};
@@ -85,12 +85,6 @@ fn print_coded(page: &mut Page, code: i32, meaning: &[u8]) -> Result<(), NoMemor
         Token::Text(meaning),
     ]
     .as_slice())
-}
-
-fn print_word(page: &mut Page, word: &[u8]) -> Result<(), NoMemory>
-    ensures { OnOk result (page.new ≡ page.old ++ spaced (word.now ∷ [])) }
-{
-    page.more([Token::Text(word)].as_slice())
 }
 
 fn print_wait(page: &mut Page, n: u64) -> Result<(), NoMemory>

@@ -7,6 +7,5 @@ use Rattle.co_view.proofs.summary.print_summary.Goals as goal
 
 pub returns : goal.returns
 returns c =
-    same_rows c.print_tally.result _ _ (ap (rows_text (length c.as_slice-timers.result.now)) c.in_ok-tally.ensures.tally
-    ∙ (ap (λ (xs : List Spec). rows_text (length xs) (tally_of (length xs) c.as_slice.result.now)) c.as_slice-timers.ensures
-    ∙ ap (λ (ls : List Line). rows_text (length c.args.report.now.script.timers) (tally_of (length c.args.report.now.script.timers) ls)) c.as_slice.ensures)) c.print_tally.ensures
+    same_rows c.print_lines.result _ _ (ap (λ (xs : List Spec). rows_text (length xs) (tally_of (length xs) c.as_slice.result.now)) c.as_slice-timers.ensures
+    ∙ ap (λ (ls : List Line). rows_text (length c.args.report.now.script.timers) (tally_of (length c.args.report.now.script.timers) ls)) c.as_slice.ensures) c.print_lines.ensures

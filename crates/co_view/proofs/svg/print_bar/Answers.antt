@@ -1,9 +1,9 @@
-use Rattle.std.proofs.Common.{ℕ, ◌+◌, ◌*◌, ap, refl, arith}
-use Rattle.co_view.proofs.Pieces.{five_texts, tagged_is, text_is}
-use Rattle.co_view.proofs.Rows.{ok_then}
+use Rattle.std.proofs.Common.{◌≡◌, ℕ, ◌+◌, ◌-◌, ◌*◌, [], decimal, ap, arith}
+use Rattle.co_view.proofs.InParts.{both, fore, tag, parts_are}
 use Rattle.co_view.proofs.svg.print_bar.Goals as goal
 
 pub returns : goal.returns
 returns c =
-    ok_then c.text.result c.text.ensures
-    (λ e. five_texts _ _ _ _ _ _ _ _ _ _ _ (tagged_is _ _ _ _ _ _ c.in_ok-tagged.ensures c.as_slice.ensures c.from.ensures) (tagged_is _ _ _ _ _ _ c.in_ok-tagged-2.ensures c.as_slice-2.ensures (ap (λ (k : ℕ). 66 + 400 * k) c.from-2.ensures)) (tagged_is _ _ _ _ _ _ c.in_ok-print_down.ensures c.as_slice-3.ensures refl) (tagged_is _ _ _ _ _ _ c.in_ok-print_down-2.ensures c.as_slice-4.ensures (omega (arith, c.saturating_sub.ensures))) (text_is _ _ _ _ e c.as_slice-5.ensures))
+    let high : 0 + 18 * c.saturating_sub.result ≡ 18 * (c.args.step - c.args.since) = omega (arith, c.saturating_sub.ensures) in
+    let is = both _ _ _ _ (tag _ _ _ _ c.as_slice.ensures c.from.ensures) (both _ _ _ _ (tag _ _ _ _ c.as_slice-2.ensures (ap (λ (k : ℕ). 66 + 400 * k) c.from-2.ensures)) (both _ _ _ _ (fore _ _ (decimal (80 + 18 * c.args.since)) c.as_slice-3.ensures) (both _ _ _ _ (tag _ _ _ _ c.as_slice-4.ensures high) (fore _ _ [] c.as_slice-5.ensures)))) in
+    parts_are _ _ _ _ _ _ c.print_parts.ensures c.as_slice-6.ensures is

@@ -1,12 +1,10 @@
-use Rattle.std.proofs.Common.{ℕ, ◌++◌, ◌∙◌, ap, refl}
+use Rattle.std.proofs.Common.{ℕ, [], ◌∙◌, decimal, ap}
 use Rattle.co_view.specs.Trace.{at_text}
-use Rattle.co_view.proofs.Pieces.{seven_texts, tagged_is, text_is}
-use Rattle.co_view.proofs.Rows.{ok_then}
+use Rattle.co_view.specs.Words.{note_text}
+use Rattle.co_view.proofs.InParts.{behind, both, fore, tag, parts_are}
 use Rattle.co_view.proofs.trace.print_event.Goals as goal
 
 pub returns : goal.returns
 returns c =
-    ok_then c.text-3.result c.text-3.ensures
-    (λ e. seven_texts _ _ _ _ _ _ _ _ _ _ _ _ _ _ _ (text_is _ _ _ _ c.in_ok-text.ensures c.as_slice.ensures)
-    (c.in_ok-print_at.ensures ∙ ap (λ (a : ℕ). c.text.new.self ++ at_text a c.args.step) (c.from.ensures ∙ c.actor.ensures)) (text_is _ _ _ _ c.in_ok-text-2.ensures c.as_slice-2.ensures) c.in_ok-print_note.ensures
-    (tagged_is _ _ _ _ _ _ c.in_ok-tagged.ensures c.as_slice-3.ensures refl) (tagged_is _ _ _ _ _ _ c.in_ok-tagged-2.ensures c.as_slice-4.ensures c.act.ensures) (text_is _ _ _ _ e c.as_slice-5.ensures))
+    let is = both _ _ _ _ (c.as_slice.ensures) (both _ _ _ _ (ap (λ (a : ℕ). at_text a c.args.step) (c.from.ensures ∙ c.actor.ensures)) (both _ _ _ _ (c.as_slice-2.ensures) (behind (note_text c.args.line.now.place c.args.line.now.entry) _ _ (both _ _ _ _ (fore _ _ (decimal c.args.line.now.line) c.as_slice-3.ensures) (both _ _ _ _ (tag _ _ _ _ c.as_slice-4.ensures c.act.ensures) (fore _ _ [] c.as_slice-5.ensures)))))) in
+    parts_are _ _ _ _ _ _ c.print_parts.ensures c.as_slice-6.ensures is

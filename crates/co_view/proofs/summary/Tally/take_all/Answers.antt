@@ -4,7 +4,7 @@ use Rattle.std.proofs.lemmas.List.{take_all}
 use Rattle.std.proofs.lemmas.List.Sums.{fold_more}
 use Rattle.co_view.specs.declared.summary.Tally.{Tally}
 use Rattle.co_view.specs.Summary.{opened_tally, tallied, tally_of}
-use Rattle.co_view.proofs.summary.tally_of.Goals as goal
+use Rattle.co_view.proofs.summary.Tally.take_all.Goals as goal
 
 pub loop-line-preserved : goal.loop-line-preserved
 loop-line-preserved c =
@@ -17,5 +17,5 @@ loop-line-preserved c =
       long = c.in_ok-take.ensures.long;
     }
 
-pub returns-clause-tally : goal.returns-clause-tally
-returns-clause-tally c = c.loop-line.invariant.tally ∙ ap (tally_of c.args.timers) (take_all c.loop-line.line-index c.args.lines.now c.loop-line-test.false)
+pub returns : goal.returns
+returns c = c.loop-line.invariant.tally ∙ ap (tally_of c.args.timers) (take_all c.loop-line.line-index c.args.lines.now c.loop-line-test.false)

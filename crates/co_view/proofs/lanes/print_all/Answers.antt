@@ -2,7 +2,7 @@ use Rattle.std.proofs.Common.{ℕ, List, ap, ◌++◌, ◌∙◌, flat_map}
 use Rattle.co_report.specs.declared.line.Line.{Line}
 use Rattle.co_view.specs.Lanes.{header_text, row_at}
 use Rattle.co_view.proofs.Rows.{grown, same_text}
-use Rattle.co_view.proofs.lanes.print_lanes.Goals as goal
+use Rattle.co_view.proofs.lanes.print_all.Goals as goal
 
 pub returns : goal.returns
 returns c =
@@ -10,5 +10,5 @@ returns c =
     let rows = λ (lines : List Line). flat_map (row_at c.args.focus lines) c.args.order.now in
     same_text c.done.result _ _
     (c.in_ok-print_rows.ensures
-    ∙ (ap (λ (u : List ℕ). u ++ rows c.as_slice.result.now) (grown c.new-roll.result.pieces c.new-roll.result.page c.print_header.new.page header c.in_ok-print_header.ensures ∙ ap (λ (u : List ℕ). u ++ header) c.new-roll.ensures)
+    ∙ (ap (λ (u : List ℕ). u ++ rows c.as_slice.result.now) (grown c.args.roll.now.pieces c.args.roll.now.page c.print_header.new.page header c.in_ok-print_header.ensures ∙ ap (λ (u : List ℕ). u ++ header) c.requires.empty)
     ∙ ap (λ (lines : List Line). header ++ rows lines) c.as_slice.ensures)) c.done.ensures

@@ -1,9 +1,0 @@
-use Rattle.std.proofs.Common.{refl}
-use Rattle.co_view.proofs.Pieces.{four_texts, tagged_is}
-use Rattle.co_view.proofs.Rows.{ok_then}
-use Rattle.co_view.proofs.svg.print_point.Goals as goal
-
-pub returns : goal.returns
-returns c =
-    ok_then c.print_down-2.result c.print_down-2.ensures
-    (λ e. four_texts _ _ _ _ _ _ _ _ _ (tagged_is _ _ _ _ _ _ c.in_ok-print_down.ensures c.as_slice.ensures refl) (tagged_is _ _ _ _ _ _ c.in_ok-tagged.ensures c.as_slice-2.ensures refl) (tagged_is _ _ _ _ _ _ c.in_ok-tagged-2.ensures c.as_slice-3.ensures c.x_of.ensures) (tagged_is _ _ _ _ _ _ e c.as_slice-4.ensures refl))
