@@ -65,8 +65,8 @@ fn all_of<N: Name, B: Book>(
     requires one { IfOk one (λ played. IsActorOver script.now N.name first played.passes (B.notes played.book)) }
     ensures { IfOk result (IsGroup (HavePlayed B.notes script.now N.name) first end) }
 {
-    let mut all = rest?;
-    add::<N, B>(script, &mut all, one?, first, end)?;
+    let (mut all, one) = both(rest, one)?;
+    add::<N, B>(script, &mut all, one, first, end)?;
     Ok(all)
 }
 

@@ -78,7 +78,10 @@ impl<'a, N: Name, G: Gate, R: Wait> ServicePort<'a, N, G, R> {
         ensures { IfOk result (IsNewPort service.now passes act room) }
     {
         let mut calls = Room::from_seq(Seq::new(alloc));
-        calls.reserve(room as usize)?;
+        if let Err(refused) = calls.reserve(room as usize) {
+            drop(passes);
+            return Err(refused);
+        }
         let origin = PortOrigin {
             actor: passes.actor(),
             act,

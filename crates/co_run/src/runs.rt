@@ -198,8 +198,13 @@ fn run_open<N: Name + Send + Sync, G: Gate + Sync, B: Book + Send, R: Threads + 
     ensures name { IfOk result (λ left. left.closing.name ≡ N.name) }
     ensures run { IfOk result (λ left. IsRan script.now (record { lists = map B.notes left.books; closing = left.closing })) }
 {
-    let all = play_books(rt, alloc, script, gate, &service, passes, books)?;
-    Ok(finish(rt, script, service, all))
+    match play_books(rt, alloc, script, gate, &service, passes, books) {
+        Ok(all) => Ok(finish(rt, script, service, all)),
+        Err(refused) => {
+            drop(service);
+            Err(refused)
+        }
+    }
 }
 
 /// The notes of each book.

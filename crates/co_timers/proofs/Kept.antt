@@ -1,5 +1,5 @@
 -- What the calls of a function keep: the actor's handle, and what it has in service.
-use Rattle.std.proofs.Common.{◌≡◌, ℕ, Bool, List, [], ◌∷◌, ◌++◌, refl, sym, ◌∙◌, subst}
+use Rattle.std.proofs.Common.{ℕ, Bool, List, [], ◌∷◌, ◌++◌, refl, sym, ◌∙◌, subst}
 use Rattle.co_hand.specs.declared.fire.Fire.{Fire}
 use Rattle.co_hand.specs.declared.port_call.PortCall.{PortCall}
 use Rattle.co_hand.specs.declared.port_call.PortReply.{PortReply}
@@ -12,7 +12,7 @@ use Rattle.co_object.specs.Queue.{Due}
 use Rattle.co_service.specs.Name.{ServiceName}
 use Rattle.co_service.specs.declared.outs.Taken.{Taken}
 use Rattle.co_service.specs.declared.outs.Taken.TheVariants.{Empty, Took}
-use Rattle.co_service.specs.Services.{IsServing, IsTaken}
+use Rattle.co_service.specs.Services.{IsTaken}
 use Rattle.co_service.specs.Serving.{ServiceStage}
 use Rattle.co_service.specs.Views.{PassesView}
 use Rattle.co_service.specs.Writes.{Writes}
@@ -88,7 +88,3 @@ module _ (name : ServiceName) (params : Params) (direct : Bool) (cpu : ℕ) wher
 pub taken_after : (name : ServiceName) (params : Params) (direct : Bool) (p q : PassesView) (cpu act : ℕ) (taken : Taken) → IsHandle name params p → IsTaken direct p cpu act taken q → IsHandle name params q
 taken_after name params direct p q cpu act (Empty note) h is = handle_after name params p q (note ∷ []) h is.written
 taken_after name params direct p q cpu act (Took i n time reply pop pick) h is = handle_after name params p q (pop ∷ pick ∷ []) h is.written
-
--- one arming is in service
-pub served_once : (direct : Bool) (p : PassesView) (cpu : ℕ) (d e : Due) (far on : ServiceStage) → IsServing direct p cpu d far → IsServing direct p cpu e on → d ≡ e
-served_once direct p cpu d e far on s t = let h : Some d ≡ Some e = sym s.serves ∙ t.serves in cc

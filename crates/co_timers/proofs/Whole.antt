@@ -1,7 +1,7 @@
 -- A CPU whose actors are both here.
-use Rattle.std.proofs.Common.{◌≡◌, ℕ, ◌+◌, ◌<◌, true, false, ◌&&◌, sym, ◌∙◌, subst, arith, get_or-set_other}
+use Rattle.std.proofs.Common.{◌≡◌, ℕ, ◌<◌, true, false, ◌&&◌, sym, subst}
 use Rattle.std.proofs.lemmas.Bool.{ltb-true}
-use Rattle.std.specs.Prelude.{nat_lt, slice_index_or, slice_set}
+use Rattle.std.specs.Prelude.{nat_lt}
 use Rattle.co_object.proofs.Changes.{both_true}
 use Rattle.co_object.specs.Actors.{cpu_actor, interrupt_actor}
 use Rattle.co_service.specs.Booted.{booted}
@@ -25,12 +25,6 @@ whole p k is =
     let low = both_true (nat_lt k p.params.cpus) (is_posted p (cpu_actor (actors_of p.params) k) && is_posted p (interrupt_actor (actors_of p.params) k)) is in
     let both = both_true (is_posted p (cpu_actor (actors_of p.params) k)) (is_posted p (interrupt_actor (actors_of p.params) k)) low.1 in
     record { below = ltb-true k p.params.cpus low.0; own = both.0; interrupt = both.1 }
-
--- the interrupt is still here where the CPU's own actor has left
-pub still_here : (p : PostsView) (k : ℕ) → Whole p k → slice_index_or (slice_set p.here (cpu_actor (actors_of p.params) k) false) (interrupt_actor (actors_of p.params) k) false ≡ true
-still_here p k w =
-    let a : ℕ = p.params.clients + k in let b : ℕ = (p.params.clients + p.params.cpus) + k in
-    get_or-set_other p.here a b false false (λ same. let low = w.below in omega arith) ∙ w.interrupt
 
 -- both actors that have seen nothing are a CPU's
 pub first : (name : ServiceName) (params : Params) (k : ℕ) (direct others : PassesView) → k < params.cpus → IsHandle name params direct → IsHandle name params others

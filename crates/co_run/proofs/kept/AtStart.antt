@@ -1,13 +1,11 @@
 -- What is kept of an actor holds before its first act; and which CPU an interrupt scans.
-use Rattle.std.proofs.Common.{◌≡◌, ℕ, ◌==◌, suc, zero, ◌+◌, ◌<◌, Bool, true, false, cond, List, [], ◌∷◌, length, map, refl, sym, ap, ◌∙◌, subst, None, arith}
-use Rattle.std.proofs.lemmas.Bool.Decides.{nat_tests}
+use Rattle.std.proofs.Common.{◌≡◌, ℕ, ◌==◌, suc, zero, ◌<◌, Bool, true, false, cond, List, [], ◌∷◌, length, map, refl, sym, ◌∙◌, subst, None}
 use Rattle.std.specs.Prelude.{slice_index_or}
 use Rattle.std.specs.List.{AllByRecursion}
 use Rattle.std.proofs.lemmas.List.{length-map}
 use Rattle.co_object.specs.declared.AnyEntry.TheVariants as of
 use Rattle.co_object.specs.declared.note.Entry.{Entry}
 use Rattle.co_object.specs.declared.note.QEntry.{QEntry}
-use Rattle.co_object.specs.Journal.{scanner}
 use Rattle.co_object.specs.Lists.{actor_of}
 use Rattle.co_program.specs.declared.Script.{Script}
 use Rattle.co_program.specs.declared.Act.{Act}
@@ -15,17 +13,16 @@ use Rattle.co_program.specs.declared.Act.TheVariants.{Tick}
 use Rattle.co_program.specs.declared.Role.{Role}
 use Rattle.co_program.specs.declared.Role.TheVariants.{Client, Cpu, Interrupt}
 use Rattle.co_program.specs.declared.Task.TheVariants.{Does}
-use Rattle.co_program.specs.Actors.{acts_at, actor_count, client_count, program_of, role_of, softs}
+use Rattle.co_program.specs.Actors.{acts_at, actor_count, program_of, role_of, softs}
 use Rattle.co_program.specs.Cursor.{start_of}
 use Rattle.co_program.specs.Scripts.{IsScript, is_tick}
 use Rattle.co_program.specs.Stages.{Ready}
 use Rattle.co_program.proofs.Existing.{start_in}
 use Rattle.co_world.proofs.kept.BySchedules.{open_holds}
-use Rattle.co_world.proofs.basics.Roles.{cpu_number, interrupt_number, interrupt_version}
+use Rattle.co_world.proofs.basics.Roles.{cpu_number, interrupt_number}
 use Rattle.co_service.specs.Booted.{booted}
 use Rattle.co_service.specs.Fresh.{AreNamed}
 use Rattle.co_service.specs.Name.{ServiceName}
-use Rattle.co_service.specs.Params.{actors_of}
 use Rattle.co_service.specs.Services.{IsFree}
 use Rattle.co_service.specs.Views.{journal_seen, seen_of}
 use Rattle.co_service.proofs.Lasts.{booted_free}
@@ -105,12 +102,3 @@ starts s ok locks name a below named = record {
   };
   leads = λ H goes. record { next = tt; place = refl };
 }
-
--- ---- who scans
-
-pub interrupt_scans : (s : Script) (a x : ℕ) → a < actor_count s → role_of s a ≡ Interrupt x → a ≡ scanner (actors_of (params_of s)) x
-interrupt_scans s a x below is =
-    let n = interrupt_number s a x is in
-    let two : s.version ≡ 2 = (interrupt_version s a x below is).0 in
-    let test : (s.version == 1) ≡ false = grind (arith, nat_tests, two) in
-    n ∙ ap (λ (b : Bool). cond b (client_count s + x) (client_count s + s.cpus + x)) (sym test)

@@ -12,7 +12,6 @@ use Rattle.co_object.specs.declared.AnyEntry.TheVariants as entry
 use Rattle.co_object.specs.Group.{Placed, placed, off_of, removal_notes}
 use Rattle.co_object.specs.Queue.{Due}
 use Rattle.co_lock.specs.declared.Held.{Held}
-use Rattle.co_lock.specs.Covers.{covers}
 use Rattle.co_program.specs.declared.Script.{Script}
 use Rattle.co_program.specs.Scripts.{IsScript}
 use Rattle.co_program.specs.Stages.{Stage, Ready, Waiting, Popping, Picking, Locking, Beginning, Unlocking, Firing, Releasing, Ending, Freeing, Drained}
@@ -35,7 +34,6 @@ use Rattle.co_service.proofs.CallGroup.{entry_of}
 use Rattle.co_run.specs.Acting.{IsActing, CursorFits, params_of}
 use Rattle.co_run.specs.Noted.{gone_on}
 use Rattle.co_run.specs.Shown.{IsFoundThere}
-use Rattle.co_run.proofs.follows.ArmedReplies.{asked_call}
 use Rattle.co_run.proofs.follows.GoesBack.{goes_back}
 use Rattle.co_run.proofs.follows.CallGroups.{AreParts, IsOneInsert, call_leads, call_parts, call_told, first_is, rest_is}
 use Rattle.co_run.proofs.places.AfterCalls.{acting_of, call_goes, called_kinds, called_placed, called_serves, still_serves}
@@ -127,10 +125,6 @@ module _ (s : Script) (ok : IsScript s) (name : ServiceName) (a : ℕ) (p q : Pa
         leads = λ H goes. subst (λ (k : Cursor). Trace s H a (record { cursor = k; notes = notes ++ ns })) call_ends
             (call_leads s a H p q c notes ns act i op reply acting.actor spec is acting.place.removed call (acting.leads H (goes_back H p q ns call.written goes)) goes);
       })
-
-  -- the hold covers it
-  pub call_covered : (covers hold (spec_at s i) op ≡ true) × (act ≡ c.act)
-  call_covered = let asked = asked_call s a c act i op is in (ap (λ (h : Option Held). covers h (spec_at s i) op) acting.held ∙ asked.1, asked.0)
 
 -- the same actor, told by other words
 pub acting_same : {s : Script} {name : ServiceName} {a : ℕ} {p q : PassesView} {c k : Cursor} {h g : Option Held} {ns ms : List Note} {m n : ℕ} → IsActing s name a p c h ns m → q ≡ p → k ≡ c → g ≡ h → ms ≡ ns → n ≡ m → IsActing s name a q k g ms n

@@ -112,20 +112,6 @@ over_parcel c (Releasing v) = refl
 over_parcel c (Ending v) = refl
 over_parcel c (Freeing v drain next) = refl
 
-over_removed : (c : Cursor) (stage : Stage) → (act_over c stage).removed ≡ c.removed
-over_removed c Ready = refl
-over_removed c (Waiting n took) = refl
-over_removed c (Firing v acts) = refl
-over_removed c (Drained v acts) = refl
-over_removed c (Popping act) = refl
-over_removed c (Picking v) = refl
-over_removed c (Locking v) = refl
-over_removed c (Beginning v) = refl
-over_removed c (Unlocking v acts) = refl
-over_removed c (Releasing v) = refl
-over_removed c (Ending v) = refl
-over_removed c (Freeing v drain next) = refl
-
 -- once what was armed stands in its queue, the place is that after a call that armed nothing there
 landed : (c : Cursor) (i : ℕ) (op : Op) (reply : Reply) → is_armed reply ≡ true → c.parcel ≡ None → record (call_made c i true op reply) { parcel = None } ≡ call_made c i false op reply
 landed c i op (Armed code n cpu o) is none =

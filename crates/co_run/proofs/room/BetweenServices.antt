@@ -3,7 +3,6 @@ use Rattle.std.proofs.Common.{◌≡◌, ℕ, true, false, refl}
 use Rattle.std.specs.Prelude.{Result, Ok, Err, OnErr}
 use Rattle.co_object.specs.declared.QOp.{QOp}
 use Rattle.co_program.specs.declared.Role.{Role}
-use Rattle.co_program.specs.declared.Role.TheVariants.{Client, Cpu, Interrupt}
 use Rattle.co_program.specs.declared.Script.{Script}
 use Rattle.co_program.specs.declared.Asked.TheVariants.{Queue}
 use Rattle.co_program.specs.Action.{Asks, action_for}
@@ -13,8 +12,7 @@ use Rattle.co_program.specs.Stages.{Stage, Ready, Waiting, Popping, Picking, Loc
 use Rattle.co_world.proofs.basics.Actions.{IsAction, scans, starts, pops, frees}
 use Rattle.co_world.proofs.kept.Invariant.{IsBetween}
 use Rattle.co_world.proofs.kept.Stages.{is_acting}
-use Rattle.co_service.specs.Views.{PassesView}
-use Rattle.co_run.specs.Acting.{CursorFits, ServesAsStage}
+use Rattle.co_run.specs.Acting.{CursorFits}
 use Rattle.co_run.specs.Roomy.{is_resting, is_serving}
 use Rattle.co_run.proofs.places.AfterSilentSteps.{stage_view}
 
@@ -42,34 +40,6 @@ queue_at s role c stage act cpu op (frees v drain next) between = absurd between
 
 pub queue_rests : (s : Script) (a : ℕ) (c : Cursor) (act cpu : ℕ) (op : QOp) → CursorFits s a c → action_for s a c ≡ Asks act (Queue cpu op) → is_resting c.stage ≡ true
 queue_rests s a c act cpu op place is = queue_at s (role_of s a) c c.stage act cpu op (stage_view s a c (Asks act (Queue cpu op)) place.parcel is) place.between
-
--- who rests has nothing in service
-pub rests_free : (role : Role) (q : PassesView) (stage : Stage) → is_resting stage ≡ true → ServesAsStage role q stage → ServesAsStage role q Ready
-rests_free (Client k) q stage rests h = tt
-rests_free (Cpu x) q Ready rests h = h
-rests_free (Cpu x) q (Waiting n took) rests h = h
-rests_free (Cpu x) q (Popping act) rests h = h
-rests_free (Cpu x) q (Firing v acts) rests h = cc
-rests_free (Cpu x) q (Drained v acts) rests h = cc
-rests_free (Cpu x) q (Picking v) rests h = cc
-rests_free (Cpu x) q (Locking v) rests h = cc
-rests_free (Cpu x) q (Beginning v) rests h = cc
-rests_free (Cpu x) q (Unlocking v acts) rests h = cc
-rests_free (Cpu x) q (Releasing v) rests h = cc
-rests_free (Cpu x) q (Ending v) rests h = cc
-rests_free (Cpu x) q (Freeing v drain next) rests h = cc
-rests_free (Interrupt x) q Ready rests h = h
-rests_free (Interrupt x) q (Waiting n took) rests h = h
-rests_free (Interrupt x) q (Popping act) rests h = h
-rests_free (Interrupt x) q (Firing v acts) rests h = cc
-rests_free (Interrupt x) q (Drained v acts) rests h = cc
-rests_free (Interrupt x) q (Picking v) rests h = cc
-rests_free (Interrupt x) q (Locking v) rests h = cc
-rests_free (Interrupt x) q (Beginning v) rests h = cc
-rests_free (Interrupt x) q (Unlocking v acts) rests h = cc
-rests_free (Interrupt x) q (Releasing v) rests h = cc
-rests_free (Interrupt x) q (Ending v) rests h = cc
-rests_free (Interrupt x) q (Freeing v drain next) rests h = cc
 
 -- what holds anyway, holds after a refusal
 pub on_err : {T E P : Type 0} (r : Result T E) → P → OnErr r P

@@ -15,7 +15,7 @@ invariant_of-self g c =
     let calls : List PortCall = c.self.inside.calls.items in
     let plain : PortCall = record { i = c.args.i; op = c.args.op.now; answer = c.ask-answer.result } in
     let one : IsPortCall old plain new = record { hold = option_copied c.args.hold; came = c.ask-answer.ensures.came } in
-    let made : IsPortCall old c.call_of-call.result new = subst (λ (x : PortCall). IsPortCall old x new) (sym c.call_of-call.ensures) one in
+    let made : IsPortCall old c.call_of-call.result new = subst (λ (x : PortCall). IsPortCall old x new) (sym {b = plain} c.call_of-call.ensures) one in
     record {
       handle = c.ask-answer.ensures.handle;
       made = subst (λ (l : List PortCall). AreCalls start l new) (sym c.and.ensures) (calls_more start old new calls c.call_of-call.result c.self.invariant.made made);
