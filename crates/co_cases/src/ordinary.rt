@@ -55,17 +55,23 @@ fn cpu(alloc: Global, script: &mut String, number: u32) -> Result<(), AllocError
     Ok(())
 }
 
+// The whole script, behind what stands there.
+fn write_ordinary(alloc: Global, script: &mut String) -> Result<(), AllocError> {
+    script.push_str("callout 1\ncpus 4\nfuncs 4\n")?;
+    declare(alloc, script)?;
+    script.push_str("func 0\nschedule me +0.4\n")?;
+    for number in 0..CLIENTS {
+        client(alloc, script, number)?;
+    }
+    for number in 0..CPUS {
+        cpu(alloc, script, number)?;
+    }
+    Ok(())
+}
+
 /// The script of 200 connections on 4 CPUs, which 8 clients set up.
 pub fn ordinary_script(alloc: Global) -> Result<String, AllocError> {
     let mut script = String::new(alloc);
-    script.push_str("callout 1\ncpus 4\nfuncs 4\n")?;
-    declare(alloc, &mut script)?;
-    script.push_str("func 0\nschedule me +0.4\n")?;
-    for number in 0..CLIENTS {
-        client(alloc, &mut script, number)?;
-    }
-    for number in 0..CPUS {
-        cpu(alloc, &mut script, number)?;
-    }
+    write_ordinary(alloc, &mut script)?;
     Ok(script)
 }

@@ -1,5 +1,5 @@
 //! Calls of the program in memory.
-use co_hand::{Gate, OpenGate};
+use crate::turns::{TurnGate, Turns};
 use co_io::{MemSink, MemSource};
 use co_sbt::{NoMemory, Seq};
 use co_top::{Finish, Status, callout_main};
@@ -33,19 +33,20 @@ pub(crate) fn words_of(alloc: Global, words: &[&str]) -> Result<Vec<String>, All
     Ok(copies)
 }
 
-/// A call with these words, through a gate.
-pub fn call_through<R: AllocGlobal + Threads + Wait + Sync, G: Gate + Sync>(
+/// A call with these words, in these turns or in none.
+pub fn call_in_turns<R: AllocGlobal + Threads + Wait + Sync>(
     rt: &R,
     words: &[&str],
     mut source: MemSource,
     mut sink: MemSink,
-    gate: &G,
+    turns: Option<&Turns>,
 ) -> Result<Outcome, NoMemory> {
     let alloc = rt.alloc();
     let Ok(words) = words_of(alloc, words) else {
         return Err(NoMemory {});
     };
-    let finish = callout_main(rt, alloc, words.as_slice(), &mut source, &mut sink, gate);
+    let gate = TurnGate(turns);
+    let finish = callout_main(rt, alloc, words.as_slice(), &mut source, &mut sink, &gate);
     outcome_of(alloc, finish, sink.bytes())
 }
 
@@ -56,7 +57,7 @@ pub fn call<R: AllocGlobal + Threads + Wait + Sync>(
     source: MemSource,
     sink: MemSink,
 ) -> Result<Outcome, NoMemory> {
-    call_through(rt, words, source, sink, &OpenGate {})
+    call_in_turns(rt, words, source, sink, None)
 }
 
 // The most bytes of a report in the tables.

@@ -1,6 +1,5 @@
 //! The reports of scripts by `steps`, and on threads by `run`, which are legal.
-use crate::tests::turns::Turns;
-use crate::{Outcome, call, call_through, make, ordinary_script, read};
+use crate::{Outcome, Turns, call, call_in_turns, make, ordinary_script, read};
 use co_io::{MemSink, MemSource};
 use co_sbt::NoMemory;
 use co_top::Status;
@@ -28,7 +27,7 @@ fn legal_len<R: AllocGlobal + Threads + Wait + Sync>(
     let mut len = None;
     for word in ["run", "steps"] {
         let source = MemSource::new(rt.alloc(), script, 4096, &[])?;
-        let sink = MemSink::new(rt.alloc(), 2_000_000, 2_000_000, &[])?;
+        let sink = MemSink::new(rt.alloc(), 4_000_000, 4_000_000, &[])?;
         let outcome = call(rt, [word].as_slice(), source, sink)?;
         if !is_legal(rt, &outcome, word == "run")? {
             return Ok(None);
@@ -78,7 +77,7 @@ fn threads(rt: HostRuntime) -> Result<(), Fail> {
     let turns = Turns::new();
     let source = MemSource::new(rt.alloc(), THREADS.as_bytes(), 4096, &[])?;
     let sink = MemSink::new(rt.alloc(), 4096, 4096, &[])?;
-    let outcome = call_through(&rt, ["run"].as_slice(), source, sink, &turns)?;
+    let outcome = call_in_turns(&rt, ["run"].as_slice(), source, sink, Some(&turns))?;
     assert!(rt; turns.are_over() && is_legal(&rt, &outcome, true)?);
     Ok(())
 }
