@@ -14,11 +14,11 @@ ghost use Rattle.service_cases.specs.Scenes.{IsScene};
 
 use super::acts::keep_begun;
 use super::cast::leave_three;
-use super::notes::{Row, Told};
+use super::notes::{Lane, Row, Told};
 use super::playing::is_played;
 use super::stage::{boot, keep, keep_all, seconds};
 use crate::Scene;
-use co_object::{CallOp, Note, Place, PlainOp, QOp, QReply, Reply};
+use co_object::{CallOp, Note, Place, PlainOp};
 use co_sbt::{Sbt, Seq};
 use co_service::{Finished, Name, Passes, Popped, Service};
 use std::process::Abort;
@@ -107,8 +107,8 @@ fn turn<N: Name, R: Wait + Abort>(
 pub(super) fn play<N: Name, R: Wait + Abort>(
     rt: &R,
     service: &mut Service<N>,
-    passes: Seq<Passes>,
     log: &mut Vec<Note>,
+    passes: Seq<Passes>,
 )
     requires scene { IsScene 1 2 1 3 service.old }
     requires passes { AreBooted N.name service.old passes }
@@ -120,36 +120,18 @@ pub(super) fn play<N: Name, R: Wait + Abort>(
     ask(rt, service, log, &mut client, 2, PlainOp::Stop);
 }
 
-/// A stop that takes an arming away from CPU 1.
-const STOPPED: Reply = Reply::Stopped {
-    code: 1,
-    off: Some(1),
-};
-
-const NOTES: [Row; 11] = [
+static NOTES: [Row; 11] = [
     (Place::Timer(0), 0, 0, 0, Told::Armed(1, 7, Some(1), 0, 1)),
     (Place::Cpu(1), 0, 0, 0, Told::Inserted(0, 0, 1)),
     (Place::Cpu(1), 1, 2, 0, Told::Scanned(1, 1)),
-    (Place::Cpu(1), 2, 2, 0, Told::Popped(QOp::Pop, 0, 0, 1)),
+    (Place::Cpu(1), 2, 2, 0, Told::Popped(Lane::Own, 0, 0, 1)),
     (Place::Timer(0), 1, 2, 0, Told::Picked(0, 1, 1, Some(7))),
     (Place::Timer(0), 2, 2, 0, Told::Ended(0, 1, None)),
-    (Place::Cpu(1), 3, 2, 0, Told::Turn(QOp::Free, QReply::Freed)),
+    (Place::Cpu(1), 3, 2, 0, Told::Freed(Lane::Own)),
     (Place::Timer(0), 3, 0, 1, Told::Armed(2, 8, None, 1, 1)),
     (Place::Cpu(1), 5, 0, 1, Told::Inserted(0, 1, 2)),
-    (
-        Place::Cpu(1),
-        6,
-        0,
-        2,
-        Told::Turn(QOp::Remove { i: 0 }, QReply::Off),
-    ),
-    (
-        Place::Timer(0),
-        4,
-        0,
-        2,
-        Told::Called(PlainOp::Stop, STOPPED),
-    ),
+    (Place::Cpu(1), 6, 0, 2, Told::Removed(0)),
+    (Place::Timer(0), 4, 0, 2, Told::Stopped(1, Some(1))),
 ];
 
 #[test]

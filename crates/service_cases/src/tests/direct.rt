@@ -6,11 +6,11 @@ ghost use Rattle.co_service.specs.Booted.{AreBooted};
 ghost use Rattle.service_cases.specs.Scenes.{IsScene};
 
 use super::acts::{keep_begun, keep_nothing, tick};
-use super::notes::{Row, Told};
+use super::notes::{Lane, Row, Told};
 use super::playing::is_played;
 use super::stage::{arm, boot, keep_all, seconds};
 use crate::Scene;
-use co_object::{Note, Place, QOp, QReply};
+use co_object::{Note, Place};
 use co_sbt::Seq;
 use co_service::{Name, Passes, Service};
 use std::process::Abort;
@@ -40,8 +40,8 @@ fn serve<N: Name, R: Wait + Abort>(
 pub(super) fn play<N: Name, R: Wait + Abort>(
     rt: &R,
     service: &Service<N>,
-    passes: Seq<Passes>,
     log: &mut Vec<Note>,
+    passes: Seq<Passes>,
 )
     requires scene { IsScene 2 1 1 3 service.now }
     requires passes { AreBooted N.name service.now passes }
@@ -55,33 +55,15 @@ pub(super) fn play<N: Name, R: Wait + Abort>(
     serve(rt, service, log, &mut interrupt, 0);
 }
 
-const NOTES: [Row; 8] = [
+static NOTES: [Row; 8] = [
     (Place::Timer(0), 0, 0, 0, Told::Armed(1, 0, None, 0, 0)),
     (Place::Cpu(0), 0, 0, 0, Told::Inserted(0, 0, 1)),
     (Place::Cpu(0), 1, 2, 0, Told::Scanned(1, 1)),
-    (
-        Place::Cpu(0),
-        2,
-        2,
-        0,
-        Told::Popped(QOp::PopDirect, 0, 0, 1),
-    ),
+    (Place::Cpu(0), 2, 2, 0, Told::Popped(Lane::Direct, 0, 0, 1)),
     (Place::Timer(0), 1, 2, 0, Told::Picked(0, 0, 1, Some(0))),
     (Place::Timer(0), 2, 2, 0, Told::Ended(0, 0, None)),
-    (
-        Place::Cpu(0),
-        3,
-        2,
-        0,
-        Told::Turn(QOp::FreeDirect, QReply::Freed),
-    ),
-    (
-        Place::Cpu(0),
-        4,
-        2,
-        0,
-        Told::Turn(QOp::PopDirect, QReply::Empty),
-    ),
+    (Place::Cpu(0), 3, 2, 0, Told::Freed(Lane::Direct)),
+    (Place::Cpu(0), 4, 2, 0, Told::Empty(Lane::Direct)),
 ];
 
 #[test]

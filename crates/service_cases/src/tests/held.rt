@@ -16,12 +16,12 @@ ghost use Rattle.co_service.specs.Views.{AreOf, PassesView};
 
 use super::acts::{finish, rest, tick};
 use super::cast::leave_two;
-use super::notes::{Row, Told};
+use super::notes::{Lane, Row, Told};
 use super::playing::is_played;
 use super::stage::{keep, keep_all, seconds};
 use crate::Scene;
 use co_lock::{ClientLocks, Hold, LockKind};
-use co_object::{CallOp, LockUse, Note, Place, PlainOp, QOp, QReply, Reply, Spec};
+use co_object::{CallOp, LockUse, Note, Place, PlainOp, Reply, Spec};
 use co_sbt::{NoMemory, Sbt, Seq};
 use co_service::{Fresh, Name, Passes, Service, Taken};
 use std::alloc::Global;
@@ -195,8 +195,8 @@ pub(super) fn play<N: Name, R: Wait + Abort + Sync>(
     rt: &R,
     alloc: Global,
     service: &Service<N>,
-    passes: Seq<Passes>,
     log: &mut Vec<Note>,
+    passes: Seq<Passes>,
 )
     requires scene { IsLocked service.now }
     requires passes { AreBooted N.name service.now passes }
@@ -209,26 +209,18 @@ pub(super) fn play<N: Name, R: Wait + Abort + Sync>(
     end_what_waits(rt, service, log, &mut cpu, n, &locks);
 }
 
-const NOTES: [Row; 10] = [
+static NOTES: [Row; 10] = [
     (Place::Timer(0), 0, 0, 1, Told::Armed(1, 0, None, 0, 0)),
     (Place::Cpu(0), 0, 0, 1, Told::Inserted(0, 0, 1)),
     (Place::Cpu(0), 1, 1, 0, Told::Scanned(1, 1)),
-    (Place::Cpu(0), 2, 1, 0, Told::Popped(QOp::Pop, 0, 0, 1)),
+    (Place::Cpu(0), 2, 1, 0, Told::Popped(Lane::Own, 0, 0, 1)),
     (Place::Timer(0), 1, 1, 0, Told::Picked(0, 0, 1, None)),
-    (
-        Place::Timer(0),
-        2,
-        0,
-        2,
-        Told::Called(PlainOp::Stop, CANCELLED),
-    ),
+    (Place::Timer(0), 2, 0, 2, Told::Stopped(1, None)),
     (Place::Timer(0), 3, 1, 0, Told::Skipped(0, 0)),
     (Place::Timer(0), 4, 1, 0, Told::Ended(0, 0, None)),
-    (Place::Cpu(0), 3, 1, 0, Told::Turn(QOp::Free, QReply::Freed)),
-    (Place::Cpu(0), 4, 1, 0, Told::Turn(QOp::Pop, QReply::Empty)),
+    (Place::Cpu(0), 3, 1, 0, Told::Freed(Lane::Own)),
+    (Place::Cpu(0), 4, 1, 0, Told::Empty(Lane::Own)),
 ];
-
-const CANCELLED: Reply = Reply::Stopped { code: 1, off: None };
 
 #[test]
 fn cancelled_while_it_waits(rt: HostRuntime) {

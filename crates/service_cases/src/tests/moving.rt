@@ -11,11 +11,11 @@ ghost use Rattle.service_cases.specs.Scenes.{IsScene};
 
 use super::acts::{finish, rest, start, tick};
 use super::cast::leave_three;
-use super::notes::{Row, Told};
+use super::notes::{Lane, Row, Told};
 use super::playing::is_played;
 use super::stage::{arm, boot, seconds};
 use crate::Scene;
-use co_object::{Note, Place, QOp, QReply};
+use co_object::{Note, Place};
 use co_sbt::Seq;
 use co_service::{Name, Passes, Service};
 use std::process::Abort;
@@ -61,8 +61,8 @@ fn end_turn<N: Name, R: Wait + Abort>(
 pub(super) fn play<N: Name, R: Wait + Abort>(
     rt: &R,
     service: &Service<N>,
-    passes: Seq<Passes>,
     log: &mut Vec<Note>,
+    passes: Seq<Passes>,
 )
     requires scene { IsScene 1 2 1 3 service.now }
     requires passes { AreBooted N.name service.now passes }
@@ -76,23 +76,23 @@ pub(super) fn play<N: Name, R: Wait + Abort>(
     end_turn(rt, service, log, &mut second, 1);
 }
 
-const NOTES: [Row; 16] = [
+static NOTES: [Row; 16] = [
     (Place::Timer(0), 0, 0, 0, Told::Armed(1, 0, None, 0, 0)),
     (Place::Cpu(0), 0, 0, 0, Told::Inserted(0, 0, 1)),
     (Place::Cpu(0), 1, 1, 0, Told::Scanned(1, 1)),
-    (Place::Cpu(0), 2, 1, 0, Told::Popped(QOp::Pop, 0, 0, 1)),
+    (Place::Cpu(0), 2, 1, 0, Told::Popped(Lane::Own, 0, 0, 1)),
     (Place::Timer(0), 1, 1, 0, Told::Picked(0, 0, 1, Some(0))),
     (Place::Timer(0), 2, 0, 1, Told::Armed(2, 1, Some(1), 1, 1)),
     (Place::Timer(0), 3, 1, 0, Told::Ended(0, 0, Some((1, 1, 2)))),
-    (Place::Cpu(0), 3, 1, 0, Told::Turn(QOp::Free, QReply::Freed)),
+    (Place::Cpu(0), 3, 1, 0, Told::Freed(Lane::Own)),
     (Place::Cpu(1), 0, 1, 0, Told::Inserted(0, 1, 2)),
-    (Place::Cpu(0), 4, 1, 0, Told::Turn(QOp::Pop, QReply::Empty)),
+    (Place::Cpu(0), 4, 1, 0, Told::Empty(Lane::Own)),
     (Place::Cpu(1), 1, 2, 0, Told::Scanned(2, 1)),
-    (Place::Cpu(1), 2, 2, 0, Told::Popped(QOp::Pop, 0, 1, 2)),
+    (Place::Cpu(1), 2, 2, 0, Told::Popped(Lane::Own, 0, 1, 2)),
     (Place::Timer(0), 4, 2, 0, Told::Picked(1, 1, 2, Some(1))),
     (Place::Timer(0), 5, 2, 0, Told::Ended(1, 1, None)),
-    (Place::Cpu(1), 3, 2, 0, Told::Turn(QOp::Free, QReply::Freed)),
-    (Place::Cpu(1), 4, 2, 0, Told::Turn(QOp::Pop, QReply::Empty)),
+    (Place::Cpu(1), 3, 2, 0, Told::Freed(Lane::Own)),
+    (Place::Cpu(1), 4, 2, 0, Told::Empty(Lane::Own)),
 ];
 
 #[test]

@@ -20,18 +20,18 @@ fn play<N: Name, R: Wait + Abort + Sync>(
     alloc: Global,
     scene: Scene,
     service: &mut Service<N>,
-    passes: Seq<Passes>,
     log: &mut Vec<Note>,
+    passes: Seq<Passes>,
 )
     requires scene { PlaysOn scene service.old }
     requires passes { AreBooted N.name service.old passes }
 {
     match scene {
-        Scene::Alone => alone::play(rt, service, passes, log),
-        Scene::Direct => direct::play(rt, service, passes, log),
-        Scene::Moved => moving::play(rt, service, passes, log),
-        Scene::Waiting => held::play(rt, alloc, service, passes, log),
-        Scene::InWords => words::play(rt, service, passes, log),
+        Scene::Alone => alone::play(rt, service, log, passes),
+        Scene::Direct => direct::play(rt, service, log, passes),
+        Scene::Moved => moving::play(rt, service, log, passes),
+        Scene::Waiting => held::play(rt, alloc, service, log, passes),
+        Scene::InWords => words::play(rt, service, log, passes),
     }
 }
 
@@ -51,7 +51,7 @@ fn notes_of<N: Name, R: Wait + Abort + Sync>(
         panic!(rt; "no memory");
     };
     let mut log = Vec::new(alloc);
-    play(rt, alloc, scene, &mut service, passes, &mut log);
+    play(rt, alloc, scene, &mut service, &mut log, passes);
     log
 }
 

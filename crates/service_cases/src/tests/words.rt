@@ -11,11 +11,11 @@ ghost use Rattle.service_cases.specs.Scenes.{IsScene};
 
 use super::acts::{keep_begun, tick};
 use super::cast::leave_two;
-use super::notes::{Row, Told};
+use super::notes::{Lane, Row, Told};
 use super::playing::is_played;
 use super::stage::{boot, keep_all, seconds};
 use crate::Scene;
-use co_object::{CallOp, Note, Place, PlainOp, QOp, QReply, Reply};
+use co_object::{CallOp, Note, Place, PlainOp, Reply};
 use co_sbt::{Sbt, Seq};
 use co_service::{Finished, Name, Passes, Popped, Service};
 use std::process::Abort;
@@ -106,8 +106,8 @@ fn serve<N: Name, R: Wait + Abort>(
 pub(super) fn play<N: Name, R: Wait + Abort>(
     rt: &R,
     service: &Service<N>,
-    passes: Seq<Passes>,
     log: &mut Vec<Note>,
+    passes: Seq<Passes>,
 )
     requires scene { IsScene 1 1 1 2 service.now }
     requires passes { AreBooted N.name service.now passes }
@@ -120,30 +120,18 @@ pub(super) fn play<N: Name, R: Wait + Abort>(
     ask(rt, service, log, &mut client, 2, PlainOp::Stop, STOPPED);
 }
 
-const NOTES: [Row; 11] = [
+static NOTES: [Row; 11] = [
     (Place::Timer(0), 0, 0, 0, Told::Armed(1, 0, None, 0, 0)),
     (Place::Cpu(0), 0, 0, 0, Told::Inserted(0, 0, 1)),
     (Place::Cpu(0), 1, 1, 0, Told::Scanned(1, 1)),
-    (Place::Cpu(0), 2, 1, 0, Told::Popped(QOp::Pop, 0, 0, 1)),
+    (Place::Cpu(0), 2, 1, 0, Told::Popped(Lane::Own, 0, 0, 1)),
     (Place::Timer(0), 1, 1, 0, Told::Picked(0, 0, 1, Some(0))),
     (Place::Timer(0), 2, 1, 0, Told::Ended(0, 0, None)),
-    (Place::Cpu(0), 3, 1, 0, Told::Turn(QOp::Free, QReply::Freed)),
+    (Place::Cpu(0), 3, 1, 0, Told::Freed(Lane::Own)),
     (Place::Timer(0), 3, 0, 1, Told::Armed(2, 0, None, 1, 0)),
     (Place::Cpu(0), 5, 0, 1, Told::Inserted(0, 1, 2)),
-    (
-        Place::Cpu(0),
-        6,
-        0,
-        2,
-        Told::Turn(QOp::Remove { i: 0 }, QReply::Off),
-    ),
-    (
-        Place::Timer(0),
-        4,
-        0,
-        2,
-        Told::Called(PlainOp::Stop, STOPPED),
-    ),
+    (Place::Cpu(0), 6, 0, 2, Told::Removed(0)),
+    (Place::Timer(0), 4, 0, 2, Told::Stopped(1, Some(0))),
 ];
 
 #[test]
