@@ -17,7 +17,7 @@ mod turns;
 #[cfg(test)]
 pub use ordinary::ordinary_script;
 #[cfg(test)]
-pub use outcome::{Outcome, call, call_in_turns, make, read};
+pub use outcome::{Outcome, call, make, read, read_in_turns};
 #[cfg(test)]
 pub use quiet_ends::quiet;
 #[cfg(test)]

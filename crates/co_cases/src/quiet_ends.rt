@@ -37,9 +37,7 @@ pub fn quiet<R: AllocGlobal + Threads + Wait + Sync>(
     room: usize,
 ) -> Result<Outcome, NoMemory> {
     let alloc = rt.alloc();
-    let Ok(words) = words_of(alloc, words) else {
-        return Err(NoMemory {});
-    };
+    let words = words_of(alloc, words)?;
     let mut source = QuietSource::new(alloc, input)?;
     let mut sink = QuietSink::new(alloc, room)?;
     let finish = quiet_call(rt, alloc, words.as_slice(), &mut source, &mut sink);
