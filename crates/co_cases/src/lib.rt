@@ -11,10 +11,14 @@ mod outcome;
 mod quiet_ends;
 #[cfg(test)]
 mod tests;
+#[cfg(test)]
+mod turns;
 
 #[cfg(test)]
 pub use ordinary::ordinary_script;
 #[cfg(test)]
-pub use outcome::{Outcome, call, call_through, make, read};
+pub use outcome::{Outcome, call, make, read, read_in_turns};
 #[cfg(test)]
 pub use quiet_ends::quiet;
+#[cfg(test)]
+pub use turns::{TurnGate, Turns};

@@ -1,5 +1,7 @@
 //! Calls of the program in memory.
-use co_hand::{Gate, OpenGate};
+ghost use Rattle.std.specs.Prelude.{◌≤◌};
+
+use crate::turns::{TurnGate, Turns};
 use co_io::{MemSink, MemSource};
 use co_sbt::{NoMemory, Seq};
 use co_top::{Finish, Status, callout_main};
@@ -15,6 +17,13 @@ pub struct Outcome {
     pub held: Seq<u8>,
 }
 
+impl Outcome {
+    /// Whether a call ended so, and the sink holds this text.
+    pub fn says(&self, status: Status, text: &[u8]) -> bool {
+        self.status == status && self.held.as_slice() == text
+    }
+}
+
 /// The end of a call, after which the sink holds these bytes.
 pub(crate) fn outcome_of(alloc: Global, finish: Finish, held: &[u8]) -> Result<Outcome, NoMemory> {
     Ok(Outcome {
@@ -24,28 +33,35 @@ pub(crate) fn outcome_of(alloc: Global, finish: Finish, held: &[u8]) -> Result<O
     })
 }
 
-/// Words as a program gets them.
-pub(crate) fn words_of(alloc: Global, words: &[&str]) -> Result<Vec<String>, AllocError> {
-    let mut copies = Vec::new(alloc);
+// Copies of these words are put behind the others.
+fn copy_words(alloc: Global, words: &[&str], copies: &mut Vec<String>) -> Result<(), AllocError> {
     for word in words {
         copies.push(String::from_str(alloc, word)?)?;
     }
-    Ok(copies)
+    Ok(())
 }
 
-/// A call with these words, through a gate.
-pub fn call_through<R: AllocGlobal + Threads + Wait + Sync, G: Gate + Sync>(
+/// Words as a program gets them.
+pub(crate) fn words_of(alloc: Global, words: &[&str]) -> Result<Vec<String>, NoMemory> {
+    let mut copies = Vec::new(alloc);
+    match copy_words(alloc, words, &mut copies) {
+        Ok(()) => Ok(copies),
+        Err(_) => Err(NoMemory {}),
+    }
+}
+
+/// A call with these words, in these turns or in none.
+pub fn call_in_turns<R: AllocGlobal + Threads + Wait + Sync>(
     rt: &R,
     words: &[&str],
-    mut source: MemSource,
-    mut sink: MemSink,
-    gate: &G,
+    source: &mut MemSource,
+    sink: &mut MemSink,
+    turns: Option<&Turns>,
 ) -> Result<Outcome, NoMemory> {
     let alloc = rt.alloc();
-    let Ok(words) = words_of(alloc, words) else {
-        return Err(NoMemory {});
-    };
-    let finish = callout_main(rt, alloc, words.as_slice(), &mut source, &mut sink, gate);
+    let words = words_of(alloc, words)?;
+    let gate = TurnGate(turns);
+    let finish = callout_main(rt, alloc, words.as_slice(), source, sink, &gate);
     outcome_of(alloc, finish, sink.bytes())
 }
 
@@ -53,24 +69,37 @@ pub fn call_through<R: AllocGlobal + Threads + Wait + Sync, G: Gate + Sync>(
 pub fn call<R: AllocGlobal + Threads + Wait + Sync>(
     rt: &R,
     words: &[&str],
-    source: MemSource,
-    sink: MemSink,
+    source: &mut MemSource,
+    sink: &mut MemSink,
 ) -> Result<Outcome, NoMemory> {
-    call_through(rt, words, source, sink, &OpenGate {})
+    call_in_turns(rt, words, source, sink, None)
 }
 
 // The most bytes of a report in the tables.
 const ROOM: usize = 4096;
 
-/// A call of a command that reads, without a fault.
+/// A call of a command that reads, without a fault, into so many bytes.
+pub fn read_in_turns<R: AllocGlobal + Threads + Wait + Sync>(
+    rt: &R,
+    word: &str,
+    input: &[u8],
+    room: usize,
+    turns: Option<&Turns>,
+) -> Result<Outcome, NoMemory>
+    requires { 1 ≤ room }
+{
+    let mut source = MemSource::new(rt.alloc(), input, ROOM, &[])?;
+    let mut sink = MemSink::new(rt.alloc(), room, room, &[])?;
+    call_in_turns(rt, [word].as_slice(), &mut source, &mut sink, turns)
+}
+
+/// The same with the gate open, into the bytes of a report in the tables.
 pub fn read<R: AllocGlobal + Threads + Wait + Sync>(
     rt: &R,
     word: &str,
     input: &[u8],
 ) -> Result<Outcome, NoMemory> {
-    let source = MemSource::new(rt.alloc(), input, ROOM, &[])?;
-    let sink = MemSink::new(rt.alloc(), ROOM, ROOM, &[])?;
-    call(rt, [word].as_slice(), source, sink)
+    read_in_turns(rt, word, input, ROOM, None)
 }
 
 /// A call of a command that reads nothing, over a source that fails where it is read, into so many bytes.
@@ -79,7 +108,7 @@ pub fn make<R: AllocGlobal + Threads + Wait + Sync>(
     words: &[&str],
     room: usize,
 ) -> Result<Outcome, NoMemory> {
-    let source = MemSource::new(rt.alloc(), b"unread".as_slice(), 1, &[0])?;
-    let sink = MemSink::new(rt.alloc(), room, ROOM, &[])?;
-    call(rt, words, source, sink)
+    let mut source = MemSource::new(rt.alloc(), b"unread".as_slice(), 1, &[0])?;
+    let mut sink = MemSink::new(rt.alloc(), room, ROOM, &[])?;
+    call(rt, words, &mut source, &mut sink)
 }

@@ -4,7 +4,7 @@ ghost use Rattle.co_front.specs.Outside.{outside};
 ghost use Rattle.co_cases.specs.WithinRoom.{IsAnsweredWithin, IsUsageWithin};
 
 use crate::outcome::{Outcome, outcome_of, words_of};
-use co_hand::OpenGate;
+use crate::turns::TurnGate;
 use co_io::{QuietSink, QuietSource};
 use co_sbt::NoMemory;
 use co_top::{Finish, callout_main};
@@ -26,7 +26,7 @@ fn quiet_call<R: Threads + Wait + Sync>(
         IsAnsweredWithin sink.old.room (map string_bytes words.now) before after result.status }
     ensures usage { IsUsageWithin sink.old.room (map string_bytes words.now) result.status }
 {
-    callout_main(rt, alloc, words, source, sink, &OpenGate {})
+    callout_main(rt, alloc, words, source, sink, &TurnGate(None))
 }
 
 /// A call with these words over these bytes, into so many bytes.
@@ -37,9 +37,7 @@ pub fn quiet<R: AllocGlobal + Threads + Wait + Sync>(
     room: usize,
 ) -> Result<Outcome, NoMemory> {
     let alloc = rt.alloc();
-    let Ok(words) = words_of(alloc, words) else {
-        return Err(NoMemory {});
-    };
+    let words = words_of(alloc, words)?;
     let mut source = QuietSource::new(alloc, input)?;
     let mut sink = QuietSink::new(alloc, room)?;
     let finish = quiet_call(rt, alloc, words.as_slice(), &mut source, &mut sink);

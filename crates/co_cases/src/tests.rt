@@ -2,4 +2,3 @@ mod faults;
 mod quiet;
 mod refusals;
 mod reports;
-mod turns;

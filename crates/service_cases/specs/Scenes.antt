@@ -4,6 +4,8 @@ use Rattle.co_object.specs.declared.spec.Spec.{Spec}
 use Rattle.co_object.specs.declared.spec.LockUse.TheVariants.{Free, Mtx}
 use Rattle.co_service.specs.declared.params.Params.{Params}
 use Rattle.co_service.specs.Params.{IsSpec, actor_count, spec_at}
+use Rattle.service_cases.specs.declared.scene.Scene.{Scene}
+use Rattle.service_cases.specs.declared.scene.Scene.TheVariants.{Alone, Direct, Moved, Waiting, InWords}
 
 -- a callout without a lock
 pub record IsFreeSpec (version : ℕ) (spec : Spec) : Type 0 where
@@ -26,3 +28,11 @@ pub record IsLocked (p : Params) : Type 0 where
   pub size : length p.specs ≡ 1
   pub lock : (spec_at p 0).lock ≡ Mtx 0
   pub actors_are : actor_count p ≡ 2
+
+-- a scene is played on a service of these parameters
+abbrev pub PlaysOn : Scene → Params → Type 0
+PlaysOn Alone p = IsScene 1 2 1 3 p
+PlaysOn Direct p = IsScene 2 1 1 3 p
+PlaysOn Moved p = IsScene 1 2 1 3 p
+PlaysOn Waiting p = IsLocked p
+PlaysOn InWords p = IsScene 1 1 1 2 p

@@ -7,5 +7,6 @@ mod held;
 mod looks;
 mod moving;
 mod notes;
+mod playing;
 mod stage;
 mod words;

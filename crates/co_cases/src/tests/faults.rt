@@ -17,11 +17,13 @@ fn ends<R: AllocGlobal + Threads + Wait + Sync>(
     status: Status,
     written: usize,
 ) -> Result<bool, NoMemory> {
-    let source = MemSource::new(rt.alloc(), ONE_FIRING.as_bytes(), 1, read_fails)?;
-    let sink = MemSink::new(rt.alloc(), room, 1, write_fails)?;
-    let outcome = call(rt, ["steps"].as_slice(), source, sink)?;
-    let front = ONE_FIRING_REPORT.as_bytes().get(..written);
-    Ok(outcome.status == status && Some(outcome.held.as_slice()) == front)
+    let mut source = MemSource::new(rt.alloc(), ONE_FIRING.as_bytes(), 1, read_fails)?;
+    let mut sink = MemSink::new(rt.alloc(), room, 1, write_fails)?;
+    let outcome = call(rt, ["steps"].as_slice(), &mut source, &mut sink)?;
+    match ONE_FIRING_REPORT.as_bytes().get(..written) {
+        Some(front) => Ok(outcome.says(status, front)),
+        None => Ok(false),
+    }
 }
 
 /// The script's bytes are read one by one, and one more read finds its end.

@@ -28,7 +28,7 @@ end
 ";
 
 /// By command. Of `run` only the one client acts, so each run of the script has the same report.
-const ANSWERED: [Row; 17] = [
+static ANSWERED: [Row; 17] = [
     (&["steps"], ONE_FIRING, Status::Done, ONE_FIRING_REPORT),
     (
         &["steps"],
@@ -115,6 +115,19 @@ const ANSWERED: [Row; 17] = [
     ),
 ];
 
+/// Whether a call into so many bytes ends so and writes this text.
+fn writes<R: AllocGlobal + Threads + Wait + Sync>(
+    rt: &R,
+    words: &[&str],
+    input: &[u8],
+    room: usize,
+    status: Status,
+    text: &[u8],
+) -> Result<bool, NoMemory> {
+    let outcome = quiet(rt, words, input, room)?;
+    Ok(outcome.says(status, text))
+}
+
 /// Whether a call ends so and writes this text, and the same call with too little room writes all but the last byte.
 fn is_answered<R: AllocGlobal + Threads + Wait + Sync>(
     rt: &R,
@@ -123,18 +136,16 @@ fn is_answered<R: AllocGlobal + Threads + Wait + Sync>(
     status: Status,
     text: &[u8],
 ) -> Result<bool, NoMemory> {
-    let whole = quiet(rt, words, input, text.len())?;
     let room = text.len().saturating_sub(1);
-    let short = quiet(rt, words, input, room)?;
-    let answered = whole.status == status && whole.held.as_slice() == text;
-    let is_front = Some(short.held.as_slice()) == text.get(..room);
-    Ok(answered && short.status == Status::WriteFault && is_front)
+    let whole = writes(rt, words, input, text.len(), status, text)?;
+    let short = writes(rt, words, input, room, Status::WriteFault, &text[..room])?;
+    Ok(whole && short)
 }
 
 #[test]
 fn commands_are_answered(rt: HostRuntime) -> Result<(), Fail> {
-    for (words, input, status, text) in ANSWERED {
-        let answered = is_answered(&rt, words, input.as_bytes(), status, text.as_bytes())?;
+    for (words, input, status, text) in &ANSWERED {
+        let answered = is_answered(&rt, words, input.as_bytes(), *status, text.as_bytes())?;
         assert!(rt; answered, "{input}");
     }
     Ok(())

@@ -1,6 +1,5 @@
 //! What is refused, and how.
-use crate::{call, read};
-use co_io::{MemSink, MemSource};
+use crate::{make, read};
 use co_sbt::NoMemory;
 use co_top::Status;
 use std::alloc::{AllocError, Global};
@@ -9,7 +8,7 @@ use std::test::Fail;
 use std::thread::Threads;
 
 // Commands and scripts, with the line that is written of each.
-const REFUSED: [(&str, &str, &str); 7] = [
+static REFUSED: [(&str, &str, &str); 7] = [
     ("steps", "callout 1\ncpus 1\nwheel 24\n", "line 3: number\n"),
     (
         "steps",
@@ -56,13 +55,12 @@ fn is_refused<R: AllocGlobal + Threads + Wait + Sync>(
     line: &str,
 ) -> Result<bool, NoMemory> {
     let outcome = read(rt, word, script)?;
-    let refused = outcome.status == Status::BadScript && !outcome.closed;
-    Ok(refused && outcome.held.as_slice() == line.as_bytes())
+    Ok(outcome.says(Status::BadScript, line.as_bytes()) && !outcome.closed)
 }
 
 #[test]
 fn bad_scripts(rt: HostRuntime) -> Result<(), Fail> {
-    for (word, script, line) in REFUSED {
+    for (word, script, line) in &REFUSED {
         assert!(rt; is_refused(&rt, word, script.as_bytes(), line)?, "{line}");
     }
     Ok(())
@@ -75,27 +73,26 @@ fn too_long_an_input(rt: HostRuntime) -> Result<(), Fail> {
     Ok(())
 }
 
-// A script of a million lines, most of them comments, whose last line has no line feed.
-fn million_lines(alloc: Global) -> Result<Vec<u8>, AllocError> {
-    let mut script = Vec::new(alloc);
+// A million lines, most of them comments, of which the last has no line feed.
+fn write_million_lines(script: &mut Vec<u8>) -> Result<(), AllocError> {
     script.extend_from_slice(b"callout 1\ntimer 0 mpsafe\n")?;
     for _line in 2..999_999 {
         script.extend_from_slice(b"# x\n")?;
     }
-    script.extend_from_slice(b"client 0")?;
-    Ok(script)
+    script.extend_from_slice(b"client 0")
 }
 
 #[test]
 fn a_million_lines_cut_at_the_last(rt: HostRuntime) -> Result<(), Fail> {
-    let mut script = million_lines(rt.alloc())?;
+    let mut script = Vec::new(rt.alloc());
+    write_million_lines(&mut script)?;
     let is_cut = is_refused(&rt, "steps", script.as_slice(), "line 1000000: cut\n")?;
     script.push(b'\n')?;
     assert!(rt; is_cut && read(&rt, "steps", script.as_slice())?.status == Status::Done);
     Ok(())
 }
 
-const NO_COMMANDS: [&[&str]; 9] = [
+static NO_COMMANDS: [&[&str]; 9] = [
     &[],
     &["steps", "x"],
     &["check", "1"],
@@ -111,11 +108,8 @@ const NO_COMMANDS: [&[&str]; 9] = [
 fn words_that_are_no_command(rt: HostRuntime) -> Result<(), Fail> {
     let usage =
         b"usage: callout steps | run | check | gen N | soak N | kq | sleep | itimer | event\n".as_slice();
-    for words in NO_COMMANDS {
-        let source = MemSource::new(rt.alloc(), b"callout 1\n", 1, &[0])?;
-        let sink = MemSink::new(rt.alloc(), 100, 100, &[])?;
-        let outcome = call(&rt, words, source, sink)?;
-        assert!(rt; outcome.status == Status::Usage && outcome.held.as_slice() == usage);
+    for words in &NO_COMMANDS {
+        assert!(rt; make(&rt, words, 100)?.says(Status::Usage, usage));
     }
     Ok(())
 }

@@ -1,7 +1,5 @@
 //! The reports of scripts by `steps`, and on threads by `run`, which are legal.
-use crate::tests::turns::Turns;
-use crate::{Outcome, call, call_through, make, ordinary_script, read};
-use co_io::{MemSink, MemSource};
+use crate::{Outcome, Turns, make, ordinary_script, read, read_in_turns};
 use co_sbt::NoMemory;
 use co_top::Status;
 use std::sync::Wait;
@@ -15,9 +13,19 @@ fn is_legal<R: AllocGlobal + Threads + Wait + Sync>(
     closed: bool,
 ) -> Result<bool, NoMemory> {
     let verdict = read(rt, "check", outcome.held.as_slice())?;
-    let done = outcome.status == Status::Done && verdict.status == Status::Done;
-    let closings = outcome.closed == closed && !verdict.closed;
-    Ok(done && closings && verdict.held.as_slice() == b"legal\n".as_slice())
+    let done = outcome.status == Status::Done && outcome.closed == closed;
+    Ok(done && verdict.says(Status::Done, b"legal\n".as_slice()) && !verdict.closed)
+}
+
+/// How many bytes the report of a command has, where it is legal.
+fn legal_len_of<R: AllocGlobal + Threads + Wait + Sync>(
+    rt: &R,
+    word: &str,
+    script: &[u8],
+) -> Result<Option<usize>, NoMemory> {
+    let outcome = read_in_turns(rt, word, script, 4_000_000, None)?;
+    let legal = is_legal(rt, &outcome, word == "run")?;
+    Ok(legal.then_some(outcome.held.as_slice().len()))
 }
 
 /// How many bytes the report of `steps` has, where it and that of `run` are legal, whichever way the actors interleaved.
@@ -26,14 +34,11 @@ fn legal_len<R: AllocGlobal + Threads + Wait + Sync>(
     script: &[u8],
 ) -> Result<Option<usize>, NoMemory> {
     let mut len = None;
-    for word in ["run", "steps"] {
-        let source = MemSource::new(rt.alloc(), script, 4096, &[])?;
-        let sink = MemSink::new(rt.alloc(), 2_000_000, 2_000_000, &[])?;
-        let outcome = call(rt, [word].as_slice(), source, sink)?;
-        if !is_legal(rt, &outcome, word == "run")? {
+    for word in &["run", "steps"] {
+        len = legal_len_of(rt, word, script)?;
+        if len.is_none() {
             return Ok(None);
         }
-        len = Some(outcome.held.as_slice().len());
     }
     Ok(len)
 }
@@ -76,9 +81,7 @@ tick 1
 #[test]
 fn threads(rt: HostRuntime) -> Result<(), Fail> {
     let turns = Turns::new();
-    let source = MemSource::new(rt.alloc(), THREADS.as_bytes(), 4096, &[])?;
-    let sink = MemSink::new(rt.alloc(), 4096, 4096, &[])?;
-    let outcome = call_through(&rt, ["run"].as_slice(), source, sink, &turns)?;
+    let outcome = read_in_turns(&rt, "run", THREADS.as_bytes(), 4096, Some(&turns))?;
     assert!(rt; turns.are_over() && is_legal(&rt, &outcome, true)?);
     Ok(())
 }
@@ -88,9 +91,9 @@ fn threads(rt: HostRuntime) -> Result<(), Fail> {
 fn soak_counts(rt: HostRuntime) -> Result<(), Fail> {
     let line =
         b"soak 1 notes 33295 armed 4447 fired 1324 superseded 1761 stopped 1357 pending 5\n".as_slice();
-    for seed in ["1", "00001"] {
-        let outcome = make(&rt, ["soak", seed].as_slice(), 200)?;
-        assert!(rt; outcome.status == Status::Done && outcome.held.as_slice() == line);
+    for seed in &["1", "00001"] {
+        let outcome = make(&rt, ["soak", *seed].as_slice(), 200)?;
+        assert!(rt; outcome.says(Status::Done, line));
     }
     Ok(())
 }

@@ -1,5 +1,5 @@
 //! What a CPU and its interrupt do in a service that is played.
-ghost use Rattle.std.specs.Prelude.{◌≡◌, ◌<◌, ℕ, Bool, IfSome, false};
+ghost use Rattle.std.specs.Prelude.{◌≡◌, ◌<◌, ℕ, Bool, false};
 ghost use Rattle.co_object.specs.Journal.{scanner};
 ghost use Rattle.co_object.specs.Queue.{Due};
 ghost use Rattle.co_service.specs.Params.{actors_of};
@@ -34,27 +34,29 @@ pub(super) fn tick<N: Name, R: Wait + Abort>(
     keep(rt, log, scan.note);
 }
 
-/// The notes of a start whose function is to be called at once.
-pub(super) fn begun(taken: Taken) -> Option<(Note, Note)>
-    ensures { IfSome result (λ _. (direct : Bool) (q : PassesView) (cpu : ℕ) → HasNext direct q cpu taken → (d : Due) × IsServing direct q cpu d (Runs d.n)) }
+/// Keeps the notes of a start whose function is to be called at once.
+pub(super) fn keep_begun<R: Abort>(rt: &R, log: &mut Vec<Note>, taken: Taken)
+    ensures { (direct : Bool) (q : PassesView) (cpu : ℕ) → HasNext direct q cpu taken → (d : Due) × IsServing direct q cpu d (Runs d.n) }
 {
-    match taken {
-        Taken::Took {
-            reply: Reply::Go { .. },
-            pop,
-            pick,
-            ..
-        } => Some((pop, pick)),
-        _ => None,
-    }
+    let Taken::Took {
+        reply: Reply::Go { .. },
+        pop,
+        pick,
+        ..
+    } = taken
+    else {
+        panic!(rt; "no function is to be called");
+    };
+    keep(rt, log, pop);
+    keep(rt, log, pick);
 }
 
-/// The note where nothing had come due.
-pub(super) fn nothing(taken: Taken) -> Option<Note> {
-    match taken {
-        Taken::Empty { note } => Some(note),
-        Taken::Took { .. } => None,
-    }
+/// Keeps the note where nothing had come due.
+pub(super) fn keep_nothing<R: Abort>(rt: &R, log: &mut Vec<Note>, taken: Taken) {
+    let Taken::Empty { note } = taken else {
+        panic!(rt; "something had come due");
+    };
+    keep(rt, log, note);
 }
 
 /// A callout goes into the CPU's service, and its function is called.
@@ -73,11 +75,7 @@ pub(super) fn start<N: Name, R: Wait + Abort>(
     ensures serving { (d : Due) × IsServing false passes.new cpu d (Runs d.n) }
 {
     let taken = service.next(rt, passes, cpu, 0, 1);
-    let Some((pop, pick)) = begun(taken) else {
-        panic!(rt; "no function is to be called");
-    };
-    keep(rt, log, pop);
-    keep(rt, log, pick);
+    keep_begun(rt, log, taken);
 }
 
 /// The CPU finds nothing more to service.
@@ -94,10 +92,7 @@ pub(super) fn rest<N: Name, R: Wait + Abort>(
     ensures of { AreOf N.name service.now passes.new }
 {
     let taken = service.next(rt, passes, cpu, 0, 1);
-    let Some(note) = nothing(taken) else {
-        panic!(rt; "something had come due");
-    };
-    keep(rt, log, note);
+    keep_nothing(rt, log, taken);
 }
 
 /// The CPU's function returns.

@@ -1,30 +1,26 @@
 //! Calls of one who has the service to himself, which take no lock: a callout that lands at another CPU, its service there, and an
 //! arming that is taken away again.
 ghost use Rattle.std.specs.Prelude.{◌≡◌, ◌<◌, ℕ, false, length};
-ghost use Rattle.co_object.specs.Actors.{cpu_actor};
 ghost use Rattle.co_object.specs.Journal.{scanner};
-ghost use Rattle.co_object.specs.Queue.{Due};
 ghost use Rattle.co_object.specs.declared.op.CallOp.TheVariants.{Plain};
 ghost use Rattle.co_object.specs.declared.op.PlainOp.TheVariants.{Reset};
 ghost use Rattle.co_object.specs.declared.spec.LockUse.TheVariants.{Free};
-ghost use Rattle.co_service.specs.Booted.{AreBooted};
 ghost use Rattle.co_service.specs.Call.{NamesCpu};
-ghost use Rattle.co_service.specs.Kept.{KeepsFree};
 ghost use Rattle.co_service.specs.Params.{actors_of, spec_at};
-ghost use Rattle.co_service.specs.Services.{IsFree, IsServing};
-ghost use Rattle.co_service.specs.Serving.{Runs};
+ghost use Rattle.co_service.specs.Services.{IsFree};
 ghost use Rattle.co_service.specs.Views.{AreOf};
+ghost use Rattle.co_service.specs.Booted.{AreBooted};
 ghost use Rattle.service_cases.specs.Scenes.{IsScene};
 
-use super::acts::begun;
-use super::cast::{leave_three, let_go};
-use super::notes::{Row, Told, are};
+use super::acts::keep_begun;
+use super::cast::leave_three;
+use super::notes::{Lane, Row, Told};
+use super::playing::is_played;
 use super::stage::{boot, keep, keep_all, seconds};
-use co_object::{CallOp, Note, Place, PlainOp, QOp, QReply, Reply};
+use crate::Scene;
+use co_object::{CallOp, Note, Place, PlainOp};
 use co_sbt::{Sbt, Seq};
-use co_service::{Finished, Fresh, Name, Passes, Popped, Service};
-use std::alloc::Global;
-use std::marker::Brand;
+use co_service::{Finished, Name, Passes, Popped, Service};
 use std::process::Abort;
 use std::sync::Wait;
 
@@ -79,71 +75,8 @@ fn arm<N: Name, R: Wait + Abort>(
     ask(rt, service, log, passes, act, op);
 }
 
-/// What has come due at the CPU goes into its service, and its function is called.
-fn start<N: Name, R: Wait + Abort>(
-    rt: &R,
-    service: &mut Service<N>,
-    log: &mut Vec<Note>,
-    passes: &mut Passes,
-    cpu: u32,
-)
-    requires cpu { cpu < service.old.cpus }
-    requires passes { AreOf N.name service.old passes.old }
-    requires free { IsFree false passes.old cpu }
-    ensures params { service.new ≡ service.old }
-    ensures of { AreOf N.name service.old passes.new }
-    ensures serving { (d : Due) × IsServing false passes.new cpu d (Runs d.n) }
-{
-    let actor = passes.actor();
-    let popped = service.pop_alone(rt, passes, cpu, 0, 1, false);
-    let Some((pop, pick)) = begun(popped.answer(actor, 0, cpu, false)) else {
-        panic!(rt; "no function is to be called");
-    };
-    keep(rt, log, pop);
-    keep(rt, log, pick);
-}
-
-/// The CPU's function returns.
-fn finish<N: Name, R: Wait + Abort>(
-    rt: &R,
-    service: &mut Service<N>,
-    log: &mut Vec<Note>,
-    passes: &mut Passes,
-    cpu: u32,
-)
-    requires cpu { cpu < service.old.cpus }
-    requires passes { AreOf N.name service.old passes.old }
-    requires serving { (d : Due) × IsServing false passes.old cpu d (Runs d.n) }
-    ensures params { service.new ≡ service.old }
-    ensures of { AreOf N.name service.old passes.new }
-    ensures free { IsFree false passes.new cpu }
-{
-    let actor = passes.actor();
-    let mut told = Finished::none();
-    service.end_alone(rt, passes, cpu, 0, false, &mut told);
-    keep_all(rt, log, told.answer(actor, 0).notes);
-}
-
-/// The function of what has come due at the CPU is called and returns, and nothing more is there.
-fn serve<N: Name, R: Wait + Abort>(
-    rt: &R,
-    service: &mut Service<N>,
-    log: &mut Vec<Note>,
-    passes: &mut Passes,
-    cpu: u32,
-)
-    requires cpu { cpu < service.old.cpus }
-    requires passes { AreOf N.name service.old passes.old }
-    requires free { IsFree false passes.old cpu }
-    ensures params { service.new ≡ service.old }
-{
-    start(rt, service, log, passes, cpu);
-    finish(rt, service, log, passes, cpu);
-    let popped = service.pop_alone(rt, passes, cpu, 0, 1, false);
-    assert!(rt; matches!(popped, Popped::Empty { pop: 4 }));
-}
-
-/// The CPU's queue is scanned, and what has come due is serviced.
+/// The CPU's queue is scanned, and the one callout that has come due is serviced: its function is called and returns, and nothing
+/// more is there.
 fn turn<N: Name, R: Wait + Abort>(
     rt: &R,
     service: &mut Service<N>,
@@ -160,100 +93,49 @@ fn turn<N: Name, R: Wait + Abort>(
 {
     let scan = service.scan_alone(rt, passes, cpu, 0, now);
     keep(rt, log, scan.note);
-    serve(rt, service, log, passes, cpu);
+    let actor = passes.actor();
+    let popped = service.pop_alone(rt, passes, cpu, 0, 1, false);
+    keep_begun(rt, log, popped.answer(actor, 0, cpu, false));
+    let mut told = Finished::none();
+    service.end_alone(rt, passes, cpu, 0, false, &mut told);
+    keep_all(rt, log, told.answer(actor, 0).notes);
+    let popped = service.pop_alone(rt, passes, cpu, 0, 1, false);
+    assert!(rt; matches!(popped, Popped::Empty { pop: 4 }));
 }
 
-/// The acts of the client and of the second CPU.
-fn acts<N: Name, R: Wait + Abort>(
+/// The client arms the callout for the second CPU, which serves it, arms it once more, and takes the arming away.
+pub(super) fn play<N: Name, R: Wait + Abort>(
     rt: &R,
     service: &mut Service<N>,
     log: &mut Vec<Note>,
-    client: &mut Passes,
-    second: &mut Passes,
-)
-    requires scene { IsScene 1 2 1 3 service.old }
-    requires client { AreOf N.name service.old client.old }
-    requires kept { KeepsFree N.name service.old (cpu_actor (actors_of service.old) 1) false 1 second.old }
-    requires scans { second.old.actor ≡ scanner (actors_of service.old) 1 }
-{
-    arm(rt, service, log, client, 0, seconds(1), 7, Some(1));
-    turn(rt, service, log, second, 1, seconds(1));
-    arm(rt, service, log, client, 1, seconds(2), 8, None);
-    ask(rt, service, log, client, 2, PlainOp::Stop);
-}
-
-/// The notes of these acts.
-fn play_on<N: Name, R: Wait + Abort>(
-    rt: &R,
-    alloc: Global,
-    service: &mut Service<N>,
     passes: Seq<Passes>,
-) -> Vec<Note>
+)
     requires scene { IsScene 1 2 1 3 service.old }
     requires passes { AreBooted N.name service.old passes }
 {
     let (mut client, _first, mut second) = leave_three(service, passes);
-    let mut log = Vec::new(alloc);
-    acts(rt, service, &mut log, &mut client, &mut second);
-    log
+    arm(rt, service, log, &mut client, 0, seconds(1), 7, Some(1));
+    turn(rt, service, log, &mut second, 1, seconds(1));
+    arm(rt, service, log, &mut client, 1, seconds(2), 8, None);
+    ask(rt, service, log, &mut client, 2, PlainOp::Stop);
 }
 
-/// The same on a service that is opened for it.
-fn play<N: Name, R: Wait + Abort>(
-    rt: &R,
-    alloc: Global,
-    fresh: Fresh,
-    passes: Seq<Passes>,
-) -> Vec<Note>
-    requires name { fresh.name ≡ N.name }
-    requires scene { IsScene 1 2 1 3 fresh.params }
-    requires passes { AreBooted fresh.name fresh.params passes }
-{
-    let Ok(mut service) = Service::<N>::open(alloc, fresh) else {
-        panic!(rt; "no memory");
-    };
-    let log = play_on(rt, alloc, &mut service, passes);
-    let_go(service);
-    log
-}
-
-/// A stop that takes an arming away from CPU 1.
-const STOPPED: Reply = Reply::Stopped {
-    code: 1,
-    off: Some(1),
-};
-
-const NOTES: [Row; 11] = [
+static NOTES: [Row; 11] = [
     (Place::Timer(0), 0, 0, 0, Told::Armed(1, 7, Some(1), 0, 1)),
     (Place::Cpu(1), 0, 0, 0, Told::Inserted(0, 0, 1)),
     (Place::Cpu(1), 1, 2, 0, Told::Scanned(1, 1)),
-    (Place::Cpu(1), 2, 2, 0, Told::Popped(QOp::Pop, 0, 0, 1)),
+    (Place::Cpu(1), 2, 2, 0, Told::Popped(Lane::Own, 0, 0, 1)),
     (Place::Timer(0), 1, 2, 0, Told::Picked(0, 1, 1, Some(7))),
     (Place::Timer(0), 2, 2, 0, Told::Ended(0, 1, None)),
-    (Place::Cpu(1), 3, 2, 0, Told::Turn(QOp::Free, QReply::Freed)),
+    (Place::Cpu(1), 3, 2, 0, Told::Freed(Lane::Own)),
     (Place::Timer(0), 3, 0, 1, Told::Armed(2, 8, None, 1, 1)),
     (Place::Cpu(1), 5, 0, 1, Told::Inserted(0, 1, 2)),
-    (
-        Place::Cpu(1),
-        6,
-        0,
-        2,
-        Told::Turn(QOp::Remove { i: 0 }, QReply::Off),
-    ),
-    (
-        Place::Timer(0),
-        4,
-        0,
-        2,
-        Told::Called(PlainOp::Stop, STOPPED),
-    ),
+    (Place::Cpu(1), 6, 0, 2, Told::Removed(0)),
+    (Place::Timer(0), 4, 0, 2, Told::Stopped(1, Some(1))),
 ];
 
 #[test]
 fn calls_alone(rt: HostRuntime) {
-    let Ok((fresh, passes)) = boot(rt.alloc(), 1, 2, 1, false) else {
-        panic!(rt; "no memory");
-    };
-    let notes = play::<Brand, _>(&rt, rt.alloc(), fresh, passes);
-    assert!(rt; are(notes.as_slice(), &NOTES));
+    let booted = boot(rt.alloc(), 1, 2, 1, false);
+    assert!(rt; is_played(&rt, rt.alloc(), Scene::Alone, booted, &NOTES));
 }

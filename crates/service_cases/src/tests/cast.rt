@@ -50,9 +50,6 @@ pub(super) fn leave_three<N: Name>(
     (service.leave(&mut all, 0), first, second)
 }
 
-/// Lets a service go.
-pub(super) fn let_go<N: Name>(_service: Service<N>) {}
-
 /// The passes of two actors, who are all.
 fn all_back<N: Name, R: Abort>(
     rt: &R,

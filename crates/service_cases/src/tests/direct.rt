@@ -1,23 +1,18 @@
 //! A direct callout is serviced by its CPU's interrupt.
-ghost use Rattle.std.specs.Prelude.{◌≡◌, ◌<◌, true};
-ghost use Rattle.co_object.specs.Actors.{interrupt_actor};
-ghost use Rattle.co_object.specs.Journal.{scanner};
-ghost use Rattle.co_service.specs.Booted.{AreBooted};
-ghost use Rattle.co_service.specs.Kept.{KeepsFree};
-ghost use Rattle.co_service.specs.Params.{actors_of};
+ghost use Rattle.std.specs.Prelude.{◌<◌, true};
 ghost use Rattle.co_service.specs.Services.{IsFree};
 ghost use Rattle.co_service.specs.Views.{AreOf};
+ghost use Rattle.co_service.specs.Booted.{AreBooted};
 ghost use Rattle.service_cases.specs.Scenes.{IsScene};
 
-use super::acts::{begun, nothing, tick};
-use super::cast::let_go;
-use super::notes::{Row, Told, are};
-use super::stage::{arm, boot, keep, keep_all, seconds};
-use co_object::{Note, Place, QOp, QReply};
+use super::acts::{keep_begun, keep_nothing, tick};
+use super::notes::{Lane, Row, Told};
+use super::playing::is_played;
+use super::stage::{arm, boot, keep_all, seconds};
+use crate::Scene;
+use co_object::{Note, Place};
 use co_sbt::Seq;
-use co_service::{Fresh, Name, Passes, Service};
-use std::alloc::Global;
-use std::marker::Brand;
+use co_service::{Name, Passes, Service};
 use std::process::Abort;
 use std::sync::Wait;
 
@@ -34,44 +29,20 @@ fn serve<N: Name, R: Wait + Abort>(
     requires free { IsFree true passes.old cpu }
 {
     let taken = service.next_direct(rt, passes, cpu, 0);
-    let Some((pop, pick)) = begun(taken) else {
-        panic!(rt; "no function is to be called");
-    };
-    keep(rt, log, pop);
-    keep(rt, log, pick);
+    keep_begun(rt, log, taken);
     let made = service.end_direct(rt, passes, cpu, 0);
     keep_all(rt, log, made.notes);
-    let Some(note) = nothing(service.next_direct(rt, passes, cpu, 0)) else {
-        panic!(rt; "something had come due");
-    };
-    keep(rt, log, note);
+    let taken = service.next_direct(rt, passes, cpu, 0);
+    keep_nothing(rt, log, taken);
 }
 
-/// The acts of the client and of the interrupt.
-fn acts<N: Name, R: Wait + Abort>(
+/// The client arms the callout, and the interrupt serves it. The CPU does nothing.
+pub(super) fn play<N: Name, R: Wait + Abort>(
     rt: &R,
     service: &Service<N>,
     log: &mut Vec<Note>,
-    client: &mut Passes,
-    interrupt: &mut Passes,
-)
-    requires scene { IsScene 2 1 1 3 service.now }
-    requires client { AreOf N.name service.now client.old }
-    requires kept { KeepsFree N.name service.now (interrupt_actor (actors_of service.now) 0) true 0 interrupt.old }
-    requires scans { interrupt.old.actor ≡ scanner (actors_of service.now) 0 }
-{
-    arm(rt, service, log, client, 0, 0, seconds(1), 0, None);
-    tick(rt, service, log, interrupt, 0, seconds(1));
-    serve(rt, service, log, interrupt, 0);
-}
-
-/// The notes of these acts. The CPU does nothing.
-fn play_on<N: Name, R: Wait + Abort>(
-    rt: &R,
-    alloc: Global,
-    service: &Service<N>,
     passes: Seq<Passes>,
-) -> Vec<Note>
+)
     requires scene { IsScene 2 1 1 3 service.now }
     requires passes { AreBooted N.name service.now passes }
 {
@@ -79,64 +50,24 @@ fn play_on<N: Name, R: Wait + Abort>(
     let mut interrupt = service.leave_interrupt(&mut all, 0);
     let _cpu = service.leave_cpu(&mut all, 0);
     let mut client = service.leave(&mut all, 0);
-    let mut log = Vec::new(alloc);
-    acts(rt, service, &mut log, &mut client, &mut interrupt);
-    log
+    arm(rt, service, log, &mut client, 0, 0, seconds(1), 0, None);
+    tick(rt, service, log, &mut interrupt, 0, seconds(1));
+    serve(rt, service, log, &mut interrupt, 0);
 }
 
-/// The same on a service that is opened for it.
-fn play<N: Name, R: Wait + Abort>(
-    rt: &R,
-    alloc: Global,
-    fresh: Fresh,
-    passes: Seq<Passes>,
-) -> Vec<Note>
-    requires name { fresh.name ≡ N.name }
-    requires scene { IsScene 2 1 1 3 fresh.params }
-    requires passes { AreBooted fresh.name fresh.params passes }
-{
-    let Ok(service) = Service::<N>::open(alloc, fresh) else {
-        panic!(rt; "no memory");
-    };
-    let log = play_on(rt, alloc, &service, passes);
-    let_go(service);
-    log
-}
-
-const NOTES: [Row; 8] = [
+static NOTES: [Row; 8] = [
     (Place::Timer(0), 0, 0, 0, Told::Armed(1, 0, None, 0, 0)),
     (Place::Cpu(0), 0, 0, 0, Told::Inserted(0, 0, 1)),
     (Place::Cpu(0), 1, 2, 0, Told::Scanned(1, 1)),
-    (
-        Place::Cpu(0),
-        2,
-        2,
-        0,
-        Told::Popped(QOp::PopDirect, 0, 0, 1),
-    ),
+    (Place::Cpu(0), 2, 2, 0, Told::Popped(Lane::Direct, 0, 0, 1)),
     (Place::Timer(0), 1, 2, 0, Told::Picked(0, 0, 1, Some(0))),
     (Place::Timer(0), 2, 2, 0, Told::Ended(0, 0, None)),
-    (
-        Place::Cpu(0),
-        3,
-        2,
-        0,
-        Told::Turn(QOp::FreeDirect, QReply::Freed),
-    ),
-    (
-        Place::Cpu(0),
-        4,
-        2,
-        0,
-        Told::Turn(QOp::PopDirect, QReply::Empty),
-    ),
+    (Place::Cpu(0), 3, 2, 0, Told::Freed(Lane::Direct)),
+    (Place::Cpu(0), 4, 2, 0, Told::Empty(Lane::Direct)),
 ];
 
 #[test]
 fn served_by_the_interrupt(rt: HostRuntime) {
-    let Ok((fresh, passes)) = boot(rt.alloc(), 2, 1, 1, true) else {
-        panic!(rt; "no memory");
-    };
-    let notes = play::<Brand, _>(&rt, rt.alloc(), fresh, passes);
-    assert!(rt; are(notes.as_slice(), &NOTES));
+    let booted = boot(rt.alloc(), 2, 1, 1, true);
+    assert!(rt; is_played(&rt, rt.alloc(), Scene::Direct, booted, &NOTES));
 }

@@ -1,10 +1,12 @@
 //! A callout with a mutex is stopped while its service waits for the mutex.
-ghost use Rattle.std.specs.Prelude.{◌≡◌, ◌∷◌, [], ◌<◌, ℕ, Bool, IfOk, IfSome, false, true};
+ghost use Rattle.std.specs.Prelude.{◌≡◌, ◌∷◌, [], ◌<◌, ℕ, Bool, IfOk, false, true};
 ghost use Rattle.co_object.specs.Actors.{cpu_actor};
 ghost use Rattle.co_object.specs.Journal.{scanner};
 ghost use Rattle.co_object.specs.Queue.{Due};
+ghost use Rattle.co_object.specs.declared.op.CallOp.TheVariants.{Plain};
 ghost use Rattle.co_object.specs.declared.spec.LockUse.TheVariants.{Mtx};
 ghost use Rattle.co_service.specs.Booted.{AreBooted};
+ghost use Rattle.co_service.specs.Call.{NamesCpu};
 ghost use Rattle.service_cases.specs.Scenes.{IsLocked};
 ghost use Rattle.co_service.specs.Kept.{KeepsFree};
 ghost use Rattle.co_service.specs.Params.{actors_of};
@@ -13,15 +15,16 @@ ghost use Rattle.co_service.specs.Serving.{Runs, Waits};
 ghost use Rattle.co_service.specs.Views.{AreOf, PassesView};
 
 use super::acts::{finish, rest, tick};
-use super::cast::{leave_two, let_go};
-use super::notes::{Row, Told, are};
+use super::cast::leave_two;
+use super::notes::{Lane, Row, Told};
+use super::playing::is_played;
 use super::stage::{keep, keep_all, seconds};
+use crate::Scene;
 use co_lock::{ClientLocks, Hold, LockKind};
-use co_object::{CallOp, LockUse, Note, Place, PlainOp, QOp, QReply, Reply, Spec};
+use co_object::{CallOp, LockUse, Note, Place, PlainOp, Reply, Spec};
 use co_sbt::{NoMemory, Sbt, Seq};
 use co_service::{Fresh, Name, Passes, Service, Taken};
 use std::alloc::Global;
-use std::marker::Brand;
 use std::process::Abort;
 use std::sync::Wait;
 
@@ -53,80 +56,40 @@ fn mutex(alloc: Global) -> Result<ClientLocks, NoMemory>
     ClientLocks::new(alloc, &[LockKind::Mtx])
 }
 
-/// The client's reset of the callout to one second, while it holds the mutex.
-fn arm_held<N: Name, R: Wait + Abort>(
+/// The client's call on the callout, while it holds the mutex.
+fn ask_held<N: Name, R: Wait + Abort>(
     rt: &R,
     service: &Service<N>,
     log: &mut Vec<Note>,
     passes: &mut Passes,
+    act: u64,
+    op: PlainOp,
     hold: &Hold<'_>,
 )
     requires scene { IsLocked service.now }
     requires passes { AreOf N.name service.now passes.old }
+    requires cpu { NamesCpu service.now.cpus (Plain op) }
     requires hold { hold.now ≡ record { id = 0; exclusive = true } }
     ensures { AreOf N.name service.now passes.new }
 {
-    let op = CallOp::Plain(PlainOp::Reset {
-        due: seconds(1),
-        prec: Sbt::zero(),
-        func: 0,
-        arg: 0,
-        cpu: None,
-    });
-    let made = service.call(rt, passes, 1, 0, &op, Some(hold));
+    let op = CallOp::Plain(op);
+    let made = service.call(rt, passes, act, 0, &op, Some(hold));
     keep_all(rt, log, made.notes);
 }
 
-/// The client's stop of the callout, while it holds the mutex.
-fn stop_held<N: Name, R: Wait + Abort>(
-    rt: &R,
-    service: &Service<N>,
-    log: &mut Vec<Note>,
-    passes: &mut Passes,
-    hold: &Hold<'_>,
-)
-    requires scene { IsLocked service.now }
-    requires passes { AreOf N.name service.now passes.old }
-    requires hold { hold.now ≡ record { id = 0; exclusive = true } }
-    ensures { AreOf N.name service.now passes.new }
+/// Keeps the notes of a start that waits for the lock of callout 0. The answer is its arming.
+fn keep_waiting<R: Abort>(rt: &R, log: &mut Vec<Note>, taken: Taken) -> u64
+    ensures { (direct : Bool) (q : PassesView) (cpu : ℕ) → HasNext direct q cpu taken → IsServing direct q cpu (record { i = 0; n = result }) (Waits result) }
 {
-    let op = CallOp::Plain(PlainOp::Stop);
-    let made = service.call(rt, passes, 2, 0, &op, Some(hold));
-    keep_all(rt, log, made.notes);
-}
-
-/// The arming and the notes of a start that waits for the lock of callout 0.
-fn waits(taken: Taken) -> Option<(u64, Note, Note)>
-    ensures { IfSome result (λ r. (direct : Bool) (q : PassesView) (cpu : ℕ) → HasNext direct q cpu taken → IsServing direct q cpu (record { i = 0; n = r.0 }) (Waits r.0)) }
-{
-    match taken {
-        Taken::Took {
-            i: 0,
-            n,
-            reply: Reply::Hold,
-            pop,
-            pick,
-            ..
-        } => Some((n, pop, pick)),
-        _ => None,
-    }
-}
-
-/// The callout goes into the CPU's service, and waits for the mutex. The answer is its arming.
-fn start_waiting<N: Name, R: Wait + Abort>(
-    rt: &R,
-    service: &Service<N>,
-    log: &mut Vec<Note>,
-    passes: &mut Passes,
-) -> u64
-    requires cpu { 0 < service.now.cpus }
-    requires passes { AreOf N.name service.now passes.old }
-    requires free { IsFree false passes.old 0 }
-    ensures of { AreOf N.name service.now passes.new }
-    ensures serving { IsServing false passes.new 0 (record { i = 0; n = result }) (Waits result) }
-{
-    let taken = service.next(rt, passes, 0, 0, 1);
-    let Some((n, pop, pick)) = waits(taken) else {
+    let Taken::Took {
+        i: 0,
+        n,
+        reply: Reply::Hold,
+        pop,
+        pick,
+        ..
+    } = taken
+    else {
         panic!(rt; "nothing waits for the mutex");
     };
     keep(rt, log, pop);
@@ -134,7 +97,7 @@ fn start_waiting<N: Name, R: Wait + Abort>(
     n
 }
 
-/// The CPU, whose service of this arming waits, holds the mutex.
+/// The CPU, whose service of this arming waits, begins under the mutex.
 fn begin_held<N: Name, R: Wait + Abort>(
     rt: &R,
     service: &Service<N>,
@@ -172,10 +135,18 @@ fn stop_what_waits<N: Name, R: Wait + Abort + Sync>(
     ensures serving { IsServing false cpu.new 0 (record { i = 0; n = result }) (Waits result) }
 {
     let hold = locks.lock(rt, 0);
-    arm_held(rt, service, log, client, &hold);
+    let arming = PlainOp::Reset {
+        due: seconds(1),
+        prec: Sbt::zero(),
+        func: 0,
+        arg: 0,
+        cpu: None,
+    };
+    ask_held(rt, service, log, client, 1, arming, &hold);
     tick(rt, service, log, cpu, 0, seconds(1));
-    let n = start_waiting(rt, service, log, cpu);
-    stop_held(rt, service, log, client, &hold);
+    let taken = service.next(rt, cpu, 0, 0, 1);
+    let n = keep_waiting(rt, log, taken);
+    ask_held(rt, service, log, client, 2, PlainOp::Stop, &hold);
     n
 }
 
@@ -219,73 +190,40 @@ fn end_what_waits<N: Name, R: Wait + Abort + Sync>(
     rest(rt, service, log, cpu, 0);
 }
 
-/// The notes of these acts.
-fn play_on<N: Name, R: Wait + Abort + Sync>(
+/// The client stops the callout, whose service by the CPU waits for the mutex that the client holds. The CPU then skips it.
+pub(super) fn play<N: Name, R: Wait + Abort + Sync>(
     rt: &R,
     alloc: Global,
     service: &Service<N>,
+    log: &mut Vec<Note>,
     passes: Seq<Passes>,
-    locks: &ClientLocks,
-) -> Vec<Note>
+)
     requires scene { IsLocked service.now }
     requires passes { AreBooted N.name service.now passes }
-    requires locks { locks.now ≡ LockKind.Mtx ∷ [] }
-{
-    let (mut client, mut cpu) = leave_two(service, passes);
-    let mut log = Vec::new(alloc);
-    let n = stop_what_waits(rt, service, &mut log, &mut client, &mut cpu, locks);
-    end_what_waits(rt, service, &mut log, &mut cpu, n, locks);
-    log
-}
-
-/// The same on a service that is opened for it.
-fn play<N: Name, R: Wait + Abort + Sync>(
-    rt: &R,
-    alloc: Global,
-    fresh: Fresh,
-    passes: Seq<Passes>,
-) -> Vec<Note>
-    requires name { fresh.name ≡ N.name }
-    requires scene { IsLocked fresh.params }
-    requires passes { AreBooted fresh.name fresh.params passes }
 {
     let Ok(locks) = mutex(alloc) else {
         panic!(rt; "no memory");
     };
-    let Ok(service) = Service::<N>::open(alloc, fresh) else {
-        panic!(rt; "no memory");
-    };
-    let log = play_on(rt, alloc, &service, passes, &locks);
-    let_go(service);
-    log
+    let (mut client, mut cpu) = leave_two(service, passes);
+    let n = stop_what_waits(rt, service, log, &mut client, &mut cpu, &locks);
+    end_what_waits(rt, service, log, &mut cpu, n, &locks);
 }
 
-const NOTES: [Row; 10] = [
+static NOTES: [Row; 10] = [
     (Place::Timer(0), 0, 0, 1, Told::Armed(1, 0, None, 0, 0)),
     (Place::Cpu(0), 0, 0, 1, Told::Inserted(0, 0, 1)),
     (Place::Cpu(0), 1, 1, 0, Told::Scanned(1, 1)),
-    (Place::Cpu(0), 2, 1, 0, Told::Popped(QOp::Pop, 0, 0, 1)),
+    (Place::Cpu(0), 2, 1, 0, Told::Popped(Lane::Own, 0, 0, 1)),
     (Place::Timer(0), 1, 1, 0, Told::Picked(0, 0, 1, None)),
-    (
-        Place::Timer(0),
-        2,
-        0,
-        2,
-        Told::Called(PlainOp::Stop, CANCELLED),
-    ),
+    (Place::Timer(0), 2, 0, 2, Told::Stopped(1, None)),
     (Place::Timer(0), 3, 1, 0, Told::Skipped(0, 0)),
     (Place::Timer(0), 4, 1, 0, Told::Ended(0, 0, None)),
-    (Place::Cpu(0), 3, 1, 0, Told::Turn(QOp::Free, QReply::Freed)),
-    (Place::Cpu(0), 4, 1, 0, Told::Turn(QOp::Pop, QReply::Empty)),
+    (Place::Cpu(0), 3, 1, 0, Told::Freed(Lane::Own)),
+    (Place::Cpu(0), 4, 1, 0, Told::Empty(Lane::Own)),
 ];
-
-const CANCELLED: Reply = Reply::Stopped { code: 1, off: None };
 
 #[test]
 fn cancelled_while_it_waits(rt: HostRuntime) {
-    let Ok((fresh, passes)) = boot_locked(rt.alloc()) else {
-        panic!(rt; "no memory");
-    };
-    let notes = play::<Brand, _>(&rt, rt.alloc(), fresh, passes);
-    assert!(rt; are(notes.as_slice(), &NOTES));
+    let booted = boot_locked(rt.alloc());
+    assert!(rt; is_played(&rt, rt.alloc(), Scene::Waiting, booted, &NOTES));
 }

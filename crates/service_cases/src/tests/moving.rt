@@ -1,25 +1,23 @@
 //! A callout that is armed for another CPU while it is serviced moves when the service ends.
 ghost use Rattle.std.specs.Prelude.{◌≡◌, ◌<◌, false};
-ghost use Rattle.co_object.specs.Actors.{cpu_actor};
 ghost use Rattle.co_object.specs.Journal.{scanner};
 ghost use Rattle.co_object.specs.Queue.{Due};
-ghost use Rattle.co_service.specs.Booted.{AreBooted};
-ghost use Rattle.co_service.specs.Kept.{KeepsFree};
 ghost use Rattle.co_service.specs.Params.{actors_of};
 ghost use Rattle.co_service.specs.Services.{IsFree, IsServing};
 ghost use Rattle.co_service.specs.Serving.{Runs};
 ghost use Rattle.co_service.specs.Views.{AreOf};
+ghost use Rattle.co_service.specs.Booted.{AreBooted};
 ghost use Rattle.service_cases.specs.Scenes.{IsScene};
 
 use super::acts::{finish, rest, start, tick};
-use super::cast::{leave_three, let_go};
-use super::notes::{Row, Told, are};
+use super::cast::leave_three;
+use super::notes::{Lane, Row, Told};
+use super::playing::is_played;
 use super::stage::{arm, boot, seconds};
-use co_object::{Note, Place, QOp, QReply};
+use crate::Scene;
+use co_object::{Note, Place};
 use co_sbt::Seq;
-use co_service::{Fresh, Name, Passes, Service};
-use std::alloc::Global;
-use std::marker::Brand;
+use co_service::{Name, Passes, Service};
 use std::process::Abort;
 use std::sync::Wait;
 
@@ -59,100 +57,46 @@ fn end_turn<N: Name, R: Wait + Abort>(
     rest(rt, service, log, passes, cpu);
 }
 
-/// The client arms the callout for the second CPU while the first one serves it.
-fn move_in_service<N: Name, R: Wait + Abort>(
+/// The client arms the callout for the second CPU while the first one serves it, and then the second one serves it.
+pub(super) fn play<N: Name, R: Wait + Abort>(
     rt: &R,
     service: &Service<N>,
     log: &mut Vec<Note>,
-    client: &mut Passes,
-    first: &mut Passes,
-)
-    requires scene { IsScene 1 2 1 3 service.now }
-    requires client { AreOf N.name service.now client.old }
-    requires first { KeepsFree N.name service.now (cpu_actor (actors_of service.now) 0) false 0 first.old }
-    requires scans { first.old.actor ≡ scanner (actors_of service.now) 0 }
-{
-    arm(rt, service, log, client, 0, 0, seconds(1), 0, None);
-    begin_turn(rt, service, log, first, 0, 1);
-    arm(rt, service, log, client, 1, 0, seconds(2), 1, Some(1));
-    end_turn(rt, service, log, first, 0);
-}
-
-/// The second CPU serves it.
-fn serve_moved<N: Name, R: Wait + Abort>(
-    rt: &R,
-    service: &Service<N>,
-    log: &mut Vec<Note>,
-    second: &mut Passes,
-)
-    requires scene { IsScene 1 2 1 3 service.now }
-    requires second { KeepsFree N.name service.now (cpu_actor (actors_of service.now) 1) false 1 second.old }
-    requires scans { second.old.actor ≡ scanner (actors_of service.now) 1 }
-{
-    begin_turn(rt, service, log, second, 1, 2);
-    end_turn(rt, service, log, second, 1);
-}
-
-/// The notes of these acts.
-fn play_on<N: Name, R: Wait + Abort>(
-    rt: &R,
-    alloc: Global,
-    service: &Service<N>,
     passes: Seq<Passes>,
-) -> Vec<Note>
+)
     requires scene { IsScene 1 2 1 3 service.now }
     requires passes { AreBooted N.name service.now passes }
 {
     let (mut client, mut first, mut second) = leave_three(service, passes);
-    let mut log = Vec::new(alloc);
-    move_in_service(rt, service, &mut log, &mut client, &mut first);
-    serve_moved(rt, service, &mut log, &mut second);
-    log
+    arm(rt, service, log, &mut client, 0, 0, seconds(1), 0, None);
+    begin_turn(rt, service, log, &mut first, 0, 1);
+    arm(rt, service, log, &mut client, 1, 0, seconds(2), 1, Some(1));
+    end_turn(rt, service, log, &mut first, 0);
+    begin_turn(rt, service, log, &mut second, 1, 2);
+    end_turn(rt, service, log, &mut second, 1);
 }
 
-/// The same on a service that is opened for it.
-fn play<N: Name, R: Wait + Abort>(
-    rt: &R,
-    alloc: Global,
-    fresh: Fresh,
-    passes: Seq<Passes>,
-) -> Vec<Note>
-    requires name { fresh.name ≡ N.name }
-    requires scene { IsScene 1 2 1 3 fresh.params }
-    requires passes { AreBooted fresh.name fresh.params passes }
-{
-    let Ok(service) = Service::<N>::open(alloc, fresh) else {
-        panic!(rt; "no memory");
-    };
-    let log = play_on(rt, alloc, &service, passes);
-    let_go(service);
-    log
-}
-
-const NOTES: [Row; 16] = [
+static NOTES: [Row; 16] = [
     (Place::Timer(0), 0, 0, 0, Told::Armed(1, 0, None, 0, 0)),
     (Place::Cpu(0), 0, 0, 0, Told::Inserted(0, 0, 1)),
     (Place::Cpu(0), 1, 1, 0, Told::Scanned(1, 1)),
-    (Place::Cpu(0), 2, 1, 0, Told::Popped(QOp::Pop, 0, 0, 1)),
+    (Place::Cpu(0), 2, 1, 0, Told::Popped(Lane::Own, 0, 0, 1)),
     (Place::Timer(0), 1, 1, 0, Told::Picked(0, 0, 1, Some(0))),
     (Place::Timer(0), 2, 0, 1, Told::Armed(2, 1, Some(1), 1, 1)),
     (Place::Timer(0), 3, 1, 0, Told::Ended(0, 0, Some((1, 1, 2)))),
-    (Place::Cpu(0), 3, 1, 0, Told::Turn(QOp::Free, QReply::Freed)),
+    (Place::Cpu(0), 3, 1, 0, Told::Freed(Lane::Own)),
     (Place::Cpu(1), 0, 1, 0, Told::Inserted(0, 1, 2)),
-    (Place::Cpu(0), 4, 1, 0, Told::Turn(QOp::Pop, QReply::Empty)),
+    (Place::Cpu(0), 4, 1, 0, Told::Empty(Lane::Own)),
     (Place::Cpu(1), 1, 2, 0, Told::Scanned(2, 1)),
-    (Place::Cpu(1), 2, 2, 0, Told::Popped(QOp::Pop, 0, 1, 2)),
+    (Place::Cpu(1), 2, 2, 0, Told::Popped(Lane::Own, 0, 1, 2)),
     (Place::Timer(0), 4, 2, 0, Told::Picked(1, 1, 2, Some(1))),
     (Place::Timer(0), 5, 2, 0, Told::Ended(1, 1, None)),
-    (Place::Cpu(1), 3, 2, 0, Told::Turn(QOp::Free, QReply::Freed)),
-    (Place::Cpu(1), 4, 2, 0, Told::Turn(QOp::Pop, QReply::Empty)),
+    (Place::Cpu(1), 3, 2, 0, Told::Freed(Lane::Own)),
+    (Place::Cpu(1), 4, 2, 0, Told::Empty(Lane::Own)),
 ];
 
 #[test]
 fn deferred_move(rt: HostRuntime) {
-    let Ok((fresh, passes)) = boot(rt.alloc(), 1, 2, 1, false) else {
-        panic!(rt; "no memory");
-    };
-    let notes = play::<Brand, _>(&rt, rt.alloc(), fresh, passes);
-    assert!(rt; are(notes.as_slice(), &NOTES));
+    let booted = boot(rt.alloc(), 1, 2, 1, false);
+    assert!(rt; is_played(&rt, rt.alloc(), Scene::Moved, booted, &NOTES));
 }

@@ -5,11 +5,20 @@ use co_object::{
 };
 use co_sbt::Sbt;
 
+/// Who serves what has come due at a CPU.
+#[derive(Clone, Copy)]
+pub(super) enum Lane {
+    /// The CPU's own service.
+    Own,
+    /// Its interrupt.
+    Direct,
+}
+
 /// What an entry says. Times are whole seconds.
 #[derive(Clone, Copy)]
 pub(super) enum Told {
-    /// A call on a callout.
-    Called(PlainOp, Reply),
+    /// A stop: its code, and the CPU in whose queue the arming was.
+    Stopped(i32, Option<u32>),
     /// A reset for this time to function 0 with an argument, on a CPU or not: which arming that is, and on which CPU.
     Armed(i32, u64, Option<u32>, u64, u32),
     /// An arming is picked by a CPU at this time: function 0 is called with an argument, or the callout's lock is waited for.
@@ -18,14 +27,18 @@ pub(super) enum Told {
     Skipped(u64, u32),
     /// The service of an arming by a CPU ends: the arming that moves on, to a CPU and for a time.
     Ended(u64, u32, Option<(u64, u32, i32)>),
-    /// An entry of a CPU's journal.
-    Turn(QOp, QReply),
     /// An arming, of this callout and number, is put into a CPU's queue.
     Inserted(u32, u64, i32),
+    /// The arming of this callout is taken out of it.
+    Removed(u32),
     /// A scan of a CPU's queue, and its count.
     Scanned(i32, u32),
     /// From this lane of a CPU one is taken.
-    Popped(QOp, u32, u64, i32),
+    Popped(Lane, u32, u64, i32),
+    /// Nothing is there to be taken.
+    Empty(Lane),
+    /// The CPU's service of one of this lane is over.
+    Freed(Lane),
 }
 
 /// Where an entry stands, the actor and the act that made it, and what it says.
@@ -44,7 +57,7 @@ fn ran(op: RunOp, reply: Reply) -> Option<(Op, Reply)> {
 /// A call on a callout, and its reply.
 fn call_of(told: &Told) -> Option<(Op, Reply)> {
     match *told {
-        Told::Called(op, reply) => called(op, reply),
+        Told::Stopped(code, off) => called(PlainOp::Stop, Reply::Stopped { code, off }),
         Told::Armed(due, arg, cpu, n, at) => {
             let op = PlainOp::Reset {
                 due: seconds(due),
@@ -99,22 +112,40 @@ fn service_of(told: &Told) -> Option<(Op, Reply)> {
     }
 }
 
-/// An operation of a queue, and its reply.
-fn turn_of(told: &Told) -> Option<(QOp, QReply)> {
+/// An operation of a CPU's queue, and its reply.
+fn queue_of(told: &Told) -> Option<(QOp, QReply)> {
     match *told {
-        Told::Turn(op, reply) => Some((op, reply)),
         Told::Inserted(i, n, t) => {
             let t = seconds(t);
             Some((QOp::Insert { i, n, t }, QReply::At(t)))
         }
+        Told::Removed(i) => Some((QOp::Remove { i }, QReply::Off)),
         Told::Scanned(now, count) => {
             let now = seconds(now);
             Some((QOp::Scan { now }, QReply::Count(count)))
         }
+        _ => None,
+    }
+}
+
+/// One is taken from this lane.
+fn pop(lane: Lane) -> QOp {
+    match lane {
+        Lane::Own => QOp::Pop,
+        Lane::Direct => QOp::PopDirect,
+    }
+}
+
+/// An operation of a lane of a CPU, and its reply.
+fn lane_of(told: &Told) -> Option<(QOp, QReply)> {
+    match *told {
         Told::Popped(lane, i, n, at) => {
             let at = seconds(at);
-            Some((lane, QReply::Got { i, n, at }))
+            Some((pop(lane), QReply::Got { i, n, at }))
         }
+        Told::Empty(lane) => Some((pop(lane), QReply::Empty)),
+        Told::Freed(Lane::Own) => Some((QOp::Free, QReply::Freed)),
+        Told::Freed(Lane::Direct) => Some((QOp::FreeDirect, QReply::Freed)),
         _ => None,
     }
 }
@@ -149,7 +180,10 @@ fn entry_of(actor: u32, act: u64, told: &Told) -> Option<AnyEntry> {
     if let Some((op, reply)) = service_of(told) {
         return Some(of_callout(actor, act, op, reply));
     }
-    match turn_of(told) {
+    if let Some((op, reply)) = queue_of(told) {
+        return Some(of_cpu(actor, act, op, reply));
+    }
+    match lane_of(told) {
         Some((op, reply)) => Some(of_cpu(actor, act, op, reply)),
         None => None,
     }

@@ -86,15 +86,10 @@ pub(super) fn keep<R: Abort>(rt: &R, log: &mut Vec<Note>, note: Note) {
 
 /// Keeps the notes of an answer.
 pub(super) fn keep_all<R: Abort>(rt: &R, log: &mut Vec<Note>, notes: [Option<Note>; 3]) {
-    let [first, second, third] = notes;
-    if let Some(note) = first {
-        keep(rt, log, note);
-    }
-    if let Some(note) = second {
-        keep(rt, log, note);
-    }
-    if let Some(note) = third {
-        keep(rt, log, note);
+    for note in &notes {
+        if let Some(note) = note {
+            keep(rt, log, *note);
+        }
     }
 }
 

@@ -1,4 +1,5 @@
-//! A gate that forces an order of the acts of two clients and a CPU, and hears that each act is announced once.
+//! The gate of the tests' calls: open, or one that forces an order of the acts of two clients and a CPU, and hears that each act is
+//! announced once.
 use co_hand::Gate;
 use std::sync::atomic::{AtomicU64, Ordering};
 use std::thread::yield_now;
@@ -9,9 +10,8 @@ const LOOKS: u64 = 10_000_000;
 /// How many acts each actor has announced: the two clients, then the two CPUs. And whether an act was announced out of turn,
 /// or an actor gave up to wait.
 #[derive(Drop)]
-pub(super) struct Turns {
-    clients: [AtomicU64; 2],
-    cpus: [AtomicU64; 2],
+pub struct Turns {
+    announced: [AtomicU64; 4],
     failed: AtomicU64,
 }
 
@@ -28,40 +28,31 @@ fn are_announced(acts: &AtomicU64, wanted: u64) -> bool {
 
 impl Turns {
     /// Before the first act.
-    pub(super) fn new() -> Turns {
+    pub(crate) fn new() -> Turns {
         Turns {
-            clients: [AtomicU64::new(0), AtomicU64::new(0)],
-            cpus: [AtomicU64::new(0), AtomicU64::new(0)],
+            announced: [
+                AtomicU64::new(0),
+                AtomicU64::new(0),
+                AtomicU64::new(0),
+                AtomicU64::new(0),
+            ],
             failed: AtomicU64::new(0),
         }
     }
 
     /// Both clients and the first CPU have announced two acts each, in turn, and nobody gave up.
-    pub(super) fn are_over(&self) -> bool {
-        let [first, second] = &self.clients;
-        let [cpu, other] = &self.cpus;
-        let counts = [first, second, cpu, other, &self.failed].map(|count| count.load(
-            Ordering::SeqCst,
-        ));
-        counts == [2, 2, 2, 0, 0]
-    }
-
-    // The acts of an actor.
-    fn acts(&self, actor: u32) -> Option<&AtomicU64> {
-        let [first, second] = &self.clients;
-        let [cpu, other] = &self.cpus;
-        match actor {
-            0 => Some(first),
-            1 => Some(second),
-            2 => Some(cpu),
-            3 => Some(other),
-            _ => None,
+    pub(crate) fn are_over(&self) -> bool {
+        for (acts, wanted) in self.announced.iter().zip([2, 2, 2, 0]) {
+            if acts.load(Ordering::SeqCst) != wanted {
+                return false;
+            }
         }
+        self.failed.load(Ordering::SeqCst) == 0
     }
 
     // The act is the actor's next.
     fn announce(&self, actor: u32, act: u64) -> bool {
-        match self.acts(actor) {
+        match self.announced.get(actor as usize) {
             Some(acts) => acts.fetch_add(1, Ordering::SeqCst) == act,
             None => false,
         }
@@ -70,8 +61,7 @@ impl Turns {
     // The CPU begins behind the first client's second act, the second client behind the act of the CPU's function, which waits
     // for that client's second.
     fn wait(&self, actor: u32, act: u64) -> bool {
-        let [first, second] = &self.clients;
-        let [cpu, _] = &self.cpus;
+        let [first, second, cpu, _] = &self.announced;
         match (actor, act) {
             (2, 0) => are_announced(first, 2),
             (1, 0) => are_announced(cpu, 2),
@@ -81,10 +71,17 @@ impl Turns {
     }
 }
 
-impl Gate for Turns {
+/// The gate of a call, which keeps these turns, or is open. It is of one type, so the program is compiled for one gate.
+#[derive(Drop)]
+pub struct TurnGate<'a>(pub Option<&'a Turns>);
+
+impl Gate for TurnGate<'_> {
     fn at(&self, actor: u32, act: u64) {
-        if !self.announce(actor, act) || !self.wait(actor, act) {
-            self.failed.store(1, Ordering::SeqCst);
+        let Some(turns) = self.0 else {
+            return;
+        };
+        if !turns.announce(actor, act) || !turns.wait(actor, act) {
+            turns.failed.store(1, Ordering::SeqCst);
         }
     }
 }
