@@ -42,8 +42,8 @@ impl Turns {
 
     /// Both clients and the first CPU have announced two acts each, in turn, and nobody gave up.
     pub(crate) fn are_over(&self) -> bool {
-        for (acts, wanted) in self.announced.iter().zip([2, 2, 2, 0]) {
-            if acts.load(Ordering::SeqCst) != wanted {
+        for (acts, wanted) in self.announced.iter().zip(&[2, 2, 2, 0]) {
+            if acts.load(Ordering::SeqCst) != *wanted {
                 return false;
             }
         }

@@ -1,6 +1,6 @@
 //! One firing over ends that fail.
-use crate::call;
 use crate::examples::{ONE_FIRING, ONE_FIRING_REPORT};
+use crate::{Outcome, call};
 use co_io::{MemSink, MemSource};
 use co_sbt::NoMemory;
 use co_top::Status;
@@ -8,7 +8,19 @@ use std::sync::Wait;
 use std::test::Fail;
 use std::thread::Threads;
 
-/// Whether a call that reads and writes byte by byte, of which these fail, ends so, with so many bytes of the report written.
+/// What a call comes to that reads and writes byte by byte, of which these fail.
+fn steps<R: AllocGlobal + Threads + Wait + Sync>(
+    rt: &R,
+    read_fails: &[u64],
+    room: usize,
+    write_fails: &[u64],
+) -> Result<Outcome, NoMemory> {
+    let mut source = MemSource::new(rt.alloc(), ONE_FIRING.as_bytes(), 1, read_fails)?;
+    let mut sink = MemSink::new(rt.alloc(), room, 1, write_fails)?;
+    call(rt, ["steps"].as_slice(), &mut source, &mut sink)
+}
+
+/// Whether that call ends so, with so many bytes of the report written.
 fn ends<R: AllocGlobal + Threads + Wait + Sync>(
     rt: &R,
     read_fails: &[u64],
@@ -17,13 +29,11 @@ fn ends<R: AllocGlobal + Threads + Wait + Sync>(
     status: Status,
     written: usize,
 ) -> Result<bool, NoMemory> {
-    let mut source = MemSource::new(rt.alloc(), ONE_FIRING.as_bytes(), 1, read_fails)?;
-    let mut sink = MemSink::new(rt.alloc(), room, 1, write_fails)?;
-    let outcome = call(rt, ["steps"].as_slice(), &mut source, &mut sink)?;
-    match ONE_FIRING_REPORT.as_bytes().get(..written) {
-        Some(front) => Ok(outcome.says(status, front)),
-        None => Ok(false),
-    }
+    let Some(front) = ONE_FIRING_REPORT.as_bytes().get(..written) else {
+        return Ok(false);
+    };
+    let outcome = steps(rt, read_fails, room, write_fails)?;
+    Ok(outcome.says(status, front))
 }
 
 /// The script's bytes are read one by one, and one more read finds its end.
