@@ -1,5 +1,5 @@
 -- The place of a note that is read from its list exists, and what is counted of one note or one list more.
-use Rattle.std.proofs.Common.{◌≡◌, ℕ, suc, ◌+◌, ◌<◌, ◌==◌, Bool, true, false, cond, List, [], ◌∷◌, ◌++◌, map, take, set, length, get_or, refl, ap, sym, subst, ◌∙◌, arith, append-nil, take-suc}
+use Rattle.std.proofs.Common.{◌≡◌, ℕ, suc, ◌+◌, ◌<◌, ◌≤◌, ◌==◌, Bool, true, false, cond, List, [], ◌∷◌, ◌++◌, map, take, set, length, get_or, refl, ap, sym, subst, ◌∙◌, arith, append-nil, take-suc}
 use Rattle.std.proofs.lemmas.Bool.{eqb-true, eqb-false}
 use Rattle.std.proofs.lemmas.Grind.{flat_map-append, get_or-set_at}
 use Rattle.std.proofs.lemmas.List.{map-append, get_or-set_other}
@@ -57,3 +57,20 @@ list_counted s lists k notes i old new inside is before more =
     let both : count_in s i (all_of (take k lists) ++ notes) ≡ count_in s i (all_of (take k lists)) + count_in s i notes =
     sum_by-append (λ (note : Note). cond (place_index s note.place == i) 1 0) (all_of (take k lists)) notes in
     more ∙ (ap (λ m. m + count_in s i notes) before ∙ (sym both ∙ ap (count_in s i) (sym all)))
+
+-- the numbers of one place more are added
+pub place_added : (place count : ℕ) (first more counts now : List ℕ) → count ≡ get_or counts place 0 + get_or more place 0 → now ≡ set counts place count → place < length counts → get_or counts place 0 ≡ get_or first place 0
+    → ((i : ℕ) → i < place → get_or counts i 0 ≡ get_or first i 0 + get_or more i 0) → (i : ℕ) → i < place + 1 → get_or now i 0 ≡ get_or first i 0 + get_or more i 0
+place_added place count first more counts now sum put within left added i below =
+    ap (λ ns. get_or ns i 0) put ∙ step (i == place) refl
+  where
+    step : (b : Bool) → (i == place) ≡ b → get_or (set counts place count) i 0 ≡ get_or first i 0 + get_or more i 0
+    step true e =
+        let here : i ≡ place = eqb-true i place e in
+        get_or-set_at counts place i count 0 here within ∙ (sum ∙ (ap (λ n. n + get_or more place 0) left ∙ ap (λ j. get_or first j 0 + get_or more j 0) (sym here)))
+    step false e = get_or-set_other counts place i count 0 (eqb-false i place e) ∙ added i (omega (arith, below, eqb-false i place e))
+
+-- and those behind it are left
+pub place_left : (place count : ℕ) (first counts now : List ℕ) → now ≡ set counts place count → ((i : ℕ) → place ≤ i → get_or counts i 0 ≡ get_or first i 0) → (i : ℕ) → place + 1 ≤ i → get_or now i 0 ≡ get_or first i 0
+place_left place count first counts now put left i above =
+    ap (λ ns. get_or ns i 0) put ∙ (get_or-set_other counts place i count 0 (omega (arith, above)) ∙ left i (omega (arith, above)))

@@ -13,7 +13,7 @@ use Rattle.co_text.specs.Values.{Word}
 use Rattle.co_text.proofs.Spacing.{text_one, text_append}
 use Rattle.co_report.specs.Histories.{PlaceHistories}
 use Rattle.co_report.specs.Reports.{places, heading, place_lines, report, report_lines, head_text, framed}
-use Rattle.co_report.specs.Reading.{joined}
+use Rattle.co_notes.specs.Parts.{joined}
 
 parts : (a : List Word) (b : List (List Word)) (h : List Word) (ls : List (List Word)) (e : List Word)
     → text (a ∷ (b ++ (h ∷ (ls ++ e ∷ [])))) ≡ line_text a ++ text b ++ line_text h ++ text ls ++ line_text e

@@ -16,21 +16,9 @@ pub mod Framed
 pub mod Pieces
 pub mod ToldPages
 pub mod PartsWritten
-pub mod PartSplits
-pub mod Exact
-pub mod ExactValues
-pub mod ExactActors
-pub mod PlainParts
-mod Keywords
-pub mod ExactNames
-pub mod ExactOperations
-pub mod ExactReplies
-pub mod ExactAnswers
-pub mod ExactNotes
 pub mod LinesWhole
 pub mod PlacesAdded
 pub mod ScriptLines
-pub mod OneSpelling
 pub mod ReadsBack
 pub mod WholeBack
 pub mod ShownFit
@@ -38,7 +26,6 @@ pub mod NotesFit
 pub mod ReadFit
 pub mod ReadLines
 mod ReadRows
-mod NoteHeads
 mod LinesEnded
 mod LinesSame
 mod LineByLine

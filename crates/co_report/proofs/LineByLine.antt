@@ -14,11 +14,12 @@ use Rattle.co_script.specs.Reading.{script_of}
 use Rattle.co_script.specs.Canonical.{canonical}
 use Rattle.co_script.proofs.told.Steps.{bind-ok, cond-ok}
 use Rattle.co_report.specs.declared.line.Line.{Line as NoteLine}
-use Rattle.co_report.specs.declared.reading.notes.NumberedEntry.{NumberedEntry}
-use Rattle.co_report.specs.NoteValues.{names_of, IsSmallScript}
-use Rattle.co_report.specs.NoteForms.{shown_note}
-use Rattle.co_report.specs.NoteFits.{LineFits}
-use Rattle.co_report.specs.Reading.{Halves, Progress, in_report, same_lines, halves_read, joined, closing_words, closed_by, with_note, note_read, line_read, line_after, histories_read, first_progress, reads_on, end_read, notes_read}
+use Rattle.co_notes.specs.declared.reading.notes.NumberedEntry.{NumberedEntry}
+use Rattle.co_notes.specs.NoteValues.{names_of, IsSmallScript}
+use Rattle.co_notes.specs.NoteForms.{shown_note}
+use Rattle.co_report.specs.LineFits.{LineFits}
+use Rattle.co_notes.specs.Parts.{joined}
+use Rattle.co_report.specs.Reading.{Halves, Progress, in_report, same_lines, halves_read, closing_words, closed_by, with_note, note_read, line_read, line_after, histories_read, first_progress, reads_on, end_read, notes_read}
 use Rattle.co_report.proofs.ReadLines.{closed-lines}
 use Rattle.co_report.proofs.ReadFit.{Stands, line-stands}
 use Rattle.co_report.proofs.LinesWhole.{whole_more, whole_start}

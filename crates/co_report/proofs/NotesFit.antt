@@ -20,8 +20,8 @@ use Rattle.co_program.proofs.RunsName.{runs_name}
 use Rattle.co_script.specs.Fits.{fits}
 use Rattle.co_script.proofs.Accepted.{fits-accepted}
 use Rattle.co_script.proofs.FuncsFit.{funcs_exist}
-use Rattle.co_report.specs.NoteForms.{may_answer}
-use Rattle.co_report.specs.NoteFits.{EntryFits}
+use Rattle.co_notes.specs.NoteForms.{may_answer}
+use Rattle.co_notes.specs.NoteFits.{EntryFits}
 use Rattle.co_report.specs.Laws.{ListsFit}
 use Rattle.co_report.specs.Typed.{EntryTyped, ListsTyped}
 

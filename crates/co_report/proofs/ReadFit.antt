@@ -16,12 +16,13 @@ use Rattle.co_script.proofs.told.Steps.{bind-ok, cond-ok}
 use Rattle.co_script.proofs.ReadFits.{read-fits}
 use Rattle.co_report.specs.declared.line.Line.{Line as NoteLine}
 use Rattle.co_report.specs.declared.line.Report.{Report}
-use Rattle.co_report.specs.NoteValues.{names_of, IsSmallScript}
-use Rattle.co_report.specs.NoteForms.{shown_note}
-use Rattle.co_report.specs.NoteFits.{LineFits}
+use Rattle.co_notes.specs.NoteValues.{names_of, IsSmallScript}
+use Rattle.co_notes.specs.NoteForms.{shown_note}
+use Rattle.co_report.specs.LineFits.{LineFits}
 use Rattle.co_report.specs.Laws.{ReportFits, ReadReportsFit}
-use Rattle.co_report.specs.Reading.{joined, none_cut, first_line, Halves, halves, in_report, same_lines, Progress, closing_words, closed_by, with_note, note_read, line_read, line_after, histories_read, first_progress, reads_on, end_read, notes_read, halves_read, lines_report, report_read}
-use Rattle.co_report.proofs.OneSpelling.{small_script, note-read}
+use Rattle.co_notes.specs.Parts.{joined}
+use Rattle.co_report.specs.Reading.{none_cut, first_line, Halves, halves, in_report, same_lines, Progress, closing_words, closed_by, with_note, note_read, line_read, line_after, histories_read, first_progress, reads_on, end_read, notes_read, halves_read, lines_report, report_read}
+use Rattle.co_notes.proofs.OneSpelling.{small_script, note-read}
 use Rattle.co_report.proofs.ScriptLines.{in_report-ok}
 use Rattle.co_report.proofs.WholeBack.{each-place}
 

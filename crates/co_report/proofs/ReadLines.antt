@@ -14,9 +14,10 @@ use Rattle.co_script.specs.Canonical.{canonical}
 use Rattle.co_script.proofs.told.Steps.{bind-ok, cond-ok}
 use Rattle.co_report.specs.declared.line.Line.{Line as NoteLine}
 use Rattle.co_report.specs.declared.line.Report.{Report}
-use Rattle.co_report.specs.NoteValues.{names_of}
-use Rattle.co_report.specs.NoteForms.{shown_note}
-use Rattle.co_report.specs.Reading.{joined, none_cut, first_line, is_line, line_before, Halves, halves, in_report, same_lines, Progress, closing_words, closed_by, with_note, note_read, line_read, line_after, histories_read, first_progress, reads_on, end_read, notes_read, halves_read, lines_report, report_read}
+use Rattle.co_notes.specs.NoteValues.{names_of}
+use Rattle.co_notes.specs.NoteForms.{shown_note}
+use Rattle.co_notes.specs.Parts.{joined}
+use Rattle.co_report.specs.Reading.{none_cut, first_line, is_line, line_before, Halves, halves, in_report, same_lines, Progress, closing_words, closed_by, with_note, note_read, line_read, line_after, histories_read, first_progress, reads_on, end_read, notes_read, halves_read, lines_report, report_read}
 use Rattle.co_report.proofs.ScriptLines.{lines-few}
 
 at_line-ok : {X : Type 0} (k : ℕ) (r : Result X Cause) (x : X) → at_line k r ≡ Ok x → r ≡ Ok x

@@ -20,7 +20,7 @@ use Rattle.co_text.specs.declared.cause.Cause.TheVariants as cause
 use Rattle.co_script.specs.Reading.{script_of}
 use Rattle.co_script.specs.Canonical.{canonical, canonical_lines}
 use Rattle.co_report.specs.declared.line.Report.{Report}
-use Rattle.co_report.specs.NoteForms.{run_forms, op_forms, valued_replies, reply_forms, queue_forms, answer_forms}
+use Rattle.co_notes.specs.NoteForms.{run_forms, op_forms, valued_replies, reply_forms, queue_forms, answer_forms}
 use Rattle.co_report.specs.Reading.{report_read}
 
 abbrev text_of : List String → List ℕ

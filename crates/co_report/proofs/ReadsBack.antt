@@ -13,19 +13,20 @@ use Rattle.co_program.specs.declared.Script.{Script}
 use Rattle.co_text.specs.Fallible.{◌>>=◌, at_line}
 use Rattle.co_text.specs.Lines.{Line, spaced}
 use Rattle.co_text.specs.Values.{Word}
-use Rattle.co_report.proofs.PartSplits.{line_of}
+use Rattle.co_notes.proofs.PartSplits.{line_of}
 use Rattle.co_grammar.specs.Spelling.{actor_word}
 use Rattle.co_report.specs.declared.line.Line.{Line as NoteLine}
 use Rattle.co_report.specs.Histories.{PlaceHistories}
-use Rattle.co_report.specs.declared.reading.notes.NumberedEntry.{NumberedEntry}
+use Rattle.co_notes.specs.declared.reading.notes.NumberedEntry.{NumberedEntry}
 use Rattle.co_object.specs.Lists.{act_of, actor_of}
-use Rattle.co_report.specs.NoteTexts.{entry_words}
-use Rattle.co_report.specs.Reports.{heading, shown_words, place_lines}
-use Rattle.co_report.specs.NoteFits.{ShownFits}
+use Rattle.co_notes.specs.NoteTexts.{entry_words, shown_words}
+use Rattle.co_report.specs.Reports.{heading, place_lines}
+use Rattle.co_notes.specs.NoteFits.{ShownFits}
 use Rattle.co_report.specs.Laws.{note_lines, lines_of_places, line_behind}
-use Rattle.co_report.specs.Reading.{joined, Progress, closing_words, closed_by, with_note, note_read, line_after, histories_read}
-use Rattle.co_report.specs.NoteValues.{IsSmallScript}
-use Rattle.co_report.proofs.OneSpelling.{note-shown}
+use Rattle.co_notes.specs.Parts.{joined}
+use Rattle.co_report.specs.Reading.{Progress, closing_words, closed_by, with_note, note_read, line_after, histories_read}
+use Rattle.co_notes.specs.NoteValues.{IsSmallScript}
+use Rattle.co_notes.proofs.OneSpelling.{note-shown}
 
 -- ---- a note is no heading
 

@@ -7,7 +7,7 @@ use Rattle.co_object.specs.declared.AnyEntry.{AnyEntry}
 use Rattle.co_object.specs.declared.Note.{Note}
 use Rattle.co_object.specs.Lists.{entry_at}
 use Rattle.co_report.specs.Histories.{Numbered, shown, shown_at, all_numbered_of}
-use Rattle.co_report.specs.declared.reading.notes.NumberedEntry.{NumberedEntry}
+use Rattle.co_notes.specs.declared.reading.notes.NumberedEntry.{NumberedEntry}
 use Rattle.co_report.specs.Laws.{EachHistoryIsShown}
 use Rattle.co_report.proofs.Numbering.{note_of, all-notes-of}
 

@@ -12,10 +12,10 @@ use Rattle.co_program.specs.declared.Script.{Script}
 use Rattle.co_report.specs.declared.order.Order.{Order}
 use Rattle.co_report.specs.declared.origin.Origin.{Origin}
 use Rattle.co_report.specs.Histories.{Numbered, shown, shown_at, shown_history, all_numbered_of}
-use Rattle.co_report.specs.declared.reading.notes.NumberedEntry.{NumberedEntry}
+use Rattle.co_notes.specs.declared.reading.notes.NumberedEntry.{NumberedEntry}
 use Rattle.co_report.specs.Origins.{note_at, note_from, entries_from, origin_line, lines_from}
 use Rattle.co_report.specs.Order.{place_index, starts_from, IsOfPart, location, note_behind, AreWritten, origins_in, ShowsHistories}
-use Rattle.co_report.specs.Reports.{shown_words}
+use Rattle.co_notes.specs.NoteTexts.{shown_words}
 use Rattle.co_program.specs.Places.{place_exists, AllHavePlaces}
 use Rattle.co_object.proofs.Members.{find-has}
 use Rattle.co_report.proofs.ShownHistories.{histories_shown}

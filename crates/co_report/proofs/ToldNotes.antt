@@ -11,9 +11,9 @@ use Rattle.co_program.specs.declared.Script.{Script}
 use Rattle.co_text.specs.Lines.{line_text, text}
 use Rattle.co_text.proofs.Spacing.{text_one, text_append}
 use Rattle.co_report.specs.Histories.{Numbered, shown}
-use Rattle.co_report.specs.declared.reading.notes.NumberedEntry.{NumberedEntry}
-use Rattle.co_report.specs.NoteTexts.{note_words}
-use Rattle.co_report.specs.Reports.{heading, shown_words, place_lines}
+use Rattle.co_notes.specs.declared.reading.notes.NumberedEntry.{NumberedEntry}
+use Rattle.co_notes.specs.NoteTexts.{note_words, shown_words}
+use Rattle.co_report.specs.Reports.{heading, place_lines}
 use Rattle.co_report.specs.Sections.{count_by, numbered_after, told_in, section}
 use Rattle.co_report.proofs.Numbering.{numbered}
 

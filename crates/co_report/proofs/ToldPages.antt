@@ -18,7 +18,7 @@ use Rattle.co_program.specs.Scripts.{IsScript}
 use Rattle.co_text.specs.Lines.{line_text, text}
 use Rattle.co_text.proofs.Spacing.{text_append}
 use Rattle.co_report.specs.Histories.{shown_history}
-use Rattle.co_report.specs.NoteTexts.{note_words}
+use Rattle.co_notes.specs.NoteTexts.{note_words}
 use Rattle.co_report.specs.Order.{place_index, place_count}
 use Rattle.co_report.specs.Reports.{places, heading, place_lines, report, report_of, framed}
 use Rattle.co_report.specs.Sections.{count_by, told_in, section, Written, HasRooms, NotesAreTold}

@@ -14,7 +14,7 @@ use Rattle.co_object.specs.Lists.{same_place}
 use Rattle.co_object.proofs.ListsGrow.{same_place-eq}
 use Rattle.co_listener.specs.MadeNotes.{MadeNote, list_by, lists_by, made_in, IsInOrder}
 use Rattle.co_report.specs.Histories.{Numbered, shown, shown_at, numbered_from, numbered_of, all_numbered_of, shown_history}
-use Rattle.co_report.specs.declared.reading.notes.NumberedEntry.{NumberedEntry}
+use Rattle.co_notes.specs.declared.reading.notes.NumberedEntry.{NumberedEntry}
 use Rattle.co_report.specs.Sections.{count_by, told_in}
 use Rattle.co_report.proofs.Numbering.{numbered}
 use Rattle.co_report.proofs.Places.{same_itself}

@@ -17,7 +17,7 @@ use Rattle.co_text.specs.Values.{Word, is_word}
 use Rattle.co_text.specs.declared.cause.Cause.{Cause}
 use Rattle.co_text.specs.declared.cause.Cause.TheVariants as cause
 use Rattle.co_text.proofs.LinesBack.{whole}
-use Rattle.co_report.proofs.PartSplits.{AreParts, AreLines, part_of, line_of, line-first, lines-all}
+use Rattle.co_notes.proofs.PartSplits.{AreParts, AreLines, part_of, line_of, line-first, lines-all}
 use Rattle.co_text.proofs.ValuesBack.{decimal-word}
 use Rattle.co_text.proofs.Spacing.{text_append}
 use Rattle.co_grammar.specs.Spelling.{numbered}
@@ -32,16 +32,18 @@ use Rattle.co_grammar.specs.declared.Verb.{Verb}
 use Rattle.co_grammar.specs.declared.Verb.TheVariants as verb
 use Rattle.co_report.specs.declared.line.Report.{Report}
 use Rattle.co_report.specs.Histories.{PlaceHistories}
-use Rattle.co_report.specs.declared.reading.notes.NumberedEntry.{NumberedEntry}
-use Rattle.co_report.specs.Reports.{places, heading, shown_words, place_lines, report, report_lines}
-use Rattle.co_report.specs.NoteFits.{ShownFits}
+use Rattle.co_notes.specs.declared.reading.notes.NumberedEntry.{NumberedEntry}
+use Rattle.co_notes.specs.NoteTexts.{shown_words}
+use Rattle.co_report.specs.Reports.{places, heading, place_lines, report, report_lines}
+use Rattle.co_notes.specs.NoteFits.{ShownFits}
 use Rattle.co_report.specs.Laws.{report_of_histories, HistoriesFit}
-use Rattle.co_report.specs.Reading.{joined, is_line, none_cut, first_line, Halves, halves, line_before, in_report, same_lines, end_read, notes_read, halves_read, lines_report, report_read}
-use Rattle.co_report.proofs.Exact.{lit}
-use Rattle.co_report.specs.NoteValues.{IsSmallScript}
-use Rattle.co_report.proofs.ExactActors.{actor-ink}
-use Rattle.co_report.proofs.ExactNotes.{note_exact}
-use Rattle.co_report.proofs.OneSpelling.{small_script}
+use Rattle.co_notes.specs.Parts.{joined}
+use Rattle.co_report.specs.Reading.{is_line, none_cut, first_line, Halves, halves, line_before, in_report, same_lines, end_read, notes_read, halves_read, lines_report, report_read}
+use Rattle.co_notes.proofs.Exact.{lit}
+use Rattle.co_notes.specs.NoteValues.{IsSmallScript}
+use Rattle.co_notes.proofs.ExactActors.{actor-ink}
+use Rattle.co_notes.proofs.ExactNotes.{note_exact}
+use Rattle.co_notes.proofs.OneSpelling.{small_script}
 use Rattle.co_script.specs.LineBytes.{line_bytes}
 use Rattle.co_script.proofs.WholeLines.{bytes_of, bytes-back}
 use Rattle.co_report.proofs.ReadsBack.{sections-steps, sections}

@@ -1,5 +1,5 @@
 -- A report shows the histories of its lists.
-use Rattle.std.specs.Prelude.{◌≡◌, ◌↔◌, ℕ, ◌+◌, ◌^◌, ◌<◌, ◌≤◌, true, List, [], ◌∷◌, ◌++◌, length, Some, Ok, map}
+use Rattle.std.specs.Prelude.{◌≡◌, ℕ, ◌+◌, ◌^◌, ◌<◌, ◌≤◌, true, List, [], ◌∷◌, ◌++◌, length, Ok, map}
 use Rattle.std.specs.List.{AllByRecursion}
 use Rattle.co_object.specs.declared.Note.{Note}
 use Rattle.co_object.specs.declared.Place.{Place}
@@ -13,21 +13,15 @@ use Rattle.co_script.specs.Canonical.{canonical}
 use Rattle.co_report.specs.declared.line.Line.{Line}
 use Rattle.co_report.specs.declared.line.Report.{Report}
 use Rattle.co_report.specs.Histories.{PlaceHistories, shown_history}
-use Rattle.co_report.specs.declared.reading.notes.NumberedEntry.{NumberedEntry}
-use Rattle.co_report.specs.Reports.{places, shown_words, report_of}
-use Rattle.co_report.specs.NoteValues.{names_of}
-use Rattle.co_report.specs.NoteForms.{shown_note}
-use Rattle.co_report.specs.NoteFits.{EntryFits, ShownFits, LineFits}
+use Rattle.co_notes.specs.declared.reading.notes.NumberedEntry.{NumberedEntry}
+use Rattle.co_report.specs.Reports.{places, report_of}
+use Rattle.co_report.specs.LineFits.{LineFits}
+use Rattle.co_notes.specs.NoteFits.{EntryFits, ShownFits}
 use Rattle.co_report.specs.Typed.{ListsTyped}
-use Rattle.co_report.specs.Reading.{joined, report_read}
+use Rattle.co_report.specs.Reading.{report_read}
 
 abbrev pub EachHistoryIsShown : Type 0
 EachHistoryIsShown = (place : Place) (lists : List (List Note)) → map (λ shown. shown.entry) (shown_history lists place) ≡ history place lists
-
--- where a script fits, a line is read as a note of a place exactly where it is the text of this note, and the note fits the
--- place
-abbrev pub NotesHaveOneSpelling : Type 0
-NotesHaveOneSpelling = (s : Script) (place : Place) (line : List ℕ) (x : NumberedEntry) → fits s ≡ true → (shown_note (names_of s) (Some place) line ≡ Ok x) ↔ (ShownFits s place x × (line ≡ joined (shown_words s x)))
 
 -- ---- a report that is read again
 

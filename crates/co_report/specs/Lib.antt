@@ -1,7 +1,5 @@
 -- The text of a report, both ways: how lists of notes are written, and which notes a text stands for.
 
--- the words of each operation, reply and note, such as `pop direct`, `go fF aA`, `K A/M X`
-pub mod NoteTexts
 -- what a report shows: the history of each place, each entry with its number in its actor's list
 pub mod Histories
 -- the text of a report: its places in order, their headings and lines
@@ -14,16 +12,8 @@ pub mod Order
 pub mod Once
 -- the sections of a report while its notes are told one by one
 pub mod Sections
--- the parts of a line between its spaces
-pub mod Parts
--- what is read straight from the text of a line: `A/M`
-pub mod Plain
--- words of notes as values, each in one spelling: `#N`, `iN`, `pN`, `uN`, codes, `A/M`
-pub mod NoteValues
--- the note that a line shows: NoteTexts read the other way
-pub mod NoteForms
--- which notes a report of a script may have: values in range, and names that exist
-pub mod NoteFits
+-- which lines a report of a script may have
+pub mod LineFits
 -- what the code's types say already of a note's values
 pub mod Typed
 -- the report that bytes stand for, or the first bad line and its cause
@@ -34,5 +24,5 @@ pub mod ReadingViews
 pub mod LineByLine
 -- note lines in few bytes: their notes, and where the numbers of lines follow each other
 pub mod PackedLines
--- each history is shown; a note has one spelling; a report reads back as its script and notes
+-- each history is shown; a report reads back as its script and notes
 pub mod Laws

@@ -16,10 +16,10 @@ use Rattle.co_report.specs.declared.reading.line_by_line.Reader.{Reader}
 use Rattle.co_report.specs.declared.reading.line_by_line.Found.{Found}
 use Rattle.co_report.specs.declared.reading.line_by_line.Next.{Next}
 use Rattle.co_report.specs.declared.reading.line_by_line.Next.TheVariants as next
-use Rattle.co_report.specs.declared.reading.names.Names.{Names}
-use Rattle.co_report.specs.NoteFits.{LineFits}
-use Rattle.co_report.specs.NoteForms.{shown_note}
-use Rattle.co_report.specs.NoteValues.{names_of, IsSmallScript, HasFewActors}
+use Rattle.co_notes.specs.declared.reading.names.Names.{Names}
+use Rattle.co_report.specs.LineFits.{LineFits}
+use Rattle.co_notes.specs.NoteForms.{shown_note}
+use Rattle.co_notes.specs.NoteValues.{names_of, IsSmallScript, HasFewActors}
 use Rattle.co_report.specs.Reading.{Progress, histories_read, first_progress, end_read}
 use Rattle.co_report.specs.ReadingViews.{IsSetting, IsReaderReady, one_or_none, so_far, with_line}
 use Rattle.co_report.specs.Reports.{places}

@@ -12,7 +12,7 @@ use Rattle.co_report.specs.declared.order.Spot.{Spot}
 use Rattle.co_report.specs.declared.order.Counted.{Counted}
 use Rattle.co_report.specs.Origins.{note_at, note_from, entries_from, lines_from}
 use Rattle.co_report.specs.Histories.{shown_history}
-use Rattle.co_report.specs.Reports.{shown_words}
+use Rattle.co_notes.specs.NoteTexts.{shown_words}
 pub use Rattle.co_program.specs.Places.{place_index, place_count}
 use Rattle.co_program.specs.Places.{place_exists}
 

@@ -7,7 +7,7 @@ use Rattle.co_object.specs.declared.Note.{Note}
 use Rattle.co_text.specs.Values.{Word}
 use Rattle.co_program.specs.declared.Script.{Script}
 use Rattle.co_report.specs.declared.origin.Origin.{Origin}
-use Rattle.co_report.specs.NoteTexts.{note_words}
+use Rattle.co_notes.specs.NoteTexts.{note_words}
 
 -- the note of this number in an actor's list
 abbrev pub note_at : List (List Note) → ℕ → ℕ → Option Note

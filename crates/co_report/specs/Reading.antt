@@ -4,7 +4,7 @@ use Rattle.std.specs.Option.{option_map}
 use Rattle.co_object.specs.declared.Place.{Place}
 use Rattle.co_program.specs.declared.Script.{Script}
 use Rattle.co_text.specs.Fallible.{◌>>=◌, ◌>>◌, unless, some_or, Refusal, at_line}
-use Rattle.co_text.specs.Lines.{Line, lines_of, spaced}
+use Rattle.co_text.specs.Lines.{Line, lines_of}
 use Rattle.co_text.specs.Values.{Word}
 use Rattle.co_text.specs.declared.Cause.{Cause}
 use Rattle.co_text.specs.declared.Cause.TheVariants as cause
@@ -13,17 +13,13 @@ use Rattle.co_script.specs.Canonical.{canonical}
 use Rattle.co_script.specs.LineBytes.{line_bytes}
 use Rattle.co_report.specs.declared.line.Line.{Line as NoteLine}
 use Rattle.co_report.specs.declared.line.Report.{Report}
-use Rattle.co_report.specs.declared.reading.notes.NumberedEntry.{NumberedEntry}
+use Rattle.co_notes.specs.declared.reading.notes.NumberedEntry.{NumberedEntry}
+use Rattle.co_notes.specs.Parts.{joined}
 use Rattle.co_report.specs.Reports.{places, heading}
-use Rattle.co_report.specs.NoteValues.{names_of}
-use Rattle.co_report.specs.NoteForms.{shown_note}
+use Rattle.co_notes.specs.NoteValues.{names_of}
+use Rattle.co_notes.specs.NoteForms.{shown_note}
 
 -- ---- lines
-
--- words with one space between two
-abbrev pub joined : List Word → List ℕ
-joined [] = []
-joined (w ∷ ws) = w ++ spaced ws
 
 -- a line is exactly this
 abbrev pub is_line : List ℕ → Line → Bool

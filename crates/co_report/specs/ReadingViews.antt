@@ -5,13 +5,14 @@ use Rattle.co_program.specs.declared.Script.{Script}
 use Rattle.co_text.specs.Lines.{lines_of}
 use Rattle.co_text.specs.declared.cause.Cause.{Cause}
 use Rattle.co_report.specs.declared.line.Line.{Line}
-use Rattle.co_report.specs.declared.reading.notes.NumberedEntry.{NumberedEntry}
+use Rattle.co_notes.specs.declared.reading.notes.NumberedEntry.{NumberedEntry}
 use Rattle.co_report.specs.declared.reading.texts.Halves.{Halves as Texts}
 use Rattle.co_report.specs.declared.reading.progress.Progress.{Progress as Reader}
 use Rattle.co_report.specs.declared.reading.progress.Setting.{Setting}
 use Rattle.co_report.specs.Reports.{places}
-use Rattle.co_report.specs.NoteValues.{names_of, HasFewActors}
-use Rattle.co_report.specs.Reading.{Halves, Progress, joined, closed_by, closing_words, line_after, note_read}
+use Rattle.co_notes.specs.NoteValues.{names_of, HasFewActors}
+use Rattle.co_notes.specs.Parts.{joined}
+use Rattle.co_report.specs.Reading.{Halves, Progress, closed_by, closing_words, line_after, note_read}
 
 abbrev pub halves_view : Texts → Halves
 halves_view h = record { script = h.script.now; count = h.count; notes = lines_of h.notes.now }

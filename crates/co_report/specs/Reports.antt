@@ -10,9 +10,8 @@ use Rattle.co_grammar.specs.Spelling.{numbered, actor_word}
 use Rattle.co_script.specs.Canonical.{canonical, canonical_lines}
 use Rattle.co_program.specs.declared.Script.{Script}
 use Rattle.co_program.specs.Actors.{actor_count}
-use Rattle.co_report.specs.NoteTexts.{note_words}
+use Rattle.co_notes.specs.NoteTexts.{shown_words}
 use Rattle.co_report.specs.Histories.{PlaceHistories, shown_history}
-use Rattle.co_report.specs.declared.reading.notes.NumberedEntry.{NumberedEntry}
 
 -- the places of a report, in order
 abbrev pub places : Script → List Place
@@ -22,9 +21,6 @@ abbrev pub heading : Script → Place → List Word
 heading s (place.Timer i) = numbered (codes "timer") i
 heading s (place.Cpu c) = numbered (codes "wheel") c
 heading s (place.Actor a) = codes "actor" ∷ actor_word s a ∷ []
-
-abbrev pub shown_words : Script → NumberedEntry → List Word
-shown_words s n = note_words s n.number n.entry
 
 -- the heading of a place and its notes
 abbrev pub place_lines : Script → PlaceHistories → Place → List (List Word)

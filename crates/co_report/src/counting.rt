@@ -5,7 +5,7 @@ ghost use Rattle.co_report.specs.Order.{AreCounted};
 ghost use denote.Param.Send.{IsSync};
 
 use crate::joining::append;
-use crate::order::{Counted, count_lists};
+use crate::order::{Counted, count_lists, sum};
 use co_packed::PackedNote;
 use co_program::Script;
 use co_sbt::{NoMemory, Seq};
@@ -15,8 +15,7 @@ use std::thread::{Threads, join};
 /// How often the lists are halved: three times, for 8 parts.
 const HALVINGS: u32 = 3;
 
-/// Adds other numbers of notes to those of the same places. `NoMemory` where a sum is too large: so many notes find no
-/// memory.
+/// Adds other numbers of notes to those of the same places. `NoMemory` where a sum is too large.
 fn add_counts(counts: &mut Seq<usize>, more: &[usize]) -> Result<(), NoMemory>
     requires { length more.now ≡ length counts.old }
     ensures length { OnOk result (length counts.new ≡ length counts.old) }
@@ -24,7 +23,7 @@ fn add_counts(counts: &mut Seq<usize>, more: &[usize]) -> Result<(), NoMemory>
 {
     for place in 0..more.len() {
         let counted = counts.as_slice();
-        let count = counted[place].checked_add(more[place]).ok_or(NoMemory {})?;
+        let count = sum(counted[place], more[place])?;
         counts.replace(place, count);
     }
     Ok(())

@@ -7,7 +7,7 @@ ghost use Rattle.co_text.specs.Written.{token_word};
 ghost use Rattle.co_grammar.specs.Spelling.{numbered};
 ghost use Rattle.co_script.specs.Canonical.{canonical};
 ghost use Rattle.co_report.specs.Reports.{heading, head_text};
-ghost use Rattle.co_report.specs.Reading.{joined};
+ghost use Rattle.co_notes.specs.Parts.{joined};
 
 use crate::joining::append;
 use co_grammar::{actor_name, print_numbered};

@@ -1,14 +1,11 @@
 //! The laws of reports, each the contract of a function that does nothing.
-ghost use Rattle.co_report.specs.Laws.{EachHistoryIsShown, NotesHaveOneSpelling, ReportReadsBack, RunReadsBack, ReadReportsFit};
+ghost use Rattle.co_report.specs.Laws.{EachHistoryIsShown, ReportReadsBack, RunReadsBack, ReadReportsFit};
+
+pub use co_notes::laws::notes_have_one_spelling;
 
 /// What a report shows of a place, but for the numbers of the notes, is the place's history.
 pub fn histories_shown()
     ensures { EachHistoryIsShown }
-{}
-
-/// A line is read as a note of a place exactly where it is the text of this note, and the note fits the place.
-pub fn notes_have_one_spelling()
-    ensures { NotesHaveOneSpelling }
 {}
 
 /// The report of a script that fits and of notes that fit their places is read as this script and exactly these notes, place

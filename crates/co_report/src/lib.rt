@@ -8,7 +8,6 @@ mod joining;
 pub mod laws;
 mod line;
 mod listening;
-mod note;
 mod order;
 mod origin;
 mod packed_lines;

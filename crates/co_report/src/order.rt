@@ -89,11 +89,11 @@ fn spot_of(script: &Script, note: &PackedNote) -> Result<Spot, NoMemory>
     Ok(Spot { place, pos })
 }
 
-/// One more than a count.
-fn next(count: usize) -> Result<usize, NoMemory>
-    ensures { IfOk result (λ next. next ≡ count + 1) }
+/// The sum of two numbers of notes. `NoMemory` where it is too large: so many notes find no memory.
+pub(crate) fn sum(count: usize, more: usize) -> Result<usize, NoMemory>
+    ensures { IfOk result (λ sum. sum ≡ count + more) }
 {
-    count.checked_add(1).ok_or(NoMemory {})
+    count.checked_add(more).ok_or(NoMemory {})
 }
 
 /// Adds the numbers of an actor's notes to those of the places, and gives where each of these notes belongs. `NoMemory`
@@ -116,7 +116,7 @@ fn count_list(
         let counted = counts.as_slice();
         let spot = spot_of(script, note)?;
         let place = spot.place as usize;
-        let count = next(counted[place])?;
+        let count = sum(counted[place], 1)?;
         counts.replace(place, count);
         spots.push(spot);
     }
@@ -149,7 +149,7 @@ pub(crate) fn starts_of(alloc: Global, counts: &[usize]) -> Result<Seq<usize>, N
     let mut start: usize = 0;
     for count in counts {
         starts.push(start)?;
-        start = start.checked_add(*count).ok_or(NoMemory {})?;
+        start = sum(start, *count)?;
     }
     starts.push(start)?;
     Ok(starts)

@@ -3,7 +3,7 @@ ghost use Rattle.std.specs.Prelude.{◌≡◌, ◌++◌, length, map, Some, None
 ghost use Rattle.co_text.specs.Lines.{text};
 ghost use Rattle.co_report.specs.Origins.{note_from, origin_line, lines_from};
 
-use crate::note::print_note;
+use co_notes::print_note;
 use co_object::Note;
 use co_packed::PackedNote;
 use co_program::Script;

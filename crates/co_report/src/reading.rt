@@ -7,19 +7,10 @@ ghost use Rattle.co_script.specs.Canonical.{canonical};
 ghost use Rattle.co_report.specs.LineByLine.{before_all, report_of_all};
 ghost use Rattle.co_report.specs.Reading.{in_report, same_lines, report_read};
 
-mod codes;
 pub mod line_by_line;
-mod names;
-mod notes;
-mod operations;
-mod parts;
 pub mod places;
-mod plain;
 mod progress;
-mod queue;
-mod replies;
 mod texts;
-mod values;
 
 use crate::line::{Line, Report};
 use co_program::Script;

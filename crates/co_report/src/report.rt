@@ -30,11 +30,11 @@ pub(crate) fn place_of(script: &Script, number: usize) -> Result<Place, NoMemory
     let timers = script.timers.as_slice().len();
     let cpus = script.cpus as usize;
     if number < timers {
-        Ok(Place::Timer(short(number)?))
+        short(number).map(Place::Timer)
     } else if number - timers < cpus {
-        Ok(Place::Cpu(short(number - timers)?))
+        short(number - timers).map(Place::Cpu)
     } else {
-        Ok(Place::Actor(short(number - timers - cpus)?))
+        short(number - timers - cpus).map(Place::Actor)
     }
 }
 

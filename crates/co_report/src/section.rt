@@ -2,9 +2,9 @@
 ghost use Rattle.std.specs.Prelude.{◌≡◌, ◌++◌, OnOk, IfOk};
 ghost use Rattle.std.specs.List.{concat};
 ghost use Rattle.co_text.specs.Lines.{line_text};
-ghost use Rattle.co_report.specs.NoteTexts.{note_words};
+ghost use Rattle.co_notes.specs.NoteTexts.{note_words};
 
-use crate::note::print_note;
+use co_notes::print_note;
 use co_object::AnyEntry;
 use co_program::Script;
 use co_sbt::{NoMemory, Seq};

@@ -2,7 +2,8 @@
 ghost use Rattle.std.specs.Prelude.{◌≡◌, ◌≤◌, length, drop, IfOk};
 ghost use Rattle.co_program.specs.Scripts.{IsScript};
 ghost use Rattle.co_report.specs.Reports.{places, heading};
-ghost use Rattle.co_report.specs.Reading.{joined, closing_words};
+ghost use Rattle.co_notes.specs.Parts.{joined};
+ghost use Rattle.co_report.specs.Reading.{closing_words};
 
 use crate::frame::begin_heading;
 use crate::order::place_count;

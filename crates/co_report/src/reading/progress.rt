@@ -5,9 +5,8 @@ ghost use Rattle.co_report.specs.Reading.{closed_by, note_read, reads_on, line_a
 ghost use Rattle.co_report.specs.ReadingViews.{so_far, IsLineSorted, IsReaderReady, IsSetting};
 
 use crate::line::Line;
-use crate::reading::names::Names;
-use crate::reading::notes::note_of;
 use crate::reading::places::closing;
+use co_notes::{Names, note_of};
 use co_object::Place;
 use co_program::Script;
 use co_sbt::{NoMemory, Seq};

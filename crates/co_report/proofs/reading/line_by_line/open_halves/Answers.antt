@@ -4,7 +4,7 @@ use Rattle.co_script.specs.Reading.{script_of}
 use Rattle.co_script.specs.Fits.{fits}
 use Rattle.co_report.specs.ReadingViews.{halves_view}
 use Rattle.co_report.proofs.LineByLine.{halves-ahead}
-use Rattle.co_report.proofs.OneSpelling.{small_script}
+use Rattle.co_notes.proofs.OneSpelling.{small_script}
 use Rattle.co_report.proofs.ScriptLines.{in_report-ok}
 use Rattle.co_report.proofs.reading.line_by_line.open_halves.Goals as goal
 

@@ -3,9 +3,9 @@ use Rattle.std.proofs.Common.{◌≡◌, List, [], ◌∷◌, ◌++◌, Ok, Some
 use Rattle.co_object.specs.declared.note.Note.{Note}
 use Rattle.co_text.specs.Fallible.{◌>>=◌}
 use Rattle.co_report.specs.declared.line.Line.{Line}
-use Rattle.co_report.specs.declared.reading.notes.NumberedEntry.{NumberedEntry}
-use Rattle.co_report.specs.NoteForms.{shown_note}
-use Rattle.co_report.specs.NoteValues.{names_of}
+use Rattle.co_notes.specs.declared.reading.notes.NumberedEntry.{NumberedEntry}
+use Rattle.co_notes.specs.NoteForms.{shown_note}
+use Rattle.co_notes.specs.NoteValues.{names_of}
 use Rattle.co_report.specs.PackedLines.{line_of}
 use Rattle.co_report.specs.Reading.{line_after, with_note}
 use Rattle.co_report.specs.ReadingViews.{so_far, with_line, IsLineSorted}

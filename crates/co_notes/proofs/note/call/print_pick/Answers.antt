@@ -1,0 +1,10 @@
+use Rattle.std.proofs.lemmas.Result.{on_ok_weaker}
+use Rattle.co_text.proofs.Spacing.{three_pieces}
+use Rattle.co_notes.proofs.note.call.print_pick.Goals as goal
+
+pub returns : goal.returns
+returns c =
+    let e1 = simp (c.as_slice.ensures) at c.in_ok-tagged.ensures in
+    let e2 = simp (c.as_slice-2.ensures) at c.in_ok-tagged-2.ensures in
+    let e3 = simp (c.as_slice-3.ensures, c.raw.ensures.units) at c.tagged-3.ensures in
+    on_ok_weaker c.tagged-3.result (three_pieces _ _ _ _ _ _ _ e1 e2) e3

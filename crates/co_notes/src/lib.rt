@@ -1,0 +1,10 @@
+//! The line of a note, both ways: its words, and the note that a line shows.
+#![tactic(auto)]
+
+pub mod laws;
+mod note;
+mod reading;
+
+pub use note::print_note;
+pub use reading::names::{Names, names_of};
+pub use reading::notes::{NumberedEntry, note_of, read_note, unread};

@@ -1,5 +1,0 @@
-use Rattle.co_report.proofs.PlainParts.{code_left}
-use Rattle.co_report.proofs.reading.codes.code.Goals as goal
-
-pub returns-in-None : goal.returns-in-None
-returns-in-None c = code_left _ _ _ _ c.in-None.ensures c.signed_code.ensures

@@ -1,6 +1,0 @@
-use Rattle.co_report.specs.NoteValues.{cpu_in}
-use Rattle.co_report.proofs.PlainParts.{dash_failed}
-use Rattle.co_report.proofs.reading.values.cpu_or_none.Goals as goal
-
-pub returns-in-Err : goal.returns-in-Err
-returns-in-Err c = dash_failed (cpu_in c.args.names.now) _ c.args.parts.now _ _ c.in-Err.cause c.as_slice.ensures c.option.ensures c.if-option.false c.in-Err.ensures
