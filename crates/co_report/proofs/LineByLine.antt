@@ -24,7 +24,7 @@ use Rattle.co_report.proofs.ReadLines.{closed-lines}
 use Rattle.co_report.proofs.ReadFit.{Stands, line-stands}
 use Rattle.co_report.proofs.LinesWhole.{whole_more, whole_start}
 use Rattle.co_report.proofs.WholeBack.{each-place}
-use Rattle.co_report.specs.Reports.{places}
+use Rattle.co_print.specs.Reports.{places}
 use Rattle.co_report.specs.declared.reading.line_by_line.Reader.{Reader}
 use Rattle.co_report.specs.declared.reading.progress.Progress.{Progress as Kept}
 use Rattle.co_report.specs.ReadingViews.{so_far, with_line, IsReaderReady, IsSetting}

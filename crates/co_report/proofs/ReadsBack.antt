@@ -16,11 +16,11 @@ use Rattle.co_text.specs.Values.{Word}
 use Rattle.co_notes.proofs.PartSplits.{line_of}
 use Rattle.co_grammar.specs.Spelling.{actor_word}
 use Rattle.co_report.specs.declared.line.Line.{Line as NoteLine}
-use Rattle.co_report.specs.Histories.{PlaceHistories}
+use Rattle.co_print.specs.Histories.{PlaceHistories}
 use Rattle.co_notes.specs.declared.reading.notes.NumberedEntry.{NumberedEntry}
 use Rattle.co_object.specs.Lists.{act_of, actor_of}
 use Rattle.co_notes.specs.NoteTexts.{entry_words, shown_words}
-use Rattle.co_report.specs.Reports.{heading, place_lines}
+use Rattle.co_print.specs.Reports.{heading, place_lines}
 use Rattle.co_notes.specs.NoteFits.{ShownFits}
 use Rattle.co_report.specs.Laws.{note_lines, lines_of_places, line_behind}
 use Rattle.co_notes.specs.Parts.{joined}

@@ -9,7 +9,7 @@ use Rattle.co_object.specs.declared.Place.{Place}
 use Rattle.co_object.specs.declared.Place.TheVariants as place
 use Rattle.co_object.specs.Lists.{same_place}
 use Rattle.co_program.specs.declared.Script.{Script}
-use Rattle.co_report.specs.Histories.{Numbered, numbered_from, numbered_of, all_numbered_of, shown, shown_at, shown_history}
+use Rattle.co_print.specs.Histories.{Numbered, numbered_from, numbered_of, all_numbered_of, shown, shown_at, shown_history}
 use Rattle.co_notes.specs.declared.reading.notes.NumberedEntry.{NumberedEntry}
 use Rattle.co_notes.specs.NoteFits.{EntryFits, ShownFits}
 use Rattle.co_report.specs.Laws.{ListsFit}

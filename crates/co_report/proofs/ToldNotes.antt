@@ -10,12 +10,12 @@ use Rattle.co_listener.specs.MadeNotes.{MadeNote, list_by, made_in}
 use Rattle.co_program.specs.declared.Script.{Script}
 use Rattle.co_text.specs.Lines.{line_text, text}
 use Rattle.co_text.proofs.Spacing.{text_one, text_append}
-use Rattle.co_report.specs.Histories.{Numbered, shown}
+use Rattle.co_print.specs.Histories.{Numbered, shown}
 use Rattle.co_notes.specs.declared.reading.notes.NumberedEntry.{NumberedEntry}
 use Rattle.co_notes.specs.NoteTexts.{note_words, shown_words}
-use Rattle.co_report.specs.Reports.{heading, place_lines}
+use Rattle.co_print.specs.Reports.{heading, place_lines}
 use Rattle.co_report.specs.Sections.{count_by, numbered_after, told_in, section}
-use Rattle.co_report.proofs.Numbering.{numbered}
+use Rattle.co_print.proofs.Numbering.{numbered}
 
 module _ {X : Type 0} where
   pub filter-kept : (p : X → Bool) (xs : List X) (x : X) → p x ≡ true → filter p (xs ++ x ∷ []) ≡ filter p xs ++ x ∷ []

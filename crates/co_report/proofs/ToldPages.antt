@@ -1,8 +1,8 @@
 -- The sections and counts after one note more, before the first one, and as the parts of the report.
-use Rattle.std.proofs.Common.{◌≡◌, ◌≢◌, ℕ, zero, suc, ◌+◌, ◌-◌, ◌<◌, ◌^◌, ◌==◌, nat_lt, Bool, true, false, cond, List, [], ◌∷◌, ◌++◌, map, length, set, get_or, replicate, refl, ap, sym, subst, ◌∙◌, arith, append-nil, length-append}
+use Rattle.std.proofs.Common.{◌≡◌, ◌≢◌, ℕ, zero, suc, ◌+◌, ◌-◌, ◌<◌, ◌^◌, ◌==◌, nat_lt, Bool, true, false, cond, List, [], ◌∷◌, ◌++◌, map, length, set, get_or, replicate, refl, ap, sym, subst, ◌∙◌, arith, append-nil}
 use Rattle.std.specs.List.{AllByRecursion, concat, filter, flat_map, range_with_len}
 use Rattle.std.proofs.lemmas.Bool.Decides.{nat_tests}
-use Rattle.std.proofs.lemmas.List.{map-append, set-append_left, set-append_right, get_or_append_left, get_or-append-add}
+use Rattle.std.proofs.lemmas.List.{set-append_left, set-append_right}
 use Rattle.std.proofs.lemmas.List.Concat.{concat_is}
 use Rattle.std.proofs.lemmas.List.FromFn.{length-range_with_len, length-map-range_with_len, get_or-range_with_len, get_or-map-range_with_len}
 use Rattle.co_object.specs.declared.Note.{Note}
@@ -17,14 +17,15 @@ use Rattle.co_program.specs.Places.{place_exists}
 use Rattle.co_program.specs.Scripts.{IsScript}
 use Rattle.co_text.specs.Lines.{line_text, text}
 use Rattle.co_text.proofs.Spacing.{text_append}
-use Rattle.co_report.specs.Histories.{shown_history}
+use Rattle.co_print.specs.Histories.{shown_history}
 use Rattle.co_notes.specs.NoteTexts.{note_words}
-use Rattle.co_report.specs.Order.{place_index, place_count}
-use Rattle.co_report.specs.Reports.{places, heading, place_lines, report, report_of, framed}
+use Rattle.co_print.specs.Order.{place_index}
+use Rattle.co_print.specs.Reports.{places, heading, place_lines, report, report_of, framed}
 use Rattle.co_report.specs.Sections.{count_by, told_in, section, Written, HasRooms, NotesAreTold}
 use Rattle.co_report.specs.Typed.{EntryTyped, ListsTyped}
-use Rattle.co_report.proofs.Framed.{report-framed}
-use Rattle.co_report.proofs.Places.{below, same_itself}
+use Rattle.co_print.proofs.Framed.{report-framed}
+use Rattle.co_print.proofs.PlaceLists.{timers, wheels, actors, map-places, length-kind, at-place, length-places}
+use Rattle.co_print.proofs.Places.{below, same_itself}
 use Rattle.co_report.proofs.ToldNotes.{count-own, count-other, section-here, section-elsewhere}
 use Rattle.co_report.proofs.ToldShown.{shown-as-told}
 
@@ -99,104 +100,51 @@ module _ {Y : Type 0} (g h : Place → Y) (kind : ℕ → Place) (n : ℕ) where
       ∙ set-map g h (map kind (range_with_len 0 n)) i (kind 0) (omega (arith, inside, length-map-range_with_len kind 0 n)) (λ j in_ks ne.
       (let at = kind-at j (kind 0) (omega (arith, in_ks, length-map-range_with_len kind 0 n)) in ap h at ∙ (same j ne ∙ ap g (sym at))))
 
-module _ {Y : Type 0} (g : Place → Y) (kind : ℕ → Place) where
-  length-both : (ks : List ℕ) → length (map g (map kind ks)) ≡ length ks
-  length-both [] = refl
-  length-both (k ∷ ks) = ap suc (length-both ks)
-
-  at-both : (d : Y) (ks : List ℕ) (j : ℕ) → j < length ks → get_or (map g (map kind ks)) j d ≡ g (kind (get_or ks j 0))
-  at-both d [] j h = absurd (omega (arith, h))
-  at-both d (k ∷ ks) zero h = refl
-  at-both d (k ∷ ks) (suc j) h = at-both d ks j (omega (arith, h))
-
 -- those of the three kinds
 module _ (s : Script) where
-  abbrev timers : List Place
-  timers = map Timer (range_with_len 0 (length s.timers))
-
-  abbrev wheels : List Place
-  wheels = map Cpu (range_with_len 0 s.cpus)
-
-  abbrev actors : List Place
-  actors = map Actor (range_with_len 0 (actor_count s))
-
-  module _ {Y : Type 0} (g : Place → Y) where
-    pub map-places : map g (places s) ≡ map g timers ++ (map g wheels ++ map g actors)
-    map-places = map-append g timers (wheels ++ actors) ∙ ap (λ ys. map g timers ++ ys) (map-append g wheels actors)
-
-    length-kind : (kind : ℕ → Place) (n : ℕ) → length (map g (map kind (range_with_len 0 n))) ≡ n
-    length-kind kind n = length-both g kind (range_with_len 0 n) ∙ length-range_with_len 0 n
-
-    at-kind : (kind : ℕ → Place) (n i : ℕ) (d : Y) → i < n → get_or (map g (map kind (range_with_len 0 n))) i d ≡ g (kind i)
-    at-kind kind n i d inside =
-        let first : 0 + i ≡ i = omega arith in
-        at-both g kind d (range_with_len 0 n) i (omega (arith, inside, length-range_with_len 0 n)) ∙ ap (λ k. g (kind k)) (get_or-range_with_len 0 n i 0 inside ∙ first)
-
-    pub at-place : (p : Place) (d : Y) → place_exists s p ≡ true → get_or (map g (places s)) (place_index s p) d ≡ g p
-    at-place (Timer i) d exists =
-        let inside : i < length s.timers = below i (length s.timers) exists in
-        ap (λ ys. get_or ys i d) map-places
-        ∙ (get_or_append_left (map g timers) (map g wheels ++ map g actors) d i (omega (arith, inside, length-kind Timer (length s.timers)))
-        ∙ at-kind Timer (length s.timers) i d inside)
-    at-place (Cpu c) d exists =
-        let inside : c < s.cpus = below c s.cpus exists in
-        ap (λ ys. get_or ys (length s.timers + c) d) map-places
-        ∙ (ap (λ k. get_or (map g timers ++ (map g wheels ++ map g actors)) (k + c) d) (sym (length-kind Timer (length s.timers)))
-        ∙ (get_or-append-add (map g timers) (map g wheels ++ map g actors) c d
-        ∙ (get_or_append_left (map g wheels) (map g actors) d c (omega (arith, inside, length-kind Cpu s.cpus))
-        ∙ at-kind Cpu s.cpus c d inside)))
-    at-place (Actor a) d exists =
-        let inside : a < actor_count s = below a (actor_count s) exists in
-        let first : length s.timers + s.cpus + a ≡ length (map g timers) + (length (map g wheels) + a) = omega (arith, length-kind Timer (length s.timers), length-kind Cpu s.cpus) in
-        ap (λ ys. get_or ys (length s.timers + s.cpus + a) d) map-places
-        ∙ (ap (λ k. get_or (map g timers ++ (map g wheels ++ map g actors)) k d) first
-        ∙ (get_or-append-add (map g timers) (map g wheels ++ map g actors) (length (map g wheels) + a) d
-        ∙ (get_or-append-add (map g wheels) (map g actors) a d
-        ∙ at-kind Actor (actor_count s) a d inside)))
-
   module _ {Y : Type 0} (g h : Place → Y) where
     pub same-places : ((q : Place) → place_exists s q ≡ true → h q ≡ g q) → map g (places s) ≡ map h (places s)
     same-places same =
-        map-places g
-        ∙ (ap (λ ys. ys ++ (map g wheels ++ map g actors)) (kind-same g h Timer (length s.timers) (λ j in_range. same (Timer j) (less-test j (length s.timers) in_range)))
-        ∙ (ap (λ ys. map h timers ++ (ys ++ map g actors)) (kind-same g h Cpu s.cpus (λ j in_range. same (Cpu j) (less-test j s.cpus in_range)))
-        ∙ (ap (λ ys. map h timers ++ (map h wheels ++ ys)) (kind-same g h Actor (actor_count s) (λ j in_range. same (Actor j) (less-test j (actor_count s) in_range)))
-        ∙ sym (map-places h))))
+        map-places s g
+        ∙ (ap (λ ys. ys ++ (map g (wheels s) ++ map g (actors s))) (kind-same g h Timer (length s.timers) (λ j in_range. same (Timer j) (less-test j (length s.timers) in_range)))
+        ∙ (ap (λ ys. map h (timers s) ++ (ys ++ map g (actors s))) (kind-same g h Cpu s.cpus (λ j in_range. same (Cpu j) (less-test j s.cpus in_range)))
+        ∙ (ap (λ ys. map h (timers s) ++ (map h (wheels s) ++ ys)) (kind-same g h Actor (actor_count s) (λ j in_range. same (Actor j) (less-test j (actor_count s) in_range)))
+        ∙ sym (map-places s h))))
 
     -- a place is written anew, and the others are as they were
     pub set-place : (p : Place) → place_exists s p ≡ true → ((q : Place) → same_place p q ≡ false → h q ≡ g q) → set (map g (places s)) (place_index s p) (h p) ≡ map h (places s)
     set-place (Timer i) exists same =
         let inside : i < length s.timers = below i (length s.timers) exists in
-        ap (λ ys. set ys i (h (Timer i))) (map-places g)
-        ∙ (set-append_left (map g timers) (map g wheels ++ map g actors) i (h (Timer i)) (omega (arith, inside, length-kind g Timer (length s.timers)))
-        ∙ (ap (λ ys. ys ++ (map g wheels ++ map g actors)) (kind-set g h Timer (length s.timers) i inside (λ j ne. same (Timer j) (unequal-test j i ne)))
-        ∙ (ap (λ ys. map h timers ++ (ys ++ map g actors)) (kind-same g h Cpu s.cpus (λ j in_range. same (Cpu j) refl))
-        ∙ (ap (λ ys. map h timers ++ (map h wheels ++ ys)) (kind-same g h Actor (actor_count s) (λ j in_range. same (Actor j) refl))
-        ∙ sym (map-places h)))))
+        ap (λ ys. set ys i (h (Timer i))) (map-places s g)
+        ∙ (set-append_left (map g (timers s)) (map g (wheels s) ++ map g (actors s)) i (h (Timer i)) (omega (arith, inside, length-kind s g Timer (length s.timers)))
+        ∙ (ap (λ ys. ys ++ (map g (wheels s) ++ map g (actors s))) (kind-set g h Timer (length s.timers) i inside (λ j ne. same (Timer j) (unequal-test j i ne)))
+        ∙ (ap (λ ys. map h (timers s) ++ (ys ++ map g (actors s))) (kind-same g h Cpu s.cpus (λ j in_range. same (Cpu j) refl))
+        ∙ (ap (λ ys. map h (timers s) ++ (map h (wheels s) ++ ys)) (kind-same g h Actor (actor_count s) (λ j in_range. same (Actor j) refl))
+        ∙ sym (map-places s h)))))
     set-place (Cpu c) exists same =
         let inside : c < s.cpus = below c s.cpus exists in
         let back : (length s.timers + c) - length s.timers ≡ c = omega arith in
-        ap (λ ys. set ys (length s.timers + c) (h (Cpu c))) (map-places g)
-        ∙ (set-append_right (map g timers) (map g wheels ++ map g actors) (length s.timers) (length s.timers + c) (h (Cpu c)) (length-kind g Timer (length s.timers)) (omega arith)
-        ∙ (ap (λ k. map g timers ++ set (map g wheels ++ map g actors) k (h (Cpu c))) back
-        ∙ (ap (λ ys. map g timers ++ ys) (set-append_left (map g wheels) (map g actors) c (h (Cpu c)) (omega (arith, inside, length-kind g Cpu s.cpus)))
-        ∙ (ap (λ ys. map g timers ++ (ys ++ map g actors)) (kind-set g h Cpu s.cpus c inside (λ j ne. same (Cpu j) (unequal-test j c ne)))
-        ∙ (ap (λ ys. ys ++ (map h wheels ++ map g actors)) (kind-same g h Timer (length s.timers) (λ j in_range. same (Timer j) refl))
-        ∙ (ap (λ ys. map h timers ++ (map h wheels ++ ys)) (kind-same g h Actor (actor_count s) (λ j in_range. same (Actor j) refl))
-        ∙ sym (map-places h)))))))
+        ap (λ ys. set ys (length s.timers + c) (h (Cpu c))) (map-places s g)
+        ∙ (set-append_right (map g (timers s)) (map g (wheels s) ++ map g (actors s)) (length s.timers) (length s.timers + c) (h (Cpu c)) (length-kind s g Timer (length s.timers)) (omega arith)
+        ∙ (ap (λ k. map g (timers s) ++ set (map g (wheels s) ++ map g (actors s)) k (h (Cpu c))) back
+        ∙ (ap (λ ys. map g (timers s) ++ ys) (set-append_left (map g (wheels s)) (map g (actors s)) c (h (Cpu c)) (omega (arith, inside, length-kind s g Cpu s.cpus)))
+        ∙ (ap (λ ys. map g (timers s) ++ (ys ++ map g (actors s))) (kind-set g h Cpu s.cpus c inside (λ j ne. same (Cpu j) (unequal-test j c ne)))
+        ∙ (ap (λ ys. ys ++ (map h (wheels s) ++ map g (actors s))) (kind-same g h Timer (length s.timers) (λ j in_range. same (Timer j) refl))
+        ∙ (ap (λ ys. map h (timers s) ++ (map h (wheels s) ++ ys)) (kind-same g h Actor (actor_count s) (λ j in_range. same (Actor j) refl))
+        ∙ sym (map-places s h)))))))
     set-place (Actor a) exists same =
         let inside : a < actor_count s = below a (actor_count s) exists in
         let back : (length s.timers + s.cpus + a) - length s.timers ≡ s.cpus + a = omega arith in
         let again : (s.cpus + a) - s.cpus ≡ a = omega arith in
-        ap (λ ys. set ys (length s.timers + s.cpus + a) (h (Actor a))) (map-places g)
-        ∙ (set-append_right (map g timers) (map g wheels ++ map g actors) (length s.timers) (length s.timers + s.cpus + a) (h (Actor a)) (length-kind g Timer (length s.timers)) (omega arith)
-        ∙ (ap (λ k. map g timers ++ set (map g wheels ++ map g actors) k (h (Actor a))) back
-        ∙ (ap (λ ys. map g timers ++ ys) (set-append_right (map g wheels) (map g actors) s.cpus (s.cpus + a) (h (Actor a)) (length-kind g Cpu s.cpus) (omega arith))
-        ∙ (ap (λ k. map g timers ++ (map g wheels ++ set (map g actors) k (h (Actor a)))) again
-        ∙ (ap (λ ys. map g timers ++ (map g wheels ++ ys)) (kind-set g h Actor (actor_count s) a inside (λ j ne. same (Actor j) (unequal-test j a ne)))
-        ∙ (ap (λ ys. ys ++ (map g wheels ++ map h actors)) (kind-same g h Timer (length s.timers) (λ j in_range. same (Timer j) refl))
-        ∙ (ap (λ ys. map h timers ++ (ys ++ map h actors)) (kind-same g h Cpu s.cpus (λ j in_range. same (Cpu j) refl))
-        ∙ sym (map-places h))))))))
+        ap (λ ys. set ys (length s.timers + s.cpus + a) (h (Actor a))) (map-places s g)
+        ∙ (set-append_right (map g (timers s)) (map g (wheels s) ++ map g (actors s)) (length s.timers) (length s.timers + s.cpus + a) (h (Actor a)) (length-kind s g Timer (length s.timers)) (omega arith)
+        ∙ (ap (λ k. map g (timers s) ++ set (map g (wheels s) ++ map g (actors s)) k (h (Actor a))) back
+        ∙ (ap (λ ys. map g (timers s) ++ ys) (set-append_right (map g (wheels s)) (map g (actors s)) s.cpus (s.cpus + a) (h (Actor a)) (length-kind s g Cpu s.cpus) (omega arith))
+        ∙ (ap (λ k. map g (timers s) ++ (map g (wheels s) ++ set (map g (actors s)) k (h (Actor a)))) again
+        ∙ (ap (λ ys. map g (timers s) ++ (map g (wheels s) ++ ys)) (kind-set g h Actor (actor_count s) a inside (λ j ne. same (Actor j) (unequal-test j a ne)))
+        ∙ (ap (λ ys. ys ++ (map g (wheels s) ++ map h (actors s))) (kind-same g h Timer (length s.timers) (λ j in_range. same (Timer j) refl))
+        ∙ (ap (λ ys. map h (timers s) ++ (ys ++ map h (actors s))) (kind-same g h Cpu s.cpus (λ j in_range. same (Cpu j) refl))
+        ∙ sym (map-places s h))))))))
 
 -- ---- one note more
 
@@ -283,18 +231,6 @@ nothing-told s pages counts opened zeros = record {
   counts = zeros ∙ no-counts 0 (actor_count s);
   pages = opened ∙ headings-alone s (places s);
 }
-
-pub length-places : {Y : Type 0} (s : Script) (g : Place → Y) → length (map g (places s)) ≡ place_count s
-length-places s g =
-    ap length (map-places s g)
-    ∙ omega (
-      arith,
-      length-append (map g (timers s)) (map g (wheels s) ++ map g (actors s)),
-      length-append (map g (wheels s)) (map g (actors s)),
-      length-kind s g Timer (length s.timers),
-      length-kind s g Cpu s.cpus,
-      length-kind s g Actor (actor_count s),
-    )
 
 -- what is told has its rooms
 pub told-rooms : (x : Written) (made : List MadeNote) → IsScript x.script → NotesAreTold x made → HasRooms x

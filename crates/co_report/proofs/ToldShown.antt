@@ -13,11 +13,11 @@ use Rattle.co_object.specs.declared.Place.{Place}
 use Rattle.co_object.specs.Lists.{same_place}
 use Rattle.co_object.proofs.ListsGrow.{same_place-eq}
 use Rattle.co_listener.specs.MadeNotes.{MadeNote, list_by, lists_by, made_in, IsInOrder}
-use Rattle.co_report.specs.Histories.{Numbered, shown, shown_at, numbered_from, numbered_of, all_numbered_of, shown_history}
+use Rattle.co_print.specs.Histories.{Numbered, shown, shown_at, numbered_from, numbered_of, all_numbered_of, shown_history}
 use Rattle.co_notes.specs.declared.reading.notes.NumberedEntry.{NumberedEntry}
 use Rattle.co_report.specs.Sections.{count_by, told_in}
-use Rattle.co_report.proofs.Numbering.{numbered}
-use Rattle.co_report.proofs.Places.{same_itself}
+use Rattle.co_print.proofs.Numbering.{numbered}
+use Rattle.co_print.proofs.Places.{same_itself}
 use Rattle.co_report.proofs.SectionsWritten.{range-more}
 use Rattle.co_report.proofs.ToldNotes.{filter-kept, filter-dropped, list-own, list-other, made-here, made-elsewhere, told-here, told-elsewhere}
 

@@ -31,10 +31,10 @@ use Rattle.co_grammar.specs.Keywords.{act_kind, old_verb_of, is_section}
 use Rattle.co_grammar.specs.declared.Verb.{Verb}
 use Rattle.co_grammar.specs.declared.Verb.TheVariants as verb
 use Rattle.co_report.specs.declared.line.Report.{Report}
-use Rattle.co_report.specs.Histories.{PlaceHistories}
+use Rattle.co_print.specs.Histories.{PlaceHistories}
 use Rattle.co_notes.specs.declared.reading.notes.NumberedEntry.{NumberedEntry}
 use Rattle.co_notes.specs.NoteTexts.{shown_words}
-use Rattle.co_report.specs.Reports.{places, heading, place_lines, report, report_lines}
+use Rattle.co_print.specs.Reports.{places, heading, place_lines, report, report_lines}
 use Rattle.co_notes.specs.NoteFits.{ShownFits}
 use Rattle.co_report.specs.Laws.{report_of_histories, HistoriesFit}
 use Rattle.co_notes.specs.Parts.{joined}

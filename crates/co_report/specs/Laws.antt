@@ -1,9 +1,8 @@
--- A report shows the histories of its lists.
-use Rattle.std.specs.Prelude.{◌≡◌, ℕ, ◌+◌, ◌^◌, ◌<◌, ◌≤◌, true, List, [], ◌∷◌, ◌++◌, length, Ok, map}
+-- A report reads back as its script and notes.
+use Rattle.std.specs.Prelude.{◌≡◌, ℕ, ◌+◌, ◌^◌, ◌<◌, ◌≤◌, true, List, [], ◌∷◌, ◌++◌, length, Ok}
 use Rattle.std.specs.List.{AllByRecursion}
 use Rattle.co_object.specs.declared.Note.{Note}
 use Rattle.co_object.specs.declared.Place.{Place}
-use Rattle.co_object.specs.Lists.{history}
 use Rattle.co_program.specs.declared.Script.{Script}
 use Rattle.co_script.specs.Fits.{fits}
 use Rattle.co_program.specs.Places.{place_exists}
@@ -12,16 +11,13 @@ use Rattle.co_text.specs.Lines.{lines_of}
 use Rattle.co_script.specs.Canonical.{canonical}
 use Rattle.co_report.specs.declared.line.Line.{Line}
 use Rattle.co_report.specs.declared.line.Report.{Report}
-use Rattle.co_report.specs.Histories.{PlaceHistories, shown_history}
+use Rattle.co_print.specs.Histories.{PlaceHistories, shown_history}
 use Rattle.co_notes.specs.declared.reading.notes.NumberedEntry.{NumberedEntry}
-use Rattle.co_report.specs.Reports.{places, report_of}
+use Rattle.co_print.specs.Reports.{places, report_of}
 use Rattle.co_report.specs.LineFits.{LineFits}
 use Rattle.co_notes.specs.NoteFits.{EntryFits, ShownFits}
 use Rattle.co_report.specs.Typed.{ListsTyped}
 use Rattle.co_report.specs.Reading.{report_read}
-
-abbrev pub EachHistoryIsShown : Type 0
-EachHistoryIsShown = (place : Place) (lists : List (List Note)) → map (λ shown. shown.entry) (shown_history lists place) ≡ history place lists
 
 -- ---- a report that is read again
 

@@ -1,15 +1,5 @@
--- The text of a report, both ways: how lists of notes are written, and which notes a text stands for.
+-- The text of a report: which notes it stands for, and its sections while notes are told. How lists of notes are written stands in co_print.
 
--- what a report shows: the history of each place, each entry with its number in its actor's list
-pub mod Histories
--- the text of a report: its places in order, their headings and lines
-pub mod Reports
--- where notes stand in the lists: the entry and the line of actor a's note k
-pub mod Origins
--- the notes of all lists in the report's order, as the code sorts them: by place and position
-pub mod Order
--- that lists are well formed is a fact of one proof, which a struct may keep
-pub mod Once
 -- the sections of a report while its notes are told one by one
 pub mod Sections
 -- which lines a report of a script may have
@@ -24,5 +14,5 @@ pub mod ReadingViews
 pub mod LineByLine
 -- note lines in few bytes: their notes, and where the numbers of lines follow each other
 pub mod PackedLines
--- each history is shown; a report reads back as its script and notes
+-- a report reads back as its script and notes
 pub mod Laws

@@ -22,7 +22,7 @@ use Rattle.co_notes.specs.NoteForms.{shown_note}
 use Rattle.co_notes.specs.NoteValues.{names_of, IsSmallScript, HasFewActors}
 use Rattle.co_report.specs.Reading.{Progress, histories_read, first_progress, end_read}
 use Rattle.co_report.specs.ReadingViews.{IsSetting, IsReaderReady, one_or_none, so_far, with_line}
-use Rattle.co_report.specs.Reports.{places}
+use Rattle.co_print.specs.Reports.{places}
 
 -- note lines, and the number of the line `end` behind them
 pub record Ahead : Type 0 where

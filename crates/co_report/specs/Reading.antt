@@ -15,7 +15,7 @@ use Rattle.co_report.specs.declared.line.Line.{Line as NoteLine}
 use Rattle.co_report.specs.declared.line.Report.{Report}
 use Rattle.co_notes.specs.declared.reading.notes.NumberedEntry.{NumberedEntry}
 use Rattle.co_notes.specs.Parts.{joined}
-use Rattle.co_report.specs.Reports.{places, heading}
+use Rattle.co_print.specs.Reports.{places, heading}
 use Rattle.co_notes.specs.NoteValues.{names_of}
 use Rattle.co_notes.specs.NoteForms.{shown_note}
 

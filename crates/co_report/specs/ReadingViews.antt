@@ -9,7 +9,7 @@ use Rattle.co_notes.specs.declared.reading.notes.NumberedEntry.{NumberedEntry}
 use Rattle.co_report.specs.declared.reading.texts.Halves.{Halves as Texts}
 use Rattle.co_report.specs.declared.reading.progress.Progress.{Progress as Reader}
 use Rattle.co_report.specs.declared.reading.progress.Setting.{Setting}
-use Rattle.co_report.specs.Reports.{places}
+use Rattle.co_print.specs.Reports.{places}
 use Rattle.co_notes.specs.NoteValues.{names_of, HasFewActors}
 use Rattle.co_notes.specs.Parts.{joined}
 use Rattle.co_report.specs.Reading.{Halves, Progress, closed_by, closing_words, line_after, note_read}

@@ -8,10 +8,10 @@ use Rattle.co_program.specs.declared.Script.{Script}
 use Rattle.co_program.specs.Actors.{actor_count}
 use Rattle.co_program.specs.Scripts.{IsScript}
 use Rattle.co_text.specs.Lines.{text}
-use Rattle.co_report.specs.Histories.{Numbered, shown}
+use Rattle.co_print.specs.Histories.{Numbered, shown}
 use Rattle.co_notes.specs.declared.reading.notes.NumberedEntry.{NumberedEntry}
-use Rattle.co_report.specs.Order.{place_count}
-use Rattle.co_report.specs.Reports.{places, place_lines}
+use Rattle.co_print.specs.Order.{place_count}
+use Rattle.co_print.specs.Reports.{places, place_lines}
 use Rattle.co_report.specs.Typed.{EntryTyped}
 
 -- how many of these notes an actor made

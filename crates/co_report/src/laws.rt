@@ -1,12 +1,8 @@
 //! The laws of reports, each the contract of a function that does nothing.
-ghost use Rattle.co_report.specs.Laws.{EachHistoryIsShown, ReportReadsBack, RunReadsBack, ReadReportsFit};
+ghost use Rattle.co_report.specs.Laws.{ReportReadsBack, RunReadsBack, ReadReportsFit};
 
 pub use co_notes::laws::notes_have_one_spelling;
-
-/// What a report shows of a place, but for the numbers of the notes, is the place's history.
-pub fn histories_shown()
-    ensures { EachHistoryIsShown }
-{}
+pub use co_print::laws::histories_shown;
 
 /// The report of a script that fits and of notes that fit their places is read as this script and exactly these notes, place
 /// by place with the numbers of their lines, where it has at most 268435456 bytes.

@@ -4,7 +4,7 @@ ghost use Rattle.std.specs.List.{concat};
 ghost use Rattle.co_listener.specs.MadeNotes.{MadeNote, IsInOrder, lists_by};
 ghost use Rattle.co_program.specs.Actors.{actor_count};
 ghost use Rattle.co_program.specs.Scripts.{IsScript};
-ghost use Rattle.co_report.specs.Reports.{report_of};
+ghost use Rattle.co_print.specs.Reports.{report_of};
 ghost use Rattle.co_report.specs.Sections.{IsToldOf};
 
 use crate::sections::Sections;

@@ -1,21 +1,19 @@
 //! The places of a report, and the line that each begins with.
 ghost use Rattle.std.specs.Prelude.{◌≡◌, ◌≤◌, length, drop, IfOk};
 ghost use Rattle.co_program.specs.Scripts.{IsScript};
-ghost use Rattle.co_report.specs.Reports.{places, heading};
+ghost use Rattle.co_print.specs.Reports.{places, heading};
 ghost use Rattle.co_notes.specs.Parts.{joined};
 ghost use Rattle.co_report.specs.Reading.{closing_words};
 
-use crate::frame::begin_heading;
-use crate::order::place_count;
-use crate::report::place_of;
 use co_object::Place;
+use co_print::{begin_heading, place_count, place_of};
 use co_program::Script;
 use co_sbt::{NoMemory, Seq};
 use co_text::Page;
 use std::alloc::Global;
 
 /// The places of a report, in order. `NoMemory` where there is no room for the list.
-#[tactic(auto, using(crate::proofs::PlacesAdded::all_places))]
+#[tactic(auto, using(co_print::proofs::PlacesAdded::all_places))]
 pub fn places(alloc: Global, script: &Script) -> Result<Seq<Place>, NoMemory>
     requires { IsScript script.now }
     ensures { IfOk result (λ all. all ≡ places script.now) }

@@ -1,4 +1,4 @@
-use Rattle.co_report.specs.Histories.{shown_history}
+use Rattle.co_print.specs.Histories.{shown_history}
 use Rattle.co_report.proofs.WholeBack.{report-back}
 use Rattle.co_report.proofs.ShownFit.{history_fits}
 use Rattle.co_report.proofs.laws.reports_read_back.Goals as goal

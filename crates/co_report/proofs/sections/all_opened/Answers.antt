@@ -4,8 +4,8 @@ use Rattle.std.proofs.lemmas.List.{get_or_default}
 use Rattle.co_object.specs.declared.Place.{Place}
 use Rattle.co_object.specs.declared.Place.TheVariants.{Timer}
 use Rattle.co_text.specs.Lines.{line_text}
-use Rattle.co_report.specs.Reports.{heading}
-use Rattle.co_report.proofs.Counts.{made_more}
+use Rattle.co_print.specs.Reports.{heading}
+use Rattle.co_print.proofs.Counts.{made_more}
 use Rattle.co_report.proofs.sections.all_opened.Goals as goal
 
 pub loop-place-preserved : goal.loop-place-preserved

@@ -1,6 +1,6 @@
 use Rattle.std.proofs.Common.{◌≡◌, map, take}
 use Rattle.co_text.specs.Lines.{line_text}
-use Rattle.co_report.specs.Reports.{heading}
+use Rattle.co_print.specs.Reports.{heading}
 use Rattle.co_report.proofs.sections.all_opened.Given as goal
 
 -- the sections of the first places are opened

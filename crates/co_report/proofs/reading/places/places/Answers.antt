@@ -1,4 +1,4 @@
-use Rattle.co_report.proofs.PlacesAdded.{place_added}
+use Rattle.co_print.proofs.PlacesAdded.{place_added}
 use Rattle.co_report.proofs.reading.places.places.Goals as goal
 
 pub loop-number-preserved : goal.loop-number-preserved

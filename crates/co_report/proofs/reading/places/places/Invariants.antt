@@ -1,5 +1,5 @@
 use Rattle.std.proofs.Common.{◌≡◌, take}
-use Rattle.co_report.specs.Reports.{places}
+use Rattle.co_print.specs.Reports.{places}
 use Rattle.co_report.proofs.reading.places.places.Given as goal
 
 -- the first places are added

@@ -4,7 +4,7 @@ use Rattle.std.specs.Prelude.{codes}
 use Rattle.std.specs.List.{concat}
 use Rattle.std.proofs.lemmas.Result.{IfOk-weaker}
 use Rattle.co_text.specs.Lines.{line_text}
-use Rattle.co_report.proofs.Framed.{pieces-framed}
+use Rattle.co_print.proofs.Framed.{pieces-framed}
 use Rattle.co_report.proofs.ToldPages.{pieces-told}
 use Rattle.co_report.proofs.sections.Sections.pieces.Goals as goal
 

@@ -1,7 +1,0 @@
-use Rattle.std.proofs.Common.{◌≡◌, length, map, take}
-use Rattle.co_report.specs.Origins.{note_from}
-use Rattle.co_report.proofs.origin.copy_notes.Given as goal
-
--- the notes of the first origins are taken
-abbrev pub invariant-loop-index : goal.invariant-loop-index
-invariant-loop-index l = (length l.copies ≡ length l.origins) × (take l.index l.copies ≡ map (note_from l.lists) (take l.index l.origins))

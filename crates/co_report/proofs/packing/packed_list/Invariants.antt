@@ -1,6 +1,0 @@
-use Rattle.std.proofs.Common.{◌≡◌, take}
-use Rattle.co_report.proofs.packing.packed_list.Given as goal
-
--- what was packed so far
-abbrev pub invariant-loop-note : goal.invariant-loop-note
-invariant-loop-note l = l.packed ≡ take l.note-index l.notes
