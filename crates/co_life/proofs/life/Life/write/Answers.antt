@@ -1,5 +1,6 @@
 -- The append and the split keep the rule; what was appended follows what the pass had seen and entries of others.
 use Rattle.std.proofs.Common.{[], ◌∷◌, ◌++◌, List, arith, rules, sym, ap, ◌∙◌, subst}
+use Rattle.std.proofs.lemmas.Grind.{common_steps}
 use Rattle.std.specs.List.{All}
 use Rattle.std.specs.Prelude.{◌<◌, ℕ, Some}
 use Rattle.co_life.specs.Seen.{Extends}
@@ -52,3 +53,12 @@ returns-clause-actors g c =
 
 pub returns-clause-position : goal.returns-clause-position
 returns-clause-position g c = search rules
+
+pub invariant_of-keeper : goal.invariant_of-keeper
+invariant_of-keeper g c = grind (arith, common_steps)
+
+pub returns-clause-keeper : goal.returns-clause-keeper
+returns-clause-keeper g c = search rules
+
+pub returns-clause-pass : goal.returns-clause-pass
+returns-clause-pass g c = search rules
