@@ -1,5 +1,6 @@
--- After want of memory the bytes so far and the last piece are gone.
-use Rattle.std.proofs.Common.{Result, Ok, Err, OnErr}
+-- Each piece comes after those before it; after want of memory all are gone, the last one too.
+use Rattle.std.proofs.Common.{Result, Ok, Err, OnErr, arith}
+use Rattle.std.proofs.lemmas.Grind.{common_steps}
 use Rattle.std.proofs.KnownBytes.{Consumes-trans}
 use Rattle.co_io.proofs.read.read_all.Goals as goal
 
@@ -11,3 +12,13 @@ on_err (Err e) p = p
 pub returns-in_err-extend_from_slice-in-Ok-clause-err : goal.returns-in_err-extend_from_slice-in-Ok-clause-err
 returns-in_err-extend_from_slice-in-Ok-clause-err g c =
     on_err c.from_residual.result (_, Consumes-trans _ _ _ _ _ c.loop-piece.invariant.consumed c.in-Ok.ensures.bytes.0)
+
+pub loop-piece-preserved : goal.loop-piece-preserved
+loop-piece-preserved g c = record {
+  most = grind (arith, common_steps);
+  consumed = grind (arith, common_steps);
+  faults = omega arith;
+}
+
+pub loop-piece-smaller : goal.loop-piece-smaller
+loop-piece-smaller g c = grind (arith, common_steps)

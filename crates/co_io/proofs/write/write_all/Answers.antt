@@ -1,4 +1,4 @@
--- One more write moves the seam between what is written and the rest.
+-- One more write moves the seam between what is written and the rest. A write that takes nothing is no success.
 use Rattle.std.proofs.Common.{◌++◌, arith, take}
 use Rattle.std.proofs.KnownBytes.{Appends-trans}
 use Rattle.co_io.proofs.Turns.{filled_more, moves_seam}
@@ -17,3 +17,9 @@ loop-rest-preserved g c =
       faults = omega (arith, taken.faults);
       idle = omega (arith, taken.idle);
     }
+
+pub returns-in-Ok-eq0-clause-ok : goal.returns-in-Ok-eq0-clause-ok
+returns-in-Ok-eq0-clause-ok g c = tt
+
+pub returns-in-Ok-eq0-clause-room : goal.returns-in-Ok-eq0-clause-room
+returns-in-Ok-eq0-clause-room g c = tt

@@ -1,5 +1,6 @@
 -- The append and the split keep the rule; what was appended follows what the pass had seen and entries of others.
-use Rattle.std.proofs.Common.{[], ◌∷◌, ◌++◌, List, arith, sym, ap, ◌∙◌, subst}
+use Rattle.std.proofs.Common.{[], ◌∷◌, ◌++◌, List, arith, rules, sym, ap, ◌∙◌, subst}
+use Rattle.std.proofs.lemmas.Grind.{common_steps}
 use Rattle.std.specs.List.{All}
 use Rattle.std.specs.Prelude.{◌<◌, ℕ, Some}
 use Rattle.co_life.specs.Seen.{Extends}
@@ -49,3 +50,15 @@ returns-clause-actors g c =
     let e = c.args.entry in
     let left = ap (λ m. m.0) c.split_seat-seat.ensures.2 ∙ (ap (λ m. left_by m.0) x.seat.1 ∙ ap (λ m. left_by (with_entry m.0 (Some e))) l.seat.1) in
     subst (λ (t : List g.row.S-Entry.Denot × ℕ). All (λ y. g.S.Story.actor y < t.1) t.0) (λ i. (sym (ap history_in left) i, sym (ap made_in left) i)) (all_below g.S.Story.actor g.S.Story.legal _ e _ _ c.requires.actor k.actors k.below)
+
+pub returns-clause-position : goal.returns-clause-position
+returns-clause-position g c = search rules
+
+pub invariant_of-keeper : goal.invariant_of-keeper
+invariant_of-keeper g c = grind (arith, common_steps)
+
+pub returns-clause-keeper : goal.returns-clause-keeper
+returns-clause-keeper g c = search rules
+
+pub returns-clause-pass : goal.returns-clause-pass
+returns-clause-pass g c = search rules

@@ -1,0 +1,7 @@
+-- One more copy.
+use Rattle.std.proofs.Common.{arith}
+use Rattle.std.proofs.lemmas.Grind.{common_steps}
+use Rattle.co_sbt.proofs.seq.Seq.filled.Goals as goal
+
+pub loop-preserved : goal.loop-preserved
+loop-preserved g c = grind (arith, common_steps)
