@@ -137,7 +137,7 @@ fn numbered_act(verb: Verb, number: u32) -> Act
 fn typed_number(words: &mut Words) -> Result<u32, Cause>
     ensures { Gives (λ n. n) result (number_alone words.old) }
 {
-    number_of(words.lone_number()?)
+    words.lone_number().and_then(number_of)
 }
 
 /// `lock N`, `rlock N` or `drain N`.

@@ -1,6 +1,8 @@
--- The last cases of three definitions: acts that are calls, stages outside functions, and a Pop that gets nothing.
+-- The last cases of four definitions: acts that are calls, stages outside functions, a Pop that gets nothing, and a Pick that waits for the lock.
 -- Each is a match on what it is about, where the cases that came before are excluded.
 use Rattle.std.proofs.Common.{◌≡◌, ℕ, List, ◌∷◌, refl}
+use Rattle.co_object.specs.declared.Reply.{Reply}
+use Rattle.co_object.specs.declared.Reply.TheVariants as reply
 use Rattle.co_object.specs.declared.QReply.{QReply}
 use Rattle.co_object.specs.declared.QReply.TheVariants.{At, Off, Missing, Count, Got, Empty, Freed}
 use Rattle.co_program.specs.declared.act.Act.{Act}
@@ -14,10 +16,10 @@ use Rattle.co_program.specs.declared.program.Task.{Task}
 use Rattle.co_program.specs.declared.program.Task.TheVariants.{Does}
 use Rattle.co_program.specs.Actors.{cpu_of}
 use Rattle.co_program.specs.declared.cursor.InService.{InService}
-use Rattle.co_program.specs.Stages.{Ready}
+use Rattle.co_program.specs.Stages.{Ready, Locking}
 use Rattle.co_program.specs.Cursor.{Cursor}
 use Rattle.co_program.specs.Action.{asks_call, begins_next, over}
-use Rattle.co_program.specs.Advance.{act_over, pop_answered, tail_of}
+use Rattle.co_program.specs.Advance.{act_over, pop_answered, service_picked, tail_of}
 use Rattle.co_program.specs.Indexed.{stage_of}
 
 pub got_empty : (c : Cursor) (n : ℕ) (reply : QReply) → ((i k at : ℕ) → reply ≡ Got i k at → ⊥) → pop_answered c n reply ≡ record c { left = tail_of c.left; stage = Ready }
@@ -28,6 +30,26 @@ got_empty c n (Count count) not_got = refl
 got_empty c n (Got i k time) not_got = absurd (not_got i k time refl)
 got_empty c n Empty not_got = refl
 got_empty c n Freed not_got = refl
+
+pub picked_waits : (s : Script) (c : Cursor) (v : InService) (r : Reply) → ((func arg : ℕ) → r ≡ reply.Go func arg → ⊥) → service_picked s c v r ≡ record c { stage = Locking v }
+picked_waits s c v (reply.Armed code n cpu off) not_go = refl
+picked_waits s c v (reply.NotArmed code) not_go = refl
+picked_waits s c v reply.NoHandler not_go = refl
+picked_waits s c v reply.Worn not_go = refl
+picked_waits s c v (reply.Stopped code off) not_go = refl
+picked_waits s c v (reply.Wait n took off) not_go = refl
+picked_waits s c v (reply.Drained code off) not_go = refl
+picked_waits s c v reply.Busy not_go = refl
+picked_waits s c v reply.Yes not_go = refl
+picked_waits s c v reply.No not_go = refl
+picked_waits s c v reply.Done not_go = refl
+picked_waits s c v (reply.Go func arg) not_go = absurd (not_go func arg refl)
+picked_waits s c v reply.Hold not_go = refl
+picked_waits s c v reply.Skip not_go = refl
+picked_waits s c v (reply.Ended drain next woke) not_go = refl
+picked_waits s c v reply.Live not_go = refl
+picked_waits s c v reply.Retired not_go = refl
+picked_waits s c v (reply.InUse armed serviced) not_go = refl
 
 pub act_over_outside : (s : Script) (c : Cursor) (stage : StageAt) → ((v : InService) (left : ActsLeft) → stage ≡ at.Firing v left → ⊥) → ((v : InService) (left : ActsLeft) → stage ≡ at.Drained v left → ⊥) → act_over c (stage_of s stage) ≡ over c (tail_of c.left) c.hold
 act_over_outside s c at.Ready not_firing not_drained = refl

@@ -109,8 +109,10 @@ fn section_of(text: &[u8], mut draft: Draft, stage: Kind, at: usize) -> Result<S
     requires begins { Begins stage draft }
     ensures { IfOk result (IsSection text.now draft) }
 {
-    let (end, lines) = grow_on(text, &mut draft, at)?;
+    // Looked at once the draft is gone, which no early return has to let go then.
+    let grown = grow_on(text, &mut draft, at);
     let (acts, clock) = draft.into_section();
+    let (end, lines) = grown?;
     Ok(Section {
         stage,
         at,
