@@ -94,6 +94,41 @@ fn measure_threads_of<R: Threads + Wait + Sync>(
     Failed::of(measure_threads(rt, alloc, page, what, calls, &work))
 }
 
+/// Short runs of threads that meet there.
+fn measure_meeting<R: Threads + Wait + Sync>(
+    rt: &R,
+    alloc: Global,
+    page: &mut Page,
+    at: Where,
+) -> Result<(), NoMemory> {
+    let work = Work {
+        at,
+        threads: 4,
+        calls: 500,
+    };
+    measure_threads(rt, alloc, page, "service", Some(Calls::Told), &work)?;
+    measure_threads(rt, alloc, page, "mutex", None, &work)
+}
+
+/// A script's walk.
+fn measure_walk(alloc: Global, page: &mut Page, script: &Script) -> Result<(), NoMemory>
+    requires { IsScript script.now }
+{
+    lines::notes(page, walk::walk(alloc, script)?)
+}
+
+/// A script's world, stepped.
+fn measure_steps<R: Wait>(
+    rt: &R,
+    alloc: Global,
+    page: &mut Page,
+    script: &Script,
+) -> Result<(), NoMemory>
+    requires { IsScript script.now }
+{
+    lines::world(page, &world::walk(rt, alloc, script)?)
+}
+
 /// A short run of everything.
 fn measure_all<R: Threads + Wait + Sync>(
     rt: &R,
@@ -105,18 +140,10 @@ fn measure_all<R: Threads + Wait + Sync>(
 {
     measure_briefly(alloc, page, Kind::List)?;
     measure_briefly(alloc, page, Kind::Wheel)?;
-    lines::notes(page, walk::walk(alloc, script)?)?;
-    lines::world(page, &world::walk(rt, alloc, script)?)?;
-    for at in [Where::Apart, Where::One] {
-        let work = Work {
-            at,
-            threads: 4,
-            calls: 500,
-        };
-        measure_threads(rt, alloc, page, "service", Some(Calls::Told), &work)?;
-        measure_threads(rt, alloc, page, "mutex", None, &work)?;
-    }
-    Ok(())
+    measure_walk(alloc, page, script)?;
+    measure_steps(rt, alloc, page, script)?;
+    measure_meeting(rt, alloc, page, Where::Apart)?;
+    measure_meeting(rt, alloc, page, Where::One)
 }
 
 /// A task on a script.
@@ -131,8 +158,8 @@ fn measure_script<R: Threads + Wait + Sync>(
 {
     match task {
         Task::Read => lines::timers(page, script.timers.as_slice().len() as u64),
-        Task::Walk => lines::notes(page, walk::walk(alloc, script)?),
-        Task::Step => lines::world(page, &world::walk(rt, alloc, script)?),
+        Task::Walk => measure_walk(alloc, page, script),
+        Task::Step => measure_steps(rt, alloc, page, script),
         Task::All => measure_all(rt, alloc, page, script),
     }
 }

@@ -71,22 +71,21 @@ fn count_notes(world: &World<'_>) -> u64 {
 }
 
 /// Steps the world by the script's turns, and then by round robin until all have finished.
-fn finish<R: Wait>(
-    rt: &R,
-    script: &Script,
-    world: &mut World<'_>,
-    refused: &mut u64,
-) -> Result<(), NoMemory>
+fn finish<R: Wait>(rt: &R, script: &Script, world: &mut World<'_>) -> Result<Walked, NoMemory>
     requires script { IsScript script.now }
     requires world { world.old.script ≡ script.now }
 {
-    make_turns(script, world, refused)?;
+    let mut refused = 0;
+    make_turns(script, world, &mut refused)?;
     for _ in rt.forever() {
-        if make_round(script, world, refused)? {
+        if make_round(script, world, &mut refused)? {
             break;
         }
     }
-    Ok(())
+    Ok(Walked {
+        notes: count_notes(world),
+        refused,
+    })
 }
 
 /// Steps the script's world by its turns, and then by round robin until all have finished. `NoMemory` where a step was
@@ -95,12 +94,5 @@ pub fn walk<R: Wait>(rt: &R, alloc: Global, script: &Script) -> Result<Walked, N
     requires { IsScript script.now }
 {
     let mut world = World::boot(alloc, script)?;
-    let mut refused = 0;
-    match finish(rt, script, &mut world, &mut refused) {
-        Ok(()) => Ok(Walked {
-            notes: count_notes(&world),
-            refused,
-        }),
-        Err(NoMemory {}) => Err(NoMemory {}),
-    }
+    finish(rt, script, &mut world)
 }

@@ -112,10 +112,10 @@ fn place<N: Name, R: Wait>(
     ensures put { IsPut act knote knotes.old single.old knotes.new uses.new single.new }
     ensures all { length uses.new ≡ length uses.old }
 {
-    let timer = uses.first_loose();
-    let key = knotes.insert(knote, timer);
-    uses.hold(timer, key);
-    single.arm(rt, act, timer, due, 0);
+    let callout = uses.first_loose();
+    let key = knotes.insert(knote, callout);
+    uses.hold(callout, key);
+    single.arm(rt, act, callout, due, 0);
 }
 
 impl Kq<Brand> {

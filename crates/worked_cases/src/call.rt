@@ -22,31 +22,40 @@ fn one_word(alloc: Global, word: &str) -> Result<Vec<String>, NoMemory> {
     }
 }
 
+/// How a command of one word ends over these ends, and what it writes.
+fn call<R: AllocGlobal + Threads + Wait + Sync>(
+    rt: &R,
+    word: &str,
+    source: &mut MemSource,
+    sink: &mut MemSink,
+) -> Result<(Status, Seq<u8>), NoMemory> {
+    let alloc = rt.alloc();
+    let words = one_word(alloc, word)?;
+    let status = callout_main(rt, alloc, words.as_slice(), source, sink, &OpenGate {}).status;
+    Ok((status, Seq::copy_of(alloc, sink.bytes())?))
+}
+
 /// How a command of one word ends for an input, and what it writes.
 pub fn answer<R: AllocGlobal + Threads + Wait + Sync>(
     rt: &R,
     word: &str,
     input: &[u8],
 ) -> Result<(Status, Seq<u8>), NoMemory> {
-    let alloc = rt.alloc();
-    let words = one_word(alloc, word)?;
-    let mut source = MemSource::new(alloc, input, ROOM, &[])?;
-    let mut sink = MemSink::new(alloc, ROOM, ROOM, &[])?;
-    let gate = OpenGate {};
-    let finish = callout_main(rt, alloc, words.as_slice(), &mut source, &mut sink, &gate);
-    Ok((finish.status, Seq::copy_of(alloc, sink.bytes())?))
+    let mut source = MemSource::new(rt.alloc(), input, ROOM, &[])?;
+    let mut sink = MemSink::new(rt.alloc(), ROOM, ROOM, &[])?;
+    call(rt, word, &mut source, &mut sink)
 }
 
-/// What a command of one word writes for an input, where it is done.
-pub fn output<R: AllocGlobal + Threads + Wait + Sync>(
+/// Whether a command of one word ends so for an input, and writes this text.
+pub fn says<R: AllocGlobal + Threads + Wait + Sync>(
     rt: &R,
     word: &str,
     input: &[u8],
-) -> Result<Option<Seq<u8>>, NoMemory> {
-    match answer(rt, word, input)? {
-        (Status::Done, text) => Ok(Some(text)),
-        _ => Ok(None),
-    }
+    status: Status,
+    text: &[u8],
+) -> Result<bool, NoMemory> {
+    let (ended, said) = answer(rt, word, input)?;
+    Ok(ended == status && said.as_slice() == text)
 }
 
 /// Whether `check` calls the report legal.
@@ -54,8 +63,5 @@ pub fn is_legal<R: AllocGlobal + Threads + Wait + Sync>(
     rt: &R,
     report: &[u8],
 ) -> Result<bool, NoMemory> {
-    match output(rt, "check", report)? {
-        Some(verdict) => Ok(verdict.as_slice() == b"legal\n".as_slice()),
-        None => Ok(false),
-    }
+    says(rt, "check", report, Status::Done, b"legal\n".as_slice())
 }

@@ -3,9 +3,9 @@
 //! A line of a table is a change and its verdict: `drop 12 6 19 follows` leaves line 12 out, and `check` then ends with status 6 and
 //! writes `line 19: follows`. `double` has the line twice, `swap` has it behind the next one, `put` has the text at the end of the
 //! table's line in its place, and `add` has that text behind it. Lines are counted from 1. A line that begins with `#` tells what follows.
-use crate::call::answer;
+use crate::call::says;
 use co_sbt::{NoMemory, Seq};
-use co_text::{Page, next_line, next_word, number};
+use co_text::{Page, is_word, next_line, next_word, number};
 use co_top::Status;
 use std::alloc::Global;
 use std::sync::Wait;
@@ -19,7 +19,7 @@ const MOST_LINES: usize = 1000;
 struct Changed<'a> {
     change: &'a [u8],
     at: u64,
-    status: u64,
+    status: Status,
     line: u64,
     cause: &'a [u8],
     text: &'a [u8],
@@ -37,6 +37,16 @@ fn next_number(text: &[u8]) -> Option<(u64, &[u8])> {
     }
 }
 
+/// The status of this number, if `check` of a report may end so.
+fn status_of(number: u64) -> Option<Status> {
+    match number {
+        0 => Some(Status::Done),
+        1 => Some(Status::BadScript),
+        6 => Some(Status::NotLegal),
+        _ => None,
+    }
+}
+
 /// A line of a table, read. None where it is not one.
 fn read_changed(line: &[u8]) -> Option<Changed<'_>> {
     let (change, rest) = next_word(line)?;
@@ -48,7 +58,7 @@ fn read_changed(line: &[u8]) -> Option<Changed<'_>> {
     Some(Changed {
         change,
         at,
-        status,
+        status: status_of(status)?,
         line,
         cause,
         text,
@@ -69,16 +79,16 @@ fn push_changed<'r>(
     rest: &'r [u8],
 ) -> Result<&'r [u8], NoMemory> {
     let mut rest = rest;
-    if changed.change == b"double".as_slice() {
+    if is_word(changed.change, b"double".as_slice()) {
         push_line(text, line)?;
     }
-    if changed.change == b"swap".as_slice() {
+    if is_word(changed.change, b"swap".as_slice()) {
         if let Some((next, _, behind)) = next_line(rest) {
             push_line(text, next)?;
             rest = behind;
         }
     }
-    if changed.change != b"drop".as_slice() && changed.change != b"put".as_slice() {
+    if !is_word(changed.change, b"drop".as_slice()) && !is_word(changed.change, b"put".as_slice()) {
         push_line(text, line)?;
     }
     if !changed.text.is_empty() {
@@ -108,7 +118,7 @@ fn with_change(alloc: Global, report: &[u8], changed: &Changed<'_>) -> Result<Se
 /// What `check` has to write.
 fn verdict(alloc: Global, changed: &Changed<'_>) -> Result<Seq<u8>, NoMemory> {
     let mut page = Page::new(alloc);
-    if changed.status != 0 {
+    if changed.status != Status::Done {
         page.text(b"line ".as_slice())?;
         page.number(changed.line)?;
         page.text(b": ".as_slice())?;
@@ -116,16 +126,6 @@ fn verdict(alloc: Global, changed: &Changed<'_>) -> Result<Seq<u8>, NoMemory> {
     page.text(changed.cause)?;
     page.text(b"\n".as_slice())?;
     page.done()
-}
-
-/// Whether a status is the one with this number.
-fn is_status(status: Status, number: u64) -> bool {
-    match status {
-        Status::Done => number == 0,
-        Status::BadScript => number == 1,
-        Status::NotLegal => number == 6,
-        _ => false,
-    }
 }
 
 /// Whether `check` says of the changed report what the table's line says.
@@ -138,9 +138,14 @@ fn is_judged<R: AllocGlobal + Threads + Wait + Sync>(
         return Ok(false);
     };
     let text = with_change(rt.alloc(), report, &changed)?;
-    let (status, said) = answer(rt, "check", text.as_slice())?;
     let wanted = verdict(rt.alloc(), &changed)?;
-    Ok(is_status(status, changed.status) && said.as_slice() == wanted.as_slice())
+    says(
+        rt,
+        "check",
+        text.as_slice(),
+        changed.status,
+        wanted.as_slice(),
+    )
 }
 
 /// How many changes of a table are judged as it says, where all are. Else 0.

@@ -9,15 +9,22 @@ mod call;
 mod changes;
 mod names;
 
-use crate::call::{is_legal, output};
+use crate::call::{answer, is_legal, says};
 use crate::changes::count_judged;
 use crate::names::{BROKEN, CASES, EXAMPLES};
 use co_sbt::NoMemory;
+use co_top::Status;
 use std::fs::{self, Files};
 use std::io;
 use std::process::ExitCode;
 use std::sync::Wait;
 use std::thread::Threads;
+
+/// Whether `run` writes a legal report for the script.
+fn is_run<R: AllocGlobal + Threads + Wait + Sync>(rt: &R, script: &[u8]) -> Result<bool, NoMemory> {
+    let (status, report) = answer(rt, "run", script)?;
+    Ok(status == Status::Done && is_legal(rt, report.as_slice())?)
+}
 
 /// Whether `steps` writes this report for the script, and the reports of `steps` and of `run` are legal.
 fn is_worked<R: AllocGlobal + Threads + Wait + Sync>(
@@ -25,26 +32,38 @@ fn is_worked<R: AllocGlobal + Threads + Wait + Sync>(
     script: &[u8],
     report: &[u8],
 ) -> Result<bool, NoMemory> {
-    let Some(stepped) = output(rt, "steps", script)? else {
-        return Ok(false);
-    };
-    let Some(ran) = output(rt, "run", script)? else {
-        return Ok(false);
-    };
-    Ok(stepped.as_slice() == report && is_legal(rt, report)? && is_legal(rt, ran.as_slice())?)
+    Ok(
+        says(rt, "steps", script, Status::Done, report)?
+            && is_legal(rt, report)?
+            && is_run(rt, script)?,
+    )
 }
 
-/// The files of a script, with this path before their ends.
+/// What stands in the file of this name and end.
+fn text_of<R: AllocGlobal + Files>(
+    rt: &R,
+    folder: &str,
+    name: &str,
+    end: &str,
+) -> io::Result<String> {
+    fs::read_to_string(
+        rt,
+        format!(in rt.alloc(); "{folder}/{name}.{end}")?.as_str(),
+    )
+}
+
+/// The files of a script, in this folder and with this name before their ends.
 fn is_worked_at<R: AllocGlobal + Files + Threads + Wait + Sync>(
     rt: &R,
-    path: &str,
+    folder: &str,
+    name: &str,
 ) -> io::Result<bool> {
-    let script = fs::read_to_string(rt, format!(in rt.alloc(); "{path}.callout")?.as_str())?;
-    let report = fs::read_to_string(rt, format!(in rt.alloc(); "{path}.report")?.as_str())?;
-    match is_worked(rt, script.as_bytes(), report.as_bytes()) {
-        Ok(worked) => Ok(worked),
-        Err(_) => Ok(false),
-    }
+    let script = text_of(rt, folder, name, "callout")?;
+    let report = text_of(rt, folder, name, "report")?;
+    Ok(matches!(
+        is_worked(rt, script.as_bytes(), report.as_bytes()),
+        Ok(true)
+    ))
 }
 
 /// Goes through the scripts of a folder, and names those that are as they have to be. Whether all are.
@@ -55,7 +74,7 @@ fn are_worked<R: AllocGlobal + Files + Print + Threads + Wait + Sync>(
 ) -> io::Result<bool> {
     let mut all = true;
     for name in names {
-        if is_worked_at(rt, format!(in rt.alloc(); "{folder}/{name}")?.as_str())? {
+        if is_worked_at(rt, folder, name)? {
             println!(rt; "{folder}/{name}")?;
         } else {
             all = false;
@@ -69,11 +88,8 @@ fn count_judged_at<R: AllocGlobal + Files + Threads + Wait + Sync>(
     rt: &R,
     name: &str,
 ) -> io::Result<u64> {
-    let report = fs::read_to_string(rt, format!(in rt.alloc(); "cases/{name}.report")?.as_str())?;
-    let table = fs::read_to_string(
-        rt,
-        format!(in rt.alloc(); "broken/{name}.changes")?.as_str(),
-    )?;
+    let report = text_of(rt, "cases", name, "report")?;
+    let table = text_of(rt, "broken", name, "changes")?;
     match count_judged(rt, report.as_bytes(), table.as_bytes()) {
         Ok(count) => Ok(count),
         Err(_) => Ok(0),
@@ -92,8 +108,8 @@ fn are_judged<R: AllocGlobal + Files + Print + Threads + Wait + Sync>(rt: &R) ->
 }
 
 fn main(rt: HostRuntime) -> ExitCode {
-    let cases = are_worked(&rt, "cases", CASES.as_slice());
-    let examples = are_worked(&rt, "examples", EXAMPLES.as_slice());
+    let cases = are_worked(&rt, "cases", CASES);
+    let examples = are_worked(&rt, "examples", EXAMPLES);
     let broken = are_judged(&rt);
     match (cases, examples, broken) {
         (Ok(true), Ok(true), Ok(true)) => ExitCode::SUCCESS,

@@ -1,7 +1,7 @@
 //! The names of the worked scripts.
 
 /// One CPU without locks, services and moves, version 2, a drain that waits, and the beginnings of a script that are scripts: by what they show.
-pub const CASES: [&str; 35] = [
+pub const CASES: &[&str] = &[
     "empty",
     "one-firing",
     "a-tick-that-is-early",
@@ -40,7 +40,7 @@ pub const CASES: [&str; 35] = [
 ];
 
 /// By the order in which the README and docs/RACES.md tell of them.
-pub const EXAMPLES: [&str; 13] = [
+pub const EXAMPLES: &[&str] = &[
     "first-firing",
     "drain",
     "race-return-value",
@@ -57,4 +57,4 @@ pub const EXAMPLES: [&str; 13] = [
 ];
 
 /// The worked scripts whose reports are changed.
-pub const BROKEN: [&str; 2] = ["one-firing", "a-drain-waits-for-a-service-on-another-CPU"];
+pub const BROKEN: &[&str] = &["one-firing", "a-drain-waits-for-a-service-on-another-CPU"];
