@@ -1,5 +1,5 @@
 -- The actors, one after the other: each one's notes, and whether its program goes on.
-use Rattle.std.proofs.Common.{◌≡◌, ℕ, suc, ◌+◌, ◌-◌, ◌<◌, ◌||◌, Bool, true, false, not, List, ◌∷◌, refl, ap, sym, ◌∙◌, arith}
+use Rattle.std.proofs.Common.{◌≡◌, ℕ, suc, ◌+◌, ◌-◌, ◌<◌, ◌≤◌, ◌||◌, Bool, true, false, not, List, [], ◌∷◌, refl, ap, sym, ◌∙◌, arith}
 use Rattle.std.specs.Prelude.{Option, Some, None}
 use Rattle.std.specs.List.{list_any, range_with_len}
 use Rattle.co_program.specs.declared.script.Script.{Script}
@@ -25,6 +25,11 @@ from-next : (s : Script) (a : ℕ) → a < actor_count s → from_actor s a ≡ 
 from-next s a h = ap (range_with_len a) (one_less (actor_count s) a h) where
   one_less : (n k : ℕ) → k < n → n - k ≡ suc (n - (k + 1))
   one_less n k h = omega arith
+
+from-none : (s : Script) (a : ℕ) → actor_count s ≤ a → from_actor s a ≡ []
+from-none s a h = ap (range_with_len a) (nothing (actor_count s) a h) where
+  nothing : (n k : ℕ) → n ≤ k → n - k ≡ 0
+  nothing n k h = omega arith
 
 -- what is kept from actor to actor
 pub record AreDone (s : Script) (lines : List Line) (a : ℕ) (unfinished : Bool) : Type 0 where
@@ -60,3 +65,12 @@ module _ (s : Script) (lines : List Line) (a : ℕ) (row : List (Option ℕ)) (s
   astray-found unfinished line end below done h =
       ap (λ o. unless_astray o (verdict_at_end (list_any (is_unfinished s lines) (all_actors s)) end))
       (done.astray ∙ (ap (first_astray_of (astray_of s lines)) (from-next s a below) ∙ ap (λ o. or_later o (first_astray_of (astray_of s lines) (from_actor s (a + 1)))) (astray-is (Some line) h)))
+
+-- all of them are
+pub all-done : (s : Script) (lines : List Line) (a : ℕ) (unfinished : Bool) (end : ℕ) → actor_count s ≤ a → AreDone s lines a unfinished → verdict_at_end unfinished end ≡ verdict_by_programs s lines end
+all-done s lines a unfinished end past done =
+    sym (ap (λ o. unless_astray o (verdict_at_end (list_any (is_unfinished s lines) (all_actors s)) end)) (done.astray ∙ ap (first_astray_of (astray_of s lines)) (from-none s a past))
+    ∙ ap (λ b. verdict_at_end b end) (done.unfinished_so_far ∙ (ap (λ actors. unfinished || list_any (is_unfinished s lines) actors) (from-none s a past) ∙ or_false unfinished))) where
+      or_false : (b : Bool) → (b || false) ≡ b
+      or_false true = refl
+      or_false false = refl
