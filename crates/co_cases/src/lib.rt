@@ -17,7 +17,7 @@ mod turns;
 #[cfg(test)]
 pub use ordinary::ordinary_script;
 #[cfg(test)]
-pub use outcome::{Outcome, call, make, read, read_in_turns};
+pub use outcome::{Ends, Outcome, call, make, read, read_in_turns};
 #[cfg(test)]
 pub use quiet_ends::quiet;
 #[cfg(test)]

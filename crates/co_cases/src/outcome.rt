@@ -50,8 +50,8 @@ pub(crate) fn words_of(alloc: Global, words: &[&str]) -> Result<Vec<String>, NoM
     }
 }
 
-/// A call with these words, in these turns or in none.
-pub fn call_in_turns<R: AllocGlobal + Threads + Wait + Sync>(
+// A call with these words over these ends, in these turns or in none.
+fn call_in_turns<R: AllocGlobal + Threads + Wait + Sync>(
     rt: &R,
     words: &[&str],
     source: &mut MemSource,
@@ -65,14 +65,29 @@ pub fn call_in_turns<R: AllocGlobal + Threads + Wait + Sync>(
     outcome_of(alloc, finish, sink.bytes())
 }
 
-/// A call with these words, whose gate is open.
+/// The ends of a call in memory: what is read, and into how many bytes, of which a read gives and a write takes `piece` at most.
+/// The reads and the writes whose numbers, from 0, stand there fail.
+#[derive(Clone, Copy)]
+pub struct Ends<'a> {
+    pub input: &'a [u8],
+    pub room: usize,
+    pub piece: usize,
+    pub read_fails: &'a [u64],
+    pub write_fails: &'a [u64],
+}
+
+/// A call with these words over such ends, in these turns or in none.
 pub fn call<R: AllocGlobal + Threads + Wait + Sync>(
     rt: &R,
     words: &[&str],
-    source: &mut MemSource,
-    sink: &mut MemSink,
-) -> Result<Outcome, NoMemory> {
-    call_in_turns(rt, words, source, sink, None)
+    ends: &Ends<'_>,
+    turns: Option<&Turns>,
+) -> Result<Outcome, NoMemory>
+    requires { 1 ≤ ends.now.piece }
+{
+    let mut source = MemSource::new(rt.alloc(), ends.input, ends.piece, ends.read_fails)?;
+    let mut sink = MemSink::new(rt.alloc(), ends.room, ends.piece, ends.write_fails)?;
+    call_in_turns(rt, words, &mut source, &mut sink, turns)
 }
 
 // The most bytes of a report in the tables.
@@ -85,12 +100,15 @@ pub fn read_in_turns<R: AllocGlobal + Threads + Wait + Sync>(
     input: &[u8],
     room: usize,
     turns: Option<&Turns>,
-) -> Result<Outcome, NoMemory>
-    requires { 1 ≤ room }
-{
-    let mut source = MemSource::new(rt.alloc(), input, ROOM, &[])?;
-    let mut sink = MemSink::new(rt.alloc(), room, room, &[])?;
-    call_in_turns(rt, [word].as_slice(), &mut source, &mut sink, turns)
+) -> Result<Outcome, NoMemory> {
+    let ends = Ends {
+        input,
+        room,
+        piece: ROOM,
+        read_fails: &[],
+        write_fails: &[],
+    };
+    call(rt, [word].as_slice(), &ends, turns)
 }
 
 /// The same with the gate open, into the bytes of a report in the tables.
@@ -108,7 +126,12 @@ pub fn make<R: AllocGlobal + Threads + Wait + Sync>(
     words: &[&str],
     room: usize,
 ) -> Result<Outcome, NoMemory> {
-    let mut source = MemSource::new(rt.alloc(), b"unread".as_slice(), 1, &[0])?;
-    let mut sink = MemSink::new(rt.alloc(), room, ROOM, &[])?;
-    call(rt, words, &mut source, &mut sink)
+    let ends = Ends {
+        input: b"unread".as_slice(),
+        room,
+        piece: ROOM,
+        read_fails: &[0],
+        write_fails: &[],
+    };
+    call(rt, words, &ends, None)
 }

@@ -3,7 +3,7 @@ use Rattle.std.proofs.Common.{◌≡◌, ℕ, zero, suc, ◌-◌, ◌==◌, Bool
 use Rattle.co_program.specs.declared.act.Act.{Act}
 use Rattle.co_program.specs.declared.program.Task.{Task}
 use Rattle.co_program.specs.declared.program.Task.TheVariants.{Does}
-use Rattle.co_program.specs.declared.role.Role.TheVariants.{Client, Cpu, Interrupt}
+use Rattle.co_program.specs.declared.role.Role.TheVariants.{Cpu}
 use Rattle.co_program.specs.declared.script.Script.{Script}
 use Rattle.co_program.specs.Actors.{acts_at, program_of, softs}
 
@@ -22,11 +22,5 @@ either false acts = length-does acts
 left : (over : ℕ) (tasks : List Task) (acts : List Act) → length tasks ≡ length acts → length (drop over tasks) ≡ length acts - over
 left over tasks acts h = length-drop over tasks ∙ ap (λ n. n - over) h
 
-pub client-left : (s : Script) (client over : ℕ) → length (drop over (program_of s (Client client))) ≡ length (acts_at s.clients client) - over
-client-left s client over = left over (program_of s (Client client)) (acts_at s.clients client) (length-does (acts_at s.clients client))
-
 pub cpu-left : (s : Script) (cpu over : ℕ) → length (drop over (program_of s (Cpu cpu))) ≡ length (acts_at s.ticks cpu) - over
 cpu-left s cpu over = left over (program_of s (Cpu cpu)) (acts_at s.ticks cpu) (either (s.version == 2) (acts_at s.ticks cpu))
-
-pub interrupt-left : (s : Script) (cpu over : ℕ) → length (drop over (program_of s (Interrupt cpu))) ≡ length (acts_at s.ticks cpu) - over
-interrupt-left s cpu over = left over (program_of s (Interrupt cpu)) (acts_at s.ticks cpu) (length-does (acts_at s.ticks cpu))

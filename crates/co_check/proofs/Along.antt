@@ -5,11 +5,9 @@ use Rattle.std.proofs.Math.Seq.{drop-cons}
 use Rattle.std.proofs.lemmas.List.{take_more}
 use Rattle.std.proofs.lemmas.Option.{slice_get_within, get_or_from_slice_get}
 use Rattle.co_object.specs.declared.note.Note.{Note}
-use Rattle.co_program.specs.declared.script.Script.{Script}
 use Rattle.co_report.specs.declared.line.Line.{Line}
 use Rattle.co_report.specs.PackedLines.{line_of, note_from_line}
 use Rattle.co_check.specs.declared.verdict.Unfit.{Unfit}
-use Rattle.co_check.specs.Astray.{seen_at, seen_from}
 use Rattle.co_check.specs.Replay.{bad_or, first_bad}
 
 pub front : {X : Type 0} (xs : List X) (k : ℕ) (x : X) → slice_get xs k ≡ Some x → take (k + 1) xs ≡ take k xs ++ x ∷ []
@@ -54,9 +52,3 @@ module _ (wrong : List Line → Line → Option Unfit) (lines : List Line) (k : 
   -- something is
   pub first-at : (cause : Unfit) → wrong (take k lines) x ≡ Some cause → first_bad wrong (take k lines) (drop k lines) ≡ Some (record { line = x.line; cause = cause })
   first-at cause bad = from_here ∙ ap (λ o. bad_or o x.line (first_bad wrong (take k lines ++ x ∷ []) (drop (k + 1) lines))) bad
-
-pub seen-on : (s : Script) (lines : List Line) (k : ℕ) (x : Line) → slice_get lines k ≡ Some x →
-    seen_from s (take k lines) (drop k lines) ≡ seen_at s (take k lines) x ∷ seen_from s (take (k + 1) lines) (drop (k + 1) lines)
-seen-on s lines k x here =
-    ap (seen_from s (take k lines)) (back lines k x here)
-    ∙ ap (λ above. seen_at s (take k lines) x ∷ seen_from s above (drop (k + 1) lines)) (sym (front lines k x here))

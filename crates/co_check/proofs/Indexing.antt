@@ -80,10 +80,6 @@ opened-index s lines counts widths x long each slots_are widths_are latest_are =
 
 -- ---- counts
 
--- before the first line
-pub no-counts : (n : ℕ) → AreActorCounts n [] (replicate n 0)
-no-counts n = record { long = length-replicate n 0; each = λ a below. zero-at n a }
-
 pub count-few : (actors : ℕ) (above : List Line) (counts : List ℕ) (a : ℕ) → AreActorCounts actors above counts → a < actors → get_or counts a 0 ≤ length above
 count-few actors above counts a h below = omega (arith, h.each a below, count_by-le-length (is_by a) above)
 

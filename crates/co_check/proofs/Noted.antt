@@ -1,6 +1,6 @@
 -- A note of a line: whatever the line's number, the line fits, and what is said of the note holds.
-use Rattle.std.proofs.Common.{◌≡◌, ℕ, zero, suc, ◌+◌, List, [], ◌∷◌, refl, ap, subst, arith}
-use Rattle.std.specs.Prelude.{Some, None, slice_get}
+use Rattle.std.proofs.Common.{◌≡◌, ℕ, zero, suc, List, [], ◌∷◌, refl, subst}
+use Rattle.std.specs.Prelude.{Some, slice_get}
 use Rattle.co_object.specs.declared.note.Note.{Note}
 use Rattle.co_object.specs.declared.Entry.{Entry}
 use Rattle.co_object.specs.declared.QEntry.{QEntry}
@@ -11,7 +11,6 @@ use Rattle.co_program.specs.declared.script.Script.{Script}
 use Rattle.co_report.specs.declared.line.Line.{Line}
 use Rattle.co_report.specs.PackedLines.{line_of}
 use Rattle.co_check.specs.Lines.{AreLinesOf, IsLineOf, IsOfKind}
-use Rattle.co_check.specs.Slots.{slot_in}
 use Rattle.co_check.proofs.Taking.{some-is}
 
 pub renumbered : (s : Script) (note : Note) (a b : ℕ) → IsLineOf s (line_of a note) → IsLineOf s (line_of b note)
@@ -25,16 +24,6 @@ line-in s (x ∷ xs) (suc i) l h here = line-in s xs i l h.1 here
 -- each line fits
 pub fits-at : (s : Script) (lines : List Line) (i line : ℕ) (note : Note) → AreLinesOf s lines → slice_get lines i ≡ Some (line_of line note) → IsLineOf s (line_of 0 note)
 fits-at s lines i line note h here = renumbered s note line 0 (line-in s lines i (line_of line note) h here)
-
--- ---- how the code keeps it
-
-pub slot-taken : (above line : ℕ) → above ≡ line + 1 → slot_in above ≡ Some line
-slot-taken zero line h = absurd (omega (arith, h))
-slot-taken (suc n) line h = let e : n ≡ line = omega (arith, h) in ap Some e
-
-pub slot-free : (above : ℕ) → above ≡ 0 → slot_in above ≡ None
-slot-free zero h = refl
-slot-free (suc n) h = absurd (omega (arith, h))
 
 -- ---- the kind of a place
 

@@ -31,9 +31,6 @@ equal m = grind (arith, nat_tests)
 apart-is : (m n : ℕ) → m ≢ n → (m == n) ≡ false
 apart-is m n h = grind (arith, nat_tests)
 
-le-true : (m n : ℕ) → m ≤ n → nat_le m n ≡ true
-le-true m n h = grind (arith, nat_tests)
-
 pub le-false : (m n : ℕ) → n < m → nat_le m n ≡ false
 le-false m n h = grind (arith, nat_tests)
 

@@ -21,11 +21,6 @@ use Rattle.co_check.proofs.ByActor.{row-by-actor}
 abbrev pub from_actor : Script → ℕ → List ℕ
 from_actor s a = range_with_len a (actor_count s - a)
 
-pub from-first : (s : Script) → from_actor s 0 ≡ all_actors s
-from-first s = ap (range_with_len 0) (whole (actor_count s)) where
-  whole : (n : ℕ) → n - 0 ≡ n
-  whole n = omega arith
-
 from-next : (s : Script) (a : ℕ) → a < actor_count s → from_actor s a ≡ a ∷ from_actor s (a + 1)
 from-next s a h = ap (range_with_len a) (one_less (actor_count s) a h) where
   one_less : (n k : ℕ) → k < n → n - k ≡ suc (n - (k + 1))
@@ -40,12 +35,6 @@ from-none s a h = ap (range_with_len a) (nothing (actor_count s) a h) where
 pub record AreDone (s : Script) (lines : List Line) (a : ℕ) (unfinished : Bool) : Type 0 where
   pub astray : first_astray_of (astray_of s lines) (all_actors s) ≡ first_astray_of (astray_of s lines) (from_actor s a)
   pub unfinished_so_far : list_any (is_unfinished s lines) (all_actors s) ≡ (unfinished || list_any (is_unfinished s lines) (from_actor s a))
-
-pub none-done : (s : Script) (lines : List Line) → AreDone s lines 0 false
-none-done s lines = record {
-  astray = ap (first_astray_of (astray_of s lines)) (sym (from-first s));
-  unfinished_so_far = ap (list_any (is_unfinished s lines)) (sym (from-first s));
-}
 
 module _ (s : Script) (lines : List Line) (a : ℕ) (row : List (Option ℕ)) (slots : AreActorSlots lines lines a row) where
   astray-is : (found : Option ℕ) → first_astray s a (start_of s a) (by_row (seen_lines s lines) row) ≡ found → astray_of s lines a ≡ found
@@ -77,10 +66,11 @@ module _ (s : Script) (lines : List Line) (a : ℕ) (row : List (Option ℕ)) (s
       ap (λ o. unless_astray o (verdict_at_end (list_any (is_unfinished s lines) (all_actors s)) end))
       (done.astray ∙ (ap (first_astray_of (astray_of s lines)) (from-next s a below) ∙ ap (λ o. or_later o (first_astray_of (astray_of s lines) (from_actor s (a + 1)))) (astray-is (Some line) h)))
 
-pub all-done : (s : Script) (lines : List Line) (a : ℕ) (unfinished : Bool) (end : ℕ) → actor_count s ≤ a → AreDone s lines a unfinished → verdict_by_programs s lines end ≡ verdict_at_end unfinished end
+-- all of them are
+pub all-done : (s : Script) (lines : List Line) (a : ℕ) (unfinished : Bool) (end : ℕ) → actor_count s ≤ a → AreDone s lines a unfinished → verdict_at_end unfinished end ≡ verdict_by_programs s lines end
 all-done s lines a unfinished end past done =
-    ap (λ o. unless_astray o (verdict_at_end (list_any (is_unfinished s lines) (all_actors s)) end)) (done.astray ∙ ap (first_astray_of (astray_of s lines)) (from-none s a past))
-    ∙ ap (λ b. verdict_at_end b end) (done.unfinished_so_far ∙ (ap (λ actors. unfinished || list_any (is_unfinished s lines) actors) (from-none s a past) ∙ or_false unfinished)) where
+    sym (ap (λ o. unless_astray o (verdict_at_end (list_any (is_unfinished s lines) (all_actors s)) end)) (done.astray ∙ ap (first_astray_of (astray_of s lines)) (from-none s a past))
+    ∙ ap (λ b. verdict_at_end b end) (done.unfinished_so_far ∙ (ap (λ actors. unfinished || list_any (is_unfinished s lines) actors) (from-none s a past) ∙ or_false unfinished))) where
       or_false : (b : Bool) → (b || false) ≡ b
       or_false true = refl
       or_false false = refl

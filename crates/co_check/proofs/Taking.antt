@@ -1,5 +1,5 @@
 -- A line is taken: the history of its place grows by its entry, and that of no other.
-use Rattle.std.proofs.Common.{◌≡◌, ◌≢◌, ℕ, zero, suc, ◌+◌, ◌<◌, ◌==◌, Bool, cond, List, [], ◌∷◌, ◌++◌, length, get_or, set, get_or-set_same, get_or-set_other, refl, ap, sym, subst, ◌∙◌, arith, inl, inr}
+use Rattle.std.proofs.Common.{◌≡◌, ◌≢◌, ℕ, zero, suc, ◌+◌, ◌<◌, ◌==◌, cond, List, [], ◌∷◌, ◌++◌, length, get_or, set, get_or-set_same, get_or-set_other, refl, ap, sym, subst, ◌∙◌, arith, inl, inr}
 use Rattle.std.specs.Prelude.{Option, Some, None, slice_get}
 use Rattle.std.specs.List.{cons_option}
 use Rattle.std.proofs.lemmas.Bool.{cases_eq}
@@ -71,10 +71,6 @@ callout-grows i above l e some = callout-more i above l ∙ ap (λ o. callout_hi
 
 pub journal-grows : (cpu : ℕ) (above : List Line) (l : Line) (e : QEntry) → queue_entry_at cpu l.place l.entry ≡ Some e → cpu_journal cpu (above ++ l ∷ []) ≡ cpu_journal cpu above ++ e ∷ []
 journal-grows cpu above l e some = journal-more cpu above l ∙ ap (λ o. cpu_journal cpu above ++ cons_option o []) some
-
--- whose entry it is
-abbrev some_if : {X : Type 0} → Bool → X → Option X
-some_if b x = cond {A = Option _} b (Some x) None
 
 pub own-callout : (i : ℕ) (l : Line) (e : Entry) → l.place ≡ place.Timer i → l.entry ≡ of.Timer e → callout_entry_at i l.place l.entry ≡ Some e
 own-callout i l e p q = ap (λ x. callout_entry_at i x l.entry) p ∙ (ap (callout_entry_at i (place.Timer i)) q ∙ itself i e) where

@@ -1,14 +1,12 @@
 -- An actor's notes beside its program: step by step, and the steps without a note.
 use Rattle.std.proofs.Common.{◌≡◌, ℕ, zero, suc, ◌+◌, ◌-◌, ◌<◌, true, false, cond, List, [], ◌∷◌, ◌++◌, length, map, drop, refl, ap, sym, ◌∙◌, arith}
-use Rattle.std.specs.Prelude.{Option, Some, None, slice_get}
+use Rattle.std.specs.Prelude.{Option, Some, slice_get}
 use Rattle.std.specs.List.{cons_option}
 use Rattle.std.specs.Option.{option_map}
 use Rattle.std.proofs.lemmas.Option.{slice_get-map}
-use Rattle.co_lock.specs.declared.Held.{Held}
 use Rattle.co_program.specs.declared.action.Action.{Action as ActionAt}
-use Rattle.co_program.specs.declared.action.Asked.{Asked}
 use Rattle.co_program.specs.declared.script.Script.{Script}
-use Rattle.co_program.specs.Action.{Nothing, Silent, Take, Asks, action_for}
+use Rattle.co_program.specs.Action.{action_for}
 use Rattle.co_program.specs.declared.cursor.Cursor.{Cursor as CursorAt}
 use Rattle.co_program.specs.Cursor.{Cursor}
 use Rattle.co_program.specs.Indexed.{cursor_of}
@@ -35,9 +33,6 @@ module _ (s : Script) (a : ℕ) (c : Cursor) (x : SeenLine) (xs : List SeenLine)
 pub row-on : (notes : List SeenLine) (row : List (Option ℕ)) (k i : ℕ) (x : SeenLine) → slice_get row k ≡ Some (Some i) → slice_get notes i ≡ Some x → by_row notes (drop k row) ≡ x ∷ by_row notes (drop (k + 1) row)
 row-on notes row k i x here there =
     ap (by_row notes) (back row k (Some i) here) ∙ ap (λ o. cons_option o (by_row notes (drop (k + 1) row))) there
-
-pub row-past : (notes : List SeenLine) (row : List (Option ℕ)) (k : ℕ) → slice_get row k ≡ Some None → by_row notes (drop k row) ≡ by_row notes (drop (k + 1) row)
-row-past notes row k here = ap (by_row notes) (back row k None here)
 
 -- ---- what is said of a line
 
@@ -68,20 +63,6 @@ few-facts s lines facts h = ap length h ∙ (length-mapped fact_of (seen_lines s
 -- ---- steps without a note
 
 module _ (s : Script) (a : ℕ) where
-  pub past-silent : (c to : Cursor) → Silent to ≡ action_for s a c → (fuel : ℕ) → past s a (suc fuel) c (action_for s a c) ≡ past s a fuel to (action_for s a to)
-  past-silent c to h fuel = ap (past s a (suc fuel) c) (sym h)
-
-  pub past-take : (c to : Cursor) (held : Held) → Take held to ≡ action_for s a c → (fuel : ℕ) → past s a (suc fuel) c (action_for s a c) ≡ past s a fuel to (action_for s a to)
-  past-take c to held h fuel = ap (past s a (suc fuel) c) (sym h)
-
-  pub past-nothing : (c : Cursor) → Nothing ≡ action_for s a c → (fuel : ℕ) → past s a fuel c (action_for s a c) ≡ c
-  past-nothing c h zero = refl
-  past-nothing c h (suc fuel) = ap (past s a (suc fuel) c) (sym h)
-
-  pub past-asks : (c : Cursor) (act : ℕ) (asked : Asked) → Asks act asked ≡ action_for s a c → (fuel : ℕ) → past s a fuel c (action_for s a c) ≡ c
-  past-asks c act asked h zero = refl
-  past-asks c act asked h (suc fuel) = ap (past s a (suc fuel) c) (sym h)
-
   -- the first of them, and one more
   pub settle-first : (c : CursorAt) (left : ℕ) → left ≡ length (cursor_of s a c).left → past s a (left + 1 - 0) (cursor_of s a c) (action_for s a (cursor_of s a c)) ≡ at_next_note s a (cursor_of s a c)
   settle-first c left h = ap (λ n. past s a n (cursor_of s a c) (action_for s a (cursor_of s a c))) (all left (length (cursor_of s a c).left) h) where
@@ -96,9 +77,6 @@ module _ (s : Script) (a : ℕ) where
         one_less n k h = omega arith
 
 -- ---- the loop over a row
-
-place-on : (s : Script) (a : ℕ) (c : Cursor) (x : SeenLine) (xs : List SeenLine) → cursor_after_lines s a c (x ∷ xs) ≡ cursor_after_lines s a (goes_on s (at_next_note s a c) x) xs
-place-on s a c x xs = refl
 
 -- the notes of a row from one on, from a place in the program
 module _ (s : Script) (a : ℕ) (lines : List Line) (facts : List Fact) (row : List (Option ℕ)) (k i : ℕ) (c : CursorAt) (l : Line) (f : Fact)

@@ -168,8 +168,7 @@ impl<'a> Heard<'a> {
         ensures { OnOk result ((s : Scripts) (lines : List Line) → IsHeard s lines self.old → IsHeard s (lines ++ line_of line note.now ∷ []) self.new) }
     {
         self.replay(line, note)?;
-        self.lines.push(line, note)?;
-        Ok(())
+        self.lines.push(line, note)
     }
 
     /// The lines, and what they come to.

@@ -76,7 +76,7 @@ impl Replay {
         let callout = &mut self.callouts[i as usize];
         match take_callout(script, callout, entry) {
             Ok(listed) => Ok(PackedFact::new(listed, 0)),
-            Err(cause) => Err(cause),
+            Err(unfit) => Err(unfit),
         }
     }
 

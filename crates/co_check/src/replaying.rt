@@ -31,8 +31,8 @@ impl Replaying {
         requires { IsScript script.now }
         ensures { IfOk result (IsReplaying script.now []) }
     {
-        let replay = Replay::open(alloc, script)?;
         let counts = Seq::filled(alloc, actor_count(script) as usize, 0)?.into_vec();
+        let replay = Replay::open(alloc, script)?;
         Ok(Replaying {
             replay,
             facts: Seq::new(alloc),

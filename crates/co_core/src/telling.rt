@@ -27,7 +27,8 @@ fn is_finished(turn: Turn) -> bool
 {
     match turn {
         Turn::Finished => true,
-        Turn::Notes(_) | Turn::Blocked(_) => false,
+        Turn::Notes(_) => false,
+        Turn::Blocked(_) => false,
     }
 }
 

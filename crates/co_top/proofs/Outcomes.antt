@@ -1,9 +1,8 @@
 -- What is said of an answered text of commands is said of the command that answers it.
-use Rattle.std.proofs.Common.{◌≡◌, ℕ, List, Ok, Err, Result, IfOk, Option, Some, None, refl, sym, subst, ◌∙◌}
+use Rattle.std.proofs.Common.{◌≡◌, ℕ, List, Ok, Err, Result, IfOk, Option, sym, subst}
 use Rattle.co_text.specs.Fallible.{GivesOrNoMemory, Refusal}
 use Rattle.co_text.specs.declared.cause.ScriptFault.{ScriptFault}
 use Rattle.co_text.specs.declared.cause.ScriptFault.TheVariants as fault
-use Rattle.co_front.specs.Texts.{refusal_text}
 use Rattle.co_service.specs.Closing.{ClosingView}
 use Rattle.co_top.specs.Headline.{GivesServed, IsBatchDone, IsRefused, Refuses, Serves}
 use Rattle.co_top.specs.Outcomes.{IsOutcome}

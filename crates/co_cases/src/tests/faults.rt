@@ -1,7 +1,6 @@
 //! One firing over ends that fail.
 use crate::examples::{ONE_FIRING, ONE_FIRING_REPORT};
-use crate::{Outcome, call};
-use co_io::{MemSink, MemSource};
+use crate::{Ends, Outcome, call};
 use co_sbt::NoMemory;
 use co_top::Status;
 use std::sync::Wait;
@@ -15,9 +14,14 @@ fn steps<R: AllocGlobal + Threads + Wait + Sync>(
     room: usize,
     write_fails: &[u64],
 ) -> Result<Outcome, NoMemory> {
-    let mut source = MemSource::new(rt.alloc(), ONE_FIRING.as_bytes(), 1, read_fails)?;
-    let mut sink = MemSink::new(rt.alloc(), room, 1, write_fails)?;
-    call(rt, ["steps"].as_slice(), &mut source, &mut sink)
+    let ends = Ends {
+        input: ONE_FIRING.as_bytes(),
+        room,
+        piece: 1,
+        read_fails,
+        write_fails,
+    };
+    call(rt, ["steps"].as_slice(), &ends, None)
 }
 
 /// Whether that call ends so, with so many bytes of the report written.

@@ -114,9 +114,13 @@ fn words_that_are_no_command(rt: HostRuntime) -> Result<(), Fail> {
     Ok(())
 }
 
+fn is_line_feed(byte: &&u8) -> bool {
+    **byte == b'\n'
+}
+
 // What is written of the first bytes of a script whose lines up to the timer's are `head` bytes long.
 fn refusal(alloc: Global, prefix: &[u8]) -> Result<String, AllocError> {
-    let lines = prefix.iter().filter(|byte| **byte == b'\n').count();
+    let lines = prefix.iter().filter(is_line_feed).count();
     match prefix.last() {
         None => format!(in alloc; "line 0: version\n"),
         Some(b'\n') => format!(in alloc; "line 0: timer\n"),

@@ -1,5 +1,5 @@
 -- A service is over: its callout stays or leaves for another CPU, and its server is free. What the wheel, the ledger and the plain world have after it.
-use Rattle.std.proofs.Common.{◌≡◌, ℕ, ◌<◌, ◌⊎◌, inl, inr, Bool, true, false, cond, List, [], ◌∷◌, length, set, refl, sym, ap, ◌∙◌, subst, arith, Option, Some, None, eq-eqb}
+use Rattle.std.proofs.Common.{◌≡◌, ℕ, ◌<◌, ◌⊎◌, inl, inr, Bool, true, false, cond, List, [], ◌∷◌, length, set, refl, sym, ap, ◌∙◌, subst, Option, Some, None, eq-eqb}
 use Rattle.std.specs.Prelude.{is_some}
 use Rattle.std.proofs.lemmas.List.{set-get_or}
 use Rattle.co_object.specs.declared.Arming.{Arming}
@@ -131,9 +131,6 @@ module _ (s : Script) (ok : IsScript s) (ledger : Written) (depot : Stored) (w :
 
   pub end_known : i < length s.timers
   end_known = known s ok ledger depot w stands a i cpu due.may view.is_cpu about busy
-
-  pub end_bag : a < length depot.bags
-  end_bag = let l = stands.stored.bags_long in let m = due.may in omega (arith, l, m)
 
   -- an actor whose service ends moves nothing
   pub end_empty : bag_at depot a ≡ None

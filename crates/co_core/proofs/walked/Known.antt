@@ -1,5 +1,5 @@
 -- What is known of the actors stays so, whoever steps: that one has finished, and what one takes next.
-use Rattle.std.proofs.Common.{◌≡◌, ℕ, zero, suc, ◌⊎◌, Bool, true, false, List, [], ◌∷◌, ◌++◌, get_or, set, length, cond, ◌<◌, ◌+◌, ◌*◌, ◌==◌, if◌then◌else◌, arith, replicate, inl, inr, refl, sym, ap, subst, ◌∙◌, Option, Some, None}
+use Rattle.std.proofs.Common.{◌≡◌, ℕ, zero, suc, ◌⊎◌, Bool, true, false, [], ◌∷◌, ◌++◌, get_or, length, cond, ◌<◌, ◌+◌, ◌*◌, ◌==◌, if◌then◌else◌, arith, replicate, inl, inr, refl, sym, ap, subst, ◌∙◌, Option, Some, None}
 use Rattle.co_object.specs.declared.Op.{Op}
 use Rattle.co_object.specs.declared.QOp.{QOp}
 use Rattle.co_object.specs.declared.Note.{Note}
@@ -20,7 +20,6 @@ use Rattle.co_world.specs.Step.{are_direct, notes_down, callout_answers, queue_a
 use Rattle.co_world.specs.Walk.{HasFinished}
 use Rattle.co_program.specs.Actors.{actor_count}
 use Rattle.co_program.specs.Scripts.{IsScript}
-use Rattle.std.proofs.lemmas.List.{get_or-set_other, get_or-set_same}
 use Rattle.co_lock.specs.declared.Held.{Held}
 use Rattle.co_world.specs.Blocked.{blocked, is_locked, waits_for}
 use Rattle.co_world.specs.declared.turn.Why.TheVariants.{Lock}
@@ -132,37 +131,6 @@ pub none_known : {X : Type 0} (x : X) (n a : ℕ) → get_or (replicate n x) a x
 none_known x zero a = refl
 none_known x (suc n) zero = refl
 none_known x (suc n) (suc a) = none_known x n a
-
--- what is put there is learnt
-pub learnt_at : (known : List Known) (i : ℕ) (what : Known) → i < length known → HasLearnt known i what (set known i what)
-learnt_at known i what within b = go (decide b i) where
-  go : (b ≡ i) ⊎ (b ≡ i → ⊥) → ((b ≡ i) × (get_or (set known i what) b Nothing ≡ what)) ⊎ ((b ≡ i → ⊥) × (get_or (set known i what) b Nothing ≡ get_or known b Nothing))
-  go (inl same) = inl (same, ap (λ (k : ℕ). get_or (set known i what) k Nothing) same ∙ get_or-set_same known i what Nothing within)
-  go (inr other) = inr (other, get_or-set_other known i b what Nothing other)
-
--- nothing is learnt of one of whom nothing is known
-pub none_learnt : (known : List Known) (i : ℕ) (what : Known) → get_or known i Nothing ≡ Nothing → what ≡ Nothing → HasLearnt known i what known
-none_learnt known i what none is b = go (decide b i) where
-  go : (b ≡ i) ⊎ (b ≡ i → ⊥) → ((b ≡ i) × (get_or known b Nothing ≡ what)) ⊎ ((b ≡ i → ⊥) × (get_or known b Nothing ≡ get_or known b Nothing))
-  go (inl same) = inl (same, ap (λ (k : ℕ). get_or known k Nothing) same ∙ (none ∙ sym is))
-  go (inr other) = inr (other, refl)
-
--- once an actor is forgotten
-pub forgotten_at : (known : List Known) (i : ℕ) (known2 : List Known) → HasLearnt known i Nothing known2 → IsForgotten known i known2
-forgotten_at known i known2 learns = record { nothing = at (learns i); others = others } where
-  at : ((i ≡ i) × (get_or known2 i Nothing ≡ Nothing)) ⊎ ((i ≡ i → ⊥) × (get_or known2 i Nothing ≡ get_or known i Nothing)) → get_or known2 i Nothing ≡ Nothing
-  at (inl now) = now.1
-  at (inr other) = absurd (other.0 refl)
-
-  others : (b : ℕ) → (get_or known2 b Nothing ≡ Nothing) ⊎ (get_or known2 b Nothing ≡ get_or known b Nothing)
-  others b = go (learns b) where
-    go : ((b ≡ i) × (get_or known2 b Nothing ≡ Nothing)) ⊎ ((b ≡ i → ⊥) × (get_or known2 b Nothing ≡ get_or known b Nothing)) → (get_or known2 b Nothing ≡ Nothing) ⊎ (get_or known2 b Nothing ≡ get_or known b Nothing)
-    go (inl now) = inl now.1
-    go (inr before) = inr before.1
-
--- one of whom nothing is known is forgotten already
-pub forgotten_before : (known : List Known) (i : ℕ) → get_or known i Nothing ≡ Nothing → IsForgotten known i known
-forgotten_before known i none = record { nothing = none; others = λ b. inr refl }
 
 -- of nobody anything
 pub nothing_known : (s : Script) (w : World) (x : Resting) → ((a : ℕ) → get_or x.known a Nothing ≡ Nothing) → IsKnown s w x

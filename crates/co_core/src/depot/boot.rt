@@ -67,8 +67,8 @@ impl Depot {
         ensures { IfOk result (λ depot. ShowsStored script.now depot (open_world script.now)) }
     {
         let direct = Spec::directs(alloc, script.timers.as_slice())?;
-        let bags = empty_bags(alloc, actor_count(script) as usize)?;
         let stands = copies(alloc, script.timers.as_slice().len(), 0)?;
+        let bags = empty_bags(alloc, actor_count(script) as usize)?;
         let wheels = first_wheels(alloc, script, direct.as_slice())?;
         Ok(Depot {
             wheels,

@@ -168,18 +168,21 @@ fn has(alloc: Global, text: &str, history: &[Step], wanted: &Counts) -> bool {
     }
 }
 
+/// The first arming, for the first second.
+const ARMED: Step = Step::Reset {
+    second: 1,
+    code: 0,
+    n: 0,
+    off: None,
+};
+
 /// What a case shows, its script, what happens to callout 0, and the counts then.
 const CASES: &[(&str, &str, &[Step], Counts)] = &[
     (
         "replaced",
         FREE,
         &[
-            Step::Reset {
-                second: 1,
-                code: 0,
-                n: 0,
-                off: None,
-            },
+            ARMED,
             Step::Reset {
                 second: 2,
                 code: 1,
@@ -205,12 +208,7 @@ const CASES: &[(&str, &str, &[Step], Counts)] = &[
         "cancelled while it waits",
         LOCKED,
         &[
-            Step::Reset {
-                second: 1,
-                code: 0,
-                n: 0,
-                off: None,
-            },
+            ARMED,
             Step::Pick {
                 n: 0,
                 second: 1,
@@ -231,12 +229,7 @@ const CASES: &[(&str, &str, &[Step], Counts)] = &[
         "stop during service",
         FREE,
         &[
-            Step::Reset {
-                second: 1,
-                code: 0,
-                n: 0,
-                off: None,
-            },
+            ARMED,
             Step::Pick {
                 n: 0,
                 second: 1,
@@ -265,12 +258,7 @@ const CASES: &[(&str, &str, &[Step], Counts)] = &[
     (
         "still armed",
         FREE,
-        &[Step::Reset {
-            second: 1,
-            code: 0,
-            n: 0,
-            off: None,
-        }],
+        &[ARMED],
         Counts {
             notes: 1,
             armed: 1,

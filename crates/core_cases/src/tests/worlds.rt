@@ -71,86 +71,39 @@ struct Run {
     script: &'static str,
     /// Who steps, one after the other, and what the step comes to.
     turns: &'static [(u32, Turn)],
-    actor: usize,
+    actor: u32,
     /// How many notes the actor then has.
     count: usize,
     /// One of them, and how many stand before it.
-    note: Option<(usize, Note)>,
+    note: Option<(usize, Told)>,
 }
 
-const STOP: Op = Op::Call(CallOp::Plain(PlainOp::Stop));
-
-const DRAIN: Op = Op::Call(CallOp::DrainTry { took: false });
-
-/// Client 0 stops the callout whose service waits for the lock.
-const STOPPED_BEFORE_ITS_LOCK: Note = Note {
-    place: Place::Timer(0),
-    pos: 2,
-    entry: AnyEntry::Timer(Entry {
-        actor: 0,
-        act: 2,
-        op: STOP,
-        reply: Reply::Stopped { code: 1, off: None },
-    }),
-};
-
-/// Client 1 stops the callout that has come to CPU 1.
-const STOPPED_ELSEWHERE: Note = Note {
-    place: Place::Timer(0),
-    pos: 1,
-    entry: AnyEntry::Timer(Entry {
-        actor: 1,
-        act: 0,
-        op: STOP,
-        reply: Reply::Stopped {
-            code: 1,
-            off: Some(1),
-        },
-    }),
-};
-
-/// Client 1 takes the callout from the queue of CPU 1.
-const REMOVED: Note = Note {
-    place: Place::Cpu(1),
-    pos: 1,
-    entry: AnyEntry::Cpu(QEntry {
-        actor: 1,
-        act: 0,
-        op: QOp::Remove { i: 0 },
-        reply: QReply::Off,
-    }),
-};
-
-/// Client 0's drain has to wait.
-const WAITS: Note = Note {
-    place: Place::Timer(0),
-    pos: 2,
-    entry: AnyEntry::Timer(Entry {
-        actor: 0,
-        act: 1,
-        op: DRAIN,
-        reply: Reply::Wait {
-            n: 0,
-            took: false,
-            off: None,
-        },
-    }),
-};
-
-/// Client 0's drain is over.
-const IS_OVER: Note = Note {
-    place: Place::Timer(0),
-    pos: 5,
-    entry: AnyEntry::Timer(Entry {
-        actor: 0,
-        act: 1,
-        op: DRAIN,
-        reply: Reply::Drained {
-            code: -1,
-            off: None,
-        },
-    }),
-};
+/// A note of the actor that is told: of its act of this number, on callout 0.
+enum Told {
+    /// A stop, at this position of the callout's history.
+    Stopped {
+        pos: u64,
+        act: u64,
+        code: i32,
+        off: Option<u32>,
+    },
+    /// A drain's try that has to wait for arming 0.
+    Waits {
+        pos: u64,
+        act: u64,
+    },
+    /// A drain's last try.
+    Drained {
+        pos: u64,
+        act: u64,
+        code: i32,
+    },
+    /// The callout is taken from the queue of CPU 1.
+    Removed {
+        pos: u64,
+        act: u64,
+    },
+}
 
 const CANCELLED: [(u32, Turn); 15] = [
     (0, Turn::Notes(0)),
@@ -210,14 +163,22 @@ const BEHIND_CANCELLED: [(u32, Turn); 8] = [
 
 const SOFT_FIRST: [(u32, Turn); 1] = [(1, Turn::Blocked(Why::Tick(0)))];
 
-const RUNS: [Run; 9] = [
+static RUNS: [Run; 9] = [
     Run {
         name: "cancelled while it waits",
         script: CANCELLED_SCRIPT,
         turns: &CANCELLED,
         actor: 0,
         count: 3,
-        note: Some((2, STOPPED_BEFORE_ITS_LOCK)),
+        note: Some((
+            2,
+            Told::Stopped {
+                pos: 2,
+                act: 2,
+                code: 1,
+                off: None,
+            },
+        )),
     },
     Run {
         name: "the CPU that finds it cancelled",
@@ -241,7 +202,7 @@ const RUNS: [Run; 9] = [
         turns: &MOVING,
         actor: 1,
         count: 2,
-        note: Some((0, REMOVED)),
+        note: Some((0, Told::Removed { pos: 1, act: 0 })),
     },
     Run {
         name: "stopped where it came to",
@@ -249,7 +210,15 @@ const RUNS: [Run; 9] = [
         turns: &MOVING,
         actor: 1,
         count: 2,
-        note: Some((1, STOPPED_ELSEWHERE)),
+        note: Some((
+            1,
+            Told::Stopped {
+                pos: 1,
+                act: 0,
+                code: 1,
+                off: Some(1),
+            },
+        )),
     },
     Run {
         name: "drain during a service",
@@ -257,7 +226,7 @@ const RUNS: [Run; 9] = [
         turns: &DRAINED,
         actor: 0,
         count: 6,
-        note: Some((2, WAITS)),
+        note: Some((2, Told::Waits { pos: 2, act: 1 })),
     },
     Run {
         name: "drain against reset",
@@ -265,7 +234,14 @@ const RUNS: [Run; 9] = [
         turns: &DRAINED,
         actor: 0,
         count: 6,
-        note: Some((3, IS_OVER)),
+        note: Some((
+            3,
+            Told::Drained {
+                pos: 5,
+                act: 1,
+                code: -1,
+            },
+        )),
     },
     Run {
         name: "drain behind a cancelled call",
@@ -298,18 +274,72 @@ fn goes(script: &Script, world: &mut World, turns: &[(u32, Turn)]) -> bool
     true
 }
 
-/// Whether the note stands in the list behind as many others, where one is wanted.
-fn has(list: &[Note], note: &Option<(usize, Note)>) -> bool {
+/// An actor's entry of callout 0: a call of its act of this number, and the reply.
+fn called(actor: u32, act: u64, op: CallOp, reply: Reply) -> AnyEntry {
+    AnyEntry::Timer(Entry {
+        actor,
+        act,
+        op: Op::Call(op),
+        reply,
+    })
+}
+
+/// Its removal of callout 0 from a queue, in the act of this number.
+fn removed(actor: u32, act: u64) -> AnyEntry {
+    AnyEntry::Cpu(QEntry {
+        actor,
+        act,
+        op: QOp::Remove { i: 0 },
+        reply: QReply::Off,
+    })
+}
+
+/// The note of an actor that is told this.
+fn note_of(actor: u32, told: &Told) -> Note {
+    let drain = CallOp::DrainTry { took: false };
+    let (place, pos, entry) = match *told {
+        Told::Stopped {
+            pos,
+            act,
+            code,
+            off,
+        } => {
+            let reply = Reply::Stopped { code, off };
+            let stop = CallOp::Plain(PlainOp::Stop);
+            (Place::Timer(0), pos, called(actor, act, stop, reply))
+        }
+        Told::Waits { pos, act } => {
+            let reply = Reply::Wait {
+                n: 0,
+                took: false,
+                off: None,
+            };
+            (Place::Timer(0), pos, called(actor, act, drain, reply))
+        }
+        Told::Drained { pos, act, code } => {
+            let reply = Reply::Drained { code, off: None };
+            (Place::Timer(0), pos, called(actor, act, drain, reply))
+        }
+        Told::Removed { pos, act } => (Place::Cpu(1), pos, removed(actor, act)),
+    };
+    Note { place, pos, entry }
+}
+
+/// Whether the actor's note stands in the list behind as many others, where one is wanted.
+fn has(list: &[Note], actor: u32, note: &Option<(usize, Told)>) -> bool {
     match note {
-        Some((at, note)) => list.get(*at) == Some(note),
+        Some((at, told)) => list.get(*at) == Some(&note_of(actor, told)),
         None => true,
     }
 }
 
 /// Whether the run's actor has as many notes as it has to, and the one that is wanted.
 fn is_told(world: &World<'_>, run: &Run) -> bool {
-    match world.lists().as_slice().get(run.actor) {
-        Some(list) => list.as_slice().len() == run.count && has(list.as_slice(), &run.note),
+    match world.lists().as_slice().get(run.actor as usize) {
+        Some(list) => {
+            let notes = list.as_slice();
+            notes.len() == run.count && has(notes, run.actor, &run.note)
+        }
         None => false,
     }
 }

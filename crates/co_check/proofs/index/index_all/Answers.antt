@@ -1,10 +1,11 @@
--- A line more is indexed, or its number is wrong.
-use Rattle.std.proofs.Common.{take, ap, sym, subst, ◌∙◌, arith}
+-- A line more is indexed, or its number is wrong; and at the end all are.
+use Rattle.std.proofs.Common.{◌≤◌, length, take, ap, sym, subst, ◌∙◌, arith}
 use Rattle.std.specs.Prelude.{Some}
-use Rattle.std.proofs.lemmas.List.{length-take-le}
+use Rattle.std.proofs.lemmas.List.{length-take-le, take_all, at_drop_all}
 use Rattle.co_report.specs.PackedLines.{line_of}
 use Rattle.co_check.specs.Index.{IsIndexed}
 use Rattle.co_check.specs.Numbers.{number_at}
+use Rattle.co_check.specs.Replay.{first_bad}
 use Rattle.co_check.specs.declared.verdict.Unfit.TheVariants.{Number}
 use Rattle.co_check.proofs.Along.{front, first-on, first-at, line-ahead, some-ahead}
 use Rattle.co_check.proofs.Noted.{fits-at}
@@ -44,3 +45,11 @@ next_head-head-requires c = some-ahead c.args.lines.now c.loop-i.i (omega arith)
 
 pub take-requires-clause-indexed : goal.take-requires-clause-indexed
 take-requires-clause-indexed c = (c.args.lines.now, take c.loop-i.i c.args.lines.now, c.loop-i.invariant.after, c.requires.few)
+
+pub returns : goal.returns
+returns c =
+    let lines = c.args.lines.now in
+    let over : length lines ≤ c.loop-i.i = omega arith in (
+      c.loop-i.invariant.rest ∙ at_drop_all (first_bad (number_at lines) (take c.loop-i.i lines)) lines c.loop-i.i over,
+      subst (λ above. IsIndexed c.args.script.now lines above c.loop-i.index) (take_all c.loop-i.i lines over) c.loop-i.invariant.after,
+    )

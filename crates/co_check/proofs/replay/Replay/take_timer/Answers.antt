@@ -12,4 +12,4 @@ returns-in-Ok c above l p q h =
 pub returns-in-Err : goal.returns-in-Err
 returns-in-Err c above l p q h =
     let at = slice_get_read c.args.self.now.callouts.items (length c.args.self.now.callouts.items) c.args.i c.index_mut-callout.result.now refl c.requires.i c.index_mut-callout.ensures.value in
-    refused-callout c.args.script.now above l c.args.i c.args.entry.now c.args.self.now c.index_mut-callout.result.now c.take_callout.new.callout c.in-Err.cause p q h at c.in-Err.ensures
+    refused-callout c.args.script.now above l c.args.i c.args.entry.now c.args.self.now c.index_mut-callout.result.now c.take_callout.new.callout c.in-Err.unfit p q h at c.in-Err.ensures

@@ -55,3 +55,7 @@ pub returns-clause-turn : goal.returns-clause-turn
 returns-clause-turn c w h =
     subst (λ (x : Seen). c.in_ok-turn.turn ≡ turn_of x.script w c.args.actor) c.self.view_is
     (c.in_ok-turn.ensures.stepped.tells c.self.inside.lists w (subst (λ (x : Seen). Shows x w) (sym c.self.view_is) h))
+
+-- there was memory
+pub returns-clause-err : goal.returns-clause-err
+returns-clause-err c = tt
