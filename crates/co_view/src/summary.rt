@@ -5,10 +5,10 @@ ghost use Rattle.co_check.specs.Lines.{IsReport};
 ghost use Rattle.co_view.specs.Scenes.{watch_of};
 ghost use Rattle.co_view.specs.Summary.{cell_at, cell_text, coded_column, column_name, entry_counted, fate_column, fates_text, is_open, reply_noted, one_if, opened_tally, replaced_column, reply_column, row_text, rows_text, stopped_column, summary_text, tally_entry, tally_of, tallied, timer_row};
 
-use crate::order::counts::raise;
 use crate::parts::{Part, print_parts};
 use crate::scene::{Watch, opened, take, watch_of, watched};
 use co_object::{AnyEntry, Entry, Place, Reply};
+use co_order::raise;
 use co_report::{Line, Report};
 use co_sbt::{NoMemory, Seq};
 use co_text::Page;

@@ -180,24 +180,28 @@ fn print_ended(
 pub(crate) fn print_reply(page: &mut Page, reply: &Reply) -> Result<(), NoMemory>
     ensures { OnOk result (page.new ≡ page.old ++ spaced (reply_words reply.now)) }
 {
-    match reply {
-        Reply::Armed { code, n, cpu, off } => print_armed(page, *code, *n, *cpu, *off),
-        Reply::NotArmed { code } => print_coded(page, *code, refused_word(*code)),
+    match *reply {
+        Reply::Armed { code, n, cpu, off } => print_armed(page, code, n, cpu, off),
+        Reply::NotArmed { code } => print_coded(page, code, refused_word(code)),
         Reply::NoHandler => print_word(page, b"-> no function to call".as_slice()),
         Reply::Worn => print_word(page, b"-> no arming is left".as_slice()),
-        Reply::Stopped { code, .. } => print_coded(page, *code, stopped_word(*code)),
-        Reply::Wait { n, .. } => print_wait(page, *n),
-        Reply::Drained { code, .. } => print_coded(page, *code, drained_word(*code)),
+        Reply::Stopped { code, .. } => print_coded(page, code, stopped_word(code)),
+        Reply::Wait { n, .. } => print_wait(page, n),
+        Reply::Drained { code, .. } => print_coded(page, code, drained_word(code)),
         Reply::Busy => print_word(page, b"-> busy (another drain waits)".as_slice()),
         Reply::Yes => print_word(page, b"-> yes".as_slice()),
         Reply::No => print_word(page, b"-> no".as_slice()),
         Reply::Done => print_word(page, b"-> done".as_slice()),
         Reply::Live => print_word(page, b"-> live already".as_slice()),
         Reply::Retired => print_word(page, b"-> out of use".as_slice()),
-        Reply::InUse { armed, serviced } => print_word(page, in_use_word(*armed, *serviced)),
-        Reply::Go { func, arg } => print_go(page, *func, *arg),
+        Reply::InUse { armed, serviced } => print_word(page, in_use_word(armed, serviced)),
+        Reply::Go { func, arg } => print_go(page, func, arg),
         Reply::Hold => print_word(page, b"-> waits for its lock".as_slice()),
         Reply::Skip => print_word(page, b"-> skipped, it was cancelled".as_slice()),
-        Reply::Ended { drain, next, woke } => print_ended(page, *drain, next, *woke),
+        Reply::Ended {
+            drain,
+            ref next,
+            woke,
+        } => print_ended(page, drain, next, woke),
     }
 }
