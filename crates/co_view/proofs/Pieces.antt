@@ -1,5 +1,5 @@
 -- Words of which the last is a time, and further words behind first ones.
-use Rattle.std.proofs.Common.{◌≡◌, ℕ, codes, decimal, List, [], ◌∷◌, ◌++◌, ap, sym, subst, Result, ◌∙◌, append_assoc, append-nil}
+use Rattle.std.proofs.Common.{◌≡◌, ℕ, codes, List, [], ◌∷◌, ◌++◌, ap, sym, subst, Result, ◌∙◌, append_assoc, append-nil}
 use Rattle.std.specs.Prelude.{OnOk}
 use Rattle.co_text.specs.Lines.{spaced}
 use Rattle.co_text.specs.Values.{Word}

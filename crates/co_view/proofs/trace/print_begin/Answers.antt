@@ -1,4 +1,4 @@
-use Rattle.std.proofs.Common.{List, ℕ, codes, decimal}
+use Rattle.std.proofs.Common.{codes, decimal}
 use Rattle.co_view.specs.Parts.{part_text}
 use Rattle.co_view.specs.Trace.{at_text}
 use Rattle.co_view.proofs.Pieces.{behind, doing_is, said_is}
