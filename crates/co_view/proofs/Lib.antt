@@ -1,9 +1,4 @@
-pub mod Counts
 pub mod Pieces
-pub mod InParts
-pub mod Merges
-pub mod Stuck
-pub mod Boards
 pub mod Rows
 pub mod Stories
 pub mod Tallies

@@ -1,5 +1,5 @@
 -- Words of which the last is a time, and further words behind first ones.
-use Rattle.std.proofs.Common.{◌≡◌, ℕ, codes, decimal, List, [], ◌∷◌, ◌++◌, ap, subst, Result, ◌∙◌, append_assoc, append-nil}
+use Rattle.std.proofs.Common.{◌≡◌, ℕ, codes, List, [], ◌∷◌, ◌++◌, ap, sym, subst, Result, ◌∙◌, append_assoc, append-nil}
 use Rattle.std.specs.Prelude.{OnOk}
 use Rattle.co_text.specs.Lines.{spaced}
 use Rattle.co_text.specs.Values.{Word}
@@ -40,32 +40,17 @@ said_is r old new t u e h = subst (λ (v : List ℕ). OnOk r (new ≡ old ++ v))
 pub two_texts : (old p1 p2 a b : List ℕ) → p1 ≡ old ++ a → p2 ≡ p1 ++ b → p2 ≡ old ++ (a ++ b)
 two_texts old p1 p2 a b e1 e2 = rw (e2, e1) (append_assoc old a b)
 
-pub three_texts : (old p1 p2 p3 a b c : List ℕ) → p1 ≡ old ++ a → p2 ≡ p1 ++ b → p3 ≡ p2 ++ c → p3 ≡ old ++ (a ++ (b ++ c))
-three_texts old p1 p2 p3 a b c e1 e2 e3 = rw (e3, e2, e1) (simp append_assoc)
-
 pub four_texts : (old p1 p2 p3 p4 a b c d : List ℕ) → p1 ≡ old ++ a → p2 ≡ p1 ++ b → p3 ≡ p2 ++ c → p4 ≡ p3 ++ d → p4 ≡ old ++ (a ++ (b ++ (c ++ d)))
 four_texts old p1 p2 p3 p4 a b c d e1 e2 e3 e4 = rw (e4, e3, e2, e1) (simp append_assoc)
-
-pub five_texts : (old p1 p2 p3 p4 p5 a b c d e : List ℕ) → p1 ≡ old ++ a → p2 ≡ p1 ++ b → p3 ≡ p2 ++ c → p4 ≡ p3 ++ d → p5 ≡ p4 ++ e → p5 ≡ old ++ (a ++ (b ++ (c ++ (d ++ e))))
-five_texts old p1 p2 p3 p4 p5 a b c d e e1 e2 e3 e4 e5 = rw (e5, e4, e3, e2, e1) (simp append_assoc)
-
-pub six_texts : (old p1 p2 p3 p4 p5 p6 a b c d e f : List ℕ) → p1 ≡ old ++ a → p2 ≡ p1 ++ b → p3 ≡ p2 ++ c → p4 ≡ p3 ++ d → p5 ≡ p4 ++ e → p6 ≡ p5 ++ f → p6 ≡ old ++ (a ++ (b ++ (c ++ (d ++ (e ++ f)))))
-six_texts old p1 p2 p3 p4 p5 p6 a b c d e f e1 e2 e3 e4 e5 e6 = rw (e6, e5, e4, e3, e2, e1) (simp append_assoc)
-
-pub seven_texts : (old p1 p2 p3 p4 p5 p6 p7 a b c d e f g : List ℕ) → p1 ≡ old ++ a → p2 ≡ p1 ++ b → p3 ≡ p2 ++ c → p4 ≡ p3 ++ d → p5 ≡ p4 ++ e → p6 ≡ p5 ++ f → p7 ≡ p6 ++ g → p7 ≡ old ++ (a ++ (b ++ (c ++ (d ++ (e ++ (f ++ g))))))
-seven_texts old p1 p2 p3 p4 p5 p6 p7 a b c d e f g e1 e2 e3 e4 e5 e6 e7 = rw (e7, e6, e5, e4, e3, e2, e1) (simp append_assoc)
 
 -- a word and further ones
 pub four_words : (old p1 p2 p3 p4 : List ℕ) (w : Word) (us vs ws : List Word) → p1 ≡ old ++ spaced (w ∷ []) → p2 ≡ p1 ++ spaced us → p3 ≡ p2 ++ spaced vs → p4 ≡ p3 ++ spaced ws → p4 ≡ old ++ spaced (w ∷ (us ++ (vs ++ ws)))
 four_words old p1 p2 p3 p4 w us vs ws e1 e2 e3 e4 = rw (spaced-append (w ∷ []) (us ++ (vs ++ ws)), spaced-append us (vs ++ ws), spaced-append vs ws) (four_texts old p1 p2 p3 p4 (spaced (w ∷ [])) (spaced us) (spaced vs) (spaced ws) e1 e2 e3 e4)
 
--- a tag and a number, and a text alone, by what they are equal to
-pub tagged_is : (p q t u : List ℕ) (n m : ℕ) → q ≡ p ++ (t ++ decimal n) → t ≡ u → n ≡ m → q ≡ p ++ (u ++ decimal m)
-tagged_is p q t u n m e f g = e ∙ (ap (λ v. p ++ (v ++ decimal n)) f ∙ ap (λ k. p ++ (u ++ decimal k)) g)
+-- a text behind a text
+pub behind : (w t u : List ℕ) → t ≡ u → w ++ t ≡ w ++ u
+behind w t u e = ap (λ v. w ++ v) e
 
-pub text_is : (p q t u : List ℕ) → q ≡ p ++ t → t ≡ u → q ≡ p ++ u
-text_is p q t u e f = e ∙ ap (λ v. p ++ v) f
-
--- an actor's name
-pub named_is : (p q t w : List ℕ) (l n : ℕ) → q ≡ p ++ (t ++ decimal n) → t ≡ l ∷ [] → l ∷ decimal n ≡ w → q ≡ p ++ w
-named_is p q t w l n e f g = e ∙ (ap (λ v. p ++ (v ++ decimal n)) f ∙ ap (λ v. p ++ v) g)
+-- what an arming is doing
+pub doing_is : (n doing end : List ℕ) → n ++ (doing ++ end) ≡ (n ++ doing) ++ end
+doing_is n doing end = sym (append_assoc n doing end)

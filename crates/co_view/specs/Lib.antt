@@ -1,9 +1,5 @@
--- Views of a report: one order of all its notes, and what is written of them in that order.
+-- Views of a report: what is written of its notes, in an order of them.
 
--- an order of all notes that keeps numbers and positions, or that there is none
-pub mod Order
--- what the code keeps of an order while it makes it
-pub mod Merging
 -- a note in words, as views say it
 pub mod Words
 -- a time as seconds in decimals, rounded to a microsecond

@@ -112,7 +112,7 @@ fn print_passing(page: &mut Page, actor: u32) -> Result<(), NoMemory>
     ensures { OnOk result (page.new ≡ page.old ++ passing actor) }
 {
     for _ in 0..actor {
-        page.text(b"|\t".as_slice())?;
+        page.text(b"|\t")?;
     }
     Ok(())
 }
@@ -122,7 +122,7 @@ fn print_row(page: &mut Page, line: &Line) -> Result<(), NoMemory>
     ensures { OnOk result (page.new ≡ page.old ++ lane_row line.now) }
 {
     page.number(line.line)?;
-    page.text(b"\t".as_slice())?;
+    page.text(b"\t")?;
     print_passing(page, line.entry.actor())?;
     print_note(page, line.place, &line.entry)?;
     page.end()
@@ -149,8 +149,8 @@ fn print_column(page: &mut Page, script: &Script, actor: u32) -> Result<(), NoMe
     ensures { OnOk result (page.new ≡ page.old ++ 9 ∷ actor_word script.now actor) }
 {
     let (letter, number) = actor_name(script, actor);
-    page.text(b"\t".as_slice())?;
-    page.tagged([letter].as_slice(), number)
+    page.text(b"\t")?;
+    page.tagged(&[letter], number)
 }
 
 /// The names of the columns.
@@ -168,7 +168,7 @@ fn print_header(page: &mut Page, script: &Script) -> Result<(), NoMemory>
     requires { IsScript script.now }
     ensures { OnOk result (page.new ≡ page.old ++ header_text script.now) }
 {
-    page.text(b"line".as_slice())?;
+    page.text(b"line")?;
     print_columns(page, script, actor_count(script))?;
     page.end()
 }

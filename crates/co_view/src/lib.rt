@@ -1,8 +1,7 @@
-//! Reports as one looks at them: all notes of a report in one order, and the texts that show them.
+//! Reports as one looks at them: the texts that show their notes, in an order that `co_order` makes.
 #![tactic(auto)]
 
 mod lanes;
-mod order;
 mod parts;
 mod picture;
 mod roll;
@@ -13,7 +12,7 @@ mod svg;
 mod trace;
 mod words;
 
+pub use co_order::{Ordered, order_of};
 pub use lanes::{Focus, print_lanes};
-pub use order::{Ordered, order_of};
 pub use picture::{Picture, print_picture};
 pub use summary::print_summary;

@@ -38,7 +38,7 @@ fn print_at(page: &mut Page, lane: u64, step: usize) -> Result<(), NoMemory>
     ensures { OnOk result (page.new ≡ page.old ++ at_text lane step) }
 {
     page.number(lane)?;
-    page.tagged(b",\"ts\":".as_slice(), step as u64)
+    page.tagged(b",\"ts\":", step as u64)
 }
 
 fn print_part(page: &mut Page, part: &Part) -> Result<(), NoMemory>

@@ -104,8 +104,8 @@ fn print_back(page: &mut Page, picture: Picture) -> Result<(), NoMemory>
     ensures { OnOk result (page.new ≡ page.old ++ back_text picture) }
 {
     match picture {
-        Picture::Trace => page.text(b"\n]}\n".as_slice()),
-        Picture::Svg => page.text(b"</svg>\n".as_slice()),
+        Picture::Trace => page.text(b"\n]}\n"),
+        Picture::Svg => page.text(b"</svg>\n"),
     }
 }
 

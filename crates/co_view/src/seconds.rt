@@ -27,7 +27,7 @@ fn print_three(page: &mut Page, number: u64) -> Result<(), NoMemory>
     ensures { OnOk result (page.new ≡ page.old ++ three_digits number) }
 {
     let digits = [digit(number / 100), digit(number / 10), digit(number)];
-    page.text(digits.as_slice())
+    page.text(&digits)
 }
 
 /// A point and millionths.
@@ -47,7 +47,7 @@ fn print_fraction(page: &mut Page, number: u64) -> Result<(), NoMemory>
     if number == 0 {
         return Ok(());
     }
-    page.text(b".".as_slice())?;
+    page.text(b".")?;
     if number % 1000 == 0 {
         print_three(page, number / 1000)
     } else {
@@ -62,5 +62,5 @@ pub(crate) fn print_seconds(page: &mut Page, time: Sbt) -> Result<(), NoMemory>
     let micros = micros_of(time);
     page.number(micros / 1_000_000)?;
     print_fraction(page, micros % 1_000_000)?;
-    page.text(b"s".as_slice())
+    page.text(b"s")
 }

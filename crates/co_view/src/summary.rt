@@ -5,10 +5,10 @@ ghost use Rattle.co_check.specs.Lines.{IsReport};
 ghost use Rattle.co_view.specs.Scenes.{watch_of};
 ghost use Rattle.co_view.specs.Summary.{cell_at, cell_text, coded_column, column_name, entry_counted, fate_column, fates_text, is_open, reply_noted, one_if, opened_tally, replaced_column, reply_column, row_text, rows_text, stopped_column, summary_text, tally_entry, tally_of, tallied, timer_row};
 
-use crate::order::counts::raise;
 use crate::parts::{Part, print_parts};
 use crate::scene::{Watch, opened, take, watch_of, watched};
 use co_object::{AnyEntry, Entry, Place, Reply};
+use co_order::raise;
 use co_report::{Line, Report};
 use co_sbt::{NoMemory, Seq};
 use co_text::Page;
@@ -69,29 +69,29 @@ fn column_name(column: usize) -> &'static [u8]
     ensures { result.now ≡ column_name column }
 {
     match column {
-        0 => b" armed(0)=".as_slice(),
-        1 => b" armed(1)=".as_slice(),
-        2 => b" notarmed(0)=".as_slice(),
-        3 => b" notarmed(1)=".as_slice(),
-        4 => b" nohandler=".as_slice(),
-        5 => b" worn=".as_slice(),
-        6 => b" stopped(0)=".as_slice(),
-        7 => b" stopped(1)=".as_slice(),
-        8 => b" stopped(-1)=".as_slice(),
-        9 => b" wait=".as_slice(),
-        10 => b" drained(1)=".as_slice(),
-        11 => b" drained(-1)=".as_slice(),
-        12 => b" busy=".as_slice(),
-        13 => b" yes=".as_slice(),
-        14 => b" no=".as_slice(),
-        15 => b" done=".as_slice(),
-        16 => b" live=".as_slice(),
-        17 => b" retired=".as_slice(),
-        18 => b" inuse=".as_slice(),
-        19 => b" go=".as_slice(),
-        20 => b" hold=".as_slice(),
-        21 => b" skip=".as_slice(),
-        _ => b" ended=".as_slice(),
+        0 => b" armed(0)=",
+        1 => b" armed(1)=",
+        2 => b" notarmed(0)=",
+        3 => b" notarmed(1)=",
+        4 => b" nohandler=",
+        5 => b" worn=",
+        6 => b" stopped(0)=",
+        7 => b" stopped(1)=",
+        8 => b" stopped(-1)=",
+        9 => b" wait=",
+        10 => b" drained(1)=",
+        11 => b" drained(-1)=",
+        12 => b" busy=",
+        13 => b" yes=",
+        14 => b" no=",
+        15 => b" done=",
+        16 => b" live=",
+        17 => b" retired=",
+        18 => b" inuse=",
+        19 => b" go=",
+        20 => b" hold=",
+        21 => b" skip=",
+        _ => b" ended=",
     }
 }
 
@@ -272,14 +272,13 @@ fn print_fates(page: &mut Page, counts: &[u64], row: usize, pending: u64) -> Res
     let armings = armings_of(counts, row)?;
     print_parts(
         page,
-        [
-            Part::Tagged(b": armings=".as_slice(), armings),
-            Part::Tagged(b" fired=".as_slice(), cell_at(counts, row, 19)),
-            Part::Tagged(b" superseded=".as_slice(), cell_at(counts, row, 23)),
-            Part::Tagged(b" stopped=".as_slice(), cell_at(counts, row, 24)),
-            Part::Tagged(b" pending=".as_slice(), pending),
-        ]
-        .as_slice(),
+        &[
+            Part::Tagged(b": armings=", armings),
+            Part::Tagged(b" fired=", cell_at(counts, row, 19)),
+            Part::Tagged(b" superseded=", cell_at(counts, row, 23)),
+            Part::Tagged(b" stopped=", cell_at(counts, row, 24)),
+            Part::Tagged(b" pending=", pending),
+        ],
     )
 }
 
@@ -289,7 +288,7 @@ fn print_row(page: &mut Page, counts: &[u64], row: usize, pending: u64) -> Resul
     ensures { OnOk result (page.new ≡ page.old ++ row_text counts.now row pending) }
 {
     print_fates(page, counts, row, pending)?;
-    page.text(b" |".as_slice())?;
+    page.text(b" |")?;
     print_cells(page, counts, row, 23)?;
     page.end()
 }
@@ -307,7 +306,7 @@ fn print_timer(page: &mut Page, tally: &Tally, i: u32) -> Result<(), NoMemory>
     ensures { OnOk result (page.new ≡ page.old ++ timer_row tally.now i) }
 {
     let watch = watch_of(tally.scene.as_slice(), i);
-    page.tagged(b"timer ".as_slice(), u64::from(i))?;
+    page.tagged(b"timer ", u64::from(i))?;
     print_row(
         page,
         tally.counts.as_slice(),
@@ -339,7 +338,7 @@ fn print_total(page: &mut Page, tally: &Tally, timers: usize) -> Result<(), NoMe
     requires { timers ≤ 1024 }
     ensures { OnOk result (page.new ≡ page.old ++ (codes "in all" ++ row_text tally.now.counts timers (count_by is_open tally.now.scene))) }
 {
-    page.text(b"in all".as_slice())?;
+    page.text(b"in all")?;
     print_row(
         page,
         tally.counts.as_slice(),

@@ -3,7 +3,7 @@ ghost use Rattle.std.specs.Prelude.{◌≡◌, ◌++◌, OnOk, flat_map};
 ghost use Rattle.std.specs.List.{range_with_len};
 ghost use Rattle.co_program.specs.Scripts.{IsScript};
 ghost use Rattle.co_program.specs.Actors.{actor_count};
-ghost use Rattle.co_view.specs.Svg.{arrow_text, bar_text, callout_marks, column_head, figure, frame_text, is_end, marks_of, frame_head, point_text, x_of};
+ghost use Rattle.co_view.specs.Svg.{arrow_text, bar_text, callout_marks, column_head, figure, frame_text, is_end, legend_text, marks_of, frame_head, point_text, style_text, x_of};
 
 use crate::parts::{Part, print_parts};
 use crate::scene::{Watch, watch_of};
@@ -29,21 +29,17 @@ fn print_note_point(page: &mut Page, step: usize, line: &Line) -> Result<(), NoM
     let actor = line.entry.actor();
     print_parts(
         page,
-        [
-            Part::Down(b"<text class=\"l\" x=\"8\" y=\"".as_slice(), 84, step),
-            Part::Tagged(b"\">".as_slice(), line.line),
-            Part::Tagged(b"</text><circle cx=\"".as_slice(), x_of(actor)),
-            Part::Down(b"\" cy=\"".as_slice(), 80, step),
-            Part::Tagged(
-                b"\" r=\"3\"/><text x=\"".as_slice(),
-                82 + 400 * u64::from(actor),
-            ),
-            Part::Down(b"\" y=\"".as_slice(), 84, step),
-            Part::Text(b"\">".as_slice()),
+        &[
+            Part::Down(b"<text class=\"l\" x=\"8\" y=\"", 84, step),
+            Part::Tagged(b"\">", line.line),
+            Part::Tagged(b"</text><circle cx=\"", x_of(actor)),
+            Part::Down(b"\" cy=\"", 80, step),
+            Part::Tagged(b"\" r=\"3\"/><text x=\"", 82 + 400 * u64::from(actor)),
+            Part::Down(b"\" y=\"", 84, step),
+            Part::Text(b"\">"),
             Part::Note(line.place, &line.entry),
-            Part::Text(b"</text>\n".as_slice()),
-        ]
-        .as_slice(),
+            Part::Text(b"</text>\n"),
+        ],
     )
 }
 
@@ -53,18 +49,13 @@ fn print_bar(page: &mut Page, i: u32, actor: u32, since: usize, step: usize) -> 
 {
     print_parts(
         page,
-        [
-            Part::Tagged(b"<rect class=\"t".as_slice(), u64::from(i % 8)),
-            Part::Tagged(b"\" x=\"".as_slice(), 66 + 400 * u64::from(actor)),
-            Part::Down(b"\" y=\"".as_slice(), 80, since),
-            Part::Down(
-                b"\" width=\"8\" height=\"".as_slice(),
-                0,
-                step.saturating_sub(since),
-            ),
-            Part::Text(b"\"/>\n".as_slice()),
-        ]
-        .as_slice(),
+        &[
+            Part::Tagged(b"<rect class=\"t", u64::from(i % 8)),
+            Part::Tagged(b"\" x=\"", 66 + 400 * u64::from(actor)),
+            Part::Down(b"\" y=\"", 80, since),
+            Part::Down(b"\" width=\"8\" height=\"", 0, step.saturating_sub(since)),
+            Part::Text(b"\"/>\n"),
+        ],
     )
 }
 
@@ -80,15 +71,14 @@ fn print_arrow(
 {
     print_parts(
         page,
-        [
-            Part::Tagged(b"<path class=\"a\" d=\"M".as_slice(), x_of(waiter)),
-            Part::Down(b" ".as_slice(), 80, waited),
-            Part::Down(b"V".as_slice(), 89, step),
-            Part::Tagged(b"H".as_slice(), x_of(actor)),
-            Part::Down(b"V".as_slice(), 80, step),
-            Part::Text(b"\"/>\n".as_slice()),
-        ]
-        .as_slice(),
+        &[
+            Part::Tagged(b"<path class=\"a\" d=\"M", x_of(waiter)),
+            Part::Down(b" ", 80, waited),
+            Part::Down(b"V", 89, step),
+            Part::Tagged(b"H", x_of(actor)),
+            Part::Down(b"V", 80, step),
+            Part::Text(b"\"/>\n"),
+        ],
     )
 }
 
@@ -158,15 +148,14 @@ fn print_column(page: &mut Page, script: &Script, steps: usize, actor: u32) -> R
     let (letter, number) = actor_name(script, actor);
     print_parts(
         page,
-        [
-            Part::Tagged(b"<path class=\"c\" d=\"M".as_slice(), x_of(actor)),
-            Part::Down(b" 66V".as_slice(), 80, steps),
-            Part::Tagged(b"\"/><text class=\"h\" x=\"".as_slice(), x_of(actor)),
-            Part::Text(b"\" y=\"58\">".as_slice()),
-            Part::Tagged([letter].as_slice(), number),
-            Part::Text(b"</text>\n".as_slice()),
-        ]
-        .as_slice(),
+        &[
+            Part::Tagged(b"<path class=\"c\" d=\"M", x_of(actor)),
+            Part::Down(b" 66V", 80, steps),
+            Part::Tagged(b"\"/><text class=\"h\" x=\"", x_of(actor)),
+            Part::Text(b"\" y=\"58\">"),
+            Part::Tagged(&[letter], number),
+            Part::Text(b"</text>\n"),
+        ],
     )
 }
 
@@ -184,29 +173,36 @@ fn print_columns(
     Ok(())
 }
 
+fn style_text() -> &'static [u8]
+    ensures { result.now ≡ style_text }
+{
+    b"<style>text{font:11px monospace}.l{fill:#888}.h{font:bold 14px sans-serif}.n{font:12px sans-serif;fill:#444}.c{stroke:#ccc}.a{stroke:#c00;stroke-width:1.5;fill:none;stroke-dasharray:4 2;marker-end:url(#m)}rect{fill-opacity:.55}.t0{fill:#4e79a7}.t1{fill:#f28e2b}.t2{fill:#59a14f}.t3{fill:#b07aa1}.t4{fill:#edc948}.t5{fill:#76b7b2}.t6{fill:#e15759}.t7{fill:#9c755f}</style>\n<marker id=\"m\" viewBox=\"0 0 8 8\" refX=\"8\" refY=\"4\" markerWidth=\"5\" markerHeight=\"5\" orient=\"auto\"><path d=\"M0 0L8 4L0 8z\" fill=\"#c00\"/></marker>\n"
+}
+
+fn legend_text() -> &'static [u8]
+    ensures { result.now ≡ legend_text }
+{
+    b"<text class=\"n\" x=\"8\" y=\"20\">Steps from top to bottom in one order; a column for each actor; at the left the line of the report.</text>\n<text class=\"n\" x=\"8\" y=\"36\">A bar is a service, in the colour of its callout; a dashed arrow goes from a drain that waits to the end that wakes it.</text>\n"
+}
+
 /// What stands before the columns: the size, the style and the legend, for so many steps.
 fn print_frame_head(page: &mut Page, actors: u32, steps: usize) -> Result<(), NoMemory>
     ensures { OnOk result (page.new ≡ page.old ++ frame_head actors steps) }
 {
     print_parts(
         page,
-        [
+        &[
             Part::Tagged(
-                b"<svg xmlns=\"http://www.w3.org/2000/svg\" width=\"".as_slice(),
+                b"<svg xmlns=\"http://www.w3.org/2000/svg\" width=\"",
                 x_of(actors),
             ),
-            Part::Down(b"\" height=\"".as_slice(), 80, steps),
+            Part::Down(b"\" height=\"", 80, steps),
             Part::Text(
-                b"\">\n<rect width=\"100%\" height=\"100%\" style=\"fill:#fff;fill-opacity:1\"/>\n".as_slice(),
+                b"\">\n<rect width=\"100%\" height=\"100%\" style=\"fill:#fff;fill-opacity:1\"/>\n",
             ),
-            Part::Text(
-                b"<style>text{font:11px monospace}.l{fill:#888}.h{font:bold 14px sans-serif}.n{font:12px sans-serif;fill:#444}.c{stroke:#ccc}.a{stroke:#c00;stroke-width:1.5;fill:none;stroke-dasharray:4 2;marker-end:url(#m)}rect{fill-opacity:.55}.t0{fill:#4e79a7}.t1{fill:#f28e2b}.t2{fill:#59a14f}.t3{fill:#b07aa1}.t4{fill:#edc948}.t5{fill:#76b7b2}.t6{fill:#e15759}.t7{fill:#9c755f}</style>\n<marker id=\"m\" viewBox=\"0 0 8 8\" refX=\"8\" refY=\"4\" markerWidth=\"5\" markerHeight=\"5\" orient=\"auto\"><path d=\"M0 0L8 4L0 8z\" fill=\"#c00\"/></marker>\n".as_slice(),
-            ),
-            Part::Text(
-                b"<text class=\"n\" x=\"8\" y=\"20\">Steps from top to bottom in one order; a column for each actor; at the left the line of the report.</text>\n<text class=\"n\" x=\"8\" y=\"36\">A bar is a service, in the colour of its callout; a dashed arrow goes from a drain that waits to the end that wakes it.</text>\n".as_slice(),
-            ),
-        ]
-        .as_slice(),
+            Part::Text(style_text()),
+            Part::Text(legend_text()),
+        ],
     )
 }
 

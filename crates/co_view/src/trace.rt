@@ -21,12 +21,11 @@ fn print_end(page: &mut Page, lane: u64, step: usize) -> Result<(), NoMemory>
 {
     print_parts(
         page,
-        [
-            Part::Text(b",\n{\"ph\":\"E\",\"pid\":1,\"tid\":".as_slice()),
+        &[
+            Part::Text(b",\n{\"ph\":\"E\",\"pid\":1,\"tid\":"),
             Part::At(lane, step),
-            Part::Text(b"}".as_slice()),
-        ]
-        .as_slice(),
+            Part::Text(b"}"),
+        ],
     )
 }
 
@@ -42,14 +41,13 @@ fn print_begin(
 {
     print_parts(
         page,
-        [
-            Part::Text(b",\n{\"ph\":\"B\",\"pid\":1,\"tid\":".as_slice()),
+        &[
+            Part::Text(b",\n{\"ph\":\"B\",\"pid\":1,\"tid\":"),
             Part::At(lane, step),
-            Part::Tagged(b",\"name\":\"#".as_slice(), n),
+            Part::Tagged(b",\"name\":\"#", n),
             *doing,
-            Part::Text(b"\"}".as_slice()),
-        ]
-        .as_slice(),
+            Part::Text(b"\"}"),
+        ],
     )
 }
 
@@ -58,7 +56,7 @@ fn print_armed_begin(page: &mut Page, i: u32, step: usize, reply: &Reply) -> Res
 {
     match *reply {
         Reply::Armed { n, cpu, .. } => {
-            let doing = Part::Tagged(b" on CPU ".as_slice(), u64::from(cpu));
+            let doing = Part::Tagged(b" on CPU ", u64::from(cpu));
             print_begin(page, 2 * u64::from(i), step, n, &doing)
         }
         _ => Ok(()),
@@ -112,9 +110,9 @@ fn doing_word(reply: &Reply) -> &'static [u8]
     ensures { result.now ≡ doing_word reply.now }
 {
     match reply {
-        Reply::Hold => b" waits for its lock".as_slice(),
-        Reply::Skip => b" skipped".as_slice(),
-        _ => b" in service".as_slice(),
+        Reply::Hold => b" waits for its lock",
+        Reply::Skip => b" skipped",
+        _ => b" in service",
     }
 }
 
@@ -189,14 +187,13 @@ fn print_flow(
 {
     print_parts(
         page,
-        [
+        &[
             Part::Tagged(head, u64::from(i)),
-            Part::Tagged(b".".as_slice(), n),
-            Part::Text(b"\",\"pid\":2,\"tid\":".as_slice()),
+            Part::Tagged(b".", n),
+            Part::Text(b"\",\"pid\":2,\"tid\":"),
             Part::At(u64::from(actor), step),
-            Part::Text(b"}".as_slice()),
-        ]
-        .as_slice(),
+            Part::Text(b"}"),
+        ],
     )
 }
 
@@ -212,7 +209,7 @@ fn print_wait(
     match *reply {
         Reply::Wait { n, .. } => print_flow(
             page,
-            b",\n{\"ph\":\"s\",\"cat\":\"drain\",\"name\":\"drain\",\"id\":\"".as_slice(),
+            b",\n{\"ph\":\"s\",\"cat\":\"drain\",\"name\":\"drain\",\"id\":\"",
             i,
             n,
             actor,
@@ -237,7 +234,7 @@ fn print_woken(page: &mut Page, i: u32, n: u64, actor: u32, step: usize) -> Resu
 {
     print_flow(
         page,
-        b",\n{\"ph\":\"f\",\"bp\":\"e\",\"cat\":\"drain\",\"name\":\"drain\",\"id\":\"".as_slice(),
+        b",\n{\"ph\":\"f\",\"bp\":\"e\",\"cat\":\"drain\",\"name\":\"drain\",\"id\":\"",
         i,
         n,
         actor,
@@ -307,16 +304,15 @@ fn print_event(page: &mut Page, step: usize, line: &Line) -> Result<(), NoMemory
 {
     print_parts(
         page,
-        [
-            Part::Text(b",\n{\"ph\":\"X\",\"pid\":2,\"tid\":".as_slice()),
+        &[
+            Part::Text(b",\n{\"ph\":\"X\",\"pid\":2,\"tid\":"),
             Part::At(u64::from(line.entry.actor()), step),
-            Part::Text(b",\"dur\":1,\"name\":\"".as_slice()),
+            Part::Text(b",\"dur\":1,\"name\":\""),
             Part::Note(line.place, &line.entry),
-            Part::Tagged(b"\",\"args\":{\"line\":".as_slice(), line.line),
-            Part::Tagged(b",\"act\":".as_slice(), line.entry.act()),
-            Part::Text(b"}}".as_slice()),
-        ]
-        .as_slice(),
+            Part::Tagged(b"\",\"args\":{\"line\":", line.line),
+            Part::Tagged(b",\"act\":", line.entry.act()),
+            Part::Text(b"}}"),
+        ],
     )
 }
 
@@ -339,15 +335,14 @@ fn begin_lane(page: &mut Page, process: u64, lane: u64) -> Result<(), NoMemory>
 {
     print_parts(
         page,
-        [
+        &[
             Part::Tagged(
-                b",\n{\"ph\":\"M\",\"name\":\"thread_name\",\"pid\":".as_slice(),
+                b",\n{\"ph\":\"M\",\"name\":\"thread_name\",\"pid\":",
                 process,
             ),
-            Part::Tagged(b",\"tid\":".as_slice(), lane),
-            Part::Text(b",\"args\":{\"name\":\"".as_slice()),
-        ]
-        .as_slice(),
+            Part::Tagged(b",\"tid\":", lane),
+            Part::Text(b",\"args\":{\"name\":\""),
+        ],
     )
 }
 
@@ -358,12 +353,11 @@ fn print_timer_lane(page: &mut Page, i: u32, lane: u64, what: &[u8]) -> Result<(
     begin_lane(page, 1, lane)?;
     print_parts(
         page,
-        [
-            Part::Tagged(b"timer ".as_slice(), u64::from(i)),
+        &[
+            Part::Tagged(b"timer ", u64::from(i)),
             Part::Text(what),
-            Part::Text(b"\"}}".as_slice()),
-        ]
-        .as_slice(),
+            Part::Text(b"\"}}"),
+        ],
     )
 }
 
@@ -371,8 +365,8 @@ fn print_timer_lane(page: &mut Page, i: u32, lane: u64, what: &[u8]) -> Result<(
 fn print_timer_lanes(page: &mut Page, i: u32) -> Result<(), NoMemory>
     ensures { OnOk result (page.new ≡ page.old ++ timer_lanes i) }
 {
-    print_timer_lane(page, i, 2 * u64::from(i), b" armed".as_slice())?;
-    print_timer_lane(page, i, 2 * u64::from(i) + 1, b" in service".as_slice())
+    print_timer_lane(page, i, 2 * u64::from(i), b" armed")?;
+    print_timer_lane(page, i, 2 * u64::from(i) + 1, b" in service")
 }
 
 /// The name of an actor's lane.
@@ -383,11 +377,7 @@ fn print_actor_lane(page: &mut Page, script: &Script, actor: u32) -> Result<(), 
     begin_lane(page, 2, u64::from(actor))?;
     print_parts(
         page,
-        [
-            Part::Tagged([letter].as_slice(), number),
-            Part::Text(b"\"}}".as_slice()),
-        ]
-        .as_slice(),
+        &[Part::Tagged(&[letter], number), Part::Text(b"\"}}")],
     )
 }
 
@@ -395,7 +385,7 @@ fn print_opening(page: &mut Page) -> Result<(), NoMemory>
     ensures { OnOk result (page.new ≡ page.old ++ opening_text) }
 {
     page.text(
-        b"{\"traceEvents\":[\n{\"ph\":\"M\",\"name\":\"process_name\",\"pid\":1,\"args\":{\"name\":\"callouts\"}},\n{\"ph\":\"M\",\"name\":\"process_name\",\"pid\":2,\"args\":{\"name\":\"actors\"}}".as_slice(),
+        b"{\"traceEvents\":[\n{\"ph\":\"M\",\"name\":\"process_name\",\"pid\":1,\"args\":{\"name\":\"callouts\"}},\n{\"ph\":\"M\",\"name\":\"process_name\",\"pid\":2,\"args\":{\"name\":\"actors\"}}",
     )
 }
 

@@ -33,7 +33,7 @@ fn place_number(place: Place) -> u32
 fn print_word(page: &mut Page, word: &[u8]) -> Result<(), NoMemory>
     ensures { OnOk result (page.new ≡ page.old ++ spaced (word.now ∷ [])) }
 {
-    page.more([Token::Text(word)].as_slice())
+    page.more(&[Token::Text(word)])
 }
 
 /// Further words, `at` and a time.
@@ -42,7 +42,7 @@ fn print_at(page: &mut Page, before: &[Token], time: Sbt) -> Result<(), NoMemory
     ensures { OnOk result (page.new ≡ page.old ++ spaced (token_words before.now ++ codes "at" ∷ seconds_word time ∷ [])) }
 {
     page.more(before)?;
-    page.text(b" at ".as_slice())?;
+    page.text(b" at ")?;
     print_seconds(page, time)
 }
 
@@ -52,7 +52,7 @@ fn begin_at(page: &mut Page, first: &Token, before: &[Token], time: Sbt) -> Resu
     ensures { OnOk result (page.new ≡ page.old ++ joined (token_word first.now ∷ (token_words before.now ++ codes "at" ∷ seconds_word time ∷ []))) }
 {
     page.begin(first, before)?;
-    page.text(b" at ".as_slice())?;
+    page.text(b" at ")?;
     print_seconds(page, time)
 }
 
@@ -68,8 +68,8 @@ fn print_call_entry(page: &mut Page, timer: u32, entry: &Entry) -> Result<(), No
 fn print_cpu(page: &mut Page, cpu: u32) -> Result<(), NoMemory>
     ensures { OnOk result (page.new ≡ page.old ++ cpu_text cpu) }
 {
-    page.tagged(b"CPU ".as_slice(), u64::from(cpu))?;
-    page.text(b": ".as_slice())
+    page.tagged(b"CPU ", u64::from(cpu))?;
+    page.text(b": ")
 }
 
 /// A note of a CPU's queue.
@@ -86,10 +86,10 @@ fn print_own_entry(page: &mut Page, kind: OwnKind) -> Result<(), NoMemory>
     ensures { OnOk result (page.new ≡ page.old ++ own_text kind) }
 {
     match kind {
-        OwnKind::NotHeld => page.text(b"refused: the call's lock is not held".as_slice()),
-        OwnKind::HoldsLock => page.text(b"refused: a drain while a lock is held".as_slice()),
-        OwnKind::Holding => page.text(b"refused: a lock while one is held".as_slice()),
-        OwnKind::NotHolding => page.text(b"refused: an unlock while none is held".as_slice()),
+        OwnKind::NotHeld => page.text(b"refused: the call's lock is not held"),
+        OwnKind::HoldsLock => page.text(b"refused: a drain while a lock is held"),
+        OwnKind::Holding => page.text(b"refused: a lock while one is held"),
+        OwnKind::NotHolding => page.text(b"refused: an unlock while none is held"),
     }
 }
 

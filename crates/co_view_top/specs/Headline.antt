@@ -9,7 +9,7 @@ use Rattle.co_view_top.specs.declared.status.Status.TheVariants.{Done, BadReport
 use Rattle.co_front.specs.Outside.{Outside, ReadsToEnd, Reads, ReadFails, Writes, WritesFront}
 use Rattle.co_front.specs.Texts.{fault_text, refusal_text}
 use Rattle.co_view_top.specs.Texts.{usage_text}
-use Rattle.co_view.specs.Order.{IsOrder, IsStuck}
+use Rattle.co_order.specs.Order.{IsOrder, IsStuck}
 use Rattle.co_view_top.specs.Views.{IsShown, view_of}
 use Rattle.co_view_top.specs.declared.views.View.{View}
 

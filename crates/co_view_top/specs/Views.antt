@@ -10,7 +10,7 @@ use Rattle.co_view.specs.declared.picture.Picture.TheVariants as picture
 use Rattle.co_view.specs.Lanes.{lanes_text}
 use Rattle.co_view.specs.Pictures.{picture_text}
 use Rattle.co_view.specs.Summary.{summary_text}
-use Rattle.co_view.specs.Order.{IsOrder}
+use Rattle.co_order.specs.Order.{IsOrder}
 
 -- a view of one word
 abbrev pub lone_view : Word → Option View

@@ -1,55 +1,74 @@
 //! Calls of the program in memory.
 
 use co_io::{MemSink, MemSource};
-use co_sbt::NoMemory;
 use co_view_top::{Status, view_main};
-use std::alloc::{AllocError, Global};
+use std::alloc::Global;
+use std::process::Abort;
 
-/// Words as a program gets them.
-fn words_of(alloc: Global, words: &[&str]) -> Result<Vec<String>, AllocError> {
+/// A report that is read 32 bytes at a time, and what takes the text, of which it takes as much at a time.
+#[derive(Drop)]
+pub struct Ends<'a> {
+    pub report: &'a str,
+    /// The reads that fail.
+    pub read_fails: &'a [u64],
+    /// How many bytes are taken.
+    pub room: usize,
+    /// The writes that fail.
+    pub write_fails: &'a [u64],
+}
+
+/// Ends without a fault, with room for each text here.
+pub fn quiet(report: &str) -> Ends {
+    Ends {
+        report,
+        read_fails: &[],
+        room: 16_384,
+        write_fails: &[],
+    }
+}
+
+/// Words as a program gets them. There is memory for them.
+fn words_of<R: Abort>(rt: &R, alloc: Global, words: &[&str]) -> Vec<String> {
     let mut copies = Vec::new(alloc);
     for word in words {
-        copies.push(String::from_str(alloc, word)?)?;
+        let copy = String::from_str(alloc, word).expect(rt, "no memory");
+        copies.push(copy).expect(rt, "no memory");
     }
-    Ok(copies)
+    copies
 }
 
-/// How a call with these words ends.
-pub fn view(
+/// How a call with these words ends, and the sink with what it wrote. There is memory for them.
+pub fn view<R: Abort>(rt: &R, alloc: Global, words: &[&str], ends: &Ends) -> (Status, MemSink) {
+    let words = words_of(rt, alloc, words);
+    let mut source = MemSource::new(alloc, ends.report.as_bytes(), 32, ends.read_fails).expect(
+        rt,
+        "no memory",
+    );
+    let mut sink = MemSink::new(alloc, ends.room, 32, ends.write_fails).expect(rt, "no memory");
+    let status = view_main(alloc, words.as_slice(), &mut source, &mut sink);
+    (status, sink)
+}
+
+/// Whether a call with these words ends so, and writes this text.
+pub fn shows<R: Abort>(
+    rt: &R,
     alloc: Global,
     words: &[&str],
-    source: &mut MemSource,
-    sink: &mut MemSink,
-) -> Result<Status, NoMemory> {
-    match words_of(alloc, words) {
-        Ok(words) => Ok(view_main(alloc, words.as_slice(), source, sink)),
-        Err(_) => Err(NoMemory {}),
+    ends: &Ends,
+    status: Status,
+    text: &[u8],
+) -> bool {
+    let (ended, sink) = view(rt, alloc, words, ends);
+    ended == status && sink.bytes() == text
+}
+
+/// Words, a report, how the call ends, and what it writes.
+pub type Row = (&'static [&'static str], &'static str, Status, &'static str);
+
+/// Each call of a table is as its row says.
+pub fn show_all<R: Abort>(rt: &R, alloc: Global, rows: &[Row]) {
+    for (words, report, status, text) in rows {
+        let shown = shows(rt, alloc, words, &quiet(report), *status, text.as_bytes());
+        assert!(rt; shown, "{text}");
     }
-}
-
-/// More than the most bytes of a text here.
-const ROOM: usize = 16_384;
-
-/// A sink that takes whole texts, without a fault.
-pub fn sink(alloc: Global) -> Result<MemSink, NoMemory> {
-    MemSink::new(alloc, ROOM, ROOM, &[])
-}
-
-/// How a call with these words over this report ends.
-pub fn read(
-    alloc: Global,
-    words: &[&str],
-    report: &str,
-    sink: &mut MemSink,
-) -> Result<Status, NoMemory> {
-    let mut source = MemSource::new(alloc, report.as_bytes(), ROOM, &[])?;
-    view(alloc, words, &mut source, sink)
-}
-
-/// Whether a call with these words over this report ends so, and writes this text.
-pub fn shows(alloc: Global, words: &[&str], report: &str, status: Status, text: &str) -> bool {
-    let Ok(mut sink) = sink(alloc) else {
-        return false;
-    };
-    read(alloc, words, report, &mut sink) == Ok(status) && sink.bytes() == text.as_bytes()
 }

@@ -9,4 +9,4 @@ mod reports;
 mod tests;
 
 #[cfg(test)]
-pub use calls::{read, shows, sink, view};
+pub use calls::{Ends, Row, quiet, show_all, shows, view};

@@ -14,10 +14,7 @@ use co_text::{Page, Token};
 fn print_on(page: &mut Page, verb: &[u8], timer: u32) -> Result<(), NoMemory>
     ensures { OnOk result (page.new ≡ page.old ++ joined (on_timer verb.now timer)) }
 {
-    page.begin(
-        &Token::Text(verb),
-        [Token::Number(u64::from(timer))].as_slice(),
-    )
+    page.begin(&Token::Text(verb), &[Token::Number(u64::from(timer))])
 }
 
 /// A verb, a callout and a time.
@@ -27,7 +24,7 @@ fn print_on_at(page: &mut Page, verb: &[u8], timer: u32, time: Sbt) -> Result<()
     begin_at(
         page,
         &Token::Text(verb),
-        [Token::Number(u64::from(timer))].as_slice(),
+        &[Token::Number(u64::from(timer))],
         time,
     )
 }
@@ -44,26 +41,24 @@ fn print_reset(
 ) -> Result<(), NoMemory>
     ensures { OnOk result (page.new ≡ page.old ++ joined (plain_words timer (Reset due prec func arg cpu))) }
 {
-    print_on_at(page, b"reset timer".as_slice(), timer, due)?;
-    page.more([
-        Token::Text(b"to".as_slice()),
+    print_on_at(page, b"reset timer", timer, due)?;
+    page.more(&[
+        Token::Text(b"to"),
         Token::Lettered(b'f', u64::from(func)),
         Token::Lettered(b'a', arg),
-    ]
-    .as_slice())
+    ])
 }
 
 fn print_async_drain(page: &mut Page, timer: u32, func: u32) -> Result<(), NoMemory>
     ensures { OnOk result (page.new ≡ page.old ++ joined (plain_words timer (AsyncDrain func))) }
 {
     page.begin(
-        &Token::Text(b"async drain timer".as_slice()),
-        [
+        &Token::Text(b"async drain timer"),
+        &[
             Token::Number(u64::from(timer)),
-            Token::Text(b"to".as_slice()),
+            Token::Text(b"to"),
             Token::Lettered(b'f', u64::from(func)),
-        ]
-        .as_slice(),
+        ],
     )
 }
 
@@ -78,16 +73,14 @@ fn print_plain(page: &mut Page, timer: u32, op: &PlainOp) -> Result<(), NoMemory
             arg,
             cpu,
         } => print_reset(page, timer, due, prec, func, arg, cpu),
-        PlainOp::Schedule { due, .. } => {
-            print_on_at(page, b"schedule timer".as_slice(), timer, due)
-        }
-        PlainOp::Stop => print_on(page, b"stop timer".as_slice(), timer),
+        PlainOp::Schedule { due, .. } => { print_on_at(page, b"schedule timer", timer, due) }
+        PlainOp::Stop => print_on(page, b"stop timer", timer),
         PlainOp::AsyncDrain { func } => print_async_drain(page, timer, func),
-        PlainOp::Active => print_on(page, b"ask active of timer".as_slice(), timer),
-        PlainOp::Pending => print_on(page, b"ask pending of timer".as_slice(), timer),
-        PlainOp::Deactivate => print_on(page, b"deactivate timer".as_slice(), timer),
-        PlainOp::Init => print_on(page, b"init timer".as_slice(), timer),
-        PlainOp::Retire => print_on(page, b"retire timer".as_slice(), timer),
+        PlainOp::Active => print_on(page, b"ask active of timer", timer),
+        PlainOp::Pending => print_on(page, b"ask pending of timer", timer),
+        PlainOp::Deactivate => print_on(page, b"deactivate timer", timer),
+        PlainOp::Init => print_on(page, b"init timer", timer),
+        PlainOp::Retire => print_on(page, b"retire timer", timer),
     }
 }
 
@@ -96,7 +89,7 @@ fn print_call(page: &mut Page, timer: u32, op: &CallOp) -> Result<(), NoMemory>
 {
     match op {
         CallOp::Plain(op) => print_plain(page, timer, op),
-        CallOp::DrainTry { .. } => print_on(page, b"drain timer".as_slice(), timer),
+        CallOp::DrainTry { .. } => print_on(page, b"drain timer", timer),
     }
 }
 
@@ -106,7 +99,7 @@ fn print_arming(page: &mut Page, verb: &[u8], timer: u32, n: u64) -> Result<(), 
 {
     page.begin(
         &Token::Text(verb),
-        [Token::Number(u64::from(timer)), Token::Lettered(b'#', n)].as_slice(),
+        &[Token::Number(u64::from(timer)), Token::Lettered(b'#', n)],
     )
 }
 
@@ -123,7 +116,7 @@ fn print_arming_at(
     begin_at(
         page,
         &Token::Text(verb),
-        [Token::Number(u64::from(timer)), Token::Lettered(b'#', n)].as_slice(),
+        &[Token::Number(u64::from(timer)), Token::Lettered(b'#', n)],
         time,
     )
 }
@@ -132,11 +125,9 @@ fn print_run(page: &mut Page, timer: u32, op: &RunOp) -> Result<(), NoMemory>
     ensures { OnOk result (page.new ≡ page.old ++ joined (run_words timer op.now)) }
 {
     match *op {
-        RunOp::Pick { n, at, .. } => {
-            print_arming_at(page, b"take timer".as_slice(), timer, n, at)
-        }
-        RunOp::Begin { n, .. } => print_arming(page, b"has the lock of timer".as_slice(), timer, n),
-        RunOp::End { n, .. } => print_arming(page, b"end timer".as_slice(), timer, n),
+        RunOp::Pick { n, at, .. } => { print_arming_at(page, b"take timer", timer, n, at) }
+        RunOp::Begin { n, .. } => print_arming(page, b"has the lock of timer", timer, n),
+        RunOp::End { n, .. } => print_arming(page, b"end timer", timer, n),
     }
 }
 

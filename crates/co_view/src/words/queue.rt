@@ -14,7 +14,7 @@ use co_text::{Page, Token};
 fn begin_word(page: &mut Page, word: &[u8]) -> Result<(), NoMemory>
     ensures { OnOk result (page.new ≡ page.old ++ joined (word.now ∷ [])) }
 {
-    page.begin(&Token::Text(word), [].as_slice())
+    page.begin(&Token::Text(word), &[])
 }
 
 fn print_insert(page: &mut Page, i: u32, n: u64, t: Sbt) -> Result<(), NoMemory>
@@ -22,8 +22,8 @@ fn print_insert(page: &mut Page, i: u32, n: u64, t: Sbt) -> Result<(), NoMemory>
 {
     begin_at(
         page,
-        &Token::Text(b"insert timer".as_slice()),
-        [Token::Number(u64::from(i)), Token::Lettered(b'#', n)].as_slice(),
+        &Token::Text(b"insert timer"),
+        &[Token::Number(u64::from(i)), Token::Lettered(b'#', n)],
         t,
     )
 }
@@ -32,8 +32,8 @@ fn print_remove(page: &mut Page, i: u32) -> Result<(), NoMemory>
     ensures { OnOk result (page.new ≡ page.old ++ joined (queue_words (Remove i))) }
 {
     page.begin(
-        &Token::Text(b"remove timer".as_slice()),
-        [Token::Number(u64::from(i))].as_slice(),
+        &Token::Text(b"remove timer"),
+        &[Token::Number(u64::from(i))],
     )
 }
 
@@ -44,11 +44,11 @@ pub(crate) fn print_queue_op(page: &mut Page, op: &QOp) -> Result<(), NoMemory>
     match *op {
         QOp::Insert { i, n, t } => print_insert(page, i, n, t),
         QOp::Remove { i } => print_remove(page, i),
-        QOp::Scan { now } => begin_at(page, &Token::Text(b"tick".as_slice()), [].as_slice(), now),
-        QOp::Pop => begin_word(page, b"next due".as_slice()),
-        QOp::Free => begin_word(page, b"free".as_slice()),
-        QOp::PopDirect => begin_word(page, b"next due direct".as_slice()),
-        QOp::FreeDirect => begin_word(page, b"free direct".as_slice()),
+        QOp::Scan { now } => begin_at(page, &Token::Text(b"tick"), &[], now),
+        QOp::Pop => begin_word(page, b"next due"),
+        QOp::Free => begin_word(page, b"free"),
+        QOp::PopDirect => begin_word(page, b"next due direct"),
+        QOp::FreeDirect => begin_word(page, b"free direct"),
     }
 }
 
@@ -56,21 +56,17 @@ fn print_got(page: &mut Page, i: u32, n: u64, at: Sbt) -> Result<(), NoMemory>
     ensures { OnOk result (page.new ≡ page.old ++ spaced (answer_words (Got i n at))) }
 {
     let before = [
-        Token::Text(b"-> timer".as_slice()),
+        Token::Text(b"-> timer"),
         Token::Number(u64::from(i)),
         Token::Lettered(b'#', n),
     ];
-    print_at(page, before.as_slice(), at)
+    print_at(page, &before, at)
 }
 
 fn print_count(page: &mut Page, count: u32) -> Result<(), NoMemory>
     ensures { OnOk result (page.new ≡ page.old ++ spaced (answer_words (Count count))) }
 {
-    page.more([
-        Token::Text(b"-> due:".as_slice()),
-        Token::Number(u64::from(count)),
-    ]
-    .as_slice())
+    page.more(&[Token::Text(b"-> due:"), Token::Number(u64::from(count))])
 }
 
 /// An answer of a CPU's queue.
@@ -78,16 +74,12 @@ pub(crate) fn print_answer(page: &mut Page, answer: &QReply) -> Result<(), NoMem
     ensures { OnOk result (page.new ≡ page.old ++ spaced (answer_words answer.now)) }
 {
     match *answer {
-        QReply::At(time) => print_at(
-            page,
-            [Token::Text(b"-> in the queue".as_slice())].as_slice(),
-            time,
-        ),
-        QReply::Off => print_word(page, b"-> out of the queue".as_slice()),
-        QReply::Missing => print_word(page, b"-> not in the queue".as_slice()),
+        QReply::At(time) => print_at(page, &[Token::Text(b"-> in the queue")], time),
+        QReply::Off => print_word(page, b"-> out of the queue"),
+        QReply::Missing => print_word(page, b"-> not in the queue"),
         QReply::Count(count) => print_count(page, count),
         QReply::Got { i, n, at } => print_got(page, i, n, at),
-        QReply::Empty => print_word(page, b"-> none".as_slice()),
-        QReply::Freed => print_word(page, b"-> done".as_slice()),
+        QReply::Empty => print_word(page, b"-> none"),
+        QReply::Freed => print_word(page, b"-> done"),
     }
 }

@@ -14,9 +14,9 @@ fn armed_word(code: i32) -> &'static [u8]
     ensures { result.now ≡ armed_word code }
 {
     if code == 0 {
-        b"armed".as_slice()
+        b"armed"
     } else {
-        b"armed in place of another".as_slice()
+        b"armed in place of another"
     }
 }
 
@@ -25,9 +25,9 @@ fn refused_word(code: i32) -> &'static [u8]
     ensures { result.now ≡ refused_word code }
 {
     if code == 0 {
-        b"not armed (a drain waits)".as_slice()
+        b"not armed (a drain waits)"
     } else {
-        b"not armed (a drain waits), and what waited for its lock is cancelled".as_slice()
+        b"not armed (a drain waits), and what waited for its lock is cancelled"
     }
 }
 
@@ -36,11 +36,11 @@ fn stopped_word(code: i32) -> &'static [u8]
     ensures { result.now ≡ stopped_word code }
 {
     if code < 0 {
-        b"(nothing to stop)".as_slice()
+        b"(nothing to stop)"
     } else if code == 0 {
-        b"(its service is under way)".as_slice()
+        b"(its service is under way)"
     } else {
-        b"(it will not run)".as_slice()
+        b"(it will not run)"
     }
 }
 
@@ -49,9 +49,9 @@ fn drained_word(code: i32) -> &'static [u8]
     ensures { result.now ≡ drained_word code }
 {
     if code < 0 {
-        b"(over for good)".as_slice()
+        b"(over for good)"
     } else {
-        b"(over for good; it was armed)".as_slice()
+        b"(over for good; it was armed)"
     }
 }
 
@@ -64,58 +64,54 @@ fn print_armed(
 ) -> Result<(), NoMemory>
     ensures { OnOk result (page.new ≡ page.old ++ spaced (reply_words (Armed code n cpu off))) }
 {
-    page.more([
-        Token::Text(b"->".as_slice()),
+    page.more(&[
+        Token::Text(b"->"),
         Token::Signed(code),
         Token::Text(armed_word(code)),
         Token::Lettered(b'#', n),
-        Token::Text(b"on CPU".as_slice()),
+        Token::Text(b"on CPU"),
         Token::Number(u64::from(cpu)),
-    ]
-    .as_slice())
+    ])
 }
 
 /// A code and what it says.
 fn print_coded(page: &mut Page, code: i32, meaning: &[u8]) -> Result<(), NoMemory>
     ensures { OnOk result (page.new ≡ page.old ++ spaced (coded code meaning.now)) }
 {
-    page.more([
-        Token::Text(b"->".as_slice()),
+    page.more(&[
+        Token::Text(b"->"),
         Token::Signed(code),
         Token::Text(meaning),
-    ]
-    .as_slice())
+    ])
 }
 
 fn print_wait(page: &mut Page, n: u64) -> Result<(), NoMemory>
     ensures { OnOk result (page.new ≡ page.old ++ spaced (codes "-> waits for the end of" ∷ (35 ∷ decimal n) ∷ [])) }
 {
-    page.more([
-        Token::Text(b"-> waits for the end of".as_slice()),
+    page.more(&[
+        Token::Text(b"-> waits for the end of"),
         Token::Lettered(b'#', n),
-    ]
-    .as_slice())
+    ])
 }
 
 fn print_go(page: &mut Page, func: u32, arg: u64) -> Result<(), NoMemory>
     ensures { OnOk result (page.new ≡ page.old ++ spaced (reply_words (Go func arg))) }
 {
-    page.more([
-        Token::Text(b"-> calls".as_slice()),
+    page.more(&[
+        Token::Text(b"-> calls"),
         Token::Lettered(b'f', u64::from(func)),
         Token::Lettered(b'a', arg),
-    ]
-    .as_slice())
+    ])
 }
 
 fn in_use_word(armed: bool, serviced: bool) -> &'static [u8]
     ensures { result.now ≡ in_use_word armed serviced }
 {
     match (armed, serviced) {
-        (true, true) => b"-> in use: armed and in service".as_slice(),
-        (true, false) => b"-> in use: armed".as_slice(),
-        (false, true) => b"-> in use: in service".as_slice(),
-        (false, false) => b"-> in use".as_slice(),
+        (true, true) => b"-> in use: armed and in service",
+        (true, false) => b"-> in use: armed",
+        (false, true) => b"-> in use: in service",
+        (false, false) => b"-> in use",
     }
 }
 
@@ -124,11 +120,10 @@ fn print_drain(page: &mut Page, drain: Option<u32>) -> Result<(), NoMemory>
     ensures { OnOk result (page.new ≡ page.old ++ spaced (drain_words drain)) }
 {
     match drain {
-        Some(func) => page.more([
-            Token::Text(b"and calls drain".as_slice()),
+        Some(func) => page.more(&[
+            Token::Text(b"and calls drain"),
             Token::Lettered(b'f', u64::from(func)),
-        ]
-        .as_slice()),
+        ]),
         None => Ok(()),
     }
 }
@@ -140,12 +135,12 @@ fn print_next(page: &mut Page, next: &Option<Next>) -> Result<(), NoMemory>
     match next {
         Some(next) => {
             let before = [
-                Token::Text(b"and moves on as".as_slice()),
+                Token::Text(b"and moves on as"),
                 Token::Lettered(b'#', next.n),
-                Token::Text(b"to CPU".as_slice()),
+                Token::Text(b"to CPU"),
                 Token::Number(u64::from(next.cpu)),
             ];
-            print_at(page, before.as_slice(), next.due)
+            print_at(page, &before, next.due)
         }
         None => Ok(()),
     }
@@ -156,7 +151,7 @@ fn print_woke(page: &mut Page, woke: bool) -> Result<(), NoMemory>
     ensures { OnOk result (page.new ≡ page.old ++ spaced (woke_words woke)) }
 {
     if woke {
-        print_word(page, b"and wakes a drain".as_slice())
+        print_word(page, b"and wakes a drain")
     } else {
         Ok(())
     }
@@ -170,7 +165,7 @@ fn print_ended(
 ) -> Result<(), NoMemory>
     ensures { OnOk result (page.new ≡ page.old ++ spaced (reply_words (Ended drain next.now woke))) }
 {
-    print_word(page, b"-> over".as_slice())?;
+    print_word(page, b"-> over")?;
     print_drain(page, drain)?;
     print_next(page, next)?;
     print_woke(page, woke)
@@ -180,24 +175,28 @@ fn print_ended(
 pub(crate) fn print_reply(page: &mut Page, reply: &Reply) -> Result<(), NoMemory>
     ensures { OnOk result (page.new ≡ page.old ++ spaced (reply_words reply.now)) }
 {
-    match reply {
-        Reply::Armed { code, n, cpu, off } => print_armed(page, *code, *n, *cpu, *off),
-        Reply::NotArmed { code } => print_coded(page, *code, refused_word(*code)),
-        Reply::NoHandler => print_word(page, b"-> no function to call".as_slice()),
-        Reply::Worn => print_word(page, b"-> no arming is left".as_slice()),
-        Reply::Stopped { code, .. } => print_coded(page, *code, stopped_word(*code)),
-        Reply::Wait { n, .. } => print_wait(page, *n),
-        Reply::Drained { code, .. } => print_coded(page, *code, drained_word(*code)),
-        Reply::Busy => print_word(page, b"-> busy (another drain waits)".as_slice()),
-        Reply::Yes => print_word(page, b"-> yes".as_slice()),
-        Reply::No => print_word(page, b"-> no".as_slice()),
-        Reply::Done => print_word(page, b"-> done".as_slice()),
-        Reply::Live => print_word(page, b"-> live already".as_slice()),
-        Reply::Retired => print_word(page, b"-> out of use".as_slice()),
-        Reply::InUse { armed, serviced } => print_word(page, in_use_word(*armed, *serviced)),
-        Reply::Go { func, arg } => print_go(page, *func, *arg),
-        Reply::Hold => print_word(page, b"-> waits for its lock".as_slice()),
-        Reply::Skip => print_word(page, b"-> skipped, it was cancelled".as_slice()),
-        Reply::Ended { drain, next, woke } => print_ended(page, *drain, next, *woke),
+    match *reply {
+        Reply::Armed { code, n, cpu, off } => print_armed(page, code, n, cpu, off),
+        Reply::NotArmed { code } => print_coded(page, code, refused_word(code)),
+        Reply::NoHandler => print_word(page, b"-> no function to call"),
+        Reply::Worn => print_word(page, b"-> no arming is left"),
+        Reply::Stopped { code, .. } => print_coded(page, code, stopped_word(code)),
+        Reply::Wait { n, .. } => print_wait(page, n),
+        Reply::Drained { code, .. } => print_coded(page, code, drained_word(code)),
+        Reply::Busy => print_word(page, b"-> busy (another drain waits)"),
+        Reply::Yes => print_word(page, b"-> yes"),
+        Reply::No => print_word(page, b"-> no"),
+        Reply::Done => print_word(page, b"-> done"),
+        Reply::Live => print_word(page, b"-> live already"),
+        Reply::Retired => print_word(page, b"-> out of use"),
+        Reply::InUse { armed, serviced } => print_word(page, in_use_word(armed, serviced)),
+        Reply::Go { func, arg } => print_go(page, func, arg),
+        Reply::Hold => print_word(page, b"-> waits for its lock"),
+        Reply::Skip => print_word(page, b"-> skipped, it was cancelled"),
+        Reply::Ended {
+            drain,
+            ref next,
+            woke,
+        } => print_ended(page, drain, next, woke),
     }
 }

@@ -2,13 +2,14 @@
 
 use crate::reports::ONE_FIRING;
 use crate::tests::views::TIMER_LANES;
-use crate::view;
-use co_io::{MemSink, MemSource};
+use crate::{Ends, shows};
 use co_view_top::Status;
 use std::alloc::Global;
+use std::process::Abort;
 
-/// Whether the view `timer 0` ends so, and so many bytes of its text are written, where its ends give and take 32 bytes at a time.
-fn ends(
+/// Whether the view `timer 0` ends so, and so many bytes of its text are written, into this room and where these reads and writes fail.
+fn ends<R: Abort>(
+    rt: &R,
     alloc: Global,
     read_fails: &[u64],
     room: usize,
@@ -16,14 +17,16 @@ fn ends(
     status: Status,
     written: usize,
 ) -> bool {
-    let Ok(mut source) = MemSource::new(alloc, ONE_FIRING.as_bytes(), 32, read_fails) else {
-        return false;
+    let ends = Ends {
+        report: ONE_FIRING,
+        read_fails,
+        room,
+        write_fails,
     };
-    let Ok(mut sink) = MemSink::new(alloc, room, 32, write_fails) else {
-        return false;
-    };
-    let ended = view(alloc, &["timer", "0"], &mut source, &mut sink);
-    ended == Ok(status) && Some(sink.bytes()) == TIMER_LANES.as_bytes().get(..written)
+    match TIMER_LANES.as_bytes().get(..written) {
+        Some(front) => shows(rt, alloc, &["timer", "0"], &ends, status, front),
+        None => false,
+    }
 }
 
 /// In each read, and in the one that finds the end.
@@ -31,16 +34,22 @@ fn ends(
 fn each_read_fails_in_turn(rt: HostRuntime) {
     let room = TIMER_LANES.len();
     for turn in 0..ONE_FIRING.len() as u64 / 32 + 1 {
-        let failed = ends(rt.alloc(), &[turn], room, &[], Status::ReadFault, 0);
+        let failed = ends(&rt, rt.alloc(), &[turn], room, &[], Status::ReadFault, 0);
         assert!(rt; failed, "read {turn}");
     }
 }
 
-/// The second write fails, where a front of the text was written; then none does, into room for the whole text and for too little.
+/// The room, the writes that fail, how the view ends, and how much is written: the second write fails, where a front of the text was
+/// written; then none does, into room for the whole text and for too little.
+const WRITES: &[(usize, &[u64], Status, usize)] = &[
+    (TIMER_LANES.len(), &[1], Status::WriteFault, 32),
+    (TIMER_LANES.len(), &[], Status::Done, TIMER_LANES.len()),
+    (100, &[], Status::WriteFault, 100),
+];
+
 #[test]
 fn writes_fail_and_find_no_room(rt: HostRuntime) {
-    let (alloc, whole) = (rt.alloc(), TIMER_LANES.len());
-    assert!(rt; ends(alloc, &[], whole, &[1], Status::WriteFault, 32));
-    assert!(rt; ends(alloc, &[], whole, &[], Status::Done, whole));
-    assert!(rt; ends(alloc, &[], 100, &[], Status::WriteFault, 100));
+    for (room, fails, status, written) in WRITES {
+        assert!(rt; ends(&rt, rt.alloc(), &[], *room, fails, *status, *written));
+    }
 }

@@ -1,12 +1,13 @@
 //! Traces and pictures.
 
-use crate::reports::{DRAIN_WAITS, ONE_FIRING};
-use crate::{read, shows, sink};
+use crate::reports::DRAIN_WAITS;
+use crate::{quiet, view};
 use co_view_top::Status;
 use std::alloc::Global;
+use std::process::Abort;
 
 /// The lanes are armed for four steps and in service for one; each note is an event of a microsecond in its actor's lane.
-const FIRING_TRACE: &str = r##"{"traceEvents":[
+pub(crate) const FIRING_TRACE: &str = r##"{"traceEvents":[
 {"ph":"M","name":"process_name","pid":1,"args":{"name":"callouts"}},
 {"ph":"M","name":"process_name","pid":2,"args":{"name":"actors"}},
 {"ph":"M","name":"thread_name","pid":1,"tid":0,"args":{"name":"timer 0 armed"}},
@@ -28,19 +29,6 @@ const FIRING_TRACE: &str = r##"{"traceEvents":[
 ]}
 "##;
 
-#[test]
-fn trace_of_one_firing(rt: HostRuntime) {
-    assert!(rt;
-        shows(
-            rt.alloc(),
-            &["trace"],
-            ONE_FIRING,
-            Status::Done,
-            FIRING_TRACE
-        )
-    );
-}
-
 /// How often a part stands in a text.
 fn times(text: &[u8], part: &[u8]) -> usize {
     let mut count: usize = 0;
@@ -52,64 +40,69 @@ fn times(text: &[u8], part: &[u8]) -> usize {
     count
 }
 
-/// Whether the view of a drain that this word asks for has this part so often.
-fn has(alloc: Global, word: &str, part: &str, count: usize) -> bool {
-    let Ok(mut sink) = sink(alloc) else {
-        return false;
-    };
-    let ended = read(alloc, &[word], DRAIN_WAITS, &mut sink);
-    ended == Ok(Status::Done) && times(sink.bytes(), part.as_bytes()) == count
+/// Whether each part stands so often in a text.
+fn has_each(text: &[u8], parts: &[(&str, usize)]) -> bool {
+    for (part, count) in parts {
+        if times(text, part.as_bytes()) != *count {
+            return false;
+        }
+    }
+    true
 }
 
-/// A word, a part of its view of a drain, and how often it stands there.
-const PARTS: &[(&str, &str, usize)] = &[
+/// Whether the view of a drain that this word asks for has each of these parts so often.
+fn has_parts<R: Abort>(rt: &R, alloc: Global, word: &str, parts: &[(&str, usize)]) -> bool {
+    let (ended, sink) = view(rt, alloc, &[word], &quiet(DRAIN_WAITS));
+    ended == Status::Done && has_each(sink.bytes(), parts)
+}
+
+/// Parts of the trace of a drain, and how often each stands there.
+const TRACE_PARTS: &[(&str, usize)] = &[
     // The eleven notes of the report, each as one event.
-    ("trace", "\"ph\":\"X\"", 11),
-    ("trace", "\"line\":24,", 1),
-    ("trace", "\"line\":25,", 1),
-    ("trace", "\"line\":26,", 1),
-    ("trace", "\"line\":27,", 1),
-    ("trace", "\"line\":28,", 1),
-    ("trace", "\"line\":29,", 1),
-    ("trace", "\"line\":32,", 1),
-    ("trace", "\"line\":33,", 1),
-    ("trace", "\"line\":34,", 1),
-    ("trace", "\"line\":35,", 1),
-    ("trace", "\"line\":36,", 1),
+    ("\"ph\":\"X\"", 11),
+    ("\"line\":24,", 1),
+    ("\"line\":25,", 1),
+    ("\"line\":26,", 1),
+    ("\"line\":27,", 1),
+    ("\"line\":28,", 1),
+    ("\"line\":29,", 1),
+    ("\"line\":32,", 1),
+    ("\"line\":33,", 1),
+    ("\"line\":34,", 1),
+    ("\"line\":35,", 1),
+    ("\"line\":36,", 1),
     // Its callout was armed and in service, with a wait for its lock.
-    ("trace", "\"ph\":\"B\"", 3),
-    ("trace", "\"ph\":\"E\"", 3),
-    (
-        "trace",
-        "\"tid\":1,\"ts\":4,\"name\":\"#0 waits for its lock\"}",
-        1,
-    ),
-    ("trace", "\"tid\":1,\"ts\":6,\"name\":\"#0 in service\"}", 1),
+    ("\"ph\":\"B\"", 3),
+    ("\"ph\":\"E\"", 3),
+    ("\"tid\":1,\"ts\":4,\"name\":\"#0 waits for its lock\"}", 1),
+    ("\"tid\":1,\"ts\":6,\"name\":\"#0 in service\"}", 1),
     // An arrow goes from the wait of step 5 to the end of step 7.
-    ("trace", "\"ph\":\"s\",", 1),
-    ("trace", "\"ph\":\"f\",", 1),
-    ("trace", "\"id\":\"0.0\",\"pid\":2,\"tid\":1,\"ts\":5}", 1),
-    ("trace", "\"id\":\"0.0\",\"pid\":2,\"tid\":3,\"ts\":7}", 1),
-    ("svg", "<svg ", 1),
-    ("svg", "</svg>\n", 1),
-    ("svg", "<circle ", 11),
-    ("svg", "\">36</text>", 1),
+    ("\"ph\":\"s\",", 1),
+    ("\"ph\":\"f\",", 1),
+    ("\"id\":\"0.0\",\"pid\":2,\"tid\":1,\"ts\":5}", 1),
+    ("\"id\":\"0.0\",\"pid\":2,\"tid\":3,\"ts\":7}", 1),
+];
+
+/// Parts of its picture.
+const SVG_PARTS: &[(&str, usize)] = &[
+    ("<svg ", 1),
+    ("</svg>\n", 1),
+    ("<circle ", 11),
+    ("\">36</text>", 1),
     // Columns of 400 points behind a margin of 70, steps of 18 points below 80: the bar of the service that CPU 1, the fourth actor,
     // made from step 4 to step 7.
-    ("svg", "<rect class=", 1),
+    ("<rect class=", 1),
     (
-        "svg",
         "<rect class=\"t0\" x=\"1266\" y=\"152\" width=\"8\" height=\"54\"/>",
         1,
     ),
     // The arrow to its end from the second client's step 5.
-    ("svg", "<path class=\"a\"", 1),
-    ("svg", "<path class=\"a\" d=\"M470 170V215H1270V206\"/>", 1),
+    ("<path class=\"a\"", 1),
+    ("<path class=\"a\" d=\"M470 170V215H1270V206\"/>", 1),
 ];
 
 #[test]
 fn parts_of_a_drain(rt: HostRuntime) {
-    for (word, part, count) in PARTS {
-        assert!(rt; has(rt.alloc(), word, part, *count), "{word}: {part}");
-    }
+    assert!(rt; has_parts(&rt, rt.alloc(), "trace", TRACE_PARTS));
+    assert!(rt; has_parts(&rt, rt.alloc(), "svg", SVG_PARTS));
 }

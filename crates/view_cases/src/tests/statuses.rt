@@ -1,61 +1,55 @@
 //! How a view ends.
 
 use crate::reports::{NO_ORDER, ONE_FIRING};
-use crate::{shows, view};
-use co_io::{MemSink, MemSource};
+use crate::{Ends, Row, show_all, shows};
 use co_view_top::Status;
-use std::alloc::Global;
 
 /// The line that is written of notes without an order.
 const ORDER: &str = "line 18: order\n";
 
-/// A view, its input, how it ends, and the line that is written: of texts that are no report, and of a report without an order,
-/// which every view needs.
-const LINES: &[(&str, &str, Status, &str)] = &[
-    ("summary", "", Status::BadReport, "line 0: version\n"),
+/// Texts that are no report, and a report without an order, which every view needs.
+const LINES: &[Row] = &[
+    (&["summary"], "", Status::BadReport, "line 0: version\n"),
     (
-        "summary",
+        &["summary"],
         "callout-report 1",
         Status::BadReport,
         "line 1: cut\n",
     ),
     (
-        "summary",
+        &["summary"],
         "callout-report 2\n",
         Status::BadReport,
         "line 1: version\n",
     ),
     (
-        "summary",
+        &["summary"],
         "callout-report 1\ncallout 1\nhz 1000\n",
         Status::BadReport,
         "line 0: note\n",
     ),
     (
-        "summary",
+        &["summary"],
         "callout-report 1\ncallout 1\nhz 1000\ncpus 1\nwheel 24\nfuncs 0\ntimer 0 mpsafe\ncpu 0\nhistories\n",
         Status::BadReport,
         "line 5: number\n",
     ),
     (
-        "summary",
+        &["summary"],
         "callout-report 1\ncallout 1\nhz 1000\ncpus 1\nwheel 256\nfuncs 0\ntimer 0 mpsafe\ncpu 0\nhistories\ntimer 0\nwheel 0\n\
         actor p0\n",
         Status::BadReport,
         "line 13: note\n",
     ),
-    ("lanes", NO_ORDER, Status::NoOrder, ORDER),
-    ("summary", NO_ORDER, Status::NoOrder, ORDER),
-    ("trace", NO_ORDER, Status::NoOrder, ORDER),
-    ("svg", NO_ORDER, Status::NoOrder, ORDER),
+    (&["lanes"], NO_ORDER, Status::NoOrder, ORDER),
+    (&["summary"], NO_ORDER, Status::NoOrder, ORDER),
+    (&["trace"], NO_ORDER, Status::NoOrder, ORDER),
+    (&["svg"], NO_ORDER, Status::NoOrder, ORDER),
 ];
 
 #[test]
 fn first_bad_line_is_written(rt: HostRuntime) {
-    for (word, input, status, line) in LINES {
-        let ended = shows(rt.alloc(), &[*word], input, *status, line);
-        assert!(rt; ended, "{word}: {line}");
-    }
+    show_all(&rt, rt.alloc(), LINES);
 }
 
 const USAGE: &str = "usage: callout_view [lanes] | timer N | cpu N | summary | trace | svg\n";
@@ -70,22 +64,25 @@ const NO_VIEWS: &[&[&str]] = &[
     &["cpu", "0", "0"],
 ];
 
-/// Whether a call with these words ends with the usage line. Its source fails where it is read.
-fn is_refused(alloc: Global, words: &[&str]) -> bool {
-    let Ok(mut source) = MemSource::new(alloc, ONE_FIRING.as_bytes(), 1, &[0]) else {
-        return false;
-    };
-    let Ok(mut sink) = MemSink::new(alloc, 100, 100, &[]) else {
-        return false;
-    };
-    let ended = view(alloc, words, &mut source, &mut sink);
-    ended == Ok(Status::Usage) && sink.bytes() == USAGE.as_bytes()
-}
-
+/// The source fails where it is read.
 #[test]
 fn words_that_are_no_view(rt: HostRuntime) {
+    let ends = Ends {
+        report: ONE_FIRING,
+        read_fails: &[0],
+        room: 100,
+        write_fails: &[],
+    };
     for words in NO_VIEWS {
-        assert!(rt; is_refused(rt.alloc(), words));
+        let refused = shows(
+            &rt,
+            rt.alloc(),
+            words,
+            &ends,
+            Status::Usage,
+            USAGE.as_bytes(),
+        );
+        assert!(rt; refused);
     }
 }
 

@@ -1,7 +1,8 @@
-//! The texts of views: lanes of all notes, of a callout and of a CPU, and summaries.
+//! The texts of views: lanes of all notes, of a callout and of a CPU, summaries, and a trace.
 
 use crate::reports::{DRAIN_WAITS, ONE_FIRING, STOP_DURING_SERVICE};
-use crate::shows;
+use crate::tests::pictures::FIRING_TRACE;
+use crate::{Row, show_all};
 use co_view_top::Status;
 
 /// The text that docs/VIEW.md shows.
@@ -61,26 +62,26 @@ const STOP_SUMMARY: &str =
     "timer 0: armings=2 fired=1 superseded=0 stopped=1 pending=0 | armed(0)=2 stopped(0)=1 go=1 ended=1\n\
     in all: armings=2 fired=1 superseded=0 stopped=1 pending=0 | armed(0)=2 stopped(0)=1 go=1 ended=1\n";
 
-/// Words, a report, and the text that they make of it.
-const TEXTS: &[(&[&str], &str, &str)] = &[
-    (&["lanes"], DRAIN_WAITS, DRAIN_LANES),
-    (&[], DRAIN_WAITS, DRAIN_LANES),
-    (&["lanes"], ONE_FIRING, FIRING_LANES),
-    (&["timer", "0"], ONE_FIRING, TIMER_LANES),
-    (&["cpu", "1"], DRAIN_WAITS, CPU_LANES),
-    (&["timer", "1"], DRAIN_WAITS, NO_NOTES),
-    (&["cpu", "0"], DRAIN_WAITS, NO_NOTES),
-    (&["cpu", "4294967295"], DRAIN_WAITS, NO_NOTES),
-    (&["summary"], ONE_FIRING, FIRING_SUMMARY),
-    (&["summary"], STOP_DURING_SERVICE, STOP_SUMMARY),
+const TEXTS: &[Row] = &[
+    (&["lanes"], DRAIN_WAITS, Status::Done, DRAIN_LANES),
+    (&[], DRAIN_WAITS, Status::Done, DRAIN_LANES),
+    (&["lanes"], ONE_FIRING, Status::Done, FIRING_LANES),
+    (&["timer", "0"], ONE_FIRING, Status::Done, TIMER_LANES),
+    (&["cpu", "1"], DRAIN_WAITS, Status::Done, CPU_LANES),
+    (&["timer", "1"], DRAIN_WAITS, Status::Done, NO_NOTES),
+    (&["cpu", "0"], DRAIN_WAITS, Status::Done, NO_NOTES),
+    (&["cpu", "4294967295"], DRAIN_WAITS, Status::Done, NO_NOTES),
+    (&["summary"], ONE_FIRING, Status::Done, FIRING_SUMMARY),
+    (
+        &["summary"],
+        STOP_DURING_SERVICE,
+        Status::Done,
+        STOP_SUMMARY,
+    ),
+    (&["trace"], ONE_FIRING, Status::Done, FIRING_TRACE),
 ];
 
 #[test]
-fn lanes_and_summaries(rt: HostRuntime) {
-    for (words, report, text) in TEXTS {
-        assert!(rt;
-            shows(rt.alloc(), words, report, Status::Done, text),
-            "{text}"
-        );
-    }
+fn lanes_summaries_and_a_trace(rt: HostRuntime) {
+    show_all(&rt, rt.alloc(), TEXTS);
 }

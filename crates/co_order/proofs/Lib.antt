@@ -1,0 +1,4 @@
+pub mod Counted
+pub mod Merges
+pub mod Stuck
+pub mod Boards

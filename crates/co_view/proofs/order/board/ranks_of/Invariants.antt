@@ -1,6 +1,0 @@
-use Rattle.co_view.proofs.Boards.{IsRanking}
-use Rattle.co_view.proofs.order.board.ranks_of.Given as goal
-
--- the ranks of the first lines
-abbrev pub invariant-loop-line : goal.invariant-loop-line
-invariant-loop-line l = IsRanking l.script l.lines l.line-index l.counts l.ranks

@@ -1,8 +1,0 @@
-use Rattle.co_view.specs.Merging.{IsMerging, not_come}
-use Rattle.co_view.proofs.order.take_rest.Given as goal
-
-abbrev pub invariant-loop-at : goal.invariant-loop-at
-invariant-loop-at l = IsMerging l.board.script.now l.board.lines.now l.merge
-
-abbrev pub decreases-loop-at : goal.decreases-loop-at
-decreases-loop-at l = not_come l.merge
