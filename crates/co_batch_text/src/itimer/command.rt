@@ -3,7 +3,7 @@ ghost use Rattle.std.specs.Prelude.{ℕ};
 ghost use Rattle.co_text.specs.Fallible.{Gives};
 ghost use Rattle.co_text.specs.Values.{number, time};
 ghost use Rattle.co_batch_text.specs.Itimer.Commands.{fits, set_form, timer_language};
-ghost use Rattle.co_batch_text.specs.Stated.{lone_of, stated};
+ghost use Rattle.co_batch.specs.Stated.{lone_of, stated};
 ghost use Rattle.co_batch_text.specs.declared.itimer.command.TimerCommand.TheVariants.{Get, Tick, Alarm};
 
 use co_batch::{Command, object};

@@ -12,8 +12,7 @@ ghost use Rattle.co_batch_text.specs.Ends.{AreServed, IsEnd};
 ghost use Rattle.co_batch_text.specs.Kq.Ends.{EndsRun, IsAnswered, kq_served};
 
 use crate::kq::command::KqCommand;
-use crate::print::{print_last, print_number, print_word};
-use co_batch::{Batch, read_batch};
+use co_batch::{Batch, print_last, print_number, print_word, read_batch};
 use co_kq::{Add, Event, Kq, KqFresh};
 use co_sbt::{NoMemory, Seq};
 use co_service::{Closing, Name};

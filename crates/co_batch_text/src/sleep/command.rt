@@ -3,7 +3,7 @@ ghost use Rattle.std.specs.Prelude.{ℕ};
 ghost use Rattle.co_text.specs.Fallible.{Gives};
 ghost use Rattle.co_text.specs.Values.{number, time};
 ghost use Rattle.co_batch_text.specs.Sleep.Commands.{fits, sleep_form, sleep_language};
-ghost use Rattle.co_batch_text.specs.Stated.{in_range, lone_of, stated};
+ghost use Rattle.co_batch.specs.Stated.{in_range, lone_of, stated};
 ghost use Rattle.co_batch_text.specs.declared.sleep.command.SleepCommand.TheVariants.{Sleep, Wakeup, WakeupOne, Awake, Tick};
 
 use crate::number::narrow;
