@@ -1,10 +1,16 @@
 -- The events that come by a time: each takes something of what is pending, and in the end none comes.
-use Rattle.std.proofs.Common.{◌≡◌, ℕ, zero, suc, ◌<◌, ◌≤◌, Bool, true, false, cond, List, [], ◌∷◌, ◌++◌, length, refl, ap, sym, ◌∙◌, arith, nat_le, IfSome}
+use Rattle.std.proofs.Common.{◌≡◌, ℕ, zero, suc, ◌==◌, ◌<◌, ◌≤◌, Bool, true, false, cond, List, [], ◌∷◌, ◌++◌, length, refl, ap, sym, subst, ◌∙◌, arith, nat_le, nat_lt, IfSome}
 use Rattle.std.specs.declared.option.Option.{Option}
 use Rattle.std.specs.declared.option.Option.TheVariants.{Some, None}
+use Rattle.std.proofs.lemmas.Bool.{le-leb, leb-false, lt-leb}
+use Rattle.std.specs.Ordering.{is_gt, nat_cmp}
+use Rattle.std.specs.declared.cmp.Ordering.TheVariants.{Less, Equal, Greater}
+use Rattle.co_object.proofs.Numbers.{same_itself}
 use Rattle.co_event.specs.declared.Event.{Event}
 use Rattle.co_event.specs.Events.{Window, Events, next_moment}
-use Rattle.co_event.specs.Calls.{take_at}
+use Rattle.co_event.specs.Calls.{take, take_at}
+use Rattle.co_event.specs.EventTimers.{EventTimers}
+use Rattle.co_event.specs.StandsFor.{Answers, StandsFor}
 use Rattle.co_event.proofs.Moment.{first}
 use Rattle.co_event.proofs.Standing.{Sound, sound-of}
 use Rattle.co_event.proofs.Outcomes.{sound-taken}
@@ -78,3 +84,26 @@ takes-all t (suc most) e h few = at_next (next_moment e) refl (λ f sound less. 
 
 pub takes_all : EachUntilTakesAll
 takes_all t e h = takes-all t (length e.pending) e (sound-of e h) (omega arith)
+
+-- what a comparison says
+pub later_of : (m t : ℕ) → is_gt (nat_cmp m t) ≡ true → t < m
+later_of m t h = at_less (nat_lt m t) refl h where
+  at_same : (b : Bool) → (m == t) ≡ b → t < suc m → is_gt (cond b Equal Greater) ≡ true → t < m
+  at_same true e above h = cc
+  at_same false e above h = let apart : m ≡ t → ⊥ = (λ g. let same = same_itself m t g in cc) in omega (arith, above, apart)
+
+  at_less : (b : Bool) → nat_lt m t ≡ b → is_gt (cond b Less (cond (m == t) Equal Greater)) ≡ true → t < m
+  at_less true e h = cc
+  at_less false e h = at_same (m == t) refl (leb-false (suc m) t e) h
+
+-- where the next moment is later none comes by the time
+pub none_comes : (t m : ℕ) (s : EventTimers) → ((e : Events) → StandsFor s e → Some m ≡ next_moment e) → t < m → Answers s s (take_by t) (None, [])
+none_comes t m s moment late = record { size = refl; outcome = λ e stood. (let none = no_take e (moment e stood) in (ap (λ (r : Taken). r.1) none, subst (λ (r : Taken). StandsFor s r.0) (sym none) stood)) } where
+  no_take : (e : Events) → Some m ≡ next_moment e → take_by t e ≡ (e, (None, []))
+  no_take e is = ap (by t e) (sym is) ∙ ap (λ b. cond {A = Taken} b (take_at e (Some m)) (e, (None, []))) (lt-leb m t late)
+
+-- where the next moment is no later it is taken
+pub comes : (t m : ℕ) (s u : EventTimers) (r : Option Event × List ℕ) → ((e : Events) → StandsFor s e → Some m ≡ next_moment e) → m ≤ t → Answers s u take r → Answers s u (take_by t) r
+comes t m s u r moment early answer = record { size = answer.size; outcome = λ e stood. subst (λ (x : Taken). (x.1 ≡ r) × StandsFor u x.0) (sym (takes e (moment e stood))) (answer.outcome e stood) } where
+  takes : (e : Events) → Some m ≡ next_moment e → take_by t e ≡ take e
+  takes e is = ap (by t e) (sym is) ∙ ap (λ b. cond {A = Taken} b (take_at e (Some m)) (e, (None, []))) (le-leb m t early) ∙ ap (take_at e) is
