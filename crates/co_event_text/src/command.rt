@@ -6,7 +6,7 @@ ghost use Rattle.co_event_text.specs.Commands.{arm_form, event_language, fits};
 ghost use Rattle.co_batch.specs.Stated.{lone_of, stated};
 ghost use Rattle.co_event_text.specs.declared.command.EventCommand.TheVariants.{Stop, Until};
 
-use co_batch::{Command, object};
+use co_batch::{Command, lone_object, object};
 use co_grammar::moment;
 use co_program::When;
 use co_sbt::Sbt;
@@ -36,21 +36,6 @@ fn read_arm(count: u32, words: &mut Words) -> Result<EventCommand, Cause>
     Ok(EventCommand::Arm(object(count, number)?, when, prec))
 }
 
-/// The words after `stop`.
-fn read_stop(count: u32, words: &mut Words) -> Result<EventCommand, Cause>
-    ensures { Gives (λ c. c) result (stated (fits count) (lone_of number Stop words.old)) }
-{
-    let number = words.lone_number()?;
-    Ok(EventCommand::Stop(object(count, number)?))
-}
-
-/// The words after `until`.
-fn read_until(words: &mut Words) -> Result<EventCommand, Cause>
-    ensures { (n : ℕ) → Gives (λ c. c) result (stated (fits n) (lone_of time Until words.old)) }
-{
-    Ok(EventCommand::Until(words.lone_time()?))
-}
-
 impl Command for EventCommand {
     ghost language = { event_language };
 
@@ -66,9 +51,9 @@ impl Command for EventCommand {
         if is_word(first, b"arm".as_slice()) {
             read_arm(count, words)
         } else if is_word(first, b"stop".as_slice()) {
-            read_stop(count, words)
+            lone_object(count, words).map(EventCommand::Stop)
         } else if is_word(first, b"until".as_slice()) {
-            read_until(words)
+            words.lone_time().map(EventCommand::Until)
         } else {
             Err(Cause::Form)
         }
