@@ -175,8 +175,8 @@ fn text_of(
     requires size { queue.old.timers.size ≡ batch.now.count }
     ensures { (e : Events) → StandsFor queue.old e → IfOk result (λ bytes. bytes ≡ text (answers answering queue.old.timers.size e batch.now.commands)) }
 {
-    let mut page = Page::new(alloc);
     let mut out = places(alloc, batch.count())?;
+    let mut page = Page::new(alloc);
     answer_all(&mut page, queue, out.as_mut_slice(), batch.commands())?;
     page.done()
 }

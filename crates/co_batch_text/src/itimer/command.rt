@@ -1,10 +1,7 @@
 //! The commands of a text.
-ghost use Rattle.std.specs.Prelude.{ℕ};
 ghost use Rattle.co_text.specs.Fallible.{Gives};
-ghost use Rattle.co_text.specs.Values.{number, time};
 ghost use Rattle.co_batch_text.specs.Itimer.Commands.{fits, set_form, timer_language};
-ghost use Rattle.co_batch.specs.Stated.{lone_of, stated};
-ghost use Rattle.co_batch_text.specs.declared.itimer.command.TimerCommand.TheVariants.{Get, Tick, Alarm};
+ghost use Rattle.co_batch.specs.Stated.{stated};
 
 use co_batch::{Command, lone_object, object};
 use co_itimer::Itimerval;

@@ -134,8 +134,8 @@ fn text_of<N: Name, R: Wait>(
     ensures text { IfOk result (λ bytes. bytes ≡ text (answers answering list.old.room list.old.list batch.now.commands)) }
     ensures served { IfOk result (λ _. AreServed kq_served list.old.room list.old.list list.old.passes batch.now.commands list.new.passes) }
 {
-    let mut page = Page::new(alloc);
     let mut events = no_events(alloc)?;
+    let mut page = Page::new(alloc);
     answer_all(rt, &mut page, list, events.as_mut_slice(), batch.commands())?;
     page.done()
 }

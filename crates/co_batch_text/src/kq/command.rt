@@ -1,10 +1,10 @@
 //! The commands of a text.
 ghost use Rattle.std.specs.Prelude.{ℕ};
 ghost use Rattle.co_text.specs.Fallible.{Gives};
-ghost use Rattle.co_text.specs.Values.{number, time};
+ghost use Rattle.co_text.specs.Values.{number};
 ghost use Rattle.co_batch_text.specs.Kq.Commands.{add_form, fits, kq_language, unit_of};
 ghost use Rattle.co_batch.specs.Stated.{in_range, lone_of, stated};
-ghost use Rattle.co_batch_text.specs.declared.kq.command.KqCommand.TheVariants.{Add, Delete, Tick, Events};
+ghost use Rattle.co_batch_text.specs.declared.kq.command.KqCommand.TheVariants.{Add, Events};
 
 use crate::number::{lone_narrow, narrow};
 use co_batch::Command;

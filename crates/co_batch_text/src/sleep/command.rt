@@ -1,10 +1,8 @@
 //! The commands of a text.
-ghost use Rattle.std.specs.Prelude.{ℕ};
 ghost use Rattle.co_text.specs.Fallible.{Gives};
-ghost use Rattle.co_text.specs.Values.{number, time};
 ghost use Rattle.co_batch_text.specs.Sleep.Commands.{fits, sleep_form, sleep_language};
-ghost use Rattle.co_batch.specs.Stated.{in_range, lone_of, stated};
-ghost use Rattle.co_batch_text.specs.declared.sleep.command.SleepCommand.TheVariants.{Sleep, Wakeup, WakeupOne, Awake, Tick};
+ghost use Rattle.co_batch.specs.Stated.{in_range, stated};
+ghost use Rattle.co_batch_text.specs.declared.sleep.command.SleepCommand.TheVariants.{Sleep};
 
 use crate::number::{lone_narrow, narrow};
 use co_batch::{Command, lone_object, object};
