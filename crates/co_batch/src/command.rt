@@ -2,8 +2,11 @@
 ghost use Rattle.std.specs.Prelude.{◌≡◌, true, false, nat_lt, MatchResult};
 ghost use Rattle.co_text.specs.declared.Cause.TheVariants.{Number};
 ghost use Rattle.co_text.specs.Fallible.{Gives};
+ghost use Rattle.co_text.specs.Taking.{lone};
+ghost use Rattle.co_text.specs.Values.{number};
 ghost use Rattle.co_batch.specs.Language.{Language};
 ghost use Rattle.co_batch.specs.Reading.{statement};
+ghost use Rattle.co_batch.specs.Stated.{stated};
 
 use co_sbt::Sbt;
 use co_text::{Cause, Words};
@@ -39,4 +42,11 @@ pub fn object(count: u32, number: u128) -> Result<u32, Cause>
     } else {
         Err(Cause::Number)
     }
+}
+
+/// The number of an object, behind which no word follows, below the count. `Form`, or else `Number`.
+pub fn lone_object(count: u32, words: &mut Words) -> Result<u32, Cause>
+    ensures { Gives (λ i. i) result (stated (λ i. nat_lt i count) (lone number words.old)) }
+{
+    object(count, words.lone_number()?)
 }

@@ -4,9 +4,11 @@
 
 mod batch;
 mod command;
+mod print;
 mod progress;
 mod reader;
 
 pub use batch::Batch;
-pub use command::{Command, object};
+pub use command::{Command, lone_object, object};
+pub use print::{print_last, print_number, print_word};
 pub use reader::read_batch;

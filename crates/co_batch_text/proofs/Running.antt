@@ -1,12 +1,11 @@
 -- One command more, whose service answers it.
-use Rattle.std.proofs.Common.{◌≡◌, ℕ, ◌+◌, ◌<◌, List, [], ◌∷◌, ◌++◌, length, get_or, drop, refl, ap, sym, ◌∙◌, arith, append_assoc, append-nil}
+use Rattle.std.proofs.Common.{◌≡◌, ℕ, ◌+◌, ◌<◌, List, ◌∷◌, ◌++◌, length, get_or, drop, refl, ap, sym, ◌∙◌, arith, append_assoc}
 use Rattle.std.specs.List.{cons_option}
 use Rattle.std.specs.Option.{option_to_list}
 use Rattle.std.specs.declared.option.Option.{Option}
 use Rattle.std.specs.declared.option.Option.TheVariants.{Some, None}
 use Rattle.std.proofs.lemmas.List.{at_drop_more}
-use Rattle.co_text.specs.Lines.{line_text, text}
-use Rattle.co_text.specs.Values.{Word}
+use Rattle.co_text.specs.Lines.{text}
 use Rattle.co_batch.proofs.Answering.{answers_step}
 use Rattle.co_service.specs.Views.{PassesView}
 use Rattle.co_single.specs.Alarms.{scan_times_of}
@@ -16,10 +15,6 @@ use Rattle.co_batch_text.specs.Ends.{Served, IsServed, IsUnderWay, all_counted, 
 tick-first : (tick : Option ℕ) (times : List ℕ) → cons_option tick times ≡ option_to_list tick ++ times
 tick-first None times = refl
 tick-first (Some t) times = refl
-
--- an answer of one line
-pub one-line : (page then : List ℕ) (words : List Word) → then ≡ page ++ line_text words → then ≡ page ++ text (words ∷ [])
-one-line page then words told = told ∙ ap (λ t. page ++ t) (sym (append-nil (line_text words)))
 
 module _ {C S : Type 0} (served : Served C S) (n : ℕ) (s : S) (p : PassesView) (page : List ℕ) (cs : List C) where
   -- before the first

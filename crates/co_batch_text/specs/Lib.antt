@@ -2,10 +2,6 @@
 
 -- what a run does to the service of one CPU that answers its commands, and what the service's end tells of it
 pub mod Ends
--- what a line states, once its form is read
-pub mod Stated
--- the command `event`
-pub mod Event
 -- the command `kq`
 pub mod Kq
 -- the command `sleep`

@@ -1,9 +1,7 @@
-//! The texts of the commands that answer line by line: `event`, and `kq`, `sleep` and `itimer`, which work on a service of one CPU.
+//! The texts of the commands that answer line by line and work on a service of one CPU: `kq`, `sleep` and `itimer`.
 #![tactic(auto)]
 
-pub mod event;
 pub mod itimer;
 pub mod kq;
 mod number;
-mod print;
 pub mod sleep;

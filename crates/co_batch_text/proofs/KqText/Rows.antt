@@ -2,7 +2,7 @@
 use Rattle.std.proofs.Common.{◌≡◌, ◌++◌, refl, Ok}
 use Rattle.std.specs.Fmt.{digits}
 use Rattle.co_text.specs.declared.Cause.TheVariants as cause
-use Rattle.co_batch_text.proofs.Lines.{line, refused}
+use Rattle.co_batch.proofs.Lines.{line, refused}
 use Rattle.co_batch.specs.Reading.{batch_of}
 use Rattle.co_batch_text.specs.Kq.Answers.{kq_text}
 

@@ -1,6 +1,7 @@
 -- One command more.
 use Rattle.std.proofs.Common.{◌≡◌, ℕ, ◌+◌, ◌<◌, ◌^◌, List, ◌++◌, length, get_or, refl, ap, ◌∙◌, arith}
 use Rattle.co_text.specs.Lines.{line_text}
+use Rattle.co_batch.proofs.Answering.{one_line}
 use Rattle.co_single.specs.Alarms.{made_at}
 use Rattle.co_sleepq.specs.Views.{SleepPassesView}
 use Rattle.co_batch_text.specs.Sleep.Answers.{answer_words}
@@ -9,7 +10,7 @@ use Rattle.co_batch_text.specs.Sleep.Ends.{sleep_served}
 use Rattle.co_batch_text.specs.Sleep.Matching.{IsMatched, IsObeyed, IsObeying, now_after}
 use Rattle.co_batch_text.specs.declared.sleep.command.SleepCommand.{SleepCommand}
 use Rattle.co_batch_text.specs.declared.sleep.command.SleepCommand.TheVariants.{Sleep, Wakeup, WakeupOne, Awake, Tick}
-use Rattle.co_batch_text.proofs.Running.{one-line, begins as way-begins, more as way-more}
+use Rattle.co_batch_text.proofs.Running.{begins as way-begins, more as way-more}
 
 -- the clock of the definition
 clock-is : (n : ℕ) (c : Clocked) (x : SleepCommand) → (obey n c x).0.now ≡ now_after c.now x
@@ -38,5 +39,5 @@ module _ (n : ℕ) (xs : List SleepCommand) (i now : ℕ) (p q : SleepPassesView
           time = clock-is n c x ∙ ap (λ t. now_after t x) way.time;
           made = λ j. (let a = done.made j in let b = way.made j in omega (arith, a, b));
           way = way-more sleep_served n clock_opening p.service page xs i c q.service written way.way x d inside is u r.service then done.served
-              (one-line written then (answer_words (obey n c x).1) told);
+              (one_line written then (answer_words (obey n c x).1) told);
         }

@@ -12,8 +12,7 @@ ghost use Rattle.co_batch_text.specs.Ends.{AreServed, IsEnd};
 ghost use Rattle.co_batch_text.specs.Itimer.Ends.{EndsRun, IsAnswered, timer_served};
 
 use crate::itimer::command::TimerCommand;
-use crate::print::print_number;
-use co_batch::{Batch, read_batch};
+use co_batch::{Batch, print_number, read_batch};
 use co_itimer::{Itimers, ItimersFresh, Itimerval};
 use co_sbt::{NoMemory, Seq};
 use co_service::{Closing, Name};

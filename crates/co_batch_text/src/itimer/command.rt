@@ -1,12 +1,9 @@
 //! The commands of a text.
-ghost use Rattle.std.specs.Prelude.{ℕ};
 ghost use Rattle.co_text.specs.Fallible.{Gives};
-ghost use Rattle.co_text.specs.Values.{number, time};
 ghost use Rattle.co_batch_text.specs.Itimer.Commands.{fits, set_form, timer_language};
-ghost use Rattle.co_batch_text.specs.Stated.{lone_of, stated};
-ghost use Rattle.co_batch_text.specs.declared.itimer.command.TimerCommand.TheVariants.{Get, Tick, Alarm};
+ghost use Rattle.co_batch.specs.Stated.{stated};
 
-use co_batch::{Command, object};
+use co_batch::{Command, lone_object, object};
 use co_itimer::Itimerval;
 use co_sbt::Sbt;
 use co_text::{Cause, Words, is_word};
@@ -36,29 +33,6 @@ fn read_set(count: u32, words: &mut Words) -> Result<TimerCommand, Cause>
     Ok(TimerCommand::Set(object(count, number)?, to))
 }
 
-/// The words after `get`.
-fn read_get(count: u32, words: &mut Words) -> Result<TimerCommand, Cause>
-    ensures { Gives (λ c. c) result (stated (fits count) (lone_of number Get words.old)) }
-{
-    let number = words.lone_number()?;
-    Ok(TimerCommand::Get(object(count, number)?))
-}
-
-/// The words after `tick`.
-fn read_tick(words: &mut Words) -> Result<TimerCommand, Cause>
-    ensures { (n : ℕ) → Gives (λ c. c) result (stated (fits n) (lone_of time Tick words.old)) }
-{
-    Ok(TimerCommand::Tick(words.lone_time()?))
-}
-
-/// The words after `alarm`.
-fn read_alarm(count: u32, words: &mut Words) -> Result<TimerCommand, Cause>
-    ensures { Gives (λ c. c) result (stated (fits count) (lone_of number Alarm words.old)) }
-{
-    let number = words.lone_number()?;
-    Ok(TimerCommand::Alarm(object(count, number)?))
-}
-
 impl Command for TimerCommand {
     ghost language = { timer_language };
 
@@ -74,11 +48,11 @@ impl Command for TimerCommand {
         if is_word(first, b"set".as_slice()) {
             read_set(count, words)
         } else if is_word(first, b"get".as_slice()) {
-            read_get(count, words)
+            lone_object(count, words).map(TimerCommand::Get)
         } else if is_word(first, b"tick".as_slice()) {
-            read_tick(words)
+            words.lone_time().map(TimerCommand::Tick)
         } else if is_word(first, b"alarm".as_slice()) {
-            read_alarm(count, words)
+            lone_object(count, words).map(TimerCommand::Alarm)
         } else {
             Err(Cause::Form)
         }

@@ -12,8 +12,7 @@ ghost use Rattle.co_batch_text.specs.Ends.{AreServed, IsEnd};
 ghost use Rattle.co_batch_text.specs.Kq.Ends.{EndsRun, IsAnswered, kq_served};
 
 use crate::kq::command::KqCommand;
-use crate::print::{print_last, print_number, print_word};
-use co_batch::{Batch, read_batch};
+use co_batch::{Batch, print_last, print_number, print_word, read_batch};
 use co_kq::{Add, Event, Kq, KqFresh};
 use co_sbt::{NoMemory, Seq};
 use co_service::{Closing, Name};
@@ -135,8 +134,8 @@ fn text_of<N: Name, R: Wait>(
     ensures text { IfOk result (λ bytes. bytes ≡ text (answers answering list.old.room list.old.list batch.now.commands)) }
     ensures served { IfOk result (λ _. AreServed kq_served list.old.room list.old.list list.old.passes batch.now.commands list.new.passes) }
 {
-    let mut page = Page::new(alloc);
     let mut events = no_events(alloc)?;
+    let mut page = Page::new(alloc);
     answer_all(rt, &mut page, list, events.as_mut_slice(), batch.commands())?;
     page.done()
 }

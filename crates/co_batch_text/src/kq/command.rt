@@ -1,12 +1,12 @@
 //! The commands of a text.
 ghost use Rattle.std.specs.Prelude.{ℕ};
 ghost use Rattle.co_text.specs.Fallible.{Gives};
-ghost use Rattle.co_text.specs.Values.{number, time};
+ghost use Rattle.co_text.specs.Values.{number};
 ghost use Rattle.co_batch_text.specs.Kq.Commands.{add_form, fits, kq_language, unit_of};
-ghost use Rattle.co_batch_text.specs.Stated.{in_range, lone_of, stated};
-ghost use Rattle.co_batch_text.specs.declared.kq.command.KqCommand.TheVariants.{Add, Delete, Tick, Events};
+ghost use Rattle.co_batch.specs.Stated.{in_range, lone_of, stated};
+ghost use Rattle.co_batch_text.specs.declared.kq.command.KqCommand.TheVariants.{Add, Events};
 
-use crate::number::narrow;
+use crate::number::{lone_narrow, narrow};
 use co_batch::Command;
 use co_kq::Unit;
 use co_sbt::Sbt;
@@ -63,21 +63,6 @@ fn read_add(words: &mut Words) -> Result<KqCommand, Cause>
     add_of(ident, value, unit, oneshot)
 }
 
-/// The words after `delete`.
-fn read_delete(words: &mut Words) -> Result<KqCommand, Cause>
-    ensures { (n : ℕ) → Gives (λ c. c) result (stated (fits n) (lone_of number Delete words.old)) }
-{
-    let ident = words.lone_number()?;
-    Ok(KqCommand::Delete(narrow(ident)?))
-}
-
-/// The words after `tick`.
-fn read_tick(words: &mut Words) -> Result<KqCommand, Cause>
-    ensures { (n : ℕ) → Gives (λ c. c) result (stated (fits n) (lone_of time Tick words.old)) }
-{
-    Ok(KqCommand::Tick(words.lone_time()?))
-}
-
 /// The words after `events`.
 fn read_events(words: &mut Words) -> Result<KqCommand, Cause>
     ensures { (n : ℕ) → Gives (λ c. c) result (stated (fits n) (lone_of number Events words.old)) }
@@ -104,9 +89,9 @@ impl Command for KqCommand {
         if is_word(first, b"add".as_slice()) {
             read_add(words)
         } else if is_word(first, b"delete".as_slice()) {
-            read_delete(words)
+            lone_narrow(words).map(KqCommand::Delete)
         } else if is_word(first, b"tick".as_slice()) {
-            read_tick(words)
+            words.lone_time().map(KqCommand::Tick)
         } else if is_word(first, b"events".as_slice()) {
             read_events(words)
         } else {

@@ -1,13 +1,11 @@
 //! The commands of a text.
-ghost use Rattle.std.specs.Prelude.{ℕ};
 ghost use Rattle.co_text.specs.Fallible.{Gives};
-ghost use Rattle.co_text.specs.Values.{number, time};
 ghost use Rattle.co_batch_text.specs.Sleep.Commands.{fits, sleep_form, sleep_language};
-ghost use Rattle.co_batch_text.specs.Stated.{in_range, lone_of, stated};
-ghost use Rattle.co_batch_text.specs.declared.sleep.command.SleepCommand.TheVariants.{Sleep, Wakeup, WakeupOne, Awake, Tick};
+ghost use Rattle.co_batch.specs.Stated.{in_range, stated};
+ghost use Rattle.co_batch_text.specs.declared.sleep.command.SleepCommand.TheVariants.{Sleep};
 
-use crate::number::narrow;
-use co_batch::{Command, object};
+use crate::number::{lone_narrow, narrow};
+use co_batch::{Command, lone_object, object};
 use co_sbt::Sbt;
 use co_text::{Cause, Words, is_word};
 
@@ -46,37 +44,6 @@ fn read_sleep(count: u32, words: &mut Words) -> Result<SleepCommand, Cause>
     sleep_of(count, i, chan, timo)
 }
 
-/// The words after `wakeup`.
-fn read_wakeup(words: &mut Words) -> Result<SleepCommand, Cause>
-    ensures { (n : ℕ) → Gives (λ c. c) result (stated (fits n) (lone_of number Wakeup words.old)) }
-{
-    let chan = words.lone_number()?;
-    Ok(SleepCommand::Wakeup(narrow(chan)?))
-}
-
-/// The words after `wakeup1`.
-fn read_wakeup_one(words: &mut Words) -> Result<SleepCommand, Cause>
-    ensures { (n : ℕ) → Gives (λ c. c) result (stated (fits n) (lone_of number WakeupOne words.old)) }
-{
-    let chan = words.lone_number()?;
-    Ok(SleepCommand::WakeupOne(narrow(chan)?))
-}
-
-/// The words after `awake`.
-fn read_awake(count: u32, words: &mut Words) -> Result<SleepCommand, Cause>
-    ensures { Gives (λ c. c) result (stated (fits count) (lone_of number Awake words.old)) }
-{
-    let number = words.lone_number()?;
-    Ok(SleepCommand::Awake(object(count, number)?))
-}
-
-/// The words after `tick`.
-fn read_tick(words: &mut Words) -> Result<SleepCommand, Cause>
-    ensures { (n : ℕ) → Gives (λ c. c) result (stated (fits n) (lone_of time Tick words.old)) }
-{
-    Ok(SleepCommand::Tick(words.lone_time()?))
-}
-
 impl Command for SleepCommand {
     ghost language = { sleep_language };
 
@@ -92,13 +59,13 @@ impl Command for SleepCommand {
         if is_word(first, b"sleep".as_slice()) {
             read_sleep(count, words)
         } else if is_word(first, b"wakeup".as_slice()) {
-            read_wakeup(words)
+            lone_narrow(words).map(SleepCommand::Wakeup)
         } else if is_word(first, b"wakeup1".as_slice()) {
-            read_wakeup_one(words)
+            lone_narrow(words).map(SleepCommand::WakeupOne)
         } else if is_word(first, b"awake".as_slice()) {
-            read_awake(count, words)
+            lone_object(count, words).map(SleepCommand::Awake)
         } else if is_word(first, b"tick".as_slice()) {
-            read_tick(words)
+            words.lone_time().map(SleepCommand::Tick)
         } else {
             Err(Cause::Form)
         }

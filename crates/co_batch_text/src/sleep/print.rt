@@ -3,7 +3,7 @@ ghost use Rattle.std.specs.Prelude.{◌≡◌, ◌++◌, OnOk};
 ghost use Rattle.co_text.specs.Lines.{line_text};
 ghost use Rattle.co_batch_text.specs.Sleep.Answers.{end_words, reply_words, ticked_words};
 
-use crate::print::{print_number, print_word};
+use co_batch::{print_number, print_word};
 use co_sbt::NoMemory;
 use co_sleepq::{End, SleepReply, Ticked};
 use co_text::Page;

@@ -1,6 +1,6 @@
 //! Texts that are too long.
 use crate::tests::rows::is_refused;
-use co_batch_text::event::run_event;
+use co_event_text::run_event;
 use co_sbt::Seq;
 use co_text::Cause;
 use std::alloc::Global;

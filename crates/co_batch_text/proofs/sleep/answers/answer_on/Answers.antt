@@ -1,5 +1,6 @@
 -- The passes of the one actor, who has seen nothing, and what has become of them at the end.
-use Rattle.std.proofs.Common.{◌≡◌, ◌++◌, [], ◌∷◌, ℕ, List, false, refl, sym, subst, ap, ◌∙◌}
+use Rattle.std.proofs.Common.{◌≡◌, ◌++◌, [], ◌∷◌, ℕ, zero, suc, List, false, refl, sym, subst, ap, ◌∙◌, arith}
+use Rattle.std.specs.List.{All}
 use Rattle.std.specs.Option.{option_to_list}
 use Rattle.std.specs.declared.option.Option.{Option}
 use Rattle.co_text.specs.Lines.{text}
@@ -7,9 +8,9 @@ use Rattle.co_batch.specs.Answers.{answers}
 use Rattle.co_service.specs.Closing.{AreEnded, AreEndedCpus}
 use Rattle.co_service.specs.Services.{IsFree}
 use Rattle.co_service.specs.declared.params.Params.{Params}
-use Rattle.co_sleepq.specs.Closing.{service_passes}
+use Rattle.co_sleepq.specs.Closing.{AreAllPasses, service_passes}
 use Rattle.co_sleepq.specs.Fresh.{AreFreshPasses, QueueName, fresh_passes}
-use Rattle.co_sleepq.specs.Params.{sleepers}
+use Rattle.co_sleepq.specs.Params.{ArePasses, actors, sleepers}
 use Rattle.co_sleepq.specs.Views.{SleepPassesView}
 use Rattle.co_sleepq.proofs.AllPasses.{last-fresh}
 use Rattle.co_batch_text.specs.Sleep.Answers.{answering}
@@ -60,3 +61,18 @@ returns-clause-end g c =
     let timers : AreEnded c.args.fresh.params (q.service ∷ []) c.close-closing.result.timers = subst (λ (p : Params). AreEnded p (q.service ∷ []) c.close-closing.result.timers) same (subst (λ l. AreEnded c.in_ok-queue.queue (service_passes l) c.close-closing.result.timers) all c.close-closing.ensures.timers) in
     let cpus : AreEndedCpus c.args.fresh.params (q.service ∷ []) c.close-closing.result.cpus = subst (λ (p : Params). AreEndedCpus p (q.service ∷ []) c.close-closing.result.cpus) same (subst (λ l. AreEndedCpus c.in_ok-queue.queue (service_passes l) c.close-closing.result.cpus) all c.close-closing.ensures.cpus) in
     ends b.count c.args.fresh.name c.args.fresh.params c.requires.booted.named c.requires.booted.params_are b q c.close-closing.result refl done (c.text_of-text.ensures.cpu.of.params_are ∙ same) timers cpus
+
+-- what one has, all of a list of one have
+alone : {X : Type 0} (P : X → Type 0) (x : X) → P x → All P (x ∷ [])
+alone P x h zero d less = h
+alone P x h (suc k) d less = absurd (omega (arith, less))
+
+pub text_of-text-requires-clause-alone : goal.text_of-text-requires-clause-alone
+text_of-text-requires-clause-alone g c = ap actors (c.in_ok-queue.ensures ∙ c.requires.booted.params_are)
+
+pub close-closing-requires : goal.close-closing-requires
+close-closing-requires g c =
+    let q = c.text_of-text.new.cpu in
+    let all : c.into_seq.result ≡ q ∷ [] = c.into_seq.ensures ∙ (c.push.ensures.items ∙ ap (λ l. l ++ q ∷ []) c.requires.nothing) in
+    let one : actors c.in_ok-queue.queue ≡ 1 = ap actors (c.in_ok-queue.ensures ∙ c.requires.booted.params_are) in
+    subst (AreAllPasses g.N.Name.name g.N.SleepName.book c.in_ok-queue.queue) (sym all) (record { count = sym one; of = alone (ArePasses g.N.Name.name g.N.SleepName.book c.in_ok-queue.queue) q c.text_of-text.ensures.cpu })

@@ -1,6 +1,9 @@
-use Rattle.std.proofs.Common.{◌≡◌, true, false}
-use Rattle.std.specs.Prelude.{codes}
-use Rattle.co_text.specs.Values.{is_word}
+use Rattle.std.proofs.Common.{◌≡◌, true, false, refl}
+use Rattle.std.specs.Prelude.{codes, nat_lt}
+use Rattle.co_text.specs.Values.{is_word, number, time}
+use Rattle.co_batch.proofs.Stated.{any-mapped, in_range-mapped}
+use Rattle.co_batch_text.specs.Itimer.Commands.{fits}
+use Rattle.co_batch_text.specs.declared.itimer.command.TimerCommand.TheVariants.{Get, Tick, Alarm}
 use Rattle.co_batch_text.proofs.itimer.command.TimerCommandCommand.read.Goals as goal
 
 pub returns-then-is_word : goal.returns-then-is_word
@@ -12,14 +15,14 @@ pub returns-then-is_word-2 : goal.returns-then-is_word-2
 returns-then-is_word-2 c =
     let no1 : is_word c.args.first.now (codes "set") ≡ false = cc in
     let is : is_word c.args.first.now (codes "get") ≡ true = cc in
-    rw (no1, is) c.read_get.ensures
+    rw (no1, is) (in_range-mapped number Get (fits c.args.count) c.args.words.now c.lone_object.result c.map.result c.map.ensures.cases (λ n. nat_lt n c.args.count) (λ x. refl) c.lone_object.ensures)
 
 pub returns-then-is_word-3 : goal.returns-then-is_word-3
 returns-then-is_word-3 c =
     let no1 : is_word c.args.first.now (codes "set") ≡ false = cc in
     let no2 : is_word c.args.first.now (codes "get") ≡ false = cc in
     let is : is_word c.args.first.now (codes "tick") ≡ true = cc in
-    rw (no1, no2, is) (c.read_tick.ensures c.args.count)
+    rw (no1, no2, is) (any-mapped time Tick (fits c.args.count) c.args.words.now c.lone_time.result c.map-then-is_word-3.result c.map-then-is_word-3.ensures.cases (λ x. refl) c.lone_time.ensures)
 
 pub returns-then-is_word-4 : goal.returns-then-is_word-4
 returns-then-is_word-4 c =
@@ -27,4 +30,4 @@ returns-then-is_word-4 c =
     let no2 : is_word c.args.first.now (codes "get") ≡ false = cc in
     let no3 : is_word c.args.first.now (codes "tick") ≡ false = cc in
     let is : is_word c.args.first.now (codes "alarm") ≡ true = cc in
-    rw (no1, no2, no3, is) c.read_alarm.ensures
+    rw (no1, no2, no3, is) (in_range-mapped number Alarm (fits c.args.count) c.args.words.now c.lone_object-then-is_word-4.result c.map-then-is_word-4.result c.map-then-is_word-4.ensures.cases (λ n. nat_lt n c.args.count) (λ x. refl) c.lone_object-then-is_word-4.ensures)

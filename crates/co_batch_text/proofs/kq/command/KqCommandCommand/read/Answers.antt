@@ -1,6 +1,9 @@
-use Rattle.std.proofs.Common.{◌≡◌, true, false}
-use Rattle.std.specs.Prelude.{codes}
-use Rattle.co_text.specs.Values.{is_word}
+use Rattle.std.proofs.Common.{◌≡◌, true, false, refl}
+use Rattle.std.specs.Prelude.{◌^◌, codes, nat_lt}
+use Rattle.co_text.specs.Values.{is_word, number, time}
+use Rattle.co_batch.proofs.Stated.{any-mapped, in_range-mapped}
+use Rattle.co_batch_text.specs.Kq.Commands.{fits}
+use Rattle.co_batch_text.specs.declared.kq.command.KqCommand.TheVariants.{Delete, Tick}
 use Rattle.co_batch_text.proofs.kq.command.KqCommandCommand.read.Goals as goal
 
 pub returns-then-is_word : goal.returns-then-is_word
@@ -12,14 +15,14 @@ pub returns-then-is_word-2 : goal.returns-then-is_word-2
 returns-then-is_word-2 c =
     let no1 : is_word c.args.first.now (codes "add") ≡ false = cc in
     let is : is_word c.args.first.now (codes "delete") ≡ true = cc in
-    rw (no1, is) (c.read_delete.ensures c.args._count)
+    rw (no1, is) (in_range-mapped number Delete (fits c.args._count) c.args.words.now c.lone_narrow.result c.map.result c.map.ensures.cases (λ n. nat_lt n (2 ^ 64)) (λ x. refl) c.lone_narrow.ensures)
 
 pub returns-then-is_word-3 : goal.returns-then-is_word-3
 returns-then-is_word-3 c =
     let no1 : is_word c.args.first.now (codes "add") ≡ false = cc in
     let no2 : is_word c.args.first.now (codes "delete") ≡ false = cc in
     let is : is_word c.args.first.now (codes "tick") ≡ true = cc in
-    rw (no1, no2, is) (c.read_tick.ensures c.args._count)
+    rw (no1, no2, is) (any-mapped time Tick (fits c.args._count) c.args.words.now c.lone_time.result c.map-then-is_word-3.result c.map-then-is_word-3.ensures.cases (λ x. refl) c.lone_time.ensures)
 
 pub returns-then-is_word-4 : goal.returns-then-is_word-4
 returns-then-is_word-4 c =

@@ -1,6 +1,9 @@
-use Rattle.std.proofs.Common.{◌≡◌, true, false}
-use Rattle.std.specs.Prelude.{codes}
-use Rattle.co_text.specs.Values.{is_word}
+use Rattle.std.proofs.Common.{◌≡◌, true, false, refl}
+use Rattle.std.specs.Prelude.{◌^◌, codes, nat_lt}
+use Rattle.co_text.specs.Values.{is_word, number, time}
+use Rattle.co_batch.proofs.Stated.{any-mapped, in_range-mapped}
+use Rattle.co_batch_text.specs.Sleep.Commands.{fits}
+use Rattle.co_batch_text.specs.declared.sleep.command.SleepCommand.TheVariants.{Wakeup, WakeupOne, Awake, Tick}
 use Rattle.co_batch_text.proofs.sleep.command.SleepCommandCommand.read.Goals as goal
 
 pub returns-then-is_word : goal.returns-then-is_word
@@ -12,14 +15,14 @@ pub returns-then-is_word-2 : goal.returns-then-is_word-2
 returns-then-is_word-2 c =
     let no1 : is_word c.args.first.now (codes "sleep") ≡ false = cc in
     let is : is_word c.args.first.now (codes "wakeup") ≡ true = cc in
-    rw (no1, is) (c.read_wakeup.ensures c.args.count)
+    rw (no1, is) (in_range-mapped number Wakeup (fits c.args.count) c.args.words.now c.lone_narrow.result c.map.result c.map.ensures.cases (λ n. nat_lt n (2 ^ 64)) (λ x. refl) c.lone_narrow.ensures)
 
 pub returns-then-is_word-3 : goal.returns-then-is_word-3
 returns-then-is_word-3 c =
     let no1 : is_word c.args.first.now (codes "sleep") ≡ false = cc in
     let no2 : is_word c.args.first.now (codes "wakeup") ≡ false = cc in
     let is : is_word c.args.first.now (codes "wakeup1") ≡ true = cc in
-    rw (no1, no2, is) (c.read_wakeup_one.ensures c.args.count)
+    rw (no1, no2, is) (in_range-mapped number WakeupOne (fits c.args.count) c.args.words.now c.lone_narrow-then-is_word-3.result c.map-then-is_word-3.result c.map-then-is_word-3.ensures.cases (λ n. nat_lt n (2 ^ 64)) (λ x. refl) c.lone_narrow-then-is_word-3.ensures)
 
 pub returns-then-is_word-4 : goal.returns-then-is_word-4
 returns-then-is_word-4 c =
@@ -27,7 +30,7 @@ returns-then-is_word-4 c =
     let no2 : is_word c.args.first.now (codes "wakeup") ≡ false = cc in
     let no3 : is_word c.args.first.now (codes "wakeup1") ≡ false = cc in
     let is : is_word c.args.first.now (codes "awake") ≡ true = cc in
-    rw (no1, no2, no3, is) c.read_awake.ensures
+    rw (no1, no2, no3, is) (in_range-mapped number Awake (fits c.args.count) c.args.words.now c.lone_object.result c.map-then-is_word-4.result c.map-then-is_word-4.ensures.cases (λ n. nat_lt n c.args.count) (λ x. refl) c.lone_object.ensures)
 
 pub returns-then-is_word-5 : goal.returns-then-is_word-5
 returns-then-is_word-5 c =
@@ -36,4 +39,4 @@ returns-then-is_word-5 c =
     let no3 : is_word c.args.first.now (codes "wakeup1") ≡ false = cc in
     let no4 : is_word c.args.first.now (codes "awake") ≡ false = cc in
     let is : is_word c.args.first.now (codes "tick") ≡ true = cc in
-    rw (no1, no2, no3, no4, is) (c.read_tick.ensures c.args.count)
+    rw (no1, no2, no3, no4, is) (any-mapped time Tick (fits c.args.count) c.args.words.now c.lone_time.result c.map-then-is_word-5.result c.map-then-is_word-5.ensures.cases (λ x. refl) c.lone_time.ensures)

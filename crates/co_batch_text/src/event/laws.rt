@@ -1,7 +1,0 @@
-//! Laws of the text, each the contract of a function that does nothing.
-ghost use Rattle.co_batch_text.specs.Event.Laws.{EachUntilTakesAll};
-
-/// Behind an `until` no window ends at or before its time: as many events as callouts are pending are all that come by then.
-pub fn each_until_takes_all()
-    ensures { EachUntilTakesAll }
-{}
