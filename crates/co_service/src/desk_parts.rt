@@ -1,11 +1,12 @@
 //! What a CPU has before the locks.
-ghost use Rattle.std.specs.Prelude.{◌≡◌, ◌+◌, ◌<◌, IfOk, OnOk, length, map, replicate};
+ghost use Rattle.std.specs.Prelude.{◌≡◌, ◌+◌, ◌<◌, [], ◌∷◌, ◌++◌, IfOk, OnOk, length, map, replicate};
 ghost use Rattle.std.specs.declared.option.Option.TheVariants.{Some, None};
 ghost use Rattle.co_service.specs.Books.{books_of};
 ghost use Rattle.co_service.specs.Booted.{AreAllBegun, AreFirstKeepers, IsDeskParts, IsNewKeeper};
 ghost use Rattle.co_service.specs.Fresh.{AreDeskParts};
 ghost use Rattle.co_service.specs.Params.{AreParams, directs as directs_of};
 ghost use Rattle.co_service.specs.Stories.{IsHistory, IsJournal};
+ghost use Rattle.co_service.specs.declared.desk_parts.DeskParts.{DeskParts as PartsOf};
 
 use crate::books::Books;
 use crate::boot::{apart, push};
@@ -76,8 +77,8 @@ fn none_here(alloc: Global, count: usize) -> Result<Vec<Option<Keeper<TimerStory
     Ok(here)
 }
 
-/// What a CPU has before the locks. It takes the keepers that are here, and none are left for the next CPU.
-fn make_parts(
+/// Puts what a CPU has before the locks behind what those before it have. It takes the keepers that are here, and none are left for the next CPU.
+fn add_parts(
     alloc: Global,
     params: &Params,
     places: &Places,
@@ -85,22 +86,24 @@ fn make_parts(
     cpu: u32,
     here: &mut Vec<Option<Keeper<TimerStory>>>,
     journal: Keeper<CpuStory>,
-) -> Result<DeskParts, NoMemory>
+    all_parts: &mut Vec<DeskParts>,
+) -> Result<(), NoMemory>
     requires params { AreParams params.now }
     requires direct { direct.now ≡ directs_of params.now }
     requires here { AreFirstKeepers places.now.timers params.now cpu here.old.items }
     requires journal { IsNewKeeper IsJournal places.now.cpus params.now cpu journal }
-    ensures parts { IfOk result (λ parts. IsDeskParts places.now params.now cpu parts.wheel parts.keepers.items parts.journal) }
+    ensures parts { OnOk result ((parts : PartsOf) × (all_parts.new.items ≡ all_parts.old.items ++ parts ∷ []) × IsDeskParts places.now params.now cpu parts.wheel parts.keepers.items parts.journal) }
     ensures here { OnOk result (AreFirstKeepers places.now.timers params.now (cpu + 1) here.new.items) }
 {
     let wheel = first_wheel(alloc, params, direct, cpu)?;
     let others = none_here(alloc, here.len())?;
     let keepers = mem::replace(here, others);
-    Ok(DeskParts {
+    let parts = DeskParts {
         wheel,
         keepers,
         journal,
-    })
+    };
+    push(all_parts, parts)
 }
 
 /// What each CPU has before the locks, in the order of their numbers.
@@ -121,7 +124,7 @@ pub(crate) fn make_all_parts(
     let mut all_parts = Vec::new(alloc);
     let mut cpu = 0;
     for journal in journals {
-        let parts = make_parts(
+        add_parts(
             alloc,
             params,
             places,
@@ -129,8 +132,8 @@ pub(crate) fn make_all_parts(
             cpu,
             &mut here,
             journal,
+            &mut all_parts,
         )?;
-        push(&mut all_parts, parts)?;
         cpu += 1;
     }
     Ok(all_parts)

@@ -119,11 +119,13 @@ impl<N: Name> Service<N> {
             return Err(moving);
         };
         let mut desk = locked.desk.lock(rt);
-        let landed = desk.land(&self.places, passes, act, moving)?;
-        if let Some(hint) = self.hints.get(i as usize) {
-            hint.store(cpu, Ordering::SeqCst);
+        let landed = desk.land(&self.places, passes, act, moving);
+        if landed.is_ok() {
+            if let Some(hint) = self.hints.get(i as usize) {
+                hint.store(cpu, Ordering::SeqCst);
+            }
         }
-        Ok(landed)
+        landed
     }
 
     /// A callout comes to its CPU. It is tried again where that desk can't take it.

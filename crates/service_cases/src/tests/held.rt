@@ -1,8 +1,7 @@
 //! A callout with a mutex is stopped while its service waits for the mutex.
-ghost use Rattle.std.specs.Prelude.{◌≡◌, ◌∷◌, [], ◌<◌, ℕ, Bool, IfOk, false, true};
+ghost use Rattle.std.specs.Prelude.{◌≡◌, ◌∷◌, [], ℕ, Bool, IfOk, false, true};
 ghost use Rattle.co_object.specs.Actors.{cpu_actor};
 ghost use Rattle.co_object.specs.Journal.{scanner};
-ghost use Rattle.co_object.specs.Queue.{Due};
 ghost use Rattle.co_object.specs.declared.op.CallOp.TheVariants.{Plain};
 ghost use Rattle.co_object.specs.declared.spec.LockUse.TheVariants.{Mtx};
 ghost use Rattle.co_service.specs.Booted.{AreBooted};
@@ -10,8 +9,8 @@ ghost use Rattle.co_service.specs.Call.{NamesCpu};
 ghost use Rattle.service_cases.specs.Scenes.{IsLocked};
 ghost use Rattle.co_service.specs.Kept.{KeepsFree};
 ghost use Rattle.co_service.specs.Params.{actors_of};
-ghost use Rattle.co_service.specs.Services.{HasNext, IsFree, IsServing};
-ghost use Rattle.co_service.specs.Serving.{Runs, Waits};
+ghost use Rattle.co_service.specs.Services.{HasNext, IsServing};
+ghost use Rattle.co_service.specs.Serving.{Waits};
 ghost use Rattle.co_service.specs.Views.{AreOf, PassesView};
 
 use super::acts::{finish, rest, tick};
@@ -97,26 +96,6 @@ fn keep_waiting<R: Abort>(rt: &R, log: &mut Vec<Note>, taken: Taken) -> u64
     n
 }
 
-/// The CPU, whose service of this arming waits, begins under the mutex.
-fn begin_held<N: Name, R: Wait + Abort>(
-    rt: &R,
-    service: &Service<N>,
-    log: &mut Vec<Note>,
-    passes: &mut Passes,
-    n: u64,
-    hold: &Hold<'_>,
-)
-    requires scene { IsLocked service.now }
-    requires passes { AreOf N.name service.now passes.old }
-    requires serving { IsServing false passes.old 0 (record { i = 0; n = n }) (Waits n) }
-    requires hold { hold.now ≡ record { id = 0; exclusive = true } }
-    ensures of { AreOf N.name service.now passes.new }
-    ensures serving { (d : Due) × IsServing false passes.new 0 d (Runs d.n) }
-{
-    let made = service.begin(rt, passes, 0, 0, hold);
-    keep_all(rt, log, made.notes);
-}
-
 /// The client holds the mutex, and stops the callout while its service waits for that. The answer is the arming that waits.
 fn stop_what_waits<N: Name, R: Wait + Abort + Sync>(
     rt: &R,
@@ -150,27 +129,7 @@ fn stop_what_waits<N: Name, R: Wait + Abort + Sync>(
     n
 }
 
-/// The CPU, whose service of this arming waits, holds the mutex.
-fn begin_locked<N: Name, R: Wait + Abort + Sync>(
-    rt: &R,
-    service: &Service<N>,
-    log: &mut Vec<Note>,
-    cpu: &mut Passes,
-    n: u64,
-    locks: &ClientLocks,
-)
-    requires scene { IsLocked service.now }
-    requires cpu { AreOf N.name service.now cpu.old }
-    requires serving { IsServing false cpu.old 0 (record { i = 0; n = n }) (Waits n) }
-    requires locks { locks.now ≡ LockKind.Mtx ∷ [] }
-    ensures of { AreOf N.name service.now cpu.new }
-    ensures serving { (d : Due) × IsServing false cpu.new 0 d (Runs d.n) }
-{
-    let hold = locks.lock(rt, 0);
-    begin_held(rt, service, log, cpu, n, &hold);
-}
-
-/// The service of the arming that waits ends.
+/// The CPU, whose service of this arming waits, begins under the mutex, and its service ends.
 fn end_what_waits<N: Name, R: Wait + Abort + Sync>(
     rt: &R,
     service: &Service<N>,
@@ -184,7 +143,10 @@ fn end_what_waits<N: Name, R: Wait + Abort + Sync>(
     requires serving { IsServing false cpu.old 0 (record { i = 0; n = n }) (Waits n) }
     requires locks { locks.now ≡ LockKind.Mtx ∷ [] }
 {
-    begin_locked(rt, service, log, cpu, n, locks);
+    let hold = locks.lock(rt, 0);
+    let made = service.begin(rt, cpu, 0, 0, &hold);
+    keep_all(rt, log, made.notes);
+    drop(hold);
     finish(rt, service, log, cpu, 0);
     service.drain_wait(rt, 0, 0);
     rest(rt, service, log, cpu, 0);

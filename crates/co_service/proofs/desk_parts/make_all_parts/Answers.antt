@@ -20,8 +20,8 @@ loop-journal-init c =
       each = λ k b is. (let bad = ap (λ l. slice_get l k) (sym none) ∙ is in absurd (cc));
     }
 
-pub make_parts-requires-clause-journal : goal.make_parts-requires-clause-journal
-make_parts-requires-clause-journal c =
+pub add_parts-requires-clause-journal : goal.add_parts-requires-clause-journal
+add_parts-requires-clause-journal c =
     let at = c.loop-journal in
     let i = at.invariant in
     let x = c.in-Some.journal in
@@ -35,17 +35,18 @@ loop-journal-preserved c =
     let at = c.loop-journal in
     let i = at.invariant in
     let x = c.in-Some.journal in
-    let b = c.in_ok-parts.parts in
+    let added = c.in_ok-add_parts.ensures.parts in
+    let b = added.0 in
     let name = c.args.places.now in
     let p = c.args.params.now in
     let steps : into_iter_items at.journal-iterator ≡ x ∷ into_iter_items c.next.new.self = c.in-Some.ensures.steps.0 in
-    let more : c.push.new.items.items ≡ at.all_parts.items ++ b ∷ [] = c.in_ok-push.ensures.pushed in
+    let more : c.add_parts.new.all_parts.items ≡ at.all_parts.items ++ b ∷ [] = added.1 in
     record {
       yields = append_assoc at.yielded (x ∷ []) _ ∙ rw (← steps) i.yields;
       left = (let was = i.left in let gone = c.in-Some.ensures.steps.1 in let short = ap length steps in omega arith);
       at = ap (λ n. n + 1) i.at ∙ sym (length-append at.yielded (x ∷ []));
-      here = c.in_ok-parts.ensures.here;
+      here = c.in_ok-add_parts.ensures.here;
       count = ap length more ∙ (length-append at.all_parts.items (b ∷ []) ∙ ap (λ n. n + 1) i.count);
       each = λ k y is. each_place (λ j (v : DeskParts). IsDeskParts name p j v.wheel v.keepers.items v.journal) at.all_parts.items b i.each
-          (subst (λ n. IsDeskParts name p n b.wheel b.keepers.items b.journal) (sym i.count) c.in_ok-parts.ensures.parts) k y (ap (λ l. slice_get l k) (sym more) ∙ is);
+          (subst (λ n. IsDeskParts name p n b.wheel b.keepers.items b.journal) (sym i.count) added.2) k y (ap (λ l. slice_get l k) (sym more) ∙ is);
     }

@@ -28,6 +28,13 @@ make_all_parts-requires-clause-journals c = record {
 pub join_all-requires-clause-named : goal.join_all-requires-clause-named
 join_all-requires-clause-named c = subst (λ (n : ServiceName). AreNamed n c.args.params) (sym c.new-places.ensures) record { timers = c.requires.callouts.lives_are; cpus = c.requires.cpus.lives_are }
 
+pub invariant_of-fresh : goal.invariant_of-fresh
+invariant_of-fresh c = record {
+  limits = c.requires.params;
+  named = subst (λ (n : ServiceName). AreNamed n c.args.params) (sym c.new-places.ensures) record { timers = c.requires.callouts.lives_are; cpus = c.requires.cpus.lives_are };
+  cpus = c.in_ok-all_parts.ensures;
+}
+
 pub returns : goal.returns
 returns c = record {
   params_are = refl;

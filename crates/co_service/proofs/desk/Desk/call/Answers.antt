@@ -1,20 +1,37 @@
-use Rattle.std.proofs.Common.{◌≡◌, ℕ, List, sym, ap, ◌∙◌, subst, arith, rules, true≢false}
+use Rattle.std.proofs.Common.{◌≡◌, ℕ, true, List, refl, sym, ap, ◌∙◌, subst, arith, rules, true≢false}
 use Rattle.std.specs.Prelude.{is_some}
 use Rattle.std.specs.declared.option.Option.{Option}
-use Rattle.std.specs.declared.option.Option.TheVariants.{Some}
+use Rattle.std.specs.declared.option.Option.TheVariants.{Some, None}
+use Rattle.co_object.specs.declared.alone.Alone.{Alone}
 use Rattle.co_object.specs.declared.note.Entry.{Entry}
 use Rattle.co_object.specs.declared.reply.Reply.{Reply}
 use Rattle.co_service.specs.Books.{BooksView, history_at, is_kept}
 use Rattle.co_wheel.specs.declared.outs.CallOut.{CallOut}
+use Rattle.co_wheel.specs.Callouts.{callout}
 use Rattle.co_wheel.specs.Parcel.{Parcel}
 use Rattle.co_service.specs.Call.{IsAnswer, due_named, number_accepted, told_notes}
-use Rattle.co_service.specs.Desk.{IsDesk}
+use Rattle.co_service.specs.declared.params.Params.{Params}
+use Rattle.co_service.specs.Desk.{IsDesk, StandsAs}
 use Rattle.co_service.specs.Moving.{IsOfService, MayDepart, MovingView, departed, moving_from, target_of}
 use Rattle.co_service.specs.Views.{PassesView}
 use Rattle.co_service.specs.Written.{AreTogether}
 use Rattle.co_service.proofs.CallSection.{answer_section, desk_section, leaves_nothing, may_section, off_here, owes_section, reply_here, service_section}
 use Rattle.co_service.proofs.ServedDesk.{some_of}
 use Rattle.co_service.proofs.desk.Desk.call.Goals as goal
+
+pub returns-then-not-has-clause-why : goal.returns-then-not-has-clause-why
+returns-then-not-has-clause-why g c = λ _. ap (λ (b : BooksView). is_kept b c.args.i) (sym c.self.view_is) ∙ (sym c.has.ensures ∙ c.if-not-has.true)
+
+-- a callout whose history stands here is at the wheel
+stands : (p : Params) (i : ℕ) (a : Option Alone) (o : Option (List Entry)) → StandsAs p i a o → is_some o ≡ true → is_some a ≡ true
+stands p i None None st some = some
+stands p i None (Some H) st some = absurd st
+stands p i (Some a) o st some = refl
+
+pub call_into-requires : goal.call_into-requires
+call_into-requires g c =
+    let b = c.self.inside.books in
+    stands b.params c.args.i (callout c.self.inside.wheel.callouts c.args.i) (history_at b c.args.i) (c.self.invariant.stand.each c.args.i) (sym c.has.ensures ∙ c.if-not-has.false)
 
 pub write_group-requires-clause-may : goal.write_group-requires-clause-may
 write_group-requires-clause-may g c =

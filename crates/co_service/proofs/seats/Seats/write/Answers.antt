@@ -66,3 +66,9 @@ index_mut-requires-2 g c =
     let long = length-set ps c.args.i c.take.new.self in
     let n = c.self.inside.passes.ok.0 in
     omega arith
+
+pub write-pass-requires-clause-keeper : goal.write-pass-requires-clause-keeper
+write-pass-requires-clause-keeper g c = c.requires.place.keeper
+
+pub write-pass-requires-clause-legal : goal.write-pass-requires-clause-legal
+write-pass-requires-clause-legal g c = c.requires.legal
