@@ -10,7 +10,7 @@ use Rattle.std.proofs.lemmas.Option.{slice_get-map, slice_get_within, get_or_fro
 use Rattle.co_object.proofs.Passing.{passing, count-passing, passing-append}
 use Rattle.co_program.specs.declared.script.Script.{Script}
 use Rattle.co_program.specs.Actors.{actor_count}
-use Rattle.co_report.specs.Order.{place_index, place_count}
+use Rattle.co_print.specs.Order.{place_index, place_count}
 use Rattle.co_check.specs.declared.index.Index.{Index}
 use Rattle.co_report.specs.declared.line.Line.{Line}
 use Rattle.co_check.specs.Index.{AreActorSlots, AreLatest, IsIndexed}

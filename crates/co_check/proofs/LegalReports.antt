@@ -29,12 +29,12 @@ use Rattle.co_program.specs.Follows.{Histories, Follows, Fits, FitsCallout, AreN
 use Rattle.co_program.specs.Places.{place_exists, HavePlaces, AllHavePlaces}
 use Rattle.co_program.specs.Runs.{IsRunOf, actors_of, are_direct, notes_by, shown_histories}
 use Rattle.co_report.specs.declared.line.Line.{Line}
-use Rattle.co_report.specs.Histories.{shown_at, shown_history, all_numbered_of}
-use Rattle.co_report.specs.declared.reading.notes.NumberedEntry.{NumberedEntry}
-use Rattle.co_report.specs.Origins.{note_at}
-use Rattle.co_report.proofs.Counted.{note-actor}
+use Rattle.co_print.specs.Histories.{shown_at, shown_history, all_numbered_of}
+use Rattle.co_notes.specs.declared.reading.notes.NumberedEntry.{NumberedEntry}
+use Rattle.co_print.specs.Origins.{note_at}
+use Rattle.co_print.proofs.Counted.{note-actor}
 use Rattle.co_object.proofs.Members.{Has, find-has}
-use Rattle.co_report.proofs.ShownHistories.{histories_shown}
+use Rattle.co_print.proofs.ShownHistories.{histories_shown}
 use Rattle.co_check.specs.declared.verdict.Verdict.{Verdict}
 use Rattle.co_check.specs.declared.verdict.Verdict.TheVariants.{Legal}
 use Rattle.co_check.specs.Astray.{by_actor, astray_of, is_unfinished, first_astray_of, or_later, cursor_after_lines}

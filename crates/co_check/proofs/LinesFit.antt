@@ -12,7 +12,8 @@ use Rattle.co_program.specs.declared.Script.{Script}
 use Rattle.co_program.specs.Actors.{actor_count}
 use Rattle.co_program.specs.Existing.{QOpExists}
 use Rattle.co_report.specs.declared.line.Line.{Line}
-use Rattle.co_report.specs.NoteFits.{EntryFits, LineFits}
+use Rattle.co_notes.specs.NoteFits.{EntryFits}
+use Rattle.co_report.specs.LineFits.{LineFits}
 use Rattle.co_check.specs.Cpu.{NamesCallout}
 use Rattle.co_check.specs.Lines.{IsLineOf, AreLinesOf, IsOfKind, NamesExist}
 use Rattle.co_check.specs.Shown.{actor_of}

@@ -10,8 +10,8 @@ use Rattle.co_object.specs.Lists.{same_place}
 use Rattle.co_program.specs.declared.script.Script.{Script}
 use Rattle.co_program.specs.Actors.{actor_count}
 use Rattle.co_program.specs.Places.{place_exists}
-use Rattle.co_report.specs.Order.{place_index}
-use Rattle.co_report.proofs.Places.{same_index}
+use Rattle.co_print.specs.Order.{place_index}
+use Rattle.co_print.proofs.Places.{same_index}
 use Rattle.co_check.specs.declared.index.Index.{Index}
 use Rattle.co_report.specs.declared.line.Line.{Line}
 use Rattle.co_check.specs.declared.verdict.Unfit.{Unfit}

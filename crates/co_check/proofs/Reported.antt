@@ -22,13 +22,13 @@ use Rattle.co_program.specs.Cursor.{Cursor, start_of}
 use Rattle.co_program.specs.Follows.{Histories, Fits, FitsCallout, AreNext, goes_on, at_next_note}
 use Rattle.co_program.specs.Runs.{IsRunOf, notes_by, shown_histories}
 use Rattle.co_report.specs.declared.line.Line.{Line}
-use Rattle.co_report.specs.Histories.{Numbered, shown, shown_at, shown_history, all_numbered_of}
-use Rattle.co_report.specs.declared.reading.notes.NumberedEntry.{NumberedEntry}
-use Rattle.co_report.specs.Origins.{note_at}
-use Rattle.co_report.proofs.Counted.{passing-numbered, pos-below, note-actor}
+use Rattle.co_print.specs.Histories.{Numbered, shown, shown_at, shown_history, all_numbered_of}
+use Rattle.co_notes.specs.declared.reading.notes.NumberedEntry.{NumberedEntry}
+use Rattle.co_print.specs.Origins.{note_at}
+use Rattle.co_print.proofs.Counted.{passing-numbered, pos-below, note-actor}
 use Rattle.co_object.proofs.Members.{find-has}
-use Rattle.co_report.proofs.Numbering.{numbered, has-note, found, Found, all-notes-of}
-use Rattle.co_report.proofs.ShownHistories.{histories_shown}
+use Rattle.co_print.proofs.Numbering.{numbered, has-note, found, Found, all-notes-of}
+use Rattle.co_print.proofs.ShownHistories.{histories_shown}
 use Rattle.co_check.specs.Runs.{IsLineOfNote, lines_in, shown_line, lines_at, ReportsOfRunsAreLegal}
 use Rattle.co_check.specs.Shown.{actor_of, callout_entry_at, queue_entry_at, callout_history, cpu_journal}
 use Rattle.co_check.proofs.Taking.{some-is}

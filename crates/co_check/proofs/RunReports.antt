@@ -5,8 +5,8 @@ use Rattle.co_object.specs.declared.Place.{Place}
 use Rattle.co_text.specs.Lines.{lines_of as text_lines}
 use Rattle.co_script.specs.Canonical.{canonical}
 use Rattle.co_report.specs.declared.line.Report.{Report}
-use Rattle.co_report.specs.Histories.{shown_history}
-use Rattle.co_report.specs.Reports.{report_of}
+use Rattle.co_print.specs.Histories.{shown_history}
+use Rattle.co_print.specs.Reports.{report_of}
 use Rattle.co_report.specs.Reading.{report_read}
 use Rattle.co_report.specs.Laws.{ListsFit, ReportFits, report_of_histories}
 use Rattle.co_report.proofs.NotesFit.{run_fits}

@@ -13,9 +13,9 @@ use Rattle.co_program.specs.declared.Script.{Script}
 use Rattle.co_program.specs.Actors.{actor_count}
 use Rattle.co_program.specs.Places.{place_exists, HavePlaces, AllHavePlaces}
 use Rattle.co_report.specs.declared.line.Line.{Line}
-use Rattle.co_report.specs.Histories.{Numbered, numbered_from, all_numbered_of, shown_at, shown_history, PlaceHistories}
-use Rattle.co_report.specs.declared.reading.notes.NumberedEntry.{NumberedEntry}
-use Rattle.co_report.specs.Reports.{places}
+use Rattle.co_print.specs.Histories.{Numbered, numbered_from, all_numbered_of, shown_at, shown_history, PlaceHistories}
+use Rattle.co_notes.specs.declared.reading.notes.NumberedEntry.{NumberedEntry}
+use Rattle.co_print.specs.Reports.{places}
 use Rattle.co_report.specs.Laws.{note_lines, lines_of_places}
 use Rattle.co_check.specs.Runs.{lines_at, shown_line}
 

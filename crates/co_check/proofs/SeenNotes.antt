@@ -20,7 +20,7 @@ use Rattle.co_program.specs.Action.{spec_at}
 use Rattle.co_program.specs.Follows.{Histories, listed_after, scans_before, scan_count}
 use Rattle.co_program.specs.Runs.{shown_histories}
 use Rattle.co_report.specs.declared.line.Line.{Line}
-use Rattle.co_report.specs.Origins.{note_at}
+use Rattle.co_print.specs.Origins.{note_at}
 use Rattle.co_check.specs.Astray.{SeenLine, seen_at, seen_from, seen_lines, note_numbered, lines_numbered}
 use Rattle.co_check.specs.Index.{note_slot}
 use Rattle.co_check.specs.Lines.{AreLinesOf, IsOfKind}

@@ -8,7 +8,7 @@ use Rattle.co_object.specs.declared.Place.{Place}
 use Rattle.co_object.specs.declared.Place.TheVariants as place
 use Rattle.co_object.specs.Lists.{same_place, notes_of, IsRising, IsWellFormed}
 use Rattle.co_report.specs.declared.line.Line.{Line}
-use Rattle.co_report.specs.Origins.{note_at}
+use Rattle.co_print.specs.Origins.{note_at}
 use Rattle.co_check.specs.Numbers.{lines_made_by, is_beyond, is_taken, falls, number_at}
 use Rattle.co_check.specs.Runs.{Show, IsLineOfNote, lines_in}
 use Rattle.co_check.specs.Shown.{actor_of, is_note, is_in_place_by}

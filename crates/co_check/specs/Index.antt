@@ -4,7 +4,7 @@ use Rattle.co_object.specs.declared.Place.{Place}
 use Rattle.co_program.specs.declared.script.Script.{Script}
 use Rattle.co_program.specs.Actors.{actor_count}
 use Rattle.co_program.specs.Places.{place_exists}
-use Rattle.co_report.specs.Order.{place_index, place_count}
+use Rattle.co_print.specs.Order.{place_index, place_count}
 use Rattle.co_check.specs.declared.index.Index.{Index}
 use Rattle.co_check.specs.declared.index.Indexed.{Indexed}
 use Rattle.co_check.specs.declared.index.Indexed.TheVariants.{Fits, Bad as BadLine}

@@ -9,12 +9,12 @@ use Rattle.co_program.specs.declared.script.Script.{Script}
 use Rattle.co_program.specs.Runs.{IsRunOf}
 use Rattle.co_script.specs.Fits.{fits}
 use Rattle.co_report.specs.declared.line.Line.{Line}
-use Rattle.co_report.specs.Histories.{shown_history}
-use Rattle.co_report.specs.declared.reading.notes.NumberedEntry.{NumberedEntry}
+use Rattle.co_print.specs.Histories.{shown_history}
+use Rattle.co_notes.specs.declared.reading.notes.NumberedEntry.{NumberedEntry}
 use Rattle.co_report.specs.Laws.{report_of_histories}
-use Rattle.co_report.specs.Origins.{note_at}
+use Rattle.co_print.specs.Origins.{note_at}
 use Rattle.co_report.specs.Reading.{report_read}
-use Rattle.co_report.specs.Reports.{report_of}
+use Rattle.co_print.specs.Reports.{report_of}
 use Rattle.co_report.specs.Typed.{ListsTyped}
 use Rattle.co_check.specs.declared.verdict.Verdict.TheVariants.{Legal}
 use Rattle.co_check.specs.Lines.{AreLinesOf}

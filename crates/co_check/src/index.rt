@@ -5,7 +5,7 @@ ghost use Rattle.co_packed.specs.Heads.{head_of};
 ghost use Rattle.co_program.specs.Actors.{actor_count};
 ghost use Rattle.co_program.specs.declared.script.Script.{Script};
 ghost use Rattle.co_program.specs.Scripts.{IsScript};
-ghost use Rattle.co_report.specs.Order.{place_index, place_count};
+ghost use Rattle.co_print.specs.Order.{place_index, place_count};
 ghost use Rattle.co_report.specs.declared.line.Line.{Line};
 ghost use Rattle.co_report.specs.PackedLines.{line_of};
 ghost use Rattle.co_check.specs.Index.{AreNotesIndexed, AreActorSlots, IsIndexed, IsNumbered, IsLinePut, IsRaised};

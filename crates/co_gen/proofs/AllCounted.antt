@@ -14,10 +14,10 @@ use Rattle.co_listener.specs.MadeNotes.{MadeNote, IsInOrder, list_by, lists_by, 
 use Rattle.co_program.specs.declared.Script.{Script}
 use Rattle.co_program.specs.Actors.{actor_count}
 use Rattle.co_program.specs.Runs.{actors_of}
-use Rattle.co_report.specs.Histories.{shown}
-use Rattle.co_report.specs.declared.reading.notes.NumberedEntry.{NumberedEntry}
+use Rattle.co_print.specs.Histories.{shown}
+use Rattle.co_notes.specs.declared.reading.notes.NumberedEntry.{NumberedEntry}
 use Rattle.co_report.specs.Sections.{count_by, numbered_after}
-use Rattle.co_report.proofs.ShownHistories.{histories_shown}
+use Rattle.co_print.proofs.ShownHistories.{histories_shown}
 use Rattle.co_report.proofs.ToldShown.{shown-as-told}
 use Rattle.co_gen.specs.declared.counts.Counts.{Counts}
 use Rattle.co_gen.specs.Laws.{HaveLegalHistories}

@@ -17,7 +17,7 @@ use Rattle.co_object.proofs.Passing.{passing, count-passing, passing-append}
 use Rattle.co_listener.specs.MadeNotes.{MadeNote, made_in}
 use Rattle.co_program.specs.declared.Script.{Script}
 use Rattle.co_program.specs.Actors.{actor_count}
-use Rattle.co_report.proofs.Places.{same_itself}
+use Rattle.co_print.proofs.Places.{same_itself}
 use Rattle.co_report.proofs.ToldNotes.{made-here, made-elsewhere}
 use Rattle.co_report.proofs.ToldPages.{set-map, map-same}
 use Rattle.co_gen.specs.declared.counts.Counts.{Counts}

@@ -8,10 +8,10 @@ use Rattle.std.proofs.Math.Seq.{take-append_seam}
 use Rattle.std.proofs.lemmas.Option.{slice_get_within, get_or_from_slice_get, slice_get-get_or}
 use Rattle.co_program.specs.declared.script.Script.{Script}
 use Rattle.co_program.specs.Actors.{actor_count}
-use Rattle.co_report.specs.Order.{place_index, place_count}
+use Rattle.co_print.specs.Order.{place_index, place_count}
 use Rattle.co_program.specs.Scripts.{IsScript}
 use Rattle.co_program.proofs.Places.{index_fits}
-use Rattle.co_report.proofs.Places.{index_below}
+use Rattle.co_print.proofs.Places.{index_below}
 use Rattle.co_report.specs.declared.line.Line.{Line}
 use Rattle.co_check.specs.Lines.{AreLinesOf, IsLineOf}
 use Rattle.co_check.specs.Numbers.{lines_made_by}

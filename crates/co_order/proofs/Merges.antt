@@ -11,7 +11,7 @@ use Rattle.std.proofs.Math.Seq.{take-append_seam}
 use Rattle.std.proofs.lemmas.Option.{slice_get_within}
 use Rattle.co_program.specs.declared.script.Script.{Script}
 use Rattle.co_program.specs.Actors.{actor_count}
-use Rattle.co_report.specs.Order.{place_index, place_count}
+use Rattle.co_print.specs.Order.{place_index, place_count}
 use Rattle.co_report.specs.declared.line.Line.{Line}
 use Rattle.co_order.specs.declared.merge.Merge.{Merge}
 use Rattle.co_check.specs.Numbers.{lines_made_by}

@@ -9,7 +9,7 @@ use Rattle.co_object.proofs.Passing.{passing, count-passing}
 use Rattle.co_check.specs.Shown.{actor_of, is_by}
 use Rattle.co_check.specs.Numbers.{lines_made_by}
 use Rattle.co_program.specs.declared.script.Script.{Script}
-use Rattle.co_report.specs.Order.{place_index}
+use Rattle.co_print.specs.Order.{place_index}
 use Rattle.co_report.specs.declared.line.Line.{Line}
 use Rattle.co_order.specs.Order.{notes_at, lines_in_place, comes_next, times, MayCome, IsMerge, IsOrder, IsStuck}
 use Rattle.co_order.proofs.Counted.{count_own, count_other}

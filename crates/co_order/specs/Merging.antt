@@ -2,7 +2,7 @@
 use Rattle.std.specs.Prelude.{◌≡◌, ℕ, ◌<◌, ◌≤◌, ◌==◌, List, length, take, count_by, Option, Some, slice_get, slice_index, MatchOption}
 use Rattle.co_program.specs.Actors.{actor_count}
 use Rattle.co_program.specs.Scripts.{IsScript}
-use Rattle.co_report.specs.Order.{place_index, place_count}
+use Rattle.co_print.specs.Order.{place_index, place_count}
 use Rattle.co_report.specs.declared.line.Line.{Line}
 use Rattle.co_check.specs.Lines.{AreLinesOf}
 use Rattle.co_object.specs.Lists.{actor_of}

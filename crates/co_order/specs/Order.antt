@@ -3,7 +3,7 @@ use Rattle.std.specs.Prelude.{◌≡◌, ℕ, ◌<◌, ◌==◌, ◌&&◌, Bool,
 use Rattle.std.specs.List.{filter_map}
 use Rattle.co_program.specs.declared.script.Script.{Script}
 use Rattle.co_report.specs.declared.line.Line.{Line}
-use Rattle.co_report.specs.Order.{place_index}
+use Rattle.co_print.specs.Order.{place_index}
 use Rattle.co_check.specs.Numbers.{lines_made_by}
 use Rattle.co_object.specs.Lists.{actor_of}
 use Rattle.co_order.specs.declared.order.Ordered.{Ordered}

@@ -11,8 +11,8 @@ use Rattle.co_batch.specs.Reading.{batch_of, lines_batch}
 use Rattle.co_batch.specs.Language.{Language}
 use Rattle.co_batch.specs.Answers.{Answering, answer_text, batch_text}
 use Rattle.co_batch.proofs.Fit.{bind-ok}
-use Rattle.co_batch_text.specs.Event.Commands.{event_language}
-use Rattle.co_batch_text.specs.Event.Answers.{event_text, answering as event_answering}
+use Rattle.co_event_text.specs.Commands.{event_language}
+use Rattle.co_event_text.specs.Answers.{event_text, answering as event_answering}
 use Rattle.co_batch_text.specs.Kq.Commands.{kq_language}
 use Rattle.co_batch_text.specs.Kq.Answers.{kq_text, answering as kq_answering}
 use Rattle.co_batch_text.specs.Sleep.Commands.{sleep_language}

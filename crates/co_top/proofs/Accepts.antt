@@ -6,9 +6,9 @@ use Rattle.co_program.specs.Runs.{IsRunOf}
 use Rattle.co_program.proofs.ListsLook.{acts}
 use Rattle.co_script.specs.Fits.{fits}
 use Rattle.co_script.proofs.Accepted.{fits-accepted}
-use Rattle.co_report.specs.Histories.{shown_history}
+use Rattle.co_print.specs.Histories.{shown_history}
 use Rattle.co_report.specs.Laws.{report_of_histories}
-use Rattle.co_report.specs.Reports.{report_of}
+use Rattle.co_print.specs.Reports.{report_of}
 use Rattle.co_report.specs.Typed.{ListsTyped}
 use Rattle.co_service.specs.Closing.{ClosingView}
 use Rattle.co_run.specs.Ran.{IsRan}

@@ -11,14 +11,14 @@ use Rattle.co_script.specs.Reading.{script_of}
 use Rattle.co_script.specs.Canonical.{canonical}
 use Rattle.co_world.specs.Walk.{IsWalk}
 use Rattle.co_report.specs.Reading.{report_read}
-use Rattle.co_report.specs.Reports.{report_of}
+use Rattle.co_print.specs.Reports.{report_of}
 use Rattle.co_report.specs.declared.line.Report.{Report}
 use Rattle.co_check.specs.Verdict.{verdict}
 use Rattle.co_check.specs.declared.verdict.Verdict.{Verdict}
 use Rattle.co_check.specs.declared.verdict.Verdict.TheVariants.{Legal, Not}
 use Rattle.co_service.specs.Closing.{ClosingView}
 use Rattle.co_run.specs.Ran.{shown_timers, shown_cpus}
-use Rattle.co_batch_text.specs.Event.Answers.{event_text}
+use Rattle.co_event_text.specs.Answers.{event_text}
 use Rattle.co_batch_text.specs.Kq.Answers.{kq_text}
 use Rattle.co_batch_text.specs.Kq.Ends.{EndsRun as EndsKq}
 use Rattle.co_batch_text.specs.Sleep.Answers.{sleep_text}

@@ -14,7 +14,7 @@ use crate::answer::{Answer, refused, whole};
 use crate::command::Reading;
 use crate::status::Status;
 use crate::texts::{legal_text, unfit_word};
-use co_batch_text::event::run_event;
+use co_event_text::run_event;
 use co_check::{ReplayedReport, Verdict, check_replayed, read_replayed_report};
 use co_core::tell_walk;
 use co_front::fault_text;

@@ -4,7 +4,7 @@ use Rattle.std.specs.Prelude.{OnOk}
 use Rattle.co_text.specs.Lines.{spaced}
 use Rattle.co_text.specs.Values.{Word}
 use Rattle.co_text.proofs.Spacing.{spaced-append}
-use Rattle.co_report.specs.Reading.{joined}
+use Rattle.co_notes.specs.Parts.{joined}
 
 at_end : (ws : List Word) (t : Word) → spaced (ws ++ codes "at" ∷ t ∷ []) ≡ spaced ws ++ (codes " at " ++ t)
 at_end ws t = spaced-append ws (codes "at" ∷ t ∷ []) ∙ ap (λ u. spaced ws ++ (codes " at " ++ u)) (append-nil t)

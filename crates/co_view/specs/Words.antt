@@ -25,8 +25,8 @@ use Rattle.co_object.specs.declared.Place.TheVariants as place
 use Rattle.co_text.specs.Lines.{spaced}
 use Rattle.co_text.specs.Values.{Word}
 use Rattle.co_text.specs.Written.{func_word, argument_word}
-use Rattle.co_report.specs.NoteTexts.{arming_word}
-use Rattle.co_report.specs.Reading.{joined}
+use Rattle.co_notes.specs.NoteTexts.{arming_word}
+use Rattle.co_notes.specs.Parts.{joined}
 use Rattle.co_view.specs.Seconds.{seconds_word}
 
 -- ---- operations on callout i

@@ -2,7 +2,7 @@
 ghost use Rattle.std.specs.Prelude.{◌≡◌, ◌++◌, ◌∷◌, OnOk, codes, []};
 ghost use Rattle.co_text.specs.Lines.{spaced};
 ghost use Rattle.co_text.specs.Written.{token_word, token_words};
-ghost use Rattle.co_report.specs.Reading.{joined};
+ghost use Rattle.co_notes.specs.Parts.{joined};
 ghost use Rattle.co_view.specs.Seconds.{seconds_word};
 ghost use Rattle.co_view.specs.Words.{cpu_text, note_text, op_words, own_text, place_number, reply_words, queue_words, answer_words};
 

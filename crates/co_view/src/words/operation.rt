@@ -1,7 +1,7 @@
 //! Operations on a callout.
 ghost use Rattle.std.specs.Prelude.{◌≡◌, ◌++◌, ◌∷◌, [], codes, decimal, OnOk};
 ghost use Rattle.co_object.specs.declared.PlainOp.TheVariants.{AsyncDrain, Reset};
-ghost use Rattle.co_report.specs.Reading.{joined};
+ghost use Rattle.co_notes.specs.Parts.{joined};
 ghost use Rattle.co_view.specs.Seconds.{seconds_word};
 ghost use Rattle.co_view.specs.Words.{call_words, on_timer, op_words, plain_words, run_words};
 

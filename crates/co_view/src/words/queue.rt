@@ -3,7 +3,7 @@ ghost use Rattle.std.specs.Prelude.{◌≡◌, ◌++◌, ◌∷◌, [], OnOk};
 ghost use Rattle.co_object.specs.declared.QOp.TheVariants.{Insert, Remove};
 ghost use Rattle.co_object.specs.declared.QReply.TheVariants.{Count, Got};
 ghost use Rattle.co_text.specs.Lines.{spaced};
-ghost use Rattle.co_report.specs.Reading.{joined};
+ghost use Rattle.co_notes.specs.Parts.{joined};
 ghost use Rattle.co_view.specs.Words.{answer_words, queue_words};
 
 use crate::words::{begin_at, print_at, print_word};

@@ -1,7 +1,7 @@
 use Rattle.std.proofs.Common.{◌<◌, ◌^◌, ◌∷◌, [], ◌++◌, get_or, length, replicate, ap, sym, subst, ◌∙◌, arith}
 use Rattle.std.specs.Prelude.{ℕ, List}
 use Rattle.std.proofs.lemmas.Option.{slice_get-get_or}
-use Rattle.co_report.specs.Order.{place_count, place_index}
+use Rattle.co_print.specs.Order.{place_count, place_index}
 use Rattle.co_report.specs.declared.line.Line.{Line}
 use Rattle.co_order.proofs.Boards.{place_below, place_fits, ranking_all, ranking_more, ranking_none}
 use Rattle.co_order.proofs.board.ranks_of.Goals as goal

@@ -9,7 +9,7 @@ use Rattle.co_script.specs.Fits.{fits}
 use Rattle.co_script.proofs.Accepted.{fits-accepted}
 use Rattle.co_core.specs.Telling.{IsTelling}
 use Rattle.co_world.proofs.legal.Runs.{walks_are_runs}
-use Rattle.co_report.specs.Reports.{report_of}
+use Rattle.co_print.specs.Reports.{report_of}
 use Rattle.co_report.specs.Sections.{Written, IsToldOf}
 use Rattle.co_report.specs.Typed.{ListsTyped}
 use Rattle.co_report.proofs.ToldPages.{told-typed}

@@ -7,9 +7,9 @@ use Rattle.co_packed.specs.declared.heads.Head.{Head}
 use Rattle.co_check.specs.Shown.{actor_of, is_by}
 use Rattle.co_program.proofs.Places.{index_fits}
 use Rattle.co_program.specs.Places.{place_exists}
-use Rattle.co_report.specs.Order.{place_index}
+use Rattle.co_print.specs.Order.{place_index}
 use Rattle.co_report.specs.PackedLines.{line_of}
-use Rattle.co_report.proofs.Places.{index_below}
+use Rattle.co_print.proofs.Places.{index_below}
 use Rattle.co_check.proofs.Noted.{renumbered}
 use Rattle.co_check.proofs.Numbered.{numbered, not_free, too_low, in_range}
 use Rattle.co_check.proofs.index.Index.take.Goals as goal

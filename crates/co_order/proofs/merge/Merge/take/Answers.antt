@@ -2,7 +2,7 @@ use Rattle.std.proofs.Common.{◌≡◌, ◌<◌, ◌^◌, get_or, ap, sym, subs
 use Rattle.std.proofs.lemmas.Option.{get_or_from_slice_get, slice_get_within}
 use Rattle.std.proofs.lemmas.Result.{on_ok_weaker}
 use Rattle.co_program.specs.Actors.{actor_count}
-use Rattle.co_report.specs.Order.{place_index, place_count}
+use Rattle.co_print.specs.Order.{place_index, place_count}
 use Rattle.co_report.specs.declared.line.Line.{Line}
 use Rattle.co_check.specs.Shown.{actor_of}
 use Rattle.co_order.specs.Merging.{actor_key, place_key}
