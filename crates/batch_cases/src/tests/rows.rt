@@ -1,8 +1,8 @@
 //! Texts of the commands, and what each comes to.
-use co_event_text::run_event;
 use co_batch_text::itimer::run_itimer;
 use co_batch_text::kq::run_kq;
 use co_batch_text::sleep::run_sleep;
+use co_event_text::run_event;
 use co_sbt::Seq;
 use co_service::Closing;
 use co_text::{Cause, ScriptFault};
