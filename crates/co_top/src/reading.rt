@@ -38,7 +38,7 @@ fn report_told<S: Subject>(alloc: Global, script: &Script) -> Result<Seq<Seq<u8>
 }
 
 /// The report of a script's walk.
-pub(crate) fn report_of_walk(alloc: Global, script: &Script) -> Result<Seq<Seq<u8>>, NoMemory>
+fn report_of_walk(alloc: Global, script: &Script) -> Result<Seq<Seq<u8>>, NoMemory>
     requires { fits script.now ≡ true }
     ensures { IfOk result (λ pieces. IsReportOfWalk script.now (concat pieces)) }
 {
