@@ -3,9 +3,9 @@ ghost use Rattle.std.specs.Prelude.{◌≡◌, ◌<◌, ◌≤◌, ◌+◌, ◌*
 ghost use Rattle.std.specs.List.{All};
 ghost use Rattle.co_object.specs.declared.op.CallOp.TheVariants.{Plain};
 ghost use Rattle.co_service.specs.Booted.{AreBooted};
-ghost use Rattle.co_service.specs.Call.{NamesCpu};
+ghost use Rattle.co_desk.specs.Call.{NamesCpu};
 ghost use Rattle.co_service.specs.Crew.{AreNew};
-ghost use Rattle.co_service.specs.Views.{AreOf};
+ghost use Rattle.co_desk.specs.Views.{AreOf};
 ghost use Rattle.callout_bench.specs.Team.{IsPlain, IsTeam};
 ghost use denote.Param.Send.{IsSync};
 

@@ -7,7 +7,7 @@ use Rattle.std.specs.declared.option.Option.TheVariants.{Some, None}
 use Rattle.std.proofs.lemmas.List.{at_drop_more}
 use Rattle.co_text.specs.Lines.{text}
 use Rattle.co_batch.proofs.Answering.{answers_step}
-use Rattle.co_service.specs.Views.{PassesView}
+use Rattle.co_desk.specs.Views.{PassesView}
 use Rattle.co_single.specs.Alarms.{scan_times_of}
 use Rattle.co_batch_text.specs.Ends.{Served, IsServed, IsUnderWay, all_counted, tick_times}
 

@@ -8,7 +8,7 @@ use Rattle.co_batch.specs.Answers.{Answering, answers}
 use Rattle.co_batch.specs.Batches.{Batch}
 use Rattle.co_batch.specs.Reading.{batch_of}
 use Rattle.co_service.specs.Closing.{ClosingView}
-use Rattle.co_service.specs.Views.{PassesView}
+use Rattle.co_desk.specs.Views.{PassesView}
 use Rattle.co_single.specs.Alarms.{all_gos, scan_times, scan_times_of}
 
 -- a command whose texts such a service answers

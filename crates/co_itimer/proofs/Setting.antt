@@ -4,7 +4,7 @@ use Rattle.std.specs.declared.option.Option.{Option}
 use Rattle.std.specs.declared.option.Option.TheVariants.{Some, None}
 use Rattle.std.proofs.lemmas.Bool.{cases_eq}
 use Rattle.std.proofs.lemmas.List.{length-set}
-use Rattle.co_service.specs.Views.{PassesView}
+use Rattle.co_desk.specs.Views.{PassesView}
 use Rattle.co_single.specs.Acts.{OthersStay, TimeStays, NothingFires}
 use Rattle.co_single.specs.Alarms.{alarm_at, fired_at, made_at, waiting_of, but}
 use Rattle.co_itimer.proofs.Counting.{all_gos-same}

@@ -3,7 +3,7 @@ use Rattle.std.proofs.Common.{◌≡◌, ℕ, zero, suc, ◌+◌, ◌<◌, ◌�
 use Rattle.std.specs.declared.option.Option.{Option}
 use Rattle.std.specs.declared.option.Option.TheVariants.{Some, None}
 use Rattle.std.proofs.lemmas.List.{same_lists, get_or-map, get_or_default, length-map, length-replicate}
-use Rattle.co_service.specs.Views.{PassesView}
+use Rattle.co_desk.specs.Views.{PassesView}
 use Rattle.co_single.specs.Acts.{IsNew, IsScanned}
 use Rattle.co_single.specs.Alarms.{Alarm, alarm_at, all_gos, last_scan, due_once, fired_at, made_at, times_in, waiting_of}
 use Rattle.co_itimer.proofs.Counting.{all_gos-more, all_gos-none, counted}

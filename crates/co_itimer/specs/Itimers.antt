@@ -1,7 +1,7 @@
 -- Interval timers over a service: what its calls keep, and what they add to what is seen of the service.
 use Rattle.std.specs.Prelude.{◌≡◌, ℕ, ◌+◌, ◌≤◌, Bool, if◌then◌else◌, [], ◌∷◌, ◌++◌, length, Option, Some, None}
-use Rattle.co_service.specs.Name.{ServiceName}
-use Rattle.co_service.specs.Views.{PassesView}
+use Rattle.co_desk.specs.Name.{ServiceName}
+use Rattle.co_desk.specs.Views.{PassesView}
 use Rattle.co_single.specs.Acts.{IsNew}
 use Rattle.co_single.specs.Alarms.{Alarm, callout_count, alarm_at, made_at, fired_at, all_gos, last_scan, scan_times_of, waiting_of}
 use Rattle.co_itimer.specs.Timers.{Timers, opening, timer_of, expires}

@@ -1,6 +1,6 @@
 -- The expirations of one tick.
 use Rattle.std.specs.Prelude.{◌≡◌, ℕ, ◌+◌, ◌≤◌, true, [], length, Option, Some, None}
-use Rattle.co_service.specs.Views.{PassesView}
+use Rattle.co_desk.specs.Views.{PassesView}
 use Rattle.co_single.specs.Acts.{IsArmed, IsDisarmed}
 use Rattle.co_single.specs.Alarms.{made_at, fired_at, scan_times_of, times_in, waiting_of}
 use Rattle.co_itimer.specs.Itimers.{AreArmed, once}

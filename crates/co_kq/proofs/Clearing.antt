@@ -1,7 +1,7 @@
 -- Callouts whose knotes are gone are freed one by one.
 use Rattle.std.proofs.Common.{◌≡◌, ◌≢◌, ℕ, ◌≤◌, List, length, refl, ap, sym, ◌∙◌, arith, inl, inr, Option}
 use Rattle.std.proofs.lemmas.List.{get_or_past}
-use Rattle.co_service.specs.Views.{PassesView}
+use Rattle.co_desk.specs.Views.{PassesView}
 use Rattle.co_single.specs.Alarms.{alarm_at}
 use Rattle.co_kq.specs.declared.knote.Slot.{Slot}
 use Rattle.co_kq.specs.declared.numbers.Use.{Use}

@@ -3,7 +3,7 @@ use Rattle.std.proofs.Common.{◌≡◌, ℕ, ◌+◌, ◌<◌, ◌≤◌, true,
 use Rattle.std.proofs.lemmas.Bool.{cases_eq, cases_lt}
 use Rattle.std.proofs.lemmas.List.{get_or-set_same, get_or-set_other, get_or_past, length-set}
 use Rattle.slab.specs.Slab.{Slab, Updates, get}
-use Rattle.co_service.specs.Views.{PassesView}
+use Rattle.co_desk.specs.Views.{PassesView}
 use Rattle.co_single.specs.Acts.{IsArmed, NothingFires}
 use Rattle.co_single.specs.Alarms.{fired_at, but}
 use Rattle.co_single.specs.Seen.{AddsEntries}

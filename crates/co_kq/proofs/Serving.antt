@@ -4,7 +4,7 @@ use Rattle.std.specs.Prelude.{nat_lt, nat_le, ◌==◌, not}
 use Rattle.std.proofs.lemmas.Bool.{cases_eq, lt-ltb}
 use Rattle.std.proofs.lemmas.Bool.Decides.{nat_tests}
 use Rattle.std.proofs.lemmas.List.{get_or-set_same, get_or-set_other, length-set}
-use Rattle.co_service.specs.Views.{PassesView}
+use Rattle.co_desk.specs.Views.{PassesView}
 use Rattle.co_single.specs.Acts.{IsArmed, IsFired, OthersStay, TimeStays}
 use Rattle.co_single.specs.Alarms.{Alarm, alarm_at, made_at, fired_at, all_gos, waiting_of, times_in, but, due_once}
 use Rattle.co_kq.specs.declared.knote.Slot.{Slot}

@@ -2,7 +2,7 @@
 use Rattle.std.specs.Prelude.{◌≡◌, ◌≢◌, ℕ, ◌<◌, ◌≤◌, ◌+◌, ◌^◌, ◌==◌, Bool, true, false, List, [], ◌∷◌, ◌++◌, length, Option, Some, None, is_some, slice_index_or, replicate, if◌then◌else◌}
 use Rattle.std.specs.List.{count_by}
 use Rattle.slab.specs.Slab.{Slab, slab_len}
-use Rattle.co_service.specs.Views.{PassesView}
+use Rattle.co_desk.specs.Views.{PassesView}
 use Rattle.co_single.specs.Alarms.{Alarm, callout_count, alarm_at, made_at, fired_at, all_gos, scan_times_of, last_scan, waiting_of}
 use Rattle.co_kq.specs.declared.knote.Slot.{Slot}
 use Rattle.co_kq.specs.declared.numbers.Use.{Use}

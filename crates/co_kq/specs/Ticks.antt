@@ -1,7 +1,7 @@
 -- How a tick goes over the callouts.
 use Rattle.std.specs.Prelude.{◌≡◌, ◌≢◌, ◌⊎◌, ℕ, ◌≤◌, ◌<◌, ◌+◌, ◌^◌, Bool, true, false, List, [], ◌∷◌, length, Option, Some, None, nat_lt, slice_set, if◌then◌else◌}
 use Rattle.std.specs.List.{count_by}
-use Rattle.co_service.specs.Views.{PassesView}
+use Rattle.co_desk.specs.Views.{PassesView}
 use Rattle.co_single.specs.Acts.{OthersStay, TimeStays, CalloutsStay}
 use Rattle.co_single.specs.Alarms.{callout_count, alarm_at, made_at, fired_at, all_gos, waiting_of, times_in, due_once}
 use Rattle.co_kq.specs.declared.knote.Slot.{Slot}

@@ -22,7 +22,7 @@ use Rattle.co_script.specs.Fits.{fits, is_free, spec_fits}
 use Rattle.co_script.proofs.parts.Fitting.{fitting}
 use Rattle.co_script.proofs.Standing.{each-act}
 use Rattle.co_script.proofs.Accepted.{fits-accepted}
-use Rattle.co_service.specs.Params.{AreParams, IsSpec}
+use Rattle.co_desk.specs.Params.{AreParams, IsSpec}
 use Rattle.co_run.specs.Acting.{HasLocks, HeldExists, TaskLocks, params_of}
 
 -- ---- the locks that acts take

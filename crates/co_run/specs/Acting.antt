@@ -20,11 +20,11 @@ use Rattle.co_program.specs.Stages.{Stage, Ready, Waiting, Popping, Picking, Loc
 use Rattle.co_world.proofs.kept.Invariant.{IsBetween, under_way}
 use Rattle.co_world.proofs.kept.Stages.{Fits}
 use Rattle.co_world.proofs.follows.Traces.{Trace}
-use Rattle.co_service.specs.declared.params.Params.{Params}
-use Rattle.co_service.specs.Name.{ServiceName}
-use Rattle.co_service.specs.Services.{IsFree, IsServing}
-use Rattle.co_service.specs.Serving.{Waits, Runs}
-use Rattle.co_service.specs.Views.{PassesView, AreOf, journal_seen}
+use Rattle.co_desk.specs.declared.params.Params.{Params}
+use Rattle.co_desk.specs.Name.{ServiceName}
+use Rattle.co_desk.specs.Services.{IsFree, IsServing}
+use Rattle.co_desk.specs.Serving.{Waits, Runs}
+use Rattle.co_desk.specs.Views.{PassesView, AreOf, journal_seen}
 use Rattle.co_run.specs.Going.{SeenBegins}
 use Rattle.co_run.specs.Shown.{AreShown, AreSized}
 use Rattle.co_lock.specs.Locks.{CanBeHeld}

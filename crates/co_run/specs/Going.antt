@@ -2,7 +2,7 @@
 use Rattle.std.specs.Prelude.{ℕ, ◌<◌, ◌^◌, length}
 use Rattle.co_program.specs.Follows.{Histories}
 use Rattle.co_world.proofs.basics.Prefixes.{Begins}
-use Rattle.co_service.specs.Views.{PassesView, seen_of, journal_seen}
+use Rattle.co_desk.specs.Views.{PassesView, seen_of, journal_seen}
 
 -- what the actor has seen of each place begins its history, and all positions are told
 pub record SeenBegins (H : Histories) (p : PassesView) : Type 0 where

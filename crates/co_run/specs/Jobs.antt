@@ -4,11 +4,11 @@ use Rattle.co_object.specs.declared.note.Note.{Note}
 use Rattle.co_program.specs.declared.script.Script.{Script}
 use Rattle.co_program.specs.Actors.{actor_count, client_count}
 use Rattle.co_program.specs.Scripts.{IsScript}
-use Rattle.co_service.specs.declared.params.Params.{Params}
+use Rattle.co_desk.specs.declared.params.Params.{Params}
 use Rattle.co_service.specs.Booted.{AreBooted, booted}
 use Rattle.co_service.specs.Fresh.{AreNamed}
-use Rattle.co_service.specs.Name.{ServiceName}
-use Rattle.co_service.specs.Views.{PassesView}
+use Rattle.co_desk.specs.Name.{ServiceName}
+use Rattle.co_desk.specs.Views.{PassesView}
 use Rattle.co_run.specs.Acting.{HasLocks, params_of}
 use Rattle.co_run.specs.Over.{IsActorOver}
 use Rattle.co_run.specs.declared.book.KeptBook.{KeptBook}

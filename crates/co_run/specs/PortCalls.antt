@@ -10,9 +10,9 @@ use Rattle.co_lock.specs.Covers.{covers}
 use Rattle.co_object.specs.declared.note.Note.{Note}
 use Rattle.co_object.specs.declared.op.CallOp.TheVariants.{Plain}
 use Rattle.co_object.specs.declared.op.PlainOp.{PlainOp}
-use Rattle.co_service.specs.Call.{IsCalled}
-use Rattle.co_service.specs.Params.{spec_at}
-use Rattle.co_service.specs.Views.{PassesView}
+use Rattle.co_desk.specs.Call.{IsCalled}
+use Rattle.co_desk.specs.Params.{spec_at}
+use Rattle.co_desk.specs.Views.{PassesView}
 
 -- who makes the calls: what it has seen of the service, and the number of its next act
 pub record CallerView : Type 0 where

@@ -8,7 +8,7 @@ use Rattle.co_program.specs.Cursor.{Cursor}
 use Rattle.co_program.specs.Indexed.{SilentCounts, cursor_of}
 use Rattle.co_program.specs.declared.action.SilentStep.{SilentStep}
 use Rattle.co_program.specs.Stages.{Ready}
-use Rattle.co_service.specs.Name.{ServiceName}
+use Rattle.co_desk.specs.Name.{ServiceName}
 use Rattle.co_run.specs.Acting.{HasAllScans, IsActing, ServesAsStage}
 use Rattle.co_run.specs.Counted.{HasNumbers}
 use Rattle.co_run.specs.Over.{IsActorOver}

@@ -3,7 +3,7 @@ ghost use Rattle.std.specs.Prelude.{◌≡◌, ◌≤◌, ◌+◌, ◌++◌, ◌
 ghost use Rattle.co_program.specs.Advance.{advance};
 ghost use Rattle.co_program.specs.Indexed.{cursor_of};
 ghost use Rattle.co_program.specs.Scripts.{IsScript};
-ghost use Rattle.co_service.specs.Call.{notes_with, notes_in};
+ghost use Rattle.co_desk.specs.Call.{notes_with, notes_in};
 ghost use Rattle.co_run.specs.Counted.{CanTell, HasTold};
 ghost use Rattle.co_run.specs.Noted.{gone_on, gone_on_with};
 

@@ -2,7 +2,7 @@
 ghost use Rattle.std.specs.Prelude.{◌≡◌, true};
 ghost use Rattle.co_program.specs.declared.Script.{Script};
 ghost use Rattle.co_script.specs.Fits.{fits};
-ghost use Rattle.co_service.specs.Params.{AreParams};
+ghost use Rattle.co_desk.specs.Params.{AreParams};
 ghost use Rattle.co_run.specs.Acting.{HasLocks, params_of};
 
 /// A script that fits has all that a run of it needs: the locks that it names exist, and a service takes its parameters.

@@ -4,8 +4,8 @@ ghost use Rattle.co_object.specs.declared.CallOp.TheVariants.{Plain};
 ghost use Rattle.co_lock.specs.Covers.{covers};
 ghost use Rattle.std.specs.Option.{option_copied};
 ghost use Rattle.co_service.specs.Kept.{Keeps};
-ghost use Rattle.co_service.specs.Params.{spec_at};
-ghost use Rattle.co_service.specs.Views.{AreOf};
+ghost use Rattle.co_desk.specs.Params.{spec_at};
+ghost use Rattle.co_desk.specs.Views.{AreOf};
 ghost use Rattle.co_hand.specs.Ports.{NamesCpuBelow};
 ghost use Rattle.co_run.specs.PortCalls.{CameTo};
 

@@ -2,7 +2,7 @@
 ghost use Rattle.std.specs.Prelude.{◌≡◌, ◌+◌, ◌<◌, IfOk, OnOk, map, length};
 ghost use Rattle.co_program.specs.Actors.{actor_count};
 ghost use Rattle.co_program.specs.Scripts.{IsScript};
-ghost use Rattle.co_service.specs.Params.{AreParams};
+ghost use Rattle.co_desk.specs.Params.{AreParams};
 ghost use Rattle.co_run.specs.Acting.{HasLocks, params_of};
 ghost use Rattle.co_run.specs.Jobs.{AreBlank, HaveBooks, HavePlayed, IsCrew, IsGroup, MayRun};
 ghost use Rattle.co_run.specs.Over.{AreOver, IsActorOver};

@@ -9,7 +9,7 @@ use Rattle.co_object.specs.declared.spec.Spec.{Spec}
 use Rattle.co_object.proofs.Numbers.{same_number}
 use Rattle.co_wheel.specs.Callouts.{new_callout, first_callouts}
 use Rattle.co_service.specs.Booted.{come_to}
-use Rattle.co_service.specs.Params.{no_spec}
+use Rattle.co_desk.specs.Params.{no_spec}
 
 module _ {A : Type 0} where
   abbrev none : Option A

@@ -8,15 +8,15 @@ use Rattle.std.specs.declared.option.Option.{Option}
 use Rattle.std.specs.declared.option.Option.TheVariants.{Some}
 use Rattle.co_object.specs.Journal.{scanner}
 use Rattle.co_sbt.specs.RoomView.{RoomView}
-use Rattle.co_service.specs.declared.params.Params.{Params}
+use Rattle.co_desk.specs.declared.params.Params.{Params}
 use Rattle.co_service.specs.Booted.{booted}
 use Rattle.co_service.specs.Crew.{AreNew, IsCrew}
-use Rattle.co_service.specs.Name.{ServiceName}
-use Rattle.co_service.specs.Params.{actors_of}
-use Rattle.co_service.specs.Services.{IsFree}
-use Rattle.co_service.specs.Serving.{lane_actor}
-use Rattle.co_service.specs.Views.{AreOf, PassesView}
-use Rattle.co_service.proofs.Items.{all_more}
+use Rattle.co_desk.specs.Name.{ServiceName}
+use Rattle.co_desk.specs.Params.{actors_of}
+use Rattle.co_desk.specs.Services.{IsFree}
+use Rattle.co_desk.specs.Serving.{lane_actor}
+use Rattle.co_desk.specs.Views.{AreOf, PassesView}
+use Rattle.co_desk.proofs.Items.{all_more}
 use Rattle.co_service.proofs.Lasts.{booted_free}
 
 module _ {A : Type 0} where

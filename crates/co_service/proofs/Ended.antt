@@ -4,15 +4,16 @@ use Rattle.std.specs.declared.option.Option.TheVariants.{Some}
 use Rattle.std.specs.List.{All}
 use Rattle.co_life.specs.Identity.{LifeId}
 use Rattle.co_life.specs.Views.{KeeperView}
-use Rattle.co_service.specs.declared.params.Params.{Params}
-use Rattle.co_service.specs.declared.line.Line.{Line}
+use Rattle.co_desk.specs.declared.params.Params.{Params}
+use Rattle.co_desk.specs.declared.line.Line.{Line}
 use Rattle.co_service.specs.Booted.{booted}
-use Rattle.co_service.specs.Closing.{AreAll, AreFinal, EndEach, Ends, IsFinal, IsMet}
-use Rattle.co_service.specs.Kinds.{KindOf}
-use Rattle.co_service.specs.Lines.{made}
-use Rattle.co_service.specs.Name.{ServiceName}
-use Rattle.co_service.specs.Params.{actor_count}
-use Rattle.co_service.specs.Views.{PassesView, IsKeeperOf}
+use Rattle.co_service.specs.Closing.{AreAll, AreFinal, EndEach, Ends, IsFinal}
+use Rattle.co_desk.specs.Meeting.{IsMet}
+use Rattle.co_desk.specs.Kinds.{KindOf}
+use Rattle.co_desk.specs.Lines.{made}
+use Rattle.co_desk.specs.Name.{ServiceName}
+use Rattle.co_desk.specs.Params.{actor_count}
+use Rattle.co_desk.specs.Views.{PassesView, IsKeeperOf}
 
 module _ {E : Type 0} (kind : KindOf E) where
   -- what a pass has met is final

@@ -18,15 +18,15 @@ use Rattle.co_queue.proofs.Standing.{stands_for-empty}
 use Rattle.co_wheel.specs.Callouts.{callout}
 use Rattle.co_wheel.specs.Cpu.{Cpu}
 use Rattle.co_wheel.specs.Turns.{Shows}
-use Rattle.co_service.specs.declared.params.Params.{Params}
-use Rattle.co_service.specs.declared.line.Line.{Line}
-use Rattle.co_service.specs.Books.{BooksView, books_of, history_at, kept_of}
+use Rattle.co_desk.specs.declared.params.Params.{Params}
+use Rattle.co_desk.specs.declared.line.Line.{Line}
+use Rattle.co_desk.specs.Books.{BooksView, books_of, history_at, kept_of}
 use Rattle.co_service.specs.Booted.{IsDeskParts, come_to}
-use Rattle.co_service.specs.Desk.{IsHere, IsDesk, StandsAs, scans_in}
-use Rattle.co_service.specs.Name.{ServiceName}
-use Rattle.co_service.specs.Params.{directs}
+use Rattle.co_desk.specs.Desk.{IsHere, IsDesk, StandsAs, scans_in}
+use Rattle.co_desk.specs.Name.{ServiceName}
+use Rattle.co_desk.specs.Params.{directs}
 use Rattle.co_service.proofs.Coming.{AreCome, first_come}
-use Rattle.co_service.proofs.Writing.{index-map}
+use Rattle.co_desk.proofs.Writing.{index-map}
 
 module _ (name : ServiceName) (p : Params) (cpu : ℕ) (w : Cpu) (ks : List (Option (KeeperView (Line Entry)))) (j : KeeperView (Line QEntry)) (is : IsDeskParts name p cpu w ks j) where
   abbrev b : BooksView

@@ -7,13 +7,13 @@ use Rattle.std.proofs.lemmas.List.{length-map, length-replicate}
 use Rattle.co_life.specs.Identity.{LifeId}
 use Rattle.co_life.specs.Views.{KeeperView}
 use Rattle.co_object.specs.declared.note.Entry.{Entry}
-use Rattle.co_service.specs.declared.params.Params.{Params}
-use Rattle.co_service.specs.declared.line.Line.{Line}
+use Rattle.co_desk.specs.declared.params.Params.{Params}
+use Rattle.co_desk.specs.declared.line.Line.{Line}
 use Rattle.co_service.specs.Booted.{AreBegun, AreFirstKeepers}
-use Rattle.co_service.specs.Books.{IsHistoryKept, kept_of}
-use Rattle.co_service.specs.Stories.{IsHistory}
+use Rattle.co_desk.specs.Books.{IsHistoryKept, kept_of}
+use Rattle.co_desk.specs.Stories.{IsHistory}
 use Rattle.co_service.proofs.Coming.{none_at, not_first}
-use Rattle.co_service.proofs.Writing.{below_get}
+use Rattle.co_desk.proofs.Writing.{below_get}
 
 abbrev pub Kept : Type 0
 Kept = Option (KeeperView (Line Entry))

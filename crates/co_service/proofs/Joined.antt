@@ -5,13 +5,13 @@ use Rattle.std.specs.declared.option.Option.TheVariants.{Some}
 use Rattle.co_life.specs.Identity.{LifeId}
 use Rattle.co_object.specs.declared.note.Entry.{Entry}
 use Rattle.co_object.specs.declared.note.QEntry.{QEntry}
-use Rattle.co_service.specs.declared.params.Params.{Params}
-use Rattle.co_service.specs.declared.line.Line.{Line}
+use Rattle.co_desk.specs.declared.params.Params.{Params}
+use Rattle.co_desk.specs.declared.line.Line.{Line}
 use Rattle.co_service.specs.Booted.{AreLeft, AreSeatedAt, booted}
-use Rattle.co_service.specs.Lines.{made}
-use Rattle.co_service.specs.Seats.{SeatsView, fresh_seats}
-use Rattle.co_service.specs.Views.{passes_of}
-use Rattle.co_service.proofs.Items.{index_else}
+use Rattle.co_desk.specs.Lines.{made}
+use Rattle.co_desk.specs.Seats.{SeatsView, fresh_seats}
+use Rattle.co_desk.specs.Views.{passes_of}
+use Rattle.co_desk.proofs.Items.{index_else}
 
 module _ {E : Type 0} where
   -- where nothing was made anywhere

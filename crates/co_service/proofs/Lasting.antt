@@ -16,17 +16,17 @@ use Rattle.co_object.specs.declared.note.Place.TheVariants.{Timer, Cpu, Actor}
 use Rattle.co_object.specs.Group.{Placed, placed}
 use Rattle.co_object.specs.Queue.{Due}
 use Rattle.co_object.proofs.Numbers.{same_number, same_itself}
-use Rattle.co_service.specs.Serving.{ServiceStage, Idle, service_after, service_in, served, served_in}
-use Rattle.co_service.specs.Services.{AreSame, IsFree, IsServing, far_of, service_of}
-use Rattle.co_service.specs.Params.{actors_of}
-use Rattle.co_service.specs.Serving.{lane_actor}
-use Rattle.co_service.specs.Stories.{by, queue_by}
-use Rattle.co_service.specs.Views.{AreOf, PassesView, journal_seen, seen_of}
-use Rattle.co_service.specs.Name.{ServiceName}
-use Rattle.co_service.specs.declared.params.Params.{Params}
-use Rattle.co_service.specs.Kinds.{cpu_kind, timer_kind}
-use Rattle.co_service.specs.Writes.{Writes, WritesAt, WritesEntry}
-use Rattle.co_service.proofs.Items.{index_else, index_set}
+use Rattle.co_desk.specs.Serving.{ServiceStage, Idle, service_after, service_in, served, served_in}
+use Rattle.co_desk.specs.Services.{AreSame, IsFree, IsServing, far_of, service_of}
+use Rattle.co_desk.specs.Params.{actors_of}
+use Rattle.co_desk.specs.Serving.{lane_actor}
+use Rattle.co_desk.specs.Stories.{by, queue_by}
+use Rattle.co_desk.specs.Views.{AreOf, PassesView, journal_seen, seen_of}
+use Rattle.co_desk.specs.Name.{ServiceName}
+use Rattle.co_desk.specs.declared.params.Params.{Params}
+use Rattle.co_desk.specs.Kinds.{cpu_kind, timer_kind}
+use Rattle.co_desk.specs.Writes.{Writes, WritesAt, WritesEntry}
+use Rattle.co_desk.proofs.Items.{index_else, index_set}
 
 no_more : {A : Type 0} (xs : List A) → xs ++ [] ≡ xs
 no_more [] = refl

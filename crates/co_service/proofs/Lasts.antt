@@ -25,24 +25,24 @@ use Rattle.co_object.specs.Queue.{Due}
 use Rattle.co_object.specs.Stand.{Stand, Nowhere, Listed, Deferred, stand_of}
 use Rattle.co_object.proofs.Numbers.{same_itself}
 use Rattle.co_wheel.specs.Turns.{free_of, pop_of}
-use Rattle.co_service.specs.declared.outs.Scanned.{Scanned}
-use Rattle.co_service.specs.declared.outs.Taken.{Taken}
-use Rattle.co_service.specs.declared.outs.Taken.TheVariants.{Empty, Took}
-use Rattle.co_service.specs.declared.outs.Made.{Made}
+use Rattle.co_desk.specs.declared.outs.Scanned.{Scanned}
+use Rattle.co_desk.specs.declared.outs.Taken.{Taken}
+use Rattle.co_desk.specs.declared.outs.Taken.TheVariants.{Empty, Took}
+use Rattle.co_desk.specs.declared.outs.Made.{Made}
 use Rattle.co_service.specs.Booted.{booted}
-use Rattle.co_service.specs.Call.{IsCalled, Target, landing, notes_in}
-use Rattle.co_service.specs.Name.{ServiceName}
-use Rattle.co_service.specs.declared.params.Params.{Params}
+use Rattle.co_desk.specs.Call.{IsCalled, Target, landing, notes_in}
+use Rattle.co_desk.specs.Name.{ServiceName}
+use Rattle.co_desk.specs.declared.params.Params.{Params}
 use Rattle.co_service.specs.Kept.{Keeps, KeepsFree, KeepsTaken}
-use Rattle.co_service.specs.Outcomes.{IsScan, queue_entry_by}
-use Rattle.co_service.specs.Params.{actors_of, spec_at}
-use Rattle.co_service.specs.Services.{AreSame, HasNext, IsBegun, IsEnded, IsFree, IsNothing, IsServing, IsTaken, IsTaking, far_of, next_target, run_entry, service_of}
-use Rattle.co_service.specs.Serving.{Runs, ServiceStage, Waits, begun, lane_actor, stage_picked, served, served_in}
-use Rattle.co_service.specs.Stories.{queue_by}
-use Rattle.co_service.specs.Views.{AreOf, PassesView, seen_of}
-use Rattle.co_service.proofs.CallGroup.{entry_of, group_listed, head, listed_notes, unarmed_group}
+use Rattle.co_desk.specs.Outcomes.{IsScan, queue_entry_by}
+use Rattle.co_desk.specs.Params.{actors_of, spec_at}
+use Rattle.co_desk.specs.Services.{AreSame, HasNext, IsBegun, IsEnded, IsFree, IsNothing, IsServing, IsTaken, IsTaking, far_of, next_target, run_entry, service_of}
+use Rattle.co_desk.specs.Serving.{Runs, ServiceStage, Waits, begun, lane_actor, stage_picked, served, served_in}
+use Rattle.co_desk.specs.Stories.{queue_by}
+use Rattle.co_desk.specs.Views.{AreOf, PassesView, seen_of}
+use Rattle.co_desk.proofs.CallGroup.{entry_of, group_listed, head, listed_notes, unarmed_group}
 use Rattle.co_service.proofs.Lasting.{AreQuiet, free_still, gone_by, goes, is_free, is_serving, quiet-append, quiet_turns, serving_still, still_of, turned_by, turns}
-use Rattle.co_service.proofs.WholeCall.{writes_keep}
+use Rattle.co_desk.proofs.SameActor.{writes_keep}
 
 -- ---- a caller's operation
 

@@ -5,14 +5,14 @@ use Rattle.co_life.specs.Identity.{LifeId}
 use Rattle.co_life.specs.Views.{KeeperView}
 use Rattle.co_object.specs.declared.note.Entry.{Entry}
 use Rattle.co_object.specs.declared.note.QEntry.{QEntry}
-use Rattle.co_service.specs.declared.params.Params.{Params}
-use Rattle.co_service.specs.declared.line.Line.{Line}
-use Rattle.co_service.specs.declared.line.Line.TheVariants.{Opening, Made}
+use Rattle.co_desk.specs.declared.params.Params.{Params}
+use Rattle.co_desk.specs.declared.line.Line.{Line}
+use Rattle.co_desk.specs.declared.line.Line.TheVariants.{Opening, Made}
 use Rattle.co_service.specs.Booted.{ArePlaces, AreSetUp, IsOpened, opener}
-use Rattle.co_service.specs.Lines.{opening_of, IsStory}
-use Rattle.co_service.specs.Params.{actor_count}
-use Rattle.co_service.specs.Seats.{SeatsView}
-use Rattle.co_service.specs.Stories.{IsHistory, IsJournal, timer_actor, cpu_actor}
+use Rattle.co_desk.specs.Lines.{opening_of, IsStory}
+use Rattle.co_desk.specs.Params.{actor_count}
+use Rattle.co_desk.specs.Seats.{SeatsView}
+use Rattle.co_desk.specs.Stories.{IsHistory, IsJournal, timer_actor, cpu_actor}
 use Rattle.co_service.proofs.Signing.{opened_seated}
 
 -- a history of opening entries alone is of either story

@@ -5,15 +5,15 @@ use Rattle.std.specs.declared.option.Option.TheVariants.{Some}
 use mathlib.Core.Logic.{dite}
 use native.Mathlib.Decide.{ℕ_discrete}
 use Rattle.co_life.specs.Identity.{LifeId}
-use Rattle.co_service.specs.declared.params.Params.{Params}
-use Rattle.co_service.specs.declared.line.Line.{Line}
-use Rattle.co_service.specs.declared.line.Line.TheVariants.{Opening, Made}
-use Rattle.co_service.specs.Lines.{made, openings, AllCarry}
+use Rattle.co_desk.specs.declared.params.Params.{Params}
+use Rattle.co_desk.specs.declared.line.Line.{Line}
+use Rattle.co_desk.specs.declared.line.Line.TheVariants.{Opening, Made}
+use Rattle.co_desk.specs.Lines.{made, openings, AllCarry}
 use Rattle.co_life.specs.Views.{KeeperView}
-use Rattle.co_service.specs.Seats.{SeatsView, fresh_seats}
+use Rattle.co_desk.specs.Seats.{SeatsView, fresh_seats}
 use Rattle.co_service.specs.Booted.{IsOpened, IsSeated, AreSeatedAt, AreSeated, seats_at, IsReady, ArePlaces}
-use Rattle.co_service.proofs.Items.{index_set, index_else, get_mid}
-use Rattle.co_service.proofs.Writing.{below_get}
+use Rattle.co_desk.proofs.Items.{index_set, index_else, get_mid}
+use Rattle.co_desk.proofs.Writing.{below_get}
 
 module _ {A : Type 0} where
   index_front : (xs : List A) (y d : A) (k : ℕ) → k < length xs → slice_index_or (xs ++ y ∷ []) k d ≡ slice_index_or xs k d

@@ -4,8 +4,6 @@ use Rattle.std.specs.declared.option.Option.{Option}
 use Rattle.std.specs.declared.option.Option.TheVariants.{Some, None}
 use Rattle.co_object.specs.declared.note.Entry.{Entry}
 use Rattle.co_object.specs.declared.note.QEntry.{QEntry}
-use Rattle.co_object.specs.declared.note.AnyEntry.{AnyEntry}
-use Rattle.co_object.specs.declared.note.Place.{Place}
 use Rattle.co_object.specs.declared.note.Place.TheVariants.{Timer, Cpu, Actor}
 use Rattle.co_object.specs.declared.note.Note.{Note}
 use Rattle.co_object.specs.declared.note.AnyEntry.TheVariants as of
@@ -20,35 +18,20 @@ use Rattle.co_object.specs.Group.{Placed, placed, group, off_of}
 use Rattle.co_object.specs.History.{state}
 use Rattle.co_object.specs.Queue.{Due}
 use Rattle.co_wheel.specs.Turns.{free_of}
-use Rattle.co_service.specs.Params.{spec_at}
-use Rattle.co_service.specs.declared.params.Params.{Params}
-use Rattle.co_service.specs.declared.finished.Finished.{Finished}
-use Rattle.co_service.specs.declared.told.Inserted.{Inserted}
-use Rattle.co_service.specs.declared.told.Told.{Told}
-use Rattle.co_service.specs.Call.{IsAnswer, IsCalled, Target, call_entry, landing, noted_insert, removal_told, told_notes}
-use Rattle.co_service.specs.Ends.{IsFinished, finished_notes}
-use Rattle.co_service.specs.Moving.{IsDone, IsOfService, MovingView}
-use Rattle.co_service.specs.Outcomes.{noted_entry, queue_entry_by}
-use Rattle.co_service.specs.Services.{AreSame, IsEnded, IsEndedBut, IsLanded, run_entry}
-use Rattle.co_service.specs.Views.{PassesView, seen_of}
-use Rattle.co_service.specs.Writes.{WritesAt, Writes}
-use Rattle.co_service.proofs.Noting.{writes-append}
-
-keeps_at : (p q : PassesView) (place : Place) (entry : AnyEntry) (pos : ℕ) → WritesAt p place entry pos q → AreSame p q
-keeps_at p q (Timer i) (of.Timer e) pos w = record { name = ap (λ (v : PassesView). v.name) w.1.passes; params = ap (λ (v : PassesView). v.params) w.1.passes; actor = ap (λ (v : PassesView). v.actor) w.1.passes }
-keeps_at p q (Timer i) (of.Cpu e) pos w = absurd w
-keeps_at p q (Timer i) (of.Own e) pos w = absurd w
-keeps_at p q (Cpu cpu) (of.Timer e) pos w = absurd w
-keeps_at p q (Cpu cpu) (of.Cpu e) pos w = record { name = ap (λ (v : PassesView). v.name) w.1.passes; params = ap (λ (v : PassesView). v.params) w.1.passes; actor = ap (λ (v : PassesView). v.actor) w.1.passes }
-keeps_at p q (Cpu cpu) (of.Own e) pos w = absurd w
-keeps_at p q (Actor a) entry pos w = absurd w
-
-pub writes_keep : (p q : PassesView) (notes : List Note) → Writes p notes q → AreSame p q
-writes_keep p q [] w = record { name = ap (λ (v : PassesView). v.name) w; params = ap (λ (v : PassesView). v.params) w; actor = ap (λ (v : PassesView). v.actor) w }
-writes_keep p q (n ∷ ns) w =
-    let first = keeps_at p w.0 n.place n.entry n.pos w.1 in
-    let rest = writes_keep w.0 q ns w.2 in
-    record { name = rest.name ∙ first.name; params = rest.params ∙ first.params; actor = rest.actor ∙ first.actor }
+use Rattle.co_desk.specs.Params.{spec_at}
+use Rattle.co_desk.specs.declared.params.Params.{Params}
+use Rattle.co_desk.specs.declared.finished.Finished.{Finished}
+use Rattle.co_desk.specs.declared.told.Inserted.{Inserted}
+use Rattle.co_desk.specs.declared.told.Told.{Told}
+use Rattle.co_desk.specs.Call.{IsAnswer, IsCalled, Target, call_entry, landing, noted_insert, removal_told, told_notes}
+use Rattle.co_desk.specs.Ends.{IsFinished, finished_notes}
+use Rattle.co_desk.specs.Moving.{IsDone, IsOfService, MovingView}
+use Rattle.co_desk.specs.Outcomes.{noted_entry, queue_entry_by}
+use Rattle.co_desk.specs.Services.{AreSame, IsEnded, IsEndedBut, IsLanded, run_entry}
+use Rattle.co_desk.specs.Views.{PassesView, seen_of}
+use Rattle.co_desk.specs.Writes.{WritesAt, Writes}
+use Rattle.co_desk.proofs.Noting.{writes-append}
+use Rattle.co_desk.proofs.SameActor.{writes_keep}
 
 -- an entry of a CPU's journal leaves what was seen of the callouts
 cpu_apart : (p q : PassesView) (cpu : ℕ) (e : QEntry) (pos i : ℕ) → WritesAt p (Cpu cpu) (of.Cpu e) pos q → seen_of q i ≡ seen_of p i

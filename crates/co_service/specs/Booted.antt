@@ -8,16 +8,16 @@ use Rattle.co_object.specs.declared.note.Entry.{Entry}
 use Rattle.co_object.specs.declared.note.QEntry.{QEntry}
 use Rattle.co_object.specs.declared.spec.Spec.{Spec}
 use Rattle.co_wheel.specs.Cpu.{Cpu, first_wheel}
-use Rattle.co_service.specs.declared.params.Params.{Params}
-use Rattle.co_service.specs.declared.line.Line.{Line}
-use Rattle.co_service.specs.declared.line.Line.TheVariants.{Opening, Made}
-use Rattle.co_service.specs.Name.{ServiceName}
-use Rattle.co_service.specs.Params.{actor_count}
-use Rattle.co_service.specs.Lines.{made, openings, opening_of, AllCarry}
-use Rattle.co_service.specs.Seats.{SeatsView, fresh_seats}
-use Rattle.co_service.specs.Views.{PassesView, IsKeeperOf}
-use Rattle.co_service.specs.Books.{IsHistoryKept, kept_of}
-use Rattle.co_service.specs.Stories.{IsJournal}
+use Rattle.co_desk.specs.declared.params.Params.{Params}
+use Rattle.co_desk.specs.declared.line.Line.{Line}
+use Rattle.co_desk.specs.declared.line.Line.TheVariants.{Opening, Made}
+use Rattle.co_desk.specs.Name.{ServiceName}
+use Rattle.co_desk.specs.Params.{actor_count}
+use Rattle.co_desk.specs.Lines.{made, openings, opening_of, AllCarry}
+use Rattle.co_desk.specs.Seats.{SeatsView, fresh_seats}
+use Rattle.co_desk.specs.Views.{PassesView, IsKeeperOf}
+use Rattle.co_desk.specs.Books.{IsHistoryKept, kept_of}
+use Rattle.co_desk.specs.Stories.{IsJournal}
 
 module _ {E : Type 0} where
   -- the first n actors have made their opening entries, and nothing else was made

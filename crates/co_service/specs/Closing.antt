@@ -7,15 +7,14 @@ use Rattle.co_life.specs.Views.{KeeperView}
 use Rattle.co_object.specs.declared.note.Entry.{Entry}
 use Rattle.co_object.specs.declared.note.QEntry.{QEntry}
 use Rattle.co_sbt.specs.RoomView.{RoomView}
-use Rattle.co_service.specs.Books.{BooksView}
-use Rattle.co_service.specs.declared.params.Params.{Params}
-use Rattle.co_service.specs.declared.line.Line.{Line}
-use Rattle.co_service.specs.Name.{ServiceName}
-use Rattle.co_service.specs.Params.{actor_count}
-use Rattle.co_service.specs.Kinds.{KindOf, cpu_kind, seen, timer_kind}
-use Rattle.co_service.specs.Lines.{made, opening_of}
-use Rattle.co_service.specs.Seats.{IsShown}
-use Rattle.co_service.specs.Views.{PassesView, AreOf}
+use Rattle.co_desk.specs.Books.{BooksView}
+use Rattle.co_desk.specs.declared.params.Params.{Params}
+use Rattle.co_desk.specs.declared.line.Line.{Line}
+use Rattle.co_desk.specs.Name.{ServiceName}
+use Rattle.co_desk.specs.Params.{actor_count}
+use Rattle.co_desk.specs.Kinds.{KindOf, cpu_kind, seen, timer_kind}
+use Rattle.co_desk.specs.Seats.{IsShown}
+use Rattle.co_desk.specs.Views.{PassesView, AreOf}
 
 -- a service's name, and the final history of each callout and each CPU
 pub record ClosingView : Type 0 where
@@ -24,12 +23,6 @@ pub record ClosingView : Type 0 where
   pub cpus : List (List QEntry)
 
 module _ {E : Type 0} (kind : KindOf E) where
-  -- an actor's pass of place i has met the keeper
-  pub record IsMet (i : ℕ) (k : KeeperView (Line E)) (q : PassesView) : Type 0 where
-    pub shown : IsShown kind.made_by q.actor (made k.history) (seen kind q i)
-    pub opened : opening_of k.history ≡ Some (q.params, i)
-    pub actors : All (λ e. kind.made_by e < k.actors) (made k.history)
-
   -- a final history is legal, each entry is of one of the service's actors
   pub record IsFinal (p : Params) (i : ℕ) (H : List E) : Type 0 where
     pub legal : kind.Legal p i H
@@ -54,13 +47,7 @@ module _ {E : Type 0} (kind : KindOf E) where
     pub final : (i : ℕ) (H : List E) → slice_get Hs i ≡ Some H → IsFinal p i H
     pub shown : (i : ℕ) (H : List E) → slice_get Hs i ≡ Some H → All (Shows H i) all
 
--- an actor's passes were compared with a keeper's history: nothing has changed, and this is known
-pub record IsMeeting {E : Type 0} (k k' : KeeperView E) (q q' : PassesView) (Met : Type 0) : Type 0 where
-  pub keeper : k' ≡ k
-  pub same : q' ≡ q
-  pub met : Met
-
--- the same of all these passes
+-- all these passes were compared with a keeper's history: nothing has changed, and this is known of each
 pub record AreMeeting {E : Type 0} (k k' : KeeperView E) (all all' : List PassesView) (Met : PassesView → Type 0) : Type 0 where
   pub keeper : k' ≡ k
   pub passes : all' ≡ all

@@ -3,10 +3,10 @@ use Rattle.std.specs.Prelude.{◌≡◌, ℕ, ◌+◌, ◌<◌, ◌≤◌, List,
 use Rattle.std.specs.declared.option.Option.TheVariants.{Some}
 use Rattle.std.specs.List.{All}
 use Rattle.co_sbt.specs.RoomView.{RoomView}
-use Rattle.co_service.specs.declared.params.Params.{Params}
+use Rattle.co_desk.specs.declared.params.Params.{Params}
 use Rattle.co_service.specs.Booted.{booted}
-use Rattle.co_service.specs.Name.{ServiceName}
-use Rattle.co_service.specs.Views.{AreOf, PassesView}
+use Rattle.co_desk.specs.Name.{ServiceName}
+use Rattle.co_desk.specs.Views.{AreOf, PassesView}
 
 -- the passes of the first n actors, which have seen nothing
 pub record AreNew (name : ServiceName) (p : Params) (n : ℕ) (all : List PassesView) : Type 0 where

@@ -1,20 +1,17 @@
 -- What a caller of the running service has before a section, what the section answers, and what the caller has then.
-use Rattle.std.specs.Prelude.{◌≡◌, ℕ, ◌<◌, Bool, true, false, IfNone, IfSome}
+use Rattle.std.specs.Prelude.{◌≡◌, ℕ, ◌<◌, Bool, false}
 use Rattle.std.specs.declared.option.Option.{Option}
 use Rattle.std.specs.declared.option.Option.TheVariants.{None}
 use Rattle.co_object.specs.Journal.{scanner}
 use Rattle.co_object.specs.Queue.{Due}
-use Rattle.co_service.specs.declared.finished.Finished.{Finished}
-use Rattle.co_service.specs.declared.outs.Taken.{Taken}
-use Rattle.co_service.specs.declared.params.Params.{Params}
-use Rattle.co_service.specs.declared.popped.Popped.{Popped}
-use Rattle.co_service.specs.Ends.{IsFinished}
-use Rattle.co_service.specs.Moving.{MovingView}
-use Rattle.co_service.specs.Name.{ServiceName}
-use Rattle.co_service.specs.Params.{actors_of}
-use Rattle.co_service.specs.Services.{FollowsScans, HasNext, IsFree, IsServing, IsTaken, taken_of}
-use Rattle.co_service.specs.Serving.{Runs, ServiceStage, Waits}
-use Rattle.co_service.specs.Views.{AreOf, PassesView, journal_seen}
+use Rattle.co_desk.specs.declared.outs.Taken.{Taken}
+use Rattle.co_desk.specs.declared.params.Params.{Params}
+use Rattle.co_desk.specs.Moving.{MovingView}
+use Rattle.co_desk.specs.Name.{ServiceName}
+use Rattle.co_desk.specs.Params.{actors_of}
+use Rattle.co_desk.specs.Services.{HasNext, IsFree, IsServing}
+use Rattle.co_desk.specs.Serving.{Runs, ServiceStage, Waits}
+use Rattle.co_desk.specs.Views.{AreOf, PassesView}
 
 -- after a call or a scan the passes are still of the service and of their actor, and it has in service what it had
 pub record Keeps (service : ServiceName) (params : Params) (p q : PassesView) : Type 0 where
@@ -53,21 +50,6 @@ pub record MayStart (service : ServiceName) (params : Params) (direct : Bool) (p
   pub passes : AreOf service params p
   pub free : IsFree direct p cpu
 
--- a desk was asked: where it doesn't answer nothing has changed, and else this holds of the answer
-pub record IsAsked {A : Type 0} (p : PassesView) (out : Option A) (told : A → Type 0) (q : PassesView) : Type 0 where
-  pub none : IfNone out (q ≡ p)
-  pub some : IfSome out told
-
--- what came due first was taken into service, after so many Scans
-pub record IsStarted (direct : Bool) (p : PassesView) (cpu act scans : ℕ) (out : Popped) (q : PassesView) : Type 0 where
-  pub taken : IsTaken direct p cpu act (taken_of direct p.actor act cpu out) q
-  pub follows : FollowsScans scans (journal_seen q cpu)
-
--- a desk was asked for the end of a service: where it doesn't end it nothing has changed
-pub record IsEndTried (direct : Bool) (p : PassesView) (cpu act : ℕ) (ended : Bool) (told : Finished) (gone : Option MovingView) (q : PassesView) : Type 0 where
-  pub none : ended ≡ false → (q ≡ p) × (gone ≡ None)
-  pub some : ended ≡ true → (d : Due) → IsServing direct p cpu d (Runs d.n) → IsFinished direct p cpu act d told gone q
-
 -- the end of a service may be tried at a desk: the passes' actor has an arming in service, which is to end
 pub record MayTryEnd (service : ServiceName) (params : Params) (direct : Bool) (p : PassesView) (cpu : ℕ) (gone : Option MovingView) : Type 0 where
   pub cpu_is : cpu < params.cpus
@@ -85,13 +67,3 @@ pub record MayScan (service : ServiceName) (params : Params) (p : PassesView) (c
 pub record MayLand (service : ServiceName) (params : Params) (p : PassesView) (moving : MovingView) : Type 0 where
   pub passes : AreOf service params p
   pub params_are : moving.params ≡ p.params
-
--- a desk was asked, and this is why where it doesn't answer
-pub record Answers {A : Type 0} (p : PassesView) (out : Option A) (Why : Type 0) (told : A → Type 0) (q : PassesView) : Type 0 where
-  pub asked : IsAsked p out told q
-  pub why : IfNone out Why
-
--- the same of the end of a service
-pub record AnswersEnd (direct : Bool) (p : PassesView) (cpu act : ℕ) (ended : Bool) (Why : Type 0) (told : Finished) (gone : Option MovingView) (q : PassesView) : Type 0 where
-  pub tried : IsEndTried direct p cpu act ended told gone q
-  pub why : ended ≡ false → Why

@@ -1,11 +1,10 @@
 //! The places of a service, made one after the other.
-ghost use Rattle.std.specs.Prelude.{◌≡◌, ◌≤◌, ◌+◌, ◌<◌, ◌^◌, ℕ, [], ◌∷◌, ◌++◌, IfOk, OnErr, OnOk, vec_len};
+ghost use Rattle.std.specs.Prelude.{◌≡◌, ◌≤◌, ◌+◌, ◌<◌, ◌^◌, ℕ, [], ◌∷◌, ◌++◌, IfOk, OnOk, vec_len};
 ghost use Rattle.co_life.specs.Views.{AreFresh};
 ghost use Rattle.co_service.specs.Booted.{ArePlaces, AreWaiting, IsOpened, IsPlaced, IsSigned, MaySign, seats_at as seats_in};
-ghost use Rattle.co_service.specs.Seats.{fresh_seats};
+ghost use Rattle.co_desk.specs.Seats.{fresh_seats};
 
-use crate::seats::{Lives, Seats};
-use crate::{Line, Params};
+use co_desk::{Line, Lives, Params, Seats, push};
 use co_life::{Keeper, Life, Pass, Shown, Story};
 use co_sbt::NoMemory;
 use std::alloc::Global;
@@ -75,31 +74,6 @@ fn empty_seats<E: Drop, S: Story<Entry = Line<E>>>(
         push(&mut all, seats)?;
     }
     Ok(all)
-}
-
-/// How many bytes are fetched together, two cache lines: so many items take at least as much, since each has a byte or more.
-const LINES: usize = 128;
-
-/// A list with no item yet and room for `count` and `LINES` more, whose items one actor or one desk stores at each call. The room behind
-/// the items is at least two cache lines, so that a thread at the next CPU doesn't wait for what is stored here.
-pub(crate) fn apart<T: Drop>(alloc: Global, count: usize) -> Result<Vec<T>, NoMemory>
-    ensures { IfOk result (λ items. items.items ≡ []) }
-{
-    match Vec::with_capacity(alloc, count.saturating_add(LINES)) {
-        Ok(items) => Ok(items),
-        Err(_) => Err(NoMemory {}),
-    }
-}
-
-/// Appends an item. `NoMemory` where there is no room for it: the list stays as it was.
-pub(crate) fn push<T: Drop>(items: &mut Vec<T>, item: T) -> Result<(), NoMemory>
-    ensures pushed { OnOk result (items.new.items ≡ items.old.items ++ item ∷ []) }
-    ensures kept { OnErr result (items.new.items ≡ items.old.items) }
-{
-    match items.push(item) {
-        Ok(()) => Ok(()),
-        Err(_) => Err(NoMemory {}),
-    }
 }
 
 /// The places of a kind as they are made: their lives, their keepers, and each actor's passes of them, which have seen

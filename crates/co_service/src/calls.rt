@@ -3,15 +3,14 @@ ghost use Rattle.std.specs.Prelude.{◌≡◌, ◌<◌, length, true};
 ghost use Rattle.std.specs.Option.{option_copied};
 ghost use Rattle.co_lock.specs.Covers.{covers};
 ghost use Rattle.co_object.specs.declared.op.CallOp.{CallOp};
-ghost use Rattle.co_service.specs.Call.{IsCalled, NamesCpu, notes_in, told_notes};
+ghost use Rattle.co_desk.specs.Call.{IsCalled, NamesCpu, notes_in, told_notes};
 ghost use Rattle.co_service.specs.Kept.{Keeps};
-ghost use Rattle.co_service.specs.Moving.{IsDone};
-ghost use Rattle.co_service.specs.Params.{spec_at};
-ghost use Rattle.co_service.specs.Views.{AreOf, PassesView};
+ghost use Rattle.co_desk.specs.Moving.{IsDone};
+ghost use Rattle.co_desk.specs.Params.{spec_at};
+ghost use Rattle.co_desk.specs.Views.{AreOf, PassesView};
 
-use crate::moving::Moving;
-use crate::told::Told;
-use crate::{Made, Name, Passes, Service};
+use crate::Service;
+use co_desk::{Made, Moving, Name, Passes, Told};
 use co_lock::Hold;
 use co_object::CallOp;
 use std::sync::Wait;
@@ -56,7 +55,7 @@ impl<N: Name> Service<N> {
         ensures kept { (p : PassesView) (op : CallOp) → AreOf N.name self.now p → IsDone p act i op told.old leaves passes.old → Keeps N.name self.now p passes.new }
     {
         if let Some(moving) = leaves {
-            told.insertion = Some(self.land(rt, passes, act, moving));
+            told.tell_insert(self.land(rt, passes, act, moving));
         }
     }
 

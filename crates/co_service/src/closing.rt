@@ -2,16 +2,13 @@
 ghost use Rattle.std.specs.Prelude.{◌≡◌, ◌<◌, ◌≤◌, ◌^◌, ℕ, [], IfOk, length, map, slice_get};
 ghost use Rattle.std.specs.List.{All};
 ghost use Rattle.std.specs.declared.option.Option.TheVariants.{Some};
-ghost use Rattle.co_service.specs.declared.params.Params.{Params};
-ghost use Rattle.co_service.specs.Closing.{AreMeeting, EndEach, Ends, HasEnded, HaveEnded, IsClosing, IsMet, MayEndAll, of_actor};
-ghost use Rattle.co_service.specs.Lines.{made, opening_of};
-ghost use Rattle.co_service.specs.Views.{IsKeeperOf};
+ghost use Rattle.co_desk.specs.declared.params.Params.{Params};
+ghost use Rattle.co_service.specs.Closing.{AreMeeting, EndEach, Ends, HasEnded, HaveEnded, IsClosing, MayEndAll, of_actor};
+ghost use Rattle.co_desk.specs.Meeting.{IsMet};
+ghost use Rattle.co_desk.specs.Lines.{made, opening_of};
+ghost use Rattle.co_desk.specs.Views.{IsKeeperOf};
 
-use crate::books::Books;
-use crate::kinds::Kind;
-use crate::places::Places;
-use crate::seats::Lives;
-use crate::{CpuStory, Name, Passes, TimerStory};
+use co_desk::{Books, CpuStory, Kind, Lives, Name, Passes, Places, TimerStory};
 use co_life::{Closed, Keeper, Life, Shown};
 use co_sbt::{NoMemory, Room, Seq};
 use std::alloc::Global;
@@ -74,7 +71,7 @@ pub struct Closing {
 impl Model for Closing {
     ghost use Rattle.std.specs.Prelude.{map};
     ghost use Rattle.co_service.specs.Closing.{ClosingView};
-    ghost use Rattle.co_service.specs.Lines.{made};
+    ghost use Rattle.co_desk.specs.Lines.{made};
 
     ghost Value = { ClosingView };
 

@@ -1,26 +1,21 @@
 //! What a CPU has before the locks.
 ghost use Rattle.std.specs.Prelude.{◌≡◌, ◌+◌, ◌<◌, [], ◌∷◌, ◌++◌, IfOk, OnOk, length, map, replicate};
 ghost use Rattle.std.specs.declared.option.Option.TheVariants.{Some, None};
-ghost use Rattle.co_service.specs.Books.{books_of};
+ghost use Rattle.co_desk.specs.Books.{books_of};
 ghost use Rattle.co_service.specs.Booted.{AreAllBegun, AreFirstKeepers, IsDeskParts, IsNewKeeper};
 ghost use Rattle.co_service.specs.Fresh.{AreDeskParts};
-ghost use Rattle.co_service.specs.Params.{AreParams, directs as directs_of};
-ghost use Rattle.co_service.specs.Stories.{IsHistory, IsJournal};
+ghost use Rattle.co_desk.specs.Params.{AreParams, directs as directs_of};
+ghost use Rattle.co_desk.specs.Stories.{IsHistory, IsJournal};
 ghost use Rattle.co_service.specs.declared.desk_parts.DeskParts.{DeskParts as PartsOf};
 
-use crate::books::Books;
-use crate::boot::{apart, push};
-use crate::desk::Desk;
-use crate::places::Places;
 use crate::wheels::first_wheel;
-use crate::{CpuStory, Name, Params, TimerStory};
 use co_bucket::WheelQueue;
-use co_life::{Keeper, Shown};
+use co_desk::{CpuStory, Desk, Name, Params, Places, TimerStory, apart, push};
+use co_life::Keeper;
 use co_object::Spec;
 use co_sbt::NoMemory;
 use co_wheel::Wheel;
 use std::alloc::Global;
-use std::marker::PhantomData;
 use std::mem;
 
 /// What a CPU has before the locks: its wheel, the keepers of the callouts that begin there, and that of its journal.
@@ -31,24 +26,13 @@ pub(crate) struct DeskParts {
     pub(crate) journal: Keeper<CpuStory>,
 }
 
-impl<N: Name> Desk<N> {
-    /// A CPU's desk before the first call.
-    pub(crate) fn new(cpu: u32, params: &Params, parts: DeskParts) -> Desk<N>
-        requires { IsDeskParts N.name params.now cpu parts.wheel parts.keepers.items parts.journal }
-        ensures { result ≡ books_of params.now cpu parts.keepers.items parts.journal }
+impl DeskParts {
+    /// The desk of a CPU before the first call.
+    pub(crate) fn into_desk<N: Name>(self, cpu: u32, params: &Params) -> Desk<N>
+        requires { IsDeskParts N.name params.now cpu self.wheel self.keepers.items self.journal }
+        ensures { result ≡ books_of params.now cpu self.keepers.items self.journal }
     {
-        let books = Books {
-            cpu,
-            params: Shown::of(params),
-            keepers: parts.keepers,
-            journal: parts.journal,
-            of: PhantomData,
-        };
-        Desk {
-            wheel: parts.wheel,
-            books,
-            scans: 0,
-        }
+        Desk::new(cpu, params, self.wheel, self.keepers, self.journal)
     }
 }
 

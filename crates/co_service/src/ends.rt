@@ -2,17 +2,16 @@
 ghost use Rattle.std.specs.Prelude.{◌<◌, ℕ, Bool, false, true};
 ghost use Rattle.std.specs.declared.option.Option.TheVariants.{None};
 ghost use Rattle.co_object.specs.Queue.{Due};
-ghost use Rattle.co_service.specs.Call.{notes_in};
-ghost use Rattle.co_service.specs.Ends.{IsFinished, finished_notes};
-ghost use Rattle.co_service.specs.Moving.{IsOfService};
-ghost use Rattle.co_service.specs.Services.{IsEnded, IsServing};
-ghost use Rattle.co_service.specs.Serving.{Runs};
-ghost use Rattle.co_service.specs.Views.{AreOf, PassesView};
+ghost use Rattle.co_desk.specs.Call.{notes_in};
+ghost use Rattle.co_desk.specs.Ends.{IsFinished, finished_notes};
+ghost use Rattle.co_desk.specs.Moving.{IsOfService};
+ghost use Rattle.co_desk.specs.Services.{IsEnded, IsServing};
+ghost use Rattle.co_desk.specs.Serving.{Runs};
+ghost use Rattle.co_desk.specs.Views.{AreOf, PassesView};
 ghost use Rattle.co_service.specs.Kept.{KeepsFree, MayTryEnd};
 
-use crate::finished::Finished;
-use crate::moving::Moving;
-use crate::{Made, Name, Passes, Service};
+use crate::Service;
+use co_desk::{Finished, Made, Moving, Name, Passes};
 use std::sync::Wait;
 
 impl<N: Name> Service<N> {
@@ -60,7 +59,7 @@ impl<N: Name> Service<N> {
         ensures { (direct : Bool) (p : PassesView) (cpu : ℕ) (d : Due) → IsFinished direct p cpu act d told.old leaves passes.old → IsEnded direct p cpu act d told.new.out.reply (finished_notes p.actor act told.new) passes.new }
     {
         if let Some(moving) = leaves {
-            told.insertion = Some(self.land(rt, passes, act, moving));
+            told.tell_insert(self.land(rt, passes, act, moving));
         }
     }
 

@@ -2,14 +2,13 @@
 ghost use Rattle.std.specs.Prelude.{◌≡◌, ◌≤◌, IfOk, length};
 ghost use Rattle.co_service.specs.Booted.{AreBooted, AreSetUp};
 ghost use Rattle.co_service.specs.Fresh.{AreNamed, IsFreshlyMade};
-ghost use Rattle.co_service.specs.Params.{AreParams, actor_count};
-ghost use Rattle.co_service.specs.Stories.{IsHistory, IsJournal};
+ghost use Rattle.co_desk.specs.Params.{AreParams, actor_count};
+ghost use Rattle.co_desk.specs.Stories.{IsHistory, IsJournal};
 
 use crate::boot::{SetUp, make_places};
 use crate::desk_parts::{DeskParts, make_all_parts};
 use crate::joining::join_all;
-use crate::places::Places;
-use crate::{CpuStory, Params, Passes, TimerStory};
+use co_desk::{CpuStory, Params, Passes, Places, TimerStory};
 use co_object::Spec;
 use co_sbt::{NoMemory, Seq};
 use std::alloc::Global;

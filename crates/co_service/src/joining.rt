@@ -1,13 +1,10 @@
 //! Each actor's passes of all places of a service.
 ghost use Rattle.std.specs.Prelude.{◌≡◌, ◌<◌, IfOk};
 ghost use Rattle.co_service.specs.Booted.{AreBooted, AreLeft, AreSeatedAt, booted};
-ghost use Rattle.co_service.specs.Params.{actor_count};
+ghost use Rattle.co_desk.specs.Params.{actor_count};
 ghost use Rattle.co_service.specs.Fresh.{AreNamed};
 
-use crate::places::Places;
-use crate::seats::Seats;
-use crate::{CpuStory, Params, Passes, TimerStory};
-use co_life::Shown;
+use co_desk::{CpuStory, Params, Passes, Places, Seats, TimerStory};
 use co_sbt::{NoMemory, Seq};
 use std::alloc::Global;
 use std::mem;
@@ -26,13 +23,7 @@ fn join(
     requires named { AreNamed (record { timers = timers.name; cpus = cpus.name }) params.now }
     ensures { result ≡ booted (record { timers = timers.name; cpus = cpus.name }) params.now actor }
 {
-    Passes {
-        actor,
-        actors,
-        params: Shown::of(params),
-        timers,
-        cpus,
-    }
+    Passes::new(actor, actors, params, timers, cpus)
 }
 
 /// Each actor's passes, in the order of their numbers. They have seen nothing.

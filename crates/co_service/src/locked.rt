@@ -2,12 +2,9 @@
 ghost use Rattle.std.specs.Prelude.{◌≡◌, ◌<◌, ◌≤◌, ◌^◌, IfOk, vec_len};
 ghost use Rattle.co_service.specs.Fresh.{AreDeskParts};
 
-use crate::books::Books;
-use crate::boot::push;
 use crate::closing::Ending;
-use crate::desk::Desk;
 use crate::desk_parts::DeskParts;
-use crate::{Name, Params};
+use co_desk::{Books, Desk, Name, Params, push};
 use co_sbt::{NoMemory, Room};
 use std::alloc::Global;
 use std::marker::Model;
@@ -60,7 +57,7 @@ fn lock_all<N: Name>(
     let mut cpu = 0;
     for parts in all_parts {
         let locked = Locked {
-            desk: Mutex::new(Desk::new(cpu, params, parts)),
+            desk: Mutex::new(parts.into_desk(cpu, params)),
             changed: Condvar::new(),
             gap: [0; 16],
         };

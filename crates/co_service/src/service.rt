@@ -7,20 +7,18 @@ ghost use Rattle.co_lock.specs.Service.{hold_of};
 ghost use Rattle.co_service.specs.Booted.{AreBooted};
 ghost use Rattle.co_service.specs.Closing.{AreAll, AreEnded, AreEndedCpus, HasEach};
 ghost use Rattle.co_service.specs.Fresh.{AreNamed};
-ghost use Rattle.co_service.specs.Outcomes.{IsScan};
-ghost use Rattle.co_service.specs.Params.{AreParams, actors_of, spec_at};
-ghost use Rattle.co_service.specs.Services.{IsBegun, IsLanded, IsServing};
-ghost use Rattle.co_service.specs.Serving.{Waits};
-ghost use Rattle.co_service.specs.Views.{AreOf};
-ghost use Rattle.co_service.specs.Kept.{IsAsked, Keeps, KeepsBegun, MayLand, MayScan};
+ghost use Rattle.co_desk.specs.Outcomes.{IsScan};
+ghost use Rattle.co_desk.specs.Params.{AreParams, actors_of, spec_at};
+ghost use Rattle.co_desk.specs.Services.{IsBegun, IsLanded, IsServing};
+ghost use Rattle.co_desk.specs.Serving.{Waits};
+ghost use Rattle.co_desk.specs.Views.{AreOf};
+ghost use Rattle.co_desk.specs.Asked.{IsAsked};
+ghost use Rattle.co_service.specs.Kept.{Keeps, KeepsBegun, MayLand, MayScan};
 
+use crate::Fresh;
 use crate::closing::{Closing, Ending, check_each, end_all};
-use crate::desk::Desk;
 use crate::locked::{DeskHold, Inside, Locked, make_inside, open_desks};
-use crate::moving::Moving;
-use crate::places::Places;
-use crate::told::Inserted;
-use crate::{Fresh, Made, Name, Params, Passes, Scanned};
+use co_desk::{Desk, Inserted, Made, Moving, Name, Params, Passes, Places, Scanned};
 use co_life::Shown;
 use co_lock::Hold;
 use co_object::Spec;
@@ -46,7 +44,7 @@ pub struct Service<N: Name> {
 impl<N: Name> Model for Service<N> {
     ghost use Rattle.std.specs.Prelude.{vec_len};
     ghost use Rattle.co_service.specs.Fresh.{IsService};
-    ghost use Rattle.co_service.specs.declared.params.Params.{Params as ParamsOf};
+    ghost use Rattle.co_desk.specs.declared.params.Params.{Params as ParamsOf};
 
     ghost Value = { ParamsOf };
 

@@ -1,12 +1,12 @@
 //! The start of a service, of the CPU or of its interrupt.
 ghost use Rattle.std.specs.Prelude.{◌<◌, false, true};
-ghost use Rattle.co_service.specs.Services.{FollowsScans, IsFree, IsTaken, taken_of};
-ghost use Rattle.co_service.specs.Views.{AreOf, journal_seen};
-ghost use Rattle.co_service.specs.Kept.{IsStarted, KeepsTaken};
+ghost use Rattle.co_desk.specs.Services.{FollowsScans, IsFree, IsTaken, taken_of};
+ghost use Rattle.co_desk.specs.Views.{AreOf, journal_seen};
+ghost use Rattle.co_desk.specs.Asked.{IsStarted};
+ghost use Rattle.co_service.specs.Kept.{KeepsTaken};
 
-use crate::desk::Desk;
-use crate::popped::Popped;
-use crate::{Name, Passes, Service, Taken};
+use crate::Service;
+use co_desk::{Desk, Name, Passes, Popped, Taken};
 use std::sync::Wait;
 
 impl<N: Name> Service<N> {

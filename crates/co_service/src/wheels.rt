@@ -1,10 +1,10 @@
 //! The wheels of a service before the first call.
 ghost use Rattle.std.specs.Prelude.{◌≡◌, IfOk};
 ghost use Rattle.co_wheel.specs.Cpu.{first_wheel};
-ghost use Rattle.co_service.specs.Params.{AreParams, directs};
+ghost use Rattle.co_desk.specs.Params.{AreParams, directs};
 
-use crate::Params;
 use co_bucket::WheelQueue;
+use co_desk::Params;
 use co_sbt::NoMemory;
 use co_wheel::Wheel;
 use std::alloc::Global;

@@ -32,9 +32,9 @@ use Rattle.co_object.specs.Queue.{Queue, holds, without}
 use Rattle.co_object.specs.Stand.{off}
 use Rattle.co_object.proofs.CallGroups.{entry_of, removal, unarmed_group, armed_group}
 use Rattle.co_object.proofs.QueueChanges.{inserted}
-use Rattle.co_service.specs.Call.{call_entry}
-use Rattle.co_service.specs.Params.{spec_at}
-use Rattle.co_service.specs.Views.{PassesView, seen_of, journal_seen}
+use Rattle.co_desk.specs.Call.{call_entry}
+use Rattle.co_desk.specs.Params.{spec_at}
+use Rattle.co_desk.specs.Views.{PassesView, seen_of, journal_seen}
 use Rattle.co_single.specs.Acts.{TimeStays, IsArmed, IsDisarmed}
 use Rattle.co_single.specs.Alarms.{alarm_of, callout_seen, queue_in, gos, scan_times}
 use Rattle.co_single.specs.Rest.{IsCalm, ArmingStands, nowhere, HasNoService}

@@ -27,7 +27,7 @@ use Rattle.co_object.specs.Group.{Placed, group, off_of}
 use Rattle.co_object.specs.Stand.{off, is_idle, stand_of, listed_cpu}
 use Rattle.co_object.proofs.CallGroups.{entry_of, removal, insertion, unarmed_group, armed_group}
 use Rattle.co_object.proofs.Numbers.{same_number}
-use Rattle.co_service.specs.Views.{PassesView, seen_of, journal_seen}
+use Rattle.co_desk.specs.Views.{PassesView, seen_of, journal_seen}
 use Rattle.co_single.specs.Rest.{IsCalm, IsPlainArming}
 use Rattle.co_single.specs.Seen.{with_entry, with_entries}
 

@@ -24,11 +24,11 @@ use Rattle.co_object.specs.Queue.{Due, Queue}
 use Rattle.co_object.specs.Serve.{pick_armed, is_due, go, end_run, ended, next_of}
 use Rattle.co_object.specs.Stand.{is_idle}
 use Rattle.co_object.proofs.Numbers.{same_itself}
-use Rattle.co_service.specs.Call.{Target, landing}
-use Rattle.co_service.specs.Outcomes.{queue_entry_by}
-use Rattle.co_service.specs.Params.{no_spec}
-use Rattle.co_service.specs.Services.{run_entry, next_target}
-use Rattle.co_service.specs.Views.{PassesView, seen_of, journal_seen}
+use Rattle.co_desk.specs.Call.{Target, landing}
+use Rattle.co_desk.specs.Outcomes.{queue_entry_by}
+use Rattle.co_desk.specs.Params.{no_spec}
+use Rattle.co_desk.specs.Services.{run_entry, next_target}
+use Rattle.co_desk.specs.Views.{PassesView, seen_of, journal_seen}
 use Rattle.co_single.specs.Acts.{IsFired, NothingWaits}
 use Rattle.co_single.specs.Alarms.{alarm_of, arg_in, callout_seen, queue_in, gos, scan_times}
 use Rattle.co_single.specs.Rest.{HasNoService, IsCalm, ArmingStands, nowhere, listed, due, come}

@@ -13,9 +13,9 @@ use Rattle.co_object.specs.History.{state, next, May}
 use Rattle.co_object.specs.Journal as journal
 use Rattle.co_object.specs.Machine.{IsLegalFrom}
 use Rattle.co_object.specs.Queue.{Queue, empty_queue}
-use Rattle.co_service.specs.Params.{actors_of, spec_at, no_spec, directs}
-use Rattle.co_service.specs.Stories.{IsHistory, IsJournal}
-use Rattle.co_service.specs.Views.{PassesView, seen_of, journal_seen}
+use Rattle.co_desk.specs.Params.{actors_of, spec_at, no_spec, directs}
+use Rattle.co_desk.specs.Stories.{IsHistory, IsJournal}
+use Rattle.co_desk.specs.Views.{PassesView, seen_of, journal_seen}
 use Rattle.co_single.specs.Acts.{OthersStay}
 use Rattle.co_single.specs.Alarms.{alarm_of, callout_seen, queue_in, gos, scan_times, scanned_before}
 use Rattle.co_single.specs.Seen.{AreSingle}

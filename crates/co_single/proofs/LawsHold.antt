@@ -5,8 +5,8 @@ use Rattle.std.proofs.lemmas.List.{get_or_past}
 use Rattle.co_object.specs.declared.note.Entry.{Entry}
 use Rattle.co_object.specs.History.{state}
 use Rattle.co_object.proofs.Numbers.{same_itself}
-use Rattle.co_service.specs.Params.{no_spec}
-use Rattle.co_service.specs.Views.{PassesView}
+use Rattle.co_desk.specs.Params.{no_spec}
+use Rattle.co_desk.specs.Views.{PassesView}
 use Rattle.co_single.specs.Acts.{IsFired}
 use Rattle.co_single.specs.Alarms.{alarm_of, all_gos, fired_at, gos, times_in, waiting_of}
 use Rattle.co_single.specs.Laws as law

@@ -12,9 +12,9 @@ use Rattle.co_object.specs.declared.reply.Reply.{Reply}
 use Rattle.co_object.specs.declared.state.State.{State}
 use Rattle.co_object.specs.Group.{Placed}
 use Rattle.co_object.proofs.CallGroups.{removal}
-use Rattle.co_service.specs.Call.{Target, landing}
-use Rattle.co_service.specs.Services.{next_target}
-use Rattle.co_service.specs.Views.{PassesView}
+use Rattle.co_desk.specs.Call.{Target, landing}
+use Rattle.co_desk.specs.Services.{next_target}
+use Rattle.co_desk.specs.Views.{PassesView}
 use Rattle.co_single.specs.Seen.{with_entry, with_entries, taken_entries, ended_entries, scan_entries, none_entries, AddsEntries, IsOfAct}
 use Rattle.co_single.proofs.Calls.{with-append}
 

@@ -8,12 +8,12 @@ use Rattle.co_object.specs.Journal.{queue}
 use Rattle.co_object.specs.Queue.{Queue, empty_queue}
 use Rattle.co_service.specs.Booted.{booted}
 use Rattle.co_service.specs.Fresh.{AreNamed}
-use Rattle.co_service.specs.Name.{ServiceName}
-use Rattle.co_service.specs.declared.params.Params.{Params}
-use Rattle.co_service.specs.Params.{directs, no_spec}
-use Rattle.co_service.specs.Services.{IsFree}
-use Rattle.co_service.specs.Stories.{IsHistory, IsJournal}
-use Rattle.co_service.specs.Views.{PassesView, seen_of, journal_seen}
+use Rattle.co_desk.specs.Name.{ServiceName}
+use Rattle.co_desk.specs.declared.params.Params.{Params}
+use Rattle.co_desk.specs.Params.{directs, no_spec}
+use Rattle.co_desk.specs.Services.{IsFree}
+use Rattle.co_desk.specs.Stories.{IsHistory, IsJournal}
+use Rattle.co_desk.specs.Views.{PassesView, seen_of, journal_seen}
 use Rattle.co_service.proofs.Lasts.{booted_free}
 use Rattle.co_single.specs.Acts.{IsNew}
 use Rattle.co_single.specs.Alarms.{alarm_of, callout_seen, queue_in, gos, scan_times}

@@ -9,9 +9,9 @@ use Rattle.co_object.specs.History.{state}
 use Rattle.co_object.specs.Queue.{Due, Queue}
 use Rattle.co_object.specs.Scan.{due_by, as_due, is_direct, scanned}
 use Rattle.co_object.proofs.EntriesKept.{max_left}
-use Rattle.co_service.specs.Outcomes.{queue_entry_by}
-use Rattle.co_service.specs.Params.{no_spec, directs}
-use Rattle.co_service.specs.Views.{PassesView, journal_seen}
+use Rattle.co_desk.specs.Outcomes.{queue_entry_by}
+use Rattle.co_desk.specs.Params.{no_spec, directs}
+use Rattle.co_desk.specs.Views.{PassesView, journal_seen}
 use Rattle.co_single.specs.Acts.{CalloutsStay, IsScanned}
 use Rattle.co_single.specs.Alarms.{alarm_of, alarm_at, callout_seen, queue_in, due_once, gos, scan_times, waiting_of}
 use Rattle.co_single.specs.Rest.{HasNoService, IsCalm, ArmingStands, come}

@@ -1,7 +1,7 @@
 -- What each call leaves.
 use Rattle.std.specs.Prelude.{◌≡◌, ◌≢◌, ℕ, ◌+◌, ◌<◌, [], ◌∷◌, ◌++◌, length, max}
 use Rattle.std.specs.declared.option.Option.TheVariants.{Some, None}
-use Rattle.co_service.specs.Views.{PassesView}
+use Rattle.co_desk.specs.Views.{PassesView}
 use Rattle.co_single.specs.Alarms.{Alarm, all_gos, callout_count, alarm_at, made_at, fired_at, scan_times_of, last_scan, waiting_of, but, times_in, due_once}
 
 -- all but callout i stays

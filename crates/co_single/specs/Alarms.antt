@@ -16,8 +16,8 @@ use Rattle.co_object.specs.Entries.{is_go}
 use Rattle.co_object.specs.History.{state}
 use Rattle.co_object.specs.Journal.{queue}
 use Rattle.co_object.specs.Queue.{Queue}
-use Rattle.co_service.specs.Params.{directs, no_spec}
-use Rattle.co_service.specs.Views.{PassesView, seen_of, journal_seen}
+use Rattle.co_desk.specs.Params.{directs, no_spec}
+use Rattle.co_desk.specs.Views.{PassesView, seen_of, journal_seen}
 
 -- an arming that stands
 pub record Alarm : Type 0 where

@@ -1,7 +1,7 @@
 -- Laws of the calls.
 use Rattle.std.specs.Prelude.{◌≡◌, ◌≤◌, ℕ, ◌+◌, List, [], ◌∷◌, length}
 use Rattle.std.specs.declared.option.Option.TheVariants.{None}
-use Rattle.co_service.specs.Views.{PassesView}
+use Rattle.co_desk.specs.Views.{PassesView}
 use Rattle.co_single.specs.Acts.{CalloutsStay, IsFired, IsScanned}
 use Rattle.co_single.specs.Alarms.{alarm_at, all_gos, last_scan, callout_count, due_once, fired_at, waiting_of}
 

@@ -10,10 +10,10 @@ use Rattle.co_object.specs.Queue.{Waiting, Due, Queue}
 use Rattle.co_sbt.specs.RoomView.{RoomView}
 use Rattle.co_service.specs.Fresh.{FreshView, AreNamed}
 use Rattle.co_service.specs.Booted.{booted}
-use Rattle.co_service.specs.Name.{ServiceName}
-use Rattle.co_service.specs.Services.{IsFree}
-use Rattle.co_service.specs.Views.{PassesView, AreOf}
-use Rattle.co_service.specs.declared.params.Params.{Params}
+use Rattle.co_desk.specs.Name.{ServiceName}
+use Rattle.co_desk.specs.Services.{IsFree}
+use Rattle.co_desk.specs.Views.{PassesView, AreOf}
+use Rattle.co_desk.specs.declared.params.Params.{Params}
 use Rattle.co_single.specs.Alarms.{callout_seen, queue_in}
 use Rattle.co_single.specs.Seen.{single_params, AreSingle}
 

@@ -13,13 +13,13 @@ use Rattle.co_object.specs.declared.queue.QOp.TheVariants.{Scan, Pop, Free}
 use Rattle.co_object.specs.declared.queue.QReply.TheVariants.{Count, Got, Freed, Empty}
 use Rattle.co_object.specs.Group.{Placed}
 use Rattle.co_object.specs.Lists.{actor_of, act_of}
-use Rattle.co_service.specs.Call.{landing}
-use Rattle.co_service.specs.Outcomes.{queue_entry_by}
-use Rattle.co_service.specs.Services.{run_entry, next_target}
-use Rattle.co_service.specs.declared.params.Params.{Params}
-use Rattle.co_service.specs.Params.{no_spec}
-use Rattle.co_service.specs.Stories.{IsHistory, IsJournal}
-use Rattle.co_service.specs.Views.{PassesView, seen_of, journal_seen}
+use Rattle.co_desk.specs.Call.{landing}
+use Rattle.co_desk.specs.Outcomes.{queue_entry_by}
+use Rattle.co_desk.specs.Services.{run_entry, next_target}
+use Rattle.co_desk.specs.declared.params.Params.{Params}
+use Rattle.co_desk.specs.Params.{no_spec}
+use Rattle.co_desk.specs.Stories.{IsHistory, IsJournal}
+use Rattle.co_desk.specs.Views.{PassesView, seen_of, journal_seen}
 
 -- a service of version 1 with one CPU, no client and so many callouts without a lock
 abbrev pub single_params : ℕ → Params

@@ -2,7 +2,7 @@
 ghost use Rattle.std.specs.Prelude.{◌≡◌, ◌≤◌, IfOk, replicate};
 ghost use Rattle.co_service.specs.Booted.{AreBooted};
 ghost use Rattle.co_service.specs.Fresh.{AreNamed};
-ghost use Rattle.co_service.specs.Params.{no_spec};
+ghost use Rattle.co_desk.specs.Params.{no_spec};
 ghost use Rattle.co_single.specs.Rest.{IsEndingRoom};
 
 use co_object::{LockUse, Spec};

@@ -29,7 +29,7 @@ pub struct Single<N: Name> {
 }
 
 impl<N: Name> Model for Single<N> {
-    ghost use Rattle.co_service.specs.Views.{PassesView};
+    ghost use Rattle.co_desk.specs.Views.{PassesView};
     ghost use Rattle.co_single.specs.Rest.{IsSingle};
 
     ghost Value = { PassesView };

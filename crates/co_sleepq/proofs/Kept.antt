@@ -2,10 +2,10 @@
 use Rattle.std.proofs.Common.{◌≡◌, ℕ, sym, ◌∙◌, subst}
 use Rattle.std.specs.declared.option.Option.{Option}
 use Rattle.co_life.specs.Views.{PassView}
-use Rattle.co_service.specs.declared.params.Params.{Params}
-use Rattle.co_service.specs.Name.{ServiceName}
-use Rattle.co_service.specs.Seats.{IsOwn, seen_in}
-use Rattle.co_service.specs.Views.{AreOf, PassesView}
+use Rattle.co_desk.specs.declared.params.Params.{Params}
+use Rattle.co_desk.specs.Name.{ServiceName}
+use Rattle.co_desk.specs.Seats.{IsOwn, seen_in}
+use Rattle.co_desk.specs.Views.{AreOf, PassesView}
 use Rattle.co_sleepq.specs.declared.entry.SleepEntry.{SleepEntry}
 use Rattle.co_sleepq.specs.Params.{actors}
 use Rattle.co_sleepq.specs.Shared.{IsSleepActor, IsSeen}

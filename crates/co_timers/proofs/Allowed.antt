@@ -10,8 +10,8 @@ use Rattle.co_lock.specs.Covers.{covers}
 use Rattle.co_object.specs.declared.op.CallOp.TheVariants.{Plain}
 use Rattle.co_object.specs.declared.op.PlainOp.{PlainOp}
 use Rattle.co_object.specs.declared.op.PlainOp.TheVariants.{Reset, Schedule, Stop, AsyncDrain, Active, Pending, Deactivate, Init, Retire}
-use Rattle.co_service.specs.Params.{spec_at}
-use Rattle.co_service.specs.declared.params.Params.{Params}
+use Rattle.co_desk.specs.Params.{spec_at}
+use Rattle.co_desk.specs.declared.params.Params.{Params}
 use Rattle.co_timers.specs.declared.answers.Refused.{Refused}
 use Rattle.co_timers.specs.declared.answers.Refused.TheVariants.{NoCallout, NoCpu}
 use Rattle.co_timers.specs.Answers.{names_cpu, refusal, uncovered}

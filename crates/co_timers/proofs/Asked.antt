@@ -14,11 +14,11 @@ use Rattle.co_object.specs.declared.reply.Reply.{Reply}
 use Rattle.co_object.specs.declared.state.State.{State}
 use Rattle.co_object.specs.Callout.{call}
 use Rattle.co_object.specs.History.{state}
-use Rattle.co_service.specs.Call.{IsCalled, NamesCpu}
-use Rattle.co_service.specs.Name.{ServiceName}
-use Rattle.co_service.specs.Params.{spec_at}
-use Rattle.co_service.specs.Views.{AreOf, PassesView, seen_of}
-use Rattle.co_service.specs.declared.params.Params.{Params}
+use Rattle.co_desk.specs.Call.{IsCalled, NamesCpu}
+use Rattle.co_desk.specs.Name.{ServiceName}
+use Rattle.co_desk.specs.Params.{spec_at}
+use Rattle.co_desk.specs.Views.{AreOf, PassesView, seen_of}
+use Rattle.co_desk.specs.declared.params.Params.{Params}
 use Rattle.co_service.proofs.Lasts.{called_same}
 use Rattle.co_timers.specs.declared.answers.Refused.{Refused}
 use Rattle.co_timers.specs.declared.answers.Refused.TheVariants.{NoCallout, NoCpu}

@@ -9,16 +9,16 @@ use Rattle.co_object.specs.declared.note.Note.{Note}
 use Rattle.co_object.specs.declared.op.CallOp.TheVariants.{Plain}
 use Rattle.co_object.specs.declared.op.PlainOp.{PlainOp}
 use Rattle.co_object.specs.Queue.{Due}
-use Rattle.co_service.specs.Name.{ServiceName}
-use Rattle.co_service.specs.declared.outs.Taken.{Taken}
-use Rattle.co_service.specs.declared.outs.Taken.TheVariants.{Empty, Took}
-use Rattle.co_service.specs.Services.{IsTaken}
-use Rattle.co_service.specs.Serving.{ServiceStage}
-use Rattle.co_service.specs.Views.{PassesView}
-use Rattle.co_service.specs.Writes.{Writes}
-use Rattle.co_service.specs.declared.params.Params.{Params}
+use Rattle.co_desk.specs.Name.{ServiceName}
+use Rattle.co_desk.specs.declared.outs.Taken.{Taken}
+use Rattle.co_desk.specs.declared.outs.Taken.TheVariants.{Empty, Took}
+use Rattle.co_desk.specs.Services.{IsTaken}
+use Rattle.co_desk.specs.Serving.{ServiceStage}
+use Rattle.co_desk.specs.Views.{PassesView}
+use Rattle.co_desk.specs.Writes.{Writes}
+use Rattle.co_desk.specs.declared.params.Params.{Params}
 use Rattle.co_service.proofs.Lasts.{called_free, called_serving}
-use Rattle.co_service.proofs.WholeCall.{writes_keep}
+use Rattle.co_desk.proofs.SameActor.{writes_keep}
 use Rattle.std.specs.declared.option.Option.{Option}
 use Rattle.co_hand.specs.Handlers.{Needs}
 use Rattle.std.specs.declared.option.Option.TheVariants.{Some, None}

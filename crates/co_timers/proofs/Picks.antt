@@ -26,17 +26,17 @@ use Rattle.co_object.specs.declared.state.Run.TheVariants.{Picked}
 use Rattle.co_object.specs.Serve.{go, has_lock, is_due, pick_armed, taken}
 use Rattle.co_object.specs.Stand.{is_idle}
 use Rattle.co_object.proofs.Histories.{legal-last}
-use Rattle.co_service.specs.declared.outs.Taken.{Taken}
-use Rattle.co_service.specs.declared.outs.Taken.TheVariants.{Empty, Took}
-use Rattle.co_service.specs.declared.params.Params.{Params}
-use Rattle.co_service.specs.Name.{ServiceName}
-use Rattle.co_service.specs.Outcomes.{queue_entry_by}
-use Rattle.co_service.specs.Params.{AreParams, IsSpec, actors_of, no_spec, spec_at}
-use Rattle.co_service.specs.Services.{HasNext, IsFree, IsTaken, IsTaking, run_entry}
-use Rattle.co_service.specs.Serving.{lane_actor}
-use Rattle.co_service.specs.Stories.{IsHistory}
-use Rattle.co_service.specs.Views.{PassesView, seen_of}
-use Rattle.co_service.specs.Writes.{WritesAt}
+use Rattle.co_desk.specs.declared.outs.Taken.{Taken}
+use Rattle.co_desk.specs.declared.outs.Taken.TheVariants.{Empty, Took}
+use Rattle.co_desk.specs.declared.params.Params.{Params}
+use Rattle.co_desk.specs.Name.{ServiceName}
+use Rattle.co_desk.specs.Outcomes.{queue_entry_by}
+use Rattle.co_desk.specs.Params.{AreParams, IsSpec, actors_of, no_spec, spec_at}
+use Rattle.co_desk.specs.Services.{HasNext, IsFree, IsTaken, IsTaking, run_entry}
+use Rattle.co_desk.specs.Serving.{lane_actor}
+use Rattle.co_desk.specs.Stories.{IsHistory}
+use Rattle.co_desk.specs.Views.{PassesView, seen_of}
+use Rattle.co_desk.specs.Writes.{WritesAt}
 use Rattle.co_wheel.specs.Turns.{pop_of}
 use Rattle.co_timers.specs.Handles.{IsHandle}
 use Rattle.co_timers.specs.Rounds.{HasTaken, MayBeServed, MayServe, waits_for_lock}

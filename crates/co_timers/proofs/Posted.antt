@@ -9,13 +9,13 @@ use Rattle.std.specs.declared.option.Option.TheVariants.{Some, None}
 use Rattle.std.proofs.lemmas.List.Elements.{All-nil}
 use Rattle.co_object.proofs.Numbers.{same_number, same_itself}
 use Rattle.co_sbt.specs.RoomView.{RoomView}
-use Rattle.co_service.specs.declared.params.Params.{Params}
+use Rattle.co_desk.specs.declared.params.Params.{Params}
 use Rattle.co_service.specs.Booted.{AreBooted, booted}
 use Rattle.co_service.specs.Fresh.{AreNamed}
-use Rattle.co_service.specs.Name.{ServiceName}
-use Rattle.co_service.specs.Params.{actor_count}
-use Rattle.co_service.specs.Views.{AreOf, PassesView}
-use Rattle.co_service.proofs.Items.{all_more, get_else, get_set, got_map}
+use Rattle.co_desk.specs.Name.{ServiceName}
+use Rattle.co_desk.specs.Params.{actor_count}
+use Rattle.co_desk.specs.Views.{AreOf, PassesView}
+use Rattle.co_desk.proofs.Items.{all_more, get_else, get_set, got_map}
 use Rattle.co_timers.specs.Handles.{IsHandle}
 use Rattle.co_timers.specs.Posts.{ArePosts}
 

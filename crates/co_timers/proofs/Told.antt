@@ -15,12 +15,12 @@ use Rattle.co_object.specs.Callout.{call, opening}
 use Rattle.co_object.specs.Group.{Placed, placed}
 use Rattle.co_object.specs.History.{May, next, state}
 use Rattle.co_object.proofs.Histories.{legal-last}
-use Rattle.co_service.specs.Call.{IsCalled, call_entry}
-use Rattle.co_service.specs.Params.{actors_of, spec_at}
-use Rattle.co_service.specs.Stories.{IsHistory, by}
-use Rattle.co_service.specs.Views.{PassesView, seen_of}
-use Rattle.co_service.specs.Kinds.{timer_kind}
-use Rattle.co_service.specs.Writes.{Adds, Writes, WritesAt, WritesEntry}
+use Rattle.co_desk.specs.Call.{IsCalled, call_entry}
+use Rattle.co_desk.specs.Params.{actors_of, spec_at}
+use Rattle.co_desk.specs.Stories.{IsHistory, by}
+use Rattle.co_desk.specs.Views.{PassesView, seen_of}
+use Rattle.co_desk.specs.Kinds.{timer_kind}
+use Rattle.co_desk.specs.Writes.{Adds, Writes, WritesAt, WritesEntry}
 use Rattle.co_timers.specs.Acts.{IsReply}
 use Rattle.co_timers.proofs.Groups.{AreAside, HasOne, one_in_group}
 

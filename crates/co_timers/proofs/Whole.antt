@@ -5,11 +5,11 @@ use Rattle.std.specs.Prelude.{nat_lt}
 use Rattle.co_object.proofs.Changes.{both_true}
 use Rattle.co_object.specs.Actors.{cpu_actor, interrupt_actor}
 use Rattle.co_service.specs.Booted.{booted}
-use Rattle.co_service.specs.Name.{ServiceName}
-use Rattle.co_service.specs.Params.{actors_of}
-use Rattle.co_service.specs.Services.{IsFree}
-use Rattle.co_service.specs.Views.{PassesView}
-use Rattle.co_service.specs.declared.params.Params.{Params}
+use Rattle.co_desk.specs.Name.{ServiceName}
+use Rattle.co_desk.specs.Params.{actors_of}
+use Rattle.co_desk.specs.Services.{IsFree}
+use Rattle.co_desk.specs.Views.{PassesView}
+use Rattle.co_desk.specs.declared.params.Params.{Params}
 use Rattle.co_service.proofs.Lasts.{booted_free}
 use Rattle.co_timers.specs.Handles.{IsHandle}
 use Rattle.co_timers.specs.Posts.{PostsView, is_posted, is_whole}

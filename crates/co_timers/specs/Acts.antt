@@ -7,11 +7,11 @@ use Rattle.co_object.specs.declared.op.CallOp.{CallOp}
 use Rattle.co_object.specs.declared.reply.Reply.{Reply}
 use Rattle.co_object.specs.Callout.{call}
 use Rattle.co_object.specs.History.{state}
-use Rattle.co_service.specs.Call.{IsCalled, call_entry}
-use Rattle.co_service.specs.Params.{spec_at}
-use Rattle.co_service.specs.Services.{AreSame}
-use Rattle.co_service.specs.Stories.{by}
-use Rattle.co_service.specs.Views.{PassesView, seen_of}
+use Rattle.co_desk.specs.Call.{IsCalled, call_entry}
+use Rattle.co_desk.specs.Params.{spec_at}
+use Rattle.co_desk.specs.Services.{AreSame}
+use Rattle.co_desk.specs.Stories.{by}
+use Rattle.co_desk.specs.Views.{PassesView, seen_of}
 use Rattle.co_timers.specs.Handles.{HandleView, next_act}
 
 -- the reply of callout i alone: what the actor has seen of it, then what others did, then its own entry with the answer

@@ -9,8 +9,8 @@ use Rattle.co_object.specs.declared.op.CallOp.TheVariants.{Plain, DrainTry}
 use Rattle.co_object.specs.declared.op.PlainOp.TheVariants.{Reset, Schedule}
 use Rattle.co_object.specs.declared.reply.Reply.{Reply}
 use Rattle.co_object.specs.declared.reply.Reply.TheVariants as reply
-use Rattle.co_service.specs.declared.params.Params.{Params}
-use Rattle.co_service.specs.Params.{spec_at}
+use Rattle.co_desk.specs.declared.params.Params.{Params}
+use Rattle.co_desk.specs.Params.{spec_at}
 use Rattle.co_timers.specs.declared.answers.AsyncDrained.{AsyncDrained}
 use Rattle.co_timers.specs.declared.answers.AsyncDrained.TheVariants as later
 use Rattle.co_timers.specs.declared.answers.Drained.{Drained}

@@ -7,7 +7,7 @@ use Rattle.co_object.specs.declared.op.CallOp.TheVariants.{DrainTry}
 use Rattle.co_object.specs.declared.reply.Reply.{Reply}
 use Rattle.co_object.specs.declared.reply.Reply.TheVariants.{Wait}
 use Rattle.co_object.specs.declared.reply.Reply.TheVariants as reply
-use Rattle.co_service.specs.Views.{PassesView}
+use Rattle.co_desk.specs.Views.{PassesView}
 use Rattle.co_timers.specs.declared.answers.Drained.{Drained}
 use Rattle.co_timers.specs.declared.answers.Refused.{Refused}
 use Rattle.co_timers.specs.declared.answers.Refused.TheVariants.{DrainsItself}

@@ -1,9 +1,9 @@
 -- What contracts see of a handle: its passes, and the number of its next act.
 use Rattle.std.specs.Prelude.{◌≡◌, ℕ, ◌+◌, length}
 use Rattle.co_life.specs.Rule.{capped}
-use Rattle.co_service.specs.Name.{ServiceName}
-use Rattle.co_service.specs.Views.{PassesView, AreOf}
-use Rattle.co_service.specs.declared.params.Params.{Params}
+use Rattle.co_desk.specs.Name.{ServiceName}
+use Rattle.co_desk.specs.Views.{PassesView, AreOf}
+use Rattle.co_desk.specs.declared.params.Params.{Params}
 
 pub record HandleView : Type 0 where
   -- what its actor has seen of each callout and of each CPU

@@ -9,9 +9,9 @@ use Rattle.co_lock.specs.Covers.{covers}
 use Rattle.co_object.specs.declared.op.CallOp.TheVariants.{Plain}
 use Rattle.co_object.specs.declared.op.PlainOp.{PlainOp}
 use Rattle.co_object.specs.declared.spec.Spec.{Spec}
-use Rattle.co_service.specs.Name.{ServiceName}
-use Rattle.co_service.specs.Params.{spec_at}
-use Rattle.co_service.specs.declared.params.Params.{Params}
+use Rattle.co_desk.specs.Name.{ServiceName}
+use Rattle.co_desk.specs.Params.{spec_at}
+use Rattle.co_desk.specs.declared.params.Params.{Params}
 use Rattle.co_timers.specs.declared.lane.Lane.{Lane}
 use Rattle.co_timers.specs.Acts.{IsAct}
 use Rattle.co_timers.specs.Handles.{HandleView, IsHandle}

@@ -6,12 +6,12 @@ use Rattle.std.specs.List.{All}
 use Rattle.co_lock.specs.declared.lock_kind.LockKind.{LockKind}
 use Rattle.co_object.specs.Actors.{cpu_actor, interrupt_actor}
 use Rattle.co_sbt.specs.RoomView.{RoomView}
-use Rattle.co_service.specs.declared.params.Params.{Params}
+use Rattle.co_desk.specs.declared.params.Params.{Params}
 use Rattle.co_service.specs.Booted.{AreBooted, booted}
 use Rattle.co_service.specs.Fresh.{AreNamed, FreshView}
-use Rattle.co_service.specs.Name.{ServiceName}
-use Rattle.co_service.specs.Params.{AreParams, actor_count, actors_of}
-use Rattle.co_service.specs.Views.{AreOf, PassesView}
+use Rattle.co_desk.specs.Name.{ServiceName}
+use Rattle.co_desk.specs.Params.{AreParams, actor_count, actors_of}
+use Rattle.co_desk.specs.Views.{AreOf, PassesView}
 use Rattle.co_timers.specs.Timers.{HaveLocks}
 
 pub record FreshTimers : Type 0 where

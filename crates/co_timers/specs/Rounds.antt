@@ -14,15 +14,15 @@ use Rattle.co_object.specs.declared.reply.Reply.TheVariants.{Ended, Go, Hold}
 use Rattle.co_object.specs.declared.spec.Spec.{Spec}
 use Rattle.co_object.specs.Queue.{Due}
 use Rattle.co_object.specs.Serve.{has_lock}
-use Rattle.co_service.specs.declared.outs.Made.{Made}
-use Rattle.co_service.specs.declared.outs.Taken.{Taken}
-use Rattle.co_service.specs.declared.outs.Taken.TheVariants.{Empty, Took}
-use Rattle.co_service.specs.declared.params.Params.{Params}
-use Rattle.co_service.specs.Params.{spec_at}
-use Rattle.co_service.specs.Name.{ServiceName}
-use Rattle.co_service.specs.Services.{FollowsScans, HasNext, IsBegun, IsEnded, IsFree, IsNothing, IsServing, IsTaking}
-use Rattle.co_service.specs.Serving.{ServiceStage}
-use Rattle.co_service.specs.Views.{PassesView, journal_seen}
+use Rattle.co_desk.specs.declared.outs.Made.{Made}
+use Rattle.co_desk.specs.declared.outs.Taken.{Taken}
+use Rattle.co_desk.specs.declared.outs.Taken.TheVariants.{Empty, Took}
+use Rattle.co_desk.specs.declared.params.Params.{Params}
+use Rattle.co_desk.specs.Params.{spec_at}
+use Rattle.co_desk.specs.Name.{ServiceName}
+use Rattle.co_desk.specs.Services.{FollowsScans, HasNext, IsBegun, IsEnded, IsFree, IsNothing, IsServing, IsTaking}
+use Rattle.co_desk.specs.Serving.{ServiceStage}
+use Rattle.co_desk.specs.Views.{PassesView, journal_seen}
 use Rattle.co_timers.specs.declared.turned.Round.{Round}
 use Rattle.co_timers.specs.declared.turned.Served.{Served}
 use Rattle.co_timers.specs.Handles.{HandleView, IsHandle}

@@ -4,8 +4,8 @@ use Rattle.std.specs.declared.option.Option.TheVariants.{Some}
 use Rattle.co_lock.specs.declared.held.Held.{Held}
 use Rattle.co_lock.specs.declared.lock_kind.LockKind.{LockKind}
 use Rattle.co_lock.specs.Service.{hold_of}
-use Rattle.co_service.specs.declared.params.Params.{Params}
-use Rattle.co_service.specs.Params.{AreParams, spec_at}
+use Rattle.co_desk.specs.declared.params.Params.{Params}
+use Rattle.co_desk.specs.Params.{AreParams, spec_at}
 use Rattle.co_lock.specs.Locks.{CanBeHeld}
 
 pub record TimersView : Type 0 where

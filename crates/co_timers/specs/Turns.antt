@@ -7,14 +7,14 @@ use Rattle.co_hand.specs.declared.port_call.PortCall.{PortCall}
 use Rattle.co_hand.specs.Handlers.{Needs}
 use Rattle.co_lock.specs.declared.held.Held.{Held}
 use Rattle.co_object.specs.Actors.{cpu_actor, interrupt_actor}
-use Rattle.co_service.specs.declared.outs.Scanned.{Scanned}
-use Rattle.co_service.specs.declared.params.Params.{Params}
+use Rattle.co_desk.specs.declared.outs.Scanned.{Scanned}
+use Rattle.co_desk.specs.declared.params.Params.{Params}
 use Rattle.co_service.specs.Booted.{booted}
-use Rattle.co_service.specs.Name.{ServiceName}
-use Rattle.co_service.specs.Outcomes.{IsScan}
-use Rattle.co_service.specs.Params.{actors_of, no_params}
-use Rattle.co_service.specs.Services.{IsFree}
-use Rattle.co_service.specs.Views.{PassesView}
+use Rattle.co_desk.specs.Name.{ServiceName}
+use Rattle.co_desk.specs.Outcomes.{IsScan}
+use Rattle.co_desk.specs.Params.{actors_of, no_params}
+use Rattle.co_desk.specs.Services.{IsFree}
+use Rattle.co_desk.specs.Views.{PassesView}
 use Rattle.co_timers.specs.declared.cpu.Lanes.{Lanes}
 use Rattle.co_timers.specs.declared.turned.Turned.{Turned}
 use Rattle.co_timers.specs.Handles.{HandleView, IsHandle, next_act}

@@ -1,6 +1,6 @@
 //! The service before it is opened.
 ghost use Rattle.std.specs.Prelude.{◌≡◌, IfOk};
-ghost use Rattle.co_service.specs.Params.{AreParams};
+ghost use Rattle.co_desk.specs.Params.{AreParams};
 ghost use Rattle.co_timers.specs.Timers.{HaveLocks};
 
 use co_lock::{ClientLocks, LockKind};

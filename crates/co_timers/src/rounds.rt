@@ -1,6 +1,6 @@
 //! The rounds of a turn: one for each callout that has come due.
 ghost use Rattle.std.specs.Prelude.{◌≡◌, ◌<◌, is_some, true, unwrap_or};
-ghost use Rattle.co_service.specs.Serving.{stage_picked};
+ghost use Rattle.co_desk.specs.Serving.{stage_picked};
 ghost use Rattle.co_timers.specs.Ports.{handle_of};
 ghost use Rattle.co_timers.specs.Rounds.{IsAbout, IsAtEase, AreNeedsOf, IsNextRound, IsLaneServed, IsLaneService, MayBeServed, counted_where, fire_after, fire_of, served_after};
 

@@ -3,7 +3,7 @@ ghost use Rattle.std.specs.Prelude.{◌≡◌, ◌<◌, IfSome, length};
 ghost use Rattle.std.specs.declared.option.Option.TheVariants.{None, Some};
 ghost use Rattle.co_hand.specs.Handlers.{HasRun, Serves};
 ghost use Rattle.co_lock.specs.Service.{hold_of};
-ghost use Rattle.co_service.specs.Params.{spec_at};
+ghost use Rattle.co_desk.specs.Params.{spec_at};
 ghost use Rattle.co_timers.specs.Handles.{IsHandle};
 ghost use Rattle.co_timers.specs.Ports.{handle_of};
 ghost use Rattle.co_timers.specs.Rounds.{AreNeedsOf, DrainsIf, IsRun, RunsIf, hold_in, unless_released};

@@ -4,12 +4,12 @@ ghost use Rattle.std.specs.declared.option.Option.TheVariants.{Some};
 ghost use Rattle.co_lock.specs.Service.{hold_of};
 ghost use Rattle.co_object.specs.Queue.{Due};
 ghost use Rattle.co_object.specs.Serve.{has_lock};
-ghost use Rattle.co_service.specs.Call.{notes_in};
-ghost use Rattle.co_service.specs.Outcomes.{IsScan};
-ghost use Rattle.co_service.specs.Params.{spec_at};
-ghost use Rattle.co_service.specs.Services.{FollowsScans, IsBegun, IsEnded, IsFree, IsServing, IsTaken};
-ghost use Rattle.co_service.specs.Serving.{Runs, Waits, stage_picked};
-ghost use Rattle.co_service.specs.Views.{AreOf, journal_seen};
+ghost use Rattle.co_desk.specs.Call.{notes_in};
+ghost use Rattle.co_desk.specs.Outcomes.{IsScan};
+ghost use Rattle.co_desk.specs.Params.{spec_at};
+ghost use Rattle.co_desk.specs.Services.{FollowsScans, IsBegun, IsEnded, IsFree, IsServing, IsTaken};
+ghost use Rattle.co_desk.specs.Serving.{Runs, Waits, stage_picked};
+ghost use Rattle.co_desk.specs.Views.{AreOf, journal_seen};
 ghost use Rattle.co_timers.specs.Rounds.{HasTaken, IsAbout, IsAtEase, IsBegin, MayBeServed, called_by, drain_of, waits_for_lock};
 
 use crate::Timers;

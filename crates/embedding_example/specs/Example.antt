@@ -11,7 +11,7 @@ use Rattle.co_object.specs.declared.op.PlainOp.{PlainOp}
 use Rattle.co_object.specs.declared.op.PlainOp.TheVariants.{Reset}
 use Rattle.co_object.specs.declared.spec.LockUse.TheVariants.{Free}
 use Rattle.co_sbt.specs.Time.{from_ticks, sat_add}
-use Rattle.co_service.specs.declared.params.Params.{Params}
+use Rattle.co_desk.specs.declared.params.Params.{Params}
 use Rattle.co_timers.specs.declared.turned.Turned.{Turned}
 use Rattle.embedding_example.specs.declared.parts.Heart.{Heart}
 

@@ -5,7 +5,7 @@ use Rattle.co_object.specs.declared.spec.Spec.{Spec}
 use Rattle.co_program.specs.declared.script.Script.{Script}
 use Rattle.co_script.specs.Fits.{fits}
 use Rattle.co_script.proofs.Accepted.{fits-accepted}
-use Rattle.co_service.specs.Params.{AreParams, IsSpec}
+use Rattle.co_desk.specs.Params.{AreParams, IsSpec}
 use Rattle.co_run.proofs.FittingScripts.{fits_locks, fits_params}
 use Rattle.run_cases.specs.Scenes.{CanRun, free_spec}
 

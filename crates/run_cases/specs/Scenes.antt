@@ -4,8 +4,8 @@ use Rattle.co_object.specs.declared.spec.Spec.{Spec}
 use Rattle.co_object.specs.declared.spec.LockUse.TheVariants.{Free}
 use Rattle.co_program.specs.declared.script.Script.{Script}
 use Rattle.co_program.specs.Scripts.{IsScript}
-use Rattle.co_service.specs.declared.params.Params.{Params}
-use Rattle.co_service.specs.Params.{AreParams}
+use Rattle.co_desk.specs.declared.params.Params.{Params}
+use Rattle.co_desk.specs.Params.{AreParams}
 use Rattle.co_run.specs.Acting.{HasLocks, params_of}
 
 -- a script that can run on threads

@@ -6,14 +6,14 @@ use Rattle.std.proofs.lemmas.List.Elements.{All-nil, All-cons, All-head, All-tai
 use Rattle.std.specs.declared.option.Option.TheVariants.{Some}
 use Rattle.co_object.specs.declared.spec.LockUse.TheVariants.{Free, Mtx}
 use Rattle.co_object.specs.declared.spec.Spec.{Spec}
-use Rattle.co_service.specs.declared.params.Params.{Params}
-use Rattle.co_service.specs.Params.{AreParams, IsSpec, no_spec}
+use Rattle.co_desk.specs.declared.params.Params.{Params}
+use Rattle.co_desk.specs.Params.{AreParams, IsSpec, no_spec}
 use Rattle.service_cases.specs.Scenes.{IsFreeSpec, IsLocked, IsScene}
 use Rattle.co_object.specs.Queue.{Due}
-use Rattle.co_service.specs.Services.{IsServing}
-use Rattle.co_service.specs.Serving.{ServiceStage}
-use Rattle.co_service.specs.Views.{PassesView}
-use Rattle.co_service.proofs.Items.{all_more}
+use Rattle.co_desk.specs.Services.{IsServing}
+use Rattle.co_desk.specs.Serving.{ServiceStage}
+use Rattle.co_desk.specs.Views.{PassesView}
+use Rattle.co_desk.proofs.Items.{all_more}
 
 -- ---- the callouts
 

@@ -2,8 +2,8 @@
 use Rattle.std.specs.Prelude.{◌≡◌, ℕ, length}
 use Rattle.co_object.specs.declared.spec.Spec.{Spec}
 use Rattle.co_object.specs.declared.spec.LockUse.TheVariants.{Free, Mtx}
-use Rattle.co_service.specs.declared.params.Params.{Params}
-use Rattle.co_service.specs.Params.{IsSpec, actor_count, spec_at}
+use Rattle.co_desk.specs.declared.params.Params.{Params}
+use Rattle.co_desk.specs.Params.{IsSpec, actor_count, spec_at}
 use Rattle.service_cases.specs.declared.scene.Scene.{Scene}
 use Rattle.service_cases.specs.declared.scene.Scene.TheVariants.{Alone, Direct, Moved, Waiting, InWords}
 

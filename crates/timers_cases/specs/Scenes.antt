@@ -7,7 +7,7 @@ use Rattle.co_hand.specs.Handlers.{Needs}
 use Rattle.co_lock.specs.declared.lock_kind.LockKind.{LockKind}
 use Rattle.co_object.specs.declared.spec.LockUse.TheVariants.{Free, Mtx}
 use Rattle.co_object.specs.declared.spec.Spec.{Spec}
-use Rattle.co_service.specs.declared.params.Params.{Params}
+use Rattle.co_desk.specs.declared.params.Params.{Params}
 
 abbrev pub scene_specs : List Spec
 scene_specs =

@@ -4,9 +4,9 @@ use Rattle.std.specs.Prelude.{slice_index_or}
 use Rattle.co_batch.specs.Batches.{Batch}
 use Rattle.co_service.specs.Closing.{AreEnded, AreEndedCpus, ClosingView}
 use Rattle.co_service.specs.Fresh.{AreNamed}
-use Rattle.co_service.specs.Params.{no_spec}
-use Rattle.co_service.specs.Services.{IsFree}
-use Rattle.co_service.specs.declared.params.Params.{Params}
+use Rattle.co_desk.specs.Params.{no_spec}
+use Rattle.co_desk.specs.Services.{IsFree}
+use Rattle.co_desk.specs.declared.params.Params.{Params}
 use Rattle.co_single.specs.Alarms.{all_gos, scan_times, scan_times_of}
 use Rattle.co_single.specs.Seen.{AreSingle, single_params}
 use Rattle.co_single.proofs.Ended.{cpus_whole, timers_whole}

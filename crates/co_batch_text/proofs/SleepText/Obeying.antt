@@ -8,7 +8,7 @@ use Rattle.co_object.specs.declared.op.CallOp.TheVariants.{Plain}
 use Rattle.co_object.specs.declared.op.PlainOp.TheVariants.{Reset, Stop}
 use Rattle.co_object.specs.declared.reply.Reply.{Reply}
 use Rattle.co_sbt.specs.Time.{sat_add, from_ticks}
-use Rattle.co_service.specs.Views.{PassesView}
+use Rattle.co_desk.specs.Views.{PassesView}
 use Rattle.co_single.specs.Acts.{OthersStay, TimeStays}
 use Rattle.co_object.specs.declared.note.Entry.{Entry}
 use Rattle.co_single.specs.Alarms.{all_gos, callout_count, fired_at, gos, made_at, scan_times_of}

@@ -6,10 +6,10 @@ use Rattle.co_object.specs.declared.op.CallOp.TheVariants.{Plain}
 use Rattle.co_object.specs.declared.op.PlainOp.TheVariants.{Reset, Stop}
 use Rattle.co_object.specs.declared.reply.Reply.{Reply}
 use Rattle.co_object.specs.declared.reply.Reply.TheVariants.{Go}
-use Rattle.co_service.specs.declared.outs.Scanned.{Scanned}
-use Rattle.co_service.specs.Call.{IsCalled}
-use Rattle.co_service.specs.Outcomes.{IsScan}
-use Rattle.co_service.specs.Views.{PassesView}
+use Rattle.co_desk.specs.declared.outs.Scanned.{Scanned}
+use Rattle.co_desk.specs.Call.{IsCalled}
+use Rattle.co_desk.specs.Outcomes.{IsScan}
+use Rattle.co_desk.specs.Views.{PassesView}
 use Rattle.co_single.specs.Acts.{IsArmed, IsDisarmed, IsScanned, NothingWaits}
 use Rattle.co_single.specs.Acts as acts
 use Rattle.co_single.specs.Alarms.{callout_count, made_at, waiting_of}

@@ -4,7 +4,7 @@ use Rattle.std.specs.Prelude.{if◌then◌else◌}
 use Rattle.std.specs.declared.option.Option.{Option}
 use Rattle.std.specs.declared.option.Option.TheVariants.{Some, None}
 use Rattle.std.proofs.lemmas.Bool.Decides.{nat_tests}
-use Rattle.co_service.specs.Views.{PassesView}
+use Rattle.co_desk.specs.Views.{PassesView}
 use Rattle.co_single.specs.Alarms.{Alarm, alarm_at, all_gos, last_scan, callout_count, made_at, scan_times_of, times_in, waiting_of}
 use Rattle.co_single.proofs.LawsHold.{each_counted}
 use Rattle.co_sleepq.specs.declared.reply.SleepReply.{SleepReply}

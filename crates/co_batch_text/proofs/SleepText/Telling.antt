@@ -1,6 +1,6 @@
 -- A wakeup leaves what the sleep queue with a clock leaves, and is answered as it.
 use Rattle.std.proofs.Common.{◌≡◌, ℕ, sym, ap, ◌∙◌, subst}
-use Rattle.co_service.specs.Views.{PassesView}
+use Rattle.co_desk.specs.Views.{PassesView}
 use Rattle.co_single.specs.Alarms.{alarm_at, last_scan, waiting_of}
 use Rattle.co_sleepq.specs.declared.op.SleepOp.{SleepOp}
 use Rattle.co_sleepq.specs.declared.op.SleepOp.TheVariants as op

@@ -8,7 +8,7 @@ use Rattle.co_object.specs.declared.note.Note.{Note}
 use Rattle.co_object.specs.declared.op.CallOp.TheVariants.{Plain}
 use Rattle.co_object.specs.declared.op.PlainOp.TheVariants.{Reset, Stop}
 use Rattle.co_object.specs.declared.reply.Reply.{Reply}
-use Rattle.co_service.specs.Call.{IsCalled}
+use Rattle.co_desk.specs.Call.{IsCalled}
 use Rattle.co_single.specs.Acts.{OthersStay, TimeStays}
 use Rattle.co_single.specs.Alarms.{alarm_at, but, callout_count, made_at, waiting_of}
 use Rattle.co_sbt.specs.Time.{sat_add, from_ticks}

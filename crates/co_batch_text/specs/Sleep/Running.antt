@@ -5,9 +5,9 @@ use Rattle.co_text.specs.Lines.{text}
 use Rattle.co_batch.specs.Answers.{answers}
 use Rattle.co_life.specs.Identity.{LifeId}
 use Rattle.co_service.specs.Fresh.{AreNamed}
-use Rattle.co_service.specs.Name.{ServiceName}
-use Rattle.co_service.specs.Services.{IsFree}
-use Rattle.co_service.specs.declared.params.Params.{Params}
+use Rattle.co_desk.specs.Name.{ServiceName}
+use Rattle.co_desk.specs.Services.{IsFree}
+use Rattle.co_desk.specs.declared.params.Params.{Params}
 use Rattle.co_single.specs.Alarms.{made_at}
 use Rattle.co_single.specs.Seen.{single_params}
 use Rattle.co_sleepq.specs.Fresh.{AreFreshPasses, SleepFreshView}

@@ -33,14 +33,14 @@ use Rattle.co_program.specs.Follows.{Histories}
 use Rattle.co_world.proofs.follows.DueNotes.{due_removed}
 use Rattle.co_world.proofs.basics.Prefixes.{Begins}
 use Rattle.co_world.proofs.follows.Traces.{Trace}
-use Rattle.co_service.specs.Call.{IsCalled}
-use Rattle.co_service.specs.declared.params.Params.{Params}
-use Rattle.co_service.specs.Params.{actors_of, spec_at as spec_in}
-use Rattle.co_service.specs.Views.{PassesView, seen_of, journal_seen}
-use Rattle.co_service.specs.Writes.{WritesAt, Writes}
-use Rattle.co_service.proofs.CallGroup.{entry_of, head, armed_group, unarmed_group}
-use Rattle.co_service.proofs.Items.{index_set}
-use Rattle.co_service.proofs.WholeCall.{writes_keep}
+use Rattle.co_desk.specs.Call.{IsCalled}
+use Rattle.co_desk.specs.declared.params.Params.{Params}
+use Rattle.co_desk.specs.Params.{actors_of, spec_at as spec_in}
+use Rattle.co_desk.specs.Views.{PassesView, seen_of, journal_seen}
+use Rattle.co_desk.specs.Writes.{WritesAt, Writes}
+use Rattle.co_desk.proofs.CallGroup.{entry_of, head, armed_group, unarmed_group}
+use Rattle.co_desk.proofs.Items.{index_set}
+use Rattle.co_desk.proofs.SameActor.{writes_keep}
 use Rattle.co_run.specs.Going.{SeenBegins}
 use Rattle.co_run.specs.Noted.{gone_on, are_some}
 use Rattle.co_run.proofs.follows.ArmedReplies.{IsArmed, is_armed as arming_of, asked_call}

@@ -28,10 +28,10 @@ use Rattle.co_program.specs.declared.Asked.TheVariants.{Callout, Queue}
 use Rattle.co_program.specs.Follows.{Histories, scan_count}
 use Rattle.co_world.proofs.basics.Prefixes.{Begins}
 use Rattle.co_world.proofs.follows.Traces.{Trace}
-use Rattle.co_service.specs.Params.{actors_of, spec_at as spec_in}
-use Rattle.co_service.specs.Views.{PassesView, seen_of, journal_seen}
-use Rattle.co_service.specs.Writes.{WritesAt}
-use Rattle.co_service.proofs.Items.{index_set}
+use Rattle.co_desk.specs.Params.{actors_of, spec_at as spec_in}
+use Rattle.co_desk.specs.Views.{PassesView, seen_of, journal_seen}
+use Rattle.co_desk.specs.Writes.{WritesAt}
+use Rattle.co_desk.proofs.Items.{index_set}
 use Rattle.co_run.proofs.follows.InHistories.{at_cursor, call_of, call_note, turn_of, turn_note, entry_leads, turn_leads}
 
 pub begins-length : {X : Type 0} (xs ys : List X) → Begins xs ys → length xs ≤ length ys

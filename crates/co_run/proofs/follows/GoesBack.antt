@@ -12,9 +12,9 @@ use Rattle.co_object.specs.declared.AnyEntry.TheVariants as entry
 use Rattle.co_program.specs.Follows.{Histories}
 use Rattle.co_world.proofs.basics.Prefixes.{Begins, begins_front}
 use Rattle.co_life.specs.Seen.{Extends}
-use Rattle.co_service.specs.Views.{PassesView, seen_of, journal_seen}
-use Rattle.co_service.specs.Writes.{WritesAt, Writes}
-use Rattle.co_service.proofs.Items.{index_set, index_else}
+use Rattle.co_desk.specs.Views.{PassesView, seen_of, journal_seen}
+use Rattle.co_desk.specs.Writes.{WritesAt, Writes}
+use Rattle.co_desk.proofs.Items.{index_set, index_else}
 use Rattle.co_run.specs.Going.{SeenBegins}
 
 module _ {E : Type 0} where

@@ -35,10 +35,10 @@ use Rattle.co_world.proofs.kept.Operations as deed
 use Rattle.co_world.proofs.follows.SilentSteps.{at_next_silent, at_next_take}
 use Rattle.co_world.proofs.basics.Prefixes.{Begins}
 use Rattle.co_world.proofs.follows.Traces.{Trace, trace_more}
-use Rattle.co_service.specs.Params.{actors_of, spec_at as spec_in}
-use Rattle.co_service.specs.Views.{PassesView, seen_of}
-use Rattle.co_service.specs.Writes.{WritesAt}
-use Rattle.co_service.proofs.Items.{index_set}
+use Rattle.co_desk.specs.Params.{actors_of, spec_at as spec_in}
+use Rattle.co_desk.specs.Views.{PassesView, seen_of}
+use Rattle.co_desk.specs.Writes.{WritesAt}
+use Rattle.co_desk.proofs.Items.{index_set}
 use Rattle.co_run.specs.Going.{SeenBegins}
 use Rattle.co_run.proofs.follows.EachAnswer.{begins-length, longer}
 use Rattle.co_run.proofs.follows.InHistories.{at_cursor, scene}

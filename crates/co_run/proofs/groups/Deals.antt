@@ -5,10 +5,10 @@ use Rattle.co_object.specs.declared.note.Note.{Note}
 use Rattle.co_program.specs.declared.script.Script.{Script}
 use Rattle.co_program.specs.Actors.{actor_count, client_count}
 use Rattle.co_program.specs.Scripts.{IsScript}
-use Rattle.co_service.specs.declared.params.Params.{Params}
+use Rattle.co_desk.specs.declared.params.Params.{Params}
 use Rattle.co_service.specs.Booted.{AreBooted, booted}
-use Rattle.co_service.specs.Name.{ServiceName}
-use Rattle.co_service.specs.Views.{PassesView}
+use Rattle.co_desk.specs.Name.{ServiceName}
+use Rattle.co_desk.specs.Views.{PassesView}
 use Rattle.co_run.specs.declared.jobs.Job.{Job}
 use Rattle.co_run.specs.Acting.{params_of}
 use Rattle.co_run.specs.Jobs.{AreEmptyBooks, AreUnseen, AreJobs, IsEmpty, IsGroup, IsJob}

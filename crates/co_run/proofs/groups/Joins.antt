@@ -4,8 +4,8 @@ use Rattle.std.proofs.lemmas.List.{length-map, map-append}
 use Rattle.std.specs.Prelude.{Err, IfOk, Ok, Result, Some, slice_get}
 use Rattle.co_object.specs.declared.note.Note.{Note}
 use Rattle.co_program.specs.declared.script.Script.{Script}
-use Rattle.co_service.specs.Name.{ServiceName}
-use Rattle.co_service.specs.Views.{PassesView}
+use Rattle.co_desk.specs.Name.{ServiceName}
+use Rattle.co_desk.specs.Views.{PassesView}
 use Rattle.co_program.specs.Actors.{client_count, actor_count}
 use Rattle.co_run.specs.declared.jobs.Crew.{Crew}
 use Rattle.co_run.specs.declared.jobs.Job.{Job}

@@ -22,9 +22,9 @@ use Rattle.co_world.proofs.kept.BySchedules.{open_holds}
 use Rattle.co_world.proofs.basics.Roles.{cpu_number, interrupt_number}
 use Rattle.co_service.specs.Booted.{booted}
 use Rattle.co_service.specs.Fresh.{AreNamed}
-use Rattle.co_service.specs.Name.{ServiceName}
-use Rattle.co_service.specs.Services.{IsFree}
-use Rattle.co_service.specs.Views.{journal_seen, seen_of}
+use Rattle.co_desk.specs.Name.{ServiceName}
+use Rattle.co_desk.specs.Services.{IsFree}
+use Rattle.co_desk.specs.Views.{journal_seen, seen_of}
 use Rattle.co_service.proofs.Lasts.{booted_free}
 use Rattle.co_run.specs.Acting.{HasLocks, IsActing, ServesAsStage, TaskLocks, params_of}
 use Rattle.co_run.specs.Shown.{AreTheseEntries}

@@ -37,13 +37,13 @@ use Rattle.co_world.proofs.kept.Servers.{IsServer, is_server, server_hold}
 use Rattle.co_world.proofs.basics.Updates.{cond_kept}
 use Rattle.co_world.proofs.follows.DueNotes.{due_removed}
 use Rattle.co_world.proofs.follows.Traces.{Trace}
-use Rattle.co_service.specs.declared.outs.Made.{Made}
-use Rattle.co_service.specs.Call.{notes_in}
-use Rattle.co_service.specs.Name.{ServiceName}
-use Rattle.co_service.specs.Services.{IsServing, IsBegun}
-use Rattle.co_service.specs.Serving.{Waits, Runs}
-use Rattle.co_service.specs.Views.{PassesView, AreOf}
-use Rattle.co_service.specs.Writes.{WritesAt, Writes}
+use Rattle.co_desk.specs.declared.outs.Made.{Made}
+use Rattle.co_desk.specs.Call.{notes_in}
+use Rattle.co_desk.specs.Name.{ServiceName}
+use Rattle.co_desk.specs.Services.{IsServing, IsBegun}
+use Rattle.co_desk.specs.Serving.{Waits, Runs}
+use Rattle.co_desk.specs.Views.{PassesView, AreOf}
+use Rattle.co_desk.specs.Writes.{WritesAt, Writes}
 use Rattle.co_run.specs.Acting.{IsActing, ServesAt, params_of}
 use Rattle.co_world.specs.Placed.{due_in_service}
 use Rattle.co_run.specs.Shown.{IsFoundThere}
@@ -56,8 +56,8 @@ use Rattle.co_program.specs.Actors.{acts_at}
 use Rattle.co_program.specs.Existing.{IsIn}
 use Rattle.co_world.proofs.basics.Actions.{opens, asks, drains, waits, picks, fires, ends, serves}
 use Rattle.co_world.proofs.kept.Invariant.{IsBetween}
-use Rattle.co_service.specs.declared.params.Params.{Params}
-use Rattle.co_service.specs.Params.{spec_at as spec_in}
+use Rattle.co_desk.specs.declared.params.Params.{Params}
+use Rattle.co_desk.specs.Params.{spec_at as spec_in}
 use Rattle.co_run.specs.Acting.{TaskLocks}
 use Rattle.co_run.specs.Noted.{gone_on}
 use Rattle.co_run.specs.Roomy.{AreShort, room_at}

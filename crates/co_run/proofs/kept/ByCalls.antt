@@ -24,13 +24,13 @@ use Rattle.co_program.specs.declared.Asked.TheVariants.{Callout}
 use Rattle.co_program.proofs.Existing.{action_exists}
 use Rattle.co_world.proofs.kept.Stages.{is_acting}
 use Rattle.co_world.proofs.follows.Traces.{Trace}
-use Rattle.co_service.specs.Call.{IsCalled, NamesCpu}
-use Rattle.co_service.specs.Params.{spec_at as spec_in}
-use Rattle.co_service.specs.Name.{ServiceName}
-use Rattle.co_service.specs.Services.{IsFree, IsServing}
-use Rattle.co_service.specs.Serving.{ServiceStage}
-use Rattle.co_service.specs.Views.{PassesView, AreOf, seen_of}
-use Rattle.co_service.proofs.CallGroup.{entry_of}
+use Rattle.co_desk.specs.Call.{IsCalled, NamesCpu}
+use Rattle.co_desk.specs.Params.{spec_at as spec_in}
+use Rattle.co_desk.specs.Name.{ServiceName}
+use Rattle.co_desk.specs.Services.{IsFree, IsServing}
+use Rattle.co_desk.specs.Serving.{ServiceStage}
+use Rattle.co_desk.specs.Views.{PassesView, AreOf, seen_of}
+use Rattle.co_desk.proofs.CallGroup.{entry_of}
 use Rattle.co_run.specs.Acting.{IsActing, CursorFits, params_of}
 use Rattle.co_run.specs.Noted.{gone_on}
 use Rattle.co_run.specs.Shown.{IsFoundThere}

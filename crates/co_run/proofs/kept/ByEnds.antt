@@ -44,12 +44,12 @@ use Rattle.co_world.proofs.follows.Traces.{Trace}
 use Rattle.co_object.specs.declared.Next.{Next}
 use Rattle.co_object.specs.declared.QOp.TheVariants.{Insert}
 use Rattle.co_object.specs.declared.QReply.TheVariants.{Freed, At}
-use Rattle.co_service.specs.Call.{landing}
-use Rattle.co_service.specs.Name.{ServiceName}
-use Rattle.co_service.specs.Services.{IsFree, IsServing, IsEnded, next_target, target_of_next}
-use Rattle.co_service.specs.Serving.{Runs}
-use Rattle.co_service.specs.Views.{PassesView, AreOf}
-use Rattle.co_service.specs.Writes.{WritesAt, Writes}
+use Rattle.co_desk.specs.Call.{landing}
+use Rattle.co_desk.specs.Name.{ServiceName}
+use Rattle.co_desk.specs.Services.{IsFree, IsServing, IsEnded, next_target, target_of_next}
+use Rattle.co_desk.specs.Serving.{Runs}
+use Rattle.co_desk.specs.Views.{PassesView, AreOf}
+use Rattle.co_desk.specs.Writes.{WritesAt, Writes}
 use Rattle.co_run.specs.Acting.{IsActing, CursorFits, ServesAt, params_of}
 use Rattle.co_world.specs.Placed.{due_in_service}
 use Rattle.co_run.specs.Going.{SeenBegins}
@@ -59,8 +59,8 @@ use Rattle.co_run.proofs.places.AfterSilentSteps.{stage_view}
 use Rattle.co_run.proofs.shown.OneMore.{shown_all, sized_all}
 use Rattle.co_program.specs.declared.Act.{Act}
 use Rattle.co_world.proofs.basics.Actions.{opens, asks, drains, waits, picks, fires, ends, serves}
-use Rattle.co_service.specs.declared.params.Params.{Params}
-use Rattle.co_service.specs.Params.{spec_at as spec_in}
+use Rattle.co_desk.specs.declared.params.Params.{Params}
+use Rattle.co_desk.specs.Params.{spec_at as spec_in}
 use Rattle.co_run.specs.Noted.{gone_on, are_some}
 use Rattle.co_run.specs.Roomy.{AreShort, room_at}
 use Rattle.co_run.proofs.follows.EachAnswer.{turn_step}

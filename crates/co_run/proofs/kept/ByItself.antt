@@ -15,8 +15,8 @@ use Rattle.co_program.specs.Advance.{act_over}
 use Rattle.co_program.specs.declared.Asked.TheVariants.{Itself}
 use Rattle.co_world.proofs.kept.Stages.{is_acting}
 use Rattle.co_world.proofs.follows.Traces.{Trace}
-use Rattle.co_service.specs.Name.{ServiceName}
-use Rattle.co_service.specs.Views.{PassesView}
+use Rattle.co_desk.specs.Name.{ServiceName}
+use Rattle.co_desk.specs.Views.{PassesView}
 use Rattle.co_run.specs.Acting.{IsActing, HasLocks, HeldExists}
 use Rattle.co_run.proofs.kept.ByCalls.{over_hold}
 use Rattle.co_run.proofs.places.AfterCalls.{acting_of, over_placed, over_serves}

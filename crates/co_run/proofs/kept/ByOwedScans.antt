@@ -10,11 +10,11 @@ use Rattle.co_program.specs.declared.Role.{Role}
 use Rattle.co_program.specs.declared.Role.TheVariants.{Client, Cpu, Interrupt}
 use Rattle.co_program.specs.Follows.{scan_count}
 use Rattle.co_program.specs.Stages.{Ready}
-use Rattle.co_service.specs.declared.outs.Scanned.{Scanned}
-use Rattle.co_service.specs.Outcomes.{IsScan, queue_entry_by}
-use Rattle.co_service.specs.Services.{IsFree}
-use Rattle.co_service.specs.Views.{PassesView, journal_seen}
-use Rattle.co_service.specs.Writes.{WritesAt}
+use Rattle.co_desk.specs.declared.outs.Scanned.{Scanned}
+use Rattle.co_desk.specs.Outcomes.{IsScan, queue_entry_by}
+use Rattle.co_desk.specs.Services.{IsFree}
+use Rattle.co_desk.specs.Views.{PassesView, journal_seen}
+use Rattle.co_desk.specs.Writes.{WritesAt}
 use Rattle.co_run.specs.Acting.{ServesAsStage}
 use Rattle.co_run.proofs.kept.Scanned.{scans_once}
 

@@ -43,17 +43,17 @@ use Rattle.co_world.proofs.basics.Roles.{is_direct_at}
 use Rattle.co_world.proofs.kept.Stages.{Fits, fits_queue, fits_callout, first_task, pop_goes}
 use Rattle.co_world.proofs.kept.Servers.{IsServer, is_server, servers_task}
 use Rattle.co_world.proofs.follows.Traces.{Trace}
-use Rattle.co_service.specs.declared.outs.Taken.{Taken}
-use Rattle.co_service.specs.declared.outs.Taken.TheVariants.{Empty as Nothing, Took}
-use Rattle.co_service.specs.Name.{ServiceName}
-use Rattle.co_service.specs.Outcomes.{queue_entry_by}
-use Rattle.co_service.specs.Params.{actors_of}
-use Rattle.co_service.specs.Services.{IsFree, IsServing, IsTaken, IsNothing, IsTaking, HasNext, FollowsScans}
-use Rattle.co_service.specs.Desk.{scans_in, is_scan}
-use Rattle.co_service.specs.Serving.{stage_picked as progress}
+use Rattle.co_desk.specs.declared.outs.Taken.{Taken}
+use Rattle.co_desk.specs.declared.outs.Taken.TheVariants.{Empty as Nothing, Took}
+use Rattle.co_desk.specs.Name.{ServiceName}
+use Rattle.co_desk.specs.Outcomes.{queue_entry_by}
+use Rattle.co_desk.specs.Params.{actors_of}
+use Rattle.co_desk.specs.Services.{IsFree, IsServing, IsTaken, IsNothing, IsTaking, HasNext, FollowsScans}
+use Rattle.co_desk.specs.Desk.{scans_in, is_scan}
+use Rattle.co_desk.specs.Serving.{stage_picked as progress}
 use Rattle.co_wheel.specs.Turns.{pop_of as lane_pop}
-use Rattle.co_service.specs.Views.{PassesView, AreOf, journal_seen}
-use Rattle.co_service.specs.Writes.{WritesAt}
+use Rattle.co_desk.specs.Views.{PassesView, AreOf, journal_seen}
+use Rattle.co_desk.specs.Writes.{WritesAt}
 use Rattle.co_run.specs.Acting.{IsActing, ServesAsStage, ServesAt, params_of}
 use Rattle.co_run.specs.Going.{SeenBegins}
 use Rattle.co_run.specs.Shown.{IsFoundThere}
@@ -68,10 +68,10 @@ use Rattle.co_program.specs.Actors.{acts_at}
 use Rattle.co_program.specs.Existing.{IsIn}
 use Rattle.co_world.proofs.basics.Actions.{picks}
 use Rattle.co_world.proofs.kept.Invariant.{IsBetween}
-use Rattle.co_service.specs.declared.params.Params.{Params}
-use Rattle.co_service.specs.Params.{spec_at as spec_in}
-use Rattle.co_service.specs.Serving.{lane_actor}
-use Rattle.co_service.proofs.WholeCall.{writes_keep}
+use Rattle.co_desk.specs.declared.params.Params.{Params}
+use Rattle.co_desk.specs.Params.{spec_at as spec_in}
+use Rattle.co_desk.specs.Serving.{lane_actor}
+use Rattle.co_desk.proofs.SameActor.{writes_keep}
 use Rattle.co_run.specs.Acting.{TaskLocks}
 use Rattle.co_run.specs.Noted.{gone_on, taken_notes}
 use Rattle.co_run.specs.Roomy.{AreShort, room_at}

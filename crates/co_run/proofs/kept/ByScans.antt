@@ -31,13 +31,13 @@ use Rattle.co_world.proofs.basics.Actions.{IsAction, scans, starts, pops, frees}
 use Rattle.co_world.proofs.kept.Invariant.{IsTaskOf}
 use Rattle.co_world.proofs.basics.Roles.{cpu_number, interrupt_number, interrupt_version}
 use Rattle.co_world.proofs.kept.Stages.{fits_queue, first_task}
-use Rattle.co_service.specs.declared.outs.Scanned.{Scanned}
-use Rattle.co_service.specs.Name.{ServiceName}
-use Rattle.co_service.specs.Outcomes.{IsScan, queue_entry_by}
-use Rattle.co_service.specs.Params.{actors_of}
-use Rattle.co_service.specs.Services.{IsFree}
-use Rattle.co_service.specs.Views.{PassesView, AreOf, journal_seen}
-use Rattle.co_service.specs.Writes.{WritesAt}
+use Rattle.co_desk.specs.declared.outs.Scanned.{Scanned}
+use Rattle.co_desk.specs.Name.{ServiceName}
+use Rattle.co_desk.specs.Outcomes.{IsScan, queue_entry_by}
+use Rattle.co_desk.specs.Params.{actors_of}
+use Rattle.co_desk.specs.Services.{IsFree}
+use Rattle.co_desk.specs.Views.{PassesView, AreOf, journal_seen}
+use Rattle.co_desk.specs.Writes.{WritesAt}
 use Rattle.co_run.specs.Acting.{HasScanned, IsActing, CursorFits, ServesAsStage, params_of}
 use Rattle.co_run.specs.Shown.{IsFoundThere}
 use Rattle.co_run.proofs.follows.EachAnswer.{turn_step}

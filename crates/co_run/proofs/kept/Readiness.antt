@@ -4,7 +4,7 @@ use Rattle.co_object.specs.declared.note.Note.{Note}
 use Rattle.co_program.specs.declared.script.Script.{Script}
 use Rattle.co_program.specs.Indexed.{IsCounted}
 use Rattle.co_program.specs.Stages.{Stage, Ready, Waiting, Popping, Picking, Locking, Beginning, Unlocking, Firing, Releasing, Ending, Freeing, Drained}
-use Rattle.co_service.specs.Name.{ServiceName}
+use Rattle.co_desk.specs.Name.{ServiceName}
 use Rattle.co_run.specs.Ready.{IsReady, actor_cursor}
 use Rattle.co_run.specs.Roomy.{is_resting, room_at}
 use Rattle.co_run.specs.declared.actor.Actor.{Actor}

@@ -25,9 +25,9 @@ use Rattle.co_world.proofs.basics.Prefixes.{Begins}
 use Rattle.co_world.proofs.kept.Invariant.{FitsRole, IsTaskOf, under_way}
 use Rattle.co_world.proofs.kept.Servers.{clients_act}
 use Rattle.co_world.proofs.kept.Stages.{first_task}
-use Rattle.co_service.specs.Views.{PassesView, journal_seen}
-use Rattle.co_service.specs.Writes.{Writes, WritesAt}
-use Rattle.co_service.proofs.Items.{index_set}
+use Rattle.co_desk.specs.Views.{PassesView, journal_seen}
+use Rattle.co_desk.specs.Writes.{Writes, WritesAt}
+use Rattle.co_desk.proofs.Items.{index_set}
 use Rattle.co_run.specs.Acting.{HasScanned}
 use Rattle.co_run.proofs.follows.GoesBack.{journals_back}
 use Rattle.co_run.proofs.places.AfterCalls.{IsSpoken, called_kinds}

@@ -12,10 +12,10 @@ use Rattle.co_object.specs.declared.note.Place.TheVariants as at
 use Rattle.co_object.specs.Lists.{actor_of, notes_of}
 use Rattle.co_object.proofs.Passing.{passing}
 use Rattle.co_program.specs.declared.script.Script.{Script}
-use Rattle.co_service.specs.Name.{ServiceName}
-use Rattle.co_service.specs.Seats.{IsShown}
-use Rattle.co_service.specs.Views.{PassesView}
-use Rattle.co_service.proofs.Items.{get_or_of}
+use Rattle.co_desk.specs.Name.{ServiceName}
+use Rattle.co_desk.specs.Seats.{IsShown}
+use Rattle.co_desk.specs.Views.{PassesView}
+use Rattle.co_desk.proofs.Items.{get_or_of}
 use Rattle.co_run.specs.Over.{AreOver, IsActorOver}
 use Rattle.co_run.specs.Shown.{AreTheseEntries}
 use Rattle.co_run.specs.Told.{AreBelow, AreToldFrom, IsGathered, owned, placed_from, told_note}

@@ -31,11 +31,11 @@ use Rattle.co_world.proofs.basics.Prefixes.{Begins}
 use Rattle.co_world.proofs.follows.SilentSteps.{at_next_nothing}
 use Rattle.co_world.proofs.follows.Traces.{Trace}
 use Rattle.co_service.specs.Closing.{AreAll, AreEnded, AreEndedCpus}
-use Rattle.co_service.specs.Name.{ServiceName}
-use Rattle.co_service.specs.Params.{actor_count as service_actors}
-use Rattle.co_service.specs.Seats.{IsShown}
-use Rattle.co_service.specs.Stories.{by, queue_by}
-use Rattle.co_service.specs.Views.{AreOf, PassesView, journal_seen, seen_of}
+use Rattle.co_desk.specs.Name.{ServiceName}
+use Rattle.co_desk.specs.Params.{actor_count as service_actors}
+use Rattle.co_desk.specs.Seats.{IsShown}
+use Rattle.co_desk.specs.Stories.{by, queue_by}
+use Rattle.co_desk.specs.Views.{AreOf, PassesView, journal_seen, seen_of}
 use Rattle.co_run.specs.Acting.{params_of}
 use Rattle.co_run.specs.Going.{SeenBegins}
 use Rattle.co_run.specs.Over.{AreOver, IsActorOver}

@@ -36,10 +36,10 @@ use Rattle.co_world.proofs.kept.Operations.{Did, did_call}
 use Rattle.co_world.proofs.kept.Invariant.{IsBetween}
 use Rattle.co_world.proofs.follows.DueNotes.{due_removed}
 use Rattle.co_world.proofs.kept.Stages.{Fits, is_acting, fits_callout, fits_over}
-use Rattle.co_service.specs.Services.{IsFree, IsServing}
-use Rattle.co_service.specs.Serving.{Runs, Waits, ServiceStage}
-use Rattle.co_service.specs.Views.{PassesView}
-use Rattle.co_service.proofs.CallGroup.{entry_of}
+use Rattle.co_desk.specs.Services.{IsFree, IsServing}
+use Rattle.co_desk.specs.Serving.{Runs, Waits, ServiceStage}
+use Rattle.co_desk.specs.Views.{PassesView}
+use Rattle.co_desk.proofs.CallGroup.{entry_of}
 use Rattle.co_run.specs.Acting.{CursorFits, ServesAt, ServesAsStage, TaskLocks}
 use Rattle.co_world.specs.Placed.{due_in_service}
 use Rattle.co_run.specs.Noted.{gone_on, are_some}

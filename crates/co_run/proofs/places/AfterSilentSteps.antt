@@ -31,7 +31,7 @@ use Rattle.co_world.proofs.basics.Actions.{IsAction, due_stage, drops, passes, g
 use Rattle.co_world.proofs.kept.Invariant.{IsBetween, HoldFits}
 use Rattle.co_world.proofs.basics.Updates.{at_choice}
 use Rattle.co_world.proofs.kept.Stages.{Fits, fits_silent, fits_take}
-use Rattle.co_service.specs.Views.{PassesView}
+use Rattle.co_desk.specs.Views.{PassesView}
 use Rattle.co_run.specs.Acting.{CursorFits, ServesAsStage, TaskLocks, HasLocks, HeldExists}
 use Rattle.co_run.proofs.places.AfterCalls.{firing_between, serves_firing}
 

@@ -14,10 +14,10 @@ use Rattle.co_object.specs.declared.AnyEntry.TheVariants as entry
 use Rattle.co_object.specs.Lists.{actor_of, notes_of, same_place}
 use Rattle.co_program.specs.declared.Script.{Script}
 use Rattle.co_program.specs.Places.{place_exists}
-use Rattle.co_service.specs.Views.{PassesView, IsPlace, seen_of, journal_seen}
-use Rattle.co_service.specs.Writes.{WritesAt, Writes}
-use Rattle.co_service.proofs.Items.{index_set, index_else}
-use Rattle.co_service.proofs.WholeCall.{writes_keep}
+use Rattle.co_desk.specs.Views.{PassesView, IsPlace, seen_of, journal_seen}
+use Rattle.co_desk.specs.Writes.{WritesAt, Writes}
+use Rattle.co_desk.proofs.Items.{index_set, index_else}
+use Rattle.co_desk.proofs.SameActor.{writes_keep}
 use Rattle.co_object.specs.declared.OwnKind.{OwnKind}
 use Rattle.co_program.specs.Actors.{actor_count}
 use Rattle.co_run.specs.Told.{placed_from, owned}

@@ -1,7 +1,7 @@
 //! A lock for each CPU: a call on a callout at one CPU is answered while another CPU's lock is kept.
 ghost use Rattle.std.specs.Prelude.{◌≡◌};
 ghost use Rattle.co_service.specs.Booted.{AreBooted};
-ghost use Rattle.co_service.specs.Views.{AreOf};
+ghost use Rattle.co_desk.specs.Views.{AreOf};
 ghost use Rattle.run_cases.specs.Scenes.{two_clients};
 ghost use denote.Param.Send.{IsSync};
 

@@ -2,7 +2,7 @@
 ghost use Rattle.std.specs.Prelude.{◌≡◌, ◌<◌};
 ghost use Rattle.co_hand.specs.Ports.{NamesCpuBelow};
 ghost use Rattle.co_service.specs.Booted.{AreBooted};
-ghost use Rattle.co_service.specs.Views.{AreOf};
+ghost use Rattle.co_desk.specs.Views.{AreOf};
 ghost use Rattle.run_cases.specs.Scenes.{two_clients};
 
 use co_hand::{OpenGate, Port, PortReply};

@@ -2,10 +2,10 @@
 ghost use Rattle.std.specs.Prelude.{◌≡◌, ◌<◌, ℕ, Bool, false};
 ghost use Rattle.co_object.specs.Journal.{scanner};
 ghost use Rattle.co_object.specs.Queue.{Due};
-ghost use Rattle.co_service.specs.Params.{actors_of};
-ghost use Rattle.co_service.specs.Services.{HasNext, IsFree, IsServing};
-ghost use Rattle.co_service.specs.Serving.{Runs};
-ghost use Rattle.co_service.specs.Views.{AreOf, PassesView};
+ghost use Rattle.co_desk.specs.Params.{actors_of};
+ghost use Rattle.co_desk.specs.Services.{HasNext, IsFree, IsServing};
+ghost use Rattle.co_desk.specs.Serving.{Runs};
+ghost use Rattle.co_desk.specs.Views.{AreOf, PassesView};
 
 use super::stage::{keep, keep_all};
 use co_object::{Note, Reply};

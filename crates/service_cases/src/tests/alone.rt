@@ -5,10 +5,10 @@ ghost use Rattle.co_object.specs.Journal.{scanner};
 ghost use Rattle.co_object.specs.declared.op.CallOp.TheVariants.{Plain};
 ghost use Rattle.co_object.specs.declared.op.PlainOp.TheVariants.{Reset};
 ghost use Rattle.co_object.specs.declared.spec.LockUse.TheVariants.{Free};
-ghost use Rattle.co_service.specs.Call.{NamesCpu};
-ghost use Rattle.co_service.specs.Params.{actors_of, spec_at};
-ghost use Rattle.co_service.specs.Services.{IsFree};
-ghost use Rattle.co_service.specs.Views.{AreOf};
+ghost use Rattle.co_desk.specs.Call.{NamesCpu};
+ghost use Rattle.co_desk.specs.Params.{actors_of, spec_at};
+ghost use Rattle.co_desk.specs.Services.{IsFree};
+ghost use Rattle.co_desk.specs.Views.{AreOf};
 ghost use Rattle.co_service.specs.Booted.{AreBooted};
 ghost use Rattle.service_cases.specs.Scenes.{IsScene};
 

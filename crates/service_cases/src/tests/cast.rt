@@ -5,8 +5,8 @@ ghost use Rattle.co_object.specs.Journal.{scanner};
 ghost use Rattle.co_service.specs.Booted.{AreBooted};
 ghost use Rattle.co_service.specs.Closing.{AreAll};
 ghost use Rattle.co_service.specs.Kept.{KeepsFree};
-ghost use Rattle.co_service.specs.Params.{actor_count, actors_of};
-ghost use Rattle.co_service.specs.Views.{AreOf};
+ghost use Rattle.co_desk.specs.Params.{actor_count, actors_of};
+ghost use Rattle.co_desk.specs.Views.{AreOf};
 
 use co_sbt::Seq;
 use co_service::{Crew, Name, Passes, Service};

@@ -1,7 +1,7 @@
 //! A direct callout is serviced by its CPU's interrupt.
 ghost use Rattle.std.specs.Prelude.{◌<◌, true};
-ghost use Rattle.co_service.specs.Services.{IsFree};
-ghost use Rattle.co_service.specs.Views.{AreOf};
+ghost use Rattle.co_desk.specs.Services.{IsFree};
+ghost use Rattle.co_desk.specs.Views.{AreOf};
 ghost use Rattle.co_service.specs.Booted.{AreBooted};
 ghost use Rattle.service_cases.specs.Scenes.{IsScene};
 

@@ -5,13 +5,13 @@ ghost use Rattle.co_object.specs.Journal.{scanner};
 ghost use Rattle.co_object.specs.declared.op.CallOp.TheVariants.{Plain};
 ghost use Rattle.co_object.specs.declared.spec.LockUse.TheVariants.{Mtx};
 ghost use Rattle.co_service.specs.Booted.{AreBooted};
-ghost use Rattle.co_service.specs.Call.{NamesCpu};
+ghost use Rattle.co_desk.specs.Call.{NamesCpu};
 ghost use Rattle.service_cases.specs.Scenes.{IsLocked};
 ghost use Rattle.co_service.specs.Kept.{KeepsFree};
-ghost use Rattle.co_service.specs.Params.{actors_of};
-ghost use Rattle.co_service.specs.Services.{HasNext, IsServing};
-ghost use Rattle.co_service.specs.Serving.{Waits};
-ghost use Rattle.co_service.specs.Views.{AreOf, PassesView};
+ghost use Rattle.co_desk.specs.Params.{actors_of};
+ghost use Rattle.co_desk.specs.Services.{HasNext, IsServing};
+ghost use Rattle.co_desk.specs.Serving.{Waits};
+ghost use Rattle.co_desk.specs.Views.{AreOf, PassesView};
 
 use super::acts::{finish, rest, tick};
 use super::cast::leave_two;

@@ -1,7 +1,7 @@
 //! A scan looks at what stands in the buckets that it visits.
 ghost use Rattle.std.specs.Prelude.{◌≡◌, ◌<◌};
 ghost use Rattle.co_service.specs.Booted.{AreBooted};
-ghost use Rattle.co_service.specs.Views.{AreOf};
+ghost use Rattle.co_desk.specs.Views.{AreOf};
 ghost use Rattle.service_cases.specs.Scenes.{IsScene};
 
 use super::cast::{close_two, leave_two};

@@ -2,10 +2,10 @@
 ghost use Rattle.std.specs.Prelude.{◌≡◌, ◌<◌, false};
 ghost use Rattle.co_object.specs.Journal.{scanner};
 ghost use Rattle.co_object.specs.Queue.{Due};
-ghost use Rattle.co_service.specs.Params.{actors_of};
-ghost use Rattle.co_service.specs.Services.{IsFree, IsServing};
-ghost use Rattle.co_service.specs.Serving.{Runs};
-ghost use Rattle.co_service.specs.Views.{AreOf};
+ghost use Rattle.co_desk.specs.Params.{actors_of};
+ghost use Rattle.co_desk.specs.Services.{IsFree, IsServing};
+ghost use Rattle.co_desk.specs.Serving.{Runs};
+ghost use Rattle.co_desk.specs.Views.{AreOf};
 ghost use Rattle.co_service.specs.Booted.{AreBooted};
 ghost use Rattle.service_cases.specs.Scenes.{IsScene};
 

@@ -6,10 +6,10 @@ ghost use Rattle.co_object.specs.declared.op.CallOp.TheVariants.{Plain};
 ghost use Rattle.co_object.specs.declared.op.PlainOp.TheVariants.{Reset};
 ghost use Rattle.co_object.specs.declared.spec.LockUse.TheVariants.{Free};
 ghost use Rattle.co_service.specs.Booted.{AreBooted};
-ghost use Rattle.co_service.specs.Call.{NamesCpu};
-ghost use Rattle.co_service.specs.Params.{spec_at};
+ghost use Rattle.co_desk.specs.Call.{NamesCpu};
+ghost use Rattle.co_desk.specs.Params.{spec_at};
 ghost use Rattle.service_cases.specs.Scenes.{IsFreeSpec, IsScene};
-ghost use Rattle.co_service.specs.Views.{AreOf};
+ghost use Rattle.co_desk.specs.Views.{AreOf};
 
 use co_object::{CallOp, LockUse, Note, PlainOp, Spec};
 use co_sbt::{NoMemory, Sbt, Seq};

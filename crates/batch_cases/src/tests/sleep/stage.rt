@@ -1,6 +1,6 @@
 //! What the played sleep queues share.
 ghost use Rattle.std.specs.Prelude.{◌≡◌, ◌+◌, false};
-ghost use Rattle.co_service.specs.Services.{IsFree};
+ghost use Rattle.co_desk.specs.Services.{IsFree};
 ghost use Rattle.co_sleepq.specs.Fresh.{AreFreshPasses};
 ghost use Rattle.co_sleepq.specs.Params.{ArePasses};
 

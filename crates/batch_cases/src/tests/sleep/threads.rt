@@ -1,6 +1,6 @@
 //! A sleeper, a waker and the CPU, each in a thread of its own, over one sleep queue.
 ghost use Rattle.std.specs.Prelude.{◌≡◌, ◌<◌, false};
-ghost use Rattle.co_service.specs.Services.{IsFree};
+ghost use Rattle.co_desk.specs.Services.{IsFree};
 ghost use Rattle.co_sleepq.specs.Fresh.{AreFreshPasses};
 ghost use Rattle.co_sleepq.specs.Params.{ArePasses, sleepers};
 ghost use denote.Param.Send.{IsSync};

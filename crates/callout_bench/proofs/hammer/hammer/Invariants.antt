@@ -1,4 +1,4 @@
-use Rattle.co_service.specs.Views.{AreOf}
+use Rattle.co_desk.specs.Views.{AreOf}
 use Rattle.callout_bench.proofs.hammer.hammer.Given as goal
 
 abbrev pub invariant-loop-call : goal.invariant-loop-call

@@ -1,5 +1,5 @@
 use Rattle.std.proofs.Common.{sym, subst}
-use Rattle.co_service.specs.Views.{PassesView}
+use Rattle.co_desk.specs.Views.{PassesView}
 use Rattle.co_single.specs.Acts.{IsArmed}
 use Rattle.co_single.specs.Seen.{AddsEntries}
 use Rattle.co_kq.specs.Numbers.{IsPut}

@@ -3,9 +3,9 @@ use Rattle.std.proofs.Common.{◌≡◌, true, ap, rules, ◌∙◌}
 use Rattle.std.specs.Option.{option_copied}
 use Rattle.co_lock.specs.Covers.{covers}
 use Rattle.co_object.specs.declared.op.CallOp.TheVariants.{Plain}
-use Rattle.co_service.specs.Call.{notes_in}
-use Rattle.co_service.specs.declared.params.Params.{Params}
-use Rattle.co_service.specs.Params.{spec_at}
+use Rattle.co_desk.specs.Call.{notes_in}
+use Rattle.co_desk.specs.declared.params.Params.{Params}
+use Rattle.co_desk.specs.Params.{spec_at}
 use Rattle.co_run.proofs.port.ask.Goals as goal
 
 pub returns-clause-came : goal.returns-clause-came

@@ -1,8 +1,8 @@
 -- A Scan has been seen for each tick so far.
 use Rattle.std.proofs.Common.{◌≡◌, ℕ, ◌+◌, ◌≤◌, Bool}
 use Rattle.co_program.specs.Follows.{scan_count}
-use Rattle.co_service.specs.Services.{IsFree}
-use Rattle.co_service.specs.Views.{AreOf, journal_seen}
+use Rattle.co_desk.specs.Services.{IsFree}
+use Rattle.co_desk.specs.Views.{AreOf, journal_seen}
 use Rattle.co_run.proofs.refused.scan_all.Given as goal
 
 abbrev pub invariant-loop-tick : goal.invariant-loop-tick

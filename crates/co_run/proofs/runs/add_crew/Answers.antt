@@ -1,7 +1,7 @@
 -- Each group is of the actors that come next.
 use Rattle.std.proofs.Common.{ap, length, map, subst, sym, ◌+◌, ◌∙◌, List, [], ℕ}
 use Rattle.co_program.specs.Actors.{actor_count, client_count}
-use Rattle.co_service.specs.Views.{PassesView}
+use Rattle.co_desk.specs.Views.{PassesView}
 use Rattle.co_run.specs.Jobs.{HavePlayed}
 use Rattle.co_run.specs.Over.{AreOver}
 use Rattle.co_run.proofs.groups.Joins.{group_at}

@@ -1,7 +1,7 @@
 -- The passes are all actors', and the histories of the end are those that the lists show.
 use Rattle.std.proofs.Common.{map, subst, sym, ◌∙◌}
 use Rattle.std.proofs.lemmas.List.{length-map}
-use Rattle.co_service.specs.declared.params.Params.{Params}
+use Rattle.co_desk.specs.declared.params.Params.{Params}
 use Rattle.co_service.specs.Closing.{AreAll, AreEnded, AreEndedCpus}
 use Rattle.co_run.specs.Acting.{params_of}
 use Rattle.co_run.proofs.merged.RunOfScript.{all_brought, ran_cpus, ran_timers, run_is}

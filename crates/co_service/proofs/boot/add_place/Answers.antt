@@ -2,9 +2,9 @@ use Rattle.std.proofs.Common.{refl, ◌≡◌, ◌+◌, ◌<◌, [], ◌∷◌, 
 use Rattle.std.specs.Prelude.{slice_get}
 use Rattle.std.specs.Vec.Iter.{into_iter_items}
 use Rattle.co_life.specs.Views.{pass_view}
-use Rattle.co_service.specs.Seats.{fresh_seats}
+use Rattle.co_desk.specs.Seats.{fresh_seats}
 use Rattle.co_service.specs.Booted.{AreSeatedAt, IsOpened, IsSeated}
-use Rattle.co_service.proofs.Items.{item_at, get_here, get_or_of}
+use Rattle.co_desk.proofs.Items.{item_at, get_here, get_or_of}
 use Rattle.co_service.proofs.Signing.{seated_more, all_more, keeper_kept}
 use Rattle.co_service.proofs.boot.add_place.Goals as goal
 

@@ -1,5 +1,5 @@
 use Rattle.std.proofs.Common.{◌≡◌, ℕ, ◌<◌, [], vec_len}
-use Rattle.co_service.specs.Seats.{fresh_seats}
+use Rattle.co_desk.specs.Seats.{fresh_seats}
 use Rattle.co_service.specs.Booted.{seats_at}
 use Rattle.co_service.proofs.boot.empty_seats.Given as goal
 

@@ -1,5 +1,5 @@
 use Rattle.std.proofs.Common.{◌+◌, refl, sym, ap, subst, rules, [], ◌∷◌, ◌++◌}
-use Rattle.co_service.specs.declared.line.Line.TheVariants.{Opening}
+use Rattle.co_desk.specs.declared.line.Line.TheVariants.{Opening}
 use Rattle.co_service.specs.Booted.{IsOpened}
 use Rattle.co_service.proofs.Signing.{opened_next, opened_seated}
 use Rattle.co_service.proofs.boot.sign.Goals as goal

@@ -2,10 +2,10 @@ use Rattle.std.proofs.Common.{◌≡◌, map, sym, ap, ◌∙◌, subst}
 use Rattle.std.specs.List.{All}
 use Rattle.std.proofs.lemmas.List.{length-map}
 use Rattle.co_service.specs.Closing.{EndEach}
-use Rattle.co_service.specs.Kinds.{cpu_kind}
-use Rattle.co_service.specs.Lines.{made}
-use Rattle.co_service.specs.Name.{ServiceName}
-use Rattle.co_service.specs.Views.{PassesView}
+use Rattle.co_desk.specs.Kinds.{cpu_kind}
+use Rattle.co_desk.specs.Lines.{made}
+use Rattle.co_desk.specs.Name.{ServiceName}
+use Rattle.co_desk.specs.Views.{PassesView}
 use Rattle.co_service.proofs.closing.end_all.Goals as goal
 
 pub returns : goal.returns

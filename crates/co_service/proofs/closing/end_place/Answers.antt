@@ -1,7 +1,7 @@
 use Rattle.std.proofs.Common.{sym, ap, ◌∙◌, subst}
 use Rattle.std.specs.List.{All}
 use Rattle.co_service.specs.Closing.{Ends}
-use Rattle.co_service.specs.Lines.{made}
+use Rattle.co_desk.specs.Lines.{made}
 use Rattle.co_service.proofs.Ended.{ends_met}
 use Rattle.co_service.proofs.closing.end_place.Goals as goal
 

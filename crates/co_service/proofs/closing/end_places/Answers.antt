@@ -5,9 +5,9 @@ use Rattle.std.specs.Vec.Iter.{into_iter_items}
 use Rattle.std.proofs.lemmas.Grind.{common_steps}
 use Rattle.std.proofs.lemmas.List.{length-map}
 use Rattle.co_service.specs.Closing.{EndEach, Ends}
-use Rattle.co_service.specs.Lines.{made}
-use Rattle.co_service.specs.Views.{PassesView}
-use Rattle.co_service.proofs.Items.{each_place, get_mid, map_more}
+use Rattle.co_desk.specs.Lines.{made}
+use Rattle.co_desk.specs.Views.{PassesView}
+use Rattle.co_desk.proofs.Items.{each_place, get_mid, map_more}
 use Rattle.co_service.proofs.closing.end_places.Goals as goal
 
 pub loop-life-preserved : goal.loop-life-preserved

@@ -1,7 +1,7 @@
 use Rattle.std.proofs.Common.{◌≡◌, ◌≤◌, ◌++◌, length, map}
 use Rattle.std.specs.Vec.Iter.{into_iter_items, into_iter_len}
 use Rattle.co_service.specs.Closing.{EndEach}
-use Rattle.co_service.specs.Lines.{made}
+use Rattle.co_desk.specs.Lines.{made}
 use Rattle.co_service.proofs.closing.end_places.Given as goal
 
 abbrev pub invariant-loop-life : goal.invariant-loop-life

@@ -1,8 +1,8 @@
 use Rattle.std.proofs.Common.{◌≡◌, ◌<◌, length, set, ap, ◌∙◌, subst, arith}
 use Rattle.std.specs.Prelude.{slice_get, slice_index_or}
 use Rattle.std.specs.declared.option.Option.TheVariants.{Some}
-use Rattle.co_service.specs.Closing.{IsMet}
-use Rattle.co_service.proofs.Items.{all_at, all_taken, all_of_taken, set_same, get_here}
+use Rattle.co_desk.specs.Meeting.{IsMet}
+use Rattle.co_desk.proofs.Items.{all_at, all_taken, all_of_taken, set_same, get_here}
 use Rattle.co_service.proofs.closing.meet_all.Goals as goal
 
 pub meet_at-requires-clause-place : goal.meet_at-requires-clause-place

@@ -1,6 +1,6 @@
 use Rattle.std.proofs.Common.{◌≡◌, take}
 use Rattle.std.specs.List.{All}
-use Rattle.co_service.specs.Closing.{IsMet}
+use Rattle.co_desk.specs.Meeting.{IsMet}
 use Rattle.co_service.proofs.closing.meet_all.Given as goal
 
 abbrev pub invariant-loop-at : goal.invariant-loop-at

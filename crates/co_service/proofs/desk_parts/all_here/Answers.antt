@@ -1,7 +1,7 @@
 use Rattle.std.proofs.Common.{◌≡◌, List, [], ◌∷◌, ◌++◌, length, sym, ap, ◌∙◌, arith, append_assoc}
 use Rattle.std.specs.Vec.Iter.{into_iter_items}
 use Rattle.co_service.proofs.FirstKeepers.{Kept, kept}
-use Rattle.co_service.proofs.Items.{map_more}
+use Rattle.co_desk.proofs.Items.{map_more}
 use Rattle.co_service.proofs.desk_parts.all_here.Goals as goal
 
 pub loop-keeper-preserved : goal.loop-keeper-preserved

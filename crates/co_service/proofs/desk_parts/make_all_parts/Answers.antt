@@ -4,7 +4,7 @@ use Rattle.std.specs.declared.option.Option.TheVariants.{Some}
 use Rattle.std.specs.Vec.Iter.{into_iter_items}
 use Rattle.co_service.specs.declared.desk_parts.DeskParts.{DeskParts}
 use Rattle.co_service.specs.Booted.{IsDeskParts}
-use Rattle.co_service.proofs.Items.{each_place, get_mid}
+use Rattle.co_desk.proofs.Items.{each_place, get_mid}
 use Rattle.co_service.proofs.FirstKeepers.{all_first}
 use Rattle.co_service.proofs.desk_parts.make_all_parts.Goals as goal
 

@@ -1,8 +1,8 @@
 use Rattle.std.proofs.Common.{ℕ, refl, sym, subst}
 use Rattle.co_service.specs.Booted.{AreBegun, AreLeft}
 use Rattle.co_service.specs.Fresh.{AreNamed}
-use Rattle.co_service.specs.Name.{ServiceName}
-use Rattle.co_service.specs.Stories.{IsHistory, IsJournal}
+use Rattle.co_desk.specs.Name.{ServiceName}
+use Rattle.co_desk.specs.Stories.{IsHistory, IsJournal}
 use Rattle.co_service.proofs.fresh.join_fresh.Goals as goal
 
 pub join_all-requires-clause-timers : goal.join_all-requires-clause-timers

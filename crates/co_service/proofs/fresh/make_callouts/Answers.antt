@@ -1,7 +1,7 @@
 use Rattle.std.proofs.Common.{length, ap, subst}
 use Rattle.std.proofs.lemmas.Result.{IfOk-weaker}
 use Rattle.co_service.specs.Booted.{AreSetUp}
-use Rattle.co_service.specs.Stories.{IsHistory}
+use Rattle.co_desk.specs.Stories.{IsHistory}
 use Rattle.co_service.proofs.SetUp.{no_history, timer_opener, set_up, story_opened}
 use Rattle.co_service.proofs.fresh.make_callouts.Goals as goal
 

@@ -1,5 +1,5 @@
 use Rattle.std.proofs.lemmas.Result.{IfOk-weaker}
-use Rattle.co_service.specs.Stories.{IsJournal}
+use Rattle.co_desk.specs.Stories.{IsJournal}
 use Rattle.co_service.proofs.SetUp.{no_journal, cpu_opener, set_up, story_opened}
 use Rattle.co_service.proofs.fresh.make_cpus.Goals as goal
 

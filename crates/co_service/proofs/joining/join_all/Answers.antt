@@ -1,8 +1,8 @@
 use Rattle.std.proofs.Common.{◌≡◌, ℕ, ◌+◌, ◌<◌, [], ◌∷◌, ◌++◌, length, sym, ap, ◌∙◌, subst, arith, length-append}
 use Rattle.std.specs.Prelude.{slice_get}
 use Rattle.co_service.specs.Booted.{AreSeatedAt, booted}
-use Rattle.co_service.specs.Seats.{fresh_seats}
-use Rattle.co_service.proofs.Items.{get_here, get_or_of}
+use Rattle.co_desk.specs.Seats.{fresh_seats}
+use Rattle.co_desk.proofs.Items.{get_here, get_or_of}
 use Rattle.co_service.proofs.Joined.{each_more, left_after, seated_own}
 use Rattle.co_service.proofs.joining.join_all.Goals as goal
 

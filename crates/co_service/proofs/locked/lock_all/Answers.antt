@@ -2,11 +2,11 @@ use Rattle.std.proofs.Common.{◌≡◌, ◌+◌, [], ◌∷◌, ◌++◌, lengt
 use Rattle.std.specs.Prelude.{slice_get}
 use Rattle.std.specs.declared.option.Option.TheVariants.{Some}
 use Rattle.std.specs.Vec.Iter.{into_iter_items}
-use Rattle.co_service.proofs.Items.{get_mid}
+use Rattle.co_desk.proofs.Items.{get_mid}
 use Rattle.co_service.proofs.locked.lock_all.Goals as goal
 
-pub new-requires : goal.new-requires
-new-requires g c =
+pub into_desk-requires : goal.into_desk-requires
+into_desk-requires g c =
     let at = c.loop-parts in
     let i = at.invariant in
     let x = c.in-Some.parts in

@@ -1,7 +1,7 @@
 use Rattle.std.proofs.Common.{◌≡◌, ◌≤◌, inl, length, replicate, refl, ap, sym, subst, ◌∙◌, arith}
 use Rattle.std.specs.List.{All}
 use Rattle.std.proofs.lemmas.List.Elements.{All-replicate}
-use Rattle.co_service.specs.Params.{IsSpec, no_spec}
+use Rattle.co_desk.specs.Params.{IsSpec, no_spec}
 use Rattle.co_single.proofs.Opening.{length-replicate}
 use Rattle.co_single.proofs.fresh.plain_service.Goals as goal
 

@@ -1,5 +1,5 @@
 use Rattle.std.proofs.Common.{◌≡◌, replicate}
-use Rattle.co_service.specs.Params.{no_spec}
+use Rattle.co_desk.specs.Params.{no_spec}
 use Rattle.co_single.proofs.fresh.plain_specs.Given as goal
 
 abbrev pub invariant-loop : goal.invariant-loop

@@ -2,7 +2,7 @@ use Rattle.std.proofs.Common.{◌≡◌, ◌≤◌, [], true, length, map, repli
 use Rattle.std.proofs.lemmas.List.{length-map}
 use Rattle.std.specs.Prelude.{is_some}
 use Rattle.std.specs.declared.option.Option.TheVariants.{Some}
-use Rattle.co_service.specs.Params.{actor_count}
+use Rattle.co_desk.specs.Params.{actor_count}
 use Rattle.co_timers.specs.Posts.{ArePosts}
 use Rattle.co_timers.proofs.Posted.{all_here, posts_open}
 use Rattle.co_timers.proofs.posts.open_posts.Goals as goal

@@ -4,7 +4,7 @@ use Rattle.std.proofs.lemmas.List.{map-append}
 use Rattle.std.specs.Vec.Iter.{into_iter_items}
 use Rattle.std.specs.declared.option.Option.{Option}
 use Rattle.std.specs.declared.option.Option.TheVariants.{Some}
-use Rattle.co_service.specs.Views.{PassesView}
+use Rattle.co_desk.specs.Views.{PassesView}
 use Rattle.co_timers.proofs.Posted.{one_taken}
 use Rattle.co_timers.proofs.posts.seated.Goals as goal
 

@@ -5,10 +5,10 @@ use Rattle.std.specs.declared.option.Option.{Option}
 use Rattle.co_hand.specs.declared.fire.Fire.{Fire}
 use Rattle.co_hand.specs.Handlers.{Needs}
 use Rattle.co_object.specs.Queue.{Due}
-use Rattle.co_service.specs.Call.{notes_in}
-use Rattle.co_service.specs.Params.{spec_at}
-use Rattle.co_service.specs.Serving.{Runs}
-use Rattle.co_service.specs.declared.params.Params.{Params}
+use Rattle.co_desk.specs.Call.{notes_in}
+use Rattle.co_desk.specs.Params.{spec_at}
+use Rattle.co_desk.specs.Serving.{Runs}
+use Rattle.co_desk.specs.declared.params.Params.{Params}
 use Rattle.co_timers.specs.Handles.{HandleView}
 use Rattle.co_timers.specs.Ports.{handle_of}
 use Rattle.co_timers.specs.Rounds.{AreNeedsOf, DrainsIf, RunsIf, called_by, drain_of, fire_after, fire_of, hold_in}

@@ -4,7 +4,7 @@ use Rattle.std.specs.Prelude.{IfSome}
 use Rattle.std.specs.declared.option.Option.{Option}
 use Rattle.std.specs.declared.option.Option.TheVariants.{None}
 use Rattle.co_hand.specs.declared.fire.Fire.{Fire}
-use Rattle.co_service.specs.Params.{spec_at}
+use Rattle.co_desk.specs.Params.{spec_at}
 use Rattle.co_timers.specs.Ports.{handle_of}
 use Rattle.co_timers.specs.Rounds.{IsRun, RunsIf, hold_in}
 use Rattle.co_timers.proofs.running.run_if.Goals as goal

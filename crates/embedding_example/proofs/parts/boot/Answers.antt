@@ -6,7 +6,7 @@ use Rattle.std.proofs.lemmas.List.Elements.{All-cons, All-nil}
 use Rattle.co_lock.specs.declared.held.Held.{Held}
 use Rattle.co_lock.specs.Service.{hold_of}
 use Rattle.co_object.specs.declared.spec.LockUse.TheVariants.{Free}
-use Rattle.co_service.specs.Params.{IsSpec, spec_at}
+use Rattle.co_desk.specs.Params.{IsSpec, spec_at}
 use Rattle.co_lock.specs.Locks.{CanBeHeld}
 use Rattle.embedding_example.specs.Example.{example}
 use Rattle.embedding_example.proofs.parts.boot.Goals as goal

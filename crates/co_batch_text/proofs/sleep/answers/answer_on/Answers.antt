@@ -6,8 +6,8 @@ use Rattle.std.specs.declared.option.Option.{Option}
 use Rattle.co_text.specs.Lines.{text}
 use Rattle.co_batch.specs.Answers.{answers}
 use Rattle.co_service.specs.Closing.{AreEnded, AreEndedCpus}
-use Rattle.co_service.specs.Services.{IsFree}
-use Rattle.co_service.specs.declared.params.Params.{Params}
+use Rattle.co_desk.specs.Services.{IsFree}
+use Rattle.co_desk.specs.declared.params.Params.{Params}
 use Rattle.co_sleepq.specs.Closing.{AreAllPasses, service_passes}
 use Rattle.co_sleepq.specs.Fresh.{AreFreshPasses, QueueName, fresh_passes}
 use Rattle.co_sleepq.specs.Params.{ArePasses, actors, sleepers}

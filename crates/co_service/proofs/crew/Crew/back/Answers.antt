@@ -1,7 +1,7 @@
 use Rattle.std.proofs.Common.{ap, subst, sym, arith}
-use Rattle.co_service.specs.declared.params.Params.{Params}
+use Rattle.co_desk.specs.declared.params.Params.{Params}
 use Rattle.co_service.specs.Crew.{CrewView}
-use Rattle.co_service.specs.Views.{AreOf}
+use Rattle.co_desk.specs.Views.{AreOf}
 use Rattle.co_service.proofs.Crews.{one_back}
 use Rattle.co_service.proofs.crew.Crew.back.Goals as goal
 

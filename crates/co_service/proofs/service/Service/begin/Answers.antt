@@ -1,8 +1,8 @@
 use Rattle.std.proofs.Common.{false, sym, subst}
 use Rattle.co_object.specs.Queue.{Due}
-use Rattle.co_service.specs.Serving.{Waits}
-use Rattle.co_service.specs.Services.{AreSame, IsBegun, IsServing}
-use Rattle.co_service.specs.Views.{PassesView}
+use Rattle.co_desk.specs.Serving.{Waits}
+use Rattle.co_desk.specs.Services.{AreSame, IsBegun, IsServing}
+use Rattle.co_desk.specs.Views.{PassesView}
 use Rattle.co_service.proofs.Lasting.{still_of}
 use Rattle.co_service.proofs.Lasts.{begun_same, begun_serving}
 use Rattle.co_service.proofs.service.Service.begin.Goals as goal

@@ -1,7 +1,7 @@
 use Rattle.std.proofs.Common.{ℕ, List, sym, ap, ◌∙◌, subst}
 use Rattle.co_object.specs.declared.note.Note.{Note}
 use Rattle.co_object.specs.declared.reply.Reply.{Reply}
-use Rattle.co_service.specs.Call.{IsCalled, told_notes}
+use Rattle.co_desk.specs.Call.{IsCalled, told_notes}
 use Rattle.co_service.proofs.service.Service.call.Goals as goal
 
 pub returns-clause-called : goal.returns-clause-called

@@ -1,8 +1,8 @@
 use Rattle.std.proofs.Common.{sym, ap, ◌∙◌, subst}
-use Rattle.co_service.specs.declared.params.Params.{Params}
+use Rattle.co_desk.specs.declared.params.Params.{Params}
 use Rattle.co_service.specs.Kept.{Keeps}
-use Rattle.co_service.specs.Moving.{IsDone}
-use Rattle.co_service.specs.Views.{AreOf, PassesView}
+use Rattle.co_desk.specs.Moving.{IsDone}
+use Rattle.co_desk.specs.Views.{AreOf, PassesView}
 use Rattle.co_service.proofs.service.Service.call_alone.Goals as goal
 
 pub land_left-requires : goal.land_left-requires

@@ -1,6 +1,6 @@
 use Rattle.std.proofs.Common.{ap, ◌∙◌, subst}
-use Rattle.co_service.specs.Moving.{IsDone}
-use Rattle.co_service.specs.Views.{PassesView}
+use Rattle.co_desk.specs.Moving.{IsDone}
+use Rattle.co_desk.specs.Views.{PassesView}
 use Rattle.co_service.proofs.service.Service.call_into.Goals as goal
 
 pub land_left-requires : goal.land_left-requires

@@ -1,8 +1,8 @@
 use Rattle.std.proofs.Common.{◌≡◌, ◌<◌, ◌≤◌, ℕ, List, length, sym, ap, ◌∙◌, subst}
-use Rattle.co_service.specs.declared.params.Params.{Params}
+use Rattle.co_desk.specs.declared.params.Params.{Params}
 use Rattle.co_service.specs.Closing.{EndEach, of_actor}
-use Rattle.co_service.specs.Kinds.{cpu_kind, timer_kind}
-use Rattle.co_service.specs.Views.{PassesView}
+use Rattle.co_desk.specs.Kinds.{cpu_kind, timer_kind}
+use Rattle.co_desk.specs.Views.{PassesView}
 use Rattle.co_service.proofs.Ended.{all_ended}
 use Rattle.co_service.proofs.service.Service.close.Goals as goal
 

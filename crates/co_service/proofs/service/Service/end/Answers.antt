@@ -1,8 +1,8 @@
 use Rattle.std.proofs.Common.{false, ℕ, List, sym, ap, ◌∙◌, subst}
 use Rattle.co_object.specs.declared.note.Note.{Note}
 use Rattle.co_object.specs.declared.reply.Reply.{Reply}
-use Rattle.co_service.specs.Ends.{finished_notes}
-use Rattle.co_service.specs.Services.{IsEnded}
+use Rattle.co_desk.specs.Ends.{finished_notes}
+use Rattle.co_desk.specs.Services.{IsEnded}
 use Rattle.co_service.proofs.service.Service.end.Goals as goal
 
 pub returns-clause-ended : goal.returns-clause-ended

@@ -1,7 +1,7 @@
 use Rattle.std.proofs.Common.{sym, subst}
-use Rattle.co_service.specs.declared.params.Params.{Params}
-use Rattle.co_service.specs.Ends.{finished_notes}
-use Rattle.co_service.specs.Views.{AreOf}
+use Rattle.co_desk.specs.declared.params.Params.{Params}
+use Rattle.co_desk.specs.Ends.{finished_notes}
+use Rattle.co_desk.specs.Views.{AreOf}
 use Rattle.co_service.proofs.Lasting.{still_of}
 use Rattle.co_service.proofs.Lasts.{ended_keeps}
 use Rattle.co_service.proofs.WholeCall.{finished_leaves, finished_same}

@@ -1,9 +1,9 @@
 use Rattle.std.proofs.Common.{sym, ap, ◌∙◌, subst}
 use Rattle.co_object.specs.Queue.{Due}
-use Rattle.co_service.specs.Ends.{IsFinished}
-use Rattle.co_service.specs.Services.{IsServing}
-use Rattle.co_service.specs.Serving.{Runs}
-use Rattle.co_service.specs.Views.{PassesView}
+use Rattle.co_desk.specs.Ends.{IsFinished}
+use Rattle.co_desk.specs.Services.{IsServing}
+use Rattle.co_desk.specs.Serving.{Runs}
+use Rattle.co_desk.specs.Views.{PassesView}
 use Rattle.co_service.proofs.service.Service.end_found.Goals as goal
 
 pub end-ended-requires-clause-service : goal.end-ended-requires-clause-service

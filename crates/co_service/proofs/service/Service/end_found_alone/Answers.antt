@@ -1,11 +1,11 @@
 use Rattle.std.proofs.Common.{sym, subst}
 use Rattle.co_object.specs.Queue.{Due}
-use Rattle.co_service.specs.declared.params.Params.{Params}
-use Rattle.co_service.specs.Ends.{IsFinished}
+use Rattle.co_desk.specs.declared.params.Params.{Params}
+use Rattle.co_desk.specs.Ends.{IsFinished}
 use Rattle.co_service.specs.Kept.{MayTryEnd}
-use Rattle.co_service.specs.Services.{IsServing}
-use Rattle.co_service.specs.Serving.{Runs}
-use Rattle.co_service.specs.Views.{PassesView}
+use Rattle.co_desk.specs.Services.{IsServing}
+use Rattle.co_desk.specs.Serving.{Runs}
+use Rattle.co_desk.specs.Views.{PassesView}
 use Rattle.co_service.proofs.service.Service.end_found_alone.Goals as goal
 
 pub returns-then-end_here-clause-finished : goal.returns-then-end_here-clause-finished

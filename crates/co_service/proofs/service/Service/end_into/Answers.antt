@@ -1,4 +1,4 @@
-use Rattle.co_service.specs.Ends.{finished_notes}
+use Rattle.co_desk.specs.Ends.{finished_notes}
 use Rattle.co_service.proofs.Lasting.{still_of}
 use Rattle.co_service.proofs.Lasts.{ended_keeps}
 use Rattle.co_service.proofs.WholeCall.{finished_leaves, finished_same}

@@ -1,8 +1,8 @@
 use Rattle.std.proofs.Common.{sym, ◌∙◌, subst}
 use Rattle.co_service.specs.Kept.{MayLand}
-use Rattle.co_service.specs.Moving.{MovingView}
-use Rattle.co_service.specs.Services.{IsLanded}
-use Rattle.co_service.specs.Views.{PassesView}
+use Rattle.co_desk.specs.Moving.{MovingView}
+use Rattle.co_desk.specs.Services.{IsLanded}
+use Rattle.co_desk.specs.Views.{PassesView}
 use Rattle.co_service.proofs.service.Service.land.Goals as goal
 
 pub land_once-requires : goal.land_once-requires

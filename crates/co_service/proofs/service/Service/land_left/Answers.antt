@@ -1,13 +1,14 @@
-use Rattle.std.proofs.Common.{ℕ, List, ap, subst}
+use Rattle.std.proofs.Common.{ℕ, List, sym, ap, subst}
 use Rattle.std.specs.Prelude.{is_some}
 use Rattle.std.specs.declared.option.Option.{Option}
 use Rattle.std.specs.declared.option.Option.TheVariants.{Some}
 use Rattle.co_object.specs.declared.note.Note.{Note}
 use Rattle.co_object.specs.declared.op.CallOp.{CallOp}
-use Rattle.co_service.specs.Call.{IsAnswer, IsCalled, told_notes}
-use Rattle.co_service.specs.Moving.{IsDone, IsOfService, MovingView, target_of}
-use Rattle.co_service.specs.Services.{IsLanded}
-use Rattle.co_service.specs.Views.{PassesView}
+use Rattle.co_desk.specs.declared.told.Told.{Told}
+use Rattle.co_desk.specs.Call.{IsAnswer, IsCalled, told_notes}
+use Rattle.co_desk.specs.Moving.{IsDone, IsOfService, MovingView, target_of}
+use Rattle.co_desk.specs.Services.{IsLanded}
+use Rattle.co_desk.specs.Views.{PassesView}
 use Rattle.co_service.proofs.Lasting.{still_of}
 use Rattle.co_service.proofs.Lasts.{called_keeps}
 use Rattle.co_service.proofs.WholeCall.{done_leaves, done_same, told_landed, whole_here, whole_landed}
@@ -51,6 +52,6 @@ returns-in-Some g c =
     subst (λ (ns : List Note). IsCalled p c.args.act c.args.i op told.out.reply ns r) (told_landed p.actor c.args.act c.args.i op told c.land.result (done.room (ap is_some c.in-Some.is)))
     (whole_landed p q c.args.act c.args.i op told.out.reply notes m.target c.land.result r goes landed) in
     record {
-      called = called;
+      called = subst (λ (t : Told). (p : PassesView) (op : CallOp) → IsDone p c.args.act c.args.i op told c.args.leaves q → IsCalled p c.args.act c.args.i op t.out.reply (told_notes p.actor c.args.act c.args.i op t) r) (sym c.tell_insert.ensures) called;
       kept = λ p op are done. called_keeps p r c.args.act c.args.i op told.out.reply (told_notes p.actor c.args.act c.args.i op told') (called p op done) g.N.Name.name c.args.self.now are;
     }

@@ -1,6 +1,6 @@
 use Rattle.std.proofs.Common.{◌≡◌, true, ℕ, sym, ap, ◌∙◌, subst}
-use Rattle.co_service.specs.declared.outs.Taken.{Taken}
-use Rattle.co_service.specs.Services.{HasNext, IsTaken, taken_of}
+use Rattle.co_desk.specs.declared.outs.Taken.{Taken}
+use Rattle.co_desk.specs.Services.{HasNext, IsTaken, taken_of}
 use Rattle.co_service.proofs.service.Service.next_direct.Goals as goal
 
 pub returns-clause-taken : goal.returns-clause-taken

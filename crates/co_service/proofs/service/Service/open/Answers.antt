@@ -1,7 +1,7 @@
 use Rattle.std.proofs.Common.{◌≤◌, sym, ap, ◌∙◌, subst}
-use Rattle.co_service.specs.declared.params.Params.{Params}
+use Rattle.co_desk.specs.declared.params.Params.{Params}
 use Rattle.co_service.specs.Fresh.{AreNamed}
-use Rattle.co_service.specs.Params.{AreParams}
+use Rattle.co_desk.specs.Params.{AreParams}
 use Rattle.co_service.proofs.service.Service.open.Goals as goal
 
 pub invariant_of-result : goal.invariant_of-result

@@ -1,6 +1,6 @@
 use Rattle.std.proofs.Common.{sym, subst}
-use Rattle.co_service.specs.Services.{IsFree, IsTaken, taken_of}
-use Rattle.co_service.specs.Views.{PassesView}
+use Rattle.co_desk.specs.Services.{IsFree, IsTaken, taken_of}
+use Rattle.co_desk.specs.Views.{PassesView}
 use Rattle.co_service.proofs.Lasts.{taken_keeps}
 use Rattle.co_service.proofs.service.Service.pop.Goals as goal
 

@@ -1,8 +1,9 @@
 use Rattle.std.proofs.Common.{sym, subst}
-use Rattle.co_service.specs.declared.params.Params.{Params}
-use Rattle.co_service.specs.Kept.{IsStarted, MayStart}
-use Rattle.co_service.specs.Services.{IsTaken, taken_of}
-use Rattle.co_service.specs.Views.{PassesView}
+use Rattle.co_desk.specs.declared.params.Params.{Params}
+use Rattle.co_desk.specs.Asked.{IsStarted}
+use Rattle.co_service.specs.Kept.{MayStart}
+use Rattle.co_desk.specs.Services.{IsTaken, taken_of}
+use Rattle.co_desk.specs.Views.{PassesView}
 use Rattle.co_service.proofs.Lasts.{taken_keeps}
 use Rattle.co_service.proofs.service.Service.pop_alone.Goals as goal
 

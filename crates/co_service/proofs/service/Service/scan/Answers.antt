@@ -1,6 +1,6 @@
 use Rattle.std.proofs.Common.{sym, ap, ◌∙◌, subst}
-use Rattle.co_service.specs.Outcomes.{IsScan}
-use Rattle.co_service.specs.Views.{AreOf, PassesView}
+use Rattle.co_desk.specs.Outcomes.{IsScan}
+use Rattle.co_desk.specs.Views.{AreOf, PassesView}
 use Rattle.co_service.proofs.Lasts.{scanned_keeps}
 use Rattle.co_service.proofs.service.Service.scan.Goals.{After-drop-iterator}
 use Rattle.co_service.proofs.service.Service.scan.Goals as goal

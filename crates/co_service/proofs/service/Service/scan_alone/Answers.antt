@@ -1,9 +1,9 @@
 use Rattle.std.proofs.Common.{◌≡◌, ◌<◌, sym, subst}
 use Rattle.co_object.specs.Journal.{scanner}
-use Rattle.co_service.specs.declared.params.Params.{Params}
-use Rattle.co_service.specs.Outcomes.{IsScan}
-use Rattle.co_service.specs.Params.{actors_of}
-use Rattle.co_service.specs.Views.{AreOf, PassesView}
+use Rattle.co_desk.specs.declared.params.Params.{Params}
+use Rattle.co_desk.specs.Outcomes.{IsScan}
+use Rattle.co_desk.specs.Params.{actors_of}
+use Rattle.co_desk.specs.Views.{AreOf, PassesView}
 use Rattle.co_service.proofs.Lasts.{scanned_keeps}
 use Rattle.co_service.proofs.service.Service.scan_alone.Goals as goal
 

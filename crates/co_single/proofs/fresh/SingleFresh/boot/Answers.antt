@@ -1,6 +1,6 @@
 use Rattle.std.proofs.Common.{◌≡◌, length, ap, sym, subst, ◌∙◌, arith}
 use Rattle.co_service.specs.Crew.{AreNew}
-use Rattle.co_service.specs.Params.{actor_count, no_spec}
+use Rattle.co_desk.specs.Params.{actor_count, no_spec}
 use Rattle.co_service.proofs.Crews.{leaves}
 use Rattle.co_single.specs.Seen.{single_params}
 use Rattle.co_single.proofs.Opening.{length-replicate}

@@ -1,5 +1,5 @@
 use Rattle.std.proofs.Common.{◌<◌, false, length, sym, subst}
-use Rattle.co_service.specs.declared.params.Params.{Params}
+use Rattle.co_desk.specs.declared.params.Params.{Params}
 use Rattle.co_single.specs.Acts.{IsDisarmed}
 use Rattle.co_single.specs.Alarms.{callout_count}
 use Rattle.co_single.specs.Rest.{IsSingle}

@@ -4,12 +4,12 @@ use Rattle.co_object.specs.declared.op.Op.TheVariants.{Run}
 use Rattle.co_object.specs.declared.op.RunOp.TheVariants.{Pick}
 use Rattle.co_object.specs.declared.queue.QReply.TheVariants.{Got, Empty as Nothing}
 use Rattle.co_wheel.specs.Turns.{pop_of}
-use Rattle.co_service.specs.Ends.{finished_notes}
-use Rattle.co_service.specs.Outcomes.{noted_entry, noted_turn}
-use Rattle.co_service.specs.Services.{IsServing}
-use Rattle.co_service.specs.Serving.{Runs}
-use Rattle.co_service.specs.Views.{AreOf}
-use Rattle.co_service.specs.declared.params.Params.{Params}
+use Rattle.co_desk.specs.Ends.{finished_notes}
+use Rattle.co_desk.specs.Outcomes.{noted_entry, noted_turn}
+use Rattle.co_desk.specs.Services.{IsServing}
+use Rattle.co_desk.specs.Serving.{Runs}
+use Rattle.co_desk.specs.Views.{AreOf}
+use Rattle.co_desk.specs.declared.params.Params.{Params}
 use Rattle.co_single.specs.Acts.{IsFired, NothingWaits}
 use Rattle.co_single.specs.Alarms.{arg_in}
 use Rattle.co_single.specs.Seen.{none_entries, taken_entries, AddsEntries}

@@ -1,5 +1,5 @@
 use Rattle.std.proofs.Common.{false, length, sym, subst, ap, ◌∙◌}
-use Rattle.co_service.specs.Services.{IsFree}
+use Rattle.co_desk.specs.Services.{IsFree}
 use Rattle.co_single.specs.Acts.{IsNew}
 use Rattle.co_single.specs.Rest.{HasNoService}
 use Rattle.co_single.specs.Seen.{AreSingle}

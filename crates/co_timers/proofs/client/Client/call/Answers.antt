@@ -5,7 +5,7 @@ use Rattle.std.specs.Prelude.{Ok, Err}
 use Rattle.std.specs.declared.option.Option.TheVariants.{Some}
 use Rattle.co_object.specs.declared.op.CallOp.TheVariants.{Plain}
 use Rattle.co_object.specs.declared.reply.Reply.{Reply}
-use Rattle.co_service.specs.Views.{PassesView}
+use Rattle.co_desk.specs.Views.{PassesView}
 use Rattle.co_timers.specs.Answers.{IsSaid}
 use Rattle.co_timers.specs.Handles.{HandleView}
 use Rattle.co_timers.proofs.Asked.{made_said, refused_said}

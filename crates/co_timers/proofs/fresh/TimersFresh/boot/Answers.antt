@@ -3,8 +3,8 @@ use Rattle.std.proofs.Common.{List, ap, subst, sym, ◌∙◌}
 use Rattle.co_lock.specs.declared.lock_kind.LockKind.{LockKind}
 use Rattle.co_service.specs.Booted.{AreBooted}
 use Rattle.co_service.specs.Fresh.{AreNamed}
-use Rattle.co_service.specs.Params.{AreParams}
-use Rattle.co_service.specs.declared.params.Params.{Params}
+use Rattle.co_desk.specs.Params.{AreParams}
+use Rattle.co_desk.specs.declared.params.Params.{Params}
 use Rattle.co_timers.specs.Timers.{HaveLocks}
 use Rattle.co_timers.proofs.fresh.TimersFresh.boot.Goals as goal
 

@@ -6,8 +6,8 @@ use Rattle.co_lock.specs.declared.held.Held.{Held}
 use Rattle.co_lock.specs.Covers.{covers}
 use Rattle.co_object.specs.declared.op.CallOp.TheVariants.{Plain}
 use Rattle.co_object.specs.declared.spec.Spec.{Spec}
-use Rattle.co_service.specs.declared.params.Params.{Params}
-use Rattle.co_service.specs.Params.{spec_at}
+use Rattle.co_desk.specs.declared.params.Params.{Params}
+use Rattle.co_desk.specs.Params.{spec_at}
 use Rattle.co_timers.proofs.Allowed.{allowed}
 use Rattle.co_timers.proofs.lane.Lane.ask.Goals as goal
 

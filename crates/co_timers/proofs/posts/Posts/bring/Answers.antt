@@ -1,7 +1,7 @@
 -- One more is back, and there was room.
 use Rattle.std.proofs.Common.{ap, subst, sym}
-use Rattle.co_service.specs.Views.{AreOf}
-use Rattle.co_service.specs.declared.params.Params.{Params}
+use Rattle.co_desk.specs.Views.{AreOf}
+use Rattle.co_desk.specs.declared.params.Params.{Params}
 use Rattle.co_timers.specs.Posts.{PostsView}
 use Rattle.co_timers.proofs.Posted.{posts_back}
 use Rattle.co_timers.proofs.posts.Posts.bring.Goals as goal

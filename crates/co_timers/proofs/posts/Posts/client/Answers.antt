@@ -1,7 +1,7 @@
 -- The client's passes have seen nothing.
 use Rattle.std.proofs.Common.{ap, subst, sym, ◌∙◌}
-use Rattle.co_service.specs.Views.{PassesView}
-use Rattle.co_service.specs.declared.params.Params.{Params}
+use Rattle.co_desk.specs.Views.{PassesView}
+use Rattle.co_desk.specs.declared.params.Params.{Params}
 use Rattle.co_timers.specs.Handles.{IsHandle}
 use Rattle.co_timers.proofs.posts.Posts.client.Goals as goal
 

@@ -1,7 +1,7 @@
 -- Both actors have seen nothing, and the passes are of the service that the handle names.
 use Rattle.std.proofs.Common.{rules, ◌≡◌, ◌+◌, ◌<◌, true, ap, sym, subst, ◌∙◌}
 use Rattle.co_service.specs.Booted.{booted}
-use Rattle.co_service.specs.declared.params.Params.{Params}
+use Rattle.co_desk.specs.declared.params.Params.{Params}
 use Rattle.co_timers.specs.Handles.{IsHandle}
 use Rattle.co_timers.specs.Posts.{is_whole}
 use Rattle.co_timers.proofs.Whole.{first, whole}

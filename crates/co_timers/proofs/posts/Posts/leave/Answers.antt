@@ -4,9 +4,9 @@ use Rattle.std.specs.Prelude.{IfSome, is_some, slice_get, slice_index_or, slice_
 use Rattle.std.specs.declared.option.Option.{Option}
 use Rattle.std.specs.declared.option.Option.TheVariants.{Some}
 use Rattle.co_service.specs.Booted.{booted}
-use Rattle.co_service.specs.Views.{PassesView}
-use Rattle.co_service.specs.declared.params.Params.{Params}
-use Rattle.co_service.proofs.Items.{get_here, get_map, get_or_of, set_map}
+use Rattle.co_desk.specs.Views.{PassesView}
+use Rattle.co_desk.specs.declared.params.Params.{Params}
+use Rattle.co_desk.proofs.Items.{get_here, get_map, get_or_of, set_map}
 use Rattle.co_timers.specs.Handles.{IsHandle}
 use Rattle.co_timers.specs.Posts.{ArePosts, PostsView}
 use Rattle.co_timers.proofs.Posted.{posts_left, seat_booted, seat_handle}

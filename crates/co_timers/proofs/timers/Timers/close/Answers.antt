@@ -1,8 +1,8 @@
 -- What the service ends with is of its parameters, which are the handle's.
 use Rattle.std.proofs.Common.{List, ap, subst, ◌∙◌}
 use Rattle.co_service.specs.Closing.{AreEnded, AreEndedCpus, HasEach}
-use Rattle.co_service.specs.Views.{PassesView}
-use Rattle.co_service.specs.declared.params.Params.{Params}
+use Rattle.co_desk.specs.Views.{PassesView}
+use Rattle.co_desk.specs.declared.params.Params.{Params}
 use Rattle.co_timers.specs.Timers.{TimersView}
 use Rattle.co_timers.proofs.timers.Timers.close.Goals as goal
 

@@ -1,5 +1,5 @@
 use Rattle.co_object.specs.Queue.{Due}
-use Rattle.co_service.specs.Call.{notes_in}
+use Rattle.co_desk.specs.Call.{notes_in}
 use Rattle.co_timers.proofs.Kept.{handle_after}
 use Rattle.co_timers.proofs.timers.Timers.finish.Goals as goal
 

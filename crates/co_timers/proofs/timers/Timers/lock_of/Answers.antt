@@ -1,7 +1,7 @@
 use Rattle.std.proofs.Common.{◌≡◌, ap, sym, subst, ◌∙◌}
 use Rattle.std.specs.declared.option.Option.TheVariants.{Some}
 use Rattle.co_lock.specs.Service.{hold_of}
-use Rattle.co_service.specs.Params.{spec_at}
+use Rattle.co_desk.specs.Params.{spec_at}
 use Rattle.co_lock.specs.Locks.{CanBeHeld}
 use Rattle.co_timers.proofs.timers.Timers.lock_of.Goals as goal
 

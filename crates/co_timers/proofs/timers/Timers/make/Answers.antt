@@ -2,9 +2,9 @@ use Rattle.std.proofs.Common.{ap, subst, sym, ◌∙◌}
 use Rattle.std.specs.Prelude.{length, ◌<◌, ◌≡◌, true}
 use Rattle.co_lock.specs.Covers.{covers}
 use Rattle.co_object.specs.declared.reply.Reply.{Reply}
-use Rattle.co_service.specs.Call.{NamesCpu, told_notes}
-use Rattle.co_service.specs.Params.{spec_at}
-use Rattle.co_service.specs.Views.{AreOf}
+use Rattle.co_desk.specs.Call.{NamesCpu, told_notes}
+use Rattle.co_desk.specs.Params.{spec_at}
+use Rattle.co_desk.specs.Views.{AreOf}
 use Rattle.std.specs.Option.{option_copied}
 use Rattle.co_timers.specs.Acts.{IsCallMade}
 use Rattle.co_timers.proofs.Asked.{cleared, handle_of, made_of}

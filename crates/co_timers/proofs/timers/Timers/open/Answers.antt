@@ -2,8 +2,8 @@
 use Rattle.std.proofs.Common.{ap, replicate, subst, true, ◌∙◌}
 use Rattle.co_service.specs.Booted.{AreBooted}
 use Rattle.co_service.specs.Fresh.{AreNamed}
-use Rattle.co_service.specs.Name.{ServiceName}
-use Rattle.co_service.specs.Params.{actor_count}
+use Rattle.co_desk.specs.Name.{ServiceName}
+use Rattle.co_desk.specs.Params.{actor_count}
 use Rattle.co_timers.specs.Posts.{FreshTimers}
 use Rattle.co_timers.proofs.timers.Timers.open.Goals as goal
 

@@ -1,6 +1,6 @@
 -- What is taken may be served, by the limits of the service's callouts.
 use Rattle.std.proofs.Common.{false, subst, true}
-use Rattle.co_service.specs.Params.{AreParams}
+use Rattle.co_desk.specs.Params.{AreParams}
 use Rattle.co_timers.proofs.Picks.{has_taken}
 use Rattle.co_timers.proofs.timers.Timers.take.Goals as goal
 

@@ -2,8 +2,8 @@ use Rattle.std.proofs.Common.{◌≡◌, ℕ, false, sym, ap, ◌∙◌}
 use Rattle.std.specs.declared.option.Option.TheVariants.{Some}
 use Rattle.co_lock.specs.Service.{hold_of}
 use Rattle.co_object.specs.Queue.{Due}
-use Rattle.co_service.specs.Params.{spec_at}
-use Rattle.co_service.specs.Serving.{Waits}
+use Rattle.co_desk.specs.Params.{spec_at}
+use Rattle.co_desk.specs.Serving.{Waits}
 use Rattle.service_cases.proofs.Stages.{same_due}
 use Rattle.service_cases.proofs.tests.held.end_what_waits.Goals as goal
 

@@ -1,4 +1,4 @@
-use Rattle.co_service.specs.Views.{AreOf}
+use Rattle.co_desk.specs.Views.{AreOf}
 use Rattle.service_cases.proofs.tests.looks.arm_all.Given as goal
 
 abbrev pub invariant-loop-i : goal.invariant-loop-i

@@ -4,7 +4,7 @@ use Rattle.std.specs.declared.option.Option.TheVariants.{Some}
 use Rattle.std.proofs.lemmas.List.Elements.{All-from_recursion}
 use Rattle.co_lock.specs.declared.held.Held.{Held}
 use Rattle.co_lock.specs.Service.{hold_of}
-use Rattle.co_service.specs.Params.{IsSpec, spec_at}
+use Rattle.co_desk.specs.Params.{IsSpec, spec_at}
 use Rattle.co_lock.specs.Locks.{CanBeHeld}
 use Rattle.timers_cases.specs.Scenes.{scene, scene_locks, scene_specs}
 use Rattle.timers_cases.proofs.tests.stage.boot.Goals as goal

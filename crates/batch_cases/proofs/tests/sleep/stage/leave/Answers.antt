@@ -1,7 +1,7 @@
 use Rattle.std.proofs.Common.{◌≡◌, ◌+◌, ◌++◌, [], ◌∷◌, List, false, sym, subst, ap, ◌∙◌}
 use Rattle.std.specs.Option.{option_to_list}
 use Rattle.std.specs.declared.option.Option.{Option}
-use Rattle.co_service.specs.Services.{IsFree}
+use Rattle.co_desk.specs.Services.{IsFree}
 use Rattle.co_sleepq.specs.Fresh.{AreFreshPasses, QueueName, fresh_passes}
 use Rattle.co_sleepq.specs.Views.{SleepPassesView}
 use Rattle.co_sleepq.proofs.AllPasses.{fresh-free, fresh-rest, last-fresh}

@@ -1,5 +1,5 @@
 use Rattle.std.proofs.Common.{false}
-use Rattle.co_service.specs.Services.{IsFree}
+use Rattle.co_desk.specs.Services.{IsFree}
 use Rattle.co_sleepq.specs.Params.{ArePasses}
 use Rattle.batch_cases.proofs.tests.sleep.threads.tick_often.Given as goal
 

@@ -1,5 +1,0 @@
-use Rattle.std.proofs.Common.{refl}
-use Rattle.co_service.proofs.finished.Finished.tell.Goals as goal
-
-pub returns : goal.returns
-returns c = refl
