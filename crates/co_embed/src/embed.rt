@@ -86,10 +86,7 @@ fn empty_wheel(
 fn no_words(alloc: Global, callouts: u32) -> Result<Vec<u64>, NoMemory>
     ensures { IfOk result (λ words. words.items ≡ replicate callouts 0) }
 {
-    match vec![in alloc; 0; callouts as usize] {
-        Ok(words) => Ok(words),
-        Err(_) => Err(NoMemory {}),
-    }
+    Ok(vec![in alloc; 0; callouts as usize]?)
 }
 
 /// What a CPU is made of, for sizes that may be.

@@ -71,10 +71,10 @@ impl EventQueue {
         requires { IsSize size }
         ensures { IfOk result (IsNew size) }
     {
-        let direct = vec![in alloc; false; size as usize].map_err(|_| NoMemory {})?;
+        let direct = vec![in alloc; false; size as usize]?;
         Ok(EventQueue {
             wheel: WheelQueue::new(alloc, size, 256, direct.as_slice())?,
-            deadlines: Tournament::new(alloc, size as usize).map_err(|_| NoMemory {})?,
+            deadlines: Tournament::new(alloc, size as usize)?,
             clock: Sbt::zero(),
         })
     }

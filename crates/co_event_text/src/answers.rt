@@ -162,7 +162,7 @@ fn answer_all(
 fn places(alloc: Global, callouts: u32) -> Result<Vec<u32>, NoMemory>
     ensures { IfOk result (λ places. length places.items ≡ callouts) }
 {
-    vec![in alloc; 0; callouts as usize].map_err(|_| NoMemory {})
+    Ok(vec![in alloc; 0; callouts as usize]?)
 }
 
 /// What a queue answers to the commands of a batch.

@@ -85,14 +85,11 @@ impl QuietSink {
     pub fn new(alloc: Global, room: usize) -> Result<QuietSink, NoMemory>
         ensures { IfOk result (λ sink. sink ≡ record { held = []; room = room; idle = 0 }) }
     {
-        match Vec::with_capacity(alloc, room) {
-            Ok(bytes) => Ok(QuietSink {
-                bytes,
-                room,
-                idle: 0,
-            }),
-            Err(_) => Err(NoMemory {}),
-        }
+        Ok(QuietSink {
+            bytes: Vec::with_capacity(alloc, room)?,
+            room,
+            idle: 0,
+        })
     }
 
     /// The bytes that were written.

@@ -38,10 +38,7 @@ impl<T: Drop> Room<T> {
         ensures ok { OnOk result (count ≤ self.new.spare) }
         ensures err { OnErr result (self.new.spare ≡ self.old.spare) }
     {
-        match self.items.reserve(count) {
-            Ok(()) => Ok(()),
-            Err(_) => Err(NoMemory {}),
-        }
+        Ok(self.items.reserve(count)?)
     }
 
     /// Appends an item, into the room. The caller has made room for it by `reserve`.

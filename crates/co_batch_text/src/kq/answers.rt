@@ -119,7 +119,7 @@ fn answer_all<N: Name, R: Wait>(
 fn no_events(alloc: Global) -> Result<Vec<Event>, NoMemory>
     ensures { IfOk result (λ events. length events.items ≡ 1024) }
 {
-    vec![in alloc; Event { ident: 0, count: 0 }; 1024].map_err(|_| NoMemory {})
+    Ok(vec![in alloc; Event { ident: 0, count: 0 }; 1024]?)
 }
 
 /// What a list answers to the commands of a batch.
