@@ -4,3 +4,7 @@ pub mod FrameBack
 pub mod Sizes
 pub mod Typed
 pub mod LoneActs
+pub mod AheadWords
+mod Digits
+mod AheadOperands
+mod AheadForms

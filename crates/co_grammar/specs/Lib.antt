@@ -18,3 +18,5 @@ pub mod Checks
 pub mod Views
 -- the words by which acts, the frame's lines and actors are written
 pub mod Spelling
+-- acts at the front of a text whose line isn't cut yet
+pub mod Ahead

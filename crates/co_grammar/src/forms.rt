@@ -102,7 +102,7 @@ fn async_drain(serviced: bool, words: &mut Words, into: &mut Act) -> Result<(), 
 
 /// The act of a time, by its verb.
 #[inline(always)]
-fn timed_act(verb: Verb, time: Sbt) -> Act
+pub(crate) fn timed_act(verb: Verb, time: Sbt) -> Act
     ensures { result ≡ timed_act verb time }
 {
     match verb {
@@ -122,7 +122,7 @@ fn timed(verb: Verb, words: &mut Words, into: &mut Act) -> Result<(), Cause>
 
 /// The act of a number, by its verb.
 #[inline(always)]
-fn numbered_act(verb: Verb, number: u32) -> Act
+pub(crate) fn numbered_act(verb: Verb, number: u32) -> Act
     ensures { result ≡ numbered_act verb number }
 {
     match verb {
@@ -151,7 +151,7 @@ fn numbered(verb: Verb, words: &mut Words, into: &mut Act) -> Result<(), Cause>
 
 /// The act of a callout alone, by its verb.
 #[inline(always)]
-fn who_act(verb: Verb, who: Who) -> Act
+pub(crate) fn who_act(verb: Verb, who: Who) -> Act
     ensures { result ≡ who_act verb who }
 {
     match verb {

@@ -4,6 +4,7 @@
 #![tactic(auto)]
 
 mod actors;
+mod ahead;
 pub mod checks;
 mod convert;
 pub mod forms;
@@ -14,6 +15,7 @@ mod print;
 mod raw;
 
 pub use actors::turn;
+pub use ahead::act_ahead;
 pub use convert::spec_of;
 pub use keyword::{Kind, Opener, Verb, kind_of, verb_of};
 pub use operands::moment;

@@ -2,8 +2,10 @@
 use Rattle.std.specs.Prelude.{◌≡◌, ℕ, ◌+◌, ◌-◌, ◌≤◌, ◌<◌, true, List, [], Option, Some, Result, Ok, length, drop}
 use Rattle.co_program.specs.declared.Act.{Act}
 use Rattle.co_grammar.specs.declared.Kind.{Kind}
+use Rattle.co_grammar.specs.Ahead.{HasWords}
 use Rattle.co_grammar.specs.Statements as states
-use Rattle.co_text.specs.Fallible.{Refusal}
+use Rattle.co_text.specs.Fallible.{Refusal, LineFails}
+use Rattle.co_text.specs.declared.LineFault.{LineFault}
 use Rattle.co_text.specs.Lines.{Line, lines_of}
 use Rattle.co_text.specs.Values.{Word}
 use Rattle.co_script.specs.Drafts.{Draft}
@@ -49,6 +51,46 @@ pub record Grows (l : Line) (d e : Draft) : Type 0 where
 pub record SaysAct (d : Draft) (first : Word) (others : List Word) (a : Act) : Type 0 where
   pub room : has_room_for_act d ≡ true
   pub reads : (o : Draft) → StandAlike d o → o.count < 262144 → line_after o first others ≡ Ok (draft_with o o.script (states.Does a))
+
+-- the line at the front of a text says this act, which may be added here, and to each section that stands alike; this stands
+-- behind the line
+pub record SaysNext (d : Draft) (text : List ℕ) (a : Act) (after : List ℕ) : Type 0 where
+  pub first : Word
+  pub others : List Word
+  pub has : HasWords text first others after
+  pub says : SaysAct d first others a
+
+-- a line stands between two places of a text
+pub record IsLine (text : List ℕ) (from to : ℕ) (l : Line) : Type 0 where
+  pub lines : lines_of (drop from text) ≡ l ∷ lines_of (drop to text)
+  pub further : from < to
+  pub within : to ≤ length text
+
+-- the line between two places makes the first draft the second, and grows its open section
+pub record TakesNext (text : List ℕ) (d e : Draft) (from to : ℕ) : Type 0 where
+  pub line : Line
+  pub is : IsLine text from to line
+  pub grows : Grows line d e
+  pub reads : line_read (Some d) line ≡ Ok (Some e)
+
+-- the line between two places grows the open section
+pub record GrowsNext (text : List ℕ) (d e : Draft) (from to : ℕ) : Type 0 where
+  pub line : Line
+  pub is : IsLine text from to line
+  pub grows : Grows line d e
+
+-- the line between two places makes the first draft the second
+pub record ReadsNext (text : List ℕ) (d e : Option Draft) (from to : ℕ) : Type 0 where
+  pub line : Line
+  pub is : IsLine text from to line
+  pub reads : line_read d line ≡ Ok e
+
+-- the line from a place on is refused
+pub record FailsNext (text : List ℕ) (d : Option Draft) (from : ℕ) (fault : LineFault) : Type 0 where
+  pub line : Line
+  pub rest : List Line
+  pub lines : lines_of (drop from text) ≡ line ∷ rest
+  pub fails : LineFails fault (line_read d line)
 
 -- a section of this kind that has just begun in any draft of the frame has these acts and this time behind so many lines
 abbrev pub Reads : Draft → Kind → List Line → List Act → ℕ → ℕ → List Line → Type 0

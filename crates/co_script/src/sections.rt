@@ -1,6 +1,6 @@
 //! The long sections of a text, each read by itself.
-ghost use Rattle.std.specs.Prelude.{◌≤◌, IfOk, length};
-ghost use Rattle.co_script.specs.Beside.{IsSection, Begins, HasTaken};
+ghost use Rattle.std.specs.Prelude.{◌≡◌, ◌≤◌, IfOk, MatchOption, length};
+ghost use Rattle.co_script.specs.Beside.{IsSection, Begins, GrowsNext, HasTaken};
 
 use crate::draft::Draft;
 use crate::spot::{content_at, line_at};
@@ -81,6 +81,36 @@ pub(crate) fn starts_of(alloc: Global, text: &[u8]) -> Result<Seq<Start>, NoMemo
     Ok(starts)
 }
 
+/// Takes the line from a byte on into a draft, and gives the byte behind it. None where it is no line of the open section, or
+/// is bad: then nothing is taken.
+// Apart: few lines come here, and the others' way stays short.
+#[inline(never)]
+fn grow_by_words(text: &[u8], draft: &mut Draft, at: usize) -> Result<Option<usize>, NoMemory>
+    requires { at ≤ length text.now }
+    ensures { IfOk result (λ behind. MatchOption behind (draft.new ≡ draft.old) (λ to. GrowsNext text.now draft.old draft.new at to)) }
+{
+    let Some((part, behind)) = content_at(text, at) else {
+        return Ok(None);
+    };
+    if draft.grow(part)? {
+        Ok(Some(behind))
+    } else {
+        Ok(None)
+    }
+}
+
+/// The same, by one walk where the line is an act of the plainest form.
+#[inline(always)]
+fn grow_next(text: &[u8], draft: &mut Draft, at: usize) -> Result<Option<usize>, NoMemory>
+    requires { at ≤ length text.now }
+    ensures { IfOk result (λ behind. MatchOption behind (draft.new ≡ draft.old) (λ to. GrowsNext text.now draft.old draft.new at to)) }
+{
+    match draft.take_next(text, at)? {
+        Some(behind) => Ok(Some(behind)),
+        None => grow_by_words(text, draft, at),
+    }
+}
+
 /// Takes lines into a draft whose section has just begun, from a place on, up to the first that it does not take. The byte
 /// behind the last line that was taken, and how many were.
 fn grow_on(text: &[u8], draft: &mut Draft, from: usize) -> Result<(usize, u64), NoMemory>
@@ -91,10 +121,7 @@ fn grow_on(text: &[u8], draft: &mut Draft, from: usize) -> Result<(usize, u64), 
 {
     let mut end = from;
     let mut lines = 0;
-    while let Some((part, behind)) = content_at(text, end) {
-        if !draft.grow(part)? {
-            break;
-        }
+    while let Some(behind) = grow_next(text, draft, end)? {
         end = behind;
         lines += 1;
     }
