@@ -11,3 +11,4 @@ pub mod ExactAnswers
 pub mod ExactNotes
 pub mod OneSpelling
 mod NoteHeads
+mod EntryHalves

@@ -19,6 +19,10 @@ use Rattle.co_object.specs.declared.OwnKind.TheVariants.{NotHeld, HoldsLock, Hol
 use Rattle.co_object.specs.declared.AnyEntry.{AnyEntry}
 use Rattle.co_object.specs.declared.AnyEntry.TheVariants.{Timer, Cpu, Own}
 use Rattle.co_object.specs.Lists.{act_of, actor_of}
+use Rattle.co_packed.specs.declared.halves.AnyOp.{AnyOp}
+use Rattle.co_packed.specs.declared.halves.AnyOp.TheVariants as ops
+use Rattle.co_packed.specs.declared.halves.AnyReply.{AnyReply}
+use Rattle.co_packed.specs.declared.halves.AnyReply.TheVariants as replies
 use Rattle.co_text.specs.Values.{Word}
 use Rattle.co_text.specs.Written.{units_word, func_word, argument_word}
 use Rattle.co_grammar.specs.Spelling.{actor_word}
@@ -132,6 +136,17 @@ own_words NotHolding = codes "notholding" ∷ []
 -- an operation and its answer, with `=` between them
 abbrev pub with_answer : List Word → List Word → List Word
 with_answer op reply = op ++ codes "=" ∷ reply
+
+-- the operation of an entry, before its reply, and the reply
+abbrev pub any_op_words : AnyOp → List Word
+any_op_words (ops.Timer op) = op_words op ++ codes "=" ∷ []
+any_op_words (ops.Cpu op) = queue_words op ++ codes "=" ∷ []
+any_op_words (ops.Own kind) = own_words kind
+
+abbrev pub any_reply_words : AnyReply → List Word
+any_reply_words (replies.Timer reply) = reply_words reply
+any_reply_words (replies.Cpu answer) = answer_words answer
+any_reply_words replies.Own = []
 
 -- what an entry says
 abbrev pub entry_words : AnyEntry → List Word

@@ -1,7 +1,7 @@
 //! Notes as lines.
 ghost use Rattle.std.specs.Prelude.{◌≡◌, ◌++◌, ◌∷◌, [], codes, decimal, OnOk};
 ghost use Rattle.co_text.specs.Lines.{line_text, spaced};
-ghost use Rattle.co_notes.specs.NoteTexts.{op_words, reply_words, queue_words, answer_words, own_words, with_answer, entry_words, note_words};
+ghost use Rattle.co_notes.specs.NoteTexts.{op_words, reply_words, queue_words, answer_words, own_words, with_answer, any_op_words, any_reply_words, entry_words, note_words};
 
 mod call;
 mod queue;
@@ -10,6 +10,7 @@ mod words;
 
 use call::print_op;
 use co_object::{AnyEntry, Op, OwnKind, QOp, QReply, Reply};
+use co_packed::{AnyOp, AnyReply, PackedNote};
 use co_program::Script;
 use co_sbt::NoMemory;
 use co_script::actor_name;
@@ -39,6 +40,7 @@ fn print_queue_entry(page: &mut Page, op: &QOp, reply: &QReply) -> Result<(), No
     print_answer(page, reply)
 }
 
+#[inline(always)]
 fn print_own_entry(page: &mut Page, kind: OwnKind) -> Result<(), NoMemory>
     ensures { OnOk result (page.new ≡ page.old ++ spaced (own_words kind)) }
 {
@@ -61,6 +63,7 @@ fn print_entry(page: &mut Page, entry: &AnyEntry) -> Result<(), NoMemory>
 }
 
 /// A space, an actor's letter and its number.
+#[inline(always)]
 fn print_maker(page: &mut Page, letter: u8, name: u64) -> Result<(), NoMemory>
     ensures { OnOk result (page.new ≡ page.old ++ (32 ∷ letter ∷ decimal name)) }
 {
@@ -74,12 +77,66 @@ fn print_maker(page: &mut Page, letter: u8, name: u64) -> Result<(), NoMemory>
 
 /// The first words of a note.
 #[tactic(auto, using(crate::proofs::NoteHeads::note_head))]
+#[inline(always)]
 fn print_head(page: &mut Page, number: u64, letter: u8, name: u64, act: u64) -> Result<(), NoMemory>
     ensures { OnOk result (page.new ≡ page.old ++ (decimal number ++ spaced (((letter ∷ decimal name) ++ 47 ∷ decimal act) ∷ []))) }
 {
     page.number(number)?;
     print_maker(page, letter, name)?;
     page.tagged(b"/".as_slice(), act)
+}
+
+/// An operation on a callout, before its reply.
+#[inline(always)]
+#[tactic(auto, using(co_text::proofs::Spacing::both_more))]
+fn print_call_op(page: &mut Page, op: &Op) -> Result<(), NoMemory>
+    ensures { OnOk result (page.new ≡ page.old ++ spaced (op_words op.now ++ codes "=" ∷ [])) }
+{
+    print_op(page, op)?;
+    print_equals(page)
+}
+
+/// An operation on a timer queue, before its answer.
+#[inline(always)]
+#[tactic(auto, using(co_text::proofs::Spacing::both_more))]
+fn print_asked_op(page: &mut Page, op: &QOp) -> Result<(), NoMemory>
+    ensures { OnOk result (page.new ≡ page.old ++ spaced (queue_words op.now ++ codes "=" ∷ [])) }
+{
+    print_queue_op(page, op)?;
+    print_equals(page)
+}
+
+#[inline(always)]
+fn print_any_op(page: &mut Page, op: &AnyOp) -> Result<(), NoMemory>
+    ensures { OnOk result (page.new ≡ page.old ++ spaced (any_op_words op.now)) }
+{
+    match op {
+        AnyOp::Timer(op) => print_call_op(page, op),
+        AnyOp::Cpu(op) => print_asked_op(page, op),
+        AnyOp::Own(kind) => print_own_entry(page, *kind),
+    }
+}
+
+#[inline(always)]
+fn print_any_reply(page: &mut Page, reply: &AnyReply) -> Result<(), NoMemory>
+    ensures { OnOk result (page.new ≡ page.old ++ spaced (any_reply_words reply.now)) }
+{
+    match reply {
+        AnyReply::Timer(reply) => print_reply(page, reply),
+        AnyReply::Cpu(reply) => print_answer(page, reply),
+        AnyReply::Own => Ok(()),
+    }
+}
+
+/// The entry of a packed note, of which each half is unpacked as it is printed. So the compiler goes from a half's kind
+/// straight to its words, and builds no entry.
+#[inline(always)]
+#[tactic(auto, using(crate::proofs::EntryHalves::halves_written))]
+fn print_packed_entry(page: &mut Page, packed: &PackedNote) -> Result<(), NoMemory>
+    ensures { OnOk result (page.new ≡ page.old ++ spaced (entry_words packed.now.entry)) }
+{
+    print_any_op(page, &packed.op())?;
+    print_any_reply(page, &packed.reply())
 }
 
 /// A note as a line: its number in its actor's list, who made it at which act, and what it says. `NoMemory` where the
@@ -96,6 +153,23 @@ pub fn print_note(
     let (letter, name) = actor_name(script, entry.actor());
     print_head(page, number, letter, name, entry.act())?;
     print_entry(page, entry)?;
+    page.end()?;
+    Ok(())
+}
+
+/// A packed note as a line, which is the line of its note. `NoMemory` where the page finds no room.
+#[tactic(auto, using(co_text::proofs::Spacing::one_more))]
+pub fn print_packed(
+    page: &mut Page,
+    script: &Script,
+    number: u64,
+    packed: &PackedNote,
+) -> Result<(), NoMemory>
+    ensures { OnOk result (page.new ≡ page.old ++ line_text (note_words script.now number packed.now.entry)) }
+{
+    let (letter, name) = actor_name(script, packed.actor());
+    print_head(page, number, letter, name, packed.act())?;
+    print_packed_entry(page, packed)?;
     page.end()?;
     Ok(())
 }

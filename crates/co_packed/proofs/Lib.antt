@@ -6,3 +6,4 @@ pub mod RowAgain
 pub mod Tables
 pub mod Renumbered
 pub mod Storing
+mod Makers

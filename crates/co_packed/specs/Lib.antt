@@ -4,6 +4,8 @@
 pub mod Parts
 -- the note that a packed note stands for
 pub mod Unpacked
+-- the operation and the reply of an entry, each by itself
+pub mod Halves
 -- what their types say of the values of notes
 pub mod Typed
 -- the bytes of a number

@@ -2,6 +2,7 @@
 #![tactic(auto)]
 
 mod ahead;
+mod halves;
 mod heads;
 mod kind_numbers;
 mod kinds;
@@ -16,6 +17,7 @@ mod typed;
 mod words;
 
 pub use ahead::NotesAhead;
+pub use halves::{AnyOp, AnyReply};
 pub use heads::Head;
 pub use notes::PackedNotes;
 pub use packed::PackedNote;

@@ -140,6 +140,7 @@ pub(crate) fn queue_op_parts(op: &QOp) -> (QKind, OpWords)
 }
 
 /// A reset for this CPU, or for the home CPU where none is given.
+#[inline(always)]
 fn reset_of(words: &OpWords, cpu: Option<u32>) -> Op
     ensures { result ≡ Call (Plain (plain.Reset words.now.time words.now.prec words.now.number words.now.word cpu)) }
 {
@@ -153,6 +154,7 @@ fn reset_of(words: &OpWords, cpu: Option<u32>) -> Op
 }
 
 /// A schedule for this CPU, or for the home CPU where none is given.
+#[inline(always)]
 fn schedule_of(words: &OpWords, cpu: Option<u32>) -> Op
     ensures { result ≡ Call (Plain (plain.Schedule words.now.time words.now.prec cpu)) }
 {
@@ -164,6 +166,7 @@ fn schedule_of(words: &OpWords, cpu: Option<u32>) -> Op
 }
 
 /// The operation on a callout of this kind and with these numbers.
+#[inline(always)]
 pub(crate) fn op_of(kind: Kind, words: &OpWords) -> Op
     ensures { result ≡ op_of kind words.now }
 {
@@ -199,6 +202,7 @@ pub(crate) fn op_of(kind: Kind, words: &OpWords) -> Op
 }
 
 /// The operation on a queue of this kind and with these numbers.
+#[inline(always)]
 pub(crate) fn queue_op_of(kind: QKind, words: &OpWords) -> QOp
     ensures { result ≡ queue_op_of kind words.now }
 {

@@ -1,9 +1,12 @@
 //! A note in few bytes.
 ghost use Rattle.std.specs.Prelude.{◌≡◌};
 ghost use Rattle.co_object.specs.declared.note.AnyEntry.TheVariants as entries;
+ghost use Rattle.co_object.specs.Lists.{act_of, actor_of};
+ghost use Rattle.co_packed.specs.Halves.{op_in, reply_in};
 ghost use Rattle.co_packed.specs.Parts.{entry_of, place_of};
 ghost use Rattle.co_packed.specs.Typed.{EntryTyped};
 
+use crate::halves::{AnyOp, AnyReply};
 use crate::kinds::{Sort, Whose};
 use crate::operations::{op_of, op_parts, queue_op_of, queue_op_parts};
 use crate::replies::{queue_reply_of, queue_reply_parts, reply_of, reply_parts};
@@ -248,6 +251,63 @@ impl PackedNote {
         ensures { result ≡ self.now.pos }
     {
         self.pos
+    }
+
+    /// Who made its entry.
+    #[inline(always)]
+    #[tactic(auto, using(crate::proofs::Makers::actor_kept))]
+    pub fn actor(&self) -> u32
+        ensures { result ≡ actor_of self.now.entry }
+    {
+        self.actor
+    }
+
+    /// In which of its actor's acts its entry was made, counted from 0.
+    #[inline(always)]
+    #[tactic(auto, using(crate::proofs::Makers::act_kept))]
+    pub fn act(&self) -> u64
+        ensures { result ≡ act_of self.now.entry }
+    {
+        self.act
+    }
+
+    /// The operation of its entry.
+    // Inlined as `reply` is: where it is put into words at once, none of the many forms of an operation is built in memory.
+    #[inline(always)]
+    pub fn op(&self) -> AnyOp
+        ensures { result ≡ op_in self.now.entry }
+    {
+        let op = OpWords {
+            time: self.time,
+            prec: self.prec,
+            word: self.word,
+            number: self.number,
+            cpu: self.cpu,
+        };
+        match self.sort {
+            Sort::Timer(kind, _) => AnyOp::Timer(op_of(kind, &op)),
+            Sort::Cpu(kind, _) => AnyOp::Cpu(queue_op_of(kind, &op)),
+            Sort::Own(kind) => AnyOp::Own(kind),
+        }
+    }
+
+    /// The reply of its entry.
+    #[inline(always)]
+    pub fn reply(&self) -> AnyReply
+        ensures { result ≡ reply_in self.now.entry }
+    {
+        let reply = ReplyWords {
+            time: self.reply_time,
+            word: self.reply_word,
+            code: self.code,
+            number: self.reply_number,
+            off: self.off,
+        };
+        match self.sort {
+            Sort::Timer(_, answer) => AnyReply::Timer(reply_of(answer, &reply)),
+            Sort::Cpu(_, answer) => AnyReply::Cpu(queue_reply_of(answer, &reply)),
+            Sort::Own(_) => AnyReply::Own,
+        }
     }
 
     /// The values of its entry are in the ranges of their types. This is a law: nothing is unpacked when it runs.

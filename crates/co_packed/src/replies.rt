@@ -197,6 +197,7 @@ pub(crate) fn queue_reply_parts(reply: &QReply) -> (QAnswer, ReplyWords)
 }
 
 /// The reply of this kind and with these numbers.
+#[inline(always)]
 pub(crate) fn reply_of(answer: Answer, words: &ReplyWords) -> Reply
     ensures { result ≡ reply_of answer words.now }
 {
@@ -330,6 +331,7 @@ pub(crate) fn reply_of(answer: Answer, words: &ReplyWords) -> Reply
 }
 
 /// The queue's reply of this kind and with these numbers.
+#[inline(always)]
 pub(crate) fn queue_reply_of(answer: QAnswer, words: &ReplyWords) -> QReply
     ensures { result ≡ queue_reply_of answer words.now }
 {

@@ -8,6 +8,7 @@ use Rattle.co_object.specs.Lists.{history}
 use Rattle.co_program.specs.declared.Script.{Script}
 use Rattle.co_print.specs.declared.origin.Origin.{Origin}
 use Rattle.co_print.specs.declared.order.Order.{Order}
+use Rattle.co_print.specs.declared.order.Part.{Part}
 use Rattle.co_print.specs.declared.order.Spot.{Spot}
 use Rattle.co_print.specs.declared.order.Counted.{Counted}
 use Rattle.co_print.specs.Origins.{note_at, note_from, entries_from, lines_from}
@@ -89,3 +90,7 @@ pub record ShowsHistories (s : Script) (lists : List (List Note)) (first end : �
   pub rises : (i : ℕ) → first + i < end → slice_index order.starts i ≤ slice_index order.starts (i + 1)
   pub within : (i : ℕ) → first + i ≤ end → slice_index order.starts i ≤ length order.origins.items
   pub each : (p : Place) → place_exists s p ≡ true → first ≤ place_index s p → place_index s p < end → ShowsHistory s lists p (origins_in order (place_index s p - first))
+
+-- the part has the notes of its places in order
+abbrev pub IsInOrder : Script → List (List Note) → Part → Type 0
+IsInOrder s lists part = ShowsHistories s lists part.first part.end part.order

@@ -5,12 +5,13 @@ ghost use Rattle.co_text.specs.Lines.{text};
 ghost use Rattle.co_object.specs.Lists.{IsWellFormed};
 ghost use Rattle.co_program.specs.Places.{AllHavePlaces};
 ghost use Rattle.co_print.specs.Reports.{lines_between, head_text, report_of};
-ghost use Rattle.co_print.specs.Order.{place_count};
+ghost use Rattle.co_print.specs.Order.{place_count, IsInOrder};
 ghost use denote.Param.Send.{IsSync};
 
 use crate::counting::count_by_threads;
 use crate::frame::{head_piece, in_frame};
 use crate::joining::append;
+use crate::order::Part;
 use crate::report::Printing;
 use co_packed::PackedNote;
 use co_program::Script;
@@ -19,13 +20,79 @@ use co_text::Page;
 use std::alloc::Global;
 use std::thread::{Threads, join};
 
-/// How often the places are halved: three times, for 8 parts. Each part makes its own order, so that no thread waits for
-/// another's, and what it wrote is in its processor's cache when it prints. Each therefore reads the spots of all notes, 8
-/// bytes a note one behind the other, and that 8 times: a fixed factor, by this number alone.
-const HALVINGS: u32 = 3;
+/// How often the places are halved before their notes are put into order: twice, for 4 parts. Each part makes its own order,
+/// so that no thread waits for another's. Each therefore reads the spots of all notes, 8 bytes a note one behind the other,
+/// and that 4 times: a fixed factor, by this number alone.
+const ORDERED_HALVINGS: u32 = 2;
 
-/// The places from `first` up to `end` in one piece.
+/// How often a part that is in order is halved again to be printed: twice, for 16 pieces of all places. Where the pieces are
+/// small, few processors wait for the last one.
+const PRINTED_HALVINGS: u32 = 2;
+
+/// Some places of a part that is in order, those from `first` up to `end`, in one piece.
 fn print_piece(
+    alloc: Global,
+    printing: &Printing<'_>,
+    part: &Part,
+    first: usize,
+    end: usize,
+) -> Result<Seq<Seq<u8>>, NoMemory>
+    requires begin { part.now.first ≤ first }
+    requires order { first ≤ end }
+    requires end { end ≤ part.now.end }
+    requires places { part.now.end ≤ place_count printing.now.script.now }
+    requires part { IsInOrder printing.now.script.now printing.now.lists.now part.now }
+    ensures { IfOk result (λ pieces. concat pieces ≡ text (lines_between printing.now.script.now printing.now.lists.now first end)) }
+{
+    let mut page = Page::new(alloc);
+    printing.print_places(&mut page, part, first, end)?;
+    let mut pieces = Seq::new(alloc);
+    pieces.push(page.done()?)?;
+    Ok(pieces)
+}
+
+/// Some places of a part that is in order, those from `first` up to `end`, in pieces. They are halved this often, with about
+/// as many notes in each half, and the halves are printed beside each other, the first one in a thread of its own where one
+/// can be had.
+#[cycle(halves)]
+fn print_halves<R: Threads + Sync>(
+    rt: &R,
+    alloc: Global,
+    printing: &Printing<'_>,
+    part: &Part,
+    first: usize,
+    end: usize,
+    halvings: u32,
+) -> Result<Seq<Seq<u8>>, NoMemory>
+    requires begin { part.now.first ≤ first }
+    requires order { first ≤ end }
+    requires end { end ≤ part.now.end }
+    requires places { part.now.end ≤ place_count printing.now.script.now }
+    requires part { IsInOrder printing.now.script.now printing.now.lists.now part.now }
+    ensures { IfOk result (λ pieces. concat pieces ≡ text (lines_between printing.now.script.now printing.now.lists.now first end)) }
+{
+    if halvings == 0 {
+        return print_piece(alloc, printing, part, first, end);
+    }
+    let middle = printing.middle(first, end);
+    let left = halvings - 1;
+    let front = || -> Result<Seq<Seq<u8>>, NoMemory>
+        requires { IsSync R.row × (part.now.first ≤ first) × (first ≤ middle) × (middle ≤ part.now.end) × (part.now.end ≤ place_count printing.now.script.now) × IsInOrder printing.now.script.now printing.now.lists.now part.now }
+        ensures { IfOk result (λ pieces. concat pieces ≡ text (lines_between printing.entry.now.script.now printing.entry.now.lists.now first middle)) }
+    { print_halves(rt, alloc, printing, part, first, middle, left) };
+    let back = || -> Result<Seq<Seq<u8>>, NoMemory>
+        requires { IsSync R.row × (part.now.first ≤ middle) × (middle ≤ end) × (end ≤ part.now.end) × (part.now.end ≤ place_count printing.now.script.now) × IsInOrder printing.now.script.now printing.now.lists.now part.now }
+        ensures { IfOk result (λ pieces. concat pieces ≡ text (lines_between printing.entry.now.script.now printing.entry.now.lists.now middle end)) }
+    { print_halves(rt, alloc, printing, part, middle, end, left) };
+    let (before, behind) = join(rt, front, back);
+    let mut pieces = before?;
+    append(&mut pieces, behind?)?;
+    Ok(pieces)
+}
+
+/// The places from `first` up to `end`, whose notes are put into order first, in pieces.
+fn print_part<R: Threads + Sync>(
+    rt: &R,
     alloc: Global,
     printing: &Printing<'_>,
     first: usize,
@@ -35,17 +102,14 @@ fn print_piece(
     requires end { end ≤ place_count printing.now.script.now }
     ensures { IfOk result (λ pieces. concat pieces ≡ text (lines_between printing.now.script.now printing.now.lists.now first end)) }
 {
-    let mut page = Page::new(alloc);
-    printing.print_places(alloc, &mut page, first, end)?;
-    let mut pieces = Seq::new(alloc);
-    pieces.push(page.done()?)?;
-    Ok(pieces)
+    let part = printing.part(alloc, first, end)?;
+    print_halves(rt, alloc, printing, &part, first, end, PRINTED_HALVINGS)
 }
 
-/// The places from `first` up to `end` in pieces. They are halved this often, with about as many notes in each half, and
-/// the halves are printed beside each other, the first one in a thread of its own where one can be had.
-#[cycle(halves)]
-fn print_halves<R: Threads + Sync>(
+/// The places from `first` up to `end` in pieces. They are halved this often, and the halves are put into order and printed
+/// beside each other, the first one in a thread of its own where one can be had.
+#[cycle(parts)]
+fn print_parts<R: Threads + Sync>(
     rt: &R,
     alloc: Global,
     printing: &Printing<'_>,
@@ -58,19 +122,19 @@ fn print_halves<R: Threads + Sync>(
     ensures { IfOk result (λ pieces. concat pieces ≡ text (lines_between printing.now.script.now printing.now.lists.now first end)) }
 {
     if halvings == 0 {
-        return print_piece(alloc, printing, first, end);
+        return print_part(rt, alloc, printing, first, end);
     }
     let middle = printing.middle(first, end);
     let left = halvings - 1;
-    let front = || -> Result<Seq<Seq<u8>>, NoMemory>
+    let earlier = || -> Result<Seq<Seq<u8>>, NoMemory>
         requires { IsSync R.row × (first ≤ middle) × (middle ≤ place_count printing.now.script.now) }
         ensures { IfOk result (λ pieces. concat pieces ≡ text (lines_between printing.entry.now.script.now printing.entry.now.lists.now first middle)) }
-    { print_halves(rt, alloc, printing, first, middle, left) };
-    let back = || -> Result<Seq<Seq<u8>>, NoMemory>
+    { print_parts(rt, alloc, printing, first, middle, left) };
+    let later = || -> Result<Seq<Seq<u8>>, NoMemory>
         requires { IsSync R.row × (middle ≤ end) × (end ≤ place_count printing.now.script.now) }
         ensures { IfOk result (λ pieces. concat pieces ≡ text (lines_between printing.entry.now.script.now printing.entry.now.lists.now middle end)) }
-    { print_halves(rt, alloc, printing, middle, end, left) };
-    let (before, behind) = join(rt, front, back);
+    { print_parts(rt, alloc, printing, middle, end, left) };
+    let (before, behind) = join(rt, earlier, later);
     let mut pieces = before?;
     append(&mut pieces, behind?)?;
     Ok(pieces)
@@ -90,14 +154,21 @@ fn print_all_places<R: Threads + Sync>(
     let lists = lists.as_slice();
     let counted = count_by_threads(rt, alloc, script, lists)?;
     let printing = Printing::new(alloc, script, lists, counted)?;
-    print_halves(rt, alloc, &printing, 0, printing.place_count(), HALVINGS)
+    print_parts(
+        rt,
+        alloc,
+        &printing,
+        0,
+        printing.place_count(),
+        ORDERED_HALVINGS,
+    )
 }
 
 /// The report of a script and the lists of its actors' notes, as `print_report` gives it, in pieces: joined they are the
 /// report. A thread of its own prints the lines before the first place; beside it up to 8 threads count the notes of each
-/// place and write down where each note belongs, each those of some lists, and then up to 8 threads print parts beside each
-/// other: each puts the notes of some places into order by what was written down, and prints them. Where no thread can be
-/// had all of this is done one after the other.
+/// place and write down where each note belongs, each those of some lists, then up to 4 threads put the notes of some places
+/// each into order by what was written down, and up to 16 threads print pieces of these beside each other. Where no thread
+/// can be had all of this is done one after the other.
 /// NoMemory where a part finds no memory, and where `print_report` gives it.
 pub fn print_by_threads<R: Threads + Sync>(
     rt: &R,

@@ -41,6 +41,14 @@ pub struct Order {
     origins: Vec<Origin>,
 }
 
+/// The notes of the places from `first` up to `end`, in the report's order.
+#[derive(Drop)]
+pub(crate) struct Part {
+    pub(crate) first: usize,
+    pub(crate) end: usize,
+    pub(crate) order: Order,
+}
+
 impl Order {
     /// The origins of the notes of the place of this number among its places.
     pub fn of_place(&self, place: usize) -> &[Origin]

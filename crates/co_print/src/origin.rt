@@ -3,7 +3,7 @@ ghost use Rattle.std.specs.Prelude.{◌≡◌, ◌++◌, length, map, Some, None
 ghost use Rattle.co_text.specs.Lines.{text};
 ghost use Rattle.co_print.specs.Origins.{note_from, origin_line, lines_from};
 
-use co_notes::print_note;
+use co_notes::print_packed;
 use co_object::Note;
 use co_packed::PackedNote;
 use co_program::Script;
@@ -69,7 +69,7 @@ fn print_copy(
     ensures { OnOk result (page.new ≡ page.old ++ text (origin_line script.now number copy.now)) }
 {
     match copy {
-        Some(packed) => print_note(page, script, u64::from(number), &packed.note().entry),
+        Some(packed) => print_packed(page, script, u64::from(number), packed),
         None => Ok(()),
     }
 }

@@ -7,10 +7,10 @@ ghost use Rattle.co_program.specs.Places.{place_exists, AllHavePlaces};
 ghost use Rattle.co_print.specs.Histories.{shown_history};
 ghost use Rattle.co_print.specs.Reports.{place_lines, lines_between, report_of};
 ghost use Rattle.co_print.specs.Once.{IsWellFormed-prop};
-ghost use Rattle.co_print.specs.Order.{place_index, place_count, AreCounted, ShowsHistory};
+ghost use Rattle.co_print.specs.Order.{place_index, place_count, AreCounted, ShowsHistory, IsInOrder};
 
 use crate::frame::{print_head, print_heading, print_word};
-use crate::order::{Counted, count_lists, order_from, short, starts_of};
+use crate::order::{Counted, Part, count_lists, order_from, short, starts_of};
 use crate::origin::{Origin, print_from};
 use crate::packing::packed_lists;
 use co_object::{Lists, Place};
@@ -111,24 +111,38 @@ impl<'a> Printing<'a> {
         print_from(page, self.script, self.lists, origins)
     }
 
-    /// Appends the parts of the places from `first` up to `end`, whose notes it puts into order first. For this it goes over
-    /// the spots of all notes. `NoMemory` where their order finds no memory or has more than 2^32 notes of one actor, and
-    /// where the page finds no room.
-    pub fn print_places(
+    /// Puts the notes of the places from `first` up to `end` into order. For this it goes over the spots of all notes.
+    /// `NoMemory` where the order finds no memory or has more than 2^32 notes of one actor.
+    pub(crate) fn part(&self, alloc: Global, first: usize, end: usize) -> Result<Part, NoMemory>
+        requires order { first ≤ end }
+        requires end { end ≤ place_count self.now.script.now }
+        ensures first { IfOk result (λ part. part.first ≡ first) }
+        ensures end { IfOk result (λ part. part.end ≡ end) }
+        ensures order { IfOk result (λ part. IsInOrder self.now.script.now self.now.lists.now part) }
+    {
+        let order = order_from(alloc, self.script, self.lists, &self.counted, first, end)?;
+        Ok(Part { first, end, order })
+    }
+
+    /// Appends the parts of the places from `first` up to `end`, some of those of a part that is in order. `NoMemory` where
+    /// the page finds no room.
+    pub(crate) fn print_places(
         &self,
-        alloc: Global,
         page: &mut Page,
+        part: &Part,
         first: usize,
         end: usize,
     ) -> Result<(), NoMemory>
+        requires begin { part.now.first ≤ first }
         requires order { first ≤ end }
-        requires end { end ≤ place_count self.now.script.now }
+        requires end { end ≤ part.now.end }
+        requires places { part.now.end ≤ place_count self.now.script.now }
+        requires part { IsInOrder self.now.script.now self.now.lists.now part.now }
         ensures { OnOk result (page.new ≡ page.old ++ text (lines_between self.now.script.now self.now.lists.now first end)) }
     {
-        let order = order_from(alloc, self.script, self.lists, &self.counted, first, end)?;
         for number in first..end {
             let place = place_of(self.script, number)?;
-            self.print_place(page, place, order.of_place(number - first))?;
+            self.print_place(page, place, part.order.of_place(number - part.first))?;
         }
         Ok(())
     }
@@ -137,8 +151,10 @@ impl<'a> Printing<'a> {
     fn print(&self, alloc: Global, page: &mut Page) -> Result<(), NoMemory>
         ensures { OnOk result (page.new ≡ page.old ++ report_of self.now.script.now self.now.lists.now) }
     {
+        let count = self.place_count();
+        let part = self.part(alloc, 0, count)?;
         print_head(page, self.script)?;
-        self.print_places(alloc, page, 0, self.place_count())?;
+        self.print_places(page, &part, 0, count)?;
         print_word(page, b"end".as_slice())
     }
 

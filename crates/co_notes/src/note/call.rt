@@ -12,6 +12,7 @@ use co_object::{CallOp, Op, PlainOp, RunOp};
 use co_sbt::{NoMemory, Sbt};
 use co_text::Page;
 
+#[inline(always)]
 fn print_reset(
     page: &mut Page,
     due: Sbt,
@@ -29,6 +30,7 @@ fn print_reset(
     print_target(page, place)
 }
 
+#[inline(always)]
 fn print_schedule(page: &mut Page, due: Sbt, prec: Sbt, place: Option<u32>) -> Result<(), NoMemory>
     ensures { OnOk result (page.new ≡ page.old ++ spaced (plain_words (plain.Schedule due prec place))) }
 {
@@ -37,6 +39,7 @@ fn print_schedule(page: &mut Page, due: Sbt, prec: Sbt, place: Option<u32>) -> R
     print_target(page, place)
 }
 
+#[inline(always)]
 fn print_plain(page: &mut Page, op: &PlainOp) -> Result<(), NoMemory>
     ensures { OnOk result (page.new ≡ page.old ++ spaced (plain_words op.now)) }
 {
@@ -59,6 +62,7 @@ fn print_plain(page: &mut Page, op: &PlainOp) -> Result<(), NoMemory>
     }
 }
 
+#[inline(always)]
 fn print_drain(page: &mut Page, took: bool) -> Result<(), NoMemory>
     ensures { OnOk result (page.new ≡ page.old ++ spaced (codes "drain" ∷ truth_word took ∷ [])) }
 {
@@ -66,6 +70,7 @@ fn print_drain(page: &mut Page, took: bool) -> Result<(), NoMemory>
     print_truth(page, took)
 }
 
+#[inline(always)]
 fn print_call(page: &mut Page, op: &CallOp) -> Result<(), NoMemory>
     ensures { OnOk result (page.new ≡ page.old ++ spaced (op_words (ops.Call op.now))) }
 {
@@ -75,6 +80,7 @@ fn print_call(page: &mut Page, op: &CallOp) -> Result<(), NoMemory>
     }
 }
 
+#[inline(always)]
 fn print_pick(page: &mut Page, n: u64, cpu: u32, at: Sbt) -> Result<(), NoMemory>
     ensures { OnOk result (page.new ≡ page.old ++ spaced (op_words (ops.Run (runs.Pick n cpu at)))) }
 {
@@ -92,6 +98,7 @@ fn print_serviced(page: &mut Page, tag: &[u8], n: u64, cpu: u32) -> Result<(), N
     page.tagged(b" p".as_slice(), cpu as u64)
 }
 
+#[inline(always)]
 fn print_run(page: &mut Page, op: &RunOp) -> Result<(), NoMemory>
     ensures { OnOk result (page.new ≡ page.old ++ spaced (op_words (ops.Run op.now))) }
 {
@@ -104,6 +111,7 @@ fn print_run(page: &mut Page, op: &RunOp) -> Result<(), NoMemory>
 
 /// Appends the words of an operation on a callout, each behind a space, as `reset`, `pick` or `end`. `NoMemory` where
 /// the page finds no room.
+#[inline(always)]
 pub fn print_op(page: &mut Page, op: &Op) -> Result<(), NoMemory>
     ensures { OnOk result (page.new ≡ page.old ++ spaced (op_words op.now)) }
 {

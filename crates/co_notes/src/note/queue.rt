@@ -20,6 +20,7 @@ fn print_held(page: &mut Page, tag: &[u8], i: u32, n: u64, t: Sbt) -> Result<(),
 }
 
 /// Appends the words of an operation on a timer queue, each behind a space. `NoMemory` where the page finds no room.
+#[inline(always)]
 pub fn print_queue_op(page: &mut Page, op: &QOp) -> Result<(), NoMemory>
     ensures { OnOk result (page.new ≡ page.old ++ spaced (queue_words op.now)) }
 {
@@ -35,6 +36,7 @@ pub fn print_queue_op(page: &mut Page, op: &QOp) -> Result<(), NoMemory>
 }
 
 /// Appends the words of a timer queue's answer, each behind a space. `NoMemory` where the page finds no room.
+#[inline(always)]
 pub fn print_answer(page: &mut Page, answer: &QReply) -> Result<(), NoMemory>
     ensures { OnOk result (page.new ≡ page.old ++ spaced (answer_words answer.now)) }
 {

@@ -11,6 +11,7 @@ use co_sbt::NoMemory;
 use co_text::Page;
 
 /// The end of a run, behind which no run is next.
+#[inline(always)]
 fn print_last(page: &mut Page, drain: Option<u32>, woke: bool) -> Result<(), NoMemory>
     ensures { OnOk result (page.new ≡ page.old ++ spaced (reply_words (replies.Ended drain None woke))) }
 {
@@ -21,6 +22,7 @@ fn print_last(page: &mut Page, drain: Option<u32>, woke: bool) -> Result<(), NoM
 }
 
 /// The end of a run, behind which this run is next.
+#[inline(always)]
 fn print_followed(
     page: &mut Page,
     drain: Option<u32>,
@@ -37,6 +39,7 @@ fn print_followed(
     print_woke(page, woke)
 }
 
+#[inline(always)]
 fn print_ended(
     page: &mut Page,
     drain: Option<u32>,
@@ -51,6 +54,7 @@ fn print_ended(
     }
 }
 
+#[inline(always)]
 fn print_armed(
     page: &mut Page,
     code: i32,
@@ -67,6 +71,7 @@ fn print_armed(
     print_off(page, off)
 }
 
+#[inline(always)]
 fn print_not_armed(page: &mut Page, code: i32) -> Result<(), NoMemory>
     ensures { OnOk result (page.new ≡ page.old ++ spaced (codes "notarmed" ∷ signed_decimal code ∷ [])) }
 {
@@ -84,6 +89,7 @@ fn print_taken(page: &mut Page, text: &[u8], code: i32, off: Option<u32>) -> Res
     print_off(page, off)
 }
 
+#[inline(always)]
 fn print_wait(page: &mut Page, n: u64, took: bool, off: Option<u32>) -> Result<(), NoMemory>
     ensures { OnOk result (page.new ≡ page.old ++ spaced (reply_words (replies.Wait n took off))) }
 {
@@ -92,6 +98,7 @@ fn print_wait(page: &mut Page, n: u64, took: bool, off: Option<u32>) -> Result<(
     print_off(page, off)
 }
 
+#[inline(always)]
 fn print_in_use(page: &mut Page, armed: bool, serviced: bool) -> Result<(), NoMemory>
     ensures { OnOk result (page.new ≡ page.old ++ spaced (reply_words (replies.InUse armed serviced))) }
 {
@@ -100,6 +107,7 @@ fn print_in_use(page: &mut Page, armed: bool, serviced: bool) -> Result<(), NoMe
     print_truth(page, serviced)
 }
 
+#[inline(always)]
 fn print_go(page: &mut Page, func: u32, arg: u64) -> Result<(), NoMemory>
     ensures { OnOk result (page.new ≡ page.old ++ spaced (reply_words (replies.Go func arg))) }
 {
@@ -108,6 +116,7 @@ fn print_go(page: &mut Page, func: u32, arg: u64) -> Result<(), NoMemory>
 }
 
 /// Appends the words of a callout's reply, each behind a space. `NoMemory` where the page finds no room.
+#[inline(always)]
 pub fn print_reply(page: &mut Page, reply: &Reply) -> Result<(), NoMemory>
     ensures { OnOk result (page.new ≡ page.old ++ spaced (reply_words reply.now)) }
 {

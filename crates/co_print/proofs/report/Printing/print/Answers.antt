@@ -9,5 +9,5 @@ pub returns : goal.returns
 returns c =
     on_ok_weaker c.print_word.result
     (λ e. text-framed c.args.self.now.script.now _ _ _ _ _ _ c.in_ok-print_head.ensures c.in_ok-print_places.ensures e c.as_slice.ensures
-    ∙ ap (λ t. c.args.page.now ++ t) (report-written c.args.self.now.script.now c.args.self.now.lists.now c.place_count.result c.place_count.ensures))
+    ∙ ap (λ t. c.args.page.now ++ t) (report-written c.args.self.now.script.now c.args.self.now.lists.now c.place_count-count.result c.place_count-count.ensures))
     c.print_word.ensures
