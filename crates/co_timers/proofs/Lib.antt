@@ -8,3 +8,4 @@ pub mod Picks
 pub mod Allowed
 pub mod Whole
 pub mod Fires
+pub mod Parts

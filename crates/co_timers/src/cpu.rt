@@ -209,7 +209,7 @@ impl<'a, N: Name> Cpu<'a, N> {
             unreachable!()
         };
         let (lanes, turned) = lanes.turn(rt, self.timers, self.number, now, handler);
-        self.lanes = Some(lanes);
+        self.lanes.insert(lanes);
         turned
     }
 }

@@ -2,6 +2,7 @@
 #![tactic(auto)]
 
 mod answers;
+mod both;
 mod client;
 mod cpu;
 mod fresh;
