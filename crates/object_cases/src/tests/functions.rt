@@ -77,7 +77,9 @@ pub fn worked_table(alloc: Global, spec: Spec) -> Result<FuncTable, NoMemory>
     ensures { IfOk result IsWorked }
 {
     let script = worked_script(alloc, spec)?;
-    FuncTable::new(alloc, &script)
+    let table = FuncTable::new(alloc, &script);
+    drop(script);
+    table
 }
 
 pub fn spec_of(lock: LockUse, returns_unlocked: bool) -> Spec
@@ -233,6 +235,7 @@ fn are_made_under_the_mutex<R: Wait + Sync>(rt: &R, alloc: Global, locks: &Clien
     let locked = spec_of(LockUse::Mtx(0), false);
     let mut hold = locks.lock(rt, 0);
     let calls = calls_of_run(alloc, locked, Some(&mut hold));
+    drop(hold);
     are(calls, &[again(ARMED), stop(STOPPED)])
 }
 
@@ -248,6 +251,7 @@ fn is_refused_under_a_read<R: Wait + Sync>(rt: &R, alloc: Global, locks: &Client
         exclusive: false,
     };
     let stays = hold.held() == reading;
+    drop(hold);
     are(calls, &[again(ARMED), stop(PortReply::NotHeld)]) && stays
 }
 

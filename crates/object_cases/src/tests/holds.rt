@@ -32,9 +32,14 @@ fn take_each<R: Wait + Sync>(rt: &R, locks: &ClientLocks) -> bool
     requires { locks.now ≡ LockKind.Mtx ∷ LockKind.Rw ∷ LockKind.Rw ∷ [] }
 {
     let mutex = locks.lock(rt, 0);
-    let writes = is(&locks.lock(rt, 1), 1, true);
-    let reads = is(&locks.read(rt, 1), 1, false);
-    writes && reads && is(&mutex, 0, true)
+    let writing = locks.lock(rt, 1);
+    let writes = is(&writing, 1, true);
+    drop(writing);
+    let reading = locks.read(rt, 1);
+    let reads = is(&reading, 1, false) && is(&mutex, 0, true);
+    drop(reading);
+    drop(mutex);
+    writes && reads
 }
 
 #[test]
@@ -48,10 +53,11 @@ fn count_up<R: Wait + Sync>(rt: &R, locks: &ClientLocks, id: u32, count: &Atomic
     requires { id < length locks.now }
 {
     for _ in 0..1000 {
-        let _hold = locks.lock(rt, id);
+        let hold = locks.lock(rt, id);
         let seen = count.load(Ordering::SeqCst);
         thread::yield_now();
         count.store(seen.wrapping_add(1), Ordering::SeqCst);
+        drop(hold);
     }
 }
 
@@ -85,7 +91,9 @@ fn read_beside<R: Wait + Sync>(rt: &R, locks: &ClientLocks, id: u32, met: &Barri
 {
     let hold = locks.read(rt, id);
     met.wait(rt);
-    hold.held()
+    let held = hold.held();
+    drop(hold);
+    held
 }
 
 // What two readers of one lock hold at once.
@@ -145,9 +153,11 @@ fn keep<R: Wait + Sync>(
 ) -> bool
     requires { kept < length locks.now }
 {
-    let _hold = locks.lock(rt, kept);
+    let hold = locks.lock(rt, kept);
     begun.store(1, Ordering::SeqCst);
-    comes_to(taken, 2)
+    let are_taken = comes_to(taken, 2);
+    drop(hold);
+    are_taken
 }
 
 // Whether the other locks are free while this one is kept.
@@ -176,7 +186,11 @@ fn keep_each<R: Wait + Sync>(rt: &R, locks: &ClientLocks) -> [u32; 3]
     let mutex = locks.lock(rt, 0);
     let first = locks.read(rt, 1);
     let second = locks.lock(rt, 2);
-    [mutex.id(), first.id(), second.id()]
+    let ids = [mutex.id(), first.id(), second.id()];
+    drop(second);
+    drop(first);
+    drop(mutex);
+    ids
 }
 
 #[test]

@@ -119,7 +119,10 @@ fn answers_agree(rt: HostRuntime) {
     let Ok(mut wheel) = WheelQueue::new(rt.alloc(), 8, 16, &direct) else {
         panic!(rt; "no memory");
     };
-    assert!(rt; agree_for(&mut list, &mut wheel, 4000) == 4000);
+    let rounds = agree_for(&mut list, &mut wheel, 4000);
+    drop(list);
+    drop(wheel);
+    assert!(rt; rounds == 4000);
 }
 
 /// Whether the callouts come due in this order, and no others.

@@ -49,7 +49,9 @@ fn told(alloc: Global) -> Result<([bool; 2], [u32; 2]), NoMemory> {
     let mut script = worked_script(alloc, spec_of(LockUse::Free, false))?;
     let one = [is_of_one_cpu(&script), rests(&script)];
     script.cpus = 2;
-    Ok((one, cpus_of_clients(&script)))
+    let clients = cpus_of_clients(&script);
+    drop(script);
+    Ok((one, clients))
 }
 
 #[test]

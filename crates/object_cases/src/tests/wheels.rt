@@ -36,7 +36,9 @@ fn fires(alloc: Global, second: Sbt) -> Result<(u32, Option<(u64, Reply)>, Sbt),
         NextOut::Took { n, reply, .. } => Some((n, reply)),
         NextOut::Empty => None,
     };
-    Ok((count, taken, wheel.last()))
+    let last = wheel.last();
+    drop(wheel);
+    Ok((count, taken, last))
 }
 
 #[test]
@@ -51,7 +53,9 @@ fn here(alloc: Global, cpu: u32) -> Result<[bool; 2], NoMemory> {
     let specs = [spec(false), spec(true)];
     let queue = ListQueue::new(alloc, 2, 16, &[false, true])?;
     let wheel = Wheel::boot(alloc, cpu, &specs, queue)?;
-    Ok([wheel.holds(0), wheel.holds(1)])
+    let here = [wheel.holds(0), wheel.holds(1)];
+    drop(wheel);
+    Ok(here)
 }
 
 #[test]
@@ -70,12 +74,14 @@ fn services(alloc: Global, second: Sbt) -> Result<[bool; 4], NoMemory> {
     wheel.scan(second, &mut Looks::new());
     let before = wheel.services(0, 0);
     wheel.next();
-    Ok([
+    let all = [
         before,
         wheel.services(0, 0),
         wheel.services(0, 1),
         wheel.services(1, 0),
-    ])
+    ];
+    drop(wheel);
+    Ok(all)
 }
 
 #[test]
