@@ -1,7 +1,6 @@
 -- Acts at the end of a line: the words that stand there say them.
-use Rattle.std.proofs.Common.{◌≡◌, inl, inr, ℕ, Bool, true, false, ◌&&◌, List, [], ◌∷◌, ◌++◌, refl, ap, sym, ◌∙◌}
-use Rattle.std.specs.Prelude.{◌⊎◌, Result, Ok}
-use Rattle.std.specs.List.{list_all}
+use Rattle.std.proofs.Common.{◌≡◌, inl, inr, ℕ, Bool, true, List, [], ◌∷◌, refl, ap, sym, ◌∙◌}
+use Rattle.std.specs.Prelude.{◌⊎◌, Ok}
 use Rattle.co_text.specs.Values.{Word, number, time, func, argument}
 use Rattle.co_program.specs.declared.Act.{Act}
 use Rattle.co_program.specs.declared.Act.TheVariants as act
@@ -12,7 +11,7 @@ use Rattle.co_text.proofs.LinesBack.{and_both}
 use Rattle.co_grammar.specs.Ahead.{is_of_who, is_inked, IsNext, EndsAct, EndsCpu}
 use Rattle.co_grammar.specs.Operands.{who, moment}
 use Rattle.co_grammar.specs.LoneActs.{timed_act, numbered_act, who_act}
-use Rattle.co_grammar.specs.Forms.{act_form, optional_cpu}
+use Rattle.co_grammar.specs.Forms.{act_form}
 use Rattle.co_grammar.specs.declared.keyword.Verb.{Verb}
 use Rattle.co_grammar.specs.declared.keyword.Verb.TheVariants as verb
 use Rattle.co_grammar.proofs.AheadWords.{one-more}

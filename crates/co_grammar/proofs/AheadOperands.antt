@@ -1,24 +1,16 @@
 -- Operands at the front of a text: each is the word that stands there, with its value.
-use Rattle.std.proofs.Common.{◌≡◌, ℕ, ◌+◌, ◌-◌, ◌*◌, ◌^◌, ◌<◌, ◌≤◌, Bool, true, false, ◌&&◌, List, [], ◌∷◌, ◌++◌, length, take, drop, refl, ap, sym, ◌∙◌, arith, length-append}
-use Rattle.std.specs.Prelude.{Some, None, Result, Ok, Err, codes}
-use Rattle.std.specs.List.{list_all}
+use Rattle.std.proofs.Common.{◌≡◌, ℕ, ◌-◌, ◌*◌, ◌^◌, ◌<◌, ◌≤◌, Bool, true, false, List, [], ◌∷◌, ◌++◌, length, take, drop, refl, ap, sym, ◌∙◌, arith, length-append}
+use Rattle.std.specs.Prelude.{Result, Ok, codes}
 use Rattle.std.proofs.lemmas.List.{take-append-drop, length-take-le}
 use Rattle.std.proofs.lemmas.Slice.Eq.{bytes_eq-Decides}
 use Rattle.co_text.specs.Fallible.{◌>>=◌}
-use Rattle.co_text.specs.Lines.{spaced}
 use Rattle.co_text.specs.Values.{Word, is_word, number, time, func, argument}
 use Rattle.co_text.specs.declared.Cause.{Cause}
 use Rattle.co_text.proofs.LinesBack.{and_both}
-use Rattle.co_program.specs.declared.Act.{Act}
-use Rattle.co_program.specs.declared.Act.TheVariants as act
-use Rattle.co_program.specs.declared.Who.{Who}
 use Rattle.co_program.specs.declared.Who.TheVariants as callout
-use Rattle.co_program.specs.declared.When.{When}
 use Rattle.co_program.specs.declared.When.TheVariants as when
-use Rattle.co_program.specs.declared.Where.{Where}
 use Rattle.co_program.specs.declared.Where.TheVariants as cpu
-use Rattle.co_grammar.specs.Ahead.{SpellsFew, IsNumber, is_inked, IsAhead, IsNext, EndsBy, EndsCpu}
-use Rattle.co_grammar.specs.Forms.{optional_cpu, reset_form, schedule_form, drain_form}
+use Rattle.co_grammar.specs.Ahead.{SpellsFew, IsNumber, is_inked, IsAhead, IsNext, EndsCpu}
 use Rattle.co_grammar.specs.Operands.{who, moment, cpu_choice}
 use Rattle.co_grammar.proofs.AheadWords.{digits-inked, letter-inked, one-more}
 use Rattle.co_grammar.proofs.Digits.{number-read, units-read, seconds-read}

@@ -1,14 +1,14 @@
 -- Acts at the front of a text whose line isn't cut yet: what is read of it are its line's words.
-use Rattle.std.proofs.Common.{◌≡◌, ℕ, ◌+◌, ◌<◌, ◌≤◌, ◌*◌, ◌^◌, Bool, true, false, not, cond, ◌&&◌, List, [], ◌∷◌, ◌++◌, length, take, drop, refl, ap, sym, subst, ◌∙◌, arith, append_assoc, length-append}
-use Rattle.std.specs.Prelude.{Option, Some, None, Result, Ok, Err, nat_le, nat_lt, ◌==◌, if◌then◌else◌, codes}
+use Rattle.std.proofs.Common.{◌≡◌, ℕ, ◌<◌, Bool, true, false, ◌&&◌, List, [], ◌∷◌, ◌++◌, length, refl, ap, sym, ◌∙◌, arith, append_assoc, length-append}
+use Rattle.std.specs.Prelude.{Option, Some, ◌==◌, if◌then◌else◌, codes}
 use Rattle.std.specs.List.{list_all}
 use Rattle.std.specs.Char.{is_ascii_digit}
 use Rattle.std.proofs.lemmas.Bool.Decides.{nat_tests}
-use Rattle.co_text.specs.Lines.{lines_of, content, words, spaced, line_text}
-use Rattle.co_text.specs.Values.{Word, is_word, number, time, func, argument}
+use Rattle.co_text.specs.Lines.{lines_of, spaced, line_text}
+use Rattle.co_text.specs.Values.{Word, is_word}
 use Rattle.co_text.proofs.LinesBack.{IsWord, AreWords, and_left, and_right, and_both, whole, joined, line-back, content-back, words-back}
 use Rattle.co_program.specs.declared.Act.{Act}
-use Rattle.co_grammar.specs.Ahead.{verb_word, is_old, BeginsWith, is_ink, is_inked, SpellsFew, IsNumber, IsAhead, IsNext, EndsBy, HasWords, SaysAhead}
+use Rattle.co_grammar.specs.Ahead.{verb_word, is_old, BeginsWith, is_ink, is_inked, EndsBy, SaysAhead}
 use Rattle.co_grammar.specs.Forms.{act_form}
 use Rattle.co_grammar.specs.Keywords.{old_verb_of, verb_of}
 use Rattle.co_grammar.specs.declared.keyword.Verb.{Verb}

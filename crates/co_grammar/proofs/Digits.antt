@@ -1,6 +1,6 @@
 -- Few digits at the front of a text, and the words that they are.
-use Rattle.std.proofs.Common.{◌≡◌, ℕ, ◌+◌, ◌-◌, ◌*◌, ◌^◌, ◌<◌, ◌≤◌, Bool, true, false, cond, ◌&&◌, List, [], ◌∷◌, ◌++◌, length, take, drop, get_or, refl, ap, sym, ◌∙◌, arith}
-use Rattle.std.specs.Prelude.{Some, None, Result, Ok, Err, nat_le, nat_lt, ◌==◌, codes}
+use Rattle.std.proofs.Common.{◌≡◌, ℕ, ◌+◌, ◌-◌, ◌*◌, ◌^◌, ◌<◌, ◌≤◌, true, false, cond, [], ◌∷◌, ◌++◌, length, take, drop, get_or, refl, ap, sym, ◌∙◌, arith}
+use Rattle.std.specs.Prelude.{Some, Ok, nat_le, nat_lt, ◌==◌}
 use Rattle.std.specs.List.{list_all, take_while}
 use Rattle.std.specs.Char.{is_ascii_digit}
 use Rattle.std.proofs.lemmas.Bool.Decides.{nat_tests}
@@ -9,13 +9,12 @@ use Rattle.std.proofs.lemmas.List.Folds.{list_all-append}
 use Rattle.std.proofs.lemmas.List.Sums.{fold-append, take_while-cons}
 use Rattle.std.proofs.lemmas.Nat.{pow-add}
 use Rattle.std.proofs.Math.Nat.{pow-le-pow_right}
-use Rattle.co_sbt.specs.Seconds.{seconds, seconds_and, are_digits}
+use Rattle.co_sbt.specs.Seconds.{seconds, seconds_and}
 use Rattle.co_text.specs.Fallible.{some_or}
 use Rattle.co_text.specs.Values.{Word, spelled_after, number, time}
 use Rattle.co_text.specs.declared.Cause.TheVariants.{Form}
 use Rattle.co_text.proofs.LinesBack.{and_left, and_right}
-use Rattle.co_grammar.specs.Ahead.{SpellsFew, IsNumber, IsAhead}
-use Rattle.co_grammar.proofs.AheadWords.{digits-inked, letter-inked}
+use Rattle.co_grammar.specs.Ahead.{SpellsFew}
 
 -- digits so far, and what they spell
 pub record Spelled (w : Word) (i n : ℕ) : Type 0 where

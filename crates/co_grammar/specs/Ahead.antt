@@ -1,8 +1,7 @@
 -- Acts at the front of a text whose line isn't cut yet.
-use Rattle.std.specs.Prelude.{ℕ, ◌≡◌, ◌^◌, ◌<◌, ◌≤◌, Bool, true, false, ◌&&◌, not, List, [], ◌∷◌, ◌++◌, length, Some, Result, Ok, nat_le, ◌==◌, codes}
+use Rattle.std.specs.Prelude.{ℕ, ◌≡◌, ◌<◌, ◌≤◌, Bool, true, false, ◌&&◌, not, List, [], ◌∷◌, ◌++◌, length, Some, Result, Ok, nat_le, ◌==◌, codes}
 use Rattle.std.specs.List.{list_all}
 use Rattle.std.specs.Char.{is_ascii_digit}
-use Rattle.co_text.specs.Fallible.{◌>>=◌}
 use Rattle.co_text.specs.Lines.{Line, lines_of, content, words, spaced}
 use Rattle.co_text.specs.Values.{Word, spelled_after}
 use Rattle.co_text.specs.declared.Cause.{Cause}

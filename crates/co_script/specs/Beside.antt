@@ -1,10 +1,10 @@
 -- Sections of a text that are read beside each other, each on its own.
-use Rattle.std.specs.Prelude.{◌≡◌, ℕ, ◌+◌, ◌-◌, ◌≤◌, ◌<◌, true, List, [], Option, Some, Result, Ok, length, drop}
+use Rattle.std.specs.Prelude.{◌≡◌, ℕ, ◌+◌, ◌-◌, ◌≤◌, ◌<◌, true, List, [], ◌∷◌, Option, Some, Result, Ok, length, drop}
 use Rattle.co_program.specs.declared.Act.{Act}
 use Rattle.co_grammar.specs.declared.Kind.{Kind}
 use Rattle.co_grammar.specs.Ahead.{HasWords}
 use Rattle.co_grammar.specs.Statements as states
-use Rattle.co_text.specs.Fallible.{Refusal, LineFails}
+use Rattle.co_text.specs.Fallible.{Refusal, Faults, fault_at}
 use Rattle.co_text.specs.declared.LineFault.{LineFault}
 use Rattle.co_text.specs.Lines.{Line, lines_of}
 use Rattle.co_text.specs.Values.{Word}
@@ -85,12 +85,9 @@ pub record ReadsNext (text : List ℕ) (d e : Option Draft) (from to : ℕ) : Ty
   pub is : IsLine text from to line
   pub reads : line_read d line ≡ Ok e
 
--- the line from a place on is refused
-pub record FailsNext (text : List ℕ) (d : Option Draft) (from : ℕ) (fault : LineFault) : Type 0 where
-  pub line : Line
-  pub rest : List Line
-  pub lines : lines_of (drop from text) ≡ line ∷ rest
-  pub fails : LineFails fault (line_read d line)
+-- the text from a place on is refused, with this fault of its first line
+abbrev pub FailsNext : List ℕ → Option Draft → ℕ → LineFault → Type 0
+FailsNext text d from fault = (k : ℕ) → Faults (fault_at k fault) (lines_read k d (lines_of (drop from text)))
 
 -- a section of this kind that has just begun in any draft of the frame has these acts and this time behind so many lines
 abbrev pub Reads : Draft → Kind → List Line → List Act → ℕ → ℕ → List Line → Type 0

@@ -10,8 +10,9 @@ ghost use denote.Param.Send.{IsSync};
 
 use crate::draft::Draft;
 use crate::reader::{finished, read_to};
-use crate::sections::{Section, Start, read_section, starts_of};
+use crate::sections::{Section, read_section};
 use crate::spot::Spot;
+use crate::starts::{Start, starts_of};
 use co_grammar::Kind;
 use co_program::Script;
 use co_sbt::{NoMemory, Seq};
@@ -259,6 +260,6 @@ pub fn read_script_by_threads<R: Threads + Sync>(
     if bytes.len() > 67_108_864 {
         return Err(LineFault::Bad(Cause::Size).at(0));
     }
-    let starts = starts_of(alloc, bytes).map_err(no_memory)?;
+    let starts = starts_of(rt, alloc, bytes).map_err(no_memory)?;
     script_beside(rt, alloc, bytes, starts.as_slice())
 }

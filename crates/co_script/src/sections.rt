@@ -3,24 +3,12 @@ ghost use Rattle.std.specs.Prelude.{◌≡◌, ◌≤◌, IfOk, MatchOption, len
 ghost use Rattle.co_script.specs.Beside.{IsSection, Begins, GrowsNext, HasTaken};
 
 use crate::draft::Draft;
-use crate::spot::{content_at, line_at};
-use co_grammar::{Kind, kind_of};
+use crate::spot::content_at;
+use crate::starts::Start;
+use co_grammar::Kind;
 use co_program::Acts;
 use co_sbt::{NoMemory, Sbt, Seq};
-use co_text::next_word;
 use std::alloc::Global;
-
-/// How many bytes a section has at least that is read by itself.
-const LONG: usize = 65_536;
-
-/// Where the acts of a section begin, as far as a look at the text tells.
-#[derive(Clone, Copy)]
-pub(crate) struct Start {
-    /// The kind of its opening line.
-    stage: Kind,
-    /// The byte behind its opening line.
-    pub at: usize,
-}
 
 /// A section that was read by itself.
 #[derive(Drop)]
@@ -35,50 +23,6 @@ pub(crate) struct Section {
     pub acts: Acts,
     /// The time of its last `now` or `tick`.
     pub clock: Sbt,
-}
-
-/// The kind of a line that begins a section, or ends the last one.
-fn opened(line: &[u8]) -> Option<Kind> {
-    // Most lines are passed by their first byte.
-    match line {
-        [b'c' | b'f' | b't' | b' ' | b'\t' | b'\r', ..] => {}
-        _ => return None,
-    }
-    let (word, _) = next_word(line)?;
-    match kind_of(word)? {
-        Kind::Func => Some(Kind::Func),
-        Kind::Client => Some(Kind::Client),
-        Kind::Cpu => Some(Kind::Cpu),
-        Kind::Turns => Some(Kind::Turns),
-        Kind::Callout | Kind::Hz | Kind::Cpus | Kind::Wheel => None,
-        Kind::Funcs | Kind::Lock | Kind::Timer => None,
-    }
-}
-
-/// Notes where a section begins that ends before this byte, if it is long.
-fn note_long(starts: &mut Seq<Start>, start: Option<Start>, end: usize) -> Result<(), NoMemory> {
-    match start {
-        Some(start) if start.stage.is_section() && LONG <= end.saturating_sub(start.at) => {
-            starts.push(start)
-        }
-        _ => Ok(()),
-    }
-}
-
-/// Where the long sections of a text begin, in order. What a look misses is no harm: it is read with the other lines.
-pub(crate) fn starts_of(alloc: Global, text: &[u8]) -> Result<Seq<Start>, NoMemory> {
-    let mut starts = Seq::new(alloc);
-    let mut open = None;
-    let mut at = 0;
-    while let Some((line, _, behind)) = line_at(text, at) {
-        if let Some(stage) = opened(line) {
-            note_long(&mut starts, open, at)?;
-            open = Some(Start { stage, at: behind });
-        }
-        at = behind;
-    }
-    note_long(&mut starts, open, at)?;
-    Ok(starts)
 }
 
 /// Takes the line from a byte on into a draft, and gives the byte behind it. None where it is no line of the open section, or

@@ -1,5 +1,7 @@
-use Rattle.std.proofs.Common.{◌≡◌, drop, refl, ◌∙◌, arith}
+use Rattle.std.proofs.Common.{◌≡◌, drop, refl, subst, ◌∙◌, arith}
+use Rattle.std.specs.Prelude.{MatchOption}
 use Rattle.co_text.specs.Lines.{lines_of}
+use Rattle.co_script.specs.Beside.{GrowsNext}
 use Rattle.co_script.proofs.Beside.{frame-same, frame-further, reads-none, reads-more}
 use Rattle.co_script.proofs.sections.grow_on.Goals as goal
 
@@ -13,4 +15,14 @@ loop-behind-init c = record {
 }
 
 pub loop-behind-preserved : goal.loop-behind-preserved
-loop-behind-preserved c = ?
+loop-behind-preserved c =
+    let before = c.loop-behind.invariant in
+    let next = subst (λ o. MatchOption o (c.grow_next.new.draft ≡ c.loop-behind.draft) (λ to. GrowsNext c.args.text.now c.loop-behind.draft c.grow_next.new.draft c.loop-behind.end to)) c.in-Some.is c.in_ok-behind.ensures in
+    record {
+      frame = frame-further c.args.draft.now c.loop-behind.draft c.grow_next.new.draft before.frame next.grows.frame;
+      kind = next.grows.kind ∙ before.kind;
+      reads = reads-more c.args.draft.now c.loop-behind.draft c.grow_next.new.draft c.args.draft.now.stage (lines_of (drop c.args.from c.args.text.now)) (lines_of (drop c.loop-behind.end c.args.text.now)) (lines_of (drop c.in-Some.behind c.args.text.now)) next.line c.loop-behind.lines
+          before.frame before.kind next.is.lines before.reads next.grows;
+      within = next.is.within;
+      few = omega (arith, before.few, next.is.further);
+    }

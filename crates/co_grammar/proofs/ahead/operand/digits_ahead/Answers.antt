@@ -1,5 +1,5 @@
-use Rattle.std.proofs.Common.{◌≤◌, arith}
-use Rattle.co_grammar.proofs.Digits.{spelled-none, below-most, digit-more}
+use Rattle.std.proofs.Common.{arith}
+use Rattle.co_grammar.proofs.Digits.{below-most}
 use Rattle.co_grammar.proofs.ahead.operand.digits_ahead.Goals as goal
 
 pub overflow_mul-value : goal.overflow_mul-value
