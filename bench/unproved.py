@@ -13,6 +13,7 @@ for word in "$@"; do case "$word" in *.bc) [ -n "$(find "$word" -size +99k)" ] &
 exec "{clang}" "$@"
 """
 HINT = re.compile(r"#\[inline(?:\((always|never)\))?\]\s*(?:///.*\n\s*|//.*\n\s*|#\[.*\]\s*)*(?:pub(?:\([a-z]+\))? )?fn (\w+)")
+IMPL = re.compile(r"^impl(?:<.*?>)? (?:.* for )?(\w+)|^\}", re.M)
 KINDS = {"always": "alwaysinline", "never": "noinline", "": "inlinehint"}
 
 
@@ -40,13 +41,24 @@ def kit_that_keeps(room, kept):
 
 
 def hints_of(checkout):
-    """By a function's crate and name, how it is to be inlined."""
+    """By a function's crate and name, how it is to be inlined: for the methods of each type, or of none."""
     hints = {}
     for path in glob.glob(f"{checkout}/crates/*/src/**/*.rt", recursive=True):
         crate = os.path.relpath(path, f"{checkout}/crates").split(os.sep)[0]
-        for kind, name in HINT.findall(open(path).read()):
-            hints[crate, name] = kind
+        text = open(path).read()
+        for found in HINT.finditer(text):
+            within = [it[1] for it in IMPL.finditer(text, 0, found.start())]
+            hints.setdefault((crate, found[2]), {})[within and within[-1] or ""] = found[1] or ""
     return hints
+
+
+def hint_for(name, hints):
+    """How the function of this name in the module is to be inlined, or None. The name of a trait's method begins with the type's."""
+    parts = re.sub(r"::<#[0-9a-f]+>$", "", name).split("::")
+    kinds = hints.get((parts[0], parts[-1]), {})
+    is_method = len(parts) > 2 and parts[-2][:1].isupper()
+    fitting = [it for it in kinds if bool(it) == is_method and parts[-2].startswith(it)]
+    return kinds[max(fitting, key=len)] if fitting else None
 
 
 def hinted(text, hints):
@@ -56,8 +68,7 @@ def hinted(text, hints):
     number = {kind: f"#99{at}" for at, kind in enumerate(KINDS)}
 
     def with_hint(found):
-        parts = re.sub(r"::<#[0-9a-f]+>$", "", found[2]).split("::")
-        kind = hints.get((parts[0], parts[-1]))
+        kind = hint_for(found[2], hints)
         return found[0] if kind is None else f"{found[1]}{found[2]}{found[3]}{number[kind]} {{"
 
     text = re.sub(r'^(define [^\n]*@")([^"]*)("\([^\n]*\) )#0 \{', with_hint, text, flags=re.M)

@@ -78,7 +78,7 @@ impl Finished {
 
     /// The answer of an end by actor `actor` in its act `act`, note after note: the End, the Free, and an Insert where the callout landed
     /// elsewhere.
-    #[inline(never)]
+    #[inline(always)]
     pub fn answer(&self, actor: u32, act: u64) -> Made
         ensures reply { result.reply ≡ self.now.out.reply }
         ensures notes { notes_in result.notes ≡ finished_notes actor act self.now }

@@ -1,5 +1,5 @@
 //! What a call did, and the notes of it.
-ghost use Rattle.std.specs.Prelude.{◌≡◌};
+ghost use Rattle.std.specs.Prelude.{◌≡◌, is_some};
 ghost use Rattle.std.specs.declared.option.Option.TheVariants.{Some};
 ghost use Rattle.co_object.specs.declared.op.Op.TheVariants.{Call};
 ghost use Rattle.co_object.specs.Group.{off_of};
@@ -167,8 +167,47 @@ impl Told {
         self.insertion = Some(inserted);
     }
 
-    /// The answer of actor `actor`'s call in its act `act` on callout `i`, note after note: what it took out of the queue, its
-    /// entry, and what it put in.
+    /// Whether the call took an arming out of a queue.
+    #[inline(always)]
+    pub fn has_removal(&self) -> bool
+        ensures { result ≡ is_some (off_of self.now.out.reply) }
+    {
+        self.out.reply.off().is_some()
+    }
+
+    /// Whether the call put an arming in a queue.
+    #[inline(always)]
+    pub fn has_insertion(&self) -> bool
+        ensures { result ≡ is_some self.now.insertion }
+    {
+        self.insertion.is_some()
+    }
+
+    /// The note of what actor `actor`'s call in its act `act` on callout `i` took out of a queue, if it took anything.
+    #[inline(always)]
+    pub fn note_of_removal(&self, actor: u32, act: u64, i: u32) -> Option<Note>
+        ensures { notes_with result ≡ removal_told actor act i (off_of self.now.out.reply) self.now.removal }
+    {
+        removal_note(actor, act, i, &self.out.reply, self.removal)
+    }
+
+    /// The note of that call's own entry.
+    #[inline(always)]
+    pub fn note_of_entry(&self, actor: u32, act: u64, i: u32, op: &CallOp) -> Note
+        ensures { result ≡ noted_entry i (record { actor = actor; act = act; op = Call op.now; reply = self.now.out.reply }) self.now.entry }
+    {
+        call_note(actor, act, i, op, &self.out.reply, self.entry)
+    }
+
+    /// The note of what that call put in a queue, if it put in anything.
+    #[inline(always)]
+    pub fn note_of_insertion(&self, actor: u32, act: u64, i: u32) -> Option<Note>
+        ensures { notes_with result ≡ insertion_told actor act i self.now.insertion }
+    {
+        insertion_note(actor, act, i, &self.insertion)
+    }
+
+    /// The answer of that call, note after note: what it took out of the queue, its entry, and what it put in.
     ///
     /// Inlined, the answer would be made in pieces, and these copied once for each caller in between.
     #[inline(never)]
@@ -176,12 +215,11 @@ impl Told {
         ensures reply { result.reply ≡ self.now.out.reply }
         ensures notes { notes_in result.notes ≡ told_notes actor act i op.now self.now }
     {
-        let reply = &self.out.reply;
-        let removal = removal_note(actor, act, i, reply, self.removal);
-        let entry = call_note(actor, act, i, op, reply, self.entry);
-        let insertion = insertion_note(actor, act, i, &self.insertion);
+        let removal = self.note_of_removal(actor, act, i);
+        let entry = self.note_of_entry(actor, act, i, op);
+        let insertion = self.note_of_insertion(actor, act, i);
         Made {
-            reply: *reply,
+            reply: self.out.reply,
             notes: [removal, Some(entry), insertion],
         }
     }

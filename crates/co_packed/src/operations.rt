@@ -10,6 +10,7 @@ use crate::words::{OpWords, no_op_words};
 use co_object::{CallOp, Op, PlainOp, QOp, RunOp};
 
 /// The kind and the numbers of an operation of a caller that is no drain.
+#[inline(always)]
 fn plain_parts(op: &PlainOp) -> (Kind, OpWords)
     ensures { op_of result.0 result.1 ≡ Call (Plain op.now) }
 {
@@ -76,6 +77,7 @@ fn plain_parts(op: &PlainOp) -> (Kind, OpWords)
 }
 
 /// The kind and the numbers of an operation of the service.
+#[inline(always)]
 fn run_parts(op: &RunOp) -> (Kind, OpWords)
     ensures { op_of result.0 result.1 ≡ Run op.now }
 {
@@ -100,6 +102,7 @@ fn run_parts(op: &RunOp) -> (Kind, OpWords)
 }
 
 /// The kind and the numbers of an operation on a callout.
+#[inline(always)]
 pub(crate) fn op_parts(op: &Op) -> (Kind, OpWords)
     ensures { op_of result.0 result.1 ≡ op.now }
 {
@@ -112,6 +115,7 @@ pub(crate) fn op_parts(op: &Op) -> (Kind, OpWords)
 }
 
 /// The kind and the numbers of an operation on a queue.
+#[inline(always)]
 pub(crate) fn queue_op_parts(op: &QOp) -> (QKind, OpWords)
     ensures { queue_op_of result.0 result.1 ≡ op.now }
 {

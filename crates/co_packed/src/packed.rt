@@ -61,6 +61,7 @@ pub(crate) struct EntryParts {
 }
 
 /// An entry of a callout in kinds and numbers.
+#[inline(always)]
 fn timer_parts(entry: &Entry) -> EntryParts
     ensures { entry_of result.sort result.actor result.act result.op result.reply ≡ entries.Timer entry.now }
 {
@@ -76,6 +77,7 @@ fn timer_parts(entry: &Entry) -> EntryParts
 }
 
 /// An entry of a CPU's journal in kinds and numbers.
+#[inline(always)]
 fn cpu_parts(entry: &QEntry) -> EntryParts
     ensures { entry_of result.sort result.actor result.act result.op result.reply ≡ entries.Cpu entry.now }
 {

@@ -143,6 +143,7 @@ fn go_parts(number: u32, word: u64) -> (Answer, ReplyWords)
 }
 
 /// The kind and the numbers of a callout's reply.
+#[inline(always)]
 pub(crate) fn reply_parts(reply: &Reply) -> (Answer, ReplyWords)
     ensures { reply_of result.0 result.1 ≡ reply.now }
 {
@@ -169,6 +170,7 @@ pub(crate) fn reply_parts(reply: &Reply) -> (Answer, ReplyWords)
 }
 
 /// The kind and the numbers of a queue's reply.
+#[inline(always)]
 pub(crate) fn queue_reply_parts(reply: &QReply) -> (QAnswer, ReplyWords)
     ensures { queue_reply_of result.0 result.1 ≡ reply.now }
 {

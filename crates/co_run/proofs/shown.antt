@@ -2,3 +2,4 @@
 pub mod OwnEntries
 pub mod OneMore
 pub mod ThreeNotes
+pub mod CallNotes

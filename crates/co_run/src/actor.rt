@@ -1,5 +1,5 @@
 //! One actor of a run.
-ghost use Rattle.std.specs.Prelude.{◌≡◌, ◌≤◌, ◌+◌, ◌++◌, ◌∷◌, [], ℕ, ◌||◌, is_some, length};
+ghost use Rattle.std.specs.Prelude.{◌≡◌, ◌≤◌, ◌+◌, ◌++◌, ◌∷◌, [], ℕ, Some, ◌||◌, is_some, length};
 ghost use Rattle.co_program.specs.Advance.{advance};
 ghost use Rattle.co_program.specs.Indexed.{cursor_of};
 ghost use Rattle.co_program.specs.Scripts.{IsScript};
@@ -36,7 +36,7 @@ fn put<B: Book>(book: &mut B, note: &Note)
     ensures notes { B.notes book.new ≡ B.notes book.old ++ note.now ∷ [] }
     ensures spare { B.spare book.new + 1 ≡ B.spare book.old }
 {
-    book.push(*note);
+    book.push(note);
 }
 
 /// There is at least one of the two.
@@ -46,8 +46,9 @@ fn either(note: &Option<Note>, other: &Option<Note>) -> bool
     note.is_some() || other.is_some()
 }
 
-/// Notes down one note of a section, and goes on in the program. `more` is whether another note of the section follows.
-pub(crate) fn tell<B: Book>(
+/// What [`tell`] does, inlined: for the one note that each call makes.
+#[inline(always)]
+pub(crate) fn tell_here<B: Book>(
     script: &Script,
     cursor: &mut Cursor,
     book: &mut B,
@@ -65,8 +66,25 @@ pub(crate) fn tell<B: Book>(
     let _after = cursor.task;
 }
 
+/// Notes down one note of a section, and goes on in the program. `more` is whether another note of the section follows.
+#[inline(never)]
+pub(crate) fn tell<B: Book>(
+    script: &Script,
+    cursor: &mut Cursor,
+    book: &mut B,
+    note: &Note,
+    more: bool,
+)
+    requires script { IsScript script.now }
+    requires can { CanTell B.notes B.spare cursor.old book.old 1 }
+    ensures cursor { (actor : ℕ) → cursor_of script.now actor cursor.new ≡ advance script.now (cursor_of script.now actor cursor.old) more note.now.place note.now.entry }
+    ensures told { HasTold B.notes B.spare cursor.new book.old book.new (note.now ∷ []) }
+{
+    tell_here(script, cursor, book, note, more);
+}
+
 /// Notes down one note of a section, if there is one.
-fn tell_some<B: Book>(
+pub(crate) fn tell_some<B: Book>(
     script: &Script,
     cursor: &mut Cursor,
     book: &mut B,

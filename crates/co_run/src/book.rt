@@ -53,10 +53,10 @@ pub trait Book: Drop {
         ensures few { OnOk result (length (notes self.new) + spare self.new < 2 ^ 56) }
         ensures err { OnErr result (spare self.new ≡ spare self.old) };
 
-    /// As a notebook's.
-    fn push(&mut self, note: Note)
+    /// As a notebook's, of a note that is only looked at.
+    fn push(&mut self, note: &Note)
         requires { 1 ≤ spare self.old }
-        ensures notes { notes self.new ≡ notes self.old ++ note ∷ [] }
+        ensures notes { notes self.new ≡ notes self.old ++ note.now ∷ [] }
         ensures spare { spare self.new + 1 ≡ spare self.old };
 }
 
@@ -69,8 +69,8 @@ impl<B: Notebook> Book for B {
         Notebook::reserve(self, count)
     }
 
-    fn push(&mut self, note: Note) {
-        Notebook::push(self, note);
+    fn push(&mut self, note: &Note) {
+        Notebook::push(self, *note);
     }
 }
 
@@ -174,8 +174,8 @@ impl Book for KeptBook<PackedNote> {
         self.make_room(count)
     }
 
-    fn push(&mut self, note: Note) {
-        self.keep(PackedNote::of(&note));
+    fn push(&mut self, note: &Note) {
+        self.keep(PackedNote::of(note));
     }
 }
 

@@ -9,7 +9,6 @@ mod calls;
 mod jobs;
 mod joins;
 mod laws;
-mod letting_go;
 mod longest;
 mod playing;
 mod port;
@@ -23,6 +22,5 @@ mod stepping;
 
 pub use book::{KeptBook, Notebook, RoomBook, ShortBook};
 pub use laws::fitting_scripts_can_run;
-pub use letting_go::let_go;
 pub use port::{PortOrigin, ServicePort};
 pub use runs::{PackedRan, Ran, run_books, run_on, run_packed, run_threads};

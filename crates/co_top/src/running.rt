@@ -11,7 +11,7 @@ use crate::typed::lists_are_typed;
 use co_hand::Gate;
 use co_program::Script;
 use co_report::print_by_threads;
-use co_run::{PackedRan, fitting_scripts_can_run, let_go, run_packed};
+use co_run::{PackedRan, fitting_scripts_can_run, run_packed};
 use co_sbt::{NoMemory, Seq};
 use co_script::read_script_by_threads;
 use co_service::Closing;
@@ -42,7 +42,7 @@ fn report_of_run<G: Gate + Sync, R: Threads + Wait + Sync>(
     lists_are_typed(ran.lists.as_slice());
     let pieces = print_by_threads(rt, alloc, script, &ran.lists)?;
     let PackedRan { lists, closing } = ran;
-    let_go(rt, lists);
+    drop(lists);
     Ok(Report { pieces, closing })
 }
 
