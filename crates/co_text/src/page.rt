@@ -7,7 +7,6 @@ ghost use Rattle.co_text.specs.Written.{token_word, token_words};
 use crate::tail::Tail;
 use crate::token::Token;
 use co_sbt::{NoMemory, Room, Seq};
-use itoa::Buffer;
 use std::alloc::Global;
 use std::marker::Model;
 use std::mem;
@@ -150,14 +149,14 @@ impl Page {
     }
 
     /// Appends a number, with a `-` where it is below 0. `NoMemory` where there is no room.
+    #[inline(always)]
     pub fn signed(&mut self, number: i32) -> Result<(), NoMemory>
         ensures { OnOk result (self.new ≡ self.old ++ signed_decimal number) }
     {
         if number >= 0 {
             return self.number(number as u64);
         }
-        let mut buffer = Buffer::new();
-        self.text(buffer.format(number).as_bytes())
+        self.tagged(b"-".as_slice(), u64::from(number.unsigned_abs()))
     }
 
     #[inline(never)]
