@@ -209,7 +209,8 @@ impl<'a, N: Name> Cpu<'a, N> {
             unreachable!()
         };
         let (lanes, turned) = lanes.turn(rt, self.timers, self.number, now, handler);
-        self.lanes = Some(lanes);
+        // By a call: an assignment would write out here how the lanes go that stood there, and none do.
+        let _ = self.lanes.insert(lanes);
         turned
     }
 }
