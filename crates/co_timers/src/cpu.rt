@@ -1,7 +1,7 @@
 //! A CPU's handle.
 ghost use Rattle.std.specs.Prelude.{◌≡◌, ◌<◌, false, true};
-ghost use Rattle.co_desk.specs.Outcomes.{IsScan};
-ghost use Rattle.co_desk.specs.Views.{AreOf, PassesView};
+ghost use Rattle.co_service.specs.Outcomes.{IsScan};
+ghost use Rattle.co_service.specs.Views.{AreOf, PassesView};
 ghost use Rattle.co_timers.specs.Handles.{next_act};
 ghost use Rattle.co_timers.specs.Ports.{handle_of};
 ghost use Rattle.co_timers.specs.Rounds.{IsAtEase, AreNeedsOf, IsLaneServed};
@@ -209,7 +209,8 @@ impl<'a, N: Name> Cpu<'a, N> {
             unreachable!()
         };
         let (lanes, turned) = lanes.turn(rt, self.timers, self.number, now, handler);
-        self.lanes.insert(lanes);
+        // By a call: an assignment would write out here how the lanes go that stood there, and none do.
+        let _ = self.lanes.insert(lanes);
         turned
     }
 }
