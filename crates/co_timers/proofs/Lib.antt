@@ -8,4 +8,3 @@ pub mod Picks
 pub mod Allowed
 pub mod Whole
 pub mod Fires
-pub mod Parts

@@ -1,8 +1,8 @@
 -- Who is here, and who is back.
-use Rattle.std.proofs.Common.{◌≡◌, ℕ, zero, suc, ◌+◌, ◌<◌, ◌≤◌, ◌==◌, Bool, true, false, replicate, List, [], ◌∷◌, ◌++◌, length, map, set, refl, sym, ap, ◌∙◌, subst, arith}
-use Rattle.std.proofs.lemmas.List.{length-map, map-append}
+use Rattle.std.proofs.Common.{◌≡◌, ℕ, zero, suc, ◌+◌, ◌<◌, ◌≤◌, ◌==◌, Bool, true, false, replicate, List, [], ◌∷◌, ◌++◌, length, map, set, refl, sym, ap, ◌∙◌, subst, arith, length-append}
+use Rattle.std.proofs.lemmas.List.{length-map}
 use Rattle.std.proofs.Math.ListN.{length-set}
-use Rattle.std.specs.Prelude.{IfSome, if◌then◌else◌, is_some, slice_get}
+use Rattle.std.specs.Prelude.{IfSome, is_some, slice_get}
 use Rattle.std.specs.List.{All}
 use Rattle.std.specs.declared.option.Option.{Option}
 use Rattle.std.specs.declared.option.Option.TheVariants.{Some, None}
@@ -22,10 +22,6 @@ use Rattle.co_timers.specs.Posts.{ArePosts}
 pub all_here : {A : Type 0} (xs : List A) → map is_some (map Some xs) ≡ replicate (length xs) true
 all_here [] = refl
 all_here (x ∷ xs) = ap (λ l. true ∷ l) (all_here xs)
-
--- one more has a seat
-pub one_seated : {A : Type 0} (seats : List (Option A)) (taken : List A) (x : A) (after : List (Option A)) → seats ≡ map Some taken → after ≡ seats ++ Some x ∷ [] → after ≡ map Some (taken ++ x ∷ [])
-one_seated {A} seats taken x after are is = is ∙ (ap (λ (l : List (Option A)). l ++ Some x ∷ []) are ∙ sym (map-append {B = Option A} Some taken (x ∷ [])))
 
 -- one more is taken of those that are left
 pub one_taken : {A : Type 0} (taken left rest all : List A) (x : A) → left ≡ x ∷ rest → taken ++ left ≡ all → (taken ++ x ∷ []) ++ rest ≡ all
@@ -88,15 +84,11 @@ module _ (name : ServiceName) (p : Params) where
     seat_handle j None h = tt
     seat_handle j (Some q) h = booted_handle j q are.named (are.each j q h)
 
-    all_with : (more : Bool) (q : PassesView) → AreOf name p q → All (AreOf name p) (if more then back.items ++ q ∷ [] else back.items)
-    all_with true q of = all_more (AreOf name p) back.items q are.of of
-    all_with false q of = are.of
-
-    pub posts_back : (after : RoomView PassesView) (q : PassesView) (more : Bool) → AreOf name p q → after.items ≡ (if more then back.items ++ q ∷ [] else back.items) → back.spare + length back.items ≤ after.spare + length after.items → ArePosts name p seats after
-    posts_back after q more of items spare = record {
+    pub posts_back : (after : RoomView PassesView) (q : PassesView) → AreOf name p q → after.items ≡ back.items ++ q ∷ [] → back.spare ≤ after.spare + 1 → ArePosts name p seats after
+    posts_back after q of items spare = record {
       count = are.count;
       each = are.each;
       named = are.named;
-      of = subst (All (AreOf name p)) (sym items) (all_with more q of);
-      room = (let room = are.room in omega (arith, room, spare));
+      of = subst (All (AreOf name p)) (sym items) (all_more (AreOf name p) back.items q are.of of);
+      room = (let room = are.room in let long : length after.items ≡ length back.items + 1 = ap (λ l. length l) items ∙ length-append back.items (q ∷ []) in omega (arith, room, long, spare));
     }

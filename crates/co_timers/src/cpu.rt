@@ -1,7 +1,7 @@
 //! A CPU's handle.
 ghost use Rattle.std.specs.Prelude.{◌≡◌, ◌<◌, false, true};
-ghost use Rattle.co_service.specs.Outcomes.{IsScan};
-ghost use Rattle.co_service.specs.Views.{AreOf, PassesView};
+ghost use Rattle.co_desk.specs.Outcomes.{IsScan};
+ghost use Rattle.co_desk.specs.Views.{AreOf, PassesView};
 ghost use Rattle.co_timers.specs.Handles.{next_act};
 ghost use Rattle.co_timers.specs.Ports.{handle_of};
 ghost use Rattle.co_timers.specs.Rounds.{IsAtEase, AreNeedsOf, IsLaneServed};

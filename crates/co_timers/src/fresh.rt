@@ -3,7 +3,6 @@ ghost use Rattle.std.specs.Prelude.{◌≡◌, IfOk};
 ghost use Rattle.co_desk.specs.Params.{AreParams};
 ghost use Rattle.co_timers.specs.Timers.{HaveLocks};
 
-use crate::both::both;
 use co_lock::{ClientLocks, LockKind};
 use co_object::Spec;
 use co_sbt::{NoMemory, Seq};
@@ -57,8 +56,8 @@ fn locks_of(alloc: Global, kinds: &[LockKind]) -> Result<(ClientLocks, Seq<LockK
     ensures locks { IfOk result (λ made. made.0 ≡ kinds.now) }
     ensures kinds { IfOk result (λ made. made.1 ≡ kinds.now) }
 {
-    let locks = ClientLocks::new(alloc, kinds);
-    both(locks, Seq::copy_of(alloc, kinds))
+    let locks = ClientLocks::new(alloc, kinds)?;
+    Ok((locks, Seq::copy_of(alloc, kinds)?))
 }
 
 impl TimersFresh {
@@ -81,10 +80,9 @@ impl TimersFresh {
         ensures params { IfOk result (λ fresh. fresh.params ≡ record { version = 2; clients = clients; cpus = cpus; buckets = buckets; specs = specs.now }) }
         ensures locks { IfOk result (λ fresh. fresh.locks ≡ locks.now) }
     {
-        let params = params_of(alloc, cpus, clients, buckets, specs);
-        let locks = locks_of(alloc, locks);
-        let service = Service::boot(alloc, 2, cpus, buckets, clients, specs);
-        let (params, ((locks, kinds), (fresh, passes))) = both(params, both(locks, service))?;
+        let params = params_of(alloc, cpus, clients, buckets, specs)?;
+        let (locks, kinds) = locks_of(alloc, locks)?;
+        let (fresh, passes) = Service::boot(alloc, 2, cpus, buckets, clients, specs)?;
         Ok(TimersFresh {
             fresh,
             passes,

@@ -2,7 +2,6 @@
 #![tactic(auto)]
 
 mod answers;
-mod both;
 mod client;
 mod cpu;
 mod fresh;

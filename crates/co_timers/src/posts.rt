@@ -1,5 +1,5 @@
 //! The posts of a service: its actors leave with handles, and bring them back.
-ghost use Rattle.std.specs.Prelude.{◌≡◌, ◌<◌, ◌≤◌, ◌+◌, [], ◌∷◌, ◌++◌, IfOk, IfSome, if◌then◌else◌, nat_lt, false, is_some, map, replicate, slice_index_or, slice_set, true, ◌==◌, length};
+ghost use Rattle.std.specs.Prelude.{◌≡◌, [], IfOk, IfSome, false, is_some, map, replicate, slice_index_or, slice_set, true, ◌==◌, length};
 ghost use Rattle.std.specs.List.{All};
 ghost use Rattle.std.specs.declared.option.Option.TheVariants.{Some};
 ghost use Rattle.co_service.specs.Booted.{AreBooted, booted};
@@ -11,7 +11,6 @@ ghost use Rattle.co_timers.specs.Handles.{IsHandle};
 ghost use Rattle.co_timers.specs.Posts.{back_with, both_leave, is_client, is_cpu, is_interrupt, is_posted, is_whole, actor_leaves};
 ghost use Rattle.co_timers.specs.Turns.{first_cpu};
 
-use crate::both::both;
 use crate::{Client, Cpu, Timers};
 use co_life::Shown;
 use co_sbt::{NoMemory, Room, Seq};
@@ -42,36 +41,15 @@ impl<N: Name> Model for Posts<N> {
     ghost invariant = { λ p. ArePosts N.name p.params.value p.seats.items p.back };
 }
 
-/// Each one in its seat: all are here. `NoMemory` where there is no room for the seats.
-fn seated<T: Drop>(alloc: Global, all: Seq<T>) -> Result<Vec<Option<T>>, NoMemory>
-    ensures { IfOk result (λ seats. seats.items ≡ map Some all) }
+/// The passes of all actors, each in its seat: all are here. `NoMemory` where there is no room for the seats.
+fn seated(alloc: Global, passes: Seq<Passes>) -> Result<Vec<Option<Passes>>, NoMemory>
+    ensures { IfOk result (λ seats. seats.items ≡ map Some passes) }
 {
     let mut seats = Seq::new(alloc);
-    for one in all.into_vec() {
+    for one in passes.into_vec() {
         seats.push(Some(one))?;
     }
     Ok(seats.into_vec())
-}
-
-/// Room for so many. `NoMemory` where there is none.
-fn room_for<T: Drop>(alloc: Global, count: usize) -> Result<Room<T>, NoMemory>
-    ensures items { IfOk result (λ room. room.items ≡ []) }
-    ensures spare { IfOk result (λ room. count ≤ room.spare) }
-{
-    let mut room = Room::from_seq(Seq::new(alloc));
-    room.reserve(count)?;
-    Ok(room)
-}
-
-/// One more comes in, if fewer than so many are there.
-fn put_below<T: Drop>(room: &mut Room<T>, most: usize, one: T)
-    requires { length room.old.items < most → 0 < room.old.spare }
-    ensures items { room.new.items ≡ (if nat_lt (length room.old.items) most then room.old.items ++ one ∷ [] else room.old.items) }
-    ensures spare { room.old.spare + length room.old.items ≤ room.new.spare + length room.new.items }
-{
-    if room.len() < most {
-        room.push(one);
-    }
 }
 
 impl<N: Name> Posts<N> {
@@ -203,7 +181,9 @@ impl<N: Name> Posts<N> {
         requires { AreOf N.name self.old.params passes }
         ensures { self.new ≡ back_with self.old passes }
     {
-        put_below(&mut self.back, self.seats.len(), passes);
+        if self.back.len() < self.seats.len() {
+            self.back.push(passes);
+        }
     }
 
     /// The passes that are back.
@@ -227,8 +207,9 @@ pub(crate) fn open_posts<N: Name>(
     ensures here { IfOk result (λ posts. posts.here ≡ replicate (actor_count params.now) true) }
     ensures back { IfOk result (λ posts. posts.back ≡ []) }
 {
-    let back = room_for(alloc, passes.as_slice().len());
-    let (seats, back) = both(seated(alloc, passes), back)?;
+    let seats = seated(alloc, passes)?;
+    let mut back = Room::from_seq(Seq::new(alloc));
+    back.reserve(seats.len())?;
     Ok(Posts {
         params: Shown::of(params),
         seats,

@@ -15,7 +15,6 @@ ghost use Rattle.co_timers.specs.Drains.{IsDrainOf, SaysTry, is_try};
 ghost use Rattle.co_timers.specs.Answers.{is_cpu, names_cpu, refusal, uncovered};
 ghost use Rattle.co_timers.specs.Handles.{IsHandle};
 
-use crate::both::both;
 use crate::posts::open_posts;
 use crate::{Drained, Posts, Refused, TimersFresh};
 use co_lock::{ClientLocks, Held, Hold, LockKind, covers};
@@ -120,8 +119,8 @@ fn open_both<N: Name>(
     ensures here { IfOk result (λ made. made.1.here ≡ replicate (actor_count params.now) true) }
     ensures back { IfOk result (λ made. made.1.back ≡ []) }
 {
-    let service = Service::open(alloc, fresh);
-    both(service, open_posts(alloc, params, passes))
+    let posts = open_posts(alloc, params, passes)?;
+    Ok((Service::open(alloc, fresh)?, posts))
 }
 
 impl<N: Name> Timers<N> {
@@ -265,8 +264,7 @@ impl<N: Name> Timers<N> {
             locks,
             kinds,
         } = fresh;
-        let made = open_both(alloc, &params, fresh, passes);
-        let ((service, posts), (params, locks, kinds)) = both(made, Ok((params, locks, kinds)))?;
+        let (service, posts) = open_both(alloc, &params, fresh, passes)?;
         let timers = Timers {
             service,
             locks,
