@@ -29,6 +29,9 @@ const ORDERED_HALVINGS: u32 = 2;
 /// small, few processors wait for the last one.
 const PRINTED_HALVINGS: u32 = 2;
 
+/// Places with fewer notes than these are not halved: a thread takes longer to be had than they take to be printed.
+const FEW_NOTES: usize = 2048;
+
 /// Some places of a part that is in order, those from `first` up to `end`, in one piece.
 fn print_piece(
     alloc: Global,
@@ -71,7 +74,7 @@ fn print_halves<R: Threads + Sync>(
     requires part { IsInOrder printing.now.script.now printing.now.lists.now part.now }
     ensures { IfOk result (λ pieces. concat pieces ≡ text (lines_between printing.now.script.now printing.now.lists.now first end)) }
 {
-    if halvings == 0 {
+    if halvings == 0 || printing.note_count(first, end) < FEW_NOTES {
         return print_piece(alloc, printing, part, first, end);
     }
     let middle = printing.middle(first, end);
@@ -121,7 +124,7 @@ fn print_parts<R: Threads + Sync>(
     requires end { end ≤ place_count printing.now.script.now }
     ensures { IfOk result (λ pieces. concat pieces ≡ text (lines_between printing.now.script.now printing.now.lists.now first end)) }
 {
-    if halvings == 0 {
+    if halvings == 0 || printing.note_count(first, end) < FEW_NOTES {
         return print_part(rt, alloc, printing, first, end);
     }
     let middle = printing.middle(first, end);

@@ -82,6 +82,15 @@ impl<'a> Printing<'a> {
         self.counted.counts.as_slice().len()
     }
 
+    /// How many notes the places from `first` up to `end` have.
+    pub(crate) fn note_count(&self, first: usize, end: usize) -> usize
+        requires order { first ≤ end }
+        requires end { end ≤ place_count self.now.script.now }
+    {
+        let starts = self.starts.as_slice();
+        starts[end].saturating_sub(starts[first])
+    }
+
     /// Of the places from `first` up to `end` one such that about half of their notes stand before it, or `end`. It looks
     /// at them one by one.
     pub fn middle(&self, first: usize, end: usize) -> usize
