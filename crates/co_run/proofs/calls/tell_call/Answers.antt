@@ -1,5 +1,5 @@
 -- The notes of a call are told one after another.
-use Rattle.std.proofs.Common.{◌≡◌, ◌≤◌, ◌++◌, ◌∷◌, ◌∙◌, ap, subst, arith}
+use Rattle.std.proofs.Common.{◌++◌, ◌∷◌, ◌∙◌, ap, subst, arith}
 use Rattle.co_object.specs.declared.Note.{Note}
 use Rattle.co_program.specs.Indexed.{cursor_of}
 use Rattle.co_run.specs.Counted.{HasTold}
