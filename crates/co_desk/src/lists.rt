@@ -12,10 +12,7 @@ const LINES: usize = 128;
 pub fn apart<T: Drop>(alloc: Global, count: usize) -> Result<Vec<T>, NoMemory>
     ensures { IfOk result (λ items. items.items ≡ []) }
 {
-    match Vec::with_capacity(alloc, count.saturating_add(LINES)) {
-        Ok(items) => Ok(items),
-        Err(_) => Err(NoMemory {}),
-    }
+    Ok(Vec::with_capacity(alloc, count.saturating_add(LINES))?)
 }
 
 /// Appends an item. `NoMemory` where there is no room for it: the list stays as it was.

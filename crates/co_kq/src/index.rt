@@ -84,10 +84,8 @@ impl Index {
         ensures empty { IfOk result (λ index. index.entries ≡ []) }
         ensures room { IfOk result (λ index. room ≤ index.room) }
     {
-        match VecDeque::with_capacity(alloc, room) {
-            Ok(entries) => Ok(Index { entries, room }),
-            Err(_) => Err(NoMemory {}),
-        }
+        let entries = VecDeque::with_capacity(alloc, room)?;
+        Ok(Index { entries, room })
     }
 
     /// The key of an ident. None exactly where no knote has it.

@@ -72,10 +72,8 @@ impl Uses {
     pub fn new(alloc: Global, count: u32) -> Result<Uses, NoMemory>
         ensures { IfOk result (λ uses. uses ≡ replicate count Free) }
     {
-        match vec![in alloc; Use::Free; count as usize] {
-            Ok(list) => Ok(Uses { list, stale: false }),
-            Err(_) => Err(NoMemory {}),
-        }
+        let list = vec![in alloc; Use::Free; count as usize]?;
+        Ok(Uses { list, stale: false })
     }
 
     /// The first callout that no knote has.

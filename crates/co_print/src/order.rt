@@ -181,10 +181,7 @@ fn no_origins(alloc: Global, actors: u32, room: usize) -> Result<Vec<Origin>, No
         actor: actors,
         number: 0,
     };
-    match vec![in alloc; nowhere; room] {
-        Ok(origins) => Ok(origins),
-        Err(_) => Err(NoMemory {}),
-    }
+    Ok(vec![in alloc; nowhere; room]?)
 }
 
 /// Writes the origins of those of an actor's notes that are of the part from place `first` on, each where it belongs. The

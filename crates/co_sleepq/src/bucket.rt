@@ -41,10 +41,8 @@ impl Bucket {
         ensures empty { IfOk result (λ bucket. bucket.sleeps ≡ []) }
         ensures room { IfOk result (λ bucket. room ≤ bucket.room) }
     {
-        match Vec::with_capacity(alloc, room as usize) {
-            Ok(sleeps) => Ok(Bucket { sleeps }),
-            Err(_) => Err(NoMemory {}),
-        }
+        let sleeps = Vec::with_capacity(alloc, room as usize)?;
+        Ok(Bucket { sleeps })
     }
 
     /// The sleeps of the bucket, in the order in which they began.
