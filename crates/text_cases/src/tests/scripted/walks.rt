@@ -64,10 +64,14 @@ fn tells(alloc: Global, script: &Script, notes: &[(u32, u64)]) -> bool
 /// Whether the walk of a text's script makes four lists of so many notes, and tells these notes.
 fn walks(alloc: Global, text: &str, lists: [usize; 4], notes: &[(u32, u64)]) -> [bool; 2] {
     match script_of(alloc, text.as_bytes()) {
-        Ok(script) => [
-            counted(alloc, &script) == Some(lists),
-            tells(alloc, &script, notes),
-        ],
+        Ok(script) => {
+            let right = [
+                counted(alloc, &script) == Some(lists),
+                tells(alloc, &script, notes),
+            ];
+            drop(script);
+            right
+        }
         Err(_) => [false; 2],
     }
 }

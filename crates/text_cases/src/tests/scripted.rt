@@ -1,4 +1,4 @@
-//! Tests by texts of scripts.
+//! Worlds, walks, counts and draws: the core and the generator, by texts of scripts.
 ghost use Rattle.std.specs.Prelude.{IfOk};
 ghost use Rattle.co_program.specs.Scripts.{IsScript};
 

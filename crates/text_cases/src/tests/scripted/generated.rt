@@ -25,7 +25,9 @@ fn is_first(made: Result<Script, NoMemory>) -> bool {
     match made {
         Ok(script) => {
             let has_all = script.timers.as_slice().len() == 64;
-            fits(&script) && has_all && has_eight_clients(&script)
+            let is_first = fits(&script) && has_all && has_eight_clients(&script);
+            drop(script);
+            is_first
         }
         Err(_) => false,
     }

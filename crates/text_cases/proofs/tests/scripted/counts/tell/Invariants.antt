@@ -1,5 +1,5 @@
 use Rattle.std.proofs.Common.{◌≡◌}
-use Rattle.core_cases.proofs.tests.counts.tell.Given as goal
+use Rattle.text_cases.proofs.tests.scripted.counts.tell.Given as goal
 
 -- the listener keeps room for the actors
 abbrev pub invariant-loop-step : goal.invariant-loop-step

@@ -163,7 +163,11 @@ fn counts_told<S: Subject>(
 /// Whether the callout of a text's script has these counts after this history.
 fn has(alloc: Global, text: &str, history: &[Step], wanted: &Counts) -> bool {
     match script_of(alloc, text.as_bytes()) {
-        Ok(script) => counts_told::<Brand>(alloc, &script, history) == Ok(*wanted),
+        Ok(script) => {
+            let counts = counts_told::<Brand>(alloc, &script, history);
+            drop(script);
+            counts == Ok(*wanted)
+        }
         Err(_) => false,
     }
 }

@@ -355,7 +355,11 @@ fn is_stepped(alloc: Global, script: &Script, run: &Run) -> Result<bool, NoMemor
 /// Whether the run's text is a script that goes so.
 fn is_run(alloc: Global, run: &Run) -> bool {
     match script_of(alloc, run.script.as_bytes()) {
-        Ok(script) => is_stepped(alloc, &script, run) == Ok(true),
+        Ok(script) => {
+            let stepped = is_stepped(alloc, &script, run);
+            drop(script);
+            stepped == Ok(true)
+        }
         Err(_) => false,
     }
 }
