@@ -42,8 +42,8 @@ fn legal_len<R: AllocGlobal + Threads + Wait + Sync + Abort>(
 #[test]
 fn ordinary_use(rt: HostRuntime) {
     let script = ordinary_script(&rt, rt.alloc());
-    let len = legal_len(&rt, script.as_bytes());
-    assert!(rt; script.len() == 44_317 && len == Some(434_782));
+    let len = legal_len(&rt, script.as_slice());
+    assert!(rt; script.as_slice().len() == 44_317 && len == Some(434_782));
 }
 
 #[test]
