@@ -1,4 +1,4 @@
-//! The worked examples of the program, as tables for tests of the top call in memory.
+//! The worked examples of the programs, as tables for tests of their top calls in memory.
 #![tactic(auto)]
 
 #[cfg(test)]

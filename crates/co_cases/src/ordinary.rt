@@ -1,7 +1,10 @@
 //! Ordinary use: connections that each have a timer for a retransmit, a persist, a keepalive and a long wait at the end.
 ghost use Rattle.std.specs.Prelude.{◌<◌};
 
-use std::alloc::{AllocError, Global};
+use co_sbt::Seq;
+use co_text::{Page, Token};
+use std::alloc::Global;
+use std::process::Abort;
 
 const CLIENTS: u32 = 8;
 
@@ -10,84 +13,93 @@ const CPUS: u32 = 4;
 const CONNECTIONS: u32 = 200;
 
 /// The timers of a connection, and their spans.
-static SPANS: [(u32, &str); 4] = [(0, "0.2"), (1, "5"), (2, "7200"), (3, "60")];
+static SPANS: [(u32, &str); 4] = [(0, "+0.2"), (1, "+5"), (2, "+7200"), (3, "+60")];
 
-// A line that was made is put behind the others.
-fn add(script: &mut String, line: Result<String, AllocError>) -> Result<(), AllocError> {
-    script.push_str(line?.as_str())
+// A line of these words is put behind the others.
+fn add(rt: &impl Abort, script: &mut Page, first: &str, others: &[Token]) {
+    let line = script.line(&Token::Text(first.as_bytes()), others);
+    line.expect(rt, "no memory");
+}
+
+// A number as a word.
+fn word<'w>(number: u32) -> Token<'w> {
+    Token::Number(u64::from(number))
 }
 
 // The lock of each connection, and the four timers behind it.
-fn declare(alloc: Global, script: &mut String) -> Result<(), AllocError> {
+fn declare(rt: &impl Abort, script: &mut Page) {
+    let mutex = Token::Text(b"mtx");
     for connection in 0..CONNECTIONS {
-        add(script, format!(in alloc; "lock {connection} mtx\n"))?;
+        add(rt, script, "lock", &[word(connection), mutex]);
     }
     for timer in 0..4 * CONNECTIONS {
-        add(
-            script,
-            format!(in alloc; "timer {timer} mtx {}\n", timer / 4),
-        )?;
+        add(rt, script, "timer", &[word(timer), mutex, word(timer / 4)]);
     }
-    Ok(())
 }
 
 // A connection sets its timers, and stops the second.
-fn connect(alloc: Global, script: &mut String, connection: u32) -> Result<(), AllocError>
+fn connect(rt: &impl Abort, script: &mut Page, connection: u32)
     requires { connection < 1000 }
 {
-    add(script, format!(in alloc; "lock {connection}\n"))?;
+    add(rt, script, "lock", &[word(connection)]);
     for (timer, span) in &SPANS {
-        let number = 4 * u64::from(connection) + u64::from(*timer);
-        let cpu = connection % CPUS;
-        let line = format!(in alloc; "reset {number} +{span} f{timer} a{connection} cpu {cpu}\n");
-        add(script, line)?;
+        let words = [
+            Token::Number(4 * u64::from(connection) + u64::from(*timer)),
+            Token::Text(span.as_bytes()),
+            Token::Lettered(b'f', u64::from(*timer)),
+            Token::Lettered(b'a', u64::from(connection)),
+            Token::Text(b"cpu"),
+            word(connection % CPUS),
+        ];
+        add(rt, script, "reset", &words);
     }
-    add(
-        script,
-        format!(in alloc; "stop {}\nunlock\n", 4 * connection + 1),
-    )
+    add(rt, script, "stop", &[word(4 * connection + 1)]);
+    add(rt, script, "unlock", &[]);
 }
 
 // A client has every eighth connection.
-fn client(alloc: Global, script: &mut String, number: u32) -> Result<(), AllocError> {
-    add(script, format!(in alloc; "client {number}\n"))?;
+fn client(rt: &impl Abort, script: &mut Page, number: u32) {
+    add(rt, script, "client", &[word(number)]);
     for connection in 0..CONNECTIONS {
         if connection % CLIENTS == number {
-            connect(alloc, script, connection)?;
+            connect(rt, script, connection);
         }
     }
-    Ok(())
 }
 
+// The times of two seconds at which a CPU ticks.
+static TENTHS: [&str; 20] = [
+    "0.1", "0.2", "0.3", "0.4", "0.5", "0.6", "0.7", "0.8", "0.9", "1.0", "1.1", "1.2", "1.3",
+    "1.4", "1.5", "1.6", "1.7", "1.8", "1.9", "2.0",
+];
+
 // A CPU ticks ten times a second for two seconds.
-fn cpu(alloc: Global, script: &mut String, number: u32) -> Result<(), AllocError> {
-    add(script, format!(in alloc; "cpu {number}\n"))?;
-    for tenth in 1..21_u32 {
-        add(
-            script,
-            format!(in alloc; "tick {}.{}\n", tenth / 10, tenth % 10),
-        )?;
+fn cpu(rt: &impl Abort, script: &mut Page, number: u32) {
+    add(rt, script, "cpu", &[word(number)]);
+    for tenth in &TENTHS {
+        add(rt, script, "tick", &[Token::Text(tenth.as_bytes())]);
     }
-    Ok(())
 }
 
 // The whole script, behind what stands there.
-fn write_ordinary(alloc: Global, script: &mut String) -> Result<(), AllocError> {
-    script.push_str("callout 1\ncpus 4\nfuncs 4\n")?;
-    declare(alloc, script)?;
-    script.push_str("func 0\nschedule me +0.4\n")?;
+fn write_ordinary(rt: &impl Abort, script: &mut Page) {
+    add(rt, script, "callout", &[word(1)]);
+    add(rt, script, "cpus", &[word(CPUS)]);
+    add(rt, script, "funcs", &[word(4)]);
+    declare(rt, script);
+    add(rt, script, "func", &[word(0)]);
+    add(rt, script, "schedule me +0.4", &[]);
     for number in 0..CLIENTS {
-        client(alloc, script, number)?;
+        client(rt, script, number);
     }
     for number in 0..CPUS {
-        cpu(alloc, script, number)?;
+        cpu(rt, script, number);
     }
-    Ok(())
 }
 
 /// The script of 200 connections on 4 CPUs, which 8 clients set up.
-pub fn ordinary_script(alloc: Global) -> Result<String, AllocError> {
-    let mut script = String::new(alloc);
-    write_ordinary(alloc, &mut script)?;
-    Ok(script)
+pub fn ordinary_script(rt: &impl Abort, alloc: Global) -> Seq<u8> {
+    let mut script = Page::new(alloc);
+    write_ordinary(rt, &mut script);
+    script.done().expect(rt, "no memory")
 }

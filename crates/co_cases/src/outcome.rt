@@ -3,9 +3,10 @@ ghost use Rattle.std.specs.Prelude.{◌≤◌};
 
 use crate::turns::{TurnGate, Turns};
 use co_io::{MemSink, MemSource};
-use co_sbt::{NoMemory, Seq};
+use co_sbt::Seq;
 use co_top::{Finish, Status, callout_main};
-use std::alloc::{AllocError, Global};
+use std::alloc::Global;
+use std::process::Abort;
 use std::sync::Wait;
 use std::thread::Threads;
 
@@ -25,44 +26,38 @@ impl Outcome {
 }
 
 /// The end of a call, after which the sink holds these bytes.
-pub(crate) fn outcome_of(alloc: Global, finish: Finish, held: &[u8]) -> Result<Outcome, NoMemory> {
-    Ok(Outcome {
+pub(crate) fn outcome_of(rt: &impl Abort, alloc: Global, finish: Finish, held: &[u8]) -> Outcome {
+    Outcome {
         status: finish.status,
         closed: finish.closing.is_some(),
-        held: Seq::copy_of(alloc, held)?,
-    })
-}
-
-// Copies of these words are put behind the others.
-fn copy_words(alloc: Global, words: &[&str], copies: &mut Vec<String>) -> Result<(), AllocError> {
-    for word in words {
-        copies.push(String::from_str(alloc, word)?)?;
+        held: Seq::copy_of(alloc, held).expect(rt, "no memory"),
     }
-    Ok(())
 }
 
 /// Words as a program gets them.
-pub(crate) fn words_of(alloc: Global, words: &[&str]) -> Result<Vec<String>, NoMemory> {
+pub(crate) fn words_of(rt: &impl Abort, alloc: Global, words: &[&str]) -> Vec<String> {
     let mut copies = Vec::new(alloc);
-    match copy_words(alloc, words, &mut copies) {
-        Ok(()) => Ok(copies),
-        Err(_) => Err(NoMemory {}),
+    for word in words {
+        let copy = String::from_str(alloc, word).expect(rt, "no memory");
+        copies.push(copy).expect(rt, "no memory");
     }
+    copies
 }
 
 // A call with these words over these ends, in these turns or in none.
-fn call_in_turns<R: AllocGlobal + Threads + Wait + Sync>(
+fn call_in_turns<R: AllocGlobal + Threads + Wait + Sync + Abort>(
     rt: &R,
     words: &[&str],
     source: &mut MemSource,
     sink: &mut MemSink,
     turns: Option<&Turns>,
-) -> Result<Outcome, NoMemory> {
+) -> Outcome {
     let alloc = rt.alloc();
-    let words = words_of(alloc, words)?;
+    let words = words_of(rt, alloc, words);
     let gate = TurnGate(turns);
     let finish = callout_main(rt, alloc, words.as_slice(), source, sink, &gate);
-    outcome_of(alloc, finish, sink.bytes())
+    drop(words);
+    outcome_of(rt, alloc, finish, sink.bytes())
 }
 
 /// The ends of a call in memory: what is read, and into how many bytes, of which a read gives and a write takes `piece` at most.
@@ -77,16 +72,23 @@ pub struct Ends<'a> {
 }
 
 /// A call with these words over such ends, in these turns or in none.
-pub fn call<R: AllocGlobal + Threads + Wait + Sync>(
+pub fn call<R: AllocGlobal + Threads + Wait + Sync + Abort>(
     rt: &R,
     words: &[&str],
     ends: &Ends<'_>,
     turns: Option<&Turns>,
-) -> Result<Outcome, NoMemory>
+) -> Outcome
     requires { 1 ≤ ends.now.piece }
 {
-    let mut source = MemSource::new(rt.alloc(), ends.input, ends.piece, ends.read_fails)?;
-    let mut sink = MemSink::new(rt.alloc(), ends.room, ends.piece, ends.write_fails)?;
+    let alloc = rt.alloc();
+    let mut source = MemSource::new(alloc, ends.input, ends.piece, ends.read_fails).expect(
+        rt,
+        "no memory",
+    );
+    let mut sink = MemSink::new(alloc, ends.room, ends.piece, ends.write_fails).expect(
+        rt,
+        "no memory",
+    );
     call_in_turns(rt, words, &mut source, &mut sink, turns)
 }
 
@@ -94,13 +96,13 @@ pub fn call<R: AllocGlobal + Threads + Wait + Sync>(
 const ROOM: usize = 4096;
 
 /// A call of a command that reads, without a fault, into so many bytes.
-pub fn read_in_turns<R: AllocGlobal + Threads + Wait + Sync>(
+pub fn read_in_turns<R: AllocGlobal + Threads + Wait + Sync + Abort>(
     rt: &R,
     word: &str,
     input: &[u8],
     room: usize,
     turns: Option<&Turns>,
-) -> Result<Outcome, NoMemory> {
+) -> Outcome {
     let ends = Ends {
         input,
         room,
@@ -112,20 +114,20 @@ pub fn read_in_turns<R: AllocGlobal + Threads + Wait + Sync>(
 }
 
 /// The same with the gate open, into the bytes of a report in the tables.
-pub fn read<R: AllocGlobal + Threads + Wait + Sync>(
+pub fn read<R: AllocGlobal + Threads + Wait + Sync + Abort>(
     rt: &R,
     word: &str,
     input: &[u8],
-) -> Result<Outcome, NoMemory> {
+) -> Outcome {
     read_in_turns(rt, word, input, ROOM, None)
 }
 
 /// A call of a command that reads nothing, over a source that fails where it is read, into so many bytes.
-pub fn make<R: AllocGlobal + Threads + Wait + Sync>(
+pub fn make<R: AllocGlobal + Threads + Wait + Sync + Abort>(
     rt: &R,
     words: &[&str],
     room: usize,
-) -> Result<Outcome, NoMemory> {
+) -> Outcome {
     let ends = Ends {
         input: b"unread".as_slice(),
         room,

@@ -6,9 +6,9 @@ ghost use Rattle.co_cases.specs.WithinRoom.{IsAnsweredWithin, IsUsageWithin};
 use crate::outcome::{Outcome, outcome_of, words_of};
 use crate::turns::TurnGate;
 use co_io::{QuietSink, QuietSource};
-use co_sbt::NoMemory;
 use co_top::{Finish, callout_main};
 use std::alloc::Global;
+use std::process::Abort;
 use std::sync::Wait;
 use std::thread::Threads;
 
@@ -30,16 +30,17 @@ fn quiet_call<R: Threads + Wait + Sync>(
 }
 
 /// A call with these words over these bytes, into so many bytes.
-pub fn quiet<R: AllocGlobal + Threads + Wait + Sync>(
+pub fn quiet<R: AllocGlobal + Threads + Wait + Sync + Abort>(
     rt: &R,
     words: &[&str],
     input: &[u8],
     room: usize,
-) -> Result<Outcome, NoMemory> {
+) -> Outcome {
     let alloc = rt.alloc();
-    let words = words_of(alloc, words)?;
-    let mut source = QuietSource::new(alloc, input)?;
-    let mut sink = QuietSink::new(alloc, room)?;
+    let words = words_of(rt, alloc, words);
+    let mut source = QuietSource::new(alloc, input).expect(rt, "no memory");
+    let mut sink = QuietSink::new(alloc, room).expect(rt, "no memory");
     let finish = quiet_call(rt, alloc, words.as_slice(), &mut source, &mut sink);
-    outcome_of(alloc, finish, sink.bytes())
+    drop(words);
+    outcome_of(rt, alloc, finish, sink.bytes())
 }

@@ -2,3 +2,4 @@ mod faults;
 mod quiet;
 mod refusals;
 mod reports;
+mod views;

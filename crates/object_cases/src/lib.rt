@@ -1,4 +1,4 @@
-//! Worked cases of times, callouts, queues, locks, programs and handlers, as tests.
+//! Worked cases of times, callouts, queues, locks, programs, handlers and the calls of a C program, as tests.
 #![tactic(auto)]
 
 #[cfg(test)]

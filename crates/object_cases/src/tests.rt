@@ -1,5 +1,6 @@
 mod callouts;
 mod coverage;
+mod embed;
 mod functions;
 mod gates;
 mod holds;

@@ -1,4 +1,5 @@
-//! Services that are played by hand on one thread, call by call, through what `co_service` offers.
+//! Services that are played by hand on one thread, call by call, through what `co_service` offers, and worked cases of the histories below them and of
+//! the handles above them.
 #![tactic(auto)]
 
 mod scene;

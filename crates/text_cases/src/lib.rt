@@ -1,4 +1,4 @@
-//! Worked values of what is read and written: ends, pages, scripts, reports and verdicts, each by what is public.
+//! Worked values of what is read and written, ends, pages, scripts, reports and verdicts, and of the core and the generator, each by what is public.
 #![tactic(auto)]
 
 #[cfg(test)]

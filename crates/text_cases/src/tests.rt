@@ -3,6 +3,7 @@ mod ends;
 mod lines;
 mod pages;
 mod reports;
+mod scripted;
 mod scripts;
 mod told;
 mod verdicts;

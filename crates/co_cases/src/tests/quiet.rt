@@ -1,10 +1,9 @@
 //! Each command over ends that never fail: with room for its text it is answered, and with a byte less the sink is full.
 use crate::examples::{ONE_FIRING, ONE_FIRING_REPORT, THE_CODES_OF_STOP, THE_CODES_OF_STOP_REPORT};
 use crate::quiet;
-use co_sbt::NoMemory;
 use co_top::Status;
+use std::process::Abort;
 use std::sync::Wait;
-use std::test::Fail;
 use std::thread::Threads;
 
 /// The words of a call, what it reads, how it ends and what it writes.
@@ -116,47 +115,43 @@ static ANSWERED: [Row; 17] = [
 ];
 
 /// Whether a call into so many bytes ends so and writes this text.
-fn writes<R: AllocGlobal + Threads + Wait + Sync>(
+fn writes<R: AllocGlobal + Threads + Wait + Sync + Abort>(
     rt: &R,
     words: &[&str],
     input: &[u8],
     room: usize,
     status: Status,
     text: &[u8],
-) -> Result<bool, NoMemory> {
-    let outcome = quiet(rt, words, input, room)?;
-    Ok(outcome.says(status, text))
+) -> bool {
+    quiet(rt, words, input, room).says(status, text)
 }
 
 /// Whether a call ends so and writes this text, and the same call with too little room writes all but the last byte.
-fn is_answered<R: AllocGlobal + Threads + Wait + Sync>(
+fn is_answered<R: AllocGlobal + Threads + Wait + Sync + Abort>(
     rt: &R,
     words: &[&str],
     input: &[u8],
     status: Status,
     text: &[u8],
-) -> Result<bool, NoMemory> {
+) -> bool {
     let room = text.len().saturating_sub(1);
-    let whole = writes(rt, words, input, text.len(), status, text)?;
-    let short = writes(rt, words, input, room, Status::WriteFault, &text[..room])?;
-    Ok(whole && short)
+    let whole = writes(rt, words, input, text.len(), status, text);
+    whole && writes(rt, words, input, room, Status::WriteFault, &text[..room])
 }
 
 #[test]
-fn commands_are_answered(rt: HostRuntime) -> Result<(), Fail> {
+fn commands_are_answered(rt: HostRuntime) {
     for (words, input, status, text) in &ANSWERED {
-        let answered = is_answered(&rt, words, input.as_bytes(), *status, text.as_bytes())?;
+        let answered = is_answered(&rt, words, input.as_bytes(), *status, text.as_bytes());
         assert!(rt; answered, "{input}");
     }
-    Ok(())
 }
 
 /// Of the text that `gen 1` writes, which has so many bytes.
 #[test]
-fn gen_is_answered(rt: HostRuntime) -> Result<(), Fail> {
+fn gen_is_answered(rt: HostRuntime) {
     let words = ["gen", "1"].as_slice();
-    let script = quiet(&rt, words, &[], 459_440)?;
+    let script = quiet(&rt, words, &[], 459_440);
     let text = script.held.as_slice();
-    assert!(rt; text.len() == 459_440 && is_answered(&rt, words, &[], Status::Done, text)?);
-    Ok(())
+    assert!(rt; text.len() == 459_440 && is_answered(&rt, words, &[], Status::Done, text));
 }

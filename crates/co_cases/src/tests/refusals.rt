@@ -1,10 +1,9 @@
 //! What is refused, and how.
 use crate::{make, read};
-use co_sbt::NoMemory;
 use co_top::Status;
 use std::alloc::{AllocError, Global};
+use std::process::Abort;
 use std::sync::Wait;
-use std::test::Fail;
 use std::thread::Threads;
 
 // Commands and scripts, with the line that is written of each.
@@ -48,48 +47,48 @@ turns c0*2 p0*3 c0
 const TO_THE_TIMER: usize = 43;
 
 // Whether the command refuses the script with this line, and has no closing.
-fn is_refused<R: AllocGlobal + Threads + Wait + Sync>(
+fn is_refused<R: AllocGlobal + Threads + Wait + Sync + Abort>(
     rt: &R,
     word: &str,
     script: &[u8],
     line: &str,
-) -> Result<bool, NoMemory> {
-    let outcome = read(rt, word, script)?;
-    Ok(outcome.says(Status::BadScript, line.as_bytes()) && !outcome.closed)
+) -> bool {
+    let outcome = read(rt, word, script);
+    outcome.says(Status::BadScript, line.as_bytes()) && !outcome.closed
 }
 
 #[test]
-fn bad_scripts(rt: HostRuntime) -> Result<(), Fail> {
+fn bad_scripts(rt: HostRuntime) {
     for (word, script, line) in &REFUSED {
-        assert!(rt; is_refused(&rt, word, script.as_bytes(), line)?, "{line}");
+        assert!(rt; is_refused(&rt, word, script.as_bytes(), line), "{line}");
     }
-    Ok(())
 }
 
 #[test]
-fn too_long_an_input(rt: HostRuntime) -> Result<(), Fail> {
-    let input = vec![in rt.alloc(); b'#'; 67_108_865]?;
-    assert!(rt; is_refused(&rt, "steps", input.as_slice(), "line 0: size\n")?);
-    Ok(())
+fn too_long_an_input(rt: HostRuntime) {
+    let input = vec![in rt.alloc(); b'#'; 67_108_865].expect(&rt, "no memory");
+    assert!(rt; is_refused(&rt, "steps", input.as_slice(), "line 0: size\n"));
 }
 
 // A million lines, most of them comments, of which the last has no line feed.
-fn write_million_lines(script: &mut Vec<u8>) -> Result<(), AllocError> {
-    script.extend_from_slice(b"callout 1\ntimer 0 mpsafe\n")?;
+fn million_lines(rt: &impl Abort, alloc: Global) -> Vec<u8> {
+    let mut script = Vec::new(alloc);
+    let front = script.extend_from_slice(b"callout 1\ntimer 0 mpsafe\n");
+    front.expect(rt, "no memory");
     for _line in 2..999_999 {
-        script.extend_from_slice(b"# x\n")?;
+        script.extend_from_slice(b"# x\n").expect(rt, "no memory");
     }
-    script.extend_from_slice(b"client 0")
+    let last = script.extend_from_slice(b"client 0");
+    last.expect(rt, "no memory");
+    script
 }
 
 #[test]
-fn a_million_lines_cut_at_the_last(rt: HostRuntime) -> Result<(), Fail> {
-    let mut script = Vec::new(rt.alloc());
-    write_million_lines(&mut script)?;
-    let is_cut = is_refused(&rt, "steps", script.as_slice(), "line 1000000: cut\n")?;
-    script.push(b'\n')?;
-    assert!(rt; is_cut && read(&rt, "steps", script.as_slice())?.status == Status::Done);
-    Ok(())
+fn a_million_lines_cut_at_the_last(rt: HostRuntime) {
+    let mut script = million_lines(&rt, rt.alloc());
+    assert!(rt; is_refused(&rt, "steps", script.as_slice(), "line 1000000: cut\n"));
+    script.push(b'\n').expect(&rt, "no memory");
+    assert!(rt; read(&rt, "steps", script.as_slice()).status == Status::Done);
 }
 
 static NO_COMMANDS: [&[&str]; 9] = [
@@ -105,13 +104,12 @@ static NO_COMMANDS: [&[&str]; 9] = [
 ];
 
 #[test]
-fn words_that_are_no_command(rt: HostRuntime) -> Result<(), Fail> {
+fn words_that_are_no_command(rt: HostRuntime) {
     let usage =
         b"usage: callout steps | run | check | gen N | soak N | kq | sleep | itimer | event\n".as_slice();
     for words in &NO_COMMANDS {
-        assert!(rt; make(&rt, words, 100)?.says(Status::Usage, usage));
+        assert!(rt; make(&rt, words, 100).says(Status::Usage, usage));
     }
-    Ok(())
 }
 
 fn is_line_feed(byte: &&u8) -> bool {
@@ -129,17 +127,16 @@ fn refusal(alloc: Global, prefix: &[u8]) -> Result<String, AllocError> {
 }
 
 #[test]
-fn beginnings_of_a_script(rt: HostRuntime) -> Result<(), Fail> {
+fn beginnings_of_a_script(rt: HostRuntime) {
     let script = CANCELLED_WHILE_IT_WAITS.as_bytes();
     for end in 0..script.len() {
         let prefix = &script[..end];
         let is_right = if end >= TO_THE_TIMER && prefix.last() == Some(&b'\n') {
-            read(&rt, "steps", prefix)?.status == Status::Done
+            read(&rt, "steps", prefix).status == Status::Done
         } else {
-            let line = refusal(rt.alloc(), prefix)?;
-            is_refused(&rt, "steps", prefix, line.as_str())?
+            let line = refusal(rt.alloc(), prefix).expect(&rt, "no memory");
+            is_refused(&rt, "steps", prefix, line.as_str())
         };
         assert!(rt; is_right, "the first {end} bytes");
     }
-    Ok(())
 }

@@ -3,7 +3,7 @@
 use co_sbt::{Sbt, read_seconds};
 
 /// Ticks at a rate, and the time of so many.
-const TICKS: [(i32, u32, u64); 3] = [(1, 1000000, 4294), (0, 1000, 4294967), (-5, 1000, 4294967)];
+static TICKS: [(i32, u32, u64); 3] = [(1, 1000000, 4294), (0, 1000, 4294967), (-5, 1000, 4294967)];
 
 #[test]
 fn counts_ticks(rt: HostRuntime) {

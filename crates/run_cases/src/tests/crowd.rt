@@ -180,4 +180,5 @@ fn eight_clients_and_four_cpus(rt: HostRuntime) {
     let lists = run_text(&rt, alloc, text.as_slice(), &gate);
     assert!(rt; gate.faults.load(Ordering::SeqCst) == 0);
     have_their_calls(&rt, &lists);
+    drop(lists);
 }

@@ -102,4 +102,5 @@ fn a_packed_note_is_the_note(rt: HostRuntime) {
     for notes in lists.as_slice() {
         come_back(&rt, notes.as_slice());
     }
+    drop(lists);
 }

@@ -4,7 +4,7 @@ use co_object::{
     QReply, Reply, RunOp,
 };
 use co_packed::{Head, PackedNotes};
-use co_sbt::{NoMemory, Sbt, Seq};
+use co_sbt::{Sbt, Seq};
 use std::alloc::Global;
 use std::process::Abort;
 
@@ -255,7 +255,7 @@ struct Making {
 
 impl Making {
     /// Adds an entry at each kind of place.
-    fn add(&mut self, entry: &AnyEntry) -> Result<(), NoMemory> {
+    fn add(&mut self, rt: &impl Abort, entry: &AnyEntry) {
         let Numbers { long, short, .. } = self.numbers;
         for place in [Place::Timer(short), Place::Cpu(short), Place::Actor(short)] {
             let note = Note {
@@ -263,85 +263,88 @@ impl Making {
                 pos: long,
                 entry: *entry,
             };
-            self.packed.push(&note)?;
-            self.notes.push(note)?;
+            self.packed.push(&note).expect(rt, "no memory");
+            self.notes.push(note).expect(rt, "no memory");
         }
-        Ok(())
     }
 
     /// Adds an entry of a callout.
-    fn add_timer(&mut self, op: Op, reply: Reply) -> Result<(), NoMemory> {
+    fn add_timer(&mut self, rt: &impl Abort, op: Op, reply: Reply) {
         let Numbers { long, short, .. } = self.numbers;
-        self.add(&AnyEntry::Timer(Entry {
-            actor: short,
-            act: long,
-            op,
-            reply,
-        }))
+        self.add(
+            rt,
+            &AnyEntry::Timer(Entry {
+                actor: short,
+                act: long,
+                op,
+                reply,
+            }),
+        );
     }
 
     /// Adds callers' operations.
-    fn add_calls(&mut self, calls: &[PlainOp]) -> Result<(), NoMemory> {
+    fn add_calls(&mut self, rt: &impl Abort, calls: &[PlainOp]) {
         for plain in calls {
-            self.add_timer(Op::Call(CallOp::Plain(*plain)), Reply::Yes)?;
+            self.add_timer(rt, Op::Call(CallOp::Plain(*plain)), Reply::Yes);
         }
-        Ok(())
     }
 
     /// Adds operations of drains and of the service.
-    fn add_others(&mut self, others: &[Op]) -> Result<(), NoMemory> {
+    fn add_others(&mut self, rt: &impl Abort, others: &[Op]) {
         for op in others {
-            self.add_timer(*op, Reply::Done)?;
+            self.add_timer(rt, *op, Reply::Done);
         }
-        Ok(())
     }
 
     /// Adds replies to a caller.
-    fn add_replies(&mut self, replies: &[Reply]) -> Result<(), NoMemory> {
+    fn add_replies(&mut self, rt: &impl Abort, replies: &[Reply]) {
         for reply in replies {
-            self.add_timer(Op::Call(CallOp::Plain(PlainOp::Stop)), *reply)?;
+            self.add_timer(rt, Op::Call(CallOp::Plain(PlainOp::Stop)), *reply);
         }
-        Ok(())
     }
 
     /// Adds the entries of queues.
-    fn add_queues(&mut self, entries: &[(QOp, QReply)]) -> Result<(), NoMemory> {
+    fn add_queues(&mut self, rt: &impl Abort, entries: &[(QOp, QReply)]) {
         let Numbers { long, short, .. } = self.numbers;
         for (op, reply) in entries {
-            self.add(&AnyEntry::Cpu(QEntry {
-                actor: short,
-                act: long,
-                op: *op,
-                reply: *reply,
-            }))?;
+            self.add(
+                rt,
+                &AnyEntry::Cpu(QEntry {
+                    actor: short,
+                    act: long,
+                    op: *op,
+                    reply: *reply,
+                }),
+            );
         }
-        Ok(())
     }
 
     /// Adds the entries of actors.
-    fn add_own(&mut self, kinds: &[OwnKind]) -> Result<(), NoMemory> {
+    fn add_own(&mut self, rt: &impl Abort, kinds: &[OwnKind]) {
         let Numbers { long, short, .. } = self.numbers;
         for kind in kinds {
-            self.add(&AnyEntry::Own(OwnEntry {
-                actor: short,
-                act: long,
-                kind: *kind,
-            }))?;
+            self.add(
+                rt,
+                &AnyEntry::Own(OwnEntry {
+                    actor: short,
+                    act: long,
+                    kind: *kind,
+                }),
+            );
         }
-        Ok(())
     }
 
     /// Adds notes of each kind with these numbers.
-    fn add_all(&mut self, numbers: Numbers) -> Result<(), NoMemory> {
+    fn add_all(&mut self, rt: &impl Abort, numbers: Numbers) {
         self.numbers = numbers;
         let time = Sbt::new(numbers.time).unwrap_or(Sbt::zero());
-        self.add_calls(&plain_ops(&numbers, time))?;
-        self.add_others(&other_ops(&numbers, time))?;
-        self.add_replies(&BARE)?;
-        self.add_replies(&replies(&numbers, time, None))?;
-        self.add_replies(&replies(&numbers, time, Some(numbers.short)))?;
-        self.add_queues(&queue_entries(&numbers, time))?;
-        self.add_own(&OWN)
+        self.add_calls(rt, &plain_ops(&numbers, time));
+        self.add_others(rt, &other_ops(&numbers, time));
+        self.add_replies(rt, &BARE);
+        self.add_replies(rt, &replies(&numbers, time, None));
+        self.add_replies(rt, &replies(&numbers, time, Some(numbers.short)));
+        self.add_queues(rt, &queue_entries(&numbers, time));
+        self.add_own(rt, &OWN);
     }
 
     /// Whether each note is found in the packed list, from the last to the first.
@@ -396,7 +399,7 @@ fn made(rt: &impl Abort, alloc: Global, all: &[Numbers]) -> Making {
         packed: PackedNotes::new(alloc),
     };
     for numbers in all {
-        assert!(rt; making.add_all(*numbers).is_ok(), "no memory");
+        making.add_all(rt, *numbers);
     }
     making
 }
@@ -407,11 +410,7 @@ fn a_packed_list_has_the_notes(rt: HostRuntime) {
 }
 
 #[test]
-fn a_pass_over_a_packed_list_has_the_notes(rt: HostRuntime) {
-    assert!(rt; made(&rt, rt.alloc(), &NUMBERS[2..3]).are_passed());
-}
-
-#[test]
-fn a_pass_over_the_heads_has_those_of_the_notes(rt: HostRuntime) {
-    assert!(rt; made(&rt, rt.alloc(), &NUMBERS[2..3]).are_headed());
+fn passes_over_a_packed_list_have_the_notes_and_their_heads(rt: HostRuntime) {
+    let making = made(&rt, rt.alloc(), &NUMBERS[2..3]);
+    assert!(rt; making.are_passed() && making.are_headed());
 }

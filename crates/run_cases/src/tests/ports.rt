@@ -207,7 +207,10 @@ fn run_through_ports<R: Threads + Wait + Sync + Abort>(
     let gate = Waits::new(&[], told.as_slice());
     let (fresh, passes) = boot(rt, alloc);
     let (first, second) = run_both::<Brand, _>(rt, alloc, script, &gate, fresh, passes);
-    are_made(&first, &second) && gate.is_kept(&[3, 3])
+    let made = are_made(&first, &second);
+    drop(first);
+    drop(second);
+    made && gate.is_kept(&[3, 3])
 }
 
 #[test]

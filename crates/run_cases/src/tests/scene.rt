@@ -48,7 +48,9 @@ pub(super) fn leave_clients<N: Name>(service: &Service<N>, passes: Seq<Passes>) 
     drop(service.leave(&mut all, 3));
     drop(service.leave(&mut all, 2));
     let other = service.leave(&mut all, 1);
-    (service.leave(&mut all, 0), other)
+    let one = service.leave(&mut all, 0);
+    drop(all);
+    (one, other)
 }
 
 /// A client's call on a callout, through a port.

@@ -493,6 +493,8 @@ fn scenes(rt: HostRuntime) {
     for scene in &SCENES {
         let text = scene.text.as_bytes();
         let lists = run_in_order(&rt, rt.alloc(), text, scene.after, scene.acts);
-        assert!(rt; are_told(&lists, scene.told), "{}", scene.name);
+        let told = are_told(&lists, scene.told);
+        drop(lists);
+        assert!(rt; told, "{}", scene.name);
     }
 }

@@ -113,11 +113,14 @@ pub(super) fn play<N: Name, R: Wait + Abort>(
     requires scene { IsScene 1 2 1 3 service.old }
     requires passes { AreBooted N.name service.old passes }
 {
-    let (mut client, _first, mut second) = leave_three(service, passes);
+    let (mut client, first, mut second) = leave_three(service, passes);
+    drop(first);
     arm(rt, service, log, &mut client, 0, seconds(1), 7, Some(1));
     turn(rt, service, log, &mut second, 1, seconds(1));
     arm(rt, service, log, &mut client, 1, seconds(2), 8, None);
     ask(rt, service, log, &mut client, 2, PlainOp::Stop);
+    drop(client);
+    drop(second);
 }
 
 static NOTES: [Row; 11] = [

@@ -26,7 +26,9 @@ pub(super) fn leave_two<N: Name>(service: &Service<N>, passes: Seq<Passes>) -> (
 {
     let mut all = passes.into_vec();
     let cpu = service.leave_cpu(&mut all, 0);
-    (service.leave(&mut all, 0), cpu)
+    let client = service.leave(&mut all, 0);
+    drop(all);
+    (client, cpu)
 }
 
 /// The passes of the one client, and of the first and the second of two CPUs.
@@ -47,7 +49,9 @@ pub(super) fn leave_three<N: Name>(
     let mut all = passes.into_vec();
     let second = service.leave_cpu(&mut all, 1);
     let first = service.leave_cpu(&mut all, 0);
-    (service.leave(&mut all, 0), first, second)
+    let client = service.leave(&mut all, 0);
+    drop(all);
+    (client, first, second)
 }
 
 /// The passes of two actors, who are all.

@@ -48,11 +48,14 @@ pub(super) fn play<N: Name, R: Wait + Abort>(
 {
     let mut all = passes.into_vec();
     let mut interrupt = service.leave_interrupt(&mut all, 0);
-    let _cpu = service.leave_cpu(&mut all, 0);
+    drop(service.leave_cpu(&mut all, 0));
     let mut client = service.leave(&mut all, 0);
+    drop(all);
     arm(rt, service, log, &mut client, 0, 0, seconds(1), 0, None);
     tick(rt, service, log, &mut interrupt, 0, seconds(1));
     serve(rt, service, log, &mut interrupt, 0);
+    drop(client);
+    drop(interrupt);
 }
 
 static NOTES: [Row; 8] = [

@@ -126,6 +126,7 @@ fn stop_what_waits<N: Name, R: Wait + Abort + Sync>(
     let taken = service.next(rt, cpu, 0, 0, 1);
     let n = keep_waiting(rt, log, taken);
     ask_held(rt, service, log, client, 2, PlainOp::Stop, &hold);
+    drop(hold);
     n
 }
 
@@ -169,6 +170,8 @@ pub(super) fn play<N: Name, R: Wait + Abort + Sync>(
     let (mut client, mut cpu) = leave_two(service, passes);
     let n = stop_what_waits(rt, service, log, &mut client, &mut cpu, &locks);
     end_what_waits(rt, service, log, &mut cpu, n, &locks);
+    drop(client);
+    drop(cpu);
 }
 
 static NOTES: [Row; 10] = [

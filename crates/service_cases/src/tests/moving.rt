@@ -74,6 +74,9 @@ pub(super) fn play<N: Name, R: Wait + Abort>(
     end_turn(rt, service, log, &mut first, 0);
     begin_turn(rt, service, log, &mut second, 1, 2);
     end_turn(rt, service, log, &mut second, 1);
+    drop(client);
+    drop(first);
+    drop(second);
 }
 
 static NOTES: [Row; 16] = [

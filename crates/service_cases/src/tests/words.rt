@@ -118,6 +118,8 @@ pub(super) fn play<N: Name, R: Wait + Abort>(
     serve(rt, service, log, &mut cpu);
     arm(rt, service, log, &mut client, 1, seconds(2));
     ask(rt, service, log, &mut client, 2, PlainOp::Stop, STOPPED);
+    drop(client);
+    drop(cpu);
 }
 
 static NOTES: [Row; 11] = [

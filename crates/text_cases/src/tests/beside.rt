@@ -31,7 +31,10 @@ fn text_of(alloc: Global, parts: &[Part]) -> Result<Seq<u8>, NoMemory> {
 
 /// What is printed of a script that was read, or why none was.
 fn printed(alloc: Global, read: Result<Script, ScriptFault>) -> Result<Seq<u8>, ScriptFault> {
-    match print_script(alloc, &read?) {
+    let script = read?;
+    let printed = print_script(alloc, &script);
+    drop(script);
+    match printed {
         Ok(text) => Ok(text),
         Err(_) => Err(ScriptFault::NoMemory),
     }

@@ -27,7 +27,9 @@ fn report_of_nobody(alloc: Global, script: &Script) -> Result<Seq<u8>, NoMemory>
 /// The report of the script that a text is, of which nobody makes notes.
 fn report_of_text(alloc: Global, text: &[u8]) -> Result<Seq<u8>, ScriptFault> {
     let script = read_script(alloc, text)?;
-    match report_of_nobody(alloc, &script) {
+    let made = report_of_nobody(alloc, &script);
+    drop(script);
+    match made {
         Ok(report) => Ok(report),
         Err(_) => Err(ScriptFault::NoMemory),
     }
@@ -122,7 +124,11 @@ const TEXTS: &[(&str, Result<(usize, u64), (u64, Cause)>)] = &[
 /// How many notes the report has that a text is, with the number of the line `end`; or the first bad line and its cause.
 fn read_as(alloc: Global, text: &str) -> Option<Result<(usize, u64), (u64, Cause)>> {
     match read_report(alloc, text.as_bytes()) {
-        Ok(report) => Some(Ok((report.lines.as_slice().len(), report.end))),
+        Ok(report) => {
+            let read = (report.lines.as_slice().len(), report.end);
+            drop(report);
+            Some(Ok(read))
+        }
         Err(ScriptFault::Bad { line, cause }) => Some(Err((line, cause))),
         Err(ScriptFault::NoMemory) => None,
     }
@@ -150,7 +156,11 @@ const OWN_NOTE: Line = Line {
 /// Whether a report is read that has that note alone.
 fn has_own_note(alloc: Global, text: &[u8]) -> bool {
     match read_report(alloc, text) {
-        Ok(report) => report.lines.as_slice() == [OWN_NOTE].as_slice(),
+        Ok(report) => {
+            let has = report.lines.as_slice() == [OWN_NOTE].as_slice();
+            drop(report);
+            has
+        }
         Err(_) => false,
     }
 }

@@ -6,8 +6,11 @@ use std::alloc::Global;
 /// Whether the script that a text is fits, and is printed as this text.
 fn is_printed_as(alloc: Global, text: &[u8], wanted: &[u8]) -> Result<bool, ScriptFault> {
     let script = read_script(alloc, text)?;
-    match print_script(alloc, &script) {
-        Ok(printed) => Ok(fits(&script) && printed.as_slice() == wanted),
+    let printed = print_script(alloc, &script);
+    let fits = fits(&script);
+    drop(script);
+    match printed {
+        Ok(printed) => Ok(fits && printed.as_slice() == wanted),
         Err(_) => Err(ScriptFault::NoMemory),
     }
 }

@@ -53,7 +53,9 @@ fn joined(alloc: Global, pieces: &[Seq<u8>]) -> Result<Seq<u8>, NoMemory> {
 /// The report of a text's script of which these notes were told; the fault of a text that is no script.
 fn text_told(alloc: Global, text: &[u8], told: &[(u32, Note)]) -> Result<Seq<u8>, ScriptFault> {
     let script = read_script(alloc, text)?;
-    match report_told::<Brand>(alloc, &script, told) {
+    let made = report_told::<Brand>(alloc, &script, told);
+    drop(script);
+    match made {
         Ok(report) => Ok(report),
         Err(_) => Err(ScriptFault::NoMemory),
     }

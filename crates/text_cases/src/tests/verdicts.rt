@@ -11,7 +11,9 @@ use std::alloc::Global;
 fn verdict_of(alloc: Global, text: &[u8]) -> Result<Verdict, ScriptFault> {
     let report = read_report(alloc, text)?;
     read_reports_may_be_checked();
-    match check(alloc, &report) {
+    let judged = check(alloc, &report);
+    drop(report);
+    match judged {
         Ok(verdict) => Ok(verdict),
         Err(NoMemory {}) => Err(ScriptFault::NoMemory),
     }
@@ -33,7 +35,7 @@ const FOLLOWS: Verdict = Verdict::Not {
 };
 
 /// Nothing happens, and a note of no act.
-const VERDICTS: [(&str, Verdict); 2] = [
+static VERDICTS: [(&str, Verdict); 2] = [
     (
         "callout-report 1\ncallout 1\nhz 1000\ncpus 1\nwheel 256\nfuncs 0\ntimer 0 mpsafe\ncpu 0\nhistories\n\
         timer 0\nwheel 0\nactor p0\nend\n",
@@ -98,7 +100,7 @@ const NOT_HELD: Line = Line {
 
 #[test]
 fn lines_are_told_as_they_are_read(rt: HostRuntime) {
-    let [(nothing, _), (one, _)] = VERDICTS;
+    let [(nothing, _), (one, _)] = &VERDICTS;
     assert!(rt; told(rt.alloc(), nothing.as_bytes()) == Ok((0, None, 13)));
     assert!(rt; told(rt.alloc(), one.as_bytes()) == Ok((1, Some(NOT_HELD), 14)));
 }

@@ -13,7 +13,7 @@ const TOO_MANY: u32 = 262_145;
 const TOO_LONG: usize = 16_777_217;
 
 /// Last lines behind all that there may be, and for which cause each is bad.
-const LAST: [(&str, Cause); 2] = [("until 0.9\n", Cause::Falls), ("until 1\n", Cause::Many)];
+static LAST: [(&str, Cause); 2] = [("until 0.9\n", Cause::Falls), ("until 1\n", Cause::Many)];
 
 /// A text with one command too many, which is this line.
 fn long_text<R: Abort>(rt: &R, alloc: Global, last: &str) -> Seq<u8> {

@@ -2,7 +2,7 @@
 use crate::tests::rows::{Answered, Command, Refused, are_answered, are_refused};
 use co_text::Cause;
 
-const ANSWERED: [Answered; 3] = [
+static ANSWERED: [Answered; 3] = [
     // An event waits for the end of a window.
     (
         "event 1\ntimers 3\narm 0 =1 pr 1\narm 1 =1.5 pr 2\narm 2 =3 pr 0\nuntil 5\n",
@@ -18,7 +18,7 @@ const ANSWERED: [Answered; 3] = [
 ];
 
 /// First those whose third line is bad, then those of which the first lines are.
-const REFUSED: [Refused; 15] = [
+static REFUSED: [Refused; 15] = [
     ("event 1\ntimers 1\nuntil \x01", 3, Cause::Cut),
     ("event 1\ntimers 1\ntimers \x01\n", 3, Cause::Byte),
     ("event 1\ntimers 1\ntimers 1\n", 3, Cause::Form),

@@ -2,7 +2,7 @@
 use crate::tests::rows::{Answered, Command, Refused, are_answered, are_refused};
 use co_text::Cause;
 
-const ANSWERED: [Answered; 4] = [
+static ANSWERED: [Answered; 4] = [
     // A timer follows its interval.
     (
         "itimer 1\nprocesses 1\nset 0 1 2\ntick 0.5\nget 0\ntick 6\nget 0\nalarm 0\nalarm 0\nset 0 0 5\nget 0\n",
@@ -23,7 +23,7 @@ const ANSWERED: [Answered; 4] = [
 ];
 
 /// First those whose third line is bad, in the order of the causes, then those of which the first lines or the clock are.
-const REFUSED: [Refused; 14] = [
+static REFUSED: [Refused; 14] = [
     ("itimer 1\nprocesses 2\ntick \x01", 3, Cause::Cut),
     ("itimer 1\nprocesses 2\nget \x01\n", 3, Cause::Byte),
     ("itimer 1\nprocesses 2\nset 0 1\n", 3, Cause::Form),

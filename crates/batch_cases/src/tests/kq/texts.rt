@@ -2,7 +2,7 @@
 use crate::tests::rows::{Answered, Command, Refused, are_answered, are_refused};
 use co_text::Cause;
 
-const ANSWERED: [Answered; 8] = [
+static ANSWERED: [Answered; 8] = [
     // A timer counts its expirations.
     (
         "kq 1\nknotes 2\nadd 7 1500 ms\ntick 1\ntick 1.5\ntick 9\nevents 4\nevents 4\n",
@@ -43,7 +43,7 @@ const ANSWERED: [Answered; 8] = [
 ];
 
 /// First those whose third line is bad, in the order of the causes, then those of which the first lines or the clock are.
-const REFUSED: [Refused; 16] = [
+static REFUSED: [Refused; 16] = [
     ("kq 1\nknotes 2\ntick \x01", 3, Cause::Cut),
     ("kq 1\nknotes 2\ndelete \x01\n", 3, Cause::Byte),
     ("kq 1\nknotes 2\nadd 1 1\n", 3, Cause::Form),

@@ -4,7 +4,7 @@ use co_sbt::NoMemory;
 use co_sleepq::{End, SleepReply, Ticked};
 use co_text::Page;
 
-const REPLIES: [SleepReply; 9] = [
+static REPLIES: [SleepReply; 9] = [
     SleepReply::Began(18_446_744_073_709_551_614),
     SleepReply::Already,
     SleepReply::Woke(2),
@@ -18,8 +18,8 @@ const REPLIES: [SleepReply; 9] = [
 
 /// The lines of these replies and of a tick.
 fn print(page: &mut Page) -> Result<(), NoMemory> {
-    for reply in REPLIES {
-        print_reply(page, reply)?;
+    for reply in &REPLIES {
+        print_reply(page, *reply)?;
     }
     print_ticked(page, Ticked { out: 1, late: 2 })
 }

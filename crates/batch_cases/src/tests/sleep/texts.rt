@@ -2,7 +2,7 @@
 use crate::tests::rows::{Answered, Command, Refused, are_answered, are_refused};
 use co_text::Cause;
 
-const ANSWERED: [Answered; 3] = [
+static ANSWERED: [Answered; 3] = [
     // A sleeper is woken before its time is up, and its timer comes late.
     (
         "sleep 1\nsleepers 2\nsleep 0 7 1000\nsleep 1 7 0\nwakeup1 7\ntick 1\nawake 0\nawake 1\nwakeup 7\nawake 1\n",
@@ -20,7 +20,7 @@ const ANSWERED: [Answered; 3] = [
     ),
 ];
 
-const REFUSED: [Refused; 7] = [
+static REFUSED: [Refused; 7] = [
     ("sleep 1\n", 0, Cause::Form),
     ("sleep 1\nsleepers 1025\n", 2, Cause::Number),
     ("sleep 1\nsleepers 1\nsleep 1\n", 3, Cause::Form),

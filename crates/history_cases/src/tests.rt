@@ -1,2 +1,0 @@
-mod actors;
-mod threads;

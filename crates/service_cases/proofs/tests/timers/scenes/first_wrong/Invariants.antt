@@ -1,0 +1,5 @@
+-- The service that was just booted.
+use Rattle.service_cases.proofs.tests.timers.scenes.first_wrong.Given as goal
+
+abbrev pub ghosts-play : goal.ghosts-play
+ghosts-play g a = record { name = a.fresh.name }

@@ -1,0 +1,255 @@
+//! A client and two CPUs, one after another.
+ghost use Rattle.std.specs.Prelude.{◌≡◌};
+ghost use Rattle.service_cases.specs.Timers.{scene};
+
+use super::functions::{ASKS, Functions, NOTHING, Seen};
+use super::stage::{ARMED, boot, open, seconds};
+use super::steps::{Step, wrong_step};
+use co_hand::PortReply;
+use co_object::Reply;
+use co_service::Name;
+use co_timers::{
+    AsyncDrained, Client, Cpu, Drained, Posts, Refused, Reset, Served, Stopped, Timers,
+    TimersFresh, Turned,
+};
+use std::alloc::Global;
+use std::marker::Brand;
+use std::process::Abort;
+use std::sync::Wait;
+
+/// What is done next.
+enum Row {
+    /// Calls of the client without a lock, and with that of callout 1.
+    Free(&'static [Step]),
+    Held(&'static [Step]),
+    /// A CPU's turn at a time in seconds: how many come due, and how its interrupt and the CPU serve them.
+    Turn(u32, i32, u32, Served, Served),
+}
+
+/// What is done, and what the functions have seen at the end.
+struct Scene {
+    name: &'static str,
+    rows: &'static [Row],
+    seen: Seen,
+}
+
+const NONE: Served = Served {
+    called: 0,
+    skipped: 0,
+    drained: 0,
+};
+
+const ONE: Served = Served { called: 1, ..NONE };
+
+const DRAINED: Served = Served { drained: 1, ..ONE };
+
+/// Without a lock.
+const ALONE: [Step; 19] = [
+    Step::Arm(3, 1, 0, None, Err(Refused::NoCallout)),
+    Step::Arm(0, 1, 0, Some(2), Err(Refused::NoCpu)),
+    Step::Arm(1, 1, 0, None, Err(Refused::NotHeld)),
+    Step::Stop(1, Err(Refused::NotHeld)),
+    // Callout 0 is armed, armed again, stopped twice, and armed once more.
+    Step::Schedule(0, 3, Ok(Reset::NoHandler)),
+    Step::Arm(0, 3, 0, None, ARMED),
+    Step::Arm(0, 4, 0, None, Ok(Reset::Armed { replaced: true })),
+    Step::Stop(0, Ok(Stopped::Cancelled)),
+    Step::Stop(0, Ok(Stopped::Nothing)),
+    Step::Schedule(0, 5, ARMED),
+    // It is drained in both ways.
+    Step::Drain(0, Ok(Drained::Cancelled)),
+    Step::Drain(0, Ok(Drained::Nothing)),
+    Step::AsyncDrain(0, Ok(AsyncDrained::Nothing)),
+    Step::Arm(0, 3, 0, None, ARMED),
+    Step::AsyncDrain(0, Ok(AsyncDrained::Cancelled)),
+    // It is out of use.
+    Step::Retire(0),
+    Step::Arm(0, 3, 0, None, Ok(Reset::Retired)),
+    Step::Stop(0, Ok(Stopped::Retired)),
+    Step::AsyncDrain(0, Ok(AsyncDrained::Retired)),
+];
+
+/// With the lock of callout 1.
+const ALONE_HELD: [Step; 3] = [
+    Step::Arm(1, 1, 0, None, ARMED),
+    Step::Drain(1, Err(Refused::HoldsLock)),
+    Step::Stop(1, Ok(Stopped::Cancelled)),
+];
+
+const SCENES: [Scene; 3] = [
+    Scene {
+        name: "a client alone",
+        rows: &[Row::Free(&ALONE), Row::Held(&ALONE_HELD)],
+        seen: NOTHING,
+    },
+    // Each callout that comes due is called once, in its lane, and for another CPU there.
+    Scene {
+        name: "each that comes due is called once",
+        rows: &[
+            Row::Free(&[
+                Step::Arm(0, 1, 0, None, ARMED),
+                Step::Arm(2, 1, 0, None, ARMED),
+            ]),
+            Row::Held(&[Step::Arm(1, 2, 0, None, ARMED)]),
+            Row::Turn(0, 1, 2, ONE, ONE),
+            Row::Turn(0, 1, 0, NONE, NONE),
+            Row::Turn(0, 2, 1, NONE, ONE),
+            Row::Free(&[Step::Arm(0, 3, 0, Some(1), ARMED)]),
+            Row::Turn(1, 3, 1, NONE, ONE),
+        ],
+        seen: Seen {
+            called: 4,
+            held: 1,
+            ..NOTHING
+        },
+    },
+    // The function of callout 0 runs, and then that of the drain which it began.
+    Scene {
+        name: "a function asks of its own callout",
+        rows: &[
+            Row::Free(&[Step::Arm(0, 1, ASKS, None, ARMED)]),
+            Row::Turn(0, 1, 1, NONE, DRAINED),
+        ],
+        seen: Seen {
+            called: 1,
+            held: 0,
+            drained: Some(1),
+            asked: Some(None),
+            said: Some(PortReply::Reply(Reply::No)),
+        },
+    },
+];
+
+/// Who plays: a client, both CPUs, and the functions with another client.
+#[derive(Drop)]
+struct Cast<'r, 'a, N: Name, R: Wait> {
+    client: Client<'a, N>,
+    first: Cpu<'a, N>,
+    second: Cpu<'a, N>,
+    functions: Functions<'r, 'a, N, R>,
+}
+
+impl<'r, 'a, N: Name, R: Wait + Sync> Cast<'r, 'a, N, R> {
+    /// The client's calls with the lock of callout 1: whether each is answered as it has to be.
+    fn calls_held(&mut self, rt: &R, timers: &Timers<N>, steps: &[Step]) -> bool
+        ensures first { self.new.first ≡ self.old.first }
+        ensures second { self.new.second ≡ self.old.second }
+    {
+        match timers.lock(rt, 0) {
+            Some(hold) => wrong_step(rt, &mut self.client, Some(&hold), None, steps).is_none(),
+            None => false,
+        }
+    }
+
+    /// A CPU's turn: whether it is as it has to be.
+    fn turns(&mut self, rt: &R, cpu: u32, at: i32, wanted: Turned) -> bool
+        requires first { self.old.first.others.passes.params ≡ scene }
+        requires second { self.old.second.others.passes.params ≡ scene }
+        ensures first { self.new.first.others.passes.params ≡ scene }
+        ensures second { self.new.second.others.passes.params ≡ scene }
+    {
+        let at = seconds(at);
+        let turned = if cpu == 0 {
+            self.first.turn(rt, at, &mut self.functions)
+        } else {
+            self.second.turn(rt, at, &mut self.functions)
+        };
+        turned == wanted
+    }
+
+    /// Whether a row is as it has to be.
+    fn is_right(&mut self, rt: &R, timers: &Timers<N>, row: &Row) -> bool
+        requires first { self.old.first.others.passes.params ≡ scene }
+        requires second { self.old.second.others.passes.params ≡ scene }
+        ensures first { self.new.first.others.passes.params ≡ scene }
+        ensures second { self.new.second.others.passes.params ≡ scene }
+    {
+        match *row {
+            Row::Free(steps) => wrong_step(rt, &mut self.client, None, None, steps).is_none(),
+            Row::Held(steps) => self.calls_held(rt, timers, steps),
+            Row::Turn(cpu, at, scanned, direct, others) => {
+                let wanted = Turned {
+                    scanned,
+                    direct,
+                    others,
+                };
+                self.turns(rt, cpu, at, wanted)
+            }
+        }
+    }
+
+    /// The first row that is not as it has to be, if any is, and what the functions have seen by then.
+    fn wrong_row(&mut self, rt: &R, timers: &Timers<N>, rows: &[Row]) -> (Option<usize>, Seen)
+        requires first { self.old.first.others.passes.params ≡ scene }
+        requires second { self.old.second.others.passes.params ≡ scene }
+    {
+        for (number, row) in rows.iter().enumerate() {
+            if !self.is_right(rt, timers, row) {
+                return (Some(number), self.functions.seen);
+            }
+        }
+        (None, self.functions.seen)
+    }
+}
+
+/// The first row of a scene on an open service that is not as it has to be, if any is, and what the functions have seen.
+fn play_on<N: Name, R: Wait + Sync + Abort>(
+    rt: &R,
+    timers: &Timers<N>,
+    posts: &mut Posts<N>,
+    rows: &[Row],
+) -> (Option<usize>, Seen)
+    requires posts { timers.now.params ≡ posts.old.params }
+    requires scene { timers.now.params ≡ scene }
+{
+    let functions = Functions {
+        rt,
+        client: posts.client(timers, 1).expect(rt, "client 1 is here"),
+        seen: NOTHING,
+    };
+    let mut cast = Cast {
+        client: posts.client(timers, 0).expect(rt, "client 0 is here"),
+        first: posts.cpu_handle(timers, 0).expect(rt, "CPU 0 is here"),
+        second: posts.cpu_handle(timers, 1).expect(rt, "CPU 1 is here"),
+        functions,
+    };
+    let story = cast.wrong_row(rt, timers, rows);
+    drop(cast);
+    story
+}
+
+/// The same on a service that is opened for it.
+fn play<N: Name, R: Wait + Sync + Abort>(
+    rt: &R,
+    alloc: Global,
+    fresh: TimersFresh,
+    rows: &[Row],
+) -> (Option<usize>, Seen)
+    requires name { fresh.name ≡ N.name }
+    requires scene { fresh.params ≡ scene }
+{
+    let (timers, mut posts) = open::<N, R>(rt, alloc, fresh);
+    let story = play_on(rt, &timers, &mut posts, rows);
+    drop((timers, posts));
+    story
+}
+
+/// The first row of a scene that is not as it has to be, if any is, or their number where the functions have seen something else.
+fn first_wrong<R: Wait + Sync + Abort>(rt: &R, alloc: Global, scene: &Scene) -> Option<usize> {
+    let fresh = boot(rt, alloc);
+    let (wrong, seen) = play::<Brand, R>(rt, alloc, fresh, scene.rows);
+    if wrong.is_none() && seen != scene.seen {
+        return Some(scene.rows.len());
+    }
+    wrong
+}
+
+/// Each word of a client and each refusal by name; the turns of CPUs in both lanes; a function with a client's handle.
+#[test]
+fn scenes(rt: HostRuntime) {
+    for scene in &SCENES {
+        if let Some(row) = first_wrong(&rt, rt.alloc(), scene) {
+            panic!(rt; "{}: row {row}", scene.name);
+        }
+    }
+}

@@ -1,0 +1,63 @@
+//! The first seed's numbers and script.
+
+use co_gen::{Counts, Draws, gen_script, print_soak};
+use co_program::{Act, Script};
+use co_sbt::{NoMemory, Sbt, Seq};
+use co_script::fits;
+
+#[test]
+fn first_draw(rt: HostRuntime) {
+    assert!(rt; Draws::new(1).draw() == 908_834_774);
+}
+
+/// Whether there are eight clients, and what the first two acts of the first are.
+fn has_eight_clients(script: &Script) -> bool {
+    let clients = script.clients.as_slice();
+    if clients.len() != 8 {
+        return false;
+    }
+    let acts = clients[0].as_slice();
+    acts.len() >= 2 && acts[0] == Act::Now(Sbt::zero()) && acts[1] == Act::Drain(22)
+}
+
+/// Whether a script was made that fits, with its 64 callouts and those clients.
+fn is_first(made: Result<Script, NoMemory>) -> bool {
+    match made {
+        Ok(script) => {
+            let has_all = script.timers.as_slice().len() == 64;
+            let is_first = fits(&script) && has_all && has_eight_clients(&script);
+            drop(script);
+            is_first
+        }
+        Err(_) => false,
+    }
+}
+
+#[test]
+fn first_script(rt: HostRuntime) {
+    assert!(rt; is_first(gen_script(rt.alloc(), 1)));
+}
+
+const COUNTS: Counts = Counts {
+    notes: 33295,
+    armed: 4447,
+    fired: 1324,
+    superseded: 1761,
+    stopped: 1357,
+    pending: 5,
+};
+
+/// Whether a line was made, and is this one.
+fn is_line(made: Result<Seq<u8>, NoMemory>, wanted: &str) -> bool {
+    match made {
+        Ok(line) => line.as_slice() == wanted.as_bytes(),
+        Err(_) => false,
+    }
+}
+
+#[test]
+fn line_of_the_first_seed(rt: HostRuntime) {
+    let wanted =
+        "soak 1 notes 33295 armed 4447 fired 1324 superseded 1761 stopped 1357 pending 5\n";
+    assert!(rt; is_line(print_soak(rt.alloc(), 1, &COUNTS), wanted));
+}

@@ -1,0 +1,83 @@
+//! A worked script's walk, as lists and note by note.
+ghost use Rattle.std.specs.Prelude.{◌^◌};
+ghost use Rattle.co_program.specs.Scripts.{IsScript};
+
+use super::{IN_TRANSIT, script_of};
+use co_core::{run_steps, tell_walk};
+use co_listener::Listener;
+use co_object::Note;
+use co_program::Script;
+use co_sbt::{NoMemory, Seq};
+use std::alloc::Global;
+
+/// Keeps who makes each note, and at which position of its place.
+#[derive(Drop)]
+struct Told {
+    notes: Seq<(u32, u64)>,
+}
+
+impl Listener for Told {
+    ghost actors = { λ x. 2 ^ 32 };
+
+    ghost has = { λ x made. Unit {0} };
+
+    ghost room = { λ x. 0 };
+
+    fn write(&mut self, actor: u32, note: &Note) -> Result<(), NoMemory> {
+        self.notes.push((actor, note.pos))
+    }
+}
+
+/// How many notes each of four actors has.
+fn counts(lists: &[Seq<Note>]) -> Option<[usize; 4]> {
+    match lists {
+        [first, second, third, fourth] => Some([
+            first.as_slice().len(),
+            second.as_slice().len(),
+            third.as_slice().len(),
+            fourth.as_slice().len(),
+        ]),
+        _ => None,
+    }
+}
+
+/// How many notes each of the four actors of a script's walk has.
+fn counted(alloc: Global, script: &Script) -> Option<[usize; 4]>
+    requires { IsScript script.now }
+{
+    match run_steps(alloc, script) {
+        Ok(lists) => counts(lists.as_slice()),
+        Err(_) => None,
+    }
+}
+
+/// Whether a script's walk tells these notes, of an actor and at a position each.
+fn tells(alloc: Global, script: &Script, notes: &[(u32, u64)]) -> bool
+    requires { IsScript script.now }
+{
+    let mut told = Told {
+        notes: Seq::new(alloc),
+    };
+    tell_walk(alloc, script, &mut told).is_ok() && told.notes.as_slice() == notes
+}
+
+/// Whether the walk of a text's script makes four lists of so many notes, and tells these notes.
+fn walks(alloc: Global, text: &str, lists: [usize; 4], notes: &[(u32, u64)]) -> [bool; 2] {
+    match script_of(alloc, text.as_bytes()) {
+        Ok(script) => {
+            let right = [
+                counted(alloc, &script) == Some(lists),
+                tells(alloc, &script, notes),
+            ];
+            drop(script);
+            right
+        }
+        Err(_) => [false; 2],
+    }
+}
+
+#[test]
+fn keeps_a_list_for_each_actor_and_tells_as_it_walks(rt: HostRuntime) {
+    let notes = [(0, 0), (0, 0), (1, 1), (1, 1)];
+    assert!(rt; walks(rt.alloc(), IN_TRANSIT, [2, 2, 0, 0], &notes) == [true, true]);
+}

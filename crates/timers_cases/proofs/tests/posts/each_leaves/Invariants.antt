@@ -1,6 +1,0 @@
--- The posts stay those of the service.
-use Rattle.std.proofs.Common.{◌≡◌}
-use Rattle.timers_cases.proofs.tests.posts.each_leaves.Given as goal
-
-abbrev pub invariant-loop-post : goal.invariant-loop-post
-invariant-loop-post g l = l.timers.params ≡ l.posts.params

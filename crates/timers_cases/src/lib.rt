@@ -1,5 +1,0 @@
-//! Timers with handles, through what `co_timers` offers.
-#![tactic(auto)]
-
-#[cfg(test)]
-mod tests;

@@ -1,4 +1,0 @@
-mod ends;
-mod pictures;
-mod statuses;
-mod views;
