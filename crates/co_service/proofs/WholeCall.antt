@@ -4,7 +4,7 @@ use Rattle.std.specs.declared.option.Option.{Option}
 use Rattle.std.specs.declared.option.Option.TheVariants.{Some, None}
 use Rattle.co_object.specs.declared.note.Entry.{Entry}
 use Rattle.co_object.specs.declared.note.QEntry.{QEntry}
-use Rattle.co_object.specs.declared.note.Place.TheVariants.{Timer, Cpu, Actor}
+use Rattle.co_object.specs.declared.note.Place.TheVariants.{Timer, Cpu}
 use Rattle.co_object.specs.declared.note.Note.{Note}
 use Rattle.co_object.specs.declared.note.AnyEntry.TheVariants as of
 use Rattle.co_object.specs.declared.note.Place.TheVariants as at
