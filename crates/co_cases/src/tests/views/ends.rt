@@ -1,8 +1,8 @@
 //! One firing over ends that fail.
 
 use super::calls::{Ends, shows};
-use super::reports::ONE_FIRING;
 use super::texts::TIMER_LANES;
+use crate::examples::ONE_FIRING_REPORT;
 use co_view_top::Status;
 use std::alloc::Global;
 use std::process::Abort;
@@ -18,7 +18,7 @@ fn ends<R: Abort>(
     written: usize,
 ) -> bool {
     let ends = Ends {
-        report: ONE_FIRING,
+        report: ONE_FIRING_REPORT,
         read_fails,
         room,
         write_fails,
@@ -33,7 +33,7 @@ fn ends<R: Abort>(
 #[test]
 fn each_read_fails_in_turn(rt: HostRuntime) {
     let room = TIMER_LANES.len();
-    for turn in 0..ONE_FIRING.len() as u64 / 32 + 1 {
+    for turn in 0..ONE_FIRING_REPORT.len() as u64 / 32 + 1 {
         let failed = ends(&rt, rt.alloc(), &[turn], room, &[], Status::ReadFault, 0);
         assert!(rt; failed, "read {turn}");
     }

@@ -1,33 +1,4 @@
-//! Reports. The first three are among those of worked_cases.
-
-/// One firing on one CPU. Its notes have one order alone.
-pub(super) const ONE_FIRING: &str = r"callout-report 1
-callout 1
-hz 1000
-cpus 1
-wheel 256
-funcs 1
-timer 0 mpsafe
-func 0
-client 0
-reset 0 =u6442450944 f0 a7
-cpu 0
-tick u6442450944
-histories
-timer 0
-0 c0/0 reset u6442450944 pr u0 f0 a7 cpu - = armed 0 #0 p0 off -
-2 p0/0 pick #0 p0 u6442450944 = go f0 a7
-3 p0/0 end #0 p0 = ended drain - next - woke 0
-wheel 0
-1 c0/0 insert i0 #0 u6442450944 = at u6442450944
-0 p0/0 scan u6442450944 = count 1
-1 p0/0 pop = got i0 #0 u6442450944
-4 p0/0 free = freed
-5 p0/0 pop = empty
-actor c0
-actor p0
-end
-";
+//! Reports, beside that of one firing among the examples. The first two are among those of worked_cases.
 
 /// A stop while the function runs, which takes the function's own new arming away.
 pub(super) const STOP_DURING_SERVICE: &str = r"callout-report 1

@@ -1,7 +1,8 @@
 //! How a view ends.
 
 use super::calls::{Ends, Row, show_all, shows};
-use super::reports::{NO_ORDER, ONE_FIRING};
+use super::reports::NO_ORDER;
+use crate::examples::ONE_FIRING_REPORT;
 use co_view_top::Status;
 
 /// The line that is written of notes without an order.
@@ -68,7 +69,7 @@ const NO_VIEWS: &[&[&str]] = &[
 #[test]
 fn words_that_are_no_view(rt: HostRuntime) {
     let ends = Ends {
-        report: ONE_FIRING,
+        report: ONE_FIRING_REPORT,
         read_fails: &[0],
         room: 100,
         write_fails: &[],

@@ -2,7 +2,8 @@
 
 use super::calls::{Row, show_all};
 use super::pictures::FIRING_TRACE;
-use super::reports::{DRAIN_WAITS, ONE_FIRING, STOP_DURING_SERVICE};
+use super::reports::{DRAIN_WAITS, STOP_DURING_SERVICE};
+use crate::examples::ONE_FIRING_REPORT;
 use co_view_top::Status;
 
 /// The text that docs/VIEW.md shows.
@@ -65,20 +66,30 @@ const STOP_SUMMARY: &str =
 const TEXTS: &[Row] = &[
     (&["lanes"], DRAIN_WAITS, Status::Done, DRAIN_LANES),
     (&[], DRAIN_WAITS, Status::Done, DRAIN_LANES),
-    (&["lanes"], ONE_FIRING, Status::Done, FIRING_LANES),
-    (&["timer", "0"], ONE_FIRING, Status::Done, TIMER_LANES),
+    (&["lanes"], ONE_FIRING_REPORT, Status::Done, FIRING_LANES),
+    (
+        &["timer", "0"],
+        ONE_FIRING_REPORT,
+        Status::Done,
+        TIMER_LANES,
+    ),
     (&["cpu", "1"], DRAIN_WAITS, Status::Done, CPU_LANES),
     (&["timer", "1"], DRAIN_WAITS, Status::Done, NO_NOTES),
     (&["cpu", "0"], DRAIN_WAITS, Status::Done, NO_NOTES),
     (&["cpu", "4294967295"], DRAIN_WAITS, Status::Done, NO_NOTES),
-    (&["summary"], ONE_FIRING, Status::Done, FIRING_SUMMARY),
+    (
+        &["summary"],
+        ONE_FIRING_REPORT,
+        Status::Done,
+        FIRING_SUMMARY,
+    ),
     (
         &["summary"],
         STOP_DURING_SERVICE,
         Status::Done,
         STOP_SUMMARY,
     ),
-    (&["trace"], ONE_FIRING, Status::Done, FIRING_TRACE),
+    (&["trace"], ONE_FIRING_REPORT, Status::Done, FIRING_TRACE),
 ];
 
 #[test]
