@@ -33,9 +33,6 @@ pub record Looking (r : Rings) (t : List ℕ) (b : ℕ) (initial now : Option �
   pub at-is : at' ≡ first_of rest
   pub so_far : now ≡ least t initial done
 
-pub looking-start : (r : Rings) (t : List ℕ) (b : ℕ) (initial at' : Option ℕ) → at' ≡ first_of (list_of r b) → Looking r t b initial initial at' 0
-looking-start r t b initial at' is = record { done = []; rest = list_of r b; parts = refl; long = refl; at-is = is; so_far = refl }
-
 least-append : (t : List ℕ) (o : Option ℕ) (xs ys : List ℕ) → least t o (xs ++ ys) ≡ least t (least t o xs) ys
 least-append t o [] ys = refl
 least-append t o (x ∷ xs) ys = least-append t (Some (earlier o (slice_index t x))) xs ys

@@ -18,7 +18,7 @@ use Rattle.co_object.specs.declared.AnyEntry.TheVariants as of
 use Rattle.co_object.specs.History.{IsLegal}
 use Rattle.co_object.specs.Journal.{IsLegalQueue, reply_of, step}
 use Rattle.co_object.specs.Lists.{same_place, all_notes_of, IsWellFormed}
-use Rattle.co_object.proofs.Passing.{passing, count-passing}
+use Rattle.co_object.proofs.Passing.{count-passing}
 use Rattle.co_object.proofs.QueueChanges.{change}
 use Rattle.co_program.specs.declared.action.Asked.TheVariants.{Callout, Queue, Itself}
 use Rattle.co_program.specs.declared.script.Script.{Script}
@@ -141,8 +141,6 @@ mapped-none f (Some x) y h = (x, refl, some-is (f x) y h)
 -- ---- the lists that the lines show
 
 module _ (s : Script) (lines : List Line) (of_script : AreLinesOf s lines) (right : (j : ℕ) (l : Line) → slice_get lines j ≡ Some l → IsNumbered lines j l) where
-  abbrev lists : List (List Note)
-  lists = lists_by s lines
 
   formed : IsWellFormed (lists_by s lines)
   formed = well-formed s lines of_script right
@@ -190,13 +188,6 @@ module _ (s : Script) (lines : List Line) (of_script : AreLinesOf s lines) (righ
           pos = sym (ap (λ (x : Noted). x.note.pos) back.is) ∙ ap (λ (x : Note). x.pos) is;
         },
       )
-
-  -- the lines of a place are its history
-  count-lines : (p : Place) → length (map shown_line (lines_at p lines)) ≡ passing (λ (l : Line). same_place l.place p) lines
-  count-lines p = length-mapped shown_line (lines_at p lines) ∙ (length-filter (λ (l : Line). same_place l.place p) lines ∙ count-passing (λ (l : Line). same_place l.place p) lines) where
-    length-mapped : {X Y : Type 0} (f : X → Y) (xs : List X) → length (map f xs) ≡ length xs
-    length-mapped f [] = refl
-    length-mapped f (x ∷ xs) = ap suc (length-mapped f xs)
 
   shown-at : (p : Place) (m : ℕ) (l : Line) → slice_get (lines_at p lines) m ≡ Some l → slice_get (shown_history (lists_by s lines) p) m ≡ Some (shown_line l)
   shown-at p m l at =

@@ -62,9 +62,6 @@ or-second : (b c : Bool) → (b || c) ≡ false → c ≡ false
 or-second false c h = h
 or-second true c h = cc
 
-AreFree : List Line → Type 0
-AreFree lines = (j : ℕ) (l : Line) → slice_get lines j ≡ Some l → list_any (is_note (actor_of l.entry) l.number) (take j lines) ≡ false
-
 same-note : (a k : ℕ) (x y : Line) → is_note a k x ≡ true → is_note a k y ≡ true → is_note (actor_of y.entry) y.number x ≡ true
 same-note a k x y hx hy =
     let bx = equal (actor_of x.entry) a (first (actor_of x.entry == a) (x.number == k) hx) in

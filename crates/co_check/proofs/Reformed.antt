@@ -27,10 +27,6 @@ use Rattle.co_check.proofs.Taking.{some-is}
 abbrev in_place : Place → Line → Bool
 in_place p l = same_place l.place p
 
-one-or : (b : Bool) (n : ℕ) → n ≤ cond b 1 0 + n
-one-or true n = omega arith
-one-or false n = omega arith
-
 -- the notes of a place at a position: one, if the place has so many lines
 abbrev is_there : Place → ℕ → Noted → Bool
 is_there p q x = same_place x.note.place p && x.note.pos == q
@@ -287,9 +283,6 @@ module _ (s : Script) (lines : List Line) (of_script : AreLinesOf s lines) (righ
       let order = below-it a k m r.index r2.index r.one.line r2.one.line p less b.at b2.at r.passes r2.passes place place2 in
       let up = count-rises (λ (l : Line). same_place l.place p) lines r.index r2.index r.one.line b.at (ap (λ q. same_place q p) place ∙ same-itself p) order in
       omega (arith, pos, pos2, up)
-
-  Above : ℕ → List ℕ → Type 0
-  Above x ys = AllByRecursion (λ y. x < y) ys
 
   rising-more : (x : ℕ) (ys : List ℕ) → AllByRecursion (λ y. x < y) ys → IsRising ys → IsRising (x ∷ ys)
   rising-more x [] h r = tt

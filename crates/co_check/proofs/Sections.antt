@@ -75,9 +75,6 @@ module _ (h : PlaceHistories) (p : Place) where
       differs-above : (m : ℕ) → i < m → (m == i) ≡ false
       differs-above m less = grind (arith, nat_tests)
 
-      itself : (i == i) ≡ true
-      itself = grind (arith, nat_tests)
-
       later : (m : ℕ) → m ≤ i → (m == i) ≡ false → m + 1 ≤ i
       later m least other = grind (arith, nat_tests)
 

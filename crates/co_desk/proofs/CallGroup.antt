@@ -23,10 +23,6 @@ module _ (i actor act : ℕ) (op : Op) (t : State) (time : ℕ) where
   abbrev pub head : Reply → List Placed
   head r = removal_notes i (entry_of actor act op r) (off_of r) ++ ((at.Timer i, of.Timer (entry_of actor act op r)) ∷ [])
 
-  stops : (r : Reply) (o : Option ℕ) → removal_notes i (entry_of actor act op r) o ++ ((at.Timer i, of.Timer (entry_of actor act op r)) ∷ []) ++ [] ≡ removal_notes i (entry_of actor act op r) o ++ ((at.Timer i, of.Timer (entry_of actor act op r)) ∷ [])
-  stops r None = refl
-  stops r (Some x) = refl
-
   -- a call that arms nothing puts nothing in
   pub unarmed_group : (r : Reply) → is_armed r ≡ false → group i (entry_of actor act op r) t time ≡ head r
   unarmed_group (Armed code n cpu o) h = absurd (cc)

@@ -79,10 +79,3 @@ snoc_same [] [] x e = refl
 snoc_same [] (y ∷ ys) x e = let n = ap length e in let m = length-append ys (x ∷ []) in absurd (omega arith)
 snoc_same (a ∷ xs) [] x e = let n = ap length e in let m = length-append xs (x ∷ []) in absurd (omega arith)
 snoc_same (a ∷ xs) (b ∷ ys) x e = let rest : xs ++ x ∷ [] ≡ ys ++ x ∷ [] = cc in let first : a ≡ b = cc in let h = snoc_same xs ys x rest in cc
-
--- what stands before the last entry
-pub snoc_front : {A : Type 0} (xs ys : List A) (x y : A) → xs ++ x ∷ [] ≡ ys ++ y ∷ [] → xs ≡ ys
-snoc_front [] [] x y e = refl
-snoc_front [] (b ∷ ys) x y e = let n = ap length e in let m = length-append ys (y ∷ []) in absurd (omega arith)
-snoc_front (a ∷ xs) [] x y e = let n = ap length e in let m = length-append xs (x ∷ []) in absurd (omega arith)
-snoc_front (a ∷ xs) (b ∷ ys) x y e = let rest : xs ++ x ∷ [] ≡ ys ++ y ∷ [] = cc in let first : a ≡ b = cc in let h = snoc_front xs ys x y rest in cc

@@ -72,9 +72,6 @@ module _ (s u : Timers) (e : Events) (i : ℕ) (found : Bool) (h : QueueStandsFo
   abbrev without-i : Events
   without-i = record e { pending = others e i }
 
-  abbrev Removed : Bool → Type 0
-  Removed b = (found ≡ b) × QueueStandsFor u (queue_of without-i)
-
   found-as : (b c : Bool) → removed b ≡ cond c Off Missing → b ≡ c
   found-as true true is = refl
   found-as true false is = cc

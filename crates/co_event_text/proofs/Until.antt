@@ -1,5 +1,5 @@
 -- The events that come by a time: each takes something of what is pending, and in the end none comes.
-use Rattle.std.proofs.Common.{◌≡◌, ℕ, zero, suc, ◌==◌, ◌<◌, ◌≤◌, Bool, true, false, cond, List, [], ◌∷◌, ◌++◌, length, refl, ap, sym, subst, ◌∙◌, arith, nat_le, nat_lt, IfSome}
+use Rattle.std.proofs.Common.{◌≡◌, ℕ, zero, suc, ◌==◌, ◌<◌, ◌≤◌, Bool, true, false, cond, List, [], ◌∷◌, ◌++◌, length, refl, ap, sym, subst, ◌∙◌, arith, nat_le, nat_lt}
 use Rattle.std.specs.declared.option.Option.{Option}
 use Rattle.std.specs.declared.option.Option.TheVariants.{Some, None}
 use Rattle.std.proofs.lemmas.Bool.{le-leb, leb-false, lt-leb}
@@ -16,14 +16,7 @@ use Rattle.co_event.proofs.Standing.{Sound, sound-of}
 use Rattle.co_event.proofs.Outcomes.{sound-taken}
 use Rattle.co_event.proofs.Later.{fewer}
 use Rattle.co_event_text.specs.Answers.{Answered, comes_by, take_by, until_answered, with_event, event_lines, events_by}
-use Rattle.co_event_text.specs.Written.{left_by}
 use Rattle.co_event_text.specs.Laws.{EachUntilTakesAll}
-
--- a later moment leaves less
-pub left-falls : (t at : ℕ) (x y : Option ℕ) → Some at ≡ x → at ≤ t → IfSome y (λ n. at < n) → left_by t y < left_by t x
-left-falls t at None y is h g = cc
-left-falls t at (Some m) None is h g = let e : at ≡ m = cc in omega arith
-left-falls t at (Some m) (Some n) is h g = let e : at ≡ m = cc in omega (arith, g)
 
 abbrev Taken : Type 0
 Taken = Events × (Option Event × List ℕ)

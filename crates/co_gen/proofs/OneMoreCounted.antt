@@ -54,9 +54,6 @@ entries-none made m i none = by_place (same_place m.note.place (Timer i)) refl w
       ∙ (ap (λ o. entries_in made i ++ cons_option o []) none ∙ append-nil (entries_in made i)))
   by_place false other = entries-elsewhere made m i other
 
-equal-test : (a b : ℕ) → a ≡ b → (a == b) ≡ true
-equal-test a b h = grind (arith, nat_tests)
-
 unequal-test : (a b : ℕ) → b ≢ a → (a == b) ≡ false
 unequal-test a b h = grind (arith, nat_tests)
 

@@ -1,11 +1,10 @@
 -- What one more turn of a loop that reads or writes makes of the turns before: counts rise, room shrinks, bytes move on.
-use Rattle.std.proofs.Common.{◌≡◌, ℕ, ◌+◌, ◌-◌, ◌≤◌, ◌<◌, inl, inr, List, [], ◌∷◌, ◌++◌, length, take, drop, get_or, Option, None, Some, sym, ap, ◌∙◌, subst, arith, append_assoc, append-nil, length-append, take-append-drop}
+use Rattle.std.proofs.Common.{◌≡◌, ℕ, ◌+◌, ◌-◌, ◌≤◌, ◌<◌, List, [], ◌∷◌, ◌++◌, length, take, drop, get_or, Option, None, Some, sym, ap, ◌∙◌, subst, arith, append_assoc, append-nil, length-append, take-append-drop}
 use Rattle.std.specs.List.{concat}
 use Rattle.std.specs.Io.KnownBytes.{Appends}
 use Rattle.std.proofs.KnownBytes.{Appends-trans}
 use Rattle.std.proofs.lemmas.List.{take_rest, take_all, take_more, take-append-le, length-take-le, drop-drop}
 use Rattle.std.proofs.lemmas.List.Folds.{concat-append}
-use Rattle.co_io.specs.Counts.{Rose}
 use Rattle.co_io.specs.Room.{Fills, IsTooSmallFor}
 use Rattle.co_io.specs.Writing.{AppendsFront}
 
@@ -55,11 +54,6 @@ front_more a b c pieces i d inside before (written, rest, split, some, after) =
     let whole : concat pieces ≡ (done ++ written) ++ (rest ++ tail) = concat_split pieces i d inside ∙ ap (λ l. (done ++ l) ++ tail) split ∙ seam done written rest tail in
     let more : length (rest ++ tail) ≡ length rest + length tail = length-append rest tail in
     (done ++ written, rest ++ tail, whole, omega arith, Appends-trans _ _ _ _ _ before after)
-
--- a count that rose at last rose in all
-pub rose_since : (a b c : ℕ) → a ≤ b → Rose b c → Rose a c
-rose_since a b c rises (inl more) = inl (omega arith)
-rose_since a b c rises (inr last) = inr last
 
 -- where the next piece finds no room, they all found none
 pub too_small : (a b : Option ℕ) (pieces : List (List ℕ)) (i : ℕ) (d : List ℕ) → i < length pieces → Fills a b (length (concat (take i pieces))) → IsTooSmallFor (length (get_or pieces i d)) b → IsTooSmallFor (length (concat pieces)) a

@@ -1,5 +1,5 @@
 -- One process's timer and one callout change.
-use Rattle.std.proofs.Common.{◌≡◌, ◌≢◌, ℕ, ◌+◌, ◌<◌, ◌≤◌, length, refl, ap, sym, subst, ◌∙◌, arith, inl, inr, get_or-set_same, get_or-set_other}
+use Rattle.std.proofs.Common.{◌≡◌, ◌≢◌, ℕ, ◌+◌, ◌<◌, ◌≤◌, length, ap, sym, subst, ◌∙◌, arith, inl, inr, get_or-set_same, get_or-set_other}
 use Rattle.std.specs.declared.option.Option.{Option}
 use Rattle.std.specs.declared.option.Option.TheVariants.{Some, None}
 use Rattle.std.proofs.lemmas.Bool.{cases_eq}
@@ -8,7 +8,7 @@ use Rattle.co_desk.specs.Views.{PassesView}
 use Rattle.co_single.specs.Acts.{OthersStay, TimeStays, NothingFires}
 use Rattle.co_single.specs.Alarms.{alarm_at, fired_at, made_at, waiting_of, but}
 use Rattle.co_itimer.proofs.Counting.{all_gos-same}
-use Rattle.co_itimer.specs.Itimers.{AreArmed, IsBetweenTicks, alarm_due}
+use Rattle.co_itimer.specs.Itimers.{AreArmed, alarm_due}
 use Rattle.co_itimer.specs.Serving.{IsSetTo}
 use Rattle.co_itimer.specs.Timers.{Timers, idle, timer_of, with_timer}
 use Rattle.co_itimer.specs.declared.timer.Timer.{Timer}
@@ -42,18 +42,6 @@ are-armed p q i next s t below is due others time a = record {
     | inr differs ↦ ap alarm_due (others.alarms j differs) ∙ (a.armed j ∙ sym (ap (λ x. x.next) (timer-other s i j t differs)))
   ];
 }
-
-pub is-kept : (p q : PassesView) (i work : ℕ) (s : Timers) (t : Timer) → i < length s.timers → IsSetTo p i t.next q → IsBetweenTicks p s work → IsBetweenTicks q (with_timer s i t) (work + 1)
-is-kept p q i work s t below h k =
-    let e = is-set p i t.next q h in
-    record {
-      armed = are-armed p q i t.next s t below refl e.due e.others e.time k.armed;
-      made = λ j. elim (cases_eq j i) [
-        | inl same ↦ subst (λ m. made_at q m ≤ work + 1) (sym same) (omega (arith, e.made, k.made i))
-        | inr differs ↦ omega (arith, e.others.made j differs, k.made j)
-      ];
-      nothing = e.waiting ∙ ap (but i) k.nothing;
-    }
 
 pub none-fires : (p q : PassesView) (i : ℕ) (next : Option ℕ) → IsSetTo p i next q → NothingFires p q
 none-fires p q i next h =

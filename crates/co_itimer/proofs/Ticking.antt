@@ -82,9 +82,6 @@ module _ (work now k : ℕ) (p q : PassesView) (s : Timers) (kept : IsBetweenTic
       all : all_gos r.timers ≡ all_gos p.timers + expirations s now
       all = all_gos-more (expires (clock_after s now)) idle s.timers p.timers r.timers kept.armed.count count fired
 
-    pub kept-after : IsBetweenTicks r t (work + 1)
-    kept-after = record { armed = done.serving.armed; made = λ i. (each i).made; nothing = done.nothing }
-
 -- just opened
 no-timer : (n i : ℕ) → (timer_of (opening n) i).next ≡ None
 no-timer zero i = refl

@@ -1,18 +1,17 @@
 -- Each step keeps the rule: the lemma `moves` says so of any step that moves or changes one pass, and each of the six kinds is shown to be one,
 -- but the start and the making of a pass, which are shown by themselves.
-use Rattle.std.proofs.Common.{◌≡◌, ◌≢◌, ◌⊎◌, ℕ, zero, suc, ◌+◌, ◌<◌, min, List, [], ◌∷◌, ◌++◌, length, set, Option, Some, None, refl, sym, ap, ◌∙◌, subst, inl, inr, ⊎_elim, arith}
+use Rattle.std.proofs.Common.{◌≡◌, ◌≢◌, ◌⊎◌, ℕ, zero, suc, ◌+◌, ◌<◌, List, [], ◌∷◌, ◌++◌, length, set, Option, Some, None, refl, sym, ap, ◌∙◌, subst, inl, inr, arith}
 use Rattle.std.specs.List.{All}
 use Rattle.std.proofs.lemmas.List.Elements.{All-append}
 use mathlib.Core.Option.{some, some-injective, some-ne-none}
 use mathlib.Core.Logic.{dite}
 use native.Mathlib.Decide.{ℕ_discrete}
-use lib.ListN.{get_elem?}
 use Rattle.atomic_table.specs.Table.{State, Me, Step, keeps, Allows, Splits, Joins}
 use Rattle.atomic_table.proofs.Lists.{at_set, set_again, set_here, set_else, at_longer, at_last}
 use Rattle.co_life.specs.declared.view.SeatView.{SeatView}
 use Rattle.co_life.specs.declared.view.SeatView.TheVariants.{Keeps, Has, Spent}
 use Rattle.co_life.specs.declared.view.Glance.{Glance}
-use Rattle.co_life.specs.Rule.{capped, glance, opening_view, pass_in, HasPass, Fits, IsKept, Kept}
+use Rattle.co_life.specs.Rule.{glance, opening_view, pass_in, HasPass, Fits, IsKept, Kept}
 use Rattle.co_life.specs.Steps.{dealing, dealt, entered, left_by, let_out, Learns, Tells, Looks, Appends, MayAppend}
 use Rattle.co_life.specs.Views.{history_in, made_in}
 use Rattle.co_life.proofs.Histories.{starts_self, starts_longer, own-other}
@@ -112,10 +111,6 @@ module _ {E : Type 0} (actor : E → ℕ) (legal : List E → Type 0) where
 
   keeps_apart : (p : Glance E) (h : List E) (n : ℕ) (i : Option (Glance E)) → Has p ≡ Keeps h n i → ⊥
   keeps_apart p h n i e = cc
-
-  -- the views after one seat's has changed
-  at_set_of : (vs : List (SeatView E)) (id : ℕ) (w : SeatView E) (k : ℕ) (v : SeatView E) → get_elem? (set vs id w) k ≡ some v → ((k ≡ id) × (w ≡ v)) ⊎ ((k ≢ id) × (get_elem? vs k ≡ some v))
-  at_set_of vs id w k v e = at_set vs id k w v e
 
   -- boot: a new pass
   pub deals : (id : ℕ) (h : List E) (n : ℕ) → Splits (Kept actor legal) id (Keeps h n None) (Keeps h (suc n) None) (Has (glance n h))
@@ -271,9 +266,6 @@ module _ {E : Type 0} (actor : E → ℕ) (legal : List E → Type 0) where
       let same : IsKept actor legal (set s.views id (Keeps h n (Some p))) id h n (Some p) =
       subst (λ (vs : List (SeatView E)). IsKept actor legal vs id h n (Some p)) (sym (set_again s.views id _ at)) old in
       (Keeps h n (Some p), keeps, tt, (id, h, n, Some p, same), (refl, record { fits = mine.1; below = mine.0; actors = old.actors; is_legal = old.is_legal }))
-
-  pub capped_next : (n found new : ℕ) → found ≡ capped n → new ≡ min (found + 1) 18446744073709551615 → new ≡ capped (n + 1)
-  capped_next n found new is next = omega arith
 
   one_below : (e : E) (n : ℕ) → actor e < n → All (λ x. actor x < n) (e ∷ [])
   one_below e n below zero d in_list = below

@@ -54,8 +54,6 @@ times_in i order h = omega (arith, passing_in i order h.at h.is, count-passing (
 -- ---- the notes of a class, which are those of an actor or of a place
 
 module _ (lines : List Line) (p : Line → Bool) where
-  count : List ℕ → ℕ
-  count order = count_by p (notes_at lines order)
 
   -- each index is that of a line
   pub record Stand (order : List ℕ) : Type 0 where
@@ -175,9 +173,6 @@ module _ (lines : List Line) (p : Line → Bool) (val : ℕ → Line → ℕ) (o
     pub missed : IsIn part x → ⊥
     pub before : (j i : ℕ) → j < k → slice_get order j ≡ Some i → IsIn part i
     pub all : (j i : ℕ) → slice_get part j ≡ Some i → IsIn order i
-
-  one_line : (i : ℕ) (m n : Line) → slice_get lines i ≡ Some m → slice_get lines i ≡ Some n → m ≡ n
-  one_line i m n a b = some_is m n (sym a ∙ b)
 
   -- as many of its class have come in the one as in the other before it
   pub same_count : Misses → count_by p (notes_at lines part) ≡ count_by p (notes_at lines (take k order))

@@ -1,5 +1,5 @@
 -- A text that is cut before a line.
-use Rattle.std.proofs.Common.{◌≡◌, ℕ, ◌+◌, ◌-◌, Bool, true, false, List, [], ◌∷◌, ◌++◌, length, take, refl, ap, sym, ◌∙◌, arith, append_assoc, append-nil, length-append}
+use Rattle.std.proofs.Common.{◌≡◌, ℕ, ◌+◌, ◌-◌, Bool, false, List, [], ◌∷◌, ◌++◌, length, take, refl, ap, sym, ◌∙◌, arith, append_assoc, length-append}
 use Rattle.std.specs.Prelude.{Option, Some, None, codes, if◌then◌else◌}
 use Rattle.std.specs.Option.{option_map}
 use Rattle.co_text.specs.Lines.{Line, lines_of}
@@ -27,22 +27,12 @@ front_of text front rest e = ap (λ t. take (length t - length rest) t) e ∙ ta
 abbrev pub behind_lines : List ℕ → ℕ → Halves → Halves
 behind_lines front count h = record { script = front ++ h.script; count = count + h.count; notes = h.notes }
 
-behind-none : (o : Option Halves) → option_map (behind_lines [] 0) o ≡ o
-behind-none None = refl
-behind-none (Some h) = let e : 0 + h.count ≡ h.count = omega arith in ap (λ n. Some (record { script = h.script; count = n; notes = h.notes })) e
-
 behind-more : (front : List ℕ) (count : ℕ) (l : Line) (o : Option Halves) → option_map (behind_lines front count) (option_map (line_before l) o) ≡ option_map (behind_lines (front ++ line_bytes l) (count + 1)) o
 behind-more front count l None = refl
 behind-more front count l (Some h) =
     let e : count + (h.count + 1) ≡ (count + 1) + h.count = omega arith in
     ap (λ t. Some (record { script = t; count = count + (h.count + 1); notes = h.notes })) (sym (append_assoc front (line_bytes l) h.script))
     ∙ ap (λ n. Some (record { script = (front ++ line_bytes l) ++ h.script; count = n; notes = h.notes })) e
-
--- at the start
-pub halves_start : (text : List ℕ) → option_map (behind_lines (take (length text - length text) text) 0) (halves (lines_of text)) ≡ halves (lines_of text)
-halves_start text =
-    let none : length text - length text ≡ 0 = omega arith in
-    ap (λ n. option_map (behind_lines (take n text) 0) (halves (lines_of text))) none ∙ behind-none (halves (lines_of text))
 
 pub whole_start : (text : List ℕ) → text ≡ take (length text - length text) text ++ text
 whole_start text = let none : length text - length text ≡ 0 = omega arith in ap (λ n. take n text ++ text) (sym none)
@@ -66,14 +56,3 @@ halves_more text rest after l count e h other =
     ∙ (ap (λ b. option_map (behind_lines front count) (halves_by b l (lines_of after))) other
     ∙ (behind-more front count l (halves (lines_of after))
     ∙ ap (λ t. option_map (behind_lines t (count + 1)) (halves (lines_of after))) (sym (front_of text (front ++ line_bytes l) after more))))
-
--- the line `histories`
-pub halves_found : (text rest after : List ℕ) (l : Line) (count : ℕ) → lines_of rest ≡ l ∷ lines_of after → is_line (codes "histories") l ≡ true
-    → option_map (behind_lines (take (length text - length rest) text) count) (halves (lines_of rest)) ≡ Some (record { script = take (length text - length rest) text; count = count; notes = lines_of after })
-halves_found text rest after l count h found =
-    let front : List ℕ = take (length text - length rest) text in
-    let e : count + 0 ≡ count = omega arith in
-    ap (λ ls. option_map (behind_lines front count) (halves ls)) h
-    ∙ (ap (λ b. option_map (behind_lines front count) (halves_by b l (lines_of after))) found
-    ∙ (ap (λ t. Some (record { script = t; count = count + 0; notes = lines_of after })) (append-nil front)
-    ∙ ap (λ n. Some (record { script = front; count = n; notes = lines_of after })) e))

@@ -2,8 +2,7 @@
 use Rattle.std.proofs.Common.{◌≡◌, ℕ, ◌-◌, List, [], ◌∷◌, ◌++◌, length, refl, ap, sym, subst, ◌∙◌, append_assoc}
 use Rattle.std.specs.Borrow.{Bor}
 use Rattle.std.specs.Prelude.{Option, Some, None, Result, Ok, Err}
-use Rattle.co_program.specs.declared.Script.{Script}
-use Rattle.co_text.specs.Fallible.{Refusal, Faults, GivesOrNoMemory}
+use Rattle.co_text.specs.Fallible.{Refusal, GivesOrNoMemory}
 use Rattle.co_text.specs.Lines.{Line as TextLine}
 use Rattle.co_text.specs.declared.cause.ScriptFault.{ScriptFault}
 use Rattle.co_text.specs.declared.cause.ScriptFault.TheVariants as fault
@@ -11,7 +10,7 @@ use Rattle.co_report.specs.declared.line.Line.{Line}
 use Rattle.co_report.specs.declared.line.Report.{Report}
 use Rattle.co_report.specs.declared.reading.line_by_line.Reader.{Reader}
 use Rattle.co_report.specs.declared.reading.progress.Progress.{Progress as Kept}
-use Rattle.co_report.specs.LineByLine.{Ahead, Opening, Standing, AreTold, AreAllTold, HasTakenMore, behind, before_all, report_of_all, standing, ReadsOn}
+use Rattle.co_report.specs.LineByLine.{Ahead, Opening, Standing, AreTold, AreAllTold, HasTakenMore, behind, before_all, standing, ReadsOn}
 use Rattle.co_report.specs.ReadingViews.{one_or_none}
 use Rattle.co_report.proofs.LineByLine.{further, passed-note, passed-quiet, IsPassed}
 
@@ -26,18 +25,6 @@ behind-both xs ys (Err e) = refl
 nothing-more : (xs : List Line) → xs ++ [] ≡ xs
 nothing-more [] = refl
 nothing-more (x ∷ xs) = ap (λ ys. x ∷ ys) (nothing-more xs)
-
-pub behind-all : (xs : List Line) (end : ℕ) (a : Result Ahead Refusal) → a ≡ Ok (record { lines = []; end = end }) → behind xs a ≡ Ok (record { lines = xs; end = end })
-behind-all xs end a h = ap (behind xs) h ∙ ap (λ ls. Ok (record { lines = ls; end = end })) (nothing-more xs)
-
--- what is refused is refused whatever stands before it
-pub behind-refused : (e : ScriptFault) (xs : List Line) (a : Result Ahead Refusal) → Faults e a → Faults e (behind xs a)
-behind-refused fault.NoMemory xs a h = tt
-behind-refused (fault.Bad k c) xs a h = ap (behind xs) h
-
-pub report-refused : (e : ScriptFault) (s : Script) (a : Result Ahead Refusal) → Faults e a → Faults e (report_of_all s a)
-report-refused fault.NoMemory s a h = tt
-report-refused (fault.Bad k c) s a h = ap (report_of_all s) h
 
 -- more lines are told behind others
 pub taken-more : {L : Type 0} (has : L → List Line → Type 0) (x y z : L) (front more : List Line) → HasTakenMore has x y front → HasTakenMore has y z more → HasTakenMore has x z (front ++ more)

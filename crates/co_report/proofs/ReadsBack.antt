@@ -79,10 +79,6 @@ module _ (s : Script) (small : IsSmallScript s) where
       let d : Progress = reached c (p ∷ ps) done in
       ap (λ b. if b then Ok (closed_by k d (p ∷ ps)) else note_read s k d (joined (heading s p))) (same-bytes (joined (heading s p)))
 
-  -- `end`
-  end-step : (k : ℕ) (c : Option Place) (done : List NoteLine) → line_after s k (reached c [] done) (codes "end") ≡ Ok (record { current = None; left = []; lines = done; end = Some k })
-  end-step k c done = refl
-
   abbrev pub sections : PlaceHistories → List Place → List (List Word)
   sections h ps = flat_map (place_lines s h) ps
 

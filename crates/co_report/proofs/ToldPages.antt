@@ -9,7 +9,7 @@ use Rattle.co_object.specs.declared.Note.{Note}
 use Rattle.co_object.specs.declared.Place.{Place}
 use Rattle.co_object.specs.declared.Place.TheVariants.{Timer, Cpu, Actor}
 use Rattle.co_object.specs.Lists.{same_place}
-use Rattle.co_object.proofs.ListsGrow.{same_place-eq}
+use Rattle.co_object.proofs.Places.{same_place-eq}
 use Rattle.co_listener.specs.MadeNotes.{MadeNote, list_by, lists_by, notes_made, IsInOrder}
 use Rattle.co_program.specs.declared.Script.{Script}
 use Rattle.co_program.specs.Actors.{actor_count}

@@ -11,7 +11,7 @@ use Rattle.std.proofs.lemmas.List.FromFn.{get_or-range_with_len}
 use Rattle.co_object.specs.declared.Note.{Note}
 use Rattle.co_object.specs.declared.Place.{Place}
 use Rattle.co_object.specs.Lists.{same_place}
-use Rattle.co_object.proofs.ListsGrow.{same_place-eq}
+use Rattle.co_object.proofs.Places.{same_place-eq}
 use Rattle.co_listener.specs.MadeNotes.{MadeNote, list_by, lists_by, made_in, IsInOrder}
 use Rattle.co_print.specs.Histories.{Numbered, shown, shown_at, numbered_from, numbered_of, all_numbered_of, shown_history}
 use Rattle.co_notes.specs.declared.reading.notes.NumberedEntry.{NumberedEntry}

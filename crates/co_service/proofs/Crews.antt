@@ -2,7 +2,6 @@
 use Rattle.std.proofs.Common.{◌≡◌, ℕ, zero, suc, ◌+◌, ◌<◌, ◌≤◌, ◌==◌, Bool, cond, List, [], ◌∷◌, ◌++◌, length, refl, sym, ap, ◌∙◌, subst, arith, length-append}
 use Rattle.std.specs.Prelude.{slice_get}
 use Rattle.std.specs.List.{All}
-use Rattle.std.proofs.lemmas.List.Elements.{All-nil}
 use Rattle.std.specs.Option.{option_to_list}
 use Rattle.std.specs.declared.option.Option.{Option}
 use Rattle.std.specs.declared.option.Option.TheVariants.{Some}
@@ -63,13 +62,6 @@ module _ (name : ServiceName) (p : Params) where
 
     pub interrupt_scans : (cpu : ℕ) → a ≡ (p.clients + p.cpus) + cpu → p.version ≡ 2 → q.actor ≡ scanner (actors_of p) cpu
     interrupt_scans cpu own version = new_actor ∙ (own ∙ sym (ap (λ (v : ℕ). cond (v == 1) (p.clients + cpu) ((p.clients + p.cpus) + cpu)) version))
-
-  -- nobody is back yet, and one more is
-  pub none_back : (room : RoomView PassesView) → room.items ≡ [] → 48 ≤ room.spare → IsCrew name p room
-  none_back room none spare = record {
-    of = subst (All (AreOf name p)) (sym none) (All-nil (AreOf name p));
-    room = omega arith;
-  }
 
   pub one_back : (room room' : RoomView PassesView) (q : PassesView) → IsCrew name p room → AreOf name p q → room'.items ≡ room.items ++ q ∷ [] → room.spare ≤ room'.spare + 1 → IsCrew name p room'
   one_back room room' q is of items spare = record {

@@ -14,9 +14,6 @@ one n h = let e : 48 + n ≡ 48 + n % 10 = omega (arith, h) in decimal_digit n h
 behind : (n m : ℕ) (ds : List ℕ) → 10 ≤ n → n < 2 ^ 64 → n / 10 ≡ m → decimal m ≡ ds → decimal n ≡ ds ++ (digit n ∷ [])
 behind n m ds low small e h = decimal_step n low small ∙ ap (λ k. decimal k ++ (digit n ∷ [])) e ∙ ap (λ t. t ++ (digit n ∷ [])) h
 
-pub decimal_one : (n : ℕ) → n < 10 → decimal n ≡ (48 + n % 10) ∷ []
-decimal_one = one
-
 pub decimal_two : (n : ℕ) → 10 ≤ n → n < 100 → decimal n ≡ (48 + n / 10 % 10) ∷ (48 + n % 10) ∷ []
 decimal_two n low high = behind n (n / 10) (digit (n / 10) ∷ []) low (omega (arith, high)) refl (one (n / 10) (omega (arith, high)))
 

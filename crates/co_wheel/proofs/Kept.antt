@@ -156,8 +156,6 @@ module _ (slot interrupt : Slot) (rs : List (Option Record)) (all : IsFiled slot
   -- ---- a deferred arming
 
   module _ (direct : Bool) where
-    pub no-service : (lane slot interrupt direct).current ≡ None → None ≡ deferred_in direct c
-    no-service none = ap (deferred_for c) (sym (slot-of direct ∙ ap due_of none))
 
     -- the current one of a slot has a record here
     pub served-record : (cu : Current) → (lane slot interrupt direct).current ≡ Some cu → is_some (get_or rs cu.i None) ≡ true

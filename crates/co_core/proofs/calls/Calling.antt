@@ -1,20 +1,17 @@
 -- A call that is due of a callout that stands still: what the wheel and the actor's place have before it.
-use Rattle.std.proofs.Common.{◌≡◌, ℕ, ◌<◌, ◌⊎◌, inl, inr, Bool, true, false, length, refl, sym, ◌∙◌, subst, Option, Some, None}
-use Rattle.std.specs.Prelude.{is_some}
+use Rattle.std.proofs.Common.{◌≡◌, ℕ, ◌<◌, ◌⊎◌, inl, inr, true, false, length, refl, sym, ◌∙◌, subst, Option, Some, None}
 use Rattle.co_object.specs.declared.State.{State}
 use Rattle.co_object.specs.declared.Op.TheVariants.{Call}
 use Rattle.co_object.specs.declared.CallOp.{CallOp}
 use Rattle.co_object.specs.declared.Reply.{Reply}
 use Rattle.co_object.specs.Callout.{call}
 use Rattle.co_object.specs.Group.{off_of}
-use Rattle.co_object.specs.Queue.{Queue as TimerQueue}
 use Rattle.co_object.specs.Stand.{is_free_at, off}
 use Rattle.co_program.specs.declared.action.Asked.TheVariants.{Callout}
 use Rattle.co_program.specs.declared.script.Script.{Script}
 use Rattle.co_program.specs.Actors.{actor_count, role_of}
 use Rattle.co_program.specs.Cursor.{Cursor}
 use Rattle.co_program.specs.Action.{Asks, action_for, spec_at}
-use Rattle.co_program.specs.Advance.{call_made}
 use Rattle.co_program.specs.Scripts.{IsScript}
 use Rattle.co_wheel.specs.Call.{is_away, call_at}
 use Rattle.co_wheel.specs.Callouts.{callout}
@@ -30,7 +27,7 @@ use Rattle.co_core.proofs.calls.Ends.{Ends, ends, took_out}
 use Rattle.co_world.proofs.kept.Operations.{Did, did_call}
 use Rattle.co_world.proofs.kept.ByOwnSteps.{callout_view}
 use Rattle.co_program.proofs.Homes.{CpusFit, fit_call, NamesCpu}
-use Rattle.co_world.proofs.kept.Invariant.{states_of, queues_of, cursors_of}
+use Rattle.co_world.proofs.kept.Invariant.{states_of, cursors_of}
 use Rattle.co_world.proofs.sections.Ways.{stands_of}
 use Rattle.co_core.proofs.calls.Wheels.{at_wheel, answer_by}
 
@@ -55,17 +52,8 @@ module _ {s : Script} {x : Stored} {w : World} {a act i cpu : ℕ} {op : CallOp}
   abbrev r' : Reply
   r' = (call st op).1
 
-  abbrev l' : Bool
-  l' = is_some (off t')
-
   abbrev c0 : Cursor
   c0 = record (cursors_of w a) { removed = None }
-
-  abbrev d2 : Cursor
-  d2 = call_made c0 i l' (Call op) r'
-
-  abbrev q0 : TimerQueue
-  q0 = queues_of w cpu
 
   abbrev before : WheelOf
   before = wheel_at x cpu

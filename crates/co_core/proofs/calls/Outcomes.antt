@@ -32,7 +32,7 @@ use Rattle.co_world.specs.Placed.{IsPlaced}
 use Rattle.co_core.specs.Acting.{IsDue}
 use Rattle.co_core.specs.Stands.{IsBag, IsPacked, ShowsStored}
 use Rattle.co_core.proofs.calls.Ends.{runs_on_free, parcel_for}
-use Rattle.co_world.proofs.kept.Invariant.{states_of, queues_of, cursors_of}
+use Rattle.co_world.proofs.kept.Invariant.{states_of, cursors_of}
 use Rattle.co_world.proofs.sections.Movers.{moves_it}
 use Rattle.co_core.proofs.stored.Places.{IsRight}
 use Rattle.co_core.proofs.stored.Sections.{with_state, after_of}
@@ -59,9 +59,6 @@ module _ {s : Script} {x : Stored} {w : World} {a act i cpu : ℕ} {op : CallOp}
 
   abbrev d2 : Cursor
   d2 = call_made c0 i l' (Call op) r'
-
-  abbrev q0 : TimerQueue
-  q0 = queues_of w cpu
 
   abbrev before : WheelOf
   before = wheel_at x cpu

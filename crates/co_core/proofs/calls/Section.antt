@@ -63,9 +63,6 @@ module _ {s : Script} {x : Stored} {w : World} {a act i cpu : ℕ} {op : CallOp}
   abbrev d2 : Cursor
   d2 = call_made c0 i l' (Call op) r'
 
-  abbrev q0 : TimerQueue
-  q0 = queues_of w cpu
-
   abbrev before : WheelOf
   before = wheel_at x cpu
 

@@ -1,8 +1,7 @@
 -- What is known of the actors stays so, whoever steps: that one has finished, and what one takes next.
-use Rattle.std.proofs.Common.{◌≡◌, ℕ, zero, suc, ◌⊎◌, Bool, true, false, [], ◌∷◌, ◌++◌, get_or, length, cond, ◌<◌, ◌+◌, ◌*◌, ◌==◌, if◌then◌else◌, arith, replicate, inl, inr, refl, sym, ap, subst, ◌∙◌, Option, Some, None}
+use Rattle.std.proofs.Common.{◌≡◌, ℕ, zero, suc, ◌⊎◌, Bool, true, false, get_or, length, cond, ◌<◌, ◌+◌, ◌*◌, ◌==◌, if◌then◌else◌, arith, replicate, inl, inr, refl, sym, ap, subst, ◌∙◌, Option, Some, None}
 use Rattle.co_object.specs.declared.Op.{Op}
 use Rattle.co_object.specs.declared.QOp.{QOp}
-use Rattle.co_object.specs.declared.Note.{Note}
 use Rattle.co_object.specs.declared.Reply.{Reply}
 use Rattle.co_object.specs.declared.QReply.{QReply}
 use Rattle.co_object.specs.declared.State.{State}
@@ -12,11 +11,10 @@ use Rattle.co_object.specs.Journal.{step as queue_step}
 use Rattle.co_program.specs.declared.Script.{Script}
 use Rattle.co_program.specs.Cursor.{Cursor}
 use Rattle.co_program.specs.Action.{action_for, spec_at}
-use Rattle.co_program.specs.Advance.{advance}
 use Rattle.co_program.specs.declared.Asked.{Asked}
 use Rattle.co_program.specs.declared.Asked.TheVariants.{Callout, Queue, Itself}
 use Rattle.co_world.specs.World.{World, Actor, with_cursor}
-use Rattle.co_world.specs.Step.{are_direct, notes_down, callout_answers, queue_answers, world_answers, step}
+use Rattle.co_world.specs.Step.{are_direct, callout_answers, queue_answers, world_answers, step}
 use Rattle.co_world.specs.Walk.{HasFinished}
 use Rattle.co_program.specs.Actors.{actor_count}
 use Rattle.co_program.specs.Scripts.{IsScript}
@@ -33,10 +31,6 @@ use Rattle.co_world.proofs.schedules.AnyAnswers as steps
 use Rattle.co_world.proofs.measure.Walks.{finished_step, idle_steps_stay}
 
 module _ (s : Script) (b : ℕ) where
-  -- what another notes leaves this actor as it was
-  noted : (w : World) (a : ℕ) (listed : Bool) (note : Note) → (b ≡ a → ⊥) → (notes_down s w a listed note).actors b ≡ w.actors b
-  noted w a listed note other =
-      updated_elsewhere w.actors a (record (w.actors a) { cursor = advance s (w.actors a).cursor listed note.place note.entry; notes = (w.actors a).notes ++ note ∷ [] }) b other
 
   callout_leaves : (w : World) (a act i : ℕ) (op : Op) (outcome : Option (State × Reply)) → (b ≡ a → ⊥) → (callout_answers s w a act i op outcome).actors b ≡ w.actors b
   callout_leaves w a act i op None other = refl

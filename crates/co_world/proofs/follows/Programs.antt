@@ -309,8 +309,3 @@ finished_follow s schedule found a finished =
     let trace : Trace s H a (w.actors a) = (traced_reached s schedule found).traces a in
     let there : at_next_note s a (cursor_after s H a (start_of s a) (w.actors a).notes) ≡ (w.actors a).cursor = trace.place ∙ at_next_nothing s a (w.actors a).cursor finished in
     record { each = trace.next; whole = subst (λ (c : Cursor). action_for s a c ≡ Nothing) (sym there) finished }
-
--- the state of each callout is that of its history
-pub states_reached : (s : Script) (schedule : List ℕ) → NoneMissing s (reached s schedule) → (i : ℕ) →
-    ((reached s schedule).timers i).state ≡ state (spec_at s i) ((reached s schedule).timers i).history
-states_reached s schedule found i = (traced_reached s schedule found).states i

@@ -46,7 +46,6 @@ use Rattle.co_program.specs.Advance.{advance, advance_callout, advance_queue, ca
 use Rattle.co_world.specs.World.{World, Actor, with_actor}
 use Rattle.co_world.specs.Blocked.{blocked}
 use Rattle.co_world.specs.Step.{enters, enters_journal, note_of, note_of_cpu, note_of_own, are_direct, callout_answers, queue_answers, world_answers, removed_from, asked_whole, is_in_section, makes_action, goes_on_in_section, stepped, step}
-use Rattle.co_world.specs.Walk.{run}
 use Rattle.co_world.proofs.basics.Updates.{cond_kept, at_choice}
 use Rattle.co_world.proofs.follows.DueNotes.{IsWithin, within_due}
 
@@ -269,8 +268,3 @@ pub none_step : (s : Script) (w : World) (a : ℕ) → NoneRemoved w → NoneRem
 none_step s w a none =
     let c : Cursor = (w.actors a).cursor in
     cond_kept NoneRemoved (is_some (blocked s w a)) w (stepped s w a (action_for s a c)) none (none_stepped s w a (action_for s a c) (leaves_due s a c) none)
-
--- in every world that a schedule reaches
-pub none_run : (s : Script) (schedule : List ℕ) (w : World) → NoneRemoved w → NoneRemoved (run s w schedule)
-none_run s [] w none = none
-none_run s (a ∷ schedule) w none = none_run s schedule (step s w a) (none_step s w a none)

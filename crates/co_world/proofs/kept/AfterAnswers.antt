@@ -38,7 +38,7 @@ use Rattle.co_object.specs.declared.QEntry.{QEntry}
 use Rattle.co_program.specs.declared.Task.{Task}
 use Rattle.co_program.specs.declared.Act.{Act}
 use Rattle.co_program.specs.Action.{draining}
-use Rattle.co_program.specs.Advance.{advance_queue, tail_of, popped, pop_answered, freed}
+use Rattle.co_program.specs.Advance.{advance_queue, tail_of, popped, freed}
 use Rattle.co_world.specs.Step.{enters_journal, note_of_cpu, are_direct}
 use Rattle.co_world.proofs.kept.Invariant.{IsBetween}
 use Rattle.co_object.specs.declared.RunOp.{RunOp}
@@ -141,10 +141,6 @@ module _ (s : Script) (role : Role) (left : List Task) (number now : ℕ) (held 
     ended_parcel : (r : Reply) → (service_ended (at (Ending v)) v r).parcel ≡ parcel
     ended_parcel (Ended drain next woke) = refl
     ended_parcel r = refl
-
-  got_parcel : (m act' : ℕ) (reply : QReply) → (pop_answered (place left m now held Ready removed parcel) act' reply).parcel ≡ parcel
-  got_parcel m act' (Got i n time) = refl
-  got_parcel m act' reply = refl
 
 -- an actor that has nothing on its way, or stands between two steps
 abbrev pub IsReady : Cursor → Type 0

@@ -23,7 +23,7 @@ use Rattle.co_program.specs.Action.{Asks, action_for, spec_at}
 use Rattle.co_program.specs.declared.Asked.TheVariants.{Callout, Queue, Itself}
 use Rattle.co_program.specs.Scripts.{IsScript}
 use Rattle.co_world.specs.World.{World}
-use Rattle.co_world.specs.Step.{notes_down, enters, note_of, note_of_own, callout_answers, own_note}
+use Rattle.co_world.specs.Step.{notes_down, note_of, note_of_own, callout_answers, own_note}
 use Rattle.co_world.proofs.kept.Invariant.{Holds, FitsRole, states_of, queues_of, cursors_of, carries, in_hand, in_stage, has_popped, under_way, service_of}
 use Rattle.co_world.proofs.basics.Ranges.{any_at}
 use Rattle.co_world.proofs.basics.Changes.{IsAt, at_all, note_at}
@@ -237,9 +237,6 @@ module _ (s : Script) (ok : IsScript s) (w : World) (good : Good s w None) (a : 
     go (Some o) e = queue_entered act cpu op o.0 o.1 c.parcel (changed s.buckets (are_direct s) (queues_of w cpu) op o e) refl (view_of s a c (Asks act (Queue cpu op)) is) ready
 
   -- ---- callouts
-
-  abbrev Entered : ℕ → ℕ → Op → State → Reply → World
-  Entered act i op t reply = notes_down s (enters w i t (record { actor = a; act = act; op = op; reply = reply })) a (is_some (off t)) (note_of w i (record { actor = a; act = act; op = op; reply = reply }))
 
   run_own : (act i : ℕ) (op : RunOp) (stage : Stage) → c.stage ≡ stage → IsAction s role (record c { removed = None }) stage (Asks act (Callout i (Serve op))) → IsOfItsActor (actors_of s) (spec_at s i) a (Serve op)
   run_own act i op stage e (picks v) = let fits : FitsRole s role c.left c.hold (Picking v) = subst (FitsRole s role c.left c.hold) e (good.holds.roles a) in server_of_lane s a v.i (is_server s role c.hold (Picking v) refl fits.hold) fits.lane

@@ -95,9 +95,6 @@ module _ (s : Script) (ok : IsScript s) (w : World) (out : Option ℕ) (holds : 
   scanned = subst (λ (n : ℕ). IsAt (scans_of w) cpu n (scans_of now)) (scans_more (w.cpus cpu).journal made)
       (at_read (λ (x : CpuState). scan_count x.journal) w.cpus cpu (record { queue = q'; journal = (w.cpus cpu).journal ++ made ∷ [] }) (enters_journal w cpu q' made).cpus (at_updated_is w.cpus cpu (record { queue = q'; journal = (w.cpus cpu).journal ++ made ∷ [] })))
 
-  lane_once : (i : ℕ) → stands i (queues_of w cpu) ≤ 1
-  lane_once = (holds.lanes cpu).once
-
   pub finish : (out' : Option ℕ) → Fits s role to → serving_of (queues_of now (cpu_of s role)) role ≡ has_popped to.stage →
       ((b : ℕ) → (b ≡ a → ⊥) → serving_of (queues_of now (cpu_of s (role_of s b))) (role_of s b) ≡ serving_of (queues_of w (cpu_of s (role_of s b))) (role_of s b)) →
       service_of to.stage ≡ service_of c.stage → RunFits (states_of w) (cpu_of s role) to.stage → IsTicking s (scans_of now) (cursors_of now) → IsCarried s (states_of now) (queues_of now) (cursors_of now) out' → Holds s now out'

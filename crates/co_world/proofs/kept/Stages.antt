@@ -317,9 +317,6 @@ module _ (s : Script) (ok : IsScript s) (role : Role) (left : List Task) (number
   abbrev pub OfLane : QReply → Type 0
   OfLane reply = (i n time : ℕ) → reply ≡ Got i n time → is_direct (are_direct s) i ≡ serves_direct role
 
-  server_ready : IsServer role → HoldFits s role None Ready
-  server_ready server = none_ready s role
-
   ready_none : IsServer role → HoldFits s role held Ready → held ≡ None
   ready_none server h = server_hold s role held Ready server h
 

@@ -4,7 +4,6 @@ use Rattle.std.specs.Prelude.{is_some}
 use Rattle.co_object.specs.declared.State.{State}
 use Rattle.co_object.specs.declared.Reply.{Reply}
 use Rattle.co_object.specs.declared.Op.{Op}
-use Rattle.co_object.specs.declared.OwnKind.{OwnKind}
 use Rattle.co_object.specs.declared.QOp.{QOp}
 use Rattle.co_object.specs.declared.QOp.TheVariants.{Insert, Remove, Scan, Pop, Free, PopDirect, FreeDirect}
 use Rattle.co_object.specs.declared.QReply.{QReply}
@@ -19,11 +18,11 @@ use Rattle.co_program.specs.Cursor.{Cursor}
 use Rattle.co_program.specs.declared.action.Asked.{Asked}
 use Rattle.co_program.specs.Action.{Action, Asks, action_for}
 use Rattle.co_program.specs.Advance.{advance}
-use Rattle.co_world.specs.World.{World, Timer, with_cursor}
+use Rattle.co_world.specs.World.{World, Timer}
 use Rattle.co_world.specs.Blocked.{blocked}
-use Rattle.co_world.specs.Step.{enters, enters_journal, landed, note_of, note_of_cpu, note_of_own, callout_answers, queue_answers, own_note, world_answers, is_in_section, makes_action, goes_on_in_section, stepped, step}
+use Rattle.co_world.specs.Step.{enters, enters_journal, landed, note_of, note_of_cpu, callout_answers, queue_answers, world_answers, is_in_section, makes_action, goes_on_in_section, stepped, step}
 use Rattle.co_world.proofs.basics.Updates.{at_updated}
-use Rattle.co_world.proofs.basics.Changes.{IsAt, at_updated_is, at_read, cursor_at, note_at, state_at, queue_at, states_landed}
+use Rattle.co_world.proofs.basics.Changes.{IsAt, at_updated_is, at_read, note_at, state_at, queue_at, states_landed}
 use Rattle.co_world.proofs.kept.Invariant.{states_of, queues_of, cursors_of}
 
 abbrev pub stands_of : World → ℕ → ℕ
@@ -51,25 +50,6 @@ goes_on_from w w1 w2 i cpu a state state' stand stand' queue queue' place place'
   stands = twice (stands_of w) i stand stand' (stands_of w1) (stands_of w2) one.stands two.stands;
   queues = twice (queues_of w) cpu queue queue' (queues_of w1) (queues_of w2) one.queues two.queues;
   cursors = twice (cursors_of w) a place place' (cursors_of w1) (cursors_of w2) one.cursors two.cursors;
-}
-
--- a step without a note
-pub goes_place : (w : World) (i cpu a : ℕ) (to : Cursor) → Goes w (with_cursor w a to) i cpu a (states_of w i) (stands_of w i) (queues_of w cpu) to
-goes_place w i cpu a to = record {
-  states = still (states_of w) i (states_of w i) (states_of (with_cursor w a to)) refl (λ j. refl);
-  stands = still (stands_of w) i (stands_of w i) (stands_of (with_cursor w a to)) refl (λ j. refl);
-  queues = still (queues_of w) cpu (queues_of w cpu) (queues_of (with_cursor w a to)) refl (λ j. refl);
-  cursors = cursor_at w a to;
-}
-
--- a note of the actor's own
-pub goes_own : (s : Script) (w : World) (i cpu a act : ℕ) (kind : OwnKind) →
-    Goes w (own_note s w a act kind) i cpu a (states_of w i) (stands_of w i) (queues_of w cpu) (advance s (cursors_of w a) false (at.Actor a) (entry.Own (record { actor = a; act = act; kind = kind })))
-goes_own s w i cpu a act kind = record {
-  states = still (states_of w) i (states_of w i) (states_of (own_note s w a act kind)) refl (λ j. refl);
-  stands = still (stands_of w) i (stands_of w i) (stands_of (own_note s w a act kind)) refl (λ j. refl);
-  queues = still (queues_of w) cpu (queues_of w cpu) (queues_of (own_note s w a act kind)) refl (λ j. refl);
-  cursors = note_at s w a false (note_of_own s w a act kind);
 }
 
 -- a callout answers
