@@ -1,6 +1,6 @@
 -- Each step keeps the rule: the lemma `moves` says so of any step that moves or changes one pass, and each of the six kinds is shown to be one,
 -- but the start and the making of a pass, which are shown by themselves.
-use Rattle.std.proofs.Common.{◌≡◌, ◌≢◌, ◌⊎◌, ℕ, zero, suc, ◌+◌, ◌<◌, List, [], ◌∷◌, ◌++◌, length, set, Option, Some, None, refl, sym, ap, ◌∙◌, subst, inl, inr, arith}
+use Rattle.std.proofs.Common.{◌≡◌, ◌≢◌, ◌⊎◌, ℕ, zero, suc, ◌+◌, ◌<◌, List, [], ◌∷◌, ◌++◌, length, set, Option, Some, None, refl, sym, ap, ◌∙◌, subst, inl, inr, ⊎_elim, arith}
 use Rattle.std.specs.List.{All}
 use Rattle.std.proofs.lemmas.List.Elements.{All-append}
 use mathlib.Core.Option.{some, some-injective, some-ne-none}
@@ -11,6 +11,7 @@ use Rattle.atomic_table.proofs.Lists.{at_set, set_again, set_here, set_else, at_
 use Rattle.co_life.specs.declared.view.SeatView.{SeatView}
 use Rattle.co_life.specs.declared.view.SeatView.TheVariants.{Keeps, Has, Spent}
 use Rattle.co_life.specs.declared.view.Glance.{Glance}
+use lib.ListN.{get_elem?}
 use Rattle.co_life.specs.Rule.{glance, opening_view, pass_in, HasPass, Fits, IsKept, Kept}
 use Rattle.co_life.specs.Steps.{dealing, dealt, entered, left_by, let_out, Learns, Tells, Looks, Appends, MayAppend}
 use Rattle.co_life.specs.Views.{history_in, made_in}
