@@ -141,7 +141,6 @@ mapped-none f (Some x) y h = (x, refl, some-is (f x) y h)
 -- ---- the lists that the lines show
 
 module _ (s : Script) (lines : List Line) (of_script : AreLinesOf s lines) (right : (j : ℕ) (l : Line) → slice_get lines j ≡ Some l → IsNumbered lines j l) where
-
   formed : IsWellFormed (lists_by s lines)
   formed = well-formed s lines of_script right
 

@@ -54,7 +54,6 @@ times_in i order h = omega (arith, passing_in i order h.at h.is, count-passing (
 -- ---- the notes of a class, which are those of an actor or of a place
 
 module _ (lines : List Line) (p : Line → Bool) where
-
   -- each index is that of a line
   pub record Stand (order : List ℕ) : Type 0 where
     pub line : (k i : ℕ) → slice_get order k ≡ Some i → (l : Line) × (slice_get lines i ≡ Some l)

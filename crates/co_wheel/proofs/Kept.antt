@@ -156,7 +156,6 @@ module _ (slot interrupt : Slot) (rs : List (Option Record)) (all : IsFiled slot
   -- ---- a deferred arming
 
   module _ (direct : Bool) where
-
     -- the current one of a slot has a record here
     pub served-record : (cu : Current) → (lane slot interrupt direct).current ≡ Some cu → is_some (get_or rs cu.i None) ≡ true
     served-record cu is = at_record (get_or rs cu.i None) (all.each cu.i) where

@@ -31,7 +31,6 @@ use Rattle.co_world.proofs.schedules.AnyAnswers as steps
 use Rattle.co_world.proofs.measure.Walks.{finished_step, idle_steps_stay}
 
 module _ (s : Script) (b : ℕ) where
-
   callout_leaves : (w : World) (a act i : ℕ) (op : Op) (outcome : Option (State × Reply)) → (b ≡ a → ⊥) → (callout_answers s w a act i op outcome).actors b ≡ w.actors b
   callout_leaves w a act i op None other = refl
   callout_leaves w a act i op (Some outcome) other = updated_elsewhere w.actors a _ b other
