@@ -1,6 +1,6 @@
 //! A wheel under test, and the calls of a C program: a status, and what the pointers lead to.
 
-use super::replies::{Told, UNTOUCHED, reply_of};
+use super::replies::{Told, UNTOUCHED, is_told};
 use co_embed::{CalloutAttr, CalloutParcel, CalloutReply, Embed, Refusal, When, status};
 use std::alloc::Global;
 use std::process::Abort;
@@ -196,8 +196,7 @@ impl TestedWheel {
     /// The first row that is not as it has to be, if any is.
     pub(crate) fn first_wrong(&mut self, rows: &[Row]) -> Option<usize> {
         for (number, (step, answer, told)) in rows.iter().enumerate() {
-            let answered = self.step(*step) == Some(*answer);
-            if !answered || reply_of(*told).is_some_and(|reply| reply != self.reply) {
+            if self.step(*step) != Some(*answer) || !is_told(*told, &self.reply) {
                 return Some(number);
             }
         }
@@ -236,20 +235,17 @@ fn time(answer: Result<u64, Refusal>) -> i64 {
 
 /// The wheel of a CPU, with 16 buckets, for callouts 0 to 3, of which 3 is direct. There is memory for it.
 pub(crate) fn wheel_of(rt: &impl Abort, alloc: Global, cpu: u32) -> TestedWheel {
-    let Ok(wheel) = Embed::new(alloc, cpu, 16, 4, 1) else {
-        panic!(rt; "no memory")
-    };
-    TestedWheel::new(wheel)
+    TestedWheel::new(Embed::new(alloc, cpu, 16, 4, 1).expect(rt, "no memory"))
 }
 
-/// Each list of rows is as it has to be on a wheel of this CPU.
-pub(crate) fn play(rt: &impl Abort, alloc: Global, cpu: u32, lists: &[&[Row]]) {
+/// Each list of rows is as it has to be on a wheel of its own, at this CPU.
+pub(crate) fn play(rt: &impl Abort, alloc: Global, name: &str, cpu: u32, lists: &[&[Row]]) {
     for (list, rows) in lists.iter().enumerate() {
         let mut tested = wheel_of(rt, alloc, cpu);
         let wrong = tested.first_wrong(rows);
         drop(tested);
         if let Some(row) = wrong {
-            panic!(rt; "list {list}, row {row}");
+            panic!(rt; "{name}: list {list}, row {row}");
         }
     }
 }
