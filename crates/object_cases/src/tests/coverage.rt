@@ -4,11 +4,14 @@ use co_lock::{Held, covers, hold_of};
 use co_object::{CallOp, LockUse, PlainOp, Spec};
 use co_sbt::Sbt;
 
-const DRAIN: CallOp = CallOp::DrainTry { took: false };
-
-const STOP: CallOp = CallOp::Plain(PlainOp::Stop);
-
-const PENDING: CallOp = CallOp::Plain(PlainOp::Pending);
+/// What is called.
+#[derive(Clone, Copy)]
+enum Called {
+    Drain,
+    Stop,
+    Pending,
+    Schedule,
+}
 
 const READING: Held = Held {
     id: 3,
@@ -27,43 +30,48 @@ const OTHER: Held = Held {
 };
 
 /// What is held, the callout's lock, the call, and whether the hold covers it: a drain without a hold alone, and a stop by an
-/// exclusive hold alone, where the callout shares its lock.
-const COVERED: [(Option<Held>, LockUse, CallOp, bool); 6] = [
-    (None, LockUse::Free, DRAIN, true),
-    (Some(OTHER), LockUse::Free, DRAIN, false),
-    (Some(OTHER), LockUse::Free, STOP, true),
-    (Some(READING), LockUse::RwShared(3), STOP, false),
-    (Some(WRITING), LockUse::RwShared(3), STOP, true),
-    (None, LockUse::RwShared(3), PENDING, true),
+/// exclusive hold alone, where the callout shares its lock. There a schedule needs a hold, and a look does not.
+static COVERED: [(Option<Held>, LockUse, Called, bool); 8] = [
+    (None, LockUse::Free, Called::Drain, true),
+    (Some(OTHER), LockUse::Free, Called::Drain, false),
+    (Some(OTHER), LockUse::Free, Called::Stop, true),
+    (Some(READING), LockUse::RwShared(3), Called::Stop, false),
+    (Some(WRITING), LockUse::RwShared(3), Called::Stop, true),
+    (None, LockUse::RwShared(3), Called::Pending, true),
+    (Some(READING), LockUse::RwShared(3), Called::Schedule, true),
+    (None, LockUse::RwShared(3), Called::Schedule, false),
 ];
 
+/// The call of that name.
+fn call_of(called: Called) -> CallOp {
+    let op = match called {
+        Called::Drain => return CallOp::DrainTry { took: false },
+        Called::Stop => PlainOp::Stop,
+        Called::Pending => PlainOp::Pending,
+        Called::Schedule => PlainOp::Schedule {
+            due: Sbt::zero(),
+            prec: Sbt::zero(),
+            cpu: None,
+        },
+    };
+    CallOp::Plain(op)
+}
+
 /// Whether the hold covers the call on a callout with this lock.
-fn is_covered(held: Option<Held>, lock: LockUse, call: &CallOp) -> bool {
+fn is_covered(held: Option<Held>, lock: LockUse, called: Called) -> bool {
     let spec = Spec {
         lock,
         returns_unlocked: false,
         direct: false,
     };
-    covers(held, &spec, call)
+    covers(held, &spec, &call_of(called))
 }
 
 #[test]
 fn covers_calls(rt: HostRuntime) {
-    for (held, lock, call, covered) in &COVERED {
-        assert!(rt; is_covered(*held, *lock, call) == *covered);
+    for (held, lock, called, covered) in &COVERED {
+        assert!(rt; is_covered(*held, *lock, *called) == *covered);
     }
-}
-
-#[test]
-fn shares_a_schedule(rt: HostRuntime) {
-    let schedule = CallOp::Plain(PlainOp::Schedule {
-        due: Sbt::zero(),
-        prec: Sbt::zero(),
-        cpu: None,
-    });
-    let shared = LockUse::RwShared(3);
-    let covered = is_covered(Some(READING), shared, &schedule);
-    assert!(rt; covered && !is_covered(None, shared, &schedule));
 }
 
 /// The hold under which the service of a callout with this lock begins.

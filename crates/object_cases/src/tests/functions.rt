@@ -1,5 +1,5 @@
 //! A script's functions, run over callouts alone.
-ghost use Rattle.std.specs.Prelude.{◌≡◌, ◌≤◌, ℕ, ◌∷◌, [], IfOk, length, false};
+ghost use Rattle.std.specs.Prelude.{◌≡◌, ◌≤◌, ℕ, ◌∷◌, [], length, false};
 ghost use Rattle.co_lock.specs.declared.lock_kind.LockKind.TheVariants as kind;
 ghost use Rattle.co_program.specs.Actors.{acts_at};
 ghost use Rattle.co_program.specs.Scripts.{IsScript};
@@ -11,8 +11,9 @@ use co_hand::{Fire, FuncTable, Handler, Port, PortCall, PortReply, plain_op};
 use co_lock::{ClientLocks, Held, Hold, LockKind};
 use co_object::{Alone, CallOp, LockUse, Op, PlainOp, Reply, RunOp, Spec};
 use co_program::{Act, Acts, Script, When, Where, Who};
-use co_sbt::{NoMemory, Sbt, Seq};
+use co_sbt::{Sbt, Seq};
 use std::alloc::Global;
+use std::process::Abort;
 use std::sync::Wait;
 
 /// The time of so many seconds.
@@ -20,29 +21,28 @@ fn seconds(count: i32) -> Sbt {
     Sbt::from_ticks(count, 1)
 }
 
-/// The list of one item.
-fn one<T: Drop>(alloc: Global, item: T) -> Result<Seq<T>, NoMemory>
-    ensures { IfOk result (λ list. list ≡ item ∷ []) }
+/// The list of one item. There is memory for it.
+fn one<T: Drop, R: Abort>(rt: &R, alloc: Global, item: T) -> Seq<T>
+    ensures { result ≡ item ∷ [] }
 {
     let mut list = Seq::new(alloc);
-    list.push(item)?;
-    Ok(list)
+    list.push(item).expect(rt, "no memory");
+    list
 }
 
-/// The list of two items.
-pub fn two<T: Drop>(alloc: Global, first: T, second: T) -> Result<Seq<T>, NoMemory>
-    ensures { IfOk result (λ list. list ≡ first ∷ second ∷ []) }
+/// The list of two items. There is memory for it.
+pub fn two<T: Drop, R: Abort>(rt: &R, alloc: Global, first: T, second: T) -> Seq<T>
+    ensures { result ≡ first ∷ second ∷ [] }
 {
-    let mut list = Seq::new(alloc);
-    list.push(first)?;
-    list.push(second)?;
-    Ok(list)
+    let mut list = one(rt, alloc, first);
+    list.push(second).expect(rt, "no memory");
+    list
 }
 
 /// A callout on one CPU. Function 0 arms it again in a second and stops it, and function 1 asks whether it is active.
-pub fn worked_script(alloc: Global, spec: Spec) -> Result<Script, NoMemory>
+pub fn worked_script<R: Abort>(rt: &R, alloc: Global, spec: Spec) -> Script
     requires { spec.direct ≡ false }
-    ensures { IfOk result (λ s. IsScript s × (length s.timers ≡ 1) × (s.cpus ≡ 1) × ((func : ℕ) → length (acts_at s.funcs func) ≤ 2)) }
+    ensures { IsScript result × (length result.timers ≡ 1) × (result.cpus ≡ 1) × ((func : ℕ) → length (acts_at result.funcs func) ≤ 2) }
 {
     let again = Act::Reset {
         who: Who::Me,
@@ -52,12 +52,12 @@ pub fn worked_script(alloc: Global, spec: Spec) -> Result<Script, NoMemory>
         cpu: Where::Home,
         prec: Sbt::zero(),
     };
-    let arms = two(alloc, again, Act::Stop(Who::Me))?;
-    let asks = one(alloc, Act::Active(Who::Me))?;
-    let funcs = two(alloc, arms, asks)?;
-    let timers = one(alloc, spec)?;
-    let ticks = one(alloc, Seq::new(alloc))?;
-    Ok(Script {
+    let arms = two(rt, alloc, again, Act::Stop(Who::Me));
+    let asks = one(rt, alloc, Act::Active(Who::Me));
+    let funcs = two(rt, alloc, arms, asks);
+    let timers = one(rt, alloc, spec);
+    let ticks = one(rt, alloc, Seq::new(alloc));
+    Script {
         version: 1,
         hz: 1000,
         cpus: 1,
@@ -68,16 +68,16 @@ pub fn worked_script(alloc: Global, spec: Spec) -> Result<Script, NoMemory>
         clients: Seq::new(alloc),
         ticks,
         turns: Seq::new(alloc),
-    })
+    }
 }
 
 /// The functions of that script.
-pub fn worked_table(alloc: Global, spec: Spec) -> Result<FuncTable, NoMemory>
+pub fn worked_table<R: Abort>(rt: &R, alloc: Global, spec: Spec) -> FuncTable
     requires { spec.direct ≡ false }
-    ensures { IfOk result IsWorked }
+    ensures { IsWorked result }
 {
-    let script = worked_script(alloc, spec)?;
-    let table = FuncTable::new(alloc, &script);
+    let script = worked_script(rt, alloc, spec);
+    let table = FuncTable::new(alloc, &script).expect(rt, "no memory");
     drop(script);
     table
 }
@@ -142,30 +142,34 @@ fn serve<H: Handler, P: Port>(
 }
 
 /// The calls that function 0 of that table makes, under this hold, in the service of a callout of this spec.
-fn calls_of_served(
+fn calls_of_served<R: Abort>(
+    rt: &R,
     alloc: Global,
     spec: Spec,
     table: &mut FuncTable,
     hold: Option<&mut Hold<'_>>,
-) -> Result<Seq<PortCall>, NoMemory>
+) -> Seq<PortCall>
     requires table { IsWorked table.old }
 {
     let mut callouts = [running(spec)];
-    let mut port = AlonePort::new(alloc, &mut callouts, 5, 2)?;
+    let mut port = AlonePort::new(rt, alloc, &mut callouts, 5, 2);
     serve(table, &first_fire(), hold, &mut port);
-    Ok(port.into_calls())
+    port.into_calls()
 }
 
 /// The calls that function 0 makes, under this hold, in the service of a callout of this spec.
-fn calls_of_run(
+fn calls_of_run<R: Abort>(
+    rt: &R,
     alloc: Global,
     spec: Spec,
     hold: Option<&mut Hold<'_>>,
-) -> Result<Seq<PortCall>, NoMemory>
+) -> Seq<PortCall>
     requires { spec.direct ≡ false }
 {
-    let mut table = worked_table(alloc, spec)?;
-    calls_of_served(alloc, spec, &mut table, hold)
+    let mut table = worked_table(rt, alloc, spec);
+    let calls = calls_of_served(rt, alloc, spec, &mut table, hold);
+    drop(table);
+    calls
 }
 
 /// The first act of function 0, at one second.
@@ -206,46 +210,53 @@ const STOPPED: PortReply = PortReply::Reply(Reply::Stopped {
     off: Some(0),
 });
 
-/// Whether the calls could be stored, and are these.
-pub fn are(calls: Result<Seq<PortCall>, NoMemory>, expected: &[PortCall]) -> bool {
-    match calls {
-        Ok(calls) => calls.as_slice() == expected,
-        Err(_) => false,
-    }
+/// Whether the calls are these.
+pub fn are(calls: Seq<PortCall>, expected: &[PortCall]) -> bool {
+    let same = calls.as_slice() == expected;
+    drop(calls);
+    same
 }
 
 #[test]
 fn a_function_makes_its_acts_in_order(rt: HostRuntime) {
     let free = spec_of(LockUse::Free, false);
-    let calls = calls_of_run(rt.alloc(), free, None);
+    let calls = calls_of_run(&rt, rt.alloc(), free, None);
     assert!(rt; are(calls, &[again(ARMED), stop(STOPPED)]));
 }
 
 /// A mutex and a reader-writer lock.
-fn two_locks(alloc: Global) -> Result<ClientLocks, NoMemory>
-    ensures { IfOk result (λ locks. locks ≡ kind.Mtx ∷ kind.Rw ∷ []) }
+fn two_locks<R: Abort>(rt: &R, alloc: Global) -> ClientLocks
+    ensures { result ≡ kind.Mtx ∷ kind.Rw ∷ [] }
 {
-    ClientLocks::new(alloc, &[LockKind::Mtx, LockKind::Rw])
+    ClientLocks::new(alloc, &[LockKind::Mtx, LockKind::Rw]).expect(rt, "no memory")
 }
 
 /// Whether both calls are made under the mutex.
-fn are_made_under_the_mutex<R: Wait + Sync>(rt: &R, alloc: Global, locks: &ClientLocks) -> bool
+fn are_made_under_the_mutex<R: Wait + Sync + Abort>(
+    rt: &R,
+    alloc: Global,
+    locks: &ClientLocks,
+) -> bool
     requires { locks.now ≡ kind.Mtx ∷ kind.Rw ∷ [] }
 {
     let locked = spec_of(LockUse::Mtx(0), false);
     let mut hold = locks.lock(rt, 0);
-    let calls = calls_of_run(alloc, locked, Some(&mut hold));
+    let calls = calls_of_run(rt, alloc, locked, Some(&mut hold));
     drop(hold);
     are(calls, &[again(ARMED), stop(STOPPED)])
 }
 
 /// Whether the stop is refused under a hold in read mode, which stays.
-fn is_refused_under_a_read<R: Wait + Sync>(rt: &R, alloc: Global, locks: &ClientLocks) -> bool
+fn is_refused_under_a_read<R: Wait + Sync + Abort>(
+    rt: &R,
+    alloc: Global,
+    locks: &ClientLocks,
+) -> bool
     requires { locks.now ≡ kind.Mtx ∷ kind.Rw ∷ [] }
 {
     let shared = spec_of(LockUse::RwShared(1), false);
     let mut hold = locks.read(rt, 1);
-    let calls = calls_of_run(alloc, shared, Some(&mut hold));
+    let calls = calls_of_run(rt, alloc, shared, Some(&mut hold));
     let reading = Held {
         id: 1,
         exclusive: false,
@@ -255,40 +266,37 @@ fn is_refused_under_a_read<R: Wait + Sync>(rt: &R, alloc: Global, locks: &Client
     are(calls, &[again(ARMED), stop(PortReply::NotHeld)]) && stays
 }
 
-/// Whether the calls under the mutex are as they have to be, and those under a hold in read mode.
-fn are_made_under_holds<R: Wait + Sync>(rt: &R, alloc: Global) -> Result<[bool; 2], NoMemory> {
-    let locks = two_locks(alloc)?;
-    Ok([
-        are_made_under_the_mutex(rt, alloc, &locks),
-        is_refused_under_a_read(rt, alloc, &locks),
-    ])
-}
-
 #[test]
 fn calls_are_made_under_the_hold(rt: HostRuntime) {
-    assert!(rt; are_made_under_holds(&rt, rt.alloc()) == Ok([true, true]));
+    let locks = two_locks(&rt, rt.alloc());
+    assert!(rt; are_made_under_the_mutex(&rt, rt.alloc(), &locks));
+    assert!(rt; is_refused_under_a_read(&rt, rt.alloc(), &locks));
+    drop(locks);
 }
 
 /// The calls that this function of that table makes in an asynchronous drain.
-fn calls_of_drain_by(
+fn calls_of_drain_by<R: Abort>(
+    rt: &R,
     alloc: Global,
     spec: Spec,
     table: &mut FuncTable,
     func: u32,
-) -> Result<Seq<PortCall>, NoMemory>
+) -> Seq<PortCall>
     requires { IsWorked table.old }
 {
     let mut callouts = [Alone::open(spec, 0)];
-    let mut port = AlonePort::new(alloc, &mut callouts, 5, 2)?;
+    let mut port = AlonePort::new(rt, alloc, &mut callouts, 5, 2);
     table.drained(&first_fire(), func, &mut port);
-    Ok(port.into_calls())
+    port.into_calls()
 }
 
 /// The calls that this function of an asynchronous drain makes.
-fn calls_of_drained(alloc: Global, func: u32) -> Result<Seq<PortCall>, NoMemory> {
+fn calls_of_drained<R: Abort>(rt: &R, alloc: Global, func: u32) -> Seq<PortCall> {
     let spec = spec_of(LockUse::Free, false);
-    let mut table = worked_table(alloc, spec)?;
-    calls_of_drain_by(alloc, spec, &mut table, func)
+    let mut table = worked_table(rt, alloc, spec);
+    let calls = calls_of_drain_by(rt, alloc, spec, &mut table, func);
+    drop(table);
+    calls
 }
 
 #[test]
@@ -298,8 +306,13 @@ fn a_drain_function_makes_its_acts(rt: HostRuntime) {
         op: PlainOp::Active,
         answer: PortReply::Reply(Reply::No),
     };
-    assert!(rt; are(calls_of_drained(rt.alloc(), 1), &[asks]));
-    assert!(rt; are(calls_of_drained(rt.alloc(), 7), &[]));
+    assert!(rt; are(calls_of_drained(&rt, rt.alloc(), 1), &[asks]));
+    assert!(rt; are(calls_of_drained(&rt, rt.alloc(), 7), &[]));
+}
+
+/// Whether an act of the actor of callout 4, at CPU 2, asks for this operation, or for none.
+fn asks_for(act: Act, asked: Option<(u32, PlainOp)>) -> bool {
+    plain_op(&act, 1000000, Sbt::zero(), 2, Some(4)) == asked
 }
 
 #[test]
@@ -322,11 +335,7 @@ fn acts_ask_for_operations(rt: HostRuntime) {
         cpu: Some(2),
     };
     let retire = Act::Retire(Who::Timer(3));
-    for (act, asked) in [
-        (ticks, Some((4, reset))),
-        (retire, Some((3, PlainOp::Retire))),
-        (Act::Drain(3), None),
-    ] {
-        assert!(rt; plain_op(&act, 1000000, Sbt::zero(), 2, Some(4)) == asked);
-    }
+    assert!(rt; asks_for(ticks, Some((4, reset))));
+    assert!(rt; asks_for(retire, Some((3, PlainOp::Retire))));
+    assert!(rt; asks_for(Act::Drain(3), None));
 }

@@ -15,10 +15,7 @@ use std::thread::{Threads, join};
 fn three_locks<R: Abort>(rt: &R, alloc: Global) -> ClientLocks
     ensures { result ≡ LockKind.Mtx ∷ LockKind.Rw ∷ LockKind.Rw ∷ [] }
 {
-    match ClientLocks::new(alloc, &[LockKind::Mtx, LockKind::Rw, LockKind::Rw]) {
-        Ok(locks) => locks,
-        Err(_) => panic!(rt; "no memory"),
-    }
+    ClientLocks::new(alloc, &[LockKind::Mtx, LockKind::Rw, LockKind::Rw]).expect(rt, "no memory")
 }
 
 // Whether the hold says that it is this one.
@@ -46,6 +43,7 @@ fn take_each<R: Wait + Sync>(rt: &R, locks: &ClientLocks) -> bool
 fn a_drop_releases_each_lock(rt: HostRuntime) {
     let locks = three_locks(&rt, rt.alloc());
     assert!(rt; take_each(&rt, &locks) && take_each(&rt, &locks));
+    drop(locks);
 }
 
 // Adds 1 so often, by a read and a write of which others may come between unless the lock keeps them out.
@@ -83,6 +81,7 @@ fn exclusive_holds_exclude_each_other(rt: HostRuntime) {
     let locks = three_locks(&rt, rt.alloc());
     assert!(rt; counted_by_two(&rt, &locks, 0) == 2000);
     assert!(rt; counted_by_two(&rt, &locks, 1) == 2000);
+    drop(locks);
 }
 
 // Takes the lock in read mode, and keeps it until another has it as well.
@@ -120,6 +119,7 @@ fn readers_share_a_lock(rt: HostRuntime) {
         exclusive: false,
     };
     assert!(rt; read_by_two(&rt, &locks, 1) == (reading, reading));
+    drop(locks);
 }
 
 // Takes the locks but `kept`, one after the other, once that one is kept.
@@ -200,4 +200,5 @@ fn each_lock_is_its_own(rt: HostRuntime) {
         assert!(rt; others_are_free(&rt, &locks, kept));
     }
     assert!(rt; keep_each(&rt, &locks) == [0, 1, 2]);
+    drop(locks);
 }

@@ -3,24 +3,25 @@
 use super::functions::two;
 use super::specs::spec;
 use co_object::Spec;
-use co_sbt::{NoMemory, Room, Seq};
+use co_sbt::{Room, Seq};
 use std::alloc::Global;
+use std::process::Abort;
 
 /// A list that has grown at its end, by two pushes and two within its room.
-fn grown(alloc: Global) -> Result<Seq<u64>, NoMemory> {
-    let mut room = Room::from_seq(two(alloc, 3, 5)?);
-    room.reserve(2)?;
+fn grown<R: Abort>(rt: &R, alloc: Global) -> Seq<u64> {
+    let mut room = Room::from_seq(two(rt, alloc, 3, 5));
+    room.reserve(2).expect(rt, "no memory");
     room.push(8);
     room.push(13);
-    Ok(room.into_seq())
+    room.into_seq()
 }
 
-/// Whether a copy with one number replaced is as it has to be, and the number that stood there.
-fn replaces(alloc: Global) -> Result<bool, NoMemory> {
-    let mut numbers = Seq::copy_of(alloc, &[3_u64, 5])?;
-    numbers.extend_from_slice(&[8])?;
+/// A copy with one number replaced, and the number that stood there.
+fn replaced<R: Abort>(rt: &R, alloc: Global) -> (Seq<u64>, u64) {
+    let mut numbers = Seq::copy_of(alloc, &[3_u64, 5]).expect(rt, "no memory");
+    numbers.extend_from_slice(&[8]).expect(rt, "no memory");
     let old = numbers.replace(1, 7);
-    Ok(old == 5 && numbers.as_slice() == [3, 7, 8].as_slice())
+    (numbers, old)
 }
 
 /// Whether the first of two lists is empty, and the other has the number 8 alone.
@@ -32,41 +33,47 @@ fn is_first_cleared(lists: &[Seq<u64>]) -> bool {
 }
 
 /// Whether the first of two lists can be cleared alone.
-fn clears(alloc: Global) -> Result<bool, NoMemory> {
-    let first = Seq::copy_of(alloc, &[3_u64, 5])?;
-    let other = Seq::copy_of(alloc, &[8_u64])?;
-    let mut lists = two(alloc, first, other)?;
+fn clears<R: Abort>(rt: &R, alloc: Global) -> bool {
+    let first = Seq::copy_of(alloc, &[3_u64, 5]).expect(rt, "no memory");
+    let other = Seq::copy_of(alloc, &[8_u64]).expect(rt, "no memory");
+    let mut lists = two(rt, alloc, first, other);
     lists.clear_at(0);
-    Ok(is_first_cleared(lists.as_slice()))
+    let cleared = is_first_cleared(lists.as_slice());
+    drop(lists);
+    cleared
 }
 
-/// Whether a list was made, of these items.
-fn has<T: PartialEq + Drop>(made: Result<Seq<T>, NoMemory>, items: &[T]) -> bool {
-    match made {
-        Ok(list) => list.as_slice() == items,
-        Err(_) => false,
-    }
+/// Whether a list is of these items.
+fn has<T: PartialEq + Drop>(list: Seq<T>, items: &[T]) -> bool {
+    let same = list.as_slice() == items;
+    drop(list);
+    same
 }
 
 #[test]
 fn grows_and_replaces(rt: HostRuntime) {
-    assert!(rt; has(grown(rt.alloc()), &[3, 5, 8, 13]));
-    assert!(rt; replaces(rt.alloc()) == Ok(true));
+    assert!(rt; has(grown(&rt, rt.alloc()), &[3, 5, 8, 13]));
+    let (numbers, old) = replaced(&rt, rt.alloc());
+    assert!(rt; old == 5);
+    assert!(rt; has(numbers, &[3, 7, 8]));
 }
 
 #[test]
 fn clears_one_of_its_lists(rt: HostRuntime) {
-    assert!(rt; clears(rt.alloc()) == Ok(true));
+    assert!(rt; clears(&rt, rt.alloc()));
 }
 
 #[test]
 fn repeats_one_item(rt: HostRuntime) {
-    assert!(rt; has(Seq::filled(rt.alloc(), 3, 7_u64), &[7, 7, 7]));
-    assert!(rt; has(Seq::filled(rt.alloc(), 0, 7_u64), &[]));
+    let three = Seq::filled(rt.alloc(), 3, 7_u64).expect(&rt, "no memory");
+    assert!(rt; has(three, &[7, 7, 7]));
+    let none = Seq::filled(rt.alloc(), 0, 7_u64).expect(&rt, "no memory");
+    assert!(rt; has(none, &[]));
 }
 
 #[test]
 fn tells_which_callouts_are_direct(rt: HostRuntime) {
     let specs = [spec(false), spec(true), spec(true)];
-    assert!(rt; has(Spec::directs(rt.alloc(), &specs), &[false, true, true]));
+    let directs = Spec::directs(rt.alloc(), &specs).expect(&rt, "no memory");
+    assert!(rt; has(directs, &[false, true, true]));
 }

@@ -1,13 +1,14 @@
 //! Ports over callouts alone.
-ghost use Rattle.std.specs.Prelude.{◌≡◌, ◌↔◌, ◌≤◌, ◌<◌, map, length, false, IfOk};
+ghost use Rattle.std.specs.Prelude.{◌≡◌, ◌↔◌, ◌≤◌, ◌<◌, map, length, false};
 ghost use Rattle.co_object.specs.declared.CallOp.TheVariants.{Plain};
 ghost use Rattle.co_lock.specs.Covers.{covers};
 
 use co_hand::{Port, PortCall, PortReply};
 use co_lock::{Held, Hold, covers};
 use co_object::{Alone, CallOp, Next, Op, PlainOp, Reply};
-use co_sbt::{NoMemory, Room, Seq};
+use co_sbt::{Room, Seq};
 use std::alloc::Global;
+use std::process::Abort;
 
 /// Answers from callouts that it borrows, and stores its calls. It was made with a number.
 #[derive(Drop)]
@@ -21,24 +22,25 @@ pub struct AlonePort<'a> {
 }
 
 impl<'a> AlonePort<'a> {
-    /// A port over one CPU, for so many calls.
-    pub fn new(
+    /// A port over one CPU, for so many calls. There is memory for them.
+    pub fn new<R: Abort>(
+        rt: &R,
         alloc: Global,
         callouts: &'a mut [Alone],
         number: u64,
         room: u32,
-    ) -> Result<AlonePort<'a>, NoMemory>
-        ensures { IfOk result (λ port. (length port.callouts.now ≡ length callouts.old) × (port.cpus ≡ 1) × (port.room ≡ room)) }
+    ) -> AlonePort<'a>
+        ensures { (length result.callouts.now ≡ length callouts.old) × (result.cpus ≡ 1) × (result.room ≡ room) }
     {
         let mut calls = Room::from_seq(Seq::new(alloc));
-        calls.reserve(room as usize)?;
-        Ok(AlonePort {
+        calls.reserve(room as usize).expect(rt, "no memory");
+        AlonePort {
             callouts,
             cpus: 1,
             number,
             calls,
             room,
-        })
+        }
     }
 
     /// The calls that were made.

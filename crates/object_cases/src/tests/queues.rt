@@ -113,12 +113,8 @@ fn agree_for(list: &mut ListQueue, wheel: &mut WheelQueue, rounds: u64) -> u64
 #[test]
 fn answers_agree(rt: HostRuntime) {
     let direct = [false, true, false, false, true, false, false, false];
-    let Ok(mut list) = ListQueue::new(rt.alloc(), 8, 16, &direct) else {
-        panic!(rt; "no memory");
-    };
-    let Ok(mut wheel) = WheelQueue::new(rt.alloc(), 8, 16, &direct) else {
-        panic!(rt; "no memory");
-    };
+    let mut list = ListQueue::new(rt.alloc(), 8, 16, &direct).expect(&rt, "no memory");
+    let mut wheel = WheelQueue::new(rt.alloc(), 8, 16, &direct).expect(&rt, "no memory");
     let rounds = agree_for(&mut list, &mut wheel, 4000);
     drop(list);
     drop(wheel);

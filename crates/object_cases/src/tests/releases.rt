@@ -9,8 +9,9 @@ use super::turns::comes_to;
 use co_hand::{FuncTable, Handler, Port, PortCall, PortReply};
 use co_lock::{ClientLocks, Hold, LockKind};
 use co_object::{LockUse, PlainOp, Spec};
-use co_sbt::{NoMemory, Seq};
+use co_sbt::Seq;
 use std::alloc::Global;
+use std::process::Abort;
 use std::sync::Wait;
 use std::sync::atomic::{AtomicU64, Ordering};
 use std::thread::{Threads, join};
@@ -57,34 +58,37 @@ impl<'a, P: Port> Port for NeedingPort<'a, P> {
 }
 
 /// The calls that function 0 of that table makes after the release of this hold, in the service of a callout of this spec.
-fn calls_of_released(
+fn calls_of_released<R: Abort>(
+    rt: &R,
     alloc: Global,
     spec: Spec,
     table: &mut FuncTable,
     hold: Hold<'_>,
     needs: &Needs,
-) -> Result<Seq<PortCall>, NoMemory>
+) -> Seq<PortCall>
     requires { IsWorked table.old }
 {
     let mut callouts = [running(spec)];
-    let mut port = AlonePort::new(alloc, &mut callouts, 5, 2)?;
+    let mut port = AlonePort::new(rt, alloc, &mut callouts, 5, 2);
     let mut needing = NeedingPort::new(needs, &mut port);
     table.run_unlock(&first_fire(), hold, &mut needing);
-    Ok(port.into_calls())
+    port.into_calls()
 }
 
 /// The calls that function 0 makes after the release of lock 0.
-fn calls_of_run_unlock<R: Wait + Sync>(
+fn calls_of_run_unlock<R: Wait + Sync + Abort>(
     rt: &R,
     alloc: Global,
     locks: &ClientLocks,
     needs: &Needs,
-) -> Result<Seq<PortCall>, NoMemory>
+) -> Seq<PortCall>
     requires { 0 < length locks.now }
 {
     let spec = spec_of(LockUse::Mtx(0), true);
-    let mut table = worked_table(alloc, spec)?;
-    calls_of_released(alloc, spec, &mut table, locks.lock(rt, 0), needs)
+    let mut table = worked_table(rt, alloc, spec);
+    let calls = calls_of_released(rt, alloc, spec, &mut table, locks.lock(rt, 0), needs);
+    drop(table);
+    calls
 }
 
 /// Takes lock 0 in each of two calls of another thread.
@@ -100,7 +104,7 @@ fn lock_in_calls<R: Wait + Sync>(rt: &R, locks: &ClientLocks, needs: &Needs)
 }
 
 /// Whether function 0 makes its calls without a hold, and the other thread waited for the lock in vain in none.
-fn calls_beside_a_lock<R: Threads + Wait + Sync>(
+fn calls_beside_a_lock<R: Threads + Wait + Sync + Abort>(
     rt: &R,
     alloc: Global,
     locks: &ClientLocks,
@@ -114,7 +118,7 @@ fn calls_beside_a_lock<R: Threads + Wait + Sync>(
     };
     let (calls, ()) = join(
         rt,
-        || -> Result<Seq<PortCall>, NoMemory>
+        || -> Seq<PortCall>
             requires { IsSync R.row × (0 < length locks.now) }
         { calls_of_run_unlock(rt, alloc, locks, &needs) },
         ||
@@ -126,16 +130,9 @@ fn calls_beside_a_lock<R: Threads + Wait + Sync>(
     [are(calls, &not_held), none_in_vain]
 }
 
-/// The same beside a mutex of its own.
-fn calls_beside_a_mutex<R: Threads + Wait + Sync>(
-    rt: &R,
-    alloc: Global,
-) -> Result<[bool; 2], NoMemory> {
-    let locks = ClientLocks::new(alloc, &[LockKind::Mtx])?;
-    Ok(calls_beside_a_lock(rt, alloc, &locks))
-}
-
 #[test]
 fn the_hold_is_released_before_the_first_act(rt: HostRuntime) {
-    assert!(rt; calls_beside_a_mutex(&rt, rt.alloc()) == Ok([true, true]));
+    let locks = ClientLocks::new(rt.alloc(), &[LockKind::Mtx]).expect(&rt, "no memory");
+    assert!(rt; calls_beside_a_lock(&rt, rt.alloc(), &locks) == [true, true]);
+    drop(locks);
 }

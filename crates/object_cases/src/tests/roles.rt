@@ -7,8 +7,8 @@ use co_object::{LockUse, QOp};
 use co_program::{
     Action, Asked, Cursor, Role, Script, action_for, actor_count, cpu_of, role_of, scans_first,
 };
-use co_sbt::NoMemory;
 use std::alloc::Global;
+use std::process::Abort;
 
 /// Whether the first actor of a script without ticks has nothing to do.
 fn rests(script: &Script) -> bool
@@ -45,16 +45,16 @@ fn cpus_of_clients(script: &Script) -> [u32; 2]
 
 /// Whether a script of one CPU without ticks has this actor alone, and whether that has nothing to do; and how clients go round two
 /// CPUs.
-fn told(alloc: Global) -> Result<([bool; 2], [u32; 2]), NoMemory> {
-    let mut script = worked_script(alloc, spec_of(LockUse::Free, false))?;
+fn told<R: Abort>(rt: &R, alloc: Global) -> ([bool; 2], [u32; 2]) {
+    let mut script = worked_script(rt, alloc, spec_of(LockUse::Free, false));
     let one = [is_of_one_cpu(&script), rests(&script)];
     script.cpus = 2;
     let clients = cpus_of_clients(&script);
     drop(script);
-    Ok((one, clients))
+    (one, clients)
 }
 
 #[test]
 fn actors_have_roles(rt: HostRuntime) {
-    assert!(rt; told(rt.alloc()) == Ok(([true; 2], [0, 1])));
+    assert!(rt; told(&rt, rt.alloc()) == ([true; 2], [0, 1]));
 }

@@ -15,9 +15,7 @@ ghost use Rattle.service_cases.specs.Scenes.{IsScene};
 use super::acts::keep_begun;
 use super::cast::leave_three;
 use super::notes::{Lane, Row, Told};
-use super::playing::is_played;
-use super::stage::{boot, keep, keep_all, seconds};
-use crate::Scene;
+use super::stage::{keep, keep_all, seconds};
 use co_object::{CallOp, Note, Place, PlainOp};
 use co_sbt::{Sbt, Seq};
 use co_service::{Finished, Name, Passes, Popped, Service};
@@ -123,7 +121,7 @@ pub(super) fn play<N: Name, R: Wait + Abort>(
     drop(second);
 }
 
-static NOTES: [Row; 11] = [
+pub(super) static NOTES: [Row; 11] = [
     (Place::Timer(0), 0, 0, 0, Told::Armed(1, 7, Some(1), 0, 1)),
     (Place::Cpu(1), 0, 0, 0, Told::Inserted(0, 0, 1)),
     (Place::Cpu(1), 1, 2, 0, Told::Scanned(1, 1)),
@@ -136,9 +134,3 @@ static NOTES: [Row; 11] = [
     (Place::Cpu(1), 6, 0, 2, Told::Removed(0)),
     (Place::Timer(0), 4, 0, 2, Told::Stopped(1, Some(1))),
 ];
-
-#[test]
-fn calls_alone(rt: HostRuntime) {
-    let booted = boot(rt.alloc(), 1, 2, 1, false);
-    assert!(rt; is_played(&rt, rt.alloc(), Scene::Alone, booted, &NOTES));
-}

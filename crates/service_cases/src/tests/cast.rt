@@ -67,9 +67,7 @@ fn all_back<N: Name, R: Abort>(
     requires second { AreOf N.name service.now second }
     ensures { AreAll N.name service.now result }
 {
-    let Ok(mut crew) = Crew::new(alloc, service) else {
-        panic!(rt; "no memory");
-    };
+    let mut crew = Crew::new(alloc, service).expect(rt, "no memory");
     crew.back(first);
     crew.back(second);
     crew.into_all()
@@ -88,5 +86,5 @@ pub(super) fn close_two<N: Name, R: Wait + Abort>(
     requires second { AreOf N.name service second }
 {
     let all = all_back(rt, alloc, &service, first, second);
-    let _closing = service.close(rt, all);
+    drop(service.close(rt, all));
 }

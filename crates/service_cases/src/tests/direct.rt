@@ -7,9 +7,7 @@ ghost use Rattle.service_cases.specs.Scenes.{IsScene};
 
 use super::acts::{keep_begun, keep_nothing, tick};
 use super::notes::{Lane, Row, Told};
-use super::playing::is_played;
-use super::stage::{arm, boot, keep_all, seconds};
-use crate::Scene;
+use super::stage::{arm, keep_all, seconds};
 use co_object::{Note, Place};
 use co_sbt::Seq;
 use co_service::{Name, Passes, Service};
@@ -58,7 +56,7 @@ pub(super) fn play<N: Name, R: Wait + Abort>(
     drop(interrupt);
 }
 
-static NOTES: [Row; 8] = [
+pub(super) static NOTES: [Row; 8] = [
     (Place::Timer(0), 0, 0, 0, Told::Armed(1, 0, None, 0, 0)),
     (Place::Cpu(0), 0, 0, 0, Told::Inserted(0, 0, 1)),
     (Place::Cpu(0), 1, 2, 0, Told::Scanned(1, 1)),
@@ -68,9 +66,3 @@ static NOTES: [Row; 8] = [
     (Place::Cpu(0), 3, 2, 0, Told::Freed(Lane::Direct)),
     (Place::Cpu(0), 4, 2, 0, Told::Empty(Lane::Direct)),
 ];
-
-#[test]
-fn served_by_the_interrupt(rt: HostRuntime) {
-    let booted = boot(rt.alloc(), 2, 1, 1, true);
-    assert!(rt; is_played(&rt, rt.alloc(), Scene::Direct, booted, &NOTES));
-}

@@ -16,9 +16,7 @@ ghost use Rattle.co_desk.specs.Views.{AreOf, PassesView};
 use super::acts::{finish, rest, tick};
 use super::cast::leave_two;
 use super::notes::{Lane, Row, Told};
-use super::playing::is_played;
 use super::stage::{keep, keep_all, seconds};
-use crate::Scene;
 use co_lock::{ClientLocks, Hold, LockKind};
 use co_object::{CallOp, LockUse, Note, Place, PlainOp, Reply, Spec};
 use co_sbt::{NoMemory, Sbt, Seq};
@@ -39,7 +37,7 @@ fn locked_spec() -> Spec
 }
 
 /// A service of one client, one CPU and one callout with mutex 0.
-fn boot_locked(alloc: Global) -> Result<(Fresh, Seq<Passes>), NoMemory>
+pub(super) fn boot_locked(alloc: Global) -> Result<(Fresh, Seq<Passes>), NoMemory>
     ensures scene { IfOk result (λ made. IsLocked made.0.params) }
     ensures passes { IfOk result (λ made. AreBooted made.0.name made.0.params made.1) }
 {
@@ -48,11 +46,11 @@ fn boot_locked(alloc: Global) -> Result<(Fresh, Seq<Passes>), NoMemory>
     Service::boot(alloc, 1, 1, 16, 1, specs.as_slice())
 }
 
-/// Mutex 0.
-fn mutex(alloc: Global) -> Result<ClientLocks, NoMemory>
-    ensures { IfOk result (λ locks. locks ≡ LockKind.Mtx ∷ []) }
+/// Mutex 0. There is memory for it.
+fn mutex<R: Abort>(rt: &R, alloc: Global) -> ClientLocks
+    ensures { result ≡ LockKind.Mtx ∷ [] }
 {
-    ClientLocks::new(alloc, &[LockKind::Mtx])
+    ClientLocks::new(alloc, &[LockKind::Mtx]).expect(rt, "no memory")
 }
 
 /// The client's call on the callout, while it holds the mutex.
@@ -164,17 +162,16 @@ pub(super) fn play<N: Name, R: Wait + Abort + Sync>(
     requires scene { IsLocked service.now }
     requires passes { AreBooted N.name service.now passes }
 {
-    let Ok(locks) = mutex(alloc) else {
-        panic!(rt; "no memory");
-    };
+    let locks = mutex(rt, alloc);
     let (mut client, mut cpu) = leave_two(service, passes);
     let n = stop_what_waits(rt, service, log, &mut client, &mut cpu, &locks);
     end_what_waits(rt, service, log, &mut cpu, n, &locks);
     drop(client);
     drop(cpu);
+    drop(locks);
 }
 
-static NOTES: [Row; 10] = [
+pub(super) static NOTES: [Row; 10] = [
     (Place::Timer(0), 0, 0, 1, Told::Armed(1, 0, None, 0, 0)),
     (Place::Cpu(0), 0, 0, 1, Told::Inserted(0, 0, 1)),
     (Place::Cpu(0), 1, 1, 0, Told::Scanned(1, 1)),
@@ -186,9 +183,3 @@ static NOTES: [Row; 10] = [
     (Place::Cpu(0), 3, 1, 0, Told::Freed(Lane::Own)),
     (Place::Cpu(0), 4, 1, 0, Told::Empty(Lane::Own)),
 ];
-
-#[test]
-fn cancelled_while_it_waits(rt: HostRuntime) {
-    let booted = boot_locked(rt.alloc());
-    assert!(rt; is_played(&rt, rt.alloc(), Scene::Waiting, booted, &NOTES));
-}

@@ -61,9 +61,7 @@ fn play<N: Name, R: Wait + Abort>(
     requires scene { IsScene 1 1 64 2 fresh.params }
     requires passes { AreBooted fresh.name fresh.params passes }
 {
-    let Ok(service) = Service::<N>::open(alloc, fresh) else {
-        panic!(rt; "no memory");
-    };
+    let service = Service::<N>::open(alloc, fresh).expect(rt, "no memory");
     let (mut client, mut cpu) = leave_two(&service, passes);
     arm_all(rt, alloc, &service, &mut client);
     let scan = service.scan(rt, &mut cpu, 0, 0, bucket(2));
@@ -75,8 +73,6 @@ fn play<N: Name, R: Wait + Abort>(
 fn visited_buckets(rt: HostRuntime) {
     assert!(rt; bucket(1).raw() == 16777216);
     assert!(rt; bucket(2).raw() == 33554432);
-    let Ok((fresh, passes)) = boot(rt.alloc(), 1, 1, 64, false) else {
-        panic!(rt; "no memory");
-    };
+    let (fresh, passes) = boot(rt.alloc(), 1, 1, 64, false).expect(&rt, "no memory");
     assert!(rt; play::<Brand, _>(&rt, rt.alloc(), fresh, passes) == (3, 12));
 }

@@ -12,9 +12,7 @@ ghost use Rattle.service_cases.specs.Scenes.{IsScene};
 use super::acts::{finish, rest, start, tick};
 use super::cast::leave_three;
 use super::notes::{Lane, Row, Told};
-use super::playing::is_played;
-use super::stage::{arm, boot, seconds};
-use crate::Scene;
+use super::stage::{arm, seconds};
 use co_object::{Note, Place};
 use co_sbt::Seq;
 use co_service::{Name, Passes, Service};
@@ -79,7 +77,7 @@ pub(super) fn play<N: Name, R: Wait + Abort>(
     drop(second);
 }
 
-static NOTES: [Row; 16] = [
+pub(super) static NOTES: [Row; 16] = [
     (Place::Timer(0), 0, 0, 0, Told::Armed(1, 0, None, 0, 0)),
     (Place::Cpu(0), 0, 0, 0, Told::Inserted(0, 0, 1)),
     (Place::Cpu(0), 1, 1, 0, Told::Scanned(1, 1)),
@@ -97,9 +95,3 @@ static NOTES: [Row; 16] = [
     (Place::Cpu(1), 3, 2, 0, Told::Freed(Lane::Own)),
     (Place::Cpu(1), 4, 2, 0, Told::Empty(Lane::Own)),
 ];
-
-#[test]
-fn deferred_move(rt: HostRuntime) {
-    let booted = boot(rt.alloc(), 1, 2, 1, false);
-    assert!(rt; is_played(&rt, rt.alloc(), Scene::Moved, booted, &NOTES));
-}

@@ -3,7 +3,9 @@ ghost use Rattle.std.specs.Prelude.{◌≡◌, IfOk};
 ghost use Rattle.co_service.specs.Booted.{AreBooted};
 ghost use Rattle.service_cases.specs.Scenes.{PlaysOn};
 
+use super::held::boot_locked;
 use super::notes::{Row, are};
+use super::stage::boot;
 use super::{alone, direct, held, moving, words};
 use crate::Scene;
 use co_object::Note;
@@ -47,16 +49,15 @@ fn notes_of<N: Name, R: Wait + Abort + Sync>(
     requires scene { PlaysOn scene fresh.params }
     requires passes { AreBooted fresh.name fresh.params passes }
 {
-    let Ok(mut service) = Service::<N>::open(alloc, fresh) else {
-        panic!(rt; "no memory");
-    };
+    let mut service = Service::<N>::open(alloc, fresh).expect(rt, "no memory");
     let mut log = Vec::new(alloc);
     play(rt, alloc, scene, &mut service, &mut log, passes);
+    drop(service);
     log
 }
 
 /// Whether the notes of a scene, on what was booted for it, are as the rows tell.
-pub(super) fn is_played<R: Wait + Abort + Sync>(
+fn is_played<R: Wait + Abort + Sync>(
     rt: &R,
     alloc: Global,
     scene: Scene,
@@ -66,9 +67,22 @@ pub(super) fn is_played<R: Wait + Abort + Sync>(
     requires scene { IfOk booted (λ made. PlaysOn scene made.0.params) }
     requires passes { IfOk booted (λ made. AreBooted made.0.name made.0.params made.1) }
 {
-    let Ok((fresh, passes)) = booted else {
-        panic!(rt; "no memory");
-    };
+    let (fresh, passes) = booted.expect(rt, "no memory");
     let notes = notes_of::<Brand, _>(rt, alloc, scene, fresh, passes);
     are(notes.as_slice(), rows)
+}
+
+#[test]
+fn scenes_are_played(rt: HostRuntime) {
+    let alloc = rt.alloc();
+    let booted = boot(alloc, 1, 2, 1, false);
+    assert!(rt; is_played(&rt, alloc, Scene::Alone, booted, &alone::NOTES));
+    let booted = boot(alloc, 2, 1, 1, true);
+    assert!(rt; is_played(&rt, alloc, Scene::Direct, booted, &direct::NOTES));
+    let booted = boot(alloc, 1, 2, 1, false);
+    assert!(rt; is_played(&rt, alloc, Scene::Moved, booted, &moving::NOTES));
+    let booted = boot_locked(alloc);
+    assert!(rt; is_played(&rt, alloc, Scene::Waiting, booted, &held::NOTES));
+    let booted = boot(alloc, 1, 1, 1, false);
+    assert!(rt; is_played(&rt, alloc, Scene::InWords, booted, &words::NOTES));
 }

@@ -12,9 +12,7 @@ ghost use Rattle.service_cases.specs.Scenes.{IsScene};
 use super::acts::{keep_begun, tick};
 use super::cast::leave_two;
 use super::notes::{Lane, Row, Told};
-use super::playing::is_played;
-use super::stage::{boot, keep_all, seconds};
-use crate::Scene;
+use super::stage::{keep_all, seconds};
 use co_object::{CallOp, Note, Place, PlainOp, Reply};
 use co_sbt::{Sbt, Seq};
 use co_service::{Finished, Name, Passes, Popped, Service};
@@ -122,7 +120,7 @@ pub(super) fn play<N: Name, R: Wait + Abort>(
     drop(cpu);
 }
 
-static NOTES: [Row; 11] = [
+pub(super) static NOTES: [Row; 11] = [
     (Place::Timer(0), 0, 0, 0, Told::Armed(1, 0, None, 0, 0)),
     (Place::Cpu(0), 0, 0, 0, Told::Inserted(0, 0, 1)),
     (Place::Cpu(0), 1, 1, 0, Told::Scanned(1, 1)),
@@ -135,9 +133,3 @@ static NOTES: [Row; 11] = [
     (Place::Cpu(0), 6, 0, 2, Told::Removed(0)),
     (Place::Timer(0), 4, 0, 2, Told::Stopped(1, Some(0))),
 ];
-
-#[test]
-fn tells_in_few_words(rt: HostRuntime) {
-    let booted = boot(rt.alloc(), 1, 1, 1, false);
-    assert!(rt; is_played(&rt, rt.alloc(), Scene::InWords, booted, &NOTES));
-}

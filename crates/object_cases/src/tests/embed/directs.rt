@@ -1,16 +1,8 @@
 //! The lane of callouts that the clock interrupt runs.
 
 use super::replies::{BLANK, SECOND, Told};
-use super::tested::{EAGAIN, EINVAL, ENOENT, EPERM, MPSAFE, MUTEX, Row, Step, play};
+use super::tested::{EAGAIN, EINVAL, ENOENT, EPERM, MPSAFE, MUTEX, Row, Step};
 use co_embed::CalloutReply;
-
-/// A direct callout has no lock.
-static NO_LOCK: [Row; 4] = [
-    (Step::Init(3, MUTEX), EINVAL, Told::Any),
-    (Step::Pending(3), ENOENT, Told::Any),
-    (Step::Init(3, MPSAFE), 0, Told::Any),
-    (Step::Pending(3), 0, Told::Any),
-];
 
 const CALLS_DIRECT: CalloutReply = CalloutReply {
     answer: 12,
@@ -21,43 +13,41 @@ const CALLS_DIRECT: CalloutReply = CalloutReply {
     ..BLANK
 };
 
-/// The interrupt services callout 3 beside the CPU, which has callout 0 in service.
-static BESIDE_THE_CPU: [Row; 9] = [
-    (Step::Init(0, MPSAFE), 0, Told::Any),
-    (Step::Init(3, MPSAFE), 0, Told::Any),
-    (Step::Reset(0, SECOND, 8), 0, Told::Any),
-    (Step::Reset(3, SECOND, 9), 0, Told::Any),
-    (Step::Advance(SECOND), 2, Told::Any),
-    (Step::Next, 0, Told::Go(0, 8, SECOND)),
-    (Step::NextDirect, 0, Told::Is(CALLS_DIRECT)),
-    (Step::IsServing(false), 1, Told::Any),
-    (Step::IsServing(true), 1, Told::Any),
-];
-
 const ENDED_DIRECT: CalloutReply = CalloutReply {
     answer: 15,
     id: 3,
     ..BLANK
 };
 
-/// Each end is of its own lane.
-static OF_ITS_OWN: [Row; 8] = [
-    (Step::Init(3, MPSAFE), 0, Told::Any),
-    (Step::Reset(3, SECOND, 9), 0, Told::Any),
-    (Step::Advance(SECOND), 1, Told::Any),
-    (Step::Next, EAGAIN, Told::Any),
-    (Step::NextDirect, 0, Told::Any),
-    (Step::End, EPERM, Told::Any),
-    (Step::EndDirect, 0, Told::Is(ENDED_DIRECT)),
-    (Step::NextDirect, EAGAIN, Told::Any),
+pub(crate) const LISTS: &[&[Row]] = &[
+    // A direct callout has no lock.
+    &[
+        (Step::Init(3, MUTEX), EINVAL, Told::Any),
+        (Step::Pending(3), ENOENT, Told::Any),
+        (Step::Init(3, MPSAFE), 0, Told::Any),
+        (Step::Pending(3), 0, Told::Any),
+    ],
+    // The interrupt services callout 3 beside the CPU, which has callout 0 in service.
+    &[
+        (Step::Init(0, MPSAFE), 0, Told::Any),
+        (Step::Init(3, MPSAFE), 0, Told::Any),
+        (Step::Reset(0, SECOND, 8), 0, Told::Any),
+        (Step::Reset(3, SECOND, 9), 0, Told::Any),
+        (Step::Advance(SECOND), 2, Told::Any),
+        (Step::Next, 0, Told::Go(0, 8, SECOND)),
+        (Step::NextDirect, 0, Told::Is(CALLS_DIRECT)),
+        (Step::IsServing(false), 1, Told::Any),
+        (Step::IsServing(true), 1, Told::Any),
+    ],
+    // Each end is of its own lane.
+    &[
+        (Step::Init(3, MPSAFE), 0, Told::Any),
+        (Step::Reset(3, SECOND, 9), 0, Told::Any),
+        (Step::Advance(SECOND), 1, Told::Any),
+        (Step::Next, EAGAIN, Told::Any),
+        (Step::NextDirect, 0, Told::Any),
+        (Step::End, EPERM, Told::Any),
+        (Step::EndDirect, 0, Told::Is(ENDED_DIRECT)),
+        (Step::NextDirect, EAGAIN, Told::Any),
+    ],
 ];
-
-#[test]
-fn directs(rt: HostRuntime) {
-    let lists = [
-        NO_LOCK.as_slice(),
-        BESIDE_THE_CPU.as_slice(),
-        OF_ITS_OWN.as_slice(),
-    ];
-    play(&rt, rt.alloc(), 0, &lists);
-}

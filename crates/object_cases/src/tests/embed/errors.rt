@@ -2,24 +2,9 @@
 
 use super::replies::{BLANK, SECOND, Told};
 use super::tested::{
-    EBUSY, EINVAL, ENOENT, ENOMEM, EPERM, HERE, MPSAFE, MUTEX, NEVER, NOTHING, Row, Step, play,
+    EBUSY, EINVAL, ENOENT, ENOMEM, EPERM, HERE, MPSAFE, MUTEX, NEVER, NOTHING, Row, Step,
 };
 use co_embed::{CalloutReply, Refusal, When, status};
-
-/// Callout 1 is not here, nor is there a callout 4.
-static WHAT_IS_NOT_HERE: [Row; 11] = [
-    (Step::Init(0, MPSAFE), 0, Told::Any),
-    (Step::Reset(1, SECOND, 8), ENOENT, Told::Untouched),
-    (Step::Schedule(1, SECOND), ENOENT, Told::Untouched),
-    (Step::Stop(1), ENOENT, Told::Untouched),
-    (Step::DrainTry(4, true), ENOENT, Told::Untouched),
-    (Step::AsyncDrain(1, 600), ENOENT, Told::Untouched),
-    (Step::Pending(0xffff_ffff), ENOENT, Told::Untouched),
-    (Step::Active(1), ENOENT, Told::Untouched),
-    (Step::Deactivate(4), ENOENT, Told::Untouched),
-    (Step::HasParcel(NOTHING), 1, Told::Untouched),
-    (Step::Earliest, NEVER, Told::Untouched),
-];
 
 /// 2^63, which is no time.
 const LATE: u64 = 0x8000_0000_0000_0000;
@@ -37,56 +22,59 @@ const LAST: CalloutReply = CalloutReply {
     ..BLANK
 };
 
-/// That comes before all else.
-static WHAT_IS_NO_TIME: [Row; 9] = [
-    (Step::Init(0, MPSAFE), 0, Told::Any),
-    (Step::Reset(0, LATE, 8), EINVAL, Told::Untouched),
-    (Step::Reset(1, LATE, 8), EINVAL, Told::Untouched),
-    (Step::ScheduleTo(0, PRECISE), EINVAL, Told::Untouched),
-    (Step::Advance(LATE), EINVAL, Told::Untouched),
-    (Step::HasParcel(NOTHING), 1, Told::Untouched),
-    (Step::Pending(0), 0, Told::Untouched),
-    (Step::Active(0), 0, Told::Untouched),
-    (Step::Reset(0, LATE - 1, 8), 0, Told::Is(LAST)),
+pub(crate) const LISTS: &[&[Row]] = &[
+    // Callout 1 is not here, nor is there a callout 4.
+    &[
+        (Step::Init(0, MPSAFE), 0, Told::Any),
+        (Step::Reset(1, SECOND, 8), ENOENT, Told::Untouched),
+        (Step::Schedule(1, SECOND), ENOENT, Told::Untouched),
+        (Step::Stop(1), ENOENT, Told::Untouched),
+        (Step::DrainTry(4, true), ENOENT, Told::Untouched),
+        (Step::AsyncDrain(1, 600), ENOENT, Told::Untouched),
+        (Step::Pending(0xffff_ffff), ENOENT, Told::Untouched),
+        (Step::Active(1), ENOENT, Told::Untouched),
+        (Step::Deactivate(4), ENOENT, Told::Untouched),
+        (Step::HasParcel(NOTHING), 1, Told::Untouched),
+        (Step::Earliest, NEVER, Told::Untouched),
+    ],
+    // What is no time comes before all else.
+    &[
+        (Step::Init(0, MPSAFE), 0, Told::Any),
+        (Step::Reset(0, LATE, 8), EINVAL, Told::Untouched),
+        (Step::Reset(1, LATE, 8), EINVAL, Told::Untouched),
+        (Step::ScheduleTo(0, PRECISE), EINVAL, Told::Untouched),
+        (Step::Advance(LATE), EINVAL, Told::Untouched),
+        (Step::HasParcel(NOTHING), 1, Told::Untouched),
+        (Step::Pending(0), 0, Told::Untouched),
+        (Step::Active(0), 0, Told::Untouched),
+        (Step::Reset(0, LATE - 1, 8), 0, Told::Is(LAST)),
+    ],
+    // No service is there that could go on, or end.
+    &[
+        (Step::Init(0, MPSAFE), 0, Told::Any),
+        (Step::Begin, EPERM, Told::Untouched),
+        (Step::End, EPERM, Told::Untouched),
+        (Step::HasParcel(NOTHING), 1, Told::Untouched),
+        (Step::Reset(0, SECOND, 8), 0, Told::Any),
+        (Step::Advance(SECOND), 1, Told::Any),
+        (Step::Next, 0, Told::Any),
+        (Step::Begin, EPERM, Told::Go(0, 8, SECOND)),
+        (Step::Next, EBUSY, Told::Go(0, 8, SECOND)),
+        (Step::End, 0, Told::Any),
+    ],
+    // A call that waits for its lock can't end, and keeps the others waiting.
+    &[
+        (Step::Init(0, MUTEX), 0, Told::Any),
+        (Step::Reset(0, SECOND, 8), 0, Told::Any),
+        (Step::Advance(SECOND), 1, Told::Any),
+        (Step::Next, 0, Told::Any),
+        (Step::End, EPERM, Told::Hold(SECOND)),
+        (Step::Next, EBUSY, Told::Hold(SECOND)),
+        (Step::HasParcel(NOTHING), 1, Told::Hold(SECOND)),
+        (Step::Begin, 0, Told::Any),
+        (Step::Begin, EPERM, Told::Any),
+    ],
 ];
-
-/// No service is there that could go on, or end.
-static NO_SERVICE: [Row; 10] = [
-    (Step::Init(0, MPSAFE), 0, Told::Any),
-    (Step::Begin, EPERM, Told::Untouched),
-    (Step::End, EPERM, Told::Untouched),
-    (Step::HasParcel(NOTHING), 1, Told::Untouched),
-    (Step::Reset(0, SECOND, 8), 0, Told::Any),
-    (Step::Advance(SECOND), 1, Told::Any),
-    (Step::Next, 0, Told::Any),
-    (Step::Begin, EPERM, Told::Go(0, 8, SECOND)),
-    (Step::Next, EBUSY, Told::Go(0, 8, SECOND)),
-    (Step::End, 0, Told::Any),
-];
-
-/// A call that waits for its lock can't end, and keeps the others waiting.
-static A_SERVICE_THAT_WAITS: [Row; 9] = [
-    (Step::Init(0, MUTEX), 0, Told::Any),
-    (Step::Reset(0, SECOND, 8), 0, Told::Any),
-    (Step::Advance(SECOND), 1, Told::Any),
-    (Step::Next, 0, Told::Any),
-    (Step::End, EPERM, Told::Hold(SECOND)),
-    (Step::Next, EBUSY, Told::Hold(SECOND)),
-    (Step::HasParcel(NOTHING), 1, Told::Hold(SECOND)),
-    (Step::Begin, 0, Told::Any),
-    (Step::Begin, EPERM, Told::Any),
-];
-
-#[test]
-fn errors(rt: HostRuntime) {
-    let lists = [
-        WHAT_IS_NOT_HERE.as_slice(),
-        WHAT_IS_NO_TIME.as_slice(),
-        NO_SERVICE.as_slice(),
-        A_SERVICE_THAT_WAITS.as_slice(),
-    ];
-    play(&rt, rt.alloc(), 0, &lists);
-}
 
 /// The one that needs a heap that is full, by its number.
 #[test]

@@ -20,16 +20,16 @@ static NONE: [(u32, u32, u32, u32); 8] = [
 /// 0 where there is a wheel of these sizes, or why not.
 fn made(alloc: Global, sizes: (u32, u32, u32, u32)) -> i64 {
     let (cpu, buckets, callouts, direct) = sizes;
-    match Embed::new(alloc, cpu, buckets, callouts, direct) {
-        Ok(_) => 0,
-        Err(refusal) => i64::from(refusal.errno()),
+    match Embed::new(alloc, cpu, buckets, callouts, direct).err() {
+        Some(refusal) => i64::from(refusal.errno()),
+        None => 0,
     }
 }
 
 #[test]
 fn sizes(rt: HostRuntime) {
-    for sizes in NONE {
-        assert!(rt; made(rt.alloc(), sizes) == EINVAL);
+    for sizes in &NONE {
+        assert!(rt; made(rt.alloc(), *sizes) == EINVAL);
     }
     // The least wheel.
     assert!(rt; made(rt.alloc(), (HERE - 1, 16, 1, 1)) == 0);
@@ -54,15 +54,11 @@ static LAST: [Row; 6] = [
     (Step::End, 0, Told::Any),
 ];
 
-/// The first row that is not as it has to be on the largest wheel, where there is memory enough.
-fn wrong_on_the_largest(alloc: Global) -> Option<Option<usize>> {
-    match Embed::new(alloc, 0, 65536, 1_048_576, 0) {
-        Ok(wheel) => Some(TestedWheel::new(wheel).first_wrong(&LAST)),
-        Err(_) => None,
-    }
-}
-
 #[test]
 fn the_largest(rt: HostRuntime) {
-    assert!(rt; wrong_on_the_largest(rt.alloc()) == Some(None));
+    let wheel = Embed::new(rt.alloc(), 0, 65536, 1_048_576, 0).expect(&rt, "no memory");
+    let mut tested = TestedWheel::new(wheel);
+    let wrong = tested.first_wrong(&LAST);
+    drop(tested);
+    assert!(rt; wrong.is_none());
 }

@@ -2,7 +2,7 @@
 
 use super::replies::{BLANK, SECOND, Told};
 use super::tested::{
-    EEXIST, EINVAL, ENOENT, HOME, MPSAFE, MUTEX, NEVER, NOTHING, Row, Step, play, wheel_of,
+    EEXIST, EINVAL, ENOENT, HOME, MPSAFE, MUTEX, NEVER, NOTHING, Row, Step, wheel_of,
 };
 use co_embed::{CalloutParcel, CalloutReply, When};
 use std::alloc::Global;
@@ -45,20 +45,6 @@ const PRECISE_UNDER_WAY: CalloutParcel = CalloutParcel {
     ..UNDER_WAY
 };
 
-/// At rest it leaves at once, with all that it has.
-static AT_ONCE: [Row; 6] = [
-    (Step::Init(0, MUTEX), 0, Told::Any),
-    (
-        Step::ResetTo(0, PRECISE, 70, 8),
-        0,
-        Told::Is(LEAVES_AT_ONCE),
-    ),
-    (Step::HasParcel(PRECISE_UNDER_WAY), 1, Told::Any),
-    (Step::Pending(0), ENOENT, Told::Any),
-    (Step::Earliest, NEVER, Told::Any),
-    (Step::Advance(SECOND), 0, Told::Any),
-];
-
 const IN_TWO_SECONDS: When = When {
     due: 2 * SECOND,
     prec: 0,
@@ -89,42 +75,47 @@ const SECOND_UNDER_WAY: CalloutParcel = CalloutParcel {
     ..UNDER_WAY
 };
 
-/// In service it leaves at the end.
-static AT_THE_END: [Row; 10] = [
-    (Step::Init(0, MPSAFE), 0, Told::Any),
-    (Step::Reset(0, SECOND, 8), 0, Told::Any),
-    (Step::Advance(SECOND), 1, Told::Any),
-    (Step::Next, 0, Told::Any),
-    (Step::ResetTo(0, IN_TWO_SECONDS, 70, 9), 0, Told::Is(WAITS)),
-    (Step::HasParcel(NOTHING), 1, Told::Any),
-    (Step::Pending(0), 1, Told::Any),
-    (Step::End, 0, Told::Is(LEAVES_AT_THE_END)),
-    (Step::HasParcel(SECOND_UNDER_WAY), 1, Told::Any),
-    (Step::Pending(0), ENOENT, Told::Any),
+/// Of a wheel at CPU 0.
+pub(crate) const LEAVING: &[&[Row]] = &[
+    // At rest it leaves at once, with all that it has.
+    &[
+        (Step::Init(0, MUTEX), 0, Told::Any),
+        (
+            Step::ResetTo(0, PRECISE, 70, 8),
+            0,
+            Told::Is(LEAVES_AT_ONCE),
+        ),
+        (Step::HasParcel(PRECISE_UNDER_WAY), 1, Told::Any),
+        (Step::Pending(0), ENOENT, Told::Any),
+        (Step::Earliest, NEVER, Told::Any),
+        (Step::Advance(SECOND), 0, Told::Any),
+    ],
+    // In service it leaves at the end.
+    &[
+        (Step::Init(0, MPSAFE), 0, Told::Any),
+        (Step::Reset(0, SECOND, 8), 0, Told::Any),
+        (Step::Advance(SECOND), 1, Told::Any),
+        (Step::Next, 0, Told::Any),
+        (Step::ResetTo(0, IN_TWO_SECONDS, 70, 9), 0, Told::Is(WAITS)),
+        (Step::HasParcel(NOTHING), 1, Told::Any),
+        (Step::Pending(0), 1, Told::Any),
+        (Step::End, 0, Told::Is(LEAVES_AT_THE_END)),
+        (Step::HasParcel(SECOND_UNDER_WAY), 1, Told::Any),
+        (Step::Pending(0), ENOENT, Told::Any),
+    ],
+    // A stop takes the move away too: nothing was in the queue.
+    &[
+        (Step::Init(0, MPSAFE), 0, Told::Any),
+        (Step::Reset(0, SECOND, 8), 0, Told::Any),
+        (Step::Advance(SECOND), 1, Told::Any),
+        (Step::Next, 0, Told::Any),
+        (Step::ResetTo(0, IN_TWO_SECONDS, 70, 9), 0, Told::Any),
+        (Step::Stop(0), 0, Told::Stopped(0, 0)),
+        (Step::End, 0, Told::Ended(0, 0)),
+        (Step::HasParcel(NOTHING), 1, Told::Any),
+        (Step::Pending(0), 0, Told::Any),
+    ],
 ];
-
-/// A stop takes the move away too: nothing was in the queue.
-static STOPPED_BEFORE_IT_LEAVES: [Row; 9] = [
-    (Step::Init(0, MPSAFE), 0, Told::Any),
-    (Step::Reset(0, SECOND, 8), 0, Told::Any),
-    (Step::Advance(SECOND), 1, Told::Any),
-    (Step::Next, 0, Told::Any),
-    (Step::ResetTo(0, IN_TWO_SECONDS, 70, 9), 0, Told::Any),
-    (Step::Stop(0), 0, Told::Stopped(0, 0)),
-    (Step::End, 0, Told::Ended(0, 0)),
-    (Step::HasParcel(NOTHING), 1, Told::Any),
-    (Step::Pending(0), 0, Told::Any),
-];
-
-#[test]
-fn leaves(rt: HostRuntime) {
-    let lists = [
-        AT_ONCE.as_slice(),
-        AT_THE_END.as_slice(),
-        STOPPED_BEFORE_IT_LEAVES.as_slice(),
-    ];
-    play(&rt, rt.alloc(), 0, &lists);
-}
 
 const AT_HOME: When = When {
     due: 2 * SECOND,
@@ -139,26 +130,6 @@ const STAYS: CalloutReply = CalloutReply {
     cpu: 1,
     ..BLANK
 };
-
-/// It lands, fires with its function, and goes on where it is: its own CPU is that of its last arming.
-static LANDS: [Row; 8] = [
-    (Step::Cpu, 1, Told::Any),
-    (Step::Land(UNDER_WAY), 4_294_967_296, Told::Any),
-    (Step::Pending(0), 1, Told::Any),
-    (Step::Active(0), 1, Told::Any),
-    (Step::Advance(SECOND), 1, Told::Any),
-    (Step::Next, 0, Told::Go(0, 8, SECOND)),
-    (Step::ResetTo(0, AT_HOME, 70, 9), 0, Told::Is(STAYS)),
-    (Step::End, 0, Told::Any),
-];
-
-/// It lands once, and where it comes late it stands at the last advance's time.
-static LANDS_ONCE: [Row; 4] = [
-    (Step::Advance(5 * SECOND), 0, Told::Any),
-    (Step::Land(UNDER_WAY), 21_474_836_480, Told::Any),
-    (Step::Land(UNDER_WAY), EEXIST, Told::Any),
-    (Step::Advance(5 * SECOND), 1, Told::Any),
-];
 
 const FOR_ANOTHER_CPU: CalloutParcel = CalloutParcel {
     cpu: 0,
@@ -194,29 +165,40 @@ const NO_PRECISION: CalloutParcel = CalloutParcel {
     ..UNDER_WAY
 };
 
-/// What is for another CPU, has an id that is none here or of the other lane, or is no parcel at all.
-static DOES_NOT_LAND: [Row; 10] = [
-    (Step::Land(FOR_ANOTHER_CPU), EINVAL, Told::Any),
-    (Step::Land(NO_CALLOUT), EINVAL, Told::Any),
-    (Step::Land(OF_THE_OTHER_LANE), EINVAL, Told::Any),
-    (Step::Land(DIRECT), EINVAL, Told::Any),
-    (Step::Land(NO_KIND), EINVAL, Told::Any),
-    (Step::Land(NEVER_MADE), EINVAL, Told::Any),
-    (Step::Land(NO_TIME), EINVAL, Told::Any),
-    (Step::Land(NO_PRECISION), EINVAL, Told::Any),
-    (Step::Pending(0), ENOENT, Told::Any),
-    (Step::Earliest, NEVER, Told::Any),
+/// Of a wheel at CPU 1.
+pub(crate) const LANDING: &[&[Row]] = &[
+    // It lands, fires with its function, and goes on where it is: its own CPU is that of its last arming.
+    &[
+        (Step::Cpu, 1, Told::Any),
+        (Step::Land(UNDER_WAY), 4_294_967_296, Told::Any),
+        (Step::Pending(0), 1, Told::Any),
+        (Step::Active(0), 1, Told::Any),
+        (Step::Advance(SECOND), 1, Told::Any),
+        (Step::Next, 0, Told::Go(0, 8, SECOND)),
+        (Step::ResetTo(0, AT_HOME, 70, 9), 0, Told::Is(STAYS)),
+        (Step::End, 0, Told::Any),
+    ],
+    // It lands once, and where it comes late it stands at the last advance's time.
+    &[
+        (Step::Advance(5 * SECOND), 0, Told::Any),
+        (Step::Land(UNDER_WAY), 21_474_836_480, Told::Any),
+        (Step::Land(UNDER_WAY), EEXIST, Told::Any),
+        (Step::Advance(5 * SECOND), 1, Told::Any),
+    ],
+    // What is for another CPU, has an id that is none here or of the other lane, or is no parcel at all.
+    &[
+        (Step::Land(FOR_ANOTHER_CPU), EINVAL, Told::Any),
+        (Step::Land(NO_CALLOUT), EINVAL, Told::Any),
+        (Step::Land(OF_THE_OTHER_LANE), EINVAL, Told::Any),
+        (Step::Land(DIRECT), EINVAL, Told::Any),
+        (Step::Land(NO_KIND), EINVAL, Told::Any),
+        (Step::Land(NEVER_MADE), EINVAL, Told::Any),
+        (Step::Land(NO_TIME), EINVAL, Told::Any),
+        (Step::Land(NO_PRECISION), EINVAL, Told::Any),
+        (Step::Pending(0), ENOENT, Told::Any),
+        (Step::Earliest, NEVER, Told::Any),
+    ],
 ];
-
-#[test]
-fn lands(rt: HostRuntime) {
-    let lists = [
-        LANDS.as_slice(),
-        LANDS_ONCE.as_slice(),
-        DOES_NOT_LAND.as_slice(),
-    ];
-    play(&rt, rt.alloc(), 1, &lists);
-}
 
 const IN_A_SECOND: When = When {
     due: SECOND,

@@ -60,58 +60,70 @@ pub(crate) enum Told {
     Is(CalloutReply),
 }
 
-/// The reply that tells this. None where it is not looked at.
-pub(crate) fn reply_of(told: Told) -> Option<CalloutReply> {
+/// Whether the reply tells this.
+pub(crate) fn is_told(told: Told, reply: &CalloutReply) -> bool {
     match told {
-        Told::Any => None,
-        Told::Untouched => Some(UNTOUCHED),
-        Told::Is(reply) => Some(reply),
-        Told::Armed(n, at) => Some(CalloutReply {
-            answer: 1,
-            n,
-            at,
-            ..BLANK
-        }),
-        Told::NotArmed => Some(answer(2)),
-        Told::NoHandler => Some(answer(3)),
-        Told::Stopped(code, removed) => Some(CalloutReply {
-            code,
-            removed,
-            ..answer(5)
-        }),
-        Told::Wait(took) => Some(CalloutReply {
-            removed: took,
-            took,
-            ..answer(6)
-        }),
-        Told::Drained(code, removed) => Some(CalloutReply {
-            code,
-            removed,
-            ..answer(7)
-        }),
-        Told::Busy => Some(answer(8)),
-        Told::Go(n, arg, at) => Some(CalloutReply { n, at, ..go(arg) }),
-        Told::GoOn(arg) => Some(go(arg)),
-        Told::Hold(at) => Some(CalloutReply { at, ..answer(13) }),
-        Told::Skip => Some(answer(14)),
-        Told::Ended(func, woke) => Some(CalloutReply {
-            func,
-            woke,
-            ..answer(15)
-        }),
+        Told::Any => true,
+        Told::Untouched => *reply == UNTOUCHED,
+        Told::Is(wanted) => *reply == wanted,
+        _ => *reply == reply_of(told),
     }
 }
 
-/// An answer that tells nothing more.
-fn answer(answer: u32) -> CalloutReply {
-    CalloutReply { answer, ..BLANK }
+/// The reply of callout 0 at CPU 0 that tells this.
+fn reply_of(told: Told) -> CalloutReply {
+    let mut reply = BLANK;
+    match told {
+        Told::Armed(n, at) => {
+            reply.answer = 1;
+            reply.n = n;
+            reply.at = at;
+        }
+        Told::NotArmed => reply.answer = 2,
+        Told::NoHandler => reply.answer = 3,
+        Told::Stopped(code, removed) => {
+            reply.answer = 5;
+            reply.code = code;
+            reply.removed = removed;
+        }
+        Told::Wait(took) => {
+            reply.answer = 6;
+            reply.removed = took;
+            reply.took = took;
+        }
+        Told::Drained(code, removed) => {
+            reply.answer = 7;
+            reply.code = code;
+            reply.removed = removed;
+        }
+        Told::Busy => reply.answer = 8,
+        Told::Go(n, arg, at) => {
+            reply = go(arg);
+            reply.n = n;
+            reply.at = at;
+        }
+        Told::GoOn(arg) => reply = go(arg),
+        Told::Hold(at) => {
+            reply.answer = 13;
+            reply.at = at;
+        }
+        Told::Skip => reply.answer = 14,
+        Told::Ended(func, woke) => {
+            reply.answer = 15;
+            reply.func = func;
+            reply.woke = woke;
+        }
+        Told::Any | Told::Untouched | Told::Is(_) => {}
+    }
+    reply
 }
 
 /// Function 70 is to be called.
 fn go(arg: u64) -> CalloutReply {
     CalloutReply {
+        answer: 12,
         func: 70,
         arg,
-        ..answer(12)
+        ..BLANK
     }
 }

@@ -1,6 +1,6 @@
 //! A wheel under test, and the calls of a C program: a status, and what the pointers lead to.
 
-use super::replies::{Told, UNTOUCHED, reply_of};
+use super::replies::{Told, UNTOUCHED, is_told};
 use co_embed::{CalloutAttr, CalloutParcel, CalloutReply, Embed, Refusal, When, status};
 use std::alloc::Global;
 use std::process::Abort;
@@ -113,28 +113,8 @@ impl TestedWheel {
         }
     }
 
-    /// A call that arms, stops or drains. None where the step is another.
-    fn arm(&mut self, step: Step) -> Option<i64> {
-        let TestedWheel {
-            wheel,
-            reply,
-            parcel,
-        } = self;
-        let answer = match step {
-            Step::Reset(id, due, arg) => wheel.reset(id, at(due, HERE), 70, arg, reply, parcel),
-            Step::ResetTo(id, when, func, arg) => wheel.reset(id, when, func, arg, reply, parcel),
-            Step::Schedule(id, due) => wheel.schedule(id, at(due, HOME), reply, parcel),
-            Step::ScheduleTo(id, when) => wheel.schedule(id, when, reply, parcel),
-            Step::Stop(id) => wheel.stop(id, reply),
-            Step::DrainTry(id, took) => wheel.drain_try(id, took, reply),
-            Step::AsyncDrain(id, func) => wheel.async_drain(id, func, reply),
-            _ => return None,
-        };
-        Some(i64::from(status(answer)))
-    }
-
-    /// A callout comes or goes, or a service begins or ends. None where the step is another.
-    fn serve(&mut self, step: Step) -> Option<i64> {
+    /// What a step is answered, as a number.
+    fn step(&mut self, step: Step) -> Option<i64> {
         let TestedWheel {
             wheel,
             reply,
@@ -143,17 +123,24 @@ impl TestedWheel {
         let answer = match step {
             Step::Init(id, attr) => wheel.init(id, &attr),
             Step::Fini(id) => wheel.fini(id),
+            Step::Reset(id, due, arg) => wheel.reset(id, at(due, HERE), 70, arg, reply, parcel),
+            Step::ResetTo(id, when, func, arg) => wheel.reset(id, when, func, arg, reply, parcel),
+            Step::Schedule(id, due) => wheel.schedule(id, at(due, HOME), reply, parcel),
+            Step::ScheduleTo(id, when) => wheel.schedule(id, when, reply, parcel),
+            Step::Stop(id) => wheel.stop(id, reply),
+            Step::DrainTry(id, took) => wheel.drain_try(id, took, reply),
+            Step::AsyncDrain(id, func) => wheel.async_drain(id, func, reply),
             Step::Next => wheel.next(false, reply),
             Step::NextDirect => wheel.next(true, reply),
             Step::Begin => wheel.begin(reply),
             Step::End => wheel.end(false, reply, parcel),
             Step::EndDirect => wheel.end(true, reply, parcel),
-            _ => return None,
+            _ => return self.ask(step),
         };
         Some(i64::from(status(answer)))
     }
 
-    /// A call that answers more than a status. None where the step is another.
+    /// The same of a call that answers more than a status, or of a look.
     fn ask(&mut self, step: Step) -> Option<i64> {
         match step {
             Step::Pending(id) => Some(flag(self.wheel.pending(id))),
@@ -161,11 +148,11 @@ impl TestedWheel {
             Step::Deactivate(id) => Some(flag(self.wheel.deactivate(id))),
             Step::Advance(now) => Some(count(self.wheel.advance(now))),
             Step::Land(parcel) => Some(time(self.wheel.land(&parcel))),
-            _ => None,
+            _ => self.look(step),
         }
     }
 
-    /// A look, which changes nothing. None where the step is another.
+    /// The same of a look, which changes nothing. None where the step is another.
     fn look(&self, step: Step) -> Option<i64> {
         match step {
             Step::IsServing(direct) => Some(i64::from(self.wheel.is_serving(direct))),
@@ -179,25 +166,10 @@ impl TestedWheel {
         }
     }
 
-    /// What a step is answered, as a number.
-    fn step(&mut self, step: Step) -> Option<i64> {
-        if let Some(answer) = self.arm(step) {
-            return Some(answer);
-        }
-        if let Some(answer) = self.serve(step) {
-            return Some(answer);
-        }
-        if let Some(answer) = self.ask(step) {
-            return Some(answer);
-        }
-        self.look(step)
-    }
-
     /// The first row that is not as it has to be, if any is.
     pub(crate) fn first_wrong(&mut self, rows: &[Row]) -> Option<usize> {
         for (number, (step, answer, told)) in rows.iter().enumerate() {
-            let answered = self.step(*step) == Some(*answer);
-            if !answered || reply_of(*told).is_some_and(|reply| reply != self.reply) {
+            if self.step(*step) != Some(*answer) || !is_told(*told, &self.reply) {
                 return Some(number);
             }
         }
@@ -236,20 +208,17 @@ fn time(answer: Result<u64, Refusal>) -> i64 {
 
 /// The wheel of a CPU, with 16 buckets, for callouts 0 to 3, of which 3 is direct. There is memory for it.
 pub(crate) fn wheel_of(rt: &impl Abort, alloc: Global, cpu: u32) -> TestedWheel {
-    let Ok(wheel) = Embed::new(alloc, cpu, 16, 4, 1) else {
-        panic!(rt; "no memory")
-    };
-    TestedWheel::new(wheel)
+    TestedWheel::new(Embed::new(alloc, cpu, 16, 4, 1).expect(rt, "no memory"))
 }
 
-/// Each list of rows is as it has to be on a wheel of this CPU.
-pub(crate) fn play(rt: &impl Abort, alloc: Global, cpu: u32, lists: &[&[Row]]) {
+/// Each list of rows is as it has to be on a wheel of its own, at this CPU.
+pub(crate) fn play(rt: &impl Abort, alloc: Global, name: &str, cpu: u32, lists: &[&[Row]]) {
     for (list, rows) in lists.iter().enumerate() {
         let mut tested = wheel_of(rt, alloc, cpu);
         let wrong = tested.first_wrong(rows);
         drop(tested);
         if let Some(row) = wrong {
-            panic!(rt; "list {list}, row {row}");
+            panic!(rt; "{name}: list {list}, row {row}");
         }
     }
 }

@@ -7,7 +7,6 @@ ghost use Rattle.co_life.specs.Views.{AreFresh, pass_view};
 use co_life::{Closed, Life, Pass, Story};
 use co_sbt::{NoMemory, Seq};
 use std::alloc::Global;
-use std::test::Fail;
 
 /// Entries (actor, value), in which each value is the number of entries before it.
 struct Counting;
@@ -55,8 +54,8 @@ fn two_actors(alloc: Global) -> Result<(Closed<Counting>, [u64; 3]), NoMemory>
 }
 
 #[test]
-fn entries_have_their_positions(rt: HostRuntime) -> Result<(), Fail> {
-    let (_closed, positions) = two_actors(rt.alloc())?;
+fn entries_have_their_positions(rt: HostRuntime) {
+    let (closed, positions) = two_actors(rt.alloc()).expect(&rt, "no memory");
+    drop(closed);
     assert!(rt; positions == [0, 1, 2]);
-    Ok(())
 }

@@ -12,7 +12,6 @@ use co_sbt::NoMemory;
 use std::alloc::Global;
 use std::marker::{Brand, PhantomData};
 use std::sync::{Mutex, Wait};
-use std::test::Fail;
 use std::thread::{Threads, join};
 
 /// Entries (actor, value), any list of which is legal.
@@ -147,8 +146,6 @@ fn share<R: Threads + Wait + Sync>(
 }
 
 #[test]
-fn two_threads_share_a_history(rt: HostRuntime) -> Result<(), Fail> {
-    let closed = share(&rt, rt.alloc(), 1000);
-    assert!(rt; closed.is_ok());
-    Ok(())
+fn two_threads_share_a_history(rt: HostRuntime) {
+    drop(share(&rt, rt.alloc(), 1000).expect(&rt, "no memory"));
 }

@@ -26,11 +26,13 @@ enum Row {
     Turn(u32, i32, u32, Served, Served),
 }
 
-/// What is done, and what the functions have seen at the end.
+/// What is done, how many functions were called at the end, and under how many holds, and whether one has asked.
 struct Scene {
     name: &'static str,
     rows: &'static [Row],
-    seen: Seen,
+    called: u64,
+    held: u64,
+    asks: bool,
 }
 
 const NONE: Served = Served {
@@ -43,44 +45,44 @@ const ONE: Served = Served { called: 1, ..NONE };
 
 const DRAINED: Served = Served { drained: 1, ..ONE };
 
-/// Without a lock.
-const ALONE: [Step; 19] = [
-    Step::Arm(3, 1, 0, None, Err(Refused::NoCallout)),
-    Step::Arm(0, 1, 0, Some(2), Err(Refused::NoCpu)),
-    Step::Arm(1, 1, 0, None, Err(Refused::NotHeld)),
-    Step::Stop(1, Err(Refused::NotHeld)),
-    // Callout 0 is armed, armed again, stopped twice, and armed once more.
-    Step::Schedule(0, 3, Ok(Reset::NoHandler)),
-    Step::Arm(0, 3, 0, None, ARMED),
-    Step::Arm(0, 4, 0, None, Ok(Reset::Armed { replaced: true })),
-    Step::Stop(0, Ok(Stopped::Cancelled)),
-    Step::Stop(0, Ok(Stopped::Nothing)),
-    Step::Schedule(0, 5, ARMED),
-    // It is drained in both ways.
-    Step::Drain(0, Ok(Drained::Cancelled)),
-    Step::Drain(0, Ok(Drained::Nothing)),
-    Step::AsyncDrain(0, Ok(AsyncDrained::Nothing)),
-    Step::Arm(0, 3, 0, None, ARMED),
-    Step::AsyncDrain(0, Ok(AsyncDrained::Cancelled)),
-    // It is out of use.
-    Step::Retire(0),
-    Step::Arm(0, 3, 0, None, Ok(Reset::Retired)),
-    Step::Stop(0, Ok(Stopped::Retired)),
-    Step::AsyncDrain(0, Ok(AsyncDrained::Retired)),
-];
-
-/// With the lock of callout 1.
-const ALONE_HELD: [Step; 3] = [
-    Step::Arm(1, 1, 0, None, ARMED),
-    Step::Drain(1, Err(Refused::HoldsLock)),
-    Step::Stop(1, Ok(Stopped::Cancelled)),
-];
-
-const SCENES: [Scene; 3] = [
+static SCENES: [Scene; 3] = [
     Scene {
         name: "a client alone",
-        rows: &[Row::Free(&ALONE), Row::Held(&ALONE_HELD)],
-        seen: NOTHING,
+        rows: &[
+            // Without a lock, and with that of callout 1.
+            Row::Free(&[
+                Step::Arm(3, 1, 0, None, Err(Refused::NoCallout)),
+                Step::Arm(0, 1, 0, Some(2), Err(Refused::NoCpu)),
+                Step::Arm(1, 1, 0, None, Err(Refused::NotHeld)),
+                Step::Stop(1, Err(Refused::NotHeld)),
+                // Callout 0 is armed, armed again, stopped twice, and armed once more.
+                Step::Schedule(0, 3, Ok(Reset::NoHandler)),
+                Step::Arm(0, 3, 0, None, ARMED),
+                Step::Arm(0, 4, 0, None, Ok(Reset::Armed { replaced: true })),
+                Step::Stop(0, Ok(Stopped::Cancelled)),
+                Step::Stop(0, Ok(Stopped::Nothing)),
+                Step::Schedule(0, 5, ARMED),
+                // It is drained in both ways.
+                Step::Drain(0, Ok(Drained::Cancelled)),
+                Step::Drain(0, Ok(Drained::Nothing)),
+                Step::AsyncDrain(0, Ok(AsyncDrained::Nothing)),
+                Step::Arm(0, 3, 0, None, ARMED),
+                Step::AsyncDrain(0, Ok(AsyncDrained::Cancelled)),
+                // It is out of use.
+                Step::Retire(0),
+                Step::Arm(0, 3, 0, None, Ok(Reset::Retired)),
+                Step::Stop(0, Ok(Stopped::Retired)),
+                Step::AsyncDrain(0, Ok(AsyncDrained::Retired)),
+            ]),
+            Row::Held(&[
+                Step::Arm(1, 1, 0, None, ARMED),
+                Step::Drain(1, Err(Refused::HoldsLock)),
+                Step::Stop(1, Ok(Stopped::Cancelled)),
+            ]),
+        ],
+        called: 0,
+        held: 0,
+        asks: false,
     },
     // Each callout that comes due is called once, in its lane, and for another CPU there.
     Scene {
@@ -97,11 +99,9 @@ const SCENES: [Scene; 3] = [
             Row::Free(&[Step::Arm(0, 3, 0, Some(1), ARMED)]),
             Row::Turn(1, 3, 1, NONE, ONE),
         ],
-        seen: Seen {
-            called: 4,
-            held: 1,
-            ..NOTHING
-        },
+        called: 4,
+        held: 1,
+        asks: false,
     },
     // The function of callout 0 runs, and then that of the drain which it began.
     Scene {
@@ -110,13 +110,9 @@ const SCENES: [Scene; 3] = [
             Row::Free(&[Step::Arm(0, 1, ASKS, None, ARMED)]),
             Row::Turn(0, 1, 1, NONE, DRAINED),
         ],
-        seen: Seen {
-            called: 1,
-            held: 0,
-            drained: Some(1),
-            asked: Some(None),
-            said: Some(PortReply::Reply(Reply::No)),
-        },
+        called: 1,
+        held: 0,
+        asks: true,
     },
 ];
 
@@ -234,11 +230,25 @@ fn play<N: Name, R: Wait + Sync + Abort>(
     story
 }
 
+/// What the functions have to have seen at the end. Who asks is answered right, and begins a drain, whose function finds nothing
+/// pending.
+fn wanted(scene: &Scene) -> Seen {
+    let mut seen = NOTHING;
+    seen.called = scene.called;
+    seen.held = scene.held;
+    if scene.asks {
+        seen.drained = Some(1);
+        seen.asked = Some(None);
+        seen.said = Some(PortReply::Reply(Reply::No));
+    }
+    seen
+}
+
 /// The first row of a scene that is not as it has to be, if any is, or their number where the functions have seen something else.
 fn first_wrong<R: Wait + Sync + Abort>(rt: &R, alloc: Global, scene: &Scene) -> Option<usize> {
     let fresh = boot(rt, alloc);
     let (wrong, seen) = play::<Brand, R>(rt, alloc, fresh, scene.rows);
-    if wrong.is_none() && seen != scene.seen {
+    if wrong.is_none() && seen != wanted(scene) {
         return Some(scene.rows.len());
     }
     wrong

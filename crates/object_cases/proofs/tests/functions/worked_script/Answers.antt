@@ -81,7 +81,7 @@ accepted spec span zero_time plain =
     }
 
 pub returns : goal.returns
-returns c =
+returns g c =
     let made : Script =
     record {
       version = 1;
@@ -89,10 +89,10 @@ returns c =
       cpus = 1;
       buckets = 256;
       locks = c.new-2.result;
-      timers = c.in_ok-timers.timers;
-      funcs = c.in_ok-funcs.funcs;
+      timers = c.one-timers.result;
+      funcs = c.two-funcs.result;
       clients = c.new-3.result;
-      ticks = c.in_ok-ticks.ticks;
+      ticks = c.one-ticks.result;
       turns = c.new-4.result;
     }
     in
@@ -104,11 +104,11 @@ returns c =
       c.new-2.ensures,
       c.new-3.ensures,
       c.new-4.ensures,
-      c.in_ok-timers.ensures {u = tt},
-      c.in_ok-funcs.ensures {u = tt},
-      c.in_ok-arms.ensures {u = tt},
-      c.in_ok-asks.ensures {u = tt},
-      c.in_ok-ticks.ensures {u = tt},
+      c.one-timers.ensures,
+      c.two-funcs.ensures,
+      c.two-arms.ensures,
+      c.one-asks.ensures,
+      c.one-ticks.ensures,
     )
     in
     let Worked : Script → Type 0 = λ s. IsScript s × (length s.timers ≡ 1) × (s.cpus ≡ 1) × ((func : ℕ) → length (acts_at s.funcs func) ≤ 2) in
