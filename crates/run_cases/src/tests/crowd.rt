@@ -67,7 +67,7 @@ fn choose(number: u64, draw: u64) -> Act {
 fn add(rt: &impl Abort, acts: &mut Acts, act: Act) {
     // The check has to be told of the types of an act's parts.
     let _parts: (Option<Who>, Option<When>, Option<Where>) = (None, None, None);
-    assert!(rt; acts.push(act).is_ok(), "no memory");
+    acts.push(act).expect(rt, "no memory");
 }
 
 /// The act of this number of an actor: of a client as [`choose`] says, of a CPU a tick whenever the clients have made some acts more.
@@ -95,10 +95,9 @@ fn acts_of(rt: &impl Abort, alloc: Global, actor: u32) -> Acts {
 fn programs(rt: &impl Abort, alloc: Global, actors: Range<u32>) -> Seq<Acts> {
     let mut programs = Seq::new(alloc);
     for actor in actors {
-        assert!(rt;
-            programs.push(acts_of(rt, alloc, actor)).is_ok(),
-            "no memory"
-        );
+        programs
+            .push(acts_of(rt, alloc, actor))
+            .expect(rt, "no memory");
     }
     programs
 }
@@ -106,10 +105,8 @@ fn programs(rt: &impl Abort, alloc: Global, actors: Range<u32>) -> Seq<Acts> {
 /// The crowd's script, with callouts without locks.
 fn script(rt: &impl Abort, alloc: Global) -> Script {
     let mut funcs = Seq::new(alloc);
-    assert!(rt; funcs.push(Seq::new(alloc)).is_ok(), "no memory");
-    let Ok(timers) = Seq::filled(alloc, CALLOUTS as usize, FREE) else {
-        panic!(rt; "no memory")
-    };
+    funcs.push(Seq::new(alloc)).expect(rt, "no memory");
+    let timers = Seq::filled(alloc, CALLOUTS as usize, FREE).expect(rt, "no memory");
     Script {
         version: 1,
         hz: 1000,
@@ -127,9 +124,7 @@ fn script(rt: &impl Abort, alloc: Global) -> Script {
 /// The text of the crowd's script.
 fn text(rt: &impl Abort, alloc: Global) -> Seq<u8> {
     let script = script(rt, alloc);
-    let Ok(text) = print_script(alloc, &script) else {
-        panic!(rt; "no memory")
-    };
+    let text = print_script(alloc, &script).expect(rt, "no memory");
     drop(script);
     text
 }

@@ -75,13 +75,11 @@ fn calls_of<N: Name, R: Wait + Sync + Abort>(
     requires passes { AreOf N.name service.now passes }
     requires callout { i < 2 }
 {
-    let Ok(mut table) = FuncTable::new(alloc, script) else {
-        panic!(rt; "no memory")
-    };
-    let Ok(mut port) = ServicePort::new(rt, alloc, gate, service, &SPECS, passes, 0, MOST_ACTS)
-    else {
-        panic!(rt; "no memory")
-    };
+    let mut table = FuncTable::new(alloc, script).expect(rt, "no memory");
+    let mut port = ServicePort::new(rt, alloc, gate, service, &SPECS, passes, 0, MOST_ACTS).expect(
+        rt,
+        "no memory",
+    );
     table.run(&fire(i, 2), None, &mut port);
     let (passes, calls) = port.into_parts();
     drop(passes);
@@ -132,9 +130,7 @@ fn run_both<N: Name + Send + Sync, R: Threads + Wait + Sync + Abort>(
     requires scene { fresh.params ≡ two_clients }
     requires passes { AreBooted fresh.name fresh.params passes }
 {
-    let Ok(service) = Service::<N>::open(alloc, fresh) else {
-        panic!(rt; "no memory")
-    };
+    let service = Service::<N>::open(alloc, fresh).expect(rt, "no memory");
     let (one, other) = leave_clients(&service, passes);
     let hold = service.hold_desk(rt, 1);
     assert!(rt; hold.cpu() == 1);

@@ -25,9 +25,7 @@ pub(super) fn boot(rt: &impl Abort, alloc: Global) -> (Fresh, Seq<Passes>)
     ensures scene { result.0.params ≡ two_clients }
     ensures passes { AreBooted result.0.name result.0.params result.1 }
 {
-    let Ok(made) = Fresh::boot(alloc, 1, 3, 16, 2, &SPECS) else {
-        panic!(rt; "no memory")
-    };
+    let made = Fresh::boot(alloc, 1, 3, 16, 2, &SPECS).expect(rt, "no memory");
     made
 }
 

@@ -190,9 +190,7 @@ fn told_books<'a>(
             book: ShortBook::new(alloc, number),
             told,
         };
-        let Ok(()) = books.push(book) else {
-            panic!(rt; "no memory")
-        };
+        books.push(book).expect(rt, "no memory");
     }
     books
 }
@@ -229,9 +227,7 @@ pub(super) fn run_in_order<R: Threads + Wait + Sync + Abort>(
     acts: &[u64],
 ) -> Lists {
     let script = script_of(rt, alloc, text);
-    let Ok(ran) = run_waiting(rt, alloc, &script, after, acts, NO_RESERVE) else {
-        panic!(rt; "no memory")
-    };
+    let ran = run_waiting(rt, alloc, &script, after, acts, NO_RESERVE).expect(rt, "no memory");
     let lists = legal_lists(rt, alloc, &script, ran);
     drop(script);
     lists
