@@ -67,28 +67,51 @@ fn client(rt: &impl Abort, script: &mut Page, number: u32) {
     }
 }
 
-// The times of two seconds at which a CPU ticks.
-static TENTHS: [&str; 20] = [
-    "0.1", "0.2", "0.3", "0.4", "0.5", "0.6", "0.7", "0.8", "0.9", "1.0", "1.1", "1.2", "1.3",
-    "1.4", "1.5", "1.6", "1.7", "1.8", "1.9", "2.0",
-];
-
 // A CPU ticks ten times a second for two seconds.
+const TICKS: &str = "tick 0.1
+tick 0.2
+tick 0.3
+tick 0.4
+tick 0.5
+tick 0.6
+tick 0.7
+tick 0.8
+tick 0.9
+tick 1.0
+tick 1.1
+tick 1.2
+tick 1.3
+tick 1.4
+tick 1.5
+tick 1.6
+tick 1.7
+tick 1.8
+tick 1.9
+tick 2.0
+";
+
+// The ticks of a CPU.
 fn cpu(rt: &impl Abort, script: &mut Page, number: u32) {
     add(rt, script, "cpu", &[word(number)]);
-    for tenth in &TENTHS {
-        add(rt, script, "tick", &[Token::Text(tenth.as_bytes())]);
-    }
+    script.text(TICKS.as_bytes()).expect(rt, "no memory");
 }
+
+// What stands before the locks and the timers: a version, four CPUs and four functions.
+const HEAD: &str = "callout 1
+cpus 4
+funcs 4
+";
+
+// The one function that does something.
+const FUNCTION: &str = "func 0
+schedule me +0.4
+";
 
 // The whole script, behind what stands there.
 fn write_ordinary(rt: &impl Abort, script: &mut Page) {
-    add(rt, script, "callout", &[word(1)]);
-    add(rt, script, "cpus", &[word(CPUS)]);
-    add(rt, script, "funcs", &[word(4)]);
+    script.text(HEAD.as_bytes()).expect(rt, "no memory");
     declare(rt, script);
-    add(rt, script, "func", &[word(0)]);
-    add(rt, script, "schedule me +0.4", &[]);
+    script.text(FUNCTION.as_bytes()).expect(rt, "no memory");
     for number in 0..CLIENTS {
         client(rt, script, number);
     }

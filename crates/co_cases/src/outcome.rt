@@ -89,7 +89,10 @@ pub fn call<R: AllocGlobal + Threads + Wait + Sync + Abort>(
         rt,
         "no memory",
     );
-    call_in_turns(rt, words, &mut source, &mut sink, turns)
+    let outcome = call_in_turns(rt, words, &mut source, &mut sink, turns);
+    drop(source);
+    drop(sink);
+    outcome
 }
 
 // The most bytes of a report in the tables.

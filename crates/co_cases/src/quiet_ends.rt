@@ -42,5 +42,8 @@ pub fn quiet<R: AllocGlobal + Threads + Wait + Sync + Abort>(
     let mut sink = QuietSink::new(alloc, room).expect(rt, "no memory");
     let finish = quiet_call(rt, alloc, words.as_slice(), &mut source, &mut sink);
     drop(words);
-    outcome_of(rt, alloc, finish, sink.bytes())
+    drop(source);
+    let outcome = outcome_of(rt, alloc, finish, sink.bytes());
+    drop(sink);
+    outcome
 }

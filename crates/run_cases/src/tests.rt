@@ -3,7 +3,6 @@
 //! What has a large drop, as a script or a service, is let go by `drop`: else its drop is written out, and checked, in each
 //! function that owns it at its end.
 mod crowd;
-mod held;
 mod packed;
 mod packed_list;
 mod ports;

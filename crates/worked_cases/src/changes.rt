@@ -5,147 +5,142 @@
 //! table's line in its place, and `add` has that text behind it. Lines are counted from 1. A line that begins with `#` tells what follows.
 use crate::call::says;
 use co_sbt::{NoMemory, Seq};
-use co_text::{Page, is_word, next_line, next_word, number};
+use co_text::{is_word, next_line, next_word, number};
 use co_top::Status;
 use std::alloc::Global;
 use std::sync::Wait;
 use std::thread::Threads;
 
 /// More lines than a table or a report of the worked scripts has.
-const MOST_LINES: usize = 1000;
+const MOST_LINES: u64 = 1000;
 
-/// A line of a table.
+/// A line of a table, in words.
 #[derive(Drop)]
 struct Changed<'a> {
     change: &'a [u8],
-    at: u64,
-    status: Status,
-    line: u64,
+    at: &'a [u8],
+    status: &'a [u8],
+    /// The number of the line that is named.
+    line: &'a [u8],
     cause: &'a [u8],
     text: &'a [u8],
 }
 
-/// The next word as a number.
-fn next_number(text: &[u8]) -> Option<(u64, &[u8])> {
-    let (word, rest) = next_word(text)?;
-    let Ok(number) = number(word) else {
-        return None;
-    };
-    match u64::try_from(number) {
-        Ok(number) => Some((number, rest)),
-        Err(_) => None,
+/// The next word and what stands behind it, both empty where there is none.
+fn word(text: &[u8]) -> (&[u8], &[u8]) {
+    match next_word(text) {
+        Some(found) => found,
+        None => (b"".as_slice(), b"".as_slice()),
     }
 }
 
-/// The status of this number, if `check` of a report may end so.
-fn status_of(number: u64) -> Option<Status> {
-    match number {
-        0 => Some(Status::Done),
-        1 => Some(Status::BadScript),
-        6 => Some(Status::NotLegal),
-        _ => None,
-    }
-}
-
-/// A line of a table, read. None where it is not one.
-fn read_changed(line: &[u8]) -> Option<Changed<'_>> {
-    let (change, rest) = next_word(line)?;
-    let (at, rest) = next_number(rest)?;
-    let (status, rest) = next_number(rest)?;
-    let (line, rest) = next_number(rest)?;
-    let (cause, rest) = next_word(rest)?;
-    let text = if rest.is_empty() { rest } else { &rest[1..] };
-    Some(Changed {
+/// A line of a table, read.
+fn read_changed(row: &[u8]) -> Changed<'_> {
+    let (change, rest) = word(row);
+    let (at, rest) = word(rest);
+    let (status, rest) = word(rest);
+    let (line, rest) = word(rest);
+    let (cause, rest) = word(rest);
+    Changed {
         change,
         at,
-        status: status_of(status)?,
+        status,
         line,
         cause,
-        text,
-    })
+        text: rest.get(1..).unwrap_or(rest),
+    }
 }
 
-/// One line more.
-fn push_line(text: &mut Seq<u8>, line: &[u8]) -> Result<(), NoMemory> {
-    text.extend_from_slice(line)?;
-    text.push(b'\n')
+/// The number of a line, by its word.
+fn line_number(word: &[u8]) -> u64 {
+    match number(word) {
+        Ok(number) => u64::try_from(number).unwrap_or(MOST_LINES),
+        Err(_) => MOST_LINES,
+    }
 }
 
-/// The lines that stand in the place of this one, where it is the one that is changed, and the lines behind them.
-fn push_changed<'r>(
-    text: &mut Seq<u8>,
-    changed: &Changed<'_>,
-    line: &[u8],
-    rest: &'r [u8],
-) -> Result<&'r [u8], NoMemory> {
-    let mut rest = rest;
-    if is_word(changed.change, b"double".as_slice()) {
-        push_line(text, line)?;
+/// The status of this word, of those with which `check` of a report may end.
+fn status_of(word: &[u8]) -> Status {
+    match word {
+        b"0" => Status::Done,
+        b"1" => Status::BadScript,
+        b"6" => Status::NotLegal,
+        _ => Status::Usage,
     }
-    if is_word(changed.change, b"swap".as_slice()) {
-        if let Some((next, _, behind)) = next_line(rest) {
-            push_line(text, next)?;
-            rest = behind;
-        }
-    }
-    if !is_word(changed.change, b"drop".as_slice()) && !is_word(changed.change, b"put".as_slice()) {
-        push_line(text, line)?;
-    }
-    if !changed.text.is_empty() {
-        push_line(text, changed.text)?;
-    }
-    Ok(rest)
 }
 
-/// The report with the change made.
-fn with_change(alloc: Global, report: &[u8], changed: &Changed<'_>) -> Result<Seq<u8>, NoMemory> {
-    let mut text = Seq::new(alloc);
+/// The first line of a text with its line feed, and the lines after it.
+fn first_line(text: &[u8]) -> (&[u8], &[u8]) {
+    match next_line(text) {
+        Some((_, _, after)) => text.split_at(text.len() - after.len()),
+        None => (text, text),
+    }
+}
+
+/// A report up to a line, and from there.
+fn cut(report: &[u8], at: u64) -> (&[u8], &[u8]) {
     let mut rest = report;
-    for number in 1..MOST_LINES {
-        let Some((line, _, after)) = next_line(rest) else {
-            break;
-        };
-        if changed.at == number as u64 {
-            rest = push_changed(&mut text, changed, line, after)?;
-        } else {
-            push_line(&mut text, line)?;
-            rest = after;
-        }
+    for _ in 1..at {
+        rest = first_line(rest).1;
+    }
+    let before = report.len().saturating_sub(rest.len());
+    (report.split_at(before).0, rest)
+}
+
+/// The report with the change made, in pieces.
+fn with_change<'t>(report: &'t [u8], changed: &Changed<'t>) -> [&'t [u8]; 4] {
+    let at = line_number(changed.at);
+    let (before, rest) = cut(report, at);
+    let (through, after) = cut(report, at.saturating_add(1));
+    let line = first_line(rest).0;
+    let (next, behind) = first_line(after);
+    let none = b"".as_slice();
+    if is_word(changed.change, b"drop".as_slice()) {
+        [before, after, none, none]
+    } else if is_word(changed.change, b"double".as_slice()) {
+        [through, line, after, none]
+    } else if is_word(changed.change, b"swap".as_slice()) {
+        [before, next, line, behind]
+    } else if is_word(changed.change, b"put".as_slice()) {
+        [before, changed.text, b"\n", after]
+    } else {
+        [through, changed.text, b"\n", after]
+    }
+}
+
+/// What `check` has to write, in pieces.
+fn verdict<'t>(changed: &Changed<'t>) -> [&'t [u8]; 5] {
+    match changed.status {
+        b"0" => [changed.cause, b"\n", b"", b"", b""],
+        _ => [b"line ", changed.line, b": ", changed.cause, b"\n"],
+    }
+}
+
+/// The bytes of these pieces, one behind the other.
+fn joined(alloc: Global, pieces: &[&[u8]]) -> Result<Seq<u8>, NoMemory> {
+    let mut text = Seq::new(alloc);
+    for piece in pieces {
+        text.extend_from_slice(piece)?;
     }
     Ok(text)
 }
 
-/// What `check` has to write.
-fn verdict(alloc: Global, changed: &Changed<'_>) -> Result<Seq<u8>, NoMemory> {
-    let mut page = Page::new(alloc);
-    if changed.status != Status::Done {
-        page.text(b"line ".as_slice())?;
-        page.number(changed.line)?;
-        page.text(b": ".as_slice())?;
-    }
-    page.text(changed.cause)?;
-    page.text(b"\n".as_slice())?;
-    page.done()
-}
-
 /// Whether `check` says of the changed report what the table's line says.
-fn is_judged<R: AllocGlobal + Threads + Wait + Sync>(
-    rt: &R,
-    report: &[u8],
-    line: &[u8],
-) -> Result<bool, NoMemory> {
-    let Some(changed) = read_changed(line) else {
-        return Ok(false);
+fn is_judged<R: AllocGlobal + Threads + Wait + Sync>(rt: &R, report: &[u8], row: &[u8]) -> bool {
+    let changed = read_changed(row);
+    let Ok(text) = joined(rt.alloc(), &with_change(report, &changed)) else {
+        return false;
     };
-    let text = with_change(rt.alloc(), report, &changed)?;
-    let wanted = verdict(rt.alloc(), &changed)?;
-    says(
-        rt,
-        "check",
-        text.as_slice(),
-        changed.status,
-        wanted.as_slice(),
-    )
+    match joined(rt.alloc(), &verdict(&changed)) {
+        Ok(wanted) => says(
+            rt,
+            "check",
+            text.as_slice(),
+            status_of(changed.status),
+            wanted.as_slice(),
+        ),
+        Err(_) => false,
+    }
 }
 
 /// How many changes of a table are judged as it says, where all are. Else 0.
@@ -153,20 +148,20 @@ pub fn count_judged<R: AllocGlobal + Threads + Wait + Sync>(
     rt: &R,
     report: &[u8],
     table: &[u8],
-) -> Result<u64, NoMemory> {
+) -> u64 {
     let mut rest = table;
     let mut judged: u64 = 0;
-    for _number in 1..MOST_LINES {
-        let Some((line, _, after)) = next_line(rest) else {
+    for _ in 0..MOST_LINES {
+        let Some((row, _, after)) = next_line(rest) else {
             break;
         };
         rest = after;
-        if line.first() != Some(&b'#') {
-            if !is_judged(rt, report, line)? {
-                return Ok(0);
+        if !matches!(row, [b'#', ..]) {
+            if !is_judged(rt, report, row) {
+                return 0;
             }
             judged = judged.saturating_add(1);
         }
     }
-    Ok(judged)
+    judged
 }

@@ -1,7 +1,7 @@
 //! What is refused, and how.
 use crate::{make, read};
 use co_top::Status;
-use std::alloc::{AllocError, Global};
+use std::alloc::Global;
 use std::process::Abort;
 use std::sync::Wait;
 use std::thread::Threads;
@@ -57,6 +57,11 @@ fn is_refused<R: AllocGlobal + Threads + Wait + Sync + Abort>(
     outcome.says(Status::BadScript, line.as_bytes()) && !outcome.closed
 }
 
+// Whether `steps` of the script is done.
+fn is_done<R: AllocGlobal + Threads + Wait + Sync + Abort>(rt: &R, script: &[u8]) -> bool {
+    read(rt, "steps", script).status == Status::Done
+}
+
 #[test]
 fn bad_scripts(rt: HostRuntime) {
     for (word, script, line) in &REFUSED {
@@ -88,7 +93,7 @@ fn a_million_lines_cut_at_the_last(rt: HostRuntime) {
     let mut script = million_lines(&rt, rt.alloc());
     assert!(rt; is_refused(&rt, "steps", script.as_slice(), "line 1000000: cut\n"));
     script.push(b'\n').expect(&rt, "no memory");
-    assert!(rt; read(&rt, "steps", script.as_slice()).status == Status::Done);
+    assert!(rt; is_done(&rt, script.as_slice()));
 }
 
 static NO_COMMANDS: [&[&str]; 9] = [
@@ -112,17 +117,38 @@ fn words_that_are_no_command(rt: HostRuntime) {
     }
 }
 
-fn is_line_feed(byte: &&u8) -> bool {
-    **byte == b'\n'
+// What is written of a script that ends in the line behind so many.
+static CUT: [&str; 11] = [
+    "line 1: cut\n",
+    "line 2: cut\n",
+    "line 3: cut\n",
+    "line 4: cut\n",
+    "line 5: cut\n",
+    "line 6: cut\n",
+    "line 7: cut\n",
+    "line 8: cut\n",
+    "line 9: cut\n",
+    "line 10: cut\n",
+    "line 11: cut\n",
+];
+
+// How many lines a script has that end.
+fn ended_lines(script: &[u8]) -> usize {
+    let mut count: usize = 0;
+    for byte in script {
+        if *byte == b'\n' {
+            count = count.saturating_add(1);
+        }
+    }
+    count
 }
 
-// What is written of the first bytes of a script whose lines up to the timer's are `head` bytes long.
-fn refusal(alloc: Global, prefix: &[u8]) -> Result<String, AllocError> {
-    let lines = prefix.iter().filter(is_line_feed).count();
+// What is written of the first bytes of the script, where these are no script.
+fn refusal(prefix: &[u8]) -> &'static str {
     match prefix.last() {
-        None => format!(in alloc; "line 0: version\n"),
-        Some(b'\n') => format!(in alloc; "line 0: timer\n"),
-        Some(_) => format!(in alloc; "line {}: cut\n", lines + 1),
+        None => "line 0: version\n",
+        Some(b'\n') => "line 0: timer\n",
+        Some(_) => CUT[ended_lines(prefix).min(10)],
     }
 }
 
@@ -132,10 +158,9 @@ fn beginnings_of_a_script(rt: HostRuntime) {
     for end in 0..script.len() {
         let prefix = &script[..end];
         let is_right = if end >= TO_THE_TIMER && prefix.last() == Some(&b'\n') {
-            read(&rt, "steps", prefix).status == Status::Done
+            is_done(&rt, prefix)
         } else {
-            let line = refusal(rt.alloc(), prefix).expect(&rt, "no memory");
-            is_refused(&rt, "steps", prefix, line.as_str())
+            is_refused(&rt, "steps", prefix, refusal(prefix))
         };
         assert!(rt; is_right, "the first {end} bytes");
     }

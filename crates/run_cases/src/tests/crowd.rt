@@ -8,6 +8,7 @@ use co_program::{Act, Acts, Script, When, Where, Who};
 use co_sbt::{Sbt, Seq};
 use co_script::print_script;
 use std::alloc::Global;
+use std::ops::Range;
 use std::process::Abort;
 use std::sync::atomic::{AtomicU64, Ordering};
 
@@ -22,6 +23,9 @@ const ACTS: u64 = 3000;
 
 /// How many acts the clients make from one tick of a CPU to the next.
 const BETWEEN: u64 = 80;
+
+/// How often a CPU ticks.
+const TICKS: u64 = ACTS * CLIENTS as u64 / BETWEEN + 1;
 
 /// How many acts lie at most between an arming and its time.
 const SPAN: u64 = 128;
@@ -63,51 +67,37 @@ fn choose(number: u64, draw: u64) -> Act {
 fn add(rt: &impl Abort, acts: &mut Acts, act: Act) {
     // The check has to be told of the types of an act's parts.
     let _parts: (Option<Who>, Option<When>, Option<Where>) = (None, None, None);
-    assert!(rt; acts.push(act).is_ok(), "no memory");
+    acts.push(act).expect(rt, "no memory");
 }
 
-/// A client's program.
-fn acts_of(rt: &impl Abort, alloc: Global, client: u32) -> Acts {
+/// The act of this number of an actor: of a client as [`choose`] says, of a CPU a tick whenever the clients have made some acts more.
+fn act_of(actor: u32, number: u64, draw: u64) -> Act {
+    if actor < CLIENTS {
+        choose(number, draw)
+    } else {
+        Act::Tick(time_after(number.saturating_mul(BETWEEN)))
+    }
+}
+
+/// An actor's program. A CPU ticks up to all acts of the clients.
+fn acts_of(rt: &impl Abort, alloc: Global, actor: u32) -> Acts {
+    let count = if actor < CLIENTS { ACTS } else { TICKS };
     let mut acts = Seq::new(alloc);
-    let mut draw = u64::from(client);
-    for number in 0..ACTS {
+    let mut draw = u64::from(actor);
+    for number in 0..count {
         draw = next_draw(draw);
-        add(rt, &mut acts, choose(number, draw));
+        add(rt, &mut acts, act_of(actor, number, draw));
     }
     acts
 }
 
-/// A CPU's ticks: one whenever the clients have made some acts more, up to all.
-fn ticks_of(rt: &impl Abort, alloc: Global) -> Acts {
-    let mut acts = Seq::new(alloc);
-    let all = ACTS.saturating_mul(u64::from(CLIENTS));
-    for tick in 0..=all / BETWEEN {
-        add(
-            rt,
-            &mut acts,
-            Act::Tick(time_after(tick.saturating_mul(BETWEEN))),
-        );
-    }
-    acts
-}
-
-/// The clients' programs.
-fn clients(rt: &impl Abort, alloc: Global) -> Seq<Acts> {
+/// The programs of these actors.
+fn programs(rt: &impl Abort, alloc: Global, actors: Range<u32>) -> Seq<Acts> {
     let mut programs = Seq::new(alloc);
-    for client in 0..CLIENTS {
-        assert!(rt;
-            programs.push(acts_of(rt, alloc, client)).is_ok(),
-            "no memory"
-        );
-    }
-    programs
-}
-
-/// The CPUs' ticks.
-fn ticks(rt: &impl Abort, alloc: Global) -> Seq<Acts> {
-    let mut programs = Seq::new(alloc);
-    for _ in 0..CPUS {
-        assert!(rt; programs.push(ticks_of(rt, alloc)).is_ok(), "no memory");
+    for actor in actors {
+        programs
+            .push(acts_of(rt, alloc, actor))
+            .expect(rt, "no memory");
     }
     programs
 }
@@ -115,10 +105,8 @@ fn ticks(rt: &impl Abort, alloc: Global) -> Seq<Acts> {
 /// The crowd's script, with callouts without locks.
 fn script(rt: &impl Abort, alloc: Global) -> Script {
     let mut funcs = Seq::new(alloc);
-    assert!(rt; funcs.push(Seq::new(alloc)).is_ok(), "no memory");
-    let Ok(timers) = Seq::filled(alloc, CALLOUTS as usize, FREE) else {
-        panic!(rt; "no memory")
-    };
+    funcs.push(Seq::new(alloc)).expect(rt, "no memory");
+    let timers = Seq::filled(alloc, CALLOUTS as usize, FREE).expect(rt, "no memory");
     Script {
         version: 1,
         hz: 1000,
@@ -127,8 +115,8 @@ fn script(rt: &impl Abort, alloc: Global) -> Script {
         locks: Seq::new(alloc),
         timers,
         funcs,
-        clients: clients(rt, alloc),
-        ticks: ticks(rt, alloc),
+        clients: programs(rt, alloc, 0..CLIENTS),
+        ticks: programs(rt, alloc, CLIENTS..CLIENTS + CPUS),
         turns: Seq::new(alloc),
     }
 }
@@ -136,9 +124,7 @@ fn script(rt: &impl Abort, alloc: Global) -> Script {
 /// The text of the crowd's script.
 fn text(rt: &impl Abort, alloc: Global) -> Seq<u8> {
     let script = script(rt, alloc);
-    let Ok(text) = print_script(alloc, &script) else {
-        panic!(rt; "no memory")
-    };
+    let text = print_script(alloc, &script).expect(rt, "no memory");
     drop(script);
     text
 }

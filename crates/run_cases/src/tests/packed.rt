@@ -48,10 +48,8 @@ tick 1
 fn joined(rt: &impl Abort, alloc: Global, pieces: &[Seq<u8>]) -> Seq<u8> {
     let mut text = Seq::new(alloc);
     for piece in pieces {
-        assert!(rt;
-            text.extend_from_slice(piece.as_slice()).is_ok(),
-            "no memory"
-        );
+        text.extend_from_slice(piece.as_slice())
+            .expect(rt, "no memory");
     }
     text
 }
@@ -64,12 +62,8 @@ fn packed_report<R: Threads + Wait + Sync + Abort>(
 ) -> Seq<Seq<u8>>
     requires { CanRun script.now }
 {
-    let Ok(ran) = run_packed(rt, alloc, script, &OpenGate {}) else {
-        panic!(rt; "no memory")
-    };
-    let Ok(pieces) = print_by_threads(rt, alloc, script, &ran.lists) else {
-        panic!(rt; "no memory")
-    };
+    let ran = run_packed(rt, alloc, script, &OpenGate {}).expect(rt, "no memory");
+    let pieces = print_by_threads(rt, alloc, script, &ran.lists).expect(rt, "no memory");
     pieces
 }
 

@@ -391,8 +391,8 @@ fn is_head_of(head: Option<Head>, note: &Note) -> bool {
     }
 }
 
-/// Notes of each kind with each of these numbers.
-fn made(rt: &impl Abort, alloc: Global, all: &[Numbers]) -> Making {
+/// Whether a packed list of notes of each kind with each of these numbers has the notes, one by one and in passes over them and their heads.
+fn has_notes(rt: &impl Abort, alloc: Global, all: &[Numbers]) -> bool {
     let mut making = Making {
         numbers: NUMBERS[0],
         notes: Seq::new(alloc),
@@ -401,16 +401,11 @@ fn made(rt: &impl Abort, alloc: Global, all: &[Numbers]) -> Making {
     for numbers in all {
         making.add_all(rt, *numbers);
     }
-    making
+    making.are_found() && making.are_passed() && making.are_headed()
 }
 
 #[test]
-fn a_packed_list_has_the_notes(rt: HostRuntime) {
-    assert!(rt; made(&rt, rt.alloc(), &NUMBERS).are_found());
-}
-
-#[test]
-fn passes_over_a_packed_list_have_the_notes_and_their_heads(rt: HostRuntime) {
-    let making = made(&rt, rt.alloc(), &NUMBERS[2..3]);
-    assert!(rt; making.are_passed() && making.are_headed());
+fn packed_lists_have_the_notes(rt: HostRuntime) {
+    assert!(rt; has_notes(&rt, rt.alloc(), &NUMBERS));
+    assert!(rt; has_notes(&rt, rt.alloc(), &NUMBERS[2..3]));
 }

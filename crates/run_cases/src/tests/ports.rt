@@ -1,4 +1,4 @@
-//! The functions of a script, run through ports over one service, each on a thread of its own.
+//! The functions of a script, run through ports over one service, each on a thread of its own, while the lock of another CPU is kept.
 ghost use Rattle.std.specs.Prelude.{◌≡◌, ◌<◌, length};
 ghost use Rattle.co_program.specs.Scripts.{IsScript};
 ghost use Rattle.co_service.specs.Booted.{AreBooted};
@@ -21,7 +21,7 @@ use std::process::Abort;
 use std::sync::Wait;
 use std::thread::{Threads, join};
 
-/// Two functions over two callouts.
+/// Two functions over two callouts, which are at the first CPU and the third.
 const FUNCTIONS: &str = "callout 1
 cpus 3
 funcs 2
@@ -31,6 +31,8 @@ func 0
 reset me +1 f0 a7
 pending me
 stop me
+reset 0 =1 f0 a0 cpu 2
+stop 0
 func 1
 reset 1 =3 f1 a8 cpu here
 active 1
@@ -73,13 +75,11 @@ fn calls_of<N: Name, R: Wait + Sync + Abort>(
     requires passes { AreOf N.name service.now passes }
     requires callout { i < 2 }
 {
-    let Ok(mut table) = FuncTable::new(alloc, script) else {
-        panic!(rt; "no memory")
-    };
-    let Ok(mut port) = ServicePort::new(rt, alloc, gate, service, &SPECS, passes, 0, MOST_ACTS)
-    else {
-        panic!(rt; "no memory")
-    };
+    let mut table = FuncTable::new(alloc, script).expect(rt, "no memory");
+    let mut port = ServicePort::new(rt, alloc, gate, service, &SPECS, passes, 0, MOST_ACTS).expect(
+        rt,
+        "no memory",
+    );
     table.run(&fire(i, 2), None, &mut port);
     let (passes, calls) = port.into_parts();
     drop(passes);
@@ -114,7 +114,7 @@ fn calls_of_both<N: Name + Send + Sync, R: Threads + Wait + Sync + Abort>(
     )
 }
 
-/// Opens the service, and runs both functions on it.
+/// Opens the service, and runs both functions on it while the second CPU's lock is kept: there is a lock for each CPU.
 fn run_both<N: Name + Send + Sync, R: Threads + Wait + Sync + Abort>(
     rt: &R,
     alloc: Global,
@@ -130,11 +130,12 @@ fn run_both<N: Name + Send + Sync, R: Threads + Wait + Sync + Abort>(
     requires scene { fresh.params ≡ two_clients }
     requires passes { AreBooted fresh.name fresh.params passes }
 {
-    let Ok(service) = Service::<N>::open(alloc, fresh) else {
-        panic!(rt; "no memory")
-    };
+    let service = Service::<N>::open(alloc, fresh).expect(rt, "no memory");
     let (one, other) = leave_clients(&service, passes);
+    let hold = service.hold_desk(rt, 1);
+    assert!(rt; hold.cpu() == 1);
     let calls = calls_of_both(rt, alloc, script, gate, &service, one, other);
+    drop(hold);
     drop(service);
     calls
 }
@@ -159,11 +160,11 @@ fn call(i: u32, op: PlainOp, reply: Reply) -> PortCall {
     }
 }
 
-/// An arming at a CPU.
-fn armed(cpu: u32) -> Reply {
+/// An arming of this number at a CPU.
+fn armed(n: u64, cpu: u32) -> Reply {
     Reply::Armed {
         code: 0,
-        n: 0,
+        n,
         cpu,
         off: None,
     }
@@ -180,12 +181,14 @@ fn stopped(cpu: u32) -> Reply {
 /// Whether the functions made these calls.
 fn are_made(first: &Seq<PortCall>, second: &Seq<PortCall>) -> bool {
     let home = [
-        call(0, reset(2, 0, 7, None), armed(0)),
+        call(0, reset(2, 0, 7, None), armed(0, 0)),
         call(0, PlainOp::Pending, Reply::Yes),
         call(0, PlainOp::Stop, stopped(0)),
+        call(0, reset(1, 0, 0, Some(2)), armed(1, 2)),
+        call(0, PlainOp::Stop, stopped(2)),
     ];
     let here = [
-        call(1, reset(3, 1, 8, Some(2)), armed(2)),
+        call(1, reset(3, 1, 8, Some(2)), armed(0, 2)),
         call(1, PlainOp::Active, Reply::Yes),
         call(1, PlainOp::Stop, stopped(2)),
     ];
@@ -210,7 +213,10 @@ fn run_through_ports<R: Threads + Wait + Sync + Abort>(
     let made = are_made(&first, &second);
     drop(first);
     drop(second);
-    made && gate.is_kept(&[3, 3])
+    let kept = gate.is_kept(&[5, 3]);
+    drop(gate);
+    drop(told);
+    made && kept
 }
 
 #[test]

@@ -71,9 +71,7 @@ pub(super) fn run_text<G: Gate + Sync, R: Threads + Wait + Sync + Abort>(
     gate: &G,
 ) -> Lists {
     let script = script_of(rt, alloc, text);
-    let Ok(ran) = run_threads(rt, alloc, &script, gate) else {
-        panic!(rt; "no memory")
-    };
+    let ran = run_threads(rt, alloc, &script, gate).expect(rt, "no memory");
     let lists = legal_lists(rt, alloc, &script, ran);
     drop(script);
     lists
@@ -103,9 +101,7 @@ fn open_and_run<
     requires empty { AreEmptyBooks B.notes B.spare books }
     ensures { IfOk result (IsRan script.now) }
 {
-    let Ok(service) = Service::<N>::open(alloc, fresh) else {
-        panic!(rt; "no memory")
-    };
+    let service = Service::<N>::open(alloc, fresh).expect(rt, "no memory");
     run_books(rt, alloc, script, gate, service, passes, books)
 }
 
@@ -123,16 +119,15 @@ pub(super) fn run_with<G: Gate + Sync, B: Notebook + Send, R: Threads + Wait + S
     ensures { IfOk result (IsRan script.now) }
 {
     let clients = script.clients.as_slice().len() as u32;
-    let Ok(made) = Fresh::boot(
+    let made = Fresh::boot(
         alloc,
         script.version,
         script.cpus,
         script.buckets,
         clients,
         script.timers.as_slice(),
-    ) else {
-        panic!(rt; "no memory")
-    };
+    )
+    .expect(rt, "no memory");
     let (fresh, passes) = made;
     open_and_run::<Brand, G, B, R>(rt, alloc, script, gate, fresh, passes, books)
 }

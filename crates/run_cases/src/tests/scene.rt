@@ -1,18 +1,14 @@
 //! A service of two clients, three CPUs and two callouts without locks, on which clients call through ports.
-ghost use Rattle.std.specs.Prelude.{◌≡◌, ◌<◌};
-ghost use Rattle.co_hand.specs.Ports.{NamesCpuBelow};
+ghost use Rattle.std.specs.Prelude.{◌≡◌};
 ghost use Rattle.co_service.specs.Booted.{AreBooted};
 ghost use Rattle.co_desk.specs.Views.{AreOf};
 ghost use Rattle.run_cases.specs.Scenes.{two_clients};
 
-use co_hand::{OpenGate, Port, PortReply};
-use co_object::{LockUse, PlainOp, Spec};
-use co_run::ServicePort;
+use co_object::{LockUse, Spec};
 use co_sbt::Seq;
 use co_service::{Fresh, Name, Passes, Service};
 use std::alloc::Global;
 use std::process::Abort;
-use std::sync::Wait;
 
 /// Two callouts without locks.
 pub(super) const SPECS: [Spec; 2] = [FREE, FREE];
@@ -29,9 +25,7 @@ pub(super) fn boot(rt: &impl Abort, alloc: Global) -> (Fresh, Seq<Passes>)
     ensures scene { result.0.params ≡ two_clients }
     ensures passes { AreBooted result.0.name result.0.params result.1 }
 {
-    let Ok(made) = Fresh::boot(alloc, 1, 3, 16, 2, &SPECS) else {
-        panic!(rt; "no memory")
-    };
+    let made = Fresh::boot(alloc, 1, 3, 16, 2, &SPECS).expect(rt, "no memory");
     made
 }
 
@@ -51,25 +45,4 @@ pub(super) fn leave_clients<N: Name>(service: &Service<N>, passes: Seq<Passes>) 
     let one = service.leave(&mut all, 0);
     drop(all);
     (one, other)
-}
-
-/// A client's call on a callout, through a port.
-pub(super) fn ask<N: Name, R: Wait + Abort>(
-    rt: &R,
-    alloc: Global,
-    service: &Service<N>,
-    passes: Passes,
-    i: u32,
-    op: PlainOp,
-) -> PortReply
-    requires scene { service.now ≡ two_clients }
-    requires passes { AreOf N.name service.now passes }
-    requires callout { i < 2 }
-    requires cpu { NamesCpuBelow 3 op }
-{
-    let Ok(mut port) = ServicePort::new(rt, alloc, &OpenGate {}, service, &SPECS, passes, 0, 1)
-    else {
-        panic!(rt; "no memory")
-    };
-    port.call(i, &op, None)
 }

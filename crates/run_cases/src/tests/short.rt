@@ -1,13 +1,9 @@
 //! Runs in which a CPU is refused the room for its notes.
-ghost use Rattle.std.specs.Prelude.{◌≡◌, length};
-ghost use Rattle.co_run.specs.Jobs.{AreEmptyBooks};
 ghost use Rattle.run_cases.specs.Scenes.{CanRun};
 
-use super::running::{is_run_legal, run_with, script_of};
-use co_hand::OpenGate;
-use co_program::{Script, actor_count};
-use co_run::ShortBook;
-use co_sbt::Seq;
+use super::running::{is_run_legal, script_of};
+use super::waits::run_waiting;
+use co_program::Script;
 use std::alloc::Global;
 use std::process::Abort;
 use std::sync::Wait;
@@ -31,26 +27,8 @@ cpu 0
 tick 1
 ";
 
-/// The actor that is refused room: the first CPU.
-const REFUSED: u32 = 2;
-
-/// How often it asks for room at most.
+/// How often the first CPU, which is the third actor, asks for room at most.
 const MOST: u64 = 100;
-
-/// An empty book for each actor, of which the refused one's refuses its reserve of this number.
-fn short_books(rt: &impl Abort, alloc: Global, actors: u32, refused: u64) -> Seq<ShortBook>
-    ensures count { length result ≡ actors }
-    ensures empty { AreEmptyBooks (λ b. b.book.notes.items) (λ b. b.book.spare) result }
-{
-    let mut books = Seq::new(alloc);
-    for actor in 0..actors {
-        let number = if actor == REFUSED { refused } else { u64::MAX };
-        let Ok(()) = books.push(ShortBook::new(alloc, number)) else {
-            panic!(rt; "no memory")
-        };
-    }
-    books
-}
 
 /// The number of the first reserve that the CPU doesn't make, and whether the report of that run is legal. Each run before it
 /// is refused a reserve.
@@ -62,8 +40,7 @@ fn first_whole<R: Threads + Wait + Sync + Abort>(
     requires { CanRun script.now }
 {
     for refused in 0..MOST {
-        let books = short_books(rt, alloc, actor_count(script), refused);
-        if let Ok(ran) = run_with(rt, alloc, script, &OpenGate {}, books) {
+        if let Ok(ran) = run_waiting(rt, alloc, script, &[], &[2, 2, 2, 0], refused) {
             return Some((refused, is_run_legal(alloc, script, &ran)));
         }
     }

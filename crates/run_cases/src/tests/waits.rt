@@ -1,12 +1,14 @@
 //! Actors that wait for each other at the gate.
-ghost use Rattle.std.specs.Prelude.{◌≡◌, length, vec_len};
+ghost use Rattle.std.specs.Prelude.{◌≡◌, IfOk, length, vec_len};
 ghost use Rattle.co_run.specs.Jobs.{AreEmptyBooks};
+ghost use Rattle.co_run.specs.Ran.{IsRan};
+ghost use Rattle.run_cases.specs.Scenes.{CanRun};
 
 use super::running::{legal_lists, run_with, script_of};
 use co_hand::Gate;
 use co_object::{Lists, Note};
-use co_program::actor_count;
-use co_run::{Notebook, RoomBook};
+use co_program::{Script, actor_count};
+use co_run::{Notebook, Ran, ShortBook};
 use co_sbt::{NoMemory, Seq};
 use std::alloc::Global;
 use std::process::Abort;
@@ -16,6 +18,9 @@ use std::thread::{Threads, yield_now};
 
 /// How often a thread looks before it gives up.
 const LOOKS: u64 = 10_000_000;
+
+/// A number that no reserve has.
+const NO_RESERVE: u64 = u64::MAX;
 
 /// Looks until a word is at least so much. False where it isn't after all looks.
 pub(super) fn comes_to(word: &AtomicU64, least: u64) -> bool {
@@ -48,9 +53,7 @@ pub(super) fn nothing_told(rt: &impl Abort, alloc: Global, actors: u32) -> Vec<T
             acts: AtomicU64::new(0),
             notes: AtomicU64::new(0),
         };
-        if all.push(told).is_err() {
-            panic!(rt; "no memory");
-        }
+        all.push(told).expect(rt, "no memory");
     }
     all
 }
@@ -140,17 +143,17 @@ impl Gate for Waits<'_> {
     }
 }
 
-/// A notebook that tells how many notes it has.
+/// A notebook that tells how many notes it has, and refuses its reserve of one number.
 #[derive(Drop)]
 pub(super) struct ToldBook<'a> {
-    book: RoomBook,
+    book: ShortBook,
     told: &'a Told,
 }
 
 impl Notebook for ToldBook<'_> {
-    ghost notes = { λ b. b.book.notes.items };
+    ghost notes = { λ b. b.book.book.notes.items };
 
-    ghost spare = { λ b. b.book.spare };
+    ghost spare = { λ b. b.book.book.spare };
 
     fn reserve(&mut self, count: u32) -> Result<(), NoMemory> {
         self.book.reserve(count)
@@ -166,22 +169,53 @@ impl Notebook for ToldBook<'_> {
     }
 }
 
-/// An empty book for each actor.
-fn told_books<'a>(rt: &impl Abort, alloc: Global, told: &'a [Told]) -> Seq<ToldBook<'a>>
+/// An empty book for each actor, of which the third's refuses its reserve of this number.
+fn told_books<'a>(
+    rt: &impl Abort,
+    alloc: Global,
+    told: &'a [Told],
+    refused: u64,
+) -> Seq<ToldBook<'a>>
     ensures count { length result ≡ length told.now }
-    ensures empty { AreEmptyBooks (λ b. b.book.notes.items) (λ b. b.book.spare) result }
+    ensures empty { AreEmptyBooks (λ b. b.book.book.notes.items) (λ b. b.book.book.spare) result }
 {
     let mut books = Seq::new(alloc);
     for told in told {
+        let number = if books.as_slice().len() == 2 {
+            refused
+        } else {
+            NO_RESERVE
+        };
         let book = ToldBook {
-            book: RoomBook::new(alloc),
+            book: ShortBook::new(alloc, number),
             told,
         };
-        let Ok(()) = books.push(book) else {
-            panic!(rt; "no memory")
-        };
+        books.push(book).expect(rt, "no memory");
     }
     books
+}
+
+/// Runs a script, with acts that wait for others. Each actor announces so many acts, unless the third actor's book refuses its reserve
+/// of this number: then the run ends with `NoMemory`.
+pub(super) fn run_waiting<R: Threads + Wait + Sync + Abort>(
+    rt: &R,
+    alloc: Global,
+    script: &Script,
+    after: &[After],
+    acts: &[u64],
+    refused: u64,
+) -> Result<Ran, NoMemory>
+    requires { CanRun script.now }
+    ensures { IfOk result (IsRan script.now) }
+{
+    let told = nothing_told(rt, alloc, actor_count(script));
+    let gate = Waits::new(after, told.as_slice());
+    let books = told_books(rt, alloc, told.as_slice(), refused);
+    let ran = run_with(rt, alloc, script, &gate, books);
+    assert!(rt; ran.is_err() || gate.is_kept(acts));
+    drop(gate);
+    drop(told);
+    ran
 }
 
 /// Runs the script of a text, with acts that wait for others. Its report is legal, and each actor announces so many acts.
@@ -193,13 +227,7 @@ pub(super) fn run_in_order<R: Threads + Wait + Sync + Abort>(
     acts: &[u64],
 ) -> Lists {
     let script = script_of(rt, alloc, text);
-    let told = nothing_told(rt, alloc, actor_count(&script));
-    let gate = Waits::new(after, told.as_slice());
-    let books = told_books(rt, alloc, told.as_slice());
-    let Ok(ran) = run_with(rt, alloc, &script, &gate, books) else {
-        panic!(rt; "no memory")
-    };
-    assert!(rt; gate.is_kept(acts));
+    let ran = run_waiting(rt, alloc, &script, after, acts, NO_RESERVE).expect(rt, "no memory");
     let lists = legal_lists(rt, alloc, &script, ran);
     drop(script);
     lists

@@ -43,6 +43,7 @@ pub(super) fn view<R: Abort>(
     let mut sink = MemSink::new(alloc, ends.room, 32, ends.write_fails).expect(rt, "no memory");
     let status = view_main(alloc, words.as_slice(), &mut source, &mut sink);
     drop(words);
+    drop(source);
     (status, sink)
 }
 

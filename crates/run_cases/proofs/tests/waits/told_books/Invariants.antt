@@ -6,5 +6,5 @@ use Rattle.run_cases.proofs.tests.waits.told_books.Given as goal
 abbrev pub invariant-loop-told : goal.invariant-loop-told
 invariant-loop-told g l = record {
   count : length l.books ≡ l.told-index;
-  empty : AreEmptyBooks (λ b. b.book.notes.items) (λ b. b.book.spare) l.books;
+  empty : AreEmptyBooks (λ b. b.book.book.notes.items) (λ b. b.book.book.spare) l.books;
 }
