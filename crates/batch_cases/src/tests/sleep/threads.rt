@@ -59,10 +59,10 @@ impl Slept {
 fn sleep_often<N: SleepName, R: Wait>(
     rt: &R,
     queue: &SleepQueue<N>,
-    mut passes: SleepPasses,
+    passes: &mut SleepPasses,
     over: &AtomicBool,
 ) -> Slept
-    requires passes { ArePasses N.name N.book queue.now passes }
+    requires passes { ArePasses N.name N.book queue.now passes.old }
     requires sleeper { 0 < sleepers queue.now }
 {
     let mut slept = Slept {
@@ -71,11 +71,10 @@ fn sleep_often<N: SleepName, R: Wait>(
         other: 0,
     };
     for k in 0..64_u64 {
-        let (began, end) = sleep_once(rt, queue, &mut passes);
+        let (began, end) = sleep_once(rt, queue, passes);
         slept.count(k, began, end);
     }
     over.store(true, Ordering::SeqCst);
-    drop(passes);
     slept
 }
 
@@ -83,18 +82,17 @@ fn sleep_often<N: SleepName, R: Wait>(
 fn wake_often<N: SleepName, R: Wait>(
     rt: &R,
     queue: &SleepQueue<N>,
-    mut passes: SleepPasses,
+    passes: &mut SleepPasses,
     over: &AtomicBool,
 ) -> u32
-    requires passes { ArePasses N.name N.book queue.now passes }
+    requires passes { ArePasses N.name N.book queue.now passes.old }
 {
     let mut woken: u32 = 0;
     for _ in rt.forever() {
         if over.load(Ordering::SeqCst) {
-            drop(passes);
             return woken;
         }
-        if queue.wakeup_one(rt, &mut passes, 7) != SleepReply::Nobody {
+        if queue.wakeup_one(rt, passes, 7) != SleepReply::Nobody {
             woken = woken.wrapping_add(1);
         }
     }
@@ -105,20 +103,19 @@ fn wake_often<N: SleepName, R: Wait>(
 fn tick_often<N: SleepName, R: Wait>(
     rt: &R,
     queue: &SleepQueue<N>,
-    mut passes: SleepPasses,
+    passes: &mut SleepPasses,
     over: &AtomicBool,
 ) -> Ticked
-    requires passes { ArePasses N.name N.book queue.now passes }
-    requires free { IsFree false passes.service 0 }
+    requires passes { ArePasses N.name N.book queue.now passes.old }
+    requires free { IsFree false passes.old.service 0 }
 {
     let second = Sbt::from_ticks(1000, 1000);
     let mut all = Ticked { out: 0, late: 0 };
     for _ in rt.forever() {
         if over.load(Ordering::SeqCst) {
-            drop(passes);
             return all;
         }
-        let ticked = queue.tick(rt, &mut passes, 0, second);
+        let ticked = queue.tick(rt, passes, 0, second);
         all = Ticked {
             out: all.out.wrapping_add(ticked.out),
             late: all.late.wrapping_add(ticked.late),
@@ -142,18 +139,20 @@ enum Came {
 fn play<N: SleepName, R: Wait>(
     rt: &R,
     queue: &SleepQueue<N>,
-    passes: SleepPasses,
+    mut passes: SleepPasses,
     over: &AtomicBool,
 ) -> Came
     requires passes { ArePasses N.name N.book queue.now passes }
     requires sleeper { 0 < sleepers queue.now }
     requires free { passes.service.actor ≡ 2 → IsFree false passes.service 0 }
 {
-    match passes.actor() {
-        0 => Came::Slept(sleep_often(rt, queue, passes, over)),
-        2 => Came::Ticked(tick_often(rt, queue, passes, over)),
-        _ => Came::Woken(wake_often(rt, queue, passes, over)),
-    }
+    let came = match passes.actor() {
+        0 => Came::Slept(sleep_often(rt, queue, &mut passes, over)),
+        2 => Came::Ticked(tick_often(rt, queue, &mut passes, over)),
+        _ => Came::Woken(wake_often(rt, queue, &mut passes, over)),
+    };
+    drop(passes);
+    came
 }
 
 /// All three, each in a thread of its own.
