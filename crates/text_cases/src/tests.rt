@@ -2,6 +2,7 @@
 ghost use Rattle.co_program.specs.Scripts.{IsScript};
 
 use co_program::Script;
+use co_sbt::Seq;
 use co_script::read_script;
 use std::alloc::Global;
 use std::process::Abort;
@@ -30,4 +31,11 @@ fn script_of<R: Abort>(rt: &R, alloc: Global, text: &[u8]) -> Script
 /// Stops where a row is not as it has to be, and names it.
 fn is_right<R: Abort>(rt: &R, row: &str, right: bool) {
     assert!(rt; right, "{row}");
+}
+
+/// Stops where a text is not as it has to be.
+fn is_text<R: Abort>(rt: &R, text: Seq<u8>, wanted: &[u8]) {
+    let same = text.as_slice() == wanted;
+    drop(text);
+    assert!(rt; same);
 }

@@ -190,8 +190,11 @@ fn takes_six<R: Abort>(rt: &R, alloc: Global) -> bool {
     let poured = pour(alloc, &mut first, &mut sink).is_ok() && sink.bytes() == b"abc".as_slice();
     let mut second = MemSource::new(alloc, b"def", 1, &[]).expect(rt, "no memory");
     let copied = copy(alloc, 3, &mut second, &mut sink);
+    let right = poured && copied && sink.bytes() == b"abcdef".as_slice();
+    drop(first);
     drop(second);
-    poured && copied && sink.bytes() == b"abcdef".as_slice()
+    drop(sink);
+    right
 }
 
 #[test]

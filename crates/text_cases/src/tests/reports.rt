@@ -1,7 +1,7 @@
 //! Worked reports.
 ghost use Rattle.std.specs.Prelude.{◌≡◌, ◌∷◌, []};
 
-use super::is_right;
+use super::{is_right, is_text};
 use co_object::{AnyEntry, Lists, OwnEntry, OwnKind, Place};
 use co_report::{Line, print_report, read_report};
 use co_sbt::Seq;
@@ -36,10 +36,7 @@ fn empty_run(rt: HostRuntime) {
         timer 0\nwheel 0\nactor p0\nend\n"
             .as_slice();
     let script = b"callout 1\ntimer 0 mpsafe\n".as_slice();
-    let report = report_of_nobody(&rt, rt.alloc(), script);
-    let right = report.as_slice() == wanted;
-    drop(report);
-    assert!(rt; right);
+    is_text(&rt, report_of_nobody(&rt, rt.alloc(), script), wanted);
 }
 
 /// Texts, and how many notes each has, with the number of the line `end`; or where it is no report the first bad line and its cause.

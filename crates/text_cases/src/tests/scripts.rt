@@ -1,4 +1,5 @@
 //! Worked scripts.
+use super::is_text;
 use co_script::{fits, print_script, read_script};
 use co_text::{Cause, ScriptFault};
 
@@ -12,10 +13,10 @@ fn one_firing_is_read_and_printed(rt: HostRuntime) {
             .as_slice();
     let script = read_script(rt.alloc(), text).expect(&rt, "no script");
     let printed = print_script(rt.alloc(), &script).expect(&rt, "no memory");
-    let right = fits(&script) && printed.as_slice() == wanted;
-    drop(printed);
+    let fits = fits(&script);
     drop(script);
-    assert!(rt; right);
+    assert!(rt; fits);
+    is_text(&rt, printed, wanted);
 }
 
 #[test]

@@ -2,7 +2,7 @@
 ghost use Rattle.std.specs.Prelude.{◌≡◌};
 ghost use Rattle.co_program.specs.Scripts.{IsScript};
 
-use super::script_of;
+use super::{is_text, script_of};
 use co_listener::Listener;
 use co_object::{
     AnyEntry, CallOp, Entry, Note, Op, Place, PlainOp, QEntry, QOp, QReply, Reply, RunOp,
@@ -151,7 +151,5 @@ fn notes_are_printed_as_they_are_told(rt: HostRuntime) {
         1 p0/0 pop = got i0 #0 u4294967296\n3 p0/0 free = freed\nactor c0\nactor p0\nend\n";
     let told = first_firing(Sbt::from_ticks(1, 1));
     let report = text_told(&rt, rt.alloc(), script.as_slice(), told.as_slice());
-    let right = report.as_slice() == wanted.as_slice();
-    drop(report);
-    assert!(rt; right);
+    is_text(&rt, report, wanted.as_slice());
 }

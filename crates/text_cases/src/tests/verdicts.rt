@@ -1,4 +1,5 @@
 //! Reports of a script in which nobody does anything.
+use super::is_right;
 use co_check::laws::read_reports_may_be_checked;
 use co_check::{Unfit, Verdict, check, check_replayed, read_replayed_report};
 use co_object::{AnyEntry, OwnEntry, OwnKind, Place};
@@ -46,8 +47,10 @@ static VERDICTS: [(&str, Verdict); 2] = [
 #[test]
 fn reports_are_judged(rt: HostRuntime) {
     for (text, verdict) in &VERDICTS {
-        assert!(rt; verdict_of(&rt, rt.alloc(), text.as_bytes()) == *verdict);
-        assert!(rt; replayed_verdict_of(&rt, rt.alloc(), text.as_bytes()) == *verdict);
+        let found = verdict_of(&rt, rt.alloc(), text.as_bytes());
+        is_right(&rt, text, found == *verdict);
+        let found = replayed_verdict_of(&rt, rt.alloc(), text.as_bytes());
+        is_right(&rt, text, found == *verdict);
     }
 }
 

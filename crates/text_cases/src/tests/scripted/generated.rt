@@ -1,5 +1,6 @@
 //! The first seed's numbers and script.
 
+use crate::tests::is_text;
 use co_gen::{Counts, Draws, gen_script, print_soak};
 use co_program::{Act, Script};
 use co_sbt::Sbt;
@@ -43,7 +44,5 @@ fn line_of_the_first_seed(rt: HostRuntime) {
     let wanted =
         "soak 1 notes 33295 armed 4447 fired 1324 superseded 1761 stopped 1357 pending 5\n";
     let line = print_soak(rt.alloc(), 1, &COUNTS).expect(&rt, "no memory");
-    let right = line.as_slice() == wanted.as_bytes();
-    drop(line);
-    assert!(rt; right);
+    is_text(&rt, line, wanted.as_bytes());
 }
