@@ -3,7 +3,7 @@ use super::is_right;
 use co_check::laws::read_reports_may_be_checked;
 use co_check::{Unfit, Verdict, check, check_replayed, read_replayed_report};
 use co_object::{AnyEntry, OwnEntry, OwnKind, Place};
-use co_report::{Line, PackedLines, open_report, read_report};
+use co_report::{Line, OpenReport, PackedLines, open_report, read_report};
 use std::alloc::Global;
 use std::process::Abort;
 
@@ -66,13 +66,18 @@ fn only(lines: &PackedLines) -> Option<Line> {
 /// How many note lines are told, the only one, and the number of the line `end`.
 type Told = (usize, Option<Line>, u64);
 
-/// What is told of the notes of the report that a text is, as they are read.
-fn told<R: Abort>(rt: &R, alloc: Global, text: &[u8]) -> Told {
-    let report = open_report(alloc, text).expect(rt, "no report");
+/// What is told of an open report's notes as they are read.
+fn told_of<R: Abort>(rt: &R, alloc: Global, report: &OpenReport<'_>) -> Told {
     let mut reader = report.reader(alloc).expect(rt, "no memory");
     let mut lines = PackedLines::new(alloc);
     let end = reader.tell_all(alloc, &mut lines).expect(rt, "a bad line");
     (lines.len(), only(&lines), end)
+}
+
+/// What is told of the report that a text is.
+fn told<R: Abort>(rt: &R, alloc: Global, text: &[u8]) -> Told {
+    let report = open_report(alloc, text).expect(rt, "no report");
+    told_of(rt, alloc, &report)
 }
 
 /// The note of the second report above.

@@ -345,11 +345,20 @@ fn is_told(world: &World<'_>, run: &Run) -> bool {
     }
 }
 
-/// Whether a world of the script that the run's text is goes so.
+/// Whether a world of the script goes as the run does.
+fn is_stepped<R: Abort>(rt: &R, alloc: Global, script: &Script, run: &Run) -> bool
+    requires { IsScript script.now }
+{
+    let mut world = World::boot(alloc, script).expect(rt, "no memory");
+    goes(script, &mut world, run.turns) && is_told(&world, run)
+}
+
+/// Whether the run's text is a script that goes so.
 fn is_run<R: Abort>(rt: &R, alloc: Global, run: &Run) -> bool {
     let script = script_of(rt, alloc, run.script.as_bytes());
-    let mut world = World::boot(alloc, &script).expect(rt, "no memory");
-    goes(&script, &mut world, run.turns) && is_told(&world, run)
+    let right = is_stepped(rt, alloc, &script, run);
+    drop(script);
+    right
 }
 
 #[test]
