@@ -1,12 +1,11 @@
 //! Threads that add to counters behind locks.
-ghost use Rattle.std.specs.Prelude.{◌<◌};
-ghost use denote.Param.Send.{IsSync};
+ghost use Rattle.std.specs.Prelude.{◌<◌, ◌^◌};
 
 use crate::work::Work;
 use co_sbt::NoMemory;
 use std::alloc::Global;
 use std::sync::{Mutex, Wait};
-use std::thread::{Threads, join};
+use std::thread::{Threads, map_indices};
 
 /// Adds to a counter behind its lock, twice as often as there are calls of each kind.
 fn add<R: Wait>(rt: &R, counters: &[Mutex<u64>], work: &Work, thread: u32) {
@@ -19,21 +18,20 @@ fn add<R: Wait>(rt: &R, counters: &[Mutex<u64>], work: &Work, thread: u32) {
     }
 }
 
-/// Counts on as many threads as `threads` says, each in a branch of its own.
-fn add_all<R: Threads + Wait + Sync>(rt: &R, counters: &[Mutex<u64>], work: &Work, threads: u32) {
-    if threads == 0 {
-        return;
+/// Lets the threads add. `NoMemory` where there is no room for them.
+fn add_all<R: Threads + Wait + Sync>(
+    rt: &R,
+    alloc: Global,
+    counters: &[Mutex<u64>],
+    work: &Work,
+) -> Result<(), NoMemory> {
+    let one = |thread: usize|
+        requires { thread < 2 ^ 32 }
+    { add(rt, counters, work, thread as u32) };
+    match map_indices(rt, alloc, work.threads as usize, &one) {
+        Ok(_) => Ok(()),
+        Err(_) => Err(NoMemory {}),
     }
-    let thread = threads - 1;
-    join(
-        rt,
-        ||
-            requires { IsSync R.row }
-        { add_all(rt, counters, work, thread) },
-        ||
-            requires { IsSync R.row }
-        { add(rt, counters, work, thread) },
-    );
 }
 
 /// A counter for each thread.
@@ -51,10 +49,11 @@ fn counters(alloc: Global, threads: u32) -> Result<Vec<Mutex<u64>>, NoMemory> {
 /// counters.
 pub fn run<R: Threads + Wait + Sync>(rt: &R, alloc: Global, work: &Work) -> Result<u64, NoMemory> {
     let all = counters(alloc, work.threads)?;
-    add_all(rt, all.as_slice(), work, work.threads);
+    let added = add_all(rt, alloc, all.as_slice(), work);
     let mut sum: u64 = 0;
     for counter in all {
         sum = sum.saturating_add(counter.into_inner());
     }
+    added?;
     Ok(sum / 2)
 }

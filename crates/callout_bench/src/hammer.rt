@@ -3,11 +3,11 @@ ghost use Rattle.std.specs.Prelude.{◌≡◌, ◌<◌, ◌≤◌, ◌+◌, ◌*
 ghost use Rattle.std.specs.List.{All};
 ghost use Rattle.co_object.specs.declared.op.CallOp.TheVariants.{Plain};
 ghost use Rattle.co_service.specs.Booted.{AreBooted};
+ghost use Rattle.co_desk.specs.declared.params.Params.{Params};
 ghost use Rattle.co_desk.specs.Call.{NamesCpu};
-ghost use Rattle.co_service.specs.Crew.{AreNew};
+ghost use Rattle.co_desk.specs.Name.{ServiceName};
 ghost use Rattle.co_desk.specs.Views.{AreOf};
-ghost use Rattle.callout_bench.specs.Team.{IsPlain, IsTeam};
-ghost use denote.Param.Send.{IsSync};
+ghost use Rattle.callout_bench.specs.Team.{IsClient, IsPlain, IsTeam};
 
 use crate::work::{Calls, Work};
 use co_object::{CallOp, LockUse, PlainOp, Reply, Spec};
@@ -16,7 +16,7 @@ use co_service::{Fresh, Name, Passes, Service, Told};
 use std::alloc::Global;
 use std::marker::Brand;
 use std::sync::Wait;
-use std::thread::{Threads, join};
+use std::thread::{Threads, map_vec};
 
 /// How many callouts each thread has.
 const OWN: u32 = 16;
@@ -83,14 +83,13 @@ fn hammer<N: Name, R: Wait>(
     work: &Work,
     calls: Calls,
     mut passes: Passes,
-    thread: u32,
 ) -> u64
     requires team { IsTeam work.now service.now }
-    requires thread { thread < work.now.threads }
     requires few { work.now.threads ≤ 15 }
-    requires passes { AreOf N.name service.now passes }
+    requires client { IsClient N.name service.now passes }
 {
     let mut taken: u64 = 0;
+    let thread = passes.actor();
     let place = work.place(thread);
     for call in 0..work.calls {
         let i = calls.callout(thread, call);
@@ -117,47 +116,46 @@ fn hammer<N: Name, R: Wait>(
             taken = taken.saturating_add(1);
         }
     }
+    drop(passes);
     taken
 }
 
-/// The threads of these passes, each in a branch of its own.
+/// The clients' passes, of those of all actors.
+fn clients_of(passes: Seq<Passes>, clients: u32) -> Vec<Passes>
+    ensures { (name : ServiceName) (p : Params) → AreBooted name p passes → p.clients ≡ clients → All (IsClient name p) result.items }
+{
+    let mut all = passes.into_vec();
+    all.truncate(clients as usize);
+    all
+}
+
+/// Lets a thread for each of these passes call the service: how many stops took an arming away. `NoMemory` where there is no
+/// room for what the threads answer.
 fn hammer_all<N: Name + Send + Sync, R: Threads + Wait + Sync>(
     rt: &R,
     service: &Service<N>,
     work: &Work,
     calls: Calls,
-    mut all: Vec<Passes>,
-    threads: u32,
-) -> u64
+    clients: Vec<Passes>,
+) -> Result<u64, NoMemory>
     requires team { IsTeam work.now service.now }
-    requires few { (threads ≤ work.now.threads) × (work.now.threads ≤ 15) }
-    requires all { AreNew N.name service.now threads all.items }
+    requires few { work.now.threads ≤ 15 }
+    requires clients { All (IsClient N.name service.now) clients.items }
 {
-    if threads == 0 {
-        return 0;
+    let one = |passes: Passes| -> u64
+        requires { IsTeam work.now service.now × (work.now.threads ≤ 15) × IsClient N.name service.now passes }
+    { hammer(rt, service, work, calls, passes) };
+    match map_vec(rt, clients, &one) {
+        Ok(counts) => Ok(sum(counts.as_slice())),
+        Err(_) => Err(NoMemory {}),
     }
-    let thread = threads - 1;
-    let last = service.leave(&mut all, thread);
-    let (own, rest) = join(
-        rt,
-        || -> u64
-            requires { IsSync R.row × IsTeam work.now service.now × (thread < work.now.threads) × (work.now.threads ≤ 15) × AreOf N.name service.now last }
-        { hammer(rt, service, work, calls, last, thread) },
-        || -> u64
-            requires { IsSync R.row × IsTeam work.now service.now × (thread ≤ work.now.threads) × (work.now.threads ≤ 15) × AreNew N.name service.now thread all.items }
-        { hammer_all(rt, service, work, calls, all, thread) },
-    );
-    own.saturating_add(rest)
 }
 
-/// The clients' passes, once those of the CPUs have left.
-fn leave_cpus<N: Name>(service: &Service<N>, threads: u32, mut all: Vec<Passes>) -> Vec<Passes>
-    requires few { threads ≤ 15 }
-    requires all { AreNew N.name service.now (threads + (threads + 1)) all.items }
-    ensures { AreNew N.name service.now threads result.items }
-{
-    for gone in 0..threads + 1 {
-        service.leave(&mut all, threads + (threads - gone));
+/// The sum of these counts.
+fn sum(counts: &[u64]) -> u64 {
+    let mut all: u64 = 0;
+    for count in counts {
+        all = all.saturating_add(*count);
     }
     all
 }
@@ -176,9 +174,11 @@ fn run_open<N: Name + Send + Sync, R: Threads + Wait + Sync>(
     requires few { work.now.threads ≤ 15 }
     requires passes { AreBooted fresh.name fresh.params passes }
 {
-    let service = Service::<N>::open(alloc, fresh)?;
-    let clients = leave_cpus(&service, work.threads, passes.into_vec());
-    Ok(hammer_all(rt, &service, work, calls, clients, work.threads))
+    let clients = clients_of(passes, work.threads);
+    match Service::<N>::open(alloc, fresh) {
+        Ok(service) => hammer_all(rt, &service, work, calls, clients),
+        Err(failed) => Err(failed),
+    }
 }
 
 /// Boots a service with a CPU for each thread and one more, and lets the threads call it. The answer is how many stops took an

@@ -28,14 +28,9 @@ pub fn queue(page: &mut Page, kind: Kind, counts: &Counts) -> Result<(), NoMemor
     )
 }
 
-/// A script that was read.
-pub fn timers(page: &mut Page, timers: u64) -> Result<(), NoMemory> {
-    page.line(&Token::Number(timers), &[Token::Text(b"timers")])
-}
-
-/// A script's walk.
-pub fn notes(page: &mut Page, notes: u64) -> Result<(), NoMemory> {
-    page.line(&Token::Number(notes), &[Token::Text(b"notes")])
+/// So many of these.
+pub fn count(page: &mut Page, number: u64, what: &[u8]) -> Result<(), NoMemory> {
+    page.line(&Token::Number(number), &[Token::Text(what)])
 }
 
 /// A world that was stepped.

@@ -37,12 +37,19 @@ fn measure_queue_of(alloc: Global, page: &mut Page, words: &[String]) -> Result<
     let [kind, callouts, buckets, armings, step] = words else {
         return Err(Failed::Words);
     };
-    let kind = kind_of(kind)?;
-    let buckets = buckets_of(buckets)?;
+    let (Some(kind), Some(callouts), Some(buckets), Some(armings), Some(step)) = (
+        kind_of(kind),
+        count_of(callouts, 1024),
+        buckets_of(buckets),
+        number_of(armings),
+        time_of(step),
+    ) else {
+        return Err(Failed::Words);
+    };
     let work = queues::Work {
-        callouts: count_of(callouts, 1024)?,
-        armings: number_of(armings)?,
-        step: time_of(step)?,
+        callouts,
+        armings,
+        step,
     };
     Failed::of(measure_queue(alloc, page, kind, buckets, &work))
 }
@@ -85,13 +92,16 @@ fn measure_threads_of<R: Threads + Wait + Sync>(
     let [what, at, threads, calls] = words else {
         return Err(Failed::Words);
     };
-    let work = Work {
-        at: where_of(at)?,
-        threads: count_of(threads, 15)?,
-        calls: number_of(calls)?,
+    let (Some(made), Some(at), Some(threads), Some(calls)) = (
+        calls_of(what),
+        where_of(at),
+        count_of(threads, 15),
+        number_of(calls),
+    ) else {
+        return Err(Failed::Words);
     };
-    let calls = calls_of(what)?;
-    Failed::of(measure_threads(rt, alloc, page, what, calls, &work))
+    let work = Work { at, threads, calls };
+    Failed::of(measure_threads(rt, alloc, page, what, made, &work))
 }
 
 /// Short runs of threads that meet there.
@@ -114,7 +124,7 @@ fn measure_meeting<R: Threads + Wait + Sync>(
 fn measure_walk(alloc: Global, page: &mut Page, script: &Script) -> Result<(), NoMemory>
     requires { IsScript script.now }
 {
-    lines::notes(page, walk::walk(alloc, script)?)
+    lines::count(page, walk::walk(alloc, script)?, b"notes")
 }
 
 /// A script's world, stepped.
@@ -157,7 +167,10 @@ fn measure_script<R: Threads + Wait + Sync>(
     requires { IsScript script.now }
 {
     match task {
-        Task::Read => lines::timers(page, script.timers.as_slice().len() as u64),
+        Task::Read => {
+            let timers = script.timers.as_slice().len() as u64;
+            lines::count(page, timers, b"timers")
+        }
         Task::Walk => measure_walk(alloc, page, script),
         Task::Step => measure_steps(rt, alloc, page, script),
         Task::All => measure_all(rt, alloc, page, script),
@@ -176,6 +189,16 @@ fn measure_source<S: Source, R: Threads + Wait + Sync>(
     Failed::of(measure_script(rt, alloc, page, &script, task))
 }
 
+/// What is done with a script, as a first word and how many others stand behind it say.
+fn task_of(what: &str, others: usize) -> Option<Task> {
+    match (what, others) {
+        ("walk", 0) => Some(Task::Walk),
+        ("walk", 1) => Some(Task::Read),
+        ("world", 0) => Some(Task::Step),
+        _ => None,
+    }
+}
+
 /// Runs what the words ask for.
 fn measure<S: Source, R: Threads + Wait + Sync>(
     rt: &R,
@@ -187,13 +210,13 @@ fn measure<S: Source, R: Threads + Wait + Sync>(
     let Some((what, others)) = words.split_first() else {
         return measure_source(rt, alloc, source, page, Task::All);
     };
-    match (what.as_str(), others) {
-        ("queues", _) => measure_queue_of(alloc, page, others),
-        ("service", _) => measure_threads_of(rt, alloc, page, others),
-        ("walk", []) => measure_source(rt, alloc, source, page, Task::Walk),
-        ("walk", [_]) => measure_source(rt, alloc, source, page, Task::Read),
-        ("world", []) => measure_source(rt, alloc, source, page, Task::Step),
-        _ => Err(Failed::Words),
+    match what.as_str() {
+        "queues" => measure_queue_of(alloc, page, others),
+        "service" => measure_threads_of(rt, alloc, page, others),
+        _ => match task_of(what, others.len()) {
+            Some(task) => measure_source(rt, alloc, source, page, task),
+            None => Err(Failed::Words),
+        },
     }
 }
 

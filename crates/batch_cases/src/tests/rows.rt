@@ -48,12 +48,32 @@ fn answer_to<R: Wait>(
     }
 }
 
-/// Whether a text is refused for this cause, at this line.
-pub(crate) fn is_refused(answer: &Result<Seq<u8>, ScriptFault>, line: u64, cause: Cause) -> bool {
+/// Whether this is the answer.
+fn is_answered(answer: Result<Seq<u8>, ScriptFault>, wanted: &str) -> bool {
     match answer {
-        Ok(_) => false,
-        Err(fault) => *fault == ScriptFault::Bad { line, cause },
+        Ok(text) => {
+            let same = text.as_slice() == wanted.as_bytes();
+            drop(text);
+            same
+        }
+        Err(_) => false,
     }
+}
+
+/// Whether a text is refused for this cause, at this line.
+pub(crate) fn is_refused(answer: Result<Seq<u8>, ScriptFault>, line: u64, cause: Cause) -> bool {
+    match answer {
+        Ok(text) => {
+            drop(text);
+            false
+        }
+        Err(fault) => fault == ScriptFault::Bad { line, cause },
+    }
+}
+
+/// Stops where a text does not come to what it has to, and names it.
+pub(crate) fn is_right<R: Abort>(rt: &R, text: &str, right: bool) {
+    assert!(rt; right, "{text}");
 }
 
 /// Each text is answered as its row says.
@@ -64,11 +84,8 @@ pub(crate) fn are_answered<R: Abort + Wait>(
     rows: &[Answered],
 ) {
     for (text, wanted) in rows {
-        let right = match answer_to(rt, alloc, command, text) {
-            Ok(answer) => answer.as_slice() == wanted.as_bytes(),
-            Err(_) => false,
-        };
-        assert!(rt; right, "{text}");
+        let right = is_answered(answer_to(rt, alloc, command, text), wanted);
+        is_right(rt, text, right);
     }
 }
 
@@ -80,9 +97,7 @@ pub(crate) fn are_refused<R: Abort + Wait>(
     rows: &[Refused],
 ) {
     for (text, line, cause) in rows {
-        let answer = answer_to(rt, alloc, command, text);
-        let right = is_refused(&answer, *line, *cause);
-        drop(answer);
-        assert!(rt; right, "{text}");
+        let right = is_refused(answer_to(rt, alloc, command, text), *line, *cause);
+        is_right(rt, text, right);
     }
 }

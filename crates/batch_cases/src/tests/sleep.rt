@@ -1,5 +1,4 @@
 //! The command `sleep`.
 mod replies;
-mod stage;
 mod texts;
 mod threads;

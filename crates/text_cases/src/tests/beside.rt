@@ -1,9 +1,11 @@
 //! Long texts, of which threads read the sections beside each other: they give what one thread gives.
+use super::is_right;
 use co_program::Script;
-use co_sbt::{NoMemory, Seq};
+use co_sbt::Seq;
 use co_script::{print_script, read_script, read_script_by_threads};
 use co_text::{Cause, ScriptFault};
 use std::alloc::Global;
+use std::process::Abort;
 use std::thread::Threads;
 
 /// Lines, and how often they stand.
@@ -19,51 +21,52 @@ const HEAD: Part = (
 const RESET: &str = "reset 0 +0.01 f0 a7 cpu 1\n";
 
 /// The text of these parts.
-fn text_of(alloc: Global, parts: &[Part]) -> Result<Seq<u8>, NoMemory> {
+fn text_of<R: Abort>(rt: &R, alloc: Global, parts: &[Part]) -> Seq<u8> {
     let mut text = Seq::new(alloc);
     for (lines, times) in parts {
         for _ in 0..*times {
-            text.extend_from_slice(lines.as_bytes())?;
+            text.extend_from_slice(lines.as_bytes())
+                .expect(rt, "no memory");
         }
     }
-    Ok(text)
+    text
 }
 
-/// What is printed of a script that was read, or why none was.
-fn printed(alloc: Global, read: Result<Script, ScriptFault>) -> Result<Seq<u8>, ScriptFault> {
-    let script = read?;
-    let printed = print_script(alloc, &script);
-    drop(script);
-    match printed {
-        Ok(text) => Ok(text),
-        Err(_) => Err(ScriptFault::NoMemory),
-    }
-}
-
-/// Whether the same script was read twice, or this fault found.
-fn are_same(
-    one: &Result<Seq<u8>, ScriptFault>,
-    two: &Result<Seq<u8>, ScriptFault>,
-    fault: Option<ScriptFault>,
-) -> bool {
-    match (one, two) {
-        (Ok(one), Ok(two)) => fault.is_none() && one.as_slice() == two.as_slice(),
-        (Err(one), Err(two)) => one == two && fault == Some(*two),
-        _ => false,
+/// What is printed of a script that was read; nothing, and why none was read.
+fn printed<R: Abort>(
+    rt: &R,
+    alloc: Global,
+    read: Result<Script, ScriptFault>,
+) -> (Seq<u8>, Option<ScriptFault>) {
+    match read {
+        Ok(script) => {
+            let text = print_script(alloc, &script).expect(rt, "no memory");
+            drop(script);
+            (text, None)
+        }
+        Err(fault) => (Seq::new(alloc), Some(fault)),
     }
 }
 
 /// Whether threads read the text of these parts as one thread does, who finds this fault or none.
-fn is_read_alike<R: Threads + Sync>(
+fn is_read_alike<R: Abort + Threads + Sync>(
     rt: &R,
     alloc: Global,
     parts: &[Part],
     fault: Option<ScriptFault>,
-) -> Result<bool, NoMemory> {
-    let text = text_of(alloc, parts)?;
-    let wanted = printed(alloc, read_script(alloc, text.as_slice()));
-    let read = printed(alloc, read_script_by_threads(rt, alloc, text.as_slice()));
-    Ok(are_same(&read, &wanted, fault))
+) -> bool {
+    let text = text_of(rt, alloc, parts);
+    let (wanted, why) = printed(rt, alloc, read_script(alloc, text.as_slice()));
+    let (read, found) = printed(
+        rt,
+        alloc,
+        read_script_by_threads(rt, alloc, text.as_slice()),
+    );
+    let alike = read.as_slice() == wanted.as_slice() && found == fault && why == fault;
+    drop(text);
+    drop(wanted);
+    drop(read);
+    alike
 }
 
 /// What a case shows, the parts of its text, and the line that is refused with its cause, where one is.
@@ -219,6 +222,6 @@ fn bad(refused: Option<(u64, Cause)>) -> Option<ScriptFault> {
 fn long_texts_are_read_alike(rt: HostRuntime) {
     for (name, parts, refused) in CASES {
         let alike = is_read_alike(&rt, rt.alloc(), parts, bad(*refused));
-        assert!(rt; alike == Ok(true), "{name}");
+        is_right(&rt, name, alike);
     }
 }

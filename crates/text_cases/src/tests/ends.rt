@@ -2,6 +2,7 @@
 ghost use Rattle.std.specs.Prelude.{◌≡◌, ◌≤◌, ◌<◌, ◌^◌, ◌++◌, length, IsTrue, IfSome, OnOk};
 ghost use Rattle.std.specs.Io.KnownBytes.{Appends};
 
+use super::is_right;
 use co_io::{
     FileSink, FileSource, MemSink, MemSource, QuietSink, QuietSource, ReadEnd, Sink, Source,
     WriteEnd, read_all, write_all, write_pieces,
@@ -9,6 +10,7 @@ use co_io::{
 use co_sbt::{NoMemory, Seq};
 use std::alloc::Global;
 use std::io::{self, ErrorKind, Read, Write};
+use std::process::Abort;
 
 // Whether a source fails before its end.
 fn fails<S: Source>(alloc: Global, source: &mut S) -> bool {
@@ -25,36 +27,82 @@ fn gives<S: Source>(alloc: Global, source: &mut S, limit: usize, bytes: &[u8], o
     }
 }
 
-// Whether a source of three bytes fails at its second read, and then gives the rest.
-fn fails_once(alloc: Global) -> Result<bool, NoMemory> {
-    let mut source = MemSource::new(alloc, b"abc", 1, &[1])?;
-    Ok(fails(alloc, &mut source) && gives(alloc, &mut source, 9, b"bc".as_slice(), false))
+// A source in memory, and what is read of it.
+struct Reading {
+    bytes: &'static str,
+    // How many bytes it gives at once, beside one.
+    more: u8,
+    // Which of its reads fail: where any does, so does the first reading.
+    fails: &'static [u64],
+    limit: u8,
+    // What the next reading gives, and whether it is over the limit.
+    read: &'static str,
+    over: bool,
 }
 
-// Whether these are read of five bytes, over the limit or not.
-fn gives_of_five(alloc: Global, limit: usize, bytes: &[u8], over: bool) -> Result<bool, NoMemory>
-    requires { limit < 2 ^ 62 }
-{
-    let mut source = MemSource::new(alloc, b"abcde", 2, &[])?;
-    Ok(gives(alloc, &mut source, limit, bytes, over))
-}
-
-// Limits, what is read of five bytes, and whether they are over the limit.
-const LIMITS: &[(u8, &str, bool)] = &[
-    (6, "abcde", false),
-    (5, "abcde", false),
-    (4, "abcde", true),
-    (0, "a", true),
+// Three bytes of which the second read fails, and five up to limits.
+static READINGS: [Reading; 5] = [
+    Reading {
+        bytes: "abc",
+        more: 0,
+        fails: &[1],
+        limit: 9,
+        read: "bc",
+        over: false,
+    },
+    Reading {
+        bytes: "abcde",
+        more: 1,
+        fails: &[],
+        limit: 6,
+        read: "abcde",
+        over: false,
+    },
+    Reading {
+        bytes: "abcde",
+        more: 1,
+        fails: &[],
+        limit: 5,
+        read: "abcde",
+        over: false,
+    },
+    Reading {
+        bytes: "abcde",
+        more: 1,
+        fails: &[],
+        limit: 4,
+        read: "abcde",
+        over: true,
+    },
+    Reading {
+        bytes: "abcde",
+        more: 1,
+        fails: &[],
+        limit: 0,
+        read: "a",
+        over: true,
+    },
 ];
+
+// Whether a source is read so.
+fn is_read<R: Abort>(rt: &R, alloc: Global, row: &Reading) -> bool {
+    let piece = usize::from(row.more) + 1;
+    let mut source = MemSource::new(alloc, row.bytes.as_bytes(), piece, row.fails).expect(
+        rt,
+        "no memory",
+    );
+    let failed = row.fails.is_empty() || fails(alloc, &mut source);
+    let limit = usize::from(row.limit);
+    let right = failed && gives(alloc, &mut source, limit, row.read.as_bytes(), row.over);
+    drop(source);
+    right
+}
 
 // A source is read up to one byte past the limit.
 #[test]
 fn sources_give_up_to_a_failure_and_the_limit(rt: HostRuntime) {
-    let alloc = rt.alloc();
-    assert!(rt; fails_once(alloc) == Ok(true));
-    for (limit, bytes, over) in LIMITS {
-        let limit = usize::from(*limit);
-        assert!(rt; gives_of_five(alloc, limit, bytes.as_bytes(), *over) == Ok(true));
+    for row in &READINGS {
+        is_right(&rt, row.read, is_read(&rt, rt.alloc(), row));
     }
 }
 
@@ -64,40 +112,48 @@ fn writes(sink: &mut MemSink, bytes: &[u8], end: Result<(), WriteEnd>, held: &[u
 }
 
 // Whether a sink with room for two bytes fails at its second write, and is full then.
-fn fails_and_is_full(alloc: Global) -> Result<bool, NoMemory> {
-    let mut sink = MemSink::new(alloc, 2, 1, &[1])?;
+fn fails_and_is_full<R: Abort>(rt: &R, alloc: Global) -> bool {
+    let mut sink = MemSink::new(alloc, 2, 1, &[1]).expect(rt, "no memory");
     let failed = writes(&mut sink, b"abc", Err(WriteEnd::Fault), b"a");
-    Ok(failed && writes(&mut sink, b"bc", Err(WriteEnd::Stalled), b"ab"))
-}
-
-// These pieces.
-fn pieces_of(alloc: Global, texts: &[&[u8]]) -> Result<Seq<Seq<u8>>, NoMemory> {
-    let mut pieces = Seq::new(alloc);
-    for text in texts {
-        pieces.push(Seq::copy_of(alloc, text)?)?;
-    }
-    Ok(pieces)
+    let full = writes(&mut sink, b"bc", Err(WriteEnd::Stalled), b"ab");
+    drop(sink);
+    failed && full
 }
 
 // Three pieces, of which the second is empty.
-const PIECES: &[&[u8]] = &[b"ab", b"", b"cd"];
-
-// Whether their write ends so into a sink with this room, which then has these bytes.
-fn writes_three(alloc: Global, room: usize, end: Result<(), WriteEnd>, held: &[u8]) -> bool {
-    match (pieces_of(alloc, PIECES), MemSink::new(alloc, room, 9, &[])) {
-        (Ok(pieces), Ok(mut sink)) => {
-            write_pieces(&mut sink, pieces.as_slice()) == end && sink.bytes() == held
-        }
-        _ => false,
+fn three_pieces<R: Abort>(rt: &R, alloc: Global) -> Seq<Seq<u8>> {
+    let mut pieces = Seq::new(alloc);
+    for text in ["ab", "", "cd"] {
+        let piece = Seq::copy_of(alloc, text.as_bytes()).expect(rt, "no memory");
+        pieces.push(piece).expect(rt, "no memory");
     }
+    pieces
+}
+
+// Whether the pieces' write ends so into a sink with this room, which then has these bytes.
+fn takes<R: Abort>(
+    rt: &R,
+    alloc: Global,
+    pieces: &[Seq<u8>],
+    room: usize,
+    end: Result<(), WriteEnd>,
+    held: &[u8],
+) -> bool {
+    let mut sink = MemSink::new(alloc, room, 9, &[]).expect(rt, "no memory");
+    let right = write_pieces(&mut sink, pieces) == end && sink.bytes() == held;
+    drop(sink);
+    right
 }
 
 #[test]
 fn sinks_take_up_to_a_failure_and_their_room(rt: HostRuntime) {
     let alloc = rt.alloc();
-    assert!(rt; fails_and_is_full(alloc) == Ok(true));
-    assert!(rt; writes_three(alloc, 9, Ok(()), b"abcd"));
-    assert!(rt; writes_three(alloc, 3, Err(WriteEnd::Stalled), b"abc"));
+    let pieces = three_pieces(&rt, alloc);
+    let all = takes(&rt, alloc, pieces.as_slice(), 9, Ok(()), b"abcd");
+    let end = Err(WriteEnd::Stalled);
+    let three = takes(&rt, alloc, pieces.as_slice(), 3, end, b"abc");
+    drop(pieces);
+    assert!(rt; all && three && fails_and_is_full(&rt, alloc));
 }
 
 // Pours a source of three bytes at most into a sink that has room for it: no fault comes between.
@@ -127,39 +183,23 @@ fn copy<S: Source, K: Sink>(alloc: Global, limit: usize, source: &mut S, sink: &
     }
 }
 
-// Pours three bytes into an empty sink: whether it has them then.
-fn takes_poured(alloc: Global, sink: &mut QuietSink) -> bool
-    requires { 3 ≤ sink.old.room }
-{
-    match QuietSource::new(alloc, b"abc") {
-        Ok(mut source) => {
-            pour(alloc, &mut source, sink).is_ok() && sink.bytes() == b"abc".as_slice()
-        }
-        Err(_) => false,
-    }
-}
-
-// Copies three bytes more: whether it has them all then.
-fn takes_copied(alloc: Global, sink: &mut QuietSink) -> bool {
-    match MemSource::new(alloc, b"def", 1, &[]) {
-        Ok(mut source) => {
-            copy(alloc, 3, &mut source, sink) && sink.bytes() == b"abcdef".as_slice()
-        }
-        Err(_) => false,
-    }
-}
-
-// Whether a sink with room for them takes them.
-fn takes_six(alloc: Global) -> bool {
-    match QuietSink::new(alloc, 6) {
-        Ok(mut sink) => takes_poured(alloc, &mut sink) && takes_copied(alloc, &mut sink),
-        Err(_) => false,
-    }
+// Whether a sink with room for six bytes has three that are poured into it, and then three more that are copied.
+fn takes_six<R: Abort>(rt: &R, alloc: Global) -> bool {
+    let mut sink = QuietSink::new(alloc, 6).expect(rt, "no memory");
+    let mut first = QuietSource::new(alloc, b"abc").expect(rt, "no memory");
+    let poured = pour(alloc, &mut first, &mut sink).is_ok() && sink.bytes() == b"abc".as_slice();
+    let mut second = MemSource::new(alloc, b"def", 1, &[]).expect(rt, "no memory");
+    let copied = copy(alloc, 3, &mut second, &mut sink);
+    let right = poured && copied && sink.bytes() == b"abcdef".as_slice();
+    drop(first);
+    drop(second);
+    drop(sink);
+    right
 }
 
 #[test]
 fn quiet_ends_take_all(rt: HostRuntime) {
-    assert!(rt; takes_six(rt.alloc()));
+    assert!(rt; takes_six(&rt, rt.alloc()));
 }
 
 // A reader and a writer that always fail.

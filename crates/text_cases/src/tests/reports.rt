@@ -1,46 +1,32 @@
 //! Worked reports.
-ghost use Rattle.std.specs.Prelude.{◌≡◌, ◌∷◌, [], IfOk};
+ghost use Rattle.std.specs.Prelude.{◌≡◌, ◌∷◌, []};
 
+use super::{is_right, is_text};
 use co_object::{AnyEntry, Lists, OwnEntry, OwnKind, Place};
-use co_program::Script;
 use co_report::{Line, print_report, read_report};
-use co_sbt::{NoMemory, Seq};
+use co_sbt::Seq;
 use co_script::read_script;
 use co_text::{Cause, ScriptFault};
 use std::alloc::Global;
+use std::process::Abort;
 
 /// The lists of one actor that has no notes.
-fn no_notes(alloc: Global) -> Result<Lists, NoMemory>
-    ensures { IfOk result (λ lists. lists ≡ [] ∷ []) }
+fn no_notes<R: Abort>(rt: &R, alloc: Global) -> Lists
+    ensures { result ≡ [] ∷ [] }
 {
     let mut lists = Seq::new(alloc);
-    lists.push(Seq::new(alloc))?;
-    Ok(lists)
+    lists.push(Seq::new(alloc)).expect(rt, "no memory");
+    lists
 }
 
-/// The report of a script of one actor that makes no notes.
-fn report_of_nobody(alloc: Global, script: &Script) -> Result<Seq<u8>, NoMemory> {
-    let lists = no_notes(alloc)?;
-    print_report(alloc, script, &lists)
-}
-
-/// The report of the script that a text is, of which nobody makes notes.
-fn report_of_text(alloc: Global, text: &[u8]) -> Result<Seq<u8>, ScriptFault> {
-    let script = read_script(alloc, text)?;
-    let made = report_of_nobody(alloc, &script);
+/// The report of the script that a text is, of one actor that makes no notes.
+fn report_of_nobody<R: Abort>(rt: &R, alloc: Global, text: &[u8]) -> Seq<u8> {
+    let script = read_script(alloc, text).expect(rt, "no script");
+    let lists = no_notes(rt, alloc);
+    let report = print_report(alloc, &script, &lists).expect(rt, "no memory");
+    drop(lists);
     drop(script);
-    match made {
-        Ok(report) => Ok(report),
-        Err(_) => Err(ScriptFault::NoMemory),
-    }
-}
-
-/// Whether a report was made, and is this one.
-pub(super) fn is(made: Result<Seq<u8>, ScriptFault>, wanted: &[u8]) -> bool {
-    match made {
-        Ok(report) => report.as_slice() == wanted,
-        Err(_) => false,
-    }
+    report
 }
 
 #[test]
@@ -50,7 +36,7 @@ fn empty_run(rt: HostRuntime) {
         timer 0\nwheel 0\nactor p0\nend\n"
             .as_slice();
     let script = b"callout 1\ntimer 0 mpsafe\n".as_slice();
-    assert!(rt; is(report_of_text(rt.alloc(), script), wanted));
+    is_text(&rt, report_of_nobody(&rt, rt.alloc(), script), wanted);
 }
 
 /// Texts, and how many notes each has, with the number of the line `end`; or where it is no report the first bad line and its cause.
@@ -137,7 +123,7 @@ fn read_as(alloc: Global, text: &str) -> Option<Result<(usize, u64), (u64, Cause
 #[test]
 fn notes_are_counted_and_the_first_bad_line_is_named(rt: HostRuntime) {
     for (text, wanted) in TEXTS {
-        assert!(rt; read_as(rt.alloc(), text) == Some(*wanted), "{text}");
+        is_right(&rt, text, read_as(rt.alloc(), text) == Some(*wanted));
     }
 }
 
@@ -153,22 +139,13 @@ const OWN_NOTE: Line = Line {
     }),
 };
 
-/// Whether a report is read that has that note alone.
-fn has_own_note(alloc: Global, text: &[u8]) -> bool {
-    match read_report(alloc, text) {
-        Ok(report) => {
-            let has = report.lines.as_slice() == [OWN_NOTE].as_slice();
-            drop(report);
-            has
-        }
-        Err(_) => false,
-    }
-}
-
 #[test]
 fn own_note_is_read(rt: HostRuntime) {
     let text =
         b"callout-report 1\ncallout 2\nhz 1000\ncpus 1\nwheel 256\nfuncs 0\nlock 0 mtx\ntimer 0 mtx 0\nclient 0\nstop 0\n\
         cpu 0\nhistories\ntimer 0\nwheel 0\nactor c0\n0 c0/0 notheld\nactor p0\nactor h0\nend\n";
-    assert!(rt; has_own_note(rt.alloc(), text.as_slice()));
+    let report = read_report(rt.alloc(), text.as_slice()).expect(&rt, "no report");
+    let has = report.lines.as_slice() == [OWN_NOTE].as_slice();
+    drop(report);
+    assert!(rt; has);
 }

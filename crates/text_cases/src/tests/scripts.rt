@@ -1,19 +1,7 @@
 //! Worked scripts.
+use super::is_text;
 use co_script::{fits, print_script, read_script};
 use co_text::{Cause, ScriptFault};
-use std::alloc::Global;
-
-/// Whether the script that a text is fits, and is printed as this text.
-fn is_printed_as(alloc: Global, text: &[u8], wanted: &[u8]) -> Result<bool, ScriptFault> {
-    let script = read_script(alloc, text)?;
-    let printed = print_script(alloc, &script);
-    let fits = fits(&script);
-    drop(script);
-    match printed {
-        Ok(printed) => Ok(fits && printed.as_slice() == wanted),
-        Err(_) => Err(ScriptFault::NoMemory),
-    }
-}
 
 #[test]
 fn one_firing_is_read_and_printed(rt: HostRuntime) {
@@ -23,7 +11,12 @@ fn one_firing_is_read_and_printed(rt: HostRuntime) {
         b"callout 1\nhz 1000\ncpus 1\nwheel 256\nfuncs 1\ntimer 0 mpsafe\nfunc 0\nclient 0\n\
         reset 0 =u6442450944 f0 a7\ncpu 0\ntick u6442450944\n"
             .as_slice();
-    assert!(rt; is_printed_as(rt.alloc(), text, wanted) == Ok(true));
+    let script = read_script(rt.alloc(), text).expect(&rt, "no script");
+    let printed = print_script(rt.alloc(), &script).expect(&rt, "no memory");
+    let fits = fits(&script);
+    drop(script);
+    assert!(rt; fits);
+    is_text(&rt, printed, wanted);
 }
 
 #[test]

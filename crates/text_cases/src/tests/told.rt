@@ -2,63 +2,63 @@
 ghost use Rattle.std.specs.Prelude.{◌≡◌};
 ghost use Rattle.co_program.specs.Scripts.{IsScript};
 
-use super::reports::is;
+use super::{is_text, script_of};
 use co_listener::Listener;
 use co_object::{
     AnyEntry, CallOp, Entry, Note, Op, Place, PlainOp, QEntry, QOp, QReply, Reply, RunOp,
 };
 use co_program::{Script, actor_count};
 use co_report::{SectionsOf, Subject};
-use co_sbt::{NoMemory, Sbt, Seq};
-use co_script::read_script;
-use co_text::ScriptFault;
+use co_sbt::{Sbt, Seq};
 use std::alloc::Global;
 use std::marker::Brand;
+use std::process::Abort;
 
 /// Tells these notes, each of its actor.
-fn tell<L: Listener>(listener: &mut L, actors: u32, told: &[(u32, Note)]) -> Result<(), NoMemory>
+fn tell<L: Listener, R: Abort>(rt: &R, listener: &mut L, actors: u32, told: &[(u32, Note)])
     requires { actors ≡ L.actors listener.old }
 {
     for (actor, note) in told {
         if *actor < actors {
-            listener.write(*actor, note)?;
+            listener.write(*actor, note).expect(rt, "no memory");
         }
     }
-    Ok(())
 }
 
 /// The report of a script after these notes, each with its actor.
-fn report_told<S: Subject>(
+fn report_told<S: Subject, R: Abort>(
+    rt: &R,
     alloc: Global,
     script: &Script,
     told: &[(u32, Note)],
-) -> Result<Seq<u8>, NoMemory>
+) -> Seq<u8>
     requires sound { IsScript script.now }
     requires subject { script.now ≡ S.script }
 {
-    let mut sections = SectionsOf::<S>::new(alloc, script)?;
-    tell(&mut sections, actor_count(script), told)?;
-    joined(alloc, sections.pieces(alloc)?.as_slice())
+    let mut sections = SectionsOf::<S>::new(alloc, script).expect(rt, "no memory");
+    tell(rt, &mut sections, actor_count(script), told);
+    let pieces = sections.pieces(alloc).expect(rt, "no memory");
+    let text = joined(rt, alloc, pieces.as_slice());
+    drop(pieces);
+    text
 }
 
 /// These pieces, one behind the other.
-fn joined(alloc: Global, pieces: &[Seq<u8>]) -> Result<Seq<u8>, NoMemory> {
+fn joined<R: Abort>(rt: &R, alloc: Global, pieces: &[Seq<u8>]) -> Seq<u8> {
     let mut text = Seq::new(alloc);
     for piece in pieces {
-        text.extend_from_slice(piece.as_slice())?;
+        text.extend_from_slice(piece.as_slice())
+            .expect(rt, "no memory");
     }
-    Ok(text)
+    text
 }
 
-/// The report of a text's script of which these notes were told; the fault of a text that is no script.
-fn text_told(alloc: Global, text: &[u8], told: &[(u32, Note)]) -> Result<Seq<u8>, ScriptFault> {
-    let script = read_script(alloc, text)?;
-    let made = report_told::<Brand>(alloc, &script, told);
+/// The report of a text's script of which these notes were told.
+fn text_told<R: Abort>(rt: &R, alloc: Global, text: &[u8], told: &[(u32, Note)]) -> Seq<u8> {
+    let script = script_of(rt, alloc, text);
+    let report = report_told::<Brand, _>(rt, alloc, &script, told);
     drop(script);
-    match made {
-        Ok(report) => Ok(report),
-        Err(_) => Err(ScriptFault::NoMemory),
-    }
+    report
 }
 
 /// A note of callout 0.
@@ -150,6 +150,6 @@ fn notes_are_printed_as_they_are_told(rt: HostRuntime) {
         2 p0/0 pick #0 p0 u4294967296 = go f0 a7\nwheel 0\n1 c0/0 insert i0 #0 u4294967296 = at u4294967296\n0 p0/0 scan u4294967296 = count 1\n\
         1 p0/0 pop = got i0 #0 u4294967296\n3 p0/0 free = freed\nactor c0\nactor p0\nend\n";
     let told = first_firing(Sbt::from_ticks(1, 1));
-    let report = text_told(rt.alloc(), script.as_slice(), told.as_slice());
-    assert!(rt; is(report, wanted.as_slice()));
+    let report = text_told(&rt, rt.alloc(), script.as_slice(), told.as_slice());
+    is_text(&rt, report, wanted.as_slice());
 }

@@ -1,32 +1,28 @@
 //! Reports of a script in which nobody does anything.
+use super::is_right;
 use co_check::laws::read_reports_may_be_checked;
 use co_check::{Unfit, Verdict, check, check_replayed, read_replayed_report};
 use co_object::{AnyEntry, OwnEntry, OwnKind, Place};
 use co_report::{Line, OpenReport, PackedLines, open_report, read_report};
-use co_sbt::NoMemory;
-use co_text::ScriptFault;
 use std::alloc::Global;
+use std::process::Abort;
 
 /// The verdict on the report that a text is.
-fn verdict_of(alloc: Global, text: &[u8]) -> Result<Verdict, ScriptFault> {
-    let report = read_report(alloc, text)?;
+fn verdict_of<R: Abort>(rt: &R, alloc: Global, text: &[u8]) -> Verdict {
+    let report = read_report(alloc, text).expect(rt, "no report");
     read_reports_may_be_checked();
-    let judged = check(alloc, &report);
+    let verdict = check(alloc, &report).expect(rt, "no memory");
     drop(report);
-    match judged {
-        Ok(verdict) => Ok(verdict),
-        Err(NoMemory {}) => Err(ScriptFault::NoMemory),
-    }
+    verdict
 }
 
 /// The verdict on the report that a text is, replayed as it is read.
-fn replayed_verdict_of(alloc: Global, text: &[u8]) -> Result<Verdict, ScriptFault> {
-    let report = read_replayed_report(alloc, text)?;
+fn replayed_verdict_of<R: Abort>(rt: &R, alloc: Global, text: &[u8]) -> Verdict {
+    let Ok(report) = read_replayed_report(alloc, text) else {
+        panic!(rt; "no report");
+    };
     read_reports_may_be_checked();
-    match check_replayed(alloc, &report) {
-        Ok(verdict) => Ok(verdict),
-        Err(NoMemory {}) => Err(ScriptFault::NoMemory),
-    }
+    check_replayed(alloc, &report).expect(rt, "no memory")
 }
 
 const FOLLOWS: Verdict = Verdict::Not {
@@ -51,8 +47,10 @@ static VERDICTS: [(&str, Verdict); 2] = [
 #[test]
 fn reports_are_judged(rt: HostRuntime) {
     for (text, verdict) in &VERDICTS {
-        assert!(rt; verdict_of(rt.alloc(), text.as_bytes()) == Ok(*verdict));
-        assert!(rt; replayed_verdict_of(rt.alloc(), text.as_bytes()) == Ok(*verdict));
+        let found = verdict_of(&rt, rt.alloc(), text.as_bytes());
+        is_right(&rt, text, found == *verdict);
+        let found = replayed_verdict_of(&rt, rt.alloc(), text.as_bytes());
+        is_right(&rt, text, found == *verdict);
     }
 }
 
@@ -69,21 +67,17 @@ fn only(lines: &PackedLines) -> Option<Line> {
 type Told = (usize, Option<Line>, u64);
 
 /// What is told of an open report's notes as they are read.
-fn told_of(alloc: Global, report: &OpenReport<'_>) -> Result<Told, ScriptFault> {
-    let Ok(mut reader) = report.reader(alloc) else {
-        return Err(ScriptFault::NoMemory);
-    };
+fn told_of<R: Abort>(rt: &R, alloc: Global, report: &OpenReport<'_>) -> Told {
+    let mut reader = report.reader(alloc).expect(rt, "no memory");
     let mut lines = PackedLines::new(alloc);
-    match reader.tell_all(alloc, &mut lines) {
-        Ok(end) => Ok((lines.len(), only(&lines), end)),
-        Err(fault) => Err(fault),
-    }
+    let end = reader.tell_all(alloc, &mut lines).expect(rt, "a bad line");
+    (lines.len(), only(&lines), end)
 }
 
 /// What is told of the report that a text is.
-fn told(alloc: Global, text: &[u8]) -> Result<Told, ScriptFault> {
-    let report = open_report(alloc, text)?;
-    told_of(alloc, &report)
+fn told<R: Abort>(rt: &R, alloc: Global, text: &[u8]) -> Told {
+    let report = open_report(alloc, text).expect(rt, "no report");
+    told_of(rt, alloc, &report)
 }
 
 /// The note of the second report above.
@@ -101,6 +95,6 @@ const NOT_HELD: Line = Line {
 #[test]
 fn lines_are_told_as_they_are_read(rt: HostRuntime) {
     let [(nothing, _), (one, _)] = &VERDICTS;
-    assert!(rt; told(rt.alloc(), nothing.as_bytes()) == Ok((0, None, 13)));
-    assert!(rt; told(rt.alloc(), one.as_bytes()) == Ok((1, Some(NOT_HELD), 14)));
+    assert!(rt; told(&rt, rt.alloc(), nothing.as_bytes()) == (0, None, 13));
+    assert!(rt; told(&rt, rt.alloc(), one.as_bytes()) == (1, Some(NOT_HELD), 14));
 }

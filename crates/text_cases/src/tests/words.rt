@@ -1,4 +1,5 @@
 //! Whether a word is the wanted one, byte by byte.
+use super::is_right;
 use co_text::is_word;
 
 const WORDS: &[(&str, &str, bool)] = &[
@@ -14,9 +15,7 @@ const WORDS: &[(&str, &str, bool)] = &[
 #[test]
 fn a_word_is_the_wanted_one_or_not(rt: HostRuntime) {
     for (word, wanted, same) in WORDS {
-        assert!(rt;
-            is_word(word.as_bytes(), wanted.as_bytes()) == *same,
-            "{word}"
-        );
+        let right = is_word(word.as_bytes(), wanted.as_bytes()) == *same;
+        is_right(&rt, word, right);
     }
 }

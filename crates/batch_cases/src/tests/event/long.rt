@@ -1,5 +1,5 @@
 //! Texts that are too long.
-use crate::tests::rows::is_refused;
+use crate::tests::rows::{is_refused, is_right};
 use co_event_text::run_event;
 use co_sbt::Seq;
 use co_text::Cause;
@@ -30,13 +30,15 @@ fn long_text<R: Abort>(rt: &R, alloc: Global, last: &str) -> Seq<u8> {
 /// Whether the line is refused as it has to be behind all that there may be.
 fn is_last_refused<R: Abort>(rt: &R, alloc: Global, last: &str, cause: Cause) -> bool {
     let text = long_text(rt, alloc, last);
-    is_refused(&run_event(alloc, text.as_slice()), 262_147, cause)
+    let answer = run_event(alloc, text.as_slice());
+    drop(text);
+    is_refused(answer, 262_147, cause)
 }
 
 /// Whether a text of a byte too many is refused.
 fn is_size_refused(alloc: Global) -> bool {
     match vec![in alloc; b'\n'; TOO_LONG] {
-        Ok(text) => is_refused(&run_event(alloc, text.as_slice()), 0, Cause::Size),
+        Ok(text) => is_refused(run_event(alloc, text.as_slice()), 0, Cause::Size),
         Err(_) => false,
     }
 }
@@ -45,7 +47,7 @@ fn is_size_refused(alloc: Global) -> bool {
 #[test]
 fn long_texts_are_refused(rt: HostRuntime) {
     for (last, cause) in &LAST {
-        assert!(rt; is_last_refused(&rt, rt.alloc(), last, *cause), "{last}");
+        is_right(&rt, last, is_last_refused(&rt, rt.alloc(), last, *cause));
     }
     assert!(rt; is_size_refused(rt.alloc()));
 }

@@ -31,5 +31,7 @@ fn each_reply_has_a_line(rt: HostRuntime) {
     let text = page.done().expect(&rt, "no memory");
     let wanted =
         b"began 18446744073709551614\nalready\nwoke 2\none 1023\nnobody\nasleep\nnever\nwoken\ntimedout\nticked 1 2\n".as_slice();
-    assert!(rt; text.as_slice() == wanted);
+    let same = text.as_slice() == wanted;
+    drop(text);
+    assert!(rt; same);
 }

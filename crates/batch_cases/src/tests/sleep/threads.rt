@@ -1,11 +1,9 @@
 //! A sleeper, a waker and the CPU, each in a thread of its own, over one sleep queue.
 ghost use Rattle.std.specs.Prelude.{◌≡◌, ◌<◌, false};
+ghost use Rattle.std.specs.List.{All};
 ghost use Rattle.co_desk.specs.Services.{IsFree};
-ghost use Rattle.co_sleepq.specs.Fresh.{AreFreshPasses};
 ghost use Rattle.co_sleepq.specs.Params.{ArePasses, sleepers};
-ghost use denote.Param.Send.{IsSync};
 
-use super::stage::leave;
 use co_sbt::{Sbt, Seq};
 use co_sleepq::{End, SleepFresh, SleepName, SleepPasses, SleepQueue, SleepReply, Ticked};
 use std::alloc::Global;
@@ -13,7 +11,7 @@ use std::marker::Brand;
 use std::process::Abort;
 use std::sync::Wait;
 use std::sync::atomic::{AtomicBool, Ordering};
-use std::thread::{Threads, join};
+use std::thread::{Threads, map_vec};
 
 /// How the sleeper's sleeps ended.
 #[derive(Clone, Copy)]
@@ -61,10 +59,10 @@ impl Slept {
 fn sleep_often<N: SleepName, R: Wait>(
     rt: &R,
     queue: &SleepQueue<N>,
-    mut passes: SleepPasses,
+    passes: &mut SleepPasses,
     over: &AtomicBool,
 ) -> Slept
-    requires passes { ArePasses N.name N.book queue.now passes }
+    requires passes { ArePasses N.name N.book queue.now passes.old }
     requires sleeper { 0 < sleepers queue.now }
 {
     let mut slept = Slept {
@@ -73,11 +71,10 @@ fn sleep_often<N: SleepName, R: Wait>(
         other: 0,
     };
     for k in 0..64_u64 {
-        let (began, end) = sleep_once(rt, queue, &mut passes);
+        let (began, end) = sleep_once(rt, queue, passes);
         slept.count(k, began, end);
     }
     over.store(true, Ordering::SeqCst);
-    drop(passes);
     slept
 }
 
@@ -85,18 +82,17 @@ fn sleep_often<N: SleepName, R: Wait>(
 fn wake_often<N: SleepName, R: Wait>(
     rt: &R,
     queue: &SleepQueue<N>,
-    mut passes: SleepPasses,
+    passes: &mut SleepPasses,
     over: &AtomicBool,
 ) -> u32
-    requires passes { ArePasses N.name N.book queue.now passes }
+    requires passes { ArePasses N.name N.book queue.now passes.old }
 {
     let mut woken: u32 = 0;
     for _ in rt.forever() {
         if over.load(Ordering::SeqCst) {
-            drop(passes);
             return woken;
         }
-        if queue.wakeup_one(rt, &mut passes, 7) != SleepReply::Nobody {
+        if queue.wakeup_one(rt, passes, 7) != SleepReply::Nobody {
             woken = woken.wrapping_add(1);
         }
     }
@@ -107,20 +103,19 @@ fn wake_often<N: SleepName, R: Wait>(
 fn tick_often<N: SleepName, R: Wait>(
     rt: &R,
     queue: &SleepQueue<N>,
-    mut passes: SleepPasses,
+    passes: &mut SleepPasses,
     over: &AtomicBool,
 ) -> Ticked
-    requires passes { ArePasses N.name N.book queue.now passes }
-    requires free { IsFree false passes.service 0 }
+    requires passes { ArePasses N.name N.book queue.now passes.old }
+    requires free { IsFree false passes.old.service 0 }
 {
     let second = Sbt::from_ticks(1000, 1000);
     let mut all = Ticked { out: 0, late: 0 };
     for _ in rt.forever() {
         if over.load(Ordering::SeqCst) {
-            drop(passes);
             return all;
         }
-        let ticked = queue.tick(rt, &mut passes, 0, second);
+        let ticked = queue.tick(rt, passes, 0, second);
         all = Ticked {
             out: all.out.wrapping_add(ticked.out),
             late: all.late.wrapping_add(ticked.late),
@@ -129,69 +124,69 @@ fn tick_often<N: SleepName, R: Wait>(
     unreachable!()
 }
 
-/// The waker and the CPU.
-fn wake_and_tick<N: SleepName + Send + Sync, R: Threads + Wait + Sync>(
-    rt: &R,
-    queue: &SleepQueue<N>,
-    waker: SleepPasses,
-    cpu: SleepPasses,
-    over: &AtomicBool,
-) -> (u32, Ticked)
-    requires sync { IsSync R.row }
-    requires waker { ArePasses N.name N.book queue.now waker }
-    requires cpu { ArePasses N.name N.book queue.now cpu }
-    requires free { IsFree false cpu.service 0 }
-{
-    join(
-        rt,
-        || -> u32
-            requires { IsSync R.row × ArePasses N.name N.book queue.now waker }
-        { wake_often(rt, queue, waker, over) },
-        || -> Ticked
-            requires { IsSync R.row × ArePasses N.name N.book queue.now cpu × IsFree false cpu.service 0 }
-        { tick_often(rt, queue, cpu, over) },
-    )
+/// What came of a thread's calls.
+#[derive(Clone, Copy)]
+enum Came {
+    /// Of the sleeper's.
+    Slept(Slept),
+    /// Of the waker's, how many it woke.
+    Woken(u32),
+    /// Of the CPU's.
+    Ticked(Ticked),
 }
 
-/// All three.
+/// The calls of an actor: the first client sleeps, the other wakes, and the last is the CPU's.
+fn play<N: SleepName, R: Wait>(
+    rt: &R,
+    queue: &SleepQueue<N>,
+    mut passes: SleepPasses,
+    over: &AtomicBool,
+) -> Came
+    requires passes { ArePasses N.name N.book queue.now passes }
+    requires sleeper { 0 < sleepers queue.now }
+    requires free { passes.service.actor ≡ 2 → IsFree false passes.service 0 }
+{
+    let came = match passes.actor() {
+        0 => Came::Slept(sleep_often(rt, queue, &mut passes, over)),
+        2 => Came::Ticked(tick_often(rt, queue, &mut passes, over)),
+        _ => Came::Woken(wake_often(rt, queue, &mut passes, over)),
+    };
+    drop(passes);
+    came
+}
+
+/// All three, each in a thread of its own.
 fn play_all<N: SleepName + Send + Sync, R: Abort + Threads + Wait + Sync>(
     rt: &R,
     alloc: Global,
     fresh: SleepFresh,
     passes: Seq<SleepPasses>,
-) -> (Slept, (u32, Ticked))
+) -> (Slept, u32, Ticked)
     requires name { fresh.name ≡ record { service = N.name; book = N.book } }
-    requires clients { fresh.params.clients ≡ 2 }
     requires sleeper { 0 < sleepers fresh.params }
-    requires passes { AreFreshPasses fresh.name fresh.params 3 passes }
+    requires passes { All (λ q. ArePasses N.name N.book fresh.params q × (q.service.actor ≡ 2 → IsFree false q.service 0)) passes }
 {
     let Ok(queue) = SleepQueue::<N>::open(alloc, fresh) else {
         panic!(rt; "no memory");
     };
-    let mut passes = passes.into_vec();
-    let cpu = leave(&queue, &mut passes, 2);
-    let waker = leave(&queue, &mut passes, 1);
-    let sleeper = leave(&queue, &mut passes, 0);
-    drop(passes);
     let over = AtomicBool::new(false);
-    let ends = join(
-        rt,
-        || -> Slept
-            requires { IsSync R.row × ArePasses N.name N.book queue sleeper × (0 < sleepers queue) }
-        { sleep_often(rt, &queue, sleeper, &over) },
-        || -> (u32, Ticked)
-            requires { IsSync R.row × ArePasses N.name N.book queue waker × ArePasses N.name N.book queue cpu × IsFree false cpu.service 0 }
-        { wake_and_tick(rt, &queue, waker, cpu, &over) },
-    );
+    let one = |passes: SleepPasses| -> Came
+        requires { ArePasses N.name N.book queue passes × (0 < sleepers queue) × (passes.service.actor ≡ 2 → IsFree false passes.service 0) }
+    { play(rt, &queue, passes, &over) };
+    let came = map_vec(rt, passes.into_vec(), &one).expect(rt, "no memory");
     drop(queue);
-    ends
+    match came.as_slice() {
+        [Came::Slept(slept), Came::Woken(woken), Came::Ticked(ticked)] => (*slept, *woken, *ticked),
+        _ => panic!(rt; "another order"),
+    }
 }
 
 // Each sleep is ended once, by the waker or by its time, and the sleeper is told by which.
 #[test]
 fn each_sleep_is_ended_once(rt: HostRuntime) {
     let (fresh, passes) = SleepQueue::boot(rt.alloc(), 1, 2).expect(&rt, "no memory");
-    let (slept, (woken, ticked)) = play_all::<Brand, _>(&rt, rt.alloc(), fresh, passes);
+    let ends = play_all::<Brand, _>(&rt, rt.alloc(), fresh, passes);
+    let (slept, woken, ticked) = ends;
     let all_ended = slept.other == 0 && slept.woken.wrapping_add(slept.timed_out) == 64;
     let as_told = slept.woken == woken && slept.timed_out == ticked.out;
     assert!(rt; all_ended && as_told && ticked.late <= woken);

@@ -2,15 +2,16 @@
 ghost use Rattle.std.specs.Prelude.{◌≡◌};
 ghost use Rattle.co_program.specs.Scripts.{IsScript};
 
-use super::script_of;
+use crate::tests::{is_right, script_of};
 use co_gen::{Counts, TallyOf};
 use co_listener::Listener;
 use co_object::{AnyEntry, CallOp, Entry, Note, Op, Place, PlainOp, Reply, RunOp};
 use co_program::{Script, actor_count};
 use co_report::Subject;
-use co_sbt::{NoMemory, Sbt};
+use co_sbt::Sbt;
 use std::alloc::Global;
 use std::marker::Brand;
+use std::process::Abort;
 
 /// A callout without a lock, and a client.
 const FREE: &str = "callout 1
@@ -133,43 +134,41 @@ fn note_of(step: &Step, pos: u64) -> Note {
 }
 
 /// Tells actor 0's history of callout 0.
-fn tell<L: Listener>(listener: &mut L, actors: u32, history: &[Step]) -> Result<(), NoMemory>
+fn tell<L: Listener, R: Abort>(rt: &R, listener: &mut L, actors: u32, history: &[Step])
     requires { actors ≡ L.actors listener.old }
 {
     let mut pos: u64 = 0;
     for step in history {
         if actors > 0 {
-            listener.write(0, &note_of(step, pos))?;
+            listener
+                .write(0, &note_of(step, pos))
+                .expect(rt, "no memory");
         }
         pos = pos.wrapping_add(1);
     }
-    Ok(())
 }
 
 /// The counts of a type's script, whose callout 0 has this history.
-fn counts_told<S: Subject>(
+fn counts_told<S: Subject, R: Abort>(
+    rt: &R,
     alloc: Global,
     script: &Script,
     history: &[Step],
-) -> Result<Counts, NoMemory>
+) -> Counts
     requires of { script.now ≡ S.script }
     requires script { IsScript script.now }
 {
-    let mut tally = TallyOf::<S>::new(alloc, script)?;
-    tell(&mut tally, actor_count(script), history)?;
-    Ok(tally.counts())
+    let mut tally = TallyOf::<S>::new(alloc, script).expect(rt, "no memory");
+    tell(rt, &mut tally, actor_count(script), history);
+    tally.counts()
 }
 
 /// Whether the callout of a text's script has these counts after this history.
-fn has(alloc: Global, text: &str, history: &[Step], wanted: &Counts) -> bool {
-    match script_of(alloc, text.as_bytes()) {
-        Ok(script) => {
-            let counts = counts_told::<Brand>(alloc, &script, history);
-            drop(script);
-            counts == Ok(*wanted)
-        }
-        Err(_) => false,
-    }
+fn has<R: Abort>(rt: &R, alloc: Global, text: &str, history: &[Step], wanted: &Counts) -> bool {
+    let script = script_of(rt, alloc, text.as_bytes());
+    let counts = counts_told::<Brand, _>(rt, alloc, &script, history);
+    drop(script);
+    counts == *wanted
 }
 
 /// The first arming, for the first second.
@@ -276,6 +275,6 @@ const CASES: &[(&str, &str, &[Step], Counts)] = &[
 #[test]
 fn fates_are_counted(rt: HostRuntime) {
     for (name, text, history, wanted) in CASES {
-        assert!(rt; has(rt.alloc(), text, history, wanted), "{name}");
+        is_right(&rt, name, has(&rt, rt.alloc(), text, history, wanted));
     }
 }

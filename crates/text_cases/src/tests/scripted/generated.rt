@@ -1,8 +1,9 @@
 //! The first seed's numbers and script.
 
+use crate::tests::is_text;
 use co_gen::{Counts, Draws, gen_script, print_soak};
 use co_program::{Act, Script};
-use co_sbt::{NoMemory, Sbt, Seq};
+use co_sbt::Sbt;
 use co_script::fits;
 
 #[test]
@@ -20,22 +21,13 @@ fn has_eight_clients(script: &Script) -> bool {
     acts.len() >= 2 && acts[0] == Act::Now(Sbt::zero()) && acts[1] == Act::Drain(22)
 }
 
-/// Whether a script was made that fits, with its 64 callouts and those clients.
-fn is_first(made: Result<Script, NoMemory>) -> bool {
-    match made {
-        Ok(script) => {
-            let has_all = script.timers.as_slice().len() == 64;
-            let is_first = fits(&script) && has_all && has_eight_clients(&script);
-            drop(script);
-            is_first
-        }
-        Err(_) => false,
-    }
-}
-
 #[test]
 fn first_script(rt: HostRuntime) {
-    assert!(rt; is_first(gen_script(rt.alloc(), 1)));
+    let script = gen_script(rt.alloc(), 1).expect(&rt, "no memory");
+    let has_all = script.timers.as_slice().len() == 64;
+    let is_first = fits(&script) && has_all && has_eight_clients(&script);
+    drop(script);
+    assert!(rt; is_first);
 }
 
 const COUNTS: Counts = Counts {
@@ -47,17 +39,10 @@ const COUNTS: Counts = Counts {
     pending: 5,
 };
 
-/// Whether a line was made, and is this one.
-fn is_line(made: Result<Seq<u8>, NoMemory>, wanted: &str) -> bool {
-    match made {
-        Ok(line) => line.as_slice() == wanted.as_bytes(),
-        Err(_) => false,
-    }
-}
-
 #[test]
 fn line_of_the_first_seed(rt: HostRuntime) {
     let wanted =
         "soak 1 notes 33295 armed 4447 fired 1324 superseded 1761 stopped 1357 pending 5\n";
-    assert!(rt; is_line(print_soak(rt.alloc(), 1, &COUNTS), wanted));
+    let line = print_soak(rt.alloc(), 1, &COUNTS).expect(&rt, "no memory");
+    is_text(&rt, line, wanted.as_bytes());
 }

@@ -1,14 +1,14 @@
 //! A worked script's walk, as lists and note by note.
 ghost use Rattle.std.specs.Prelude.{◌^◌};
-ghost use Rattle.co_program.specs.Scripts.{IsScript};
 
-use super::{IN_TRANSIT, script_of};
+use super::IN_TRANSIT;
+use crate::tests::script_of;
 use co_core::{run_steps, tell_walk};
 use co_listener::Listener;
 use co_object::Note;
-use co_program::Script;
 use co_sbt::{NoMemory, Seq};
 use std::alloc::Global;
+use std::process::Abort;
 
 /// Keeps who makes each note, and at which position of its place.
 #[derive(Drop)]
@@ -41,43 +41,32 @@ fn counts(lists: &[Seq<Note>]) -> Option<[usize; 4]> {
     }
 }
 
-/// How many notes each of the four actors of a script's walk has.
-fn counted(alloc: Global, script: &Script) -> Option<[usize; 4]>
-    requires { IsScript script.now }
-{
-    match run_steps(alloc, script) {
-        Ok(lists) => counts(lists.as_slice()),
-        Err(_) => None,
-    }
-}
-
-/// Whether a script's walk tells these notes, of an actor and at a position each.
-fn tells(alloc: Global, script: &Script, notes: &[(u32, u64)]) -> bool
-    requires { IsScript script.now }
-{
+/// Whether the walk of a text's script makes four lists of so many notes, and tells these notes, of an actor and at a position
+/// each.
+fn walks<R: Abort>(
+    rt: &R,
+    alloc: Global,
+    text: &str,
+    lists: [usize; 4],
+    notes: &[(u32, u64)],
+) -> [bool; 2] {
+    let script = script_of(rt, alloc, text.as_bytes());
+    let made = run_steps(alloc, &script).expect(rt, "no memory");
     let mut told = Told {
         notes: Seq::new(alloc),
     };
-    tell_walk(alloc, script, &mut told).is_ok() && told.notes.as_slice() == notes
-}
-
-/// Whether the walk of a text's script makes four lists of so many notes, and tells these notes.
-fn walks(alloc: Global, text: &str, lists: [usize; 4], notes: &[(u32, u64)]) -> [bool; 2] {
-    match script_of(alloc, text.as_bytes()) {
-        Ok(script) => {
-            let right = [
-                counted(alloc, &script) == Some(lists),
-                tells(alloc, &script, notes),
-            ];
-            drop(script);
-            right
-        }
-        Err(_) => [false; 2],
-    }
+    tell_walk(alloc, &script, &mut told).expect(rt, "no memory");
+    let right = [
+        counts(made.as_slice()) == Some(lists),
+        told.notes.as_slice() == notes,
+    ];
+    drop(made);
+    drop(script);
+    right
 }
 
 #[test]
 fn keeps_a_list_for_each_actor_and_tells_as_it_walks(rt: HostRuntime) {
     let notes = [(0, 0), (0, 0), (1, 1), (1, 1)];
-    assert!(rt; walks(rt.alloc(), IN_TRANSIT, [2, 2, 0, 0], &notes) == [true, true]);
+    assert!(rt; walks(&rt, rt.alloc(), IN_TRANSIT, [2, 2, 0, 0], &notes) == [true, true]);
 }

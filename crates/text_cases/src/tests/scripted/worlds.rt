@@ -2,12 +2,13 @@
 ghost use Rattle.std.specs.Prelude.{◌≡◌};
 ghost use Rattle.co_program.specs.Scripts.{IsScript};
 
-use super::{IN_TRANSIT, script_of};
+use super::IN_TRANSIT;
+use crate::tests::{is_right, script_of};
 use co_core::{Turn, Why, World};
 use co_object::{AnyEntry, CallOp, Entry, Note, Op, Place, PlainOp, QEntry, QOp, QReply, Reply};
 use co_program::{Script, actor_count};
-use co_sbt::NoMemory;
 use std::alloc::Global;
+use std::process::Abort;
 
 /// A client arms the callout under its lock and stops it while the CPU's service waits for the lock.
 const CANCELLED_SCRIPT: &str = "callout 1
@@ -345,28 +346,24 @@ fn is_told(world: &World<'_>, run: &Run) -> bool {
 }
 
 /// Whether a world of the script goes as the run does.
-fn is_stepped(alloc: Global, script: &Script, run: &Run) -> Result<bool, NoMemory>
+fn is_stepped<R: Abort>(rt: &R, alloc: Global, script: &Script, run: &Run) -> bool
     requires { IsScript script.now }
 {
-    let mut world = World::boot(alloc, script)?;
-    Ok(goes(script, &mut world, run.turns) && is_told(&world, run))
+    let mut world = World::boot(alloc, script).expect(rt, "no memory");
+    goes(script, &mut world, run.turns) && is_told(&world, run)
 }
 
 /// Whether the run's text is a script that goes so.
-fn is_run(alloc: Global, run: &Run) -> bool {
-    match script_of(alloc, run.script.as_bytes()) {
-        Ok(script) => {
-            let stepped = is_stepped(alloc, &script, run);
-            drop(script);
-            stepped == Ok(true)
-        }
-        Err(_) => false,
-    }
+fn is_run<R: Abort>(rt: &R, alloc: Global, run: &Run) -> bool {
+    let script = script_of(rt, alloc, run.script.as_bytes());
+    let right = is_stepped(rt, alloc, &script, run);
+    drop(script);
+    right
 }
 
 #[test]
 fn worlds_go_by_hand(rt: HostRuntime) {
     for run in &RUNS {
-        assert!(rt; is_run(rt.alloc(), run), "{}", run.name);
+        is_right(&rt, run.name, is_run(&rt, rt.alloc(), run));
     }
 }
