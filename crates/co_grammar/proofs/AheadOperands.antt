@@ -1,7 +1,7 @@
 -- Operands at the front of a text: each is the word that stands there, with its value.
-use Rattle.std.proofs.Common.{◌≡◌, ℕ, ◌-◌, ◌*◌, ◌^◌, ◌<◌, ◌≤◌, Bool, true, false, List, [], ◌∷◌, ◌++◌, length, take, drop, refl, ap, sym, ◌∙◌, arith, length-append}
+use Rattle.std.proofs.Common.{◌≡◌, ℕ, ◌-◌, ◌*◌, ◌^◌, ◌<◌, ◌≤◌, Bool, true, false, List, [], ◌∷◌, ◌++◌, length, take, drop, get_or, refl, ap, sym, ◌∙◌, arith, length-append}
 use Rattle.std.specs.Prelude.{Result, Ok, codes}
-use Rattle.std.proofs.lemmas.List.{take-append-drop, length-take-le}
+use Rattle.std.proofs.lemmas.List.{take-append-drop, length-take-le, drop_more}
 use Rattle.std.proofs.lemmas.Slice.Eq.{bytes_eq-Decides}
 use Rattle.co_text.specs.Fallible.{◌>>=◌}
 use Rattle.co_text.specs.Values.{Word, is_word, number, time, func, argument}
@@ -28,6 +28,13 @@ number-front text rest count n spells within some back = record {
   some = omega (arith, some, length-take-le count text within);
   spells = spells;
 }
+
+-- bytes that were read at the front
+pub one-read : (text rest : List ℕ) (a : ℕ) → 0 < length text → get_or text 0 0 ≡ a → rest ≡ drop 1 text → text ≡ a ∷ rest
+one-read text rest a some first back = drop_more text 0 0 some ∙ (ap (λ c. c ∷ drop 1 text) first ∙ ap (λ r. a ∷ r) (sym back))
+
+pub two-read : (text rest : List ℕ) (a b : ℕ) → 1 < length text → get_or text 0 0 ≡ a → get_or text 1 0 ≡ b → rest ≡ drop 2 text → text ≡ a ∷ b ∷ rest
+two-read text rest a b some first second back = one-read text (b ∷ rest) a (omega (arith, some)) first (sym (drop_more text 1 0 some ∙ (ap (λ c. c ∷ drop 2 text) second ∙ ap (λ r. b ∷ r) (sym back))))
 
 -- times
 
@@ -128,6 +135,10 @@ no-me n e = cc
 
 no-here : (n : ℕ) → number (codes "here") ≡ Ok n → ⊥
 no-here n e = cc
+
+-- `me` names the callout that a function is about
+pub who-me : (serviced : Bool) (w : Word) → serviced ≡ true → is_word w (codes "me") ≡ true → who serviced w ≡ Ok callout.Me
+who-me serviced w e f = rw (e, f) refl
 
 -- what names a callout where there is none that `me` names, does so too where there is one
 pub who-serviced : (serviced : Bool) (w : Word) (n : ℕ) → number w ≡ Ok n → who serviced w ≡ Ok (callout.Timer n)

@@ -8,3 +8,4 @@ pub mod AheadWords
 mod Digits
 mod AheadOperands
 mod AheadForms
+mod Stars

@@ -7,11 +7,7 @@ use Rattle.co_program.specs.declared.Who.{Who}
 use Rattle.co_grammar.specs.declared.keyword.Verb.{Verb}
 use Rattle.co_grammar.specs.declared.keyword.Verb.TheVariants as verb
 use Rattle.co_grammar.specs.Checks.{typed, act_typed, number_typed, who_typed}
-use Rattle.co_grammar.specs.LoneActs.{timed_act, numbered_act, who_act}
-
-timed : (v : Verb) (t : ℕ) → act_typed (timed_act v t) ≡ Ok (timed_act v t)
-timed verb.Now t = refl
-timed _ t = refl
+use Rattle.co_grammar.specs.LoneActs.{numbered_act, who_act}
 
 numbered : (v : Verb) (n : ℕ) → act_typed (numbered_act v n) ≡ (number_typed n >>= λ m. Ok (numbered_act v m))
 numbered verb.Lock n = refl
@@ -25,10 +21,6 @@ of_who verb.Pending w = refl
 of_who verb.Deactivate w = refl
 of_who verb.Init w = refl
 of_who _ w = refl
-
-pub timed-then : (v : Verb) (r : Result ℕ Cause) → typed (r >>= λ t. Ok (timed_act v t)) ≡ (r >>= λ t. Ok (timed_act v t))
-timed-then v (Ok t) = timed v t
-timed-then v (Err cause) = refl
 
 pub numbered-then : (v : Verb) (r : Result ℕ Cause) → typed (r >>= λ n. Ok (numbered_act v n)) ≡ ((r >>= number_typed) >>= λ n. Ok (numbered_act v n))
 numbered-then v (Ok n) = numbered v n

@@ -1,12 +1,12 @@
 -- The parts of a line, one after the other; words that are joined by spaces have these words as their parts, and each line
 -- is its parts, joined.
-use Rattle.std.proofs.Common.{◌≡◌, ℕ, ◌+◌, ◌<◌, ◌≤◌, Bool, true, false, cond, not, ◌&&◌, List, [], ◌∷◌, ◌++◌, length, take, drop, refl, ap, sym, ◌∙◌, arith, append-nil, append_assoc, map}
-use Rattle.std.specs.Prelude.{Err, nat_le}
+use Rattle.std.proofs.Common.{◌≡◌, ℕ, ◌+◌, ◌<◌, ◌≤◌, Bool, true, false, cond, not, ◌&&◌, List, [], ◌∷◌, ◌++◌, length, take, drop, get_or, refl, ap, sym, ◌∙◌, arith, append-nil, append_assoc, map}
+use Rattle.std.specs.Prelude.{Err, nat_le, ◌==◌}
 use Rattle.co_text.specs.declared.cause.Cause.TheVariants.{Form}
 use Rattle.std.specs.List.{list_all, position_or_len, AllByRecursion}
-use Rattle.std.proofs.lemmas.Bool.{and_parts, and_from, eqb-true, not-true}
+use Rattle.std.proofs.lemmas.Bool.{and_parts, and_from, eqb-true, eq-eqb, not-true}
 use Rattle.std.proofs.lemmas.Bool.Decides.{nat_tests}
-use Rattle.std.proofs.lemmas.List.{take_all, drop-drop, length-drop}
+use Rattle.std.proofs.lemmas.List.{take_all, drop_all, drop_more, drop-drop, length-drop}
 use Rattle.co_text.specs.Lines.{Line, lines_of, lines_behind, is_feed, spaced, line_text, text}
 use Rattle.co_text.specs.Values.{Word}
 use Rattle.co_text.specs.Taking.{ended}
@@ -59,6 +59,20 @@ only_part bs first rest n en fits ef er none =
 pub split_part : (bs first rest : List ℕ) (n : ℕ) → n ≡ position_or_len is_space bs → n ≤ length bs → first ≡ take n bs → rest ≡ drop n bs → parts bs ≡ first ∷ parts_left rest
 split_part bs first [] n en fits ef er = only_part bs first [] n en fits ef er refl
 split_part bs first (c ∷ after) n en fits ef er = first_part bs first (c ∷ after) after n en ef er refl (omega arith)
+
+-- ---- the first of some bytes, looked for one by one
+
+pub place_more : (end : ℕ) (text : List ℕ) (i : ℕ) → i < length text → (get_or text i 0 == end) ≡ false → i + position_or_len (λ c. c == end) (drop i text) ≡ i + 1 + position_or_len (λ c. c == end) (drop (i + 1) text)
+place_more end text i within other =
+    let there : position_or_len (λ c. c == end) (drop i text) ≡ 1 + position_or_len (λ c. c == end) (drop (i + 1) text) =
+    ap (position_or_len (λ c. c == end)) (drop_more text i 0 within) ∙ ap (λ b. cond (not b) (1 + position_or_len (λ c. c == end) (drop (i + 1) text)) 0) other in
+    omega (arith, there)
+
+pub place_here : (end : ℕ) (text : List ℕ) (i : ℕ) → i < length text → get_or text i 0 ≡ end → position_or_len (λ c. c == end) (drop i text) ≡ 0
+place_here end text i within same = ap (position_or_len (λ c. c == end)) (drop_more text i 0 within) ∙ ap (λ b. cond (not b) (1 + position_or_len (λ c. c == end) (drop (i + 1) text)) 0) (eq-eqb (get_or text i 0) end same)
+
+pub place_none : (end : ℕ) (text : List ℕ) (i : ℕ) → length text ≤ i → position_or_len (λ c. c == end) (drop i text) ≡ 0
+place_none end text i past = ap (position_or_len (λ c. c == end)) (drop_all i text past)
 
 -- ---- the parts of joined words
 

@@ -175,6 +175,10 @@ number_first n text behind ps h e ends =
 pub letter_first : (c : ℕ) (text digits : List ℕ) (w : Word) (ps : List Word) → is_space c ≡ false → text ≡ c ∷ digits → parts digits ≡ w ∷ ps → parts text ≡ (c ∷ w) ∷ ps
 letter_first c text digits w ps other e f = ap parts e ∙ (ap (λ b. parts_behind b c (parts digits)) other ∙ ap (λ qs. parts_behind false c qs) f)
 
+-- a byte that was read at the front
+pub front_read : (text rest : List ℕ) (c : ℕ) → 0 < length text → get_or text 0 0 ≡ c → rest ≡ drop 1 text → text ≡ c ∷ rest
+front_read text rest c some first back = drop_more text 0 0 some ∙ (ap (λ d. d ∷ drop 1 text) first ∙ ap (λ r. c ∷ r) (sym back))
+
 pub number_front : (n : ℕ) (text behind : List ℕ) (w : Word) (ps : List Word) → n < 2 ^ 64 → text ≡ decimal n ++ behind → parts behind ≡ w ∷ ps → parts text ≡ (decimal n ++ w) ∷ ps
 number_front n text behind w ps h e f = ap parts e ∙ tight-front (decimal n) behind w ps (tight-decimal n h) f
 
@@ -240,6 +244,11 @@ word_carried value view w [] us r e h = cc
 word_carried value view w (v ∷ ws) us r e h =
     let same = same_pair v w ws us e in
     carried value view w (v ∷ ws) us r (ap (λ x. x ∷ ws) same.0 ∙ ap (λ xs. w ∷ xs) same.1) h
+
+-- and where nothing was taken before
+pub word_left : {X Y : Type 0} (value : Word → Result Y Cause) (view : X → Y) (w : Word) (ws vs us : List Word) (r : Result X Cause) → vs ≡ ws → next Ok vs ≡ Ok (w, us) → Gives view r (value w)
+    → Gives (λ x. (view x, us)) r (next value ws)
+word_left value view w ws vs us r e f h = word_carried value view w ws us r (ap (λ (xs : List Word). next {X = Word} Ok xs) (sym e) ∙ f) h
 
 pub below_bound : (bound n : ℕ) → n < 2 ^ 64 → n < bound → below bound (decimal n) ≡ Ok n
 below_bound bound n small less = below_decimal bound n small ∙ ap (λ b. unless b Form >>= λ _. Ok n) (lt-ltb n bound less)

@@ -199,7 +199,11 @@ fn read_on<R: Threads + Sync>(
     ensures { GivesOrNoMemory (λ _. draft.new) result (left_read text.now draft.old from) }
 {
     match frame_of(alloc, draft) {
-        Ok(frame) => read_against(rt, alloc, text, draft, &frame, starts, from),
+        Ok(frame) => {
+            let read = read_against(rt, alloc, text, draft, &frame, starts, from);
+            drop(frame);
+            read
+        }
         Err(fault) => Err(no_memory(fault)),
     }
 }
@@ -241,8 +245,13 @@ fn script_beside<R: Threads + Sync>(
     ensures { GivesOrNoMemory (λ s. s) result (lines_script (lines_of text.now)) }
 {
     let mut draft = None;
-    read_beside(rt, alloc, text, &mut draft, starts)?;
-    finished(alloc, draft)
+    match read_beside(rt, alloc, text, &mut draft, starts) {
+        Ok(()) => finished(alloc, draft),
+        Err(fault) => {
+            drop(draft);
+            Err(fault)
+        }
+    }
 }
 
 /// The script that a text stands for, or its first bad line and the first cause for which it is bad, as `read_script` gives

@@ -84,7 +84,10 @@ fn small_ahead(text: &[u8]) -> Option<(u32, &[u8])>
 fn units_ahead(text: &[u8]) -> Option<(u64, &[u8])>
     ensures { IfSome result (λ x. IsAhead time text.now x.0 x.1.now) }
 {
-    let (number, rest) = number_ahead(behind(text, b"u".as_slice())?)?;
+    let [b'u', digits @ ..] = text else {
+        return None;
+    };
+    let (number, rest) = number_ahead(digits)?;
     if number >= 0x8000_0000_0000_0000 {
         return None;
     }
@@ -121,7 +124,10 @@ fn time_ahead(text: &[u8]) -> Option<(u64, &[u8])>
 pub(crate) fn next_time(rest: &[u8]) -> Option<(u64, &[u8])>
     ensures { IfSome result (λ x. IsNext time rest.now x.0 x.1.now) }
 {
-    time_ahead(behind(rest, b" ".as_slice())?)
+    match rest {
+        [b' ', text @ ..] => time_ahead(text),
+        _ => None,
+    }
 }
 
 /// `+T`.
@@ -129,7 +135,10 @@ pub(crate) fn next_time(rest: &[u8]) -> Option<(u64, &[u8])>
 fn next_after(rest: &[u8]) -> Option<(When, &[u8])>
     ensures { IfSome result (λ x. IsNext moment rest.now x.0 x.1.now) }
 {
-    let (units, rest) = time_ahead(behind(rest, b" +".as_slice())?)?;
+    let [b' ', b'+', text @ ..] = rest else {
+        return None;
+    };
+    let (units, rest) = time_ahead(text)?;
     let time = Sbt::new(units)?;
     Some((When::After(time), rest))
 }
@@ -139,7 +148,10 @@ fn next_after(rest: &[u8]) -> Option<(When, &[u8])>
 fn next_at(rest: &[u8]) -> Option<(When, &[u8])>
     ensures { IfSome result (λ x. IsNext moment rest.now x.0 x.1.now) }
 {
-    let (units, rest) = time_ahead(behind(rest, b" =".as_slice())?)?;
+    let [b' ', b'=', text @ ..] = rest else {
+        return None;
+    };
+    let (units, rest) = time_ahead(text)?;
     let time = Sbt::new(units)?;
     Some((When::At(time), rest))
 }
@@ -160,8 +172,10 @@ pub(crate) fn next_moment(rest: &[u8]) -> Option<(When, &[u8])>
 pub(crate) fn next_number(rest: &[u8]) -> Option<(u32, &[u8])>
     ensures { IfSome result (λ x. IsNext number rest.now x.0 x.1.now) }
 {
-    let (number, rest) = small_ahead(behind(rest, b" ".as_slice())?)?;
-    Some((number, rest))
+    match rest {
+        [b' ', text @ ..] => small_ahead(text),
+        _ => None,
+    }
 }
 
 /// `fN`.
@@ -169,8 +183,10 @@ pub(crate) fn next_number(rest: &[u8]) -> Option<(u32, &[u8])>
 pub(crate) fn next_func(rest: &[u8]) -> Option<(u32, &[u8])>
     ensures { IfSome result (λ x. IsNext func rest.now x.0 x.1.now) }
 {
-    let (number, rest) = small_ahead(behind(rest, b" f".as_slice())?)?;
-    Some((number, rest))
+    match rest {
+        [b' ', b'f', text @ ..] => small_ahead(text),
+        _ => None,
+    }
 }
 
 /// `aN`.
@@ -178,8 +194,10 @@ pub(crate) fn next_func(rest: &[u8]) -> Option<(u32, &[u8])>
 pub(crate) fn next_argument(rest: &[u8]) -> Option<(u64, &[u8])>
     ensures { IfSome result (λ x. IsNext argument rest.now x.0 x.1.now) }
 {
-    let (number, rest) = number_ahead(behind(rest, b" a".as_slice())?)?;
-    Some((number, rest))
+    match rest {
+        [b' ', b'a', text @ ..] => number_ahead(text),
+        _ => None,
+    }
 }
 
 /// `cpu C` at the end of a line, and what stands behind the line.

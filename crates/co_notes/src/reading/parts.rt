@@ -11,11 +11,17 @@ use co_text::Cause;
 use std::marker::Model;
 
 /// The number of bytes before the first one that is `end`; of all where none is.
+#[tactic(auto, using(crate::proofs::PartSplits::place_here, crate::proofs::PartSplits::place_none))]
 pub fn length_before(end: u8, text: &[u8]) -> usize
     ensures value { result ≡ position_or_len (λ c. c == end) text.now }
     ensures bound { result ≤ length text.now }
 {
-    text.iter().take_while(|c| **c != end).count()
+    for i in 0..text.len() {
+        if text[i] == end {
+            return i;
+        }
+    }
+    text.len()
 }
 
 /// The first part of a text, and the text from the space on that ends it, if a space does.

@@ -69,7 +69,6 @@ pub fn number_part(text: &[u8]) -> Option<(u64, &[u8])>
 }
 
 /// A letter and a number that are the first part, and what is left behind it.
-#[tactic(auto, using(crate::proofs::PlainParts::letter_first))]
 #[inline(always)]
 pub fn lettered_part(letter: u8, text: &[u8]) -> Option<(u64, &[u8])>
     requires { is_space letter ≡ false }

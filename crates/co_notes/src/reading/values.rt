@@ -220,7 +220,6 @@ fn half(number: u64) -> Result<u32, Cause>
 }
 
 /// The time of so many units.
-#[tactic(auto, using(crate::proofs::PlainParts::below_bound, crate::proofs::PlainParts::not_below))]
 #[inline(always)]
 fn units_of(units: u64) -> Result<Sbt, Cause>
     ensures { Gives (λ t. t) result (below (2 ^ 63) (decimal units)) }
@@ -260,7 +259,6 @@ fn plain_maker(names: &Names, letter: u8, number: u64, act: u64) -> Result<Maker
 }
 
 /// A letter and a number of 64 bits.
-#[tactic(auto, using(crate::proofs::PlainParts::lettered_carried))]
 #[inline(always)]
 fn next_lettered64(letter: u8, parts: &mut Parts) -> Result<u64, Cause>
     requires { is_space letter ≡ false }
@@ -273,7 +271,6 @@ fn next_lettered64(letter: u8, parts: &mut Parts) -> Result<u64, Cause>
 }
 
 /// A letter and a number below a bound of 32 bits.
-#[tactic(auto, using(crate::proofs::PlainParts::lettered_carried))]
 #[inline(always)]
 fn next_lettered32(letter: u8, bound: u32, parts: &mut Parts) -> Result<u32, Cause>
     requires { is_space letter ≡ false }
@@ -299,7 +296,6 @@ pub fn first_number64(line: &[u8]) -> Result<(u64, Parts<'_>), Cause>
 }
 
 /// A number of 32 bits. `Form` where the next word is none.
-#[tactic(auto, using(crate::proofs::PlainParts::half_carried))]
 pub fn number32(parts: &mut Parts) -> Result<u32, Cause>
     ensures { Gives (λ x. (x, parts.new)) result (next count32 parts.old) }
 {

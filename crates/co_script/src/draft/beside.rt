@@ -98,7 +98,13 @@ impl Draft {
     pub fn into_section(self) -> (Acts, Sbt)
         ensures { result ≡ (self.acts, self.clock) }
     {
-        let Draft { acts, clock, .. } = self;
+        let Draft {
+            script,
+            acts,
+            clock,
+            ..
+        } = self;
+        drop(script);
         (acts, clock)
     }
 

@@ -1,6 +1,10 @@
-use Rattle.std.proofs.Common.{◌++◌, ap, ◌∙◌}
-use Rattle.co_grammar.proofs.AheadOperands.{argument-next}
+use Rattle.std.proofs.Common.{rules, arith}
+use Rattle.std.proofs.lemmas.List.{take_rest}
+use Rattle.std.proofs.lemmas.Option.{IfSome_then}
+use Rattle.co_grammar.proofs.AheadOperands.{two-read, argument-next}
 use Rattle.co_grammar.proofs.ahead.operand.next_argument.Goals as goal
 
-pub returns : goal.returns
-returns c = argument-next c.args.rest.now c.in_ok-behind.field-0.now c.in_ok-number.rest.now c.in_ok-number.number (c.in_ok-behind.ensures ∙ ap (λ b. b ++ c.in_ok-behind.field-0.now) c.as_slice.ensures) c.in_ok-number.ensures
+pub returns-in-32 : goal.returns-in-32
+returns-in-32 c =
+    let begins = two-read c.args.rest.now _ 32 97 (omega arith) (search rules) (search rules) (take_rest c.args.rest.now 2) in
+    IfSome_then c.number_ahead.result c.number_ahead.ensures (λ x h. argument-next c.args.rest.now _ x.1.now x.0 begins h)

@@ -1,6 +1,9 @@
-use Rattle.std.proofs.Common.{◌++◌, ap, ◌∙◌}
-use Rattle.co_grammar.proofs.AheadOperands.{at-front}
+use Rattle.std.proofs.Common.{rules, arith}
+use Rattle.std.proofs.lemmas.List.{take_rest}
+use Rattle.co_grammar.proofs.AheadOperands.{two-read, at-front}
 use Rattle.co_grammar.proofs.ahead.operand.next_at.Goals as goal
 
 pub returns : goal.returns
-returns c = at-front c.args.rest.now c.in_ok-behind.field-0.now c.in_ok-units.rest.now c.in_ok-units.units c.in_ok-time.time (c.in_ok-behind.ensures ∙ ap (λ b. b ++ c.in_ok-behind.field-0.now) c.as_slice.ensures) c.in_ok-units.ensures c.in_ok-time.ensures.found.0
+returns c =
+    let begins = two-read c.args.rest.now _ 32 61 (omega arith) (search rules) (search rules) (take_rest c.args.rest.now 2) in
+    at-front c.args.rest.now _ c.in_ok-units.rest.now c.in_ok-units.units c.in_ok-time.time begins c.in_ok-units.ensures c.in_ok-time.ensures.found.0
