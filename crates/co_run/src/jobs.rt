@@ -143,6 +143,7 @@ pub(crate) fn play_job<B: Book, N: Name, G: Gate, R: Wait + Sync>(
     match actor.play(rt, shared) {
         Ok(()) => Ok(played_by(actor)),
         Err(refused) => {
+            // By calls: a `?` would write out here how each part of the actor goes.
             drop(played_by(actor));
             Err(refused)
         }
