@@ -140,6 +140,12 @@ pub(crate) fn play_job<B: Book, N: Name, G: Gate, R: Wait + Sync>(
 {
     let Job { passes, book } = job;
     let mut actor = Actor::begins(shared, number, passes, book);
-    actor.play(rt, shared)?;
-    Ok(played_by(actor))
+    match actor.play(rt, shared) {
+        Ok(()) => Ok(played_by(actor)),
+        Err(refused) => {
+            // By calls: a `?` would write out here how each part of the actor goes.
+            drop(played_by(actor));
+            Err(refused)
+        }
+    }
 }

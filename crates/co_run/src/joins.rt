@@ -98,8 +98,40 @@ fn crew_of<T: Drop>(
     })
 }
 
+/// Plays the job of the first actor in this thread, and those of the later ones at once with it.
+#[cycle(group)]
+fn play_first<B: Book + Send, N: Name + Send + Sync, G: Gate + Sync, R: Threads + Wait + Sync>(
+    rt: &R,
+    alloc: Global,
+    shared: &Shared<'_, N, G>,
+    first: u32,
+    job: Job<B>,
+    later: Group<B>,
+) -> (
+    Result<Seq<Played<B>>, NoMemory>,
+    Result<Played<B>, NoMemory>,
+)
+    requires job { IsJob shared.now.script.now N.name first job.passes (B.notes job.book) (B.spare job.book) }
+    requires later { HasJobs B.notes B.spare shared.now.script.now N.name later }
+    ensures rest { IfOk result.0 (IsGroup (HavePlayed B.notes shared.now.script.now N.name) later.first later.end) }
+    ensures one { IfOk result.1 (λ played. IsActorOver shared.now.script.now N.name first played.passes (B.notes played.book)) }
+{
+    join(
+        rt,
+        || -> Result<Seq<Played<B>>, NoMemory>
+            requires { IsSync R.row × IsSync G.row × IsSend B.row × HasJobs B.notes B.spare shared.now.script.now N.name later }
+            ensures { IfOk result (IsGroup (HavePlayed B.notes shared.entry.now.script.now N.name) later.first later.end) }
+        { play_group(rt, alloc, shared, later) },
+        || -> Result<Played<B>, NoMemory>
+            requires { IsSync R.row × IsSync G.row × IsSend B.row × IsJob shared.now.script.now N.name first job.passes (B.notes job.book) (B.spare job.book) }
+            ensures { IfOk result (λ played. IsActorOver shared.entry.now.script.now N.name first played.passes (B.notes played.book)) }
+        { play_job(rt, shared, first, job) },
+    )
+}
+
 /// Plays all of these jobs at once, each in a thread of its own. What they bring back stands in their order: the first
 /// comes last.
+#[cycle(group)]
 fn play_group<B: Book + Send, N: Name + Send + Sync, G: Gate + Sync, R: Threads + Wait + Sync>(
     rt: &R,
     alloc: Global,
@@ -123,17 +155,7 @@ fn play_group<B: Book + Send, N: Name + Send + Sync, G: Gate + Sync, R: Threads 
         end,
         jobs,
     };
-    let (rest, one) = join(
-        rt,
-        || -> Result<Seq<Played<B>>, NoMemory>
-            requires { IsSync R.row × IsSync G.row × IsSend B.row × HasJobs B.notes B.spare shared.now.script.now N.name later }
-            ensures { IfOk result (IsGroup (HavePlayed B.notes shared.entry.now.script.now N.name) later.first later.end) }
-        { play_group(rt, alloc, shared, later) },
-        || -> Result<Played<B>, NoMemory>
-            requires { IsSync R.row × IsSync G.row × IsSend B.row × IsJob shared.now.script.now N.name first job.passes (B.notes job.book) (B.spare job.book) }
-            ensures { IfOk result (λ played. IsActorOver shared.entry.now.script.now N.name first played.passes (B.notes played.book)) }
-        { play_job(rt, shared, first, job) },
-    );
+    let (rest, one) = play_first(rt, alloc, shared, first, job, later);
     all_of::<N, B>(shared.script, rest, one, first, end)
 }
 

@@ -45,8 +45,10 @@ impl<'a, B: Book> Actor<'a, B> {
         ensures { HasPlayedOn B.notes B.spare shared.now.script.now shared.now.longest N.name self.old self.new result }
     {
         for _ in rt.forever() {
-            if self.step(rt, shared)? {
-                return Ok(());
+            match self.step(rt, shared) {
+                Ok(false) => {}
+                Ok(true) => return Ok(()),
+                Err(refused) => return Err(refused),
             }
         }
         unreachable!()

@@ -170,8 +170,8 @@ fn play_books<N: Name + Send + Sync, G: Gate + Sync, B: Book + Send, R: Threads 
     ensures over { IfOk result (λ all. AreOver script.now N.name 0 all.passes (map B.notes all.books)) }
     ensures count { IfOk result (λ all. length all.books ≡ actor_count script.now) }
 {
-    let groups = deal_all::<N, B>(alloc, script, passes, books)?;
     let locks = ClientLocks::new(alloc, script.locks.as_slice())?;
+    let groups = deal_all::<N, B>(alloc, script, passes, books)?;
     let shared = Shared {
         script,
         service,
@@ -237,10 +237,13 @@ fn told<B: Notebook>(alloc: Global, script: &Script, left: Left<B>) -> Result<Ra
 {
     let _ = script;
     let Left { books, closing } = left;
-    Ok(Ran {
-        lists: lists_of(alloc, books)?,
-        closing,
-    })
+    match lists_of(alloc, books) {
+        Ok(lists) => Ok(Ran { lists, closing }),
+        Err(refused) => {
+            drop(closing);
+            Err(refused)
+        }
+    }
 }
 
 /// The same, where the notes are packed.
@@ -250,10 +253,13 @@ fn packed(alloc: Global, script: &Script, left: Left<PackedBook>) -> Result<Pack
 {
     let _ = script;
     let Left { books, closing } = left;
-    Ok(PackedRan {
-        lists: packed_lists(alloc, books)?,
-        closing,
-    })
+    match packed_lists(alloc, books) {
+        Ok(lists) => Ok(PackedRan { lists, closing }),
+        Err(refused) => {
+            drop(closing);
+            Err(refused)
+        }
+    }
 }
 
 /// Runs a script on threads over an open service, each actor in a branch of nested joins, and ends the service. Each actor
@@ -316,8 +322,13 @@ pub fn run_on<N: Name + Send + Sync, G: Gate + Sync, R: Threads + Wait + Sync>(
     ensures name { IfOk result (λ ran. ran.closing.name ≡ N.name) }
     ensures run { IfOk result (IsRan script.now) }
 {
-    let books = empty_books::<Note>(alloc, script)?;
-    run_books(rt, alloc, script, gate, service, passes, books)
+    match empty_books::<Note>(alloc, script) {
+        Ok(books) => run_books(rt, alloc, script, gate, service, passes, books),
+        Err(refused) => {
+            drop(service);
+            Err(refused)
+        }
+    }
 }
 
 /// Opens a service, and runs the script on it with these books.

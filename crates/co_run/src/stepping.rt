@@ -72,10 +72,10 @@ impl<'a, B: Book> Actor<'a, B> {
                 self.take(rt, shared, held, to);
                 Ok(false)
             }
-            Action::Asks { act, asked } => {
-                self.ask(rt, shared, *act, asked)?;
-                Ok(false)
-            }
+            Action::Asks { act, asked } => match self.ask(rt, shared, *act, asked) {
+                Ok(()) => Ok(false),
+                Err(refused) => Err(refused),
+            },
         }
     }
 }

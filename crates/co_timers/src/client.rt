@@ -9,6 +9,7 @@ ghost use Rattle.co_timers.specs.Handles.{IsHandle};
 ghost use Rattle.co_timers.specs.Answers.{IsSaid, async_word, reset_word, stop_word};
 ghost use Rattle.co_timers.specs.Drains.{IsDrained, IsDrainedWithin};
 
+use crate::timers::held_of;
 use crate::{AsyncDrained, Drained, Refused, Reset, Stopped, Timers};
 use co_hand::Fire;
 use co_lock::Hold;
@@ -133,11 +134,16 @@ impl<'a, N: Name> Client<'a, N> {
         ensures params { self.new.passes.params ≡ self.old.passes.params }
     {
         let op = CallOp::Plain(*op);
-        let reply = self
-            .timers
-            .ask(rt, &mut self.passes, self.act, i, &op, hold)?;
-        self.act = self.act.saturating_add(1);
-        Ok(reply)
+        match self.timers.refusal(held_of(hold), i, &op) {
+            Some(why) => Err(why),
+            None => {
+                let reply = self
+                    .timers
+                    .make(rt, &mut self.passes, self.act, i, &op, hold);
+                self.act = self.act.saturating_add(1);
+                Ok(reply)
+            }
+        }
     }
 
     /// Arms callout `i` for the time `due`, as `callout_reset_sbt_on`: then `func` is called with `arg`, on `cpu`, or
@@ -238,9 +244,17 @@ impl<'a, N: Name> Client<'a, N> {
         ensures answer { IsDrained self.old (option_copied hold.entry) i result self.new }
         ensures params { self.new.passes.params ≡ self.old.passes.params }
     {
-        let said = self.timers.drain(rt, &mut self.passes, self.act, i, hold)?;
-        self.act = self.act.saturating_add(1);
-        Ok(said)
+        let op = CallOp::DrainTry { took: false };
+        match self.timers.refusal(held_of(hold), i, &op) {
+            Some(why) => Err(why),
+            None => {
+                let said = self
+                    .timers
+                    .drain_on(rt, &mut self.passes, self.act, i, hold);
+                self.act = self.act.saturating_add(1);
+                Ok(said)
+            }
+        }
     }
 
     /// Takes callout `i`'s arming away and waits until no service has the callout, as [`Client::drain`] does, from

@@ -183,6 +183,8 @@ impl<N: Name> Posts<N> {
     {
         if self.back.len() < self.seats.len() {
             self.back.push(passes);
+        } else {
+            drop(passes);
         }
     }
 

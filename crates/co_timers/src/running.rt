@@ -87,27 +87,6 @@ pub(crate) fn run_if<'a, N: Name, R: Wait, H: Handler>(
     }
 }
 
-/// The actor after the acts of the function of a drain.
-fn run_drained<'a, N: Name, R: Wait, H: Handler>(
-    rt: &'a R,
-    timers: &'a Timers<N>,
-    lane: Lane,
-    fire: &Fire,
-    func: u32,
-    handler: &mut H,
-) -> Lane
-    requires handle { IsHandle N.name timers.now.params lane.passes }
-    requires needs { AreNeedsOf (H.needs handler.old) timers.now.params }
-    requires callout { fire.now.i < length timers.now.params.specs }
-    requires cpu { fire.now.cpu < timers.now.params.cpus }
-    ensures run { IsRun (H.needs handler.old) H.runs handler.old fire.now (Some func) None func (handle_of lane) handler.new (handle_of result) }
-    ensures needs { H.needs handler.new ≡ H.needs handler.old }
-{
-    let mut port = CpuPort::new(rt, timers, lane, &*handler, func);
-    handler.drained(fire, func, &mut port);
-    port.into_lane()
-}
-
 /// The actor after the acts of the function of the drain that awaited the end, if one did.
 pub(crate) fn drained_if<'a, N: Name, R: Wait, H: Handler>(
     rt: &'a R,
@@ -125,7 +104,11 @@ pub(crate) fn drained_if<'a, N: Name, R: Wait, H: Handler>(
     ensures needs { H.needs handler.new ≡ H.needs handler.old }
 {
     match drain {
-        Some(func) => run_drained(rt, timers, lane, fire, func, handler),
+        Some(func) => {
+            let mut port = CpuPort::new(rt, timers, lane, &*handler, func);
+            handler.drained(fire, func, &mut port);
+            port.into_lane()
+        }
         None => lane,
     }
 }

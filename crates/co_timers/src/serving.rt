@@ -2,21 +2,20 @@
 ghost use Rattle.std.specs.Prelude.{◌≡◌, ◌<◌, false, true};
 ghost use Rattle.std.specs.declared.option.Option.TheVariants.{Some};
 ghost use Rattle.co_lock.specs.Service.{hold_of};
-ghost use Rattle.co_object.specs.Queue.{Due};
 ghost use Rattle.co_object.specs.Serve.{has_lock};
 ghost use Rattle.co_desk.specs.Call.{notes_in};
 ghost use Rattle.co_desk.specs.Outcomes.{IsScan};
 ghost use Rattle.co_desk.specs.Params.{spec_at};
-ghost use Rattle.co_desk.specs.Services.{FollowsScans, IsBegun, IsEnded, IsFree, IsServing, IsTaken};
+ghost use Rattle.co_desk.specs.Services.{FollowsScans, IsBegun, IsEnded, IsTaken};
 ghost use Rattle.co_desk.specs.Serving.{Runs, Waits, stage_picked};
-ghost use Rattle.co_desk.specs.Views.{AreOf, journal_seen};
+ghost use Rattle.co_desk.specs.Views.{journal_seen};
 ghost use Rattle.co_timers.specs.Rounds.{HasTaken, IsAbout, IsAtEase, IsBegin, MayBeServed, called_by, drain_of, waits_for_lock};
 
 use crate::Timers;
 use co_lock::{Hold, hold_of};
 use co_object::Reply;
 use co_sbt::Sbt;
-use co_service::{Made, Name, Passes, Scanned, Service, Taken};
+use co_service::{Made, Name, Passes, Scanned, Taken};
 use std::sync::Wait;
 
 /// The function waits for the callout's lock.
@@ -46,27 +45,6 @@ pub(crate) fn drain_of(reply: &Reply) -> Option<u32>
     match reply {
         Reply::Ended { drain, .. } => *drain,
         _ => None,
-    }
-}
-
-/// The service of the CPU is over, or that of its interrupt where `direct`.
-fn end_in<N: Name, R: Wait>(
-    rt: &R,
-    service: &Service<N>,
-    passes: &mut Passes,
-    cpu: u32,
-    act: u64,
-    direct: bool,
-) -> Made
-    requires cpu { cpu < service.now.cpus }
-    requires of { AreOf N.name service.now passes.old }
-    requires serves { (d : Due) × IsServing direct passes.old cpu d (Runs d.n) }
-    ensures ended { (d : Due) → IsServing direct passes.old cpu d (Runs d.n) → IsEnded direct passes.old cpu act d result.reply (notes_in result.notes) passes.new }
-    ensures free { IsFree direct passes.new cpu }
-{
-    match direct {
-        true => service.end_direct(rt, passes, cpu, act),
-        false => service.end(rt, passes, cpu, act),
     }
 }
 
@@ -125,25 +103,6 @@ impl<N: Name> Timers<N> {
         }
     }
 
-    /// The callout in the CPU's service begins under this hold of its lock.
-    fn begin<R: Wait>(
-        &self,
-        rt: &R,
-        passes: &mut Passes,
-        cpu: u32,
-        act: u64,
-        i: u32,
-        n: u64,
-        hold: &Hold<'_>,
-    ) -> Made
-        requires about { IsAbout N.name self.now.params false cpu (record { i = i; n = n }) (Waits n) passes.old }
-        requires held { hold_of (spec_at self.now.params i).lock ≡ Some hold.now }
-        ensures begun { IsBegun passes.old cpu act (record { i = i; n = n }) result passes.new }
-        ensures about { IsAbout N.name self.now.params false cpu (record { i = i; n = n }) (Runs n) passes.new }
-    {
-        self.service.begin(rt, passes, cpu, act, hold)
-    }
-
     /// Takes the lock of the callout that waits for it in the CPU's service, and begins.
     fn begin_locked<R: Wait + Sync>(
         &self,
@@ -161,7 +120,7 @@ impl<N: Name> Timers<N> {
         ensures about { IsAbout N.name self.now.params false cpu (record { i = i; n = n }) (Runs n) passes.new }
     {
         let hold = self.lock_of(rt, i);
-        let made = self.begin(rt, passes, cpu, act, i, n, &hold);
+        let made = self.service.begin(rt, passes, cpu, act, &hold);
         (made.reply, hold)
     }
 
@@ -205,6 +164,9 @@ impl<N: Name> Timers<N> {
         ensures ended { IsEnded direct passes.old cpu act (record { i = i; n = n }) result.reply (notes_in result.notes) passes.new }
         ensures at_ease { IsAtEase N.name self.now.params direct cpu passes.new }
     {
-        end_in(rt, &self.service, passes, cpu, act, direct)
+        match direct {
+            true => self.service.end_direct(rt, passes, cpu, act),
+            false => self.service.end(rt, passes, cpu, act),
+        }
     }
 }

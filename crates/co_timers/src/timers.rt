@@ -51,7 +51,10 @@ impl<N: Name> Model for Timers<N> {
 pub(crate) fn held_of(hold: Option<&Hold<'_>>) -> Option<Held>
     ensures { result ≡ option_copied hold.entry }
 {
-    hold.map(|hold| hold.held())
+    match hold {
+        Some(hold) => Some(hold.held()),
+        None => None,
+    }
 }
 
 /// A CPU of this number exists, where one is named.
@@ -139,7 +142,7 @@ impl<N: Name> Timers<N> {
     }
 
     /// Why the call on callout `i` under this hold is refused.
-    fn refusal(&self, hold: Option<Held>, i: u32, op: &CallOp) -> Option<Refused>
+    pub(crate) fn refusal(&self, hold: Option<Held>, i: u32, op: &CallOp) -> Option<Refused>
         ensures { result ≡ refusal self.now.params hold i op.now }
     {
         if i as usize >= self.params.specs.as_slice().len() {
@@ -177,31 +180,8 @@ impl<N: Name> Timers<N> {
         told.reply()
     }
 
-    /// An actor's call on callout `i` under this hold, if nothing refuses it. It still has in service what it had.
-    pub(crate) fn ask<R: Wait>(
-        &self,
-        rt: &R,
-        passes: &mut Passes,
-        act: u64,
-        i: u32,
-        op: &CallOp,
-        hold: Option<&Hold<'_>>,
-    ) -> Result<Reply, Refused>
-        requires handle { IsHandle N.name self.now.params passes.old }
-        ensures handle { IsHandle N.name self.now.params passes.new }
-        ensures made { IfOk result (λ reply. (refusal self.now.params (option_copied hold.entry) i op.now ≡ None) × IsCallMade passes.old act i op.now reply passes.new) }
-        ensures refused { IfErr result (λ why. (refusal self.now.params (option_copied hold.entry) i op.now ≡ Some why) × (passes.new ≡ passes.old)) }
-        ensures free { (direct : Bool) (cpu : ℕ) → IsFree direct passes.old cpu → IsFree direct passes.new cpu }
-        ensures serving { (direct : Bool) (cpu : ℕ) (d : Due) (far : Progress) → IsServing direct passes.old cpu d far → IsServing direct passes.new cpu d far }
-    {
-        match self.refusal(held_of(hold), i, op) {
-            Some(why) => Err(why),
-            None => Ok(self.make(rt, passes, act, i, op, hold)),
-        }
-    }
-
     /// The tries of a drain, which nothing refuses, with a wait after each but the last.
-    fn drain_on<R: Wait>(
+    pub(crate) fn drain_on<R: Wait>(
         &self,
         rt: &R,
         passes: &mut Passes,
@@ -226,26 +206,6 @@ impl<N: Name> Timers<N> {
             }
         }
         unreachable!()
-    }
-
-    /// A drain of callout `i`, if nothing refuses it.
-    pub(crate) fn drain<R: Wait>(
-        &self,
-        rt: &R,
-        passes: &mut Passes,
-        act: u64,
-        i: u32,
-        hold: Option<&Hold<'_>>,
-    ) -> Result<Drained, Refused>
-        requires handle { IsHandle N.name self.now.params passes.old }
-        ensures handle { IsHandle N.name self.now.params passes.new }
-        ensures drained { IfOk result (λ said. (refusal self.now.params (option_copied hold.entry) i (DrainTry false) ≡ None) × IsDrainOf passes.old act i said passes.new) }
-        ensures refused { IfErr result (λ why. (refusal self.now.params (option_copied hold.entry) i (DrainTry false) ≡ Some why) × (passes.new ≡ passes.old)) }
-    {
-        match self.refusal(held_of(hold), i, &CallOp::DrainTry { took: false }) {
-            Some(why) => Err(why),
-            None => Ok(self.drain_on(rt, passes, act, i, hold)),
-        }
     }
 
     /// The open service, with the posts of its actors. It keeps the name, the parameters and the locks. `NoMemory`

@@ -7,8 +7,8 @@ few spare none = omega (arith, none)
 
 pub run_books-requires-clause-books : goal.run_books-requires-clause-books
 run_books-requires-clause-books g c lives outlive = record {
-  count = c.in_ok-books.ensures.count;
+  count = c.in-Ok.ensures.count;
   empty = λ k book at.
-      let blank = c.in_ok-books.ensures.blank k book at in
+      let blank = c.in-Ok.ensures.blank k book at in
       record { nothing = blank.0; few = few book.spare blank.1 };
 }

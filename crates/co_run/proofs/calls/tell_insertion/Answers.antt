@@ -5,12 +5,12 @@ use Rattle.co_run.specs.Counted.{HasTold}
 use Rattle.co_run.specs.Noted.{gone_on}
 use Rattle.co_program.specs.Indexed.{cursor_of}
 use Rattle.co_run.proofs.shown.CallNotes.{some_gone_on}
-use Rattle.co_run.proofs.calls.tell_put.Goals as goal
+use Rattle.co_run.proofs.calls.tell_insertion.Goals as goal
 
-pub returns-clause-cursor : goal.returns-clause-cursor
-returns-clause-cursor g c = λ a.
+pub returns-then-has_insertion-clause-cursor : goal.returns-then-has_insertion-clause-cursor
+returns-then-has_insertion-clause-cursor g c = λ a.
     c.tell_some.ensures.cursor a ∙ (some_gone_on c.args.script.now _ c.note_of_insertion-note.result
     ∙ ap (λ (l : List Note). gone_on c.args.script.now (cursor_of c.args.script.now a c.args.cursor.now) l) c.note_of_insertion-note.ensures)
 
-pub returns-clause-told : goal.returns-clause-told
-returns-clause-told g c = subst (λ (l : List Note). HasTold g.B.Book.notes g.B.Book.spare c.tell_some.new.cursor c.args.book.now c.tell_some.new.book l) c.note_of_insertion-note.ensures c.tell_some.ensures.told
+pub returns-then-has_insertion-clause-told : goal.returns-then-has_insertion-clause-told
+returns-then-has_insertion-clause-told g c = subst (λ (l : List Note). HasTold g.B.Book.notes g.B.Book.spare c.tell_some.new.cursor c.args.book.now c.tell_some.new.book l) c.note_of_insertion-note.ensures c.tell_some.ensures.told
