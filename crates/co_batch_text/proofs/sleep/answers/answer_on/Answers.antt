@@ -1,6 +1,6 @@
 -- The passes of the one actor, who has seen nothing, and what has become of them at the end.
-use Rattle.std.proofs.Common.{◌≡◌, ◌++◌, [], ◌∷◌, ℕ, zero, suc, List, false, refl, sym, subst, ap, ◌∙◌, arith}
-use Rattle.std.specs.List.{All}
+use Rattle.std.proofs.Common.{◌≡◌, ◌++◌, [], ◌∷◌, ℕ, zero, suc, List, true, false, refl, sym, subst, ap, ◌∙◌, arith}
+use Rattle.std.specs.List.{All, list_all}
 use Rattle.std.specs.Option.{option_to_list}
 use Rattle.std.specs.declared.option.Option.{Option}
 use Rattle.co_text.specs.Lines.{text}
@@ -15,6 +15,7 @@ use Rattle.co_sleepq.specs.Views.{SleepPassesView}
 use Rattle.co_sleepq.proofs.AllPasses.{last-fresh}
 use Rattle.co_batch_text.specs.Sleep.Answers.{answering}
 use Rattle.co_batch_text.specs.Sleep.Clock.{clock_opening}
+use Rattle.co_batch_text.specs.Sleep.Commands.{fits}
 use Rattle.co_batch_text.specs.Sleep.Matching.{AreObeyed}
 use Rattle.co_batch_text.specs.Sleep.Running.{AreOpening}
 use Rattle.co_batch_text.proofs.SleepText.Ending.{ends, free, opens, sleepers-are}
@@ -76,3 +77,8 @@ close-closing-requires g c =
     let all : c.into_seq.result ≡ q ∷ [] = c.into_seq.ensures ∙ (c.push.ensures.items ∙ ap (λ l. l ++ q ∷ []) c.requires.nothing) in
     let one : actors c.in_ok-queue.queue ≡ 1 = ap actors (c.in_ok-queue.ensures ∙ c.requires.booted.params_are) in
     subst (AreAllPasses g.N.Name.name g.N.SleepName.book c.in_ok-queue.queue) (sym all) (record { count = sym one; of = alone (ArePasses g.N.Name.name g.N.SleepName.book c.in_ok-queue.queue) q c.text_of-text.ensures.cpu })
+
+pub text_of-text-requires-clause-fit : goal.text_of-text-requires-clause-fit
+text_of-text-requires-clause-fit g c =
+    let n : sleepers c.in_ok-queue.queue ≡ c.args.batch.now.count = ap sleepers c.in_ok-queue.ensures ∙ sleepers-are c.args.batch.now.count c.args.fresh.params c.requires.booted.params_are in
+    subst (λ (m : ℕ). list_all (fits m) c.args.batch.now.commands ≡ true) (sym n) c.requires.fit

@@ -35,3 +35,12 @@ invariant_of-self g c =
       has = omega (arith, e.changed.capacity, c.self.invariant.has);
       last = c.self.invariant.last;
     }
+
+pub returns-clause-room : goal.returns-clause-room
+returns-clause-room g c = ap (λ b. b.room) c.self.view_is
+
+pub returns-clause-work : goal.returns-clause-work
+returns-clause-work g c = ap (λ b. b.work) c.self.view_is
+
+pub returns-clause-passes : goal.returns-clause-passes
+returns-clause-passes g c = ap (λ b. b.passes) c.self.view_is

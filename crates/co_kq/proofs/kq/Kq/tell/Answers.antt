@@ -42,3 +42,33 @@ invariant_of-self-2 g c =
       has = omega (arith, e.changed.capacity, c.self.invariant.has);
       last = c.self.invariant.last;
     }
+
+pub tell_once-slot-requires-clause-distinct : goal.tell_once-slot-requires-clause-distinct
+tell_once-slot-requires-clause-distinct g c = c.self.invariant.kept.distinct
+
+pub tell_again-requires-clause-distinct : goal.tell_again-requires-clause-distinct
+tell_again-requires-clause-distinct g c = c.self.invariant.kept.distinct
+
+pub returns-then-is_once-clause-room : goal.returns-then-is_once-clause-room
+returns-then-is_once-clause-room g c = ap (λ b. b.room) c.self.view_is
+
+pub returns-then-is_once-clause-work : goal.returns-then-is_once-clause-work
+returns-then-is_once-clause-work g c = ap (λ b. b.work) c.self.view_is
+
+pub returns-then-is_once-clause-passes : goal.returns-then-is_once-clause-passes
+returns-then-is_once-clause-passes g c = ap (λ b. b.passes) c.self.view_is
+
+pub returns-then-is_once-clause-clock : goal.returns-then-is_once-clause-clock
+returns-then-is_once-clause-clock g c = ap (λ b. b.list.clock) c.self.view_is
+
+pub returns-clause-room : goal.returns-clause-room
+returns-clause-room g c = ap (λ b. b.room) c.self.view_is
+
+pub returns-clause-work : goal.returns-clause-work
+returns-clause-work g c = ap (λ b. b.work) c.self.view_is
+
+pub returns-clause-passes : goal.returns-clause-passes
+returns-clause-passes g c = ap (λ b. b.passes) c.self.view_is
+
+pub returns-clause-clock : goal.returns-clause-clock
+returns-clause-clock g c = ap (λ b. b.list.clock) c.self.view_is

@@ -38,3 +38,9 @@ returns-clause-entries g c =
     let work = c.self.inside.work in
     let scanned = adds_more p c.clear_stale.new.single c.scan-count.new.self work c.clear_stale.ensures.entries c.scan-count.ensures.entries in
     subst (λ b. AddsEntries b.passes b.work c.serve_all.new.single) c.self.view_is (adds_more p c.scan-count.new.self c.serve_all.new.single work scanned c.serve_all.ensures.entries)
+
+pub returns-clause-room : goal.returns-clause-room
+returns-clause-room g c = ap (λ b. b.room) c.self.view_is
+
+pub returns-clause-work : goal.returns-clause-work
+returns-clause-work g c = ap (λ b. b.work + 1) c.self.view_is

@@ -1,4 +1,4 @@
-use Rattle.std.proofs.Common.{◌≡◌, true, false, refl}
+use Rattle.std.proofs.Common.{◌≡◌, ◌∙◌, ap, sym, true, false, refl}
 use Rattle.std.specs.Prelude.{codes, nat_lt}
 use Rattle.co_text.specs.Values.{is_word, number, time}
 use Rattle.co_batch.proofs.Stated.{any-mapped, in_range-mapped}
@@ -8,26 +8,26 @@ use Rattle.co_batch_text.proofs.itimer.command.TimerCommandCommand.read.Goals as
 
 pub returns-then-is_word : goal.returns-then-is_word
 returns-then-is_word c =
-    let is : is_word c.args.first.now (codes "set") ≡ true = cc in
+    let is : is_word c.args.first.now (codes "set") ≡ true = ap (is_word c.args.first.now) (sym c.as_slice.ensures) ∙ (sym c.is_word.ensures ∙ c.if-is_word.true) in
     rw is c.read_set.ensures
 
 pub returns-then-is_word-2 : goal.returns-then-is_word-2
 returns-then-is_word-2 c =
-    let no1 : is_word c.args.first.now (codes "set") ≡ false = cc in
-    let is : is_word c.args.first.now (codes "get") ≡ true = cc in
+    let no1 : is_word c.args.first.now (codes "set") ≡ false = ap (is_word c.args.first.now) (sym c.as_slice.ensures) ∙ (sym c.is_word.ensures ∙ c.if-is_word.false) in
+    let is : is_word c.args.first.now (codes "get") ≡ true = ap (is_word c.args.first.now) (sym c.as_slice-else-is_word.ensures) ∙ (sym c.is_word-else-is_word.ensures ∙ c.if-is_word-2.true) in
     rw (no1, is) (in_range-mapped number Get (fits c.args.count) c.args.words.now c.lone_object.result c.map.result c.map.ensures.cases (λ n. nat_lt n c.args.count) (λ x. refl) c.lone_object.ensures)
 
 pub returns-then-is_word-3 : goal.returns-then-is_word-3
 returns-then-is_word-3 c =
-    let no1 : is_word c.args.first.now (codes "set") ≡ false = cc in
-    let no2 : is_word c.args.first.now (codes "get") ≡ false = cc in
-    let is : is_word c.args.first.now (codes "tick") ≡ true = cc in
+    let no1 : is_word c.args.first.now (codes "set") ≡ false = ap (is_word c.args.first.now) (sym c.as_slice.ensures) ∙ (sym c.is_word.ensures ∙ c.if-is_word.false) in
+    let no2 : is_word c.args.first.now (codes "get") ≡ false = ap (is_word c.args.first.now) (sym c.as_slice-else-is_word.ensures) ∙ (sym c.is_word-else-is_word.ensures ∙ c.if-is_word-2.false) in
+    let is : is_word c.args.first.now (codes "tick") ≡ true = ap (is_word c.args.first.now) (sym c.as_slice-else-is_word-2.ensures) ∙ (sym c.is_word-else-is_word-2.ensures ∙ c.if-is_word-3.true) in
     rw (no1, no2, is) (any-mapped time Tick (fits c.args.count) c.args.words.now c.lone_time.result c.map-then-is_word-3.result c.map-then-is_word-3.ensures.cases (λ x. refl) c.lone_time.ensures)
 
 pub returns-then-is_word-4 : goal.returns-then-is_word-4
 returns-then-is_word-4 c =
-    let no1 : is_word c.args.first.now (codes "set") ≡ false = cc in
-    let no2 : is_word c.args.first.now (codes "get") ≡ false = cc in
-    let no3 : is_word c.args.first.now (codes "tick") ≡ false = cc in
-    let is : is_word c.args.first.now (codes "alarm") ≡ true = cc in
+    let no1 : is_word c.args.first.now (codes "set") ≡ false = ap (is_word c.args.first.now) (sym c.as_slice.ensures) ∙ (sym c.is_word.ensures ∙ c.if-is_word.false) in
+    let no2 : is_word c.args.first.now (codes "get") ≡ false = ap (is_word c.args.first.now) (sym c.as_slice-else-is_word.ensures) ∙ (sym c.is_word-else-is_word.ensures ∙ c.if-is_word-2.false) in
+    let no3 : is_word c.args.first.now (codes "tick") ≡ false = ap (is_word c.args.first.now) (sym c.as_slice-else-is_word-2.ensures) ∙ (sym c.is_word-else-is_word-2.ensures ∙ c.if-is_word-3.false) in
+    let is : is_word c.args.first.now (codes "alarm") ≡ true = ap (is_word c.args.first.now) (sym c.as_slice-else-is_word-3.ensures) ∙ (sym c.is_word-else-is_word-3.ensures ∙ c.if-is_word-4.true) in
     rw (no1, no2, no3, is) (in_range-mapped number Alarm (fits c.args.count) c.args.words.now c.lone_object-then-is_word-4.result c.map-then-is_word-4.result c.map-then-is_word-4.ensures.cases (λ n. nat_lt n c.args.count) (λ x. refl) c.lone_object-then-is_word-4.ensures)

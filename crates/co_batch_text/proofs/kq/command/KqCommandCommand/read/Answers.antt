@@ -1,4 +1,4 @@
-use Rattle.std.proofs.Common.{◌≡◌, true, false, refl}
+use Rattle.std.proofs.Common.{◌≡◌, ◌∙◌, ap, sym, true, false, refl}
 use Rattle.std.specs.Prelude.{◌^◌, codes, nat_lt}
 use Rattle.co_text.specs.Values.{is_word, number, time}
 use Rattle.co_batch.proofs.Stated.{any-mapped, in_range-mapped}
@@ -8,26 +8,26 @@ use Rattle.co_batch_text.proofs.kq.command.KqCommandCommand.read.Goals as goal
 
 pub returns-then-is_word : goal.returns-then-is_word
 returns-then-is_word c =
-    let is : is_word c.args.first.now (codes "add") ≡ true = cc in
+    let is : is_word c.args.first.now (codes "add") ≡ true = ap (is_word c.args.first.now) (sym c.as_slice.ensures) ∙ (sym c.is_word.ensures ∙ c.if-is_word.true) in
     rw is (c.read_add.ensures c.args._count)
 
 pub returns-then-is_word-2 : goal.returns-then-is_word-2
 returns-then-is_word-2 c =
-    let no1 : is_word c.args.first.now (codes "add") ≡ false = cc in
-    let is : is_word c.args.first.now (codes "delete") ≡ true = cc in
+    let no1 : is_word c.args.first.now (codes "add") ≡ false = ap (is_word c.args.first.now) (sym c.as_slice.ensures) ∙ (sym c.is_word.ensures ∙ c.if-is_word.false) in
+    let is : is_word c.args.first.now (codes "delete") ≡ true = ap (is_word c.args.first.now) (sym c.as_slice-else-is_word.ensures) ∙ (sym c.is_word-else-is_word.ensures ∙ c.if-is_word-2.true) in
     rw (no1, is) (in_range-mapped number Delete (fits c.args._count) c.args.words.now c.lone_narrow.result c.map.result c.map.ensures.cases (λ n. nat_lt n (2 ^ 64)) (λ x. refl) c.lone_narrow.ensures)
 
 pub returns-then-is_word-3 : goal.returns-then-is_word-3
 returns-then-is_word-3 c =
-    let no1 : is_word c.args.first.now (codes "add") ≡ false = cc in
-    let no2 : is_word c.args.first.now (codes "delete") ≡ false = cc in
-    let is : is_word c.args.first.now (codes "tick") ≡ true = cc in
+    let no1 : is_word c.args.first.now (codes "add") ≡ false = ap (is_word c.args.first.now) (sym c.as_slice.ensures) ∙ (sym c.is_word.ensures ∙ c.if-is_word.false) in
+    let no2 : is_word c.args.first.now (codes "delete") ≡ false = ap (is_word c.args.first.now) (sym c.as_slice-else-is_word.ensures) ∙ (sym c.is_word-else-is_word.ensures ∙ c.if-is_word-2.false) in
+    let is : is_word c.args.first.now (codes "tick") ≡ true = ap (is_word c.args.first.now) (sym c.as_slice-else-is_word-2.ensures) ∙ (sym c.is_word-else-is_word-2.ensures ∙ c.if-is_word-3.true) in
     rw (no1, no2, is) (any-mapped time Tick (fits c.args._count) c.args.words.now c.lone_time.result c.map-then-is_word-3.result c.map-then-is_word-3.ensures.cases (λ x. refl) c.lone_time.ensures)
 
 pub returns-then-is_word-4 : goal.returns-then-is_word-4
 returns-then-is_word-4 c =
-    let no1 : is_word c.args.first.now (codes "add") ≡ false = cc in
-    let no2 : is_word c.args.first.now (codes "delete") ≡ false = cc in
-    let no3 : is_word c.args.first.now (codes "tick") ≡ false = cc in
-    let is : is_word c.args.first.now (codes "events") ≡ true = cc in
+    let no1 : is_word c.args.first.now (codes "add") ≡ false = ap (is_word c.args.first.now) (sym c.as_slice.ensures) ∙ (sym c.is_word.ensures ∙ c.if-is_word.false) in
+    let no2 : is_word c.args.first.now (codes "delete") ≡ false = ap (is_word c.args.first.now) (sym c.as_slice-else-is_word.ensures) ∙ (sym c.is_word-else-is_word.ensures ∙ c.if-is_word-2.false) in
+    let no3 : is_word c.args.first.now (codes "tick") ≡ false = ap (is_word c.args.first.now) (sym c.as_slice-else-is_word-2.ensures) ∙ (sym c.is_word-else-is_word-2.ensures ∙ c.if-is_word-3.false) in
+    let is : is_word c.args.first.now (codes "events") ≡ true = ap (is_word c.args.first.now) (sym c.as_slice-else-is_word-3.ensures) ∙ (sym c.is_word-else-is_word-3.ensures ∙ c.if-is_word-4.true) in
     rw (no1, no2, no3, is) (c.read_events.ensures c.args._count)

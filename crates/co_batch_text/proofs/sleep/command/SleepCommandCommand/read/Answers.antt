@@ -1,4 +1,4 @@
-use Rattle.std.proofs.Common.{◌≡◌, true, false, refl}
+use Rattle.std.proofs.Common.{◌≡◌, ◌∙◌, ap, sym, true, false, refl}
 use Rattle.std.specs.Prelude.{◌^◌, codes, nat_lt}
 use Rattle.co_text.specs.Values.{is_word, number, time}
 use Rattle.co_batch.proofs.Stated.{any-mapped, in_range-mapped}
@@ -8,35 +8,35 @@ use Rattle.co_batch_text.proofs.sleep.command.SleepCommandCommand.read.Goals as 
 
 pub returns-then-is_word : goal.returns-then-is_word
 returns-then-is_word c =
-    let is : is_word c.args.first.now (codes "sleep") ≡ true = cc in
+    let is : is_word c.args.first.now (codes "sleep") ≡ true = ap (is_word c.args.first.now) (sym c.as_slice.ensures) ∙ (sym c.is_word.ensures ∙ c.if-is_word.true) in
     rw is c.read_sleep.ensures
 
 pub returns-then-is_word-2 : goal.returns-then-is_word-2
 returns-then-is_word-2 c =
-    let no1 : is_word c.args.first.now (codes "sleep") ≡ false = cc in
-    let is : is_word c.args.first.now (codes "wakeup") ≡ true = cc in
+    let no1 : is_word c.args.first.now (codes "sleep") ≡ false = ap (is_word c.args.first.now) (sym c.as_slice.ensures) ∙ (sym c.is_word.ensures ∙ c.if-is_word.false) in
+    let is : is_word c.args.first.now (codes "wakeup") ≡ true = ap (is_word c.args.first.now) (sym c.as_slice-else-is_word.ensures) ∙ (sym c.is_word-else-is_word.ensures ∙ c.if-is_word-2.true) in
     rw (no1, is) (in_range-mapped number Wakeup (fits c.args.count) c.args.words.now c.lone_narrow.result c.map.result c.map.ensures.cases (λ n. nat_lt n (2 ^ 64)) (λ x. refl) c.lone_narrow.ensures)
 
 pub returns-then-is_word-3 : goal.returns-then-is_word-3
 returns-then-is_word-3 c =
-    let no1 : is_word c.args.first.now (codes "sleep") ≡ false = cc in
-    let no2 : is_word c.args.first.now (codes "wakeup") ≡ false = cc in
-    let is : is_word c.args.first.now (codes "wakeup1") ≡ true = cc in
+    let no1 : is_word c.args.first.now (codes "sleep") ≡ false = ap (is_word c.args.first.now) (sym c.as_slice.ensures) ∙ (sym c.is_word.ensures ∙ c.if-is_word.false) in
+    let no2 : is_word c.args.first.now (codes "wakeup") ≡ false = ap (is_word c.args.first.now) (sym c.as_slice-else-is_word.ensures) ∙ (sym c.is_word-else-is_word.ensures ∙ c.if-is_word-2.false) in
+    let is : is_word c.args.first.now (codes "wakeup1") ≡ true = ap (is_word c.args.first.now) (sym c.as_slice-else-is_word-2.ensures) ∙ (sym c.is_word-else-is_word-2.ensures ∙ c.if-is_word-3.true) in
     rw (no1, no2, is) (in_range-mapped number WakeupOne (fits c.args.count) c.args.words.now c.lone_narrow-then-is_word-3.result c.map-then-is_word-3.result c.map-then-is_word-3.ensures.cases (λ n. nat_lt n (2 ^ 64)) (λ x. refl) c.lone_narrow-then-is_word-3.ensures)
 
 pub returns-then-is_word-4 : goal.returns-then-is_word-4
 returns-then-is_word-4 c =
-    let no1 : is_word c.args.first.now (codes "sleep") ≡ false = cc in
-    let no2 : is_word c.args.first.now (codes "wakeup") ≡ false = cc in
-    let no3 : is_word c.args.first.now (codes "wakeup1") ≡ false = cc in
-    let is : is_word c.args.first.now (codes "awake") ≡ true = cc in
+    let no1 : is_word c.args.first.now (codes "sleep") ≡ false = ap (is_word c.args.first.now) (sym c.as_slice.ensures) ∙ (sym c.is_word.ensures ∙ c.if-is_word.false) in
+    let no2 : is_word c.args.first.now (codes "wakeup") ≡ false = ap (is_word c.args.first.now) (sym c.as_slice-else-is_word.ensures) ∙ (sym c.is_word-else-is_word.ensures ∙ c.if-is_word-2.false) in
+    let no3 : is_word c.args.first.now (codes "wakeup1") ≡ false = ap (is_word c.args.first.now) (sym c.as_slice-else-is_word-2.ensures) ∙ (sym c.is_word-else-is_word-2.ensures ∙ c.if-is_word-3.false) in
+    let is : is_word c.args.first.now (codes "awake") ≡ true = ap (is_word c.args.first.now) (sym c.as_slice-else-is_word-3.ensures) ∙ (sym c.is_word-else-is_word-3.ensures ∙ c.if-is_word-4.true) in
     rw (no1, no2, no3, is) (in_range-mapped number Awake (fits c.args.count) c.args.words.now c.lone_object.result c.map-then-is_word-4.result c.map-then-is_word-4.ensures.cases (λ n. nat_lt n c.args.count) (λ x. refl) c.lone_object.ensures)
 
 pub returns-then-is_word-5 : goal.returns-then-is_word-5
 returns-then-is_word-5 c =
-    let no1 : is_word c.args.first.now (codes "sleep") ≡ false = cc in
-    let no2 : is_word c.args.first.now (codes "wakeup") ≡ false = cc in
-    let no3 : is_word c.args.first.now (codes "wakeup1") ≡ false = cc in
-    let no4 : is_word c.args.first.now (codes "awake") ≡ false = cc in
-    let is : is_word c.args.first.now (codes "tick") ≡ true = cc in
+    let no1 : is_word c.args.first.now (codes "sleep") ≡ false = ap (is_word c.args.first.now) (sym c.as_slice.ensures) ∙ (sym c.is_word.ensures ∙ c.if-is_word.false) in
+    let no2 : is_word c.args.first.now (codes "wakeup") ≡ false = ap (is_word c.args.first.now) (sym c.as_slice-else-is_word.ensures) ∙ (sym c.is_word-else-is_word.ensures ∙ c.if-is_word-2.false) in
+    let no3 : is_word c.args.first.now (codes "wakeup1") ≡ false = ap (is_word c.args.first.now) (sym c.as_slice-else-is_word-2.ensures) ∙ (sym c.is_word-else-is_word-2.ensures ∙ c.if-is_word-3.false) in
+    let no4 : is_word c.args.first.now (codes "awake") ≡ false = ap (is_word c.args.first.now) (sym c.as_slice-else-is_word-3.ensures) ∙ (sym c.is_word-else-is_word-3.ensures ∙ c.if-is_word-4.false) in
+    let is : is_word c.args.first.now (codes "tick") ≡ true = ap (is_word c.args.first.now) (sym c.as_slice-else-is_word-4.ensures) ∙ (sym c.is_word-else-is_word-4.ensures ∙ c.if-is_word-5.true) in
     rw (no1, no2, no3, no4, is) (any-mapped time Tick (fits c.args.count) c.args.words.now c.lone_time.result c.map-then-is_word-5.result c.map-then-is_word-5.ensures.cases (λ x. refl) c.lone_time.ensures)
