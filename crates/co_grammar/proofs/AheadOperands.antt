@@ -1,7 +1,7 @@
 -- Operands at the front of a text: each is the word that stands there, with its value.
-use Rattle.std.proofs.Common.{◌≡◌, ℕ, ◌-◌, ◌*◌, ◌^◌, ◌<◌, ◌≤◌, Bool, true, false, List, [], ◌∷◌, ◌++◌, length, take, drop, get_or, refl, ap, sym, ◌∙◌, arith, length-append}
+use Rattle.std.proofs.Common.{◌≡◌, ℕ, ◌-◌, ◌*◌, ◌^◌, ◌<◌, ◌≤◌, Bool, true, false, List, [], ◌∷◌, ◌++◌, length, drop, get_or, refl, ap, sym, ◌∙◌, arith, length-append}
 use Rattle.std.specs.Prelude.{Result, Ok, codes}
-use Rattle.std.proofs.lemmas.List.{take-append-drop, length-take-le, drop_more}
+use Rattle.std.proofs.lemmas.List.{drop_more}
 use Rattle.std.proofs.lemmas.Slice.Eq.{bytes_eq-Decides}
 use Rattle.co_text.specs.Fallible.{◌>>=◌}
 use Rattle.co_text.specs.Values.{Word, is_word, number, time, func, argument}
@@ -10,24 +10,10 @@ use Rattle.co_text.proofs.LinesBack.{and_both}
 use Rattle.co_program.specs.declared.Who.TheVariants as callout
 use Rattle.co_program.specs.declared.When.TheVariants as when
 use Rattle.co_program.specs.declared.Where.TheVariants as cpu
-use Rattle.co_grammar.specs.Ahead.{SpellsFew, IsNumber, is_inked, IsAhead, IsNext, EndsCpu}
+use Rattle.co_grammar.specs.Ahead.{IsNumber, is_inked, IsAhead, IsNext, EndsCpu}
 use Rattle.co_grammar.specs.Operands.{who, moment, cpu_choice}
 use Rattle.co_grammar.proofs.AheadWords.{digits-inked, letter-inked, one-more}
 use Rattle.co_grammar.proofs.Digits.{number-read, units-read, seconds-read}
-
--- what stands behind bytes at the front
-pub behind-front : (text bytes front rest : List ℕ) (n : ℕ) → front ≡ take n text → rest ≡ drop n text → is_word front bytes ≡ true → text ≡ bytes ++ rest
-behind-front text bytes front rest n first back same =
-    let is : front ≡ bytes = (bytes_eq-Decides front bytes).0 same in
-    sym (ap (λ r. bytes ++ r) back ∙ (ap (λ f. f ++ drop n text) (sym is ∙ first) ∙ take-append-drop n text))
-
-pub number-front : (text rest : List ℕ) (count n : ℕ) → SpellsFew (take count text) n → count ≤ length text → 0 < count → rest ≡ drop count text → IsNumber text n rest
-number-front text rest count n spells within some back = record {
-  word = take count text;
-  front = sym (ap (λ r. take count text ++ r) back ∙ take-append-drop count text);
-  some = omega (arith, some, length-take-le count text within);
-  spells = spells;
-}
 
 -- bytes that were read at the front
 pub one-read : (text rest : List ℕ) (a : ℕ) → 0 < length text → get_or text 0 0 ≡ a → rest ≡ drop 1 text → text ≡ a ∷ rest

@@ -1,13 +1,10 @@
 -- Few digits at the front of a text, and the words that they are.
-use Rattle.std.proofs.Common.{◌≡◌, ℕ, ◌+◌, ◌-◌, ◌*◌, ◌^◌, ◌<◌, ◌≤◌, true, false, cond, [], ◌∷◌, ◌++◌, length, take, drop, get_or, refl, ap, sym, ◌∙◌, arith}
+use Rattle.std.proofs.Common.{◌≡◌, ℕ, ◌+◌, ◌-◌, ◌*◌, ◌^◌, ◌<◌, ◌≤◌, true, false, cond, [], ◌∷◌, length, take, drop, refl, ap, sym, ◌∙◌, arith}
 use Rattle.std.specs.Prelude.{Some, Ok, nat_le, nat_lt, ◌==◌}
 use Rattle.std.specs.List.{list_all, take_while}
 use Rattle.std.specs.Char.{is_ascii_digit}
 use Rattle.std.proofs.lemmas.Bool.Decides.{nat_tests}
-use Rattle.std.proofs.lemmas.List.{take_more, length-take-le}
-use Rattle.std.proofs.lemmas.List.Folds.{list_all-append}
-use Rattle.std.proofs.lemmas.List.Sums.{fold-append, take_while-cons}
-use Rattle.std.proofs.lemmas.Nat.{pow-add}
+use Rattle.std.proofs.lemmas.List.Sums.{take_while-cons}
 use Rattle.std.proofs.Math.Nat.{pow-le-pow_right}
 use Rattle.co_sbt.specs.Seconds.{seconds, seconds_and}
 use Rattle.co_text.specs.Fallible.{some_or}
@@ -22,32 +19,10 @@ pub record Spelled (w : Word) (i n : ℕ) : Type 0 where
   pub below : n < 10 ^ i
   pub few : i ≤ 18
 
-pub spelled-none : (w : Word) → Spelled w 0 0
-spelled-none w = record { digits = record { all = refl; few = omega arith; spells = refl }; below = omega arith; few = omega arith }
-
 pub below-most : (w : Word) (i n : ℕ) → Spelled w i n → n < 10 ^ 18
 below-most w i n s =
     let most : 10 ^ i ≤ 10 ^ 18 = pow-le-pow_right {n = 10} (omega arith) s.few in
     omega (arith, most, s.below)
-
-few-more : (i : ℕ) → i ≤ 18 → (i == 18) ≡ false → i + 1 ≤ 18
-few-more i few room = grind (arith, nat_tests)
-
-pub digit-more : (w : Word) (i n d : ℕ) → Spelled w i n → i < length w → (i == 18) ≡ false → d ≤ 9 → (is_ascii_digit (get_or w i 0) ≡ true) × (get_or w i 0 ≡ 48 + d) → Spelled w (i + 1) (n * 10 + d)
-digit-more w i n d s within room small digit =
-    let next : take (i + 1) w ≡ take i w ++ get_or w i 0 ∷ [] = take_more w i 0 within in
-    let last : spelled_after 0 (take i w ++ get_or w i 0 ∷ []) ≡ spelled_after 0 (take i w) * 10 + (get_or w i 0 - 48) = fold-append (λ k c. k * 10 + (c - 48)) 0 (take i w) (get_or w i 0 ∷ []) in
-    let more : 10 ^ (i + 1) ≡ 10 ^ i * 10 = pow-add 10 i 1 in
-    let few : i + 1 ≤ 18 = few-more i s.few room in
-    record {
-      digits = record {
-        all = rw (next, list_all-append is_ascii_digit (take i w) (get_or w i 0 ∷ []), s.digits.all, digit.0) refl;
-        few = omega (arith, few, length-take-le (i + 1) w (omega (arith, within)));
-        spells = rw (next, last) (omega (arith, s.digits.spells, digit.1));
-      };
-      below = omega (arith, more, s.below, small);
-      few = few;
-    }
 
 -- words of digits
 

@@ -48,7 +48,7 @@ use Rattle.co_program.specs.Calls.{plain_op}
 use Rattle.co_program.specs.Stages.{Stage, Ready, Waiting, Popping, Picking, Locking, Beginning, Unlocking, Firing, Releasing, Ending, Freeing, Drained}
 use Rattle.co_program.specs.Cursor.{Cursor, start_of}
 use Rattle.co_program.specs.Action.{Action, Nothing, Silent, Take, Asks, spec_at, asks_covered, asks_within, takes, asks_drain, begins_next, drained_of, locks, over, firing, draining, action_in, action_with, action_for}
-use Rattle.co_program.specs.Advance.{tail_of, act_over, call_made, service_picked, service_begun, service_ended, advance_callout, drain_acts, freed, pop_answered, popped, advance_queue, advance}
+use Rattle.co_program.specs.Advance.{act_over, call_made, service_picked, service_begun, service_ended, advance_callout, drain_acts, freed, pop_answered, popped, advance_queue, advance}
 use Rattle.co_program.specs.Follows.{Histories, Fits, AreNext, cursor_after, goes_on, past, at_next_note, listed_after}
 use Rattle.co_program.specs.Laws.{HasNothingLeft}
 use Rattle.co_program.specs.Scripts.{IsScript, is_call}
@@ -94,10 +94,6 @@ firing-does s v (Some held) [] h = tt
 draining-does : (s : Script) (v : InService) (acts : List Act) → AreCalls acts → StageDoes s (draining v acts)
 draining-does s v [] h = tt
 draining-does s v (x ∷ acts) h = h
-
-tail-calls : (acts : List Act) → AreCalls acts → AreCalls (tail_of acts)
-tail-calls [] h = tt
-tail-calls (x ∷ acts) h = h.1
 
 -- ---- steps without a note
 

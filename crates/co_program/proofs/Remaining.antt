@@ -29,10 +29,6 @@ tail_of-drop (x ∷ xs) zero = refl
 tail_of-drop [] (suc n) = refl
 tail_of-drop (x ∷ xs) (suc n) = tail_of-drop xs n
 
-pub drop_none : {X : Type 0} (xs : List X) → slice_get xs 0 ≡ None → xs ≡ []
-drop_none [] h = refl
-drop_none (x ∷ xs) h = cc
-
 pub drop_some : {X : Type 0} (xs : List X) (x : X) → slice_get xs 0 ≡ Some x → xs ≡ x ∷ tail_of xs
 drop_some [] x h = cc
 drop_some (y ∷ xs) x h = cc

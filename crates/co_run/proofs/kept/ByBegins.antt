@@ -211,9 +211,6 @@ module _ (s : Script) (ok : IsScript s) (name : ServiceName) (a : ℕ) (p : Pass
         }
 
   module _ (q : PassesView) (out : Made) (begin : IsBegun p cpu act due out q) where
-    ns : List Note
-    ns = notes_in out.notes
-
     -- it has one note
     only : (l : List Note) → map placed l ≡ (place.Timer i, entry.Timer (run_of a act (Begin n cpu) out.reply)) ∷ [] → (note : Note) × (l ≡ note ∷ []) × (placed note ≡ (place.Timer i, entry.Timer (run_of a act (Begin n cpu) out.reply)))
     only [] h = cc

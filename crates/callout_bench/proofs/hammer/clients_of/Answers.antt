@@ -1,5 +1,5 @@
 -- The first actors are the clients.
-use Rattle.std.proofs.Common.{◌≡◌, ap, sym, subst, take, ◌∙◌}
+use Rattle.std.proofs.Common.{ap, sym, subst, take, ◌∙◌}
 use Rattle.std.specs.List.{All}
 use Rattle.callout_bench.specs.Team.{IsClient}
 use Rattle.callout_bench.proofs.Teams.{clients_are}
