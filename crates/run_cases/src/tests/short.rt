@@ -40,7 +40,7 @@ fn first_whole<R: Threads + Wait + Sync + Abort>(
     requires { CanRun script.now }
 {
     for refused in 0..MOST {
-        if let Ok(ran) = run_waiting(rt, alloc, script, &[], &[2, 2, 2, 0], refused) {
+        if let Ok(ran) = run_waiting(rt, alloc, script, &[], None, refused) {
             return Some((refused, is_run_legal(alloc, script, &ran)));
         }
     }

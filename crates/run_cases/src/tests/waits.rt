@@ -195,14 +195,14 @@ fn told_books<'a>(
     books
 }
 
-/// Runs a script, with acts that wait for others. Each actor announces so many acts, unless the third actor's book refuses its reserve
-/// of this number: then the run ends with `NoMemory`.
+/// Runs a script, with acts that wait for others. Each actor announces so many acts where their numbers are given: they may depend on
+/// which actor comes first. Where the third actor's book refuses its reserve of this number the run ends with `NoMemory`.
 pub(super) fn run_waiting<R: Threads + Wait + Sync + Abort>(
     rt: &R,
     alloc: Global,
     script: &Script,
     after: &[After],
-    acts: &[u64],
+    acts: Option<&[u64]>,
     refused: u64,
 ) -> Result<Ran, NoMemory>
     requires { CanRun script.now }
@@ -212,7 +212,11 @@ pub(super) fn run_waiting<R: Threads + Wait + Sync + Abort>(
     let gate = Waits::new(after, told.as_slice());
     let books = told_books(rt, alloc, told.as_slice(), refused);
     let ran = run_with(rt, alloc, script, &gate, books);
-    assert!(rt; ran.is_err() || gate.is_kept(acts));
+    let kept = match acts {
+        Some(acts) => gate.is_kept(acts),
+        None => true,
+    };
+    assert!(rt; ran.is_err() || kept);
     drop(gate);
     drop(told);
     ran
@@ -227,7 +231,10 @@ pub(super) fn run_in_order<R: Threads + Wait + Sync + Abort>(
     acts: &[u64],
 ) -> Lists {
     let script = script_of(rt, alloc, text);
-    let ran = run_waiting(rt, alloc, &script, after, acts, NO_RESERVE).expect(rt, "no memory");
+    let ran = run_waiting(rt, alloc, &script, after, Some(acts), NO_RESERVE).expect(
+        rt,
+        "no memory",
+    );
     let lists = legal_lists(rt, alloc, &script, ran);
     drop(script);
     lists
