@@ -125,20 +125,24 @@ fn joined(alloc: Global, pieces: &[&[u8]]) -> Result<Seq<u8>, NoMemory> {
     Ok(text)
 }
 
-/// Whether `check` says of the changed report what the table's line says.
+/// Whether the table's line changes the report, and `check` says of it then what the line says. A line that names no line of the report
+/// changes nothing.
 fn is_judged<R: AllocGlobal + Threads + Wait + Sync>(rt: &R, report: &[u8], row: &[u8]) -> bool {
     let changed = read_changed(row);
     let Ok(text) = joined(rt.alloc(), &with_change(report, &changed)) else {
         return false;
     };
     match joined(rt.alloc(), &verdict(&changed)) {
-        Ok(wanted) => says(
-            rt,
-            "check",
-            text.as_slice(),
-            status_of(changed.status),
-            wanted.as_slice(),
-        ),
+        Ok(wanted) => {
+            text.as_slice() != report
+                && says(
+                    rt,
+                    "check",
+                    text.as_slice(),
+                    status_of(changed.status),
+                    wanted.as_slice(),
+                )
+        }
         Err(_) => false,
     }
 }
