@@ -1,6 +1,10 @@
 -- How many notes an actor may still make before it can ask for room.
 use Rattle.std.specs.Prelude.{Bool, true, false, ◌≤◌, ℕ, ◌+◌, ◌*◌, length}
 use Rattle.co_program.specs.declared.script.Script.{Script}
+use Rattle.co_object.specs.declared.op.Op.TheVariants.{Call, Run}
+use Rattle.co_object.specs.declared.queue.QOp.TheVariants.{Scan}
+use Rattle.co_program.specs.declared.action.Asked.{Asked}
+use Rattle.co_program.specs.declared.action.Asked.TheVariants.{Callout, Itself, Queue}
 use Rattle.co_program.specs.Actors.{acts_at}
 use Rattle.co_program.specs.Stages.{Stage, Ready, Waiting, Popping, Picking, Locking, Beginning, Unlocking, Firing, Releasing, Ending, Freeing, Drained}
 
@@ -35,3 +39,11 @@ is_resting Ready = true
 is_resting (Waiting n took) = true
 is_resting (Popping act) = true
 is_resting stage = false
+
+-- the room for the notes of what is asked: a step of a service has it already, and a Pop takes that of a whole service
+abbrev pub room_for : ℕ → Asked → ℕ
+room_for longest (Itself kind) = 1
+room_for longest (Callout i (Call op)) = 3
+room_for longest (Callout i (Run op)) = 0
+room_for longest (Queue cpu (Scan now)) = 1
+room_for longest (Queue cpu op) = 8 + 6 * longest

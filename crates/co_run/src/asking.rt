@@ -1,35 +1,58 @@
 //! What an actor asks in its acts, with the room for its notes.
 ghost use Rattle.std.specs.Prelude.{◌≡◌, ◌<◌, ◌≤◌, ◌+◌, ◌^◌, OnErr, OnOk, false, length, true};
-ghost use Rattle.co_object.specs.declared.Op.TheVariants.{Call, Run};
-ghost use Rattle.co_object.specs.declared.QOp.TheVariants.{Scan};
+ghost use Rattle.co_object.specs.declared.Op.TheVariants.{Run};
 ghost use Rattle.co_program.specs.declared.Script.{Script};
 ghost use Rattle.co_program.specs.Action.{Asks};
 ghost use Rattle.co_program.specs.Indexed.{stage_of};
-ghost use Rattle.co_program.specs.declared.Asked.TheVariants.{Callout, Itself, Queue};
-ghost use Rattle.co_wheel.specs.Turns.{pop_of as lane_pop};
-ghost use Rattle.co_run.specs.Ready.{HasGoneOn, HasTried, IsDue};
-ghost use Rattle.co_run.specs.Roomy.{is_serving};
+ghost use Rattle.co_program.specs.declared.Asked.TheVariants.{Callout, Queue};
+ghost use Rattle.co_run.specs.Ready.{HasGoneOn, HasRoomFor, HasTried, IsDue};
+ghost use Rattle.co_run.specs.Roomy.{is_serving, room_for};
 
 use crate::actor::Actor;
 use crate::book::Book;
 use crate::shared::Shared;
 use co_hand::Gate;
-use co_object::{CallOp, OwnKind, QOp, RunOp};
-use co_program::{Role, Stage, role_of};
-use co_sbt::{NoMemory, Sbt};
+use co_object::{Op, QOp, RunOp};
+use co_program::{Asked, Role, Stage, role_of};
+use co_sbt::NoMemory;
 use co_service::Name;
 use std::sync::Wait;
+
+/// The room for the notes of what is asked. A step of a service has it already.
+fn room_for(longest: u32, asked: &Asked) -> u32
+    requires { longest ≤ 2 ^ 16 }
+    ensures { result ≡ room_for longest asked.now }
+{
+    match asked {
+        Asked::Itself(_) => 1,
+        Asked::Callout {
+            op: Op::Call(_),
+            ..
+        } => 3,
+        Asked::Callout { op: Op::Run(_), .. } => 0,
+        Asked::Queue {
+            op: QOp::Scan { .. },
+            ..
+        } => 1,
+        Asked::Queue { .. } => 8 + 6 * longest,
+    }
+}
 
 /// Makes room for `count` notes. Within a function there is room already, and none is asked for. After `NoMemory` the
 /// room is as before.
 fn make_room<B: Book>(stage: &Stage, book: &mut B, count: u32) -> Result<(), NoMemory>
     ensures free { (s : Script) → is_serving (stage_of s stage.now) ≡ false → OnOk result (count ≤ B.spare book.new) }
     ensures serving { (s : Script) → is_serving (stage_of s stage.now) ≡ true → B.spare book.new ≡ B.spare book.old }
+    ensures none { count ≡ 0 → B.spare book.new ≡ B.spare book.old }
     ensures err { OnErr result (B.spare book.new ≡ B.spare book.old) }
     ensures rests { OnErr result ((s : Script) → is_serving (stage_of s stage.now) ≡ false) }
+    ensures some { OnErr result (1 ≤ count) }
     ensures few { length (B.notes book.old) + B.spare book.old < 2 ^ 56 → length (B.notes book.new) + B.spare book.new < 2 ^ 56 }
     ensures notes { B.notes book.new ≡ B.notes book.old }
 {
+    if count == 0 {
+        return Ok(());
+    }
     match *stage {
         Stage::Firing(_, _) | Stage::Drained(_, _) => Ok(()),
         _ => book.reserve(count),
@@ -37,78 +60,24 @@ fn make_room<B: Book>(stage: &Stage, book: &mut B, count: u32) -> Result<(), NoM
 }
 
 impl<'a, B: Book> Actor<'a, B> {
-    /// A note of its own, which is due in the program, with the room for it. After `NoMemory` nothing is noted.
-    pub(crate) fn ask_itself<N: Name, G: Gate>(
+    /// Makes room for the notes of what is asked, which is due in the program. After `NoMemory` the room is as before, and the
+    /// actor is between two services.
+    pub(crate) fn make_ready<N: Name, G: Gate>(
         &mut self,
         shared: &Shared<'_, N, G>,
         act: u64,
-        kind: OwnKind,
+        asked: &Asked,
     ) -> Result<(), NoMemory>
-        requires due { IsDue B.notes B.spare shared.now.script.now shared.now.longest N.name self.old (Asks act (Itself kind)) }
-        ensures { HasTried B.notes B.spare shared.now.script.now shared.now.longest N.name self.old self.new result }
+        requires due { IsDue B.notes B.spare shared.now.script.now shared.now.longest N.name self.old (Asks act asked.now) }
+        ensures tried { HasTried B.notes B.spare shared.now.script.now shared.now.longest N.name self.old self.new result }
+        ensures room { OnOk result (HasRoomFor B.notes B.spare shared.now.script.now shared.now.longest N.name (room_for shared.now.longest asked.now) self.new (Asks act asked.now)) }
     {
-        make_room(&self.cursor.stage, &mut self.book, 1)?;
-        self.refuse(shared, act, kind);
-        Ok(())
+        let _ = act;
+        let count = room_for(shared.longest, asked);
+        make_room(&self.cursor.stage, &mut self.book, count)
     }
 
-    /// A call on the service, which is due in the program, with the room for its notes. A drain that waits for the end of a
-    /// service waits first. After `NoMemory` nothing is asked.
-    pub(crate) fn ask_call<N: Name, G: Gate, R: Wait>(
-        &mut self,
-        rt: &R,
-        shared: &Shared<'_, N, G>,
-        act: u64,
-        i: u32,
-        op: &CallOp,
-    ) -> Result<(), NoMemory>
-        requires due { IsDue B.notes B.spare shared.now.script.now shared.now.longest N.name self.old (Asks act (Callout i (Call op.now))) }
-        ensures { HasTried B.notes B.spare shared.now.script.now shared.now.longest N.name self.old self.new result }
-    {
-        make_room(&self.cursor.stage, &mut self.book, 3)?;
-        if let Stage::Waiting { n, .. } = self.cursor.stage {
-            shared.service.drain_wait(rt, i, n);
-        }
-        self.call(rt, shared, act, i, op);
-        Ok(())
-    }
-
-    /// A scan of its CPU, which is due in the program, with the room for its note. After `NoMemory` nothing is asked.
-    fn ask_scan<N: Name, G: Gate, R: Wait>(
-        &mut self,
-        rt: &R,
-        shared: &Shared<'_, N, G>,
-        act: u64,
-        cpu: u32,
-        now: Sbt,
-    ) -> Result<(), NoMemory>
-        requires due { IsDue B.notes B.spare shared.now.script.now shared.now.longest N.name self.old (Asks act (Queue cpu (Scan now))) }
-        ensures { HasTried B.notes B.spare shared.now.script.now shared.now.longest N.name self.old self.new result }
-    {
-        self.book.reserve(1)?;
-        self.scan(rt, shared, act, cpu, now);
-        Ok(())
-    }
-
-    /// The next callout that has come due, which is due in the program, with the room for all notes of its service. After
-    /// `NoMemory` nothing is asked.
-    fn ask_pop<N: Name, G: Gate, R: Wait>(
-        &mut self,
-        rt: &R,
-        shared: &Shared<'_, N, G>,
-        act: u64,
-        cpu: u32,
-        direct: bool,
-    ) -> Result<(), NoMemory>
-        requires due { IsDue B.notes B.spare shared.now.script.now shared.now.longest N.name self.old (Asks act (Queue cpu (lane_pop direct))) }
-        ensures { HasTried B.notes B.spare shared.now.script.now shared.now.longest N.name self.old self.new result }
-    {
-        self.book.reserve(8 + 6 * shared.longest)?;
-        self.pop(rt, shared, act, cpu, direct);
-        Ok(())
-    }
-
-    /// A step on its CPU's queue, which is due in the program, with the room for its notes. After `NoMemory` nothing is asked.
+    /// A step on its CPU's queue, which is due in the program. There is room for its notes.
     pub(crate) fn ask_queue<N: Name, G: Gate, R: Wait>(
         &mut self,
         rt: &R,
@@ -116,14 +85,14 @@ impl<'a, B: Book> Actor<'a, B> {
         act: u64,
         cpu: u32,
         op: &QOp,
-    ) -> Result<(), NoMemory>
-        requires due { IsDue B.notes B.spare shared.now.script.now shared.now.longest N.name self.old (Asks act (Queue cpu op.now)) }
-        ensures { HasTried B.notes B.spare shared.now.script.now shared.now.longest N.name self.old self.new result }
+    )
+        requires can { HasRoomFor B.notes B.spare shared.now.script.now shared.now.longest N.name (room_for shared.now.longest (Queue cpu op.now)) self.old (Asks act (Queue cpu op.now)) }
+        ensures { HasGoneOn B.notes B.spare shared.now.script.now shared.now.longest N.name self.old self.new }
     {
         match *op {
-            QOp::Scan { now } => self.ask_scan(rt, shared, act, cpu, now),
-            QOp::Pop => self.ask_pop(rt, shared, act, cpu, false),
-            QOp::PopDirect => self.ask_pop(rt, shared, act, cpu, true),
+            QOp::Scan { now } => self.scan(rt, shared, act, cpu, now),
+            QOp::Pop => self.pop(rt, shared, act, cpu, false),
+            QOp::PopDirect => self.pop(rt, shared, act, cpu, true),
             _ => unreachable!(),
         }
     }

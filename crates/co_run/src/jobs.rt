@@ -1,5 +1,5 @@
 //! The job of one actor: its whole program.
-ghost use Rattle.std.specs.Prelude.{◌≡◌, ◌+◌, ◌<◌, ◌≤◌, ◌^◌, IfOk, length};
+ghost use Rattle.std.specs.Prelude.{◌≡◌, ◌<◌, ◌≤◌, ◌^◌, ◌++◌, ◌∷◌, [], IfOk, length};
 ghost use Rattle.co_program.specs.Scripts.{IsScript};
 ghost use Rattle.co_service.specs.Booted.{AreBooted};
 ghost use Rattle.co_run.specs.Acting.{params_of};
@@ -38,23 +38,12 @@ pub(crate) struct Played<B: Book> {
     pub(crate) book: B,
 }
 
-/// The job of the last actor that has none.
-fn leave_last<N: Name, B: Book>(
-    script: &Script,
-    passes: &mut Vec<Passes>,
-    books: &mut Vec<B>,
-) -> Job<B>
-    requires some { 0 < length passes.old.items }
-    requires left { AreLeft B.notes B.spare script.now N.name passes.old.items books.old.items }
-    ensures left { AreLeft B.notes B.spare script.now N.name passes.new.items books.new.items }
-    ensures less { length passes.new.items + 1 ≡ length passes.old.items }
-    ensures job { IsJob script.now N.name (length passes.new.items) result.passes (B.notes result.book) (B.spare result.book) }
+/// Takes the last of these.
+pub(crate) fn take_last<T: Drop>(all: &mut Vec<T>) -> T
+    requires { 0 < length all.old.items }
+    ensures { all.old.items ≡ all.new.items ++ result ∷ [] }
 {
-    let _ = script;
-    Job {
-        passes: passes.pop().unwrap(),
-        book: books.pop().unwrap(),
-    }
+    all.pop().unwrap()
 }
 
 /// The jobs of `count` actors, the last ones that have none. `NoMemory` where there is no room for them.
@@ -71,11 +60,16 @@ fn deal<N: Name, B: Book>(
     ensures left { IfOk result (λ group. AreLeft B.notes B.spare script.now N.name passes.new.items books.new.items) }
     ensures dealt { IfOk result (λ group. IsDealt B.notes B.spare script.now N.name (length passes.old.items) (length passes.new.items) count group) }
 {
+    let _ = script;
     let end = passes.len() as u32;
     let mut jobs = Seq::new(alloc);
     for dealt in 0..count {
         let _ = dealt;
-        jobs.push(leave_last::<N, B>(script, passes, books))?;
+        let job = Job {
+            passes: take_last(passes),
+            book: take_last(books),
+        };
+        jobs.push(job)?;
     }
     Ok(Group {
         first: passes.len() as u32,

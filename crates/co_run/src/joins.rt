@@ -8,7 +8,7 @@ ghost use Rattle.co_run.specs.Over.{IsActorOver};
 ghost use denote.Param.Send.{IsSend, IsSync};
 
 use crate::book::Book;
-use crate::jobs::{Crew, Group, Job, Played, play_job};
+use crate::jobs::{Crew, Group, Job, Played, play_job, take_last};
 use crate::shared::Shared;
 use co_hand::Gate;
 use co_program::Script;
@@ -17,24 +17,6 @@ use co_service::Name;
 use std::alloc::Global;
 use std::sync::Wait;
 use std::thread::{Threads, join};
-
-/// The job of the first of these actors. The others' stay.
-fn leave_first<N: Name, B: Book>(
-    script: &Script,
-    jobs: &mut Vec<Job<B>>,
-    first: u32,
-    end: u32,
-) -> Job<B>
-    requires some { first < end }
-    requires jobs { IsGroup (AreJobs script.now N.name B.notes B.spare) first end jobs.old.items }
-    ensures rest { IsGroup (AreJobs script.now N.name B.notes B.spare) (first + 1) end jobs.new.items }
-    ensures job { IsJob script.now N.name first result.passes (B.notes result.book) (B.spare result.book) }
-    ensures less { length jobs.new.items + 1 ≡ length jobs.old.items }
-{
-    let _ = script;
-    let _ = (first, end);
-    jobs.pop().unwrap()
-}
 
 /// One more actor has played its program, before these.
 fn add<N: Name, B: Book>(
@@ -71,7 +53,7 @@ fn all_of<N: Name, B: Book>(
 }
 
 /// Both of two outcomes, or `NoMemory` where one of them is.
-fn both<S: Drop, T: Drop>(
+pub(crate) fn both<S: Drop, T: Drop>(
     one: Result<S, NoMemory>,
     other: Result<T, NoMemory>,
 ) -> Result<(S, T), NoMemory>
@@ -149,7 +131,7 @@ fn play_group<B: Book + Send, N: Name + Send + Sync, G: Gate + Sync, R: Threads 
     if first >= end {
         return Ok(Seq::new(alloc));
     }
-    let job = leave_first::<N, B>(shared.script, &mut jobs, first, end);
+    let job = take_last(&mut jobs);
     let later = Group {
         first: first + 1,
         end,

@@ -9,8 +9,8 @@ ghost use Rattle.co_run.specs.Over.{AreOver, IsActorOver};
 ghost use Rattle.co_run.specs.Ran.{IsRan};
 
 use crate::book::{Book, KeptBook, Notebook, PackedBook};
-use crate::jobs::{Crew, Played, deal_all};
-use crate::joins::play_all;
+use crate::jobs::{Crew, Played, deal_all, take_last};
+use crate::joins::{both, play_all};
 use crate::longest::longest_of;
 use crate::shared::Shared;
 use co_hand::Gate;
@@ -74,23 +74,6 @@ fn add<N: Name, B: Book>(
     all.books.push(book)
 }
 
-/// What the next actor brings back, which stands last. The others' stays.
-fn leave_next<N: Name, B: Book>(
-    script: &Script,
-    group: &mut Vec<Played<B>>,
-    next: usize,
-    end: u32,
-) -> Played<B>
-    requires some { next < end }
-    requires group { IsGroup (HavePlayed B.notes script.now N.name) next end group.old.items }
-    ensures rest { IsGroup (HavePlayed B.notes script.now N.name) (next + 1) end group.new.items }
-    ensures one { IsActorOver script.now N.name next result.passes (B.notes result.book) }
-{
-    let _ = script;
-    let _ = (next, end);
-    group.pop().unwrap()
-}
-
 /// What the next actors bring back, the first of whom stands last, goes to the others'.
 fn add_group<N: Name, B: Book>(
     script: &Script,
@@ -105,8 +88,8 @@ fn add_group<N: Name, B: Book>(
 {
     let mut group = group.into_vec();
     for next in all.books.as_slice().len()..end as usize {
-        let one = leave_next::<N, B>(script, &mut group, next, end);
-        add::<N, B>(script, all, one)?;
+        let _ = next;
+        add::<N, B>(script, all, take_last(&mut group))?;
     }
     Ok(())
 }
@@ -170,8 +153,9 @@ fn play_books<N: Name + Send + Sync, G: Gate + Sync, B: Book + Send, R: Threads 
     ensures over { IfOk result (λ all. AreOver script.now N.name 0 all.passes (map B.notes all.books)) }
     ensures count { IfOk result (λ all. length all.books ≡ actor_count script.now) }
 {
-    let locks = ClientLocks::new(alloc, script.locks.as_slice())?;
-    let groups = deal_all::<N, B>(alloc, script, passes, books)?;
+    let locks = ClientLocks::new(alloc, script.locks.as_slice());
+    let groups = deal_all::<N, B>(alloc, script, passes, books);
+    let (locks, groups) = both(locks, groups)?;
     let shared = Shared {
         script,
         service,
@@ -179,8 +163,9 @@ fn play_books<N: Name + Send + Sync, G: Gate + Sync, B: Book + Send, R: Threads 
         gate,
         longest: longest_of(script),
     };
-    let crew = play_all(rt, alloc, &shared, groups)?;
-    add_crew::<N, B>(alloc, script, crew)
+    let crew = play_all(rt, alloc, &shared, groups);
+    drop(locks);
+    add_crew::<N, B>(alloc, script, crew?)
 }
 
 /// Runs a script on threads over an open service, and ends the service. Each actor notes into one of the books.

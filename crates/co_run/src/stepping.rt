@@ -35,18 +35,17 @@ impl<'a, B: Book> Actor<'a, B> {
         requires due { IsDue B.notes B.spare shared.now.script.now shared.now.longest N.name self.old (Asks act asked.now) }
         ensures { HasTried B.notes B.spare shared.now.script.now shared.now.longest N.name self.old self.new result }
     {
+        self.make_ready(shared, act, asked)?;
         match asked {
-            Asked::Itself(kind) => self.ask_itself(shared, act, *kind),
+            Asked::Itself(kind) => self.refuse(shared, act, *kind),
             Asked::Callout {
                 i,
                 op: Op::Call(op),
-            } => self.ask_call(rt, shared, act, *i, op),
-            Asked::Callout { i, op: Op::Run(op) } => {
-                self.ask_run(rt, shared, act, *i, op);
-                Ok(())
-            }
+            } => self.call(rt, shared, act, *i, op),
+            Asked::Callout { i, op: Op::Run(op) } => self.ask_run(rt, shared, act, *i, op),
             Asked::Queue { cpu, op } => self.ask_queue(rt, shared, act, *cpu, op),
         }
+        Ok(())
     }
 
     /// The next step of the program. The answer is whether there is none. After `NoMemory` the actor is where it was.

@@ -1,5 +1,5 @@
 -- The jobs of the actors: passes that have seen nothing, and empty books, one after the other.
-use Rattle.std.proofs.Common.{◌≡◌, ℕ, zero, suc, ◌+◌, ◌<◌, ◌≤◌, ◌*◌, ◌==◌, ◌⊎◌, inl, inr, Bool, true, false, cond, List, [], ◌∷◌, ◌++◌, length, sym, subst, ◌∙◌, arith, length-append}
+use Rattle.std.proofs.Common.{◌≡◌, ℕ, zero, suc, ◌+◌, ◌<◌, ◌≤◌, ◌*◌, ◌==◌, ◌⊎◌, inl, inr, Bool, true, false, cond, List, [], ◌∷◌, ◌++◌, length, ap, sym, subst, ◌∙◌, arith, length-append}
 use Rattle.std.specs.Prelude.{Some, slice_get}
 use Rattle.co_object.specs.declared.note.Note.{Note}
 use Rattle.co_program.specs.declared.script.Script.{Script}
@@ -11,7 +11,7 @@ use Rattle.co_desk.specs.Name.{ServiceName}
 use Rattle.co_desk.specs.Views.{PassesView}
 use Rattle.co_run.specs.declared.jobs.Job.{Job}
 use Rattle.co_run.specs.Acting.{params_of}
-use Rattle.co_run.specs.Jobs.{AreEmptyBooks, AreUnseen, AreJobs, IsEmpty, IsGroup, IsJob}
+use Rattle.co_run.specs.Jobs.{AreEmptyBooks, AreLeft, AreUnseen, AreJobs, IsEmpty, IsGroup, IsJob}
 use Rattle.co_run.proofs.merged.RunOfScript.{same_count}
 use Rattle.co_run.proofs.groups.LastItem.{get_front, get_last, get_snoc}
 
@@ -34,24 +34,49 @@ pub booted_count : (s : Script) → IsScript s → (name : ServiceName) (qs : Li
 booted_count s ok name qs booted_are = booted_are.count ∙ same_count s ok
 
 module _ (name : ServiceName) (p : Params) where
-  pub first_front : (qs : List PassesView) (q : PassesView) → AreUnseen name p (qs ++ q ∷ []) → AreUnseen name p qs
+  first_front : (qs : List PassesView) (q : PassesView) → AreUnseen name p (qs ++ q ∷ []) → AreUnseen name p qs
   first_front qs q first = λ k x is. first k x (get_front qs q x k is)
 
-  pub first_last : (qs : List PassesView) (q : PassesView) → AreUnseen name p (qs ++ q ∷ []) → q ≡ booted name p (length qs)
+  first_last : (qs : List PassesView) (q : PassesView) → AreUnseen name p (qs ++ q ∷ []) → q ≡ booted name p (length qs)
   first_last qs q first = first (length qs) q (get_last qs q)
 
 -- ---- books
 
 module _ {B : Type 0} (notes : B → List Note) (spare : B → ℕ) where
-  pub empty_front : (books : List B) (book : B) → AreEmptyBooks notes spare (books ++ book ∷ []) → AreEmptyBooks notes spare books
+  empty_front : (books : List B) (book : B) → AreEmptyBooks notes spare (books ++ book ∷ []) → AreEmptyBooks notes spare books
   empty_front books book empty = λ k x is. empty k x (get_front books book x k is)
 
-  pub empty_last : (books : List B) (book : B) → AreEmptyBooks notes spare (books ++ book ∷ []) → IsEmpty (notes book) (spare book)
+  empty_last : (books : List B) (book : B) → AreEmptyBooks notes spare (books ++ book ∷ []) → IsEmpty (notes book) (spare book)
   empty_last books book empty = empty (length books) book (get_last books book)
 
 -- ---- jobs
 
 module _ {B : Type 0} (s : Script) (name : ServiceName) (notes : B → List Note) (spare : B → ℕ) where
+  -- the last passes and the last book are taken
+  pub left_less : (all_qs qs : List PassesView) (q : PassesView) (all_books books : List B) (book : B) → all_qs ≡ qs ++ q ∷ [] → all_books ≡ books ++ book ∷ [] → AreLeft notes spare s name all_qs all_books → AreLeft notes spare s name qs books
+  left_less all_qs qs q all_books books book qs_are books_are left =
+      let long = ap length qs_are ∙ length-append qs (q ∷ []) in
+      let books_long = ap length books_are ∙ length-append books (book ∷ []) in
+      let few = left.few in
+      let count = left.count in
+      record {
+        few = omega (arith, few, long);
+        count = omega (arith, count, long, books_long);
+        first = first_front name (params_of s) qs q (subst (AreUnseen name (params_of s)) qs_are left.first);
+        empty = empty_front notes spare books book (subst (AreEmptyBooks notes spare) books_are left.empty);
+      }
+
+  -- they are the job of the actor of that number
+  pub left_job : (all_qs qs : List PassesView) (q : PassesView) (all_books books : List B) (book : B) → all_qs ≡ qs ++ q ∷ [] → all_books ≡ books ++ book ∷ [] → AreLeft notes spare s name all_qs all_books → IsJob s name (length qs) q (notes book) (spare book)
+  left_job all_qs qs q all_books books book qs_are books_are left =
+      let long = ap length qs_are ∙ length-append qs (q ∷ []) in
+      let few = left.few in
+      record {
+        below = omega (arith, few, long);
+        passes = first_last name (params_of s) qs q (subst (AreUnseen name (params_of s)) qs_are left.first);
+        empty = empty_last notes spare books book (subst (AreEmptyBooks notes spare) books_are left.empty);
+      }
+
   -- the job of the actor before
   pub group_dealt : (jobs : List (Job B)) (job : Job B) (first next end : ℕ) → first ≡ next + 1 → IsGroup (AreJobs s name notes spare) first end jobs → IsJob s name next job.passes (notes job.book) (spare job.book) → IsGroup (AreJobs s name notes spare) next end (jobs ++ job ∷ [])
   group_dealt jobs job first next end one group ok = record {

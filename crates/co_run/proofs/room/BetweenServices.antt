@@ -41,6 +41,21 @@ queue_at s role c stage act cpu op (frees v drain next) between = absurd between
 pub queue_rests : (s : Script) (a : ℕ) (c : Cursor) (act cpu : ℕ) (op : QOp) → CursorFits s a c → action_for s a c ≡ Asks act (Queue cpu op) → is_resting c.stage ≡ true
 queue_rests s a c act cpu op place is = queue_at s (role_of s a) c c.stage act cpu op (stage_view s a c (Asks act (Queue cpu op)) place.parcel is) place.between
 
+-- who rests is in no function
+pub resting_free : (stage : Stage) → is_resting stage ≡ true → is_serving stage ≡ false
+resting_free Ready h = refl
+resting_free (Waiting n took) h = refl
+resting_free (Popping act) h = refl
+resting_free (Firing v acts) h = cc
+resting_free (Drained v acts) h = cc
+resting_free (Picking v) h = cc
+resting_free (Locking v) h = cc
+resting_free (Beginning v) h = cc
+resting_free (Unlocking v acts) h = cc
+resting_free (Releasing v) h = cc
+resting_free (Ending v) h = cc
+resting_free (Freeing v drain next) h = cc
+
 -- what holds anyway, holds after a refusal
 pub on_err : {T E P : Type 0} (r : Result T E) → P → OnErr r P
 on_err (Ok x) p = tt

@@ -1,6 +1,8 @@
 -- One more actor is over, and the rest of the group is of those behind it.
 use Rattle.std.proofs.Common.{ℕ, ◌+◌, ◌∙◌, ap, arith, length, subst, sym}
 use Rattle.co_run.specs.Jobs.{HavePlayed, IsGroup}
+use Rattle.co_run.specs.Over.{IsActorOver}
+use Rattle.co_run.proofs.groups.Joins.{played_first, played_less}
 use Rattle.co_run.proofs.runs.add_group.Goals as goal
 
 pub loop-next-init : goal.loop-next-init
@@ -14,12 +16,22 @@ loop-next-init g c =
           (subst (IsGroup have (length c.args.all.now.books) c.args.end) (sym c.into_vec-group.ensures) c.requires.group);
     }
 
+pub add-requires-clause-one : goal.add-requires-clause-one
+add-requires-clause-one g c =
+    let have = HavePlayed g.B.Book.notes c.args.script.now g.N.Name.name in
+    let group = subst (IsGroup have c.loop-next.next c.args.end) c.take_last.ensures c.loop-next.invariant.group in
+    subst (λ (a : ℕ). IsActorOver c.args.script.now g.N.Name.name a c.take_last.result.passes (g.B.Book.notes c.take_last.result.book)) (sym c.loop-next.invariant.count)
+    (played_first c.args.script.now g.N.Name.name g.B.Book.notes c.take_last.new.all.items c.take_last.result c.loop-next.next c.args.end group)
+
 pub loop-next-preserved : goal.loop-next-preserved
-loop-next-preserved g c = record {
-  over = c.in_ok-add.ensures.over;
-  count = c.in_ok-add.ensures.count ∙ ap (λ (n : ℕ). n + 1) c.loop-next.invariant.count;
-  group = c.leave_next-one.ensures.rest;
-}
+loop-next-preserved g c =
+    let have = HavePlayed g.B.Book.notes c.args.script.now g.N.Name.name in
+    record {
+      over = c.in_ok-add.ensures.over;
+      count = c.in_ok-add.ensures.count ∙ ap (λ (n : ℕ). n + 1) c.loop-next.invariant.count;
+      group = played_less c.args.script.now g.N.Name.name g.B.Book.notes c.take_last.new.all.items c.take_last.result c.loop-next.next c.args.end
+          (subst (IsGroup have c.loop-next.next c.args.end) c.take_last.ensures c.loop-next.invariant.group);
+    }
 
 pub returns : goal.returns
 returns g c =
