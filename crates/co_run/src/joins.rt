@@ -2,8 +2,8 @@
 //!
 //! A join runs its second branch in the thread that calls it, and the first one in a new thread, or last where none can be
 //! had. So the clients come first, then the interrupts, then the CPUs: an actor waits only for actors that have begun.
-ghost use Rattle.std.specs.Prelude.{◌≡◌, ◌+◌, ◌<◌, IfOk, Ok, OnOk, length};
-ghost use Rattle.co_run.specs.Jobs.{AreDealt, AreJobs, HasJobs, HavePlayed, IsCrew, IsGroup, IsJob};
+ghost use Rattle.std.specs.Prelude.{◌≡◌, ◌+◌, ◌<◌, IfOk, Ok, OnOk};
+ghost use Rattle.co_run.specs.Jobs.{AreDealt, HasJobs, HavePlayed, IsCrew, IsGroup, IsJob};
 ghost use Rattle.co_run.specs.Over.{IsActorOver};
 ghost use denote.Param.Send.{IsSend, IsSync};
 
